@@ -1,0 +1,3 @@
+pub mod ByName
+mod Examples
+pub mod Rooms

@@ -1,0 +1,5 @@
+pub mod Drafts
+pub mod Faults
+pub mod Files
+pub mod MemFiles
+pub mod Sinks
