@@ -2,4 +2,5 @@ pub mod Drafts
 pub mod Faults
 pub mod Files
 pub mod MemFiles
+pub mod MemSink
 pub mod Sinks

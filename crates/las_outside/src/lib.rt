@@ -6,6 +6,7 @@ mod files;
 mod gate;
 mod mem_files;
 mod mem_room;
+mod mem_sink;
 mod real_files;
 mod real_sink;
 mod sink;
@@ -14,6 +15,10 @@ pub use failed::Failed;
 pub use files::Files;
 pub use gate::{Gate, OpenGate};
 pub use mem_files::MemFiles;
+pub use mem_sink::MemSink;
 pub use real_files::RealFiles;
 pub use real_sink::RealSink;
 pub use sink::Sink;
+
+#[cfg(test)]
+mod tests;

@@ -1,4 +1,4 @@
-use Rattle.std.proofs.Common.{◌≡◌, ℕ, List, Option, Some, None, true, false, sym, ap, ◌∙◌}
+use Rattle.std.proofs.Common.{ap}
 use Rattle.las_outside.proofs.ByName.{found_room, files_changed, rooms_kept, absent_room}
 use Rattle.las_outside.proofs.mem_files.MemFilesFiles.create.Goals as goal
 

@@ -1,4 +1,4 @@
-use Rattle.std.proofs.Common.{◌≡◌, ◌+◌, ◌≤◌, List, [], ℕ, length, Option, Some, unwrap_or, sym, ap, ◌∙◌}
+use Rattle.std.proofs.Common.{◌+◌, ◌≤◌, List, [], ℕ, length, Option, Some, unwrap_or, sym, ap, ◌∙◌}
 use Rattle.las_outside.specs.Files.{patched}
 use Rattle.las_outside.proofs.Rooms.{held_with, not_missing}
 use Rattle.las_outside.proofs.ByName.{found_bytes, files_changed, rooms_kept, absent_bytes}
