@@ -6,13 +6,30 @@ use Rattle.std.proofs.Math.Nat.{add-mul-mod_self_left, div-div-eq-div-mul, mod-e
 use Rattle.std.specs.Int.{byte_at, bytes_low_first}
 use Rattle.std.specs.List.{splice}
 use Rattle.byteorder.specs.Endian.{little_bytes, little_from, little_number}
-use Rattle.byteorder.specs.Numbers.{little_from-cons, little_from-take}
-use Rattle.las_header.specs.Numbers.{number_at}
+use Rattle.byteorder.specs.Numbers.{little_from-cons, little_from-take, little_number-reads_back}
+use Rattle.las_header.specs.Numbers.{number_at, with_number_at}
 
 -- a number reads no byte past its end
 pub number_at-take : (width at n : ℕ) (xs : List ℕ) → at + width ≤ n → number_at width at (take n xs) ≡ number_at width at xs
 unfolding number_at
 number_at-take width at n xs h = little_from-take at width n xs h
+
+-- bytes in front move the places on
+little_from-append_front : (front : List ℕ) (n : ℕ) (bytes : List ℕ) → little_from (length front) n (front ++ bytes) ≡ little_from 0 n bytes
+little_from-append_front [] n bytes = refl
+little_from-append_front (x ∷ front) n bytes = little_from-cons (length front) n x (front ++ bytes) ∙ little_from-append_front front n bytes
+
+-- a number that was written is read back
+pub number_at-with_number_at : (width at x : ℕ) (xs : List ℕ) → at ≤ length xs → x < 256 ^ width
+    → number_at width at (with_number_at width at x xs) ≡ x
+unfolding number_at
+number_at-with_number_at width at x xs within fits =
+    let front = take at xs in
+    let rest = drop (at + width) xs in
+    let place : at ≡ length front = sym (length-take-le at xs within) in
+    ap (λ (i : ℕ). little_from i width (front ++ (little_bytes width x ++ rest))) place
+    ∙ little_from-append_front front width (little_bytes width x ++ rest)
+    ∙ little_number-reads_back width x rest fits
 
 -- what stands before a replaced part stays
 pub take-splice : (xs : List ℕ) (i j : ℕ) (ys : List ℕ) → i ≤ length xs → take i (splice xs i j ys) ≡ take i xs
