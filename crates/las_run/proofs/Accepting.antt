@@ -1,8 +1,8 @@
 -- What is known of a file from what was read of its front and its head.
-use Rattle.std.proofs.Common.{◌≡◌, inr, ℕ, ◌≤◌, ◌+◌, ◌*◌, List, length, take, drop, Option, Some, None, Result, Ok, Err, refl, sym, ◌∙◌, ap, subst, arith}
+use Rattle.std.proofs.Common.{◌≡◌, ℕ, ◌≤◌, ◌+◌, ◌*◌, List, length, take, drop, Option, Some, None, Result, Ok, Err, refl, sym, ◌∙◌, ap, arith}
 use Rattle.std.proofs.lemmas.List.{take-take, take_all, length-take-le, length-drop}
 use Rattle.las_header.specs.declared.refusal.Refusal.{Refusal}
-use Rattle.las_header.specs.Fields.{HeadView, header_block, point_offset_of, record_length_of, points_of}
+use Rattle.las_header.specs.Fields.{HeadView, header_block, point_offset_of, points_of}
 use Rattle.las_header.specs.Plain.{plain_head, cut_records, records_of}
 use Rattle.las_header.specs.Refusals.{first_cause, front_causes, head_causes, refusal_of}
 use Rattle.las_header.proofs.NumberLemmas.{number_at-take}
@@ -95,6 +95,6 @@ records_in file head count none is counted =
     record {
       size = size;
       records = ap (λ (n : ℕ). cut_records n (points_of file) (drop (point_offset_of file) file)) accepted.record_length ∙ ap (λ (n : ℕ). cut_records 20 (points_of file) (drop n file)) accepted.offset
-      ∙ ap (λ (n : ℕ). cut_records 20 n (drop 227 file)) (sym points);
+          ∙ ap (λ (n : ℕ). cut_records 20 n (drop 227 file)) (sym points);
       all = take_all (20 * count) (drop 227 file) (omega (arith, size, length-drop 227 file));
     }

@@ -10,7 +10,7 @@ use Rattle.las_header.specs.Refusals.{refusal_of}
 use Rattle.las_header.proofs.FileLemmas.{accepted_file}
 use Rattle.las_points.specs.Tally.{counts_of}
 use Rattle.las_outside.specs.Files.{FileMap, WhereTold, bytes_of, holding, patched}
-use Rattle.las_outside.specs.Drafts.{Patch, IsUnfinished, LeavesUnfinished}
+use Rattle.las_outside.specs.Drafts.{Patch, LeavesUnfinished}
 use Rattle.las_run.specs.Outputs.{kept_of, output_for, draft_for, patches_for}
 use Rattle.las_run.specs.Words.{word_at, usage, faults_of, first_index, is_class}
 

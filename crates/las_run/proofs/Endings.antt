@@ -1,5 +1,5 @@
 -- What an ending says, for each clause of a run.
-use Rattle.std.proofs.Common.{◌≡◌, ◌⊎◌, inl, inr, ⊎_elim, ℕ, zero, suc, ◌<◌, lit<, Bool, true, false, List, [], ◌∷◌, Option, Some, None, IsSome, IsSomeAnd, IfSome, Result, Ok, Err, refl, sym, ◌∙◌, ap, subst, unwrap_or, arith}
+use Rattle.std.proofs.Common.{◌≡◌, ◌⊎◌, inl, inr, ⊎_elim, ℕ, ◌<◌, lit<, Bool, true, false, List, [], ◌∷◌, Option, Some, None, IsSome, IsSomeAnd, IfSome, Result, Ok, Err, refl, sym, ◌∙◌, ap, subst, unwrap_or, arith}
 use Rattle.std.specs.FinMap as map
 use Rattle.std.proofs.lemmas.List.{append-nil}
 use Rattle.las_header.specs.declared.refusal.Refusal.{Refusal}
@@ -75,7 +75,7 @@ module _ (words : List (List ℕ)) (change : Change) (files : FileMap) (is_told 
   complete (Err (Usage index)) e no_read no_write =
       let run = run_usage words files index e.0 in inr (ap (λ (x : Ending). x.status) (sym run), e.1 ∙ is_told ∙ ap (λ (x : Ending). Some x.files) (sym run))
   complete (Err Read) e no_read no_write = ⊎_elim (λ missing.
-    let run = run_missing words files e.0 (missing_of missing) in inr (ap (λ (x : Ending). x.status) (sym run), e.1 ∙ is_told ∙ ap (λ (x : Ending). Some x.files) (sym run))) (λ rose. absurd (no_read rose)) e.2
+      let run = run_missing words files e.0 (missing_of missing) in inr (ap (λ (x : Ending). x.status) (sym run), e.1 ∙ is_told ∙ ap (λ (x : Ending). Some x.files) (sym run))) (λ rose. absurd (no_read rose)) e.2
   complete (Err Write) e no_read no_write = absurd (no_write e.3)
   complete (Err (Refused cause)) e no_read no_write =
       let run = by (Some cause) e.0 e.2 in inr (ap (λ (x : Ending). x.status) (sym run), e.1 ∙ is_told ∙ ap (λ (x : Ending). Some x.files) (sym run))
@@ -155,7 +155,6 @@ module _ (words : List (List ℕ)) (change : Change) where
   short Read e = tt
   short Write e = tt
   short (Refused cause) e = tt
-
 
   pub line : (r : Result (Unit {0}) Stop) → Ends words change r → IsLine words change.held (status_of r) (line_of (input_of words) r)
   line (Ok u) e = record {

@@ -1,5 +1,5 @@
 -- The records of a class, one after another.
-use Rattle.std.proofs.Common.{◌≡◌, ◌≢◌, ℕ, zero, suc, ◌+◌, ◌-◌, ◌*◌, ◌/◌, ◌<◌, ◌≤◌, ◌^◌, Bool, true, false, cond, ◌==◌, eq-eqb, List, [], ◌∷◌, ◌++◌, length, take, drop, filter, refl, sym, ◌∙◌, ap, subst, append_assoc, length-append, arith}
+use Rattle.std.proofs.Common.{◌≡◌, ◌≢◌, ℕ, suc, ◌+◌, ◌-◌, ◌*◌, ◌<◌, ◌≤◌, ◌^◌, Bool, cond, eq-eqb, List, [], ◌∷◌, ◌++◌, length, take, drop, sym, ◌∙◌, ap, append_assoc, length-append, arith}
 use Rattle.std.specs.List.{concat}
 use Rattle.std.proofs.lemmas.Bool.{ne_eqb}
 use Rattle.std.proofs.lemmas.List.{append-nil, length-drop}
@@ -61,8 +61,8 @@ module _ (class count turns : ℕ) (all rest : List ℕ) (counts : Counts) (byte
   keep_one point others counts' bytes' lt is behind same counted within added = record {
     done = so_far.done ++ point ∷ [];
     parts = append_assoc so_far.done (point ∷ []) (kept class (cut_records 20 (count - (turns + 1)) others))
-    ∙ ap (λ (t : List (List ℕ)). so_far.done ++ t) (sym (kept-same class point (cut_records 20 (count - (turns + 1)) others) same) ∙ ap (kept class) (sym (next count turns rest point others lt is behind)))
-    ∙ so_far.parts;
+        ∙ ap (λ (t : List (List ℕ)). so_far.done ++ t) (sym (kept-same class point (cut_records 20 (count - (turns + 1)) others) same) ∙ ap (kept class) (sym (next count turns rest point others lt is behind)))
+        ∙ so_far.parts;
     counted = counted so_far.done so_far.counted;
     joined = added ∙ ap (λ (t : List ℕ). t ++ point) so_far.joined ∙ sym (concat-append so_far.done point);
     whole = omega (arith, so_far.whole, ap length behind, length-drop 20 rest);
@@ -74,7 +74,7 @@ module _ (class count turns : ℕ) (all rest : List ℕ) (counts : Counts) (byte
   skip_one point others lt is behind other = record {
     done = so_far.done;
     parts = ap (λ (t : List (List ℕ)). so_far.done ++ t) (sym (kept-other class point (cut_records 20 (count - (turns + 1)) others) other) ∙ ap (kept class) (sym (next count turns rest point others lt is behind)))
-    ∙ so_far.parts;
+        ∙ so_far.parts;
     counted = so_far.counted;
     joined = so_far.joined;
     whole = omega (arith, so_far.whole, ap length behind, length-drop 20 rest);

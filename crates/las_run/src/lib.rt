@@ -10,3 +10,6 @@ mod top_call;
 mod words;
 
 pub use top_call::run;
+
+#[cfg(test)]
+mod tests;

@@ -23,7 +23,13 @@ pub fn write_selection<F: Files>(
     ensures writes { F.write_faults files.old ≤ F.write_faults files.new }
 {
     let counts = selection.counts.to_bytes();
-    write_file(files, name, selection.head.bytes(), &selection.records, &counts)
+    write_file(
+        files,
+        name,
+        selection.head.bytes(),
+        &selection.records,
+        &counts,
+    )
 }
 
 // Writes a file: its head and its records, and then a patch of the head.

@@ -33,7 +33,18 @@ fn put_refusal<E: Sink>(err: &mut E, input: &str, cause: &Refusal)
 {
     let digits = digits_of(usize::from(cause.number()));
     let name = cause.name().as_bytes();
-    put_all(err, &[b"refused: ", input.as_bytes(), b": ", shown(&digits), b" ", name, b"\n"]);
+    put_all(
+        err,
+        &[
+            b"refused: ",
+            input.as_bytes(),
+            b": ",
+            shown(&digits),
+            b" ",
+            name,
+            b"\n",
+        ],
+    );
 }
 
 // The two decimal digits of a number below 100.

@@ -10,11 +10,11 @@ ghost use Rattle.las_run.specs.Lines.{IsLine, Puts};
 ghost use Rattle.las_run.specs.Ending.{Ends, status_of};
 
 use crate::output::write_selection;
+use crate::report::report;
 use crate::select::selected;
 use crate::source::read_file;
 use crate::stop::Stop;
 use crate::words::{class_in, word, wrong_word};
-use crate::report::report;
 use las_outside::{Files, Gate, Sink};
 use std::alloc::Global;
 use std::thread::Threads;
@@ -39,7 +39,7 @@ pub fn run<F: Files, O: Sink, E: Sink, G: Gate>(
     // What is done is what the words and the files define.
     ensures done { (told : FileMap) → F.held files.old ≡ Some told → result ≡ 0
         → ((run_of (texts words.now) told).status ≡ 0)
-            × (F.held files.new ≡ Some (run_of (texts words.now) told).files) }
+        × (F.held files.new ≡ Some (run_of (texts words.now) told).files) }
     ensures usage { (result ≡ 2) ↔ (IsSome (usage (texts words.now))) }
 
     // An input is refused exactly where it is to be, unless memory is short or a read failed before.
@@ -59,16 +59,16 @@ pub fn run<F: Files, O: Sink, E: Sink, G: Gate>(
     ensures missing { IsMissing (F.held files.old) (input_of (texts words.now)) → F.held files.new ≡ F.held files.old }
     ensures left { (result ≡ 1) ⊎ ((result ≡ 3) ⊎ (result ≡ 4))
         → LeavesUnfinished (output_of (texts words.now))
-            (draft_for (class_of_words (texts words.now)) (bytes_of (F.held files.old) (input_of (texts words.now))))
-            (patches_for (class_of_words (texts words.now)) (bytes_of (F.held files.old) (input_of (texts words.now))))
-            (F.held files.old) (F.held files.new) }
+        (draft_for (class_of_words (texts words.now)) (bytes_of (F.held files.old) (input_of (texts words.now))))
+        (patches_for (class_of_words (texts words.now)) (bytes_of (F.held files.old) (input_of (texts words.now))))
+        (F.held files.old) (F.held files.new) }
 
     // Where nothing fails, the run ends as the words and the files define, or for want of memory.
     ensures complete { (told : FileMap) → F.held files.old ≡ Some told
         → (Rose (F.read_faults files.old) (F.read_faults files.new) → ⊥)
         → (Rose (F.write_faults files.old) (F.write_faults files.new) → ⊥)
         → (result ≡ 1) ⊎ ((result ≡ (run_of (texts words.now) told).status)
-            × (F.held files.new ≡ Some (run_of (texts words.now) told).files)) }
+        × (F.held files.new ≡ Some (run_of (texts words.now) told).files)) }
 
     // The streams.
     ensures line { (line : List ℕ) × IsLine (texts words.now) (F.held files.old) result line
@@ -103,12 +103,12 @@ fn status(outcome: &Result<(), Stop>) -> u8
 // Does what the words ask for.
 fn converted<F: Files>(alloc: Global, words: &[String], files: &mut F) -> Result<(), Stop>
     ensures ends { Ends (texts words.now) (record {
-        held = F.held files.old;
-        held_now = F.held files.new;
-        reads = F.read_faults files.old;
-        reads_now = F.read_faults files.new;
-        writes = F.write_faults files.old;
-        writes_now = F.write_faults files.new
+      held = F.held files.old;
+      held_now = F.held files.new;
+      reads = F.read_faults files.old;
+      reads_now = F.read_faults files.new;
+      writes = F.write_faults files.old;
+      writes_now = F.write_faults files.new;
     }) result }
     ensures reads { F.read_faults files.old ≤ F.read_faults files.new }
     ensures writes { F.write_faults files.old ≤ F.write_faults files.new }

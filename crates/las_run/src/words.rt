@@ -51,7 +51,10 @@ fn first_index(conditions: &[(bool, usize)]) -> Option<usize>
 fn is_class(word: &str) -> bool
     ensures { result ≡ is_class word.now }
 {
-    !word.is_empty() && word.len() <= 20 && all_digits(word.as_bytes()) && number(word.as_bytes()) < 32
+    !word.is_empty()
+        && word.len() <= 20
+        && all_digits(word.as_bytes())
+        && number(word.as_bytes()) < 32
 }
 
 fn all_digits(word: &[u8]) -> bool

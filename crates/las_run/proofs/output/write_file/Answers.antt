@@ -1,7 +1,7 @@
-use Rattle.std.proofs.Common.{◌≡◌, ◌+◌, ◌≤◌, inr, inl, ℕ, [], ◌∷◌, ◌++◌, List, length, take, min, refl, sym, ◌∙◌, ap, arith, length-append}
+use Rattle.std.proofs.Common.{◌+◌, ◌≤◌, inr, inl, [], ◌∷◌, ◌++◌, length, take, refl, sym, arith, length-append}
 use Rattle.std.proofs.lemmas.Result.{on_ok_weaker, on_err_weaker}
 use Rattle.std.proofs.Math.Seq.{take-append-add}
-use Rattle.las_outside.specs.Files.{holding, patched}
+use Rattle.las_outside.specs.Files.{patched}
 use Rattle.las_outside.proofs.FileLaws.{after, told_after, left_in_part}
 use Rattle.las_outside.proofs.Rooms.{on_err}
 use Rattle.las_run.proofs.Pieces.{front}

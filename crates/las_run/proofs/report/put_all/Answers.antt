@@ -17,6 +17,6 @@ loop-piece-preserved g c =
     let piece = (get_or c.args.pieces.now l.piece-index (record { ref_ptr = (0, 0); now = [] })).now in
     record {
       put = h.added ∙ ap (λ w. with_more w piece) l.invariant.put ∙ with_more_twice (g.E.Sink.written c.args.err.now) (text_of (take l.piece-index c.args.pieces.now)) piece
-      ∙ ap (with_more (g.E.Sink.written c.args.err.now)) (sym (text_of_more c.args.pieces.now l.piece-index (record { ref_ptr = (0, 0); now = [] }) c.loop-piece-test.true));
-      counts = omega (arith, l.invariant.counts, h.counts)
+          ∙ ap (with_more (g.E.Sink.written c.args.err.now)) (sym (text_of_more c.args.pieces.now l.piece-index (record { ref_ptr = (0, 0); now = [] }) c.loop-piece-test.true));
+      counts = omega (arith, l.invariant.counts, h.counts);
     }

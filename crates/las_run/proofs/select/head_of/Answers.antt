@@ -1,4 +1,4 @@
-use Rattle.std.proofs.Common.{◌≡◌, inr, ℕ, List, length, take, refl, sym, ◌∙◌, ap, rules, arith}
+use Rattle.std.proofs.Common.{inr, ℕ, take, refl, sym, ◌∙◌, ap, rules, arith}
 use Rattle.std.proofs.lemmas.List.{take_min, length-take-le}
 use Rattle.las_run.proofs.Accepting.{front_accepted, front_refused, head_accepted, head_whole, file_accepted, file_refused}
 use Rattle.las_run.proofs.select.head_of.Goals as goal

@@ -36,8 +36,7 @@ returns-clause-ends g c =
     let class_is : c.class_in.result ≡ class_of_words words = c.class_in.ensures.value ∙ ap (digits_value 10) c.word-2.ensures in
     let s = c.in_ok-selection.ensures in
     let chosen = c.in_ok-selection.selection in
-    let left = output_left c.class_in.result file chosen.head.bytes chosen.records.items chosen.counts held (g.F.Files.held c.read_file.new.files) now (input_of words) (output_of words) told s.accepted s.head s.records s.counts c.in_ok-file.ensures.files c.word-3.result.now c.word-3.ensures c.in-Err.ensures.stopped in
-    (
+    let left = output_left c.class_in.result file chosen.head.bytes chosen.records.items chosen.counts held (g.F.Files.held c.read_file.new.files) now (input_of words) (output_of words) told s.accepted s.head s.records s.counts c.in_ok-file.ensures.files c.word-3.result.now c.word-3.ensures c.in-Err.ensures.stopped in (
       accepted,
       input_accepted c.class_in.result file chosen.head.bytes chosen.records.items chosen.counts held (g.F.Files.held c.read_file.new.files) now (input_of words) (output_of words) told s.accepted s.head s.records s.counts c.in_ok-file.ensures.files c.word-3.result.now c.word-3.ensures,
       subst (λ (n : ℕ). LeavesUnfinished (output_of words) (draft_for n (bytes_of held (input_of words))) (patches_for n (bytes_of held (input_of words))) held now) class_is left,

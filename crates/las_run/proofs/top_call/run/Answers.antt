@@ -15,8 +15,7 @@ returns-clause-line g c =
     let outcome = c.converted-outcome.result in
     let held = g.F.Files.held c.args.files.now in
     let text = line_of (input_of words) outcome in
-    let is_line = subst (λ (n : ℕ). IsLine words held n text) (sym c.status.ensures.status) (line words _ outcome c.converted-outcome.ensures.ends) in
-    (
+    let is_line = subst (λ (n : ℕ). IsLine words held n text) (sym c.status.ensures.status) (line words _ outcome c.converted-outcome.ensures.ends) in (
       text,
       is_line,
       elim c.match-outcome.branch [

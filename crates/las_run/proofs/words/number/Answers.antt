@@ -1,4 +1,4 @@
-use Rattle.std.proofs.Common.{get_or, refl, ◌∙◌, ap, rules}
+use Rattle.std.proofs.Common.{get_or, refl, rules}
 use Rattle.las_run.proofs.Digits.{at_least_zero, next_digit}
 use Rattle.las_run.proofs.words.number.Goals as goal
 
