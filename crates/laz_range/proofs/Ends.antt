@@ -38,11 +38,14 @@ byte_cases r [] some short e =
     })
 byte_cases r (b ∷ bs) some short e =
     let m : Reading = record { value = r.value * 256 + b; len = r.len * 256; rest = bs } in
-    inr (m, record {
-      is = refilled-short r short ∙ ap (with_byte r) e;
-      room = omega (arith, ap length e, bytes_for-short r.len some short);
-      longer = λ k small h. omega (arith, h);
-    })
+    inr (
+      m,
+      record {
+        is = refilled-short r short ∙ ap (with_byte r) e;
+        room = omega (arith, ap length e, bytes_for-short r.len some short);
+        longer = λ k small h. omega (arith, h);
+      },
+    )
 
 pub refill_cases : (r : Reading) → 0 < r.len → Lacks r ⊎ ((m : Reading) × Refills r m)
 refill_cases r some =

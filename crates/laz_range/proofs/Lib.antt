@@ -12,3 +12,4 @@ pub mod Decodings
 pub mod Ends
 pub mod Events
 pub mod Distributions
+pub mod Examples
