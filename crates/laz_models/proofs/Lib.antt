@@ -1,2 +1,5 @@
 pub mod Lookups
+pub mod Models
 pub mod Parts
+pub mod Places
+pub mod Stand

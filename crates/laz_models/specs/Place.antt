@@ -1,4 +1,4 @@
-use Rattle.std.specs.Prelude.{◌≡◌, ℕ, ◌+◌, ◌-◌, ◌*◌, ◌^◌, ◌<◌, ◌≤◌, ◌==◌, List, length, take, drop, sum, if◌then◌else◌, slice_index, slice_range}
+use Rattle.std.specs.Prelude.{◌≡◌, ℕ, ◌+◌, ◌-◌, ◌*◌, ◌^◌, ◌<◌, ◌≤◌, ◌==◌, List, length, take, drop, sum, if◌then◌else◌, slice_index, slice_index_or, slice_range}
 use Rattle.laz_models.specs.Counting.{Counting, AreCounts, AreParts, fresh}
 use Rattle.laz_models.specs.Lookup.{IsLastAt, table_bits, table_length}
 use Rattle.laz_models.specs.declared.place.Place.{Place}
@@ -58,3 +58,46 @@ pub record SamePlace (old new : Place) : Type 0 where
   pub end : new.end ≡ old.end
   pub size : new.size ≡ old.size
   pub shift : new.shift ≡ old.shift
+
+-- The cells of the model at a place, of all cells.
+abbrev pub own : Place → List ℕ → List ℕ
+own p cells = slice_range cells p.start p.end
+
+-- What a model knows, from its place and its own cells.
+unfoldable pub state_of : Place → List ℕ → Counting
+state_of p cells = if p.left == 0 then fresh p.size else laid_state p cells
+
+-- What holds of a model between any two calls.
+pub record IsModel (p : Place) (cells : List ℕ) : Type 0 where
+  pub shape : IsShaped p
+  pub length : length cells ≡ extent p.size
+  pub laid : 0 < p.left → IsLaid p cells
+
+-- All cells but those of one model are as they were.
+pub record SameOutside (start end : ℕ) (old new : List ℕ) : Type 0 where
+  pub length : length new ≡ length old
+  pub before : (i : ℕ) → i < start → slice_index new i ≡ slice_index old i
+  pub behind : (i : ℕ) → end ≤ i → slice_index new i ≡ slice_index old i
+
+-- What the model at a place knows.
+abbrev pub state_in : List ℕ → Place → Counting
+state_in cells p = state_of p (own p cells)
+
+-- A model lies at a place, among all cells.
+pub record IsPlaced (p : Place) (cells : List ℕ) : Type 0 where
+  pub model : IsModel p (own p cells)
+  pub within : p.end ≤ length cells
+
+-- The models of a bank lie apart, in order.
+pub record IsBank (places : List Place) (cells : List ℕ) : Type 0 where
+  pub placed : (m : ℕ) (d : Place) → m < length places → IsPlaced (slice_index_or places m d) cells
+  pub apart : (i j : ℕ) (d : Place) → i < j → j < length places → (slice_index_or places i d).end ≤ (slice_index_or places j d).start
+
+-- Places of models of these sizes, as at the start, which end at a cell.
+pub record IsLayout (places : List Place) (sizes : List ℕ) (end : ℕ) : Type 0 where
+  pub count : length places ≡ length sizes
+  pub shape : (m : ℕ) (d : Place) → m < length places → IsShaped (slice_index_or places m d)
+  pub size : (m : ℕ) (d : Place) → m < length places → (slice_index_or places m d).size ≡ slice_index sizes m
+  pub first : (m : ℕ) (d : Place) → m < length places → (slice_index_or places m d).left ≡ 0
+  pub within : (m : ℕ) (d : Place) → m < length places → (slice_index_or places m d).end ≤ end
+  pub apart : (i j : ℕ) (d : Place) → i < j → j < length places → (slice_index_or places i d).end ≤ (slice_index_or places j d).start

@@ -4,5 +4,7 @@
 //! and a cycle of symbols long it keeps the distribution that it computed from the counts when the cycle began.
 #![tactic(auto)]
 
+mod bank;
+mod lookup;
 mod place;
 mod region;

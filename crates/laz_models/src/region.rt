@@ -1,8 +1,8 @@
 //! The cells of one model: its counts, where its parts begin, and its look-up table.
 ghost use Rattle.std.specs.Prelude.{◌≡◌, ℕ, ◌+◌, ◌-◌, ◌*◌, ◌/◌, ◌<◌, ◌≤◌, ◌^◌, length, take, drop, sum, map, All, replicate, slice_index};
-ghost use Rattle.laz_models.specs.Counting.{halved, parts_of, AreCounts, AreParts, turned, limited, fresh};
+ghost use Rattle.laz_models.specs.Counting.{halved, parts_of, AreCounts, AreParts, counted, turned, limited, fresh};
 ghost use Rattle.laz_models.specs.Lookup.{IsLastAt, table_bits};
-ghost use Rattle.laz_models.specs.Place.{counts_in, parts_in, table_in, laid_state, IsTable, IsShaped, IsLaid, IsDue, SamePlace, extent};
+ghost use Rattle.laz_models.specs.Place.{counts_in, parts_in, table_in, laid_state, state_of, IsTable, IsShaped, IsLaid, IsDue, IsModel, SamePlace, extent};
 
 use crate::place::Place;
 
@@ -148,4 +148,45 @@ fn lay_out(cells: &mut [u32], place: &mut Place)
     renew(cells, size, place.shift, place.total);
     place.cycle = (place.size + 6) >> 1;
     place.left = place.cycle;
+}
+
+/// Lays a model out, if it is as at the start.
+fn open(cells: &mut [u32], place: &mut Place)
+    requires { IsModel place.old cells.old }
+    ensures state { laid_state place.new cells.new ≡ state_of place.old cells.old }
+    ensures good { IsLaid place.new cells.new }
+    ensures place { SamePlace place.old place.new }
+{
+    if place.left == 0 {
+        lay_out(cells, place);
+    }
+}
+
+/// Counts a symbol of a model that is laid out.
+fn add(cells: &mut [u32], place: &mut Place, s: u32)
+    requires shape { IsShaped place.old }
+    requires length { length cells.old ≡ extent place.old.size }
+    requires laid { IsLaid place.old cells.old }
+    requires symbol { s < place.old.size }
+    ensures counted { laid_state place.new cells.new ≡ counted (laid_state place.old cells.old) s }
+    ensures good { IsLaid place.new cells.new }
+    ensures place { SamePlace place.old place.new }
+{
+    cells[s as usize] += 1;
+    place.left -= 1;
+    if place.left == 0 {
+        turn(cells, place);
+    }
+}
+
+/// Counts a symbol.
+pub fn count(cells: &mut [u32], place: &mut Place, s: u32)
+    requires model { IsModel place.old cells.old }
+    requires symbol { s < place.old.size }
+    ensures counted { state_of place.new cells.new ≡ counted (state_of place.old cells.old) s }
+    ensures good { IsModel place.new cells.new }
+    ensures place { SamePlace place.old place.new }
+{
+    open(cells, place);
+    add(cells, place, s);
 }
