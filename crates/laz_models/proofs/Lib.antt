@@ -1,3 +1,7 @@
+pub mod BitParts
+pub mod BitStand
+pub mod Banks
+pub mod Layouts
 pub mod Lookups
 pub mod Models
 pub mod Parts

@@ -1,4 +1,4 @@
-use Rattle.std.proofs.Common.{◌≡◌, ℕ, zero, suc, ◌+◌, ◌-◌, ◌*◌, ◌^◌, ◌<◌, ◌≤◌, List, [], ◌∷◌, length, ltb, get_or, count_by, refl, sym, ap, ◌∙◌, arith, ⊎_elim, lit<, lit≤}
+use Rattle.std.proofs.Common.{◌≡◌, ℕ, zero, suc, ◌+◌, ◌-◌, ◌*◌, ◌^◌, ◌<◌, ◌≤◌, List, [], ◌∷◌, cond, ltb, get_or, refl, sym, ap, ◌∙◌, arith, ⊎_elim, lit<}
 use Rattle.std.proofs.Math.Nat.{pow-le-pow_right}
 use Rattle.std.proofs.lemmas.Bool.{cases_lt, cond-true, cond-false, lt-ltb, le-ltb}
 use Rattle.std.proofs.lemmas.List.Sums.{count_by-le-length}
@@ -26,16 +26,27 @@ last_at n parts v s h symbol start next =
       symbol = omega (arith, h.length);
       start = start;
       greatest = λ k within at.
-    ⊎_elim {C = k ≤ s}
-    (λ (more : s < k). absurd (omega (arith, h.length, next (omega (arith, h.length)), rising-le n parts (s + 1) k h (omega arith) (omega (arith, h.length)))))
-    (λ (less : k ≤ s). less)
-    (cases_lt s k);
+          ⊎_elim {C = k ≤ s}
+          (λ (more : s < k). absurd (omega (arith, h.length, next (omega (arith, h.length)), rising-le n parts (s + 1) k h (omega arith) (omega (arith, h.length)))))
+          (λ (less : k ≤ s). less)
+          (cases_lt s k);
     }
 
 -- ---- the look-up table's size
 pub table_bits-bounds : (n : ℕ) → (3 ≤ table_bits n) × (table_bits n ≤ 9)
 unfolding table_bits
 table_bits-bounds n = (omega arith, omega (arith, count_by-le-length (λ b. ltb (2 ^ (b + 2)) n) (3 ∷ 4 ∷ 5 ∷ 6 ∷ 7 ∷ 8 ∷ [])))
+
+-- whether b is too small, for each b from 3 to 8
+pub table_bits-sum : (n : ℕ) → table_bits n ≡ 3 + (0 + cond {A = ℕ} (ltb 32 n) 1 0 + cond {A = ℕ} (ltb 64 n) 1 0 + cond {A = ℕ} (ltb 128 n) 1 0 + cond {A = ℕ} (ltb 256 n) 1 0 + cond {A = ℕ} (ltb 512 n) 1 0 + cond {A = ℕ} (ltb 1024 n) 1 0)
+unfolding table_bits
+table_bits-sum n = refl
+
+pub counts-one : (k n : ℕ) → k < n → cond {A = ℕ} (ltb k n) 1 0 ≡ 1
+counts-one k n h = cond-true {A = ℕ} (ltb k n) 1 0 (lt-ltb k n h)
+
+pub counts-none : (k n : ℕ) → n ≤ k → cond {A = ℕ} (ltb k n) 1 0 ≡ 0
+counts-none k n h = cond-false {A = ℕ} (ltb k n) 1 0 (le-ltb k n h)
 
 pub table_length-none : (n : ℕ) → n ≤ 16 → table_length n ≡ 0
 unfolding table_length

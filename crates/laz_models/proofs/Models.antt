@@ -1,12 +1,12 @@
-use Rattle.std.proofs.Common.{◌≡◌, ℕ, zero, suc, ◌+◌, ◌-◌, ◌*◌, ◌/◌, ◌%◌, ◌^◌, ◌<◌, ◌≤◌, min, List, length, take, drop, sum, replicate, eqb, get_or, refl, sym, ap, ◌∙◌, arith, ⊎_elim, lit<, ◌++◌, set}
-use Rattle.std.proofs.Math.Nat.{mul-le-mul_left, mul-le-mul_right, div-mul-le_self, lt-mul-div-succ, div-lt_iff_lt-mul, one-le-pow, pow-le-pow_right}
+use Rattle.std.proofs.Common.{◌≡◌, ℕ, ◌+◌, ◌-◌, ◌*◌, ◌/◌, ◌^◌, ◌<◌, ◌≤◌, min, List, length, take, drop, sum, replicate, get_or, refl, sym, ap, ◌∙◌, arith, ⊎_elim, lit<, ◌++◌, set}
+use Rattle.std.proofs.Math.Nat.{mul-le-mul_left, div-mul-le_self, lt-mul-div-succ, div-lt_iff_lt-mul, one-le-pow, pow-le-pow_right}
 use Rattle.std.proofs.lemmas.Nat.{le-div}
 use Rattle.std.proofs.lemmas.List.Sums.{sum_by-set, get_or-le-sum_by}
 use Rattle.std.proofs.lemmas.Bool.{cases_eq, cases_lt, cond-true, cond-false, eq-eqb, ne_eqb}
 use Rattle.std.proofs.lemmas.List.{take_at, take-append-drop, set-append_left, length-set, get_or-set_same, get_or-set_other, drop-set-lt, length-replicate, take-replicate, length-take-le, length-drop, get_or-drop, get_or-take}
-use Rattle.laz_models.specs.Counting.{AreCounts, AreParts, bumped, counted, parts_of, part_start, part_end, fresh}
+use Rattle.laz_models.specs.Counting.{AreCounts, AreParts, bumped, counted, parts_of, part_end, fresh}
 use Rattle.laz_models.specs.Lookup.{IsLastAt, table_bits, table_length}
-use Rattle.laz_models.specs.Place.{counts_in, parts_in, table_in, laid_state, state_of, extent, IsShaped, IsLaid, IsModel}
+use Rattle.laz_models.specs.Place.{counts_in, parts_in, table_in, laid_state, state_of, extent, IsShaped, IsLaid}
 use Rattle.laz_models.specs.declared.place.Place.{Place}
 use Rattle.laz_models.proofs.Lookups.{last_at, places, table_bits-bounds, table_length-some, table_length-none}
 use Rattle.laz_models.proofs.Parts.{counted-more, get_or-parts_of, parts_of-AreParts, AreCounts-ones, sum-ones}
@@ -59,6 +59,14 @@ part_end-last parts n s size last = cond-true _ _ _ (eq-eqb (s + 1) (length part
 
 pub part_end-inner : (parts : List ℕ) (n s : ℕ) → length parts ≡ n → (s + 1 ≡ n → ⊥) → part_end parts s ≡ get_or parts (s + 1) 0
 part_end-inner parts n s size inner = cond-false _ _ _ (ne_eqb (s + 1) (length parts) (λ e. inner (e ∙ size)))
+
+-- no part is empty, and the last ends at 2 ^ 15
+pub part_end-above : (n : ℕ) (parts : List ℕ) (s : ℕ) → AreParts n parts → s < n → (get_or parts s 0 < part_end parts s) × (part_end parts s ≤ 32768)
+part_end-above n parts s h below =
+    ⊎_elim {C = (get_or parts s 0 < part_end parts s) × (part_end parts s ≤ 32768)}
+    (λ (last : s + 1 ≡ n). rw (part_end-last parts n s h.length last) (h.within s below, omega arith))
+    (λ (inner : s + 1 ≡ n → ⊥). rw (part_end-inner parts n s h.length inner) (h.rising s (omega (arith, inner)), omega (arith, h.within (s + 1) (omega (arith, inner)))))
+    (cases_eq (s + 1) n)
 
 -- ---- the look-up table of a model that is laid out
 pub length-parts_in : (p : Place) (cells : List ℕ) → length cells ≡ extent p.size → length (parts_in p.size cells) ≡ p.size
@@ -133,10 +141,10 @@ bounds_at p cells v shape size laid many below =
       within = omega (arith, g.symbol);
       start = omega (arith, e.last.start);
       end = λ inner.
-    ⊎_elim
-    (λ (above : v < get_or (parts_in n cells) (high + 1) 0). above)
-    (λ (at : get_or (parts_in n cells) (high + 1) 0 ≤ v). absurd (omega (arith, g.greatest (high + 1) (omega arith) (omega arith))))
-    (cases_lt v (get_or (parts_in n cells) (high + 1) 0));
+          ⊎_elim
+          (λ (above : v < get_or (parts_in n cells) (high + 1) 0). above)
+          (λ (at : get_or (parts_in n cells) (high + 1) 0 ≤ v). absurd (omega (arith, g.greatest (high + 1) (omega arith) (omega arith))))
+          (cases_lt v (get_or (parts_in n cells) (high + 1) 0));
     }
 
 -- ---- one symbol more
@@ -156,10 +164,10 @@ AreCounts-bumped counts s h below =
       many = omega (arith, h.many);
       few = omega (arith, h.few);
       some = λ k within.
-    ⊎_elim {C = 1 ≤ get_or (bumped counts s) k 0}
-    (λ (e : k ≡ s). rw (e, get_or-set_same counts s (get_or counts s 0 + 1) 0 below) (omega arith))
-    (λ (ne : k ≡ s → ⊥). rw (get_or-set_other counts s k (get_or counts s 0 + 1) 0 ne) (h.some k (omega arith)))
-    (cases_eq k s);
+          ⊎_elim {C = 1 ≤ get_or (bumped counts s) k 0}
+          (λ (e : k ≡ s). rw (e, get_or-set_same counts s (get_or counts s 0 + 1) 0 below) (omega arith))
+          (λ (ne : k ≡ s → ⊥). rw (get_or-set_other counts s k (get_or counts s 0 + 1) 0 ne) (h.some k (omega arith)))
+          (cases_eq k s);
     }
 
 pub sum-bumped : (counts : List ℕ) (s : ℕ) → s < length counts → sum (bumped counts s) ≡ sum counts + 1

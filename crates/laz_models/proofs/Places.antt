@@ -1,10 +1,9 @@
-use Rattle.std.proofs.Common.{◌≡◌, ℕ, ◌+◌, ◌-◌, ◌<◌, ◌≤◌, List, length, take, drop, set, get_or, refl, sym, ap, ◌∙◌, arith}
-use Rattle.std.proofs.lemmas.List.{length-drop, length-set, drop-set-add, get_or-drop, get_or-take, same_lists, get_or_default}
-use Rattle.std.proofs.lemmas.List.Edits.{length-between, get_or-between}
+use Rattle.std.proofs.Common.{◌≡◌, ℕ, ◌+◌, ◌-◌, ◌<◌, ◌≤◌, List, length, take, drop, set, get_or, sym, ap, ◌∙◌, arith}
+use Rattle.std.proofs.lemmas.List.{length-drop, length-set, drop-set-add, get_or-drop, get_or-take}
 use Rattle.laz_models.specs.Counting.{counted}
-use Rattle.laz_models.specs.Place.{own, extent, laid_state, state_of, IsShaped, IsLaid, IsModel, IsPlaced, SameOutside}
+use Rattle.laz_models.specs.Place.{own, state_of, IsPlaced}
 use Rattle.laz_models.specs.declared.place.Place.{Place}
-use Rattle.laz_models.proofs.Models.{Adds, adds, one_fewer, count-fits, state_of-laid, take-set-below}
+use Rattle.laz_models.proofs.Models.{adds, one_fewer, count-fits, state_of-laid, take-set-below}
 
 -- a write to a model's own cells
 pub own-set : (p : Place) (cells : List ℕ) (s x : ℕ) → s < p.end - p.start → p.end ≤ length cells → own p (set cells (p.start + s) x) ≡ set (own p cells) s x

@@ -1,4 +1,4 @@
-use Rattle.std.specs.Prelude.{◌≡◌, ℕ, ◌<◌, ◌≤◌, List, length, map, slice_index_or, slice_set}
+use Rattle.std.specs.Prelude.{ℕ, List, map, slice_index_or}
 use Rattle.laz_models.specs.Counting.{Counting, fresh}
 use Rattle.laz_models.specs.Dist.{size_of}
 

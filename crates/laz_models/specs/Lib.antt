@@ -1,4 +1,6 @@
 pub mod Bank
+pub mod BitCounting
+pub mod BitDist
 pub mod Counting
 pub mod Dist
 pub mod Lookup

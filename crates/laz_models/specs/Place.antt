@@ -101,3 +101,7 @@ pub record IsLayout (places : List Place) (sizes : List ℕ) (end : ℕ) : Type 
   pub first : (m : ℕ) (d : Place) → m < length places → (slice_index_or places m d).left ≡ 0
   pub within : (m : ℕ) (d : Place) → m < length places → (slice_index_or places m d).end ≤ end
   pub apart : (i j : ℕ) (d : Place) → i < j → j < length places → (slice_index_or places i d).end ≤ (slice_index_or places j d).start
+
+-- A place whose model is as at the start.
+abbrev pub as_first : Place → Place
+as_first p = record { start = p.start; end = p.end; size = p.size; shift = p.shift; total = p.total; cycle = p.cycle; left = 0 }

@@ -5,6 +5,13 @@
 #![tactic(auto)]
 
 mod bank;
+mod bit_model;
+mod cells;
 mod lookup;
 mod place;
 mod region;
+mod symbol_model;
+
+pub use bank::ModelBank;
+pub use bit_model::BitModel;
+pub use symbol_model::SymbolModel;

@@ -1,4 +1,4 @@
-use Rattle.std.proofs.Common.{◌≤◌, arith}
+use Rattle.std.proofs.Common.{arith}
 use Rattle.laz_models.proofs.Models.{bounds_at, entry_at, entry-below}
 use Rattle.laz_models.proofs.lookup.bounds.Goals as goal
 

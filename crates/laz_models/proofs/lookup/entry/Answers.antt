@@ -1,7 +1,6 @@
 use Rattle.std.proofs.Common.{◌≡◌, ◌-◌, ◌*◌, ◌%◌, ◌^◌, ◌≤◌, arith}
 use Rattle.std.proofs.Math.Nat.{mod-eq_of_lt, mul-le-mul_right}
 use Rattle.laz_models.specs.Lookup.{table_bits}
-use Rattle.laz_models.specs.Place.{extent}
 use Rattle.laz_models.proofs.Lookups.{places, table_bits-bounds}
 use Rattle.laz_models.proofs.Models.{entry_at, extent-few, state_of-first, state_of-laid, fresh-parts}
 use Rattle.laz_models.proofs.lookup.entry.Goals as goal

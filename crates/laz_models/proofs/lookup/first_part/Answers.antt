@@ -1,4 +1,4 @@
-use Rattle.std.proofs.Common.{◌∙◌, sym, arith}
+use Rattle.std.proofs.Common.{◌∙◌, sym}
 use Rattle.laz_models.proofs.Models.{first-AreParts, part_end-last, part_end-inner}
 use Rattle.laz_models.proofs.lookup.first_part.Goals as goal
 

@@ -1,6 +1,4 @@
 use Rattle.std.proofs.Common.{◌≡◌, ◌+◌, ◌∙◌, sym, get_or, ap, arith}
-use Rattle.laz_models.specs.Counting.{part_end}
-use Rattle.laz_models.specs.Place.{parts_in}
 use Rattle.laz_models.proofs.Models.{length-parts_in, part_at, part_end-last, part_end-inner, state_of-first, state_of-laid, fresh-parts}
 use Rattle.laz_models.proofs.lookup.part.Goals as goal
 

@@ -1,4 +1,4 @@
-use Rattle.std.proofs.Common.{◌≤◌, ◌∙◌, sym, ap, length, arith, rules}
+use Rattle.std.proofs.Common.{◌∙◌, sym, ap, arith}
 use Rattle.laz_models.specs.Counting.{turned}
 use Rattle.laz_models.specs.Place.{laid_state}
 use Rattle.laz_models.proofs.Parts.{counted-last}

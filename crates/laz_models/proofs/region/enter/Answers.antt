@@ -1,4 +1,4 @@
-use Rattle.std.proofs.Common.{◌≡◌, ℕ, ◌+◌, ◌*◌, ◌%◌, ◌^◌, ◌<◌, ◌≤◌, ◌≢◌, length, get_or, arith, below_more, get_or-set_other, get_or-set_same}
+use Rattle.std.proofs.Common.{◌≡◌, ℕ, ◌*◌, ◌%◌, ◌^◌, ◌<◌, ◌≢◌, length, arith, below_more, get_or-set_other, get_or-set_same}
 use Rattle.std.proofs.Math.Nat.{mod-eq_of_lt, mul-le-mul_right}
 use Rattle.laz_models.specs.Lookup.{IsLastAt}
 use Rattle.laz_models.proofs.region.enter.Goals as goal
@@ -16,6 +16,6 @@ loop-t-preserved c =
       symbol = last.symbol;
       start = omega (arith, last.start);
       entries = below_more _ _
-    (λ t below. let other : t ≢ c.loop-t.t = omega arith in rw get_or-set_other (c.loop-t.invariant.entries t below))
-    (rw (get_or-set_same c.loop-t.table c.loop-t.t c.walk-s.result 0 here) last);
+          (λ t below. let other : t ≢ c.loop-t.t = omega arith in rw get_or-set_other (c.loop-t.invariant.entries t below))
+          (rw (get_or-set_same c.loop-t.table c.loop-t.t c.walk-s.result 0 here) last);
     }

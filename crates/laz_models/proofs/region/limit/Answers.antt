@@ -1,5 +1,5 @@
 use Rattle.std.proofs.Common.{◌≡◌, ◌∙◌, sym, ap, sum, arith}
-use Rattle.std.proofs.lemmas.List.{take_at, length-map}
+use Rattle.std.proofs.lemmas.List.{take_at}
 use Rattle.laz_models.specs.Counting.{halved}
 use Rattle.laz_models.specs.Place.{counts_in}
 use Rattle.laz_models.proofs.Parts.{limited-small, limited-large, AreCounts-halved, sum-halved-le}
