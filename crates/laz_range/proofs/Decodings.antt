@@ -1,15 +1,13 @@
-use Rattle.std.proofs.Common.{◌≡◌, ℕ, ◌+◌, ◌-◌, ◌*◌, ◌/◌, ◌%◌, ◌^◌, ◌<◌, ◌≤◌, ◌≢◌, Bool, List, [], ◌∷◌, ◌++◌, length, take, drop, Option, Some, None, Result, Ok, Err, IfOk, get_or, OnErr, lit<, lit≤, refl, sym, ap, subst, ◌∙◌, arith, ⊎_elim, length-drop}
-use Rattle.std.specs.Bool.{⊤}
+use Rattle.std.proofs.Common.{◌≡◌, ℕ, ◌+◌, ◌-◌, ◌*◌, ◌/◌, ◌%◌, ◌^◌, ◌<◌, ◌≤◌, List, [], ◌∷◌, ◌++◌, length, take, drop, Option, Some, None, Result, Ok, Err, IfOk, get_or, OnErr, lit<, lit≤, refl, sym, ap, subst, ◌∙◌, arith, ⊎_elim, length-drop}
 use Rattle.std.specs.Option.{SomeIff, option_and_then}
-use Rattle.std.specs.List.{AllByRecursion}
-use Rattle.laz_range.specs.Cut.{Cut, Part, Bit, Raw, IsCut, AreCuts, IsLike, one_event, raw_cuts}
-use Rattle.laz_range.specs.Span.{Span, IsSpan, after, start, span, number, Begins, IsBytes}
-use Rattle.laz_range.specs.Reading.{Reading, IsIn, follow, follow_all, reading, opened}
+use Rattle.laz_range.specs.Cut.{Cut, Raw, IsCut, AreCuts, IsLike, one_event, raw_cuts}
+use Rattle.laz_range.specs.Span.{start, span, number, Begins}
+use Rattle.laz_range.specs.Reading.{Reading, IsIn, follow, follow_all, reading}
 use Rattle.laz_range.specs.Choice.{Only, Nothing}
 use Rattle.laz_range.specs.Decoding.{Decoding, reading_of, HasRead, ReadsOn, NoneBegins, Takes, TakesNone, Reads}
 use Rattle.laz_range.proofs.Reach.{after-IsSpan, start-IsSpan}
 use Rattle.laz_range.proofs.Begin.{follow_all-is}
-use Rattle.laz_range.proofs.Whole.{after-append, following-is, opened-is}
+use Rattle.laz_range.proofs.Whole.{after-append}
 use Rattle.laz_range.proofs.Other.{IsOther, alike_cases, follow-other, follow-apart}
 use Rattle.laz_range.proofs.Chain.{follows_front, follows_both, some_injective}
 use Rattle.laz_range.proofs.Refills.{wide_cuts, short_cuts}
@@ -63,20 +61,6 @@ Only-pull g P Q cuts r m y h asked to back =
       reads = h.reads;
       only = λ z s q e. back z (h.only (g z) s (to z q) e);
     }
-
-bit_back : (p0 : ℕ) (bit other : Bool) → Bit p0 other ≡ Bit p0 bit → other ≡ bit
-bit_back p0 bit other e = cc
-
-raw_back : (b v w : ℕ) → Raw b w ≡ Raw b v → w ≡ v
-raw_back b v w e = cc
-
-pub Only-bit : (r m : Reading) (p0 : ℕ) (bit : Bool) → 0 < p0 → p0 < 8192 → follow r (Bit p0 bit) ≡ Some m → Only {X = Bool} (λ _. ⊤) (λ b. Bit p0 b ∷ []) r bit m
-Only-bit r m p0 bit some part e =
-    Only-pull (Bit p0) (IsLike (Bit p0 bit)) (λ _. ⊤) one_event r m bit (Only-one r m (Bit p0 bit) (some, part) e ((some, part), refl)) tt (λ z q. ((some, part), refl)) (λ z f. bit_back p0 bit z f)
-
-pub Only-raw : (r m : Reading) (b v : ℕ) → 0 < b → b ≤ 19 → v < 2 ^ b → follow r (Raw b v) ≡ Some m → Only (λ w. w < 2 ^ b) (λ w. Raw b w ∷ []) r v m
-Only-raw r m b v some few small e =
-    Only-pull (Raw b) (IsLike (Raw b v)) (λ w. w < 2 ^ b) one_event r m v (Only-one r m (Raw b v) (some, few, small) e ((some, few, small), refl)) small (λ z q. ((some, few, q), refl)) (λ z f. raw_back b v z f)
 
 -- ---- a raw value of two parts
 halves_same : (y low high : ℕ) → y % 65536 ≡ low → y / 65536 ≡ high → y ≡ high * 65536 + low
@@ -199,13 +183,6 @@ Reads-same (Err e) P cuts others old new same h =
       bytes = h.bytes;
       failed = h.failed;
     }
-
--- a decoder at the start
-pub none_opens : (bytes : List ℕ) → IsBytes bytes → opened bytes ≡ None → (events : List Cut) → AreCuts events → Begins (span events) bytes → ⊥
-none_opens bytes b e events all begins =
-    let at = SomeIff-at (option_and_then (λ r. follow_all r events) (opened bytes)) _ _ (following-is events bytes all b) begins in
-    let none : None ≡ Some (reading (span events) bytes) = rw e at at in
-    absurd (cc)
 
 -- ---- the clauses of a call, from what it read
 pub Reads-read : {X E : Type 0} (result : Result X E) (P : X → Type 0) (cuts : X → List Cut) (old new : Decoding) → ((x : X) → P x → AreCuts (cuts x)) → Reads result P cuts old new → IfOk result (λ x. ReadsOn (cuts x) old new)

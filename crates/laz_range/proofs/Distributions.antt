@@ -1,6 +1,6 @@
 use Rattle.std.proofs.Common.{◌≡◌, ℕ, ◌+◌, ◌<◌, ◌≤◌, eqb, cond, List, length, get_or, refl, arith, ⊎_elim, inl, inr}
 use Rattle.std.proofs.lemmas.Bool.{cases_lt, cases_eq, cond-true, cond-false, eq-eqb, ne_eqb}
-use Rattle.laz_range.specs.Cut.{Part, IsCut, AreAlike, IsLike, IsDistribution, symbol}
+use Rattle.laz_range.specs.Cut.{IsCut, AreAlike, IsLike, IsDistribution, symbol}
 
 -- where a symbol's part ends
 abbrev pub end_of : List ℕ → ℕ → ℕ

@@ -1,8 +1,7 @@
-use Rattle.std.proofs.Common.{◌≡◌, ℕ, ◌+◌, ◌-◌, ◌*◌, ◌/◌, ◌<◌, ◌≤◌, ◌⊎◌, eqb, true, false, List, [], ◌∷◌, ◌++◌, length, take, drop, Option, Some, None, refl, sym, ap, ◌∙◌, arith, ⊎_elim, inl, inr, lit≤, length-drop}
+use Rattle.std.proofs.Common.{◌≡◌, ℕ, ◌+◌, ◌-◌, ◌*◌, ◌/◌, ◌<◌, ◌≤◌, ◌⊎◌, eqb, true, false, List, [], ◌∷◌, ◌++◌, length, Option, Some, None, refl, sym, ap, ◌∙◌, arith, ⊎_elim, inl, inr, lit≤}
 use Rattle.std.proofs.lemmas.Bool.{cases_lt, cond-true, cond-false, eq-eqb, ne_eqb}
-use Rattle.std.specs.Option.{option_and_then}
 use Rattle.laz_range.specs.Cut.{Cut, Part, IsCut, AreCuts, width_in, start_in}
-use Rattle.laz_range.specs.Span.{Span, IsSpan, renewed, narrowed, bytes_for, cut, span, start, after}
+use Rattle.laz_range.specs.Span.{Span, IsSpan, renewed, narrowed, bytes_for, span, start}
 use Rattle.laz_range.specs.Reading.{Reading, IsIn, refilled, taken_off, with_byte}
 use Rattle.laz_range.proofs.Spans.{renewed-short, renewed-long, renewed-longer}
 use Rattle.laz_range.proofs.Reach.{cut-lies, after-IsSpan, start-IsSpan}

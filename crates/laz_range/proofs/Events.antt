@@ -1,9 +1,8 @@
-use Rattle.std.proofs.Common.{◌≡◌, ℕ, ◌+◌, ◌-◌, ◌*◌, ◌/◌, ◌^◌, ◌<◌, ◌≤◌, Bool, true, false, leb, List, [], ◌∷◌, length, drop, Some, None, Result, Ok, Err, IsErr, OnOk, OnErr, ◌↔◌, refl, sym, ap, ◌∙◌, arith, inl, inr, ⊎_elim, ◌⊎◌, subst, length-drop}
+use Rattle.std.proofs.Common.{◌≡◌, ℕ, ◌+◌, ◌-◌, ◌*◌, ◌/◌, ◌^◌, ◌<◌, ◌≤◌, Bool, true, false, List, [], ◌∷◌, length, drop, Some, Result, Ok, Err, IsErr, OnOk, OnErr, ◌↔◌, refl, ◌∙◌, arith, inl, inr, ⊎_elim, ◌⊎◌, subst, length-drop}
 use Rattle.std.specs.Bool.{⊤}
 use Rattle.laz_range.specs.Cut.{Cut, Part, Bit, Raw, IsCut, AreCuts, IsLike, one_event, raw_cuts, start_in, width_in}
 use Rattle.laz_range.specs.Span.{bytes_for}
 use Rattle.laz_range.specs.Reading.{Reading, IsIn, follow, taken_off, quotient, RefusesPart, RefusesRaw}
-use Rattle.laz_range.specs.Choice.{Only, Nothing}
 use Rattle.laz_range.specs.Decoding.{Decoding, reading_of, Takes, TakesNone, RunsOut, ReadsOn, NoneBegins, bit_of}
 use Rattle.laz_range.specs.Input.{Passes, Stops}
 use Rattle.laz_range.proofs.Refills.{follow-in, wide_small}
@@ -19,10 +18,7 @@ like_self (Part lo hi) is = (is, inl (refl, refl))
 like_self (Bit p0 bit) is = (is, refl)
 like_self (Raw b v) is = (is, refl)
 
--- what is read of an event that the value lies in
-abbrev pub behind : Decoding → Cut → Type 0
-behind d c = IsIn (reading_of d) c
-
+-- ---- an event that the value lies in
 pub event-passes : (d n : Decoding) (c : Cut) → IsCut c → IsIn (reading_of d) c → Passes (taken_off (reading_of d) (start_in d.len c) (width_in d.len c)) d n → Takes (IsLike c) one_event d n c
 event-passes d n c is lies h =
     record {

@@ -1,8 +1,8 @@
-use Rattle.std.proofs.Common.{◌≡◌, ℕ, true, List, [], ◌∷◌, Some, None, refl}
+use Rattle.std.proofs.Common.{◌≡◌, true, [], ◌∷◌, Some, None, refl}
 use Rattle.std.specs.Option.{option_and_then}
-use Rattle.laz_range.specs.Cut.{Cut, Part, Bit, Raw, raw_cuts, start_in, width_in}
-use Rattle.laz_range.specs.Span.{Span, start, renewed, narrowed, cut, span, number, digits, last, bytes_of, bytes_for}
-use Rattle.laz_range.specs.Reading.{Reading, refilled, taken_off, follow, follow_all, opened, quotient}
+use Rattle.laz_range.specs.Cut.{Part, Bit, Raw, raw_cuts, start_in, width_in}
+use Rattle.laz_range.specs.Span.{renewed, narrowed, span, number, digits, bytes_of, bytes_for}
+use Rattle.laz_range.specs.Reading.{refilled, taken_off, follow, follow_all, opened, quotient}
 
 -- no event: one byte of the number, and three zero bytes
 no_event : bytes_of (span []) ≡ 1 ∷ 0 ∷ 0 ∷ 0 ∷ []

@@ -13,3 +13,4 @@ pub mod Ends
 pub mod Events
 pub mod Distributions
 pub mod Examples
+pub mod Composition

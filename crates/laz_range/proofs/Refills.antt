@@ -1,10 +1,9 @@
-use Rattle.std.proofs.Common.{◌≡◌, ℕ, ◌+◌, ◌-◌, ◌*◌, ◌/◌, ◌%◌, ◌^◌, ◌<◌, ◌≤◌, List, [], ◌∷◌, length, get_or, drop, Bool, true, false, not, Some, None, ◌≢◌, refl, sym, ap, ◌∙◌, arith, ⊎_elim, length-drop}
+use Rattle.std.proofs.Common.{◌≡◌, ℕ, ◌+◌, ◌-◌, ◌*◌, ◌/◌, ◌%◌, ◌^◌, ◌<◌, ◌≤◌, List, [], ◌∷◌, length, get_or, drop, Some, None, refl, sym, ap, ◌∙◌, arith, ⊎_elim}
 use Rattle.std.proofs.lemmas.List.{drop_more, drop_all}
-use Rattle.std.proofs.lemmas.Bool.{cond_below, cond_above, cond-true, cond-false, and_from, and_left, and_right, le-leb, lt-leb, lt-ltb, le-ltb, cases_lt, cases_eq}
+use Rattle.std.proofs.lemmas.Bool.{cond_below, cond_above, cond-true, cond-false, and_from, and_left, and_right, le-leb, lt-leb, lt-ltb, le-ltb, cases_lt}
 use Rattle.std.proofs.lemmas.Nat.{mul-le, div-add-mod', mod_below, pow-add}
-use Rattle.laz_range.specs.Cut.{Cut, Bit, Raw, start_in, width_in, raw_cuts}
-use Rattle.laz_range.proofs.Cuts.{raw_high}
-use Rattle.laz_range.specs.Reading.{Reading, refilled, with_byte, follow, follow_all, taken_off, IsIn}
+use Rattle.laz_range.specs.Cut.{Cut, Raw, start_in, width_in, raw_cuts}
+use Rattle.laz_range.specs.Reading.{Reading, refilled, with_byte, follow, taken_off, IsIn}
 
 pub refilled-short : (r : Reading) → r.len < 16777216 → refilled r ≡ with_byte r r.rest
 unfolding refilled
@@ -47,48 +46,12 @@ IsIn-followed r s c e =
     (cases_lt r.value (start_in r.len c + width_in r.len c)))
     (cases_lt r.value (start_in r.len c))
 
-pub all_taken : (taken : ℕ) (bytes : List ℕ) → taken ≤ length bytes → drop taken bytes ≡ [] → taken ≡ length bytes
-all_taken taken bytes h e = omega (arith, length-drop taken bytes, ap length e)
-
--- ---- the value tells which bit
-pub zero_is : (r : Reading) (p0 : ℕ) → r.value < p0 * (r.len / 8192)
-    → (follow r (Bit p0 false) ≡ taken_off r 0 (p0 * (r.len / 8192))) × (follow r (Bit p0 true) ≡ None)
-zero_is r p0 h =
-    (follow-in r (Bit p0 false) (record { above = omega arith; below = omega arith }), follow-below r (Bit p0 true) h)
-
-pub one_is : (r : Reading) (p0 : ℕ) → p0 * (r.len / 8192) ≤ r.value → r.value < r.len
-    → (follow r (Bit p0 true) ≡ taken_off r (p0 * (r.len / 8192)) (r.len - p0 * (r.len / 8192))) × (follow r (Bit p0 false) ≡ None)
-one_is r p0 h below =
-    (follow-in r (Bit p0 true) (record { above = h; below = omega arith }), follow-above r (Bit p0 false) (omega arith))
-
-pub no_bit : (r : Reading) (p0 : ℕ) → follow r (Bit p0 false) ≡ None → follow r (Bit p0 true) ≡ None → (bit : Bool) → follow r (Bit p0 bit) ≡ None
-no_bit r p0 f t false = f
-no_bit r p0 f t true = t
-
--- ---- the value tells which raw value
-pub raw_is : (r : Reading) (b v : ℕ) → v * (r.len / 2 ^ b) ≤ r.value → r.value < v * (r.len / 2 ^ b) + r.len / 2 ^ b
-    → (follow r (Raw b v) ≡ taken_off r (v * (r.len / 2 ^ b)) (r.len / 2 ^ b)) × ((w : ℕ) → w ≢ v → follow r (Raw b w) ≡ None)
-raw_is r b v above below = (
-  follow-in r (Raw b v) (record { above = above; below = below }),
-  λ w other.
-      ⊎_elim
-      (λ (less : w < v). follow-above r (Raw b w) (omega (arith, mul-le (w + 1) (r.len / 2 ^ b) v (r.len / 2 ^ b) (omega arith) (omega arith))))
-      (λ (more : v ≤ w). follow-below r (Raw b w) (omega (arith, mul-le (v + 1) (r.len / 2 ^ b) w (r.len / 2 ^ b) (omega arith) (omega arith))))
-      (cases_lt w v),
-)
-
 pub no_raw : (r : Reading) (b q : ℕ) → 2 ^ b ≤ q → q * (r.len / 2 ^ b) ≤ r.value → (v : ℕ) → v < 2 ^ b → follow r (Raw b v) ≡ None
 no_raw r b q large above v h =
     follow-above r (Raw b v) (omega (arith, mul-le (v + 1) (r.len / 2 ^ b) q (r.len / 2 ^ b) (omega arith) (omega arith)))
 
 pub quotient_is : (value unit : ℕ) → 0 < unit → (value / unit * unit ≤ value) × (value < value / unit * unit + unit)
 quotient_is value unit h = (omega (arith, div-add-mod' value unit), omega (arith, div-add-mod' value unit, mod_below value unit h))
-
--- one raw value begins what is left
-pub other_raw : (r s : Reading) (b v : ℕ) → follow r (Raw b v) ≡ Some s → (w : ℕ) → w ≢ v → follow r (Raw b w) ≡ None
-other_raw r s b v e =
-    let lies = IsIn-followed r s (Raw b v) e in
-    (raw_is r b v lies.above lies.below).1
 
 -- of a wide value, its two halves
 pub wide_cuts : (b v : ℕ) → 19 < b → raw_cuts b v ≡ Raw 16 (v % 65536) ∷ Raw (b - 16) (v / 65536) ∷ []

@@ -1,4 +1,4 @@
-use Rattle.std.specs.Prelude.{◌≡◌, List, [], ◌∷◌, ◌++◌, Some}
+use Rattle.std.specs.Prelude.{◌≡◌, ℕ, List, [], ◌∷◌, ◌++◌, length, Some}
 use Rattle.laz_range.specs.Cut.{Cut}
 use Rattle.laz_range.specs.Reading.{Reading, follow_all}
 
@@ -26,3 +26,7 @@ all_cuts next cuts st (x ∷ xs) = cuts st x ++ all_cuts next cuts (next st x) x
 abbrev pub AllAsked : {S X : Type 0} → (S → X → S) → (S → X → Type 0) → S → List X → Type 0
 AllAsked next IsAsked st [] = Unit {0}
 AllAsked next IsAsked st (x ∷ xs) = IsAsked st x × AllAsked next IsAsked (next st x) xs
+
+-- There are n of them, each asked for under its state.
+abbrev pub AreAsked : {S X : Type 0} → (S → X → S) → (S → X → Type 0) → S → ℕ → List X → Type 0
+AreAsked next IsAsked st n xs = (length xs ≡ n) × AllAsked next IsAsked st xs

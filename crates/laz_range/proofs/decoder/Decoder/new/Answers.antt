@@ -1,4 +1,4 @@
-use Rattle.std.proofs.Common.{ℕ, arith}
+use Rattle.std.proofs.Common.{arith}
 use Rattle.laz_range.specs.Span.{Begins, IsBytes, start}
 use Rattle.laz_range.proofs.Reach.{start-IsSpan}
 use Rattle.laz_range.proofs.Begin.{Begins-after}

@@ -1,7 +1,6 @@
-use Rattle.std.proofs.Common.{◌≡◌, ◌*◌, ◌/◌, ◌+◌, ◌<◌, drop, rules}
-use Rattle.laz_range.specs.Cut.{Part, IsLike, one_event, start_in, width_in}
-use Rattle.laz_range.specs.Reading.{IsIn}
-use Rattle.laz_range.specs.Input.{known, decoding_of}
+use Rattle.std.proofs.Common.{◌≡◌, drop, rules}
+use Rattle.laz_range.specs.Cut.{Part, width_in}
+use Rattle.laz_range.specs.Input.{decoding_of}
 use Rattle.laz_range.proofs.Ends.{place-lies}
 use Rattle.laz_range.proofs.Events.{part-reads, part-bad, part-read, part-none}
 use Rattle.laz_range.proofs.decoder.Decoder.take15.Goals as goal

@@ -1,8 +1,8 @@
-use Rattle.std.proofs.Common.{ℕ, ◌<◌, ◌≤◌, ◌-◌, ◌/◌, ◌^◌, ◌∙◌, refl, inl, inr}
+use Rattle.std.proofs.Common.{ℕ, ◌<◌, ◌^◌, refl, inl, inr}
 use Rattle.std.proofs.lemmas.Result.{err_from_is_err_and}
 use Rattle.laz_range.specs.Cut.{raw_cuts}
-use Rattle.laz_range.proofs.Cuts.{high_whole, raw_high}
-use Rattle.laz_range.proofs.Refills.{wide_small, short_cuts}
+use Rattle.laz_range.proofs.Cuts.{high_whole}
+use Rattle.laz_range.proofs.Refills.{short_cuts}
 use Rattle.laz_range.proofs.Decodings.{Takes-ReadsOn, TakesNone-NoneBegins, Reads-same, Reads-read, Reads-none, AreCuts-raw}
 use Rattle.laz_range.proofs.Events.{wide-takes, wide-stops_low, wide-stops_high, wide-refused, wide-taken, narrow-refused}
 use Rattle.laz_range.proofs.decoder.Decoder.take_raw.Goals as goal

@@ -1,4 +1,4 @@
-use Rattle.std.proofs.Common.{ℕ, ◌≤◌, ◌<◌, ◌*◌, ◌/◌, ◌^◌, refl, arith, inl, inr, ⊎_elim}
+use Rattle.std.proofs.Common.{ℕ, ◌/◌, ◌^◌, refl, arith, inl, inr}
 use Rattle.std.proofs.lemmas.Result.{err_from_is_err_and}
 use Rattle.std.proofs.lemmas.Nat.{one_shl}
 use Rattle.laz_range.specs.Cut.{Raw}
