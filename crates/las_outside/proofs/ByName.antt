@@ -11,7 +11,7 @@ use Rattle.las_outside.specs.MemFiles.{RoomFor, RoomMap, setting, by_name, files
 abbrev Named : Type 0 → Type 0
 Named X = map.FinMap (slice_cmp nat_cmp) X
 
-abbrev same : List ℕ → List ℕ → Bool
+abbrev pub same : List ℕ → List ℕ → Bool
 same q k = eq_by_cmp (slice_cmp nat_cmp) q k
 
 true_or_false : (b : Bool) → (b ≡ true) ⊎ (b ≡ false)
