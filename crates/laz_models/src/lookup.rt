@@ -1,8 +1,8 @@
 //! What a model answers of its distribution.
 ghost use Rattle.std.specs.Prelude.{◌≡◌, ◌+◌, ◌-◌, ◌*◌, ◌<◌, ◌≤◌, ◌^◌, length, replicate, slice_index};
 ghost use Rattle.laz_models.specs.Counting.{parts_of, part_end, AreParts};
-ghost use Rattle.laz_models.specs.Lookup.{IsLastAt, table_bits, table_length};
-ghost use Rattle.laz_models.specs.Place.{parts_in, table_in, state_of, IsShaped, IsLaid, IsModel, extent};
+ghost use Rattle.laz_models.specs.Lookup.{IsLastAt, table_bits};
+ghost use Rattle.laz_models.specs.Place.{parts_in, state_of, IsShaped, IsLaid, IsModel, extent};
 
 use crate::place::Place;
 
