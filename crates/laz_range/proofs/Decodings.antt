@@ -54,12 +54,12 @@ Nothing-one r c is lies none y s asked f =
 
 -- ---- a choice among fewer
 pub Only-pull : {X Y : Type 0} (g : Y → X) (P : X → Type 0) (Q : Y → Type 0) (cuts : X → List Cut) (r m : Reading) (y : Y)
-    → Only P cuts r (g y) m → Q y → ((z : Y) → Q z → P (g z)) → ((z : Y) → g z ≡ g y → z ≡ y) → Only Q (λ z. cuts (g z)) r y m
+    → Only P cuts r (g y) m → Q y → ((z : Y) → Q z → P (g z)) → ((z : Y) → Q z → g z ≡ g y → z ≡ y) → Only Q (λ z. cuts (g z)) r y m
 Only-pull g P Q cuts r m y h asked to back =
     record {
       asked = asked;
       reads = h.reads;
-      only = λ z s q e. back z (h.only (g z) s (to z q) e);
+      only = λ z s q e. back z q (h.only (g z) s (to z q) e);
     }
 
 -- ---- a raw value of two parts

@@ -38,7 +38,7 @@ event-stops d n c is lies h =
 
 -- a choice among fewer
 pub Takes-pull : {X Y : Type 0} (g : Y → X) (P : X → Type 0) (Q : Y → Type 0) (cuts : X → List Cut) (d n : Decoding) (y : Y)
-    → Takes P cuts d n (g y) → Q y → ((z : Y) → Q z → P (g z)) → ((z : Y) → g z ≡ g y → z ≡ y) → Takes Q (λ z. cuts (g z)) d n y
+    → Takes P cuts d n (g y) → Q y → ((z : Y) → Q z → P (g z)) → ((z : Y) → Q z → g z ≡ g y → z ≡ y) → Takes Q (λ z. cuts (g z)) d n y
 Takes-pull g P Q cuts d n y h asked to back =
     record {
       choice = Only-pull g P Q cuts (reading_of d) (reading_of n) y h.choice asked to back;
@@ -75,7 +75,7 @@ bit_back p0 bit other e = cc
 pub bit-passes : (d n : Decoding) (p0 : ℕ) (bit : Bool) → 0 < p0 → p0 < 8192 → IsIn (reading_of d) (Bit p0 bit)
     → Passes (taken_off (reading_of d) (start_in d.len (Bit p0 bit)) (width_in d.len (Bit p0 bit))) d n → Takes {X = Bool} (λ _. ⊤) (λ b. Bit p0 b ∷ []) d n bit
 bit-passes d n p0 bit some part lies h =
-    Takes-pull (Bit p0) (IsLike (Bit p0 bit)) (λ _. ⊤) one_event d n bit (event-passes d n (Bit p0 bit) (some, part) lies h) tt (λ z q. ((some, part), refl)) (λ z e. bit_back p0 bit z e)
+    Takes-pull (Bit p0) (IsLike (Bit p0 bit)) (λ _. ⊤) one_event d n bit (event-passes d n (Bit p0 bit) (some, part) lies h) tt (λ z q. ((some, part), refl)) (λ z q e. bit_back p0 bit z e)
 
 pub bit-stops : (d n : Decoding) (p0 : ℕ) (bit : Bool) → 0 < p0 → p0 < 8192 → IsIn (reading_of d) (Bit p0 bit)
     → Stops (taken_off (reading_of d) (start_in d.len (Bit p0 bit)) (width_in d.len (Bit p0 bit))) d n → TakesNone {X = Bool} (λ _. ⊤) (λ b. Bit p0 b ∷ []) d n
@@ -98,7 +98,7 @@ raw_back b v w e = cc
 pub raw-passes : (d n : Decoding) (b v : ℕ) → 0 < b → b ≤ 19 → v < 2 ^ b → IsIn (reading_of d) (Raw b v)
     → Passes (taken_off (reading_of d) (v * (d.len / 2 ^ b)) (d.len / 2 ^ b)) d n → Takes (λ w. w < 2 ^ b) (λ w. Raw b w ∷ []) d n v
 raw-passes d n b v some few small lies h =
-    Takes-pull (Raw b) (IsLike (Raw b v)) (λ w. w < 2 ^ b) one_event d n v (event-passes d n (Raw b v) (some, few, small) lies h) small (λ z q. ((some, few, q), refl)) (λ z e. raw_back b v z e)
+    Takes-pull (Raw b) (IsLike (Raw b v)) (λ w. w < 2 ^ b) one_event d n v (event-passes d n (Raw b v) (some, few, small) lies h) small (λ z q. ((some, few, q), refl)) (λ z q e. raw_back b v z e)
 
 pub raw-stops : (d n : Decoding) (b v : ℕ) → 0 < b → b ≤ 19 → v < 2 ^ b → IsIn (reading_of d) (Raw b v)
     → Stops (taken_off (reading_of d) (v * (d.len / 2 ^ b)) (d.len / 2 ^ b)) d n → TakesNone (λ w. w < 2 ^ b) (λ w. Raw b w ∷ []) d n
