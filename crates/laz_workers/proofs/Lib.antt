@@ -1,0 +1,5 @@
+pub mod Counting
+pub mod Rule
+pub mod Steps
+pub mod Runs
+pub mod Examples
