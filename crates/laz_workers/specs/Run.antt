@@ -1,0 +1,60 @@
+-- What `run_all` asks of the passes, and what it leaves.
+use Rattle.std.specs.Prelude.{◌≡◌, ℕ, ◌-◌, ◌<◌, ◌≤◌, true, false, nat_lt, Option, Some, List, [], ◌++◌, length, filter, All, Contains, slice_index_or, ◌⊎◌}
+use Rattle.laz_workers.specs.declared.hand.Hand.{Hand}
+use Rattle.laz_workers.specs.declared.held.Held.TheVariants.{Empty}
+use Rattle.laz_workers.specs.Numbers.{HoldsBelow}
+use Rattle.laz_workers.specs.Seen.{ClaimsSeen, PassSeen}
+use Rattle.laz_workers.specs.Rooms.{RoomSeen, numbers_in}
+use Rattle.laz_workers.specs.Shown.{shown}
+use Rattle.laz_workers.specs.Work.{HoldsAnswer, both_rooms, sizes_of}
+
+-- A pass for each hand, before any draws: the first is the opening one, and the others were split from it
+pub record Dealt (claims : ClaimsSeen) (passes : List PassSeen) : Type 0 where
+  pub fresh : All (λ p. (p.claims ≡ claims) × (p.drawn ≡ []) × (p.spent ≡ false)) passes
+  pub opening : (d : PassSeen) → ((slice_index_or passes 0 d).opens ≡ true) × ((slice_index_or passes 0 d).out ≡ length passes - 1)
+  pub split : (k : ℕ) (d : PassSeen) → 0 < k → k < length passes → (slice_index_or passes k d).opens ≡ false
+
+-- The numbers of a list that are below the total
+abbrev pub under : ℕ → List ℕ → List ℕ
+under total numbers = filter (λ x. nat_lt x total) numbers
+
+-- no room is empty
+abbrev pub AllTaken : List RoomSeen → Type 0
+AllTaken rooms = (length (numbers_in rooms) ≡ length rooms)
+
+-- What the work of one hand does, with the pass that it holds
+pub record Worked {S : Type 0} (claims : ClaimsSeen) (answer : List ℕ → Option (List ℕ)) (inputs : List (List ℕ)) (suits : S → Type 0) (old new : Hand S) : Type 0 where
+  pub before : PassSeen
+  pub after : PassSeen
+  pub numbers : List ℕ
+  pub held_before : old.pass ≡ Some before
+  -- it still holds its pass, which is of the same claims, opens or was split, and has the same rest and number out
+  pub held_after : new.pass ≡ Some after
+  pub claims_stay : after.claims ≡ before.claims
+  pub opens_stays : after.opens ≡ before.opens
+  pub rest_stays : after.rest ≡ before.rest
+  pub out_stays : after.out ≡ before.out
+  -- the rooms keep their lengths, and the space suits the job
+  pub sizes : sizes_of (shown new) ≡ sizes_of (shown old)
+  pub suited : suits new.space
+  -- the numbers that it drew stand at the end of the pass's list, and those below the total in the first and then the second room
+  pub drawn : after.drawn ≡ before.drawn ++ numbers
+  pub stand : numbers_in (both_rooms (shown new)) ≡ under claims.total numbers
+  pub answered : All (HoldsAnswer answer inputs) (both_rooms (shown new))
+  -- it went on until the pass was spent by its last number or neither room was empty
+  pub ended : ((after.spent ≡ true) × ((n : ℕ) × (claims.total ≤ n) × Contains numbers n)) ⊎ AllTaken (both_rooms (shown new))
+  -- an opening pass with none out holds, for some word, each number below it once and no other
+  pub whole : after.opens ≡ true → after.out ≡ 0 → (word : ℕ) × HoldsBelow word after.drawn
+
+-- A hand that may begin: it holds a fresh pass of these claims, its rooms are empty and suffice for each input, and its space suits the job
+pub record IsReady {S : Type 0} (claims : ClaimsSeen) (fits : List ℕ → ℕ → Type 0) (inputs : List (List ℕ)) (suits : S → Type 0) (hand : Hand S) : Type 0 where
+  pub pass : PassSeen
+  pub held : hand.pass ≡ Some pass
+  pub own : pass.claims ≡ claims
+  pub unspent : pass.spent ≡ false
+  pub whole : pass.opens ≡ true → pass.out ≡ 0 → (word : ℕ) × HoldsBelow word pass.drawn
+  pub first_empty : hand.first.held ≡ Empty
+  pub second_empty : hand.second.held ≡ Empty
+  pub first_fits : All (λ input. fits input (length hand.first.bytes)) inputs
+  pub second_fits : All (λ input. fits input (length hand.second.bytes)) inputs
+  pub suited : suits hand.space
