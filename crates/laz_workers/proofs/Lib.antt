@@ -6,3 +6,5 @@ pub mod Examples
 pub mod RoomLists
 pub mod Texts
 pub mod Working
+pub mod Finish
+pub mod Spread

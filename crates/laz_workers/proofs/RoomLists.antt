@@ -74,3 +74,10 @@ module _ {S : Type 0} where
   nowhere_in hands crew number room is lack h =
       let Q : List (HandSeen S) → Type 0 = λ l. Contains (rooms_of l) room in
       nowhere hands number room lack (subst Q (sym is) h.0) h.1
+
+-- two lists whose elements show the same, place by place
+pub map_same : {X Y : Type 0} (f : X → Y) (xs ys : List X) → length xs ≡ length ys → ((k : ℕ) (d : X) → k < length xs → f (get_or xs k d) ≡ f (get_or ys k d)) → map f xs ≡ map f ys
+map_same f [] [] n h = refl
+map_same f [] (y ∷ ys) n h = absurd (omega arith)
+map_same f (x ∷ xs) [] n h = absurd (omega arith)
+map_same f (x ∷ xs) (y ∷ ys) n h = λ i. h 0 x (omega arith) i ∷ map_same f xs ys (omega arith) (λ k d lt. h (suc k) d (omega (arith, lt))) i

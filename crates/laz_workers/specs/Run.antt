@@ -1,10 +1,10 @@
 -- What `run_all` asks of the passes, and what it leaves.
-use Rattle.std.specs.Prelude.{◌≡◌, ℕ, ◌-◌, ◌<◌, ◌≤◌, true, false, nat_lt, Option, Some, List, [], ◌++◌, length, filter, All, Contains, slice_index_or, ◌⊎◌}
+use Rattle.std.specs.Prelude.{◌≡◌, ℕ, ◌+◌, ◌-◌, ◌<◌, ◌≤◌, true, false, nat_lt, Option, Some, None, List, [], ◌++◌, length, filter, All, Contains, slice_index_or, ◌⊎◌}
 use Rattle.laz_workers.specs.declared.hand.Hand.{Hand}
 use Rattle.laz_workers.specs.declared.held.Held.TheVariants.{Empty}
 use Rattle.laz_workers.specs.Numbers.{HoldsBelow}
 use Rattle.laz_workers.specs.Seen.{ClaimsSeen, PassSeen}
-use Rattle.laz_workers.specs.Rooms.{RoomSeen, numbers_in}
+use Rattle.laz_workers.specs.Rooms.{emptied, RoomSeen, numbers_in}
 use Rattle.laz_workers.specs.Shown.{shown}
 use Rattle.laz_workers.specs.Work.{HoldsAnswer, both_rooms, sizes_of}
 
@@ -58,3 +58,37 @@ pub record IsReady {S : Type 0} (claims : ClaimsSeen) (fits : List ℕ → ℕ �
   pub first_fits : All (λ input. fits input (length hand.first.bytes)) inputs
   pub second_fits : All (λ input. fits input (length hand.second.bytes)) inputs
   pub suited : suits hand.space
+
+-- the hand with empty rooms and this pass
+abbrev pub equipped : {S : Type 0} → Hand S → PassSeen → Hand S
+equipped hand pass = record { space = hand.space; first = emptied hand.first; second = emptied hand.second; pass = Some pass }
+
+-- The hand at place k of n holds a pass of these claims, the opening one at the first place, with the other n - 1 out
+pub record HoldsPass {S : Type 0} (claims : ClaimsSeen) (n k : ℕ) (hand : Hand S) : Type 0 where
+  pub pass : PassSeen
+  pub held : hand.pass ≡ Some pass
+  pub own : pass.claims ≡ claims
+  pub opens : k ≡ 0 → (pass.opens ≡ true) × (pass.out + 1 ≡ n)
+  pub split : 0 < k → pass.opens ≡ false
+  pub whole : pass.opens ≡ true → pass.out ≡ 0 → (word : ℕ) × HoldsBelow word pass.drawn
+
+-- what a pass drew, if there is one
+abbrev pub drawn_of : Option PassSeen → List ℕ
+drawn_of None = []
+drawn_of (Some pass) = pass.drawn
+
+-- what the pass of a hand drew
+abbrev pub drawn_by : {S : Type 0} → Hand S → List ℕ
+drawn_by hand = drawn_of hand.pass
+
+-- every input fits every room
+abbrev pub EveryInputFits : (List ℕ → ℕ → Type 0) → List (List ℕ) → List RoomSeen → Type 0
+EveryInputFits fits inputs rooms = All (λ room. All (λ input. fits input (length room.bytes)) inputs) rooms
+
+-- The passes at the end: the opening one alone, with none out. Without the numbers at or past the total its list is the rooms' numbers, hand by hand, first room before second
+pub record IsJoined (claims : ClaimsSeen) (rooms : List RoomSeen) (pass : PassSeen) : Type 0 where
+  pub own : pass.claims ≡ claims
+  pub opens : pass.opens ≡ true
+  pub out : pass.out ≡ 0
+  pub drawn : under claims.total pass.drawn ≡ numbers_in rooms
+  pub whole : (word : ℕ) × HoldsBelow word pass.drawn

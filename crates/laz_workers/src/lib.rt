@@ -22,3 +22,4 @@ pub use job::Job;
 pub use law::steps_keep_the_rule;
 pub use pass::Pass;
 pub use room::Room;
+pub use run::run_all;
