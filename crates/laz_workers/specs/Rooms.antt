@@ -43,9 +43,9 @@ rooms_of hands = flat_map (λ h. h.first ∷ h.second ∷ []) hands
 abbrev pub numbers_in : List RoomSeen → List ℕ
 numbers_in rooms = flat_map (λ r. option_to_list (number_of r.held)) rooms
 
--- a room in which the number stands
-abbrev pub Holds : {S : Type 0} → List (HandSeen S) → ℕ → RoomSeen → Type 0
-Holds hands number room = Contains (rooms_of hands) room × (number_of room.held ≡ Some number)
+-- one of the rooms, in which the number stands
+abbrev pub StandsIn : List RoomSeen → ℕ → RoomSeen → Type 0
+StandsIn rooms number room = Contains rooms room × (number_of room.held ≡ Some number)
 
 abbrev pub IsEmptyRoom : ℕ → RoomSeen → Type 0
 IsEmptyRoom size room = (length room.bytes ≡ size) × (room.held ≡ Empty)

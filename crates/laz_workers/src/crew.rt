@@ -1,5 +1,6 @@
-ghost use Rattle.std.specs.Prelude.{◌≡◌, ◌+◌, ◌<◌, [], ◌∷◌, ◌++◌, length, IfOk, IfErr, option_copied};
-ghost use Rattle.laz_workers.specs.Rooms.{RoomSeen, HandSeen, IsEmptyRoom, IsNew, Holds, answer_in};
+ghost use Rattle.std.specs.Prelude.{◌≡◌, ◌+◌, ◌<◌, [], ◌∷◌, ◌++◌, length, ℕ, ◌≤◌, Option, List, All, Contains, slice_index_or, IfOk, IfErr, option_copied};
+ghost use Rattle.laz_workers.specs.Rooms.{RoomSeen, HandSeen, IsEmptyRoom, IsNew, StandsIn, answer_in, numbers_in, rooms_of};
+ghost use Rattle.laz_workers.specs.Work.{HoldsAnswer};
 
 use crate::hand::Hand;
 use crate::room::Room;
@@ -59,17 +60,21 @@ impl<S> Crew<S> {
         Ok(())
     }
 
-    /// How many hands there are.
+    /// How many hands there are: at most eight.
     pub fn hands(&self) -> usize
-        ensures { result ≡ length self.now }
+        ensures count { result ≡ length self.now }
+        ensures few { length self.now ≤ 8 }
     {
         self.hands.len()
     }
 
     /// Lends the answer to the input of a number that stands in a room. `None` is an input that the job refused.
     pub fn result(&self, number: u32) -> Option<&[u8]>
-        requires { (room : RoomSeen) × Holds self.now number room }
-        ensures { (room : RoomSeen) × Holds self.now number room × (option_copied result ≡ answer_in room.bytes room.held) }
+        requires { Contains (numbers_in (rooms_of self.now)) number }
+        ensures room { (room : RoomSeen) × StandsIn (rooms_of self.now) number room × (option_copied result ≡ answer_in room.bytes room.held) }
+
+        // Behind `run_all`, which says what the rooms hold, it is the job's own answer.
+        ensures answer { (answer : List ℕ → Option (List ℕ)) (inputs : List (List ℕ)) → All (HoldsAnswer answer inputs) (rooms_of self.now) → option_copied result ≡ answer (slice_index_or inputs number []) }
     {
         for hand in &self.hands {
             if hand.first.holds(number) {

@@ -207,6 +207,7 @@ pub fn run_all<R: Threads + Sync, J: Job, G: Gate>(
     ensures passes { (pass : PassSeen) × (passes.new.items ≡ pass ∷ []) × IsJoined claims.now (rooms_of crew.new) pass }
 
     // The number of hands and each room's length stay.
+    ensures hands { length crew.new ≡ length crew.old }
     ensures sizes { map sizes_of crew.new ≡ map sizes_of crew.old }
     ensures suits { All (λ hand. J.suits job.now hand.space) crew.new }
 {
