@@ -1,12 +1,12 @@
 -- From the deal of the passes to the gathered crew, hand by hand.
-use Rattle.std.proofs.Common.{◌≡◌, ℕ, zero, suc, ◌+◌, ◌-◌, ◌*◌, ◌<◌, ◌≤◌, Bool, true, false, Option, Some, None, List, [], ◌∷◌, ◌++◌, length, get_or, map, refl, sym, ap, ◌∙◌, subst, inl, inr, ⊎_elim, arith}
-use Rattle.std.specs.Prelude.{All, Contains, slice_index_or, flat_map}
+use Rattle.std.proofs.Common.{◌≡◌, ℕ, zero, suc, ◌-◌, ◌<◌, ◌≤◌, true, Option, Some, List, [], ◌∷◌, ◌++◌, length, get_or, map, refl, sym, ap, ◌∙◌, subst, inl, inr, ⊎_elim, arith}
+use Rattle.std.specs.Prelude.{All, Contains}
 use Rattle.std.proofs.lemmas.List.Elements.{All-contains, All-nil, All-cons}
 use Rattle.std.proofs.lemmas.Bool.Decides.{nat_tests}
 use Rattle.laz_workers.specs.declared.hand.Hand.{Hand}
-use Rattle.laz_workers.specs.Numbers.{one_if, times, HoldsBelow}
+use Rattle.laz_workers.specs.Numbers.{times}
 use Rattle.laz_workers.specs.Seen.{ClaimsSeen, PassSeen, opening}
-use Rattle.laz_workers.specs.Rooms.{RoomSeen, HandSeen, numbers_in, rooms_of}
+use Rattle.laz_workers.specs.Rooms.{RoomSeen, HandSeen, rooms_of}
 use Rattle.laz_workers.specs.Shown.{shown}
 use Rattle.laz_workers.specs.Work.{HoldsAnswer, sizes_of, both_rooms}
 use Rattle.laz_workers.specs.Run.{Dealt, IsReady, Worked, HoldsPass, EveryInputFits, under, AllTaken, equipped, drawn_of, drawn_by}

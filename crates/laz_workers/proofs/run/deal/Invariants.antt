@@ -1,6 +1,5 @@
 use Rattle.std.proofs.Common.{◌≡◌, ℕ, ◌<◌, ◌≤◌, length, get_or, vec_len}
 use Rattle.std.specs.Prelude.{vec_capacity}
-use Rattle.laz_workers.specs.declared.hand.Hand.{Hand}
 use Rattle.laz_workers.specs.Seen.{PassSeen}
 use Rattle.laz_workers.specs.Run.{equipped}
 use Rattle.laz_workers.proofs.run.deal.Given as goal

@@ -1,6 +1,5 @@
 use Rattle.std.proofs.Common.{◌≡◌, ℕ, ◌+◌, ◌<◌, ◌≤◌, true, length, get_or, take}
 use Rattle.std.specs.Prelude.{flat_map}
-use Rattle.laz_workers.specs.declared.hand.Hand.{Hand}
 use Rattle.laz_workers.specs.Numbers.{HoldsBelow}
 use Rattle.laz_workers.specs.Shown.{shown}
 use Rattle.laz_workers.specs.Run.{drawn_by}

@@ -1,10 +1,8 @@
-use Rattle.std.proofs.Common.{◌≡◌, ℕ, ◌*◌, ◌≤◌, List, All, length, map, sym, ap, ◌∙◌, subst, arith}
-use Rattle.std.specs.Prelude.{flat_map}
+use Rattle.std.proofs.Common.{ℕ, ◌*◌, ◌≤◌, List, All, length, map, sym, ap, ◌∙◌, subst, arith}
 use Rattle.laz_workers.specs.Numbers.{HoldsBelow}
 use Rattle.laz_workers.specs.Rooms.{HandSeen, numbers_in, rooms_of}
-use Rattle.laz_workers.specs.Shown.{shown}
 use Rattle.laz_workers.specs.Work.{HoldsAnswer, sizes_of, texts}
-use Rattle.laz_workers.specs.Run.{under, drawn_by}
+use Rattle.laz_workers.specs.Run.{under}
 use Rattle.laz_workers.proofs.Spread.{ready_all, holds_all, settled_all, sizes_all, suited_all, answered_all}
 use Rattle.laz_workers.proofs.Finish.{matched_all, numbers_all}
 use Rattle.laz_workers.proofs.run.work_all.Goals as goal
