@@ -1,7 +1,7 @@
 -- From the deal of the passes to the gathered crew, hand by hand.
 use Rattle.std.proofs.Common.{◌≡◌, ℕ, zero, suc, ◌-◌, ◌<◌, ◌≤◌, true, Option, Some, List, [], ◌∷◌, ◌++◌, length, get_or, map, refl, sym, ap, ◌∙◌, subst, inl, inr, ⊎_elim, arith}
 use Rattle.std.specs.Prelude.{All, Contains}
-use Rattle.std.proofs.lemmas.List.Elements.{All-contains, All-nil, All-cons}
+use Rattle.std.proofs.lemmas.List.Elements.{All-contains, All-nil, All-cons, Contains-push}
 use Rattle.std.proofs.lemmas.Bool.Decides.{nat_tests}
 use Rattle.laz_workers.specs.declared.hand.Hand.{Hand}
 use Rattle.laz_workers.specs.Numbers.{times}
@@ -9,7 +9,7 @@ use Rattle.laz_workers.specs.Seen.{ClaimsSeen, PassSeen, opening}
 use Rattle.laz_workers.specs.Rooms.{RoomSeen, HandSeen, rooms_of}
 use Rattle.laz_workers.specs.Shown.{shown}
 use Rattle.laz_workers.specs.Work.{HoldsAnswer, sizes_of, both_rooms}
-use Rattle.laz_workers.specs.Run.{Dealt, IsReady, Worked, HoldsPass, EveryInputFits, under, AllTaken, equipped, drawn_of, drawn_by}
+use Rattle.laz_workers.specs.Run.{Dealt, IsReady, Worked, HoldsPass, EveryInputFits, under, AllTaken, EndsPast, equipped, drawn_of, drawn_by}
 use Rattle.laz_workers.proofs.RoomLists.{first_there, second_there, map_same}
 use Rattle.laz_workers.proofs.Finish.{Settled}
 
@@ -43,12 +43,14 @@ module _ {S : Type 0} where
   settled_one : (claims : ClaimsSeen) (answer : List ℕ → Option (List ℕ)) (inputs : List (List ℕ)) (suits : S → Type 0) (old new : Hand S) (w : Worked claims answer inputs suits old new) → w.before.drawn ≡ [] → Settled claims.total new
   settled_one claims answer inputs suits old new w fresh =
       let drew : drawn_by new ≡ w.numbers = ap drawn_of w.held_after ∙ (w.drawn ∙ ap (λ l. l ++ w.numbers) fresh) in
-      let P : List ℕ → Type 0 = λ l. (n : ℕ) × (claims.total ≤ n) × Contains l n in
       record {
         matched = ap (under claims.total) drew ∙ sym w.stand;
         ended =
             ⊎_elim
-            (λ (t : (w.after.spent ≡ true) × ((n : ℕ) × (claims.total ≤ n) × Contains w.numbers n)). inl (subst P (sym drew) t.1))
+            (λ (t : (w.after.spent ≡ true) × EndsPast claims.total w.numbers).
+            let last = t.1.1 in
+            let Q : List ℕ → Type 0 = λ l. Contains l last in
+            inl (last, t.1.3, subst Q (sym (drew ∙ t.1.2)) (Contains-push t.1.0 last)))
             (λ (t : AllTaken (both_rooms (shown new))). inr t)
             w.ended;
       }

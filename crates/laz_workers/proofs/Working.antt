@@ -65,7 +65,7 @@ module _ {S : Type 0} (claims : ClaimsSeen) (answer : List ℕ → Option (List 
         drawn = ap (λ (x : PassSeen). x.drawn) d.pass;
         stand = ap (λ l. option_to_list (number_of room.held) ++ (l ++ [])) none ∙ (append-nil (option_to_list (number_of room.held)) ∙ f.stands);
         answered = All-cons (HoldsAnswer answer inputs) room (old.second ∷ []) f.answered (All-cons (HoldsAnswer answer inputs) old.second [] (nothing_answered answer inputs old.second empty) (All-nil (HoldsAnswer answer inputs)));
-        ended = inl (spent, (n, grind (arith, nat_tests), Contains-push [] n));
+        ended = inl (spent, ([], n, refl, grind (arith, nat_tests)));
         whole = λ o none_out. (n + 1, d.whole (sym (ap (λ (x : PassSeen). x.opens) d.pass) ∙ o) (sym (ap (λ (x : PassSeen). x.out) d.pass) ∙ none_out));
       }
 
@@ -98,7 +98,7 @@ module _ {S : Type 0} (claims : ClaimsSeen) (answer : List ℕ → Option (List 
         answered = All-cons (HoldsAnswer answer inputs) first (second ∷ []) f.answered (All-cons (HoldsAnswer answer inputs) second [] h.answered (All-nil (HoldsAnswer answer inputs)));
         ended =
             ⊎_elim
-            (λ (t : nat_le claims.total m ≡ true). inl (ap (λ (x : PassSeen). x.spent) e.pass ∙ (ap (λ z. nat_le z m) same ∙ t), (m, grind (arith, nat_tests), Contains-push (n ∷ []) m)))
+            (λ (t : nat_le claims.total m ≡ true). inl (ap (λ (x : PassSeen). x.spent) e.pass ∙ (ap (λ z. nat_le z m) same ∙ t), (n ∷ [], m, refl, grind (arith, nat_tests))))
             (λ (t : nat_le claims.total m ≡ false).
             let two : o2 ≡ m ∷ [] = h.stands ∙ under_low claims.total m t in
             inr (ap length (λ i. one i ++ (two i ++ []))))

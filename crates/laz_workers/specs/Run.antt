@@ -1,5 +1,5 @@
 -- What `run_all` asks of the passes, and what it leaves.
-use Rattle.std.specs.Prelude.{◌≡◌, ℕ, ◌+◌, ◌-◌, ◌<◌, ◌≤◌, true, false, nat_lt, Option, Some, None, List, [], ◌++◌, length, filter, All, Contains, slice_index_or, ◌⊎◌}
+use Rattle.std.specs.Prelude.{◌≡◌, ℕ, ◌+◌, ◌-◌, ◌<◌, ◌≤◌, true, false, nat_lt, Option, Some, None, List, [], ◌∷◌, ◌++◌, length, filter, All, slice_index_or, ◌⊎◌}
 use Rattle.laz_workers.specs.declared.hand.Hand.{Hand}
 use Rattle.laz_workers.specs.declared.held.Held.TheVariants.{Empty}
 use Rattle.laz_workers.specs.Numbers.{HoldsBelow}
@@ -20,7 +20,11 @@ under total numbers = filter (λ x. nat_lt x total) numbers
 
 -- no room is empty
 abbrev pub AllTaken : List RoomSeen → Type 0
-AllTaken rooms = (length (numbers_in rooms) ≡ length rooms)
+AllTaken rooms = length (numbers_in rooms) ≡ length rooms
+
+-- the last number of the list is at or past the total
+abbrev pub EndsPast : ℕ → List ℕ → Type 0
+EndsPast total numbers = (earlier : List ℕ) × (last : ℕ) × (numbers ≡ earlier ++ last ∷ []) × (total ≤ last)
 
 -- What the work of one hand does, with the pass that it holds
 pub record Worked {S : Type 0} (claims : ClaimsSeen) (answer : List ℕ → Option (List ℕ)) (inputs : List (List ℕ)) (suits : S → Type 0) (old new : Hand S) : Type 0 where
@@ -41,8 +45,8 @@ pub record Worked {S : Type 0} (claims : ClaimsSeen) (answer : List ℕ → Opti
   pub drawn : after.drawn ≡ before.drawn ++ numbers
   pub stand : numbers_in (both_rooms (shown new)) ≡ under claims.total numbers
   pub answered : All (HoldsAnswer answer inputs) (both_rooms (shown new))
-  -- it went on until the pass was spent by its last number or neither room was empty
-  pub ended : ((after.spent ≡ true) × ((n : ℕ) × (claims.total ≤ n) × Contains numbers n)) ⊎ AllTaken (both_rooms (shown new))
+  -- it went on until the last number that it drew was at or past the total, which spends the pass, or neither room was empty
+  pub ended : ((after.spent ≡ true) × EndsPast claims.total numbers) ⊎ AllTaken (both_rooms (shown new))
   -- an opening pass with none out holds, for some word, each number below it once and no other
   pub whole : after.opens ≡ true → after.out ≡ 0 → (word : ℕ) × HoldsBelow word after.drawn
 
