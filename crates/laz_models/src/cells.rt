@@ -89,6 +89,7 @@ pub fn forget_all(places: &mut Vec<Place>)
 }
 
 /// Counts a symbol of the model at a place where its first cycle begins or its cycle ends.
+#[cold]
 #[inline(never)]
 fn count_at_turn(cells: &mut Vec<u32>, place: &mut Place, s: u32)
     requires placed { IsPlaced place.old cells.old.items }
