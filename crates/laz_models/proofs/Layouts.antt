@@ -1,0 +1,135 @@
+use Rattle.std.proofs.Common.{◌≡◌, ℕ, ◌+◌, ◌<◌, ◌≤◌, List, [], ◌∷◌, ◌++◌, length, map, get_or, refl, sym, ap, ◌∙◌, arith, ⊎_elim}
+use Rattle.std.proofs.lemmas.Bool.{cases_lt}
+use Rattle.std.proofs.lemmas.List.{length-map, length_push, get_or-map, get_or_push, get_or_append_left, get_or_default, same_lists}
+use Rattle.std.proofs.lemmas.List.Edits.{length-between}
+use Rattle.laz_models.specs.Bank.{sizes_of}
+use Rattle.laz_models.specs.Counting.{Counting, fresh}
+use Rattle.laz_models.specs.Dist.{size_of}
+use Rattle.laz_models.specs.Place.{own, state_in, as_first, IsShaped, IsPlaced, IsBank, IsLayout}
+use Rattle.laz_models.specs.declared.place.Place.{Place}
+use Rattle.laz_models.proofs.Banks.{size-fresh, sound}
+use Rattle.laz_models.proofs.Models.{state_of-first}
+
+-- ---- a layout grows
+pub layout-none : IsLayout [] [] 0
+layout-none =
+    record {
+      count = refl;
+      shape = λ m d h. absurd (omega arith);
+      size = λ m d h. absurd (omega arith);
+      first = λ m d h. absurd (omega arith);
+      within = λ m d h. absurd (omega arith);
+      apart = λ i j d o h. absurd (omega arith);
+    }
+
+-- what holds of each of a list and of one more holds of each of the longer list
+each_push : (P : ℕ → Place → Type 0) (places : List Place) (p : Place) → ((m : ℕ) (d : Place) → m < length places → P m (get_or places m d)) → P (length places) p
+    → (m : ℕ) (d : Place) → m < length (places ++ p ∷ []) → P m (get_or (places ++ p ∷ []) m d)
+each_push P places p each here m d below =
+    ⊎_elim {C = P m (get_or (places ++ p ∷ []) m d)}
+    (λ (before : m < length places). rw (get_or_append_left places (p ∷ []) d m before) (each m d before))
+    (λ (behind : length places ≤ m).
+    let last : length places ≡ m = omega (arith, length_push places p) in
+    let same : P m p = rw last at here in
+    rw (get_or_push places p d m last) same)
+    (cases_lt m (length places))
+
+pub layout-push : (places : List Place) (sizes : List ℕ) (end n : ℕ) (p : Place) → IsLayout places sizes end → IsShaped p → p.size ≡ n → p.left ≡ 0 → p.start ≡ end → IsLayout (places ++ p ∷ []) (sizes ++ n ∷ []) p.end
+layout-push places sizes end n p layout shape size first start =
+    let more : length (places ++ p ∷ []) ≡ length places + 1 = length_push places p in
+    let grows : end ≤ p.end = omega (arith, shape.extent) in
+    record {
+      count = more ∙ (ap (λ k. k + 1) layout.count ∙ sym (length_push sizes n));
+      shape = each_push (λ m q. IsShaped q) places p layout.shape shape;
+      size = each_push (λ m q. q.size ≡ get_or (sizes ++ n ∷ []) m 0) places p
+          (λ m d below. layout.size m d below ∙ sym (get_or_append_left sizes (n ∷ []) 0 m (omega (arith, layout.count))))
+          (size ∙ sym (get_or_push sizes n 0 (length places) (sym layout.count)));
+      first = each_push (λ m q. q.left ≡ 0) places p layout.first first;
+      within = each_push (λ m q. q.end ≤ p.end) places p (λ m d below. omega (arith, layout.within m d below)) (omega arith);
+      apart = λ i j d order below.
+          each_push (λ k q. i < k → (get_or (places ++ p ∷ []) i d).end ≤ q.start) places p
+          (λ k e inside earlier.
+          let left : get_or (places ++ p ∷ []) i d ≡ get_or places i e = get_or_append_left places (p ∷ []) d i (omega arith) ∙ get_or_default places i d e (omega arith) in
+          rw left (layout.apart i k e earlier inside))
+          (λ earlier. rw (get_or_append_left places (p ∷ []) d i earlier) (omega (arith, layout.within i d earlier)))
+          j d below order;
+    }
+
+-- ---- the bank of a layout
+pub layout-IsBank : (places : List Place) (sizes cells : List ℕ) → IsLayout places sizes (length cells) → IsBank places cells
+layout-IsBank places sizes cells layout =
+    record {
+      placed = λ m d below.
+          let shape = layout.shape m d below in
+          let first = layout.first m d below in
+          record {
+            model = record {
+              shape = shape;
+              length = length-between cells (get_or places m d).start (get_or places m d).end (layout.within m d below) ∙ omega (arith, shape.extent);
+              laid = λ some. absurd (omega (arith, first));
+            };
+            within = layout.within m d below;
+          };
+      apart = layout.apart;
+    }
+
+pub layout-view : (places : List Place) (sizes cells : List ℕ) (end : ℕ) → IsLayout places sizes end → map (state_in cells) places ≡ map fresh sizes
+layout-view places sizes cells end layout =
+    same_lists (map (state_in cells) places) (map fresh sizes) (length-map places (state_in cells) ∙ (layout.count ∙ sym (length-map sizes fresh)))
+    (λ k d below.
+    let here : k < length places = omega (arith, length-map places (state_in cells)) in
+    let p0 : Place = record { start = 0; end = 0; size = 0; shift = 0; total = 0; cycle = 0; left = 0 } in
+    get_or-map (state_in cells) places k p0 d here
+    ∙ (state_of-first (get_or places k p0) (own (get_or places k p0) cells) (layout.first k p0 here)
+    ∙ (ap fresh (layout.size k p0 here)
+    ∙ sym (get_or-map fresh sizes k 0 d (omega (arith, layout.count))))))
+
+-- ---- the bank as new
+pub first-IsBank : (places : List Place) (cells : List ℕ) → IsBank places cells → IsBank (map as_first places) cells
+first-IsBank places cells bank =
+    let count : length (map as_first places) ≡ length places = length-map places as_first in
+    record {
+      placed = λ m d below.
+          let here : m < length places = omega arith in
+          let placed : IsPlaced (get_or places m d) cells = bank.placed m d here in
+          let shape = placed.model.shape in
+          rw (get_or-map as_first places m d d here)
+          (record {
+            model = record {
+              shape = record { many = shape.many; few = shape.few; shift = shape.shift; extent = shape.extent };
+              length = placed.model.length;
+              laid = λ some. absurd (omega arith);
+            };
+            within = placed.within;
+          });
+      apart = λ i j d order below.
+          let there : j < length places = omega arith in
+          let before : i < length places = omega arith in
+          rw (get_or-map as_first places i d d before, get_or-map as_first places j d d there) (bank.apart i j d order there);
+    }
+
+pub first-view : (places : List Place) (cells : List ℕ) → IsBank places cells → map (state_in cells) (map as_first places) ≡ map (λ m. fresh (size_of m)) (map (state_in cells) places)
+first-view places cells bank =
+    let count : length (map (state_in cells) (map as_first places)) ≡ length places = length-map (map as_first places) (state_in cells) ∙ length-map places as_first in
+    let count_old : length (map (λ (m : Counting). fresh (size_of m)) (map (state_in cells) places)) ≡ length places = length-map (map (state_in cells) places) (λ m. fresh (size_of m)) ∙ length-map places (state_in cells) in
+    same_lists (map (state_in cells) (map as_first places)) (map (λ m. fresh (size_of m)) (map (state_in cells) places)) (count ∙ sym count_old)
+    (λ k d below.
+    let here : k < length places = omega arith in
+    let p0 : Place = record { start = 0; end = 0; size = 0; shift = 0; total = 0; cycle = 0; left = 0 } in
+    let p : Place = get_or places k p0 in
+    let s = sound p (own p cells) (bank.placed k p0 here).model in
+    get_or-map (state_in cells) (map as_first places) k (as_first p0) d (omega (arith, length-map places as_first))
+    ∙ (ap (state_in cells) (get_or-map as_first places k p0 (as_first p0) here)
+    ∙ (state_of-first (as_first p) (own p cells) refl
+    ∙ (ap fresh (sym s.size)
+    ∙ (ap (λ m. fresh (size_of m)) (sym (get_or-map (state_in cells) places k p0 d here))
+    ∙ sym (get_or-map (λ m. fresh (size_of m)) (map (state_in cells) places) k d d (omega (arith, length-map places (state_in cells)))))))))
+
+-- ---- sizes
+pub sizes-fresh : (sizes : List ℕ) → sizes_of (map fresh sizes) ≡ sizes
+sizes-fresh [] = refl
+sizes-fresh (n ∷ ns) = rw (size-fresh n, sizes-fresh ns) refl
+
+pub sizes-reset : (bank : List Counting) → sizes_of (map (λ (m : Counting). fresh (size_of m)) bank) ≡ sizes_of bank
+sizes-reset [] = refl
+sizes-reset (m ∷ ms) = rw (size-fresh (size_of m), sizes-reset ms) refl

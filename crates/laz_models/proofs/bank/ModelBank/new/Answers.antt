@@ -1,0 +1,18 @@
+use Rattle.std.proofs.Common.{ℕ, ◌≤◌, get_or}
+use Rattle.std.proofs.lemmas.List.{get_or-map}
+use Rattle.std.proofs.lemmas.List.Elements.{All-get_or}
+use Rattle.laz_models.specs.Counting.{fresh}
+use Rattle.laz_models.proofs.Banks.{StandsFor-fresh}
+use Rattle.laz_models.proofs.Layouts.{layout-view, sizes-fresh}
+use Rattle.laz_models.proofs.bank.ModelBank.new.Goals as goal
+
+pub returns-clause-fresh : goal.returns-clause-fresh
+returns-clause-fresh c = layout-view _ c.args.sizes.now _ _ c.in_ok-places.ensures
+
+pub returns-clause-stands : goal.returns-clause-stands
+returns-clause-stands c = λ m below.
+    let range = All-get_or (λ (n : ℕ). (2 ≤ n) × (n ≤ 2048)) c.args.sizes.now m 0 below c.requires.range in
+    rw (returns-clause-fresh c, get_or-map fresh c.args.sizes.now m 0 (fresh 2) below) (StandsFor-fresh (get_or c.args.sizes.now m 0) range.0)
+
+pub returns-clause-sizes : goal.returns-clause-sizes
+returns-clause-sizes c = rw (returns-clause-fresh c) (sizes-fresh c.args.sizes.now)

@@ -1,0 +1,5 @@
+use Rattle.laz_models.proofs.BitStand.{BitStandsFor-fresh}
+use Rattle.laz_models.proofs.bit_model.BitModel.new.Goals as goal
+
+pub returns-clause-stands : goal.returns-clause-stands
+returns-clause-stands c = BitStandsFor-fresh

@@ -1,0 +1,121 @@
+//! A bank of models of symbols.
+ghost use Rattle.std.specs.Prelude.{◌≡◌, ◌≢◌, ℕ, ◌+◌, ◌-◌, ◌*◌, ◌^◌, ◌<◌, ◌≤◌, List, [], ◌∷◌, ◌++◌, length, map, All, IfOk, slice_index, slice_set};
+
+use crate::place::Place;
+use crate::{cells, lookup};
+use std::alloc::{AllocError, Global};
+use std::marker::Model;
+
+/// Models of symbols, whose counts, distributions and look-up tables lie in one vector.
+///
+/// Each model stands for the list of symbols that it counted since the bank was made or reset, and answers the
+/// distribution of that list. Only `new` takes memory.
+#[derive(Drop)]
+pub struct ModelBank {
+    cells: Vec<u32>,
+    places: Vec<Place>,
+}
+
+impl Model for ModelBank {
+    ghost use Rattle.std.specs.Prelude.{List, map};
+    ghost use Rattle.laz_models.specs.Counting.{Counting};
+    ghost use Rattle.laz_models.specs.Place.{IsBank, state_in};
+
+    ghost Value = { List Counting };
+
+    ghost view = { λ b. map (state_in b.cells.items) b.places.items };
+
+    ghost invariant = { λ b. IsBank b.places.items b.cells.items };
+}
+
+impl ModelBank {
+    ghost use Rattle.laz_models.specs.Counting.{counted, fresh, part_end, AreParts};
+    ghost use Rattle.laz_models.specs.Dist.{dist, size_of, StandsFor};
+    ghost use Rattle.laz_models.specs.Lookup.{IsLastAt, table_bits};
+    ghost use Rattle.laz_models.specs.Bank.{model_at, sizes_of};
+
+    /// Models of these many symbols each: 1 to 100 models, each of 2 to 2,048 symbols.
+    pub fn new(alloc: Global, sizes: &[u32]) -> Result<Self, AllocError>
+        requires some { 1 ≤ length sizes.now }
+        requires few { length sizes.now ≤ 100 }
+        requires range { All (λ n. (2 ≤ n) × (n ≤ 2048)) sizes.now }
+        ensures fresh { IfOk result (λ bank. bank ≡ map fresh sizes.now) }
+        ensures sizes { IfOk result (λ bank. sizes_of bank ≡ sizes.now) }
+        ensures stands { IfOk result (λ bank. (m : ℕ) → m < length sizes.now → StandsFor [] (model_at bank m)) }
+    {
+        let (places, end) = cells::places_of(alloc, sizes)?;
+        let cells = vec![in alloc; 0; end]?;
+        Ok(ModelBank { cells, places })
+    }
+
+    /// Makes all models as new. The cost is one write a model.
+    pub fn reset(&mut self)
+        ensures fresh { self.new ≡ map (λ m. fresh (size_of m)) self.old }
+        ensures sizes { sizes_of self.new ≡ sizes_of self.old }
+        ensures stands { (m : ℕ) → m < length self.old → StandsFor [] (model_at self.new m) }
+    {
+        cells::forget_all(&mut self.places);
+    }
+
+    /// Where the part of symbol `s` of model `m` begins and ends, of 2^15. The last symbol's part ends at 32,768.
+    #[inline]
+    pub fn part(&self, m: u32, s: u32) -> (u32, u32)
+        requires model { m < length self.now }
+        requires symbol { s < size_of (model_at self.now m) }
+        ensures start { result.0 ≡ slice_index (model_at self.now m).parts s }
+        ensures end { result.1 ≡ part_end (model_at self.now m).parts s }
+        ensures some { result.0 < result.1 }
+        ensures whole { result.1 ≤ 32768 }
+        ensures dist { (h : List ℕ) → StandsFor h (model_at self.now m)
+            → let parts = dist (size_of (model_at self.now m)) h
+            in (result.0 ≡ slice_index parts s) × (result.1 ≡ part_end parts s) }
+    {
+        let place = &self.places[m as usize];
+        lookup::part(&self.cells[place.start..place.end], place, s)
+    }
+
+    /// The greatest symbol of model `m` whose part begins at `v` or below. For `v` of 32,768 or more it is the last one.
+    #[inline]
+    pub fn find(&self, m: u32, v: u32) -> u32
+        requires { m < length self.now }
+        ensures last { IsLastAt (model_at self.now m).parts v result }
+        ensures parts { AreParts (size_of (model_at self.now m)) (model_at self.now m).parts }
+        ensures dist { (h : List ℕ) → StandsFor h (model_at self.now m)
+            → IsLastAt (dist (size_of (model_at self.now m)) h) v result }
+    {
+        let place = &self.places[m as usize];
+        lookup::find(&self.cells[place.start..place.end], place, v)
+    }
+
+    /// Entry `t` of the look-up table of model `m`: the greatest symbol whose part begins at `t · 2^(15 - b)` or below,
+    /// where b is the least number from 3 on with n ≤ 2^(b + 2) for the model's n symbols. A model of up to 16 symbols has
+    /// no table.
+    #[inline]
+    pub fn entry(&self, m: u32, t: u32) -> u32
+        requires model { m < length self.now }
+        requires many { 16 < size_of (model_at self.now m) }
+        requires entry { t ≤ 2 ^ table_bits (size_of (model_at self.now m)) }
+        ensures last { let n = size_of (model_at self.now m)
+            in IsLastAt (model_at self.now m).parts (t * 2 ^ (15 - table_bits n)) result }
+        ensures dist { (h : List ℕ) → StandsFor h (model_at self.now m)
+            → let n = size_of (model_at self.now m)
+            in IsLastAt (dist n h) (t * 2 ^ (15 - table_bits n)) result }
+    {
+        let place = &self.places[m as usize];
+        lookup::entry(&self.cells[place.start..place.end], place, t)
+    }
+
+    /// Counts symbol `s` of model `m`.
+    #[inline]
+    pub fn count(&mut self, m: u32, s: u32)
+        requires model { m < length self.old }
+        requires symbol { s < size_of (model_at self.old m) }
+        ensures counted { self.new ≡ slice_set self.old m (counted (model_at self.old m) s) }
+        ensures stands { (h : List ℕ) → StandsFor h (model_at self.old m)
+            → StandsFor (h ++ s ∷ []) (model_at self.new m) }
+        ensures others { (k : ℕ) → k ≢ m → model_at self.new k ≡ model_at self.old k }
+        ensures sizes { sizes_of self.new ≡ sizes_of self.old }
+    {
+        cells::count_at(&mut self.cells, &mut self.places[m as usize], s);
+    }
+}

@@ -1,0 +1,16 @@
+pub mod Numbers
+pub mod Spans
+pub mod Cuts
+pub mod Reach
+pub mod Refills
+pub mod Begin
+pub mod Other
+pub mod Whole
+pub mod Chain
+pub mod Loops
+pub mod Decodings
+pub mod Ends
+pub mod Events
+pub mod Distributions
+pub mod Examples
+pub mod Composition

@@ -1,0 +1,63 @@
+use Rattle.std.specs.Prelude.{◌≡◌, ℕ, ◌+◌, ◌*◌, ◌/◌, ◌<◌, ◌≤◌, ◌++◌, Bool, true, false, nat_le, List, length, take, drop, Result, MatchResult}
+use Rattle.laz_range.specs.Cut.{Cut, AreCuts, width_in}
+use Rattle.laz_range.specs.Span.{span, number, IsBytes, Begins, bytes_for}
+use Rattle.laz_range.specs.Reading.{Reading}
+use Rattle.laz_range.specs.Choice.{Only, Nothing}
+
+-- What is seen of a decoder: its bytes, how many of them were taken, how far into the present span their number lies, how long the span is, and whether it has answered Bad.
+pub record Decoding : Type 0 where
+  pub bytes : List ℕ
+  pub taken : ℕ
+  pub value : ℕ
+  pub len : ℕ
+  pub failed : Bool
+
+-- What it knows of the rest of its bytes.
+abbrev pub reading_of : Decoding → Reading
+reading_of d = record { value = d.value; len = d.len; rest = drop d.taken d.bytes }
+
+-- Where the value lies, of 2 ^ 15 parts.
+abbrev pub place_of : Decoding → ℕ
+place_of d = d.value / (d.len / 32768)
+
+-- The bit that the value says: 1 behind the part of 0.
+abbrev pub bit_of : Decoding → ℕ → Bool
+bit_of d p0 = nat_le (p0 * (d.len / 8192)) d.value
+
+-- The bytes run out at an event.
+abbrev pub RunsOut : Decoding → Cut → Type 0
+RunsOut d c = length d.bytes < d.taken + bytes_for (width_in d.len c)
+
+-- The decoder has read these events: they begin its bytes, and the value is the number of the bytes taken less low.
+pub record HasRead (events : List Cut) (d : Decoding) : Type 0 where
+  pub cuts : AreCuts events
+  pub bytes : IsBytes d.bytes
+  pub begins : Begins (span events) d.bytes
+  pub taken : d.taken ≡ (span events).shifts + 4
+  pub value : (span events).low + d.value ≡ number (take d.taken d.bytes)
+  pub len : d.len ≡ (span events).len
+
+-- Whatever it had read, it has read that and then these.
+abbrev pub ReadsOn : List Cut → Decoding → Decoding → Type 0
+ReadsOn cuts old new = (events : List Cut) → HasRead events old → HasRead (events ++ cuts) new
+
+-- Nothing that is asked for, put behind the events read, begins the bytes.
+abbrev pub NoneBegins : {X : Type 0} → (X → Type 0) → (X → List Cut) → Decoding → Type 0
+NoneBegins {X} IsAsked cuts d = (events : List Cut) → HasRead events d → (y : X) → IsAsked y → Begins (span (events ++ cuts y)) d.bytes → ⊥
+
+-- Of what is asked for, x was read, which alone begins what was left.
+pub record Takes {X : Type 0} (IsAsked : X → Type 0) (cuts : X → List Cut) (old new : Decoding) (x : X) : Type 0 where
+  pub choice : Only IsAsked cuts (reading_of old) x (reading_of new)
+  pub bytes : new.bytes ≡ old.bytes
+  pub within : new.taken ≤ length new.bytes
+  pub good : new.failed ≡ false
+
+-- Nothing that is asked for begins what was left.
+pub record TakesNone {X : Type 0} (IsAsked : X → Type 0) (cuts : X → List Cut) (old new : Decoding) : Type 0 where
+  pub nothing : Nothing IsAsked cuts (reading_of old)
+  pub bytes : new.bytes ≡ old.bytes
+  pub failed : new.failed ≡ true
+
+-- A call that reads answers Ok with the one that begins what was left, and Bad where none does.
+abbrev pub Reads : {X E : Type 0} → Result X E → (X → Type 0) → (X → List Cut) → Decoding → Decoding → Type 0
+Reads result IsAsked cuts old new = MatchResult result (λ x. Takes IsAsked cuts old new x) (λ _. TakesNone IsAsked cuts old new)

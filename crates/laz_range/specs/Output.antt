@@ -1,0 +1,33 @@
+use Rattle.std.specs.Prelude.{◌≡◌, ℕ, ◌+◌, ◌-◌, ◌*◌, ◌≤◌, List, length, take, drop}
+use Rattle.laz_range.specs.Span.{Span, number}
+use Rattle.laz_range.specs.Coding.{Coding}
+use Rattle.laz_range.specs.declared.output.Output.{Output}
+
+-- The bytes written since `at`.
+abbrev pub written : Output → List ℕ
+written o = drop o.at (take o.next o.bytes.items)
+
+-- The bytes written and the base spell low.
+abbrev pub span_of : Output → Span
+span_of o = record { low = number (written o) * 4294967296 + o.base; len = o.length; shifts = o.next - o.at }
+
+-- The same span, from further on.
+abbrev pub moved : Span → ℕ → Span
+moved s from = record { low = s.low + from; len = s.len; shifts = s.shifts }
+
+-- There is room for the four bytes of the base.
+pub record IsPlaced (o : Output) : Type 0 where
+  pub from : o.at ≤ o.next
+  pub room : o.next + 4 ≤ length o.bytes.items
+
+-- All but the written part stays, and at most n bytes more were written.
+pub record Writes (n : ℕ) (old new : Output) : Type 0 where
+  pub at : new.at ≡ old.at
+  pub before : take new.at new.bytes.items ≡ take old.at old.bytes.items
+  pub length : length new.bytes.items ≡ length old.bytes.items
+  pub from : old.next ≤ new.next
+  pub upto : new.next ≤ old.next + n
+
+-- What is seen of an encoder that writes there.
+abbrev pub coding_of : Output → Coding
+coding_of o = record { before = take o.at o.bytes.items; span = span_of o; left = length o.bytes.items - o.at - 4 - (o.next - o.at) }

@@ -1,0 +1,77 @@
+use Rattle.std.specs.Prelude.{◌≡◌, ℕ, zero, suc, ◌+◌, ◌*◌, ◌/◌, ◌%◌, ◌^◌, ◌<◌, ◌≤◌, List, [], ◌∷◌, nat_lt, if◌then◌else◌, length, take, slice_index}
+use Rattle.std.specs.Int.Digits.{number_from_digits}
+use Rattle.laz_range.specs.Cut.{Cut, start_in, width_in}
+
+-- The numbers that spell a list of events: from low on and below low + len, in shifts + 4 digits of base 256. There is no carry, since low has no upper bound (the interval of Said's coder, in exact numbers).
+pub record Span : Type 0 where
+  pub low : ℕ
+  pub len : ℕ
+  pub shifts : ℕ
+
+-- The span of no event.
+abbrev pub start : Span
+start = record { low = 0; len = 4294967295; shifts = 0 }
+
+-- One digit more, where the length is below 2 ^ 24 (Said's renormalisation).
+unfoldable pub renewed : Span → Span
+renewed s = if nat_lt s.len 16777216 then record { low = s.low * 256; len = s.len * 256; shifts = s.shifts + 1 } else s
+
+-- The part of a span that begins at `from` and has length `width`, in digits enough. Three digits are enough for any part.
+unfoldable pub narrowed : Span → ℕ → ℕ → Span
+narrowed s from width = renewed (renewed (renewed (record { low = s.low + from; len = width; shifts = s.shifts })))
+
+-- One event more.
+abbrev pub cut : Span → Cut → Span
+cut s c = narrowed s (start_in s.len c) (width_in s.len c)
+
+-- Further events, from left to right.
+abbrev pub after : Span → List Cut → Span
+after s [] = s
+after s (c ∷ cs) = after (cut s c) cs
+
+-- The span of a list of events.
+abbrev pub span : List Cut → Span
+span events = after start events
+
+-- The number that bytes spell, greatest digit first.
+abbrev pub number : List ℕ → ℕ
+number bytes = number_from_digits 256 bytes
+
+-- Each is a byte.
+abbrev pub IsBytes : List ℕ → Type 0
+IsBytes bytes = (i : ℕ) → slice_index bytes i < 256
+
+-- All the bytes spell a number of the span.
+pub record Fits (s : Span) (bytes : List ℕ) : Type 0 where
+  pub length : s.shifts + 4 ≡ length bytes
+  pub low : s.low ≤ number bytes
+  pub high : number bytes < s.low + s.len
+
+-- Some front of the bytes fits: the first shifts + 4 of them spell a number of the span.
+pub record Begins (s : Span) (bytes : List ℕ) : Type 0 where
+  pub enough : s.shifts + 4 ≤ length bytes
+  pub low : s.low ≤ number (take (s.shifts + 4) bytes)
+  pub high : number (take (s.shifts + 4) bytes) < s.low + s.len
+
+-- The number that ends a stream: one of the span with as many zero bytes at its end as LASzip's encoder leaves, three for a long span and two for a short one.
+abbrev pub last : Span → ℕ
+last s = if nat_lt 33554432 s.len then (s.low + 16777216) / 16777216 * 16777216 else (s.low + 8388608) / 65536 * 65536
+
+-- A number below 256 ^ n, in n digits of base 256, greatest first.
+abbrev pub digits : ℕ → ℕ → List ℕ
+digits zero v = []
+digits (suc n) v = v / 256 ^ n ∷ digits n (v % 256 ^ n)
+
+-- The bytes of a stream.
+abbrev pub bytes_of : Span → List ℕ
+bytes_of s = digits (s.shifts + 4) (last s)
+
+-- How many bytes a part of this length asks for: one for each factor of 256 that it is short of 2 ^ 24.
+unfoldable pub bytes_for : ℕ → ℕ
+bytes_for len = if nat_lt len 256 then 3 else if nat_lt len 65536 then 2 else if nat_lt len 16777216 then 1 else 0
+
+-- A span that the coder can reach.
+pub record IsSpan (s : Span) : Type 0 where
+  pub long : 16777216 ≤ s.len
+  pub short : s.len < 4294967296
+  pub within : s.low + s.len ≤ 256 ^ (s.shifts + 4)

@@ -1,0 +1,184 @@
+//! The decoder.
+ghost use Rattle.std.specs.Prelude.{◌≡◌, ℕ, Bool, true, false, ◌+◌, ◌*◌, ◌/◌, ◌<◌, ◌≤◌, ◌^◌, ◌↔◌, ◌⊎◌, ⊤, [], ◌∷◌, List, IsTrue, IsErr, IfOk, OnOk, OnErr, MatchResult, Option, length, take};
+ghost use Rattle.laz_range.specs.Cut.{Cut, Part, Bit, Raw, AreCuts, IsLike, one_event, raw_cuts};
+ghost use Rattle.laz_range.specs.Span.{Begins, number, span};
+ghost use Rattle.laz_range.specs.Reading.{quotient, taken_off, RefusesPart, RefusesRaw};
+ghost use Rattle.laz_range.specs.Decoding.{HasRead, ReadsOn, NoneBegins, Reads, RunsOut, Takes, TakesNone, bit_of, place_of, reading_of};
+ghost use Rattle.laz_range.specs.Input.{Passes, Stops};
+
+pub use crate::input::Bad;
+use crate::input::{Input, take};
+use std::marker::Model;
+
+/// Reads events from bytes that it is lent.
+///
+/// Contracts see it as its bytes, how many of them were taken, its value, its length and whether it has answered
+/// [`Bad`]. The value is the number of the bytes taken less the low end of the span of the events read, and is below the
+/// length. After a [`Bad`] it is asked for nothing more.
+#[derive(Drop)]
+pub struct Decoder<'a> {
+    input: Input<'a>,
+    failed: bool,
+}
+
+impl<'a> Model for Decoder<'a> {
+    ghost use Rattle.std.specs.Prelude.{◌≡◌, ◌≤◌, ◌<◌, false, length};
+    ghost use Rattle.laz_range.specs.Decoding.{Decoding};
+    ghost use Rattle.laz_range.specs.Input.{decoding_of};
+
+    ghost Value = { Decoding };
+
+    ghost view = { λ d. decoding_of d.input d.failed };
+
+    ghost invariant = { λ d. (d.input.taken ≤ length d.input.bytes.now) × (d.failed ≡ false → d.input.value < d.input.length) × (d.failed ≡ false → 16777216 ≤ d.input.length) };
+}
+
+impl<'a> Decoder<'a> {
+    /// A decoder of the bytes, which takes the first four of them. Bad says that no list of events begins the bytes:
+    /// there are fewer than four, or the first four are all 255.
+    pub fn new(bytes: &'a [u8]) -> Result<Self, Bad>
+        ensures bad { IsErr result ↔ ((length bytes.now < 4) ⊎ (take 4 bytes.now ≡ 255 ∷ 255 ∷ 255 ∷ 255 ∷ [])) }
+        ensures none { OnErr result ((events : List Cut) → AreCuts events → Begins (span events) bytes.now → ⊥) }
+        ensures bytes { IfOk result (λ d. d.bytes ≡ bytes.now) }
+        ensures taken { IfOk result (λ d. d.taken ≡ 4) }
+        ensures value { IfOk result (λ d. d.value ≡ number (take 4 bytes.now)) }
+        ensures len { IfOk result (λ d. d.len ≡ 4294967295) }
+        ensures good { IfOk result (λ d. d.failed ≡ false) }
+        ensures read { IfOk result (λ d. HasRead [] d) }
+    {
+        if bytes.len() < 4 {
+            return Err(Bad);
+        }
+        let value = u32::from_be_bytes([bytes[0], bytes[1], bytes[2], bytes[3]]);
+        if value == u32::MAX {
+            return Err(Bad);
+        }
+        Ok(Decoder {
+            input: Input {
+                bytes,
+                value,
+                taken: 4,
+                length: u32::MAX,
+            },
+            failed: false,
+        })
+    }
+
+    /// Where the value lies, in units of 2^-15 of the interval: a symbol is the last one whose part begins there or
+    /// below.
+    pub fn at15(&self) -> u32
+        requires { self.now.failed ≡ false }
+        ensures place { result ≡ place_of self.now }
+        ensures below { self.now.value < self.now.len }
+        ensures long { 16777216 ≤ self.now.len }
+    {
+        self.input.value / (self.input.length >> 15)
+    }
+
+    /// Takes the symbol whose part is from `lo` up to `hi` of 2^15, where the value lies. Bad says that the bytes run
+    /// out: no symbol of any distribution with this part begins what is left of them.
+    pub fn take15(&mut self, lo: u32, hi: u32) -> Result<(), Bad>
+        requires good { self.old.failed ≡ false }
+        requires part { lo < hi }
+        requires whole { hi ≤ 32768 }
+        requires above { lo ≤ place_of self.old }
+        requires below { hi < 32768 → place_of self.old < hi }
+        ensures reads { MatchResult result (λ _. Takes (IsLike (Part lo hi)) one_event self.old self.new (Part lo hi)) (λ _. TakesNone (IsLike (Part lo hi)) one_event self.old self.new) }
+        ensures bad { IsErr result ↔ RunsOut self.old (Part lo hi) }
+        ensures read { OnOk result (ReadsOn (one_event (Part lo hi)) self.old self.new) }
+        ensures none { OnErr result (NoneBegins (IsLike (Part lo hi)) one_event self.old) }
+    {
+        let unit = self.input.length >> 15;
+        let from = lo * unit;
+        let width = if hi == 32768 {
+            self.input.length - from
+        } else {
+            hi * unit - from
+        };
+        self.pass(from, width)
+    }
+
+    /// Takes a bit, of which 0 has the first `p0` of 2^13 parts. Bad says that the bytes run out: neither bit begins
+    /// what is left of them.
+    pub fn take13(&mut self, p0: u32) -> Result<bool, Bad>
+        requires good { self.old.failed ≡ false }
+        requires some { 0 < p0 }
+        requires part { p0 < 8192 }
+        ensures reads { Reads result (λ _. ⊤) (λ bit. Bit p0 bit ∷ []) self.old self.new }
+        ensures bit { IfOk result (λ bit. bit ≡ bit_of self.old p0) }
+        ensures bad { IsErr result ↔ RunsOut self.old (Bit p0 (bit_of self.old p0)) }
+        ensures read { IfOk result (λ bit. ReadsOn (Bit p0 bit ∷ []) self.old self.new) }
+        ensures none { OnErr result (NoneBegins {X = Bool} (λ _. ⊤) (λ bit. Bit p0 bit ∷ []) self.old) }
+    {
+        let split = p0 * (self.input.length >> 13);
+        if self.input.value < split {
+            self.pass(0, split)?;
+            return Ok(false);
+        }
+        let width = self.input.length - split;
+        self.pass(split, width)?;
+        Ok(true)
+    }
+
+    /// Takes a raw value of `bits` bits, 1 to 32. Bad says that the bytes run out or spell no such value: none begins
+    /// what is left of them.
+    pub fn take_raw(&mut self, bits: u32) -> Result<u32, Bad>
+        requires good { self.old.failed ≡ false }
+        requires some { 0 < bits }
+        requires few { bits ≤ 32 }
+        ensures reads { Reads result (λ v. v < 2 ^ bits) (raw_cuts bits) self.old self.new }
+        ensures bad { IsErr result ↔ RefusesRaw (reading_of self.old) bits }
+        ensures read { IfOk result (λ v. ReadsOn (raw_cuts bits v) self.old self.new) }
+        ensures none { OnErr result (NoneBegins (λ v. v < 2 ^ bits) (raw_cuts bits) self.old) }
+    {
+        if bits > 19 {
+            let low = self.take_raw_part(16)?;
+            let high = self.take_raw_part(bits - 16)?;
+            return Ok((high << 16) + low);
+        }
+        self.take_raw_part(bits)
+    }
+
+    /// Takes a raw value of at most 19 bits.
+    fn take_raw_part(&mut self, bits: u32) -> Result<u32, Bad>
+        requires good { self.old.failed ≡ false }
+        requires some { 0 < bits }
+        requires few { bits ≤ 19 }
+        ensures reads { Reads result (λ v. v < 2 ^ bits) (λ v. Raw bits v ∷ []) self.old self.new }
+        ensures bad { IsErr result ↔ RefusesPart (reading_of self.old) bits }
+        ensures quotient { IfOk result (λ v. v ≡ quotient (reading_of self.old) bits) }
+    {
+        let unit = self.input.length >> bits;
+        let v = self.input.value / unit;
+        if v >= 1 << bits {
+            self.failed = true;
+            return Err(Bad);
+        }
+        self.pass(v * unit, unit)?;
+        Ok(v)
+    }
+
+    /// Goes on behind a part that the value lies in.
+    fn pass(&mut self, from: u32, width: u32) -> Result<(), Bad>
+        requires good { self.old.failed ≡ false }
+        requires above { from ≤ self.old.value }
+        requires below { self.old.value < from + width }
+        ensures { MatchResult result (λ _. Passes (taken_off (reading_of self.old) from width) self.old self.new) (λ _. Stops (taken_off (reading_of self.old) from width) self.old self.new) }
+    {
+        match take(&mut self.input, from, width) {
+            Ok(()) => Ok(()),
+            Err(bad) => {
+                self.failed = true;
+                Err(bad)
+            }
+        }
+    }
+
+    /// Whether all bytes were taken.
+    pub fn at_end(&self) -> bool
+        requires { self.now.failed ≡ false }
+        ensures { IsTrue result ↔ (self.now.taken ≡ length self.now.bytes) }
+    {
+        self.input.taken == self.input.bytes.len()
+    }
+}

@@ -1,0 +1,128 @@
+//! The encoder.
+ghost use Rattle.std.specs.Prelude.{◌≡◌, ◌+◌, ◌<◌, ◌≤◌, ◌^◌, [], ◌∷◌, length, take, slice_range};
+ghost use Rattle.laz_range.specs.Cut.{Part, Bit, Raw, raw_cuts};
+ghost use Rattle.laz_range.specs.Span.{start, bytes_of, Fits};
+ghost use Rattle.laz_range.specs.Coding.{Codes};
+
+use crate::output::{Output, end, narrow};
+use std::marker::Model;
+
+/// Writes events into a room that it is given.
+///
+/// Contracts see it as the bytes before the place where it began to write, as the span of its events (low, len and
+/// shifts, where low has no upper bound), and as `left`: how many bytes more its room has, beside the four that end
+/// the stream. An event takes three bytes at most, and a raw value of more than 19 bits, which is two events, four.
+#[derive(Drop)]
+pub struct Encoder {
+    output: Output,
+}
+
+impl Model for Encoder {
+    ghost use Rattle.laz_range.specs.Coding.{Coding};
+    ghost use Rattle.laz_range.specs.Span.{IsSpan};
+    ghost use Rattle.laz_range.specs.Output.{coding_of, span_of, IsPlaced};
+
+    ghost Value = { Coding };
+
+    ghost view = { λ e. coding_of e.output };
+
+    ghost invariant = { λ e. IsPlaced e.output × IsSpan (span_of e.output) };
+}
+
+impl Encoder {
+    /// An encoder without events, which writes into `room` from `at` on.
+    pub fn with_room(room: Vec<u8>, at: usize) -> Self
+        requires { at + 4 ≤ length room.items }
+        ensures span { result.span ≡ start }
+        ensures before { result.before ≡ take at room.items }
+        ensures left { result.left + at + 4 ≡ length room.items }
+    {
+        Encoder {
+            output: Output {
+                bytes: room,
+                base: 0,
+                at,
+                next: at,
+                length: u32::MAX,
+            },
+        }
+    }
+
+    /// Codes a symbol, whose part is from `lo` up to `hi` of 2^15. The last symbol of a distribution has `hi` 32,768
+    /// and gets what the division of the interval by 2^15 leaves, too.
+    pub fn cut15(&mut self, lo: u32, hi: u32)
+        requires part { lo < hi }
+        requires whole { hi ≤ 32768 }
+        requires left { 3 ≤ self.old.left }
+        ensures { Codes self.old self.new (Part lo hi ∷ []) }
+    {
+        let unit = self.output.length >> 15;
+        let from = lo * unit;
+        let width = if hi == 32768 {
+            self.output.length - from
+        } else {
+            hi * unit - from
+        };
+        narrow(&mut self.output, from, width);
+    }
+
+    /// Codes a bit, of which 0 has the first `p0` of 2^13 parts.
+    pub fn cut13(&mut self, p0: u32, bit: bool)
+        requires some { 0 < p0 }
+        requires part { p0 < 8192 }
+        requires left { 3 ≤ self.old.left }
+        ensures { Codes self.old self.new (Bit p0 bit ∷ []) }
+    {
+        let from = p0 * (self.output.length >> 13);
+        if bit {
+            let width = self.output.length - from;
+            narrow(&mut self.output, from, width);
+        } else {
+            narrow(&mut self.output, 0, from);
+        }
+    }
+
+    /// Codes the raw value `v` of `bits` bits, 1 to 32. One of more than 19 bits is coded as its low 16 bits and then
+    /// the rest.
+    pub fn raw(&mut self, bits: u32, v: u32)
+        requires some { 0 < bits }
+        requires few { bits ≤ 32 }
+        requires value { v < 2 ^ bits }
+        requires left { 3 ≤ self.old.left }
+        requires wide { 19 < bits → 4 ≤ self.old.left }
+        ensures { Codes self.old self.new (raw_cuts bits v) }
+    {
+        if bits > 19 {
+            self.raw_part(16, v & 0xffff);
+            self.raw_part(bits - 16, v >> 16);
+        } else {
+            self.raw_part(bits, v);
+        }
+    }
+
+    /// Codes a raw value of at most 19 bits. One of at most 16 bits takes two bytes at most.
+    fn raw_part(&mut self, bits: u32, v: u32)
+        requires some { 0 < bits }
+        requires few { bits ≤ 19 }
+        requires value { v < 2 ^ bits }
+        requires left { 2 ≤ self.old.left }
+        requires wide { 16 < bits → 3 ≤ self.old.left }
+        ensures codes { Codes self.old self.new (Raw bits v ∷ []) }
+        ensures short { bits ≤ 16 → self.old.left ≤ self.new.left + 2 }
+    {
+        let unit = self.output.length >> bits;
+        narrow(&mut self.output, v * unit, unit);
+    }
+
+    /// Ends the stream. Gives the room back, and how many bytes were written from `at` on.
+    pub fn finish(self) -> (Vec<u8>, usize)
+        ensures count { result.1 ≡ self.span.shifts + 4 }
+        ensures bytes { slice_range result.0.items (length self.before) (length self.before + result.1) ≡ bytes_of self.span }
+        ensures fits { Fits self.span (bytes_of self.span) }
+        ensures before { take (length self.before) result.0.items ≡ self.before }
+        ensures room { length result.0.items ≡ length self.before + result.1 + self.left }
+    {
+        let Encoder { output } = self;
+        end(output)
+    }
+}

@@ -1,0 +1,59 @@
+//! The bytes of a decoder, and where in them it is.
+ghost use Rattle.std.specs.Prelude.{◌≡◌, ℕ, ◌+◌, ◌*◌, ◌<◌, ◌≤◌, OnOk, length};
+ghost use Rattle.laz_range.specs.Reading.{refilled, taken_off};
+ghost use Rattle.laz_range.specs.Input.{known, Gives};
+
+/// The bytes run out, or a raw value is none: nothing that was asked for begins what is left of the bytes.
+#[derive(Clone, Copy, Debug, PartialEq, Eq)]
+pub struct Bad;
+
+/// `taken` bytes are read. Their number lies `value` above the interval's low end, and `length` is how long it is.
+// `value` and `length` do not lie side by side: written apart and read as one, they would stall the store buffer.
+#[derive(Drop)]
+pub struct Input<'a> {
+    pub bytes: &'a [u8],
+    pub value: u32,
+    pub taken: usize,
+    pub length: u32,
+}
+
+/// Reads a byte, where the length is below 2^24.
+fn refill(input: &mut Input<'_>) -> Result<(), Bad>
+    requires within { input.old.taken ≤ length input.old.bytes.now }
+    requires below { input.old.value < input.old.length }
+    ensures reads { Gives result (refilled (known input.old)) (known input.new) }
+    ensures bytes { input.new.bytes.now ≡ input.old.bytes.now }
+    ensures within { input.new.taken ≤ length input.new.bytes.now }
+    ensures below { OnOk result (input.new.value < input.new.length) }
+    ensures longer { OnOk result ((m : ℕ) → m * 256 ≤ 16777216 → m ≤ input.old.length → m * 256 ≤ input.new.length) }
+{
+    if input.length >= 0x100_0000 {
+        return Ok(());
+    }
+    if input.taken == input.bytes.len() {
+        return Err(Bad);
+    }
+    let byte = input.bytes[input.taken];
+    input.taken += 1;
+    input.value = (input.value << 8) + byte as u32;
+    input.length <<= 8;
+    Ok(())
+}
+
+/// Goes on behind the part that begins at `from` and has length `width`, which the value lies in.
+pub fn take(input: &mut Input<'_>, from: u32, width: u32) -> Result<(), Bad>
+    requires within { input.old.taken ≤ length input.old.bytes.now }
+    requires above { from ≤ input.old.value }
+    requires below { input.old.value < from + width }
+    ensures reads { Gives result (taken_off (known input.old) from width) (known input.new) }
+    ensures bytes { input.new.bytes.now ≡ input.old.bytes.now }
+    ensures within { input.new.taken ≤ length input.new.bytes.now }
+    ensures below { OnOk result (input.new.value < input.new.length) }
+    ensures long { OnOk result (16777216 ≤ input.new.length) }
+{
+    input.value -= from;
+    input.length = width;
+    refill(input)?;
+    refill(input)?;
+    refill(input)
+}

@@ -1,0 +1,133 @@
+//! What an encoder has written, and the interval that it is in.
+ghost use Rattle.std.specs.Prelude.{◌≡◌, ℕ, ◌+◌, ◌*◌, ◌^◌, ◌<◌, ◌≤◌, ◌-◌, length, take, drop};
+ghost use Rattle.laz_range.specs.Span.{renewed, narrowed, IsSpan, number, bytes_of, last, IsBytes};
+ghost use Rattle.laz_range.specs.Output.{span_of, moved, written, IsPlaced, Writes};
+
+use crate::carry::carry_between;
+
+/// The bytes from `at` up to `next` are written. They and the 32 bits of `base` spell the interval's low end, and
+/// `length` is how long it is.
+// `base` and `length` do not lie side by side: written apart and read as one, they would stall the store buffer.
+#[derive(Drop)]
+pub struct Output {
+    pub bytes: Vec<u8>,
+    pub base: u32,
+    pub at: usize,
+    pub next: usize,
+    pub length: u32,
+}
+
+/// Writes the top byte of the base, where the length is below 2^24.
+fn renew(output: &mut Output)
+    requires placed { IsPlaced output.old }
+    requires left { output.old.length < 16777216 → output.old.next + 5 ≤ length output.old.bytes.items }
+    ensures span { span_of output.new ≡ renewed (span_of output.old) }
+    ensures rest { Writes 1 output.old output.new }
+    ensures placed { IsPlaced output.new }
+{
+    if output.length < 0x100_0000 {
+        output.bytes[output.next] = (output.base >> 24) as u8;
+        output.next += 1;
+        output.base <<= 8;
+        output.length <<= 8;
+    }
+}
+
+/// Adds to the base, and carries into the bytes that are written.
+fn add(output: &mut Output, from: u32)
+    requires placed { IsPlaced output.old }
+    requires within { (span_of output.old).low + from < 256 ^ ((span_of output.old).shifts + 4) }
+    ensures span { span_of output.new ≡ moved (span_of output.old) from }
+    ensures rest { Writes 0 output.old output.new }
+    ensures placed { IsPlaced output.new }
+{
+    let sum = output.base.wrapping_add(from);
+    if sum < from {
+        carry_between(&mut output.bytes, output.at, output.next);
+    }
+    output.base = sum;
+}
+
+/// Cuts out the part that begins at `from` and has length `width`.
+pub fn narrow(output: &mut Output, from: u32, width: u32)
+    requires placed { IsPlaced output.old }
+    requires left { output.old.next + 6 ≤ length output.old.bytes.items }
+    requires short { width < 256 → output.old.next + 7 ≤ length output.old.bytes.items }
+    requires reached { IsSpan (span_of output.old) }
+    requires some { 0 < width }
+    requires part { from + width ≤ output.old.length }
+    ensures span { span_of output.new ≡ narrowed (span_of output.old) from width }
+    ensures rest { Writes 3 output.old output.new }
+    ensures placed { IsPlaced output.new }
+    ensures reached { IsSpan (span_of output.new) }
+{
+    add(output, from);
+    output.length = width;
+    renew(output);
+    renew(output);
+    renew(output); // a part of one number asks for three bytes
+}
+
+/// Writes a byte.
+fn put(bytes: &mut Vec<u8>, at: usize, next: usize, byte: u8)
+    requires order { at ≤ next }
+    requires within { next < length bytes.old.items }
+    ensures bytes { IsBytes bytes.new.items }
+    ensures number { number (drop at (take (next + 1) bytes.new.items)) ≡ number (drop at (take next bytes.old.items)) * 256 + byte }
+    ensures before { take at bytes.new.items ≡ take at bytes.old.items }
+    ensures length { length bytes.new.items ≡ length bytes.old.items }
+{
+    bytes[next] = byte;
+}
+
+/// Writes four bytes, the greatest first.
+fn put_word(bytes: &mut Vec<u8>, at: usize, next: usize, word: u32)
+    requires order { at ≤ next }
+    requires within { next + 4 ≤ length bytes.old.items }
+    ensures bytes { IsBytes bytes.new.items }
+    ensures number { number (drop at (take (next + 4) bytes.new.items)) ≡ number (drop at (take next bytes.old.items)) * 4294967296 + word }
+    ensures before { take at bytes.new.items ≡ take at bytes.old.items }
+    ensures length { length bytes.new.items ≡ length bytes.old.items }
+{
+    put(bytes, at, next, (word >> 24) as u8);
+    put(bytes, at, next + 1, (word >> 16 & 0xff) as u8);
+    put(bytes, at, next + 2, (word >> 8 & 0xff) as u8);
+    put(bytes, at, next + 3, (word & 0xff) as u8);
+}
+
+/// The last four bytes, after the carry into those that are written.
+fn last_word(output: &mut Output) -> u32
+    requires placed { IsPlaced output.old }
+    requires reached { IsSpan (span_of output.old) }
+    ensures number { number (written output.new) * 4294967296 + result ≡ last (span_of output.old) }
+    ensures rest { Writes 0 output.old output.new }
+    ensures placed { IsPlaced output.new }
+{
+    if output.length > 0x200_0000 {
+        add(output, 0x100_0000);
+        return output.base >> 24 << 24;
+    }
+    add(output, 0x80_0000);
+    output.base >> 16 << 16
+}
+
+/// Ends the stream. Gives the bytes, and how many of them were written from `at` on.
+pub fn end(mut output: Output) -> (Vec<u8>, usize)
+    requires placed { IsPlaced output }
+    requires reached { IsSpan (span_of output) }
+    ensures count { result.1 ≡ (span_of output).shifts + 4 }
+    ensures bytes { drop output.at (take (output.at + result.1) result.0.items) ≡ bytes_of (span_of output) }
+    ensures before { take output.at result.0.items ≡ take output.at output.bytes.items }
+    ensures length { length result.0.items ≡ length output.bytes.items }
+{
+    let word = last_word(&mut output);
+    let Output {
+        mut bytes,
+        base: _,
+        at,
+        next,
+        length: _,
+    } = output;
+    put_word(&mut bytes, at, next, word);
+    (bytes, next - at + 4)
+}
