@@ -1,3 +1,7 @@
+pub use Rattle.las_header.specs.Refusals
+pub use Rattle.las_outside.specs.Drafts
+pub use Rattle.las_outside.specs.Faults
+pub use Rattle.las_outside.specs.Files
 pub mod Ending
 pub mod Lines
 pub mod Outputs
