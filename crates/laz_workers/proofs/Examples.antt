@@ -1,9 +1,12 @@
 -- Worked values of the claims' definition.
-use Rattle.std.proofs.Common.{◌≡◌, ℕ, Bool, true, false, List, [], ◌∷◌, refl, lit<}
+use Rattle.std.proofs.Common.{◌≡◌, ℕ, Bool, true, false, Some, None, List, [], ◌∷◌, refl, lit<}
+use Rattle.laz_workers.specs.declared.held.Held.TheVariants.{Empty, Full, Refused}
 use Rattle.laz_workers.specs.declared.view.View.{View}
 use Rattle.laz_workers.specs.declared.view.Sizes.{Sizes}
 use Rattle.laz_workers.specs.Numbers.{times}
-use Rattle.laz_workers.specs.Claims.{gone, past, Claiming, splits, draws, joins, closes, made, Run}
+use Rattle.laz_workers.specs.Rooms.{RoomSeen, answer_in, numbers_in}
+use Rattle.laz_workers.specs.Run.{under}
+use Rattle.laz_workers.specs.Claims.{opened, drew, gone, past, Claiming, splits, draws, joins, closes, made, Run}
 
 three_for_two : Sizes
 three_for_two = record { total = 3; workers = 2 }
@@ -64,3 +67,43 @@ in_turn =
         ),
       ),
     )
+
+-- no number, one worker: the first claim finds number 0, which spends the pass, and the word is 1
+none_for_one : Sizes
+none_for_one = record { total = 0; workers = 1 }
+
+of_none : Run (made none_for_one) (draws 0 ∷ closes 0 ∷ []) (record { word = 1; views = drew (opened none_for_one) 0 ∷ [] })
+unfolding none_for_one
+of_none =
+    let end : Claiming = record { word = 1; views = drew (opened none_for_one) 0 ∷ [] } in
+    (end, (opened none_for_one, refl, refl, refl, refl), (end, (drew (opened none_for_one) 0, refl, refl, refl, refl), refl))
+
+of_none_spent : (drew (opened none_for_one) 0).spent ≡ true
+unfolding none_for_one
+of_none_spent = refl
+
+-- a room with two of its bytes as the answer to input 3, one in which input 1 was refused, and an empty one
+full : RoomSeen
+full = record { bytes = 7 ∷ 8 ∷ 9 ∷ []; held = Full 3 2 }
+
+refused : RoomSeen
+refused = record { bytes = 7 ∷ 8 ∷ 9 ∷ []; held = Refused 1 }
+
+empty : RoomSeen
+empty = record { bytes = 7 ∷ 8 ∷ 9 ∷ []; held = Empty }
+
+standing : numbers_in (full ∷ refused ∷ empty ∷ []) ≡ 3 ∷ 1 ∷ []
+unfolding full refused empty
+standing = refl
+
+answer_of_full : answer_in full.bytes full.held ≡ Some (7 ∷ 8 ∷ [])
+unfolding full
+answer_of_full = refl
+
+answer_of_refused : answer_in refused.bytes refused.held ≡ None
+unfolding refused
+answer_of_refused = refl
+
+-- of the joined list of three numbers, those below the total
+under_three : under 3 (0 ∷ 2 ∷ 1 ∷ 3 ∷ []) ≡ 0 ∷ 2 ∷ 1 ∷ []
+under_three = refl

@@ -80,7 +80,7 @@ impl Claims {
         None
     }
 
-    /// Joins a split pass to the opening one, which has drawn its numbers then too, behind its own.
+    /// Joins a split pass to the opening one: its numbers follow those that the opening pass has.
     pub fn join(&self, pass: &mut Pass, other: Pass)
         requires own { (pass.old.claims ≡ self.now) × (other.claims ≡ self.now) }
         requires opening { pass.old.opens ≡ true }
@@ -92,11 +92,13 @@ impl Claims {
     {
         let Pass { seat, .. } = other;
         self.table.shared.join_seat::<Joins>(&mut pass.seat, seat);
+        // A join tells nothing of the word. This load does, and it changes nothing.
         self.table.shared.load::<Looks>(&mut pass.seat, 0);
         pass.out -= 1;
     }
 
-    /// Ends the claims, and gives the word: how many numbers were drawn, those at or past the total too.
+    /// Ends the claims, and gives the word: how many numbers were drawn in all, with those at or past the total. The
+    /// opening pass holds each number below it, in the order in which the passes drew and were joined.
     pub fn close(self, pass: Pass) -> u64
         requires own { pass.claims ≡ self }
         requires opening { pass.opens ≡ true }

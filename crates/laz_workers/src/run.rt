@@ -51,7 +51,8 @@ fn fill<J: Job, G: Gate>(
     gate.leave(number);
 }
 
-// Claims while a room is empty and the pass is not spent, and works what it drew. The hand holds its pass, and its rooms are empty.
+// The work of one hand: it claims while a room is empty and its pass is not spent, and works what it drew. What it ensures
+// is all that the fan-out needs.
 fn work_hand<J: Job, G: Gate>(
     job: &J,
     gate: &G,
@@ -181,10 +182,15 @@ fn work_all<R: Threads + Sync, J: Job, G: Gate>(
 
 /// Works all inputs by the crew's hands, and joins their passes.
 ///
+/// There are as many passes as hands and none has drawn: the first is the opening one, and the others were split from it.
+/// There are as many inputs as the claims have numbers, at most two for each hand. Every input fits every room, and every
+/// hand's space suits the job.
+///
 /// The rooms are emptied first, and pass h goes to hand h. Each hand then claims while it has an empty room and its pass
 /// is not spent, and works the input of each number that it draws below the total, between the gate's `enter` and
 /// `leave` of that number. Which hand works which input is left to the schedule; the answers stand by number all the
-/// same. Nothing is refused and no memory is taken, and the threads have all returned at the end.
+/// same. Nothing is refused and no memory is taken. At the end the threads have returned, and `passes` holds the opening
+/// pass alone, to which the others were joined.
 pub fn run_all<R: Threads + Sync, J: Job, G: Gate>(
     rt: &R,
     job: &J,
