@@ -179,3 +179,9 @@ pub sizes-set : (bank : List Counting) (m s : ℕ) → m < length bank → sizes
 sizes-set bank m s below =
     let same : size_of (counted (model_at bank m) s) ≡ get_or (map size_of bank) m 0 = size-counted (model_at bank m) s ∙ sym (get_or-map size_of bank m (fresh 2) 0 below) in
     map-set size_of bank m (counted (model_at bank m) s) ∙ (ap (set (map size_of bank) m) same ∙ set-get_or (map size_of bank) m 0)
+
+-- a model's place among the sizes
+pub size-at : (bank : List Counting) (m : ℕ) → m < length (sizes_of bank) → (m < length bank) × (size_of (model_at bank m) ≡ get_or (sizes_of bank) m 0)
+size-at bank m below =
+    let here : m < length bank = omega (arith, length-map bank size_of) in
+    (here, sym (get_or-map size_of bank m (fresh 2) 0 here))

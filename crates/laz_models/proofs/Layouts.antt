@@ -2,11 +2,12 @@ use Rattle.std.proofs.Common.{◌≡◌, ℕ, ◌+◌, ◌<◌, ◌≤◌, List,
 use Rattle.std.proofs.lemmas.Bool.{cases_lt}
 use Rattle.std.proofs.lemmas.List.{length-map, length_push, get_or-map, get_or_push, get_or_append_left, get_or_default, same_lists}
 use Rattle.std.proofs.lemmas.List.Edits.{length-between}
+use Rattle.laz_models.specs.Bank.{sizes_of}
 use Rattle.laz_models.specs.Counting.{Counting, fresh}
 use Rattle.laz_models.specs.Dist.{size_of}
 use Rattle.laz_models.specs.Place.{own, state_in, as_first, IsShaped, IsPlaced, IsBank, IsLayout}
 use Rattle.laz_models.specs.declared.place.Place.{Place}
-use Rattle.laz_models.proofs.Banks.{sound}
+use Rattle.laz_models.proofs.Banks.{size-fresh, sound}
 use Rattle.laz_models.proofs.Models.{state_of-first}
 
 -- ---- a layout grows
@@ -123,3 +124,12 @@ first-view places cells bank =
     ∙ (ap fresh (sym s.size)
     ∙ (ap (λ m. fresh (size_of m)) (sym (get_or-map (state_in cells) places k p0 d here))
     ∙ sym (get_or-map (λ m. fresh (size_of m)) (map (state_in cells) places) k d d (omega (arith, length-map places (state_in cells)))))))))
+
+-- ---- sizes
+pub sizes-fresh : (sizes : List ℕ) → sizes_of (map fresh sizes) ≡ sizes
+sizes-fresh [] = refl
+sizes-fresh (n ∷ ns) = rw (size-fresh n, sizes-fresh ns) refl
+
+pub sizes-reset : (bank : List Counting) → sizes_of (map (λ (m : Counting). fresh (size_of m)) bank) ≡ sizes_of bank
+sizes-reset [] = refl
+sizes-reset (m ∷ ms) = rw (size-fresh (size_of m), sizes-reset ms) refl

@@ -1,6 +1,7 @@
 pub mod BitParts
 pub mod BitStand
 pub mod Banks
+mod Examples
 pub mod Layouts
 pub mod Lookups
 pub mod Models

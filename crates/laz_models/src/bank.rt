@@ -40,6 +40,7 @@ impl ModelBank {
         requires few { length sizes.now ≤ 100 }
         requires range { All (λ n. (2 ≤ n) × (n ≤ 2048)) sizes.now }
         ensures fresh { IfOk result (λ bank. bank ≡ map fresh sizes.now) }
+        ensures sizes { IfOk result (λ bank. sizes_of bank ≡ sizes.now) }
         ensures stands { IfOk result (λ bank. (m : ℕ) → m < length sizes.now → StandsFor [] (model_at bank m)) }
     {
         let (places, end) = cells::places_of(alloc, sizes)?;
@@ -50,6 +51,7 @@ impl ModelBank {
     /// Makes all models as new. The cost is one write a model.
     pub fn reset(&mut self)
         ensures fresh { self.new ≡ map (λ m. fresh (size_of m)) self.old }
+        ensures sizes { sizes_of self.new ≡ sizes_of self.old }
         ensures stands { (m : ℕ) → m < length self.old → StandsFor [] (model_at self.new m) }
     {
         cells::forget_all(&mut self.places);
@@ -64,7 +66,9 @@ impl ModelBank {
         ensures end { result.1 ≡ part_end (model_at self.now m).parts s }
         ensures some { result.0 < result.1 }
         ensures whole { result.1 ≤ 32768 }
-        ensures dist { (h : List ℕ) → StandsFor h (model_at self.now m) → let parts = dist (size_of (model_at self.now m)) h in (result.0 ≡ slice_index parts s) × (result.1 ≡ part_end parts s) }
+        ensures dist { (h : List ℕ) → StandsFor h (model_at self.now m)
+            → let parts = dist (size_of (model_at self.now m)) h
+            in (result.0 ≡ slice_index parts s) × (result.1 ≡ part_end parts s) }
     {
         let place = &self.places[m as usize];
         lookup::part(&self.cells[place.start..place.end], place, s)
@@ -76,7 +80,8 @@ impl ModelBank {
         requires { m < length self.now }
         ensures last { IsLastAt (model_at self.now m).parts v result }
         ensures parts { AreParts (size_of (model_at self.now m)) (model_at self.now m).parts }
-        ensures dist { (h : List ℕ) → StandsFor h (model_at self.now m) → IsLastAt (dist (size_of (model_at self.now m)) h) v result }
+        ensures dist { (h : List ℕ) → StandsFor h (model_at self.now m)
+            → IsLastAt (dist (size_of (model_at self.now m)) h) v result }
     {
         let place = &self.places[m as usize];
         lookup::find(&self.cells[place.start..place.end], place, v)
@@ -90,8 +95,11 @@ impl ModelBank {
         requires model { m < length self.now }
         requires many { 16 < size_of (model_at self.now m) }
         requires entry { t ≤ 2 ^ table_bits (size_of (model_at self.now m)) }
-        ensures last { IsLastAt (model_at self.now m).parts (t * 2 ^ (15 - table_bits (size_of (model_at self.now m)))) result }
-        ensures dist { (h : List ℕ) → StandsFor h (model_at self.now m) → let n = size_of (model_at self.now m) in IsLastAt (dist n h) (t * 2 ^ (15 - table_bits n)) result }
+        ensures last { let n = size_of (model_at self.now m)
+            in IsLastAt (model_at self.now m).parts (t * 2 ^ (15 - table_bits n)) result }
+        ensures dist { (h : List ℕ) → StandsFor h (model_at self.now m)
+            → let n = size_of (model_at self.now m)
+            in IsLastAt (dist n h) (t * 2 ^ (15 - table_bits n)) result }
     {
         let place = &self.places[m as usize];
         lookup::entry(&self.cells[place.start..place.end], place, t)
@@ -103,7 +111,8 @@ impl ModelBank {
         requires model { m < length self.old }
         requires symbol { s < size_of (model_at self.old m) }
         ensures counted { self.new ≡ slice_set self.old m (counted (model_at self.old m) s) }
-        ensures stands { (h : List ℕ) → StandsFor h (model_at self.old m) → StandsFor (h ++ s ∷ []) (model_at self.new m) }
+        ensures stands { (h : List ℕ) → StandsFor h (model_at self.old m)
+            → StandsFor (h ++ s ∷ []) (model_at self.new m) }
         ensures others { (k : ℕ) → k ≢ m → model_at self.new k ≡ model_at self.old k }
         ensures sizes { sizes_of self.new ≡ sizes_of self.old }
     {

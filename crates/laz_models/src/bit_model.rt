@@ -1,5 +1,5 @@
 //! A model of bits.
-ghost use Rattle.std.specs.Prelude.{◌≡◌, ℕ, ◌+◌, ◌<◌, ◌≤◌, Bool, List, [], ◌∷◌, ◌++◌};
+ghost use Rattle.std.specs.Prelude.{◌≡◌, ◌+◌, ◌<◌, ◌≤◌, Bool, List, [], ◌∷◌, ◌++◌};
 ghost use Rattle.laz_models.specs.BitCounting.{BitCounting, fresh_bit, bit_counted, bit_turned, bit_limited};
 ghost use Rattle.laz_models.specs.BitDist.{p0_of, BitStandsFor};
 

@@ -2,7 +2,7 @@
 ghost use Rattle.std.specs.Prelude.{◌≡◌, ◌^◌, ◌<◌, ◌≤◌, length, map, All, IfOk};
 ghost use Rattle.laz_models.specs.Counting.{counted};
 ghost use Rattle.laz_models.specs.Lookup.{table_bits, table_length};
-ghost use Rattle.laz_models.specs.Place.{own, state_of, extent, as_first, IsShaped, IsPlaced, IsLayout, SamePlace, SameOutside};
+ghost use Rattle.laz_models.specs.Place.{state_in, as_first, IsShaped, IsPlaced, IsLayout, SamePlace, SameOutside};
 
 use crate::place::Place;
 use crate::region;
@@ -89,11 +89,12 @@ pub fn forget_all(places: &mut Vec<Place>)
 }
 
 /// Counts a symbol of the model at a place where its first cycle begins or its cycle ends.
+#[cold]
 #[inline(never)]
 fn count_at_turn(cells: &mut Vec<u32>, place: &mut Place, s: u32)
     requires placed { IsPlaced place.old cells.old.items }
     requires symbol { s < place.old.size }
-    ensures counted { state_of place.new (own place.new cells.new.items) ≡ counted (state_of place.old (own place.old cells.old.items)) s }
+    ensures counted { state_in cells.new.items place.new ≡ counted (state_in cells.old.items place.old) s }
     ensures good { IsPlaced place.new cells.new.items }
     ensures place { SamePlace place.old place.new }
     ensures others { SameOutside place.old.start place.old.end cells.old.items cells.new.items }
@@ -107,7 +108,7 @@ fn count_at_turn(cells: &mut Vec<u32>, place: &mut Place, s: u32)
 pub fn count_at(cells: &mut Vec<u32>, place: &mut Place, s: u32)
     requires placed { IsPlaced place.old cells.old.items }
     requires symbol { s < place.old.size }
-    ensures counted { state_of place.new (own place.new cells.new.items) ≡ counted (state_of place.old (own place.old cells.old.items)) s }
+    ensures counted { state_in cells.new.items place.new ≡ counted (state_in cells.old.items place.old) s }
     ensures good { IsPlaced place.new cells.new.items }
     ensures place { SamePlace place.old place.new }
     ensures others { SameOutside place.old.start place.old.end cells.old.items cells.new.items }

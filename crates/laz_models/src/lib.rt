@@ -15,3 +15,6 @@ mod symbol_model;
 pub use bank::ModelBank;
 pub use bit_model::BitModel;
 pub use symbol_model::SymbolModel;
+
+#[cfg(test)]
+mod tests;

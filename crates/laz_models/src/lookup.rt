@@ -1,8 +1,8 @@
 //! What a model answers of its distribution.
 ghost use Rattle.std.specs.Prelude.{◌≡◌, ◌+◌, ◌-◌, ◌*◌, ◌<◌, ◌≤◌, ◌^◌, length, replicate, slice_index};
 ghost use Rattle.laz_models.specs.Counting.{parts_of, part_end, AreParts};
-ghost use Rattle.laz_models.specs.Lookup.{IsLastAt, table_bits, table_length};
-ghost use Rattle.laz_models.specs.Place.{parts_in, table_in, state_of, IsShaped, IsLaid, IsModel, extent};
+ghost use Rattle.laz_models.specs.Lookup.{IsLastAt, table_bits};
+ghost use Rattle.laz_models.specs.Place.{parts_in, state_of, IsShaped, IsLaid, IsModel, extent};
 
 use crate::place::Place;
 
@@ -20,6 +20,8 @@ fn first_start(size: u32, s: u32) -> u32
 }
 
 /// The part of a symbol before any symbol was counted.
+#[cold]
+#[inline(never)]
 fn first_part(size: u32, s: u32) -> (u32, u32)
     requires many { 2 ≤ size }
     requires few { size ≤ 2048 }
@@ -34,6 +36,8 @@ fn first_part(size: u32, s: u32) -> (u32, u32)
 }
 
 /// The last symbol whose part begins at `v` or below before any symbol was counted.
+#[cold]
+#[inline(never)]
 fn first_find(size: u32, v: u32) -> u32
     requires many { 2 ≤ size }
     requires few { size ≤ 2048 }
@@ -63,6 +67,21 @@ pub fn part(cells: &[u32], place: &Place, s: u32) -> (u32, u32)
     (cells[at], cells[at + 1])
 }
 
+/// `half` where a part that begins at `start` begins at `v` or below, else 0.
+///
+/// It is a shift, by the top five bits of the difference, which are all set where it is negative. A branch would be guessed
+/// wrong as often as not.
+#[inline]
+fn step(half: u32, start: u32, v: u32) -> u32
+    requires half { half < 2 ^ 31 }
+    requires start { start < 32768 }
+    requires v { v < 32768 }
+    ensures begun { start ≤ v → result ≡ half }
+    ensures above { v < start → result ≡ 0 }
+{
+    half >> (v.wrapping_sub(start) >> 27)
+}
+
 /// The last symbol from `low` on and below `high` whose part begins at `v` or below.
 #[inline]
 fn halve_down(parts: &[u32], low: u32, high: u32, v: u32) -> u32
@@ -71,18 +90,16 @@ fn halve_down(parts: &[u32], low: u32, high: u32, v: u32) -> u32
     requires order { low < high }
     requires within { high ≤ length parts.now }
     requires start { slice_index parts.now low ≤ v }
+    requires below { v < 32768 }
     requires end { high < length parts.now → v < slice_index parts.now high }
     ensures { IsLastAt parts.now v result }
 {
     let mut low = low;
-    let mut high = high;
-    while low + 1 < high {
-        let middle = (low + high) / 2;
-        if parts[middle as usize] <= v {
-            low = middle;
-        } else {
-            high = middle;
-        }
+    let mut width = high - low;
+    while width > 1 {
+        let half = width / 2;
+        low += step(half, parts[(low + half) as usize], v);
+        width -= half;
     }
     low
 }

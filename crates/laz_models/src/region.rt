@@ -1,8 +1,8 @@
 //! The cells of one model: its counts, where its parts begin, and its look-up table.
-ghost use Rattle.std.specs.Prelude.{◌≡◌, ℕ, ◌+◌, ◌-◌, ◌*◌, ◌/◌, ◌<◌, ◌≤◌, ◌^◌, length, take, drop, sum, map, All, replicate, slice_index};
+ghost use Rattle.std.specs.Prelude.{◌≡◌, ℕ, ◌+◌, ◌-◌, ◌*◌, ◌/◌, ◌<◌, ◌≤◌, ◌^◌, length, sum, All, replicate, slice_index};
 ghost use Rattle.laz_models.specs.Counting.{halved, parts_of, AreCounts, AreParts, counted, turned, limited, fresh};
 ghost use Rattle.laz_models.specs.Lookup.{IsLastAt, table_bits};
-ghost use Rattle.laz_models.specs.Place.{counts_in, parts_in, table_in, laid_state, state_of, IsTable, IsShaped, IsLaid, IsDue, IsModel, SamePlace, extent};
+ghost use Rattle.laz_models.specs.Place.{counts_in, parts_in, laid_state, state_of, IsTable, IsShaped, IsLaid, IsDue, IsModel, SamePlace, extent};
 
 use crate::place::Place;
 

@@ -36,6 +36,7 @@ impl SymbolModel {
         requires many { 2 ≤ n }
         requires few { n ≤ 2048 }
         ensures fresh { IfOk result (λ model. model ≡ fresh n) }
+        ensures size { IfOk result (λ model. size_of model ≡ n) }
         ensures stands { IfOk result (λ model. StandsFor [] model) }
     {
         let bank = ModelBank::new(alloc, &[n])?;
@@ -45,6 +46,7 @@ impl SymbolModel {
     /// Makes the model as new.
     pub fn reset(&mut self)
         ensures fresh { self.new ≡ fresh (size_of self.old) }
+        ensures size { size_of self.new ≡ size_of self.old }
         ensures stands { StandsFor [] self.new }
     {
         self.bank.reset();
@@ -58,7 +60,9 @@ impl SymbolModel {
         ensures end { result.1 ≡ part_end self.now.parts s }
         ensures some { result.0 < result.1 }
         ensures whole { result.1 ≤ 32768 }
-        ensures dist { (h : List ℕ) → StandsFor h self.now → let parts = dist (size_of self.now) h in (result.0 ≡ slice_index parts s) × (result.1 ≡ part_end parts s) }
+        ensures dist { (h : List ℕ) → StandsFor h self.now
+            → let parts = dist (size_of self.now) h
+            in (result.0 ≡ slice_index parts s) × (result.1 ≡ part_end parts s) }
     {
         self.bank.part(0, s)
     }

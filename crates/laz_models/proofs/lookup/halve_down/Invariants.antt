@@ -1,14 +1,14 @@
-use Rattle.std.proofs.Common.{◌<◌, ◌≤◌, length, get_or, ◌-◌}
+use Rattle.std.proofs.Common.{◌+◌, ◌<◌, ◌≤◌, get_or, length}
 use Rattle.laz_models.proofs.lookup.halve_down.Given as goal
 
-abbrev pub invariant-loop-low : goal.invariant-loop-low
-invariant-loop-low l =
+abbrev pub invariant-loop-width : goal.invariant-loop-width
+invariant-loop-width l =
     record {
-      order : l.low < l.high;
-      within : l.high ≤ length l.parts;
+      some : 0 < l.width;
+      within : l.low + l.width ≤ length l.parts;
       start : get_or l.parts l.low 0 ≤ l.v;
-      end : l.high < length l.parts → l.v < get_or l.parts l.high 0;
+      end : l.low + l.width < length l.parts → l.v < get_or l.parts (l.low + l.width) 0;
     }
 
-abbrev pub decreases-loop-low : goal.decreases-loop-low
-decreases-loop-low l = l.high - l.low
+abbrev pub decreases-loop-width : goal.decreases-loop-width
+decreases-loop-width l = l.width

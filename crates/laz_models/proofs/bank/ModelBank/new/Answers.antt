@@ -3,7 +3,7 @@ use Rattle.std.proofs.lemmas.List.{get_or-map}
 use Rattle.std.proofs.lemmas.List.Elements.{All-get_or}
 use Rattle.laz_models.specs.Counting.{fresh}
 use Rattle.laz_models.proofs.Banks.{StandsFor-fresh}
-use Rattle.laz_models.proofs.Layouts.{layout-view}
+use Rattle.laz_models.proofs.Layouts.{layout-view, sizes-fresh}
 use Rattle.laz_models.proofs.bank.ModelBank.new.Goals as goal
 
 pub returns-clause-fresh : goal.returns-clause-fresh
@@ -13,3 +13,6 @@ pub returns-clause-stands : goal.returns-clause-stands
 returns-clause-stands c = λ m below.
     let range = All-get_or (λ (n : ℕ). (2 ≤ n) × (n ≤ 2048)) c.args.sizes.now m 0 below c.requires.range in
     rw (returns-clause-fresh c, get_or-map fresh c.args.sizes.now m 0 (fresh 2) below) (StandsFor-fresh (get_or c.args.sizes.now m 0) range.0)
+
+pub returns-clause-sizes : goal.returns-clause-sizes
+returns-clause-sizes c = rw (returns-clause-fresh c) (sizes-fresh c.args.sizes.now)

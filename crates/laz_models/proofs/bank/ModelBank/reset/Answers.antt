@@ -5,7 +5,7 @@ use Rattle.laz_models.specs.Bank.{model_at}
 use Rattle.laz_models.specs.Dist.{size_of}
 use Rattle.laz_models.specs.Place.{state_in}
 use Rattle.laz_models.proofs.Banks.{StandsFor-fresh, many-at}
-use Rattle.laz_models.proofs.Layouts.{first-IsBank, first-view}
+use Rattle.laz_models.proofs.Layouts.{first-IsBank, first-view, sizes-reset}
 use Rattle.laz_models.proofs.bank.ModelBank.reset.Goals as goal
 
 pub invariant_of-self : goal.invariant_of-self
@@ -21,3 +21,6 @@ pub returns-clause-stands : goal.returns-clause-stands
 returns-clause-stands c = λ m below.
     let many : 2 ≤ size_of (model_at c.args.self.now m) = many-at c.args.self.now c.self.inside.places.items c.self.inside.cells.items m c.self.view_is c.self.invariant below in
     rw (returns-clause-fresh c, get_or-map (λ (m : Counting). fresh (size_of m)) c.args.self.now m (fresh 2) (fresh 2) below) (StandsFor-fresh (size_of (model_at c.args.self.now m)) many)
+
+pub returns-clause-sizes : goal.returns-clause-sizes
+returns-clause-sizes c = rw (returns-clause-fresh c) (sizes-reset c.args.self.now)
