@@ -1,0 +1,25 @@
+use Rattle.std.proofs.Common.{◌≡◌, map, ap, ◌∙◌}
+use Rattle.laz_models.specs.Counting.{fresh}
+use Rattle.laz_integer.specs.Integer.{int_sizes}
+use Rattle.laz_integer.proofs.States.{fresh-sizes}
+use Rattle.laz_integer.proofs.Sounds.{IsIntState-fresh}
+use Rattle.laz_integer.proofs.Stood.{stands-none}
+use Rattle.laz_integer.proofs.int_model.IntModel.reset.Goals as goal
+
+pub invariant_of-self : goal.invariant_of-self
+invariant_of-self c =
+    let is = c.self.invariant in
+    let bank : c.reset.new.self ≡ map fresh (int_sizes c.self.inside.models.bits c.self.inside.models.contexts) =
+    c.reset.ensures.fresh ∙ (fresh-sizes c.self.inside.models.bank ∙ ap (map fresh) is.sizes) in
+    IsIntState-fresh _ is.some is.few is.contexts c.reset-2.ensures.fresh bank
+
+pub returns-clause-bank : goal.returns-clause-bank
+returns-clause-bank c =
+    rw (← c.self.view_is) (c.reset.ensures.fresh ∙ (fresh-sizes c.self.inside.models.bank ∙ ap (map fresh) c.self.invariant.sizes))
+
+pub returns-clause-stands : goal.returns-clause-stands
+returns-clause-stands c kind =
+    let is = c.self.invariant in
+    let bank : c.reset.new.self ≡ map fresh (int_sizes c.self.inside.models.bits c.self.inside.models.contexts) =
+    c.reset.ensures.fresh ∙ (fresh-sizes c.self.inside.models.bank ∙ ap (map fresh) is.sizes) in
+    stands-none kind _ (IsIntState-fresh _ is.some is.few is.contexts c.reset-2.ensures.fresh bank) c.reset-2.ensures.fresh bank

@@ -1,0 +1,32 @@
+use Rattle.std.proofs.Common.{◌<◌, length, arith}
+use Rattle.std.proofs.lemmas.Result.{err_from_is_err_and}
+use Rattle.laz_models.specs.Bank.{model_at}
+use Rattle.laz_integer.proofs.SymbolParts.{symbol-takes, symbol-none, symbol-read, symbol-nothing}
+use Rattle.laz_integer.proofs.symbols.take_symbol_of.Goals as goal
+
+pub returns-in_err-take15-clause-reads : goal.returns-in_err-take15-clause-reads
+returns-in_err-take15-clause-reads c =
+    let p = err_from_is_err_and c.from_residual.result c.from_residual.ensures.1 in
+    let m = model_at c.args.bank.now c.args.m in
+    let bad = rw (c.part-lo.ensures.start, c.part-lo.ensures.end) at c.in_err-take15.ensures.reads in
+    let within : c.find-s.result < length m.counts = omega (arith, c.find-s.ensures.last.symbol, c.find-s.ensures.parts.length) in
+    rw p.1 (symbol-none _ m.parts c.args.decoder.now c.take15.new.self c.find-s.result c.find-s.ensures.parts within bad)
+
+pub returns-in_err-take15-clause-none : goal.returns-in_err-take15-clause-none
+returns-in_err-take15-clause-none c h stands =
+    let p = err_from_is_err_and c.from_residual.result c.from_residual.ensures.1 in
+    let m = model_at c.args.bank.now c.args.m in
+    let bad = rw (c.part-lo.ensures.start, c.part-lo.ensures.end) at c.in_err-take15.ensures.reads in
+    let within : c.find-s.result < length m.counts = omega (arith, c.find-s.ensures.last.symbol, c.find-s.ensures.parts.length) in
+    rw p.1 (symbol-nothing m c.args.decoder.now c.take15.new.self h c.find-s.ensures.parts stands (symbol-none _ m.parts c.args.decoder.now c.take15.new.self c.find-s.result c.find-s.ensures.parts within bad))
+
+pub returns-clause-reads : goal.returns-clause-reads
+returns-clause-reads c =
+    let m = model_at c.args.bank.now c.args.m in
+    let good = rw (c.part-lo.ensures.start, c.part-lo.ensures.end) at c.in_ok-take15.ensures.reads in
+    let within : c.find-s.result < length m.counts = omega (arith, c.find-s.ensures.last.symbol, c.find-s.ensures.parts.length) in
+    symbol-takes _ m.parts c.args.decoder.now c.take15.new.self c.find-s.result c.find-s.ensures.parts within good
+
+pub returns-clause-read : goal.returns-clause-read
+returns-clause-read c h stands =
+    symbol-read (model_at c.args.bank.now c.args.m) c.args.decoder.now c.take15.new.self c.find-s.result h c.find-s.ensures.parts stands (returns-clause-reads c)

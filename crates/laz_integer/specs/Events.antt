@@ -1,0 +1,75 @@
+use Rattle.std.specs.Prelude.{ℕ, ◌+◌, ◌-◌, ◌/◌, ◌%◌, ◌==◌, ◌&&◌, Bool, true, false, if◌then◌else◌, nat_lt, List, [], ◌∷◌, ◌++◌}
+use Rattle.laz_range.specs.Cut.{Cut, Bit, Raw, symbol}
+use Rattle.laz_models.specs.Dist.{dist}
+use Rattle.laz_models.specs.BitDist.{p0_of}
+
+-- What a model is for, within a use: an event of the use itself, or of an integer (LASzip's integer compressor) how wide its corrector is, the corrector where it is 0 or 1, or its high digits.
+pub data Role : Type 0 where
+  Own : Role
+  Width : Role
+  ZeroOrOne : Role
+  High : Role
+
+-- The name of a model: the use, as the text "dx", the role, and which model of that role it is, as the context.
+pub record Name : Type 0 where
+  pub kind : List ℕ
+  pub role : Role
+  pub which : ℕ
+
+-- An event of a stream of LASzip.
+pub data Event : Type 0 where
+  -- a symbol, under the name of a model of n symbols
+  Symbol : Name → ℕ → ℕ → Event
+  -- a bit, under the name of a model of bits
+  Flag : Name → Bool → Event
+  -- a raw value v of b bits, b from 1 to 19
+  Bits : ℕ → ℕ → Event
+
+abbrev pub same_role : Role → Role → Bool
+same_role Own Own = true
+same_role Width Width = true
+same_role ZeroOrOne ZeroOrOne = true
+same_role High High = true
+same_role a b = false
+
+abbrev pub same_text : List ℕ → List ℕ → Bool
+same_text [] [] = true
+same_text (x ∷ xs) (y ∷ ys) = (x == y) && same_text xs ys
+same_text xs ys = false
+
+-- Whether two names are one.
+abbrev pub same_name : Name → Name → Bool
+same_name a b = same_role a.role b.role && ((a.which == b.which) && same_text a.kind b.kind)
+
+-- The symbols that events have under a name, in order.
+abbrev pub symbols_under : Name → List Event → List ℕ
+symbols_under name [] = []
+symbols_under name (Symbol other n s ∷ events) = if same_name name other then s ∷ symbols_under name events else symbols_under name events
+symbols_under name (Flag other bit ∷ events) = symbols_under name events
+symbols_under name (Bits b v ∷ events) = symbols_under name events
+
+-- The bits that events have under a name, in order.
+abbrev pub bits_under : Name → List Event → List Bool
+bits_under name [] = []
+bits_under name (Symbol other n s ∷ events) = bits_under name events
+bits_under name (Flag other bit ∷ events) = if same_name name other then bit ∷ bits_under name events else bits_under name events
+bits_under name (Bits b v ∷ events) = bits_under name events
+
+-- The part that an event cuts out, behind earlier events: by the distribution of the earlier symbols, or bits, under its own name.
+abbrev pub cut_behind : List Event → Event → Cut
+cut_behind earlier (Symbol name n s) = symbol (dist n (symbols_under name earlier)) s
+cut_behind earlier (Flag name bit) = Bit (p0_of (bits_under name earlier)) bit
+cut_behind earlier (Bits b v) = Raw b v
+
+-- The parts of a list of events, behind earlier ones.
+abbrev pub cuts_behind : List Event → List Event → List Cut
+cuts_behind earlier [] = []
+cuts_behind earlier (e ∷ events) = cut_behind earlier e ∷ cuts_behind (earlier ++ e ∷ []) events
+
+-- The parts of the events of a stream.
+abbrev pub cuts_of : List Event → List Cut
+cuts_of events = cuts_behind [] events
+
+-- A raw value of more than 19 bits is two events: its low 16 bits, and the rest.
+abbrev pub raw_events : ℕ → ℕ → List Event
+raw_events b v = if nat_lt 19 b then Bits 16 (v % 65536) ∷ Bits (b - 16) (v / 65536) ∷ [] else Bits b v ∷ []

@@ -1,0 +1,148 @@
+use Rattle.std.specs.Prelude.{◌≡◌, ℕ, ℤ, ◌+◌, ◌-◌, ◌/◌, ◌%◌, ◌^◌, ◌<◌, ◌≤◌, ◌==◌, min, List, [], ◌∷◌, ◌++◌, length, map, replicate, nat_le, if◌then◌else◌, slice_set}
+use Rattle.std.specs.List.{range_with_len}
+use Rattle.laz_range.specs.Cut.{Cut, Bit, raw_cuts, symbol}
+use Rattle.laz_range.specs.Span.{Begins, span}
+use Rattle.laz_range.specs.Decoding.{Decoding, HasRead, ReadsOn}
+use Rattle.laz_models.specs.Counting.{Counting, counted}
+use Rattle.laz_models.specs.BitCounting.{BitCounting, IsBitCounting, bit_counted}
+use Rattle.laz_models.specs.Dist.{StandsFor, size_of}
+use Rattle.laz_models.specs.BitDist.{BitStandsFor}
+use Rattle.laz_models.specs.Bank.{model_at, sizes_of}
+use Rattle.laz_integer.specs.Events.{Event, Symbol, Flag, Name, Width, ZeroOrOne, High, cuts_behind, raw_events, symbols_under, bits_under}
+use Rattle.laz_integer.specs.Sound.{AreSound}
+use Rattle.laz_integer.specs.Corrector.{choices, corrected, difference, width_of, place_of}
+
+-- The models of an integer: of the width, one for each context; of a corrector of 0 or 1; of the high digits, one for each width from 1 on.
+abbrev pub width_name : List ℕ → ℕ → Name
+width_name kind ctx = record { kind = kind; role = Width; which = ctx }
+
+abbrev pub bit_name : List ℕ → Name
+bit_name kind = record { kind = kind; role = ZeroOrOne; which = 0 }
+
+abbrev pub high_name : List ℕ → ℕ → Name
+high_name kind k = record { kind = kind; role = High; which = k }
+
+-- The events of corrector v of width k behind its width: a bit; nothing; a symbol; or a symbol of its high 8 digits and the rest raw.
+unfoldable pub rest_events : List ℕ → ℕ → ℕ → List Event
+rest_events kind k v =
+    if k == 0 then Flag (bit_name kind) (v == 1) ∷ []
+    else if k == 32 then []
+    else if nat_le k 8 then Symbol (high_name kind k) (2 ^ k) v ∷ []
+    else Symbol (high_name kind k) 256 (v / 2 ^ (k - 8)) ∷ raw_events (k - 8) (v % 2 ^ (k - 8))
+
+-- The events of a corrector: its width, under the context, and then which one of that width it is.
+abbrev pub corrector_events : List ℕ → ℕ → ℕ → ℕ → ℕ → List Event
+corrector_events kind bits ctx k v = Symbol (width_name kind ctx) (bits + 1) k ∷ rest_events kind k v
+
+-- Events that spell an integer `value` with its prediction: those of some corrector of width k that makes it. A reader takes any of them.
+pub record IntSpell (kind : List ℕ) (bits ctx : ℕ) (pred : ℤ) (events : List Event) (value : ℤ) (k : ℕ) : Type 0 where
+  pub v : ℕ
+  pub width : k ≤ bits
+  pub within : v < choices k
+  pub is : events ≡ corrector_events kind bits ctx k v
+  pub makes : value ≡ corrected bits pred k v
+
+-- How wide the corrector is that a writer takes.
+abbrev pub int_width : ℕ → ℤ → ℤ → ℕ
+int_width bits pred real = width_of bits (difference bits pred real)
+
+-- The events that a writer makes of an integer: those of the folded difference.
+abbrev pub IntEvents : List ℕ → ℕ → ℕ → ℤ → ℤ → List Event
+IntEvents kind bits ctx pred real =
+    let k = int_width bits pred real in corrector_events kind bits ctx k (place_of bits (difference bits pred real) k)
+
+-- ---- what the code keeps
+
+-- The models of an integer of so many bits and contexts. The bank has those of the width, and then those of the high digits.
+pub record IntState : Type 0 where
+  pub bits : ℕ
+  pub contexts : ℕ
+  pub zero_or_one : BitCounting
+  pub bank : List Counting
+
+-- How many symbols each model of the bank has.
+abbrev pub int_sizes : ℕ → ℕ → List ℕ
+int_sizes bits contexts = replicate contexts (bits + 1) ++ map (λ k. 2 ^ min k 8) (range_with_len 1 bits)
+
+-- What holds of the models between any two calls.
+pub record IsIntState (st : IntState) : Type 0 where
+  pub some : 1 ≤ st.bits
+  pub few : st.bits ≤ 32
+  pub contexts : st.contexts ≤ 32
+  pub sizes : sizes_of st.bank ≡ int_sizes st.bits st.contexts
+  pub sound : AreSound st.bank
+  pub bit : IsBitCounting st.zero_or_one
+
+-- Models of the same integers.
+pub record SameShape (old new : IntState) : Type 0 where
+  pub bits : new.bits ≡ old.bits
+  pub contexts : new.contexts ≡ old.contexts
+  pub sizes : sizes_of new.bank ≡ sizes_of old.bank
+
+-- The models stand for events: each for the symbols, or bits, under its name.
+pub record IntStands (kind : List ℕ) (events : List Event) (st : IntState) : Type 0 where
+  pub widths : (ctx : ℕ) → ctx < st.contexts → StandsFor (symbols_under (width_name kind ctx) events) (model_at st.bank ctx)
+  pub bits : BitStandsFor (bits_under (bit_name kind) events) st.zero_or_one
+  pub highs : (j : ℕ) → j < st.bits → StandsFor (symbols_under (high_name kind (j + 1)) events) (model_at st.bank (st.contexts + j))
+
+-- The event of a symbol under a model.
+abbrev pub symbol_cut : Counting → ℕ → Cut
+symbol_cut m s = symbol m.parts s
+
+-- The model of the high digits of width k.
+abbrev pub high_at : IntState → ℕ → Counting
+high_at st k = model_at st.bank (st.contexts + (k - 1))
+
+abbrev pub wide_cuts : IntState → ℕ → ℕ → List Cut
+wide_cuts st k v = symbol_cut (high_at st k) (v / 2 ^ (k - 8)) ∷ raw_cuts (k - 8) (v % 2 ^ (k - 8))
+
+-- The parts of a corrector's events behind its width.
+unfoldable pub rest_cuts : IntState → ℕ → ℕ → List Cut
+rest_cuts st k v =
+    if k == 0 then Bit st.zero_or_one.p0 (v == 1) ∷ []
+    else if k == 32 then []
+    else if nat_le k 8 then symbol_cut (high_at st k) v ∷ []
+    else wide_cuts st k v
+
+abbrev pub width_counted : IntState → ℕ → ℕ → IntState
+width_counted st ctx k = record { bits = st.bits; contexts = st.contexts; zero_or_one = st.zero_or_one; bank = slice_set st.bank ctx (counted (model_at st.bank ctx) k) }
+
+abbrev pub bit_taken : IntState → ℕ → IntState
+bit_taken st v = record { bits = st.bits; contexts = st.contexts; zero_or_one = bit_counted st.zero_or_one (v == 1); bank = st.bank }
+
+abbrev pub high_counted : IntState → ℕ → ℕ → IntState
+high_counted st k s = record { bits = st.bits; contexts = st.contexts; zero_or_one = st.zero_or_one; bank = slice_set st.bank (st.contexts + (k - 1)) (counted (high_at st k) s) }
+
+-- The models behind them.
+unfoldable pub rest_next : IntState → ℕ → ℕ → IntState
+rest_next st k v =
+    if k == 0 then bit_taken st v
+    else if k == 32 then st
+    else if nat_le k 8 then high_counted st k v
+    else high_counted st k (v / 2 ^ (k - 8))
+
+-- The parts of a corrector's events, each under the models as the events before it left them.
+abbrev pub int_cuts : IntState → ℕ → ℕ → ℕ → List Cut
+int_cuts st ctx k v = symbol_cut (model_at st.bank ctx) k ∷ rest_cuts (width_counted st ctx k) k v
+
+abbrev pub int_next : IntState → ℕ → ℕ → ℕ → IntState
+int_next st ctx k v = rest_next (width_counted st ctx k) k v
+
+-- Which correctors there are of an integer of so many bits, as width and place.
+abbrev pub IsCorrector : ℕ → ℕ × ℕ → Type 0
+IsCorrector bits x = (x.0 ≤ bits) × (x.1 < choices x.0)
+
+-- ---- what a reader answers
+
+-- The reader has read the one spelling, with this prediction, that begins the bytes behind what was read.
+pub record ReadsInt (kind : List ℕ) (earlier : List Event) (bits ctx : ℕ) (pred : ℤ) (value : ℤ) (k : ℕ) (old new : Decoding) (st : IntState) : Type 0 where
+  pub events : List Event
+  pub spells : IntSpell kind bits ctx pred events value k
+  pub reads : ReadsOn (cuts_behind earlier events) old new
+  pub stands : IntStands kind (earlier ++ events) st
+  pub only : (read : List Cut) → HasRead read old → (others : List Event) (other : ℤ) (j : ℕ) → IntSpell kind bits ctx pred others other j → Begins (span (read ++ cuts_behind earlier others)) old.bytes → others ≡ events
+
+-- No spelling with this prediction, put behind what was read, begins the bytes.
+abbrev pub NoInt : List ℕ → List Event → ℕ → ℕ → ℤ → Decoding → Type 0
+NoInt kind earlier bits ctx pred old =
+    (read : List Cut) → HasRead read old → (events : List Event) (value : ℤ) (k : ℕ) → IntSpell kind bits ctx pred events value k → Begins (span (read ++ cuts_behind earlier events)) old.bytes → ⊥

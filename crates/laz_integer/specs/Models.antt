@@ -1,0 +1,6 @@
+use Rattle.laz_integer.specs.Integer.{IntState}
+use Rattle.laz_integer.specs.declared.models.Models.{Models}
+
+-- What the models of an integer know.
+abbrev pub state_of : Models → IntState
+state_of m = record { bits = m.bits; contexts = m.contexts; zero_or_one = m.zero_or_one; bank = m.bank }

@@ -1,0 +1,106 @@
+//! Integers, as correctors of their predictions.
+ghost use Rattle.std.specs.Prelude.{◌≡◌, ◌+◌, ◌<◌, ◌≤◌, ◌^◌, ◌++◌, ℕ, ℤ, List, [], false, map, IfOk, OnErr, MatchResult};
+ghost use Rattle.laz_range.specs.Coding.{Codes};
+ghost use Rattle.laz_range.specs.Decoding.{Takes, TakesNone};
+ghost use Rattle.laz_models.specs.BitCounting.{fresh_bit};
+ghost use Rattle.laz_models.specs.Counting.{fresh};
+ghost use Rattle.laz_integer.specs.Corrector.{HasBits, corrected, difference, place_of};
+ghost use Rattle.laz_integer.specs.Events.{Event, cuts_behind};
+ghost use Rattle.laz_integer.specs.Integer.{IntEvents, IntSpell, IntStands, IsCorrector, NoInt, ReadsInt, int_cuts, int_next, int_sizes, int_width};
+
+use crate::corrector::{between, correct, split};
+use crate::models::{Models, new_models, put, take};
+use laz_models::BitModel;
+use laz_range::{Bad, Decoder, Encoder};
+use std::alloc::{AllocError, Global};
+use std::marker::Model;
+
+/// Codes and reads integers of so many bits, each with a prediction and under a context.
+///
+/// It stands for the events that it coded or read since it was made or reset: each of its models for those under its
+/// name. Only `new` takes memory.
+#[derive(Drop)]
+pub struct IntModel {
+    models: Models,
+}
+
+impl Model for IntModel {
+    ghost use Rattle.laz_integer.specs.Integer.{IntState, IsIntState};
+
+    ghost Value = { IntState };
+
+    ghost use Rattle.laz_integer.specs.Models.{state_of};
+
+    ghost view = { λ m. state_of m.models };
+
+    ghost invariant = { λ m. IsIntState (state_of m.models) };
+}
+
+impl IntModel {
+    /// Models of integers of 1 to 32 bits, under 1 to 32 contexts.
+    pub fn new(alloc: Global, bits: u32, contexts: u32) -> Result<Self, AllocError>
+        requires some { 1 ≤ bits }
+        requires few { bits ≤ 32 }
+        requires context { 1 ≤ contexts }
+        requires contexts { contexts ≤ 32 }
+        ensures bits { IfOk result (λ m. m.bits ≡ bits) }
+        ensures contexts { IfOk result (λ m. m.contexts ≡ contexts) }
+        ensures bit { IfOk result (λ m. m.zero_or_one ≡ fresh_bit) }
+        ensures bank { IfOk result (λ m. m.bank ≡ map fresh (int_sizes bits contexts)) }
+        ensures stands { IfOk result (λ m. (kind : List ℕ) → IntStands kind [] m) }
+    {
+        let models = new_models(alloc, bits, contexts)?;
+        Ok(IntModel { models })
+    }
+
+    /// Makes all models as new.
+    pub fn reset(&mut self)
+        ensures bits { self.new.bits ≡ self.old.bits }
+        ensures contexts { self.new.contexts ≡ self.old.contexts }
+        ensures bit { self.new.zero_or_one ≡ fresh_bit }
+        ensures bank { self.new.bank ≡ map fresh (int_sizes self.old.bits self.old.contexts) }
+        ensures stands { (kind : List ℕ) → IntStands kind [] self.new }
+    {
+        self.models.bank.reset();
+        self.models.zero_or_one.reset();
+    }
+
+    /// Codes `real` with the prediction `pred`, and answers the width k of its corrector. Below 32 bits both are from 0 to
+    /// 2^bits - 1.
+    pub fn code(&mut self, encoder: &mut Encoder, pred: i32, real: i32, ctx: u32) -> u32
+        requires context { ctx < self.old.contexts }
+        requires pred { HasBits self.old.bits pred }
+        requires real { HasBits self.old.bits real }
+        requires left { 12 ≤ encoder.old.left }
+        ensures width { result ≡ int_width self.old.bits pred real }
+        ensures codes { let d = difference self.old.bits pred real in Codes encoder.old encoder.new (int_cuts self.old ctx result (place_of self.old.bits d result)) }
+        ensures next { let d = difference self.old.bits pred real in self.new ≡ int_next self.old ctx result (place_of self.old.bits d result) }
+        ensures events { (kind : List ℕ) (earlier : List Event) → IntStands kind earlier self.old → Codes encoder.old encoder.new (cuts_behind earlier (IntEvents kind self.old.bits ctx pred real)) }
+        ensures stands { (kind : List ℕ) (earlier : List Event) → IntStands kind earlier self.old → IntStands kind (earlier ++ IntEvents kind self.old.bits ctx pred real) self.new }
+        ensures spells { (kind : List ℕ) → IntSpell kind self.old.bits ctx pred (IntEvents kind self.old.bits ctx pred real) real result }
+        ensures shape { (self.new.bits ≡ self.old.bits) × (self.new.contexts ≡ self.old.contexts) }
+    {
+        let bits = self.models.bits;
+        let (k, v) = split(bits, between(bits, pred, real));
+        put(&mut self.models, encoder, ctx, k, v);
+        k
+    }
+
+    /// Reads an integer with the prediction `pred`, and the width k of its corrector. Below 32 bits the prediction is from 0
+    /// to 2^bits - 1, and so is the integer. Bad says that no spelling with this prediction and context begins what is left
+    /// of the bytes; the models are then good for nothing but a reset.
+    pub fn read(&mut self, decoder: &mut Decoder<'_>, pred: i32, ctx: u32) -> Result<(i32, u32), Bad>
+        requires good { decoder.old.failed ≡ false }
+        requires context { ctx < self.old.contexts }
+        requires pred { HasBits self.old.bits pred }
+        ensures reads { MatchResult result (λ x. (v : ℕ) × Takes (IsCorrector self.old.bits) (λ y. int_cuts self.old ctx y.0 y.1) decoder.old decoder.new (x.1, v) × (x.0 ≡ corrected self.old.bits pred x.1 v) × (self.new ≡ int_next self.old ctx x.1 v)) (λ _. TakesNone (IsCorrector self.old.bits) (λ y. int_cuts self.old ctx y.0 y.1) decoder.old decoder.new) }
+        ensures spelled { (kind : List ℕ) (earlier : List Event) → IntStands kind earlier self.old → IfOk result (λ x. ReadsInt kind earlier self.old.bits ctx pred x.0 x.1 decoder.old decoder.new self.new) }
+        ensures none { (kind : List ℕ) (earlier : List Event) → IntStands kind earlier self.old → OnErr result (NoInt kind earlier self.old.bits ctx pred decoder.old) }
+        ensures bits { IfOk result (λ x. HasBits self.old.bits x.0) }
+        ensures shape { (self.new.bits ≡ self.old.bits) × (self.new.contexts ≡ self.old.contexts) }
+    {
+        let bits = self.models.bits;
+        let (k, v) = take(&mut self.models, decoder, ctx)?;
+        Ok((correct(bits, pred, k, v), k))
+    }
+}

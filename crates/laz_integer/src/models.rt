@@ -1,0 +1,207 @@
+//! The models of an integer.
+ghost use Rattle.std.specs.Prelude.{◌≡◌, ◌+◌, ◌-◌, ◌/◌, ◌^◌, ◌<◌, ◌≤◌, min, [], ◌∷◌, false, length, map, IfOk, OnErr};
+ghost use Rattle.laz_range.specs.Coding.{Codes};
+ghost use Rattle.laz_range.specs.Decoding.{Reads};
+ghost use Rattle.laz_models.specs.Bank.{model_at};
+ghost use Rattle.laz_models.specs.BitCounting.{fresh_bit};
+ghost use Rattle.laz_models.specs.Counting.{fresh};
+ghost use Rattle.laz_models.specs.Dist.{size_of};
+ghost use Rattle.laz_integer.specs.Corrector.{choices};
+ghost use Rattle.laz_integer.specs.Integer.{IsIntState, SameShape, IsCorrector, symbol_cut, high_at, wide_cuts, rest_cuts, rest_next, int_cuts, int_next, width_counted, high_counted, int_sizes};
+ghost use Rattle.laz_integer.specs.Models.{state_of};
+
+use crate::symbols::{put_bit, put_symbol_of, take_bit, take_symbol_of};
+use laz_models::{BitModel, ModelBank};
+use laz_range::{Bad, Decoder, Encoder};
+use std::alloc::{AllocError, Global};
+
+/// The bank has a model of the width for each context, and then one of the high digits for each width from 1 on.
+#[derive(Drop)]
+pub struct Models {
+    pub bits: u32,
+    pub contexts: u32,
+    pub zero_or_one: BitModel,
+    pub bank: ModelBank,
+}
+
+/// How many symbols each model of the bank has.
+fn sizes(alloc: Global, bits: u32, contexts: u32) -> Result<Vec<u32>, AllocError>
+    requires some { 1 ≤ bits }
+    requires few { bits ≤ 32 }
+    requires context { 1 ≤ contexts }
+    requires contexts { contexts ≤ 32 }
+    ensures { IfOk result (λ sizes. sizes.items ≡ int_sizes bits contexts) }
+{
+    let mut sizes = vec![in alloc; bits + 1; contexts as usize]?;
+    for k in 1..bits + 1 {
+        sizes.push(1 << k.min(8))?;
+    }
+    Ok(sizes)
+}
+
+/// Models of integers of so many bits, as new.
+pub fn new_models(alloc: Global, bits: u32, contexts: u32) -> Result<Models, AllocError>
+    requires some { 1 ≤ bits }
+    requires few { bits ≤ 32 }
+    requires context { 1 ≤ contexts }
+    requires contexts { contexts ≤ 32 }
+    ensures state { IfOk result (λ models. state_of models ≡ record { bits = bits; contexts = contexts; zero_or_one = fresh_bit; bank = map fresh (int_sizes bits contexts) }) }
+{
+    let bank = ModelBank::new(alloc, &sizes(alloc, bits, contexts)?)?;
+    Ok(Models {
+        bits,
+        contexts,
+        zero_or_one: BitModel::new(),
+        bank,
+    })
+}
+
+/// Takes the width of a corrector.
+#[inline]
+fn take_width(models: &mut Models, decoder: &mut Decoder<'_>, ctx: u32) -> Result<u32, Bad>
+    requires good { decoder.old.failed ≡ false }
+    requires state { IsIntState (state_of models.old) }
+    requires context { ctx < models.old.contexts }
+    ensures reads { Reads result (λ k. k ≤ models.old.bits) (λ k. symbol_cut (model_at models.old.bank ctx) k ∷ []) decoder.old decoder.new }
+    ensures next { IfOk result (λ k. state_of models.new ≡ width_counted (state_of models.old) ctx k) }
+    ensures kept { OnErr result (state_of models.new ≡ state_of models.old) }
+    ensures shape { SameShape (state_of models.old) (state_of models.new) }
+    ensures state { IsIntState (state_of models.new) }
+{
+    take_symbol_of(decoder, &mut models.bank, ctx)
+}
+
+/// Takes the high digits of a corrector of width `k`.
+#[inline]
+fn take_high(models: &mut Models, decoder: &mut Decoder<'_>, k: u32) -> Result<u32, Bad>
+    requires good { decoder.old.failed ≡ false }
+    requires state { IsIntState (state_of models.old) }
+    requires some { 0 < k }
+    requires range { k ≤ models.old.bits }
+    ensures reads { Reads result (λ s. s < 2 ^ min k 8) (λ s. symbol_cut (high_at (state_of models.old) k) s ∷ []) decoder.old decoder.new }
+    ensures next { IfOk result (λ s. state_of models.new ≡ high_counted (state_of models.old) k s) }
+    ensures kept { OnErr result (state_of models.new ≡ state_of models.old) }
+    ensures shape { SameShape (state_of models.old) (state_of models.new) }
+    ensures state { IsIntState (state_of models.new) }
+{
+    take_symbol_of(decoder, &mut models.bank, models.contexts + (k - 1))
+}
+
+/// Takes a corrector of a width above 8.
+#[inline]
+fn take_wide(models: &mut Models, decoder: &mut Decoder<'_>, k: u32) -> Result<u32, Bad>
+    requires good { decoder.old.failed ≡ false }
+    requires state { IsIntState (state_of models.old) }
+    requires wide { 8 < k }
+    requires small { k < 32 }
+    requires range { k ≤ models.old.bits }
+    ensures reads { Reads result (λ v. v < 2 ^ k) (wide_cuts (state_of models.old) k) decoder.old decoder.new }
+    ensures next { IfOk result (λ v. state_of models.new ≡ high_counted (state_of models.old) k (v / 2 ^ (k - 8))) }
+    ensures shape { SameShape (state_of models.old) (state_of models.new) }
+    ensures state { IsIntState (state_of models.new) }
+{
+    let high = take_high(models, decoder, k)?;
+    let low = decoder.take_raw(k - 8)?;
+    Ok((high << (k - 8)) + low)
+}
+
+/// Takes a corrector of width `k`.
+#[inline]
+fn take_rest(models: &mut Models, decoder: &mut Decoder<'_>, k: u32) -> Result<u32, Bad>
+    requires good { decoder.old.failed ≡ false }
+    requires within { decoder.old.taken ≤ length decoder.old.bytes }
+    requires state { IsIntState (state_of models.old) }
+    requires range { k ≤ models.old.bits }
+    ensures reads { Reads result (λ v. v < choices k) (rest_cuts (state_of models.old) k) decoder.old decoder.new }
+    ensures next { IfOk result (λ v. state_of models.new ≡ rest_next (state_of models.old) k v) }
+    ensures shape { SameShape (state_of models.old) (state_of models.new) }
+    ensures state { IsIntState (state_of models.new) }
+{
+    if k == 0 {
+        let bit = take_bit(decoder, &mut models.zero_or_one)?;
+        return Ok(bit as u32);
+    }
+    if k == 32 {
+        return Ok(0);
+    }
+    if k <= 8 {
+        return take_high(models, decoder, k);
+    }
+    take_wide(models, decoder, k)
+}
+
+/// Takes a corrector: its width, and which one of that width it is.
+#[inline]
+pub fn take(models: &mut Models, decoder: &mut Decoder<'_>, ctx: u32) -> Result<(u32, u32), Bad>
+    requires good { decoder.old.failed ≡ false }
+    requires state { IsIntState (state_of models.old) }
+    requires context { ctx < models.old.contexts }
+    ensures reads { Reads result (λ x. IsCorrector models.old.bits (x.0, x.1)) (λ x. int_cuts (state_of models.old) ctx x.0 x.1) decoder.old decoder.new }
+    ensures next { IfOk result (λ x. state_of models.new ≡ int_next (state_of models.old) ctx x.0 x.1) }
+    ensures shape { SameShape (state_of models.old) (state_of models.new) }
+    ensures state { IsIntState (state_of models.new) }
+{
+    let k = take_width(models, decoder, ctx)?;
+    let v = take_rest(models, decoder, k)?;
+    Ok((k, v))
+}
+
+/// Codes the high digits of a corrector of width `k`.
+#[inline]
+fn put_high(models: &mut Models, encoder: &mut Encoder, k: u32, s: u32)
+    requires state { IsIntState (state_of models.old) }
+    requires some { 0 < k }
+    requires range { k ≤ models.old.bits }
+    requires symbol { s < 2 ^ min k 8 }
+    requires left { 3 ≤ encoder.old.left }
+    ensures codes { Codes encoder.old encoder.new (symbol_cut (high_at (state_of models.old) k) s ∷ []) }
+    ensures next { state_of models.new ≡ high_counted (state_of models.old) k s }
+    ensures shape { SameShape (state_of models.old) (state_of models.new) }
+    ensures state { IsIntState (state_of models.new) }
+{
+    put_symbol_of(encoder, &mut models.bank, models.contexts + (k - 1), s);
+}
+
+/// Codes corrector `v` of width `k`.
+#[inline]
+fn put_rest(models: &mut Models, encoder: &mut Encoder, k: u32, v: u32)
+    requires state { IsIntState (state_of models.old) }
+    requires range { k ≤ models.old.bits }
+    requires value { v < choices k }
+    requires left { 7 ≤ encoder.old.left }
+    ensures codes { Codes encoder.old encoder.new (rest_cuts (state_of models.old) k v) }
+    ensures next { state_of models.new ≡ rest_next (state_of models.old) k v }
+    ensures shape { SameShape (state_of models.old) (state_of models.new) }
+    ensures state { IsIntState (state_of models.new) }
+{
+    if k == 0 {
+        put_bit(encoder, &mut models.zero_or_one, v == 1);
+        return;
+    }
+    if k == 32 {
+        return;
+    }
+    if k <= 8 {
+        put_high(models, encoder, k, v);
+        return;
+    }
+    put_high(models, encoder, k, v >> (k - 8));
+    encoder.raw(k - 8, v & ((1 << (k - 8)) - 1));
+}
+
+/// Codes a corrector: its width `k`, and which one of that width it is.
+#[inline]
+pub fn put(models: &mut Models, encoder: &mut Encoder, ctx: u32, k: u32, v: u32)
+    requires state { IsIntState (state_of models.old) }
+    requires context { ctx < models.old.contexts }
+    requires range { k ≤ models.old.bits }
+    requires value { v < choices k }
+    requires left { 10 ≤ encoder.old.left }
+    ensures codes { Codes encoder.old encoder.new (int_cuts (state_of models.old) ctx k v) }
+    ensures next { state_of models.new ≡ int_next (state_of models.old) ctx k v }
+    ensures shape { SameShape (state_of models.old) (state_of models.new) }
+    ensures state { IsIntState (state_of models.new) }
+{
+    put_symbol_of(encoder, &mut models.bank, ctx, k);
+    put_rest(models, encoder, k, v);
+}

@@ -1,0 +1,122 @@
+//! Symbols and bits under models.
+ghost use Rattle.std.specs.Prelude.{◌≡◌, ◌≢◌, ◌<◌, ◌≤◌, ◌↔◌, ℕ, Bool, List, [], ◌∷◌, ◌++◌, ⊤, false, length, slice_set, IfOk, OnErr, IsErr};
+ghost use Rattle.laz_range.specs.Cut.{Bit, symbol};
+ghost use Rattle.laz_range.specs.Coding.{Codes};
+ghost use Rattle.laz_range.specs.Decoding.{Reads, ReadsOn, NoneBegins, RunsOut, bit_of, place_of};
+ghost use Rattle.laz_models.specs.Bank.{model_at, sizes_of};
+ghost use Rattle.laz_models.specs.BitCounting.{bit_counted};
+ghost use Rattle.laz_models.specs.BitDist.{BitStandsFor, p0_of};
+ghost use Rattle.laz_models.specs.Counting.{counted};
+ghost use Rattle.laz_models.specs.Dist.{StandsFor, dist, size_of};
+ghost use Rattle.laz_models.specs.Lookup.{IsLastAt};
+ghost use Rattle.laz_integer.specs.Integer.{symbol_cut};
+
+use laz_models::{BitModel, ModelBank, SymbolModel};
+use laz_range::{Bad, Decoder, Encoder};
+
+/// Codes symbol `s` of a model, and counts it.
+#[inline]
+pub fn put_symbol(encoder: &mut Encoder, model: &mut SymbolModel, s: u32)
+    requires symbol { s < size_of model.old }
+    requires left { 3 ≤ encoder.old.left }
+    ensures codes { Codes encoder.old encoder.new (symbol_cut model.old s ∷ []) }
+    ensures counted { model.new ≡ counted model.old s }
+    ensures dist { (h : List ℕ) → StandsFor h model.old → Codes encoder.old encoder.new (symbol (dist (size_of model.old) h) s ∷ []) }
+    ensures stands { (h : List ℕ) → StandsFor h model.old → StandsFor (h ++ s ∷ []) model.new }
+{
+    let (lo, hi) = model.part(s);
+    encoder.cut15(lo, hi);
+    model.count(s);
+}
+
+/// Takes a symbol of a model, and counts it. Bad says that the bytes run out: no symbol begins what is left of them.
+#[inline]
+pub fn take_symbol(decoder: &mut Decoder<'_>, model: &mut SymbolModel) -> Result<u32, Bad>
+    requires { decoder.old.failed ≡ false }
+    ensures reads { Reads result (λ s. s < size_of model.old) (λ s. symbol_cut model.old s ∷ []) decoder.old decoder.new }
+    ensures bad { (s : ℕ) → IsLastAt model.old.parts (place_of decoder.old) s → IsErr result ↔ RunsOut decoder.old (symbol_cut model.old s) }
+    ensures counted { IfOk result (λ s. model.new ≡ counted model.old s) }
+    ensures kept { OnErr result (model.new ≡ model.old) }
+    ensures read { (h : List ℕ) → StandsFor h model.old → IfOk result (λ s. ReadsOn (symbol (dist (size_of model.old) h) s ∷ []) decoder.old decoder.new) }
+    ensures stands { (h : List ℕ) → StandsFor h model.old → IfOk result (λ s. StandsFor (h ++ s ∷ []) model.new) }
+    ensures none { (h : List ℕ) → StandsFor h model.old → OnErr result (NoneBegins (λ s. s < size_of model.old) (λ s. symbol (dist (size_of model.old) h) s ∷ []) decoder.old) }
+{
+    let s = model.find(decoder.at15());
+    let (lo, hi) = model.part(s);
+    decoder.take15(lo, hi)?;
+    model.count(s);
+    Ok(s)
+}
+
+/// Codes symbol `s` of model `m` of a bank, and counts it.
+#[inline]
+pub fn put_symbol_of(encoder: &mut Encoder, bank: &mut ModelBank, m: u32, s: u32)
+    requires model { m < length bank.old }
+    requires symbol { s < size_of (model_at bank.old m) }
+    requires left { 3 ≤ encoder.old.left }
+    ensures codes { Codes encoder.old encoder.new (symbol_cut (model_at bank.old m) s ∷ []) }
+    ensures counted { bank.new ≡ slice_set bank.old m (counted (model_at bank.old m) s) }
+    ensures dist { (h : List ℕ) → StandsFor h (model_at bank.old m) → Codes encoder.old encoder.new (symbol (dist (size_of (model_at bank.old m)) h) s ∷ []) }
+    ensures stands { (h : List ℕ) → StandsFor h (model_at bank.old m) → StandsFor (h ++ s ∷ []) (model_at bank.new m) }
+    ensures others { (k : ℕ) → k ≢ m → model_at bank.new k ≡ model_at bank.old k }
+    ensures sizes { sizes_of bank.new ≡ sizes_of bank.old }
+{
+    let (lo, hi) = bank.part(m, s);
+    encoder.cut15(lo, hi);
+    bank.count(m, s);
+}
+
+/// Takes a symbol of model `m` of a bank, and counts it. Bad says that the bytes run out: no symbol begins what is left
+/// of them.
+#[inline]
+pub fn take_symbol_of(decoder: &mut Decoder<'_>, bank: &mut ModelBank, m: u32) -> Result<u32, Bad>
+    requires good { decoder.old.failed ≡ false }
+    requires model { m < length bank.old }
+    ensures reads { Reads result (λ s. s < size_of (model_at bank.old m)) (λ s. symbol_cut (model_at bank.old m) s ∷ []) decoder.old decoder.new }
+    ensures bad { (s : ℕ) → IsLastAt (model_at bank.old m).parts (place_of decoder.old) s → IsErr result ↔ RunsOut decoder.old (symbol_cut (model_at bank.old m) s) }
+    ensures counted { IfOk result (λ s. bank.new ≡ slice_set bank.old m (counted (model_at bank.old m) s)) }
+    ensures kept { OnErr result (bank.new ≡ bank.old) }
+    ensures read { (h : List ℕ) → StandsFor h (model_at bank.old m) → IfOk result (λ s. ReadsOn (symbol (dist (size_of (model_at bank.old m)) h) s ∷ []) decoder.old decoder.new) }
+    ensures stands { (h : List ℕ) → StandsFor h (model_at bank.old m) → IfOk result (λ s. StandsFor (h ++ s ∷ []) (model_at bank.new m)) }
+    ensures none { (h : List ℕ) → StandsFor h (model_at bank.old m) → OnErr result (NoneBegins (λ s. s < size_of (model_at bank.old m)) (λ s. symbol (dist (size_of (model_at bank.old m)) h) s ∷ []) decoder.old) }
+    ensures others { (k : ℕ) → k ≢ m → model_at bank.new k ≡ model_at bank.old k }
+    ensures sizes { sizes_of bank.new ≡ sizes_of bank.old }
+{
+    let s = bank.find(m, decoder.at15());
+    let (lo, hi) = bank.part(m, s);
+    decoder.take15(lo, hi)?;
+    bank.count(m, s);
+    Ok(s)
+}
+
+/// Codes a bit under a model, and counts it.
+#[inline]
+pub fn put_bit(encoder: &mut Encoder, model: &mut BitModel, bit: bool)
+    requires { 3 ≤ encoder.old.left }
+    ensures codes { Codes encoder.old encoder.new (Bit model.old.p0 bit ∷ []) }
+    ensures counted { model.new ≡ bit_counted model.old bit }
+    ensures dist { (h : List Bool) → BitStandsFor h model.old → Codes encoder.old encoder.new (Bit (p0_of h) bit ∷ []) }
+    ensures stands { (h : List Bool) → BitStandsFor h model.old → BitStandsFor (h ++ bit ∷ []) model.new }
+{
+    let p0 = model.p0();
+    encoder.cut13(p0, bit);
+    model.count(bit);
+}
+
+/// Takes a bit under a model, and counts it. Bad says that the bytes run out: neither bit begins what is left of them.
+#[inline]
+pub fn take_bit(decoder: &mut Decoder<'_>, model: &mut BitModel) -> Result<bool, Bad>
+    requires { decoder.old.failed ≡ false }
+    ensures reads { Reads result (λ _. ⊤) (λ bit. Bit model.old.p0 bit ∷ []) decoder.old decoder.new }
+    ensures bad { IsErr result ↔ RunsOut decoder.old (Bit model.old.p0 (bit_of decoder.old model.old.p0)) }
+    ensures counted { IfOk result (λ bit. model.new ≡ bit_counted model.old bit) }
+    ensures kept { OnErr result (model.new ≡ model.old) }
+    ensures read { (h : List Bool) → BitStandsFor h model.old → IfOk result (λ bit. ReadsOn (Bit (p0_of h) bit ∷ []) decoder.old decoder.new) }
+    ensures stands { (h : List Bool) → BitStandsFor h model.old → IfOk result (λ bit. BitStandsFor (h ++ bit ∷ []) model.new) }
+    ensures none { (h : List Bool) → BitStandsFor h model.old → OnErr result (NoneBegins {X = Bool} (λ _. ⊤) (λ bit. Bit (p0_of h) bit ∷ []) decoder.old) }
+{
+    let p0 = model.p0();
+    let bit = decoder.take13(p0)?;
+    model.count(bit);
+    Ok(bit)
+}
