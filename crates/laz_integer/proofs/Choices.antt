@@ -180,3 +180,9 @@ next-zero st v = refl
 pub next-most : (st : IntState) (v : ℕ) → rest_next st 32 v ≡ st
 unfolding rest_next
 next-most st v = refl
+
+pub cuts-above : (st : IntState) (k v : ℕ) → 8 < k → (k ≡ 32 → ⊥) → rest_cuts st k v ≡ wide_cuts st k v
+unfolding rest_cuts
+cuts-above st k v wide fewer =
+    cond-false (eqb k 0) _ _ (ne_eqb k 0 (λ e. omega arith))
+    ∙ (cond-false (eqb k 32) _ _ (ne_eqb k 32 fewer) ∙ cond-false (leb k 8) _ _ (lt-leb k 8 wide))

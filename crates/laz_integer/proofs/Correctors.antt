@@ -1,13 +1,12 @@
 use Rattle.std.proofs.Common.{◌≡◌, ℕ, ℤ, zero, suc, ◌+◌, ◌-◌, ◌*◌, ◌/◌, ◌%◌, ◌^◌, ◌<◌, ◌≤◌, eqb, leb, ltb, refl, sym, ap, ◌∙◌, arith, ⊎_elim, lit≤, lit<}
 use Rattle.std.proofs.Math.Nat.{two-pow-succ, pow-le-pow_right, mod-eq_of_lt, mod-add-mod, add-mul-mod_self_left, mul-suc}
 use Rattle.std.proofs.Math.Pow.{mod-mod-pow}
-use Rattle.std.proofs.lemmas.Bool.{cases_lt, cond-true, cond-false, ne_eqb, le-leb, lt-leb, lt-ltb, le-ltb}
+use Rattle.std.proofs.lemmas.Bool.{cases_lt, cases_eq, cond-true, cond-false, ne_eqb, le-leb, lt-leb, lt-ltb, le-ltb}
 use Rattle.std.proofs.lemmas.Nat.{pow_pos, mod_below, pow-add, div-mul-add, leading_top}
 use lib.Count.{count_leading_zeros}
-use Rattle.std.specs.Int.Count.{leading_of_zero}
 use Rattle.std.specs.Int.{w32, cast_signed, cast_unsigned}
 use Rattle.std.proofs.lemmas.Int.{of_z-to_z, to_z-of_z}
-use Rattle.laz_integer.specs.Corrector.{choices, corrector, digits_of, width_of, place_of, difference, corrected}
+use Rattle.laz_integer.specs.Corrector.{choices, corrector, digits_of, digits_within, width_of, place_of}
 
 -- ---- how many correctors there are
 pub choices-more : (k : ℕ) → 0 < k → k < 32 → choices k ≡ 2 ^ k
@@ -61,6 +60,33 @@ digits-bounds size some small =
     let top = leading_top 32 size some small in
     let digits : 32 - count_leading_zeros 32 size ≡ suc top.0 = omega (arith, top.1) in
     rw digits (omega (arith, two-pow-succ top.0, top.2), top.3)
+
+pub leading_some : (size : ℕ) → size < 2 ^ (32 - count_leading_zeros 32 size) → 0 < size → 1 ≤ 32 - count_leading_zeros 32 size
+leading_some size above some =
+    ⊎_elim
+    (λ (none : 32 - count_leading_zeros 32 size ≡ 0). let one : 2 ^ (32 - count_leading_zeros 32 size) ≡ 1 = ap (λ k. 2 ^ k) none in absurd (omega (arith, one, above, some)))
+    (λ (more : 32 - count_leading_zeros 32 size ≡ 0 → ⊥). omega (arith, more))
+    (cases_eq (32 - count_leading_zeros 32 size) 0)
+
+pub digits-zero : (m : ℕ) → digits_within m 0 ≡ 0
+unfolding digits_within
+digits-zero zero = refl
+digits-zero (suc j) = cond-false (leb (2 ^ j) 0) _ _ (lt-leb (2 ^ j) 0 (pow_pos j)) ∙ digits-zero j
+
+-- the digits are those between which powers of 2 the number lies
+pub digits-is : (m n k : ℕ) → k ≤ m → 1 ≤ k → 2 ^ k ≤ 2 * n → n < 2 ^ k → digits_within m n ≡ k
+unfolding digits_within
+digits-is zero n k within some least above = absurd (omega arith)
+digits-is (suc j) n k within some least above =
+    ⊎_elim
+    (λ (same : k ≡ suc j).
+    let power : 2 ^ k ≡ 2 ^ j + 2 ^ j = ap (λ n. 2 ^ n) same ∙ two-pow-succ j in
+    cond-true (leb (2 ^ j) n) _ _ (le-leb (2 ^ j) n (omega arith)) ∙ sym same)
+    (λ (fewer : k ≡ suc j → ⊥).
+    let inside : k ≤ j = omega (arith, fewer, within) in
+    let power : 2 ^ k ≤ 2 ^ j = pow-le-pow_right (lit≤ tt) inside in
+    cond-false (leb (2 ^ j) n) _ _ (lt-leb (2 ^ j) n (omega arith)) ∙ digits-is j n k inside some least above)
+    (cases_eq k (suc j))
 
 -- ---- a positive difference
 pub up : (bits k size d half : ℕ) → 1 ≤ bits → bits ≤ 32 → half ≡ 2 ^ (bits - 1) → d < half → size + 1 ≡ d → 1 ≤ k → 2 ^ k ≤ 2 * size → size < 2 ^ k
@@ -130,7 +156,7 @@ pub split-small : (bits d : ℕ) → d < 2 ^ (bits - 1) → d < 2 → IsSplit bi
 unfolding choices
 split-small bits d h small =
     record {
-      width = let none : d - 1 ≡ 0 = omega arith in let zeros : digits_of (d - 1) ≡ digits_of 0 = ap digits_of none in sym (width-up bits d h ∙ (zeros ∙ ap (λ k. 32 - k) (leading_of_zero 32)));
+      width = let none : d - 1 ≡ 0 = omega arith in let zeros : digits_of (d - 1) ≡ digits_of 0 = ap digits_of none in sym (width-up bits d h ∙ (zeros ∙ digits-zero 32));
       place = sym (place-zero bits d);
       digits = omega arith;
       value = small;

@@ -6,3 +6,4 @@ pub mod Sounds
 pub mod Named
 pub mod Stood
 pub mod Spellings
+pub mod Examples

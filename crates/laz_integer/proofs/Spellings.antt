@@ -8,6 +8,7 @@ use Rattle.laz_range.specs.Cut.{Cut, Bit, AreCuts, raw_cuts}
 use Rattle.laz_range.specs.Span.{Begins, span}
 use Rattle.laz_range.specs.Coding.{Coding, Codes}
 use Rattle.laz_range.specs.Decoding.{Decoding, HasRead, ReadsOn, Takes, TakesNone}
+use Rattle.laz_range.proofs.Refills.{wide_cuts as wide_cuts_is, short_cuts}
 use Rattle.laz_range.proofs.Decodings.{Takes-ReadsOn, TakesNone-NoneBegins, Takes-begins, AreCuts-raw}
 use Rattle.laz_models.specs.BitCounting.{BitCounting}
 use Rattle.laz_models.specs.Bank.{model_at}
@@ -16,7 +17,7 @@ use Rattle.laz_integer.specs.Corrector.{choices, corrected, corrector, differenc
 use Rattle.laz_integer.specs.Events.{Event, cuts_behind}
 use Rattle.laz_integer.specs.Integer.{IntState, IsIntState, IntStands, IntSpell, IntEvents, IsCorrector, ReadsInt, NoInt, corrector_events, symbol_cut, high_at, width_counted, rest_cuts, wide_cuts, int_cuts, int_next, int_width}
 use Rattle.laz_integer.proofs.Correctors.{choices-more, difference-on, word-fits}
-use Rattle.laz_integer.proofs.Choices.{cuts-zero, cuts-most, cuts-narrow, cuts-wide, wide_parts}
+use Rattle.laz_integer.proofs.Choices.{cuts-zero, cuts-most, cuts-narrow, cuts-wide, cuts-above, wide_parts}
 use Rattle.laz_integer.proofs.States.{models-count, width-size, high-size, high-in}
 use Rattle.laz_integer.proofs.Sounds.{IsIntState-width}
 use Rattle.laz_integer.proofs.SymbolParts.{AreCuts-symbol}
@@ -138,3 +139,29 @@ corrected-passed bits pred k v z few f e =
 
 pub word_of : (z : ℤ) → SFits w32 z → cast_unsigned w32 z < 4294967296
 word_of z f = (Fits-of_z {w = w32} f).fits
+
+-- ---- four events at most
+length-raw : (b v : ℕ) → length (raw_cuts b v) ≤ 2
+length-raw b v =
+    ⊎_elim
+    (λ (wide : 19 < b). rw (wide_cuts_is b v wide) (omega arith))
+    (λ (short : b ≤ 19). rw (short_cuts b v short) (omega arith))
+    (cases_lt 19 b)
+
+length-rest : (st : IntState) (k v : ℕ) → length (rest_cuts st k v) ≤ 3
+length-rest st k v =
+    ⊎_elim
+    (λ (zero_is : k ≡ 0). rw (zero_is, cuts-zero st v) (omega arith))
+    (λ (some_is : k ≡ 0 → ⊥).
+    ⊎_elim
+    (λ (most_is : k ≡ 32). rw (most_is, cuts-most st v) (omega arith))
+    (λ (fewer : k ≡ 32 → ⊥).
+    ⊎_elim
+    (λ (wide : 8 < k). rw (cuts-above st k v wide fewer) (omega (arith, length-raw (k - 8) (v % 2 ^ (k - 8)))))
+    (λ (narrow : k ≤ 8). rw (cuts-narrow st k v (omega (arith, some_is)) narrow) (omega arith))
+    (cases_lt 8 k))
+    (cases_eq k 32))
+    (cases_eq k 0)
+
+pub int-used : (st : IntState) (ctx k v : ℕ) (a b : Coding) → Codes a b (int_cuts st ctx k v) → a.left ≤ b.left + 12
+int-used st ctx k v a b h = omega (arith, h.used, length-rest (width_counted st ctx k) k v)

@@ -15,6 +15,7 @@ cons_same x y xs ys e f = cc
 
 -- ---- the models of an integer and their sizes
 pub length-sizes : (bits contexts : ℕ) → length (int_sizes bits contexts) ≡ contexts + bits
+unfolding int_sizes
 length-sizes bits contexts =
     length-append (replicate contexts (bits + 1)) (map (λ k. 2 ^ min k 8) (range_with_len 1 bits))
     ∙ omega (arith, length-replicate {A = ℕ} contexts (bits + 1), length-map-range_with_len (λ k. 2 ^ min k 8) 1 bits)
@@ -26,6 +27,7 @@ size-at : (st : IntState) (i : ℕ) → IsIntState st → i < length st.bank →
 size-at st i h within = sym (get_or-map size_of st.bank i (fresh 2) 0 within) ∙ ap (λ l. get_or l i 0) h.sizes
 
 pub width-size : (st : IntState) (ctx : ℕ) → IsIntState st → ctx < st.contexts → size_of (model_at st.bank ctx) ≡ st.bits + 1
+unfolding int_sizes
 width-size st ctx h within =
     let ones = replicate st.contexts (st.bits + 1) in
     let inside : ctx < length ones = omega (arith, within, length-replicate {A = ℕ} st.contexts (st.bits + 1)) in
@@ -33,6 +35,7 @@ width-size st ctx h within =
     ∙ (get_or_append_left ones (map (λ k. 2 ^ min k 8) (range_with_len 1 st.bits)) 0 ctx inside ∙ get_or-replicate st.contexts ctx (st.bits + 1) 0 within)
 
 high-place : (bits contexts j : ℕ) → j < bits → get_or (int_sizes bits contexts) (contexts + j) 0 ≡ 2 ^ min (j + 1) 8
+unfolding int_sizes
 high-place bits contexts j within =
     let ones = replicate contexts (bits + 1) in
     let many : length ones + j ≡ contexts + j = omega (arith, length-replicate {A = ℕ} contexts (bits + 1)) in
@@ -64,6 +67,7 @@ size-in k some =
 
 -- each model has 2 to 2,048 symbols
 pub sizes-range : (bits contexts : ℕ) → 1 ≤ bits → bits ≤ 32 → All (λ n. (2 ≤ n) × (n ≤ 2048)) (int_sizes bits contexts)
+unfolding int_sizes
 sizes-range bits contexts some few =
     let highs = map (λ k. 2 ^ min k 8) (range_with_len 1 bits) in
     All-append (λ n. (2 ≤ n) × (n ≤ 2048)) (replicate contexts (bits + 1)) highs

@@ -242,9 +242,9 @@ pub stands-none : (kind : List ℕ) (st : IntState) → IsIntState st → st.zer
 stands-none kind st is bit bank =
     let fresh_at : (i : ℕ) → i < st.contexts + st.bits → StandsFor [] (model_at st.bank i) =
     λ i within.
-        let inside : i < length (int_sizes st.bits st.contexts) = omega (arith, length-sizes st.bits st.contexts, within) in
-        let at : model_at st.bank i ≡ fresh (get_or (int_sizes st.bits st.contexts) i 0) = ap (λ b. model_at b i) bank ∙ get_or-map fresh (int_sizes st.bits st.contexts) i 0 (fresh 2) inside in
-        subst (λ (m : Counting). StandsFor [] m) (sym at) (StandsFor-fresh (get_or (int_sizes st.bits st.contexts) i 0) (sizes-two st.bits st.contexts i is.some is.few inside)) in
+    let inside : i < length (int_sizes st.bits st.contexts) = omega (arith, length-sizes st.bits st.contexts, within) in
+    let at : model_at st.bank i ≡ fresh (get_or (int_sizes st.bits st.contexts) i 0) = ap (λ b. model_at b i) bank ∙ get_or-map fresh (int_sizes st.bits st.contexts) i 0 (fresh 2) inside in
+    subst (λ (m : Counting). StandsFor [] m) (sym at) (StandsFor-fresh (get_or (int_sizes st.bits st.contexts) i 0) (sizes-two st.bits st.contexts i is.some is.few inside)) in
     record {
       widths = λ c inside. fresh_at c (omega arith);
       bits = subst (λ (m : BitCounting). BitStandsFor [] m) (sym bit) BitStandsFor-fresh;

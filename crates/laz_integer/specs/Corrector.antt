@@ -1,9 +1,14 @@
-use Rattle.std.specs.Prelude.{◌≡◌, ℕ, ℤ, ◌+◌, ◌-◌, ◌*◌, ◌/◌, ◌%◌, ◌^◌, ◌<◌, ◌≤◌, ◌==◌, nat_lt, nat_le, if◌then◌else◌}
-use Rattle.std.specs.Int.{w32, cast_signed, cast_unsigned, leading_zeros}
+use Rattle.std.specs.Prelude.{◌≡◌, ℕ, zero, suc, ℤ, ◌+◌, ◌-◌, ◌*◌, ◌/◌, ◌%◌, ◌^◌, ◌<◌, ◌≤◌, ◌==◌, nat_lt, nat_le, if◌then◌else◌}
+use Rattle.std.specs.Int.{w32, cast_signed, cast_unsigned}
+
+-- How many binary digits a number has, if it has m at most: up to the greatest power of 2 that is not above it.
+unfoldable pub digits_within : ℕ → ℕ → ℕ
+digits_within zero n = 0
+digits_within (suc j) n = if nat_le (2 ^ j) n then suc j else digits_within j n
 
 -- How many binary digits a word has.
 abbrev pub digits_of : ℕ → ℕ
-digits_of n = 32 - leading_zeros w32 n
+digits_of n = digits_within 32 n
 
 -- The difference of two integers of so many bits, modulo 2 ^ bits.
 abbrev pub difference : ℕ → ℤ → ℤ → ℕ

@@ -61,7 +61,7 @@ pub record IntState : Type 0 where
   pub bank : List Counting
 
 -- How many symbols each model of the bank has.
-abbrev pub int_sizes : ℕ → ℕ → List ℕ
+unfoldable pub int_sizes : ℕ → ℕ → List ℕ
 int_sizes bits contexts = replicate contexts (bits + 1) ++ map (λ k. 2 ^ min k 8) (range_with_len 1 bits)
 
 -- What holds of the models between any two calls.

@@ -20,7 +20,10 @@ pub fn between(bits: u32, pred: i32, real: i32) -> u32
     ensures difference { result ≡ difference bits pred real }
     ensures fits { result < 2 ^ bits }
 {
-    low_bits(bits, real.cast_unsigned().wrapping_sub(pred.cast_unsigned()))
+    low_bits(
+        bits,
+        real.cast_unsigned().wrapping_sub(pred.cast_unsigned()),
+    )
 }
 
 /// How wide the corrector of a difference is, and which of that width it is.
@@ -93,5 +96,10 @@ pub fn correct(bits: u32, pred: i32, k: u32, v: u32) -> i32
     requires value { v < choices k }
     ensures { result ≡ corrected bits pred k v }
 {
-    low_bits(bits, pred.cast_unsigned().wrapping_add(corrector_word(bits, k, v))).cast_signed()
+    low_bits(
+        bits,
+        pred.cast_unsigned()
+            .wrapping_add(corrector_word(bits, k, v)),
+    )
+    .cast_signed()
 }

@@ -78,7 +78,9 @@ impl IntModel {
         ensures events { (kind : List ℕ) (earlier : List Event) → IntStands kind earlier self.old → Codes encoder.old encoder.new (cuts_behind earlier (IntEvents kind self.old.bits ctx pred real)) }
         ensures stands { (kind : List ℕ) (earlier : List Event) → IntStands kind earlier self.old → IntStands kind (earlier ++ IntEvents kind self.old.bits ctx pred real) self.new }
         ensures spells { (kind : List ℕ) → IntSpell kind self.old.bits ctx pred (IntEvents kind self.old.bits ctx pred real) real result }
-        ensures shape { (self.new.bits ≡ self.old.bits) × (self.new.contexts ≡ self.old.contexts) }
+        ensures used { encoder.old.left ≤ encoder.new.left + 12 }
+        ensures bits { self.new.bits ≡ self.old.bits }
+        ensures contexts { self.new.contexts ≡ self.old.contexts }
     {
         let bits = self.models.bits;
         let (k, v) = split(bits, between(bits, pred, real));
@@ -89,15 +91,21 @@ impl IntModel {
     /// Reads an integer with the prediction `pred`, and the width k of its corrector. Below 32 bits the prediction is from 0
     /// to 2^bits - 1, and so is the integer. Bad says that no spelling with this prediction and context begins what is left
     /// of the bytes; the models are then good for nothing but a reset.
-    pub fn read(&mut self, decoder: &mut Decoder<'_>, pred: i32, ctx: u32) -> Result<(i32, u32), Bad>
+    pub fn read(
+        &mut self,
+        decoder: &mut Decoder<'_>,
+        pred: i32,
+        ctx: u32,
+    ) -> Result<(i32, u32), Bad>
         requires good { decoder.old.failed ≡ false }
         requires context { ctx < self.old.contexts }
         requires pred { HasBits self.old.bits pred }
         ensures reads { MatchResult result (λ x. (v : ℕ) × Takes (IsCorrector self.old.bits) (λ y. int_cuts self.old ctx y.0 y.1) decoder.old decoder.new (x.1, v) × (x.0 ≡ corrected self.old.bits pred x.1 v) × (self.new ≡ int_next self.old ctx x.1 v)) (λ _. TakesNone (IsCorrector self.old.bits) (λ y. int_cuts self.old ctx y.0 y.1) decoder.old decoder.new) }
         ensures spelled { (kind : List ℕ) (earlier : List Event) → IntStands kind earlier self.old → IfOk result (λ x. ReadsInt kind earlier self.old.bits ctx pred x.0 x.1 decoder.old decoder.new self.new) }
         ensures none { (kind : List ℕ) (earlier : List Event) → IntStands kind earlier self.old → OnErr result (NoInt kind earlier self.old.bits ctx pred decoder.old) }
-        ensures bits { IfOk result (λ x. HasBits self.old.bits x.0) }
-        ensures shape { (self.new.bits ≡ self.old.bits) × (self.new.contexts ≡ self.old.contexts) }
+        ensures range { IfOk result (λ x. HasBits self.old.bits x.0) }
+        ensures bits { self.new.bits ≡ self.old.bits }
+        ensures contexts { self.new.contexts ≡ self.old.contexts }
     {
         let bits = self.models.bits;
         let (k, v) = take(&mut self.models, decoder, ctx)?;

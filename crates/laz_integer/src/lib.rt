@@ -11,3 +11,6 @@ mod symbols;
 
 pub use int_model::IntModel;
 pub use symbols::{put_bit, put_symbol, put_symbol_of, take_bit, take_symbol, take_symbol_of};
+
+#[cfg(test)]
+mod tests;

@@ -7,3 +7,6 @@ new-requires-clause-few c = rw (c.deref.ensures.value, c.in_ok-sizes.ensures) (o
 
 pub new-requires-clause-range : goal.new-requires-clause-range
 new-requires-clause-range c = rw (c.deref.ensures.value, c.in_ok-sizes.ensures) (sizes-range c.args.bits c.args.contexts c.requires.some c.requires.few)
+
+pub new-requires-clause-some : goal.new-requires-clause-some
+new-requires-clause-some c = rw (c.deref.ensures.value, c.in_ok-sizes.ensures) (omega (arith, length-sizes c.args.bits c.args.contexts, c.requires.some))

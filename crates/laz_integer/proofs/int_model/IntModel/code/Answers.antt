@@ -1,7 +1,7 @@
 use Rattle.std.proofs.Common.{◌≡◌, ◌<◌, ◌∙◌, ap, sym, refl}
 use Rattle.laz_integer.specs.Corrector.{width_of, place_of}
 use Rattle.laz_integer.specs.Models.{state_of}
-use Rattle.laz_integer.proofs.Spellings.{IsWritten, written-codes, written-stands, written-spells, corrected-is, difference-passed, word_of}
+use Rattle.laz_integer.proofs.Spellings.{IsWritten, written-codes, written-stands, written-spells, corrected-is, int-used, difference-passed, word_of}
 use Rattle.laz_integer.proofs.int_model.IntModel.code.Goals as goal
 
 pub returns-clause-events : goal.returns-clause-events
@@ -28,3 +28,6 @@ returns-clause-spells c kind =
     let written : IsWritten st.bits c.args.pred c.args.real c.split-k.result.0 c.split-k.result.1 = (split.width ∙ ap (λ n. width_of st.bits n) d, split.place ∙ ap (λ n. place_of st.bits n c.split-k.result.0) d) in
     let makes = corrected-is st.bits c.args.pred c.args.real c.split-k.result.0 c.split-k.result.1 c.self.invariant.few c.ranges.real (word_of c.args.pred c.ranges.pred) (rw (← c.self.view_is) at c.requires.real) (split.makes ∙ d) in
     rw (← c.self.view_is) (written-spells kind st.bits c.args.ctx c.args.pred c.args.real c.split-k.result.0 c.split-k.result.1 split.digits split.value written makes)
+
+pub returns-clause-used : goal.returns-clause-used
+returns-clause-used c = int-used (state_of c.self.inside.models) c.args.ctx c.split-k.result.0 c.split-k.result.1 _ _ c.put.ensures.codes
