@@ -6,7 +6,7 @@ use Rattle.las_run.specs.declared.stop.Stop.{Stop}
 use Rattle.las_run.specs.declared.stop.Stop.TheVariants.{Memory, Usage, Read, Write, Refused}
 use Rattle.las_run.specs.Words.{usage, faults_of, first_index, input_of}
 use Rattle.las_run.specs.Lines.{IsLine, Puts, usage_line}
-use Rattle.las_run.specs.Ending.{Change, Ends, IsShort, status_of, line_of, stop_line}
+use Rattle.las_run.specs.Stop.{Change, Ends, IsShort, status_of, line_of, stop_line}
 
 -- each index of a wrong word is small
 AllSmall : List (Bool × ℕ) → Type 0

@@ -1,8 +1,8 @@
 -- The records of a class, one after another.
 use Rattle.std.proofs.Common.{◌≡◌, ◌≢◌, ℕ, suc, ◌+◌, ◌-◌, ◌*◌, ◌<◌, ◌≤◌, ◌^◌, Bool, cond, eq-eqb, List, [], ◌∷◌, ◌++◌, length, take, drop, sym, ◌∙◌, ap, append_assoc, length-append, arith}
-use Rattle.std.specs.List.{concat}
+use Rattle.std.specs.List.{concat, splice}
 use Rattle.std.proofs.lemmas.Bool.{ne_eqb}
-use Rattle.std.proofs.lemmas.List.{append-nil, length-drop}
+use Rattle.std.proofs.lemmas.List.{append-nil, length-drop, length-take-le, take_at, drop_at, drop-drop}
 use Rattle.las_header.specs.declared.counts.Counts.{Counts}
 use Rattle.las_header.specs.Plain.{cut_records}
 use Rattle.las_points.specs.Record.{class_of}
@@ -92,3 +92,32 @@ module _ (class count turns : ℕ) (all rest : List ℕ) (counts : Counts) (byte
 
   pub kept_bytes : count ≤ turns → bytes ≡ concat (kept class (cut_records 20 count all))
   kept_bytes ended = so_far.joined ∙ ap concat (all_done ended)
+
+-- A record that is moved down, over what is done with: behind it all is as before, and up to it stands one record more.
+module _ (file moved : List ℕ) (end : ℕ) (size : length moved ≡ 20) (within : end + 20 ≤ length file) where
+  front_size : length (take end file ++ moved) ≡ end + 20
+  front_size = omega (arith, length-append (take end file) moved, length-take-le end file (omega (arith, within)), size)
+
+  parts_of : splice file end (end + 20) moved ≡ (take end file ++ moved) ++ drop (end + 20) file
+  parts_of = sym (append_assoc (take end file) moved (drop (end + 20) file))
+
+  pub take-moved : take (end + 20) (splice file end (end + 20) moved) ≡ take end file ++ moved
+  take-moved = ap (λ (t : List ℕ). take (end + 20) t) parts_of ∙ take_at (take end file ++ moved) (drop (end + 20) file) (end + 20) front_size
+
+  pub drop-moved : (n : ℕ) → end + 20 ≤ n → drop n (splice file end (end + 20) moved) ≡ drop n file
+  drop-moved n behind =
+      let more : (end + 20) + (n - (end + 20)) ≡ n = omega (arith, behind) in
+      ap (λ (k : ℕ). drop k (splice file end (end + 20) moved)) (sym more)
+      ∙ sym (drop-drop (n - (end + 20)) (end + 20) (splice file end (end + 20) moved))
+      ∙ ap (λ (t : List ℕ). drop (n - (end + 20)) t) (ap (λ (t : List ℕ). drop (end + 20) t) parts_of ∙ drop_at (take end file ++ moved) (drop (end + 20) file) (end + 20) front_size)
+      ∙ drop-drop (n - (end + 20)) (end + 20) file
+      ∙ ap (λ (k : ℕ). drop k file) more
+
+  pub length-moved : length (splice file end (end + 20) moved) ≡ length file
+  length-moved = ap length parts_of ∙ omega (arith, length-append (take end file ++ moved) (drop (end + 20) file), front_size, length-drop (end + 20) file, within)
+
+-- the records behind the next one
+pub behind_next : (file : List ℕ) (turns : ℕ) → drop (227 + 20 * (turns + 1)) file ≡ drop 20 (drop (227 + 20 * turns) file)
+behind_next file turns =
+    let more : 227 + 20 * (turns + 1) ≡ (227 + 20 * turns) + 20 = omega arith in
+    ap (λ (k : ℕ). drop k file) more ∙ sym (drop-drop 20 (227 + 20 * turns) file)

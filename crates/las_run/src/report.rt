@@ -1,7 +1,7 @@
 //! The line on standard error.
 ghost use Rattle.std.specs.Prelude.{◌≡◌, ◌+◌, ◌/◌, ◌%◌, ◌<◌, ◌≤◌, ◌==◌, if◌then◌else◌, [], ◌∷◌, map, drop, slice_index};
 ghost use Rattle.std.specs.List.{concat};
-ghost use Rattle.las_run.specs.Ending.{IsShort, stop_line};
+ghost use Rattle.las_run.specs.Stop.{IsShort, stop_line};
 ghost use Rattle.las_run.specs.Lines.{Puts, refused_line};
 
 use crate::stop::Stop;

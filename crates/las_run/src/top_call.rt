@@ -7,7 +7,7 @@ ghost use Rattle.las_run.specs.Words.{texts, usage, input_of, output_of, class_o
 ghost use Rattle.las_run.specs.Outputs.{draft_for, patches_for};
 ghost use Rattle.las_run.specs.Run.{run_of};
 ghost use Rattle.las_run.specs.Lines.{IsLine, Puts};
-ghost use Rattle.las_run.specs.Ending.{Ends, status_of};
+ghost use Rattle.las_run.specs.Stop.{Ends, status_of};
 
 use crate::output::write_selection;
 use crate::report::report;
@@ -117,7 +117,7 @@ fn converted<F: Files>(alloc: Global, words: &[String], files: &mut F) -> Result
         return Err(Stop::Usage(index));
     }
     let file = read_file(alloc, files, word(words, 2))?;
-    let selection = selected(alloc, &file, class_in(word(words, 6)))?;
+    let selection = selected(alloc, file, class_in(word(words, 6)))?;
     match write_selection(files, word(words, 4), &selection) {
         Ok(()) => Ok(()),
         Err(_) => Err(Stop::Write),

@@ -1,10 +1,10 @@
-use Rattle.std.proofs.Common.{◌≡◌, List, ℕ, None, sym, ◌∙◌, ap, subst, arith, rules}
+use Rattle.std.proofs.Common.{◌≡◌, List, ℕ, None, ◌∙◌, ap, subst, arith, rules}
 use Rattle.std.specs.Str.Parse.{digits_value}
 use Rattle.las_outside.specs.Files.{WhereTold, holding, bytes_of}
 use Rattle.las_outside.specs.Drafts.{LeavesUnfinished}
 use Rattle.las_run.specs.Words.{texts, usage, is_class, input_of, output_of, class_of_words}
 use Rattle.las_run.specs.Outputs.{output_for, draft_for, patches_for}
-use Rattle.las_run.proofs.Converting.{accepted_class, told_weaker, input_accepted, output_written, output_left}
+use Rattle.las_run.proofs.Converting.{accepted_class, input_accepted, output_written, output_left}
 use Rattle.las_run.proofs.top_call.converted.Goals as goal
 
 pub class_in-requires : goal.class_in-requires
@@ -17,8 +17,8 @@ returns-in-Ok-clause-ends g c =
     let words = texts c.args.words.now in
     let held = g.F.Files.held c.args.files.now in
     let accepted : usage words ≡ None = search rules in
-    let file = c.deref.result.now in
-    let told = told_weaker held (input_of words) _ (λ bytes. bytes ≡ file) (λ bytes is. is ∙ sym c.deref.ensures.value) (subst (λ (n : List ℕ). WhereTold held n (λ bytes. bytes ≡ c.in_ok-file.file.items)) c.word.ensures c.in_ok-file.ensures.bytes) in
+    let file = c.in_ok-file.file.items in
+    let told = subst (λ (n : List ℕ). WhereTold held n (λ bytes. bytes ≡ file)) c.word.ensures c.in_ok-file.ensures.bytes in
     let class_is : c.class_in.result ≡ class_of_words words = c.class_in.ensures.value ∙ ap (digits_value 10) c.word-2.ensures in
     let s = c.in_ok-selection.ensures in
     let chosen = c.in_ok-selection.selection in
@@ -31,8 +31,8 @@ returns-clause-ends g c =
     let held = g.F.Files.held c.args.files.now in
     let now = g.F.Files.held c.write_selection.new.files in
     let accepted : usage words ≡ None = search rules in
-    let file = c.deref.result.now in
-    let told = told_weaker held (input_of words) _ (λ bytes. bytes ≡ file) (λ bytes is. is ∙ sym c.deref.ensures.value) (subst (λ (n : List ℕ). WhereTold held n (λ bytes. bytes ≡ c.in_ok-file.file.items)) c.word.ensures c.in_ok-file.ensures.bytes) in
+    let file = c.in_ok-file.file.items in
+    let told = subst (λ (n : List ℕ). WhereTold held n (λ bytes. bytes ≡ file)) c.word.ensures c.in_ok-file.ensures.bytes in
     let class_is : c.class_in.result ≡ class_of_words words = c.class_in.ensures.value ∙ ap (digits_value 10) c.word-2.ensures in
     let s = c.in_ok-selection.ensures in
     let chosen = c.in_ok-selection.selection in

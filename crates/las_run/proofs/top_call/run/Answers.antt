@@ -1,7 +1,7 @@
 use Rattle.std.proofs.Common.{ℕ, refl, sym, subst}
 use Rattle.las_run.specs.Words.{texts, input_of}
 use Rattle.las_run.specs.Lines.{IsLine, Puts}
-use Rattle.las_run.specs.Ending.{Ends, line_of}
+use Rattle.las_run.specs.Stop.{Ends, line_of}
 use Rattle.las_run.proofs.Endings.{short, line, says, says_nothing}
 use Rattle.las_run.proofs.top_call.run.Goals as goal
 use Rattle.las_run.proofs.top_call.run.Goals.{in-Ok, in-Err}
