@@ -1,11 +1,11 @@
-use Rattle.std.specs.Prelude.{◌≡◌, ℕ, ℤ, ◌+◌, ◌-◌, ◌/◌, ◌%◌, ◌^◌, ◌<◌, ◌≤◌, ◌==◌, min, List, [], ◌∷◌, ◌++◌, length, map, replicate, nat_le, if◌then◌else◌, slice_set}
+use Rattle.std.specs.Prelude.{◌≡◌, ℕ, ℤ, ◌+◌, ◌-◌, ◌/◌, ◌%◌, ◌^◌, ◌<◌, ◌≤◌, ◌==◌, min, List, [], ◌∷◌, ◌++◌, map, replicate, nat_le, if◌then◌else◌, slice_set}
 use Rattle.std.specs.List.{range_with_len}
 use Rattle.laz_range.specs.Cut.{Cut, Bit, raw_cuts, symbol}
 use Rattle.laz_range.specs.Span.{Begins, span}
 use Rattle.laz_range.specs.Decoding.{Decoding, HasRead, ReadsOn}
 use Rattle.laz_models.specs.Counting.{Counting, counted}
 use Rattle.laz_models.specs.BitCounting.{BitCounting, IsBitCounting, bit_counted}
-use Rattle.laz_models.specs.Dist.{StandsFor, size_of}
+use Rattle.laz_models.specs.Dist.{StandsFor}
 use Rattle.laz_models.specs.BitDist.{BitStandsFor}
 use Rattle.laz_models.specs.Bank.{model_at, sizes_of}
 use Rattle.laz_integer.specs.Events.{Event, Symbol, Flag, Name, Width, ZeroOrOne, High, cuts_behind, raw_events, symbols_under, bits_under}
@@ -134,13 +134,13 @@ IsCorrector bits x = (x.0 ≤ bits) × (x.1 < choices x.0)
 
 -- ---- what a reader answers
 
--- The reader has read the one spelling, with this prediction, that begins the bytes behind what was read.
+-- The reader has read the one spelling, with this prediction, that begins the bytes behind what was read: no other events, value or width does.
 pub record ReadsInt (kind : List ℕ) (earlier : List Event) (bits ctx : ℕ) (pred : ℤ) (value : ℤ) (k : ℕ) (old new : Decoding) (st : IntState) : Type 0 where
   pub events : List Event
   pub spells : IntSpell kind bits ctx pred events value k
   pub reads : ReadsOn (cuts_behind earlier events) old new
   pub stands : IntStands kind (earlier ++ events) st
-  pub only : (read : List Cut) → HasRead read old → (others : List Event) (other : ℤ) (j : ℕ) → IntSpell kind bits ctx pred others other j → Begins (span (read ++ cuts_behind earlier others)) old.bytes → others ≡ events
+  pub only : (read : List Cut) → HasRead read old → (others : List Event) (other : ℤ) (j : ℕ) → IntSpell kind bits ctx pred others other j → Begins (span (read ++ cuts_behind earlier others)) old.bytes → (others ≡ events) × (other ≡ value) × (j ≡ k)
 
 -- No spelling with this prediction, put behind what was read, begins the bytes.
 abbrev pub NoInt : List ℕ → List Event → ℕ → ℕ → ℤ → Decoding → Type 0

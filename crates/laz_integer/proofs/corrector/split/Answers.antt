@@ -1,4 +1,4 @@
-use Rattle.std.proofs.Common.{◌≡◌, ◌-◌, ◌*◌, ◌^◌, ◌%◌, ◌<◌, ap, sym, refl, arith}
+use Rattle.std.proofs.Common.{◌≡◌, ◌-◌, ◌*◌, ◌^◌, ◌%◌, ◌<◌, refl, arith}
 use Rattle.std.proofs.lemmas.Nat.{one_shl}
 use Rattle.laz_integer.proofs.Correctors.{split-small, split-up, split-down, split-most}
 use Rattle.laz_integer.proofs.corrector.split.Goals as goal
