@@ -2,6 +2,7 @@
 ghost use Rattle.std.specs.Prelude.{◌≡◌, ◌+◌, ◌*◌, ◌<◌, ◌≤◌, IsTrue, IfOk, false, length};
 ghost use Rattle.laz_bench.specs.Starts.{AreStarts, Locates};
 
+use crate::draws::{add, checksum, draw};
 use anyhow::{Result, bail};
 use laz_range::{Bad, Decoder, Encoder};
 use std::alloc::{AllocError, Global};
@@ -13,7 +14,7 @@ const SYMBOLS: usize = 256;
 const WHOLE: u32 = 32_768;
 
 /// Where the part of each symbol begins, and at the end 32,768.
-fn skewed(alloc: Global) -> Result<Vec<u32>, AllocError> {
+pub fn skewed(alloc: Global) -> Result<Vec<u32>, AllocError> {
     let mut starts = Vec::with_capacity(alloc, SYMBOLS + 1)?;
     let mut start: u32 = 0;
     for s in 0..SYMBOLS as u32 {
@@ -25,7 +26,7 @@ fn skewed(alloc: Global) -> Result<Vec<u32>, AllocError> {
 }
 
 /// Whether these are starts of 256 symbols.
-fn are_starts(starts: &[u32]) -> bool
+pub fn are_starts(starts: &[u32]) -> bool
     ensures { IsTrue result → AreStarts starts.now }
 {
     if starts.len() != SYMBOLS + 1 {
@@ -40,7 +41,7 @@ fn are_starts(starts: &[u32]) -> bool
 }
 
 /// Which symbol's part each place lies in.
-fn located(alloc: Global, starts: &[u32]) -> Result<Vec<u8>, AllocError>
+pub fn located(alloc: Global, starts: &[u32]) -> Result<Vec<u8>, AllocError>
     requires { AreStarts starts.now }
 {
     let mut table = Vec::with_capacity(alloc, WHOLE as usize)?;
@@ -55,7 +56,7 @@ fn located(alloc: Global, starts: &[u32]) -> Result<Vec<u8>, AllocError>
 }
 
 /// Whether the table has the symbol of each place.
-fn locates(starts: &[u32], table: &[u8]) -> bool
+pub fn locates(starts: &[u32], table: &[u8]) -> bool
     requires { AreStarts starts.now }
     ensures { IsTrue result → Locates starts.now table.now }
 {
@@ -71,14 +72,8 @@ fn locates(starts: &[u32], table: &[u8]) -> bool
     true
 }
 
-fn draw(state: u64) -> u64 {
-    state
-        .wrapping_mul(6364136223846793005)
-        .wrapping_add(1442695040888963407)
-}
-
 /// Symbols drawn by their parts.
-fn drawn(alloc: Global, table: &[u8], count: u32) -> Result<Vec<u8>, AllocError>
+pub fn drawn(alloc: Global, table: &[u8], count: u32) -> Result<Vec<u8>, AllocError>
     requires { length table.now ≡ 32768 }
     ensures { IfOk result (λ symbols. length symbols.items ≡ count) }
 {
@@ -113,17 +108,9 @@ fn read_all(decoder: &mut Decoder<'_>, starts: &[u32], table: &[u8], count: u32)
         let symbol = table[place as usize];
         let at = symbol as usize;
         decoder.take15(starts[at], starts[at + 1])?;
-        sum = sum.wrapping_mul(31).wrapping_add(symbol as u64);
+        sum = add(sum, symbol as u64);
     }
     Ok(sum)
-}
-
-fn checksum(bytes: &[u8]) -> u64 {
-    let mut sum: u64 = 0;
-    for byte in bytes {
-        sum = sum.wrapping_mul(31).wrapping_add(*byte as u64);
-    }
-    sum
 }
 
 pub fn run(rt: &(impl Print + Eprint + Clock + Alloc<A = Global>), count: u32) -> Result<()> {

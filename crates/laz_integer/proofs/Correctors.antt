@@ -4,6 +4,7 @@ use Rattle.std.proofs.Math.Pow.{mod-mod-pow}
 use Rattle.std.proofs.lemmas.Bool.{cases_lt, cases_eq, cond-true, cond-false, ne_eqb, le-leb, lt-leb, lt-ltb, le-ltb}
 use Rattle.std.proofs.lemmas.Nat.{pow_pos, mod_below, pow-add, div-mul-add, leading_top}
 use lib.Count.{count_leading_zeros}
+use Rattle.std.specs.Int.Count.{leading_of_zero}
 use Rattle.std.specs.Int.{w32, cast_signed, cast_unsigned}
 use Rattle.std.proofs.lemmas.Int.{of_z-to_z}
 use Rattle.laz_integer.specs.Corrector.{choices, corrector, digits_of, digits_within, width_of, place_of}
@@ -259,3 +260,64 @@ word-fits n b few =
 
 pub HasBits-corrected : (b n : ℕ) → b ≤ 32 → cast_unsigned w32 (cast_signed w32 (n % 2 ^ b)) < 2 ^ b
 HasBits-corrected b n few = rw (of_z-to_z w32 (n % 2 ^ b) (word-fits n b few)) (mod_below n (2 ^ b) (pow_pos b))
+
+-- ---- the digits of a word, by its leading zeros
+pub record IsDigits (size k : ℕ) : Type 0 where
+  pub is : k ≡ digits_of size
+  pub none : k ≡ 0 → size ≡ 0
+  pub least : 0 < k → 2 ^ k ≤ 2 * size
+  pub above : size < 2 ^ k
+
+pub digits-all : (size : ℕ) → size < 2 ^ 32 → IsDigits size (32 - count_leading_zeros 32 size)
+digits-all zero small =
+    let none : 32 - count_leading_zeros 32 zero ≡ 0 = ap (λ k. 32 - k) (leading_of_zero 32) in
+    rw none
+    (record {
+      is = sym (digits-zero 32);
+      none = λ e. refl;
+      least = λ some. absurd (omega arith);
+      above = lit< tt;
+    })
+digits-all (suc n) small =
+    let some : 0 < suc n = omega arith in
+    let bounds = digits-bounds (suc n) some small in
+    let one = leading_some (suc n) bounds.1 some in
+    record {
+      is = sym (digits-is 32 (suc n) (32 - count_leading_zeros 32 (suc n)) (omega arith) one bounds.0 bounds.1);
+      none = λ e. absurd (omega (arith, e, one));
+      least = λ h. bounds.0;
+      above = bounds.1;
+    }
+
+-- ---- the three kinds of corrector
+abbrev pub IsUp : ℕ → ℕ → ℕ → Type 0
+IsUp bits d size = d < 2 ^ (bits - 1) → size ≡ d - 1
+
+abbrev pub IsDown : ℕ → ℕ → ℕ → Type 0
+IsDown bits d size = 2 ^ (bits - 1) ≤ d → size ≡ 2 ^ (bits - 1) - (d - 2 ^ (bits - 1))
+
+pub split-zero : (bits size d : ℕ) → 1 ≤ bits → bits ≤ 32 → d < 2 ^ bits → IsUp bits d size → IsDown bits d size → size ≡ 0 → IsSplit bits d 0 d
+split-zero bits size d some few fits up down none =
+    ⊎_elim
+    (λ (less : d < 2 ^ (bits - 1)). split-small bits d less (omega (arith, up less, none)))
+    (λ (more : 2 ^ (bits - 1) ≤ d). absurd (omega (arith, down more, none, fits, twice bits some)))
+    (cases_lt d (2 ^ (bits - 1)))
+
+pub split-full : (bits k size d : ℕ) → 1 ≤ bits → bits ≤ 32 → d < 2 ^ bits → IsUp bits d size → IsDown bits d size → k ≡ 32 → 2 ^ k ≤ 2 * size → k ≡ digits_of size → IsSplit bits d 32 0
+split-full bits k size d some few fits up down full least is =
+    ⊎_elim
+    (λ (less : d < 2 ^ (bits - 1)).
+    let powers : 2 ^ k ≡ 2 ^ 32 = ap (λ n. 2 ^ n) full in
+    absurd (omega (arith, up less, least, powers, twice bits some, power-le bits 32 few)))
+    (λ (more : 2 ^ (bits - 1) ≤ d). split-most bits k size d some few more fits (down more) least full is)
+    (cases_lt d (2 ^ (bits - 1)))
+
+pub split-part : (bits k size v d : ℕ) → 1 ≤ bits → bits ≤ 32 → d < 2 ^ bits → IsUp bits d size → IsDown bits d size → 0 < k → k < 32 → 2 ^ k ≤ 2 * size → size < 2 ^ k → k ≡ digits_of size
+    → (d < 2 ^ (bits - 1) → v ≡ size) → (2 ^ (bits - 1) ≤ d → v ≡ 2 ^ k - 1 - size) → IsSplit bits d k v
+split-part bits k size v d some few fits up down one small least above is v_up v_down =
+    ⊎_elim
+    (λ (less : d < 2 ^ (bits - 1)).
+    let positive : 0 < 2 ^ k = pow_pos k in
+    rw (v_up less) (split-up bits k size d some few less (omega (arith, up less, least, positive)) one least above is))
+    (λ (more : 2 ^ (bits - 1) ≤ d). split-down bits k size v d some few more fits (down more) one small least above (v_down more) is)
+    (cases_lt d (2 ^ (bits - 1)))

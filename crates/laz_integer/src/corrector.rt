@@ -39,29 +39,55 @@ pub fn split(bits: u32, difference: u32) -> (u32, u32)
     ensures makes { corrector bits result.0 result.1 ≡ difference }
 {
     let half = 1 << (bits - 1);
-    if difference < half {
-        if difference < 2 {
-            return (0, difference);
-        }
-        let size = difference - 1;
-        return (binary_digits(size), size);
-    }
-    let size = half - (difference - half);
+    let size = size_of_corrector(half, difference);
     let width = binary_digits(size);
+    if width == 0 {
+        return (0, difference);
+    }
     if width == 32 {
         return (32, 0);
     }
-    (width, (1 << width) - 1 - size)
+    (width, place(half, difference, width, size))
+}
+
+/// The corrector less one where it is above 0, or how far it is below 0.
+// Neither this nor `place` branches: a corrector's sign is not to be foreseen.
+#[inline]
+fn size_of_corrector(half: u32, difference: u32) -> u32
+    requires { difference < 2 * half }
+    ensures up { difference < half → result ≡ difference - 1 }
+    ensures down { half ≤ difference → result ≡ half - (difference - half) }
+{
+    if difference < half {
+        difference.saturating_sub(1)
+    } else {
+        half - (difference - half)
+    }
+}
+
+/// Which corrector of a width it is.
+#[inline]
+fn place(half: u32, difference: u32, width: u32, size: u32) -> u32
+    requires some { 0 < width }
+    requires small { width < 32 }
+    requires above { size < 2 ^ width }
+    ensures up { difference < half → result ≡ size }
+    ensures down { half ≤ difference → result ≡ 2 ^ width - 1 - size }
+{
+    if difference < half {
+        size
+    } else {
+        (1 << width) - 1 - size
+    }
 }
 
 /// How many binary digits a number has.
 #[inline]
 fn binary_digits(size: u32) -> u32
-    requires { 0 < size }
     ensures digits { result ≡ digits_of size }
-    ensures some { 1 ≤ result }
     ensures few { result ≤ 32 }
-    ensures least { 2 ^ result ≤ 2 * size }
+    ensures none { result ≡ 0 → size ≡ 0 }
+    ensures least { 0 < result → 2 ^ result ≤ 2 * size }
     ensures above { size < 2 ^ result }
 {
     32 - size.leading_zeros()

@@ -1,15 +1,16 @@
-use Rattle.std.proofs.Common.{◌-◌, sym, arith}
+use Rattle.std.proofs.Common.{◌<◌, ◌-◌, sym, arith, ⊎_elim}
 use lib.Count.{count_leading_zeros}
-use Rattle.laz_integer.proofs.Correctors.{digits-bounds, digits-is, leading_some}
+use Rattle.laz_integer.proofs.Correctors.{IsDigits, digits-all}
 use Rattle.laz_integer.proofs.corrector.binary_digits.Goals as goal
 
+pub returns-clause-digits : goal.returns-clause-digits
+returns-clause-digits c = (digits-all c.args.size (omega arith)).is
+
+pub returns-clause-none : goal.returns-clause-none
+returns-clause-none c = (digits-all c.args.size (omega arith)).none
+
 pub returns-clause-least : goal.returns-clause-least
-returns-clause-least c = (digits-bounds c.args.size c.requires (omega arith)).0
+returns-clause-least c = (digits-all c.args.size (omega arith)).least
 
 pub returns-clause-above : goal.returns-clause-above
-returns-clause-above c = (digits-bounds c.args.size c.requires (omega arith)).1
-
-pub returns-clause-digits : goal.returns-clause-digits
-returns-clause-digits c =
-    let bounds = digits-bounds c.args.size c.requires (omega arith) in
-    sym (digits-is 32 c.args.size (32 - count_leading_zeros 32 c.args.size) (omega arith) (leading_some c.args.size bounds.1 c.requires) bounds.0 bounds.1)
+returns-clause-above c = (digits-all c.args.size (omega arith)).above

@@ -1,33 +1,35 @@
-use Rattle.std.proofs.Common.{◌≡◌, ◌-◌, ◌*◌, ◌^◌, ◌%◌, ◌<◌, refl, arith}
+use Rattle.std.proofs.Common.{◌≡◌, ◌-◌, ◌+◌, ◌*◌, ◌^◌, ◌%◌, ◌<◌, ◌≤◌, ap, sym, refl, arith, ⊎_elim}
+use Rattle.std.proofs.lemmas.Bool.{cases_lt}
 use Rattle.std.proofs.lemmas.Nat.{one_shl}
-use Rattle.laz_integer.proofs.Correctors.{split-small, split-up, split-down, split-most}
+use Rattle.laz_integer.proofs.Correctors.{IsSplit, twice, split-zero, split-full, split-part}
 use Rattle.laz_integer.proofs.corrector.split.Goals as goal
 
-pub returns-then-difference-lt2 : goal.returns-then-difference-lt2
-returns-then-difference-lt2 c =
+pub size_of_corrector-size-requires : goal.size_of_corrector-size-requires
+size_of_corrector-size-requires c =
     let half : 1 * 2 ^ (c.args.bits - 1) % 4294967296 ≡ 2 ^ (c.args.bits - 1) = one_shl (c.args.bits - 1) 32 (omega arith) in
-    let r = split-small c.args.bits c.args.difference (rw half at c.if-difference-half.true) c.if-difference-lt2.true in
-    record { width = r.width; place = r.place; digits = r.digits; value = r.value; makes = r.makes }
+    rw half (omega (arith, twice c.args.bits c.requires.some))
 
-pub returns-then-difference-half : goal.returns-then-difference-half
-returns-then-difference-half c =
+pub returns-then-width-eq0 : goal.returns-then-width-eq0
+returns-then-width-eq0 c =
     let half : 1 * 2 ^ (c.args.bits - 1) % 4294967296 ≡ 2 ^ (c.args.bits - 1) = one_shl (c.args.bits - 1) 32 (omega arith) in
-    let digits = c.binary_digits.ensures in
-    let r = split-up c.args.bits c.binary_digits.result (c.args.difference - 1) c.args.difference c.requires.some c.requires.few (rw half at c.if-difference-half.true) (omega arith) digits.some digits.least digits.above digits.digits in
+    let size = c.size_of_corrector-size.ensures in
+    let r = split-zero c.args.bits c.size_of_corrector-size.result c.args.difference c.requires.some c.requires.few c.requires.fits (rw half at size.up) (rw half at size.down) (c.binary_digits-width.ensures.none c.if-width-eq0.true) in
     record { width = r.width; place = r.place; digits = r.digits; value = r.value; makes = r.makes }
 
 pub returns-then-width-eq32 : goal.returns-then-width-eq32
 returns-then-width-eq32 c =
     let half : 1 * 2 ^ (c.args.bits - 1) % 4294967296 ≡ 2 ^ (c.args.bits - 1) = one_shl (c.args.bits - 1) 32 (omega arith) in
+    let size = c.size_of_corrector-size.ensures in
     let digits = c.binary_digits-width.ensures in
-    let r = split-most c.args.bits c.binary_digits-width.result _ c.args.difference c.requires.some c.requires.few (rw half at c.if-difference-half.false) c.requires.fits (rw half refl) digits.least c.if-width-eq32.true digits.digits in
+    let r = split-full c.args.bits c.binary_digits-width.result c.size_of_corrector-size.result c.args.difference c.requires.some c.requires.few c.requires.fits (rw half at size.up) (rw half at size.down) c.if-width-eq32.true (digits.least (omega (arith, c.if-width-eq0.false))) digits.digits in
     record { width = r.width; place = r.place; digits = r.digits; value = r.value; makes = r.makes }
 
 pub returns : goal.returns
 returns c =
     let half : 1 * 2 ^ (c.args.bits - 1) % 4294967296 ≡ 2 ^ (c.args.bits - 1) = one_shl (c.args.bits - 1) 32 (omega arith) in
+    let size = c.size_of_corrector-size.ensures in
     let digits = c.binary_digits-width.ensures in
+    let some : 0 < c.binary_digits-width.result = omega (arith, c.if-width-eq0.false) in
     let small : c.binary_digits-width.result < 32 = omega (arith, digits.few, c.if-width-eq32.false) in
-    let power = one_shl c.binary_digits-width.result 32 small in
-    let r = split-down c.args.bits c.binary_digits-width.result _ _ c.args.difference c.requires.some c.requires.few (rw half at c.if-difference-half.false) c.requires.fits (rw half refl) digits.some small digits.least digits.above (rw power refl) digits.digits in
+    let r = split-part c.args.bits c.binary_digits-width.result c.size_of_corrector-size.result c.place.result c.args.difference c.requires.some c.requires.few c.requires.fits (rw half at size.up) (rw half at size.down) some small (digits.least some) digits.above digits.digits (rw half at c.place.ensures.up) (rw half at c.place.ensures.down) in
     record { width = r.width; place = r.place; digits = r.digits; value = r.value; makes = r.makes }

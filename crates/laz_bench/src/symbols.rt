@@ -1,0 +1,76 @@
+//! Symbols of 256 through a bank of models, each under the model that the one before it chooses.
+ghost use Rattle.std.specs.Prelude.{◌≡◌, ◌*◌, ◌≤◌, false, length, replicate};
+ghost use Rattle.laz_models.specs.Bank.{sizes_of};
+
+use crate::draws::{add, checksum};
+use crate::range::{are_starts, drawn, located, locates, skewed};
+use anyhow::{Result, bail};
+use laz_integer::{put_symbol_of, take_symbol_of};
+use laz_models::ModelBank;
+use laz_range::{Bad, Decoder, Encoder};
+use std::alloc::Global;
+use std::rt::Clock;
+use std::time::Instant;
+
+fn code_all(encoder: &mut Encoder, bank: &mut ModelBank, symbols: &[u8])
+    requires sizes { sizes_of bank.old ≡ replicate 8 256 }
+    requires left { 3 * length symbols.now ≤ encoder.old.left }
+{
+    let mut before = 0;
+    for symbol in symbols {
+        let symbol = *symbol as u32;
+        put_symbol_of(encoder, bank, before % 8, symbol);
+        before = symbol;
+    }
+}
+
+/// A checksum of the symbols that are read.
+fn read_all(decoder: &mut Decoder<'_>, bank: &mut ModelBank, count: u32) -> Result<u64, Bad>
+    requires good { decoder.old.failed ≡ false }
+    requires sizes { sizes_of bank.old ≡ replicate 8 256 }
+{
+    let mut sum: u64 = 0;
+    let mut before = 0;
+    for _ in 0..count {
+        before = take_symbol_of(decoder, bank, before % 8)?;
+        sum = add(sum, before as u64);
+    }
+    Ok(sum)
+}
+
+pub fn run(rt: &(impl Print + Eprint + Clock + Alloc<A = Global>), count: u32) -> Result<()> {
+    let alloc = rt.alloc();
+    let starts = skewed(alloc)?;
+    if !are_starts(&starts) {
+        bail!("no starts");
+    }
+    let table = located(alloc, &starts)?;
+    if !locates(&starts, &table) {
+        bail!("no table");
+    }
+    let symbols = drawn(alloc, &table, count)?;
+    let mut bank = ModelBank::new(alloc, &[256; 8])?;
+    let mut encoder = Encoder::with_room(vec![in alloc; 0; 3 * symbols.len() + 4]?, 0);
+    let start = Instant::now(rt)?;
+    code_all(&mut encoder, &mut bank, &symbols);
+    let coded = start.elapsed(rt)?;
+    let (room, size) = encoder.finish();
+    let bytes = &room[..size];
+    println!(rt; "{size} bytes, checksum {}", checksum(bytes))?;
+    let Ok(mut decoder) = Decoder::new(bytes) else {
+        bail!("no events");
+    };
+    let mut bank = ModelBank::new(alloc, &[256; 8])?;
+    let start = Instant::now(rt)?;
+    let Ok(sum) = read_all(&mut decoder, &mut bank, count) else {
+        bail!("the bytes run out");
+    };
+    let read = start.elapsed(rt)?;
+    println!(rt; "symbols, checksum {sum}, {}", checksum(&symbols))?;
+    eprintln!(rt;
+        "code {} ns, read {} ns, {count} symbols",
+        coded.as_nanos(),
+        read.as_nanos()
+    )?;
+    Ok(())
+}
