@@ -1,11 +1,12 @@
 //! The files of the system.
-ghost use Rattle.std.specs.Prelude.{None, ◌<◌, ◌≤◌, length, vec_len, IfOk, IfSome, OnErr};
+ghost use Rattle.std.specs.Prelude.{◌≡◌, None, ◌<◌, ◌≤◌, length, vec_len, IfOk, IfSome, OnErr};
 ghost use Rattle.las_outside.specs.Faults.{Rose};
 
 use crate::{Failed, Files};
 use std::alloc::Global;
 use std::fs::{self, File, OpenOptions};
 use std::io;
+use std::marker::Model;
 use std::os::unix::fs::FileExt;
 use std::rt::Files as System;
 
@@ -16,7 +17,7 @@ struct Opened {
     file: File,
 }
 
-/// The files of the system. What they hold is not told.
+/// The files of the system. What they hold is not told. Contracts see the two counts of faults, of reads and of writes.
 ///
 /// A file is opened at the first call for its name and stays open, once to read and once to write. Reads and writes are
 /// at positions, so none is opened to append: the system would append a patch too. Each error of std is a fault, also
@@ -31,9 +32,20 @@ pub struct RealFiles<R: System<File = File> + Drop> {
     write_faults: u64,
 }
 
+impl<R: System<File = File> + Drop> Model for RealFiles<R> {
+    ghost use Rattle.std.specs.Prelude.{ℕ};
+
+    ghost Value = { ℕ × ℕ };
+
+    ghost view = { λ f. (f.read_faults, f.write_faults) };
+}
+
 impl<R: System<File = File> + AllocGlobal + Drop> RealFiles<R> {
     /// No file is open yet, and no call has failed.
-    pub fn new(rt: R) -> RealFiles<R> {
+    pub fn new(rt: R) -> RealFiles<R>
+        ensures reads { result.0 ≡ 0 }
+        ensures writes { result.1 ≡ 0 }
+    {
         let alloc = rt.alloc();
         RealFiles {
             rt,
@@ -129,9 +141,9 @@ fn counted<T>(outcome: io::Result<T>, faults: &mut u64) -> Result<T, Failed>
 impl<R: System<File = File> + AllocGlobal + Drop> Files for RealFiles<R> {
     ghost held = { λ f. None };
 
-    ghost read_faults = { λ f. f.read_faults };
+    ghost read_faults = { λ f. f.0 };
 
-    ghost write_faults = { λ f. f.write_faults };
+    ghost write_faults = { λ f. f.1 };
 
     fn size(&mut self, name: &str) -> Result<u64, Failed> {
         let outcome = match to_read(&self.rt, self.alloc, &mut self.read, name) {

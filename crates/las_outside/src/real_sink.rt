@@ -1,8 +1,9 @@
 //! The process's standard output and standard error.
-ghost use Rattle.std.specs.Prelude.{None};
+ghost use Rattle.std.specs.Prelude.{◌≡◌, None};
 
 use crate::{Failed, Sink};
 use std::io::{self, Stderr, Stdout, Write};
+use std::marker::Model;
 
 #[derive(Drop)]
 enum Stream {
@@ -10,16 +11,26 @@ enum Stream {
     Err(Stderr),
 }
 
-/// Standard output or standard error. What it holds is not told.
+/// Standard output or standard error. What it holds is not told. Contracts see its count of faults.
 #[derive(Drop)]
 pub struct RealSink {
     stream: Stream,
     faults: u64,
 }
 
+impl Model for RealSink {
+    ghost use Rattle.std.specs.Prelude.{ℕ};
+
+    ghost Value = { ℕ };
+
+    ghost view = { λ s. s.faults };
+}
+
 impl RealSink {
     /// Standard output.
-    pub fn out(rt: &HostRuntime) -> RealSink {
+    pub fn out(rt: &HostRuntime) -> RealSink
+        ensures { result ≡ 0 }
+    {
         RealSink {
             stream: Stream::Out(rt.stdout()),
             faults: 0,
@@ -27,7 +38,9 @@ impl RealSink {
     }
 
     /// Standard error.
-    pub fn err(rt: &HostRuntime) -> RealSink {
+    pub fn err(rt: &HostRuntime) -> RealSink
+        ensures { result ≡ 0 }
+    {
         RealSink {
             stream: Stream::Err(rt.stderr()),
             faults: 0,
@@ -48,7 +61,7 @@ fn write(stream: &mut Stream, bytes: &[u8]) -> io::Result<()> {
 impl Sink for RealSink {
     ghost written = { λ s. None };
 
-    ghost faults = { λ s. s.faults };
+    ghost faults = { λ s. s };
 
     fn put(&mut self, bytes: &[u8]) -> Result<(), Failed> {
         match write(&mut self.stream, bytes) {
