@@ -8,10 +8,8 @@ use Rattle.laz_range.specs.Cut.{Cut, Bit, raw_cuts}
 use Rattle.laz_range.specs.Reading.{follow_all}
 use Rattle.laz_range.specs.Decoding.{Decoding, Takes, TakesNone, Reads, reading_of}
 use Rattle.laz_range.proofs.Composition.{Takes-then, TakesNone-first, TakesNone-second, Takes-empty}
-use Rattle.laz_models.specs.BitCounting.{bit_counted}
 use Rattle.laz_integer.specs.Corrector.{choices}
-use Rattle.laz_integer.specs.Integer.{IntState, symbol_cut, high_at, width_counted, high_counted, bit_taken, rest_cuts, wide_cuts, rest_next}
-use Rattle.laz_integer.proofs.Correctors.{choices-more}
+use Rattle.laz_integer.specs.Integer.{IntState, symbol_cut, high_at, high_counted, bit_taken, rest_cuts, wide_cuts, rest_next}
 
 -- ---- the same choice, said otherwise
 pub Takes-onto : {X Z : Type 0} (f : X → Z) (back : Z → X) (P : X → Type 0) (Q : Z → Type 0) (cuts : X → List Cut) (others : Z → List Cut) (a b : Decoding) (x : X)

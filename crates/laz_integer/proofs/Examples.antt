@@ -1,10 +1,10 @@
-use Rattle.std.proofs.Common.{◌≡◌, ℕ, ℤ, pos, negsuc, true, false, List, [], ◌∷◌, refl}
+use Rattle.std.proofs.Common.{◌≡◌, ℕ, pos, negsuc, true, false, List, [], ◌∷◌, refl}
 use Rattle.laz_range.specs.Span.{span, bytes_of, renewed, narrowed}
 use Rattle.laz_models.specs.Counting.{parts_of}
 use Rattle.laz_models.specs.Dist.{counts_at, cycle_in}
-use Rattle.laz_integer.specs.Corrector.{digits_within, width_of, place_of, corrector, corrected, difference}
-use Rattle.laz_integer.specs.Events.{Event, Symbol, Flag, Bits, cuts_of}
-use Rattle.laz_integer.specs.Integer.{IntEvents, int_width, width_name, bit_name, high_name, rest_events}
+use Rattle.laz_integer.specs.Corrector.{digits_within, width_of, place_of, corrector, corrected}
+use Rattle.laz_integer.specs.Events.{Symbol, Flag, Bits, cuts_of}
+use Rattle.laz_integer.specs.Integer.{IntEvents, width_name, bit_name, high_name, rest_events}
 
 -- an integer called "x"
 x : List ℕ

@@ -1,20 +1,20 @@
-use Rattle.std.proofs.Common.{◌≡◌, ℕ, ◌+◌, ◌-◌, ◌*◌, ◌/◌, ◌^◌, ◌<◌, ◌≤◌, min, List, length, map, sum, replicate, get_or, set, refl, sym, ap, ◌∙◌, arith, ⊎_elim, length-set, subst, Bool, true, false, eqb, lit≤, lit<, Result, Ok, Err, IfOk, OnErr}
+use Rattle.std.proofs.Common.{◌≡◌, ℕ, ◌+◌, ◌-◌, ◌*◌, ◌/◌, ◌^◌, ◌<◌, ◌≤◌, min, List, length, map, sum, get_or, set, sym, ◌∙◌, arith, ⊎_elim, length-set, subst, Bool, true, false, eqb, lit≤, lit<, Result, Ok, Err, IfOk, OnErr}
 use Rattle.std.proofs.lemmas.Bool.{cases_lt, cases_eq, cond-true, cond-false, eq-eqb, ne_eqb}
 use Rattle.std.proofs.lemmas.List.{get_or-set_same, get_or-set_other, get_or-map, length-map, length-replicate}
-use Rattle.laz_models.specs.Counting.{Counting, AreCounts, AreParts, counted, fresh, turned, limited, bumped, halved, parts_of, first_cycle, next_cycle}
+use Rattle.laz_models.specs.Counting.{Counting, AreCounts, counted, fresh, turned, limited, bumped}
 use Rattle.laz_models.specs.BitCounting.{BitCounting, IsBitCounting, bit_counted, bit_turned, bit_limited, fresh_bit, zeros_with}
 use Rattle.laz_models.proofs.BitParts.{bit_counted-last, bit_counted-more, p0_bounds, limited-small as bit-small, limited-large as bit-large}
 use Rattle.laz_models.specs.Bank.{model_at}
 use Rattle.laz_models.specs.Dist.{size_of}
-use Rattle.laz_models.proofs.Banks.{sizes-set, size-counted}
+use Rattle.laz_models.proofs.Banks.{sizes-set}
 use Rattle.laz_models.proofs.Models.{first-AreParts, AreCounts-bumped, sum-bumped}
 use Rattle.laz_models.proofs.Parts.{counted-last, counted-more, AreCounts-limited, AreCounts-ones, sum-ones, limited-small, limited-large, sum-halved-le, parts_of-AreParts, min-cycles}
 use Rattle.laz_models.proofs.Stand.{length-limited}
 use Rattle.laz_range.specs.Cut.{Cut}
 use Rattle.laz_range.specs.Decoding.{Decoding, Reads}
 use Rattle.laz_integer.specs.Sound.{IsSound, AreSound}
-use Rattle.laz_integer.specs.Integer.{IntState, IsIntState, int_sizes, high_at, width_counted, high_counted, bit_taken}
-use Rattle.laz_integer.proofs.States.{models-count, width-size, high-size, high-in, sizes-fresh, sizes-range, length-sizes}
+use Rattle.laz_integer.specs.Integer.{IntState, IsIntState, int_sizes, width_counted, high_counted, bit_taken}
+use Rattle.laz_integer.proofs.States.{models-count, width-size, high-size, high-in, sizes-fresh, sizes-range}
 
 -- ---- a model of symbols is sound, whatever it counts
 pub IsSound-fresh : (n : ℕ) → 2 ≤ n → n ≤ 2048 → IsSound (fresh n)

@@ -1,21 +1,20 @@
-use Rattle.std.proofs.Common.{◌≡◌, ℕ, ℤ, ◌+◌, ◌-◌, ◌/◌, ◌%◌, ◌^◌, ◌<◌, ◌≤◌, min, eqb, Bool, List, [], ◌∷◌, ◌++◌, length, refl, sym, ap, ◌∙◌, arith, ⊎_elim, subst}
+use Rattle.std.proofs.Common.{◌≡◌, ℕ, ℤ, ◌+◌, ◌-◌, ◌/◌, ◌%◌, ◌^◌, ◌<◌, ◌≤◌, min, List, [], ◌∷◌, ◌++◌, length, refl, sym, ap, ◌∙◌, arith, ⊎_elim, subst}
 use Rattle.std.proofs.lemmas.Bool.{cases_lt, cases_eq}
 use Rattle.std.specs.Int.{w32, cast_signed, cast_unsigned}
 use mir.Val.{SFits}
 use Rattle.std.proofs.lemmas.Int.{to_z-of_z, of_z-to_z}
 use Rattle.std.proofs.Math.Facts.{Fits-of_z}
-use Rattle.laz_range.specs.Cut.{Cut, Bit, AreCuts, raw_cuts}
+use Rattle.laz_range.specs.Cut.{Cut, AreCuts, raw_cuts}
 use Rattle.laz_range.specs.Span.{Begins, span}
 use Rattle.laz_range.specs.Coding.{Coding, Codes}
-use Rattle.laz_range.specs.Decoding.{Decoding, HasRead, ReadsOn, Takes, TakesNone}
+use Rattle.laz_range.specs.Decoding.{Decoding, ReadsOn, Takes, TakesNone}
 use Rattle.laz_range.proofs.Refills.{wide_cuts as wide_cuts_is, short_cuts}
 use Rattle.laz_range.proofs.Decodings.{Takes-ReadsOn, TakesNone-NoneBegins, Takes-begins, AreCuts-raw}
-use Rattle.laz_models.specs.BitCounting.{BitCounting}
 use Rattle.laz_models.specs.Bank.{model_at}
 use Rattle.laz_models.specs.Dist.{size_of}
 use Rattle.laz_integer.specs.Corrector.{choices, corrected, corrector, difference, HasBits, width_of, place_of}
 use Rattle.laz_integer.specs.Events.{Event, cuts_behind}
-use Rattle.laz_integer.specs.Integer.{IntState, IsIntState, IntStands, IntSpell, IntEvents, IsCorrector, ReadsInt, NoInt, corrector_events, symbol_cut, high_at, width_counted, rest_cuts, wide_cuts, int_cuts, int_next, int_width}
+use Rattle.laz_integer.specs.Integer.{IntState, IsIntState, IntStands, IntSpell, IntEvents, IsCorrector, ReadsInt, NoInt, corrector_events, symbol_cut, high_at, width_counted, rest_cuts, int_cuts, int_next}
 use Rattle.laz_integer.proofs.Correctors.{choices-more, difference-on, word-fits}
 use Rattle.laz_integer.proofs.Choices.{cuts-zero, cuts-most, cuts-narrow, cuts-wide, cuts-above, wide_parts}
 use Rattle.laz_integer.proofs.States.{models-count, width-size, high-size, high-in}

@@ -1,12 +1,12 @@
-use Rattle.std.proofs.Common.{◌≡◌, ℕ, ◌+◌, ◌-◌, ◌*◌, ◌/◌, ◌%◌, ◌^◌, ◌<◌, ◌≤◌, eqb, leb, min, Bool, List, [], ◌∷◌, ◌++◌, length, map, get_or, set, refl, sym, ap, ◌∙◌, arith, ⊎_elim, lit≤, append_assoc, subst}
+use Rattle.std.proofs.Common.{◌≡◌, ℕ, ◌+◌, ◌-◌, ◌/◌, ◌%◌, ◌^◌, ◌<◌, ◌≤◌, eqb, leb, min, Bool, List, [], ◌∷◌, ◌++◌, length, map, get_or, refl, sym, ap, ◌∙◌, arith, ⊎_elim, lit≤, append_assoc, subst}
 use Rattle.std.proofs.lemmas.Bool.{cases_lt, cases_eq, cond-true, cond-false, ne_eqb, le-leb, lt-leb}
 use Rattle.std.proofs.lemmas.List.{append-nil, get_or-set_same, get_or-set_other, get_or-map}
 use Rattle.std.proofs.Math.Nat.{pow-le-pow_right}
-use Rattle.laz_range.specs.Cut.{Cut, Bit, symbol, raw_cuts}
+use Rattle.laz_range.specs.Cut.{Cut, Bit, symbol}
 use Rattle.laz_models.specs.Counting.{Counting, counted, fresh}
 use Rattle.laz_models.specs.BitCounting.{BitCounting, bit_counted, fresh_bit}
-use Rattle.laz_models.specs.Dist.{StandsFor, dist, size_of}
-use Rattle.laz_models.specs.BitDist.{BitStandsFor, p0_of}
+use Rattle.laz_models.specs.Dist.{StandsFor, size_of}
+use Rattle.laz_models.specs.BitDist.{BitStandsFor}
 use Rattle.laz_models.specs.Bank.{model_at}
 use Rattle.laz_models.proofs.Banks.{StandsFor-push, StandsFor-fresh}
 use Rattle.laz_models.proofs.BitStand.{BitStandsFor-push, BitStandsFor-fresh}
@@ -17,7 +17,7 @@ use Rattle.laz_integer.proofs.Correctors.{choices-more}
 use Rattle.laz_integer.proofs.Choices.{cuts-zero, cuts-most, cuts-narrow, cuts-wide, next-zero, next-most, next-narrow, next-wide, wide_parts}
 use Rattle.laz_integer.proofs.States.{models-count, width-size, high-size, high-in, length-sizes, sizes-two}
 use Rattle.laz_integer.proofs.Sounds.{IsIntState-width}
-use Rattle.laz_integer.proofs.Named.{same-width, same-high, same-bit, other-width, other-high, symbols-with, symbols-without, bits-with, symbols-flag, bits-symbol, symbols-raw, bits-raw, cuts-raw, symbols_under-append, bits_under-append, cuts_behind-append}
+use Rattle.laz_integer.proofs.Named.{same-width, same-high, same-bit, other-width, other-high, symbols-with, symbols-without, bits-with, symbols-flag, bits-symbol, symbols-raw, bits-raw, cuts-raw, symbols_under-append, bits_under-append}
 
 -- ---- one event behind others, and the part that its model gives
 pub symbol-cut : (earlier : List Event) (name : Name) (m : Counting) (n s : ℕ) → size_of m ≡ n → StandsFor (symbols_under name earlier) m → cut_behind earlier (Symbol name n s) ≡ symbol_cut m s

@@ -1,10 +1,9 @@
-use Rattle.std.proofs.Common.{◌≡◌, ℕ, zero, suc, ◌+◌, ◌-◌, ◌<◌, ◌≤◌, Bool, List, [], ◌∷◌, length, get_or, refl, sym, ap, ◌∙◌, arith, ⊎_elim, Result, Ok, Err, IfOk, OnErr}
-use Rattle.std.specs.Bool.{⊤}
+use Rattle.std.proofs.Common.{◌≡◌, ℕ, zero, suc, ◌+◌, ◌-◌, ◌<◌, ◌≤◌, List, [], ◌∷◌, length, get_or, arith, ⊎_elim}
 use Rattle.std.proofs.lemmas.Bool.{cases_lt, cases_eq}
-use Rattle.laz_range.specs.Cut.{Cut, Part, Bit, IsCut, AreCuts, IsLike, IsDistribution, one_event, symbol}
-use Rattle.laz_range.specs.Decoding.{Decoding, Takes, TakesNone, Reads, ReadsOn, NoneBegins}
+use Rattle.laz_range.specs.Cut.{Part, AreCuts, IsLike, IsDistribution, one_event, symbol}
+use Rattle.laz_range.specs.Decoding.{Decoding, Takes, TakesNone, ReadsOn, NoneBegins}
 use Rattle.laz_range.proofs.Distributions.{IsLike-symbols, IsCut-symbol}
-use Rattle.laz_range.proofs.Events.{Takes-pull, TakesNone-pull, AreCuts-bit}
+use Rattle.laz_range.proofs.Events.{Takes-pull, TakesNone-pull}
 use Rattle.laz_range.proofs.Decodings.{Takes-ReadsOn, TakesNone-NoneBegins}
 use Rattle.laz_models.specs.Counting.{Counting, AreParts}
 use Rattle.laz_models.specs.Dist.{StandsFor, dist, size_of}

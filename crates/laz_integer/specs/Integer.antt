@@ -1,11 +1,11 @@
-use Rattle.std.specs.Prelude.{◌≡◌, ℕ, ℤ, ◌+◌, ◌-◌, ◌/◌, ◌%◌, ◌^◌, ◌<◌, ◌≤◌, ◌==◌, min, List, [], ◌∷◌, ◌++◌, length, map, replicate, nat_le, if◌then◌else◌, slice_set}
+use Rattle.std.specs.Prelude.{◌≡◌, ℕ, ℤ, ◌+◌, ◌-◌, ◌/◌, ◌%◌, ◌^◌, ◌<◌, ◌≤◌, ◌==◌, min, List, [], ◌∷◌, ◌++◌, map, replicate, nat_le, if◌then◌else◌, slice_set}
 use Rattle.std.specs.List.{range_with_len}
 use Rattle.laz_range.specs.Cut.{Cut, Bit, raw_cuts, symbol}
 use Rattle.laz_range.specs.Span.{Begins, span}
 use Rattle.laz_range.specs.Decoding.{Decoding, HasRead, ReadsOn}
 use Rattle.laz_models.specs.Counting.{Counting, counted}
 use Rattle.laz_models.specs.BitCounting.{BitCounting, IsBitCounting, bit_counted}
-use Rattle.laz_models.specs.Dist.{StandsFor, size_of}
+use Rattle.laz_models.specs.Dist.{StandsFor}
 use Rattle.laz_models.specs.BitDist.{BitStandsFor}
 use Rattle.laz_models.specs.Bank.{model_at, sizes_of}
 use Rattle.laz_integer.specs.Events.{Event, Symbol, Flag, Name, Width, ZeroOrOne, High, cuts_behind, raw_events, symbols_under, bits_under}

@@ -1,7 +1,6 @@
 use Rattle.std.proofs.Common.{◌≡◌, ◌+◌, ◌-◌, ◌%◌, ◌^◌, ap, ◌∙◌}
-use Rattle.std.specs.Int.{w32, cast_signed, cast_unsigned}
+use Rattle.std.specs.Int.{w32, cast_unsigned}
 use Rattle.std.proofs.lemmas.Int.{to_z-of_z}
-use Rattle.laz_integer.specs.Corrector.{difference}
 use Rattle.laz_integer.proofs.Correctors.{low-mod}
 use Rattle.laz_integer.proofs.corrector.between.Goals as goal
 

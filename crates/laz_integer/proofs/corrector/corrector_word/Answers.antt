@@ -1,4 +1,4 @@
-use Rattle.std.proofs.Common.{◌≡◌, ◌+◌, ◌-◌, ◌*◌, ◌^◌, ◌%◌, ◌<◌, ◌≤◌, ap, sym, refl, ◌∙◌, arith}
+use Rattle.std.proofs.Common.{◌≡◌, ◌+◌, ◌-◌, ◌*◌, ◌^◌, ◌%◌, ◌<◌, ◌≤◌, refl, arith}
 use Rattle.std.proofs.lemmas.Nat.{one_shl}
 use Rattle.laz_integer.proofs.Correctors.{choices-more, corrector-zero, corrector-most, corrector-upper, corrector-down, twice, power-le, up-mod, down-mod}
 use Rattle.laz_integer.proofs.corrector.corrector_word.Goals as goal

@@ -1,4 +1,4 @@
-use Rattle.std.proofs.Common.{◌≤◌, length, arith}
+use Rattle.std.proofs.Common.{arith}
 use Rattle.laz_integer.proofs.States.{length-sizes, sizes-range}
 use Rattle.laz_integer.proofs.models.new_models.Goals as goal
 

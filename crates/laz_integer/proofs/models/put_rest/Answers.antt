@@ -1,4 +1,4 @@
-use Rattle.std.proofs.Common.{◌≡◌, ◌-◌, ◌/◌, ◌%◌, ◌^◌, ◌<◌, refl, sym, [], ◌∷◌, min, arith}
+use Rattle.std.proofs.Common.{◌≡◌, ◌-◌, ◌/◌, ◌%◌, ◌^◌, ◌<◌, refl, [], ◌∷◌, min, arith}
 use Rattle.std.proofs.lemmas.Nat.{and_mask, one_shl}
 use Rattle.laz_range.specs.Cut.{raw_cuts}
 use Rattle.laz_range.proofs.Whole.{Codes-append}

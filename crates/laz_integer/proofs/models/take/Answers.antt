@@ -1,4 +1,4 @@
-use Rattle.std.proofs.Common.{ℕ, ◌<◌, ◌≤◌, [], ◌∷◌}
+use Rattle.std.proofs.Common.{◌<◌, ◌≤◌, [], ◌∷◌}
 use Rattle.std.proofs.lemmas.Result.{err_from_is_err_and}
 use Rattle.laz_range.proofs.Composition.{Takes-then, TakesNone-first, TakesNone-second}
 use Rattle.laz_models.specs.Bank.{model_at}

@@ -1,4 +1,4 @@
-use Rattle.std.proofs.Common.{◌<◌, ◌+◌, ◌-◌, arith, refl, set}
+use Rattle.std.proofs.Common.{◌+◌, ◌-◌, arith, refl, set}
 use Rattle.laz_integer.specs.Models.{state_of}
 use Rattle.laz_integer.proofs.States.{high-size, high-in}
 use Rattle.laz_models.specs.Counting.{counted}

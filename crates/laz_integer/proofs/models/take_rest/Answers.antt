@@ -4,7 +4,7 @@ use Rattle.laz_integer.specs.Corrector.{choices}
 use Rattle.laz_integer.specs.Integer.{rest_next}
 use Rattle.laz_integer.specs.Models.{state_of}
 use Rattle.laz_integer.proofs.Correctors.{choices-more}
-use Rattle.laz_integer.proofs.Choices.{Reads-equal, zero-takes, zero-none, most-takes, bit_back, cuts-narrow, cuts-wide, next-zero, next-most, next-narrow, next-wide}
+use Rattle.laz_integer.proofs.Choices.{Reads-equal, zero-takes, zero-none, most-takes, bit_back, cuts-narrow, cuts-wide, next-most, next-narrow, next-wide}
 use Rattle.laz_integer.proofs.Sounds.{bit-after}
 use Rattle.laz_integer.proofs.models.take_rest.Goals as goal
 

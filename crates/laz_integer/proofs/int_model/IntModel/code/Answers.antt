@@ -1,4 +1,4 @@
-use Rattle.std.proofs.Common.{◌≡◌, ◌<◌, ◌∙◌, ap, sym, refl}
+use Rattle.std.proofs.Common.{◌∙◌, ap}
 use Rattle.laz_integer.specs.Corrector.{width_of, place_of}
 use Rattle.laz_integer.specs.Models.{state_of}
 use Rattle.laz_integer.proofs.Spellings.{IsWritten, written-codes, written-stands, written-spells, corrected-is, int-used, difference-passed, word_of}
