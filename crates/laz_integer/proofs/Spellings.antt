@@ -78,6 +78,9 @@ pair_second a b c d e = ap (λ (p : ℕ × ℕ). p.1) e
 same_events : (kind : List ℕ) (bits ctx j w k v : ℕ) → j ≡ k → w ≡ v → corrector_events kind bits ctx j w ≡ corrector_events kind bits ctx k v
 same_events kind bits ctx j w k v e f = rw (e, f) refl
 
+same_integer : (bits : ℕ) (pred : ℤ) (j w k v : ℕ) → j ≡ k → w ≡ v → corrected bits pred j w ≡ corrected bits pred k v
+same_integer bits pred j w k v e f = rw (e, f) refl
+
 pub reads-int : (kind : List ℕ) (earlier : List Event) (st after : IntState) (ctx : ℕ) (pred value : ℤ) (k v : ℕ) (old new : Decoding) → IsIntState st → ctx < st.contexts → IntStands kind earlier st
     → Takes {X = ℕ × ℕ} (IsCorrector st.bits) (λ y. int_cuts st ctx y.0 y.1) old new (k, v) → value ≡ corrected st.bits pred k v → after ≡ int_next st ctx k v → ReadsInt kind earlier st.bits ctx pred value k old new after
 reads-int kind earlier st after ctx pred value k v old new is within stands takes makes next =
@@ -94,7 +97,12 @@ reads-int kind earlier st after ctx pred value k v old new is within stands take
           let same = Takes-begins {X = ℕ × ℕ} (IsCorrector st.bits) (λ y. int_cuts st ctx y.0 y.1) old new (k, v) (λ y asked. AreCuts-int st ctx y is within asked) takes
           read had (j, spells.v) (spells.width, spells.within)
           (subst (λ (cs : List Cut). Begins (span (read ++ cs)) old.bytes) (spelled-cuts kind earlier st ctx pred other others j is within stands spells) begins) in
-          spells.is ∙ same_events kind st.bits ctx j spells.v k v (pair_first j spells.v k v same) (pair_second j spells.v k v same);
+          let same_k : j ≡ k = pair_first j spells.v k v same in
+          let same_v : spells.v ≡ v = pair_second j spells.v k v same in (
+            spells.is ∙ same_events kind st.bits ctx j spells.v k v same_k same_v,
+            spells.makes ∙ same_integer st.bits pred j spells.v k v same_k same_v ∙ sym makes,
+            same_k,
+          );
     }
 
 -- ---- a writer's corrector makes the integer

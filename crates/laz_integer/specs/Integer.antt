@@ -134,13 +134,13 @@ IsCorrector bits x = (x.0 ≤ bits) × (x.1 < choices x.0)
 
 -- ---- what a reader answers
 
--- The reader has read the one spelling, with this prediction, that begins the bytes behind what was read.
+-- The reader has read the one spelling, with this prediction, that begins the bytes behind what was read: no other events, value or width does.
 pub record ReadsInt (kind : List ℕ) (earlier : List Event) (bits ctx : ℕ) (pred : ℤ) (value : ℤ) (k : ℕ) (old new : Decoding) (st : IntState) : Type 0 where
   pub events : List Event
   pub spells : IntSpell kind bits ctx pred events value k
   pub reads : ReadsOn (cuts_behind earlier events) old new
   pub stands : IntStands kind (earlier ++ events) st
-  pub only : (read : List Cut) → HasRead read old → (others : List Event) (other : ℤ) (j : ℕ) → IntSpell kind bits ctx pred others other j → Begins (span (read ++ cuts_behind earlier others)) old.bytes → others ≡ events
+  pub only : (read : List Cut) → HasRead read old → (others : List Event) (other : ℤ) (j : ℕ) → IntSpell kind bits ctx pred others other j → Begins (span (read ++ cuts_behind earlier others)) old.bytes → (others ≡ events) × (other ≡ value) × (j ≡ k)
 
 -- No spelling with this prediction, put behind what was read, begins the bytes.
 abbrev pub NoInt : List ℕ → List Event → ℕ → ℕ → ℤ → Decoding → Type 0

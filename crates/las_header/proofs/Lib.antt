@@ -1,0 +1,4 @@
+pub mod NumberLemmas
+pub mod HeadLemmas
+pub mod FileLemmas
+pub mod Examples

@@ -1,0 +1,4 @@
+pub mod ByName
+mod Examples
+pub mod FileLaws
+pub mod Rooms

@@ -1,0 +1,69 @@
+-- Files in memory, as a value.
+use Rattle.std.specs.Prelude.{ℕ, ◌<◌, ◌≡◌, ◌≢◌, List, [], ◌∷◌, length, Option, Some, None, unwrap_or, refl}
+use Rattle.std.specs.List.{slice_index_or}
+use Rattle.std.specs.Ordering.{nat_cmp}
+use Rattle.std.specs.Cmp.Lexicographic.{slice_cmp}
+use Rattle.std.specs.FinMap as map
+use Rattle.std.specs.Coded.{Coded, code_by, coded×, coded_ℕ, coded_list, coded_option}
+use Rattle.las_outside.specs.Files.{FileMap}
+
+-- the rooms of files: from names to numbers of bytes
+abbrev pub RoomMap : Type 0
+RoomMap = map.FinMap (slice_cmp nat_cmp) ℕ
+
+-- the room of a name, where one is kept, and else 0
+abbrev pub room_of : RoomMap → List ℕ → ℕ
+room_of rooms name = unwrap_or (map.get rooms name) 0
+
+-- a name, its room in bytes, and its bytes where the name is held
+pub record RoomFor : Type 0 where
+  pub name : List ℕ
+  pub room : ℕ
+  pub bytes : Option (List ℕ)
+
+abbrev pub room_for_code : Coded RoomFor
+room_for_code =
+    code_by (List ℕ × (ℕ × Option (List ℕ))) (coded× (coded_list coded_ℕ) (coded× coded_ℕ (coded_option (coded_list coded_ℕ))))
+    (λ r. (r.name, (r.room, r.bytes))) (λ p. record { name = p.0; room = p.1.0; bytes = p.1.1 }) (λ _. refl)
+
+-- the map with this value at the name, or with none
+abbrev pub setting : {X : Type 0} → map.FinMap (slice_cmp nat_cmp) X → List ℕ → Option X → map.FinMap (slice_cmp nat_cmp) X
+setting values name None = map.remove values name
+setting values name (Some x) = map.insert values name x
+
+-- what rooms have for their names, the first room for a name before all others
+abbrev pub by_name : {X : Type 0} → (RoomFor → Option X) → List RoomFor → map.FinMap (slice_cmp nat_cmp) X
+by_name value [] = map.empty
+by_name value (r ∷ rs) = setting (by_name value rs) r.name (value r)
+
+-- the files in a list of rooms
+abbrev pub files_in : List RoomFor → FileMap
+files_in rooms = by_name (λ r. r.bytes) rooms
+
+-- the sizes of the rooms in it
+abbrev pub rooms_in : List RoomFor → RoomMap
+rooms_in rooms = by_name (λ r. Some r.room) rooms
+
+-- At this index is the first room for a name.
+pub record IsFirst (rooms : List RoomFor) (name : List ℕ) (i : ℕ) : Type 0 where
+  pub within : i < length rooms
+  pub named : (r : RoomFor) → (slice_index_or rooms i r).name ≡ name
+  pub before : (k : ℕ) (r : RoomFor) → k < i → (slice_index_or rooms k r).name ≢ name
+
+-- No room is for this name.
+abbrev pub IsAbsent : List RoomFor → List ℕ → Type 0
+IsAbsent rooms name = (k : ℕ) (r : RoomFor) → k < length rooms → (slice_index_or rooms k r).name ≢ name
+
+-- files in memory: the files, the rooms that are kept for their names, and the counts of faults
+pub record Memory : Type 0 where
+  pub files : FileMap
+  pub rooms : RoomMap
+  pub read_faults : ℕ
+  pub write_faults : ℕ
+
+abbrev pub memory_code : Coded Memory
+memory_code =
+    code_by (FileMap × (RoomMap × (ℕ × ℕ)))
+    (coded× (map.code {R = slice_cmp nat_cmp} (coded_list coded_ℕ) (coded_list coded_ℕ)) (coded× (map.code {R = slice_cmp nat_cmp} (coded_list coded_ℕ) coded_ℕ) (coded× coded_ℕ coded_ℕ)))
+    (λ m. (m.files, (m.rooms, (m.read_faults, m.write_faults))))
+    (λ p. record { files = p.0; rooms = p.1.0; read_faults = p.1.1.0; write_faults = p.1.1.1 }) (λ _. refl)

@@ -1,0 +1,24 @@
+//! The outside of the product, behind traits: what is read, written and waited for.
+#![tactic(auto)]
+
+mod failed;
+mod files;
+mod gate;
+mod mem_files;
+mod mem_room;
+mod mem_sink;
+mod real_files;
+mod real_sink;
+mod sink;
+
+pub use failed::Failed;
+pub use files::Files;
+pub use gate::{Gate, OpenGate};
+pub use mem_files::MemFiles;
+pub use mem_sink::MemSink;
+pub use real_files::RealFiles;
+pub use real_sink::RealSink;
+pub use sink::Sink;
+
+#[cfg(test)]
+mod tests;

@@ -1,0 +1,9 @@
+pub use Rattle.las_header.specs.Refusals
+pub use Rattle.las_outside.specs.Drafts
+pub use Rattle.las_outside.specs.Faults
+pub use Rattle.las_outside.specs.Files
+pub mod Lines
+pub mod Outputs
+pub mod Run
+pub mod Stop
+pub mod Words

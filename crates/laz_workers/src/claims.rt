@@ -1,0 +1,123 @@
+ghost use Rattle.std.specs.Prelude.{◌≡◌, ℕ, ◌+◌, ◌-◌, ◌^◌, ◌<◌, ◌≤◌, IfOk, true, false, ◌++◌};
+ghost use Rattle.laz_workers.specs.Numbers.{HoldsBelow};
+ghost use Rattle.laz_workers.specs.Seen.{opening, split_pass, answer_of, Drew};
+
+use crate::pass::Pass;
+use crate::view::{Claiming, Draws, Joins, Looks, Sizes, Splits, View};
+use atomic_table::Table;
+use std::alloc::{AllocError, Global};
+use std::marker::Model;
+
+/// The numbers below a total, which passes draw from one shared word, each number once in any schedule of threads.
+///
+/// A claim is one `fetch_add` on the word. Claims are shared by reference, and each thread draws with a pass of its own.
+#[derive(Drop)]
+pub struct Claims {
+    table: Table<(), View, Sizes, Claiming, Global>,
+    total: u32,
+}
+
+impl Model for Claims {
+    ghost use Rattle.laz_workers.specs.Seen.{ClaimsSeen};
+
+    ghost Value = { ClaimsSeen };
+
+    ghost use Rattle.std.specs.Prelude.{◌≡◌};
+
+    ghost view = { λ c. record { word = c.table.shared.table_id; total = c.table.shared.key.total; workers = c.table.shared.key.workers } };
+
+    ghost invariant = { λ c. (c.table.shared.table_id.words ≡ 1) × (c.table.shared.table_id.slots ≡ 0) × (c.total ≡ c.table.shared.key.total) };
+}
+
+impl Claims {
+    /// Claims on the numbers below `total`, at most 2^24, by at most `workers` passes at once, 1 to 8, and the opening
+    /// pass. The opening pass can have `workers - 1` others split from it.
+    pub fn new(alloc: Global, total: u32, workers: u32) -> Result<(Claims, Pass), AllocError>
+        requires total { total ≤ 2 ^ 24 }
+        requires workers { (0 < workers) × (workers ≤ 8) }
+        ensures { IfOk result (λ r. (r.0.total ≡ total) × (r.0.workers ≡ workers) × (r.1 ≡ opening r.0)) }
+    {
+        let (table, seat) = Table::of_words(alloc, &[0], &Sizes { total, workers })?;
+        let pass = Pass {
+            seat,
+            spent: false,
+            rest: workers - 1,
+            out: 0,
+        };
+        Ok((Claims { table, total }, pass))
+    }
+
+    /// Splits a pass from the opening one, with nothing drawn, for a thread of its own. Only the opening pass has a rest.
+    pub fn split(&self, pass: &mut Pass) -> Pass
+        requires own { pass.old.claims ≡ self.now }
+        requires rest { 0 < pass.old.rest }
+        ensures pass { pass.new ≡ record pass.old { rest = pass.old.rest - 1; out = pass.old.out + 1 } }
+        ensures split { result ≡ split_pass pass.old }
+    {
+        let seat = self.table.shared.split_seat::<Splits>(&mut pass.seat);
+        pass.rest -= 1;
+        pass.out += 1;
+        Pass {
+            seat,
+            spent: false,
+            rest: 0,
+            out: 0,
+        }
+    }
+
+    /// Draws the next number, in one atomic step. `None` is a number at or past the total: the pass is spent then, and
+    /// draws no more.
+    pub fn claim(&self, pass: &mut Pass) -> Option<u32>
+        requires own { pass.old.claims ≡ self.now }
+        requires unspent { pass.old.spent ≡ false }
+        ensures { (number : ℕ) × Drew pass.old pass.new number × (result ≡ answer_of self.now.total number) }
+    {
+        let number = self.table.shared.fetch_add::<Draws>(&mut pass.seat, 0, 1);
+        if number < u64::from(self.total) {
+            return Some(number as u32);
+        }
+        pass.spent = true;
+        None
+    }
+
+    /// Joins a split pass to the opening one: its numbers follow those that the opening pass has.
+    pub fn join(&self, pass: &mut Pass, other: Pass)
+        requires own { (pass.old.claims ≡ self.now) × (other.claims ≡ self.now) }
+        requires opening { pass.old.opens ≡ true }
+        requires split { other.opens ≡ false }
+        ensures pass { pass.new ≡ record pass.old { drawn = pass.old.drawn ++ other.drawn; out = pass.old.out - 1 } }
+        ensures out { 0 < pass.old.out }
+        // The last join leaves each number below the word in the opening pass, once, and no other.
+        ensures whole { pass.new.out ≡ 0 → (word : ℕ) × HoldsBelow word pass.new.drawn }
+    {
+        let Pass { seat, .. } = other;
+        self.table.shared.join_seat::<Joins>(&mut pass.seat, seat);
+        // A join tells nothing of the word. This load does, and it changes nothing.
+        self.table.shared.load::<Looks>(&mut pass.seat, 0);
+        pass.out -= 1;
+    }
+
+    /// Ends the claims, and gives the word: how many numbers were drawn in all, with those at or past the total. The
+    /// opening pass holds each number below it, in the order in which the passes drew and were joined.
+    pub fn close(self, pass: Pass) -> u64
+        requires own { pass.claims ≡ self }
+        requires opening { pass.opens ≡ true }
+        requires out { pass.out ≡ 0 }
+        ensures word { HoldsBelow result pass.drawn }
+        ensures bound { result ≤ self.total + self.workers }
+    {
+        let Claims { table, total: _ } = self;
+        let Pass { seat, .. } = pass;
+        let closed = table.close_with(seat);
+        let word = closed.word(0);
+        closed.free();
+        word
+    }
+
+    /// How many numbers there are.
+    pub fn total(&self) -> u32
+        ensures { result ≡ self.now.total }
+    {
+        self.total
+    }
+}

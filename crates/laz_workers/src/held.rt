@@ -1,0 +1,10 @@
+/// What a room holds.
+#[derive(Clone, Copy, Debug, PartialEq, Eq)]
+pub enum Held {
+    /// Nothing.
+    Empty,
+    /// The answer to the input of this number: so many bytes at the room's front.
+    Full { number: u32, length: usize },
+    /// The input of this number was refused.
+    Refused { number: u32 },
+}

@@ -1,0 +1,29 @@
+ghost use Rattle.std.specs.Prelude.{◌≡◌, ℕ, List, Option, vec_len};
+ghost use Rattle.laz_workers.specs.Work.{Answers};
+
+/// The work that hands do on inputs, each by itself.
+///
+/// A job means three things: which byte list, if any, it answers for an input; which inputs fit a room of which length;
+/// and which spaces suit it.
+pub trait Job: Sync {
+    /// What a hand keeps from one input to the next.
+    type Space: Send;
+
+    /// The answer to an input. `None` refuses it.
+    ghost answer: { Self → List ℕ → Option (List ℕ) };
+
+    /// Whether a room of so many bytes suffices for an input.
+    ghost fits: { Self → List ℕ → ℕ → Type 0 };
+
+    /// Whether the job can work with a space.
+    ghost suits: { Self → Self.Space → Type 0 };
+
+    /// Works one input. `Some(n)` leaves an answer of n bytes at the front of the room, and `None` refuses the input.
+    /// The room keeps its length, and what else it holds is unspecified.
+    fn work(&self, input: &[u8], space: &mut Self::Space, room: &mut Vec<u8>) -> Option<usize>
+        requires fits { fits self.now input.now (vec_len room.old) }
+        requires suits { suits self.now space.old }
+        ensures answer { Answers (answer self.now input.now) result room.new.items }
+        ensures room { vec_len room.new ≡ vec_len room.old }
+        ensures suits { suits self.now space.new };
+}

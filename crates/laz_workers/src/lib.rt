@@ -1,0 +1,25 @@
+//! Workers: numbers that threads claim, and a crew of hands that works inputs by claimed number.
+#![tactic(auto)]
+
+mod claims;
+mod crew;
+mod hand;
+mod held;
+mod job;
+mod law;
+mod pass;
+mod room;
+mod run;
+#[cfg(test)]
+mod tests;
+mod view;
+
+pub use claims::Claims;
+pub use crew::Crew;
+pub use hand::Hand;
+pub use held::Held;
+pub use job::Job;
+pub use law::steps_keep_the_rule;
+pub use pass::Pass;
+pub use room::Room;
+pub use run::run_all;

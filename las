@@ -1,0 +1,60 @@
+#!/usr/bin/env bash
+# Starts the program `las` with the words given, in the caller's folder. Where no build is there that is as new as the
+# sources, it is proved and built first, which is said on standard error, and kept for later starts.
+set -u
+top=$(cd "$(dirname "$(readlink -f "${BASH_SOURCE[0]}")")" && pwd)
+program=$top/crates/las/out/las
+
+# the crates of this repository that a crate stands on, and itself
+below() {
+    awk -v top="$1" '
+        /^#/ { next }
+        { name = $1; sub(/:$/, "", name); listed[name] = 1; uses[name] = ""; for (i = 2; i <= NF; i++) uses[name] = uses[name] " " $i }
+        function visit(name,    list, n, i) {
+            if (!(name in listed) || name in seen) return
+            seen[name] = 1; print name
+            n = split(uses[name], list, " ")
+            for (i = 1; i <= n; i++) visit(list[i])
+        }
+        END { visit(top) }' "$top/crates.txt"
+}
+
+is_built() {
+    [ -x "$program" ] || return 1
+    local folders=() crate
+    for crate in $(below las); do
+        folders+=("$top/crates/$crate")
+    done
+    # a folder is newer where a file of it was added or taken out
+    [ -z "$(find "$top/crates.txt" "${folders[@]}" -name out -prune -o \
+        \( -type f -o -type d -path '*/src*' -o -type d -path '*/specs*' -o -type d -path '*/proofs*' \) \
+        -not -path '*/must-fail/*' -not -path '*/data/*' -newer "$program" -print -quit)" ]
+}
+
+build() {
+    echo "las: no build is as new as the sources; proving and building it first" >&2
+    local log
+    log=$(mktemp) || return 1
+    (cd "$top/crates/las" && rt run </dev/null 2>&1 >/dev/null) | tee "$log" | awk '
+        match($0, /^(checked|fn|struct|enum|impl) [a-z_0-9]+::/) {
+            crate = substr($0, RSTART, RLENGTH); sub(/^[a-z]+ /, "", crate); sub(/::$/, "", crate)
+            if (crate != last) { print "las: proving " crate; fflush(); last = crate }
+        }' >&2
+    if grep -q '^rt: running ' "$log"; then
+        touch "$program"
+        rm -f "$log"
+        return 0
+    fi
+    tail -n 20 "$log" >&2
+    rm -f "$log"
+    return 1
+}
+
+if ! is_built; then
+    if ! command -v rt >/dev/null; then
+        echo "las: the command rt of the Rattle toolchain is not there" >&2
+        exit 1
+    fi
+    build || { echo "las: the program could not be built" >&2; exit 1; }
+fi
+exec "$program" "$@"
