@@ -1,6 +1,5 @@
-use Rattle.std.proofs.Common.{◌<◌, ◌-◌, sym, arith, ⊎_elim}
-use lib.Count.{count_leading_zeros}
-use Rattle.laz_integer.proofs.Correctors.{IsDigits, digits-all}
+use Rattle.std.proofs.Common.{arith}
+use Rattle.laz_integer.proofs.Correctors.{digits-all}
 use Rattle.laz_integer.proofs.corrector.binary_digits.Goals as goal
 
 pub returns-clause-digits : goal.returns-clause-digits

@@ -1,7 +1,6 @@
-use Rattle.std.proofs.Common.{◌≡◌, ◌-◌, ◌+◌, ◌*◌, ◌^◌, ◌%◌, ◌<◌, ◌≤◌, ap, sym, refl, arith, ⊎_elim}
-use Rattle.std.proofs.lemmas.Bool.{cases_lt}
+use Rattle.std.proofs.Common.{◌≡◌, ◌-◌, ◌*◌, ◌^◌, ◌%◌, ◌<◌, arith}
 use Rattle.std.proofs.lemmas.Nat.{one_shl}
-use Rattle.laz_integer.proofs.Correctors.{IsSplit, twice, split-zero, split-full, split-part}
+use Rattle.laz_integer.proofs.Correctors.{twice, split-zero, split-full, split-part}
 use Rattle.laz_integer.proofs.corrector.split.Goals as goal
 
 pub size_of_corrector-size-requires : goal.size_of_corrector-size-requires
