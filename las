@@ -36,10 +36,12 @@ build() {
     local log
     log=$(mktemp) || return 1
     (cd "$top/crates/las" && rt run </dev/null 2>&1 >/dev/null) | tee "$log" | awk '
+        { crate = "" }
+        /^rt: chose --jobs [0-9]+ for / { crate = $NF }
         match($0, /^(checked|fn|struct|enum|impl) [a-z_0-9]+::/) {
             crate = substr($0, RSTART, RLENGTH); sub(/^[a-z]+ /, "", crate); sub(/::$/, "", crate)
-            if (crate != last) { print "las: proving " crate; fflush(); last = crate }
-        }' >&2
+        }
+        crate != "" && crate != last { print "las: proving " crate; fflush(); last = crate }' >&2
     if grep -q '^rt: running ' "$log"; then
         touch "$program"
         rm -f "$log"
