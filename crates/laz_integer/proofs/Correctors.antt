@@ -321,3 +321,18 @@ split-part bits k size v d some few fits up down one small least above is v_up v
     rw (v_up less) (split-up bits k size d some few less (omega (arith, up less, least, positive)) one least above is))
     (λ (more : 2 ^ (bits - 1) ≤ d). split-down bits k size v d some few more fits (down more) one small least above (v_down more) is)
     (cases_lt d (2 ^ (bits - 1)))
+
+pub split-any : (bits k size v d : ℕ) → 1 ≤ bits → bits ≤ 32 → d < 2 ^ bits → IsUp bits d size → IsDown bits d size → k < 32 → (k ≡ 0 → size ≡ 0) → (0 < k → 2 ^ k ≤ 2 * size) → size < 2 ^ k → k ≡ digits_of size
+    → (d < 2 ^ (bits - 1) → k ≡ 0 → v ≡ d) → (d < 2 ^ (bits - 1) → 0 < k → 0 < d → v ≡ d - 1) → (2 ^ (bits - 1) ≤ d → v ≡ 2 ^ k - 1 - size) → IsSplit bits d k v
+split-any bits k size v d some few fits up down small none least above is v_bit v_up v_down =
+    ⊎_elim
+    (λ (zero_is : k ≡ 0).
+    let split = split-zero bits size d some few fits up down (none zero_is) in
+    ⊎_elim
+    (λ (less : d < 2 ^ (bits - 1)). rw (v_bit less zero_is, zero_is) split)
+    (λ (more : 2 ^ (bits - 1) ≤ d). absurd (omega (arith, down more, none zero_is, fits, twice bits some)))
+    (cases_lt d (2 ^ (bits - 1))))
+    (λ (some_is : k ≡ 0 → ⊥).
+    let one : 0 < k = omega (arith, some_is) in
+    split-part bits k size v d some few fits up down one small (least one) above is (λ less. v_up less one (omega (arith, least one, up less, pow_pos k)) ∙ sym (up less)) v_down)
+    (cases_eq k 0)

@@ -41,9 +41,6 @@ pub fn split(bits: u32, difference: u32) -> (u32, u32)
     let half = 1 << (bits - 1);
     let size = size_of_corrector(half, difference);
     let width = binary_digits(size);
-    if width == 0 {
-        return (0, difference);
-    }
     if width == 32 {
         return (32, 0);
     }
@@ -51,34 +48,47 @@ pub fn split(bits: u32, difference: u32) -> (u32, u32)
 }
 
 /// The corrector less one where it is above 0, or how far it is below 0.
-// Neither this nor `place` branches: a corrector's sign is not to be foreseen.
+// Neither this nor `place` branches: both values are there before one is chosen, since a corrector's sign is not to be
+// foreseen.
 #[inline]
 fn size_of_corrector(half: u32, difference: u32) -> u32
-    requires { difference < 2 * half }
+    requires some { 1 ≤ half }
+    requires half { half ≤ 2147483648 }
+    requires fits { difference < 2 * half }
     ensures up { difference < half → result ≡ difference - 1 }
     ensures down { half ≤ difference → result ≡ half - (difference - half) }
 {
+    let up = difference.wrapping_sub(1);
+    let down = turn(half, difference).wrapping_sub(difference);
+    if up < half - 1 { up } else { down }
+}
+
+/// What is between a difference and its corrector: nothing, or once around.
+#[inline]
+fn turn(half: u32, difference: u32) -> u32
+    requires { half ≤ 2147483648 }
+    ensures up { difference < half → result ≡ 0 }
+    ensures down { half ≤ difference → result ≡ 2 * half % 2 ^ 32 }
+{
     if difference < half {
-        difference.saturating_sub(1)
+        0
     } else {
-        half - (difference - half)
+        half.wrapping_add(half)
     }
 }
 
 /// Which corrector of a width it is.
 #[inline]
 fn place(half: u32, difference: u32, width: u32, size: u32) -> u32
-    requires some { 0 < width }
     requires small { width < 32 }
     requires above { size < 2 ^ width }
-    ensures up { difference < half → result ≡ size }
+    ensures bit { difference < half → width ≡ 0 → result ≡ difference }
+    ensures up { difference < half → 0 < width → 0 < difference → result ≡ difference - 1 }
     ensures down { half ≤ difference → result ≡ 2 ^ width - 1 - size }
 {
-    if difference < half {
-        size
-    } else {
-        (1 << width) - 1 - size
-    }
+    let up = difference.wrapping_sub(width.min(1));
+    let down = (1 << width) - 1 - size;
+    if difference < half { up } else { down }
 }
 
 /// How many binary digits a number has.

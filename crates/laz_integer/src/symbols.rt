@@ -68,7 +68,8 @@ pub fn put_symbol_of(encoder: &mut Encoder, bank: &mut ModelBank, m: u32, s: u32
 
 /// Takes a symbol of model `m` of a bank, and counts it. Bad says that the bytes run out: no symbol begins what is left
 /// of them.
-#[inline]
+// Inlined, so that an integer reads its symbols with the decoder at hand: out of line it costs a tenth more.
+#[inline(always)]
 pub fn take_symbol_of(decoder: &mut Decoder<'_>, bank: &mut ModelBank, m: u32) -> Result<u32, Bad>
     requires good { decoder.old.failed ≡ false }
     requires model { m < length bank.old }
