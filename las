@@ -31,17 +31,24 @@ is_built() {
         -not -path '*/must-fail/*' -not -path '*/data/*' -newer "$program" -print -quit)" ]
 }
 
+# proves and builds, naming each crate as its check begins; what rt says is kept for the case that it fails
 build() {
     echo "las: no build is as new as the sources; proving and building it first" >&2
-    local log
+    local log line crate last=
     log=$(mktemp) || return 1
-    (cd "$top/crates/las" && rt run </dev/null 2>&1 >/dev/null) | tee "$log" | awk '
-        { crate = "" }
-        /^rt: chose --jobs [0-9]+ for / { crate = $NF }
-        match($0, /^(checked|fn|struct|enum|impl) [a-z_0-9]+::/) {
-            crate = substr($0, RSTART, RLENGTH); sub(/^[a-z]+ /, "", crate); sub(/::$/, "", crate)
-        }
-        crate != "" && crate != last { print "las: proving " crate; fflush(); last = crate }' >&2
+    (cd "$top/crates/las" && rt run </dev/null 2>&1 >/dev/null) | while IFS= read -r line; do
+        printf '%s\n' "$line" >>"$log"
+        crate=
+        if [[ $line =~ ^(checked|fn|struct|enum|impl)\ ([a-z_0-9]+):: ]]; then
+            crate=${BASH_REMATCH[2]}
+        elif [[ $line =~ ^rt:\ chose\ --jobs\ [0-9]+\ for\ ([a-z_0-9]+) ]]; then
+            crate=${BASH_REMATCH[1]}
+        fi
+        if [ -n "$crate" ] && [ "$crate" != "$last" ]; then
+            echo "las: proving $crate" >&2
+            last=$crate
+        fi
+    done
     if grep -q '^rt: running ' "$log"; then
         touch "$program"
         rm -f "$log"
