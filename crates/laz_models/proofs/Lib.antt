@@ -7,4 +7,5 @@ pub mod Lookups
 pub mod Models
 pub mod Parts
 pub mod Places
+pub mod Sounds
 pub mod Stand

@@ -5,3 +5,4 @@ pub mod Counting
 pub mod Dist
 pub mod Lookup
 pub mod Place
+pub mod Sound

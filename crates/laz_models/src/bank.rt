@@ -33,14 +33,16 @@ impl ModelBank {
     ghost use Rattle.laz_models.specs.Dist.{dist, size_of, StandsFor};
     ghost use Rattle.laz_models.specs.Lookup.{IsLastAt, table_bits};
     ghost use Rattle.laz_models.specs.Bank.{model_at, sizes_of};
+    ghost use Rattle.laz_models.specs.Sound.{AreSound};
 
-    /// Models of these many symbols each: 1 to 100 models, each of 2 to 2,048 symbols.
+    /// Models of these many symbols each: 1 to 1,024 models, each of 2 to 2,048 symbols.
     pub fn new(alloc: Global, sizes: &[u32]) -> Result<Self, AllocError>
         requires some { 1 ≤ length sizes.now }
-        requires few { length sizes.now ≤ 100 }
+        requires few { length sizes.now ≤ 1024 }
         requires range { All (λ n. (2 ≤ n) × (n ≤ 2048)) sizes.now }
         ensures fresh { IfOk result (λ bank. bank ≡ map fresh sizes.now) }
         ensures sizes { IfOk result (λ bank. sizes_of bank ≡ sizes.now) }
+        ensures sound { IfOk result (λ bank. AreSound bank) }
         ensures stands { IfOk result (λ bank. (m : ℕ) → m < length sizes.now → StandsFor [] (model_at bank m)) }
     {
         let (places, end) = cells::places_of(alloc, sizes)?;
@@ -52,6 +54,7 @@ impl ModelBank {
     pub fn reset(&mut self)
         ensures fresh { self.new ≡ map (λ m. fresh (size_of m)) self.old }
         ensures sizes { sizes_of self.new ≡ sizes_of self.old }
+        ensures sound { AreSound self.new }
         ensures stands { (m : ℕ) → m < length self.old → StandsFor [] (model_at self.new m) }
     {
         cells::forget_all(&mut self.places);
@@ -115,6 +118,7 @@ impl ModelBank {
             → StandsFor (h ++ s ∷ []) (model_at self.new m) }
         ensures others { (k : ℕ) → k ≢ m → model_at self.new k ≡ model_at self.old k }
         ensures sizes { sizes_of self.new ≡ sizes_of self.old }
+        ensures sound { AreSound self.new }
     {
         cells::count_at(&mut self.cells, &mut self.places[m as usize], s);
     }

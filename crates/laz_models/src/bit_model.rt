@@ -1,6 +1,6 @@
 //! A model of bits.
 ghost use Rattle.std.specs.Prelude.{◌≡◌, ◌+◌, ◌<◌, ◌≤◌, Bool, List, [], ◌∷◌, ◌++◌};
-ghost use Rattle.laz_models.specs.BitCounting.{BitCounting, fresh_bit, bit_counted, bit_turned, bit_limited};
+ghost use Rattle.laz_models.specs.BitCounting.{BitCounting, IsBitCounting, fresh_bit, bit_counted, bit_turned, bit_limited};
 ghost use Rattle.laz_models.specs.BitDist.{p0_of, BitStandsFor};
 
 use std::marker::Model;
@@ -33,6 +33,7 @@ impl BitModel {
     pub fn new() -> Self
         ensures fresh { result ≡ fresh_bit }
         ensures stands { BitStandsFor [] result }
+        ensures sound { IsBitCounting result }
     {
         BitModel {
             zeros: 1,
@@ -47,6 +48,7 @@ impl BitModel {
     pub fn reset(&mut self)
         ensures fresh { self.new ≡ fresh_bit }
         ensures stands { BitStandsFor [] self.new }
+        ensures sound { IsBitCounting self.new }
     {
         *self = BitModel::new();
     }
@@ -67,6 +69,7 @@ impl BitModel {
     pub fn count(&mut self, bit: bool)
         ensures counted { self.new ≡ bit_counted self.old bit }
         ensures stands { (h : List Bool) → BitStandsFor h self.old → BitStandsFor (h ++ bit ∷ []) self.new }
+        ensures sound { IsBitCounting self.new }
     {
         let zeros = if bit { self.zeros } else { self.zeros + 1 };
         if self.left == 1 {

@@ -58,7 +58,7 @@ fn first_place(start: usize, size: u32) -> Place
 
 /// The places of models as at the start, one behind another, and where the last one ends.
 pub fn places_of(alloc: Global, sizes: &[u32]) -> Result<(Vec<Place>, usize), AllocError>
-    requires few { length sizes.now ≤ 100 }
+    requires few { length sizes.now ≤ 1024 }
     requires range { All (λ n. (2 ≤ n) × (n ≤ 2048)) sizes.now }
     ensures { IfOk result (λ layout. IsLayout layout.0.items sizes.now layout.1) }
 {

@@ -30,6 +30,7 @@ impl SymbolModel {
     ghost use Rattle.laz_models.specs.Counting.{counted, fresh, part_end, AreParts};
     ghost use Rattle.laz_models.specs.Dist.{dist, size_of, StandsFor};
     ghost use Rattle.laz_models.specs.Lookup.{IsLastAt};
+    ghost use Rattle.laz_models.specs.Sound.{IsSound};
 
     /// A model of `n` symbols, 2 to 2,048.
     pub fn new(alloc: Global, n: u32) -> Result<Self, AllocError>
@@ -37,6 +38,7 @@ impl SymbolModel {
         requires few { n ≤ 2048 }
         ensures fresh { IfOk result (λ model. model ≡ fresh n) }
         ensures size { IfOk result (λ model. size_of model ≡ n) }
+        ensures sound { IfOk result (λ model. IsSound model) }
         ensures stands { IfOk result (λ model. StandsFor [] model) }
     {
         let bank = ModelBank::new(alloc, &[n])?;
@@ -47,6 +49,7 @@ impl SymbolModel {
     pub fn reset(&mut self)
         ensures fresh { self.new ≡ fresh (size_of self.old) }
         ensures size { size_of self.new ≡ size_of self.old }
+        ensures sound { IsSound self.new }
         ensures stands { StandsFor [] self.new }
     {
         self.bank.reset();
@@ -84,6 +87,7 @@ impl SymbolModel {
         ensures counted { self.new ≡ counted self.old s }
         ensures stands { (h : List ℕ) → StandsFor h self.old → StandsFor (h ++ s ∷ []) self.new }
         ensures size { size_of self.new ≡ size_of self.old }
+        ensures sound { IsSound self.new }
     {
         self.bank.count(0, s);
     }

@@ -1,11 +1,12 @@
-use Rattle.std.proofs.Common.{◌≡◌, ℕ, suc, ◌≤◌, List, [], ◌∷◌, ◌++◌, length, false, refl, ap, subst, ◌∙◌, arith, append_assoc}
+-- For readers of several events: what each call has read, one after another, is what all of them have read.
+use Rattle.std.proofs.Common.{◌≡◌, ℕ, suc, ◌+◌, ◌<◌, ◌≤◌, List, [], ◌∷◌, ◌++◌, length, false, refl, sym, ap, subst, ◌∙◌, arith, add-one, append_assoc}
 use Rattle.laz_range.specs.Cut.{Cut}
 use Rattle.laz_range.specs.Coding.{Coding, Codes}
 use Rattle.laz_range.specs.Reading.{follow_all}
 use Rattle.laz_range.specs.Choice.{state_after, all_cuts, AreAsked}
 use Rattle.laz_range.specs.Decoding.{Decoding, reading_of, HasRead, ReadsOn, Takes, TakesNone}
-use Rattle.laz_range.proofs.Chain.{Only-then, Nothing-first, Nothing-second, Only-map}
-use Rattle.laz_range.proofs.Loops.{Only-push, Nothing-push}
+use Rattle.laz_range.proofs.Chain.{Only-then, Only-map, Only-through, Only-same, Nothing-first, Nothing-second, Nothing-through, Nothing-same}
+use Rattle.laz_range.proofs.Loops.{Only-push, Nothing-push, Nothing-more}
 
 -- ---- one choice after another
 pub Takes-then : {X Y : Type 0} (P : X → Type 0) (Q : X → Y → Type 0) (cuts : X → List Cut) (more : X → Y → List Cut) (a b c : Decoding) (x : X) (y : Y)
@@ -58,6 +59,47 @@ Takes-map f back P Q cuts others a b x round to from same here h =
       good = h.good;
     }
 
+-- the same choice through a map, which meets each that is asked for
+pub Takes-through : {X Z : Type 0} (f : X → Z) (P : X → Type 0) (Q : Z → Type 0) (cuts : X → List Cut) (others : Z → List Cut) (a b : Decoding) (x : X)
+    → ((y : X) → P y → Q (f y)) → ((z : Z) → Q z → (y : X) × P y × (f y ≡ z)) → ((y : X) → P y → others (f y) ≡ cuts y) → Takes P cuts a b x → Takes Q others a b (f x)
+Takes-through f P Q cuts others a b x to from same h =
+    record {
+      choice = Only-through f P Q cuts others (reading_of a) x (reading_of b) to from same h.choice;
+      bytes = h.bytes;
+      within = h.within;
+      good = h.good;
+    }
+
+pub TakesNone-through : {X Z : Type 0} (f : X → Z) (P : X → Type 0) (Q : Z → Type 0) (cuts : X → List Cut) (others : Z → List Cut) (a b : Decoding)
+    → ((z : Z) → Q z → (y : X) × P y × (f y ≡ z)) → ((y : X) → P y → others (f y) ≡ cuts y) → TakesNone P cuts a b → TakesNone Q others a b
+TakesNone-through f P Q cuts others a b from same h =
+    record { nothing = Nothing-through f P Q cuts others (reading_of a) from same h.nothing; bytes = h.bytes; failed = h.failed }
+
+-- the same of events that are equal
+pub Takes-same : {X : Type 0} (P : X → Type 0) (cuts others : X → List Cut) (a b : Decoding) (x : X) → ((y : X) → P y → others y ≡ cuts y) → Takes P cuts a b x → Takes P others a b x
+Takes-same P cuts others a b x same h =
+    record { choice = Only-same P cuts others (reading_of a) x (reading_of b) same h.choice; bytes = h.bytes; within = h.within; good = h.good }
+
+pub TakesNone-same : {X : Type 0} (P : X → Type 0) (cuts others : X → List Cut) (a b : Decoding) → ((y : X) → P y → others y ≡ cuts y) → TakesNone P cuts a b → TakesNone P others a b
+TakesNone-same P cuts others a b same h =
+    record { nothing = Nothing-same P cuts others (reading_of a) same h.nothing; bytes = h.bytes; failed = h.failed }
+
+-- a choice among fewer
+pub Takes-fewer : {X : Type 0} (P Q : X → Type 0) (cuts : X → List Cut) (a b : Decoding) (x : X) → Q x → ((y : X) → Q y → P y) → Takes P cuts a b x → Takes Q cuts a b x
+Takes-fewer P Q cuts a b x asked from h =
+    record {
+      choice = record { asked = asked; reads = h.choice.reads; only = λ y s q e. h.choice.only y s (from y q) e };
+      bytes = h.bytes;
+      within = h.within;
+      good = h.good;
+    }
+
+-- one choice after another, whose events together are `all`
+pub Takes-both : {X Y : Type 0} (P : X → Type 0) (Q : X → Y → Type 0) (cuts : X → List Cut) (more : X → Y → List Cut) (all : X × Y → List Cut) (a b c : Decoding) (x : X) (y : Y)
+    → ((z : X × Y) → all z ≡ cuts z.0 ++ more z.0 z.1) → Takes P cuts a b x → Takes (Q x) (more x) b c y → Takes {X = X × Y} (λ z. P z.0 × Q z.0 z.1) all a c (x, y)
+Takes-both {X} {Y} P Q cuts more all a b c x y same f g =
+    Takes-same {X = X × Y} (λ z. P z.0 × Q z.0 z.1) (λ z. cuts z.0 ++ more z.0 z.1) all a c (x, y) (λ z asked. same z) (Takes-then P Q cuts more a b c x y f g)
+
 -- ---- a loop of choices, each under the state that the ones before left
 only_empty : {X : Type 0} (xs : List X) → length xs ≡ 0 → xs ≡ []
 only_empty [] e = refl
@@ -88,6 +130,25 @@ TakesNone-push next P cuts st n a b c xs f g =
       bytes = g.bytes ∙ f.bytes;
       failed = g.failed;
     }
+
+-- the same with the state at hand
+pub Takes-step : {S X : Type 0} (next : S → X → S) (P : S → X → Type 0) (cuts : S → X → List Cut) (st now : S) (n : ℕ) (a b c : Decoding) (xs : List X) (x : X) → now ≡ state_after next st xs
+    → Takes (AreAsked next P st n) (all_cuts next cuts st) a b xs → Takes (P now) (cuts now) b c x → Takes (AreAsked next P st (n + 1)) (all_cuts next cuts st) a c (xs ++ x ∷ [])
+Takes-step {S} {X} next P cuts st now n a b c xs x at f g =
+    let here = subst (λ (s : S). Takes (P s) (cuts s) b c x) at g in
+    subst (λ (k : ℕ). Takes (AreAsked next P st k) (all_cuts next cuts st) a c (xs ++ x ∷ [])) (sym (add-one n)) (Takes-push next P cuts st n a b c xs x f here)
+
+-- where no list of i choices begins the bytes, no longer one does
+pub TakesNone-more : {S X : Type 0} (next : S → X → S) (P : S → X → Type 0) (cuts : S → X → List Cut) (st : S) (i n : ℕ) (a b : Decoding) → i ≤ n
+    → TakesNone (AreAsked next P st i) (all_cuts next cuts st) a b → TakesNone (AreAsked next P st n) (all_cuts next cuts st) a b
+TakesNone-more next P cuts st i n a b few h =
+    record { nothing = Nothing-more next P cuts st i n (reading_of a) few h.nothing; bytes = h.bytes; failed = h.failed }
+
+pub TakesNone-step : {S X : Type 0} (next : S → X → S) (P : S → X → Type 0) (cuts : S → X → List Cut) (st now : S) (i n : ℕ) (a b c : Decoding) (xs : List X) → now ≡ state_after next st xs → i < n
+    → Takes (AreAsked next P st i) (all_cuts next cuts st) a b xs → TakesNone (P now) (cuts now) b c → TakesNone (AreAsked next P st n) (all_cuts next cuts st) a c
+TakesNone-step {S} next P cuts st now i n a b c xs at within f g =
+    let here = subst (λ (s : S). TakesNone (P s) (cuts s) b c) at g in
+    TakesNone-more next P cuts st (suc i) n a c (omega (arith, within)) (TakesNone-push next P cuts st i a b c xs f here)
 
 -- ---- in the words of what was read
 pub ReadsOn-then : (xs ys : List Cut) (a b c : Decoding) → ReadsOn xs a b → ReadsOn ys b c → ReadsOn (xs ++ ys) a c

@@ -14,3 +14,5 @@ pub mod Events
 pub mod Distributions
 pub mod Examples
 pub mod Composition
+pub mod Refusals
+pub mod Streams

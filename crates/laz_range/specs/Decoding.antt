@@ -58,6 +58,12 @@ pub record TakesNone {X : Type 0} (IsAsked : X → Type 0) (cuts : X → List Cu
   pub bytes : new.bytes ≡ old.bytes
   pub failed : new.failed ≡ true
 
+-- Nothing that is asked for begins what was left, whatever the decoder itself has answered. This is the refusal of a reader
+-- that takes several events and finds only then that they are none of those asked for.
+pub record Refuses {X : Type 0} (IsAsked : X → Type 0) (cuts : X → List Cut) (old new : Decoding) : Type 0 where
+  pub nothing : Nothing IsAsked cuts (reading_of old)
+  pub bytes : new.bytes ≡ old.bytes
+
 -- A call that reads answers Ok with the one that begins what was left, and Bad where none does.
 abbrev pub Reads : {X E : Type 0} → Result X E → (X → Type 0) → (X → List Cut) → Decoding → Decoding → Type 0
 Reads result IsAsked cuts old new = MatchResult result (λ x. Takes IsAsked cuts old new x) (λ _. TakesNone IsAsked cuts old new)

@@ -1,5 +1,5 @@
 //! The encoder.
-ghost use Rattle.std.specs.Prelude.{◌≡◌, ◌+◌, ◌<◌, ◌≤◌, ◌^◌, [], ◌∷◌, length, take, slice_range};
+ghost use Rattle.std.specs.Prelude.{◌≡◌, ◌+◌, ◌<◌, ◌≤◌, ◌^◌, [], ◌∷◌, ◌++◌, length, take, slice_range};
 ghost use Rattle.laz_range.specs.Cut.{Part, Bit, Raw, raw_cuts};
 ghost use Rattle.laz_range.specs.Span.{start, bytes_of, Fits};
 ghost use Rattle.laz_range.specs.Coding.{Codes};
@@ -119,6 +119,7 @@ impl Encoder {
         ensures count { result.1 ≡ self.span.shifts + 4 }
         ensures bytes { slice_range result.0.items (length self.before) (length self.before + result.1) ≡ bytes_of self.span }
         ensures fits { Fits self.span (bytes_of self.span) }
+        ensures front { take (length self.before + result.1) result.0.items ≡ self.before ++ bytes_of self.span }
         ensures before { take (length self.before) result.0.items ≡ self.before }
         ensures room { length result.0.items ≡ length self.before + result.1 + self.left }
     {

@@ -1,5 +1,5 @@
 //! Laws of the definitions, as contracts of functions that do nothing.
-ghost use Rattle.std.specs.Prelude.{◌≡◌, ◌+◌, ◌<◌, ◌≤◌, ◌^◌, ℕ, List, [], ◌∷◌, ◌++◌, length, option_and_then, take};
+ghost use Rattle.std.specs.Prelude.{◌≡◌, ◌+◌, ◌*◌, ◌<◌, ◌≤◌, ◌^◌, ℕ, List, [], ◌∷◌, ◌++◌, length, option_and_then, take};
 ghost use Rattle.std.specs.Option.{SomeIff};
 ghost use Rattle.laz_range.specs.Cut.{Cut, AreAlike, AreCuts, IsCut, IsDistribution, IsLike, symbol, width_in};
 ghost use Rattle.laz_range.specs.Span.{Begins, Fits, IsBytes, Span, bytes_for, bytes_of, span};
@@ -13,6 +13,11 @@ pub fn spans_lie()
 /// An event makes as many digits more as its part's length asks for bytes.
 pub fn shifts_grow()
     ensures { (events : List Cut) (c : Cut) → AreCuts events → IsCut c → (span (events ++ c ∷ [])).shifts ≡ (span events).shifts + bytes_for (width_in (span events).len c) }
+{}
+
+/// An event makes three digits more at most.
+pub fn shifts_are_few()
+    ensures { (events : List Cut) → (span events).shifts ≤ 3 * length events }
 {}
 
 /// The bytes of a list of events fit it.

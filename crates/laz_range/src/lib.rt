@@ -19,8 +19,8 @@ mod output;
 pub use decoder::{Bad, Decoder};
 pub use encoder::Encoder;
 pub use laws::{
-    bytes_fit, events_follow, fronts_begin, fronts_fit, one_begins, parts_are_alike, shifts_grow,
-    spans_lie,
+    bytes_fit, events_follow, fronts_begin, fronts_fit, one_begins, parts_are_alike,
+    shifts_are_few, shifts_grow, spans_lie,
 };
 
 #[cfg(test)]

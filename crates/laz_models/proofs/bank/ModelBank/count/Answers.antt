@@ -5,6 +5,7 @@ use Rattle.laz_models.specs.Counting.{counted, fresh}
 use Rattle.laz_models.specs.Dist.{size_of}
 use Rattle.laz_models.specs.Place.{state_in}
 use Rattle.laz_models.proofs.Banks.{at, IsBank-set, view-set, StandsFor-push, sizes-set}
+use Rattle.laz_models.proofs.Sounds.{AreSound-bank}
 use Rattle.laz_models.proofs.bank.ModelBank.count.Goals as goal
 
 pub count_at-requires-clause-symbol : goal.count_at-requires-clause-symbol
@@ -36,3 +37,6 @@ returns-clause-stands c = λ h stands.
     let many : 2 ≤ size_of (model_at c.args.self.now c.args.m) = omega (arith, a.size, a.placed.model.shape.many) in
     rw (returns-clause-counted c, get_or-set_same c.args.self.now c.args.m (counted (model_at c.args.self.now c.args.m) c.args.s) (fresh 2) c.requires.model)
     (StandsFor-push h c.args.s (model_at c.args.self.now c.args.m) many c.requires.symbol stands)
+
+pub returns-clause-sound : goal.returns-clause-sound
+returns-clause-sound c = AreSound-bank _ c.count_at.new.cells.items (invariant_of-self c)

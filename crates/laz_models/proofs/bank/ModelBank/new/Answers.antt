@@ -1,8 +1,10 @@
-use Rattle.std.proofs.Common.{ℕ, ◌≤◌, get_or}
+use Rattle.std.proofs.Common.{ℕ, ◌≤◌, get_or, subst, sym}
 use Rattle.std.proofs.lemmas.List.{get_or-map}
 use Rattle.std.proofs.lemmas.List.Elements.{All-get_or}
 use Rattle.laz_models.specs.Counting.{fresh}
 use Rattle.laz_models.proofs.Banks.{StandsFor-fresh}
+use Rattle.laz_models.specs.Sound.{AreSound}
+use Rattle.laz_models.proofs.Sounds.{AreSound-fresh}
 use Rattle.laz_models.proofs.Layouts.{layout-view, sizes-fresh}
 use Rattle.laz_models.proofs.bank.ModelBank.new.Goals as goal
 
@@ -16,3 +18,6 @@ returns-clause-stands c = λ m below.
 
 pub returns-clause-sizes : goal.returns-clause-sizes
 returns-clause-sizes c = rw (returns-clause-fresh c) (sizes-fresh c.args.sizes.now)
+
+pub returns-clause-sound : goal.returns-clause-sound
+returns-clause-sound c = subst AreSound (sym (returns-clause-fresh c)) (AreSound-fresh c.args.sizes.now c.requires.range)

@@ -6,6 +6,7 @@ use Rattle.laz_models.specs.Dist.{size_of}
 use Rattle.laz_models.specs.Place.{state_in}
 use Rattle.laz_models.proofs.Banks.{StandsFor-fresh, many-at}
 use Rattle.laz_models.proofs.Layouts.{first-IsBank, first-view, sizes-reset}
+use Rattle.laz_models.proofs.Sounds.{AreSound-bank}
 use Rattle.laz_models.proofs.bank.ModelBank.reset.Goals as goal
 
 pub invariant_of-self : goal.invariant_of-self
@@ -24,3 +25,6 @@ returns-clause-stands c = λ m below.
 
 pub returns-clause-sizes : goal.returns-clause-sizes
 returns-clause-sizes c = rw (returns-clause-fresh c) (sizes-reset c.args.self.now)
+
+pub returns-clause-sound : goal.returns-clause-sound
+returns-clause-sound c = AreSound-bank _ c.self.inside.cells.items (invariant_of-self c)
