@@ -6,4 +6,7 @@ pub mod Sounds
 pub mod Named
 pub mod Stood
 pub mod Spellings
+pub mod Uses
+pub mod Pieces
+pub mod Ranges
 pub mod Examples

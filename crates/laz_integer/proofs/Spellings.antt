@@ -14,7 +14,7 @@ use Rattle.laz_models.specs.Bank.{model_at}
 use Rattle.laz_models.specs.Dist.{size_of}
 use Rattle.laz_integer.specs.Corrector.{choices, corrected, corrector, difference, HasBits, width_of, place_of}
 use Rattle.laz_integer.specs.Events.{Event, cuts_behind}
-use Rattle.laz_integer.specs.Integer.{IntState, IsIntState, IntStands, IntSpell, IntEvents, IsCorrector, ReadsInt, NoInt, corrector_events, symbol_cut, high_at, width_counted, rest_cuts, int_cuts, int_next}
+use Rattle.laz_integer.specs.Integer.{IntState, IsIntState, IntStands, IntSpell, IntEvents, IsCorrector, ReadsCorrector, ReadsInt, NoInt, corrector_events, symbol_cut, high_at, width_counted, rest_cuts, int_cuts, int_next}
 use Rattle.laz_integer.proofs.Correctors.{choices-more, difference-on, word-fits}
 use Rattle.laz_integer.proofs.Choices.{cuts-zero, cuts-most, cuts-narrow, cuts-wide, cuts-above, wide_parts}
 use Rattle.laz_integer.proofs.States.{models-count, width-size, high-size, high-in}
@@ -172,3 +172,31 @@ length-rest st k v =
 
 pub int-used : (st : IntState) (ctx k v : ℕ) (a b : Coding) → Codes a b (int_cuts st ctx k v) → a.left ≤ b.left + 12
 int-used st ctx k v a b h = omega (arith, h.used, length-rest (width_counted st ctx k) k v)
+
+-- ---- three events at most where the rest of a corrector is one raw value
+length-raw_short : (b v : ℕ) → b ≤ 19 → length (raw_cuts b v) ≤ 1
+length-raw_short b v short = rw (short_cuts b v short) (omega arith)
+
+length-rest_short : (st : IntState) (k v : ℕ) → k ≤ 27 → length (rest_cuts st k v) ≤ 2
+length-rest_short st k v few =
+    ⊎_elim
+    (λ (zero_is : k ≡ 0). rw (zero_is, cuts-zero st v) (omega arith))
+    (λ (some_is : k ≡ 0 → ⊥).
+    ⊎_elim
+    (λ (wide : 8 < k). rw (cuts-above st k v wide (λ e. omega (arith, e, few))) (omega (arith, length-raw_short (k - 8) (v % 2 ^ (k - 8)) (omega arith))))
+    (λ (narrow : k ≤ 8). rw (cuts-narrow st k v (omega (arith, some_is)) narrow) (omega arith))
+    (cases_lt 8 k))
+    (cases_eq k 0)
+
+pub int-short : (st : IntState) (ctx k v : ℕ) (a b : Coding) → k ≤ 27 → Codes a b (int_cuts st ctx k v) → a.left ≤ b.left + 9
+int-short st ctx k v a b few h = omega (arith, h.used, length-rest_short (width_counted st ctx k) k v few)
+
+-- ---- a reader's answer, with the number of bits fixed
+pub fixed-reads : (bits : ℕ) (st next : IntState) (ctx : ℕ) (pred value : ℤ) (k v : ℕ) (old new : Decoding) → st.bits ≡ bits
+    → Takes {X = ℕ × ℕ} (IsCorrector st.bits) (λ y. int_cuts st ctx y.0 y.1) old new (k, v) → value ≡ corrected st.bits pred k v → next ≡ int_next st ctx k v → ReadsCorrector bits st ctx pred value k old new next
+fixed-reads bits st next ctx pred value k v old new same takes makes counts =
+    subst (λ (n : ℕ). ReadsCorrector n st ctx pred value k old new next) same (record { v = v; takes = takes; makes = makes; counts = counts })
+
+pub fixed-none : (bits : ℕ) (st : IntState) (ctx : ℕ) (old new : Decoding) → st.bits ≡ bits
+    → TakesNone {X = ℕ × ℕ} (IsCorrector st.bits) (λ y. int_cuts st ctx y.0 y.1) old new → TakesNone {X = ℕ × ℕ} (IsCorrector bits) (λ y. int_cuts st ctx y.0 y.1) old new
+fixed-none bits st ctx old new same none = subst (λ (n : ℕ). TakesNone {X = ℕ × ℕ} (IsCorrector n) (λ y. int_cuts st ctx y.0 y.1) old new) same none

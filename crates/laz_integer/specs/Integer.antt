@@ -2,7 +2,7 @@ use Rattle.std.specs.Prelude.{◌≡◌, ℕ, ℤ, ◌+◌, ◌-◌, ◌/◌, �
 use Rattle.std.specs.List.{range_with_len}
 use Rattle.laz_range.specs.Cut.{Cut, Bit, raw_cuts, symbol}
 use Rattle.laz_range.specs.Span.{Begins, span}
-use Rattle.laz_range.specs.Decoding.{Decoding, HasRead, ReadsOn}
+use Rattle.laz_range.specs.Decoding.{Decoding, HasRead, ReadsOn, Takes}
 use Rattle.laz_models.specs.Counting.{Counting, counted}
 use Rattle.laz_models.specs.BitCounting.{BitCounting, IsBitCounting, bit_counted}
 use Rattle.laz_models.specs.Dist.{StandsFor}
@@ -133,6 +133,13 @@ abbrev pub IsCorrector : ℕ → ℕ × ℕ → Type 0
 IsCorrector bits x = (x.0 ≤ bits) × (x.1 < choices x.0)
 
 -- ---- what a reader answers
+
+-- The reader has read corrector v of width k, which makes the value, and the models have counted it.
+pub record ReadsCorrector (bits : ℕ) (st : IntState) (ctx : ℕ) (pred value : ℤ) (k : ℕ) (old new : Decoding) (next : IntState) : Type 0 where
+  pub v : ℕ
+  pub takes : Takes {X = ℕ × ℕ} (IsCorrector bits) (λ y. int_cuts st ctx y.0 y.1) old new (k, v)
+  pub makes : value ≡ corrected bits pred k v
+  pub counts : next ≡ int_next st ctx k v
 
 -- The reader has read the one spelling, with this prediction, that begins the bytes behind what was read: no other events, value or width does.
 pub record ReadsInt (kind : List ℕ) (earlier : List Event) (bits ctx : ℕ) (pred : ℤ) (value : ℤ) (k : ℕ) (old new : Decoding) (st : IntState) : Type 0 where

@@ -1,12 +1,12 @@
 //! Integers, as correctors of their predictions.
-ghost use Rattle.std.specs.Prelude.{◌≡◌, ◌+◌, ◌<◌, ◌≤◌, ◌^◌, ◌++◌, ℕ, ℤ, List, [], false, map, IfOk, OnErr, MatchResult};
+ghost use Rattle.std.specs.Prelude.{◌≡◌, ◌+◌, ◌<◌, ◌≤◌, ◌^◌, ◌++◌, ℕ, ℤ, List, [], false, map, IfOk, OnErr, OnOk, MatchResult};
 ghost use Rattle.laz_range.specs.Coding.{Codes};
 ghost use Rattle.laz_range.specs.Decoding.{Takes, TakesNone};
 ghost use Rattle.laz_models.specs.BitCounting.{fresh_bit};
 ghost use Rattle.laz_models.specs.Counting.{fresh};
 ghost use Rattle.laz_integer.specs.Corrector.{HasBits, corrected, difference, place_of};
 ghost use Rattle.laz_integer.specs.Events.{Event, cuts_behind};
-ghost use Rattle.laz_integer.specs.Integer.{IntEvents, IntSpell, IntStands, IsCorrector, NoInt, ReadsInt, int_cuts, int_next, int_sizes, int_width};
+ghost use Rattle.laz_integer.specs.Integer.{IntEvents, IntSpell, IntStands, IsCorrector, IsIntState, NoInt, ReadsCorrector, ReadsInt, int_cuts, int_next, int_sizes, int_width};
 
 use crate::corrector::{between, correct, split};
 use crate::models::{Models, new_models, put, take};
@@ -48,6 +48,7 @@ impl IntModel {
         ensures bit { IfOk result (λ m. m.zero_or_one ≡ fresh_bit) }
         ensures bank { IfOk result (λ m. m.bank ≡ map fresh (int_sizes bits contexts)) }
         ensures stands { IfOk result (λ m. (kind : List ℕ) → IntStands kind [] m) }
+        ensures state { IfOk result IsIntState }
     {
         let models = new_models(alloc, bits, contexts)?;
         Ok(IntModel { models })
@@ -60,6 +61,7 @@ impl IntModel {
         ensures bit { self.new.zero_or_one ≡ fresh_bit }
         ensures bank { self.new.bank ≡ map fresh (int_sizes self.old.bits self.old.contexts) }
         ensures stands { (kind : List ℕ) → IntStands kind [] self.new }
+        ensures state { IsIntState self.new }
     {
         self.models.bank.reset();
         self.models.zero_or_one.reset();
@@ -79,8 +81,11 @@ impl IntModel {
         ensures stands { (kind : List ℕ) (earlier : List Event) → IntStands kind earlier self.old → IntStands kind (earlier ++ IntEvents kind self.old.bits ctx pred real) self.new }
         ensures spells { (kind : List ℕ) → IntSpell kind self.old.bits ctx pred (IntEvents kind self.old.bits ctx pred real) real result }
         ensures used { encoder.old.left ≤ encoder.new.left + 12 }
+        ensures short { self.old.bits ≤ 27 → encoder.old.left ≤ encoder.new.left + 9 }
+        ensures range { result ≤ self.old.bits }
         ensures bits { self.new.bits ≡ self.old.bits }
         ensures contexts { self.new.contexts ≡ self.old.contexts }
+        ensures state { IsIntState self.new }
     {
         let bits = self.models.bits;
         let (k, v) = split(bits, between(bits, pred, real));
@@ -103,9 +108,13 @@ impl IntModel {
         ensures reads { MatchResult result (λ x. (v : ℕ) × Takes (IsCorrector self.old.bits) (λ y. int_cuts self.old ctx y.0 y.1) decoder.old decoder.new (x.1, v) × (x.0 ≡ corrected self.old.bits pred x.1 v) × (self.new ≡ int_next self.old ctx x.1 v)) (λ _. TakesNone (IsCorrector self.old.bits) (λ y. int_cuts self.old ctx y.0 y.1) decoder.old decoder.new) }
         ensures spelled { (kind : List ℕ) (earlier : List Event) → IntStands kind earlier self.old → IfOk result (λ x. ReadsInt kind earlier self.old.bits ctx pred x.0 x.1 decoder.old decoder.new self.new) }
         ensures none { (kind : List ℕ) (earlier : List Event) → IntStands kind earlier self.old → OnErr result (NoInt kind earlier self.old.bits ctx pred decoder.old) }
+        ensures fixed { (bits : ℕ) → self.old.bits ≡ bits → MatchResult result (λ x. ReadsCorrector bits self.old ctx pred x.0 x.1 decoder.old decoder.new self.new) (λ _. TakesNone (IsCorrector bits) (λ y. int_cuts self.old ctx y.0 y.1) decoder.old decoder.new) }
+        ensures good { OnOk result (decoder.new.failed ≡ false) }
         ensures range { IfOk result (λ x. HasBits self.old.bits x.0) }
+        ensures width { IfOk result (λ x. x.1 ≤ self.old.bits) }
         ensures bits { self.new.bits ≡ self.old.bits }
         ensures contexts { self.new.contexts ≡ self.old.contexts }
+        ensures state { IsIntState self.new }
     {
         let bits = self.models.bits;
         let (k, v) = take(&mut self.models, decoder, ctx)?;

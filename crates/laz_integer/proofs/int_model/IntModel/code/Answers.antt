@@ -1,7 +1,7 @@
-use Rattle.std.proofs.Common.{◌∙◌, ap}
+use Rattle.std.proofs.Common.{◌≤◌, ◌∙◌, ap, arith}
 use Rattle.laz_integer.specs.Corrector.{width_of, place_of}
 use Rattle.laz_integer.specs.Models.{state_of}
-use Rattle.laz_integer.proofs.Spellings.{IsWritten, written-codes, written-stands, written-spells, corrected-is, int-used, difference-passed, word_of}
+use Rattle.laz_integer.proofs.Spellings.{IsWritten, written-codes, written-stands, written-spells, corrected-is, int-used, int-short, difference-passed, word_of}
 use Rattle.laz_integer.proofs.int_model.IntModel.code.Goals as goal
 
 pub returns-clause-events : goal.returns-clause-events
@@ -31,3 +31,8 @@ returns-clause-spells c kind =
 
 pub returns-clause-used : goal.returns-clause-used
 returns-clause-used c = int-used (state_of c.self.inside.models) c.args.ctx c.split-k.result.0 c.split-k.result.1 _ _ c.put.ensures.codes
+
+pub returns-clause-short : goal.returns-clause-short
+returns-clause-short c few =
+    let bits : c.self.inside.models.bits ≤ 27 = rw (← c.self.view_is) at few in
+    int-short (state_of c.self.inside.models) c.args.ctx c.split-k.result.0 c.split-k.result.1 _ _ (omega (arith, c.split-k.ensures.digits, bits)) c.put.ensures.codes

@@ -9,3 +9,7 @@ invariant_of-result c =
 
 pub returns-clause-stands : goal.returns-clause-stands
 returns-clause-stands c kind = rw c.in_ok-models.ensures.state (stands-none kind _ (IsIntState-fresh _ c.requires.some c.requires.few c.requires.contexts refl refl) refl refl)
+
+pub returns-clause-state : goal.returns-clause-state
+returns-clause-state c =
+    rw c.in_ok-models.ensures.state (IsIntState-fresh _ c.requires.some c.requires.few c.requires.contexts refl refl)

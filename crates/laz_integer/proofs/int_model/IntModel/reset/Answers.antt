@@ -23,3 +23,6 @@ returns-clause-stands c kind =
     let bank : c.reset.new.self ≡ map fresh (int_sizes c.self.inside.models.bits c.self.inside.models.contexts) =
     c.reset.ensures.fresh ∙ (fresh-sizes c.self.inside.models.bank ∙ ap (map fresh) is.sizes) in
     stands-none kind _ (IsIntState-fresh _ is.some is.few is.contexts c.reset-2.ensures.fresh bank) c.reset-2.ensures.fresh bank
+
+pub returns-clause-state : goal.returns-clause-state
+returns-clause-state c = invariant_of-self c

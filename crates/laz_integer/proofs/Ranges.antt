@@ -1,0 +1,197 @@
+-- Lawful events cut out lawful parts. Meant for the crates of items and chunks, too.
+use Rattle.std.proofs.Common.{◌≡◌, ℕ, ◌+◌, ◌-◌, ◌%◌, ◌^◌, ◌<◌, ◌≤◌, eqb, ◌&&◌, min, Bool, true, false, if◌then◌else◌, List, [], ◌∷◌, ◌++◌, refl, sym, ap, subst, ◌∙◌, arith, ⊎_elim, lit<, lit≤, append_assoc}
+use Rattle.std.proofs.lemmas.Bool.{cases_lt, cases_eq, eqb-true}
+use Rattle.std.proofs.lemmas.List.{append-nil}
+use Rattle.std.specs.List.{AllByRecursion}
+use Rattle.laz_range.specs.Cut.{AreCuts}
+use Rattle.laz_range.proofs.Cuts.{raw_high}
+use Rattle.laz_models.specs.Counting.{Counting, AreParts, counted, fresh}
+use Rattle.laz_models.specs.BitCounting.{BitCounting, IsBitCounting, bit_counted, fresh_bit}
+use Rattle.laz_models.specs.Dist.{Stands, dist, size_of}
+use Rattle.laz_models.specs.BitDist.{BitStandsFor, p0_of}
+use Rattle.laz_models.proofs.Stand.{Stands-push, Stands-fresh}
+use Rattle.laz_models.proofs.BitStand.{BitStandsFor-push, BitStandsFor-fresh}
+use Rattle.laz_models.proofs.Banks.{size-counted, size-fresh}
+use Rattle.laz_integer.specs.Sound.{IsSound}
+use Rattle.laz_integer.specs.Corrector.{choices}
+use Rattle.laz_integer.specs.Events.{Event, Symbol, Flag, Bits, Name, Role, Own, Width, ZeroOrOne, High, same_role, same_text, same_name, symbols_under, bits_under, cuts_behind, raw_events}
+use Rattle.laz_integer.specs.Integer.{IntSpell, corrector_events, width_name, high_name}
+use Rattle.laz_integer.specs.Ranged.{AreRanged}
+use Rattle.laz_integer.specs.Uses.{own_name}
+use Rattle.laz_integer.specs.Fields.{SpellsByte, SpellsWord}
+use Rattle.laz_integer.proofs.Sounds.{IsSound-fresh, IsSound-counted, IsBitCounting-counted, IsBitCounting-fresh}
+use Rattle.laz_integer.proofs.SymbolParts.{AreCuts-symbol}
+use Rattle.laz_integer.proofs.Correctors.{choices-more, power-le}
+use Rattle.laz_integer.proofs.Choices.{wide_parts}
+use Rattle.laz_integer.proofs.Named.{raw-wide, raw-short}
+use Rattle.laz_integer.proofs.Stood.{events-zero, events-most, events-narrow, events-wide}
+use Rattle.laz_integer.proofs.Uses.{both_true}
+
+-- each is below n
+abbrev pub AreBelow : ℕ → List ℕ → Type 0
+AreBelow n symbols = AllByRecursion (λ s. s < n) symbols
+
+pub AreRanged-append : (sizes : Name → ℕ) (xs ys : List Event) → AreRanged sizes xs → AreRanged sizes ys → AreRanged sizes (xs ++ ys)
+AreRanged-append sizes [] ys h k = k
+AreRanged-append sizes (x ∷ xs) ys h k = (h.0, AreRanged-append sizes xs ys h.1 k)
+
+pub AreRanged-front : (sizes : Name → ℕ) (xs ys : List Event) → AreRanged sizes (xs ++ ys) → AreRanged sizes xs
+AreRanged-front sizes [] ys h = tt
+AreRanged-front sizes (x ∷ xs) ys h = (h.0, AreRanged-front sizes xs ys h.1)
+
+-- ---- names that are the same
+no_false : {X : Type 0} → false ≡ true → X
+no_false e = absurd (cc)
+
+role-is : (a b : Role) → same_role a b ≡ true → a ≡ b
+role-is Own Own e = refl
+role-is Own Width e = no_false e
+role-is Own ZeroOrOne e = no_false e
+role-is Own High e = no_false e
+role-is Width Own e = no_false e
+role-is Width Width e = refl
+role-is Width ZeroOrOne e = no_false e
+role-is Width High e = no_false e
+role-is ZeroOrOne Own e = no_false e
+role-is ZeroOrOne Width e = no_false e
+role-is ZeroOrOne ZeroOrOne e = refl
+role-is ZeroOrOne High e = no_false e
+role-is High Own e = no_false e
+role-is High Width e = no_false e
+role-is High ZeroOrOne e = no_false e
+role-is High High e = refl
+
+cons_same : (x y : ℕ) (xs ys : List ℕ) → x ≡ y → xs ≡ ys → x ∷ xs ≡ y ∷ ys
+cons_same x y xs ys e f = cc
+
+text-is : (a b : List ℕ) → same_text a b ≡ true → a ≡ b
+text-is [] [] e = refl
+text-is [] (y ∷ ys) e = no_false e
+text-is (x ∷ xs) [] e = no_false e
+text-is (x ∷ xs) (y ∷ ys) e =
+    let p = both_true (eqb x y) (same_text xs ys) e in
+    cons_same x y xs ys (eqb-true x y p.0) (text-is xs ys p.1)
+
+same_fields : (k l : List ℕ) (r s : Role) (i j : ℕ) → k ≡ l → r ≡ s → i ≡ j → (let n : Name = record { kind = k; role = r; which = i } in n) ≡ record { kind = l; role = s; which = j }
+same_fields k l r s i j e f g = cc
+
+pub name-is : (a b : Name) → same_name a b ≡ true → a ≡ b
+name-is a b e =
+    let p = both_true (same_role a.role b.role) (eqb a.which b.which && same_text a.kind b.kind) e in
+    let q = both_true (eqb a.which b.which) (same_text a.kind b.kind) p.1 in
+    same_fields a.kind b.kind a.role b.role a.which b.which (text-is a.kind b.kind q.1) (role-is a.role b.role p.0) (eqb-true a.which b.which q.0)
+
+by-case : (P : List ℕ → Type 0) (b : Bool) (xs ys : List ℕ) → (b ≡ true → P xs) → P ys → P (if b then xs else ys)
+by-case P true xs ys f g = f refl
+by-case P false xs ys f g = g
+
+pub under-below : (sizes : Name → ℕ) (name : Name) (events : List Event) → AreRanged sizes events → AreBelow (sizes name) (symbols_under name events)
+under-below sizes name [] h = tt
+under-below sizes name (Symbol other n s ∷ events) h =
+    let rest = under-below sizes name events h.1 in
+    by-case (AreBelow (sizes name)) (same_name name other) (s ∷ symbols_under name events) (symbols_under name events)
+    (λ same. (omega (arith, h.0.0, h.0.1.1.1, ap sizes (name-is name other same)), rest))
+    rest
+under-below sizes name (Flag other bit ∷ events) h = under-below sizes name events h.1
+under-below sizes name (Bits b v ∷ events) h = under-below sizes name events h.1
+
+-- ---- the parts of every list of symbols are a distribution
+abbrev pub counted_all : Counting → List ℕ → Counting
+counted_all m [] = m
+counted_all m (s ∷ xs) = counted_all (counted m s) xs
+
+stands-all : (n : ℕ) (h xs : List ℕ) (m : Counting) → 2 ≤ n → size_of m ≡ n → Stands n h m → IsSound m → AreBelow n xs → Stands n (h ++ xs) (counted_all m xs) × IsSound (counted_all m xs) × (size_of (counted_all m xs) ≡ n)
+stands-all n h [] m many size stands sound all = (subst (λ l. Stands n l m) (sym (append-nil h)) stands, sound, size)
+stands-all n h (s ∷ xs) m many size stands sound all =
+    let rest = stands-all n (h ++ s ∷ []) xs (counted m s) many (size-counted m s ∙ size) (Stands-push n h s m many all.0 stands) (IsSound-counted m s sound (omega (arith, all.0, size))) all.1 in
+    (subst (λ l. Stands n l (counted_all (counted m s) xs)) (append_assoc h (s ∷ []) xs) rest.0, rest.1, rest.2)
+
+pub dist-parts : (n : ℕ) (h : List ℕ) → 2 ≤ n → n ≤ 2048 → AreBelow n h → AreParts n (dist n h)
+dist-parts n h many few all =
+    let r = stands-all n [] h (fresh n) many (size-fresh n) (Stands-fresh n many) (IsSound-fresh n many few) all in
+    subst (λ (ps : List ℕ). AreParts n ps) r.0.parts (subst (λ (k : ℕ). AreParts k (counted_all (fresh n) h).parts) r.2 r.1.parts)
+
+abbrev pub bits_counted : BitCounting → List Bool → BitCounting
+bits_counted m [] = m
+bits_counted m (b ∷ xs) = bits_counted (bit_counted m b) xs
+
+bits-all : (h xs : List Bool) (m : BitCounting) → BitStandsFor h m → IsBitCounting m → BitStandsFor (h ++ xs) (bits_counted m xs) × IsBitCounting (bits_counted m xs)
+bits-all h [] m stands is = (subst (λ l. BitStandsFor l m) (sym (append-nil h)) stands, is)
+bits-all h (b ∷ xs) m stands is =
+    let rest = bits-all (h ++ b ∷ []) xs (bit_counted m b) (BitStandsFor-push h b m stands) (IsBitCounting-counted m b is) in
+    (subst (λ l. BitStandsFor l (bits_counted (bit_counted m b) xs)) (append_assoc h (b ∷ []) xs) rest.0, rest.1)
+
+pub bit-part : (h : List Bool) → (0 < p0_of h) × (p0_of h < 8192)
+bit-part h =
+    let r = bits-all [] h fresh_bit BitStandsFor-fresh IsBitCounting-fresh in
+    (omega (arith, r.0.p0, r.1.p0_some), omega (arith, r.0.p0, r.1.p0_below))
+
+-- ---- lawful events cut lawfully
+pub AreCuts-ranged : (sizes : Name → ℕ) (earlier events : List Event) → AreRanged sizes earlier → AreRanged sizes events → AreCuts (cuts_behind earlier events)
+AreCuts-ranged sizes earlier [] before h = tt
+AreCuts-ranged sizes earlier (Symbol name n s ∷ events) before h =
+    let small : AreBelow n (symbols_under name earlier) = subst (λ (k : ℕ). AreBelow k (symbols_under name earlier)) (sym h.0.0) (under-below sizes name earlier before) in (
+      (AreCuts-symbol n (dist n (symbols_under name earlier)) s (dist-parts n (symbols_under name earlier) h.0.1.0 h.0.1.1.0 small) h.0.1.1.1).0,
+      AreCuts-ranged sizes (earlier ++ Symbol name n s ∷ []) events (AreRanged-append sizes earlier (Symbol name n s ∷ []) before (h.0, tt)) h.1,
+    )
+AreCuts-ranged sizes earlier (Flag name bit ∷ events) before h =
+    (bit-part (bits_under name earlier), AreCuts-ranged sizes (earlier ++ Flag name bit ∷ []) events (AreRanged-append sizes earlier (Flag name bit ∷ []) before (h.0, tt)) h.1)
+AreCuts-ranged sizes earlier (Bits b v ∷ events) before h =
+    ((h.0.0, h.0.1.0, h.0.1.1), AreCuts-ranged sizes (earlier ++ Bits b v ∷ []) events (AreRanged-append sizes earlier (Bits b v ∷ []) before (h.0, tt)) h.1)
+
+-- ---- the events of a raw value, a corrector, an integer and a field are lawful
+pub raw-ranged : (sizes : Name → ℕ) (b v : ℕ) → 0 < b → b ≤ 32 → v < 2 ^ b → AreRanged sizes (raw_events b v)
+raw-ranged sizes b v some few small =
+    ⊎_elim
+    (λ (wide : 19 < b).
+    let high = raw_high v b wide small in
+    rw (raw-wide b v wide) ((lit< tt, (lit≤ tt, omega arith)), ((omega arith, (omega arith, high)), tt)))
+    (λ (narrow : b ≤ 19). rw (raw-short b v narrow) ((some, (narrow, small)), tt))
+    (cases_lt 19 b)
+
+power-two : (k : ℕ) → 0 < k → k ≤ 8 → (2 ≤ 2 ^ k) × (2 ^ k ≤ 2048)
+power-two k some few = (power-le 1 k some, omega (arith, power-le k 8 few))
+
+-- the models of an integer have their numbers of symbols
+pub record HasIntSizes (sizes : Name → ℕ) (kind : List ℕ) (bits : ℕ) : Type 0 where
+  pub widths : (ctx : ℕ) → sizes (width_name kind ctx) ≡ bits + 1
+  pub highs : (k : ℕ) → sizes (high_name kind k) ≡ 2 ^ min k 8
+
+pub corrector-ranged : (sizes : Name → ℕ) (kind : List ℕ) (bits ctx k v : ℕ) → HasIntSizes sizes kind bits → 1 ≤ bits → bits ≤ 32 → k ≤ bits → v < choices k → AreRanged sizes (corrector_events kind bits ctx k v)
+corrector-ranged sizes kind bits ctx k v has some most range within = (
+  (sym (has.widths ctx), (omega arith, (omega arith, omega arith))),
+  ⊎_elim
+      (λ (zero_is : k ≡ 0). rw (zero_is, events-zero kind v) (tt, tt))
+      (λ (some_is : k ≡ 0 → ⊥).
+      let positive : 0 < k = omega (arith, some_is) in
+      ⊎_elim
+      (λ (most_is : k ≡ 32). rw (most_is, events-most kind v) tt)
+      (λ (fewer : k ≡ 32 → ⊥).
+      let small : k < 32 = omega (arith, fewer, range, most) in
+      let below : v < 2 ^ k = rw (choices-more k positive small) at within in
+      ⊎_elim
+      (λ (wide : 8 < k).
+      let parts = wide_parts k v wide below in
+      let least : min k 8 ≡ 8 = omega arith in
+      let power : 2 ^ min k 8 ≡ 256 = ap (λ n. 2 ^ n) least in
+      rw (events-wide kind k v wide small) ((sym (has.highs k ∙ power), (lit≤ tt, (lit≤ tt, omega (arith, parts.0, power)))), raw-ranged sizes (k - 8) (v % 2 ^ (k - 8)) (omega arith) (omega arith) parts.1))
+      (λ (narrow : k ≤ 8).
+      let least : min k 8 ≡ k = omega arith in
+      let power : 2 ^ min k 8 ≡ 2 ^ k = ap (λ n. 2 ^ n) least in
+      let two = power-two k positive narrow in
+      rw (events-narrow kind k v positive narrow) ((sym (has.highs k ∙ power), (two.0, (two.1, below))), tt))
+      (cases_lt 8 k))
+      (cases_eq k 32))
+      (cases_eq k 0),
+)
+
+pub int-ranged : (sizes : Name → ℕ) (kind : List ℕ) (bits ctx : ℕ) (pred value : _) (k : ℕ) (events : List Event) → HasIntSizes sizes kind bits → 1 ≤ bits → bits ≤ 32 → IntSpell kind bits ctx pred events value k → AreRanged sizes events
+int-ranged sizes kind bits ctx pred value k events has some most h = subst (AreRanged sizes) (sym h.is) (corrector-ranged sizes kind bits ctx k h.v has some most h.width h.within)
+
+pub byte-ranged : (sizes : Name → ℕ) (marked : Bool) (kind : List ℕ) (m expected s : ℕ) (events : List Event) → sizes (own_name kind m) ≡ 256 → SpellsByte marked kind m expected events s → AreRanged sizes events
+byte-ranged sizes true kind m expected s events e h = subst (AreRanged sizes) (sym h.1) ((sym e, (lit≤ tt, (lit≤ tt, h.0))), tt)
+byte-ranged sizes false kind m expected s events e h = subst (AreRanged sizes) (sym h.0) tt
+
+pub word-ranged : (sizes : Name → ℕ) (marked : Bool) (kind : List ℕ) (ctx pred value : ℕ) (events : List Event) → HasIntSizes sizes kind 16 → SpellsWord marked kind ctx pred events value → AreRanged sizes events
+word-ranged sizes true kind ctx pred value events has h = int-ranged sizes kind 16 ctx _ _ h.0 events has (lit≤ tt) (lit≤ tt) h.1
+word-ranged sizes false kind ctx pred value events has h = subst (AreRanged sizes) (sym h.0) tt

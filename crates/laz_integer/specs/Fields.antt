@@ -1,0 +1,91 @@
+-- Fields of a record that are coded only if they are marked: a byte under a model of 256 symbols, or a number of 16 bits as an integer.
+use Rattle.std.specs.Prelude.{◌≡◌, ℕ, ℤ, pos, nat_abs, ◌<◌, Bool, true, false, List, [], ◌∷◌, length, slice_set}
+use Rattle.laz_range.specs.Cut.{Cut}
+use Rattle.laz_models.specs.Counting.{Counting, counted}
+use Rattle.laz_models.specs.Dist.{StandsFor}
+use Rattle.laz_models.specs.Bank.{model_at}
+use Rattle.laz_integer.specs.Corrector.{corrected, difference, place_of}
+use Rattle.laz_integer.specs.Events.{Event, Symbol, symbols_under}
+use Rattle.laz_integer.specs.Integer.{IntState, IsIntState, IntEvents, IntSpell, IsCorrector, symbol_cut, int_cuts, int_next, int_width}
+use Rattle.laz_integer.specs.Uses.{own_name}
+
+-- ---- in events
+
+-- Events that stand only if their field is marked.
+abbrev pub where_marked : Bool → List Event → List Event
+where_marked true events = events
+where_marked false events = []
+
+-- The event of a byte under model m of a use.
+abbrev pub byte_events : List ℕ → ℕ → ℕ → List Event
+byte_events kind m s = Symbol (own_name kind m) 256 s ∷ []
+
+-- The events that a writer makes of a number of 16 bits.
+abbrev pub word_events : List ℕ → ℕ → ℕ → ℕ → List Event
+word_events kind ctx pred real = IntEvents kind 16 ctx (pos pred) (pos real)
+
+-- Events that spell a byte: if it is marked, a symbol under model m; else none, and it is the expected one.
+abbrev pub SpellsByte : Bool → List ℕ → ℕ → ℕ → List Event → ℕ → Type 0
+SpellsByte true kind m expected events s = (s < 256) × (events ≡ byte_events kind m s)
+SpellsByte false kind m expected events s = (events ≡ []) × (s ≡ expected)
+
+-- Events that spell a number of 16 bits: if it is marked, those of any corrector that makes it of its prediction; else none, and it is the prediction.
+abbrev pub SpellsWord : Bool → List ℕ → ℕ → ℕ → List Event → ℕ → Type 0
+SpellsWord true kind ctx pred events value = (k : ℕ) × IntSpell kind 16 ctx (pos pred) events (pos value) k
+SpellsWord false kind ctx pred events value = (events ≡ []) × (value ≡ pred)
+
+-- ---- in states of the models
+
+-- Each model of a bank stands for the symbols under its name of a use.
+abbrev pub BankStands : List ℕ → List Event → List Counting → Type 0
+BankStands kind events bank = (m : ℕ) → m < length bank → StandsFor (symbols_under (own_name kind m) events) (model_at bank m)
+
+-- The part of a byte under model m of a bank.
+abbrev pub byte_cuts : Bool → List Counting → ℕ → ℕ → List Cut
+byte_cuts true bank m s = symbol_cut (model_at bank m) s ∷ []
+byte_cuts false bank m s = []
+
+-- The bank after it.
+abbrev pub byte_next : Bool → List Counting → ℕ → ℕ → List Counting
+byte_next true bank m s = slice_set bank m (counted (model_at bank m) s)
+byte_next false bank m s = bank
+
+-- Which bytes may be read: any that is marked, else the expected one.
+abbrev pub IsByte : Bool → ℕ → ℕ → Type 0
+IsByte true expected s = s < 256
+IsByte false expected s = s ≡ expected
+
+-- The models of an integer have so many bits and contexts.
+pub record IsInts (n m : ℕ) (st : IntState) : Type 0 where
+  pub state : IsIntState st
+  pub bits : st.bits ≡ n
+  pub contexts : st.contexts ≡ m
+
+-- Which corrector a writer takes, as width and place.
+abbrev pub int_written : ℕ → ℤ → ℤ → ℕ × ℕ
+int_written bits pred real =
+    let k = int_width bits pred real in (k, place_of bits (difference bits pred real) k)
+
+-- The same of a number of 16 bits.
+abbrev pub word_written : ℕ → ℕ → ℕ × ℕ
+word_written pred real = int_written 16 (pos pred) (pos real)
+
+-- The parts of a corrector of a number of 16 bits.
+abbrev pub word_cuts : Bool → IntState → ℕ → ℕ × ℕ → List Cut
+word_cuts true st ctx x = int_cuts st ctx x.0 x.1
+word_cuts false st ctx x = []
+
+-- The models after them.
+abbrev pub word_next : Bool → IntState → ℕ → ℕ × ℕ → IntState
+word_next true st ctx x = int_next st ctx x.0 x.1
+word_next false st ctx x = st
+
+-- Which correctors may be read: any of a number that is marked, else one that stands for none.
+abbrev pub IsWord : Bool → ℕ × ℕ → Type 0
+IsWord true x = IsCorrector 16 x
+IsWord false x = x ≡ (0, 0)
+
+-- The number that a corrector makes of its prediction.
+abbrev pub word_made : Bool → ℕ → ℕ × ℕ → ℕ
+word_made true pred x = nat_abs (corrected 16 (pos pred) x.0 x.1)
+word_made false pred x = pred

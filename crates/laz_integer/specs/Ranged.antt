@@ -1,0 +1,21 @@
+-- Which events are lawful, and which are of one kind.
+use Rattle.std.specs.Prelude.{◌≡◌, ℕ, ◌^◌, ◌<◌, ◌≤◌, List}
+use Rattle.std.specs.List.{AllByRecursion}
+use Rattle.laz_integer.specs.Events.{Event, Symbol, Flag, Bits, Name}
+
+-- A lawful event, where `sizes` says how many symbols the model of each name has: a symbol is below that number, which is from 2 to 2,048, and a raw value has 1 to 19 bits.
+abbrev pub IsRanged : (Name → ℕ) → Event → Type 0
+IsRanged sizes (Symbol name n s) = (n ≡ sizes name) × ((2 ≤ n) × ((n ≤ 2048) × (s < n)))
+IsRanged sizes (Flag name bit) = Unit {0}
+IsRanged sizes (Bits b v) = (0 < b) × ((b ≤ 19) × (v < 2 ^ b))
+
+-- Each event is lawful.
+abbrev pub AreRanged : (Name → ℕ) → List Event → Type 0
+AreRanged sizes events = AllByRecursion (IsRanged sizes) events
+
+-- Two symbols under one name, two bits under one name, or two raw values of one width.
+abbrev pub AreOneKind : Event → Event → Type 0
+AreOneKind (Symbol a n s) (Symbol b m t) = a ≡ b
+AreOneKind (Flag a bit) (Flag b other) = a ≡ b
+AreOneKind (Bits b v) (Bits c w) = b ≡ c
+AreOneKind d e = ⊥
