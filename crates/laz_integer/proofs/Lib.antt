@@ -7,6 +7,9 @@ pub mod Named
 pub mod Stood
 pub mod Spellings
 pub mod Uses
+pub mod Bounds
+pub mod Writing
+pub mod Words
 pub mod Pieces
 pub mod Ranges
 pub mod Examples

@@ -3,7 +3,9 @@ use Rattle.std.proofs.Common.{◌≡◌, ℕ, ◌+◌, ◌-◌, ◌%◌, ◌^◌
 use Rattle.std.proofs.lemmas.Bool.{cases_lt, cases_eq, eqb-true}
 use Rattle.std.proofs.lemmas.List.{append-nil}
 use Rattle.std.specs.List.{AllByRecursion}
-use Rattle.laz_range.specs.Cut.{AreCuts}
+use Rattle.laz_range.specs.Cut.{Cut, Bit, Raw, AreCuts, AreAlike, IsCut, symbol}
+use Rattle.laz_range.specs.Span.{Begins, span}
+use Rattle.laz_range.proofs.Distributions.{AreAlike-symbols}
 use Rattle.laz_range.proofs.Cuts.{raw_high}
 use Rattle.laz_models.specs.Counting.{Counting, AreParts, counted, fresh}
 use Rattle.laz_models.specs.BitCounting.{BitCounting, IsBitCounting, bit_counted, fresh_bit}
@@ -14,16 +16,16 @@ use Rattle.laz_models.proofs.BitStand.{BitStandsFor-push, BitStandsFor-fresh}
 use Rattle.laz_models.proofs.Banks.{size-counted, size-fresh}
 use Rattle.laz_integer.specs.Sound.{IsSound}
 use Rattle.laz_integer.specs.Corrector.{choices}
-use Rattle.laz_integer.specs.Events.{Event, Symbol, Flag, Bits, Name, Role, Own, Width, ZeroOrOne, High, same_role, same_text, same_name, symbols_under, bits_under, cuts_behind, raw_events}
+use Rattle.laz_integer.specs.Events.{Event, Symbol, Flag, Bits, Name, Role, Own, Width, ZeroOrOne, High, same_role, same_text, same_name, symbols_under, bits_under, cut_behind, cuts_behind, cuts_of, raw_events}
 use Rattle.laz_integer.specs.Integer.{IntSpell, corrector_events, width_name, high_name}
-use Rattle.laz_integer.specs.Ranged.{AreRanged}
+use Rattle.laz_integer.specs.Ranged.{IsRanged, AreRanged, AreOneKind, HasIntSizes}
 use Rattle.laz_integer.specs.Uses.{own_name}
 use Rattle.laz_integer.specs.Fields.{SpellsByte, SpellsWord}
 use Rattle.laz_integer.proofs.Sounds.{IsSound-fresh, IsSound-counted, IsBitCounting-counted, IsBitCounting-fresh}
-use Rattle.laz_integer.proofs.SymbolParts.{AreCuts-symbol}
+use Rattle.laz_integer.proofs.SymbolParts.{AreCuts-symbol, IsDistribution-parts, symbol_back}
 use Rattle.laz_integer.proofs.Correctors.{choices-more, power-le}
 use Rattle.laz_integer.proofs.Choices.{wide_parts}
-use Rattle.laz_integer.proofs.Named.{raw-wide, raw-short}
+use Rattle.laz_integer.proofs.Named.{cuts_behind-append, raw-wide, raw-short}
 use Rattle.laz_integer.proofs.Stood.{events-zero, events-most, events-narrow, events-wide}
 use Rattle.laz_integer.proofs.Uses.{both_true}
 
@@ -152,11 +154,6 @@ raw-ranged sizes b v some few small =
 power-two : (k : ℕ) → 0 < k → k ≤ 8 → (2 ≤ 2 ^ k) × (2 ^ k ≤ 2048)
 power-two k some few = (power-le 1 k some, omega (arith, power-le k 8 few))
 
--- the models of an integer have their numbers of symbols
-pub record HasIntSizes (sizes : Name → ℕ) (kind : List ℕ) (bits : ℕ) : Type 0 where
-  pub widths : (ctx : ℕ) → sizes (width_name kind ctx) ≡ bits + 1
-  pub highs : (k : ℕ) → sizes (high_name kind k) ≡ 2 ^ min k 8
-
 pub corrector-ranged : (sizes : Name → ℕ) (kind : List ℕ) (bits ctx k v : ℕ) → HasIntSizes sizes kind bits → 1 ≤ bits → bits ≤ 32 → k ≤ bits → v < choices k → AreRanged sizes (corrector_events kind bits ctx k v)
 corrector-ranged sizes kind bits ctx k v has some most range within = (
   (sym (has.widths ctx), (omega arith, (omega arith, omega arith))),
@@ -195,3 +192,72 @@ byte-ranged sizes false kind m expected s events e h = subst (AreRanged sizes) (
 pub word-ranged : (sizes : Name → ℕ) (marked : Bool) (kind : List ℕ) (ctx pred value : ℕ) (events : List Event) → HasIntSizes sizes kind 16 → SpellsWord marked kind ctx pred events value → AreRanged sizes events
 word-ranged sizes true kind ctx pred value events has h = int-ranged sizes kind 16 ctx _ _ h.0 events has (lit≤ tt) (lit≤ tt) h.1
 word-ranged sizes false kind ctx pred value events has h = subst (AreRanged sizes) (sym h.0) tt
+
+-- ---- two lawful events of one kind cut out alike parts, which are equal only if the events are
+pub IsCut-ranged : (sizes : Name → ℕ) (front : List Event) (e : Event) → AreRanged sizes front → IsRanged sizes e → IsCut (cut_behind front e)
+IsCut-ranged sizes front e before h = (AreCuts-ranged sizes front (e ∷ []) before (h, tt)).0
+
+dist-is : (sizes : Name → ℕ) (front : List Event) (name : Name) (n s : ℕ) → AreRanged sizes front → IsRanged sizes (Symbol name n s) → AreParts n (dist n (symbols_under name front))
+dist-is sizes front name n s before h =
+    dist-parts n (symbols_under name front) h.1.0 h.1.1.0 (subst (λ (k : ℕ). AreBelow k (symbols_under name front)) (sym h.0) (under-below sizes name front before))
+
+same_number : (sizes : Name → ℕ) (a b : Name) (n m : ℕ) → n ≡ sizes a → m ≡ sizes b → a ≡ b → m ≡ n
+same_number sizes a b n m e f g = cc
+
+alike-named : (sizes : Name → ℕ) (front : List Event) (a : Name) (n s t : ℕ) → AreRanged sizes front → IsRanged sizes (Symbol a n s) → IsRanged sizes (Symbol a n t) → AreAlike (cut_behind front (Symbol a n s)) (cut_behind front (Symbol a n t))
+alike-named sizes front a n s t before f g =
+    let parts = dist-is sizes front a n s before f in
+    AreAlike-symbols (dist n (symbols_under a front)) s t (IsDistribution-parts n _ parts) (omega (arith, parts.length, f.1.1.1)) (omega (arith, parts.length, g.1.1.1))
+
+pub AreAlike-ranged : (sizes : Name → ℕ) (front : List Event) (d e : Event) → AreRanged sizes front → IsRanged sizes d → IsRanged sizes e → AreOneKind d e → AreAlike (cut_behind front d) (cut_behind front e)
+AreAlike-ranged sizes front (Symbol a n s) (Symbol b m t) before f g same =
+    let number : m ≡ n = same_number sizes a b n m f.0 g.0 same in
+    let other : IsRanged sizes (Symbol a n t) = subst (λ (k : ℕ). IsRanged sizes (Symbol a k t)) number (subst (λ (c : Name). IsRanged sizes (Symbol c m t)) (sym same) g) in
+    subst (λ (k : ℕ). AreAlike (cut_behind front (Symbol a n s)) (cut_behind front (Symbol b k t))) (sym number)
+    (subst (λ (c : Name). AreAlike (cut_behind front (Symbol a n s)) (cut_behind front (Symbol c n t))) same (alike-named sizes front a n s t before f other))
+AreAlike-ranged sizes front (Symbol a n s) (Flag b other) before f g same = absurd same
+AreAlike-ranged sizes front (Symbol a n s) (Bits c w) before f g same = absurd same
+AreAlike-ranged sizes front (Flag a bit) (Symbol b m t) before f g same = absurd same
+AreAlike-ranged sizes front (Flag a bit) (Flag b other) before f g same = ap (λ c. p0_of (bits_under c front)) same
+AreAlike-ranged sizes front (Flag a bit) (Bits c w) before f g same = absurd same
+AreAlike-ranged sizes front (Bits b v) (Symbol a m t) before f g same = absurd same
+AreAlike-ranged sizes front (Bits b v) (Flag a other) before f g same = absurd same
+AreAlike-ranged sizes front (Bits b v) (Bits c w) before f g same = same
+
+same_bit : (p q : ℕ) (bit other : Bool) → Bit p bit ≡ Bit q other → bit ≡ other
+same_bit p q bit other e = cc
+
+same_raw : (b c v w : ℕ) → Raw b v ≡ Raw c w → v ≡ w
+same_raw b c v w e = cc
+
+symbols_equal : (a b : Name) (n m s t : ℕ) → a ≡ b → m ≡ n → t ≡ s → Symbol a n s ≡ Symbol b m t
+symbols_equal a b n m s t e f g = cc
+
+flags_equal : (a b : Name) (bit other : Bool) → a ≡ b → bit ≡ other → Flag a bit ≡ Flag b other
+flags_equal a b bit other e f = cc
+
+raws_equal : (b c v w : ℕ) → b ≡ c → v ≡ w → Bits b v ≡ Bits c w
+raws_equal b c v w e f = cc
+
+pub event-from_cut : (sizes : Name → ℕ) (front : List Event) (d e : Event) → AreRanged sizes front → IsRanged sizes d → IsRanged sizes e → AreOneKind d e → cut_behind front d ≡ cut_behind front e → d ≡ e
+event-from_cut sizes front (Symbol a n s) (Symbol b m t) before f g same cut =
+    let number : m ≡ n = same_number sizes a b n m f.0 g.0 same in
+    let parts = dist-is sizes front a n s before f in
+    let here : symbol (dist n (symbols_under a front)) t ≡ symbol (dist n (symbols_under a front)) s =
+    ap (λ k. symbol (dist k (symbols_under a front)) t) (sym number) ∙ (ap (λ c. symbol (dist m (symbols_under c front)) t) same ∙ sym cut) in
+    symbols_equal a b n m s t same number (symbol_back (dist n (symbols_under a front)) s t (IsDistribution-parts n _ parts) (omega (arith, parts.length, f.1.1.1)) (omega (arith, parts.length, g.1.1.1, number)) here)
+event-from_cut sizes front (Symbol a n s) (Flag b other) before f g same cut = absurd same
+event-from_cut sizes front (Symbol a n s) (Bits c w) before f g same cut = absurd same
+event-from_cut sizes front (Flag a bit) (Symbol b m t) before f g same cut = absurd same
+event-from_cut sizes front (Flag a bit) (Flag b other) before f g same cut = flags_equal a b bit other same (same_bit _ _ bit other cut)
+event-from_cut sizes front (Flag a bit) (Bits c w) before f g same cut = absurd same
+event-from_cut sizes front (Bits b v) (Symbol a m t) before f g same cut = absurd same
+event-from_cut sizes front (Bits b v) (Flag a other) before f g same cut = absurd same
+event-from_cut sizes front (Bits b v) (Bits c w) before f g same cut = raws_equal b c v w same (same_raw b c v w cut)
+
+-- one event more
+pub cuts-more : (front : List Event) (e : Event) → cuts_of (front ++ e ∷ []) ≡ cuts_of front ++ cut_behind front e ∷ []
+cuts-more front e = cuts_behind-append [] front (e ∷ [])
+
+pub Begins-more : (front : List Event) (e : Event) (bytes : List ℕ) → Begins (span (cuts_of (front ++ e ∷ []))) bytes → Begins (span (cuts_of front ++ cut_behind front e ∷ [])) bytes
+Begins-more front e bytes h = subst (λ (cs : List Cut). Begins (span cs) bytes) (cuts-more front e) h

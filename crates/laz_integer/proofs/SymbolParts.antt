@@ -1,4 +1,4 @@
-use Rattle.std.proofs.Common.{◌≡◌, ℕ, zero, suc, ◌+◌, ◌-◌, ◌<◌, ◌≤◌, List, [], ◌∷◌, length, get_or, arith, ⊎_elim}
+use Rattle.std.proofs.Common.{◌≡◌, ℕ, zero, suc, ◌+◌, ◌-◌, ◌<◌, ◌≤◌, List, [], ◌∷◌, length, get_or, arith, subst, ⊎_elim}
 use Rattle.std.proofs.lemmas.Bool.{cases_lt, cases_eq}
 use Rattle.laz_range.specs.Cut.{Part, AreCuts, IsLike, IsDistribution, one_event, symbol}
 use Rattle.laz_range.specs.Decoding.{Decoding, Takes, TakesNone, ReadsOn, NoneBegins}
@@ -29,7 +29,7 @@ IsDistribution-parts n parts h =
 same_start : (lo hi low high : ℕ) → Part lo hi ≡ Part low high → lo ≡ low
 same_start lo hi low high e = cc
 
-symbol_back : (parts : List ℕ) (s t : ℕ) → IsDistribution parts → s < length parts → t < length parts → symbol parts t ≡ symbol parts s → t ≡ s
+pub symbol_back : (parts : List ℕ) (s t : ℕ) → IsDistribution parts → s < length parts → t < length parts → symbol parts t ≡ symbol parts s → t ≡ s
 symbol_back parts s t h within inside e =
     let same : get_or parts t 0 ≡ get_or parts s 0 = same_start _ _ _ _ e in
     ⊎_elim
@@ -69,3 +69,10 @@ pub symbol-nothing : (m : Counting) (d e : Decoding) (h : List ℕ) → AreParts
     → TakesNone (λ y. y < size_of m) (λ y. symbol m.parts y ∷ []) d e → NoneBegins (λ y. y < size_of m) (λ y. symbol (dist (size_of m) h) y ∷ []) d
 symbol-nothing m d e h parts stands none =
     rw (← stands.parts) (TakesNone-NoneBegins (λ y. y < size_of m) (λ y. symbol m.parts y ∷ []) d e (λ y q. AreCuts-symbol (size_of m) m.parts y parts q) none)
+
+-- a model of n symbols
+pub sized-takes : (m : Counting) (s n : ℕ) (a b : Decoding) → size_of m ≡ n → Takes (λ y. y < size_of m) (λ y. symbol m.parts y ∷ []) a b s → Takes (λ y. y < n) (λ y. symbol m.parts y ∷ []) a b s
+sized-takes m s n a b e h = subst (λ (k : ℕ). Takes (λ y. y < k) (λ y. symbol m.parts y ∷ []) a b s) e h
+
+pub sized-none : (m : Counting) (n : ℕ) (a b : Decoding) → size_of m ≡ n → TakesNone (λ y. y < size_of m) (λ y. symbol m.parts y ∷ []) a b → TakesNone (λ y. y < n) (λ y. symbol m.parts y ∷ []) a b
+sized-none m n a b e h = subst (λ (k : ℕ). TakesNone (λ y. y < k) (λ y. symbol m.parts y ∷ []) a b) e h

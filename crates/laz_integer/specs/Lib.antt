@@ -2,9 +2,9 @@ pub use Rattle.laz_range.specs.Cut
 pub use Rattle.laz_range.specs.Span
 pub mod Events
 pub mod Uses
-pub mod Ranged
 pub mod Corrector
 pub mod Sound
 pub mod Integer
+pub mod Ranged
 pub mod Fields
 pub mod Models

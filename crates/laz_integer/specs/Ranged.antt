@@ -1,7 +1,8 @@
 -- Which events are lawful, and which are of one kind.
-use Rattle.std.specs.Prelude.{◌≡◌, ℕ, ◌^◌, ◌<◌, ◌≤◌, List}
+use Rattle.std.specs.Prelude.{◌≡◌, ℕ, ◌+◌, ◌^◌, ◌<◌, ◌≤◌, min, List}
 use Rattle.std.specs.List.{AllByRecursion}
 use Rattle.laz_integer.specs.Events.{Event, Symbol, Flag, Bits, Name}
+use Rattle.laz_integer.specs.Integer.{width_name, high_name}
 
 -- A lawful event, where `sizes` says how many symbols the model of each name has: a symbol is below that number, which is from 2 to 2,048, and a raw value has 1 to 19 bits.
 abbrev pub IsRanged : (Name → ℕ) → Event → Type 0
@@ -19,3 +20,8 @@ AreOneKind (Symbol a n s) (Symbol b m t) = a ≡ b
 AreOneKind (Flag a bit) (Flag b other) = a ≡ b
 AreOneKind (Bits b v) (Bits c w) = b ≡ c
 AreOneKind d e = ⊥
+
+-- The models of an integer of so many bits have their numbers of symbols.
+pub record HasIntSizes (sizes : Name → ℕ) (kind : List ℕ) (bits : ℕ) : Type 0 where
+  pub widths : (ctx : ℕ) → sizes (width_name kind ctx) ≡ bits + 1
+  pub highs : (k : ℕ) → sizes (high_name kind k) ≡ 2 ^ min k 8

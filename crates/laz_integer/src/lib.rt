@@ -5,11 +5,18 @@
 #![tactic(auto)]
 
 mod corrector;
+mod fields;
 mod int_model;
+mod laws;
 mod models;
 mod symbols;
 
+pub use fields::{put_byte, put_word, take_byte, take_word};
 pub use int_model::IntModel;
+pub use laws::{
+    event_bytes_fit, event_fronts_begin, events_cut, integers_are_lawful, integers_are_spelled,
+    one_event_begins, other_uses_leave,
+};
 pub use symbols::{put_bit, put_symbol, put_symbol_of, take_bit, take_symbol, take_symbol_of};
 
 #[cfg(test)]

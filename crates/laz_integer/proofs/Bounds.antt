@@ -1,0 +1,85 @@
+-- How many events and parts there are, and how many bytes they take. Meant for the crates of items and chunks, too.
+use Rattle.std.proofs.Common.{◌≡◌, ℕ, ◌+◌, ◌-◌, ◌*◌, ◌/◌, ◌%◌, ◌^◌, ◌<◌, ◌≤◌, Bool, true, false, List, [], ◌∷◌, ◌++◌, length, cond, ltb, ap, arith, lit≤, ⊎_elim}
+use Rattle.std.proofs.lemmas.Bool.{cases_lt, cases_eq}
+use Rattle.laz_range.specs.Cut.{Cut, start_in, width_in}
+use Rattle.laz_range.specs.Span.{Span, after, cut, narrowed, renewed}
+use Rattle.laz_integer.specs.Events.{Event, cuts_behind, raw_events}
+use Rattle.laz_integer.specs.Integer.{IntSpell, corrector_events}
+use Rattle.laz_integer.specs.Fields.{SpellsByte, SpellsWord}
+use Rattle.laz_integer.proofs.Named.{raw-wide, raw-short}
+use Rattle.laz_integer.proofs.Stood.{events-zero, events-most, events-narrow, events-wide}
+
+-- ---- a part puts out three bytes at most
+short : (b : Bool) (s t : Span) (n : ℕ) → s.shifts ≤ n → t.shifts ≤ n → (cond b s t).shifts ≤ n
+short true s t n f g = f
+short false s t n f g = g
+
+renewed-more : (s : Span) → (renewed s).shifts ≤ s.shifts + 1
+unfolding renewed
+renewed-more s =
+    let t : Span = record { low = s.low * 256; len = s.len * 256; shifts = s.shifts + 1 } in
+    short (ltb s.len 16777216) t s (s.shifts + 1) (omega arith) (omega arith)
+
+pub cut-more : (s : Span) (c : Cut) → (cut s c).shifts ≤ s.shifts + 3
+unfolding narrowed
+cut-more s c =
+    let t : Span = record { low = s.low + start_in s.len c; len = width_in s.len c; shifts = s.shifts } in
+    omega (arith, renewed-more t, renewed-more (renewed t), renewed-more (renewed (renewed t)))
+
+pub after-more : (s : Span) (cs : List Cut) → (after s cs).shifts ≤ s.shifts + 3 * length cs
+after-more s [] = omega arith
+after-more s (c ∷ cs) = omega (arith, cut-more s c, after-more (cut s c) cs)
+
+pub length-cuts : (earlier events : List Event) → length (cuts_behind earlier events) ≡ length events
+length-cuts earlier [] = omega arith
+length-cuts earlier (e ∷ events) = omega (arith, length-cuts (earlier ++ e ∷ []) events)
+
+-- ---- numbers of events
+pub raw-few : (b v : ℕ) → length (raw_events b v) ≤ 2
+raw-few b v =
+    ⊎_elim
+    (λ (wide : 19 < b). rw (raw-wide b v wide) (lit≤ tt))
+    (λ (narrow : b ≤ 19). rw (raw-short b v narrow) (lit≤ tt))
+    (cases_lt 19 b)
+
+pub corrector-few : (kind : List ℕ) (bits ctx k v : ℕ) → k ≤ 32 → length (corrector_events kind bits ctx k v) ≤ 4
+corrector-few kind bits ctx k v few =
+    ⊎_elim
+    (λ (zero_is : k ≡ 0). rw (zero_is, events-zero kind v) (lit≤ tt))
+    (λ (some_is : k ≡ 0 → ⊥).
+    let positive : 0 < k = omega (arith, some_is) in
+    ⊎_elim
+    (λ (most_is : k ≡ 32). rw (most_is, events-most kind v) (lit≤ tt))
+    (λ (fewer : k ≡ 32 → ⊥).
+    let small : k < 32 = omega (arith, fewer, few) in
+    ⊎_elim
+    (λ (wide : 8 < k). rw (events-wide kind k v wide small) (omega (arith, raw-few (k - 8) (v % 2 ^ (k - 8)))))
+    (λ (narrow : k ≤ 8). rw (events-narrow kind k v positive narrow) (lit≤ tt))
+    (cases_lt 8 k))
+    (cases_eq k 32))
+    (cases_eq k 0)
+
+pub corrector-fewer : (kind : List ℕ) (bits ctx k v : ℕ) → k ≤ 27 → length (corrector_events kind bits ctx k v) ≤ 3
+corrector-fewer kind bits ctx k v few =
+    ⊎_elim
+    (λ (zero_is : k ≡ 0). rw (zero_is, events-zero kind v) (lit≤ tt))
+    (λ (some_is : k ≡ 0 → ⊥).
+    ⊎_elim
+    (λ (wide : 8 < k). rw (events-wide kind k v wide (omega (arith, few)), raw-short (k - 8) (v % 2 ^ (k - 8)) (omega arith)) (lit≤ tt))
+    (λ (narrow : k ≤ 8). rw (events-narrow kind k v (omega (arith, some_is)) narrow) (lit≤ tt))
+    (cases_lt 8 k))
+    (cases_eq k 0)
+
+pub int-few : (kind : List ℕ) (bits ctx : ℕ) (pred value : _) (events : List Event) (k : ℕ) → bits ≤ 32 → IntSpell kind bits ctx pred events value k → length events ≤ 4
+int-few kind bits ctx pred value events k most h = omega (arith, ap length h.is, corrector-few kind bits ctx k h.v (omega (arith, h.width, most)))
+
+pub int-fewer : (kind : List ℕ) (bits ctx : ℕ) (pred value : _) (events : List Event) (k : ℕ) → bits ≤ 27 → IntSpell kind bits ctx pred events value k → length events ≤ 3
+int-fewer kind bits ctx pred value events k most h = omega (arith, ap length h.is, corrector-fewer kind bits ctx k h.v (omega (arith, h.width, most)))
+
+pub byte-few : (marked : Bool) (kind : List ℕ) (m expected s : ℕ) (events : List Event) → SpellsByte marked kind m expected events s → length events ≤ 1
+byte-few true kind m expected s events h = omega (arith, ap length h.1)
+byte-few false kind m expected s events h = omega (arith, ap length h.0)
+
+pub word-few : (marked : Bool) (kind : List ℕ) (ctx pred value : ℕ) (events : List Event) → SpellsWord marked kind ctx pred events value → length events ≤ 3
+word-few true kind ctx pred value events h = int-fewer _ 16 _ _ _ events h.0 (lit≤ tt) h.1
+word-few false kind ctx pred value events h = omega (arith, ap length h.0)

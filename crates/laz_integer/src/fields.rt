@@ -1,0 +1,100 @@
+//! Fields of a record that are coded only if they are marked as changed.
+ghost use Rattle.std.specs.Prelude.{◌≡◌, ◌+◌, ◌<◌, ◌≤◌, ℕ, pos, false, length, IfOk, MatchResult, OnOk};
+ghost use Rattle.laz_range.specs.Coding.{Codes};
+ghost use Rattle.laz_range.specs.Decoding.{Reads, Takes, TakesNone};
+ghost use Rattle.laz_models.specs.Bank.{model_at, sizes_of};
+ghost use Rattle.laz_models.specs.Dist.{size_of};
+ghost use Rattle.laz_integer.specs.Fields.{IsByte, IsInts, IsWord, byte_cuts, byte_next, word_cuts, word_made, word_next, word_written};
+
+use crate::int_model::IntModel;
+use crate::symbols::{put_symbol_of, take_symbol_of};
+use laz_models::ModelBank;
+use laz_range::{Bad, Decoder, Encoder};
+
+/// Codes a byte under model `m` of a bank, if it is marked. The model is one of 256 symbols.
+#[inline]
+pub fn put_byte(encoder: &mut Encoder, bank: &mut ModelBank, marked: bool, m: u32, byte: u8)
+    requires model { m < length bank.old }
+    requires size { size_of (model_at bank.old m) ≡ 256 }
+    requires left { 3 ≤ encoder.old.left }
+    ensures codes { Codes encoder.old encoder.new (byte_cuts marked bank.old m byte) }
+    ensures next { bank.new ≡ byte_next marked bank.old m byte }
+    ensures sizes { sizes_of bank.new ≡ sizes_of bank.old }
+    ensures used { encoder.old.left ≤ encoder.new.left + 3 }
+{
+    if marked {
+        put_symbol_of(encoder, bank, m, byte as u32);
+    }
+}
+
+/// Takes a byte under model `m` of a bank, if it is marked; else the byte is the expected one. The model is one of 256
+/// symbols. Bad says that the bytes run out: no symbol begins what is left of them.
+#[inline]
+pub fn take_byte(
+    decoder: &mut Decoder<'_>,
+    bank: &mut ModelBank,
+    marked: bool,
+    m: u32,
+    expected: u8,
+) -> Result<u8, Bad>
+    requires good { decoder.old.failed ≡ false }
+    requires within { decoder.old.taken ≤ length decoder.old.bytes }
+    requires model { m < length bank.old }
+    requires size { size_of (model_at bank.old m) ≡ 256 }
+    ensures reads { Reads result (IsByte marked expected) (byte_cuts marked bank.old m) decoder.old decoder.new }
+    ensures next { IfOk result (λ byte. bank.new ≡ byte_next marked bank.old m byte) }
+    ensures sizes { sizes_of bank.new ≡ sizes_of bank.old }
+{
+    if marked {
+        let byte = take_symbol_of(decoder, bank, m)?;
+        return Ok(byte as u8);
+    }
+    Ok(expected)
+}
+
+/// Codes a number of 16 bits with the prediction `pred`, if it is marked.
+#[inline]
+pub fn put_word(
+    encoder: &mut Encoder,
+    model: &mut IntModel,
+    marked: bool,
+    pred: u16,
+    real: u16,
+    ctx: u32,
+)
+    requires ints { IsInts 16 model.old.contexts model.old }
+    requires context { ctx < model.old.contexts }
+    requires left { 12 ≤ encoder.old.left }
+    ensures codes { Codes encoder.old encoder.new (word_cuts marked model.old ctx (word_written pred real)) }
+    ensures next { model.new ≡ word_next marked model.old ctx (word_written pred real) }
+    ensures ints { IsInts 16 model.old.contexts model.new }
+    ensures used { encoder.old.left ≤ encoder.new.left + 9 }
+{
+    if marked {
+        model.code(encoder, pred as i32, real as i32, ctx);
+    }
+}
+
+/// Takes a number of 16 bits with the prediction `pred`, if it is marked; else the number is the prediction. Bad says that
+/// no spelling with this prediction and context begins what is left of the bytes.
+#[inline]
+pub fn take_word(
+    decoder: &mut Decoder<'_>,
+    model: &mut IntModel,
+    marked: bool,
+    pred: u16,
+    ctx: u32,
+) -> Result<u16, Bad>
+    requires good { decoder.old.failed ≡ false }
+    requires within { decoder.old.taken ≤ length decoder.old.bytes }
+    requires ints { IsInts 16 model.old.contexts model.old }
+    requires context { ctx < model.old.contexts }
+    ensures reads { MatchResult result (λ value. (x : ℕ × ℕ) × Takes (IsWord marked) (word_cuts marked model.old ctx) decoder.old decoder.new x × (value ≡ word_made marked pred x) × (model.new ≡ word_next marked model.old ctx x)) (λ _. TakesNone (IsWord marked) (word_cuts marked model.old ctx) decoder.old decoder.new) }
+    ensures ints { IsInts 16 model.old.contexts model.new }
+{
+    if marked {
+        let (value, _) = model.read(decoder, pred as i32, ctx)?;
+        return Ok(value as u16);
+    }
+    Ok(pred)
+}
