@@ -1,34 +1,11 @@
 -- How many events and parts there are, and how many bytes they take. Meant for the crates of items and chunks, too.
-use Rattle.std.proofs.Common.{◌≡◌, ℕ, ◌+◌, ◌-◌, ◌*◌, ◌/◌, ◌%◌, ◌^◌, ◌<◌, ◌≤◌, Bool, true, false, List, [], ◌∷◌, ◌++◌, length, cond, ltb, ap, arith, lit≤, ⊎_elim}
+use Rattle.std.proofs.Common.{◌≡◌, ℕ, ◌-◌, ◌%◌, ◌^◌, ◌<◌, ◌≤◌, Bool, true, false, List, [], ◌∷◌, ◌++◌, length, ap, arith, lit≤, ⊎_elim}
 use Rattle.std.proofs.lemmas.Bool.{cases_lt, cases_eq}
-use Rattle.laz_range.specs.Cut.{Cut, start_in, width_in}
-use Rattle.laz_range.specs.Span.{Span, after, cut, narrowed, renewed}
 use Rattle.laz_integer.specs.Events.{Event, cuts_behind, raw_events}
 use Rattle.laz_integer.specs.Integer.{IntSpell, corrector_events}
 use Rattle.laz_integer.specs.Fields.{SpellsByte, SpellsWord}
 use Rattle.laz_integer.proofs.Named.{raw-wide, raw-short}
 use Rattle.laz_integer.proofs.Stood.{events-zero, events-most, events-narrow, events-wide}
-
--- ---- a part puts out three bytes at most
-short : (b : Bool) (s t : Span) (n : ℕ) → s.shifts ≤ n → t.shifts ≤ n → (cond b s t).shifts ≤ n
-short true s t n f g = f
-short false s t n f g = g
-
-renewed-more : (s : Span) → (renewed s).shifts ≤ s.shifts + 1
-unfolding renewed
-renewed-more s =
-    let t : Span = record { low = s.low * 256; len = s.len * 256; shifts = s.shifts + 1 } in
-    short (ltb s.len 16777216) t s (s.shifts + 1) (omega arith) (omega arith)
-
-pub cut-more : (s : Span) (c : Cut) → (cut s c).shifts ≤ s.shifts + 3
-unfolding narrowed
-cut-more s c =
-    let t : Span = record { low = s.low + start_in s.len c; len = width_in s.len c; shifts = s.shifts } in
-    omega (arith, renewed-more t, renewed-more (renewed t), renewed-more (renewed (renewed t)))
-
-pub after-more : (s : Span) (cs : List Cut) → (after s cs).shifts ≤ s.shifts + 3 * length cs
-after-more s [] = omega arith
-after-more s (c ∷ cs) = omega (arith, cut-more s c, after-more (cut s c) cs)
 
 pub length-cuts : (earlier events : List Event) → length (cuts_behind earlier events) ≡ length events
 length-cuts earlier [] = omega arith

@@ -1,5 +1,5 @@
 -- Lawful events cut out lawful parts. Meant for the crates of items and chunks, too.
-use Rattle.std.proofs.Common.{◌≡◌, ℕ, ◌+◌, ◌-◌, ◌%◌, ◌^◌, ◌<◌, ◌≤◌, eqb, ◌&&◌, min, Bool, true, false, if◌then◌else◌, List, [], ◌∷◌, ◌++◌, refl, sym, ap, subst, ◌∙◌, arith, ⊎_elim, lit<, lit≤, append_assoc}
+use Rattle.std.proofs.Common.{◌≡◌, ℕ, ◌-◌, ◌%◌, ◌^◌, ◌<◌, ◌≤◌, eqb, ◌&&◌, min, Bool, true, false, if◌then◌else◌, List, [], ◌∷◌, ◌++◌, refl, sym, ap, subst, ◌∙◌, arith, ⊎_elim, lit<, lit≤, append_assoc}
 use Rattle.std.proofs.lemmas.Bool.{cases_lt, cases_eq, eqb-true}
 use Rattle.std.proofs.lemmas.List.{append-nil}
 use Rattle.std.specs.List.{AllByRecursion}
@@ -14,14 +14,14 @@ use Rattle.laz_models.specs.BitDist.{BitStandsFor, p0_of}
 use Rattle.laz_models.proofs.Stand.{Stands-push, Stands-fresh}
 use Rattle.laz_models.proofs.BitStand.{BitStandsFor-push, BitStandsFor-fresh}
 use Rattle.laz_models.proofs.Banks.{size-counted, size-fresh}
-use Rattle.laz_integer.specs.Sound.{IsSound}
+use Rattle.laz_models.specs.Sound.{IsSound}
 use Rattle.laz_integer.specs.Corrector.{choices}
 use Rattle.laz_integer.specs.Events.{Event, Symbol, Flag, Bits, Name, Role, Own, Width, ZeroOrOne, High, same_role, same_text, same_name, symbols_under, bits_under, cut_behind, cuts_behind, cuts_of, raw_events}
-use Rattle.laz_integer.specs.Integer.{IntSpell, corrector_events, width_name, high_name}
+use Rattle.laz_integer.specs.Integer.{IntSpell, corrector_events}
 use Rattle.laz_integer.specs.Ranged.{IsRanged, AreRanged, AreOneKind, HasIntSizes}
 use Rattle.laz_integer.specs.Uses.{own_name}
 use Rattle.laz_integer.specs.Fields.{SpellsByte, SpellsWord}
-use Rattle.laz_integer.proofs.Sounds.{IsSound-fresh, IsSound-counted, IsBitCounting-counted, IsBitCounting-fresh}
+use Rattle.laz_models.proofs.Sounds.{IsSound-fresh, IsSound-counted, IsBitCounting-counted, IsBitCounting-fresh}
 use Rattle.laz_integer.proofs.SymbolParts.{AreCuts-symbol, IsDistribution-parts, symbol_back}
 use Rattle.laz_integer.proofs.Correctors.{choices-more, power-le}
 use Rattle.laz_integer.proofs.Choices.{wide_parts}

@@ -1,5 +1,5 @@
 -- Which corrector a writer takes: it is one, and its events spell the integer. Meant for the crates of items, too.
-use Rattle.std.proofs.Common.{◌≡◌, ℕ, ℤ, ◌+◌, ◌-◌, ◌*◌, ◌%◌, ◌^◌, ◌<◌, ◌≤◌, List, subst, ap, ◌∙◌, arith, ⊎_elim, cond, ltb, refl}
+use Rattle.std.proofs.Common.{◌≡◌, ℕ, ℤ, ◌-◌, ◌*◌, ◌^◌, ◌<◌, ◌≤◌, List, subst, ap, ◌∙◌, arith, ⊎_elim, cond, ltb, refl}
 use Rattle.std.proofs.lemmas.Bool.{cases_lt, cond-true, cond-false, lt-ltb, le-ltb}
 use Rattle.std.proofs.lemmas.Nat.{pow_pos}
 use Rattle.std.specs.Int.{w32}

@@ -9,7 +9,7 @@ use Rattle.laz_models.specs.Dist.{StandsFor}
 use Rattle.laz_models.specs.BitDist.{BitStandsFor}
 use Rattle.laz_models.specs.Bank.{model_at, sizes_of}
 use Rattle.laz_integer.specs.Events.{Event, Symbol, Flag, Name, Width, ZeroOrOne, High, cuts_behind, raw_events, symbols_under, bits_under}
-use Rattle.laz_integer.specs.Sound.{AreSound}
+use Rattle.laz_models.specs.Sound.{AreSound}
 use Rattle.laz_integer.specs.Corrector.{choices, corrected, difference, width_of, place_of}
 
 -- The models of an integer: of the width, one for each context; of a corrector of 0 or 1; of the high digits, one for each width from 1 on.

@@ -3,7 +3,6 @@ pub use Rattle.laz_range.specs.Span
 pub mod Events
 pub mod Uses
 pub mod Corrector
-pub mod Sound
 pub mod Integer
 pub mod Ranged
 pub mod Fields
