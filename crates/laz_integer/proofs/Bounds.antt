@@ -1,11 +1,11 @@
 -- How many events and parts there are, and how many bytes they take. Meant for the crates of items and chunks, too.
-use Rattle.std.proofs.Common.{◌≡◌, ℕ, ◌-◌, ◌%◌, ◌^◌, ◌<◌, ◌≤◌, Bool, true, false, List, [], ◌∷◌, ◌++◌, length, ap, arith, lit≤, ⊎_elim}
-use Rattle.std.proofs.lemmas.Bool.{cases_lt, cases_eq}
-use Rattle.laz_integer.specs.Events.{Event, cuts_behind, raw_events}
-use Rattle.laz_integer.specs.Integer.{IntSpell, corrector_events}
+use Rattle.std.proofs.Common.{◌+◌, ◌≡◌, ℕ, ◌-◌, ◌%◌, ◌^◌, ◌<◌, ◌≤◌, Bool, true, false, List, [], ◌∷◌, ◌++◌, length, ap, arith, lit≤, ⊎_elim}
+use Rattle.std.proofs.lemmas.Bool.{cases_lt}
+use Rattle.laz_integer.specs.Events.{Symbol, Event, cuts_behind, raw_events}
+use Rattle.laz_integer.specs.Integer.{IntSpell, corrector_events, width_name}
 use Rattle.laz_integer.specs.Fields.{SpellsByte, SpellsWord}
 use Rattle.laz_integer.proofs.Named.{raw-wide, raw-short}
-use Rattle.laz_integer.proofs.Stood.{events-zero, events-most, events-narrow, events-wide}
+use Rattle.laz_integer.proofs.Cases.{by-width}
 
 pub length-cuts : (earlier events : List Event) → length (cuts_behind earlier events) ≡ length events
 length-cuts earlier [] = omega arith
@@ -21,31 +21,13 @@ raw-few b v =
 
 pub corrector-few : (kind : List ℕ) (bits ctx k v : ℕ) → k ≤ 32 → length (corrector_events kind bits ctx k v) ≤ 4
 corrector-few kind bits ctx k v few =
-    ⊎_elim
-    (λ (zero_is : k ≡ 0). rw (zero_is, events-zero kind v) (lit≤ tt))
-    (λ (some_is : k ≡ 0 → ⊥).
-    let positive : 0 < k = omega (arith, some_is) in
-    ⊎_elim
-    (λ (most_is : k ≡ 32). rw (most_is, events-most kind v) (lit≤ tt))
-    (λ (fewer : k ≡ 32 → ⊥).
-    let small : k < 32 = omega (arith, fewer, few) in
-    ⊎_elim
-    (λ (wide : 8 < k). rw (events-wide kind k v wide small) (omega (arith, raw-few (k - 8) (v % 2 ^ (k - 8)))))
-    (λ (narrow : k ≤ 8). rw (events-narrow kind k v positive narrow) (lit≤ tt))
-    (cases_lt 8 k))
-    (cases_eq k 32))
-    (cases_eq k 0)
+    by-width (λ l. length (Symbol (width_name kind ctx) (bits + 1) k ∷ l) ≤ 4) kind k v few (λ e. lit≤ tt) (λ e. lit≤ tt) (λ some narrow. lit≤ tt)
+    (λ wide small. omega (arith, raw-few (k - 8) (v % 2 ^ (k - 8))))
 
 pub corrector-fewer : (kind : List ℕ) (bits ctx k v : ℕ) → k ≤ 27 → length (corrector_events kind bits ctx k v) ≤ 3
 corrector-fewer kind bits ctx k v few =
-    ⊎_elim
-    (λ (zero_is : k ≡ 0). rw (zero_is, events-zero kind v) (lit≤ tt))
-    (λ (some_is : k ≡ 0 → ⊥).
-    ⊎_elim
-    (λ (wide : 8 < k). rw (events-wide kind k v wide (omega (arith, few)), raw-short (k - 8) (v % 2 ^ (k - 8)) (omega arith)) (lit≤ tt))
-    (λ (narrow : k ≤ 8). rw (events-narrow kind k v (omega (arith, some_is)) narrow) (lit≤ tt))
-    (cases_lt 8 k))
-    (cases_eq k 0)
+    by-width (λ l. length (Symbol (width_name kind ctx) (bits + 1) k ∷ l) ≤ 3) kind k v (omega arith) (λ e. lit≤ tt) (λ e. lit≤ tt) (λ some narrow. lit≤ tt)
+    (λ wide small. rw (raw-short (k - 8) (v % 2 ^ (k - 8)) (omega arith)) (lit≤ tt))
 
 pub int-few : (kind : List ℕ) (bits ctx : ℕ) (pred value : _) (events : List Event) (k : ℕ) → bits ≤ 32 → IntSpell kind bits ctx pred events value k → length events ≤ 4
 int-few kind bits ctx pred value events k most h = omega (arith, ap length h.is, corrector-few kind bits ctx k h.v (omega (arith, h.width, most)))

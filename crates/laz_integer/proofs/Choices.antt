@@ -1,6 +1,6 @@
-use Rattle.std.proofs.Common.{◌≡◌, ℕ, ◌+◌, ◌-◌, ◌*◌, ◌/◌, ◌%◌, ◌^◌, ◌<◌, ◌≤◌, eqb, leb, min, Bool, true, false, List, [], ◌∷◌, ◌++◌, length, refl, sym, ap, ◌∙◌, arith, ⊎_elim, lit<, lit≤, Result, Ok, Err}
+use Rattle.std.proofs.Common.{◌≡◌, ℕ, ◌+◌, ◌-◌, ◌*◌, ◌/◌, ◌%◌, ◌^◌, ◌<◌, ◌≤◌, eqb, min, Bool, true, false, List, [], ◌∷◌, ◌++◌, length, refl, sym, ap, ◌∙◌, arith, ⊎_elim, lit<, lit≤, Result, Ok, Err}
 use Rattle.std.specs.Bool.{⊤}
-use Rattle.std.proofs.lemmas.Bool.{cases_eq, cond-true, cond-false, eq-eqb, ne_eqb, le-leb, lt-leb}
+use Rattle.std.proofs.lemmas.Bool.{cases_eq, eq-eqb, ne_eqb}
 use Rattle.std.proofs.lemmas.Nat.{mul-le, pow-add, pow_pos, mod_below, shr_below, shl_whole, shr_split, shr_high, mod_low}
 use Rattle.std.proofs.Math.Nat.{pow-le-pow_right}
 use mir.Val.{bool_byte}
@@ -9,7 +9,9 @@ use Rattle.laz_range.specs.Reading.{follow_all}
 use Rattle.laz_range.specs.Decoding.{Decoding, Takes, TakesNone, Reads, reading_of}
 use Rattle.laz_range.proofs.Composition.{Takes-then, TakesNone-first, TakesNone-second, Takes-empty}
 use Rattle.laz_integer.specs.Corrector.{choices}
-use Rattle.laz_integer.specs.Integer.{IntState, symbol_cut, high_at, high_counted, bit_taken, rest_cuts, wide_cuts, rest_next}
+use Rattle.laz_integer.specs.Integer.{IntState, symbol_cut, high_at, symbol_counted, flag_counted, rest_events, events_cuts, events_next}
+use Rattle.laz_integer.proofs.Cases.{events-zero, events-most, events-narrow, events-wide}
+use Rattle.laz_integer.proofs.Named.{events_cuts-raw, events_next-raw}
 
 -- ---- the same choice, said otherwise
 pub Takes-onto : {X Z : Type 0} (f : X → Z) (back : Z → X) (P : X → Type 0) (Q : Z → Type 0) (cuts : X → List Cut) (others : Z → List Cut) (a b : Decoding) (x : X)
@@ -41,6 +43,16 @@ Reads-equal (Ok x) P Q cuts others a b to from same h = Takes-onto (λ y. y) (λ
 Reads-equal (Err e) P Q cuts others a b to from same h = TakesNone-onto (λ y. y) P Q cuts others a b from same h
 
 -- ---- a wide corrector: its high 8 digits, and the rest
+abbrev pub wide_cuts : IntState → ℕ → ℕ → List Cut
+wide_cuts st k v = symbol_cut (high_at st k) (v / 2 ^ (k - 8)) ∷ raw_cuts (k - 8) (v % 2 ^ (k - 8))
+
+-- the parts after the width
+abbrev pub rest_cuts : IntState → ℕ → ℕ → List Cut
+rest_cuts st k v = events_cuts st (rest_events [] k v)
+
+abbrev pub rest_next : IntState → ℕ → ℕ → IntState
+rest_next st k v = events_next st (rest_events [] k v)
+
 pub wide_parts : (k y : ℕ) → 8 < k → y < 2 ^ k → (y / 2 ^ (k - 8) < 2 ^ min k 8) × (y % 2 ^ (k - 8) < 2 ^ (k - 8))
 wide_parts k y wide small =
     let eight : min k 8 ≡ 8 = omega arith in
@@ -121,8 +133,7 @@ bit_small false = lit< tt
 bit_small true = lit< tt
 
 pub cuts-zero : (st : IntState) (v : ℕ) → rest_cuts st 0 v ≡ Bit st.zero_or_one.p0 (eqb v 1) ∷ []
-unfolding rest_cuts
-cuts-zero st v = refl
+cuts-zero st v = ap (events_cuts st) (events-zero [] v)
 
 pub zero-takes : (st : IntState) (bit : Bool) (a b : Decoding) → Takes {X = Bool} (λ _. ⊤) (λ bit. Bit st.zero_or_one.p0 bit ∷ []) a b bit → Takes (λ v. v < choices 0) (rest_cuts st 0) a b (bool_byte bit)
 unfolding choices
@@ -134,53 +145,36 @@ pub zero-none : (st : IntState) (a b : Decoding) → TakesNone {X = Bool} (λ _.
 zero-none st a b h =
     TakesNone-onto {X = Bool} (λ v. eqb v 1) (λ _. ⊤) (λ v. v < choices 0) (λ bit. Bit st.zero_or_one.p0 bit ∷ []) (rest_cuts st 0) a b (λ z q. tt) (λ z. cuts-zero st z) h
 
+-- ---- the parts of a corrector after its width, and the models after them
+pub cuts-wide : (st : IntState) (k v : ℕ) → 8 < k → k < 32 → rest_cuts st k v ≡ wide_cuts st k v
+cuts-wide st k v wide small =
+    ap (events_cuts st) (events-wide [] k v wide small)
+    ∙ ap (λ l. symbol_cut (high_at st k) (v / 2 ^ (k - 8)) ∷ l) (events_cuts-raw (symbol_counted st (st.contexts + (k - 1)) (v / 2 ^ (k - 8))) (k - 8) (v % 2 ^ (k - 8)))
+
+pub cuts-narrow : (st : IntState) (k v : ℕ) → 0 < k → k ≤ 8 → rest_cuts st k v ≡ symbol_cut (high_at st k) v ∷ []
+cuts-narrow st k v some narrow = ap (events_cuts st) (events-narrow [] k v some narrow)
+
+pub cuts-most : (st : IntState) (v : ℕ) → rest_cuts st 32 v ≡ []
+cuts-most st v = ap (events_cuts st) (events-most [] v)
+
+pub next-wide : (st : IntState) (k v : ℕ) → 8 < k → k < 32 → rest_next st k v ≡ symbol_counted st (st.contexts + (k - 1)) (v / 2 ^ (k - 8))
+next-wide st k v wide small =
+    ap (events_next st) (events-wide [] k v wide small)
+    ∙ events_next-raw (symbol_counted st (st.contexts + (k - 1)) (v / 2 ^ (k - 8))) (k - 8) (v % 2 ^ (k - 8))
+
+pub next-narrow : (st : IntState) (k v : ℕ) → 0 < k → k ≤ 8 → rest_next st k v ≡ symbol_counted st (st.contexts + (k - 1)) v
+next-narrow st k v some narrow = ap (events_next st) (events-narrow [] k v some narrow)
+
+pub next-zero : (st : IntState) (v : ℕ) → rest_next st 0 v ≡ flag_counted st (eqb v 1)
+next-zero st v = ap (events_next st) (events-zero [] v)
+
+pub next-most : (st : IntState) (v : ℕ) → rest_next st 32 v ≡ st
+next-most st v = ap (events_next st) (events-most [] v)
+
 -- ---- the one corrector of width 32
 one_choice : (y : ℕ) → y < 1 → y ≡ 0
 one_choice y h = omega arith
 
 pub most-takes : (st : IntState) (d : Decoding) → d.taken ≤ length d.bytes → d.failed ≡ false → Takes (λ v. v < choices 32) (rest_cuts st 32) d d 0
-unfolding choices rest_cuts
-most-takes st d within good = Takes-empty (λ v. v < choices 32) (rest_cuts st 32) d 0 (lit< tt) refl (λ y q. one_choice y q) within good
-
--- ---- which events a corrector has
-pub cuts-wide : (st : IntState) (k v : ℕ) → 8 < k → k < 32 → rest_cuts st k v ≡ wide_cuts st k v
-unfolding rest_cuts
-cuts-wide st k v wide small =
-    cond-false (eqb k 0) _ _ (ne_eqb k 0 (λ e. omega arith))
-    ∙ (cond-false (eqb k 32) _ _ (ne_eqb k 32 (λ e. omega arith)) ∙ cond-false (leb k 8) _ _ (lt-leb k 8 wide))
-
-pub cuts-narrow : (st : IntState) (k v : ℕ) → 0 < k → k ≤ 8 → rest_cuts st k v ≡ symbol_cut (high_at st k) v ∷ []
-unfolding rest_cuts
-cuts-narrow st k v some narrow =
-    cond-false (eqb k 0) _ _ (ne_eqb k 0 (λ e. omega arith))
-    ∙ (cond-false (eqb k 32) _ _ (ne_eqb k 32 (λ e. omega arith)) ∙ cond-true (leb k 8) _ _ (le-leb k 8 narrow))
-
-pub cuts-most : (st : IntState) (v : ℕ) → rest_cuts st 32 v ≡ []
-unfolding rest_cuts
-cuts-most st v = refl
-
-pub next-wide : (st : IntState) (k v : ℕ) → 8 < k → k < 32 → rest_next st k v ≡ high_counted st k (v / 2 ^ (k - 8))
-unfolding rest_next
-next-wide st k v wide small =
-    cond-false (eqb k 0) _ _ (ne_eqb k 0 (λ e. omega arith))
-    ∙ (cond-false (eqb k 32) _ _ (ne_eqb k 32 (λ e. omega arith)) ∙ cond-false (leb k 8) _ _ (lt-leb k 8 wide))
-
-pub next-narrow : (st : IntState) (k v : ℕ) → 0 < k → k ≤ 8 → rest_next st k v ≡ high_counted st k v
-unfolding rest_next
-next-narrow st k v some narrow =
-    cond-false (eqb k 0) _ _ (ne_eqb k 0 (λ e. omega arith))
-    ∙ (cond-false (eqb k 32) _ _ (ne_eqb k 32 (λ e. omega arith)) ∙ cond-true (leb k 8) _ _ (le-leb k 8 narrow))
-
-pub next-zero : (st : IntState) (v : ℕ) → rest_next st 0 v ≡ bit_taken st v
-unfolding rest_next
-next-zero st v = refl
-
-pub next-most : (st : IntState) (v : ℕ) → rest_next st 32 v ≡ st
-unfolding rest_next
-next-most st v = refl
-
-pub cuts-above : (st : IntState) (k v : ℕ) → 8 < k → (k ≡ 32 → ⊥) → rest_cuts st k v ≡ wide_cuts st k v
-unfolding rest_cuts
-cuts-above st k v wide fewer =
-    cond-false (eqb k 0) _ _ (ne_eqb k 0 (λ e. omega arith))
-    ∙ (cond-false (eqb k 32) _ _ (ne_eqb k 32 fewer) ∙ cond-false (leb k 8) _ _ (lt-leb k 8 wide))
+unfolding choices
+most-takes st d within good = Takes-empty (λ v. v < choices 32) (rest_cuts st 32) d 0 (lit< tt) (cuts-most st 0) (λ y q. one_choice y q) within good

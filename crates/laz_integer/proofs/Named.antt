@@ -3,7 +3,7 @@ use Rattle.std.proofs.lemmas.Bool.{cases_lt, cond-true, cond-false, eq-eqb, ne_e
 use Rattle.std.proofs.lemmas.List.{append-nil}
 use Rattle.laz_range.specs.Cut.{raw_cuts}
 use Rattle.laz_integer.specs.Events.{Event, Symbol, Flag, Bits, Name, same_text, same_name, symbols_under, bits_under, cut_behind, cuts_behind, raw_events}
-use Rattle.laz_integer.specs.Integer.{width_name, bit_name, high_name}
+use Rattle.laz_integer.specs.Integer.{IntState, width_name, bit_name, high_name, events_cuts, events_next}
 
 -- ---- names
 pub same_text-refl : (xs : List ℕ) → same_text xs xs ≡ true
@@ -85,6 +85,20 @@ cuts-raw earlier b v =
     ⊎_elim
     (λ (wide : 19 < b). ap (cuts_behind earlier) (raw-wide b v wide) ∙ sym (cond-true (ltb 19 b) _ _ (lt-ltb 19 b wide)))
     (λ (short : b ≤ 19). ap (cuts_behind earlier) (raw-short b v short) ∙ sym (cond-false (ltb 19 b) _ _ (le-ltb 19 b short)))
+    (cases_lt 19 b)
+
+pub events_cuts-raw : (st : IntState) (b v : ℕ) → events_cuts st (raw_events b v) ≡ raw_cuts b v
+events_cuts-raw st b v =
+    ⊎_elim
+    (λ (wide : 19 < b). ap (events_cuts st) (raw-wide b v wide) ∙ sym (cond-true (ltb 19 b) _ _ (lt-ltb 19 b wide)))
+    (λ (short : b ≤ 19). ap (events_cuts st) (raw-short b v short) ∙ sym (cond-false (ltb 19 b) _ _ (le-ltb 19 b short)))
+    (cases_lt 19 b)
+
+pub events_next-raw : (st : IntState) (b v : ℕ) → events_next st (raw_events b v) ≡ st
+events_next-raw st b v =
+    ⊎_elim
+    (λ (wide : 19 < b). ap (events_next st) (raw-wide b v wide))
+    (λ (short : b ≤ 19). ap (events_next st) (raw-short b v short))
     (cases_lt 19 b)
 
 -- the parts of one list of events and then another

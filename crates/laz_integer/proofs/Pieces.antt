@@ -8,9 +8,9 @@ use Rattle.laz_models.specs.Dist.{size_of}
 use Rattle.laz_models.specs.Bank.{model_at}
 use Rattle.laz_models.proofs.Banks.{StandsFor-push}
 use Rattle.laz_integer.specs.Events.{Event, Symbol, same_text, same_name, symbols_under, cuts_behind, raw_events}
-use Rattle.laz_integer.specs.Integer.{IntState, IsIntState, IntStands, IsCorrector, corrector_events, int_cuts, int_next, symbol_cut}
+use Rattle.laz_integer.specs.Integer.{IsInts, IntState, IsIntState, IntStands, IsCorrector, corrector_events, int_cuts, int_next, symbol_cut}
 use Rattle.laz_integer.specs.Uses.{own_name, Silent, AllSilent, absent, apart}
-use Rattle.laz_integer.specs.Fields.{where_marked, byte_events, BankStands, byte_cuts, byte_next, IsByte, word_cuts, word_next, IsWord, IsInts}
+use Rattle.laz_integer.specs.Fields.{where_marked, byte_events, BankStands, byte_cuts, byte_next, IsByte, word_cuts, word_next, IsWord}
 use Rattle.laz_integer.proofs.Named.{same_text-refl, symbols-with, symbols-without, cuts_behind-append, cuts-raw}
 use Rattle.laz_integer.proofs.Stood.{Comes, comes, symbol-cut}
 use Rattle.laz_integer.proofs.Uses.{Silent-none, Silent-append, Silent-other, Silent-raws, Silent-corrector, other_than, absent-split, AllSilent-split, all-silent, bank-silent, int-silent}
@@ -117,7 +117,7 @@ Piece-int kind st n ctx k v is bits within asked =
     let come : (earlier : List Event) → IntStands kind earlier st → Comes kind earlier (corrector_events kind n ctx k v) st (int_next st ctx k v) (int_cuts st ctx k v) =
     λ earlier h. subst (λ (b : ℕ). Comes kind earlier (corrector_events kind b ctx k v) st (int_next st ctx k v) (int_cuts st ctx k v)) bits (comes kind earlier st ctx k v is within range asked.1 h) in
     record {
-      own = λ other e. Silent-corrector other kind n ctx k v (other_than other kind e) (omega (arith, range, is.few));
+      own = λ other e. Silent-corrector other kind n ctx k v (other_than other kind e) (omega (arith, is.few, bits)) asked.0 asked.1;
       cut = λ earlier h. (come earlier h).cuts;
       stands = λ earlier h. (come earlier h).stands;
       before = frame-int kind st;

@@ -1,6 +1,6 @@
 -- Lawful events cut out lawful parts. Meant for the crates of items and chunks, too.
-use Rattle.std.proofs.Common.{◌≡◌, ℕ, ◌-◌, ◌%◌, ◌^◌, ◌<◌, ◌≤◌, eqb, ◌&&◌, min, Bool, true, false, if◌then◌else◌, List, [], ◌∷◌, ◌++◌, refl, sym, ap, subst, ◌∙◌, arith, ⊎_elim, lit<, lit≤, append_assoc}
-use Rattle.std.proofs.lemmas.Bool.{cases_lt, cases_eq, eqb-true}
+use Rattle.std.proofs.Common.{◌≡◌, ℕ, ◌+◌, ◌^◌, ◌<◌, ◌≤◌, eqb, ◌&&◌, min, Bool, true, false, if◌then◌else◌, List, [], ◌∷◌, ◌++◌, refl, sym, ap, subst, ◌∙◌, arith, ⊎_elim, lit<, lit≤, append_assoc}
+use Rattle.std.proofs.lemmas.Bool.{cases_lt, eqb-true}
 use Rattle.std.proofs.lemmas.List.{append-nil}
 use Rattle.std.specs.List.{AllByRecursion}
 use Rattle.laz_range.specs.Cut.{Cut, Bit, Raw, AreCuts, AreAlike, IsCut, symbol}
@@ -19,14 +19,13 @@ use Rattle.laz_integer.specs.Corrector.{choices}
 use Rattle.laz_integer.specs.Events.{Event, Symbol, Flag, Bits, Name, Role, Own, Width, ZeroOrOne, High, same_role, same_text, same_name, symbols_under, bits_under, cut_behind, cuts_behind, cuts_of, raw_events}
 use Rattle.laz_integer.specs.Integer.{IntSpell, corrector_events}
 use Rattle.laz_integer.specs.Ranged.{IsRanged, AreRanged, AreOneKind, HasIntSizes}
-use Rattle.laz_integer.specs.Uses.{own_name}
+use Rattle.laz_integer.specs.Uses.{name_of, own_name}
 use Rattle.laz_integer.specs.Fields.{SpellsByte, SpellsWord}
 use Rattle.laz_models.proofs.Sounds.{IsSound-fresh, IsSound-counted, IsBitCounting-counted, IsBitCounting-fresh}
 use Rattle.laz_integer.proofs.SymbolParts.{AreCuts-symbol, IsDistribution-parts, symbol_back}
-use Rattle.laz_integer.proofs.Correctors.{choices-more, power-le}
-use Rattle.laz_integer.proofs.Choices.{wide_parts}
+use Rattle.laz_integer.proofs.Correctors.{power-le}
+use Rattle.laz_integer.proofs.Counted.{IsIntSymbol, AreIntEvents, corrector-events}
 use Rattle.laz_integer.proofs.Named.{cuts_behind-append, raw-wide, raw-short}
-use Rattle.laz_integer.proofs.Stood.{events-zero, events-most, events-narrow, events-wide}
 use Rattle.laz_integer.proofs.Uses.{both_true}
 
 -- each is below n
@@ -92,7 +91,7 @@ under-below sizes name [] h = tt
 under-below sizes name (Symbol other n s ∷ events) h =
     let rest = under-below sizes name events h.1 in
     by-case (AreBelow (sizes name)) (same_name name other) (s ∷ symbols_under name events) (symbols_under name events)
-    (λ same. (omega (arith, h.0.0, h.0.1.1.1, ap sizes (name-is name other same)), rest))
+    (λ same. (omega (arith, h.0.0, h.0.3, ap sizes (name-is name other same)), rest))
     rest
 under-below sizes name (Flag other bit ∷ events) h = under-below sizes name events h.1
 under-below sizes name (Bits b v ∷ events) h = under-below sizes name events h.1
@@ -133,13 +132,13 @@ pub AreCuts-ranged : (sizes : Name → ℕ) (earlier events : List Event) → Ar
 AreCuts-ranged sizes earlier [] before h = tt
 AreCuts-ranged sizes earlier (Symbol name n s ∷ events) before h =
     let small : AreBelow n (symbols_under name earlier) = subst (λ (k : ℕ). AreBelow k (symbols_under name earlier)) (sym h.0.0) (under-below sizes name earlier before) in (
-      (AreCuts-symbol n (dist n (symbols_under name earlier)) s (dist-parts n (symbols_under name earlier) h.0.1.0 h.0.1.1.0 small) h.0.1.1.1).0,
+      (AreCuts-symbol n (dist n (symbols_under name earlier)) s (dist-parts n (symbols_under name earlier) h.0.1 h.0.2 small) h.0.3).0,
       AreCuts-ranged sizes (earlier ++ Symbol name n s ∷ []) events (AreRanged-append sizes earlier (Symbol name n s ∷ []) before (h.0, tt)) h.1,
     )
 AreCuts-ranged sizes earlier (Flag name bit ∷ events) before h =
     (bit-part (bits_under name earlier), AreCuts-ranged sizes (earlier ++ Flag name bit ∷ []) events (AreRanged-append sizes earlier (Flag name bit ∷ []) before (h.0, tt)) h.1)
 AreCuts-ranged sizes earlier (Bits b v ∷ events) before h =
-    ((h.0.0, h.0.1.0, h.0.1.1), AreCuts-ranged sizes (earlier ++ Bits b v ∷ []) events (AreRanged-append sizes earlier (Bits b v ∷ []) before (h.0, tt)) h.1)
+    (h.0, AreCuts-ranged sizes (earlier ++ Bits b v ∷ []) events (AreRanged-append sizes earlier (Bits b v ∷ []) before (h.0, tt)) h.1)
 
 -- ---- the events of a raw value, a corrector, an integer and a field are lawful
 pub raw-ranged : (sizes : Name → ℕ) (b v : ℕ) → 0 < b → b ≤ 32 → v < 2 ^ b → AreRanged sizes (raw_events b v)
@@ -147,46 +146,40 @@ raw-ranged sizes b v some few small =
     ⊎_elim
     (λ (wide : 19 < b).
     let high = raw_high v b wide small in
-    rw (raw-wide b v wide) ((lit< tt, (lit≤ tt, omega arith)), ((omega arith, (omega arith, high)), tt)))
-    (λ (narrow : b ≤ 19). rw (raw-short b v narrow) ((some, (narrow, small)), tt))
+    rw (raw-wide b v wide) ((lit< tt, lit≤ tt, omega arith), ((omega arith, omega arith, high), tt)))
+    (λ (narrow : b ≤ 19). rw (raw-short b v narrow) ((some, narrow, small), tt))
     (cases_lt 19 b)
 
-power-two : (k : ℕ) → 0 < k → k ≤ 8 → (2 ≤ 2 ^ k) × (2 ^ k ≤ 2048)
-power-two k some few = (power-le 1 k some, omega (arith, power-le k 8 few))
+power-two : (k n : ℕ) → 0 < k → n ≡ 2 ^ min k 8 → (2 ≤ n) × (n ≤ 2048)
+power-two k n some e =
+    let least : 1 ≤ min k 8 = omega arith in
+    let most : min k 8 ≤ 8 = omega arith in
+    (omega (arith, e, power-le 1 (min k 8) least), omega (arith, e, power-le (min k 8) 8 most))
+
+ranged-symbol : (sizes : Name → ℕ) (kind : List ℕ) (bits contexts : ℕ) (role : Role) (which n s : ℕ) → HasIntSizes sizes kind bits → 1 ≤ bits → bits ≤ 32 → IsIntSymbol bits contexts role which n s → IsRanged sizes (Symbol (name_of kind role which) n s)
+ranged-symbol sizes kind bits contexts Own which n s has some most h = absurd h
+ranged-symbol sizes kind bits contexts ZeroOrOne which n s has some most h = absurd h
+ranged-symbol sizes kind bits contexts Width which n s has some most h = (h.1 ∙ sym (has.widths which), omega (arith, h.1), omega (arith, h.1), h.2)
+ranged-symbol sizes kind bits contexts High which n s has some most h =
+    let two = power-two which n h.0 h.2 in
+    (h.2 ∙ sym (has.highs which), two.0, two.1, h.3)
+
+ranged-events : (sizes : Name → ℕ) (kind : List ℕ) (bits contexts : ℕ) (events : List Event) → HasIntSizes sizes kind bits → 1 ≤ bits → bits ≤ 32 → AreIntEvents kind bits contexts events → AreRanged sizes events
+ranged-events sizes kind bits contexts [] has some most h = tt
+ranged-events sizes kind bits contexts (Symbol name n s ∷ events) has some most h =
+    (subst (λ (l : List ℕ). IsRanged sizes (Symbol (name_of l name.role name.which) n s)) (sym h.0.0) (ranged-symbol sizes kind bits contexts name.role name.which n s has some most h.0.1), ranged-events sizes kind bits contexts events has some most h.1)
+ranged-events sizes kind bits contexts (Flag name bit ∷ events) has some most h = (tt, ranged-events sizes kind bits contexts events has some most h.1)
+ranged-events sizes kind bits contexts (Bits b v ∷ events) has some most h = (h.0, ranged-events sizes kind bits contexts events has some most h.1)
 
 pub corrector-ranged : (sizes : Name → ℕ) (kind : List ℕ) (bits ctx k v : ℕ) → HasIntSizes sizes kind bits → 1 ≤ bits → bits ≤ 32 → k ≤ bits → v < choices k → AreRanged sizes (corrector_events kind bits ctx k v)
-corrector-ranged sizes kind bits ctx k v has some most range within = (
-  (sym (has.widths ctx), (omega arith, (omega arith, omega arith))),
-  ⊎_elim
-      (λ (zero_is : k ≡ 0). rw (zero_is, events-zero kind v) (tt, tt))
-      (λ (some_is : k ≡ 0 → ⊥).
-      let positive : 0 < k = omega (arith, some_is) in
-      ⊎_elim
-      (λ (most_is : k ≡ 32). rw (most_is, events-most kind v) tt)
-      (λ (fewer : k ≡ 32 → ⊥).
-      let small : k < 32 = omega (arith, fewer, range, most) in
-      let below : v < 2 ^ k = rw (choices-more k positive small) at within in
-      ⊎_elim
-      (λ (wide : 8 < k).
-      let parts = wide_parts k v wide below in
-      let least : min k 8 ≡ 8 = omega arith in
-      let power : 2 ^ min k 8 ≡ 256 = ap (λ n. 2 ^ n) least in
-      rw (events-wide kind k v wide small) ((sym (has.highs k ∙ power), (lit≤ tt, (lit≤ tt, omega (arith, parts.0, power)))), raw-ranged sizes (k - 8) (v % 2 ^ (k - 8)) (omega arith) (omega arith) parts.1))
-      (λ (narrow : k ≤ 8).
-      let least : min k 8 ≡ k = omega arith in
-      let power : 2 ^ min k 8 ≡ 2 ^ k = ap (λ n. 2 ^ n) least in
-      let two = power-two k positive narrow in
-      rw (events-narrow kind k v positive narrow) ((sym (has.highs k ∙ power), (two.0, (two.1, below))), tt))
-      (cases_lt 8 k))
-      (cases_eq k 32))
-      (cases_eq k 0),
-)
+corrector-ranged sizes kind bits ctx k v has some most range within =
+    ranged-events sizes kind bits (ctx + 1) (corrector_events kind bits ctx k v) has some most (corrector-events kind bits (ctx + 1) ctx k v most (omega arith) range within)
 
 pub int-ranged : (sizes : Name → ℕ) (kind : List ℕ) (bits ctx : ℕ) (pred value : _) (k : ℕ) (events : List Event) → HasIntSizes sizes kind bits → 1 ≤ bits → bits ≤ 32 → IntSpell kind bits ctx pred events value k → AreRanged sizes events
 int-ranged sizes kind bits ctx pred value k events has some most h = subst (AreRanged sizes) (sym h.is) (corrector-ranged sizes kind bits ctx k h.v has some most h.width h.within)
 
 pub byte-ranged : (sizes : Name → ℕ) (marked : Bool) (kind : List ℕ) (m expected s : ℕ) (events : List Event) → sizes (own_name kind m) ≡ 256 → SpellsByte marked kind m expected events s → AreRanged sizes events
-byte-ranged sizes true kind m expected s events e h = subst (AreRanged sizes) (sym h.1) ((sym e, (lit≤ tt, (lit≤ tt, h.0))), tt)
+byte-ranged sizes true kind m expected s events e h = subst (AreRanged sizes) (sym h.1) ((sym e, lit≤ tt, lit≤ tt, h.0), tt)
 byte-ranged sizes false kind m expected s events e h = subst (AreRanged sizes) (sym h.0) tt
 
 pub word-ranged : (sizes : Name → ℕ) (marked : Bool) (kind : List ℕ) (ctx pred value : ℕ) (events : List Event) → HasIntSizes sizes kind 16 → SpellsWord marked kind ctx pred events value → AreRanged sizes events
@@ -199,7 +192,7 @@ IsCut-ranged sizes front e before h = (AreCuts-ranged sizes front (e ∷ []) bef
 
 dist-is : (sizes : Name → ℕ) (front : List Event) (name : Name) (n s : ℕ) → AreRanged sizes front → IsRanged sizes (Symbol name n s) → AreParts n (dist n (symbols_under name front))
 dist-is sizes front name n s before h =
-    dist-parts n (symbols_under name front) h.1.0 h.1.1.0 (subst (λ (k : ℕ). AreBelow k (symbols_under name front)) (sym h.0) (under-below sizes name front before))
+    dist-parts n (symbols_under name front) h.1 h.2 (subst (λ (k : ℕ). AreBelow k (symbols_under name front)) (sym h.0) (under-below sizes name front before))
 
 same_number : (sizes : Name → ℕ) (a b : Name) (n m : ℕ) → n ≡ sizes a → m ≡ sizes b → a ≡ b → m ≡ n
 same_number sizes a b n m e f g = cc
@@ -207,7 +200,7 @@ same_number sizes a b n m e f g = cc
 alike-named : (sizes : Name → ℕ) (front : List Event) (a : Name) (n s t : ℕ) → AreRanged sizes front → IsRanged sizes (Symbol a n s) → IsRanged sizes (Symbol a n t) → AreAlike (cut_behind front (Symbol a n s)) (cut_behind front (Symbol a n t))
 alike-named sizes front a n s t before f g =
     let parts = dist-is sizes front a n s before f in
-    AreAlike-symbols (dist n (symbols_under a front)) s t (IsDistribution-parts n _ parts) (omega (arith, parts.length, f.1.1.1)) (omega (arith, parts.length, g.1.1.1))
+    AreAlike-symbols (dist n (symbols_under a front)) s t (IsDistribution-parts n _ parts) (omega (arith, parts.length, f.3)) (omega (arith, parts.length, g.3))
 
 pub AreAlike-ranged : (sizes : Name → ℕ) (front : List Event) (d e : Event) → AreRanged sizes front → IsRanged sizes d → IsRanged sizes e → AreOneKind d e → AreAlike (cut_behind front d) (cut_behind front e)
 AreAlike-ranged sizes front (Symbol a n s) (Symbol b m t) before f g same =
@@ -245,7 +238,7 @@ event-from_cut sizes front (Symbol a n s) (Symbol b m t) before f g same cut =
     let parts = dist-is sizes front a n s before f in
     let here : symbol (dist n (symbols_under a front)) t ≡ symbol (dist n (symbols_under a front)) s =
     ap (λ k. symbol (dist k (symbols_under a front)) t) (sym number) ∙ (ap (λ c. symbol (dist m (symbols_under c front)) t) same ∙ sym cut) in
-    symbols_equal a b n m s t same number (symbol_back (dist n (symbols_under a front)) s t (IsDistribution-parts n _ parts) (omega (arith, parts.length, f.1.1.1)) (omega (arith, parts.length, g.1.1.1, number)) here)
+    symbols_equal a b n m s t same number (symbol_back (dist n (symbols_under a front)) s t (IsDistribution-parts n _ parts) (omega (arith, parts.length, f.3)) (omega (arith, parts.length, g.3, number)) here)
 event-from_cut sizes front (Symbol a n s) (Flag b other) before f g same cut = absurd same
 event-from_cut sizes front (Symbol a n s) (Bits c w) before f g same cut = absurd same
 event-from_cut sizes front (Flag a bit) (Symbol b m t) before f g same cut = absurd same

@@ -1,60 +1,25 @@
-use Rattle.std.proofs.Common.{◌≡◌, ℕ, ℤ, ◌+◌, ◌-◌, ◌/◌, ◌%◌, ◌^◌, ◌<◌, ◌≤◌, min, List, [], ◌∷◌, ◌++◌, length, refl, sym, ap, ◌∙◌, arith, ⊎_elim, subst}
-use Rattle.std.proofs.lemmas.Bool.{cases_lt, cases_eq}
+use Rattle.std.proofs.Common.{◌≡◌, ℕ, ℤ, ◌+◌, ◌%◌, ◌^◌, ◌<◌, ◌≤◌, List, [], ◌++◌, refl, sym, ap, ◌∙◌, arith, subst}
 use Rattle.std.specs.Int.{w32, cast_signed, cast_unsigned}
 use mir.Val.{SFits}
 use Rattle.std.proofs.lemmas.Int.{to_z-of_z, of_z-to_z}
 use Rattle.std.proofs.Math.Facts.{Fits-of_z}
-use Rattle.laz_range.specs.Cut.{Cut, AreCuts, raw_cuts}
+use Rattle.laz_range.specs.Cut.{Cut, AreCuts}
 use Rattle.laz_range.specs.Span.{Begins, span}
 use Rattle.laz_range.specs.Coding.{Coding, Codes}
 use Rattle.laz_range.specs.Decoding.{Decoding, ReadsOn, Takes, TakesNone}
-use Rattle.laz_range.proofs.Refills.{wide_cuts as wide_cuts_is, short_cuts}
-use Rattle.laz_range.proofs.Decodings.{Takes-ReadsOn, TakesNone-NoneBegins, Takes-begins, AreCuts-raw}
-use Rattle.laz_models.specs.Bank.{model_at}
-use Rattle.laz_models.specs.Dist.{size_of}
+use Rattle.laz_range.proofs.Decodings.{Takes-ReadsOn, TakesNone-NoneBegins, Takes-begins}
 use Rattle.laz_integer.specs.Corrector.{choices, corrected, corrector, difference, HasBits, width_of, place_of}
 use Rattle.laz_integer.specs.Events.{Event, cuts_behind}
-use Rattle.laz_integer.specs.Integer.{IntState, IsIntState, IntStands, IntSpell, IntEvents, IsCorrector, ReadsCorrector, ReadsInt, NoInt, corrector_events, symbol_cut, high_at, width_counted, rest_cuts, int_cuts, int_next}
-use Rattle.laz_integer.proofs.Correctors.{choices-more, difference-on, word-fits}
-use Rattle.laz_integer.proofs.Choices.{cuts-zero, cuts-most, cuts-narrow, cuts-wide, cuts-above, wide_parts}
-use Rattle.laz_integer.proofs.States.{models-count, width-size, high-size, high-in}
-use Rattle.laz_integer.proofs.Sounds.{IsIntState-width}
-use Rattle.laz_integer.proofs.SymbolParts.{AreCuts-symbol}
+use Rattle.laz_integer.specs.Integer.{IntState, IsIntState, IntStands, IntSpell, IntEvents, IsCorrector, ReadsCorrector, ReadsInt, NoInt, corrector_events, int_cuts, int_next}
+use Rattle.laz_integer.proofs.Correctors.{difference-on, word-fits}
+use Rattle.laz_integer.proofs.Counted.{corrector-events, AreCuts-events, length-events_cuts}
+use Rattle.laz_integer.proofs.Bounds.{corrector-few, corrector-fewer}
 use Rattle.laz_integer.proofs.Stood.{comes}
 
--- ---- the events of each corrector are events
-AreCuts-high : (st : IntState) (k s : ℕ) → IsIntState st → 0 < k → k ≤ st.bits → s < 2 ^ min k 8 → AreCuts (symbol_cut (high_at st k) s ∷ [])
-AreCuts-high st k s h some small digit =
-    AreCuts-symbol (size_of (high_at st k)) (high_at st k).parts s (h.sound (st.contexts + (k - 1)) (high-in st k h some small)).parts (omega (arith, digit, high-size st k h some small))
-
-AreCuts-rest : (st : IntState) (k v : ℕ) → IsIntState st → k ≤ st.bits → v < choices k → AreCuts (rest_cuts st k v)
-AreCuts-rest st k v h range within =
-    ⊎_elim
-    (λ (zero_is : k ≡ 0). rw (zero_is, cuts-zero st v) ((h.bit.p0_some, h.bit.p0_below), tt))
-    (λ (some_is : k ≡ 0 → ⊥).
-    let positive : 0 < k = omega (arith, some_is) in
-    ⊎_elim
-    (λ (most_is : k ≡ 32). rw (most_is, cuts-most st v) tt)
-    (λ (fewer : k ≡ 32 → ⊥).
-    let small : k < 32 = omega (arith, fewer, range, h.few) in
-    let below : v < 2 ^ k = rw (choices-more k positive small) at within in
-    ⊎_elim
-    (λ (wide : 8 < k).
-    let parts = wide_parts k v wide below in
-    rw (cuts-wide st k v wide small) ((AreCuts-high st k (v / 2 ^ (k - 8)) h positive range parts.0).0, AreCuts-raw (k - 8) (v % 2 ^ (k - 8)) (omega arith) (omega arith) parts.1))
-    (λ (narrow : k ≤ 8).
-    let least : min k 8 ≡ k = omega arith in
-    let power : 2 ^ min k 8 ≡ 2 ^ k = ap (λ n. 2 ^ n) least in
-    rw (cuts-narrow st k v positive narrow) (AreCuts-high st k v h positive range (omega (arith, power, below))))
-    (cases_lt 8 k))
-    (cases_eq k 32))
-    (cases_eq k 0)
-
+-- ---- the parts of each corrector's events are parts
 pub AreCuts-int : (st : IntState) (ctx : ℕ) (x : ℕ × ℕ) → IsIntState st → ctx < st.contexts → IsCorrector st.bits x → AreCuts (int_cuts st ctx x.0 x.1)
 AreCuts-int st ctx x h within asked =
-    let size = width-size st ctx h within in
-    let first = AreCuts-symbol (size_of (model_at st.bank ctx)) (model_at st.bank ctx).parts x.0 (h.sound ctx (omega (arith, models-count st h, within))).parts (omega (arith, size, asked.0)) in
-    (first.0, AreCuts-rest (width_counted st ctx x.0) x.0 x.1 (IsIntState-width st ctx x.0 h within asked.0) asked.0 asked.1)
+    AreCuts-events [] st st.bits st.contexts (corrector_events [] st.bits ctx x.0 x.1) (record { state = h; bits = refl; contexts = refl }) (corrector-events [] st.bits st.contexts ctx x.0 x.1 h.few within asked.0 asked.1)
 
 -- ---- what a reader answers, in the words of its definition
 spelled-cuts : (kind : List ℕ) (earlier : List Event) (st : IntState) (ctx : ℕ) (pred value : ℤ) (events : List Event) (k : ℕ) → IsIntState st → ctx < st.contexts → IntStands kind earlier st
@@ -147,49 +112,12 @@ corrected-passed bits pred k v z few f e =
 pub word_of : (z : ℤ) → SFits w32 z → cast_unsigned w32 z < 4294967296
 word_of z f = (Fits-of_z {w = w32} f).fits
 
--- ---- four events at most
-length-raw : (b v : ℕ) → length (raw_cuts b v) ≤ 2
-length-raw b v =
-    ⊎_elim
-    (λ (wide : 19 < b). rw (wide_cuts_is b v wide) (omega arith))
-    (λ (short : b ≤ 19). rw (short_cuts b v short) (omega arith))
-    (cases_lt 19 b)
-
-length-rest : (st : IntState) (k v : ℕ) → length (rest_cuts st k v) ≤ 3
-length-rest st k v =
-    ⊎_elim
-    (λ (zero_is : k ≡ 0). rw (zero_is, cuts-zero st v) (omega arith))
-    (λ (some_is : k ≡ 0 → ⊥).
-    ⊎_elim
-    (λ (most_is : k ≡ 32). rw (most_is, cuts-most st v) (omega arith))
-    (λ (fewer : k ≡ 32 → ⊥).
-    ⊎_elim
-    (λ (wide : 8 < k). rw (cuts-above st k v wide fewer) (omega (arith, length-raw (k - 8) (v % 2 ^ (k - 8)))))
-    (λ (narrow : k ≤ 8). rw (cuts-narrow st k v (omega (arith, some_is)) narrow) (omega arith))
-    (cases_lt 8 k))
-    (cases_eq k 32))
-    (cases_eq k 0)
-
-pub int-used : (st : IntState) (ctx k v : ℕ) (a b : Coding) → Codes a b (int_cuts st ctx k v) → a.left ≤ b.left + 12
-int-used st ctx k v a b h = omega (arith, h.used, length-rest (width_counted st ctx k) k v)
-
--- ---- three events at most where the rest of a corrector is one raw value
-length-raw_short : (b v : ℕ) → b ≤ 19 → length (raw_cuts b v) ≤ 1
-length-raw_short b v short = rw (short_cuts b v short) (omega arith)
-
-length-rest_short : (st : IntState) (k v : ℕ) → k ≤ 27 → length (rest_cuts st k v) ≤ 2
-length-rest_short st k v few =
-    ⊎_elim
-    (λ (zero_is : k ≡ 0). rw (zero_is, cuts-zero st v) (omega arith))
-    (λ (some_is : k ≡ 0 → ⊥).
-    ⊎_elim
-    (λ (wide : 8 < k). rw (cuts-above st k v wide (λ e. omega (arith, e, few))) (omega (arith, length-raw_short (k - 8) (v % 2 ^ (k - 8)) (omega arith))))
-    (λ (narrow : k ≤ 8). rw (cuts-narrow st k v (omega (arith, some_is)) narrow) (omega arith))
-    (cases_lt 8 k))
-    (cases_eq k 0)
+-- ---- four events at most, and three at most up to 27 bits
+pub int-used : (st : IntState) (ctx k v : ℕ) (a b : Coding) → k ≤ 32 → Codes a b (int_cuts st ctx k v) → a.left ≤ b.left + 12
+int-used st ctx k v a b few h = omega (arith, h.used, length-events_cuts st (corrector_events [] st.bits ctx k v), corrector-few [] st.bits ctx k v few)
 
 pub int-short : (st : IntState) (ctx k v : ℕ) (a b : Coding) → k ≤ 27 → Codes a b (int_cuts st ctx k v) → a.left ≤ b.left + 9
-int-short st ctx k v a b few h = omega (arith, h.used, length-rest_short (width_counted st ctx k) k v few)
+int-short st ctx k v a b few h = omega (arith, h.used, length-events_cuts st (corrector_events [] st.bits ctx k v), corrector-fewer [] st.bits ctx k v few)
 
 -- ---- a reader's answer, with the number of bits fixed
 pub fixed-reads : (bits : ℕ) (st next : IntState) (ctx : ℕ) (pred value : ℤ) (k v : ℕ) (old new : Decoding) → st.bits ≡ bits

@@ -1,5 +1,5 @@
-use Rattle.std.proofs.Common.{◌≡◌, ℕ, ◌+◌, ◌-◌, ◌/◌, ◌%◌, ◌^◌, ◌<◌, ◌≤◌, eqb, leb, min, Bool, List, [], ◌∷◌, ◌++◌, length, map, get_or, refl, sym, ap, ◌∙◌, arith, ⊎_elim, lit≤, append_assoc, subst}
-use Rattle.std.proofs.lemmas.Bool.{cases_lt, cases_eq, cond-true, cond-false, ne_eqb, le-leb, lt-leb}
+use Rattle.std.proofs.Common.{◌≡◌, ℕ, ◌+◌, ◌-◌, ◌^◌, ◌<◌, ◌≤◌, min, Bool, List, [], ◌∷◌, ◌++◌, length, map, get_or, refl, sym, ap, ◌∙◌, arith, ⊎_elim, lit≤, append_assoc, subst}
+use Rattle.std.proofs.lemmas.Bool.{cases_eq}
 use Rattle.std.proofs.lemmas.List.{append-nil, get_or-set_same, get_or-set_other, get_or-map}
 use Rattle.std.proofs.Math.Nat.{pow-le-pow_right}
 use Rattle.laz_range.specs.Cut.{Cut, Bit, symbol}
@@ -11,13 +11,14 @@ use Rattle.laz_models.specs.Bank.{model_at}
 use Rattle.laz_models.proofs.Banks.{StandsFor-push, StandsFor-fresh}
 use Rattle.laz_models.proofs.BitStand.{BitStandsFor-push, BitStandsFor-fresh}
 use Rattle.laz_integer.specs.Corrector.{choices}
-use Rattle.laz_integer.specs.Events.{Event, Symbol, Flag, Name, symbols_under, bits_under, cut_behind, cuts_behind, raw_events}
-use Rattle.laz_integer.specs.Integer.{IntState, IsIntState, IntStands, width_name, bit_name, high_name, rest_events, corrector_events, symbol_cut, high_at, width_counted, high_counted, bit_taken, rest_cuts, wide_cuts, rest_next, int_cuts, int_next, int_sizes}
-use Rattle.laz_integer.proofs.Correctors.{choices-more}
-use Rattle.laz_integer.proofs.Choices.{cuts-zero, cuts-most, cuts-narrow, cuts-wide, next-zero, next-most, next-narrow, next-wide, wide_parts}
+use Rattle.laz_integer.specs.Events.{Event, Symbol, Flag, Name, Bits, Role, Own, Width, ZeroOrOne, High, symbols_under, bits_under, cut_behind, cuts_behind}
+use Rattle.laz_integer.specs.Integer.{IntState, IsInts, IsIntState, IntStands, width_name, bit_name, high_name, corrector_events, symbol_cut, high_at, symbol_counted, flag_counted, event_cut, event_next, events_cuts, events_next, int_cuts, int_next, int_sizes}
+use Rattle.laz_integer.specs.Uses.{name_of}
+use Rattle.laz_integer.proofs.Cases.{cuts-use, next-use}
+use Rattle.laz_integer.proofs.Counted.{IsIntSymbol, IsIntEvent, AreIntEvents, corrector-events, IsInts-event}
+use Rattle.laz_integer.proofs.Uses.{int-silent, Silent-raw}
 use Rattle.laz_integer.proofs.States.{models-count, width-size, high-size, high-in, length-sizes, sizes-two}
-use Rattle.laz_integer.proofs.Sounds.{IsIntState-width}
-use Rattle.laz_integer.proofs.Named.{same-width, same-high, same-bit, other-width, other-high, symbols-with, symbols-without, bits-with, symbols-flag, bits-symbol, symbols-raw, bits-raw, cuts-raw, symbols_under-append, bits_under-append}
+use Rattle.laz_integer.proofs.Named.{same-width, same-high, same-bit, other-width, other-high, symbols-with, symbols-without, bits-with, symbols-flag, bits-symbol}
 
 -- ---- one event behind others, and the part that its model gives
 pub symbol-cut : (earlier : List Event) (name : Name) (m : Counting) (n s : ℕ) → size_of m ≡ n → StandsFor (symbols_under name earlier) m → cut_behind earlier (Symbol name n s) ≡ symbol_cut m s
@@ -35,7 +36,7 @@ stands-more h g m n s many within e f stands = stands-along (h ++ s ∷ []) g (c
 
 -- ---- a width is counted
 pub stands-width : (kind : List ℕ) (earlier : List Event) (st : IntState) (ctx k : ℕ) → IsIntState st → ctx < st.contexts → k ≤ st.bits → IntStands kind earlier st
-    → IntStands kind (earlier ++ Symbol (width_name kind ctx) (st.bits + 1) k ∷ []) (width_counted st ctx k)
+    → IntStands kind (earlier ++ Symbol (width_name kind ctx) (st.bits + 1) k ∷ []) (symbol_counted st ctx k)
 stands-width kind earlier st ctx k is within small h =
     let e = Symbol (width_name kind ctx) (st.bits + 1) k in
     let size = width-size st ctx is within in
@@ -66,7 +67,7 @@ stands-width kind earlier st ctx k is within small h =
 
 -- ---- high digits are counted
 pub stands-high : (kind : List ℕ) (earlier : List Event) (st : IntState) (k n s : ℕ) → IsIntState st → 0 < k → k ≤ st.bits → s < 2 ^ min k 8 → IntStands kind earlier st
-    → IntStands kind (earlier ++ Symbol (high_name kind k) n s ∷ []) (high_counted st k s)
+    → IntStands kind (earlier ++ Symbol (high_name kind k) n s ∷ []) (symbol_counted st (st.contexts + (k - 1)) s)
 stands-high kind earlier st k n s is some small digit h =
     let size = high-size st k is some small in
     let here = high-in st k is some small in
@@ -102,139 +103,86 @@ stands-high kind earlier st k n s is some small digit h =
     }
 
 -- ---- a bit is counted
-pub stands-bit : (kind : List ℕ) (earlier : List Event) (st : IntState) (v : ℕ) → IntStands kind earlier st → IntStands kind (earlier ++ Flag (bit_name kind) (eqb v 1) ∷ []) (bit_taken st v)
-stands-bit kind earlier st v h =
+pub stands-bit : (kind : List ℕ) (earlier : List Event) (st : IntState) (bit : Bool) → IntStands kind earlier st → IntStands kind (earlier ++ Flag (bit_name kind) bit ∷ []) (flag_counted st bit)
+stands-bit kind earlier st bit h =
     record {
-      widths = λ c inside. subst (λ (l : List ℕ). StandsFor l (model_at st.bank c)) (sym (symbols-flag (width_name kind c) (bit_name kind) (eqb v 1) earlier)) (h.widths c inside);
-      bits = subst (λ (l : List Bool). BitStandsFor l (bit_counted st.zero_or_one (eqb v 1))) (sym (bits-with (bit_name kind) (bit_name kind) (eqb v 1) earlier (same-bit kind))) (BitStandsFor-push (bits_under (bit_name kind) earlier) (eqb v 1) st.zero_or_one h.bits);
-      highs = λ j inside. subst (λ (l : List ℕ). StandsFor l (model_at st.bank (st.contexts + j))) (sym (symbols-flag (high_name kind (j + 1)) (bit_name kind) (eqb v 1) earlier)) (h.highs j inside);
+      widths = λ c inside. subst (λ (l : List ℕ). StandsFor l (model_at st.bank c)) (sym (symbols-flag (width_name kind c) (bit_name kind) bit earlier)) (h.widths c inside);
+      bits = subst (λ (l : List Bool). BitStandsFor l (bit_counted st.zero_or_one bit)) (sym (bits-with (bit_name kind) (bit_name kind) bit earlier (same-bit kind))) (BitStandsFor-push (bits_under (bit_name kind) earlier) bit st.zero_or_one h.bits);
+      highs = λ j inside. subst (λ (l : List ℕ). StandsFor l (model_at st.bank (st.contexts + j))) (sym (symbols-flag (high_name kind (j + 1)) (bit_name kind) bit earlier)) (h.highs j inside);
     }
 
--- ---- raw values are counted nowhere
-pub stands-raw : (kind : List ℕ) (earlier : List Event) (st : IntState) (b v : ℕ) → IntStands kind earlier st → IntStands kind (earlier ++ raw_events b v) st
-stands-raw kind earlier st b v h =
-    let symbols : (name : Name) → symbols_under name (earlier ++ raw_events b v) ≡ symbols_under name earlier =
-    λ name. symbols_under-append name earlier (raw_events b v) ∙ (ap (λ l. symbols_under name earlier ++ l) (symbols-raw name b v) ∙ append-nil (symbols_under name earlier)) in
-    let bits : (name : Name) → bits_under name (earlier ++ raw_events b v) ≡ bits_under name earlier =
-    λ name. bits_under-append name earlier (raw_events b v) ∙ (ap (λ l. bits_under name earlier ++ l) (bits-raw name b v) ∙ append-nil (bits_under name earlier)) in
-    record {
-      widths = λ c inside. subst (λ (l : List ℕ). StandsFor l (model_at st.bank c)) (sym (symbols (width_name kind c))) (h.widths c inside);
-      bits = subst (λ (l : List Bool). BitStandsFor l st.zero_or_one) (sym (bits (bit_name kind))) h.bits;
-      highs = λ j inside. subst (λ (l : List ℕ). StandsFor l (model_at st.bank (st.contexts + j))) (sym (symbols (high_name kind (j + 1)))) (h.highs j inside);
-    }
-
--- ---- the events of a corrector behind its width
-pub events-zero : (kind : List ℕ) (v : ℕ) → rest_events kind 0 v ≡ Flag (bit_name kind) (eqb v 1) ∷ []
-unfolding rest_events
-events-zero kind v = refl
-
-pub events-most : (kind : List ℕ) (v : ℕ) → rest_events kind 32 v ≡ []
-unfolding rest_events
-events-most kind v = refl
-
-pub events-narrow : (kind : List ℕ) (k v : ℕ) → 0 < k → k ≤ 8 → rest_events kind k v ≡ Symbol (high_name kind k) (2 ^ k) v ∷ []
-unfolding rest_events
-events-narrow kind k v some narrow =
-    cond-false (eqb k 0) _ _ (ne_eqb k 0 (λ e. omega arith))
-    ∙ (cond-false (eqb k 32) _ _ (ne_eqb k 32 (λ e. omega arith)) ∙ cond-true (leb k 8) _ _ (le-leb k 8 narrow))
-
-pub events-wide : (kind : List ℕ) (k v : ℕ) → 8 < k → k < 32 → rest_events kind k v ≡ Symbol (high_name kind k) 256 (v / 2 ^ (k - 8)) ∷ raw_events (k - 8) (v % 2 ^ (k - 8))
-unfolding rest_events
-events-wide kind k v wide small =
-    cond-false (eqb k 0) _ _ (ne_eqb k 0 (λ e. omega arith))
-    ∙ (cond-false (eqb k 32) _ _ (ne_eqb k 32 (λ e. omega arith)) ∙ cond-false (leb k 8) _ _ (lt-leb k 8 wide))
-
--- what events come to, under models that stand for the earlier ones
+-- ---- what events come to, under models that stand for the earlier ones
 pub record Comes (kind : List ℕ) (earlier events : List Event) (st next : IntState) (parts : List Cut) : Type 0 where
   pub cuts : cuts_behind earlier events ≡ parts
   pub stands : IntStands kind (earlier ++ events) next
 
-comes-along : (kind : List ℕ) (earlier events others : List Event) (st next other : IntState) (cuts more : List Cut) → others ≡ events → other ≡ next → more ≡ cuts → Comes kind earlier events st next cuts → Comes kind earlier others st other more
-comes-along kind earlier events others st next other cuts more e f g h =
-    record {
-      cuts = ap (cuts_behind earlier) e ∙ (h.cuts ∙ sym g);
-      stands = subst (λ (l : List Event). IntStands kind (earlier ++ l) other) (sym e) (subst (λ (s : IntState). IntStands kind (earlier ++ events) s) (sym f) h.stands);
-    }
-
 one_cut : (c d : Cut) → c ≡ d → c ∷ [] ≡ d ∷ []
 one_cut c d e = cc
-
-comes-narrow : (kind : List ℕ) (earlier : List Event) (st : IntState) (k v : ℕ) → IsIntState st → 0 < k → k ≤ st.bits → k ≤ 8 → v < 2 ^ k → IntStands kind earlier st
-    → Comes kind earlier (Symbol (high_name kind k) (2 ^ k) v ∷ []) st (high_counted st k v) (symbol_cut (high_at st k) v ∷ [])
-comes-narrow kind earlier st k v is some small narrow within h =
-    let least : min k 8 ≡ k = omega arith in
-    let power : 2 ^ min k 8 ≡ 2 ^ k = ap (λ n. 2 ^ n) least in
-    let back : k - 1 + 1 ≡ k = omega arith in
-    let stood = subst (λ (i : ℕ). StandsFor (symbols_under (high_name kind i) earlier) (high_at st k)) back (h.highs (k - 1) (omega arith)) in
-    record {
-      cuts = one_cut _ _ (symbol-cut earlier (high_name kind k) (high_at st k) (2 ^ k) v (high-size st k is some small ∙ power) stood);
-      stands = stands-high kind earlier st k (2 ^ k) v is some small (omega (arith, power, within)) h;
-    }
 
 cons_cut : (c d : Cut) (cs ds : List Cut) → c ≡ d → cs ≡ ds → c ∷ cs ≡ d ∷ ds
 cons_cut c d cs ds e f = cc
 
-comes-wide : (kind : List ℕ) (earlier : List Event) (st : IntState) (k v : ℕ) → IsIntState st → 8 < k → k < 32 → k ≤ st.bits → v < 2 ^ k → IntStands kind earlier st
-    → Comes kind earlier (Symbol (high_name kind k) 256 (v / 2 ^ (k - 8)) ∷ raw_events (k - 8) (v % 2 ^ (k - 8))) st (high_counted st k (v / 2 ^ (k - 8))) (wide_cuts st k v)
-comes-wide kind earlier st k v is wide small range within h =
-    let some : 0 < k = omega arith in
-    let least : min k 8 ≡ 8 = omega arith in
-    let power : 2 ^ min k 8 ≡ 256 = ap (λ n. 2 ^ n) least in
-    let back : k - 1 + 1 ≡ k = omega arith in
-    let high : ℕ = v / 2 ^ (k - 8) in
-    let low : ℕ = v % 2 ^ (k - 8) in
-    let e : Event = Symbol (high_name kind k) 256 high in
-    let stood = subst (λ (i : ℕ). StandsFor (symbols_under (high_name kind i) earlier) (high_at st k)) back (h.highs (k - 1) (omega arith)) in
+same_head : (c d : Cut) → c ∷ [] ≡ d ∷ [] → c ≡ d
+same_head c d e = cc
+
+-- one symbol, by its role
+comes-symbol : (kind : List ℕ) (earlier : List Event) (st : IntState) (bits contexts : ℕ) (role : Role) (which n s : ℕ) → IsInts bits contexts st → IsIntSymbol bits contexts role which n s → IntStands kind earlier st
+    → Comes kind earlier (Symbol (name_of kind role which) n s ∷ []) st (event_next st (Symbol (name_of kind role which) n s)) (event_cut st (Symbol (name_of kind role which) n s) ∷ [])
+comes-symbol kind earlier st bits contexts Own which n s is asked h = absurd asked
+comes-symbol kind earlier st bits contexts ZeroOrOne which n s is asked h = absurd asked
+comes-symbol kind earlier st bits contexts Width which n s is asked h =
+    let within : which < st.contexts = omega (arith, asked.0, is.contexts) in
+    let range : s ≤ st.bits = omega (arith, asked.1, asked.2, is.bits) in
+    let size : st.bits + 1 ≡ n = omega (arith, asked.1, is.bits) in
+    let stands = stands-width kind earlier st which s is.state within range h in
     record {
-      cuts = cons_cut _ _ _ _ (symbol-cut earlier (high_name kind k) (high_at st k) 256 high (high-size st k is some range ∙ power) stood) (cuts-raw (earlier ++ e ∷ []) (k - 8) low);
-      stands =
-          let first = stands-high kind earlier st k 256 high is some range (wide_parts k v wide within).0 h in
-          subst (λ (l : List Event). IntStands kind l (high_counted st k high)) (append_assoc earlier (e ∷ []) (raw_events (k - 8) low)) (stands-raw kind (earlier ++ e ∷ []) (high_counted st k high) (k - 8) low first);
+      cuts = one_cut _ _ (symbol-cut earlier (width_name kind which) (model_at st.bank which) n s (width-size st which is.state within ∙ size) (h.widths which within));
+      stands = subst (λ (m : ℕ). IntStands kind (earlier ++ Symbol (width_name kind which) m s ∷ []) (symbol_counted st which s)) size stands;
+    }
+comes-symbol kind earlier st bits contexts High which n s is asked h =
+    let small : which ≤ st.bits = omega (arith, asked.1, is.bits) in
+    let digit : s < 2 ^ min which 8 = omega (arith, asked.2, asked.3) in
+    let back : which - 1 + 1 ≡ which = omega (arith, asked.0) in
+    let stood = subst (λ (i : ℕ). StandsFor (symbols_under (high_name kind i) earlier) (high_at st which)) back (h.highs (which - 1) (omega (arith, asked.0, small))) in
+    record {
+      cuts = one_cut _ _ (symbol-cut earlier (high_name kind which) (high_at st which) n s (high-size st which is.state asked.0 small ∙ sym asked.2) stood);
+      stands = stands-high kind earlier st which n s is.state asked.0 small digit h;
     }
 
-comes-zero : (kind : List ℕ) (earlier : List Event) (st : IntState) (v : ℕ) → IntStands kind earlier st → Comes kind earlier (Flag (bit_name kind) (eqb v 1) ∷ []) st (bit_taken st v) (Bit st.zero_or_one.p0 (eqb v 1) ∷ [])
-comes-zero kind earlier st v h =
+-- one event
+comes-event : (kind : List ℕ) (earlier : List Event) (st : IntState) (bits contexts : ℕ) (e : Event) → IsInts bits contexts st → IsIntEvent kind bits contexts e → IntStands kind earlier st
+    → Comes kind earlier (e ∷ []) st (event_next st e) (event_cut st e ∷ [])
+comes-event kind earlier st bits contexts (Symbol name n s) is asked h =
+    subst (λ (l : List ℕ). Comes kind earlier (Symbol (name_of l name.role name.which) n s ∷ []) st (event_next st (Symbol name n s)) (event_cut st (Symbol name n s) ∷ [])) (sym asked.0)
+    (comes-symbol kind earlier st bits contexts name.role name.which n s is asked.1 h)
+comes-event kind earlier st bits contexts (Flag name bit) is asked h =
+    subst (λ (l : Name). Comes kind earlier (Flag l bit ∷ []) st (flag_counted st bit) (Bit st.zero_or_one.p0 bit ∷ [])) (sym asked)
+    (record {
+      cuts = one_cut _ _ (bit-cut earlier (bit_name kind) st.zero_or_one bit h.bits);
+      stands = stands-bit kind earlier st bit h;
+    })
+comes-event kind earlier st bits contexts (Bits b v) is asked h = record { cuts = refl; stands = int-silent kind st earlier (Bits b v ∷ []) (Silent-raw kind b v) h }
+
+-- all events
+pub comes-events : (kind : List ℕ) (earlier : List Event) (st : IntState) (bits contexts : ℕ) (events : List Event) → IsInts bits contexts st → AreIntEvents kind bits contexts events → IntStands kind earlier st
+    → Comes kind earlier events st (events_next st events) (events_cuts st events)
+comes-events kind earlier st bits contexts [] is asked h = record { cuts = refl; stands = subst (λ (l : List Event). IntStands kind l st) (sym (append-nil earlier)) h }
+comes-events kind earlier st bits contexts (e ∷ events) is asked h =
+    let first = comes-event kind earlier st bits contexts e is asked.0 h in
+    let rest = comes-events kind (earlier ++ e ∷ []) (event_next st e) bits contexts events (IsInts-event kind st bits contexts e is asked.0) asked.1 first.stands in
     record {
-      cuts = one_cut _ _ (bit-cut earlier (bit_name kind) st.zero_or_one (eqb v 1) h.bits);
-      stands = stands-bit kind earlier st v h;
+      cuts = cons_cut _ _ _ _ (same_head (cut_behind earlier e) (event_cut st e) first.cuts) rest.cuts;
+      stands = subst (λ (l : List Event). IntStands kind l (events_next (event_next st e) events)) (append_assoc earlier (e ∷ []) events) rest.stands;
     }
 
-comes-none : (kind : List ℕ) (earlier : List Event) (st : IntState) → IntStands kind earlier st → Comes kind earlier [] st st []
-comes-none kind earlier st h = record { cuts = refl; stands = subst (λ (l : List Event). IntStands kind l st) (sym (append-nil earlier)) h }
-
-pub comes-rest : (kind : List ℕ) (earlier : List Event) (st : IntState) (k v : ℕ) → IsIntState st → k ≤ st.bits → v < choices k → IntStands kind earlier st
-    → Comes kind earlier (rest_events kind k v) st (rest_next st k v) (rest_cuts st k v)
-comes-rest kind earlier st k v is range within h =
-    ⊎_elim
-    (λ (zero_is : k ≡ 0).
-    rw zero_is (comes-along kind earlier _ _ st _ _ _ _ (events-zero kind v) (next-zero st v) (cuts-zero st v) (comes-zero kind earlier st v h)))
-    (λ (some_is : k ≡ 0 → ⊥).
-    let some : 0 < k = omega (arith, some_is) in
-    ⊎_elim
-    (λ (most_is : k ≡ 32).
-    rw most_is (comes-along kind earlier _ _ st _ _ _ _ (events-most kind v) (next-most st v) (cuts-most st v) (comes-none kind earlier st h)))
-    (λ (fewer : k ≡ 32 → ⊥).
-    let small : k < 32 = omega (arith, fewer, range, is.few) in
-    let below : v < 2 ^ k = rw (choices-more k some small) at within in
-    ⊎_elim
-    (λ (wide : 8 < k).
-    comes-along kind earlier _ _ st _ _ _ _ (events-wide kind k v wide small) (next-wide st k v wide small) (cuts-wide st k v wide small) (comes-wide kind earlier st k v is wide small range below h))
-    (λ (narrow : k ≤ 8).
-    comes-along kind earlier _ _ st _ _ _ _ (events-narrow kind k v some narrow) (next-narrow st k v some narrow) (cuts-narrow st k v some narrow) (comes-narrow kind earlier st k v is some range narrow below h))
-    (cases_lt 8 k))
-    (cases_eq k 32))
-    (cases_eq k 0)
-
--- ---- all events of a corrector
+-- ---- the events of a corrector
 pub comes : (kind : List ℕ) (earlier : List Event) (st : IntState) (ctx k v : ℕ) → IsIntState st → ctx < st.contexts → k ≤ st.bits → v < choices k → IntStands kind earlier st
     → Comes kind earlier (corrector_events kind st.bits ctx k v) st (int_next st ctx k v) (int_cuts st ctx k v)
 comes kind earlier st ctx k v is within range value h =
-    let e : Event = Symbol (width_name kind ctx) (st.bits + 1) k in
-    let first = stands-width kind earlier st ctx k is within range h in
-    let rest = comes-rest kind (earlier ++ e ∷ []) (width_counted st ctx k) k v (IsIntState-width st ctx k is within range) range value first in
+    let all = comes-events kind earlier st st.bits st.contexts (corrector_events kind st.bits ctx k v) (record { state = is; bits = refl; contexts = refl }) (corrector-events kind st.bits st.contexts ctx k v is.few within range value) h in
     record {
-      cuts = cons_cut _ _ _ _ (symbol-cut earlier (width_name kind ctx) (model_at st.bank ctx) (st.bits + 1) k (width-size st ctx is within) (h.widths ctx within)) rest.cuts;
-      stands = subst (λ (l : List Event). IntStands kind l (int_next st ctx k v)) (append_assoc earlier (e ∷ []) (rest_events kind k v)) rest.stands;
+      cuts = all.cuts ∙ ap (λ l. symbol_cut (model_at st.bank ctx) k ∷ l) (cuts-use kind (symbol_counted st ctx k) k v);
+      stands = subst (λ (s : IntState). IntStands kind (earlier ++ corrector_events kind st.bits ctx k v) s) (next-use kind (symbol_counted st ctx k) k v) all.stands;
     }
 
 -- ---- new models stand for no event

@@ -1,6 +1,6 @@
 -- Events of one use say nothing of another. Meant for the crates of items, too.
-use Rattle.std.proofs.Common.{◌≡◌, ℕ, ◌+◌, ◌-◌, ◌%◌, ◌^◌, ◌<◌, ◌≤◌, eqb, Bool, true, false, not, ◌&&◌, List, [], ◌∷◌, ◌++◌, refl, sym, ap, subst, ◌∙◌, arith, ⊎_elim}
-use Rattle.std.proofs.lemmas.Bool.{cases_lt, cases_eq, cond-false}
+use Rattle.std.proofs.Common.{◌≡◌, ℕ, ◌+◌, ◌<◌, ◌≤◌, eqb, Bool, true, false, not, ◌&&◌, List, [], ◌∷◌, ◌++◌, refl, sym, ap, subst, ◌∙◌, arith, ⊎_elim}
+use Rattle.std.proofs.lemmas.Bool.{cases_lt, cond-false}
 use Rattle.std.proofs.lemmas.List.{append-nil}
 use Rattle.std.specs.List.{AllByRecursion}
 use Rattle.laz_models.specs.Counting.{Counting}
@@ -8,11 +8,12 @@ use Rattle.laz_models.specs.Bank.{model_at}
 use Rattle.laz_models.specs.Dist.{StandsFor}
 use Rattle.laz_models.specs.BitDist.{BitStandsFor}
 use Rattle.laz_integer.specs.Events.{Event, Symbol, Flag, Bits, Name, Role, Own, Width, ZeroOrOne, High, same_role, same_text, same_name, symbols_under, bits_under, raw_events}
-use Rattle.laz_integer.specs.Integer.{IntState, IntStands, IntSpell, rest_events, corrector_events}
+use Rattle.laz_integer.specs.Integer.{IntState, IntStands, IntSpell, corrector_events}
 use Rattle.laz_integer.specs.Uses.{name_of, Silent, AllSilent, absent, apart}
 use Rattle.laz_integer.specs.Fields.{BankStands}
 use Rattle.laz_integer.proofs.Named.{symbols_under-append, bits_under-append, raw-wide, raw-short}
-use Rattle.laz_integer.proofs.Stood.{events-zero, events-most, events-narrow, events-wide}
+use Rattle.laz_integer.specs.Corrector.{choices}
+use Rattle.laz_integer.proofs.Counted.{AreIntEvents, corrector-events}
 
 pub both_true : (a b : Bool) → a && b ≡ true → (a ≡ true) × (b ≡ true)
 both_true true b h = (refl, h)
@@ -98,13 +99,6 @@ Silent-other other kind events e h =
 pub Silent-raw : (kind : List ℕ) (b v : ℕ) → Silent kind (Bits b v ∷ [])
 Silent-raw kind b v = record { symbols = λ role which. refl; bits = λ role which. refl }
 
-AreOf-raw : (kind : List ℕ) (b v : ℕ) → AreOf kind (raw_events b v)
-AreOf-raw kind b v =
-    ⊎_elim
-    (λ (wide : 19 < b). rw (raw-wide b v wide) (tt, (tt, tt)))
-    (λ (short : b ≤ 19). rw (raw-short b v short) (tt, tt))
-    (cases_lt 19 b)
-
 pub Silent-raws : (kind : List ℕ) (b v : ℕ) → Silent kind (raw_events b v)
 Silent-raws kind b v =
     ⊎_elim
@@ -113,32 +107,19 @@ Silent-raws kind b v =
     (cases_lt 19 b)
 
 -- an integer's events are of its use
-AreOf-rest : (kind : List ℕ) (k v : ℕ) → k ≤ 32 → AreOf kind (rest_events kind k v)
-AreOf-rest kind k v few =
-    ⊎_elim
-    (λ (zero_is : k ≡ 0). rw (zero_is, events-zero kind v) (refl, tt))
-    (λ (some_is : k ≡ 0 → ⊥).
-    let positive : 0 < k = omega (arith, some_is) in
-    ⊎_elim
-    (λ (most_is : k ≡ 32). rw (most_is, events-most kind v) tt)
-    (λ (fewer : k ≡ 32 → ⊥).
-    let small : k < 32 = omega (arith, fewer, few) in
-    ⊎_elim
-    (λ (wide : 8 < k). rw (events-wide kind k v wide small) (refl, AreOf-raw kind (k - 8) (v % 2 ^ (k - 8))))
-    (λ (narrow : k ≤ 8). rw (events-narrow kind k v positive narrow) (refl, tt))
-    (cases_lt 8 k))
-    (cases_eq k 32))
-    (cases_eq k 0)
+AreOf-events : (kind : List ℕ) (bits contexts : ℕ) (events : List Event) → AreIntEvents kind bits contexts events → AreOf kind events
+AreOf-events kind bits contexts [] h = tt
+AreOf-events kind bits contexts (Symbol name n s ∷ events) h = (h.0.0, AreOf-events kind bits contexts events h.1)
+AreOf-events kind bits contexts (Flag name bit ∷ events) h = (ap (λ (l : Name). l.kind) h.0, AreOf-events kind bits contexts events h.1)
+AreOf-events kind bits contexts (Bits b v ∷ events) h = (tt, AreOf-events kind bits contexts events h.1)
 
-pub AreOf-corrector : (kind : List ℕ) (bits ctx k v : ℕ) → k ≤ 32 → AreOf kind (corrector_events kind bits ctx k v)
-AreOf-corrector kind bits ctx k v few = (refl, AreOf-rest kind k v few)
-
-pub Silent-corrector : (other kind : List ℕ) (bits ctx k v : ℕ) → same_text other kind ≡ false → k ≤ 32 → Silent other (corrector_events kind bits ctx k v)
-Silent-corrector other kind bits ctx k v e few = Silent-other other kind (corrector_events kind bits ctx k v) e (AreOf-corrector kind bits ctx k v few)
+pub Silent-corrector : (other kind : List ℕ) (bits ctx k v : ℕ) → same_text other kind ≡ false → bits ≤ 32 → k ≤ bits → v < choices k → Silent other (corrector_events kind bits ctx k v)
+Silent-corrector other kind bits ctx k v e few range value =
+    Silent-other other kind (corrector_events kind bits ctx k v) e (AreOf-events kind bits (ctx + 1) (corrector_events kind bits ctx k v) (corrector-events kind bits (ctx + 1) ctx k v few (omega arith) range value))
 
 pub Silent-int : (other kind : List ℕ) (bits ctx : ℕ) (pred value : _) (events : List Event) (k : ℕ) → same_text other kind ≡ false → bits ≤ 32 → IntSpell kind bits ctx pred events value k → Silent other events
 Silent-int other kind bits ctx pred value events k e few h =
-    subst (Silent other) (sym h.is) (Silent-corrector other kind bits ctx k h.v e (omega (arith, h.width, few)))
+    subst (Silent other) (sym h.is) (Silent-corrector other kind bits ctx k h.v e few h.width h.within)
 
 -- ---- uses that differ, by tests that compute
 pub other_than : (other kind : List ℕ) → absent other (kind ∷ []) ≡ true → same_text other kind ≡ false

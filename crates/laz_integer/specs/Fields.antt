@@ -6,7 +6,7 @@ use Rattle.laz_models.specs.Dist.{StandsFor}
 use Rattle.laz_models.specs.Bank.{model_at}
 use Rattle.laz_integer.specs.Corrector.{corrected, difference, place_of}
 use Rattle.laz_integer.specs.Events.{Event, Symbol, symbols_under}
-use Rattle.laz_integer.specs.Integer.{IntState, IsIntState, IntEvents, IntSpell, IsCorrector, symbol_cut, int_cuts, int_next, int_width}
+use Rattle.laz_integer.specs.Integer.{IntState, IntEvents, IntSpell, IsCorrector, symbol_cut, int_cuts, int_next, int_width}
 use Rattle.laz_integer.specs.Uses.{own_name}
 
 -- ---- in events
@@ -54,12 +54,6 @@ byte_next false bank m s = bank
 abbrev pub IsByte : Bool → ℕ → ℕ → Type 0
 IsByte true expected s = s < 256
 IsByte false expected s = s ≡ expected
-
--- The models of an integer have so many bits and contexts.
-pub record IsInts (n m : ℕ) (st : IntState) : Type 0 where
-  pub state : IsIntState st
-  pub bits : st.bits ≡ n
-  pub contexts : st.contexts ≡ m
 
 -- Which corrector a writer takes, as width and place.
 abbrev pub int_written : ℕ → ℤ → ℤ → ℕ × ℕ

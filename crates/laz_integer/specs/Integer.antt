@@ -1,6 +1,6 @@
-use Rattle.std.specs.Prelude.{◌≡◌, ℕ, ℤ, ◌+◌, ◌-◌, ◌/◌, ◌%◌, ◌^◌, ◌<◌, ◌≤◌, ◌==◌, min, List, [], ◌∷◌, ◌++◌, map, replicate, nat_le, if◌then◌else◌, slice_set}
+use Rattle.std.specs.Prelude.{◌≡◌, ℕ, ℤ, ◌+◌, ◌-◌, ◌/◌, ◌%◌, ◌^◌, ◌<◌, ◌≤◌, ◌==◌, min, Bool, List, [], ◌∷◌, ◌++◌, map, replicate, nat_le, if◌then◌else◌, slice_set}
 use Rattle.std.specs.List.{range_with_len}
-use Rattle.laz_range.specs.Cut.{Cut, Bit, raw_cuts, symbol}
+use Rattle.laz_range.specs.Cut.{Cut, Bit, Raw, symbol}
 use Rattle.laz_range.specs.Span.{Begins, span}
 use Rattle.laz_range.specs.Decoding.{Decoding, HasRead, ReadsOn, Takes}
 use Rattle.laz_models.specs.Counting.{Counting, counted}
@@ -8,7 +8,7 @@ use Rattle.laz_models.specs.BitCounting.{BitCounting, IsBitCounting, bit_counted
 use Rattle.laz_models.specs.Dist.{StandsFor}
 use Rattle.laz_models.specs.BitDist.{BitStandsFor}
 use Rattle.laz_models.specs.Bank.{model_at, sizes_of}
-use Rattle.laz_integer.specs.Events.{Event, Symbol, Flag, Name, Width, ZeroOrOne, High, cuts_behind, raw_events, symbols_under, bits_under}
+use Rattle.laz_integer.specs.Events.{Event, Symbol, Flag, Bits, Name, same_role, Width, ZeroOrOne, High, cuts_behind, raw_events, symbols_under, bits_under}
 use Rattle.laz_models.specs.Sound.{AreSound}
 use Rattle.laz_integer.specs.Corrector.{choices, corrected, difference, width_of, place_of}
 
@@ -85,7 +85,13 @@ pub record IntStands (kind : List ℕ) (events : List Event) (st : IntState) : T
   pub bits : BitStandsFor (bits_under (bit_name kind) events) st.zero_or_one
   pub highs : (j : ℕ) → j < st.bits → StandsFor (symbols_under (high_name kind (j + 1)) events) (model_at st.bank (st.contexts + j))
 
--- The event of a symbol under a model.
+-- The models have so many bits and contexts.
+pub record IsInts (n m : ℕ) (st : IntState) : Type 0 where
+  pub state : IsIntState st
+  pub bits : st.bits ≡ n
+  pub contexts : st.contexts ≡ m
+
+-- The part of a symbol under a model.
 abbrev pub symbol_cut : Counting → ℕ → Cut
 symbol_cut m s = symbol m.parts s
 
@@ -93,40 +99,47 @@ symbol_cut m s = symbol m.parts s
 abbrev pub high_at : IntState → ℕ → Counting
 high_at st k = model_at st.bank (st.contexts + (k - 1))
 
-abbrev pub wide_cuts : IntState → ℕ → ℕ → List Cut
-wide_cuts st k v = symbol_cut (high_at st k) (v / 2 ^ (k - 8)) ∷ raw_cuts (k - 8) (v % 2 ^ (k - 8))
+-- Which model of the bank a name of an integer's symbols has.
+abbrev pub index_of : IntState → Name → ℕ
+index_of st name = if same_role name.role Width then name.which else st.contexts + (name.which - 1)
 
--- The parts of a corrector's events behind its width.
-unfoldable pub rest_cuts : IntState → ℕ → ℕ → List Cut
-rest_cuts st k v =
-    if k == 0 then Bit st.zero_or_one.p0 (v == 1) ∷ []
-    else if k == 32 then []
-    else if nat_le k 8 then symbol_cut (high_at st k) v ∷ []
-    else wide_cuts st k v
+-- One symbol more in model i of the bank.
+abbrev pub symbol_counted : IntState → ℕ → ℕ → IntState
+symbol_counted st i s = record { bits = st.bits; contexts = st.contexts; zero_or_one = st.zero_or_one; bank = slice_set st.bank i (counted (model_at st.bank i) s) }
 
-abbrev pub width_counted : IntState → ℕ → ℕ → IntState
-width_counted st ctx k = record { bits = st.bits; contexts = st.contexts; zero_or_one = st.zero_or_one; bank = slice_set st.bank ctx (counted (model_at st.bank ctx) k) }
+-- One more corrector of 0 or 1.
+abbrev pub flag_counted : IntState → Bool → IntState
+flag_counted st bit = record { bits = st.bits; contexts = st.contexts; zero_or_one = bit_counted st.zero_or_one bit; bank = st.bank }
 
-abbrev pub bit_taken : IntState → ℕ → IntState
-bit_taken st v = record { bits = st.bits; contexts = st.contexts; zero_or_one = bit_counted st.zero_or_one (v == 1); bank = st.bank }
+-- The part of an integer's event, by the models as they are.
+abbrev pub event_cut : IntState → Event → Cut
+event_cut st (Symbol name n s) = symbol_cut (model_at st.bank (index_of st name)) s
+event_cut st (Flag name bit) = Bit st.zero_or_one.p0 bit
+event_cut st (Bits b v) = Raw b v
 
-abbrev pub high_counted : IntState → ℕ → ℕ → IntState
-high_counted st k s = record { bits = st.bits; contexts = st.contexts; zero_or_one = st.zero_or_one; bank = slice_set st.bank (st.contexts + (k - 1)) (counted (high_at st k) s) }
+-- The models after it.
+abbrev pub event_next : IntState → Event → IntState
+event_next st (Symbol name n s) = symbol_counted st (index_of st name) s
+event_next st (Flag name bit) = flag_counted st bit
+event_next st (Bits b v) = st
 
--- The models behind them.
-unfoldable pub rest_next : IntState → ℕ → ℕ → IntState
-rest_next st k v =
-    if k == 0 then bit_taken st v
-    else if k == 32 then st
-    else if nat_le k 8 then high_counted st k v
-    else high_counted st k (v / 2 ^ (k - 8))
+-- The parts of an integer's events, each by the models as the events before it left them.
+abbrev pub events_cuts : IntState → List Event → List Cut
+events_cuts st [] = []
+events_cuts st (e ∷ events) = event_cut st e ∷ events_cuts (event_next st e) events
 
--- The parts of a corrector's events, each under the models as the events before it left them.
+-- The models after them.
+abbrev pub events_next : IntState → List Event → IntState
+events_next st [] = st
+events_next st (e ∷ events) = events_next (event_next st e) events
+
+-- The parts of the events of corrector v of width k. They are the same for every use.
 abbrev pub int_cuts : IntState → ℕ → ℕ → ℕ → List Cut
-int_cuts st ctx k v = symbol_cut (model_at st.bank ctx) k ∷ rest_cuts (width_counted st ctx k) k v
+int_cuts st ctx k v = events_cuts st (corrector_events [] st.bits ctx k v)
 
+-- The models after them.
 abbrev pub int_next : IntState → ℕ → ℕ → ℕ → IntState
-int_next st ctx k v = rest_next (width_counted st ctx k) k v
+int_next st ctx k v = events_next st (corrector_events [] st.bits ctx k v)
 
 -- Which correctors there are of an integer of so many bits, as width and place.
 abbrev pub IsCorrector : ℕ → ℕ × ℕ → Type 0

@@ -4,7 +4,8 @@ ghost use Rattle.laz_range.specs.Coding.{Codes};
 ghost use Rattle.laz_range.specs.Decoding.{Reads, Takes, TakesNone};
 ghost use Rattle.laz_models.specs.Bank.{model_at, sizes_of};
 ghost use Rattle.laz_models.specs.Dist.{size_of};
-ghost use Rattle.laz_integer.specs.Fields.{IsByte, IsInts, IsWord, byte_cuts, byte_next, word_cuts, word_made, word_next, word_written};
+ghost use Rattle.laz_integer.specs.Integer.{IsInts};
+ghost use Rattle.laz_integer.specs.Fields.{IsByte, IsWord, byte_cuts, byte_next, word_cuts, word_made, word_next, word_written};
 
 use crate::int_model::IntModel;
 use crate::symbols::{put_symbol_of, take_symbol_of};

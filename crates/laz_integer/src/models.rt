@@ -1,5 +1,6 @@
 //! The models of an integer.
-ghost use Rattle.std.specs.Prelude.{◌≡◌, ◌+◌, ◌-◌, ◌/◌, ◌^◌, ◌<◌, ◌≤◌, min, [], ◌∷◌, false, length, map, IfOk, OnErr};
+ghost use Rattle.std.specs.Prelude.{◌≡◌, ◌+◌, ◌-◌, ◌/◌, ◌%◌, ◌^◌, ◌<◌, ◌≤◌, min, [], ◌∷◌, false, length, map, IfOk, OnErr};
+ghost use Rattle.laz_range.specs.Cut.{raw_cuts};
 ghost use Rattle.laz_range.specs.Coding.{Codes};
 ghost use Rattle.laz_range.specs.Decoding.{Reads};
 ghost use Rattle.laz_models.specs.Bank.{model_at};
@@ -7,7 +8,7 @@ ghost use Rattle.laz_models.specs.BitCounting.{fresh_bit};
 ghost use Rattle.laz_models.specs.Counting.{fresh};
 ghost use Rattle.laz_models.specs.Dist.{size_of};
 ghost use Rattle.laz_integer.specs.Corrector.{choices};
-ghost use Rattle.laz_integer.specs.Integer.{IsIntState, SameShape, IsCorrector, symbol_cut, high_at, wide_cuts, rest_cuts, rest_next, int_cuts, int_next, width_counted, high_counted, int_sizes};
+ghost use Rattle.laz_integer.specs.Integer.{IsIntState, SameShape, IsCorrector, symbol_cut, high_at, symbol_counted, rest_events, events_cuts, events_next, int_cuts, int_next, int_sizes};
 ghost use Rattle.laz_integer.specs.Models.{state_of};
 
 use crate::symbols::{put_bit, put_symbol_of, take_bit, take_symbol_of};
@@ -63,7 +64,7 @@ fn take_width(models: &mut Models, decoder: &mut Decoder<'_>, ctx: u32) -> Resul
     requires state { IsIntState (state_of models.old) }
     requires context { ctx < models.old.contexts }
     ensures reads { Reads result (λ k. k ≤ models.old.bits) (λ k. symbol_cut (model_at models.old.bank ctx) k ∷ []) decoder.old decoder.new }
-    ensures next { IfOk result (λ k. state_of models.new ≡ width_counted (state_of models.old) ctx k) }
+    ensures next { IfOk result (λ k. state_of models.new ≡ symbol_counted (state_of models.old) ctx k) }
     ensures kept { OnErr result (state_of models.new ≡ state_of models.old) }
     ensures shape { SameShape (state_of models.old) (state_of models.new) }
     ensures state { IsIntState (state_of models.new) }
@@ -79,7 +80,7 @@ fn take_high(models: &mut Models, decoder: &mut Decoder<'_>, k: u32) -> Result<u
     requires some { 0 < k }
     requires range { k ≤ models.old.bits }
     ensures reads { Reads result (λ s. s < 2 ^ min k 8) (λ s. symbol_cut (high_at (state_of models.old) k) s ∷ []) decoder.old decoder.new }
-    ensures next { IfOk result (λ s. state_of models.new ≡ high_counted (state_of models.old) k s) }
+    ensures next { IfOk result (λ s. state_of models.new ≡ symbol_counted (state_of models.old) (models.old.contexts + (k - 1)) s) }
     ensures kept { OnErr result (state_of models.new ≡ state_of models.old) }
     ensures shape { SameShape (state_of models.old) (state_of models.new) }
     ensures state { IsIntState (state_of models.new) }
@@ -95,8 +96,8 @@ fn take_wide(models: &mut Models, decoder: &mut Decoder<'_>, k: u32) -> Result<u
     requires wide { 8 < k }
     requires small { k < 32 }
     requires range { k ≤ models.old.bits }
-    ensures reads { Reads result (λ v. v < 2 ^ k) (wide_cuts (state_of models.old) k) decoder.old decoder.new }
-    ensures next { IfOk result (λ v. state_of models.new ≡ high_counted (state_of models.old) k (v / 2 ^ (k - 8))) }
+    ensures reads { Reads result (λ v. v < 2 ^ k) (λ v. symbol_cut (high_at (state_of models.old) k) (v / 2 ^ (k - 8)) ∷ raw_cuts (k - 8) (v % 2 ^ (k - 8))) decoder.old decoder.new }
+    ensures next { IfOk result (λ v. state_of models.new ≡ symbol_counted (state_of models.old) (models.old.contexts + (k - 1)) (v / 2 ^ (k - 8))) }
     ensures shape { SameShape (state_of models.old) (state_of models.new) }
     ensures state { IsIntState (state_of models.new) }
 {
@@ -112,8 +113,8 @@ fn take_rest(models: &mut Models, decoder: &mut Decoder<'_>, k: u32) -> Result<u
     requires within { decoder.old.taken ≤ length decoder.old.bytes }
     requires state { IsIntState (state_of models.old) }
     requires range { k ≤ models.old.bits }
-    ensures reads { Reads result (λ v. v < choices k) (rest_cuts (state_of models.old) k) decoder.old decoder.new }
-    ensures next { IfOk result (λ v. state_of models.new ≡ rest_next (state_of models.old) k v) }
+    ensures reads { Reads result (λ v. v < choices k) (λ v. events_cuts (state_of models.old) (rest_events [] k v)) decoder.old decoder.new }
+    ensures next { IfOk result (λ v. state_of models.new ≡ events_next (state_of models.old) (rest_events [] k v)) }
     ensures shape { SameShape (state_of models.old) (state_of models.new) }
     ensures state { IsIntState (state_of models.new) }
 {
@@ -155,7 +156,7 @@ fn put_high(models: &mut Models, encoder: &mut Encoder, k: u32, s: u32)
     requires symbol { s < 2 ^ min k 8 }
     requires left { 3 ≤ encoder.old.left }
     ensures codes { Codes encoder.old encoder.new (symbol_cut (high_at (state_of models.old) k) s ∷ []) }
-    ensures next { state_of models.new ≡ high_counted (state_of models.old) k s }
+    ensures next { state_of models.new ≡ symbol_counted (state_of models.old) (models.old.contexts + (k - 1)) s }
     ensures shape { SameShape (state_of models.old) (state_of models.new) }
     ensures state { IsIntState (state_of models.new) }
 {
@@ -169,8 +170,8 @@ fn put_rest(models: &mut Models, encoder: &mut Encoder, k: u32, v: u32)
     requires range { k ≤ models.old.bits }
     requires value { v < choices k }
     requires left { 7 ≤ encoder.old.left }
-    ensures codes { Codes encoder.old encoder.new (rest_cuts (state_of models.old) k v) }
-    ensures next { state_of models.new ≡ rest_next (state_of models.old) k v }
+    ensures codes { Codes encoder.old encoder.new (events_cuts (state_of models.old) (rest_events [] k v)) }
+    ensures next { state_of models.new ≡ events_next (state_of models.old) (rest_events [] k v) }
     ensures shape { SameShape (state_of models.old) (state_of models.new) }
     ensures state { IsIntState (state_of models.new) }
 {

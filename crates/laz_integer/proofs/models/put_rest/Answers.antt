@@ -7,7 +7,7 @@ use Rattle.laz_integer.specs.Integer.{symbol_cut, high_at}
 use Rattle.laz_integer.specs.Models.{state_of}
 use Rattle.laz_integer.proofs.Correctors.{choices-more}
 use Rattle.laz_integer.proofs.Choices.{cuts-zero, cuts-most, cuts-narrow, cuts-wide, next-zero, next-most, next-narrow, next-wide, wide_parts}
-use Rattle.laz_integer.proofs.Sounds.{IsIntState-bit}
+use Rattle.laz_integer.proofs.Sounds.{IsIntState-flag}
 use Rattle.laz_integer.proofs.models.put_rest.Goals as goal
 
 pub returns-then-k-eq0-clause-codes : goal.returns-then-k-eq0-clause-codes
@@ -53,4 +53,4 @@ returns-clause-next c =
     rw (next-wide (state_of c.args.models.now) c.args.k c.args.v c.if-k-le8.false small) c.put_high-2.ensures.next
 
 pub returns-then-k-eq0-clause-state : goal.returns-then-k-eq0-clause-state
-returns-then-k-eq0-clause-state c = rw c.put_bit.ensures.counted (IsIntState-bit (state_of c.args.models.now) c.args.v c.requires.state)
+returns-then-k-eq0-clause-state c = rw c.put_bit.ensures.counted (IsIntState-flag (state_of c.args.models.now) _ c.requires.state)

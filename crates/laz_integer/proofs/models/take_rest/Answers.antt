@@ -1,10 +1,9 @@
 use Rattle.std.proofs.Common.{◌≡◌, ◌^◌, ◌<◌, ◌∙◌, ap, sym, refl, min, arith}
 use Rattle.std.proofs.lemmas.Result.{err_from_is_err_and, IfOk-weaker}
 use Rattle.laz_integer.specs.Corrector.{choices}
-use Rattle.laz_integer.specs.Integer.{rest_next}
 use Rattle.laz_integer.specs.Models.{state_of}
 use Rattle.laz_integer.proofs.Correctors.{choices-more}
-use Rattle.laz_integer.proofs.Choices.{Reads-equal, zero-takes, zero-none, most-takes, bit_back, cuts-narrow, cuts-wide, next-most, next-narrow, next-wide}
+use Rattle.laz_integer.proofs.Choices.{Reads-equal, zero-takes, zero-none, most-takes, bit_back, cuts-narrow, cuts-wide, next-zero, next-most, next-narrow, next-wide}
 use Rattle.laz_integer.proofs.Sounds.{bit-after}
 use Rattle.laz_integer.proofs.models.take_rest.Goals as goal
 
@@ -18,8 +17,7 @@ returns-then-k-eq0-clause-reads c =
     rw c.if-k-eq0.true (zero-takes (state_of c.args.models.now) c.in_ok-bit.bit c.args.decoder.now c.take_bit.new.decoder c.in_ok-bit.ensures.reads)
 
 pub returns-then-k-eq0-clause-next : goal.returns-then-k-eq0-clause-next
-unfolding rest_next
-returns-then-k-eq0-clause-next c = rw (c.if-k-eq0.true, bit_back c.in_ok-bit.bit, c.in_ok-bit.ensures.counted) refl
+returns-then-k-eq0-clause-next c = rw (c.if-k-eq0.true, next-zero, bit_back c.in_ok-bit.bit, c.in_ok-bit.ensures.counted) refl
 
 pub returns-then-k-eq32-clause-reads : goal.returns-then-k-eq32-clause-reads
 returns-then-k-eq32-clause-reads c = rw c.if-k-eq32.true (most-takes (state_of c.args.models.now) c.args.decoder.now c.requires.within c.requires.good)

@@ -30,7 +30,7 @@ returns-clause-spells c kind =
     rw (← c.self.view_is) (written-spells kind st.bits c.args.ctx c.args.pred c.args.real c.split-k.result.0 c.split-k.result.1 split.digits split.value written makes)
 
 pub returns-clause-used : goal.returns-clause-used
-returns-clause-used c = int-used (state_of c.self.inside.models) c.args.ctx c.split-k.result.0 c.split-k.result.1 _ _ c.put.ensures.codes
+returns-clause-used c = int-used (state_of c.self.inside.models) c.args.ctx c.split-k.result.0 c.split-k.result.1 _ _ (omega (arith, c.split-k.ensures.digits, c.self.invariant.few)) c.put.ensures.codes
 
 pub returns-clause-short : goal.returns-clause-short
 returns-clause-short c few =
