@@ -1,4 +1,4 @@
-use Rattle.std.specs.Prelude.{◌≡◌, ℕ, ℤ, ◌+◌, ◌-◌, ◌/◌, ◌%◌, ◌^◌, ◌<◌, ◌≤◌, ◌==◌, min, Bool, List, [], ◌∷◌, ◌++◌, map, replicate, nat_le, if◌then◌else◌, slice_set}
+use Rattle.std.specs.Prelude.{◌≡◌, ℕ, ℤ, ◌+◌, ◌-◌, ◌/◌, ◌%◌, ◌^◌, ◌<◌, ◌≤◌, ◌==◌, min, Bool, List, [], ◌∷◌, ◌++◌, map, count_by, replicate, nat_le, if◌then◌else◌, slice_set}
 use Rattle.std.specs.List.{range_with_len}
 use Rattle.laz_range.specs.Cut.{Cut, Bit, Raw, symbol}
 use Rattle.laz_range.specs.Span.{Begins, span}
@@ -94,6 +94,10 @@ pub record IsInts (n m : ℕ) (st : IntState) : Type 0 where
 -- The part of a symbol under a model.
 abbrev pub symbol_cut : Counting → ℕ → Cut
 symbol_cut m s = symbol m.parts s
+
+-- The symbol whose part a place lies in, by where the parts begin: the last one that begins there or before.
+abbrev pub symbol_at : List ℕ → ℕ → ℕ
+symbol_at parts place = count_by (λ start. nat_le start place) parts - 1
 
 -- The model of the high digits of width k.
 abbrev pub high_at : IntState → ℕ → Counting

@@ -105,7 +105,7 @@ impl IntModel {
         requires good { decoder.old.failed ≡ false }
         requires context { ctx < self.old.contexts }
         requires pred { HasBits self.old.bits pred }
-        ensures reads { MatchResult result (λ x. (v : ℕ) × Takes (IsCorrector self.old.bits) (λ y. int_cuts self.old ctx y.0 y.1) decoder.old decoder.new (x.1, v) × (x.0 ≡ corrected self.old.bits pred x.1 v) × (self.new ≡ int_next self.old ctx x.1 v)) (λ _. TakesNone (IsCorrector self.old.bits) (λ y. int_cuts self.old ctx y.0 y.1) decoder.old decoder.new) }
+        ensures reads { MatchResult result (λ x. ReadsCorrector self.old.bits self.old ctx pred x.0 x.1 decoder.old decoder.new self.new) (λ _. TakesNone (IsCorrector self.old.bits) (λ y. int_cuts self.old ctx y.0 y.1) decoder.old decoder.new) }
         ensures spelled { (kind : List ℕ) (earlier : List Event) → IntStands kind earlier self.old → IfOk result (λ x. ReadsInt kind earlier self.old.bits ctx pred x.0 x.1 decoder.old decoder.new self.new) }
         ensures none { (kind : List ℕ) (earlier : List Event) → IntStands kind earlier self.old → OnErr result (NoInt kind earlier self.old.bits ctx pred decoder.old) }
         ensures fixed { (bits : ℕ) → self.old.bits ≡ bits → MatchResult result (λ x. ReadsCorrector bits self.old ctx pred x.0 x.1 decoder.old decoder.new self.new) (λ _. TakesNone (IsCorrector bits) (λ y. int_cuts self.old ctx y.0 y.1) decoder.old decoder.new) }

@@ -8,8 +8,7 @@ ghost use Rattle.laz_models.specs.BitCounting.{bit_counted};
 ghost use Rattle.laz_models.specs.BitDist.{BitStandsFor, p0_of};
 ghost use Rattle.laz_models.specs.Counting.{counted};
 ghost use Rattle.laz_models.specs.Dist.{StandsFor, dist, size_of};
-ghost use Rattle.laz_models.specs.Lookup.{IsLastAt};
-ghost use Rattle.laz_integer.specs.Integer.{symbol_cut};
+ghost use Rattle.laz_integer.specs.Integer.{symbol_at, symbol_cut};
 
 use laz_models::{BitModel, ModelBank, SymbolModel};
 use laz_range::{Bad, Decoder, Encoder};
@@ -21,6 +20,7 @@ pub fn put_symbol(encoder: &mut Encoder, model: &mut SymbolModel, s: u32)
     requires left { 3 ≤ encoder.old.left }
     ensures codes { Codes encoder.old encoder.new (symbol_cut model.old s ∷ []) }
     ensures counted { model.new ≡ counted model.old s }
+    ensures size { size_of model.new ≡ size_of model.old }
     ensures dist { (h : List ℕ) → StandsFor h model.old → Codes encoder.old encoder.new (symbol (dist (size_of model.old) h) s ∷ []) }
     ensures stands { (h : List ℕ) → StandsFor h model.old → StandsFor (h ++ s ∷ []) model.new }
 {
@@ -34,9 +34,10 @@ pub fn put_symbol(encoder: &mut Encoder, model: &mut SymbolModel, s: u32)
 pub fn take_symbol(decoder: &mut Decoder<'_>, model: &mut SymbolModel) -> Result<u32, Bad>
     requires { decoder.old.failed ≡ false }
     ensures reads { Reads result (λ s. s < size_of model.old) (λ s. symbol_cut model.old s ∷ []) decoder.old decoder.new }
-    ensures bad { (s : ℕ) → IsLastAt model.old.parts (place_of decoder.old) s → IsErr result ↔ RunsOut decoder.old (symbol_cut model.old s) }
+    ensures bad { IsErr result ↔ RunsOut decoder.old (symbol_cut model.old (symbol_at model.old.parts (place_of decoder.old))) }
     ensures counted { IfOk result (λ s. model.new ≡ counted model.old s) }
     ensures kept { OnErr result (model.new ≡ model.old) }
+    ensures size { size_of model.new ≡ size_of model.old }
     ensures read { (h : List ℕ) → StandsFor h model.old → IfOk result (λ s. ReadsOn (symbol (dist (size_of model.old) h) s ∷ []) decoder.old decoder.new) }
     ensures stands { (h : List ℕ) → StandsFor h model.old → IfOk result (λ s. StandsFor (h ++ s ∷ []) model.new) }
     ensures none { (h : List ℕ) → StandsFor h model.old → OnErr result (NoneBegins (λ s. s < size_of model.old) (λ s. symbol (dist (size_of model.old) h) s ∷ []) decoder.old) }
@@ -74,7 +75,7 @@ pub fn take_symbol_of(decoder: &mut Decoder<'_>, bank: &mut ModelBank, m: u32) -
     requires good { decoder.old.failed ≡ false }
     requires model { m < length bank.old }
     ensures reads { Reads result (λ s. s < size_of (model_at bank.old m)) (λ s. symbol_cut (model_at bank.old m) s ∷ []) decoder.old decoder.new }
-    ensures bad { (s : ℕ) → IsLastAt (model_at bank.old m).parts (place_of decoder.old) s → IsErr result ↔ RunsOut decoder.old (symbol_cut (model_at bank.old m) s) }
+    ensures bad { IsErr result ↔ RunsOut decoder.old (symbol_cut (model_at bank.old m) (symbol_at (model_at bank.old m).parts (place_of decoder.old))) }
     ensures counted { IfOk result (λ s. bank.new ≡ slice_set bank.old m (counted (model_at bank.old m) s)) }
     ensures kept { OnErr result (bank.new ≡ bank.old) }
     ensures read { (h : List ℕ) → StandsFor h (model_at bank.old m) → IfOk result (λ s. ReadsOn (symbol (dist (size_of (model_at bank.old m)) h) s ∷ []) decoder.old decoder.new) }

@@ -1,6 +1,9 @@
-use Rattle.std.proofs.Common.{◌<◌, length, arith}
+use Rattle.std.proofs.Common.{◌≡◌, ℕ, ◌<◌, ◌↔◌, true, false, length, arith, sym, subst}
+use Rattle.laz_range.specs.Decoding.{RunsOut, place_of}
 use Rattle.std.proofs.lemmas.Result.{err_from_is_err_and}
-use Rattle.laz_integer.proofs.SymbolParts.{symbol-takes, symbol-none, symbol-read, symbol-nothing}
+use Rattle.laz_models.specs.Lookup.{IsLastAt}
+use Rattle.laz_integer.specs.Integer.{symbol_at, symbol_cut}
+use Rattle.laz_integer.proofs.SymbolParts.{symbol_at-last, symbol-takes, symbol-none, symbol-read, symbol-nothing}
 use Rattle.laz_integer.proofs.symbols.take_symbol.Goals as goal
 
 pub returns-in_err-take15-clause-reads : goal.returns-in_err-take15-clause-reads
@@ -29,3 +32,20 @@ returns-clause-reads c =
 pub returns-clause-read : goal.returns-clause-read
 returns-clause-read c h stands =
     symbol-read c.args.model.now c.args.decoder.now c.take15.new.self c.find-s.result h c.find-s.ensures.parts stands (returns-clause-reads c)
+
+pub returns-in_err-take15-clause-bad : goal.returns-in_err-take15-clause-bad
+returns-in_err-take15-clause-bad c =
+    let p = err_from_is_err_and c.from_residual.result c.from_residual.ensures.1 in
+    let m = c.args.model.now in
+    let last : IsLastAt m.parts (place_of c.args.decoder.now) c.find-s.result = rw c.at15.ensures.place at c.find-s.ensures.last in
+    let same : symbol_at m.parts (place_of c.args.decoder.now) ≡ c.find-s.result = symbol_at-last _ m.parts (place_of c.args.decoder.now) c.find-s.result c.find-s.ensures.parts last in
+    let here = rw (c.part-lo.ensures.start, c.part-lo.ensures.end) at c.in_err-take15.ensures.bad in
+    rw p.1 (subst (λ (t : ℕ). (true ≡ true) ↔ RunsOut c.args.decoder.now (symbol_cut m t)) (sym same) here)
+
+pub returns-clause-bad : goal.returns-clause-bad
+returns-clause-bad c =
+    let m = c.args.model.now in
+    let last : IsLastAt m.parts (place_of c.args.decoder.now) c.find-s.result = rw c.at15.ensures.place at c.find-s.ensures.last in
+    let same : symbol_at m.parts (place_of c.args.decoder.now) ≡ c.find-s.result = symbol_at-last _ m.parts (place_of c.args.decoder.now) c.find-s.result c.find-s.ensures.parts last in
+    let here = rw (c.part-lo.ensures.start, c.part-lo.ensures.end) at c.in_ok-take15.ensures.bad in
+    subst (λ (t : ℕ). (false ≡ true) ↔ RunsOut c.args.decoder.now (symbol_cut m t)) (sym same) here

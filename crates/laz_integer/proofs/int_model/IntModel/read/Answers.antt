@@ -10,7 +10,13 @@ returns-in_err-k-clause-none c kind earlier h =
     rw (p.1, ← c.self.view_is) (no-int kind earlier st c.args.ctx c.args.pred c.args.decoder.now c.take.new.decoder c.self.invariant (rw (← c.self.view_is) at c.requires.context) (rw (← c.self.view_is) at h) c.in_err-k.ensures.reads)
 
 pub returns-clause-reads : goal.returns-clause-reads
-returns-clause-reads c = rw (← c.self.view_is) (c.in_ok-k.v, c.in_ok-k.ensures.reads, corrected-passed c.self.inside.models.bits c.args.pred c.in_ok-k.k c.in_ok-k.v c.correct.result c.self.invariant.few c.ranges.pred c.correct.ensures, c.in_ok-k.ensures.next)
+returns-clause-reads c =
+    rw (← c.self.view_is) (record {
+      v = c.in_ok-k.v;
+      takes = c.in_ok-k.ensures.reads;
+      makes = corrected-passed c.self.inside.models.bits c.args.pred c.in_ok-k.k c.in_ok-k.v c.correct.result c.self.invariant.few c.ranges.pred c.correct.ensures;
+      counts = c.in_ok-k.ensures.next;
+    })
 
 pub returns-clause-spelled : goal.returns-clause-spelled
 returns-clause-spelled c kind earlier h =
