@@ -1,6 +1,6 @@
 //! Symbols of 256 through a bank of models, each under the model that the one before it chooses.
 ghost use Rattle.std.specs.Prelude.{◌≡◌, ◌*◌, ◌≤◌, false, length, replicate};
-ghost use Rattle.laz_models.specs.Bank.{sizes_of};
+ghost use Rattle.laz_models.specs.Bank.{alphabet_sizes};
 
 use crate::draws::{add, checksum};
 use crate::range::{are_starts, drawn, located, locates, skewed};
@@ -13,7 +13,7 @@ use std::rt::Clock;
 use std::time::Instant;
 
 fn code_all(encoder: &mut Encoder, bank: &mut ModelBank, symbols: &[u8])
-    requires sizes { sizes_of bank.old ≡ replicate 8 256 }
+    requires sizes { alphabet_sizes bank.old ≡ replicate 8 256 }
     requires left { 3 * length symbols.now ≤ encoder.old.left }
 {
     let mut before = 0;
@@ -27,7 +27,7 @@ fn code_all(encoder: &mut Encoder, bank: &mut ModelBank, symbols: &[u8])
 /// A checksum of the symbols that are read.
 fn read_all(decoder: &mut Decoder<'_>, bank: &mut ModelBank, count: u32) -> Result<u64, Bad>
     requires good { decoder.old.failed ≡ false }
-    requires sizes { sizes_of bank.old ≡ replicate 8 256 }
+    requires sizes { alphabet_sizes bank.old ≡ replicate 8 256 }
 {
     let mut sum: u64 = 0;
     let mut before = 0;

@@ -5,7 +5,7 @@ use Rattle.std.specs.List.{AllByRecursion}
 use Rattle.laz_range.specs.Cut.{AreCuts, IsCut}
 use Rattle.laz_range.proofs.Cuts.{raw_high}
 use Rattle.laz_models.specs.Bank.{model_at}
-use Rattle.laz_models.specs.Dist.{size_of}
+use Rattle.laz_models.specs.Dist.{alphabet_size}
 use Rattle.laz_integer.specs.Corrector.{choices}
 use Rattle.laz_integer.specs.Events.{Event, Symbol, Flag, Bits, Role, Own, Width, ZeroOrOne, High, raw_events}
 use Rattle.laz_integer.specs.Integer.{IntState, IsInts, bit_name, corrector_events, rest_events, event_cut, event_next, events_cuts, high_at}
@@ -79,10 +79,10 @@ IsCut-symbol st bits contexts Own kind which n s is asked = absurd asked
 IsCut-symbol st bits contexts ZeroOrOne kind which n s is asked = absurd asked
 IsCut-symbol st bits contexts Width kind which n s is asked =
     let within : which < st.contexts = omega (arith, asked.0, is.contexts) in
-    (AreCuts-symbol (size_of (model_at st.bank which)) (model_at st.bank which).parts s (is.state.sound which (omega (arith, models-count st is.state, within))).parts (omega (arith, asked.1, asked.2, is.bits, width-size st which is.state within))).0
+    (AreCuts-symbol (alphabet_size (model_at st.bank which)) (model_at st.bank which).starts s (is.state.sound which (omega (arith, models-count st is.state, within))).starts (omega (arith, asked.1, asked.2, is.bits, width-size st which is.state within))).0
 IsCut-symbol st bits contexts High kind which n s is asked =
     let small : which ≤ st.bits = omega (arith, asked.1, is.bits) in
-    (AreCuts-symbol (size_of (high_at st which)) (high_at st which).parts s (is.state.sound (st.contexts + (which - 1)) (high-in st which is.state asked.0 small)).parts (omega (arith, asked.2, asked.3, high-size st which is.state asked.0 small))).0
+    (AreCuts-symbol (alphabet_size (high_at st which)) (high_at st which).starts s (is.state.sound (st.contexts + (which - 1)) (high-in st which is.state asked.0 small)).starts (omega (arith, asked.2, asked.3, high-size st which is.state asked.0 small))).0
 
 IsCut-event : (kind : List ℕ) (st : IntState) (bits contexts : ℕ) (e : Event) → IsInts bits contexts st → IsIntEvent kind bits contexts e → IsCut (event_cut st e)
 IsCut-event kind st bits contexts (Symbol name n s) is asked = IsCut-symbol st bits contexts name.role name.kind name.which n s is asked.1

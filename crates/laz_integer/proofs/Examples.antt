@@ -1,7 +1,8 @@
 use Rattle.std.proofs.Common.{◌≡◌, ℕ, pos, negsuc, true, false, List, [], ◌∷◌, refl}
-use Rattle.laz_range.specs.Span.{span, bytes_of, renewed, narrowed}
-use Rattle.laz_models.specs.Counting.{parts_of}
-use Rattle.laz_models.specs.Dist.{counts_at, cycle_in}
+use Rattle.laz_range.specs.Span.{span, bytes_of, renormal_step, subspan}
+use Rattle.laz_models.specs.Counting.{starts_of}
+use Rattle.laz_models.specs.Cycles.{cycle_in}
+use Rattle.laz_models.specs.Dist.{counts_at}
 use Rattle.laz_integer.specs.Corrector.{digits_within, width_of, place_of, corrector, corrected}
 use Rattle.laz_integer.specs.Events.{Symbol, Flag, Bits, cuts_of}
 use Rattle.laz_integer.specs.Integer.{IntEvents, width_name, bit_name, high_name, rest_events}
@@ -16,7 +17,7 @@ unfolding digits_within width_of place_of rest_events
 least = refl
 
 least_bytes : bytes_of (span (cuts_of (IntEvents x 32 0 (pos 0) (negsuc 2147483647)))) ≡ 249 ∷ 0 ∷ 0 ∷ 0 ∷ []
-unfolding digits_within width_of place_of rest_events renewed narrowed parts_of counts_at cycle_in
+unfolding digits_within width_of place_of rest_events renormal_step subspan starts_of counts_at cycle_in
 least_bytes = refl
 
 -- a corrector of 2 ^ 20
@@ -35,7 +36,7 @@ unfolding digits_within width_of place_of rest_events
 minus_one = refl
 
 minus_one_bytes : bytes_of (span (cuts_of (IntEvents x 16 0 (pos 0) (pos 65535)))) ≡ 16 ∷ 0 ∷ 0 ∷ 0 ∷ []
-unfolding digits_within width_of place_of rest_events renewed narrowed parts_of counts_at cycle_in
+unfolding digits_within width_of place_of rest_events renormal_step subspan starts_of counts_at cycle_in
 minus_one_bytes = refl
 
 -- correctors of 0, 1, 2 and -1: the bit 0, the bit 1, width 1 and width 1

@@ -3,8 +3,8 @@ use Rattle.std.proofs.Common.{◌≡◌, ℕ, ◌<◌, ◌≤◌, Bool, true, fa
 use Rattle.std.proofs.lemmas.Bool.{cases_eq, and_from, and_left, eq-eqb, ne_eqb}
 use Rattle.std.proofs.lemmas.List.{append-nil, get_or-set_same, get_or-set_other, length-set}
 use Rattle.laz_range.specs.Cut.{Cut, raw_cuts}
-use Rattle.laz_models.specs.Counting.{Counting, counted, fresh}
-use Rattle.laz_models.specs.Dist.{size_of}
+use Rattle.laz_models.specs.Counting.{Counting, after_symbol, new_model}
+use Rattle.laz_models.specs.Dist.{alphabet_size}
 use Rattle.laz_models.specs.Bank.{model_at}
 use Rattle.laz_models.proofs.Banks.{StandsFor-push}
 use Rattle.laz_integer.specs.Events.{Event, Symbol, same_text, same_name, symbols_under, cuts_behind, raw_events}
@@ -90,8 +90,8 @@ frame-bank kind bank earlier others silent h = bank-silent kind bank earlier oth
 pub frame-int : (kind : List ℕ) (st : IntState) (earlier others : List Event) → AllSilent (kind ∷ []) others → IntStands kind earlier st → IntStands kind (earlier ++ others) st
 frame-int kind st earlier others silent h = int-silent kind st earlier others silent.0 h
 
-pub Piece-symbol : (kind : List ℕ) (bank : List Counting) (m n s : ℕ) → m < length bank → size_of (model_at bank m) ≡ n → 2 ≤ n → s < n
-    → Piece (kind ∷ []) (Symbol (own_name kind m) n s ∷ []) (symbol_cut (model_at bank m) s ∷ []) (λ l. BankStands kind l bank) (λ l. BankStands kind l (set bank m (counted (model_at bank m) s)))
+pub Piece-symbol : (kind : List ℕ) (bank : List Counting) (m n s : ℕ) → m < length bank → alphabet_size (model_at bank m) ≡ n → 2 ≤ n → s < n
+    → Piece (kind ∷ []) (Symbol (own_name kind m) n s ∷ []) (symbol_cut (model_at bank m) s ∷ []) (λ l. BankStands kind l bank) (λ l. BankStands kind l (set bank m (after_symbol (model_at bank m) s)))
 Piece-symbol kind bank m n s within size many small =
     record {
       own = λ other e. Silent-other other kind (Symbol (own_name kind m) n s ∷ []) (other_than other kind e) (refl, tt);
@@ -99,14 +99,14 @@ Piece-symbol kind bank m n s within size many small =
       stands = λ earlier h j inside.
           ⊎_elim
           (λ (same : j ≡ m).
-          rw (same, symbols-with (own_name kind m) (own_name kind m) n s earlier (same_own kind m), get_or-set_same bank m (counted (model_at bank m) s) (fresh 2) within)
+          rw (same, symbols-with (own_name kind m) (own_name kind m) n s earlier (same_own kind m), get_or-set_same bank m (after_symbol (model_at bank m) s) (new_model 2) within)
           (StandsFor-push (symbols_under (own_name kind m) earlier) s (model_at bank m) (omega (arith, size, many)) (omega (arith, size, small)) (h m within)))
           (λ (ne : j ≡ m → ⊥).
-          rw (symbols-without (own_name kind j) (own_name kind m) n s earlier (other_own kind j m ne), get_or-set_other bank m j (counted (model_at bank m) s) (fresh 2) ne)
-          (h j (omega (arith, inside, length-set bank m (counted (model_at bank m) s)))))
+          rw (symbols-without (own_name kind j) (own_name kind m) n s earlier (other_own kind j m ne), get_or-set_other bank m j (after_symbol (model_at bank m) s) (new_model 2) ne)
+          (h j (omega (arith, inside, length-set bank m (after_symbol (model_at bank m) s)))))
           (cases_eq j m);
       before = frame-bank kind bank;
-      after = frame-bank kind (set bank m (counted (model_at bank m) s));
+      after = frame-bank kind (set bank m (after_symbol (model_at bank m) s));
     }
 
 -- ---- an integer
@@ -125,7 +125,7 @@ Piece-int kind st n ctx k v is bits within asked =
     }
 
 -- ---- a byte, if it is marked
-pub Piece-byte : (marked : Bool) (kind : List ℕ) (bank : List Counting) (m expected s : ℕ) → m < length bank → size_of (model_at bank m) ≡ 256 → IsByte marked expected s
+pub Piece-byte : (marked : Bool) (kind : List ℕ) (bank : List Counting) (m expected s : ℕ) → m < length bank → alphabet_size (model_at bank m) ≡ 256 → IsByte marked expected s
     → Piece (kind ∷ []) (where_marked marked (byte_events kind m s)) (byte_cuts marked bank m s) (λ l. BankStands kind l bank) (λ l. BankStands kind l (byte_next marked bank m s))
 Piece-byte true kind bank m expected s within size asked = Piece-symbol kind bank m 256 s within size (omega arith) asked
 Piece-byte false kind bank m expected s within size asked = Piece-none (kind ∷ []) (λ l. BankStands kind l bank) (frame-bank kind bank)

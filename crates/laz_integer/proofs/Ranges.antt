@@ -7,13 +7,13 @@ use Rattle.laz_range.specs.Cut.{Cut, Bit, Raw, AreCuts, AreAlike, IsCut, symbol}
 use Rattle.laz_range.specs.Span.{Begins, span}
 use Rattle.laz_range.proofs.Distributions.{AreAlike-symbols}
 use Rattle.laz_range.proofs.Cuts.{raw_high}
-use Rattle.laz_models.specs.Counting.{Counting, AreParts, counted, fresh}
-use Rattle.laz_models.specs.BitCounting.{BitCounting, IsBitCounting, bit_counted, fresh_bit}
-use Rattle.laz_models.specs.Dist.{Stands, dist, size_of}
+use Rattle.laz_models.specs.Counting.{Counting, AreStarts, after_symbol, new_model}
+use Rattle.laz_models.specs.BitCounting.{BitCounting, IsBitCounting, after_bit, new_bit_model}
+use Rattle.laz_models.specs.Dist.{Stands, dist, alphabet_size}
 use Rattle.laz_models.specs.BitDist.{BitStandsFor, p0_of}
-use Rattle.laz_models.proofs.Stand.{Stands-push, Stands-fresh}
-use Rattle.laz_models.proofs.BitStand.{BitStandsFor-push, BitStandsFor-fresh}
-use Rattle.laz_models.proofs.Banks.{size-counted, size-fresh}
+use Rattle.laz_models.proofs.Stand.{Stands-push, Stands-new_model}
+use Rattle.laz_models.proofs.BitStand.{BitStandsFor-push, BitStandsFor-new_bit_model}
+use Rattle.laz_models.proofs.Banks.{size-after_symbol, size-new_model}
 use Rattle.laz_models.specs.Sound.{IsSound}
 use Rattle.laz_integer.specs.Corrector.{choices}
 use Rattle.laz_integer.specs.Events.{Event, Symbol, Flag, Bits, Name, Role, Own, Width, ZeroOrOne, High, same_role, same_text, same_name, symbols_under, bits_under, cut_behind, cuts_behind, cuts_of, raw_events}
@@ -21,8 +21,8 @@ use Rattle.laz_integer.specs.Integer.{IntSpell, corrector_events}
 use Rattle.laz_integer.specs.Ranged.{IsRanged, AreRanged, AreOneKind, HasIntSizes}
 use Rattle.laz_integer.specs.Uses.{name_of, own_name}
 use Rattle.laz_integer.specs.Fields.{SpellsByte, SpellsWord}
-use Rattle.laz_models.proofs.Sounds.{IsSound-fresh, IsSound-counted, IsBitCounting-counted, IsBitCounting-fresh}
-use Rattle.laz_integer.proofs.SymbolParts.{AreCuts-symbol, IsDistribution-parts, symbol_back}
+use Rattle.laz_models.proofs.Sounds.{IsSound-new_model, IsSound-after_symbol, IsBitCounting-after_bit, IsBitCounting-new_bit_model}
+use Rattle.laz_integer.proofs.SymbolParts.{AreCuts-symbol, IsDistribution-starts, symbol_back}
 use Rattle.laz_integer.proofs.Correctors.{power-le}
 use Rattle.laz_integer.proofs.Counted.{IsIntSymbol, AreIntEvents, corrector-events}
 use Rattle.laz_integer.proofs.Named.{cuts_behind-append, raw-wide, raw-short}
@@ -99,32 +99,32 @@ under-below sizes name (Bits b v ∷ events) h = under-below sizes name events h
 -- ---- the parts of every list of symbols are a distribution
 abbrev pub counted_all : Counting → List ℕ → Counting
 counted_all m [] = m
-counted_all m (s ∷ xs) = counted_all (counted m s) xs
+counted_all m (s ∷ xs) = counted_all (after_symbol m s) xs
 
-stands-all : (n : ℕ) (h xs : List ℕ) (m : Counting) → 2 ≤ n → size_of m ≡ n → Stands n h m → IsSound m → AreBelow n xs → Stands n (h ++ xs) (counted_all m xs) × IsSound (counted_all m xs) × (size_of (counted_all m xs) ≡ n)
+stands-all : (n : ℕ) (h xs : List ℕ) (m : Counting) → 2 ≤ n → alphabet_size m ≡ n → Stands n h m → IsSound m → AreBelow n xs → Stands n (h ++ xs) (counted_all m xs) × IsSound (counted_all m xs) × (alphabet_size (counted_all m xs) ≡ n)
 stands-all n h [] m many size stands sound all = (subst (λ l. Stands n l m) (sym (append-nil h)) stands, sound, size)
 stands-all n h (s ∷ xs) m many size stands sound all =
-    let rest = stands-all n (h ++ s ∷ []) xs (counted m s) many (size-counted m s ∙ size) (Stands-push n h s m many all.0 stands) (IsSound-counted m s sound (omega (arith, all.0, size))) all.1 in
-    (subst (λ l. Stands n l (counted_all (counted m s) xs)) (append_assoc h (s ∷ []) xs) rest.0, rest.1, rest.2)
+    let rest = stands-all n (h ++ s ∷ []) xs (after_symbol m s) many (size-after_symbol m s ∙ size) (Stands-push n h s m many all.0 stands) (IsSound-after_symbol m s sound (omega (arith, all.0, size))) all.1 in
+    (subst (λ l. Stands n l (counted_all (after_symbol m s) xs)) (append_assoc h (s ∷ []) xs) rest.0, rest.1, rest.2)
 
-pub dist-parts : (n : ℕ) (h : List ℕ) → 2 ≤ n → n ≤ 2048 → AreBelow n h → AreParts n (dist n h)
+pub dist-parts : (n : ℕ) (h : List ℕ) → 2 ≤ n → n ≤ 2048 → AreBelow n h → AreStarts n (dist n h)
 dist-parts n h many few all =
-    let r = stands-all n [] h (fresh n) many (size-fresh n) (Stands-fresh n many) (IsSound-fresh n many few) all in
-    subst (λ (ps : List ℕ). AreParts n ps) r.0.parts (subst (λ (k : ℕ). AreParts k (counted_all (fresh n) h).parts) r.2 r.1.parts)
+    let r = stands-all n [] h (new_model n) many (size-new_model n) (Stands-new_model n many) (IsSound-new_model n many few) all in
+    subst (λ (ps : List ℕ). AreStarts n ps) r.0.starts (subst (λ (k : ℕ). AreStarts k (counted_all (new_model n) h).starts) r.2 r.1.starts)
 
 abbrev pub bits_counted : BitCounting → List Bool → BitCounting
 bits_counted m [] = m
-bits_counted m (b ∷ xs) = bits_counted (bit_counted m b) xs
+bits_counted m (b ∷ xs) = bits_counted (after_bit m b) xs
 
 bits-all : (h xs : List Bool) (m : BitCounting) → BitStandsFor h m → IsBitCounting m → BitStandsFor (h ++ xs) (bits_counted m xs) × IsBitCounting (bits_counted m xs)
 bits-all h [] m stands is = (subst (λ l. BitStandsFor l m) (sym (append-nil h)) stands, is)
 bits-all h (b ∷ xs) m stands is =
-    let rest = bits-all (h ++ b ∷ []) xs (bit_counted m b) (BitStandsFor-push h b m stands) (IsBitCounting-counted m b is) in
-    (subst (λ l. BitStandsFor l (bits_counted (bit_counted m b) xs)) (append_assoc h (b ∷ []) xs) rest.0, rest.1)
+    let rest = bits-all (h ++ b ∷ []) xs (after_bit m b) (BitStandsFor-push h b m stands) (IsBitCounting-after_bit m b is) in
+    (subst (λ l. BitStandsFor l (bits_counted (after_bit m b) xs)) (append_assoc h (b ∷ []) xs) rest.0, rest.1)
 
 pub bit-part : (h : List Bool) → (0 < p0_of h) × (p0_of h < 8192)
 bit-part h =
-    let r = bits-all [] h fresh_bit BitStandsFor-fresh IsBitCounting-fresh in
+    let r = bits-all [] h new_bit_model BitStandsFor-new_bit_model IsBitCounting-new_bit_model in
     (omega (arith, r.0.p0, r.1.p0_some), omega (arith, r.0.p0, r.1.p0_below))
 
 -- ---- lawful events cut lawfully
@@ -190,7 +190,7 @@ word-ranged sizes false kind ctx pred value events has h = subst (AreRanged size
 pub IsCut-ranged : (sizes : Name → ℕ) (front : List Event) (e : Event) → AreRanged sizes front → IsRanged sizes e → IsCut (cut_behind front e)
 IsCut-ranged sizes front e before h = (AreCuts-ranged sizes front (e ∷ []) before (h, tt)).0
 
-dist-is : (sizes : Name → ℕ) (front : List Event) (name : Name) (n s : ℕ) → AreRanged sizes front → IsRanged sizes (Symbol name n s) → AreParts n (dist n (symbols_under name front))
+dist-is : (sizes : Name → ℕ) (front : List Event) (name : Name) (n s : ℕ) → AreRanged sizes front → IsRanged sizes (Symbol name n s) → AreStarts n (dist n (symbols_under name front))
 dist-is sizes front name n s before h =
     dist-parts n (symbols_under name front) h.1 h.2 (subst (λ (k : ℕ). AreBelow k (symbols_under name front)) (sym h.0) (under-below sizes name front before))
 
@@ -200,7 +200,7 @@ same_number sizes a b n m e f g = cc
 alike-named : (sizes : Name → ℕ) (front : List Event) (a : Name) (n s t : ℕ) → AreRanged sizes front → IsRanged sizes (Symbol a n s) → IsRanged sizes (Symbol a n t) → AreAlike (cut_behind front (Symbol a n s)) (cut_behind front (Symbol a n t))
 alike-named sizes front a n s t before f g =
     let parts = dist-is sizes front a n s before f in
-    AreAlike-symbols (dist n (symbols_under a front)) s t (IsDistribution-parts n _ parts) (omega (arith, parts.length, f.3)) (omega (arith, parts.length, g.3))
+    AreAlike-symbols (dist n (symbols_under a front)) s t (IsDistribution-starts n _ parts) (omega (arith, parts.length, f.3)) (omega (arith, parts.length, g.3))
 
 pub AreAlike-ranged : (sizes : Name → ℕ) (front : List Event) (d e : Event) → AreRanged sizes front → IsRanged sizes d → IsRanged sizes e → AreOneKind d e → AreAlike (cut_behind front d) (cut_behind front e)
 AreAlike-ranged sizes front (Symbol a n s) (Symbol b m t) before f g same =
@@ -238,7 +238,7 @@ event-from_cut sizes front (Symbol a n s) (Symbol b m t) before f g same cut =
     let parts = dist-is sizes front a n s before f in
     let here : symbol (dist n (symbols_under a front)) t ≡ symbol (dist n (symbols_under a front)) s =
     ap (λ k. symbol (dist k (symbols_under a front)) t) (sym number) ∙ (ap (λ c. symbol (dist m (symbols_under c front)) t) same ∙ sym cut) in
-    symbols_equal a b n m s t same number (symbol_back (dist n (symbols_under a front)) s t (IsDistribution-parts n _ parts) (omega (arith, parts.length, f.3)) (omega (arith, parts.length, g.3, number)) here)
+    symbols_equal a b n m s t same number (symbol_back (dist n (symbols_under a front)) s t (IsDistribution-starts n _ parts) (omega (arith, parts.length, f.3)) (omega (arith, parts.length, g.3, number)) here)
 event-from_cut sizes front (Symbol a n s) (Flag b other) before f g same cut = absurd same
 event-from_cut sizes front (Symbol a n s) (Bits c w) before f g same cut = absurd same
 event-from_cut sizes front (Flag a bit) (Symbol b m t) before f g same cut = absurd same

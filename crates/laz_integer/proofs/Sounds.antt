@@ -1,13 +1,13 @@
 use Rattle.std.proofs.Common.{◌≡◌, ℕ, ◌+◌, ◌-◌, ◌^◌, ◌<◌, ◌≤◌, min, List, length, map, sym, ◌∙◌, arith, subst, Bool, Result, Ok, Err, IfOk, OnErr}
-use Rattle.laz_models.specs.Counting.{Counting, fresh}
-use Rattle.laz_models.specs.BitCounting.{BitCounting, IsBitCounting, bit_counted, fresh_bit}
+use Rattle.laz_models.specs.Counting.{Counting, new_model}
+use Rattle.laz_models.specs.BitCounting.{BitCounting, IsBitCounting, after_bit, new_bit_model}
 use Rattle.laz_models.proofs.Banks.{sizes-set}
 use Rattle.laz_range.specs.Cut.{Cut}
 use Rattle.laz_range.specs.Decoding.{Decoding, Reads}
 use Rattle.laz_models.specs.Sound.{AreSound}
-use Rattle.laz_models.proofs.Sounds.{AreSound-set, AreSound-fresh, IsBitCounting-counted, IsBitCounting-fresh}
+use Rattle.laz_models.proofs.Sounds.{AreSound-set, AreSound-new_model, IsBitCounting-after_bit, IsBitCounting-new_bit_model}
 use Rattle.laz_integer.specs.Integer.{IntState, IsIntState, int_sizes, symbol_counted, flag_counted}
-use Rattle.laz_integer.proofs.States.{models-count, width-size, high-size, high-in, sizes-fresh, sizes-range}
+use Rattle.laz_integer.proofs.States.{models-count, width-size, high-size, high-in, sizes-new_model, sizes-range}
 
 -- ---- the models of an integer
 pub IsIntState-width : (st : IntState) (ctx k : ℕ) → IsIntState st → ctx < st.contexts → k ≤ st.bits → IsIntState (symbol_counted st ctx k)
@@ -57,11 +57,11 @@ IsIntState-flag st bit h =
       contexts = h.contexts;
       sizes = h.sizes;
       sound = h.sound;
-      bit = IsBitCounting-counted st.zero_or_one bit h.bit;
+      bit = IsBitCounting-after_bit st.zero_or_one bit h.bit;
     }
 
 -- the bit was taken, or left
-pub bit-after : {E : Type 0} (result : Result Bool E) (st : IntState) (new : BitCounting) → IsIntState st → IfOk result (λ bit. new ≡ bit_counted st.zero_or_one bit) → OnErr result (new ≡ st.zero_or_one) → IsIntState (with_bit st new)
+pub bit-after : {E : Type 0} (result : Result Bool E) (st : IntState) (new : BitCounting) → IsIntState st → IfOk result (λ bit. new ≡ after_bit st.zero_or_one bit) → OnErr result (new ≡ st.zero_or_one) → IsIntState (with_bit st new)
 bit-after (Ok bit) st new h is kept = subst (λ (m : BitCounting). IsIntState (with_bit st m)) (sym is)
     (record {
       some = h.some;
@@ -69,17 +69,17 @@ bit-after (Ok bit) st new h is kept = subst (λ (m : BitCounting). IsIntState (w
       contexts = h.contexts;
       sizes = h.sizes;
       sound = h.sound;
-      bit = IsBitCounting-counted st.zero_or_one bit h.bit;
+      bit = IsBitCounting-after_bit st.zero_or_one bit h.bit;
     })
 bit-after (Err e) st new h is kept = subst (λ (m : BitCounting). IsIntState (with_bit st m)) (sym kept) h
 
-pub IsIntState-fresh : (st : IntState) → 1 ≤ st.bits → st.bits ≤ 32 → st.contexts ≤ 32 → st.zero_or_one ≡ fresh_bit → st.bank ≡ map fresh (int_sizes st.bits st.contexts) → IsIntState st
-IsIntState-fresh st some few contexts bit bank =
+pub IsIntState-new_model : (st : IntState) → 1 ≤ st.bits → st.bits ≤ 32 → st.contexts ≤ 32 → st.zero_or_one ≡ new_bit_model → st.bank ≡ map new_model (int_sizes st.bits st.contexts) → IsIntState st
+IsIntState-new_model st some few contexts bit bank =
     record {
       some = some;
       few = few;
       contexts = contexts;
-      sizes = rw bank (sizes-fresh (int_sizes st.bits st.contexts));
-      sound = subst (λ (b : List Counting). AreSound b) (sym bank) (AreSound-fresh (int_sizes st.bits st.contexts) (sizes-range st.bits st.contexts some few));
-      bit = subst (λ (m : BitCounting). IsBitCounting m) (sym bit) IsBitCounting-fresh;
+      sizes = rw bank (sizes-new_model (int_sizes st.bits st.contexts));
+      sound = subst (λ (b : List Counting). AreSound b) (sym bank) (AreSound-new_model (int_sizes st.bits st.contexts) (sizes-range st.bits st.contexts some few));
+      bit = subst (λ (m : BitCounting). IsBitCounting m) (sym bit) IsBitCounting-new_bit_model;
     }

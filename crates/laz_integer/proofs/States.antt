@@ -4,10 +4,10 @@ use Rattle.std.proofs.lemmas.List.{get_or-map, get_or_append_left, get_or-append
 use Rattle.std.proofs.lemmas.List.FromFn.{get_or-map-range_with_len, length-map-range_with_len, map-range_with_len_more}
 use Rattle.std.proofs.lemmas.List.Elements.{All-append, All-replicate, All-from_get_or}
 use Rattle.std.proofs.Math.Nat.{pow-le-pow_right}
-use Rattle.laz_models.specs.Counting.{Counting, fresh}
-use Rattle.laz_models.specs.Bank.{model_at, sizes_of}
-use Rattle.laz_models.proofs.Banks.{size-fresh}
-use Rattle.laz_models.specs.Dist.{size_of}
+use Rattle.laz_models.specs.Counting.{Counting, new_model}
+use Rattle.laz_models.specs.Bank.{model_at, alphabet_sizes}
+use Rattle.laz_models.proofs.Banks.{size-new_model}
+use Rattle.laz_models.specs.Dist.{alphabet_size}
 use Rattle.laz_integer.specs.Integer.{IntState, IsIntState, SameShape, int_sizes, high_at}
 
 cons_same : (x y : ℕ) (xs ys : List ℕ) → x ≡ y → xs ≡ ys → x ∷ xs ≡ y ∷ ys
@@ -21,12 +21,12 @@ length-sizes bits contexts =
     ∙ omega (arith, length-replicate {A = ℕ} contexts (bits + 1), length-map-range_with_len (λ k. 2 ^ min k 8) 1 bits)
 
 pub models-count : (st : IntState) → IsIntState st → length st.bank ≡ st.contexts + st.bits
-models-count st h = sym (length-map st.bank size_of) ∙ (ap length h.sizes ∙ length-sizes st.bits st.contexts)
+models-count st h = sym (length-map st.bank alphabet_size) ∙ (ap length h.sizes ∙ length-sizes st.bits st.contexts)
 
-size-at : (st : IntState) (i : ℕ) → IsIntState st → i < length st.bank → size_of (model_at st.bank i) ≡ get_or (int_sizes st.bits st.contexts) i 0
-size-at st i h within = sym (get_or-map size_of st.bank i (fresh 2) 0 within) ∙ ap (λ l. get_or l i 0) h.sizes
+size-at : (st : IntState) (i : ℕ) → IsIntState st → i < length st.bank → alphabet_size (model_at st.bank i) ≡ get_or (int_sizes st.bits st.contexts) i 0
+size-at st i h within = sym (get_or-map alphabet_size st.bank i (new_model 2) 0 within) ∙ ap (λ l. get_or l i 0) h.sizes
 
-pub width-size : (st : IntState) (ctx : ℕ) → IsIntState st → ctx < st.contexts → size_of (model_at st.bank ctx) ≡ st.bits + 1
+pub width-size : (st : IntState) (ctx : ℕ) → IsIntState st → ctx < st.contexts → alphabet_size (model_at st.bank ctx) ≡ st.bits + 1
 unfolding int_sizes
 width-size st ctx h within =
     let ones = replicate st.contexts (st.bits + 1) in
@@ -43,10 +43,10 @@ high-place bits contexts j within =
     ap (λ i. get_or (int_sizes bits contexts) i 0) (sym many)
     ∙ (get_or-append-add ones (map (λ k. 2 ^ min k 8) (range_with_len 1 bits)) j 0 ∙ get_or-map-range_with_len (λ k. 2 ^ min k 8) 1 bits j (j + 1) 0 within next)
 
-pub high-size-at : (st : IntState) (j : ℕ) → IsIntState st → j < st.bits → size_of (model_at st.bank (st.contexts + j)) ≡ 2 ^ min (j + 1) 8
+pub high-size-at : (st : IntState) (j : ℕ) → IsIntState st → j < st.bits → alphabet_size (model_at st.bank (st.contexts + j)) ≡ 2 ^ min (j + 1) 8
 high-size-at st j h within = size-at st (st.contexts + j) h (omega (arith, models-count st h, within)) ∙ high-place st.bits st.contexts j within
 
-pub high-size : (st : IntState) (k : ℕ) → IsIntState st → 0 < k → k ≤ st.bits → size_of (high_at st k) ≡ 2 ^ min k 8
+pub high-size : (st : IntState) (k : ℕ) → IsIntState st → 0 < k → k ≤ st.bits → alphabet_size (high_at st k) ≡ 2 ^ min k 8
 high-size st k h some within =
     let e : k - 1 + 1 ≡ k = omega arith in
     high-size-at st (k - 1) h (omega arith) ∙ ap (λ n. 2 ^ min n 8) e
@@ -86,13 +86,13 @@ sizes-more ones old k n some is e =
     rw (e, is, place, map-range_with_len_more (λ k. 2 ^ min k 8) 1 (k - 1) k last) (append_assoc ones (map (λ k. 2 ^ min k 8) (range_with_len 1 (k - 1))) (2 ^ min k 8 ∷ []))
 
 -- new models
-pub sizes-fresh : (sizes : List ℕ) → sizes_of (map fresh sizes) ≡ sizes
-sizes-fresh [] = refl
-sizes-fresh (n ∷ sizes) = cons_same (size_of (fresh n)) n (sizes_of (map fresh sizes)) sizes (size-fresh n) (sizes-fresh sizes)
+pub sizes-new_model : (sizes : List ℕ) → alphabet_sizes (map new_model sizes) ≡ sizes
+sizes-new_model [] = refl
+sizes-new_model (n ∷ sizes) = cons_same (alphabet_size (new_model n)) n (alphabet_sizes (map new_model sizes)) sizes (size-new_model n) (sizes-new_model sizes)
 
-pub fresh-sizes : (bank : List Counting) → map (λ m. fresh (size_of m)) bank ≡ map fresh (sizes_of bank)
-fresh-sizes [] = refl
-fresh-sizes (m ∷ bank) = ap (λ l. fresh (size_of m) ∷ l) (fresh-sizes bank)
+pub new_model-sizes : (bank : List Counting) → map (λ m. new_model (alphabet_size m)) bank ≡ map new_model (alphabet_sizes bank)
+new_model-sizes [] = refl
+new_model-sizes (m ∷ bank) = ap (λ l. new_model (alphabet_size m) ∷ l) (new_model-sizes bank)
 
 pub sizes-two : (bits contexts i : ℕ) → 1 ≤ bits → bits ≤ 32 → i < length (int_sizes bits contexts) → 2 ≤ get_or (int_sizes bits contexts) i 0
 sizes-two bits contexts i some few within = (sizes-range bits contexts some few i 0 within).0

@@ -3,13 +3,13 @@ use Rattle.std.proofs.lemmas.Bool.{cases_eq}
 use Rattle.std.proofs.lemmas.List.{append-nil, get_or-set_same, get_or-set_other, get_or-map}
 use Rattle.std.proofs.Math.Nat.{pow-le-pow_right}
 use Rattle.laz_range.specs.Cut.{Cut, Bit, symbol}
-use Rattle.laz_models.specs.Counting.{Counting, counted, fresh}
-use Rattle.laz_models.specs.BitCounting.{BitCounting, bit_counted, fresh_bit}
-use Rattle.laz_models.specs.Dist.{StandsFor, size_of}
+use Rattle.laz_models.specs.Counting.{Counting, after_symbol, new_model}
+use Rattle.laz_models.specs.BitCounting.{BitCounting, after_bit, new_bit_model}
+use Rattle.laz_models.specs.Dist.{StandsFor, alphabet_size}
 use Rattle.laz_models.specs.BitDist.{BitStandsFor}
 use Rattle.laz_models.specs.Bank.{model_at}
-use Rattle.laz_models.proofs.Banks.{StandsFor-push, StandsFor-fresh}
-use Rattle.laz_models.proofs.BitStand.{BitStandsFor-push, BitStandsFor-fresh}
+use Rattle.laz_models.proofs.Banks.{StandsFor-push, StandsFor-new_model}
+use Rattle.laz_models.proofs.BitStand.{BitStandsFor-push, BitStandsFor-new_bit_model}
 use Rattle.laz_integer.specs.Corrector.{choices}
 use Rattle.laz_integer.specs.Events.{Event, Symbol, Flag, Name, Bits, Role, Own, Width, ZeroOrOne, High, symbols_under, bits_under, cut_behind, cuts_behind}
 use Rattle.laz_integer.specs.Integer.{IntState, IsInts, IsIntState, IntStands, width_name, bit_name, high_name, corrector_events, symbol_cut, high_at, symbol_counted, flag_counted, event_cut, event_next, events_cuts, events_next, int_cuts, int_next, int_sizes}
@@ -21,8 +21,8 @@ use Rattle.laz_integer.proofs.States.{models-count, width-size, high-size, high-
 use Rattle.laz_integer.proofs.Named.{same-width, same-high, same-bit, other-width, other-high, symbols-with, symbols-without, bits-with, symbols-flag, bits-symbol}
 
 -- ---- one event behind others, and the part that its model gives
-pub symbol-cut : (earlier : List Event) (name : Name) (m : Counting) (n s : ℕ) → size_of m ≡ n → StandsFor (symbols_under name earlier) m → cut_behind earlier (Symbol name n s) ≡ symbol_cut m s
-symbol-cut earlier name m n s e stands = rw (← e) (ap (λ parts. symbol parts s) (sym stands.parts))
+pub symbol-cut : (earlier : List Event) (name : Name) (m : Counting) (n s : ℕ) → alphabet_size m ≡ n → StandsFor (symbols_under name earlier) m → cut_behind earlier (Symbol name n s) ≡ symbol_cut m s
+symbol-cut earlier name m n s e stands = rw (← e) (ap (λ parts. symbol parts s) (sym stands.starts))
 
 pub bit-cut : (earlier : List Event) (name : Name) (m : BitCounting) (bit : Bool) → BitStandsFor (bits_under name earlier) m → cut_behind earlier (Flag name bit) ≡ Bit m.p0 bit
 bit-cut earlier name m bit stands = ap (λ p. Bit p bit) (sym stands.p0)
@@ -31,8 +31,8 @@ bit-cut earlier name m bit stands = ap (λ p. Bit p bit) (sym stands.p0)
 stands-along : (h g : List ℕ) (m n : Counting) → g ≡ h → n ≡ m → StandsFor h m → StandsFor g n
 stands-along h g m n e f stands = subst (λ (l : List ℕ). StandsFor l n) (sym e) (subst (λ (k : Counting). StandsFor h k) (sym f) stands)
 
-stands-more : (h g : List ℕ) (m n : Counting) (s : ℕ) → 2 ≤ size_of m → s < size_of m → g ≡ h ++ s ∷ [] → n ≡ counted m s → StandsFor h m → StandsFor g n
-stands-more h g m n s many within e f stands = stands-along (h ++ s ∷ []) g (counted m s) n e f (StandsFor-push h s m many within stands)
+stands-more : (h g : List ℕ) (m n : Counting) (s : ℕ) → 2 ≤ alphabet_size m → s < alphabet_size m → g ≡ h ++ s ∷ [] → n ≡ after_symbol m s → StandsFor h m → StandsFor g n
+stands-more h g m n s many within e f stands = stands-along (h ++ s ∷ []) g (after_symbol m s) n e f (StandsFor-push h s m many within stands)
 
 -- ---- a width is counted
 pub stands-width : (kind : List ℕ) (earlier : List Event) (st : IntState) (ctx k : ℕ) → IsIntState st → ctx < st.contexts → k ≤ st.bits → IntStands kind earlier st
@@ -48,12 +48,12 @@ stands-width kind earlier st ctx k is within small h =
           rw same
           (stands-more _ _ (model_at st.bank ctx) _ k (omega (arith, size, is.some)) (omega (arith, size, small))
           (symbols-with (width_name kind ctx) (width_name kind ctx) (st.bits + 1) k earlier (same-width kind ctx))
-          (get_or-set_same st.bank ctx (counted (model_at st.bank ctx) k) (fresh 2) here)
+          (get_or-set_same st.bank ctx (after_symbol (model_at st.bank ctx) k) (new_model 2) here)
           (h.widths ctx within)))
           (λ (ne : c ≡ ctx → ⊥).
           stands-along _ _ (model_at st.bank c) _
           (symbols-without (width_name kind c) (width_name kind ctx) (st.bits + 1) k earlier (other-width kind c ctx ne))
-          (get_or-set_other st.bank ctx c (counted (model_at st.bank ctx) k) (fresh 2) ne)
+          (get_or-set_other st.bank ctx c (after_symbol (model_at st.bank ctx) k) (new_model 2) ne)
           (h.widths c inside))
           (cases_eq c ctx);
       bits = subst (λ (l : List Bool). BitStandsFor l st.zero_or_one) (sym (bits-symbol (bit_name kind) (width_name kind ctx) (st.bits + 1) k earlier)) h.bits;
@@ -61,7 +61,7 @@ stands-width kind earlier st ctx k is within small h =
           let apart : st.contexts + j ≡ ctx → ⊥ = λ same. omega (arith, same, within) in
           stands-along _ _ (model_at st.bank (st.contexts + j)) _
           (symbols-without (high_name kind (j + 1)) (width_name kind ctx) (st.bits + 1) k earlier refl)
-          (get_or-set_other st.bank ctx (st.contexts + j) (counted (model_at st.bank ctx) k) (fresh 2) apart)
+          (get_or-set_other st.bank ctx (st.contexts + j) (after_symbol (model_at st.bank ctx) k) (new_model 2) apart)
           (h.highs j inside);
     }
 
@@ -79,7 +79,7 @@ stands-high kind earlier st k n s is some small digit h =
           let apart : c ≡ st.contexts + (k - 1) → ⊥ = λ same. omega (arith, same, inside) in
           stands-along _ _ (model_at st.bank c) _
           (symbols-without (width_name kind c) (high_name kind k) n s earlier refl)
-          (get_or-set_other st.bank (st.contexts + (k - 1)) c (counted (high_at st k) s) (fresh 2) apart)
+          (get_or-set_other st.bank (st.contexts + (k - 1)) c (after_symbol (high_at st k) s) (new_model 2) apart)
           (h.widths c inside);
       bits = subst (λ (l : List Bool). BitStandsFor l st.zero_or_one) (sym (bits-symbol (bit_name kind) (high_name kind k) n s earlier)) h.bits;
       highs = λ j inside.
@@ -90,14 +90,14 @@ stands-high kind earlier st k n s is some small digit h =
           rw (name, same)
           (stands-more _ _ (high_at st k) _ s (omega (arith, size, two)) (omega (arith, size, digit))
           (symbols-with (high_name kind k) (high_name kind k) n s earlier (same-high kind k))
-          (get_or-set_same st.bank (st.contexts + (k - 1)) (counted (high_at st k) s) (fresh 2) here)
+          (get_or-set_same st.bank (st.contexts + (k - 1)) (after_symbol (high_at st k) s) (new_model 2) here)
           stood))
           (λ (ne : j ≡ k - 1 → ⊥).
           let apart : st.contexts + j ≡ st.contexts + (k - 1) → ⊥ = λ same. ne (omega (arith, same)) in
           let differs : j + 1 ≡ k → ⊥ = λ same. ne (omega (arith, same)) in
           stands-along _ _ (model_at st.bank (st.contexts + j)) _
           (symbols-without (high_name kind (j + 1)) (high_name kind k) n s earlier (other-high kind (j + 1) k differs))
-          (get_or-set_other st.bank (st.contexts + (k - 1)) (st.contexts + j) (counted (high_at st k) s) (fresh 2) apart)
+          (get_or-set_other st.bank (st.contexts + (k - 1)) (st.contexts + j) (after_symbol (high_at st k) s) (new_model 2) apart)
           (h.highs j inside))
           (cases_eq j (k - 1));
     }
@@ -107,7 +107,7 @@ pub stands-bit : (kind : List ℕ) (earlier : List Event) (st : IntState) (bit :
 stands-bit kind earlier st bit h =
     record {
       widths = λ c inside. subst (λ (l : List ℕ). StandsFor l (model_at st.bank c)) (sym (symbols-flag (width_name kind c) (bit_name kind) bit earlier)) (h.widths c inside);
-      bits = subst (λ (l : List Bool). BitStandsFor l (bit_counted st.zero_or_one bit)) (sym (bits-with (bit_name kind) (bit_name kind) bit earlier (same-bit kind))) (BitStandsFor-push (bits_under (bit_name kind) earlier) bit st.zero_or_one h.bits);
+      bits = subst (λ (l : List Bool). BitStandsFor l (after_bit st.zero_or_one bit)) (sym (bits-with (bit_name kind) (bit_name kind) bit earlier (same-bit kind))) (BitStandsFor-push (bits_under (bit_name kind) earlier) bit st.zero_or_one h.bits);
       highs = λ j inside. subst (λ (l : List ℕ). StandsFor l (model_at st.bank (st.contexts + j))) (sym (symbols-flag (high_name kind (j + 1)) (bit_name kind) bit earlier)) (h.highs j inside);
     }
 
@@ -186,15 +186,15 @@ comes kind earlier st ctx k v is within range value h =
     }
 
 -- ---- new models stand for no event
-pub stands-none : (kind : List ℕ) (st : IntState) → IsIntState st → st.zero_or_one ≡ fresh_bit → st.bank ≡ map fresh (int_sizes st.bits st.contexts) → IntStands kind [] st
+pub stands-none : (kind : List ℕ) (st : IntState) → IsIntState st → st.zero_or_one ≡ new_bit_model → st.bank ≡ map new_model (int_sizes st.bits st.contexts) → IntStands kind [] st
 stands-none kind st is bit bank =
     let fresh_at : (i : ℕ) → i < st.contexts + st.bits → StandsFor [] (model_at st.bank i) =
     λ i within.
     let inside : i < length (int_sizes st.bits st.contexts) = omega (arith, length-sizes st.bits st.contexts, within) in
-    let at : model_at st.bank i ≡ fresh (get_or (int_sizes st.bits st.contexts) i 0) = ap (λ b. model_at b i) bank ∙ get_or-map fresh (int_sizes st.bits st.contexts) i 0 (fresh 2) inside in
-    subst (λ (m : Counting). StandsFor [] m) (sym at) (StandsFor-fresh (get_or (int_sizes st.bits st.contexts) i 0) (sizes-two st.bits st.contexts i is.some is.few inside)) in
+    let at : model_at st.bank i ≡ new_model (get_or (int_sizes st.bits st.contexts) i 0) = ap (λ b. model_at b i) bank ∙ get_or-map new_model (int_sizes st.bits st.contexts) i 0 (new_model 2) inside in
+    subst (λ (m : Counting). StandsFor [] m) (sym at) (StandsFor-new_model (get_or (int_sizes st.bits st.contexts) i 0) (sizes-two st.bits st.contexts i is.some is.few inside)) in
     record {
       widths = λ c inside. fresh_at c (omega arith);
-      bits = subst (λ (m : BitCounting). BitStandsFor [] m) (sym bit) BitStandsFor-fresh;
+      bits = subst (λ (m : BitCounting). BitStandsFor [] m) (sym bit) BitStandsFor-new_bit_model;
       highs = λ j inside. fresh_at (st.contexts + j) (omega arith);
     }

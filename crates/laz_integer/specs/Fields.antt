@@ -1,7 +1,7 @@
 -- Fields of a record that are coded only if they are marked: a byte under a model of 256 symbols, or a number of 16 bits as an integer.
 use Rattle.std.specs.Prelude.{◌≡◌, ℕ, ℤ, pos, nat_abs, ◌<◌, Bool, true, false, List, [], ◌∷◌, length, slice_set}
 use Rattle.laz_range.specs.Cut.{Cut}
-use Rattle.laz_models.specs.Counting.{Counting, counted}
+use Rattle.laz_models.specs.Counting.{Counting, after_symbol}
 use Rattle.laz_models.specs.Dist.{StandsFor}
 use Rattle.laz_models.specs.Bank.{model_at}
 use Rattle.laz_integer.specs.Corrector.{corrected, difference, place_of}
@@ -47,7 +47,7 @@ byte_cuts false bank m s = []
 
 -- The bank after it.
 abbrev pub byte_next : Bool → List Counting → ℕ → ℕ → List Counting
-byte_next true bank m s = slice_set bank m (counted (model_at bank m) s)
+byte_next true bank m s = slice_set bank m (after_symbol (model_at bank m) s)
 byte_next false bank m s = bank
 
 -- Which bytes may be read: any that is marked, else the expected one.

@@ -3,11 +3,11 @@ use Rattle.std.specs.List.{range_with_len}
 use Rattle.laz_range.specs.Cut.{Cut, Bit, Raw, symbol}
 use Rattle.laz_range.specs.Span.{Begins, span}
 use Rattle.laz_range.specs.Decoding.{Decoding, HasRead, ReadsOn, Takes}
-use Rattle.laz_models.specs.Counting.{Counting, counted}
-use Rattle.laz_models.specs.BitCounting.{BitCounting, IsBitCounting, bit_counted}
+use Rattle.laz_models.specs.Counting.{Counting, after_symbol}
+use Rattle.laz_models.specs.BitCounting.{BitCounting, IsBitCounting, after_bit}
 use Rattle.laz_models.specs.Dist.{StandsFor}
 use Rattle.laz_models.specs.BitDist.{BitStandsFor}
-use Rattle.laz_models.specs.Bank.{model_at, sizes_of}
+use Rattle.laz_models.specs.Bank.{model_at, alphabet_sizes}
 use Rattle.laz_integer.specs.Events.{Event, Symbol, Flag, Bits, Name, same_role, Width, ZeroOrOne, High, cuts_behind, raw_events, symbols_under, bits_under}
 use Rattle.laz_models.specs.Sound.{AreSound}
 use Rattle.laz_integer.specs.Corrector.{choices, corrected, difference, width_of, place_of}
@@ -69,7 +69,7 @@ pub record IsIntState (st : IntState) : Type 0 where
   pub some : 1 ≤ st.bits
   pub few : st.bits ≤ 32
   pub contexts : st.contexts ≤ 32
-  pub sizes : sizes_of st.bank ≡ int_sizes st.bits st.contexts
+  pub sizes : alphabet_sizes st.bank ≡ int_sizes st.bits st.contexts
   pub sound : AreSound st.bank
   pub bit : IsBitCounting st.zero_or_one
 
@@ -77,7 +77,7 @@ pub record IsIntState (st : IntState) : Type 0 where
 pub record SameShape (old new : IntState) : Type 0 where
   pub bits : new.bits ≡ old.bits
   pub contexts : new.contexts ≡ old.contexts
-  pub sizes : sizes_of new.bank ≡ sizes_of old.bank
+  pub sizes : alphabet_sizes new.bank ≡ alphabet_sizes old.bank
 
 -- The models stand for events: each for the symbols, or bits, under its name.
 pub record IntStands (kind : List ℕ) (events : List Event) (st : IntState) : Type 0 where
@@ -93,7 +93,7 @@ pub record IsInts (n m : ℕ) (st : IntState) : Type 0 where
 
 -- The part of a symbol under a model.
 abbrev pub symbol_cut : Counting → ℕ → Cut
-symbol_cut m s = symbol m.parts s
+symbol_cut m s = symbol m.starts s
 
 -- The symbol whose part a place lies in, by where the parts begin: the last one that begins there or before.
 abbrev pub symbol_at : List ℕ → ℕ → ℕ
@@ -109,11 +109,11 @@ index_of st name = if same_role name.role Width then name.which else st.contexts
 
 -- One symbol more in model i of the bank.
 abbrev pub symbol_counted : IntState → ℕ → ℕ → IntState
-symbol_counted st i s = record { bits = st.bits; contexts = st.contexts; zero_or_one = st.zero_or_one; bank = slice_set st.bank i (counted (model_at st.bank i) s) }
+symbol_counted st i s = record { bits = st.bits; contexts = st.contexts; zero_or_one = st.zero_or_one; bank = slice_set st.bank i (after_symbol (model_at st.bank i) s) }
 
 -- One more corrector of 0 or 1.
 abbrev pub flag_counted : IntState → Bool → IntState
-flag_counted st bit = record { bits = st.bits; contexts = st.contexts; zero_or_one = bit_counted st.zero_or_one bit; bank = st.bank }
+flag_counted st bit = record { bits = st.bits; contexts = st.contexts; zero_or_one = after_bit st.zero_or_one bit; bank = st.bank }
 
 -- The part of an integer's event, by the models as they are.
 abbrev pub event_cut : IntState → Event → Cut

@@ -2,8 +2,8 @@
 ghost use Rattle.std.specs.Prelude.{◌≡◌, ◌+◌, ◌<◌, ◌≤◌, ℕ, pos, false, length, IfOk, MatchResult, OnOk};
 ghost use Rattle.laz_range.specs.Coding.{Codes};
 ghost use Rattle.laz_range.specs.Decoding.{Reads, Takes, TakesNone};
-ghost use Rattle.laz_models.specs.Bank.{model_at, sizes_of};
-ghost use Rattle.laz_models.specs.Dist.{size_of};
+ghost use Rattle.laz_models.specs.Bank.{model_at, alphabet_sizes};
+ghost use Rattle.laz_models.specs.Dist.{alphabet_size};
 ghost use Rattle.laz_integer.specs.Integer.{IsInts};
 ghost use Rattle.laz_integer.specs.Fields.{IsByte, IsWord, byte_cuts, byte_next, word_cuts, word_made, word_next, word_written};
 
@@ -16,11 +16,11 @@ use laz_range::{Bad, Decoder, Encoder};
 #[inline]
 pub fn put_byte(encoder: &mut Encoder, bank: &mut ModelBank, marked: bool, m: u32, byte: u8)
     requires model { m < length bank.old }
-    requires size { size_of (model_at bank.old m) ≡ 256 }
+    requires size { alphabet_size (model_at bank.old m) ≡ 256 }
     requires left { 3 ≤ encoder.old.left }
     ensures codes { Codes encoder.old encoder.new (byte_cuts marked bank.old m byte) }
     ensures next { bank.new ≡ byte_next marked bank.old m byte }
-    ensures sizes { sizes_of bank.new ≡ sizes_of bank.old }
+    ensures sizes { alphabet_sizes bank.new ≡ alphabet_sizes bank.old }
     ensures used { encoder.old.left ≤ encoder.new.left + 3 }
 {
     if marked {
@@ -41,10 +41,10 @@ pub fn take_byte(
     requires good { decoder.old.failed ≡ false }
     requires within { decoder.old.taken ≤ length decoder.old.bytes }
     requires model { m < length bank.old }
-    requires size { size_of (model_at bank.old m) ≡ 256 }
+    requires size { alphabet_size (model_at bank.old m) ≡ 256 }
     ensures reads { Reads result (IsByte marked expected) (byte_cuts marked bank.old m) decoder.old decoder.new }
     ensures next { IfOk result (λ byte. bank.new ≡ byte_next marked bank.old m byte) }
-    ensures sizes { sizes_of bank.new ≡ sizes_of bank.old }
+    ensures sizes { alphabet_sizes bank.new ≡ alphabet_sizes bank.old }
 {
     if marked {
         let byte = take_symbol_of(decoder, bank, m)?;

@@ -2,8 +2,8 @@
 ghost use Rattle.std.specs.Prelude.{◌≡◌, ◌+◌, ◌<◌, ◌≤◌, ◌^◌, ◌++◌, ℕ, ℤ, List, [], false, map, IfOk, OnErr, OnOk, MatchResult};
 ghost use Rattle.laz_range.specs.Coding.{Codes};
 ghost use Rattle.laz_range.specs.Decoding.{Takes, TakesNone};
-ghost use Rattle.laz_models.specs.BitCounting.{fresh_bit};
-ghost use Rattle.laz_models.specs.Counting.{fresh};
+ghost use Rattle.laz_models.specs.BitCounting.{new_bit_model};
+ghost use Rattle.laz_models.specs.Counting.{new_model};
 ghost use Rattle.laz_integer.specs.Corrector.{HasBits, corrected, difference, place_of};
 ghost use Rattle.laz_integer.specs.Events.{Event, cuts_behind};
 ghost use Rattle.laz_integer.specs.Integer.{IntEvents, IntSpell, IntStands, IsCorrector, IsIntState, NoInt, ReadsCorrector, ReadsInt, int_cuts, int_next, int_sizes, int_width};
@@ -45,8 +45,8 @@ impl IntModel {
         requires contexts { contexts ≤ 32 }
         ensures bits { IfOk result (λ m. m.bits ≡ bits) }
         ensures contexts { IfOk result (λ m. m.contexts ≡ contexts) }
-        ensures bit { IfOk result (λ m. m.zero_or_one ≡ fresh_bit) }
-        ensures bank { IfOk result (λ m. m.bank ≡ map fresh (int_sizes bits contexts)) }
+        ensures bit { IfOk result (λ m. m.zero_or_one ≡ new_bit_model) }
+        ensures bank { IfOk result (λ m. m.bank ≡ map new_model (int_sizes bits contexts)) }
         ensures stands { IfOk result (λ m. (kind : List ℕ) → IntStands kind [] m) }
         ensures state { IfOk result IsIntState }
     {
@@ -58,8 +58,8 @@ impl IntModel {
     pub fn reset(&mut self)
         ensures bits { self.new.bits ≡ self.old.bits }
         ensures contexts { self.new.contexts ≡ self.old.contexts }
-        ensures bit { self.new.zero_or_one ≡ fresh_bit }
-        ensures bank { self.new.bank ≡ map fresh (int_sizes self.old.bits self.old.contexts) }
+        ensures bit { self.new.zero_or_one ≡ new_bit_model }
+        ensures bank { self.new.bank ≡ map new_model (int_sizes self.old.bits self.old.contexts) }
         ensures stands { (kind : List ℕ) → IntStands kind [] self.new }
         ensures state { IsIntState self.new }
     {

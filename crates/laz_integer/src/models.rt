@@ -4,9 +4,9 @@ ghost use Rattle.laz_range.specs.Cut.{raw_cuts};
 ghost use Rattle.laz_range.specs.Coding.{Codes};
 ghost use Rattle.laz_range.specs.Decoding.{Reads};
 ghost use Rattle.laz_models.specs.Bank.{model_at};
-ghost use Rattle.laz_models.specs.BitCounting.{fresh_bit};
-ghost use Rattle.laz_models.specs.Counting.{fresh};
-ghost use Rattle.laz_models.specs.Dist.{size_of};
+ghost use Rattle.laz_models.specs.BitCounting.{new_bit_model};
+ghost use Rattle.laz_models.specs.Counting.{new_model};
+ghost use Rattle.laz_models.specs.Dist.{alphabet_size};
 ghost use Rattle.laz_integer.specs.Corrector.{choices};
 ghost use Rattle.laz_integer.specs.Integer.{IsIntState, SameShape, IsCorrector, symbol_cut, high_at, symbol_counted, rest_events, events_cuts, events_next, int_cuts, int_next, int_sizes};
 ghost use Rattle.laz_integer.specs.Models.{state_of};
@@ -46,7 +46,7 @@ pub fn new_models(alloc: Global, bits: u32, contexts: u32) -> Result<Models, All
     requires few { bits ≤ 32 }
     requires context { 1 ≤ contexts }
     requires contexts { contexts ≤ 32 }
-    ensures state { IfOk result (λ models. state_of models ≡ record { bits = bits; contexts = contexts; zero_or_one = fresh_bit; bank = map fresh (int_sizes bits contexts) }) }
+    ensures state { IfOk result (λ models. state_of models ≡ record { bits = bits; contexts = contexts; zero_or_one = new_bit_model; bank = map new_model (int_sizes bits contexts) }) }
 {
     let bank = ModelBank::new(alloc, &sizes(alloc, bits, contexts)?)?;
     Ok(Models {

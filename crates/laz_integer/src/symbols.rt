@@ -2,12 +2,12 @@
 ghost use Rattle.std.specs.Prelude.{◌≡◌, ◌≢◌, ◌<◌, ◌≤◌, ◌↔◌, ℕ, Bool, List, [], ◌∷◌, ◌++◌, ⊤, false, length, slice_set, IfOk, OnErr, IsErr};
 ghost use Rattle.laz_range.specs.Cut.{Bit, symbol};
 ghost use Rattle.laz_range.specs.Coding.{Codes};
-ghost use Rattle.laz_range.specs.Decoding.{Reads, ReadsOn, NoneBegins, RunsOut, bit_of, place_of};
-ghost use Rattle.laz_models.specs.Bank.{model_at, sizes_of};
-ghost use Rattle.laz_models.specs.BitCounting.{bit_counted};
+ghost use Rattle.laz_range.specs.Decoding.{Reads, ReadsOn, NoneBegins, RunsOut, bit_of, symbol_place};
+ghost use Rattle.laz_models.specs.Bank.{model_at, alphabet_sizes};
+ghost use Rattle.laz_models.specs.BitCounting.{after_bit};
 ghost use Rattle.laz_models.specs.BitDist.{BitStandsFor, p0_of};
-ghost use Rattle.laz_models.specs.Counting.{counted};
-ghost use Rattle.laz_models.specs.Dist.{StandsFor, dist, size_of};
+ghost use Rattle.laz_models.specs.Counting.{after_symbol};
+ghost use Rattle.laz_models.specs.Dist.{StandsFor, dist, alphabet_size};
 ghost use Rattle.laz_integer.specs.Integer.{symbol_at, symbol_cut};
 
 use laz_models::{BitModel, ModelBank, SymbolModel};
@@ -16,12 +16,12 @@ use laz_range::{Bad, Decoder, Encoder};
 /// Codes symbol `s` of a model, and counts it.
 #[inline]
 pub fn put_symbol(encoder: &mut Encoder, model: &mut SymbolModel, s: u32)
-    requires symbol { s < size_of model.old }
+    requires symbol { s < alphabet_size model.old }
     requires left { 3 ≤ encoder.old.left }
     ensures codes { Codes encoder.old encoder.new (symbol_cut model.old s ∷ []) }
-    ensures counted { model.new ≡ counted model.old s }
-    ensures size { size_of model.new ≡ size_of model.old }
-    ensures dist { (h : List ℕ) → StandsFor h model.old → Codes encoder.old encoder.new (symbol (dist (size_of model.old) h) s ∷ []) }
+    ensures after_symbol { model.new ≡ after_symbol model.old s }
+    ensures size { alphabet_size model.new ≡ alphabet_size model.old }
+    ensures dist { (h : List ℕ) → StandsFor h model.old → Codes encoder.old encoder.new (symbol (dist (alphabet_size model.old) h) s ∷ []) }
     ensures stands { (h : List ℕ) → StandsFor h model.old → StandsFor (h ++ s ∷ []) model.new }
 {
     let (lo, hi) = model.part(s);
@@ -33,14 +33,14 @@ pub fn put_symbol(encoder: &mut Encoder, model: &mut SymbolModel, s: u32)
 #[inline]
 pub fn take_symbol(decoder: &mut Decoder<'_>, model: &mut SymbolModel) -> Result<u32, Bad>
     requires { decoder.old.failed ≡ false }
-    ensures reads { Reads result (λ s. s < size_of model.old) (λ s. symbol_cut model.old s ∷ []) decoder.old decoder.new }
-    ensures bad { IsErr result ↔ RunsOut decoder.old (symbol_cut model.old (symbol_at model.old.parts (place_of decoder.old))) }
-    ensures counted { IfOk result (λ s. model.new ≡ counted model.old s) }
+    ensures reads { Reads result (λ s. s < alphabet_size model.old) (λ s. symbol_cut model.old s ∷ []) decoder.old decoder.new }
+    ensures bad { IsErr result ↔ RunsOut decoder.old (symbol_cut model.old (symbol_at model.old.starts (symbol_place decoder.old))) }
+    ensures after_symbol { IfOk result (λ s. model.new ≡ after_symbol model.old s) }
     ensures kept { OnErr result (model.new ≡ model.old) }
-    ensures size { size_of model.new ≡ size_of model.old }
-    ensures read { (h : List ℕ) → StandsFor h model.old → IfOk result (λ s. ReadsOn (symbol (dist (size_of model.old) h) s ∷ []) decoder.old decoder.new) }
+    ensures size { alphabet_size model.new ≡ alphabet_size model.old }
+    ensures read { (h : List ℕ) → StandsFor h model.old → IfOk result (λ s. ReadsOn (symbol (dist (alphabet_size model.old) h) s ∷ []) decoder.old decoder.new) }
     ensures stands { (h : List ℕ) → StandsFor h model.old → IfOk result (λ s. StandsFor (h ++ s ∷ []) model.new) }
-    ensures none { (h : List ℕ) → StandsFor h model.old → OnErr result (NoneBegins (λ s. s < size_of model.old) (λ s. symbol (dist (size_of model.old) h) s ∷ []) decoder.old) }
+    ensures none { (h : List ℕ) → StandsFor h model.old → OnErr result (NoneBegins (λ s. s < alphabet_size model.old) (λ s. symbol (dist (alphabet_size model.old) h) s ∷ []) decoder.old) }
 {
     let s = model.find(decoder.at15());
     let (lo, hi) = model.part(s);
@@ -53,14 +53,14 @@ pub fn take_symbol(decoder: &mut Decoder<'_>, model: &mut SymbolModel) -> Result
 #[inline]
 pub fn put_symbol_of(encoder: &mut Encoder, bank: &mut ModelBank, m: u32, s: u32)
     requires model { m < length bank.old }
-    requires symbol { s < size_of (model_at bank.old m) }
+    requires symbol { s < alphabet_size (model_at bank.old m) }
     requires left { 3 ≤ encoder.old.left }
     ensures codes { Codes encoder.old encoder.new (symbol_cut (model_at bank.old m) s ∷ []) }
-    ensures counted { bank.new ≡ slice_set bank.old m (counted (model_at bank.old m) s) }
-    ensures dist { (h : List ℕ) → StandsFor h (model_at bank.old m) → Codes encoder.old encoder.new (symbol (dist (size_of (model_at bank.old m)) h) s ∷ []) }
+    ensures after_symbol { bank.new ≡ slice_set bank.old m (after_symbol (model_at bank.old m) s) }
+    ensures dist { (h : List ℕ) → StandsFor h (model_at bank.old m) → Codes encoder.old encoder.new (symbol (dist (alphabet_size (model_at bank.old m)) h) s ∷ []) }
     ensures stands { (h : List ℕ) → StandsFor h (model_at bank.old m) → StandsFor (h ++ s ∷ []) (model_at bank.new m) }
     ensures others { (k : ℕ) → k ≢ m → model_at bank.new k ≡ model_at bank.old k }
-    ensures sizes { sizes_of bank.new ≡ sizes_of bank.old }
+    ensures sizes { alphabet_sizes bank.new ≡ alphabet_sizes bank.old }
 {
     let (lo, hi) = bank.part(m, s);
     encoder.cut15(lo, hi);
@@ -74,15 +74,15 @@ pub fn put_symbol_of(encoder: &mut Encoder, bank: &mut ModelBank, m: u32, s: u32
 pub fn take_symbol_of(decoder: &mut Decoder<'_>, bank: &mut ModelBank, m: u32) -> Result<u32, Bad>
     requires good { decoder.old.failed ≡ false }
     requires model { m < length bank.old }
-    ensures reads { Reads result (λ s. s < size_of (model_at bank.old m)) (λ s. symbol_cut (model_at bank.old m) s ∷ []) decoder.old decoder.new }
-    ensures bad { IsErr result ↔ RunsOut decoder.old (symbol_cut (model_at bank.old m) (symbol_at (model_at bank.old m).parts (place_of decoder.old))) }
-    ensures counted { IfOk result (λ s. bank.new ≡ slice_set bank.old m (counted (model_at bank.old m) s)) }
+    ensures reads { Reads result (λ s. s < alphabet_size (model_at bank.old m)) (λ s. symbol_cut (model_at bank.old m) s ∷ []) decoder.old decoder.new }
+    ensures bad { IsErr result ↔ RunsOut decoder.old (symbol_cut (model_at bank.old m) (symbol_at (model_at bank.old m).starts (symbol_place decoder.old))) }
+    ensures after_symbol { IfOk result (λ s. bank.new ≡ slice_set bank.old m (after_symbol (model_at bank.old m) s)) }
     ensures kept { OnErr result (bank.new ≡ bank.old) }
-    ensures read { (h : List ℕ) → StandsFor h (model_at bank.old m) → IfOk result (λ s. ReadsOn (symbol (dist (size_of (model_at bank.old m)) h) s ∷ []) decoder.old decoder.new) }
+    ensures read { (h : List ℕ) → StandsFor h (model_at bank.old m) → IfOk result (λ s. ReadsOn (symbol (dist (alphabet_size (model_at bank.old m)) h) s ∷ []) decoder.old decoder.new) }
     ensures stands { (h : List ℕ) → StandsFor h (model_at bank.old m) → IfOk result (λ s. StandsFor (h ++ s ∷ []) (model_at bank.new m)) }
-    ensures none { (h : List ℕ) → StandsFor h (model_at bank.old m) → OnErr result (NoneBegins (λ s. s < size_of (model_at bank.old m)) (λ s. symbol (dist (size_of (model_at bank.old m)) h) s ∷ []) decoder.old) }
+    ensures none { (h : List ℕ) → StandsFor h (model_at bank.old m) → OnErr result (NoneBegins (λ s. s < alphabet_size (model_at bank.old m)) (λ s. symbol (dist (alphabet_size (model_at bank.old m)) h) s ∷ []) decoder.old) }
     ensures others { (k : ℕ) → k ≢ m → model_at bank.new k ≡ model_at bank.old k }
-    ensures sizes { sizes_of bank.new ≡ sizes_of bank.old }
+    ensures sizes { alphabet_sizes bank.new ≡ alphabet_sizes bank.old }
 {
     let s = bank.find(m, decoder.at15());
     let (lo, hi) = bank.part(m, s);
@@ -96,7 +96,7 @@ pub fn take_symbol_of(decoder: &mut Decoder<'_>, bank: &mut ModelBank, m: u32) -
 pub fn put_bit(encoder: &mut Encoder, model: &mut BitModel, bit: bool)
     requires { 3 ≤ encoder.old.left }
     ensures codes { Codes encoder.old encoder.new (Bit model.old.p0 bit ∷ []) }
-    ensures counted { model.new ≡ bit_counted model.old bit }
+    ensures after_symbol { model.new ≡ after_bit model.old bit }
     ensures dist { (h : List Bool) → BitStandsFor h model.old → Codes encoder.old encoder.new (Bit (p0_of h) bit ∷ []) }
     ensures stands { (h : List Bool) → BitStandsFor h model.old → BitStandsFor (h ++ bit ∷ []) model.new }
 {
@@ -111,7 +111,7 @@ pub fn take_bit(decoder: &mut Decoder<'_>, model: &mut BitModel) -> Result<bool,
     requires { decoder.old.failed ≡ false }
     ensures reads { Reads result (λ _. ⊤) (λ bit. Bit model.old.p0 bit ∷ []) decoder.old decoder.new }
     ensures bad { IsErr result ↔ RunsOut decoder.old (Bit model.old.p0 (bit_of decoder.old model.old.p0)) }
-    ensures counted { IfOk result (λ bit. model.new ≡ bit_counted model.old bit) }
+    ensures after_symbol { IfOk result (λ bit. model.new ≡ after_bit model.old bit) }
     ensures kept { OnErr result (model.new ≡ model.old) }
     ensures read { (h : List Bool) → BitStandsFor h model.old → IfOk result (λ bit. ReadsOn (Bit (p0_of h) bit ∷ []) decoder.old decoder.new) }
     ensures stands { (h : List Bool) → BitStandsFor h model.old → IfOk result (λ bit. BitStandsFor (h ++ bit ∷ []) model.new) }

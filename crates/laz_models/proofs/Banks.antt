@@ -2,97 +2,97 @@ use Rattle.std.proofs.Common.{◌≡◌, ◌⊎◌, ℕ, ◌+◌, ◌-◌, ◌<�
 use Rattle.std.proofs.lemmas.Bool.{cases_eq, cases_lt}
 use Rattle.std.proofs.lemmas.List.{length-map, length-set, length-take-le, length-replicate, get_or-map, get_or-set_same, get_or-set_other, get_or_default, set-get_or, map-set, same_lists}
 use Rattle.std.proofs.lemmas.List.Edits.{length-between, get_or-between}
-use Rattle.laz_models.specs.Bank.{model_at, sizes_of}
-use Rattle.laz_models.specs.Counting.{Counting, AreParts, counted, fresh, turned, bumped}
-use Rattle.laz_models.specs.Dist.{size_of, StandsFor}
-use Rattle.laz_models.specs.Place.{own, state_in, state_of, IsShaped, IsModel, IsPlaced, IsBank, SamePlace, SameOutside}
+use Rattle.laz_models.specs.Bank.{model_at, alphabet_sizes}
+use Rattle.laz_models.specs.Counting.{Counting, AreStarts, after_symbol, new_model, new_cycle, counts_with}
+use Rattle.laz_models.specs.Dist.{alphabet_size, StandsFor}
+use Rattle.laz_models.specs.Place.{cells_of, counting_in, counting_of, IsShaped, IsModel, IsPlaced, IsBank, SamePlace, SameOutside}
 use Rattle.laz_models.specs.declared.place.Place.{Place}
-use Rattle.laz_models.proofs.Models.{fresh-parts, first-AreParts, state_of-first, state_of-laid}
-use Rattle.laz_models.proofs.Parts.{counted-last, counted-more}
-use Rattle.laz_models.proofs.Stand.{Stands-push, Stands-fresh, length-limited}
+use Rattle.laz_models.proofs.Models.{new_model-starts, first-AreStarts, counting_of-first, counting_of-laid}
+use Rattle.laz_models.proofs.Parts.{after_symbol-last, after_symbol-more}
+use Rattle.laz_models.proofs.Stand.{Stands-push, Stands-new_model, length-small_counts}
 
 -- ---- what a model's size is
-pub size-fresh : (n : ℕ) → size_of (fresh n) ≡ n
-unfolding fresh
-size-fresh n = length-replicate n 1
+pub size-new_model : (n : ℕ) → alphabet_size (new_model n) ≡ n
+unfolding new_model
+size-new_model n = length-replicate n 1
 
-pub size-turned : (counts : List ℕ) (cycle : ℕ) → size_of (turned counts cycle) ≡ length counts
-unfolding turned
-size-turned counts cycle = length-limited counts
+pub size-new_cycle : (counts : List ℕ) (cycle : ℕ) → alphabet_size (new_cycle counts cycle) ≡ length counts
+unfolding new_cycle
+size-new_cycle counts cycle = length-small_counts counts
 
-pub size-counted : (m : Counting) (s : ℕ) → size_of (counted m s) ≡ size_of m
-size-counted m s =
+pub size-after_symbol : (m : Counting) (s : ℕ) → alphabet_size (after_symbol m s) ≡ alphabet_size m
+size-after_symbol m s =
     ⊎_elim
-    (λ (last : m.left ≡ 1). ap size_of (counted-last m s last) ∙ (size-turned (bumped m.counts s) m.cycle ∙ length-set m.counts s (get_or m.counts s 0 + 1)))
-    (λ (more : m.left ≡ 1 → ⊥). ap size_of (counted-more m s more) ∙ length-set m.counts s (get_or m.counts s 0 + 1))
-    (cases_eq m.left 1)
+    (λ (last : m.remaining ≡ 1). ap alphabet_size (after_symbol-last m s last) ∙ (size-new_cycle (counts_with m.counts s) m.cycle ∙ length-set m.counts s (get_or m.counts s 0 + 1)))
+    (λ (more : m.remaining ≡ 1 → ⊥). ap alphabet_size (after_symbol-more m s more) ∙ length-set m.counts s (get_or m.counts s 0 + 1))
+    (cases_eq m.remaining 1)
 
 -- what a model says of its parts and its size
-pub record AreSound (p : Place) (m : Counting) : Type 0 where
-  pub size : size_of m ≡ p.size
-  pub parts : AreParts p.size m.parts
+pub record FitsPlace (p : Place) (m : Counting) : Type 0 where
+  pub size : alphabet_size m ≡ p.size
+  pub starts : AreStarts p.size m.starts
 
-pub sound : (p : Place) (cells : List ℕ) → IsModel p cells → AreSound p (state_of p cells)
-sound p cells model =
-    ⊎_elim {C = AreSound p (state_of p cells)}
-    (λ (first : p.left ≡ 0).
-    rw (state_of-first p cells first)
-    (record { size = size-fresh p.size; parts = rw (fresh-parts p.size) (first-AreParts p.size model.shape.many model.shape.few) }))
-    (λ (laid : p.left ≡ 0 → ⊥).
-    let some : 0 < p.left = omega (arith, laid) in
-    rw (state_of-laid p cells some)
-    (record { size = length-take-le p.size cells (omega (arith, model.length)); parts = (model.laid some).parts }))
-    (cases_eq p.left 0)
+pub fits-place : (p : Place) (cells : List ℕ) → IsModel p cells → FitsPlace p (counting_of p cells)
+fits-place p cells model =
+    ⊎_elim {C = FitsPlace p (counting_of p cells)}
+    (λ (first : p.remaining ≡ 0).
+    rw (counting_of-first p cells first)
+    (record { size = size-new_model p.size; starts = rw (new_model-starts p.size) (first-AreStarts p.size model.shape.many model.shape.few) }))
+    (λ (laid : p.remaining ≡ 0 → ⊥).
+    let some : 0 < p.remaining = omega (arith, laid) in
+    rw (counting_of-laid p cells some)
+    (record { size = length-take-le p.size cells (omega (arith, model.length)); starts = (model.laid some).starts }))
+    (cases_eq p.remaining 0)
 
 -- ---- one model of a bank
 pub record IsAt (bank : List Counting) (m : ℕ) (p : Place) (cells : List ℕ) : Type 0 where
-  pub is : model_at bank m ≡ state_of p (own p cells)
+  pub is : model_at bank m ≡ counting_of p (cells_of p cells)
   pub placed : IsPlaced p cells
-  pub size : size_of (model_at bank m) ≡ p.size
-  pub state_parts : AreParts p.size (state_of p (own p cells)).parts
-  pub parts : AreParts (size_of (model_at bank m)) (model_at bank m).parts
+  pub size : alphabet_size (model_at bank m) ≡ p.size
+  pub state_parts : AreStarts p.size (counting_of p (cells_of p cells)).starts
+  pub starts : AreStarts (alphabet_size (model_at bank m)) (model_at bank m).starts
 
-pub at : (bank : List Counting) (places : List Place) (cells : List ℕ) (m : ℕ) (p : Place) → map (state_in cells) places ≡ bank → IsBank places cells
+pub at : (bank : List Counting) (places : List Place) (cells : List ℕ) (m : ℕ) (p : Place) → map (counting_in cells) places ≡ bank → IsBank places cells
     → m < length bank → p ≡ get_or places m p → IsAt bank m p cells
 at bank places cells m p view invariant below read =
-    let count : length places ≡ length bank = sym (length-map places (state_in cells)) ∙ ap length view in
+    let count : length places ≡ length bank = sym (length-map places (counting_in cells)) ∙ ap length view in
     let here : m < length places = omega arith in
     let placed : IsPlaced p cells = rw (← read) at (invariant.placed m p here) in
-    let is : model_at bank m ≡ state_of p (own p cells) =
-    ap (λ b. model_at b m) (sym view) ∙ (get_or-map (state_in cells) places m p (fresh 2) here ∙ ap (state_in cells) (sym read)) in
-    let s = sound p (own p cells) placed.model in
+    let is : model_at bank m ≡ counting_of p (cells_of p cells) =
+    ap (λ b. model_at b m) (sym view) ∙ (get_or-map (counting_in cells) places m p (new_model 2) here ∙ ap (counting_in cells) (sym read)) in
+    let s = fits-place p (cells_of p cells) placed.model in
     record {
       is = is;
       placed = placed;
-      size = ap size_of is ∙ s.size;
-      state_parts = s.parts;
-      parts = rw (is, s.size) s.parts;
+      size = ap alphabet_size is ∙ s.size;
+      state_parts = s.starts;
+      starts = rw (is, s.size) s.starts;
     }
 
-pub many-at : (bank : List Counting) (places : List Place) (cells : List ℕ) (m : ℕ) → map (state_in cells) places ≡ bank → IsBank places cells → m < length bank → 2 ≤ size_of (model_at bank m)
+pub many-at : (bank : List Counting) (places : List Place) (cells : List ℕ) (m : ℕ) → map (counting_in cells) places ≡ bank → IsBank places cells → m < length bank → 2 ≤ alphabet_size (model_at bank m)
 many-at bank places cells m view invariant below =
-    let p : Place = get_or places m (record { start = 0; end = 0; size = 0; shift = 0; total = 0; cycle = 0; left = 0 }) in
-    let here : m < length places = omega (arith, length-map places (state_in cells), ap length view) in
-    let a = at bank places cells m p view invariant below (get_or_default places m (record { start = 0; end = 0; size = 0; shift = 0; total = 0; cycle = 0; left = 0 }) p here) in
+    let p : Place = get_or places m (record { start = 0; end = 0; size = 0; shift = 0; total = 0; cycle = 0; remaining = 0 }) in
+    let here : m < length places = omega (arith, length-map places (counting_in cells), ap length view) in
+    let a = at bank places cells m p view invariant below (get_or_default places m (record { start = 0; end = 0; size = 0; shift = 0; total = 0; cycle = 0; remaining = 0 }) p here) in
     omega (arith, a.size, a.placed.model.shape.many)
 
 -- ---- one model of a bank changes
 -- a model that lies apart keeps its cells
-pub own-apart : (p q : Place) (old new : List ℕ) → SameOutside p.start p.end old new → q.start ≤ q.end → q.end ≤ length old → (q.end ≤ p.start) ⊎ (p.end ≤ q.start) → own q new ≡ own q old
-own-apart p q old new same order within apart =
-    let size : length (own q old) ≡ q.end - q.start = length-between old q.start q.end within in
-    let size_new : length (own q new) ≡ q.end - q.start = length-between new q.start q.end (omega (arith, same.length)) in
-    same_lists (own q new) (own q old) (size_new ∙ sym size)
+pub cells_of-apart : (p q : Place) (old new : List ℕ) → SameOutside p.start p.end old new → q.start ≤ q.end → q.end ≤ length old → (q.end ≤ p.start) ⊎ (p.end ≤ q.start) → cells_of q new ≡ cells_of q old
+cells_of-apart p q old new same order within apart =
+    let size : length (cells_of q old) ≡ q.end - q.start = length-between old q.start q.end within in
+    let size_new : length (cells_of q new) ≡ q.end - q.start = length-between new q.start q.end (omega (arith, same.length)) in
+    same_lists (cells_of q new) (cells_of q old) (size_new ∙ sym size)
     (λ k d below.
     let inside : q.start + k < q.end = omega arith in
-    let at_old : get_or (own q old) k 0 ≡ get_or old (q.start + k) 0 = get_or-between old q.start q.end k 0 inside in
-    let at_new : get_or (own q new) k 0 ≡ get_or new (q.start + k) 0 = get_or-between new q.start q.end k 0 inside in
+    let at_old : get_or (cells_of q old) k 0 ≡ get_or old (q.start + k) 0 = get_or-between old q.start q.end k 0 inside in
+    let at_new : get_or (cells_of q new) k 0 ≡ get_or new (q.start + k) 0 = get_or-between new q.start q.end k 0 inside in
     let kept : get_or new (q.start + k) 0 ≡ get_or old (q.start + k) 0 =
     ⊎_elim
     (λ (before : q.end ≤ p.start). same.before (q.start + k) (omega arith))
-    (λ (behind : p.end ≤ q.start). same.behind (q.start + k) (omega arith))
+    (λ (behind : p.end ≤ q.start). same.after (q.start + k) (omega arith))
     apart in
-    get_or_default (own q new) k d 0 below ∙ (at_new ∙ (kept ∙ (sym at_old ∙ get_or_default (own q old) k 0 d (omega arith)))))
+    get_or_default (cells_of q new) k d 0 below ∙ (at_new ∙ (kept ∙ (sym at_old ∙ get_or_default (cells_of q old) k 0 d (omega arith)))))
 
 -- a changed place keeps its ends
 pub place-set : (places : List Place) (m : ℕ) (p new d : Place) (k : ℕ) → m < length places → p ≡ get_or places m p → SamePlace p new → SamePlace (get_or places k d) (get_or (set places m new) k d)
@@ -121,10 +121,10 @@ in-order q shape = omega (arith, shape.extent)
 
 -- another model keeps its cells
 pub others-keep : (places : List Place) (old new : List ℕ) (m k : ℕ) (p d : Place) → IsBank places old → m < length places → k < length places → p ≡ get_or places m p → (k ≡ m → ⊥)
-    → SameOutside p.start p.end old new → own (get_or places k d) new ≡ own (get_or places k d) old
+    → SameOutside p.start p.end old new → cells_of (get_or places k d) new ≡ cells_of (get_or places k d) old
 others-keep places old new m k p d invariant here there read ne same =
     let placed : IsPlaced (get_or places k d) old = invariant.placed k d there in
-    own-apart p (get_or places k d) old new same (in-order (get_or places k d) placed.model.shape) placed.within (others-apart places old m k p d invariant here there read ne)
+    cells_of-apart p (get_or places k d) old new same (in-order (get_or places k d) placed.model.shape) placed.within (others-apart places old m k p d invariant here there read ne)
 
 -- the bank where one model has changed
 pub IsBank-set : (places : List Place) (old new : List ℕ) (m : ℕ) (p q : Place) → IsBank places old → m < length places → p ≡ get_or places m p → SamePlace p q → IsPlaced q new
@@ -147,41 +147,41 @@ IsBank-set places old new m p q invariant here read same good outside =
     }
 
 pub view-set : (places : List Place) (old new : List ℕ) (m : ℕ) (p q : Place) → IsBank places old → m < length places → p ≡ get_or places m p
-    → SameOutside p.start p.end old new → map (state_in new) (set places m q) ≡ set (map (state_in old) places) m (state_of q (own q new))
+    → SameOutside p.start p.end old new → map (counting_in new) (set places m q) ≡ set (map (counting_in old) places) m (counting_of q (cells_of q new))
 view-set places old new m p q invariant here read outside =
-    let count : length (map (state_in new) (set places m q)) ≡ length places = length-map (set places m q) (state_in new) ∙ length-set places m q in
-    let count_old : length (set (map (state_in old) places) m (state_of q (own q new))) ≡ length places = length-set (map (state_in old) places) m (state_of q (own q new)) ∙ length-map places (state_in old) in
-    same_lists (map (state_in new) (set places m q)) (set (map (state_in old) places) m (state_of q (own q new))) (count ∙ sym count_old)
+    let count : length (map (counting_in new) (set places m q)) ≡ length places = length-map (set places m q) (counting_in new) ∙ length-set places m q in
+    let count_old : length (set (map (counting_in old) places) m (counting_of q (cells_of q new))) ≡ length places = length-set (map (counting_in old) places) m (counting_of q (cells_of q new)) ∙ length-map places (counting_in old) in
+    same_lists (map (counting_in new) (set places m q)) (set (map (counting_in old) places) m (counting_of q (cells_of q new))) (count ∙ sym count_old)
     (λ k d below.
     let there : k < length places = omega arith in
-    let read_new : get_or (map (state_in new) (set places m q)) k d ≡ state_in new (get_or (set places m q) k p) = get_or-map (state_in new) (set places m q) k p d (omega (arith, length-set places m q)) in
-    ⊎_elim {C = get_or (map (state_in new) (set places m q)) k d ≡ get_or (set (map (state_in old) places) m (state_of q (own q new))) k d}
+    let read_new : get_or (map (counting_in new) (set places m q)) k d ≡ counting_in new (get_or (set places m q) k p) = get_or-map (counting_in new) (set places m q) k p d (omega (arith, length-set places m q)) in
+    ⊎_elim {C = get_or (map (counting_in new) (set places m q)) k d ≡ get_or (set (map (counting_in old) places) m (counting_of q (cells_of q new))) k d}
     (λ (e : k ≡ m).
-    read_new ∙ rw (e, get_or-set_same places m q p here, get_or-set_same (map (state_in old) places) m (state_of q (own q new)) d (omega (arith, length-map places (state_in old)))) refl)
+    read_new ∙ rw (e, get_or-set_same places m q p here, get_or-set_same (map (counting_in old) places) m (counting_of q (cells_of q new)) d (omega (arith, length-map places (counting_in old)))) refl)
     (λ (ne : k ≡ m → ⊥).
     let kept = others-keep places old new m k p p invariant here there read ne outside in
     read_new
-    ∙ (ap (state_in new) (get_or-set_other places m k q p ne)
-    ∙ (ap (state_of (get_or places k p)) kept
-    ∙ (sym (get_or-map (state_in old) places k p d there)
-    ∙ sym (get_or-set_other (map (state_in old) places) m k (state_of q (own q new)) d ne)))))
+    ∙ (ap (counting_in new) (get_or-set_other places m k q p ne)
+    ∙ (ap (counting_of (get_or places k p)) kept
+    ∙ (sym (get_or-map (counting_in old) places k p d there)
+    ∙ sym (get_or-set_other (map (counting_in old) places) m k (counting_of q (cells_of q new)) d ne)))))
     (cases_eq k m))
 
 -- ---- what the longer list gives
-pub StandsFor-push : (h : List ℕ) (s : ℕ) (m : Counting) → 2 ≤ size_of m → s < size_of m → StandsFor h m → StandsFor (h ++ s ∷ []) (counted m s)
-StandsFor-push h s m many below stands = rw (size-counted m s) (Stands-push (size_of m) h s m many below stands)
+pub StandsFor-push : (h : List ℕ) (s : ℕ) (m : Counting) → 2 ≤ alphabet_size m → s < alphabet_size m → StandsFor h m → StandsFor (h ++ s ∷ []) (after_symbol m s)
+StandsFor-push h s m many below stands = rw (size-after_symbol m s) (Stands-push (alphabet_size m) h s m many below stands)
 
-pub StandsFor-fresh : (n : ℕ) → 2 ≤ n → StandsFor [] (fresh n)
-StandsFor-fresh n many = rw (size-fresh n) (Stands-fresh n many)
+pub StandsFor-new_model : (n : ℕ) → 2 ≤ n → StandsFor [] (new_model n)
+StandsFor-new_model n many = rw (size-new_model n) (Stands-new_model n many)
 
 -- the sizes stay
-pub sizes-set : (bank : List Counting) (m s : ℕ) → m < length bank → sizes_of (set bank m (counted (model_at bank m) s)) ≡ sizes_of bank
+pub sizes-set : (bank : List Counting) (m s : ℕ) → m < length bank → alphabet_sizes (set bank m (after_symbol (model_at bank m) s)) ≡ alphabet_sizes bank
 sizes-set bank m s below =
-    let same : size_of (counted (model_at bank m) s) ≡ get_or (map size_of bank) m 0 = size-counted (model_at bank m) s ∙ sym (get_or-map size_of bank m (fresh 2) 0 below) in
-    map-set size_of bank m (counted (model_at bank m) s) ∙ (ap (set (map size_of bank) m) same ∙ set-get_or (map size_of bank) m 0)
+    let same : alphabet_size (after_symbol (model_at bank m) s) ≡ get_or (map alphabet_size bank) m 0 = size-after_symbol (model_at bank m) s ∙ sym (get_or-map alphabet_size bank m (new_model 2) 0 below) in
+    map-set alphabet_size bank m (after_symbol (model_at bank m) s) ∙ (ap (set (map alphabet_size bank) m) same ∙ set-get_or (map alphabet_size bank) m 0)
 
 -- a model's place among the sizes
-pub size-at : (bank : List Counting) (m : ℕ) → m < length (sizes_of bank) → (m < length bank) × (size_of (model_at bank m) ≡ get_or (sizes_of bank) m 0)
+pub size-at : (bank : List Counting) (m : ℕ) → m < length (alphabet_sizes bank) → (m < length bank) × (alphabet_size (model_at bank m) ≡ get_or (alphabet_sizes bank) m 0)
 size-at bank m below =
-    let here : m < length bank = omega (arith, length-map bank size_of) in
-    (here, sym (get_or-map size_of bank m (fresh 2) 0 here))
+    let here : m < length bank = omega (arith, length-map bank alphabet_size) in
+    (here, sym (get_or-map alphabet_size bank m (new_model 2) 0 here))

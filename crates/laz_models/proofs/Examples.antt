@@ -1,30 +1,31 @@
 use Rattle.std.proofs.Common.{◌≡◌, true, false, [], ◌∷◌, refl}
-use Rattle.laz_models.specs.BitCounting.{bit_limited}
-use Rattle.laz_models.specs.BitDist.{bit_cycle, bit_due, bit_counts_at, bit_cycle_in, p0_of}
-use Rattle.laz_models.specs.Counting.{parts_of, limited}
-use Rattle.laz_models.specs.Dist.{cycle, due, counts_at, cycle_in, dist}
+use Rattle.laz_models.specs.BitCounting.{small_bit_counts}
+use Rattle.laz_models.specs.BitDist.{bit_cycle, bit_counts_at, p0_of}
+use Rattle.laz_models.specs.Counting.{starts_of, small_counts}
+use Rattle.laz_models.specs.Cycles.{due, cycle_in}
+use Rattle.laz_models.specs.Dist.{cycle, counts_at, dist}
 use Rattle.laz_models.specs.Lookup.{table_bits, table_length}
 
 -- The cycles of 2 symbols are 4, 5, 6, .. long, up to 64, and those of 256 symbols 131, 163, ..
 cycles : (cycle 2 0 ≡ 4) × (cycle 2 1 ≡ 5) × (cycle 2 2 ≡ 6) × (cycle 2 16 ≡ 64) × (cycle 256 0 ≡ 131) × (cycle 256 1 ≡ 163)
 cycles = (refl, refl, refl, refl, refl, refl)
 
-dues : (due 2 0 ≡ 0) × (due 2 1 ≡ 4) × (due 2 2 ≡ 9) × (due 2 3 ≡ 15)
+dues : (due (cycle 2) 0 ≡ 0) × (due (cycle 2) 1 ≡ 4) × (due (cycle 2) 2 ≡ 9) × (due (cycle 2) 3 ≡ 15)
 dues = (refl, refl, refl, refl)
 
 -- Before any symbol each has the same part.
 first : (dist 2 [] ≡ 0 ∷ 16384 ∷ []) × (dist 3 [] ≡ 0 ∷ 10922 ∷ 21845 ∷ [])
-unfolding cycle_in counts_at parts_of
+unfolding cycle_in counts_at starts_of
 first = (refl, refl)
 
 -- Three symbols change nothing. The fourth ends the cycle: counts of 4 and 2, and a part of two thirds.
 end_of_cycle : (dist 2 (0 ∷ 0 ∷ 1 ∷ []) ≡ 0 ∷ 16384 ∷ []) × (dist 2 (0 ∷ 0 ∷ 1 ∷ 0 ∷ []) ≡ 0 ∷ 21845 ∷ [])
-unfolding cycle_in counts_at parts_of limited
+unfolding cycle_in counts_at starts_of small_counts
 end_of_cycle = (refl, refl)
 
 -- Counts whose sum is above 32,768 are halved, and rounded up.
-halving : (limited (32766 ∷ 2 ∷ []) ≡ 32766 ∷ 2 ∷ []) × (limited (32766 ∷ 3 ∷ []) ≡ 16383 ∷ 2 ∷ [])
-unfolding limited
+halving : (small_counts (32766 ∷ 2 ∷ []) ≡ 32766 ∷ 2 ∷ []) × (small_counts (32766 ∷ 3 ∷ []) ≡ 16383 ∷ 2 ∷ [])
+unfolding small_counts
 halving = (refl, refl)
 
 -- A table has 2 ^ 3 + 1 entries from 17 symbols on, and 2 ^ 9 + 1 for 2,048.
@@ -37,15 +38,15 @@ unfolding table_length table_bits
 table_lengths = (refl, refl, refl)
 
 -- ---- bits
-bit_cycles : (bit_cycle 0 ≡ 4) × (bit_cycle 1 ≡ 5) × (bit_cycle 2 ≡ 6) × (bit_cycle 16 ≡ 64) × (bit_due 2 ≡ 9)
+bit_cycles : (bit_cycle 0 ≡ 4) × (bit_cycle 1 ≡ 5) × (bit_cycle 2 ≡ 6) × (bit_cycle 16 ≡ 64) × (due bit_cycle 2 ≡ 9)
 bit_cycles = (refl, refl, refl, refl, refl)
 
 -- Half at first, and 5 of 6 behind four zeros; three bits change nothing.
 bits : (p0_of [] ≡ 4096) × (p0_of (false ∷ false ∷ false ∷ []) ≡ 4096) × (p0_of (false ∷ false ∷ false ∷ false ∷ []) ≡ 6826) × (p0_of (true ∷ true ∷ true ∷ true ∷ []) ≡ 1365)
-unfolding bit_cycle_in bit_counts_at bit_limited
+unfolding cycle_in bit_counts_at small_bit_counts
 bits = (refl, refl, refl, refl)
 
 -- More than 8,192 bits are halved, and one of them stays a 1.
-bit_halving : (bit_limited 8191 8192 ≡ (8191, 8192)) × (bit_limited 100 8193 ≡ (50, 4097)) × (bit_limited 8199 8200 ≡ (4100, 4101))
-unfolding bit_limited
+bit_halving : (small_bit_counts 8191 8192 ≡ (8191, 8192)) × (small_bit_counts 100 8193 ≡ (50, 4097)) × (small_bit_counts 8199 8200 ≡ (4100, 4101))
+unfolding small_bit_counts
 bit_halving = (refl, refl, refl)

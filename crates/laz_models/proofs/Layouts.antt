@@ -2,13 +2,13 @@ use Rattle.std.proofs.Common.{◌≡◌, ℕ, ◌+◌, ◌<◌, ◌≤◌, List,
 use Rattle.std.proofs.lemmas.Bool.{cases_lt}
 use Rattle.std.proofs.lemmas.List.{length-map, length_push, get_or-map, get_or_push, get_or_append_left, get_or_default, same_lists}
 use Rattle.std.proofs.lemmas.List.Edits.{length-between}
-use Rattle.laz_models.specs.Bank.{sizes_of}
-use Rattle.laz_models.specs.Counting.{Counting, fresh}
-use Rattle.laz_models.specs.Dist.{size_of}
-use Rattle.laz_models.specs.Place.{own, state_in, as_first, IsShaped, IsPlaced, IsBank, IsLayout}
+use Rattle.laz_models.specs.Bank.{alphabet_sizes}
+use Rattle.laz_models.specs.Counting.{Counting, new_model}
+use Rattle.laz_models.specs.Dist.{alphabet_size}
+use Rattle.laz_models.specs.Place.{cells_of, counting_in, as_new, IsShaped, IsPlaced, IsBank, IsLayout}
 use Rattle.laz_models.specs.declared.place.Place.{Place}
-use Rattle.laz_models.proofs.Banks.{size-fresh, sound}
-use Rattle.laz_models.proofs.Models.{state_of-first}
+use Rattle.laz_models.proofs.Banks.{size-new_model, fits-place}
+use Rattle.laz_models.proofs.Models.{counting_of-first}
 
 -- ---- a layout grows
 pub layout-none : IsLayout [] [] 0
@@ -34,7 +34,7 @@ each_push P places p each here m d below =
     rw (get_or_push places p d m last) same)
     (cases_lt m (length places))
 
-pub layout-push : (places : List Place) (sizes : List ℕ) (end n : ℕ) (p : Place) → IsLayout places sizes end → IsShaped p → p.size ≡ n → p.left ≡ 0 → p.start ≡ end → IsLayout (places ++ p ∷ []) (sizes ++ n ∷ []) p.end
+pub layout-push : (places : List Place) (sizes : List ℕ) (end n : ℕ) (p : Place) → IsLayout places sizes end → IsShaped p → p.size ≡ n → p.remaining ≡ 0 → p.start ≡ end → IsLayout (places ++ p ∷ []) (sizes ++ n ∷ []) p.end
 layout-push places sizes end n p layout shape size first start =
     let more : length (places ++ p ∷ []) ≡ length places + 1 = length_push places p in
     let grows : end ≤ p.end = omega (arith, shape.extent) in
@@ -44,13 +44,13 @@ layout-push places sizes end n p layout shape size first start =
       size = each_push (λ m q. q.size ≡ get_or (sizes ++ n ∷ []) m 0) places p
           (λ m d below. layout.size m d below ∙ sym (get_or_append_left sizes (n ∷ []) 0 m (omega (arith, layout.count))))
           (size ∙ sym (get_or_push sizes n 0 (length places) (sym layout.count)));
-      first = each_push (λ m q. q.left ≡ 0) places p layout.first first;
+      first = each_push (λ m q. q.remaining ≡ 0) places p layout.first first;
       within = each_push (λ m q. q.end ≤ p.end) places p (λ m d below. omega (arith, layout.within m d below)) (omega arith);
       apart = λ i j d order below.
           each_push (λ k q. i < k → (get_or (places ++ p ∷ []) i d).end ≤ q.start) places p
           (λ k e inside earlier.
-          let left : get_or (places ++ p ∷ []) i d ≡ get_or places i e = get_or_append_left places (p ∷ []) d i (omega arith) ∙ get_or_default places i d e (omega arith) in
-          rw left (layout.apart i k e earlier inside))
+          let remaining : get_or (places ++ p ∷ []) i d ≡ get_or places i e = get_or_append_left places (p ∷ []) d i (omega arith) ∙ get_or_default places i d e (omega arith) in
+          rw remaining (layout.apart i k e earlier inside))
           (λ earlier. rw (get_or_append_left places (p ∷ []) d i earlier) (omega (arith, layout.within i d earlier)))
           j d below order;
     }
@@ -73,27 +73,27 @@ layout-IsBank places sizes cells layout =
       apart = layout.apart;
     }
 
-pub layout-view : (places : List Place) (sizes cells : List ℕ) (end : ℕ) → IsLayout places sizes end → map (state_in cells) places ≡ map fresh sizes
+pub layout-view : (places : List Place) (sizes cells : List ℕ) (end : ℕ) → IsLayout places sizes end → map (counting_in cells) places ≡ map new_model sizes
 layout-view places sizes cells end layout =
-    same_lists (map (state_in cells) places) (map fresh sizes) (length-map places (state_in cells) ∙ (layout.count ∙ sym (length-map sizes fresh)))
+    same_lists (map (counting_in cells) places) (map new_model sizes) (length-map places (counting_in cells) ∙ (layout.count ∙ sym (length-map sizes new_model)))
     (λ k d below.
-    let here : k < length places = omega (arith, length-map places (state_in cells)) in
-    let p0 : Place = record { start = 0; end = 0; size = 0; shift = 0; total = 0; cycle = 0; left = 0 } in
-    get_or-map (state_in cells) places k p0 d here
-    ∙ (state_of-first (get_or places k p0) (own (get_or places k p0) cells) (layout.first k p0 here)
-    ∙ (ap fresh (layout.size k p0 here)
-    ∙ sym (get_or-map fresh sizes k 0 d (omega (arith, layout.count))))))
+    let here : k < length places = omega (arith, length-map places (counting_in cells)) in
+    let p0 : Place = record { start = 0; end = 0; size = 0; shift = 0; total = 0; cycle = 0; remaining = 0 } in
+    get_or-map (counting_in cells) places k p0 d here
+    ∙ (counting_of-first (get_or places k p0) (cells_of (get_or places k p0) cells) (layout.first k p0 here)
+    ∙ (ap new_model (layout.size k p0 here)
+    ∙ sym (get_or-map new_model sizes k 0 d (omega (arith, layout.count))))))
 
 -- ---- the bank as new
-pub first-IsBank : (places : List Place) (cells : List ℕ) → IsBank places cells → IsBank (map as_first places) cells
+pub first-IsBank : (places : List Place) (cells : List ℕ) → IsBank places cells → IsBank (map as_new places) cells
 first-IsBank places cells bank =
-    let count : length (map as_first places) ≡ length places = length-map places as_first in
+    let count : length (map as_new places) ≡ length places = length-map places as_new in
     record {
       placed = λ m d below.
           let here : m < length places = omega arith in
           let placed : IsPlaced (get_or places m d) cells = bank.placed m d here in
           let shape = placed.model.shape in
-          rw (get_or-map as_first places m d d here)
+          rw (get_or-map as_new places m d d here)
           (record {
             model = record {
               shape = record { many = shape.many; few = shape.few; shift = shape.shift; extent = shape.extent };
@@ -105,31 +105,31 @@ first-IsBank places cells bank =
       apart = λ i j d order below.
           let there : j < length places = omega arith in
           let before : i < length places = omega arith in
-          rw (get_or-map as_first places i d d before, get_or-map as_first places j d d there) (bank.apart i j d order there);
+          rw (get_or-map as_new places i d d before, get_or-map as_new places j d d there) (bank.apart i j d order there);
     }
 
-pub first-view : (places : List Place) (cells : List ℕ) → IsBank places cells → map (state_in cells) (map as_first places) ≡ map (λ m. fresh (size_of m)) (map (state_in cells) places)
+pub first-view : (places : List Place) (cells : List ℕ) → IsBank places cells → map (counting_in cells) (map as_new places) ≡ map (λ m. new_model (alphabet_size m)) (map (counting_in cells) places)
 first-view places cells bank =
-    let count : length (map (state_in cells) (map as_first places)) ≡ length places = length-map (map as_first places) (state_in cells) ∙ length-map places as_first in
-    let count_old : length (map (λ (m : Counting). fresh (size_of m)) (map (state_in cells) places)) ≡ length places = length-map (map (state_in cells) places) (λ m. fresh (size_of m)) ∙ length-map places (state_in cells) in
-    same_lists (map (state_in cells) (map as_first places)) (map (λ m. fresh (size_of m)) (map (state_in cells) places)) (count ∙ sym count_old)
+    let count : length (map (counting_in cells) (map as_new places)) ≡ length places = length-map (map as_new places) (counting_in cells) ∙ length-map places as_new in
+    let count_old : length (map (λ (m : Counting). new_model (alphabet_size m)) (map (counting_in cells) places)) ≡ length places = length-map (map (counting_in cells) places) (λ m. new_model (alphabet_size m)) ∙ length-map places (counting_in cells) in
+    same_lists (map (counting_in cells) (map as_new places)) (map (λ m. new_model (alphabet_size m)) (map (counting_in cells) places)) (count ∙ sym count_old)
     (λ k d below.
     let here : k < length places = omega arith in
-    let p0 : Place = record { start = 0; end = 0; size = 0; shift = 0; total = 0; cycle = 0; left = 0 } in
+    let p0 : Place = record { start = 0; end = 0; size = 0; shift = 0; total = 0; cycle = 0; remaining = 0 } in
     let p : Place = get_or places k p0 in
-    let s = sound p (own p cells) (bank.placed k p0 here).model in
-    get_or-map (state_in cells) (map as_first places) k (as_first p0) d (omega (arith, length-map places as_first))
-    ∙ (ap (state_in cells) (get_or-map as_first places k p0 (as_first p0) here)
-    ∙ (state_of-first (as_first p) (own p cells) refl
-    ∙ (ap fresh (sym s.size)
-    ∙ (ap (λ m. fresh (size_of m)) (sym (get_or-map (state_in cells) places k p0 d here))
-    ∙ sym (get_or-map (λ m. fresh (size_of m)) (map (state_in cells) places) k d d (omega (arith, length-map places (state_in cells)))))))))
+    let s = fits-place p (cells_of p cells) (bank.placed k p0 here).model in
+    get_or-map (counting_in cells) (map as_new places) k (as_new p0) d (omega (arith, length-map places as_new))
+    ∙ (ap (counting_in cells) (get_or-map as_new places k p0 (as_new p0) here)
+    ∙ (counting_of-first (as_new p) (cells_of p cells) refl
+    ∙ (ap new_model (sym s.size)
+    ∙ (ap (λ m. new_model (alphabet_size m)) (sym (get_or-map (counting_in cells) places k p0 d here))
+    ∙ sym (get_or-map (λ m. new_model (alphabet_size m)) (map (counting_in cells) places) k d d (omega (arith, length-map places (counting_in cells)))))))))
 
 -- ---- sizes
-pub sizes-fresh : (sizes : List ℕ) → sizes_of (map fresh sizes) ≡ sizes
-sizes-fresh [] = refl
-sizes-fresh (n ∷ ns) = rw (size-fresh n, sizes-fresh ns) refl
+pub sizes-new_model : (sizes : List ℕ) → alphabet_sizes (map new_model sizes) ≡ sizes
+sizes-new_model [] = refl
+sizes-new_model (n ∷ ns) = rw (size-new_model n, sizes-new_model ns) refl
 
-pub sizes-reset : (bank : List Counting) → sizes_of (map (λ (m : Counting). fresh (size_of m)) bank) ≡ sizes_of bank
+pub sizes-reset : (bank : List Counting) → alphabet_sizes (map (λ (m : Counting). new_model (alphabet_size m)) bank) ≡ alphabet_sizes bank
 sizes-reset [] = refl
-sizes-reset (m ∷ ms) = rw (size-fresh (size_of m), sizes-reset ms) refl
+sizes-reset (m ∷ ms) = rw (size-new_model (alphabet_size m), sizes-reset ms) refl

@@ -3,31 +3,31 @@ use Rattle.std.proofs.Math.Nat.{pow-le-pow_right}
 use Rattle.std.proofs.lemmas.Bool.{cases_lt, cond-true, cond-false, lt-ltb, le-ltb}
 use Rattle.std.proofs.lemmas.List.Sums.{count_by-le-length}
 use Rattle.std.proofs.lemmas.Nat.{pow-add}
-use Rattle.laz_models.specs.Counting.{AreParts}
+use Rattle.laz_models.specs.Counting.{AreStarts}
 use Rattle.laz_models.specs.Lookup.{IsLastAt, table_bits, table_length}
 
 -- parts do not fall
-rising-by : (n : ℕ) (parts : List ℕ) (s d : ℕ) → AreParts n parts → s + d < n → get_or parts s 0 ≤ get_or parts (s + d) 0
-rising-by n parts s zero h within = let e : s + 0 ≡ s = omega arith in rw e (omega arith)
-rising-by n parts s (suc d) h within =
+rising-by : (n : ℕ) (starts : List ℕ) (s d : ℕ) → AreStarts n starts → s + d < n → get_or starts s 0 ≤ get_or starts (s + d) 0
+rising-by n starts s zero h within = let e : s + 0 ≡ s = omega arith in rw e (omega arith)
+rising-by n starts s (suc d) h within =
     let e : s + suc d ≡ (s + d) + 1 = omega arith in
-    rw e (omega (arith, rising-by n parts s d h (omega arith), h.rising (s + d) (omega arith)))
+    rw e (omega (arith, rising-by n starts s d h (omega arith), h.rising (s + d) (omega arith)))
 
-pub rising-le : (n : ℕ) (parts : List ℕ) (s k : ℕ) → AreParts n parts → s ≤ k → k < n → get_or parts s 0 ≤ get_or parts k 0
-rising-le n parts s k h order within =
+pub rising-le : (n : ℕ) (starts : List ℕ) (s k : ℕ) → AreStarts n starts → s ≤ k → k < n → get_or starts s 0 ≤ get_or starts k 0
+rising-le n starts s k h order within =
     let e : k ≡ s + (k - s) = omega arith in
-    let step : get_or parts s 0 ≤ get_or parts (s + (k - s)) 0 = rising-by n parts s (k - s) h (omega arith) in
-    omega (arith, step, ap (λ i. get_or parts i 0) e)
+    let step : get_or starts s 0 ≤ get_or starts (s + (k - s)) 0 = rising-by n starts s (k - s) h (omega arith) in
+    omega (arith, step, ap (λ i. get_or starts i 0) e)
 
 -- the last symbol at v or below, from the two parts beside it
-pub last_at : (n : ℕ) (parts : List ℕ) (v s : ℕ) → AreParts n parts → s < n → get_or parts s 0 ≤ v → (s + 1 < n → v < get_or parts (s + 1) 0) → IsLastAt parts v s
-last_at n parts v s h symbol start next =
+pub last_at : (n : ℕ) (starts : List ℕ) (v s : ℕ) → AreStarts n starts → s < n → get_or starts s 0 ≤ v → (s + 1 < n → v < get_or starts (s + 1) 0) → IsLastAt starts v s
+last_at n starts v s h symbol start next =
     record {
       symbol = omega (arith, h.length);
       start = start;
       greatest = λ k within at.
           ⊎_elim {C = k ≤ s}
-          (λ (more : s < k). absurd (omega (arith, h.length, next (omega (arith, h.length)), rising-le n parts (s + 1) k h (omega arith) (omega (arith, h.length)))))
+          (λ (more : s < k). absurd (omega (arith, h.length, next (omega (arith, h.length)), rising-le n starts (s + 1) k h (omega arith) (omega (arith, h.length)))))
           (λ (less : k ≤ s). less)
           (cases_lt s k);
     }

@@ -4,41 +4,41 @@ use Rattle.std.proofs.lemmas.Nat.{le-div}
 use Rattle.std.proofs.lemmas.List.Sums.{sum_by-set, get_or-le-sum_by}
 use Rattle.std.proofs.lemmas.Bool.{cases_eq, cases_lt, cond-true, cond-false, eq-eqb, ne_eqb}
 use Rattle.std.proofs.lemmas.List.{take_at, take-append-drop, set-append_left, length-set, get_or-set_same, get_or-set_other, drop-set-lt, length-replicate, take-replicate, length-take-le, length-drop, get_or-drop, get_or-take}
-use Rattle.laz_models.specs.Counting.{AreCounts, AreParts, bumped, counted, parts_of, part_end, fresh}
+use Rattle.laz_models.specs.Counting.{AreCounts, AreStarts, counts_with, after_symbol, starts_of, part_end, new_model}
 use Rattle.laz_models.specs.Lookup.{IsLastAt, table_bits, table_length}
-use Rattle.laz_models.specs.Place.{counts_in, parts_in, table_in, laid_state, state_of, extent, IsShaped, IsLaid}
+use Rattle.laz_models.specs.Place.{counts_in, starts_in, table_in, laid_state, counting_of, extent, IsShaped, IsLaid}
 use Rattle.laz_models.specs.declared.place.Place.{Place}
 use Rattle.laz_models.proofs.Lookups.{last_at, places, table_bits-bounds, table_length-some, table_length-none}
-use Rattle.laz_models.proofs.Parts.{counted-more, get_or-parts_of, parts_of-AreParts, AreCounts-ones, sum-ones}
+use Rattle.laz_models.proofs.Parts.{after_symbol-more, get_or-starts_of, starts_of-AreStarts, AreCounts-ones, sum-ones}
 
 -- ---- a model as at the start, or laid out
-pub state_of-first : (p : Place) (cells : List ℕ) → p.left ≡ 0 → state_of p cells ≡ fresh p.size
-unfolding state_of
-state_of-first p cells h = cond-true _ _ _ (eq-eqb p.left 0 h)
+pub counting_of-first : (p : Place) (cells : List ℕ) → p.remaining ≡ 0 → counting_of p cells ≡ new_model p.size
+unfolding counting_of
+counting_of-first p cells h = cond-true _ _ _ (eq-eqb p.remaining 0 h)
 
-pub state_of-laid : (p : Place) (cells : List ℕ) → 0 < p.left → state_of p cells ≡ laid_state p cells
-unfolding state_of
-state_of-laid p cells h = cond-false _ _ _ (ne_eqb p.left 0 (λ e. omega (arith, e)))
+pub counting_of-laid : (p : Place) (cells : List ℕ) → 0 < p.remaining → counting_of p cells ≡ laid_state p cells
+unfolding counting_of
+counting_of-laid p cells h = cond-false _ _ _ (ne_eqb p.remaining 0 (λ e. omega (arith, e)))
 
-pub fresh-parts : (n : ℕ) → (fresh n).parts ≡ parts_of (replicate n 1)
-unfolding fresh
-fresh-parts n = refl
+pub new_model-starts : (n : ℕ) → (new_model n).starts ≡ starts_of (replicate n 1)
+unfolding new_model
+new_model-starts n = refl
 
-pub first-AreParts : (n : ℕ) → 2 ≤ n → n ≤ 2048 → AreParts n (parts_of (replicate n 1))
-first-AreParts n many few =
+pub first-AreStarts : (n : ℕ) → 2 ≤ n → n ≤ 2048 → AreStarts n (starts_of (replicate n 1))
+first-AreStarts n many few =
     let total : sum (replicate n 1) ≡ n = sum-ones n in
-    let good : AreParts (length (replicate {A = ℕ} n 1)) (parts_of (replicate n 1)) = parts_of-AreParts (replicate n 1) (AreCounts-ones n many few) (omega arith) in
+    let good : AreStarts (length (replicate {A = ℕ} n 1)) (starts_of (replicate n 1)) = starts_of-AreStarts (replicate n 1) (AreCounts-ones n many few) (omega arith) in
     rw (length-replicate {A = ℕ} n 1) at good
 
 -- where a part begins before any symbol was counted
-pub first-part : (n k : ℕ) → k < n → get_or (parts_of (replicate n 1)) k 0 ≡ 2147483648 / n * k / 65536
+pub first-part : (n k : ℕ) → k < n → get_or (starts_of (replicate n 1)) k 0 ≡ 2147483648 / n * k / 65536
 first-part n k h =
     let inside : k < length (replicate {A = ℕ} n 1) = omega (arith, length-replicate {A = ℕ} n 1) in
     let below : take k (replicate {A = ℕ} n 1) ≡ replicate k 1 = take-replicate k n 1 (omega arith) in
-    get_or-parts_of (replicate n 1) k inside ∙ rw (sum-ones n, below, sum-ones k) refl
+    get_or-starts_of (replicate n 1) k inside ∙ rw (sum-ones n, below, sum-ones k) refl
 
 -- the last symbol at v or below, before any symbol was counted
-pub first-last : (n v : ℕ) → 2 ≤ n → n ≤ 2048 → IsLastAt (parts_of (replicate n 1)) v (min (((v + 1) * 65536 - 1) / (2147483648 / n)) (n - 1))
+pub first-last : (n v : ℕ) → 2 ≤ n → n ≤ 2048 → IsLastAt (starts_of (replicate n 1)) v (min (((v + 1) * 65536 - 1) / (2147483648 / n)) (n - 1))
 first-last n v many few =
     let unit : ℕ = 2147483648 / n in
     let some : 0 < unit = le-div 1 2147483648 n (omega arith) (omega arith) in
@@ -49,33 +49,33 @@ first-last n v many few =
     let down : q * unit ≤ place = div-mul-le_self place unit in
     let up : place < unit * (q + 1) = lt-mul-div-succ place some in
     let here : s < n = omega arith in
-    last_at n (parts_of (replicate n 1)) v s (first-AreParts n many few) here
+    last_at n (starts_of (replicate n 1)) v s (first-AreStarts n many few) here
     (rw (first-part n s here) (omega arith))
     (λ next. let same : s ≡ q = omega arith in rw (first-part n (s + 1) next, same) (omega arith))
 
 -- ---- where a part ends
-pub part_end-last : (parts : List ℕ) (n s : ℕ) → length parts ≡ n → s + 1 ≡ n → part_end parts s ≡ 32768
-part_end-last parts n s size last = cond-true _ _ _ (eq-eqb (s + 1) (length parts) (last ∙ sym size))
+pub part_end-last : (starts : List ℕ) (n s : ℕ) → length starts ≡ n → s + 1 ≡ n → part_end starts s ≡ 32768
+part_end-last starts n s size last = cond-true _ _ _ (eq-eqb (s + 1) (length starts) (last ∙ sym size))
 
-pub part_end-inner : (parts : List ℕ) (n s : ℕ) → length parts ≡ n → (s + 1 ≡ n → ⊥) → part_end parts s ≡ get_or parts (s + 1) 0
-part_end-inner parts n s size inner = cond-false _ _ _ (ne_eqb (s + 1) (length parts) (λ e. inner (e ∙ size)))
+pub part_end-inner : (starts : List ℕ) (n s : ℕ) → length starts ≡ n → (s + 1 ≡ n → ⊥) → part_end starts s ≡ get_or starts (s + 1) 0
+part_end-inner starts n s size inner = cond-false _ _ _ (ne_eqb (s + 1) (length starts) (λ e. inner (e ∙ size)))
 
 -- no part is empty, and the last ends at 2 ^ 15
-pub part_end-above : (n : ℕ) (parts : List ℕ) (s : ℕ) → AreParts n parts → s < n → (get_or parts s 0 < part_end parts s) × (part_end parts s ≤ 32768)
-part_end-above n parts s h below =
-    ⊎_elim {C = (get_or parts s 0 < part_end parts s) × (part_end parts s ≤ 32768)}
-    (λ (last : s + 1 ≡ n). rw (part_end-last parts n s h.length last) (h.within s below, omega arith))
-    (λ (inner : s + 1 ≡ n → ⊥). rw (part_end-inner parts n s h.length inner) (h.rising s (omega (arith, inner)), omega (arith, h.within (s + 1) (omega (arith, inner)))))
+pub part_end-above : (n : ℕ) (starts : List ℕ) (s : ℕ) → AreStarts n starts → s < n → (get_or starts s 0 < part_end starts s) × (part_end starts s ≤ 32768)
+part_end-above n starts s h below =
+    ⊎_elim {C = (get_or starts s 0 < part_end starts s) × (part_end starts s ≤ 32768)}
+    (λ (last : s + 1 ≡ n). rw (part_end-last starts n s h.length last) (h.within s below, omega arith))
+    (λ (inner : s + 1 ≡ n → ⊥). rw (part_end-inner starts n s h.length inner) (h.rising s (omega (arith, inner)), omega (arith, h.within (s + 1) (omega (arith, inner)))))
     (cases_eq (s + 1) n)
 
 -- ---- the look-up table of a model that is laid out
-pub length-parts_in : (p : Place) (cells : List ℕ) → length cells ≡ extent p.size → length (parts_in p.size cells) ≡ p.size
-length-parts_in p cells h = length-take-le p.size (drop p.size cells) (omega (arith, length-drop p.size cells))
+pub length-starts_in : (p : Place) (cells : List ℕ) → length cells ≡ extent p.size → length (starts_in p.size cells) ≡ p.size
+length-starts_in p cells h = length-take-le p.size (drop p.size cells) (omega (arith, length-drop p.size cells))
 
 -- an entry, by its place among the cells
 pub record AreEntries (p : Place) (cells : List ℕ) (t : ℕ) : Type 0 where
   pub within : 2 * p.size + t < length cells
-  pub last : IsLastAt (parts_in p.size cells) (t * 2 ^ p.shift) (get_or cells (2 * p.size + t) 0)
+  pub last : IsLastAt (starts_in p.size cells) (t * 2 ^ p.shift) (get_or cells (2 * p.size + t) 0)
 
 pub entry_at : (p : Place) (cells : List ℕ) (t : ℕ) → IsShaped p → length cells ≡ extent p.size → IsLaid p cells → 16 < p.size → t ≤ 2 ^ table_bits p.size → AreEntries p cells t
 entry_at p cells t shape size laid many below =
@@ -100,7 +100,7 @@ extent-few n few =
     (cases_lt 16 n)
 
 -- where a part begins, by its place among the cells
-pub part_at : (n s : ℕ) (cells : List ℕ) → s < n → get_or (parts_in n cells) s 0 ≡ get_or cells (n + s) 0
+pub part_at : (n s : ℕ) (cells : List ℕ) → s < n → get_or (starts_in n cells) s 0 ≡ get_or cells (n + s) 0
 part_at n s cells h = get_or-take n (drop n cells) s 0 h ∙ get_or-drop n cells s 0
 
 -- a place below 2 ^ 15 has an entry before it and one behind it
@@ -113,14 +113,14 @@ entry-below p v shape below =
     omega arith
 
 -- low and high bound the last symbol whose part begins at v or below
-pub record AreBounds (parts : List ℕ) (n low high v : ℕ) : Type 0 where
+pub record AreBounds (starts : List ℕ) (n low high v : ℕ) : Type 0 where
   pub order : low < high
   pub within : high ≤ n
-  pub start : get_or parts low 0 ≤ v
-  pub end : high < n → v < get_or parts high 0
+  pub start : get_or starts low 0 ≤ v
+  pub end : high < n → v < get_or starts high 0
 
 pub bounds_at : (p : Place) (cells : List ℕ) (v : ℕ) → IsShaped p → length cells ≡ extent p.size → IsLaid p cells → 16 < p.size → v < 32768
-    → AreBounds (parts_in p.size cells) p.size (get_or cells (2 * p.size + v / 2 ^ p.shift) 0) (get_or cells (2 * p.size + v / 2 ^ p.shift + 1) 0 + 1) v
+    → AreBounds (starts_in p.size cells) p.size (get_or cells (2 * p.size + v / 2 ^ p.shift) 0) (get_or cells (2 * p.size + v / 2 ^ p.shift + 1) 0 + 1) v
 bounds_at p cells v shape size laid many below =
     let n : ℕ = p.size in
     let unit : ℕ = 2 ^ p.shift in
@@ -131,9 +131,9 @@ bounds_at p cells v shape size laid many below =
     let up : v < unit * (t + 1) = lt-mul-div-succ v some in
     let e = entry_at p cells t shape size laid many (omega arith) in
     let f = entry_at p cells (t + 1) shape size laid many (omega arith) in
-    let g : IsLastAt (parts_in n cells) ((t + 1) * unit) (get_or cells (2 * n + t + 1) 0) =
+    let g : IsLastAt (starts_in n cells) ((t + 1) * unit) (get_or cells (2 * n + t + 1) 0) =
     let place : 2 * n + (t + 1) ≡ 2 * n + t + 1 = omega arith in rw place at f.last in
-    let count : length (parts_in n cells) ≡ n = length-parts_in p cells size in
+    let count : length (starts_in n cells) ≡ n = length-starts_in p cells size in
     let low : ℕ = get_or cells (2 * n + t) 0 in
     let high : ℕ = get_or cells (2 * n + t + 1) 0 in
     record {
@@ -142,9 +142,9 @@ bounds_at p cells v shape size laid many below =
       start = omega (arith, e.last.start);
       end = λ inner.
           ⊎_elim
-          (λ (above : v < get_or (parts_in n cells) (high + 1) 0). above)
-          (λ (at : get_or (parts_in n cells) (high + 1) 0 ≤ v). absurd (omega (arith, g.greatest (high + 1) (omega arith) (omega arith))))
-          (cases_lt v (get_or (parts_in n cells) (high + 1) 0));
+          (λ (above : v < get_or (starts_in n cells) (high + 1) 0). above)
+          (λ (at : get_or (starts_in n cells) (high + 1) 0 ≤ v). absurd (omega (arith, g.greatest (high + 1) (omega arith) (omega arith))))
+          (cases_lt v (get_or (starts_in n cells) (high + 1) 0));
     }
 
 -- ---- one symbol more
@@ -157,26 +157,26 @@ take-set-below n cells s x below within =
     let written : set cells s x ≡ set (take n cells) s x ++ drop n cells = rw same at whole in
     rw written (take_at (set (take n cells) s x) (drop n cells) n (length-set (take n cells) s x ∙ front))
 
-pub AreCounts-bumped : (counts : List ℕ) (s : ℕ) → AreCounts counts → s < length counts → AreCounts (bumped counts s)
-AreCounts-bumped counts s h below =
-    let size : length (bumped counts s) ≡ length counts = length-set counts s (get_or counts s 0 + 1) in
+pub AreCounts-counts_with : (counts : List ℕ) (s : ℕ) → AreCounts counts → s < length counts → AreCounts (counts_with counts s)
+AreCounts-counts_with counts s h below =
+    let size : length (counts_with counts s) ≡ length counts = length-set counts s (get_or counts s 0 + 1) in
     record {
       many = omega (arith, h.many);
       few = omega (arith, h.few);
       some = λ k within.
-          ⊎_elim {C = 1 ≤ get_or (bumped counts s) k 0}
+          ⊎_elim {C = 1 ≤ get_or (counts_with counts s) k 0}
           (λ (e : k ≡ s). rw (e, get_or-set_same counts s (get_or counts s 0 + 1) 0 below) (omega arith))
           (λ (ne : k ≡ s → ⊥). rw (get_or-set_other counts s k (get_or counts s 0 + 1) 0 ne) (h.some k (omega arith)))
           (cases_eq k s);
     }
 
-pub sum-bumped : (counts : List ℕ) (s : ℕ) → s < length counts → sum (bumped counts s) ≡ sum counts + 1
-sum-bumped counts s below = omega (arith, sum_by-set (λ (x : ℕ). x) counts s (get_or counts s 0 + 1) 0 below)
+pub sum-counts_with : (counts : List ℕ) (s : ℕ) → s < length counts → sum (counts_with counts s) ≡ sum counts + 1
+sum-counts_with counts s below = omega (arith, sum_by-set (λ (x : ℕ). x) counts s (get_or counts s 0 + 1) 0 below)
 
 -- what a symbol more leaves of the cells of a model that is laid out
 pub record Bumps (n : ℕ) (old new : List ℕ) (s : ℕ) : Type 0 where
-  pub counts : counts_in n new ≡ bumped (counts_in n old) s
-  pub parts : parts_in n new ≡ parts_in n old
+  pub counts : counts_in n new ≡ counts_with (counts_in n old) s
+  pub starts : starts_in n new ≡ starts_in n old
   pub table : table_in n new ≡ table_in n old
   pub good : AreCounts (counts_in n old) → AreCounts (counts_in n new)
   pub sum : sum (counts_in n new) ≡ sum (counts_in n old) + 1
@@ -185,41 +185,41 @@ pub bumps : (n s : ℕ) (cells : List ℕ) → s < n → n ≤ length cells → 
 bumps n s cells below within =
     let front : length (take n cells) ≡ n = length-take-le n cells within in
     let at : get_or (take n cells) s 0 ≡ get_or cells s 0 = get_or-take n cells s 0 below in
-    let counts : take n (set cells s (get_or cells s 0 + 1)) ≡ bumped (take n cells) s =
+    let counts : take n (set cells s (get_or cells s 0 + 1)) ≡ counts_with (take n cells) s =
     take-set-below n cells s (get_or cells s 0 + 1) below within ∙ ap (λ x. set (take n cells) s (x + 1)) (sym at) in
     let rest : drop n (set cells s (get_or cells s 0 + 1)) ≡ drop n cells = drop-set-lt n cells s (get_or cells s 0 + 1) below in
     record {
       counts = counts;
-      parts = ap (take n) rest;
+      starts = ap (take n) rest;
       table = ap (drop n) rest;
-      good = λ h. rw counts (AreCounts-bumped (take n cells) s h (omega arith));
-      sum = ap sum counts ∙ sum-bumped (take n cells) s (omega arith);
+      good = λ h. rw counts (AreCounts-counts_with (take n cells) s h (omega arith));
+      sum = ap sum counts ∙ sum-counts_with (take n cells) s (omega arith);
     }
 
 -- a symbol more, not the last one of the cycle
 abbrev pub one_fewer : Place → Place
-one_fewer p = record { start = p.start; end = p.end; size = p.size; shift = p.shift; total = p.total; cycle = p.cycle; left = p.left - 1 }
+one_fewer p = record { start = p.start; end = p.end; size = p.size; shift = p.shift; total = p.total; cycle = p.cycle; remaining = p.remaining - 1 }
 
 pub record Adds (p : Place) (old new : List ℕ) (s : ℕ) : Type 0 where
   pub laid : IsLaid (one_fewer p) new
-  pub counted : laid_state (one_fewer p) new ≡ counted (laid_state p old) s
+  pub after_symbol : laid_state (one_fewer p) new ≡ after_symbol (laid_state p old) s
 
-pub adds : (p : Place) (cells : List ℕ) (s : ℕ) → IsLaid p cells → p.size ≤ length cells → s < p.size → 2 ≤ p.left → Adds p cells (set cells s (get_or cells s 0 + 1)) s
+pub adds : (p : Place) (cells : List ℕ) (s : ℕ) → IsLaid p cells → p.size ≤ length cells → s < p.size → 2 ≤ p.remaining → Adds p cells (set cells s (get_or cells s 0 + 1)) s
 adds p cells s laid within below more =
     let b = bumps p.size s cells below within in
     record {
       laid = record {
         counts = b.good laid.counts;
-        parts = rw b.parts laid.parts;
-        table = rw (b.table, b.parts) laid.table;
+        starts = rw b.starts laid.starts;
+        table = rw (b.table, b.starts) laid.table;
         total = laid.total;
         sum = omega (arith, laid.sum, b.sum);
-        left = omega arith;
+        remaining = omega arith;
         within = omega (arith, laid.within);
         four = laid.four;
         cycle = laid.cycle;
       };
-      counted = rw (b.counts, b.parts) (sym (counted-more (laid_state p cells) s (λ e. omega (arith, e))));
+      after_symbol = rw (b.counts, b.starts) (sym (after_symbol-more (laid_state p cells) s (λ e. omega (arith, e))));
     }
 
 -- a count of a model that is laid out is far below 2 ^ 32

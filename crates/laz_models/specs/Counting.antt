@@ -1,13 +1,14 @@
 use Rattle.std.specs.Prelude.{◌≡◌, ℕ, ◌+◌, ◌-◌, ◌*◌, ◌/◌, ◌<◌, ◌≤◌, ◌==◌, min, List, length, take, map, sum, replicate, nat_lt, if◌then◌else◌, slice_index, slice_set}
 use Rattle.std.specs.List.{range_with_len}
+use Rattle.laz_models.specs.declared.limits.TheConstants.{MAX_COUNT, MAX_SYMBOLS, SYMBOL_PARTS}
 
 -- What a model of symbols knows: how often each symbol came, where each symbol's part begins as it was last computed,
 -- how long the present cycle is, and how many of its symbols are still to come.
 pub record Counting : Type 0 where
   pub counts : List ℕ
-  pub parts : List ℕ
+  pub starts : List ℕ
   pub cycle : ℕ
-  pub left : ℕ
+  pub remaining : ℕ
 
 -- How long the first cycle of a model of n symbols is (LASzip).
 abbrev pub first_cycle : ℕ → ℕ
@@ -22,46 +23,46 @@ abbrev pub part_start : List ℕ → ℕ → ℕ
 part_start counts k = 2147483648 / sum counts * sum (take k counts) / 65536
 
 -- Where the part of each symbol begins.
-unfoldable pub parts_of : List ℕ → List ℕ
-parts_of counts = map (part_start counts) (range_with_len 0 (length counts))
+unfoldable pub starts_of : List ℕ → List ℕ
+starts_of counts = map (part_start counts) (range_with_len 0 (length counts))
 
 -- Each count halved, and rounded up, so that none becomes 0.
-abbrev pub halved : List ℕ → List ℕ
-halved counts = map (λ c. (c + 1) / 2) counts
+abbrev pub halves_of : List ℕ → List ℕ
+halves_of counts = map (λ c. (c + 1) / 2) counts
 
 -- Counts whose sum is above 2 ^ 15 are halved (LASzip).
-unfoldable pub limited : List ℕ → List ℕ
-limited counts = if nat_lt 32768 (sum counts) then halved counts else counts
+unfoldable pub small_counts : List ℕ → List ℕ
+small_counts counts = if nat_lt MAX_COUNT (sum counts) then halves_of counts else counts
 
 -- One more of symbol s.
-abbrev pub bumped : List ℕ → ℕ → List ℕ
-bumped counts s = slice_set counts s (slice_index counts s + 1)
+abbrev pub counts_with : List ℕ → ℕ → List ℕ
+counts_with counts s = slice_set counts s (slice_index counts s + 1)
 
 -- A new cycle, behind one of this length.
-unfoldable pub turned : List ℕ → ℕ → Counting
-turned counts cycle = record { counts = limited counts; parts = parts_of (limited counts); cycle = next_cycle (length counts) cycle; left = next_cycle (length counts) cycle }
+unfoldable pub new_cycle : List ℕ → ℕ → Counting
+new_cycle counts cycle = record { counts = small_counts counts; starts = starts_of (small_counts counts); cycle = next_cycle (length counts) cycle; remaining = next_cycle (length counts) cycle }
 
 -- One symbol more.
-unfoldable pub counted : Counting → ℕ → Counting
-counted m s = if m.left == 1 then turned (bumped m.counts s) m.cycle else record { counts = bumped m.counts s; parts = m.parts; cycle = m.cycle; left = m.left - 1 }
+unfoldable pub after_symbol : Counting → ℕ → Counting
+after_symbol m s = if m.remaining == 1 then new_cycle (counts_with m.counts s) m.cycle else record { counts = counts_with m.counts s; starts = m.starts; cycle = m.cycle; remaining = m.remaining - 1 }
 
 -- No symbol yet.
-unfoldable pub fresh : ℕ → Counting
-fresh n = record { counts = replicate n 1; parts = parts_of (replicate n 1); cycle = first_cycle n; left = first_cycle n }
+unfoldable pub new_model : ℕ → Counting
+new_model n = record { counts = replicate n 1; starts = starts_of (replicate n 1); cycle = first_cycle n; remaining = first_cycle n }
 
 -- Where the part of symbol s ends. The last one ends at 2 ^ 15.
 abbrev pub part_end : List ℕ → ℕ → ℕ
-part_end parts s = if s + 1 == length parts then 32768 else slice_index parts (s + 1)
+part_end starts s = if s + 1 == length starts then SYMBOL_PARTS else slice_index starts (s + 1)
 
 -- Counts of a model: each is at least 1.
 pub record AreCounts (counts : List ℕ) : Type 0 where
   pub many : 2 ≤ length counts
-  pub few : length counts ≤ 2048
+  pub few : length counts ≤ MAX_SYMBOLS
   pub some : (k : ℕ) → k < length counts → 1 ≤ slice_index counts k
 
 -- Parts of n symbols, none of which is empty.
-pub record AreParts (n : ℕ) (parts : List ℕ) : Type 0 where
-  pub length : length parts ≡ n
-  pub first : slice_index parts 0 ≡ 0
-  pub rising : (k : ℕ) → k + 1 < n → slice_index parts k < slice_index parts (k + 1)
-  pub within : (k : ℕ) → k < n → slice_index parts k < 32768
+pub record AreStarts (n : ℕ) (starts : List ℕ) : Type 0 where
+  pub length : length starts ≡ n
+  pub first : slice_index starts 0 ≡ 0
+  pub rising : (k : ℕ) → k + 1 < n → slice_index starts k < slice_index starts (k + 1)
+  pub within : (k : ℕ) → k < n → slice_index starts k < SYMBOL_PARTS

@@ -2,6 +2,7 @@ pub mod Bank
 pub mod BitCounting
 pub mod BitDist
 pub mod Counting
+pub mod Cycles
 pub mod Dist
 pub mod Lookup
 pub mod Place

@@ -1,10 +1,10 @@
 use Rattle.std.specs.Prelude.{ℕ, ◌+◌, ◌^◌, ◌<◌, ◌≤◌, List, [], ◌∷◌, length, count_by, nat_lt, if◌then◌else◌, slice_index}
 
 -- s is the greatest symbol whose part begins at v or below.
-pub record IsLastAt (parts : List ℕ) (v s : ℕ) : Type 0 where
-  pub symbol : s < length parts
-  pub start : slice_index parts s ≤ v
-  pub greatest : (k : ℕ) → k < length parts → slice_index parts k ≤ v → k ≤ s
+pub record IsLastAt (starts : List ℕ) (v s : ℕ) : Type 0 where
+  pub symbol : s < length starts
+  pub start : slice_index starts s ≤ v
+  pub greatest : (k : ℕ) → k < length starts → slice_index starts k ≤ v → k ≤ s
 
 -- How many bits of a place, which has 15, choose an entry of the look-up table of n symbols: the least number b from 3 on
 -- with n ≤ 2 ^ (b + 2), where n is at most 2048 (LASzip).

@@ -1,25 +1,26 @@
 use Rattle.std.specs.Prelude.{◌≡◌, ℕ, ◌+◌, ◌-◌, ◌*◌, ◌^◌, ◌<◌, ◌≤◌, ◌==◌, List, length, take, drop, sum, if◌then◌else◌, slice_index, slice_index_or, slice_range}
-use Rattle.laz_models.specs.Counting.{Counting, AreCounts, AreParts, fresh}
+use Rattle.laz_models.specs.Counting.{Counting, AreCounts, AreStarts, new_model}
 use Rattle.laz_models.specs.Lookup.{IsLastAt, table_bits, table_length}
 use Rattle.laz_models.specs.declared.place.Place.{Place}
+use Rattle.laz_models.specs.declared.limits.TheConstants.{MAX_COUNT, MAX_SYMBOLS}
 
 -- The cells of a model of n symbols: its counts, where its parts begin, and its look-up table.
 abbrev pub counts_in : ℕ → List ℕ → List ℕ
 counts_in n cells = take n cells
 
-abbrev pub parts_in : ℕ → List ℕ → List ℕ
-parts_in n cells = take n (drop n cells)
+abbrev pub starts_in : ℕ → List ℕ → List ℕ
+starts_in n cells = take n (drop n cells)
 
 abbrev pub table_in : ℕ → List ℕ → List ℕ
 table_in n cells = drop n (drop n cells)
 
 -- Each entry of the look-up table is the last symbol whose part begins at the entry's place or below.
 abbrev pub IsTable : ℕ → ℕ → List ℕ → Type 0
-IsTable n shift cells = (t : ℕ) → t < length (table_in n cells) → IsLastAt (parts_in n cells) (t * 2 ^ shift) (slice_index (table_in n cells) t)
+IsTable n shift cells = (t : ℕ) → t < length (table_in n cells) → IsLastAt (starts_in n cells) (t * 2 ^ shift) (slice_index (table_in n cells) t)
 
 -- What a model knows whose cells are laid out.
 abbrev pub laid_state : Place → List ℕ → Counting
-laid_state p cells = record { counts = counts_in p.size cells; parts = parts_in p.size cells; cycle = p.cycle; left = p.left }
+laid_state p cells = record { counts = counts_in p.size cells; starts = starts_in p.size cells; cycle = p.cycle; remaining = p.remaining }
 
 -- How many cells a model of n symbols has.
 abbrev pub extent : ℕ → ℕ
@@ -28,26 +29,26 @@ extent n = n + (n + table_length n)
 -- What a place says of its model, whatever the cells hold.
 pub record IsShaped (p : Place) : Type 0 where
   pub many : 2 ≤ p.size
-  pub few : p.size ≤ 2048
+  pub few : p.size ≤ MAX_SYMBOLS
   pub shift : p.shift ≡ 15 - table_bits p.size
   pub extent : p.end ≡ p.start + extent p.size
 
 -- What holds of the cells of a model that are laid out; the total is that of the counts when the cycle began.
 pub record IsLaid (p : Place) (cells : List ℕ) : Type 0 where
   pub counts : AreCounts (counts_in p.size cells)
-  pub parts : AreParts p.size (parts_in p.size cells)
+  pub starts : AreStarts p.size (starts_in p.size cells)
   pub table : IsTable p.size p.shift cells
-  pub total : p.total ≤ 32768
-  pub sum : sum (counts_in p.size cells) + p.left ≡ p.total + p.cycle
-  pub left : 1 ≤ p.left
-  pub within : p.left ≤ p.cycle
+  pub total : p.total ≤ MAX_COUNT
+  pub sum : sum (counts_in p.size cells) + p.remaining ≡ p.total + p.cycle
+  pub remaining : 1 ≤ p.remaining
+  pub within : p.remaining ≤ p.cycle
   pub four : 4 ≤ p.cycle
   pub cycle : p.cycle ≤ 8 * (p.size + 6)
 
 -- The same, where the cycle has ended.
 pub record IsDue (p : Place) (cells : List ℕ) : Type 0 where
   pub counts : AreCounts (counts_in p.size cells)
-  pub total : p.total ≤ 32768
+  pub total : p.total ≤ MAX_COUNT
   pub sum : sum (counts_in p.size cells) ≡ p.total + p.cycle
   pub four : 4 ≤ p.cycle
   pub cycle : p.cycle ≤ 8 * (p.size + 6)
@@ -60,32 +61,32 @@ pub record SamePlace (old new : Place) : Type 0 where
   pub shift : new.shift ≡ old.shift
 
 -- The cells of the model at a place, of all cells.
-abbrev pub own : Place → List ℕ → List ℕ
-own p cells = slice_range cells p.start p.end
+abbrev pub cells_of : Place → List ℕ → List ℕ
+cells_of p cells = slice_range cells p.start p.end
 
 -- What a model knows, from its place and its own cells.
-unfoldable pub state_of : Place → List ℕ → Counting
-state_of p cells = if p.left == 0 then fresh p.size else laid_state p cells
+unfoldable pub counting_of : Place → List ℕ → Counting
+counting_of p cells = if p.remaining == 0 then new_model p.size else laid_state p cells
 
 -- What holds of a model between any two calls.
 pub record IsModel (p : Place) (cells : List ℕ) : Type 0 where
   pub shape : IsShaped p
   pub length : length cells ≡ extent p.size
-  pub laid : 0 < p.left → IsLaid p cells
+  pub laid : 0 < p.remaining → IsLaid p cells
 
 -- All cells but those of one model are as they were.
 pub record SameOutside (start end : ℕ) (old new : List ℕ) : Type 0 where
   pub length : length new ≡ length old
   pub before : (i : ℕ) → i < start → slice_index new i ≡ slice_index old i
-  pub behind : (i : ℕ) → end ≤ i → slice_index new i ≡ slice_index old i
+  pub after : (i : ℕ) → end ≤ i → slice_index new i ≡ slice_index old i
 
 -- What the model at a place knows.
-abbrev pub state_in : List ℕ → Place → Counting
-state_in cells p = state_of p (own p cells)
+abbrev pub counting_in : List ℕ → Place → Counting
+counting_in cells p = counting_of p (cells_of p cells)
 
 -- A model lies at a place, among all cells.
 pub record IsPlaced (p : Place) (cells : List ℕ) : Type 0 where
-  pub model : IsModel p (own p cells)
+  pub model : IsModel p (cells_of p cells)
   pub within : p.end ≤ length cells
 
 -- The models of a bank lie apart, in order.
@@ -98,10 +99,10 @@ pub record IsLayout (places : List Place) (sizes : List ℕ) (end : ℕ) : Type 
   pub count : length places ≡ length sizes
   pub shape : (m : ℕ) (d : Place) → m < length places → IsShaped (slice_index_or places m d)
   pub size : (m : ℕ) (d : Place) → m < length places → (slice_index_or places m d).size ≡ slice_index sizes m
-  pub first : (m : ℕ) (d : Place) → m < length places → (slice_index_or places m d).left ≡ 0
+  pub first : (m : ℕ) (d : Place) → m < length places → (slice_index_or places m d).remaining ≡ 0
   pub within : (m : ℕ) (d : Place) → m < length places → (slice_index_or places m d).end ≤ end
   pub apart : (i j : ℕ) (d : Place) → i < j → j < length places → (slice_index_or places i d).end ≤ (slice_index_or places j d).start
 
 -- A place whose model is as at the start.
-abbrev pub as_first : Place → Place
-as_first p = record { start = p.start; end = p.end; size = p.size; shift = p.shift; total = p.total; cycle = p.cycle; left = 0 }
+abbrev pub as_new : Place → Place
+as_new p = record { start = p.start; end = p.end; size = p.size; shift = p.shift; total = p.total; cycle = p.cycle; remaining = 0 }

@@ -1,8 +1,9 @@
 //! A bank of models of symbols.
 ghost use Rattle.std.specs.Prelude.{◌≡◌, ◌≢◌, ℕ, ◌+◌, ◌-◌, ◌*◌, ◌^◌, ◌<◌, ◌≤◌, List, [], ◌∷◌, ◌++◌, length, map, All, IfOk, slice_index, slice_set};
 
+use crate::limits::{MAX_MODELS, MAX_SYMBOLS, SYMBOL_PARTS};
 use crate::place::Place;
-use crate::{cells, lookup};
+use crate::{bank_cells, lookup};
 use std::alloc::{AllocError, Global};
 use std::marker::Model;
 
@@ -19,59 +20,59 @@ pub struct ModelBank {
 impl Model for ModelBank {
     ghost use Rattle.std.specs.Prelude.{List, map};
     ghost use Rattle.laz_models.specs.Counting.{Counting};
-    ghost use Rattle.laz_models.specs.Place.{IsBank, state_in};
+    ghost use Rattle.laz_models.specs.Place.{IsBank, counting_in};
 
     ghost Value = { List Counting };
 
-    ghost view = { λ b. map (state_in b.cells.items) b.places.items };
+    ghost view = { λ b. map (counting_in b.cells.items) b.places.items };
 
     ghost invariant = { λ b. IsBank b.places.items b.cells.items };
 }
 
 impl ModelBank {
-    ghost use Rattle.laz_models.specs.Counting.{counted, fresh, part_end, AreParts};
-    ghost use Rattle.laz_models.specs.Dist.{dist, size_of, StandsFor};
+    ghost use Rattle.laz_models.specs.Counting.{after_symbol, new_model, part_end, AreStarts};
+    ghost use Rattle.laz_models.specs.Dist.{dist, alphabet_size, StandsFor};
     ghost use Rattle.laz_models.specs.Lookup.{IsLastAt, table_bits};
-    ghost use Rattle.laz_models.specs.Bank.{model_at, sizes_of};
+    ghost use Rattle.laz_models.specs.Bank.{model_at, alphabet_sizes};
     ghost use Rattle.laz_models.specs.Sound.{AreSound};
 
     /// Models of these many symbols each: 1 to 1,024 models, each of 2 to 2,048 symbols.
     pub fn new(alloc: Global, sizes: &[u32]) -> Result<Self, AllocError>
         requires some { 1 ≤ length sizes.now }
-        requires few { length sizes.now ≤ 1024 }
-        requires range { All (λ n. (2 ≤ n) × (n ≤ 2048)) sizes.now }
-        ensures fresh { IfOk result (λ bank. bank ≡ map fresh sizes.now) }
-        ensures sizes { IfOk result (λ bank. sizes_of bank ≡ sizes.now) }
+        requires few { length sizes.now ≤ MAX_MODELS }
+        requires range { All (λ n. (2 ≤ n) × (n ≤ MAX_SYMBOLS)) sizes.now }
+        ensures new_model { IfOk result (λ bank. bank ≡ map new_model sizes.now) }
+        ensures sizes { IfOk result (λ bank. alphabet_sizes bank ≡ sizes.now) }
         ensures sound { IfOk result (λ bank. AreSound bank) }
         ensures stands { IfOk result (λ bank. (m : ℕ) → m < length sizes.now → StandsFor [] (model_at bank m)) }
     {
-        let (places, end) = cells::places_of(alloc, sizes)?;
+        let (places, end) = bank_cells::places_of(alloc, sizes)?;
         let cells = vec![in alloc; 0; end]?;
         Ok(ModelBank { cells, places })
     }
 
     /// Makes all models as new. The cost is one write a model.
     pub fn reset(&mut self)
-        ensures fresh { self.new ≡ map (λ m. fresh (size_of m)) self.old }
-        ensures sizes { sizes_of self.new ≡ sizes_of self.old }
+        ensures new_model { self.new ≡ map (λ m. new_model (alphabet_size m)) self.old }
+        ensures sizes { alphabet_sizes self.new ≡ alphabet_sizes self.old }
         ensures sound { AreSound self.new }
         ensures stands { (m : ℕ) → m < length self.old → StandsFor [] (model_at self.new m) }
     {
-        cells::forget_all(&mut self.places);
+        bank_cells::reset_all(&mut self.places);
     }
 
     /// Where the part of symbol `s` of model `m` begins and ends, of 2^15. The last symbol's part ends at 32,768.
     #[inline]
     pub fn part(&self, m: u32, s: u32) -> (u32, u32)
         requires model { m < length self.now }
-        requires symbol { s < size_of (model_at self.now m) }
-        ensures start { result.0 ≡ slice_index (model_at self.now m).parts s }
-        ensures end { result.1 ≡ part_end (model_at self.now m).parts s }
+        requires symbol { s < alphabet_size (model_at self.now m) }
+        ensures start { result.0 ≡ slice_index (model_at self.now m).starts s }
+        ensures end { result.1 ≡ part_end (model_at self.now m).starts s }
         ensures some { result.0 < result.1 }
-        ensures whole { result.1 ≤ 32768 }
+        ensures whole { result.1 ≤ SYMBOL_PARTS }
         ensures dist { (h : List ℕ) → StandsFor h (model_at self.now m)
-            → let parts = dist (size_of (model_at self.now m)) h
-            in (result.0 ≡ slice_index parts s) × (result.1 ≡ part_end parts s) }
+            → let starts = dist (alphabet_size (model_at self.now m)) h
+            in (result.0 ≡ slice_index starts s) × (result.1 ≡ part_end starts s) }
     {
         let place = &self.places[m as usize];
         lookup::part(&self.cells[place.start..place.end], place, s)
@@ -81,10 +82,10 @@ impl ModelBank {
     #[inline]
     pub fn find(&self, m: u32, v: u32) -> u32
         requires { m < length self.now }
-        ensures last { IsLastAt (model_at self.now m).parts v result }
-        ensures parts { AreParts (size_of (model_at self.now m)) (model_at self.now m).parts }
+        ensures last { IsLastAt (model_at self.now m).starts v result }
+        ensures starts { AreStarts (alphabet_size (model_at self.now m)) (model_at self.now m).starts }
         ensures dist { (h : List ℕ) → StandsFor h (model_at self.now m)
-            → IsLastAt (dist (size_of (model_at self.now m)) h) v result }
+            → IsLastAt (dist (alphabet_size (model_at self.now m)) h) v result }
     {
         let place = &self.places[m as usize];
         lookup::find(&self.cells[place.start..place.end], place, v)
@@ -96,12 +97,12 @@ impl ModelBank {
     #[inline]
     pub fn entry(&self, m: u32, t: u32) -> u32
         requires model { m < length self.now }
-        requires many { 16 < size_of (model_at self.now m) }
-        requires entry { t ≤ 2 ^ table_bits (size_of (model_at self.now m)) }
-        ensures last { let n = size_of (model_at self.now m)
-            in IsLastAt (model_at self.now m).parts (t * 2 ^ (15 - table_bits n)) result }
+        requires many { 16 < alphabet_size (model_at self.now m) }
+        requires entry { t ≤ 2 ^ table_bits (alphabet_size (model_at self.now m)) }
+        ensures last { let n = alphabet_size (model_at self.now m)
+            in IsLastAt (model_at self.now m).starts (t * 2 ^ (15 - table_bits n)) result }
         ensures dist { (h : List ℕ) → StandsFor h (model_at self.now m)
-            → let n = size_of (model_at self.now m)
+            → let n = alphabet_size (model_at self.now m)
             in IsLastAt (dist n h) (t * 2 ^ (15 - table_bits n)) result }
     {
         let place = &self.places[m as usize];
@@ -112,14 +113,14 @@ impl ModelBank {
     #[inline]
     pub fn count(&mut self, m: u32, s: u32)
         requires model { m < length self.old }
-        requires symbol { s < size_of (model_at self.old m) }
-        ensures counted { self.new ≡ slice_set self.old m (counted (model_at self.old m) s) }
+        requires symbol { s < alphabet_size (model_at self.old m) }
+        ensures after_symbol { self.new ≡ slice_set self.old m (after_symbol (model_at self.old m) s) }
         ensures stands { (h : List ℕ) → StandsFor h (model_at self.old m)
             → StandsFor (h ++ s ∷ []) (model_at self.new m) }
         ensures others { (k : ℕ) → k ≢ m → model_at self.new k ≡ model_at self.old k }
-        ensures sizes { sizes_of self.new ≡ sizes_of self.old }
+        ensures sizes { alphabet_sizes self.new ≡ alphabet_sizes self.old }
         ensures sound { AreSound self.new }
     {
-        cells::count_at(&mut self.cells, &mut self.places[m as usize], s);
+        bank_cells::count_at(&mut self.cells, &mut self.places[m as usize], s);
     }
 }

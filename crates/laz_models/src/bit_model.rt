@@ -1,8 +1,9 @@
 //! A model of bits.
 ghost use Rattle.std.specs.Prelude.{◌≡◌, ◌+◌, ◌<◌, ◌≤◌, Bool, List, [], ◌∷◌, ◌++◌};
-ghost use Rattle.laz_models.specs.BitCounting.{BitCounting, IsBitCounting, fresh_bit, bit_counted, bit_turned, bit_limited};
+ghost use Rattle.laz_models.specs.BitCounting.{BitCounting, IsBitCounting, new_bit_model, after_bit, new_bit_cycle, small_bit_counts};
 ghost use Rattle.laz_models.specs.BitDist.{p0_of, BitStandsFor};
 
+use crate::limits::{BIT_PARTS, MAX_BIT_COUNT};
 use std::marker::Model;
 
 /// A model of bits, which gives the bit 0 a part of 2^13, and the bit 1 the rest.
@@ -15,7 +16,7 @@ pub struct BitModel {
     count: u32,
     p0: u32,
     cycle: u32,
-    left: u32,
+    remaining: u32,
 }
 
 impl Model for BitModel {
@@ -23,15 +24,15 @@ impl Model for BitModel {
 
     ghost Value = { BitCounting };
 
-    ghost view = { λ m. record { zeros = m.zeros; count = m.count; p0 = m.p0; cycle = m.cycle; left = m.left } };
+    ghost view = { λ m. record { zeros = m.zeros; count = m.count; p0 = m.p0; cycle = m.cycle; remaining = m.remaining } };
 
-    ghost invariant = { λ m. IsBitCounting (record { zeros = m.zeros; count = m.count; p0 = m.p0; cycle = m.cycle; left = m.left }) };
+    ghost invariant = { λ m. IsBitCounting (record { zeros = m.zeros; count = m.count; p0 = m.p0; cycle = m.cycle; remaining = m.remaining }) };
 }
 
 impl BitModel {
     /// A model of bits.
     pub fn new() -> Self
-        ensures fresh { result ≡ fresh_bit }
+        ensures new_model { result ≡ new_bit_model }
         ensures stands { BitStandsFor [] result }
         ensures sound { IsBitCounting result }
     {
@@ -40,13 +41,13 @@ impl BitModel {
             count: 2,
             p0: 4096,
             cycle: 4,
-            left: 4,
+            remaining: 4,
         }
     }
 
     /// Makes the model as new.
     pub fn reset(&mut self)
-        ensures fresh { self.new ≡ fresh_bit }
+        ensures new_model { self.new ≡ new_bit_model }
         ensures stands { BitStandsFor [] self.new }
         ensures sound { IsBitCounting self.new }
     {
@@ -58,7 +59,7 @@ impl BitModel {
     pub fn p0(&self) -> u32
         ensures value { result ≡ self.now.p0 }
         ensures some { 0 < result }
-        ensures below { result < 8192 }
+        ensures below { result < BIT_PARTS }
         ensures dist { (h : List Bool) → BitStandsFor h self.now → result ≡ p0_of h }
     {
         self.p0
@@ -67,16 +68,16 @@ impl BitModel {
     /// Counts a bit.
     #[inline]
     pub fn count(&mut self, bit: bool)
-        ensures counted { self.new ≡ bit_counted self.old bit }
+        ensures after_symbol { self.new ≡ after_bit self.old bit }
         ensures stands { (h : List Bool) → BitStandsFor h self.old → BitStandsFor (h ++ bit ∷ []) self.new }
         ensures sound { IsBitCounting self.new }
     {
         let zeros = if bit { self.zeros } else { self.zeros + 1 };
-        if self.left == 1 {
-            *self = turned(zeros, self.count + self.cycle, self.cycle);
+        if self.remaining == 1 {
+            *self = new_bit_cycle(zeros, self.count + self.cycle, self.cycle);
         } else {
             self.zeros = zeros;
-            self.left -= 1;
+            self.remaining -= 1;
         }
     }
 }
@@ -84,15 +85,15 @@ impl BitModel {
 /// The model at the beginning of a cycle, behind one of `cycle` bits, `zeros` of `count` bits being zeros.
 #[inline(never)]
 #[tactic(auto, using(crate::proofs::BitParts::p0_bounds))]
-fn turned(zeros: u32, count: u32, cycle: u32) -> BitModel
+fn new_bit_cycle(zeros: u32, count: u32, cycle: u32) -> BitModel
     requires some { 1 ≤ zeros }
     requires fewer { zeros < count }
-    requires count { count ≤ 8256 }
+    requires count { count ≤ MAX_BIT_COUNT + 64 }
     requires four { 4 ≤ cycle }
     requires cycle { cycle ≤ 64 }
-    ensures { result ≡ bit_turned zeros count cycle }
+    ensures { result ≡ new_bit_cycle zeros count cycle }
 {
-    let (zeros, count) = limited(zeros, count);
+    let (zeros, count) = small_bit_counts(zeros, count);
     let p0 = (zeros * (0x8000_0000 / count)) >> 18;
     let cycle = 64u32.min((5 * cycle) >> 2);
     BitModel {
@@ -100,21 +101,21 @@ fn turned(zeros: u32, count: u32, cycle: u32) -> BitModel
         count,
         p0,
         cycle,
-        left: cycle,
+        remaining: cycle,
     }
 }
 
 /// How many zeros of how many bits, halved where there are more than 2^13 bits.
-fn limited(zeros: u32, count: u32) -> (u32, u32)
+fn small_bit_counts(zeros: u32, count: u32) -> (u32, u32)
     requires some { 1 ≤ zeros }
     requires fewer { zeros < count }
-    requires count { count ≤ 8256 }
-    ensures limited { (result.0, result.1) ≡ bit_limited zeros count }
+    requires count { count ≤ MAX_BIT_COUNT + 64 }
+    ensures small_bit_counts { (result.0, result.1) ≡ small_bit_counts zeros count }
     ensures some { 1 ≤ result.0 }
     ensures fewer { result.0 < result.1 }
-    ensures count { result.1 ≤ 8192 }
+    ensures count { result.1 ≤ MAX_BIT_COUNT }
 {
-    if count <= 8192 {
+    if count <= MAX_BIT_COUNT {
         return (zeros, count);
     }
     let zeros = (zeros + 1) >> 1;

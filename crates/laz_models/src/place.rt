@@ -16,5 +16,5 @@ pub struct Place {
     /// How long the present cycle is.
     pub cycle: u32,
     /// How many symbols of it are still to come, or 0 where the model is as at the start and its cells are not laid out.
-    pub left: u32,
+    pub remaining: u32,
 }

@@ -2,6 +2,7 @@
 ghost use Rattle.std.specs.Prelude.{◌≡◌, ℕ, ◌+◌, ◌<◌, ◌≤◌, List, [], ◌∷◌, ◌++◌, IfOk, slice_index};
 
 use crate::bank::ModelBank;
+use crate::limits::{MAX_SYMBOLS, SYMBOL_PARTS};
 use std::alloc::{AllocError, Global};
 use std::marker::Model;
 
@@ -27,17 +28,17 @@ impl Model for SymbolModel {
 }
 
 impl SymbolModel {
-    ghost use Rattle.laz_models.specs.Counting.{counted, fresh, part_end, AreParts};
-    ghost use Rattle.laz_models.specs.Dist.{dist, size_of, StandsFor};
+    ghost use Rattle.laz_models.specs.Counting.{after_symbol, new_model, part_end, AreStarts};
+    ghost use Rattle.laz_models.specs.Dist.{dist, alphabet_size, StandsFor};
     ghost use Rattle.laz_models.specs.Lookup.{IsLastAt};
     ghost use Rattle.laz_models.specs.Sound.{IsSound};
 
     /// A model of `n` symbols, 2 to 2,048.
     pub fn new(alloc: Global, n: u32) -> Result<Self, AllocError>
         requires many { 2 ≤ n }
-        requires few { n ≤ 2048 }
-        ensures fresh { IfOk result (λ model. model ≡ fresh n) }
-        ensures size { IfOk result (λ model. size_of model ≡ n) }
+        requires few { n ≤ MAX_SYMBOLS }
+        ensures new_model { IfOk result (λ model. model ≡ new_model n) }
+        ensures size { IfOk result (λ model. alphabet_size model ≡ n) }
         ensures sound { IfOk result (λ model. IsSound model) }
         ensures stands { IfOk result (λ model. StandsFor [] model) }
     {
@@ -47,8 +48,8 @@ impl SymbolModel {
 
     /// Makes the model as new.
     pub fn reset(&mut self)
-        ensures fresh { self.new ≡ fresh (size_of self.old) }
-        ensures size { size_of self.new ≡ size_of self.old }
+        ensures new_model { self.new ≡ new_model (alphabet_size self.old) }
+        ensures size { alphabet_size self.new ≡ alphabet_size self.old }
         ensures sound { IsSound self.new }
         ensures stands { StandsFor [] self.new }
     {
@@ -58,14 +59,14 @@ impl SymbolModel {
     /// Where the part of symbol `s` begins and ends, of 2^15. The last symbol's part ends at 32,768.
     #[inline]
     pub fn part(&self, s: u32) -> (u32, u32)
-        requires { s < size_of self.now }
-        ensures start { result.0 ≡ slice_index self.now.parts s }
-        ensures end { result.1 ≡ part_end self.now.parts s }
+        requires { s < alphabet_size self.now }
+        ensures start { result.0 ≡ slice_index self.now.starts s }
+        ensures end { result.1 ≡ part_end self.now.starts s }
         ensures some { result.0 < result.1 }
-        ensures whole { result.1 ≤ 32768 }
+        ensures whole { result.1 ≤ SYMBOL_PARTS }
         ensures dist { (h : List ℕ) → StandsFor h self.now
-            → let parts = dist (size_of self.now) h
-            in (result.0 ≡ slice_index parts s) × (result.1 ≡ part_end parts s) }
+            → let starts = dist (alphabet_size self.now) h
+            in (result.0 ≡ slice_index starts s) × (result.1 ≡ part_end starts s) }
     {
         self.bank.part(0, s)
     }
@@ -73,9 +74,9 @@ impl SymbolModel {
     /// The greatest symbol whose part begins at `v` or below. For `v` of 32,768 or more it is the last one.
     #[inline]
     pub fn find(&self, v: u32) -> u32
-        ensures last { IsLastAt self.now.parts v result }
-        ensures parts { AreParts (size_of self.now) self.now.parts }
-        ensures dist { (h : List ℕ) → StandsFor h self.now → IsLastAt (dist (size_of self.now) h) v result }
+        ensures last { IsLastAt self.now.starts v result }
+        ensures starts { AreStarts (alphabet_size self.now) self.now.starts }
+        ensures dist { (h : List ℕ) → StandsFor h self.now → IsLastAt (dist (alphabet_size self.now) h) v result }
     {
         self.bank.find(0, v)
     }
@@ -83,10 +84,10 @@ impl SymbolModel {
     /// Counts symbol `s`.
     #[inline]
     pub fn count(&mut self, s: u32)
-        requires { s < size_of self.old }
-        ensures counted { self.new ≡ counted self.old s }
+        requires { s < alphabet_size self.old }
+        ensures after_symbol { self.new ≡ after_symbol self.old s }
         ensures stands { (h : List ℕ) → StandsFor h self.old → StandsFor (h ++ s ∷ []) self.new }
-        ensures size { size_of self.new ≡ size_of self.old }
+        ensures size { alphabet_size self.new ≡ alphabet_size self.old }
         ensures sound { IsSound self.new }
     {
         self.bank.count(0, s);

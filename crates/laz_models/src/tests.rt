@@ -60,13 +60,13 @@ fn plain(alloc: Global, n: u32, symbols: &[u32]) -> Result<Vec<u32>, AllocError>
     }
     let unit = 0x8000_0000u64.checked_div(total).unwrap_or(0);
     let mut below = 0u64;
-    let mut parts = Vec::with_capacity(alloc, counts.len())?;
+    let mut starts = Vec::with_capacity(alloc, counts.len())?;
     for count in &counts {
         let part = unit.wrapping_mul(below) >> 16;
-        parts.push((part & 0xffff) as u32)?;
+        starts.push((part & 0xffff) as u32)?;
         below = below.wrapping_add(u64::from(*count));
     }
-    Ok(parts)
+    Ok(starts)
 }
 
 /// Whether the parts of a model are those of the definition, on the way to 100,000 symbols and behind them.
@@ -83,9 +83,9 @@ fn keeps_the_definition(alloc: Global, n: u32) -> Result<bool, AllocError>
         symbols.push(s)?;
         model.count(s);
         if i % 20_000 == 0 || i == 3 {
-            let parts = plain(alloc, n, &symbols)?;
+            let starts = plain(alloc, n, &symbols)?;
             for s in 0..n {
-                if parts.get(s as usize).copied() != Some(model.part(s).0) {
+                if starts.get(s as usize).copied() != Some(model.part(s).0) {
                     return Ok(false);
                 }
             }

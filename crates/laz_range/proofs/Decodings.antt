@@ -1,16 +1,16 @@
 use Rattle.std.proofs.Common.{◌≡◌, ℕ, ◌+◌, ◌-◌, ◌*◌, ◌/◌, ◌%◌, ◌^◌, ◌<◌, ◌≤◌, List, [], ◌∷◌, ◌++◌, length, take, drop, Option, Some, None, Result, Ok, Err, IfOk, get_or, OnErr, lit<, lit≤, refl, sym, ap, subst, ◌∙◌, arith, ⊎_elim, length-drop}
 use Rattle.std.specs.Option.{SomeIff, option_and_then}
 use Rattle.laz_range.specs.Cut.{Cut, Raw, IsCut, AreCuts, IsLike, one_event, raw_cuts}
-use Rattle.laz_range.specs.Span.{start, span, number, Begins}
+use Rattle.laz_range.specs.Span.{initial_span, span, number, Begins}
 use Rattle.laz_range.specs.Reading.{Reading, IsIn, follow, follow_all, reading}
 use Rattle.laz_range.specs.Choice.{Only, Nothing}
 use Rattle.laz_range.specs.Decoding.{Decoding, reading_of, HasRead, ReadsOn, NoneBegins, Takes, TakesNone, Reads}
-use Rattle.laz_range.proofs.Reach.{after-IsSpan, start-IsSpan}
+use Rattle.laz_range.proofs.Reach.{after-IsSpan, initial_span-IsSpan}
 use Rattle.laz_range.proofs.Begin.{follow_all-is}
 use Rattle.laz_range.proofs.Whole.{after-append}
 use Rattle.laz_range.proofs.Other.{IsOther, alike_cases, follow-other, follow-apart}
 use Rattle.laz_range.proofs.Chain.{follows_front, follows_both, some_injective}
-use Rattle.laz_range.proofs.Refills.{wide_cuts, short_cuts}
+use Rattle.laz_range.proofs.Refills.{raw_cuts-wide, raw_cuts-narrow}
 use Rattle.laz_range.proofs.Cuts.{raw_high}
 use Rattle.std.proofs.lemmas.Bool.{cases_lt}
 
@@ -75,9 +75,9 @@ Only-wide r m s b low high wide halves small f g =
     let high_is : (high * 65536 + low) / 65536 ≡ high = omega arith in
     record {
       asked = small;
-      reads = rw (wide_cuts b (high * 65536 + low) wide, low_is, high_is) (follows_both r m s (Raw 16 low ∷ []) (Raw (b - 16) high ∷ []) f.reads g.reads);
+      reads = rw (raw_cuts-wide b (high * 65536 + low) wide, low_is, high_is) (follows_both r m s (Raw 16 low ∷ []) (Raw (b - 16) high ∷ []) f.reads g.reads);
       only = λ y t asked e.
-          let parts = follows_front r t (Raw 16 (y % 65536) ∷ []) (Raw (b - 16) (y / 65536) ∷ []) (rw (wide_cuts b y wide) at e) in
+          let parts = follows_front r t (Raw 16 (y % 65536) ∷ []) (Raw (b - 16) (y / 65536) ∷ []) (rw (raw_cuts-wide b y wide) at e) in
           let y_low : y % 65536 < 65536 = omega arith in
           let first : y % 65536 ≡ low = f.only (y % 65536) parts.0 y_low parts.1 in
           let same : follow_all r (Raw 16 low ∷ []) ≡ Some parts.0 = subst (λ (v : ℕ). follow_all r (Raw 16 v ∷ []) ≡ Some parts.0) first parts.1 in
@@ -89,14 +89,14 @@ Only-wide r m s b low high wide halves small f g =
 
 pub Nothing-wide_low : (r : Reading) (b : ℕ) → 19 < b → Nothing (λ v. v < 2 ^ 16) (λ v. Raw 16 v ∷ []) r → Nothing (λ v. v < 2 ^ b) (raw_cuts b) r
 Nothing-wide_low r b wide none y t asked e =
-    let parts = follows_front r t (Raw 16 (y % 65536) ∷ []) (Raw (b - 16) (y / 65536) ∷ []) (rw (wide_cuts b y wide) at e) in
+    let parts = follows_front r t (Raw 16 (y % 65536) ∷ []) (Raw (b - 16) (y / 65536) ∷ []) (rw (raw_cuts-wide b y wide) at e) in
     let y_low : y % 65536 < 65536 = omega arith in
     none (y % 65536) parts.0 y_low parts.1
 
 pub Nothing-wide_high : (r m : Reading) (b low : ℕ) → 19 < b → ((v : ℕ) → v < 2 ^ b → v / 65536 < 2 ^ (b - 16))
     → Only (λ v. v < 2 ^ 16) (λ v. Raw 16 v ∷ []) r low m → Nothing (λ v. v < 2 ^ (b - 16)) (λ v. Raw (b - 16) v ∷ []) m → Nothing (λ v. v < 2 ^ b) (raw_cuts b) r
 Nothing-wide_high r m b low wide halves f none y t asked e =
-    let parts = follows_front r t (Raw 16 (y % 65536) ∷ []) (Raw (b - 16) (y / 65536) ∷ []) (rw (wide_cuts b y wide) at e) in
+    let parts = follows_front r t (Raw 16 (y % 65536) ∷ []) (Raw (b - 16) (y / 65536) ∷ []) (rw (raw_cuts-wide b y wide) at e) in
     let y_low : y % 65536 < 65536 = omega arith in
     let first : y % 65536 ≡ low = f.only (y % 65536) parts.0 y_low parts.1 in
     let same : follow_all r (Raw 16 low ∷ []) ≡ Some parts.0 = subst (λ (v : ℕ). follow_all r (Raw 16 v ∷ []) ≡ Some parts.0) first parts.1 in
@@ -128,8 +128,8 @@ SomeIff-from (Some z) P x m h e = let same : z ≡ m = cc in (h.0, sym same ∙ 
 pub follow_all-read : (events cuts : List Cut) (d : Decoding) → HasRead events d → AreCuts cuts
     → SomeIff (follow_all (reading_of d) cuts) (Begins (span (events ++ cuts)) d.bytes) (reading (span (events ++ cuts)) d.bytes)
 follow_all-read events cuts d h all =
-    rw (HasRead-reading events d h, after-append start events cuts)
-    (follow_all-is (span events) cuts d.bytes (after-IsSpan start events start-IsSpan h.cuts) all h.bytes h.begins)
+    rw (HasRead-reading events d h, after-append initial_span events cuts)
+    (follow_all-is (span events) cuts d.bytes (after-IsSpan initial_span events initial_span-IsSpan h.cuts) all h.bytes h.begins)
 
 places_same : (n k : ℕ) (bs : List ℕ) → n ≤ length bs → k ≤ length bs → drop n bs ≡ drop k bs → n ≡ k
 places_same n k bs h g e = omega (arith, length-drop n bs, length-drop k bs, ap length e)
@@ -198,8 +198,8 @@ AreCuts-raw b v some few small =
     ⊎_elim
     (λ (wide : 19 < b).
     let high = raw_high v b wide small in
-    rw (wide_cuts b v wide) ((lit< tt, lit≤ tt, omega arith), ((omega arith, omega arith, high), tt)))
-    (λ (narrow : b ≤ 19). rw (short_cuts b v narrow) ((some, narrow, small), tt))
+    rw (raw_cuts-wide b v wide) ((lit< tt, lit≤ tt, omega arith), ((omega arith, omega arith, high), tt)))
+    (λ (narrow : b ≤ 19). rw (raw_cuts-narrow b v narrow) ((some, narrow, small), tt))
     (cases_lt 19 b)
 
 -- the number of the first four bytes

@@ -1,12 +1,12 @@
 use Rattle.std.proofs.Common.{◌≡◌, ℕ, ◌+◌, ◌-◌, ◌*◌, ◌/◌, ◌<◌, ◌≤◌, ◌⊎◌, eqb, true, false, List, [], ◌∷◌, ◌++◌, length, Option, Some, None, refl, sym, ap, ◌∙◌, arith, ⊎_elim, inl, inr, lit≤}
 use Rattle.std.proofs.lemmas.Bool.{cases_lt, cond-true, cond-false, eq-eqb, ne_eqb}
 use Rattle.laz_range.specs.Cut.{Cut, Part, IsCut, AreCuts, width_in, start_in}
-use Rattle.laz_range.specs.Span.{Span, IsSpan, renewed, narrowed, bytes_for, span, start}
-use Rattle.laz_range.specs.Reading.{Reading, IsIn, refilled, taken_off, with_byte}
-use Rattle.laz_range.proofs.Spans.{renewed-short, renewed-long, renewed-longer}
-use Rattle.laz_range.proofs.Reach.{cut-lies, after-IsSpan, start-IsSpan}
+use Rattle.laz_range.specs.Span.{Span, IsSpan, renormal_step, subspan, bytes_for, span, initial_span}
+use Rattle.laz_range.specs.Reading.{Reading, IsIn, refill_step, reading_after_part, with_byte}
+use Rattle.laz_range.proofs.Spans.{renormal_step-short, renormal_step-long, renormal_step-longer}
+use Rattle.laz_range.proofs.Reach.{cut-lies, after-IsSpan, initial_span-IsSpan}
 use Rattle.laz_range.proofs.Whole.{after-append}
-use Rattle.laz_range.proofs.Refills.{refilled-short, refilled-long}
+use Rattle.laz_range.proofs.Refills.{refill_step-short, refill_step-long}
 use Rattle.std.proofs.lemmas.Nat.{mul-le, div-add-mod', mod_below}
 use Rattle.std.proofs.lemmas.Bool.Decides.{nat_tests}
 
@@ -21,18 +21,18 @@ bytes_for-short len some h = grind (arith, nat_tests)
 
 -- ---- one byte more, or none left
 pub record Refills (r m : Reading) : Type 0 where
-  pub is : refilled r ≡ Some m
+  pub is : refill_step r ≡ Some m
   pub room : length m.rest + bytes_for r.len ≡ length r.rest + bytes_for m.len
   pub longer : (k : ℕ) → k * 256 ≤ 16777216 → k ≤ r.len → k * 256 ≤ m.len
 
 pub record Lacks (r : Reading) : Type 0 where
-  pub is : refilled r ≡ None
+  pub is : refill_step r ≡ None
   pub room : length r.rest < bytes_for r.len
 
 byte_cases : (r : Reading) (bs : List ℕ) → 0 < r.len → r.len < 16777216 → r.rest ≡ bs → Lacks r ⊎ ((m : Reading) × Refills r m)
 byte_cases r [] some short e =
     inl (record {
-      is = refilled-short r short ∙ ap (with_byte r) e;
+      is = refill_step-short r short ∙ ap (with_byte r) e;
       room = omega (arith, ap length e, bytes_for-short r.len some short);
     })
 byte_cases r (b ∷ bs) some short e =
@@ -40,7 +40,7 @@ byte_cases r (b ∷ bs) some short e =
     inr (
       m,
       record {
-        is = refilled-short r short ∙ ap (with_byte r) e;
+        is = refill_step-short r short ∙ ap (with_byte r) e;
         room = omega (arith, ap length e, bytes_for-short r.len some short);
         longer = λ k small h. omega (arith, h);
       },
@@ -50,23 +50,23 @@ pub refill_cases : (r : Reading) → 0 < r.len → Lacks r ⊎ ((m : Reading) ×
 refill_cases r some =
     ⊎_elim
     (λ (short : r.len < 16777216). byte_cases r r.rest some short refl)
-    (λ (long : 16777216 ≤ r.len). inr (r, record { is = refilled-long r long; room = refl; longer = λ k small h. omega (arith, small, long) }))
+    (λ (long : 16777216 ≤ r.len). inr (r, record { is = refill_step-long r long; room = refl; longer = λ k small h. omega (arith, small, long) }))
     (cases_lt r.len 16777216)
 
 -- ---- all that a part asks for, or not enough
 pub record Enough (r : Reading) (from width : ℕ) (m : Reading) : Type 0 where
-  pub is : taken_off r from width ≡ Some m
+  pub is : reading_after_part r from width ≡ Some m
   pub room : bytes_for width ≤ length r.rest
 
 pub record Short (r : Reading) (from width : ℕ) : Type 0 where
-  pub is : taken_off r from width ≡ None
+  pub is : reading_after_part r from width ≡ None
   pub room : length r.rest < bytes_for width
 
 abbrev pub part_in : Reading → ℕ → ℕ → Reading
 part_in r from width = record { value = r.value - from; len = width; rest = r.rest }
 
 third : (r m n : Reading) (from width : ℕ) → 0 < width → Refills (part_in r from width) m → Refills m n → Short r from width ⊎ ((k : Reading) × Enough r from width k)
-unfolding taken_off
+unfolding reading_after_part
 third r m n from width some f g =
     let once : 256 ≤ m.len = f.longer 1 (lit≤ tt) some in
     let twice : 65536 ≤ n.len = g.longer 256 (lit≤ tt) once in
@@ -79,7 +79,7 @@ third r m n from width some f g =
     (refill_cases n (omega arith))
 
 second : (r m : Reading) (from width : ℕ) → 0 < width → Refills (part_in r from width) m → Short r from width ⊎ ((k : Reading) × Enough r from width k)
-unfolding taken_off
+unfolding reading_after_part
 second r m from width some f =
     let once : 256 ≤ m.len = f.longer 1 (lit≤ tt) some in
     ⊎_elim
@@ -88,7 +88,7 @@ second r m from width some f =
     (refill_cases m (omega arith))
 
 pub taken_cases : (r : Reading) (from width : ℕ) → 0 < width → Short r from width ⊎ ((k : Reading) × Enough r from width k)
-unfolding taken_off
+unfolding reading_after_part
 taken_cases r from width some =
     ⊎_elim
     (λ (lacks : Lacks (part_in r from width)). inl (record { is = rw lacks.is refl; room = lacks.room }))
@@ -98,45 +98,45 @@ taken_cases r from width some =
 none_some : {A : Type 0} (o : Option A) (x : A) → o ≡ None → o ≡ Some x → ⊥
 none_some {A} o x e f = let no : None ≡ Some x = sym e ∙ f in cc
 
-pub short_of : (r : Reading) (from width : ℕ) → 0 < width → taken_off r from width ≡ None → length r.rest < bytes_for width
+pub short_of : (r : Reading) (from width : ℕ) → 0 < width → reading_after_part r from width ≡ None → length r.rest < bytes_for width
 short_of r from width some e =
     ⊎_elim
     (λ (short : Short r from width). short.room)
-    (λ (enough : (k : Reading) × Enough r from width k). absurd (none_some (taken_off r from width) enough.0 e enough.1.is))
+    (λ (enough : (k : Reading) × Enough r from width k). absurd (none_some (reading_after_part r from width) enough.0 e enough.1.is))
     (taken_cases r from width some)
 
-pub enough_for : (r m : Reading) (from width : ℕ) → 0 < width → taken_off r from width ≡ Some m → bytes_for width ≤ length r.rest
+pub enough_for : (r m : Reading) (from width : ℕ) → 0 < width → reading_after_part r from width ≡ Some m → bytes_for width ≤ length r.rest
 enough_for r m from width some e =
     ⊎_elim
-    (λ (short : Short r from width). absurd (none_some (taken_off r from width) m short.is e))
+    (λ (short : Short r from width). absurd (none_some (reading_after_part r from width) m short.is e))
     (λ (enough : (k : Reading) × Enough r from width k). enough.1.room)
     (taken_cases r from width some)
 
 -- ---- digits of a span
-pub shifts-renewed_is : (s : Span) → 0 < s.len → (renewed s).shifts + bytes_for (renewed s).len ≡ s.shifts + bytes_for s.len
+pub shifts-renewed_is : (s : Span) → 0 < s.len → (renormal_step s).shifts + bytes_for (renormal_step s).len ≡ s.shifts + bytes_for s.len
 shifts-renewed_is s some =
     ⊎_elim
-    (λ (short : s.len < 16777216). rw (renewed-short s short) (omega (arith, bytes_for-short s.len some short)))
-    (λ (long : 16777216 ≤ s.len). rw (renewed-long s long) refl)
+    (λ (short : s.len < 16777216). rw (renormal_step-short s short) (omega (arith, bytes_for-short s.len some short)))
+    (λ (long : 16777216 ≤ s.len). rw (renormal_step-long s long) refl)
     (cases_lt s.len 16777216)
 
-pub shifts-narrowed_is : (s : Span) (from width : ℕ) → IsSpan s → 0 < width → from + width ≤ s.len → (narrowed s from width).shifts ≡ s.shifts + bytes_for width
-unfolding narrowed
+pub shifts-narrowed_is : (s : Span) (from width : ℕ) → IsSpan s → 0 < width → from + width ≤ s.len → (subspan s from width).shifts ≡ s.shifts + bytes_for width
+unfolding subspan
 shifts-narrowed_is s from width h some within =
     let part : Span = record { low = s.low + from; len = width; shifts = s.shifts } in
-    let once : 256 ≤ (renewed part).len = renewed-longer 1 part (lit≤ tt) some in
-    let twice : 65536 ≤ (renewed (renewed part)).len = renewed-longer 256 (renewed part) (lit≤ tt) once in
-    let thrice : 16777216 ≤ (renewed (renewed (renewed part))).len = renewed-longer 65536 (renewed (renewed part)) (lit≤ tt) twice in
+    let once : 256 ≤ (renormal_step part).len = renormal_step-longer 1 part (lit≤ tt) some in
+    let twice : 65536 ≤ (renormal_step (renormal_step part)).len = renormal_step-longer 256 (renormal_step part) (lit≤ tt) once in
+    let thrice : 16777216 ≤ (renormal_step (renormal_step (renormal_step part))).len = renormal_step-longer 65536 (renormal_step (renormal_step part)) (lit≤ tt) twice in
     let first = shifts-renewed_is part some in
-    let next = shifts-renewed_is (renewed part) (omega arith) in
-    let last = shifts-renewed_is (renewed (renewed part)) (omega arith) in
+    let next = shifts-renewed_is (renormal_step part) (omega arith) in
+    let last = shifts-renewed_is (renormal_step (renormal_step part)) (omega arith) in
     omega (arith, first, next, last, bytes_for-long _ thrice)
 
 pub shifts-event : (events : List Cut) (c : Cut) → AreCuts events → IsCut c → (span (events ++ c ∷ [])).shifts ≡ (span events).shifts + bytes_for (width_in (span events).len c)
 shifts-event events c all is =
-    let reach = after-IsSpan start events start-IsSpan all in
+    let reach = after-IsSpan initial_span events initial_span-IsSpan all in
     let lies = cut-lies c (span events).len is reach.long in
-    rw (after-append start events (c ∷ [])) (shifts-narrowed_is (span events) (start_in (span events).len c) (width_in (span events).len c) reach lies.0 lies.1)
+    rw (after-append initial_span events (c ∷ [])) (shifts-narrowed_is (span events) (start_in (span events).len c) (width_in (span events).len c) reach lies.0 lies.1)
 
 -- ---- the value lies in the part that its place is in
 pub place-lies : (value len lo hi : ℕ) (bytes : List ℕ) → lo < hi → hi ≤ 32768 → lo ≤ value / (len / 32768) → (hi < 32768 → value / (len / 32768) < hi) → value < len → 16777216 ≤ len

@@ -2,9 +2,9 @@ use Rattle.std.proofs.Common.{◌≡◌, ℕ, ◌+◌, ◌-◌, ◌*◌, ◌/◌
 use Rattle.std.specs.Bool.{⊤}
 use Rattle.laz_range.specs.Cut.{Cut, Part, Bit, Raw, IsCut, AreCuts, IsLike, one_event, raw_cuts, start_in, width_in}
 use Rattle.laz_range.specs.Span.{bytes_for}
-use Rattle.laz_range.specs.Reading.{Reading, IsIn, follow, taken_off, quotient, RefusesPart, RefusesRaw}
+use Rattle.laz_range.specs.Reading.{Reading, IsIn, follow, reading_after_part, quotient, RefusesPart, RefusesRaw}
 use Rattle.laz_range.specs.Decoding.{Decoding, reading_of, Takes, TakesNone, RunsOut, ReadsOn, NoneBegins, bit_of}
-use Rattle.laz_range.specs.Input.{Passes, Stops}
+use Rattle.laz_range.specs.Input.{Advances, Stops}
 use Rattle.laz_range.proofs.Refills.{follow-in, wide_small}
 use Rattle.laz_range.proofs.Ends.{short_of, enough_for}
 use Rattle.laz_range.proofs.Decodings.{Only-one, Nothing-one, Only-pull, Takes-ReadsOn, TakesNone-NoneBegins, Only-wide, Nothing-wide_low, Nothing-wide_high, one-follow}
@@ -19,7 +19,7 @@ like_self (Bit p0 bit) is = (is, refl)
 like_self (Raw b v) is = (is, refl)
 
 -- ---- an event that the value lies in
-pub event-passes : (d n : Decoding) (c : Cut) → IsCut c → IsIn (reading_of d) c → Passes (taken_off (reading_of d) (start_in d.len c) (width_in d.len c)) d n → Takes (IsLike c) one_event d n c
+pub event-passes : (d n : Decoding) (c : Cut) → IsCut c → IsIn (reading_of d) c → Advances (reading_after_part (reading_of d) (start_in d.len c) (width_in d.len c)) d n → Takes (IsLike c) one_event d n c
 event-passes d n c is lies h =
     record {
       choice = Only-one (reading_of d) (reading_of n) c is (follow-in (reading_of d) c lies ∙ h.reads) (like_self c is);
@@ -28,7 +28,7 @@ event-passes d n c is lies h =
       good = h.good;
     }
 
-pub event-stops : (d n : Decoding) (c : Cut) → IsCut c → IsIn (reading_of d) c → Stops (taken_off (reading_of d) (start_in d.len c) (width_in d.len c)) d n → TakesNone (IsLike c) one_event d n
+pub event-stops : (d n : Decoding) (c : Cut) → IsCut c → IsIn (reading_of d) c → Stops (reading_after_part (reading_of d) (start_in d.len c) (width_in d.len c)) d n → TakesNone (IsLike c) one_event d n
 event-stops d n c is lies h =
     record {
       nothing = Nothing-one (reading_of d) c is lies (follow-in (reading_of d) c lies ∙ h.reads);
@@ -60,11 +60,11 @@ TakesNone-pull g P Q cuts d n h to =
 width_some : (r : Reading) (c : Cut) → IsIn r c → 0 < width_in r.len c
 width_some r c h = omega (arith, h.above, h.below)
 
-pub event-short : (d n : Decoding) (c : Cut) → d.taken ≤ length d.bytes → IsIn (reading_of d) c → Stops (taken_off (reading_of d) (start_in d.len c) (width_in d.len c)) d n → RunsOut d c
+pub event-short : (d n : Decoding) (c : Cut) → d.taken ≤ length d.bytes → IsIn (reading_of d) c → Stops (reading_after_part (reading_of d) (start_in d.len c) (width_in d.len c)) d n → RunsOut d c
 event-short d n c within lies h =
     omega (arith, short_of (reading_of d) (start_in d.len c) (width_in d.len c) (width_some (reading_of d) c lies) h.reads, length-drop d.taken d.bytes)
 
-pub event-enough : (d n : Decoding) (c : Cut) → d.taken ≤ length d.bytes → IsIn (reading_of d) c → Passes (taken_off (reading_of d) (start_in d.len c) (width_in d.len c)) d n → RunsOut d c → ⊥
+pub event-enough : (d n : Decoding) (c : Cut) → d.taken ≤ length d.bytes → IsIn (reading_of d) c → Advances (reading_after_part (reading_of d) (start_in d.len c) (width_in d.len c)) d n → RunsOut d c → ⊥
 event-enough d n c within lies h over =
     omega (arith, over, enough_for (reading_of d) (reading_of n) (start_in d.len c) (width_in d.len c) (width_some (reading_of d) c lies) h.reads, length-drop d.taken d.bytes)
 
@@ -73,12 +73,12 @@ bit_back : (p0 : ℕ) (bit other : Bool) → Bit p0 other ≡ Bit p0 bit → oth
 bit_back p0 bit other e = cc
 
 pub bit-passes : (d n : Decoding) (p0 : ℕ) (bit : Bool) → 0 < p0 → p0 < 8192 → IsIn (reading_of d) (Bit p0 bit)
-    → Passes (taken_off (reading_of d) (start_in d.len (Bit p0 bit)) (width_in d.len (Bit p0 bit))) d n → Takes {X = Bool} (λ _. ⊤) (λ b. Bit p0 b ∷ []) d n bit
+    → Advances (reading_after_part (reading_of d) (start_in d.len (Bit p0 bit)) (width_in d.len (Bit p0 bit))) d n → Takes {X = Bool} (λ _. ⊤) (λ b. Bit p0 b ∷ []) d n bit
 bit-passes d n p0 bit some part lies h =
     Takes-pull (Bit p0) (IsLike (Bit p0 bit)) (λ _. ⊤) one_event d n bit (event-passes d n (Bit p0 bit) (some, part) lies h) tt (λ z q. ((some, part), refl)) (λ z q e. bit_back p0 bit z e)
 
 pub bit-stops : (d n : Decoding) (p0 : ℕ) (bit : Bool) → 0 < p0 → p0 < 8192 → IsIn (reading_of d) (Bit p0 bit)
-    → Stops (taken_off (reading_of d) (start_in d.len (Bit p0 bit)) (width_in d.len (Bit p0 bit))) d n → TakesNone {X = Bool} (λ _. ⊤) (λ b. Bit p0 b ∷ []) d n
+    → Stops (reading_after_part (reading_of d) (start_in d.len (Bit p0 bit)) (width_in d.len (Bit p0 bit))) d n → TakesNone {X = Bool} (λ _. ⊤) (λ b. Bit p0 b ∷ []) d n
 bit-stops d n p0 bit some part lies h =
     TakesNone-pull (Bit p0) (IsLike (Bit p0 bit)) (λ _. ⊤) one_event d n (event-stops d n (Bit p0 bit) (some, part) lies h) (λ z q. ((some, part), refl))
 
@@ -96,19 +96,19 @@ raw_back : (b v w : ℕ) → Raw b w ≡ Raw b v → w ≡ v
 raw_back b v w e = cc
 
 pub raw-passes : (d n : Decoding) (b v : ℕ) → 0 < b → b ≤ 19 → v < 2 ^ b → IsIn (reading_of d) (Raw b v)
-    → Passes (taken_off (reading_of d) (v * (d.len / 2 ^ b)) (d.len / 2 ^ b)) d n → Takes (λ w. w < 2 ^ b) (λ w. Raw b w ∷ []) d n v
+    → Advances (reading_after_part (reading_of d) (v * (d.len / 2 ^ b)) (d.len / 2 ^ b)) d n → Takes (λ w. w < 2 ^ b) (λ w. Raw b w ∷ []) d n v
 raw-passes d n b v some few small lies h =
     Takes-pull (Raw b) (IsLike (Raw b v)) (λ w. w < 2 ^ b) one_event d n v (event-passes d n (Raw b v) (some, few, small) lies h) small (λ z q. ((some, few, q), refl)) (λ z q e. raw_back b v z e)
 
 pub raw-stops : (d n : Decoding) (b v : ℕ) → 0 < b → b ≤ 19 → v < 2 ^ b → IsIn (reading_of d) (Raw b v)
-    → Stops (taken_off (reading_of d) (v * (d.len / 2 ^ b)) (d.len / 2 ^ b)) d n → TakesNone (λ w. w < 2 ^ b) (λ w. Raw b w ∷ []) d n
+    → Stops (reading_after_part (reading_of d) (v * (d.len / 2 ^ b)) (d.len / 2 ^ b)) d n → TakesNone (λ w. w < 2 ^ b) (λ w. Raw b w ∷ []) d n
 raw-stops d n b v some few small lies h =
     TakesNone-pull (Raw b) (IsLike (Raw b v)) (λ w. w < 2 ^ b) one_event d n (event-stops d n (Raw b v) (some, few, small) lies h) (λ z q. ((some, few, q), refl))
 
 pub left_short : (d : Decoding) (b v : ℕ) → d.taken ≤ length d.bytes → RunsOut d (Raw b v) → length (drop d.taken d.bytes) < bytes_for (d.len / 2 ^ b)
 left_short d b v within over = omega (arith, over, length-drop d.taken d.bytes)
 
-pub part_taken : (d n : Decoding) (b v : ℕ) → d.taken ≤ length d.bytes → v < 2 ^ b → IsIn (reading_of d) (Raw b v) → Passes (taken_off (reading_of d) (v * (d.len / 2 ^ b)) (d.len / 2 ^ b)) d n → v ≡ quotient (reading_of d) b → RefusesPart (reading_of d) b → ⊥
+pub part_taken : (d n : Decoding) (b v : ℕ) → d.taken ≤ length d.bytes → v < 2 ^ b → IsIn (reading_of d) (Raw b v) → Advances (reading_after_part (reading_of d) (v * (d.len / 2 ^ b)) (d.len / 2 ^ b)) d n → v ≡ quotient (reading_of d) b → RefusesPart (reading_of d) b → ⊥
 part_taken d n b v within small lies h is refused =
     ⊎_elim
     (λ (large : 2 ^ b ≤ quotient (reading_of d) b). omega (arith, large, small, is))
@@ -117,7 +117,7 @@ part_taken d n b v within small lies h is refused =
 
 -- ---- the clauses of a call that passes one event
 abbrev pub DonePart : {E : Type 0} → Result (Unit {0}) E → Decoding → Decoding → Cut → Type 0
-DonePart result d n c = MatchResult result (λ _. Passes (taken_off (reading_of d) (start_in d.len c) (width_in d.len c)) d n) (λ _. Stops (taken_off (reading_of d) (start_in d.len c) (width_in d.len c)) d n)
+DonePart result d n c = MatchResult result (λ _. Advances (reading_after_part (reading_of d) (start_in d.len c) (width_in d.len c)) d n) (λ _. Stops (reading_after_part (reading_of d) (start_in d.len c) (width_in d.len c)) d n)
 
 pub part-reads : {E : Type 0} (result : Result (Unit {0}) E) (d n : Decoding) (c : Cut) → IsCut c → IsIn (reading_of d) c → DonePart result d n c
     → MatchResult result (λ _. Takes (IsLike c) one_event d n c) (λ _. TakesNone (IsLike c) one_event d n)

@@ -1,8 +1,8 @@
 use Rattle.std.proofs.Common.{◌≡◌, true, [], ◌∷◌, Some, None, refl}
 use Rattle.std.specs.Option.{option_and_then}
 use Rattle.laz_range.specs.Cut.{Part, Bit, Raw, raw_cuts, start_in, width_in}
-use Rattle.laz_range.specs.Span.{renewed, narrowed, span, number, digits, bytes_of, bytes_for}
-use Rattle.laz_range.specs.Reading.{refilled, taken_off, follow, follow_all, opened, quotient}
+use Rattle.laz_range.specs.Span.{renormal_step, subspan, span, number, digits, bytes_of, bytes_for}
+use Rattle.laz_range.specs.Reading.{refill_step, reading_after_part, follow, follow_all, initial_reading, quotient}
 
 -- no event: one byte of the number, and three zero bytes
 no_event : bytes_of (span []) ≡ 1 ∷ 0 ∷ 0 ∷ 0 ∷ []
@@ -10,27 +10,27 @@ no_event = refl
 
 -- one raw value of 8 bits
 raw_0 : bytes_of (span (raw_cuts 8 0)) ≡ 0 ∷ 1 ∷ 0 ∷ 0 ∷ 0 ∷ []
-unfolding renewed narrowed
+unfolding renormal_step subspan
 raw_0 = refl
 
 -- .. whose end carries into the first byte
 raw_255 : bytes_of (span (raw_cuts 8 255)) ≡ 255 ∷ 0 ∷ 0 ∷ 0 ∷ 0 ∷ []
-unfolding renewed narrowed
+unfolding renormal_step subspan
 raw_255 = refl
 
 -- the span of that value: the low end is 255 * 16777215, in one digit more
 span_255 : span (raw_cuts 8 255) ≡ record { low = 1095216595200; len = 4294967040; shifts = 1 }
-unfolding renewed narrowed
+unfolding renormal_step subspan
 span_255 = refl
 
 -- the last of 33 symbols under counts of 1 each, and nothing more: a corrector of -2 ^ 31 in a fresh integer model of LASzip
 last_of_33 : bytes_of (span (Part 31775 32768 ∷ [])) ≡ 249 ∷ 0 ∷ 0 ∷ 0 ∷ []
-unfolding renewed narrowed
+unfolding renormal_step subspan
 last_of_33 = refl
 
 -- symbol 1 of 17 and symbol 0 of 2: a corrector of -1 in a fresh integer model of 16 bits
 one_of_17 : bytes_of (span (Part 1927 3855 ∷ Part 0 16384 ∷ [])) ≡ 16 ∷ 0 ∷ 0 ∷ 0 ∷ []
-unfolding renewed narrowed
+unfolding renormal_step subspan
 one_of_17 = refl
 
 -- a word of 32 bits is its low half and its high half
@@ -61,20 +61,20 @@ number_of = refl
 
 -- ---- reading
 -- bytes of 255 alone begin no list of events, and three bytes none
-no_opening : opened (255 ∷ 255 ∷ 255 ∷ 255 ∷ []) ≡ None
+no_opening : initial_reading (255 ∷ 255 ∷ 255 ∷ 255 ∷ []) ≡ None
 no_opening = refl
 
-too_few : opened (1 ∷ 0 ∷ 0 ∷ []) ≡ None
+too_few : initial_reading (1 ∷ 0 ∷ 0 ∷ []) ≡ None
 too_few = refl
 
 -- the raw value 255 is read again, and no byte is left
-read_255 : option_and_then (λ r. follow_all r (raw_cuts 8 255)) (opened (255 ∷ 0 ∷ 0 ∷ 0 ∷ 0 ∷ [])) ≡ Some (record { value = 65280; len = 4294967040; rest = [] })
-unfolding follow taken_off refilled
+read_255 : option_and_then (λ r. follow_all r (raw_cuts 8 255)) (initial_reading (255 ∷ 0 ∷ 0 ∷ 0 ∷ 0 ∷ [])) ≡ Some (record { value = 65280; len = 4294967040; rest = [] })
+unfolding follow reading_after_part refill_step
 read_255 = refl
 
 -- .. and 254 does not begin these bytes
-not_254 : option_and_then (λ r. follow_all r (raw_cuts 8 254)) (opened (255 ∷ 0 ∷ 0 ∷ 0 ∷ 0 ∷ [])) ≡ None
-unfolding follow taken_off refilled
+not_254 : option_and_then (λ r. follow_all r (raw_cuts 8 254)) (initial_reading (255 ∷ 0 ∷ 0 ∷ 0 ∷ 0 ∷ [])) ≡ None
+unfolding follow reading_after_part refill_step
 not_254 = refl
 
 -- a quotient of 2 ^ 8, which is no raw value of 8 bits

@@ -5,7 +5,7 @@ use Rattle.laz_range.specs.Cut.{Cut, Part, Bit, Raw, IsCut, AreAlike, start_in, 
 use Rattle.laz_range.specs.Span.{Span, cut, Begins, IsBytes}
 use Rattle.laz_range.specs.Reading.{Reading, follow, IsIn}
 use Rattle.laz_range.proofs.Refills.{follow-below, follow-above, IsIn-followed}
-use Rattle.laz_range.proofs.Begin.{Begins-narrowed}
+use Rattle.laz_range.proofs.Begin.{Begins-subspan}
 
 -- two events of one kind that cannot both come
 abbrev pub IsOther : Cut → Cut → Type 0
@@ -103,8 +103,8 @@ follow-other r s c d h k other e =
 -- .. and no bytes are begun by both
 pub Begins-other : (s : Span) (c d : Cut) (bytes : List ℕ) → IsBytes bytes → IsCut c → IsCut d → IsOther c d → Begins (cut s c) bytes → Begins (cut s d) bytes → ⊥
 Begins-other s c d bytes b h k other f g =
-    let one = Begins-narrowed s (start_in s.len c) (width_in s.len c) bytes b f in
-    let two = Begins-narrowed s (start_in s.len d) (width_in s.len d) bytes b g in
+    let one = Begins-subspan s (start_in s.len c) (width_in s.len c) bytes b f in
+    let two = Begins-subspan s (start_in s.len d) (width_in s.len d) bytes b g in
     ⊎_elim
     (λ (before : start_in s.len c + width_in s.len c ≤ start_in s.len d). omega (arith, one.high, two.low))
     (λ (behind : start_in s.len d + width_in s.len d ≤ start_in s.len c). omega (arith, two.high, one.low))

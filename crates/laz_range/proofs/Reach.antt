@@ -4,10 +4,10 @@ use Rattle.std.proofs.lemmas.Bool.{cond_both, cases_lt, cond_below, cond_above}
 use Rattle.std.proofs.lemmas.Nat.{mul-le, div-add-mod', mod_below}
 use Rattle.std.specs.List.{AllByRecursion}
 use Rattle.laz_range.specs.Cut.{Cut, Part, Bit, Raw, IsCut, start_in, width_in}
-use Rattle.laz_range.specs.Span.{Span, IsSpan, after, start, cut, last, digits, number, bytes_of, Fits}
+use Rattle.laz_range.specs.Span.{Span, IsSpan, after, initial_span, cut, final_number, digits, number, bytes_of, Fits}
 use Rattle.laz_range.proofs.Numbers.{number-cons}
 use Rattle.laz_range.proofs.Cuts.{raw_some, raw_lies}
-use Rattle.laz_range.proofs.Spans.{narrowed-IsSpan}
+use Rattle.laz_range.proofs.Spans.{subspan-IsSpan}
 
 -- a part has some length, and lies within
 abbrev pub Lies : ℕ → ℕ → ℕ → Type 0
@@ -40,14 +40,14 @@ cut-lies (Raw b v) len h long = (raw_some len b h.1 long, raw_lies len b v h.2)
 pub cut-IsSpan : (s : Span) (c : Cut) → IsSpan s → IsCut c → IsSpan (cut s c)
 cut-IsSpan s c h k =
     let lies = cut-lies c s.len k h.long in
-    narrowed-IsSpan s (start_in s.len c) (width_in s.len c) h lies.0 lies.1
+    subspan-IsSpan s (start_in s.len c) (width_in s.len c) h lies.0 lies.1
 
 pub after-IsSpan : (s : Span) (cs : List Cut) → IsSpan s → AllByRecursion IsCut cs → IsSpan (after s cs)
 after-IsSpan s [] h k = h
 after-IsSpan s (c ∷ cs) h k = after-IsSpan (cut s c) cs (cut-IsSpan s c h k.0) k.1
 
-pub start-IsSpan : IsSpan start
-start-IsSpan = record { long = lit≤ tt; short = lit< tt; within = lit≤ tt }
+pub initial_span-IsSpan : IsSpan initial_span
+initial_span-IsSpan = record { long = lit≤ tt; short = lit< tt; within = lit≤ tt }
 
 -- ---- the digits of a number
 pub length-digits : (n v : ℕ) → length (digits n v) ≡ n
@@ -61,7 +61,7 @@ number-digits (suc n) v h =
     number-cons (v / 256 ^ n) (digits n (v % 256 ^ n))
     ∙ rw (length-digits, number-digits n (v % 256 ^ n) (mod_below v (256 ^ n) positive)) (div-add-mod' v (256 ^ n))
 
-pub last-within : (s : Span) → IsSpan s → (s.low ≤ last s) × (last s < s.low + s.len)
+pub last-within : (s : Span) → IsSpan s → (s.low ≤ final_number s) × (final_number s < s.low + s.len)
 last-within s h =
     ⊎_elim
     (λ (long : 33554432 < s.len). let P : ℕ → Type 0 = λ v. (s.low ≤ v) × (v < s.low + s.len) in subst P (cond_below 33554432 s.len _ _ long) (omega arith, omega (arith, long)))
@@ -71,5 +71,5 @@ last-within s h =
 pub bytes-fit : (s : Span) → IsSpan s → Fits s (bytes_of s)
 bytes-fit s h =
     let within = last-within s h in
-    let number_is : number (bytes_of s) ≡ last s = number-digits (s.shifts + 4) (last s) (omega (arith, h.within, within.1)) in
-    record { length = sym (length-digits (s.shifts + 4) (last s)); low = omega (arith, within.0, number_is); high = omega (arith, within.1, number_is) }
+    let number_is : number (bytes_of s) ≡ final_number s = number-digits (s.shifts + 4) (final_number s) (omega (arith, h.within, within.1)) in
+    record { length = sym (length-digits (s.shifts + 4) (final_number s)); low = omega (arith, within.0, number_is); high = omega (arith, within.1, number_is) }

@@ -3,11 +3,11 @@
 use Rattle.std.proofs.Common.{◌≡◌, ℕ, zero, suc, ◌+◌, ◌*◌, ◌≤◌, List, [], ◌∷◌, ◌++◌, length, take, drop, refl, sym, ap, subst, ◌∙◌, arith, lit<}
 use Rattle.std.proofs.lemmas.List.{take_all, take-take, take-append-drop}
 use Rattle.laz_range.specs.Cut.{Cut, AreCuts, start_in, width_in}
-use Rattle.laz_range.specs.Span.{Span, Begins, Fits, IsBytes, after, cut, narrowed, renewed, span}
+use Rattle.laz_range.specs.Span.{Span, Begins, Fits, IsBytes, after, cut, subspan, renormal_step, span}
 use Rattle.laz_range.specs.Decoding.{Decoding, HasRead, Refuses, Takes}
 use Rattle.laz_range.proofs.Decodings.{Takes-ReadsOn, Takes-begins}
 use Rattle.laz_range.proofs.Refusals.{Refuses-NoneBegins}
-use Rattle.laz_range.proofs.Spans.{shifts-renewed}
+use Rattle.laz_range.proofs.Spans.{shifts-renormal_step}
 
 -- ---- bytes that fit are begun, and those that are begun and end there fit
 pub Fits-Begins : (s : Span) (bytes : List ℕ) → Fits s bytes → Begins s bytes
@@ -46,10 +46,10 @@ read-fits P cuts d n x all read takes ends =
 
 -- ---- an event takes three bytes at most
 cut-few : (s : Span) (c : Cut) → (cut s c).shifts ≤ s.shifts + 3
-unfolding narrowed
+unfolding subspan
 cut-few s c =
     let part : Span = record { low = s.low + start_in s.len c; len = width_in s.len c; shifts = s.shifts } in
-    omega (arith, shifts-renewed part, shifts-renewed (renewed part), shifts-renewed (renewed (renewed part)))
+    omega (arith, shifts-renormal_step part, shifts-renormal_step (renormal_step part), shifts-renormal_step (renormal_step (renormal_step part)))
 
 pub after-few : (s : Span) (events : List Cut) → (after s events).shifts ≤ s.shifts + 3 * length events
 after-few s [] = omega arith

@@ -3,10 +3,10 @@ use Rattle.std.specs.Option.{SomeIff, option_and_then}
 use Rattle.std.proofs.lemmas.Bool.{cases_lt, cond-true, cond-false, and_from, and_left, and_right, le-leb, lt-leb, lt-ltb, le-ltb}
 use Rattle.std.specs.List.{AllByRecursion}
 use Rattle.laz_range.specs.Cut.{Cut, IsCut, AreAlike}
-use Rattle.laz_range.specs.Span.{Span, IsSpan, after, start, cut, number, Begins, IsBytes}
+use Rattle.laz_range.specs.Span.{Span, IsSpan, after, initial_span, cut, number, Begins, IsBytes}
 use Rattle.laz_range.specs.Coding.{Coding, Codes}
-use Rattle.laz_range.specs.Reading.{Reading, follow_all, reading, opened}
-use Rattle.laz_range.proofs.Reach.{cut-IsSpan, start-IsSpan}
+use Rattle.laz_range.specs.Reading.{Reading, follow_all, reading, initial_reading}
+use Rattle.laz_range.proofs.Reach.{cut-IsSpan, initial_span-IsSpan}
 use Rattle.laz_range.proofs.Begin.{SomeIff-then, follow_all-is, Begins-after}
 use Rattle.laz_range.proofs.Other.{Begins-other, IsOther, alike_cases}
 
@@ -17,15 +17,15 @@ after-append s (x ∷ xs) ys = after-append (cut s x) xs ys
 abbrev pub first : List ℕ → Reading
 first bytes = record { value = number (take 4 bytes); len = 4294967295; rest = drop 4 bytes }
 
-pub first-is : (bytes : List ℕ) → first bytes ≡ reading start bytes
+pub first-is : (bytes : List ℕ) → first bytes ≡ reading initial_span bytes
 first-is bytes = let same : number (take 4 bytes) ≡ number (take 4 bytes) - 0 = omega arith in cc
 
-pub opened-is : (bytes : List ℕ) → SomeIff (opened bytes) (Begins start bytes) (reading start bytes)
-opened-is bytes =
+pub initial_reading-is : (bytes : List ℕ) → SomeIff (initial_reading bytes) (Begins initial_span bytes) (reading initial_span bytes)
+initial_reading-is bytes =
     ⊎_elim
     (λ (few : length bytes < 4).
     rw (cond-false (leb 4 (length bytes) && ltb (number (take 4 bytes)) 4294967295) (Some (first bytes)) None (and_left _ _ (lt-leb 4 (length bytes) few)))
-    (λ (h : Begins start bytes). omega (arith, h.enough, few)))
+    (λ (h : Begins initial_span bytes). omega (arith, h.enough, few)))
     (λ (enough : 4 ≤ length bytes).
     ⊎_elim
     (λ (low : number (take 4 bytes) < 4294967295).
@@ -33,25 +33,25 @@ opened-is bytes =
     (record { enough = enough; low = omega arith; high = low }, first-is bytes))
     (λ (high : 4294967295 ≤ number (take 4 bytes)).
     rw (cond-false (leb 4 (length bytes) && ltb (number (take 4 bytes)) 4294967295) (Some (first bytes)) None (and_right _ _ (le-ltb _ 4294967295 high)))
-    (λ (h : Begins start bytes). omega (arith, h.high, high)))
+    (λ (h : Begins initial_span bytes). omega (arith, h.high, high)))
     (cases_lt (number (take 4 bytes)) 4294967295))
     (cases_lt (length bytes) 4)
 
 pub following-is : (cs : List Cut) (bytes : List ℕ) → AllByRecursion IsCut cs → IsBytes bytes
-    → SomeIff (option_and_then (λ r. follow_all r cs) (opened bytes)) (Begins (after start cs) bytes) (reading (after start cs) bytes)
+    → SomeIff (option_and_then (λ r. follow_all r cs) (initial_reading bytes)) (Begins (after initial_span cs) bytes) (reading (after initial_span cs) bytes)
 following-is cs bytes all b =
-    SomeIff-then (opened bytes) (λ r. follow_all r cs) (Begins start bytes) _ _ _
-    (opened-is bytes) (follow_all-is start cs bytes start-IsSpan all b) (Begins-after start cs bytes start-IsSpan all b)
+    SomeIff-then (initial_reading bytes) (λ r. follow_all r cs) (Begins initial_span bytes) _ _ _
+    (initial_reading-is bytes) (follow_all-is initial_span cs bytes initial_span-IsSpan all b) (Begins-after initial_span cs bytes initial_span-IsSpan all b)
 
 pub fronts : (s : Span) (xs ys : List Cut) (bytes : List ℕ) → IsSpan s → AllByRecursion IsCut (xs ++ ys) → IsBytes bytes → Begins (after s (xs ++ ys)) bytes → Begins (after s xs) bytes
 fronts s [] ys bytes reach all b h = Begins-after s ys bytes reach all b h
 fronts s (x ∷ xs) ys bytes reach all b h = fronts (cut s x) xs ys bytes (cut-IsSpan s x reach all.0) all.1 b h
 
-pub one : (front : List Cut) (c d : Cut) (bytes : List ℕ) → IsBytes bytes → IsCut c → IsCut d → AreAlike c d → Begins (after start (front ++ c ∷ [])) bytes → Begins (after start (front ++ d ∷ [])) bytes → c ≡ d
+pub one : (front : List Cut) (c d : Cut) (bytes : List ℕ) → IsBytes bytes → IsCut c → IsCut d → AreAlike c d → Begins (after initial_span (front ++ c ∷ [])) bytes → Begins (after initial_span (front ++ d ∷ [])) bytes → c ≡ d
 one front c d bytes b h k alike f g =
     ⊎_elim
     (λ (same : c ≡ d). same)
-    (λ (other : IsOther c d). absurd (Begins-other (after start front) c d bytes b h k other (rw after-append at f) (rw after-append at g)))
+    (λ (other : IsOther c d). absurd (Begins-other (after initial_span front) c d bytes b h k other (rw after-append at f) (rw after-append at g)))
     (alike_cases c d alike)
 
 -- one list of cuts after another

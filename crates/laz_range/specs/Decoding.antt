@@ -3,6 +3,7 @@ use Rattle.laz_range.specs.Cut.{Cut, AreCuts, width_in}
 use Rattle.laz_range.specs.Span.{span, number, IsBytes, Begins, bytes_for}
 use Rattle.laz_range.specs.Reading.{Reading}
 use Rattle.laz_range.specs.Choice.{Only, Nothing}
+use Rattle.laz_range.specs.declared.limits.TheConstants.{BIT_PARTS, SYMBOL_PARTS}
 
 -- What is seen of a decoder: its bytes, how many of them were taken, how far into the present span their number lies, how long the span is, and whether it has answered Bad.
 pub record Decoding : Type 0 where
@@ -17,12 +18,12 @@ abbrev pub reading_of : Decoding → Reading
 reading_of d = record { value = d.value; len = d.len; rest = drop d.taken d.bytes }
 
 -- Where the value lies, of 2 ^ 15 parts.
-abbrev pub place_of : Decoding → ℕ
-place_of d = d.value / (d.len / 32768)
+abbrev pub symbol_place : Decoding → ℕ
+symbol_place d = d.value / (d.len / SYMBOL_PARTS)
 
 -- The bit that the value says: 1 behind the part of 0.
 abbrev pub bit_of : Decoding → ℕ → Bool
-bit_of d p0 = nat_le (p0 * (d.len / 8192)) d.value
+bit_of d p0 = nat_le (p0 * (d.len / BIT_PARTS)) d.value
 
 -- The bytes run out at an event.
 abbrev pub RunsOut : Decoding → Cut → Type 0

@@ -4,8 +4,8 @@ use Rattle.laz_range.specs.Decoding.{Decoding, reading_of}
 use Rattle.laz_range.specs.declared.input.Input.{Input}
 
 -- What the input knows of the rest of its bytes.
-abbrev pub known : Input → Reading
-known i = record { value = i.value; len = i.length; rest = drop i.taken i.bytes.now }
+abbrev pub input_reading : Input → Reading
+input_reading i = record { value = i.value; len = i.length; rest = drop i.taken i.bytes.now }
 
 -- What is seen of a decoder of this input.
 abbrev pub decoding_of : Input → Bool → Decoding
@@ -16,7 +16,7 @@ abbrev pub Gives : {E : Type 0} → Result (Unit {0}) E → Option Reading → R
 Gives result reads new = MatchResult result (λ _. reads ≡ Some new) (λ _. reads ≡ None)
 
 -- A decoder goes on to the reading that it should,
-pub record Passes (reading : Option Reading) (old new : Decoding) : Type 0 where
+pub record Advances (reading : Option Reading) (old new : Decoding) : Type 0 where
   pub reads : reading ≡ Some (reading_of new)
   pub bytes : new.bytes ≡ old.bytes
   pub within : new.taken ≤ length new.bytes

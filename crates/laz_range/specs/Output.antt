@@ -4,19 +4,19 @@ use Rattle.laz_range.specs.Coding.{Coding}
 use Rattle.laz_range.specs.declared.output.Output.{Output}
 
 -- The bytes written since `at`.
-abbrev pub written : Output → List ℕ
-written o = drop o.at (take o.next o.bytes.items)
+abbrev pub written_bytes : Output → List ℕ
+written_bytes o = drop o.at (take o.next o.bytes.items)
 
 -- The bytes written and the base spell low.
 abbrev pub span_of : Output → Span
-span_of o = record { low = number (written o) * 4294967296 + o.base; len = o.length; shifts = o.next - o.at }
+span_of o = record { low = number (written_bytes o) * 4294967296 + o.base; len = o.length; shifts = o.next - o.at }
 
 -- The same span, from further on.
-abbrev pub moved : Span → ℕ → Span
-moved s from = record { low = s.low + from; len = s.len; shifts = s.shifts }
+abbrev pub span_from : Span → ℕ → Span
+span_from s from = record { low = s.low + from; len = s.len; shifts = s.shifts }
 
 -- There is room for the four bytes of the base.
-pub record IsPlaced (o : Output) : Type 0 where
+pub record HasRoom (o : Output) : Type 0 where
   pub from : o.at ≤ o.next
   pub room : o.next + 4 ≤ length o.bytes.items
 

@@ -1,6 +1,7 @@
 use Rattle.std.specs.Prelude.{◌≡◌, ℕ, zero, suc, ◌+◌, ◌*◌, ◌/◌, ◌%◌, ◌^◌, ◌<◌, ◌≤◌, List, [], ◌∷◌, nat_lt, if◌then◌else◌, length, take, slice_index}
 use Rattle.std.specs.Int.Digits.{number_from_digits}
 use Rattle.laz_range.specs.Cut.{Cut, start_in, width_in}
+use Rattle.laz_range.specs.declared.limits.TheConstants.{MAX_LENGTH, MIN_LENGTH}
 
 -- The numbers that spell a list of events: from low on and below low + len, in shifts + 4 digits of base 256. There is no carry, since low has no upper bound (the interval of Said's coder, in exact numbers).
 pub record Span : Type 0 where
@@ -9,20 +10,20 @@ pub record Span : Type 0 where
   pub shifts : ℕ
 
 -- The span of no event.
-abbrev pub start : Span
-start = record { low = 0; len = 4294967295; shifts = 0 }
+abbrev pub initial_span : Span
+initial_span = record { low = 0; len = MAX_LENGTH; shifts = 0 }
 
 -- One digit more, where the length is below 2 ^ 24 (Said's renormalisation).
-unfoldable pub renewed : Span → Span
-renewed s = if nat_lt s.len 16777216 then record { low = s.low * 256; len = s.len * 256; shifts = s.shifts + 1 } else s
+unfoldable pub renormal_step : Span → Span
+renormal_step s = if nat_lt s.len MIN_LENGTH then record { low = s.low * 256; len = s.len * 256; shifts = s.shifts + 1 } else s
 
 -- The part of a span that begins at `from` and has length `width`, in digits enough. Three digits are enough for any part.
-unfoldable pub narrowed : Span → ℕ → ℕ → Span
-narrowed s from width = renewed (renewed (renewed (record { low = s.low + from; len = width; shifts = s.shifts })))
+unfoldable pub subspan : Span → ℕ → ℕ → Span
+subspan s from width = renormal_step (renormal_step (renormal_step (record { low = s.low + from; len = width; shifts = s.shifts })))
 
 -- One event more.
 abbrev pub cut : Span → Cut → Span
-cut s c = narrowed s (start_in s.len c) (width_in s.len c)
+cut s c = subspan s (start_in s.len c) (width_in s.len c)
 
 -- Further events, from left to right.
 abbrev pub after : Span → List Cut → Span
@@ -31,7 +32,7 @@ after s (c ∷ cs) = after (cut s c) cs
 
 -- The span of a list of events.
 abbrev pub span : List Cut → Span
-span events = after start events
+span events = after initial_span events
 
 -- The number that bytes spell, greatest digit first.
 abbrev pub number : List ℕ → ℕ
@@ -54,8 +55,8 @@ pub record Begins (s : Span) (bytes : List ℕ) : Type 0 where
   pub high : number (take (s.shifts + 4) bytes) < s.low + s.len
 
 -- The number that ends a stream: one of the span with as many zero bytes at its end as LASzip's encoder leaves, three for a long span and two for a short one.
-abbrev pub last : Span → ℕ
-last s = if nat_lt 33554432 s.len then (s.low + 16777216) / 16777216 * 16777216 else (s.low + 8388608) / 65536 * 65536
+abbrev pub final_number : Span → ℕ
+final_number s = if nat_lt 33554432 s.len then (s.low + MIN_LENGTH) / MIN_LENGTH * MIN_LENGTH else (s.low + 8388608) / 65536 * 65536
 
 -- A number below 256 ^ n, in n digits of base 256, greatest first.
 abbrev pub digits : ℕ → ℕ → List ℕ
@@ -64,14 +65,14 @@ digits (suc n) v = v / 256 ^ n ∷ digits n (v % 256 ^ n)
 
 -- The bytes of a stream.
 abbrev pub bytes_of : Span → List ℕ
-bytes_of s = digits (s.shifts + 4) (last s)
+bytes_of s = digits (s.shifts + 4) (final_number s)
 
 -- How many bytes a part of this length asks for: one for each factor of 256 that it is short of 2 ^ 24.
 unfoldable pub bytes_for : ℕ → ℕ
-bytes_for len = if nat_lt len 256 then 3 else if nat_lt len 65536 then 2 else if nat_lt len 16777216 then 1 else 0
+bytes_for len = if nat_lt len 256 then 3 else if nat_lt len 65536 then 2 else if nat_lt len MIN_LENGTH then 1 else 0
 
 -- A span that the coder can reach.
 pub record IsSpan (s : Span) : Type 0 where
-  pub long : 16777216 ≤ s.len
+  pub long : MIN_LENGTH ≤ s.len
   pub short : s.len < 4294967296
   pub within : s.low + s.len ≤ 256 ^ (s.shifts + 4)

@@ -2,12 +2,13 @@
 ghost use Rattle.std.specs.Prelude.{◌≡◌, ℕ, Bool, true, false, ◌+◌, ◌*◌, ◌/◌, ◌<◌, ◌≤◌, ◌^◌, ◌↔◌, ◌⊎◌, ⊤, [], ◌∷◌, List, IsTrue, IsErr, IfOk, OnOk, OnErr, MatchResult, Option, length, take};
 ghost use Rattle.laz_range.specs.Cut.{Cut, Part, Bit, Raw, AreCuts, IsLike, one_event, raw_cuts};
 ghost use Rattle.laz_range.specs.Span.{Begins, number, span};
-ghost use Rattle.laz_range.specs.Reading.{quotient, taken_off, RefusesPart, RefusesRaw};
-ghost use Rattle.laz_range.specs.Decoding.{HasRead, ReadsOn, NoneBegins, Reads, RunsOut, Takes, TakesNone, bit_of, place_of, reading_of};
-ghost use Rattle.laz_range.specs.Input.{Passes, Stops};
+ghost use Rattle.laz_range.specs.Reading.{quotient, reading_after_part, RefusesPart, RefusesRaw};
+ghost use Rattle.laz_range.specs.Decoding.{HasRead, ReadsOn, NoneBegins, Reads, RunsOut, Takes, TakesNone, bit_of, symbol_place, reading_of};
+ghost use Rattle.laz_range.specs.Input.{Advances, Stops};
 
 pub use crate::input::Bad;
-use crate::input::{Input, take};
+use crate::input::{Input, advance};
+use crate::limits::{BIT_PARTS, MAX_LENGTH, MAX_RAW_BITS, MIN_LENGTH, SYMBOL_PARTS};
 use std::marker::Model;
 
 /// Reads events from bytes that it is lent.
@@ -25,12 +26,13 @@ impl<'a> Model for Decoder<'a> {
     ghost use Rattle.std.specs.Prelude.{◌≡◌, ◌≤◌, ◌<◌, false, length};
     ghost use Rattle.laz_range.specs.Decoding.{Decoding};
     ghost use Rattle.laz_range.specs.Input.{decoding_of};
+    ghost use Rattle.laz_range.specs.declared.limits.TheConstants.{MIN_LENGTH};
 
     ghost Value = { Decoding };
 
     ghost view = { λ d. decoding_of d.input d.failed };
 
-    ghost invariant = { λ d. (d.input.taken ≤ length d.input.bytes.now) × (d.failed ≡ false → d.input.value < d.input.length) × (d.failed ≡ false → 16777216 ≤ d.input.length) };
+    ghost invariant = { λ d. (d.input.taken ≤ length d.input.bytes.now) × (d.failed ≡ false → d.input.value < d.input.length) × (d.failed ≡ false → MIN_LENGTH ≤ d.input.length) };
 }
 
 impl<'a> Decoder<'a> {
@@ -42,7 +44,7 @@ impl<'a> Decoder<'a> {
         ensures bytes { IfOk result (λ d. d.bytes ≡ bytes.now) }
         ensures taken { IfOk result (λ d. d.taken ≡ 4) }
         ensures value { IfOk result (λ d. d.value ≡ number (take 4 bytes.now)) }
-        ensures len { IfOk result (λ d. d.len ≡ 4294967295) }
+        ensures len { IfOk result (λ d. d.len ≡ MAX_LENGTH) }
         ensures good { IfOk result (λ d. d.failed ≡ false) }
         ensures read { IfOk result (λ d. HasRead [] d) }
     {
@@ -50,7 +52,7 @@ impl<'a> Decoder<'a> {
             return Err(Bad);
         }
         let value = u32::from_be_bytes([bytes[0], bytes[1], bytes[2], bytes[3]]);
-        if value == u32::MAX {
+        if value == MAX_LENGTH {
             return Err(Bad);
         }
         Ok(Decoder {
@@ -58,7 +60,7 @@ impl<'a> Decoder<'a> {
                 bytes,
                 value,
                 taken: 4,
-                length: u32::MAX,
+                length: MAX_LENGTH,
             },
             failed: false,
         })
@@ -68,9 +70,9 @@ impl<'a> Decoder<'a> {
     /// below.
     pub fn at15(&self) -> u32
         requires { self.now.failed ≡ false }
-        ensures place { result ≡ place_of self.now }
+        ensures place { result ≡ symbol_place self.now }
         ensures below { self.now.value < self.now.len }
-        ensures long { 16777216 ≤ self.now.len }
+        ensures long { MIN_LENGTH ≤ self.now.len }
     {
         self.input.value / (self.input.length >> 15)
     }
@@ -80,9 +82,9 @@ impl<'a> Decoder<'a> {
     pub fn take15(&mut self, lo: u32, hi: u32) -> Result<(), Bad>
         requires good { self.old.failed ≡ false }
         requires part { lo < hi }
-        requires whole { hi ≤ 32768 }
-        requires above { lo ≤ place_of self.old }
-        requires below { hi < 32768 → place_of self.old < hi }
+        requires whole { hi ≤ SYMBOL_PARTS }
+        requires above { lo ≤ symbol_place self.old }
+        requires below { hi < SYMBOL_PARTS → symbol_place self.old < hi }
         ensures reads { MatchResult result (λ _. Takes (IsLike (Part lo hi)) one_event self.old self.new (Part lo hi)) (λ _. TakesNone (IsLike (Part lo hi)) one_event self.old self.new) }
         ensures bad { IsErr result ↔ RunsOut self.old (Part lo hi) }
         ensures read { OnOk result (ReadsOn (one_event (Part lo hi)) self.old self.new) }
@@ -90,12 +92,12 @@ impl<'a> Decoder<'a> {
     {
         let unit = self.input.length >> 15;
         let from = lo * unit;
-        let width = if hi == 32768 {
+        let width = if hi == SYMBOL_PARTS {
             self.input.length - from
         } else {
             hi * unit - from
         };
-        self.pass(from, width)
+        self.take_part(from, width)
     }
 
     /// Takes a bit, of which 0 has the first `p0` of 2^13 parts. Bad says that the bytes run out: neither bit begins
@@ -103,7 +105,7 @@ impl<'a> Decoder<'a> {
     pub fn take13(&mut self, p0: u32) -> Result<bool, Bad>
         requires good { self.old.failed ≡ false }
         requires some { 0 < p0 }
-        requires part { p0 < 8192 }
+        requires part { p0 < BIT_PARTS }
         ensures reads { Reads result (λ _. ⊤) (λ bit. Bit p0 bit ∷ []) self.old self.new }
         ensures bit { IfOk result (λ bit. bit ≡ bit_of self.old p0) }
         ensures bad { IsErr result ↔ RunsOut self.old (Bit p0 (bit_of self.old p0)) }
@@ -112,11 +114,11 @@ impl<'a> Decoder<'a> {
     {
         let split = p0 * (self.input.length >> 13);
         if self.input.value < split {
-            self.pass(0, split)?;
+            self.take_part(0, split)?;
             return Ok(false);
         }
         let width = self.input.length - split;
-        self.pass(split, width)?;
+        self.take_part(split, width)?;
         Ok(true)
     }
 
@@ -131,7 +133,7 @@ impl<'a> Decoder<'a> {
         ensures read { IfOk result (λ v. ReadsOn (raw_cuts bits v) self.old self.new) }
         ensures none { OnErr result (NoneBegins (λ v. v < 2 ^ bits) (raw_cuts bits) self.old) }
     {
-        if bits > 19 {
+        if bits > MAX_RAW_BITS {
             let low = self.take_raw_part(16)?;
             let high = self.take_raw_part(bits - 16)?;
             return Ok((high << 16) + low);
@@ -143,7 +145,7 @@ impl<'a> Decoder<'a> {
     fn take_raw_part(&mut self, bits: u32) -> Result<u32, Bad>
         requires good { self.old.failed ≡ false }
         requires some { 0 < bits }
-        requires few { bits ≤ 19 }
+        requires few { bits ≤ MAX_RAW_BITS }
         ensures reads { Reads result (λ v. v < 2 ^ bits) (λ v. Raw bits v ∷ []) self.old self.new }
         ensures bad { IsErr result ↔ RefusesPart (reading_of self.old) bits }
         ensures quotient { IfOk result (λ v. v ≡ quotient (reading_of self.old) bits) }
@@ -154,18 +156,18 @@ impl<'a> Decoder<'a> {
             self.failed = true;
             return Err(Bad);
         }
-        self.pass(v * unit, unit)?;
+        self.take_part(v * unit, unit)?;
         Ok(v)
     }
 
     /// Goes on behind a part that the value lies in.
-    fn pass(&mut self, from: u32, width: u32) -> Result<(), Bad>
+    fn take_part(&mut self, from: u32, width: u32) -> Result<(), Bad>
         requires good { self.old.failed ≡ false }
         requires above { from ≤ self.old.value }
         requires below { self.old.value < from + width }
-        ensures { MatchResult result (λ _. Passes (taken_off (reading_of self.old) from width) self.old self.new) (λ _. Stops (taken_off (reading_of self.old) from width) self.old self.new) }
+        ensures { MatchResult result (λ _. Advances (reading_after_part (reading_of self.old) from width) self.old self.new) (λ _. Stops (reading_after_part (reading_of self.old) from width) self.old self.new) }
     {
-        match take(&mut self.input, from, width) {
+        match advance(&mut self.input, from, width) {
             Ok(()) => Ok(()),
             Err(bad) => {
                 self.failed = true;

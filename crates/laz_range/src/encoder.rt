@@ -1,9 +1,10 @@
 //! The encoder.
 ghost use Rattle.std.specs.Prelude.{◌≡◌, ◌+◌, ◌<◌, ◌≤◌, ◌^◌, [], ◌∷◌, ◌++◌, length, take, slice_range};
 ghost use Rattle.laz_range.specs.Cut.{Part, Bit, Raw, raw_cuts};
-ghost use Rattle.laz_range.specs.Span.{start, bytes_of, Fits};
+ghost use Rattle.laz_range.specs.Span.{initial_span, bytes_of, Fits};
 ghost use Rattle.laz_range.specs.Coding.{Codes};
 
+use crate::limits::{BIT_PARTS, MAX_LENGTH, MAX_RAW_BITS, SYMBOL_PARTS};
 use crate::output::{Output, end, narrow};
 use std::marker::Model;
 
@@ -20,20 +21,20 @@ pub struct Encoder {
 impl Model for Encoder {
     ghost use Rattle.laz_range.specs.Coding.{Coding};
     ghost use Rattle.laz_range.specs.Span.{IsSpan};
-    ghost use Rattle.laz_range.specs.Output.{coding_of, span_of, IsPlaced};
+    ghost use Rattle.laz_range.specs.Output.{coding_of, span_of, HasRoom};
 
     ghost Value = { Coding };
 
     ghost view = { λ e. coding_of e.output };
 
-    ghost invariant = { λ e. IsPlaced e.output × IsSpan (span_of e.output) };
+    ghost invariant = { λ e. HasRoom e.output × IsSpan (span_of e.output) };
 }
 
 impl Encoder {
     /// An encoder without events, which writes into `room` from `at` on.
     pub fn with_room(room: Vec<u8>, at: usize) -> Self
         requires { at + 4 ≤ length room.items }
-        ensures span { result.span ≡ start }
+        ensures span { result.span ≡ initial_span }
         ensures before { result.before ≡ take at room.items }
         ensures left { result.left + at + 4 ≡ length room.items }
     {
@@ -43,7 +44,7 @@ impl Encoder {
                 base: 0,
                 at,
                 next: at,
-                length: u32::MAX,
+                length: MAX_LENGTH,
             },
         }
     }
@@ -52,13 +53,13 @@ impl Encoder {
     /// and gets what the division of the interval by 2^15 leaves, too.
     pub fn cut15(&mut self, lo: u32, hi: u32)
         requires part { lo < hi }
-        requires whole { hi ≤ 32768 }
+        requires whole { hi ≤ SYMBOL_PARTS }
         requires left { 3 ≤ self.old.left }
         ensures { Codes self.old self.new (Part lo hi ∷ []) }
     {
         let unit = self.output.length >> 15;
         let from = lo * unit;
-        let width = if hi == 32768 {
+        let width = if hi == SYMBOL_PARTS {
             self.output.length - from
         } else {
             hi * unit - from
@@ -69,7 +70,7 @@ impl Encoder {
     /// Codes a bit, of which 0 has the first `p0` of 2^13 parts.
     pub fn cut13(&mut self, p0: u32, bit: bool)
         requires some { 0 < p0 }
-        requires part { p0 < 8192 }
+        requires part { p0 < BIT_PARTS }
         requires left { 3 ≤ self.old.left }
         ensures { Codes self.old self.new (Bit p0 bit ∷ []) }
     {
@@ -89,10 +90,10 @@ impl Encoder {
         requires few { bits ≤ 32 }
         requires value { v < 2 ^ bits }
         requires left { 3 ≤ self.old.left }
-        requires wide { 19 < bits → 4 ≤ self.old.left }
+        requires wide { MAX_RAW_BITS < bits → 4 ≤ self.old.left }
         ensures { Codes self.old self.new (raw_cuts bits v) }
     {
-        if bits > 19 {
+        if bits > MAX_RAW_BITS {
             self.raw_part(16, v & 0xffff);
             self.raw_part(bits - 16, v >> 16);
         } else {
@@ -103,7 +104,7 @@ impl Encoder {
     /// Codes a raw value of at most 19 bits. One of at most 16 bits takes two bytes at most.
     fn raw_part(&mut self, bits: u32, v: u32)
         requires some { 0 < bits }
-        requires few { bits ≤ 19 }
+        requires few { bits ≤ MAX_RAW_BITS }
         requires value { v < 2 ^ bits }
         requires left { 2 ≤ self.old.left }
         requires wide { 16 < bits → 3 ≤ self.old.left }

@@ -1,7 +1,9 @@
 //! The bytes of a decoder, and where in them it is.
 ghost use Rattle.std.specs.Prelude.{◌≡◌, ℕ, ◌+◌, ◌*◌, ◌<◌, ◌≤◌, OnOk, length};
-ghost use Rattle.laz_range.specs.Reading.{refilled, taken_off};
-ghost use Rattle.laz_range.specs.Input.{known, Gives};
+ghost use Rattle.laz_range.specs.Reading.{refill_step, reading_after_part};
+ghost use Rattle.laz_range.specs.Input.{input_reading, Gives};
+
+use crate::limits::MIN_LENGTH;
 
 /// The bytes run out, or a raw value is none: nothing that was asked for begins what is left of the bytes.
 #[derive(Clone, Copy, Debug, PartialEq, Eq)]
@@ -21,13 +23,13 @@ pub struct Input<'a> {
 fn refill(input: &mut Input<'_>) -> Result<(), Bad>
     requires within { input.old.taken ≤ length input.old.bytes.now }
     requires below { input.old.value < input.old.length }
-    ensures reads { Gives result (refilled (known input.old)) (known input.new) }
+    ensures reads { Gives result (refill_step (input_reading input.old)) (input_reading input.new) }
     ensures bytes { input.new.bytes.now ≡ input.old.bytes.now }
     ensures within { input.new.taken ≤ length input.new.bytes.now }
     ensures below { OnOk result (input.new.value < input.new.length) }
-    ensures longer { OnOk result ((m : ℕ) → m * 256 ≤ 16777216 → m ≤ input.old.length → m * 256 ≤ input.new.length) }
+    ensures longer { OnOk result ((m : ℕ) → m * 256 ≤ MIN_LENGTH → m ≤ input.old.length → m * 256 ≤ input.new.length) }
 {
-    if input.length >= 0x100_0000 {
+    if input.length >= MIN_LENGTH {
         return Ok(());
     }
     if input.taken == input.bytes.len() {
@@ -41,15 +43,15 @@ fn refill(input: &mut Input<'_>) -> Result<(), Bad>
 }
 
 /// Goes on behind the part that begins at `from` and has length `width`, which the value lies in.
-pub fn take(input: &mut Input<'_>, from: u32, width: u32) -> Result<(), Bad>
+pub fn advance(input: &mut Input<'_>, from: u32, width: u32) -> Result<(), Bad>
     requires within { input.old.taken ≤ length input.old.bytes.now }
     requires above { from ≤ input.old.value }
     requires below { input.old.value < from + width }
-    ensures reads { Gives result (taken_off (known input.old) from width) (known input.new) }
+    ensures reads { Gives result (reading_after_part (input_reading input.old) from width) (input_reading input.new) }
     ensures bytes { input.new.bytes.now ≡ input.old.bytes.now }
     ensures within { input.new.taken ≤ length input.new.bytes.now }
     ensures below { OnOk result (input.new.value < input.new.length) }
-    ensures long { OnOk result (16777216 ≤ input.new.length) }
+    ensures long { OnOk result (MIN_LENGTH ≤ input.new.length) }
 {
     input.value -= from;
     input.length = width;

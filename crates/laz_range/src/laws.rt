@@ -3,7 +3,7 @@ ghost use Rattle.std.specs.Prelude.{◌≡◌, ◌+◌, ◌*◌, ◌<◌, ◌≤
 ghost use Rattle.std.specs.Option.{SomeIff};
 ghost use Rattle.laz_range.specs.Cut.{Cut, AreAlike, AreCuts, IsCut, IsDistribution, IsLike, symbol, width_in};
 ghost use Rattle.laz_range.specs.Span.{Begins, Fits, IsBytes, Span, bytes_for, bytes_of, span};
-ghost use Rattle.laz_range.specs.Reading.{follow_all, opened, reading};
+ghost use Rattle.laz_range.specs.Reading.{follow_all, initial_reading, reading};
 
 /// A span's numbers have as many digits as its bytes.
 pub fn spans_lie()
@@ -49,5 +49,5 @@ pub fn parts_are_alike()
 
 /// What a decoder follows is what begins its bytes.
 pub fn events_follow()
-    ensures { (events : List Cut) (bytes : List ℕ) → AreCuts events → IsBytes bytes → SomeIff (option_and_then (λ r. follow_all r events) (opened bytes)) (Begins (span events) bytes) (reading (span events) bytes) }
+    ensures { (events : List Cut) (bytes : List ℕ) → AreCuts events → IsBytes bytes → SomeIff (option_and_then (λ r. follow_all r events) (initial_reading bytes)) (Begins (span events) bytes) (reading (span events) bytes) }
 {}

@@ -14,6 +14,7 @@ mod decoder;
 mod encoder;
 mod input;
 mod laws;
+mod limits;
 mod output;
 
 pub use decoder::{Bad, Decoder};
@@ -22,6 +23,7 @@ pub use laws::{
     bytes_fit, events_follow, fronts_begin, fronts_fit, one_begins, parts_are_alike,
     shifts_are_few, shifts_grow, spans_lie,
 };
+pub use limits::{BIT_PARTS, MAX_LENGTH, MAX_RAW_BITS, MIN_LENGTH, SYMBOL_PARTS};
 
 #[cfg(test)]
 mod tests;

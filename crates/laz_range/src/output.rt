@@ -1,9 +1,10 @@
 //! What an encoder has written, and the interval that it is in.
 ghost use Rattle.std.specs.Prelude.{◌≡◌, ℕ, ◌+◌, ◌*◌, ◌^◌, ◌<◌, ◌≤◌, ◌-◌, length, take, drop};
-ghost use Rattle.laz_range.specs.Span.{renewed, narrowed, IsSpan, number, bytes_of, last, IsBytes};
-ghost use Rattle.laz_range.specs.Output.{span_of, moved, written, IsPlaced, Writes};
+ghost use Rattle.laz_range.specs.Span.{renormal_step, subspan, IsSpan, number, bytes_of, final_number, IsBytes};
+ghost use Rattle.laz_range.specs.Output.{span_of, span_from, written_bytes, HasRoom, Writes};
 
 use crate::carry::carry_between;
+use crate::limits::MIN_LENGTH;
 
 /// The bytes from `at` up to `next` are written. They and the 32 bits of `base` spell the interval's low end, and
 /// `length` is how long it is.
@@ -18,14 +19,14 @@ pub struct Output {
 }
 
 /// Writes the top byte of the base, where the length is below 2^24.
-fn renew(output: &mut Output)
-    requires placed { IsPlaced output.old }
-    requires left { output.old.length < 16777216 → output.old.next + 5 ≤ length output.old.bytes.items }
-    ensures span { span_of output.new ≡ renewed (span_of output.old) }
+fn renormalize(output: &mut Output)
+    requires placed { HasRoom output.old }
+    requires left { output.old.length < MIN_LENGTH → output.old.next + 5 ≤ length output.old.bytes.items }
+    ensures span { span_of output.new ≡ renormal_step (span_of output.old) }
     ensures rest { Writes 1 output.old output.new }
-    ensures placed { IsPlaced output.new }
+    ensures placed { HasRoom output.new }
 {
-    if output.length < 0x100_0000 {
+    if output.length < MIN_LENGTH {
         output.bytes[output.next] = (output.base >> 24) as u8;
         output.next += 1;
         output.base <<= 8;
@@ -35,11 +36,11 @@ fn renew(output: &mut Output)
 
 /// Adds to the base, and carries into the bytes that are written.
 fn add(output: &mut Output, from: u32)
-    requires placed { IsPlaced output.old }
+    requires placed { HasRoom output.old }
     requires within { (span_of output.old).low + from < 256 ^ ((span_of output.old).shifts + 4) }
-    ensures span { span_of output.new ≡ moved (span_of output.old) from }
+    ensures span { span_of output.new ≡ span_from (span_of output.old) from }
     ensures rest { Writes 0 output.old output.new }
-    ensures placed { IsPlaced output.new }
+    ensures placed { HasRoom output.new }
 {
     let sum = output.base.wrapping_add(from);
     if sum < from {
@@ -50,22 +51,22 @@ fn add(output: &mut Output, from: u32)
 
 /// Cuts out the part that begins at `from` and has length `width`.
 pub fn narrow(output: &mut Output, from: u32, width: u32)
-    requires placed { IsPlaced output.old }
+    requires placed { HasRoom output.old }
     requires left { output.old.next + 6 ≤ length output.old.bytes.items }
     requires short { width < 256 → output.old.next + 7 ≤ length output.old.bytes.items }
     requires reached { IsSpan (span_of output.old) }
     requires some { 0 < width }
     requires part { from + width ≤ output.old.length }
-    ensures span { span_of output.new ≡ narrowed (span_of output.old) from width }
+    ensures span { span_of output.new ≡ subspan (span_of output.old) from width }
     ensures rest { Writes 3 output.old output.new }
-    ensures placed { IsPlaced output.new }
+    ensures placed { HasRoom output.new }
     ensures reached { IsSpan (span_of output.new) }
 {
     add(output, from);
     output.length = width;
-    renew(output);
-    renew(output);
-    renew(output); // a part of one number asks for three bytes
+    renormalize(output);
+    renormalize(output);
+    renormalize(output); // a part of one number asks for three bytes
 }
 
 /// Writes a byte.
@@ -97,14 +98,14 @@ fn put_word(bytes: &mut Vec<u8>, at: usize, next: usize, word: u32)
 
 /// The last four bytes, after the carry into those that are written.
 fn last_word(output: &mut Output) -> u32
-    requires placed { IsPlaced output.old }
+    requires placed { HasRoom output.old }
     requires reached { IsSpan (span_of output.old) }
-    ensures number { number (written output.new) * 4294967296 + result ≡ last (span_of output.old) }
+    ensures number { number (written_bytes output.new) * 4294967296 + result ≡ final_number (span_of output.old) }
     ensures rest { Writes 0 output.old output.new }
-    ensures placed { IsPlaced output.new }
+    ensures placed { HasRoom output.new }
 {
     if output.length > 0x200_0000 {
-        add(output, 0x100_0000);
+        add(output, MIN_LENGTH);
         return output.base >> 24 << 24;
     }
     add(output, 0x80_0000);
@@ -113,7 +114,7 @@ fn last_word(output: &mut Output) -> u32
 
 /// Ends the stream. Gives the bytes, and how many of them were written from `at` on.
 pub fn end(mut output: Output) -> (Vec<u8>, usize)
-    requires placed { IsPlaced output }
+    requires placed { HasRoom output }
     requires reached { IsSpan (span_of output) }
     ensures count { result.1 ≡ (span_of output).shifts + 4 }
     ensures bytes { drop output.at (take (output.at + result.1) result.0.items) ≡ bytes_of (span_of output) }

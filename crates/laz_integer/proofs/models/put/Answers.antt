@@ -9,7 +9,7 @@ put_symbol_of-requires-clause-symbol c = omega (arith, c.requires.range, width-s
 
 pub put_rest-requires-clause-state : goal.put_rest-requires-clause-state
 put_rest-requires-clause-state c =
-    rw c.put_symbol_of.ensures.counted (IsIntState-width (state_of c.args.models.now) c.args.ctx c.args.k c.requires.state c.requires.context c.requires.range)
+    rw c.put_symbol_of.ensures.after_symbol (IsIntState-width (state_of c.args.models.now) c.args.ctx c.args.k c.requires.state c.requires.context c.requires.range)
 
 pub put_symbol_of-requires-clause-model : goal.put_symbol_of-requires-clause-model
 put_symbol_of-requires-clause-model c = omega (arith, models-count (state_of c.args.models.now) c.requires.state, c.requires.context)

@@ -12,4 +12,4 @@ put_symbol_of-requires-clause-symbol c = omega (arith, c.requires.symbol, high-s
 
 pub returns-clause-state : goal.returns-clause-state
 returns-clause-state c =
-    rw c.put_symbol_of.ensures.counted (IsIntState-high (state_of c.args.models.now) c.args.k c.args.s c.requires.state c.requires.some c.requires.range c.requires.symbol)
+    rw c.put_symbol_of.ensures.after_symbol (IsIntState-high (state_of c.args.models.now) c.args.k c.args.s c.requires.state c.requires.some c.requires.range c.requires.symbol)

@@ -14,7 +14,7 @@ pub returns-then-k-eq0-clause-codes : goal.returns-then-k-eq0-clause-codes
 returns-then-k-eq0-clause-codes c = rw (c.if-k-eq0.true, cuts-zero) c.put_bit.ensures.codes
 
 pub returns-then-k-eq0-clause-next : goal.returns-then-k-eq0-clause-next
-returns-then-k-eq0-clause-next c = rw (c.if-k-eq0.true, next-zero, c.put_bit.ensures.counted) refl
+returns-then-k-eq0-clause-next c = rw (c.if-k-eq0.true, next-zero, c.put_bit.ensures.after_symbol) refl
 
 pub returns-then-k-eq32-clause-codes : goal.returns-then-k-eq32-clause-codes
 returns-then-k-eq32-clause-codes c = rw (c.if-k-eq32.true, cuts-most) (Codes-none c.args.encoder.now)
@@ -53,4 +53,4 @@ returns-clause-next c =
     rw (next-wide (state_of c.args.models.now) c.args.k c.args.v c.if-k-le8.false small) c.put_high-2.ensures.next
 
 pub returns-then-k-eq0-clause-state : goal.returns-then-k-eq0-clause-state
-returns-then-k-eq0-clause-state c = rw c.put_bit.ensures.counted (IsIntState-flag (state_of c.args.models.now) _ c.requires.state)
+returns-then-k-eq0-clause-state c = rw c.put_bit.ensures.after_symbol (IsIntState-flag (state_of c.args.models.now) _ c.requires.state)

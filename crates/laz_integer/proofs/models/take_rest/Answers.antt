@@ -17,7 +17,7 @@ returns-then-k-eq0-clause-reads c =
     rw c.if-k-eq0.true (zero-takes (state_of c.args.models.now) c.in_ok-bit.bit c.args.decoder.now c.take_bit.new.decoder c.in_ok-bit.ensures.reads)
 
 pub returns-then-k-eq0-clause-next : goal.returns-then-k-eq0-clause-next
-returns-then-k-eq0-clause-next c = rw (c.if-k-eq0.true, next-zero, bit_back c.in_ok-bit.bit, c.in_ok-bit.ensures.counted) refl
+returns-then-k-eq0-clause-next c = rw (c.if-k-eq0.true, next-zero, bit_back c.in_ok-bit.bit, c.in_ok-bit.ensures.after_symbol) refl
 
 pub returns-then-k-eq32-clause-reads : goal.returns-then-k-eq32-clause-reads
 returns-then-k-eq32-clause-reads c = rw c.if-k-eq32.true (most-takes (state_of c.args.models.now) c.args.decoder.now c.requires.within c.requires.good)
@@ -51,4 +51,4 @@ returns-clause-next c =
     IfOk-weaker c.take_wide.result _ _ (λ v e. e ∙ sym (next-wide (state_of c.args.models.now) c.args.k v c.if-k-le8.false small)) c.take_wide.ensures.next
 
 pub returns-then-k-eq0-clause-state : goal.returns-then-k-eq0-clause-state
-returns-then-k-eq0-clause-state c = bit-after c.take_bit.result (state_of c.args.models.now) c.take_bit.new.model c.requires.state c.take_bit.ensures.counted c.take_bit.ensures.kept
+returns-then-k-eq0-clause-state c = bit-after c.take_bit.result (state_of c.args.models.now) c.take_bit.new.model c.requires.state c.take_bit.ensures.after_symbol c.take_bit.ensures.kept

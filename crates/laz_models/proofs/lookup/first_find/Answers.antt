@@ -1,14 +1,14 @@
 use Rattle.std.proofs.Common.{◌≡◌, ◌+◌, ◌-◌, ◌*◌, ◌/◌, ◌%◌, ◌∙◌, min, refl, arith}
 use Rattle.std.proofs.Math.Nat.{mod-eq_of_lt}
 use Rattle.laz_models.proofs.Lookups.{last_at}
-use Rattle.laz_models.proofs.Models.{first-AreParts, first-last}
+use Rattle.laz_models.proofs.Models.{first-AreStarts, first-last}
 use Rattle.laz_models.proofs.lookup.first_find.Goals as goal
 
-pub returns-then-v-ge-WHOLE : goal.returns-then-v-ge-WHOLE
-returns-then-v-ge-WHOLE c =
+pub returns-then-v-ge-SYMBOL_PARTS : goal.returns-then-v-ge-SYMBOL_PARTS
+returns-then-v-ge-SYMBOL_PARTS c =
     let n = c.args.size in
-    let parts = first-AreParts n c.requires.many c.requires.few in
-    last_at n _ c.args.v (n - 1) parts (omega arith) (omega (arith, parts.within (n - 1) (omega arith))) (λ h. absurd (omega arith))
+    let starts = first-AreStarts n c.requires.many c.requires.few in
+    last_at n _ c.args.v (n - 1) starts (omega arith) (omega (arith, starts.within (n - 1) (omega arith))) (λ h. absurd (omega arith))
 
 pub returns : goal.returns
 returns c =

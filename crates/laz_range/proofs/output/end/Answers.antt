@@ -1,5 +1,5 @@
 use Rattle.std.proofs.Common.{◌≡◌, ◌+◌, ◌-◌, ◌∙◌, ap, sym, take, drop, arith}
-use Rattle.laz_range.specs.Span.{number, last}
+use Rattle.laz_range.specs.Span.{number, final_number}
 use Rattle.laz_range.specs.Output.{span_of}
 use Rattle.laz_range.proofs.Numbers.{digits_from_number, IsBytes-part}
 use Rattle.laz_range.proofs.Spans.{length-written}
@@ -12,10 +12,10 @@ returns-clause-bytes c =
     let items = c.put_word.new.bytes.items in
     let same = c.last_word-word.ensures.rest.at in
     let place : old.at + (new.next - new.at + 4) ≡ new.next + 4 = omega arith in
-    let value : number (drop old.at (take (new.next + 4) items)) ≡ last (span_of old) =
+    let value : number (drop old.at (take (new.next + 4) items)) ≡ final_number (span_of old) =
     ap (λ k. number (drop k (take (new.next + 4) items))) (sym same) ∙ (c.put_word.ensures.number ∙ c.last_word-word.ensures.number) in
     rw place
-    (digits_from_number (drop old.at (take (new.next + 4) items)) (old.next - old.at + 4) (last (span_of old))
+    (digits_from_number (drop old.at (take (new.next + 4) items)) (old.next - old.at + 4) (final_number (span_of old))
     (IsBytes-part items old.at (new.next + 4) c.put_word.ensures.bytes)
     (length-written old.at (new.next + 4) items (omega arith) (omega arith) ∙ omega arith)
     value)

@@ -18,4 +18,4 @@ returns-clause-last c =
     rw (a.size, a.is) (rw c.deref.ensures.value at c.entry.ensures)
 
 pub returns-clause-dist : goal.returns-clause-dist
-returns-clause-dist c = λ h stands. rw (← stands.parts) (returns-clause-last c)
+returns-clause-dist c = λ h stands. rw (← stands.starts) (returns-clause-last c)

@@ -1,6 +1,6 @@
 use Rattle.laz_models.proofs.Banks.{at}
 use Rattle.laz_models.proofs.bank.ModelBank.find.Goals as goal
 
-pub returns-clause-parts : goal.returns-clause-parts
-returns-clause-parts c =
-    (at c.args.self.now c.self.inside.places.items c.self.inside.cells.items c.args.m c.index-place.result.now c.self.view_is c.self.invariant c.requires c.index-place.ensures).parts
+pub returns-clause-starts : goal.returns-clause-starts
+returns-clause-starts c =
+    (at c.args.self.now c.self.inside.places.items c.self.inside.cells.items c.args.m c.index-place.result.now c.self.view_is c.self.invariant c.requires c.index-place.ensures).starts

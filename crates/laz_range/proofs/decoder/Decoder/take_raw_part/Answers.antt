@@ -3,7 +3,7 @@ use Rattle.std.proofs.lemmas.Result.{err_from_is_err_and}
 use Rattle.std.proofs.lemmas.Nat.{one_shl}
 use Rattle.laz_range.specs.Cut.{Raw}
 use Rattle.laz_range.specs.Reading.{IsIn}
-use Rattle.laz_range.specs.Input.{known, decoding_of}
+use Rattle.laz_range.specs.Input.{input_reading, decoding_of}
 use Rattle.laz_range.proofs.Cuts.{raw_some}
 use Rattle.laz_range.proofs.Refills.{no_raw, quotient_is}
 use Rattle.laz_range.proofs.Decodings.{Nothing-none}
@@ -13,8 +13,8 @@ use Rattle.laz_range.proofs.decoder.Decoder.take_raw_part.Goals as goal
 pub nonzero_div-v : goal.nonzero_div-v
 nonzero_div-v c = raw_some _ _ c.requires.few (c.self.invariant.2 (rw (← c.self.view_is) at c.requires.good))
 
-pub pass-requires-clause-below : goal.pass-requires-clause-below
-pass-requires-clause-below c =
+pub take_part-requires-clause-below : goal.take_part-requires-clause-below
+take_part-requires-clause-below c =
     let w = c.self.inside.input in
     rw (← c.self.view_is) (quotient_is w.value (w.length / 2 ^ c.args.bits) (raw_some _ _ c.requires.few (c.self.invariant.2 (rw (← c.self.view_is) at c.requires.good)))).1
 
@@ -26,25 +26,25 @@ returns-then-v-bits c =
     let large = rw (one_shl c.args.bits 32 (omega arith)) at c.if-v-bits.true in
     rw (← c.self.view_is)
     (record {
-      reads = record { nothing = Nothing-none _ (Raw c.args.bits) (known w) (no_raw (known w) c.args.bits (w.value / unit) large quotient.0); bytes = refl; failed = refl };
+      reads = record { nothing = Nothing-none _ (Raw c.args.bits) (input_reading w) (no_raw (input_reading w) c.args.bits (w.value / unit) large quotient.0); bytes = refl; failed = refl };
       bad = (λ _. inl large, λ _. refl);
       quotient = tt;
     })
 
-pub returns-in_err-pass : goal.returns-in_err-pass
-returns-in_err-pass c =
+pub returns-in_err-take_part : goal.returns-in_err-take_part
+returns-in_err-take_part c =
     let p = err_from_is_err_and c.from_residual.result c.from_residual.ensures.1 in
     let w = c.self.inside.input in
     let d = decoding_of w c.self.inside.failed in
     let unit : ℕ = w.length / 2 ^ c.args.bits in
     let quotient = quotient_is w.value unit (raw_some _ _ c.requires.few (c.self.invariant.2 (rw (← c.self.view_is) at c.requires.good))) in
-    let lies : IsIn (known w) (Raw c.args.bits (w.value / unit)) = record { above = quotient.0; below = quotient.1 } in
+    let lies : IsIn (input_reading w) (Raw c.args.bits (w.value / unit)) = record { above = quotient.0; below = quotient.1 } in
     let small = rw (one_shl c.args.bits 32 (omega arith)) at c.if-v-bits.false in
-    let stops = rw (← c.self.view_is) at c.in_err-pass.ensures in
-    let over = event-short d c.pass.new.self (Raw c.args.bits (w.value / unit)) c.self.invariant.0 lies stops in
+    let stops = rw (← c.self.view_is) at c.in_err-take_part.ensures in
+    let over = event-short d c.take_part.new.self (Raw c.args.bits (w.value / unit)) c.self.invariant.0 lies stops in
     rw (p.1, ← c.self.view_is)
     (record {
-      reads = raw-stops d c.pass.new.self c.args.bits (w.value / unit) c.requires.some c.requires.few small lies stops;
+      reads = raw-stops d c.take_part.new.self c.args.bits (w.value / unit) c.requires.some c.requires.few small lies stops;
       bad = (λ _. inr (left_short d c.args.bits (w.value / unit) c.self.invariant.0 over), λ _. refl);
       quotient = tt;
     })
@@ -55,12 +55,12 @@ returns c =
     let d = decoding_of w c.self.inside.failed in
     let unit : ℕ = w.length / 2 ^ c.args.bits in
     let quotient = quotient_is w.value unit (raw_some _ _ c.requires.few (c.self.invariant.2 (rw (← c.self.view_is) at c.requires.good))) in
-    let lies : IsIn (known w) (Raw c.args.bits (w.value / unit)) = record { above = quotient.0; below = quotient.1 } in
+    let lies : IsIn (input_reading w) (Raw c.args.bits (w.value / unit)) = record { above = quotient.0; below = quotient.1 } in
     let small = rw (one_shl c.args.bits 32 (omega arith)) at c.if-v-bits.false in
-    let passes = rw (← c.self.view_is) at c.in_ok-pass.ensures in
+    let passes = rw (← c.self.view_is) at c.in_ok-take_part.ensures in
     rw (← c.self.view_is)
     (record {
-      reads = raw-passes d c.pass.new.self c.args.bits (w.value / unit) c.requires.some c.requires.few small lies passes;
-      bad = (λ e. absurd (cc), λ refused. absurd (part_taken d c.pass.new.self c.args.bits (w.value / unit) c.self.invariant.0 small lies passes refl refused));
+      reads = raw-passes d c.take_part.new.self c.args.bits (w.value / unit) c.requires.some c.requires.few small lies passes;
+      bad = (λ e. absurd (cc), λ refused. absurd (part_taken d c.take_part.new.self c.args.bits (w.value / unit) c.self.invariant.0 small lies passes refl refused));
       quotient = refl;
     })

@@ -4,7 +4,7 @@ use Rattle.laz_range.specs.Span.{Span}
 use Rattle.laz_range.specs.Coding.{Coding}
 use Rattle.laz_range.specs.Output.{span_of}
 use Rattle.laz_range.proofs.Cuts.{raw_some, raw_much, raw_lies}
-use Rattle.laz_range.proofs.Spans.{shifts-narrowed}
+use Rattle.laz_range.proofs.Spans.{shifts-subspan}
 use Rattle.laz_range.proofs.encoder.Encoder.raw_part.Goals as goal
 
 pub narrow-requires-clause-some : goal.narrow-requires-clause-some
@@ -18,7 +18,7 @@ returns-clause-short c few =
       arith,
       ap (λ (s : Span). s.shifts) c.narrow.ensures.span,
       ap (λ (k : Coding). k.left) c.self.view_is,
-      shifts-narrowed (span_of room) _ _ c.self.invariant.1 much (raw_lies room.length c.args.bits c.args.v c.requires.value),
+      shifts-subspan (span_of room) _ _ c.self.invariant.1 much (raw_lies room.length c.args.bits c.args.v c.requires.value),
     )
 
 pub narrow-requires-clause-short : goal.narrow-requires-clause-short

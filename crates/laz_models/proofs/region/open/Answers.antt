@@ -1,9 +1,0 @@
-use Rattle.std.proofs.Common.{◌∙◌, sym, arith}
-use Rattle.laz_models.proofs.Models.{state_of-first, state_of-laid}
-use Rattle.laz_models.proofs.region.open.Goals as goal
-
-pub returns-then-place-eq0-clause-state : goal.returns-then-place-eq0-clause-state
-returns-then-place-eq0-clause-state c = c.lay_out.ensures.fresh ∙ sym (state_of-first c.args.place.now c.args.cells.now c.if-place-eq0.true)
-
-pub returns-else-place-eq0-clause-state : goal.returns-else-place-eq0-clause-state
-returns-else-place-eq0-clause-state c = sym (state_of-laid c.args.place.now c.args.cells.now (omega arith))

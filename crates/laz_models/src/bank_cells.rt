@@ -1,0 +1,123 @@
+//! The cells of all models of a bank.
+ghost use Rattle.std.specs.Prelude.{◌≡◌, ◌^◌, ◌<◌, ◌≤◌, length, map, All, IfOk};
+ghost use Rattle.laz_models.specs.Counting.{after_symbol};
+ghost use Rattle.laz_models.specs.Lookup.{table_bits, table_length};
+ghost use Rattle.laz_models.specs.Place.{counting_in, as_new, IsShaped, IsPlaced, IsLayout, SamePlace, SameOutside};
+
+use crate::limits::{MAX_MODELS, MAX_SYMBOLS};
+use crate::model_cells;
+use crate::place::Place;
+use std::alloc::{AllocError, Global};
+
+/// How many bits of a place choose an entry of the look-up table.
+fn table_bits(size: u32) -> u32
+    requires few { size ≤ MAX_SYMBOLS }
+    ensures { result ≡ table_bits size }
+{
+    match size {
+        ..=32 => 3,
+        ..=64 => 4,
+        ..=128 => 5,
+        ..=256 => 6,
+        ..=512 => 7,
+        ..=1024 => 8,
+        _ => 9,
+    }
+}
+
+/// How many entries a look-up table has.
+fn table_length(size: u32) -> usize
+    requires few { size ≤ MAX_SYMBOLS }
+    ensures { result ≡ table_length size }
+{
+    if size <= 16 {
+        return 0;
+    }
+    (1 << table_bits(size)) + 1
+}
+
+/// The place of a model as at the start, whose cells begin at `start`.
+fn first_place(start: usize, size: u32) -> Place
+    requires many { 2 ≤ size }
+    requires few { size ≤ MAX_SYMBOLS }
+    requires room { start < 2 ^ 32 }
+    ensures start { result.start ≡ start }
+    ensures size { result.size ≡ size }
+    ensures remaining { result.remaining ≡ 0 }
+    ensures shape { IsShaped result }
+{
+    Place {
+        start,
+        end: start + 2 * size as usize + table_length(size),
+        size,
+        shift: 15 - table_bits(size),
+        total: 0,
+        cycle: 0,
+        remaining: 0,
+    }
+}
+
+/// The places of models as at the start, one behind another, and where the last one ends.
+pub fn places_of(alloc: Global, sizes: &[u32]) -> Result<(Vec<Place>, usize), AllocError>
+    requires few { length sizes.now ≤ MAX_MODELS }
+    requires range { All (λ n. (2 ≤ n) × (n ≤ MAX_SYMBOLS)) sizes.now }
+    ensures { IfOk result (λ layout. IsLayout layout.0.items sizes.now layout.1) }
+{
+    let mut places = Vec::with_capacity(alloc, sizes.len())?;
+    let mut end = 0;
+    for size in sizes {
+        let place = first_place(end, *size);
+        end = place.end;
+        places.push(place)?;
+    }
+    Ok((places, end))
+}
+
+/// Makes all models as at the start.
+fn reset_places(places: &mut [Place])
+    ensures { places.new ≡ map as_new places.old }
+{
+    for place in places.iter_mut() {
+        place.remaining = 0;
+    }
+}
+
+/// Makes all models as at the start.
+pub fn reset_all(places: &mut Vec<Place>)
+    ensures { places.new.items ≡ map as_new places.old.items }
+{
+    reset_places(places);
+}
+
+/// Counts a symbol of the model at a place where its first cycle begins or its cycle ends.
+#[cold]
+#[inline(never)]
+fn count_at_cycle_end(cells: &mut Vec<u32>, place: &mut Place, s: u32)
+    requires placed { IsPlaced place.old cells.old.items }
+    requires symbol { s < place.old.size }
+    ensures after_symbol { counting_in cells.new.items place.new ≡ after_symbol (counting_in cells.old.items place.old) s }
+    ensures good { IsPlaced place.new cells.new.items }
+    ensures place { SamePlace place.old place.new }
+    ensures others { SameOutside place.old.start place.old.end cells.old.items cells.new.items }
+{
+    let own = &mut cells[place.start..place.end];
+    model_cells::count(own, place, s);
+}
+
+/// Counts a symbol of the model at a place.
+#[inline]
+pub fn count_at(cells: &mut Vec<u32>, place: &mut Place, s: u32)
+    requires placed { IsPlaced place.old cells.old.items }
+    requires symbol { s < place.old.size }
+    ensures after_symbol { counting_in cells.new.items place.new ≡ after_symbol (counting_in cells.old.items place.old) s }
+    ensures good { IsPlaced place.new cells.new.items }
+    ensures place { SamePlace place.old place.new }
+    ensures others { SameOutside place.old.start place.old.end cells.old.items cells.new.items }
+{
+    if place.remaining <= 1 {
+        count_at_cycle_end(cells, place, s);
+        return;
+    }
+    cells[place.start + s as usize] += 1;
+    place.remaining -= 1;
+}

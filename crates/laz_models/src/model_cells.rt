@@ -1,0 +1,193 @@
+//! The cells of one model: its counts, where its parts begin, and its look-up table.
+ghost use Rattle.std.specs.Prelude.{◌≡◌, ℕ, ◌+◌, ◌-◌, ◌*◌, ◌/◌, ◌<◌, ◌≤◌, ◌^◌, length, sum, All, replicate, slice_index};
+ghost use Rattle.laz_models.specs.Counting.{halves_of, starts_of, AreCounts, AreStarts, after_symbol, new_cycle, small_counts, new_model};
+ghost use Rattle.laz_models.specs.Lookup.{IsLastAt, table_bits};
+ghost use Rattle.laz_models.specs.Place.{counts_in, starts_in, laid_state, counting_of, IsTable, IsShaped, IsLaid, IsDue, IsModel, SamePlace, extent};
+
+use crate::limits::{MAX_COUNT, MAX_SYMBOLS};
+use crate::place::Place;
+
+/// Halves each count, upwards.
+fn halve(counts: &mut [u32])
+    requires { All (λ c. c + 1 < 2 ^ 32) counts.old }
+    ensures { counts.new ≡ halves_of counts.old }
+{
+    for count in counts.iter_mut() {
+        *count = (*count + 1) >> 1;
+    }
+}
+
+/// The sum of the counts.
+fn total_of(counts: &[u32]) -> u32
+    requires { sum counts.now < 2 ^ 32 }
+    ensures { result ≡ sum counts.now }
+{
+    counts.iter().sum()
+}
+
+/// Computes where the parts begin.
+fn write_starts(starts: &mut [u32], counts: &[u32], total: u32)
+    requires lengths { length starts.old ≡ length counts.now }
+    requires total { total ≡ sum counts.now }
+    requires some { 0 < total }
+    ensures { starts.new ≡ starts_of counts.now }
+{
+    let unit = 0x8000_0000 / total;
+    let mut below = 0;
+    for i in 0..counts.len() {
+        starts[i] = (unit * below) >> 16;
+        below += counts[i];
+    }
+}
+
+/// The last symbol whose part begins at `v` or below, looked for from `first` on.
+#[inline]
+fn walk(starts: &[u32], first: u32, v: u32) -> u32
+    requires few { length starts.now ≤ MAX_SYMBOLS }
+    requires starts { AreStarts (length starts.now) starts.now }
+    requires symbol { first < length starts.now }
+    requires start { slice_index starts.now first ≤ v }
+    ensures { IsLastAt starts.now v result }
+{
+    for next in first as usize + 1..starts.len() {
+        if starts[next] > v {
+            return next as u32 - 1;
+        }
+    }
+    starts.len() as u32 - 1
+}
+
+/// Writes the look-up table.
+fn write_table(table: &mut [u32], starts: &[u32], shift: u32)
+    requires some { 0 < length starts.now }
+    requires few { length starts.now ≤ MAX_SYMBOLS }
+    requires starts { AreStarts (length starts.now) starts.now }
+    requires shift { shift ≤ 12 }
+    requires places { length table.old * 2 ^ shift < 2 ^ 17 }
+    ensures { (t : ℕ) → t < length table.new → IsLastAt starts.now (t * 2 ^ shift) (slice_index table.new t) }
+{
+    let mut s = 0;
+    for t in 0..table.len() {
+        s = walk(starts, s, (t as u32) << shift);
+        table[t] = s;
+    }
+}
+
+/// Computes where the parts of a model begin, and its look-up table.
+fn write_distribution(cells: &mut [u32], size: usize, shift: u32, total: u32)
+    requires counts { AreCounts (counts_in size cells.old) }
+    requires length { length cells.old ≡ extent size }
+    requires total { total ≡ sum (counts_in size cells.old) }
+    requires small { total ≤ MAX_COUNT }
+    requires shift { shift ≡ 15 - table_bits size }
+    ensures counts { counts_in size cells.new ≡ counts_in size cells.old }
+    ensures starts { starts_in size cells.new ≡ starts_of (counts_in size cells.old) }
+    ensures good { AreStarts size (starts_in size cells.new) }
+    ensures table { IsTable size shift cells.new }
+{
+    let (counts, rest) = cells.split_at_mut(size);
+    let (starts, table) = rest.split_at_mut(size);
+    write_starts(starts, counts, total);
+    write_table(table, starts, shift);
+}
+
+/// Halves the counts of a model where their sum is above 2^15. Gives their sum.
+fn limit_counts(cells: &mut [u32], size: usize, total: u32) -> u32
+    requires length { size ≤ length cells.old }
+    requires counts { AreCounts (counts_in size cells.old) }
+    requires total { sum (counts_in size cells.old) ≡ total }
+    requires small { total ≤ 50000 }
+    ensures small_counts { counts_in size cells.new ≡ small_counts (counts_in size cells.old) }
+    ensures good { AreCounts (counts_in size cells.new) }
+    ensures total { result ≡ sum (counts_in size cells.new) }
+    ensures small { result ≤ MAX_COUNT }
+{
+    if total <= MAX_COUNT {
+        return total;
+    }
+    let (counts, _) = cells.split_at_mut(size);
+    halve(counts);
+    total_of(counts)
+}
+
+/// Ends the cycle of a model and begins the next one.
+fn begin_cycle(cells: &mut [u32], place: &mut Place)
+    requires shape { IsShaped place.old }
+    requires length { length cells.old ≡ extent place.old.size }
+    requires due { IsDue place.old cells.old }
+    ensures new_cycle { laid_state place.new cells.new ≡ new_cycle (counts_in place.old.size cells.old) place.old.cycle }
+    ensures good { IsLaid place.new cells.new }
+    ensures place { SamePlace place.old place.new }
+{
+    let size = place.size as usize;
+    place.total = limit_counts(cells, size, place.total + place.cycle);
+    write_distribution(cells, size, place.shift, place.total);
+    place.cycle = (8 * (place.size + 6)).min((5 * place.cycle) >> 2);
+    place.remaining = place.cycle;
+}
+
+/// Writes counts of 1.
+fn fill_ones(cells: &mut [u32], size: usize)
+    requires length { size ≤ length cells.old }
+    ensures { counts_in size cells.new ≡ replicate size 1 }
+{
+    let (counts, _) = cells.split_at_mut(size);
+    counts.fill(1);
+}
+
+/// Lays a model out as at the start.
+fn lay_out(cells: &mut [u32], place: &mut Place)
+    requires shape { IsShaped place.old }
+    requires length { length cells.old ≡ extent place.old.size }
+    ensures new_model { laid_state place.new cells.new ≡ new_model place.old.size }
+    ensures good { IsLaid place.new cells.new }
+    ensures place { SamePlace place.old place.new }
+{
+    let size = place.size as usize;
+    fill_ones(cells, size);
+    place.total = place.size;
+    write_distribution(cells, size, place.shift, place.total);
+    place.cycle = (place.size + 6) >> 1;
+    place.remaining = place.cycle;
+}
+
+/// Lays a model out, if it is as at the start.
+fn lay_out_if_new(cells: &mut [u32], place: &mut Place)
+    requires { IsModel place.old cells.old }
+    ensures state { laid_state place.new cells.new ≡ counting_of place.old cells.old }
+    ensures good { IsLaid place.new cells.new }
+    ensures place { SamePlace place.old place.new }
+{
+    if place.remaining == 0 {
+        lay_out(cells, place);
+    }
+}
+
+/// Counts a symbol of a model that is laid out.
+fn add(cells: &mut [u32], place: &mut Place, s: u32)
+    requires shape { IsShaped place.old }
+    requires length { length cells.old ≡ extent place.old.size }
+    requires laid { IsLaid place.old cells.old }
+    requires symbol { s < place.old.size }
+    ensures after_symbol { laid_state place.new cells.new ≡ after_symbol (laid_state place.old cells.old) s }
+    ensures good { IsLaid place.new cells.new }
+    ensures place { SamePlace place.old place.new }
+{
+    cells[s as usize] += 1;
+    place.remaining -= 1;
+    if place.remaining == 0 {
+        begin_cycle(cells, place);
+    }
+}
+
+/// Counts a symbol.
+pub fn count(cells: &mut [u32], place: &mut Place, s: u32)
+    requires model { IsModel place.old cells.old }
+    requires symbol { s < place.old.size }
+    ensures after_symbol { counting_of place.new cells.new ≡ after_symbol (counting_of place.old cells.old) s }
+    ensures good { IsModel place.new cells.new }
+    ensures place { SamePlace place.old place.new }
+{
+    lay_out_if_new(cells, place);
+    add(cells, place, s);
+}
