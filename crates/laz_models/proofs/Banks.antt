@@ -1,3 +1,4 @@
+-- The models of a bank, one of which changes. Cited by crates above.
 use Rattle.std.proofs.Common.{◌≡◌, ◌⊎◌, ℕ, ◌+◌, ◌-◌, ◌<◌, ◌≤◌, List, [], ◌∷◌, ◌++◌, length, map, set, get_or, refl, sym, ap, ◌∙◌, arith, ⊎_elim, inl, inr}
 use Rattle.std.proofs.lemmas.Bool.{cases_eq, cases_lt}
 use Rattle.std.proofs.lemmas.List.{length-map, length-set, length-take-le, length-replicate, get_or-map, get_or-set_same, get_or-set_other, get_or_default, set-get_or, map-set, same_lists}
@@ -105,7 +106,7 @@ place-set places m p new d k here read same =
     (λ (ne : k ≡ m → ⊥). rw (get_or-set_other places m k new d ne) (record { start = refl; end = refl; size = refl; shift = refl }))
     (cases_eq k m)
 
--- where another model lies
+-- another model's place
 pub others-apart : (places : List Place) (cells : List ℕ) (m k : ℕ) (p d : Place) → IsBank places cells → m < length places → k < length places → p ≡ get_or places m p → (k ≡ m → ⊥)
     → ((get_or places k d).end ≤ p.start) ⊎ (p.end ≤ (get_or places k d).start)
 others-apart places cells m k p d invariant here there read ne =
@@ -126,7 +127,7 @@ others-keep places old new m k p d invariant here there read ne same =
     let placed : IsPlaced (get_or places k d) old = invariant.placed k d there in
     cells_of-apart p (get_or places k d) old new same (in-order (get_or places k d) placed.model.shape) placed.within (others-apart places old m k p d invariant here there read ne)
 
--- the bank where one model has changed
+-- the bank after one model has changed
 pub IsBank-set : (places : List Place) (old new : List ℕ) (m : ℕ) (p q : Place) → IsBank places old → m < length places → p ≡ get_or places m p → SamePlace p q → IsPlaced q new
     → SameOutside p.start p.end old new → IsBank (set places m q) new
 IsBank-set places old new m p q invariant here read same good outside =

@@ -1,3 +1,4 @@
+-- A model of bits stands for the longer list after one more bit. Cited by crates above.
 use Rattle.std.proofs.Common.{◌≡◌, ℕ, zero, suc, ◌+◌, ◌<◌, ◌≤◌, Bool, true, false, not, cond, List, [], ◌∷◌, ◌++◌, length, drop, refl, sym, ap, ◌∙◌, arith, lit≤, ⊎_elim, add-one}
 use Rattle.std.proofs.lemmas.List.{length_push, drop-append-le, drop_all}
 use Rattle.std.proofs.lemmas.List.Sums.{sum_by_push}
@@ -20,7 +21,7 @@ pub bit_cycle-four : (j : ℕ) → 4 ≤ bit_cycle j
 bit_cycle-four zero = lit≤ tt
 bit_cycle-four (suc j) = omega (arith, bit_cycle-four j)
 
--- bits behind the cycle change nothing
+-- bits after the cycle change nothing
 pub bit_counts_at-push : (h : List Bool) (j : ℕ) (b : Bool) → due bit_cycle j ≤ length h → bit_counts_at (h ++ b ∷ []) j ≡ bit_counts_at h j
 unfolding bit_counts_at
 bit_counts_at-push h zero b within = refl

@@ -1,3 +1,4 @@
+-- Worked values of the definitions, which compute.
 use Rattle.std.proofs.Common.{◌≡◌, true, false, [], ◌∷◌, refl}
 use Rattle.laz_models.specs.BitCounting.{small_bit_counts}
 use Rattle.laz_models.specs.BitDist.{bit_cycle, bit_counts_at, p0_of}
@@ -41,7 +42,7 @@ table_lengths = (refl, refl, refl)
 bit_cycles : (bit_cycle 0 ≡ 4) × (bit_cycle 1 ≡ 5) × (bit_cycle 2 ≡ 6) × (bit_cycle 16 ≡ 64) × (due bit_cycle 2 ≡ 9)
 bit_cycles = (refl, refl, refl, refl, refl)
 
--- Half at first, and 5 of 6 behind four zeros; three bits change nothing.
+-- Half at first, and 5 of 6 after four zeros. Three bits change nothing.
 bits : (p0_of [] ≡ 4096) × (p0_of (false ∷ false ∷ false ∷ []) ≡ 4096) × (p0_of (false ∷ false ∷ false ∷ false ∷ []) ≡ 6826) × (p0_of (true ∷ true ∷ true ∷ true ∷ []) ≡ 1365)
 unfolding cycle_in bit_counts_at small_bit_counts
 bits = (refl, refl, refl, refl)

@@ -1,3 +1,4 @@
+-- The places of new models.
 use Rattle.std.proofs.Common.{◌≡◌, ℕ, ◌+◌, ◌<◌, ◌≤◌, List, [], ◌∷◌, ◌++◌, length, map, get_or, refl, sym, ap, ◌∙◌, arith, ⊎_elim}
 use Rattle.std.proofs.lemmas.Bool.{cases_lt}
 use Rattle.std.proofs.lemmas.List.{length-map, length_push, get_or-map, get_or_push, get_or_append_left, get_or_default, same_lists}
@@ -11,17 +12,6 @@ use Rattle.laz_models.proofs.Banks.{size-new_model, fits-place}
 use Rattle.laz_models.proofs.Models.{counting_of-first}
 
 -- ---- a layout grows
-pub layout-none : IsLayout [] [] 0
-layout-none =
-    record {
-      count = refl;
-      shape = λ m d h. absurd (omega arith);
-      size = λ m d h. absurd (omega arith);
-      first = λ m d h. absurd (omega arith);
-      within = λ m d h. absurd (omega arith);
-      apart = λ i j d o h. absurd (omega arith);
-    }
-
 -- what holds of each of a list and of one more holds of each of the longer list
 each_push : (P : ℕ → Place → Type 0) (places : List Place) (p : Place) → ((m : ℕ) (d : Place) → m < length places → P m (get_or places m d)) → P (length places) p
     → (m : ℕ) (d : Place) → m < length (places ++ p ∷ []) → P m (get_or (places ++ p ∷ []) m d)
@@ -56,23 +46,6 @@ layout-push places sizes end n p layout shape size first start =
     }
 
 -- ---- the bank of a layout
-pub layout-IsBank : (places : List Place) (sizes cells : List ℕ) → IsLayout places sizes (length cells) → IsBank places cells
-layout-IsBank places sizes cells layout =
-    record {
-      placed = λ m d below.
-          let shape = layout.shape m d below in
-          let first = layout.first m d below in
-          record {
-            model = record {
-              shape = shape;
-              length = length-between cells (get_or places m d).start (get_or places m d).end (layout.within m d below) ∙ omega (arith, shape.extent);
-              laid = λ some. absurd (omega (arith, first));
-            };
-            within = layout.within m d below;
-          };
-      apart = layout.apart;
-    }
-
 pub layout-view : (places : List Place) (sizes cells : List ℕ) (end : ℕ) → IsLayout places sizes end → map (counting_in cells) places ≡ map new_model sizes
 layout-view places sizes cells end layout =
     same_lists (map (counting_in cells) places) (map new_model sizes) (length-map places (counting_in cells) ∙ (layout.count ∙ sym (length-map sizes new_model)))

@@ -1,3 +1,4 @@
+-- The cells of a model, and one more symbol.
 use Rattle.std.proofs.Common.{◌≡◌, ℕ, ◌+◌, ◌-◌, ◌*◌, ◌/◌, ◌^◌, ◌<◌, ◌≤◌, min, List, length, take, drop, sum, replicate, get_or, refl, sym, ap, ◌∙◌, arith, ⊎_elim, lit<, ◌++◌, set}
 use Rattle.std.proofs.Math.Nat.{mul-le-mul_left, div-mul-le_self, lt-mul-div-succ, div-lt_iff_lt-mul, one-le-pow, pow-le-pow_right}
 use Rattle.std.proofs.lemmas.Nat.{le-div}
@@ -11,7 +12,7 @@ use Rattle.laz_models.specs.declared.place.Place.{Place}
 use Rattle.laz_models.proofs.Lookups.{last_at, places, table_bits-bounds, table_length-some, table_length-none}
 use Rattle.laz_models.proofs.Parts.{after_symbol-more, get_or-starts_of, starts_of-AreStarts, AreCounts-ones, sum-ones}
 
--- ---- a model as at the start, or laid out
+-- ---- a model that is new, or laid out
 pub counting_of-first : (p : Place) (cells : List ℕ) → p.remaining ≡ 0 → counting_of p cells ≡ new_model p.size
 unfolding counting_of
 counting_of-first p cells h = cond-true _ _ _ (eq-eqb p.remaining 0 h)
@@ -30,7 +31,7 @@ first-AreStarts n many few =
     let good : AreStarts (length (replicate {A = ℕ} n 1)) (starts_of (replicate n 1)) = starts_of-AreStarts (replicate n 1) (AreCounts-ones n many few) (omega arith) in
     rw (length-replicate {A = ℕ} n 1) at good
 
--- where a part begins before any symbol was counted
+-- the start of a part in a new model
 pub first-part : (n k : ℕ) → k < n → get_or (starts_of (replicate n 1)) k 0 ≡ 2147483648 / n * k / 65536
 first-part n k h =
     let inside : k < length (replicate {A = ℕ} n 1) = omega (arith, length-replicate {A = ℕ} n 1) in
@@ -53,7 +54,7 @@ first-last n v many few =
     (rw (first-part n s here) (omega arith))
     (λ next. let same : s ≡ q = omega arith in rw (first-part n (s + 1) next, same) (omega arith))
 
--- ---- where a part ends
+-- ---- the end of a part
 pub part_end-last : (starts : List ℕ) (n s : ℕ) → length starts ≡ n → s + 1 ≡ n → part_end starts s ≡ 32768
 part_end-last starts n s size last = cond-true _ _ _ (eq-eqb (s + 1) (length starts) (last ∙ sym size))
 
@@ -99,11 +100,11 @@ extent-few n few =
     (λ (small : n ≤ 16). omega (arith, table_length-none n small))
     (cases_lt 16 n)
 
--- where a part begins, by its place among the cells
+-- the start of a part, by its place among the cells
 pub part_at : (n s : ℕ) (cells : List ℕ) → s < n → get_or (starts_in n cells) s 0 ≡ get_or cells (n + s) 0
 part_at n s cells h = get_or-take n (drop n cells) s 0 h ∙ get_or-drop n cells s 0
 
--- a place below 2 ^ 15 has an entry before it and one behind it
+-- a position below 2 ^ 15 has an entry at or before it and one after it
 pub entry-below : (p : Place) (v : ℕ) → IsShaped p → v < 32768 → v / 2 ^ p.shift + 1 ≤ 2 ^ table_bits p.size
 entry-below p v shape below =
     let b : ℕ = table_bits p.size in

@@ -1,3 +1,4 @@
+-- The cells of one model among those of all.
 use Rattle.std.proofs.Common.{◌≡◌, ℕ, ◌+◌, ◌-◌, ◌<◌, ◌≤◌, List, length, take, drop, set, get_or, sym, ap, ◌∙◌, arith}
 use Rattle.std.proofs.lemmas.List.{length-drop, length-set, drop-set-add, get_or-drop, get_or-take}
 use Rattle.laz_models.specs.Counting.{after_symbol}

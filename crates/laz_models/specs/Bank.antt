@@ -1,3 +1,4 @@
+-- A bank of models, seen as the list of what each model knows.
 use Rattle.std.specs.Prelude.{ℕ, List, map, slice_index_or}
 use Rattle.laz_models.specs.Counting.{Counting, new_model}
 use Rattle.laz_models.specs.Dist.{alphabet_size}
@@ -6,6 +7,6 @@ use Rattle.laz_models.specs.Dist.{alphabet_size}
 abbrev pub model_at : List Counting → ℕ → Counting
 model_at bank m = slice_index_or bank m (new_model 2)
 
--- How many symbols the models of a bank have.
+-- The alphabet sizes of the models of a bank.
 abbrev pub alphabet_sizes : List Counting → List ℕ
 alphabet_sizes bank = map alphabet_size bank

@@ -8,23 +8,28 @@ abbrev pub bit_cycle : ℕ → ℕ
 bit_cycle zero = 4
 bit_cycle (suc j) = next_bit_cycle (bit_cycle j)
 
--- How many zeros stand in a list of bits.
+-- How many zeros a list of bits has.
 abbrev pub zeros_in : List Bool → ℕ
 zeros_in bits = count_by not bits
 
--- How many zeros of how many bits there were when cycle j begins, h being the bits so far: as many as when the cycle before
--- it began, and those of its bits, kept to 2 ^ 13 (LASzip).
+-- The zeros and the bits at the beginning of cycle j, if h are the bits so far: those at the beginning of the cycle
+-- before it and those of that cycle, halved if there are more than 2 ^ 13 bits (LASzip).
 unfoldable pub bit_counts_at : List Bool → ℕ → ℕ × ℕ
 bit_counts_at h zero = (1, 2)
-bit_counts_at h (suc j) = small_bit_counts ((bit_counts_at h j).0 + zeros_in (slice_range h (due bit_cycle j) (due bit_cycle (suc j)))) ((bit_counts_at h j).1 + bit_cycle j)
+bit_counts_at h (suc j) =
+    small_bit_counts
+    ((bit_counts_at h j).0 + zeros_in (slice_range h (due bit_cycle j) (due bit_cycle (suc j))))
+    ((bit_counts_at h j).1 + bit_cycle j)
 
--- The part of 0 behind the bits h, of 2 ^ 13. It is that of the counts when the present cycle began.
+-- The part of 0 after the bits h, of 2 ^ 13 parts. It is computed at the beginning of each cycle.
 abbrev pub p0_of : List Bool → ℕ
 p0_of h = zero_part (bit_counts_at h (cycle_in bit_cycle (length h)))
 
--- A model stands for the bits h, which it counted since it was new or reset: what it knows is what they give.
+-- A model stands for the bits h, which it has counted since it was new or reset: it knows what they give.
 pub record BitStandsFor (h : List Bool) (m : BitCounting) : Type 0 where
   pub in_cycle : IsInCycle bit_cycle (length h) m.cycle m.remaining
-  pub zeros : m.zeros ≡ (bit_counts_at h (cycle_in bit_cycle (length h))).0 + zeros_in (drop (due bit_cycle (cycle_in bit_cycle (length h))) h)
+  pub zeros : m.zeros
+      ≡ (bit_counts_at h (cycle_in bit_cycle (length h))).0
+      + zeros_in (drop (due bit_cycle (cycle_in bit_cycle (length h))) h)
   pub count : m.count ≡ (bit_counts_at h (cycle_in bit_cycle (length h))).1
   pub p0 : m.p0 ≡ p0_of h

@@ -6,12 +6,15 @@ abbrev pub due : (ℕ → ℕ) → ℕ → ℕ
 due cycles zero = 0
 due cycles (suc j) = due cycles j + cycles j
 
--- The cycle in which symbol `len` comes, symbols being counted from 0: the greatest j with `due cycles j` at most `len`.
+-- The cycle of the symbol after `len` symbols: the greatest j with `due cycles j` at most `len`.
 unfoldable pub cycle_in : (ℕ → ℕ) → ℕ → ℕ
 cycle_in cycles zero = 0
-cycle_in cycles (suc len) = if nat_le (due cycles (cycle_in cycles len + 1)) (suc len) then cycle_in cycles len + 1 else cycle_in cycles len
+cycle_in cycles (suc len) =
+    if nat_le (due cycles (cycle_in cycles len + 1)) (suc len) then cycle_in cycles len + 1
+    else cycle_in cycles len
 
--- A model that has counted `len` symbols is in the cycle of the next one, which is so long and has so many symbols to come.
+-- After `len` symbols a model is in the cycle of the next one. `cycle` is its length, and `remaining` symbols of it are
+-- to come.
 pub record IsInCycle (cycles : ℕ → ℕ) (len cycle remaining : ℕ) : Type 0 where
   pub begun : due cycles (cycle_in cycles len) ≤ len
   pub open_until : len < due cycles (cycle_in cycles len + 1)

@@ -1,10 +1,11 @@
+-- Where the models of a bank lie among its cells, and what the cells hold.
 use Rattle.std.specs.Prelude.{◌≡◌, ℕ, ◌+◌, ◌-◌, ◌*◌, ◌^◌, ◌<◌, ◌≤◌, ◌==◌, List, length, take, drop, sum, if◌then◌else◌, slice_index, slice_index_or, slice_range}
 use Rattle.laz_models.specs.Counting.{Counting, AreCounts, AreStarts, new_model}
 use Rattle.laz_models.specs.Lookup.{IsLastAt, table_bits, table_length}
 use Rattle.laz_models.specs.declared.place.Place.{Place}
 use Rattle.laz_models.specs.declared.limits.TheConstants.{MAX_COUNT, MAX_SYMBOLS}
 
--- The cells of a model of n symbols: its counts, where its parts begin, and its look-up table.
+-- The cells of a model of n symbols: its counts, its starts, and its look-up table.
 abbrev pub counts_in : ℕ → List ℕ → List ℕ
 counts_in n cells = take n cells
 
@@ -14,26 +15,34 @@ starts_in n cells = take n (drop n cells)
 abbrev pub table_in : ℕ → List ℕ → List ℕ
 table_in n cells = drop n (drop n cells)
 
--- Each entry of the look-up table is the last symbol whose part begins at the entry's place or below.
+-- Each entry of the look-up table is the last symbol whose part begins at the entry's position or below.
 abbrev pub IsTable : ℕ → ℕ → List ℕ → Type 0
-IsTable n shift cells = (t : ℕ) → t < length (table_in n cells) → IsLastAt (starts_in n cells) (t * 2 ^ shift) (slice_index (table_in n cells) t)
+IsTable n shift cells =
+    (t : ℕ) → t < length (table_in n cells)
+    → IsLastAt (starts_in n cells) (t * 2 ^ shift) (slice_index (table_in n cells) t)
 
--- What a model knows whose cells are laid out.
+-- What a model knows if its cells are laid out.
 abbrev pub laid_state : Place → List ℕ → Counting
-laid_state p cells = record { counts = counts_in p.size cells; starts = starts_in p.size cells; cycle = p.cycle; remaining = p.remaining }
+laid_state p cells =
+    record {
+      counts = counts_in p.size cells;
+      starts = starts_in p.size cells;
+      cycle = p.cycle;
+      remaining = p.remaining;
+    }
 
 -- How many cells a model of n symbols has.
 abbrev pub extent : ℕ → ℕ
 extent n = n + (n + table_length n)
 
--- What a place says of its model, whatever the cells hold.
+-- What holds of a place, whatever the cells hold.
 pub record IsShaped (p : Place) : Type 0 where
   pub many : 2 ≤ p.size
   pub few : p.size ≤ MAX_SYMBOLS
   pub shift : p.shift ≡ 15 - table_bits p.size
   pub extent : p.end ≡ p.start + extent p.size
 
--- What holds of the cells of a model that are laid out; the total is that of the counts when the cycle began.
+-- What holds of a model whose cells are laid out. `total` is the sum of the counts at the beginning of the cycle.
 pub record IsLaid (p : Place) (cells : List ℕ) : Type 0 where
   pub counts : AreCounts (counts_in p.size cells)
   pub starts : AreStarts p.size (starts_in p.size cells)
@@ -45,7 +54,7 @@ pub record IsLaid (p : Place) (cells : List ℕ) : Type 0 where
   pub four : 4 ≤ p.cycle
   pub cycle : p.cycle ≤ 8 * (p.size + 6)
 
--- The same, where the cycle has ended.
+-- The same of a model whose cycle has ended.
 pub record IsDue (p : Place) (cells : List ℕ) : Type 0 where
   pub counts : AreCounts (counts_in p.size cells)
   pub total : p.total ≤ MAX_COUNT
@@ -53,14 +62,14 @@ pub record IsDue (p : Place) (cells : List ℕ) : Type 0 where
   pub four : 4 ≤ p.cycle
   pub cycle : p.cycle ≤ 8 * (p.size + 6)
 
--- The model lies where it lay.
+-- The model has the same place and size as before.
 pub record SamePlace (old new : Place) : Type 0 where
   pub start : new.start ≡ old.start
   pub end : new.end ≡ old.end
   pub size : new.size ≡ old.size
   pub shift : new.shift ≡ old.shift
 
--- The cells of the model at a place, of all cells.
+-- The cells of the model at a place, out of those of all models.
 abbrev pub cells_of : Place → List ℕ → List ℕ
 cells_of p cells = slice_range cells p.start p.end
 
@@ -74,7 +83,7 @@ pub record IsModel (p : Place) (cells : List ℕ) : Type 0 where
   pub length : length cells ≡ extent p.size
   pub laid : 0 < p.remaining → IsLaid p cells
 
--- All cells but those of one model are as they were.
+-- All cells except those from `start` up to `end` are unchanged.
 pub record SameOutside (start end : ℕ) (old new : List ℕ) : Type 0 where
   pub length : length new ≡ length old
   pub before : (i : ℕ) → i < start → slice_index new i ≡ slice_index old i
@@ -84,25 +93,27 @@ pub record SameOutside (start end : ℕ) (old new : List ℕ) : Type 0 where
 abbrev pub counting_in : List ℕ → Place → Counting
 counting_in cells p = counting_of p (cells_of p cells)
 
--- A model lies at a place, among all cells.
+-- A model lies at a place among the cells of all models.
 pub record IsPlaced (p : Place) (cells : List ℕ) : Type 0 where
   pub model : IsModel p (cells_of p cells)
   pub within : p.end ≤ length cells
 
--- The models of a bank lie apart, in order.
+-- The models of a bank lie one after another, and no two share a cell.
 pub record IsBank (places : List Place) (cells : List ℕ) : Type 0 where
   pub placed : (m : ℕ) (d : Place) → m < length places → IsPlaced (slice_index_or places m d) cells
-  pub apart : (i j : ℕ) (d : Place) → i < j → j < length places → (slice_index_or places i d).end ≤ (slice_index_or places j d).start
+  pub apart : (i j : ℕ) (d : Place) → i < j → j < length places
+      → (slice_index_or places i d).end ≤ (slice_index_or places j d).start
 
--- Places of models of these sizes, as at the start, which end at a cell.
+-- The places of new models of these alphabet sizes, the last of which ends at `end`.
 pub record IsLayout (places : List Place) (sizes : List ℕ) (end : ℕ) : Type 0 where
   pub count : length places ≡ length sizes
   pub shape : (m : ℕ) (d : Place) → m < length places → IsShaped (slice_index_or places m d)
   pub size : (m : ℕ) (d : Place) → m < length places → (slice_index_or places m d).size ≡ slice_index sizes m
   pub first : (m : ℕ) (d : Place) → m < length places → (slice_index_or places m d).remaining ≡ 0
   pub within : (m : ℕ) (d : Place) → m < length places → (slice_index_or places m d).end ≤ end
-  pub apart : (i j : ℕ) (d : Place) → i < j → j < length places → (slice_index_or places i d).end ≤ (slice_index_or places j d).start
+  pub apart : (i j : ℕ) (d : Place) → i < j → j < length places
+      → (slice_index_or places i d).end ≤ (slice_index_or places j d).start
 
--- A place whose model is as at the start.
+-- A place whose model is new.
 abbrev pub as_new : Place → Place
-as_new p = record { start = p.start; end = p.end; size = p.size; shift = p.shift; total = p.total; cycle = p.cycle; remaining = 0 }
+as_new p = record p { remaining = 0 }

@@ -7,9 +7,9 @@ use crate::{bank_cells, lookup};
 use std::alloc::{AllocError, Global};
 use std::marker::Model;
 
-/// Models of symbols, whose counts, distributions and look-up tables lie in one vector.
+/// Models of symbols whose counts, distributions and look-up tables lie in one vector.
 ///
-/// Each model stands for the list of symbols that it counted since the bank was made or reset, and answers the
+/// Each model stands for the list of symbols that it has counted since the bank was made or reset, and answers the
 /// distribution of that list. Only `new` takes memory.
 #[derive(Drop)]
 pub struct ModelBank {
@@ -36,7 +36,7 @@ impl ModelBank {
     ghost use Rattle.laz_models.specs.Bank.{model_at, alphabet_sizes};
     ghost use Rattle.laz_models.specs.Sound.{AreSound};
 
-    /// Models of these many symbols each: 1 to 1,024 models, each of 2 to 2,048 symbols.
+    /// Makes 1 to 1,024 models. `sizes` says how many symbols each has: 2 to 2,048.
     pub fn new(alloc: Global, sizes: &[u32]) -> Result<Self, AllocError>
         requires some { 1 ≤ length sizes.now }
         requires few { length sizes.now ≤ MAX_MODELS }
@@ -51,7 +51,7 @@ impl ModelBank {
         Ok(ModelBank { cells, places })
     }
 
-    /// Makes all models as new. The cost is one write a model.
+    /// Resets all models to new ones. It costs one write a model.
     pub fn reset(&mut self)
         ensures new_model { self.new ≡ map (λ m. new_model (alphabet_size m)) self.old }
         ensures sizes { alphabet_sizes self.new ≡ alphabet_sizes self.old }
@@ -61,7 +61,7 @@ impl ModelBank {
         bank_cells::reset_all(&mut self.places);
     }
 
-    /// Where the part of symbol `s` of model `m` begins and ends, of 2^15. The last symbol's part ends at 32,768.
+    /// The start and the end of the part of symbol `s` of model `m`, of 2^15 parts. The last part ends at 32,768.
     #[inline]
     pub fn part(&self, m: u32, s: u32) -> (u32, u32)
         requires model { m < length self.now }
@@ -78,7 +78,8 @@ impl ModelBank {
         lookup::part(&self.cells[place.start..place.end], place, s)
     }
 
-    /// The greatest symbol of model `m` whose part begins at `v` or below. For `v` of 32,768 or more it is the last one.
+    /// The greatest symbol of model `m` whose part begins at `v` or below. For `v` of 32,768 or more it is the last
+    /// one.
     #[inline]
     pub fn find(&self, m: u32, v: u32) -> u32
         requires { m < length self.now }
@@ -91,9 +92,9 @@ impl ModelBank {
         lookup::find(&self.cells[place.start..place.end], place, v)
     }
 
-    /// Entry `t` of the look-up table of model `m`: the greatest symbol whose part begins at `t · 2^(15 - b)` or below,
-    /// where b is the least number from 3 on with n ≤ 2^(b + 2) for the model's n symbols. A model of up to 16 symbols has
-    /// no table.
+    /// Entry `t` of the look-up table of model `m`: the greatest symbol whose part begins at `t · 2^(15 - b)` or below.
+    /// For a model of n symbols, b is the least number from 3 on with n ≤ 2^(b + 2). A model of up to 16 symbols has no
+    /// table.
     #[inline]
     pub fn entry(&self, m: u32, t: u32) -> u32
         requires model { m < length self.now }

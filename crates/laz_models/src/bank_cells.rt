@@ -9,7 +9,7 @@ use crate::model_cells;
 use crate::place::Place;
 use std::alloc::{AllocError, Global};
 
-/// How many bits of a place choose an entry of the look-up table.
+/// How many bits of a position choose an entry of the look-up table.
 fn table_bits(size: u32) -> u32
     requires few { size ≤ MAX_SYMBOLS }
     ensures { result ≡ table_bits size }
@@ -25,7 +25,7 @@ fn table_bits(size: u32) -> u32
     }
 }
 
-/// How many entries a look-up table has.
+/// How many entries the look-up table has.
 fn table_length(size: u32) -> usize
     requires few { size ≤ MAX_SYMBOLS }
     ensures { result ≡ table_length size }
@@ -36,7 +36,7 @@ fn table_length(size: u32) -> usize
     (1 << table_bits(size)) + 1
 }
 
-/// The place of a model as at the start, whose cells begin at `start`.
+/// The place of a new model whose cells begin at `start`.
 fn first_place(start: usize, size: u32) -> Place
     requires many { 2 ≤ size }
     requires few { size ≤ MAX_SYMBOLS }
@@ -57,7 +57,7 @@ fn first_place(start: usize, size: u32) -> Place
     }
 }
 
-/// The places of models as at the start, one behind another, and where the last one ends.
+/// The places of new models, one after another, and the end of the last one.
 pub fn places_of(alloc: Global, sizes: &[u32]) -> Result<(Vec<Place>, usize), AllocError>
     requires few { length sizes.now ≤ MAX_MODELS }
     requires range { All (λ n. (2 ≤ n) × (n ≤ MAX_SYMBOLS)) sizes.now }
@@ -73,7 +73,7 @@ pub fn places_of(alloc: Global, sizes: &[u32]) -> Result<(Vec<Place>, usize), Al
     Ok((places, end))
 }
 
-/// Makes all models as at the start.
+/// Resets all models to new ones.
 fn reset_places(places: &mut [Place])
     ensures { places.new ≡ map as_new places.old }
 {
@@ -82,20 +82,21 @@ fn reset_places(places: &mut [Place])
     }
 }
 
-/// Makes all models as at the start.
+/// Resets all models to new ones.
 pub fn reset_all(places: &mut Vec<Place>)
     ensures { places.new.items ≡ map as_new places.old.items }
 {
     reset_places(places);
 }
 
-/// Counts a symbol of the model at a place where its first cycle begins or its cycle ends.
+/// Counts a symbol of the model at a place, if the model is new or the symbol is the last of its cycle.
 #[cold]
 #[inline(never)]
 fn count_at_cycle_end(cells: &mut Vec<u32>, place: &mut Place, s: u32)
     requires placed { IsPlaced place.old cells.old.items }
     requires symbol { s < place.old.size }
-    ensures after_symbol { counting_in cells.new.items place.new ≡ after_symbol (counting_in cells.old.items place.old) s }
+    ensures after_symbol { counting_in cells.new.items place.new
+        ≡ after_symbol (counting_in cells.old.items place.old) s }
     ensures good { IsPlaced place.new cells.new.items }
     ensures place { SamePlace place.old place.new }
     ensures others { SameOutside place.old.start place.old.end cells.old.items cells.new.items }
@@ -109,7 +110,8 @@ fn count_at_cycle_end(cells: &mut Vec<u32>, place: &mut Place, s: u32)
 pub fn count_at(cells: &mut Vec<u32>, place: &mut Place, s: u32)
     requires placed { IsPlaced place.old cells.old.items }
     requires symbol { s < place.old.size }
-    ensures after_symbol { counting_in cells.new.items place.new ≡ after_symbol (counting_in cells.old.items place.old) s }
+    ensures after_symbol { counting_in cells.new.items place.new
+        ≡ after_symbol (counting_in cells.old.items place.old) s }
     ensures good { IsPlaced place.new cells.new.items }
     ensures place { SamePlace place.old place.new }
     ensures others { SameOutside place.old.start place.old.end cells.old.items cells.new.items }

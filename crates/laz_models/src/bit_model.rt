@@ -6,10 +6,10 @@ ghost use Rattle.laz_models.specs.BitDist.{p0_of, BitStandsFor};
 use crate::limits::{BIT_PARTS, MAX_BIT_COUNT};
 use std::marker::Model;
 
-/// A model of bits, which gives the bit 0 a part of 2^13, and the bit 1 the rest.
+/// A model of bits, which gives the bit 0 some of 2^13 parts, and the bit 1 the rest.
 ///
-/// It stands for the list of bits that it counted since it was made or reset, and answers the part of 0 that they give.
-/// No call takes memory.
+/// It stands for the list of bits that it has counted since it was made or reset, and answers the part of 0 that they
+/// give. No call takes memory.
 #[derive(Drop)]
 pub struct BitModel {
     zeros: u32,
@@ -24,13 +24,25 @@ impl Model for BitModel {
 
     ghost Value = { BitCounting };
 
-    ghost view = { λ m. record { zeros = m.zeros; count = m.count; p0 = m.p0; cycle = m.cycle; remaining = m.remaining } };
+    ghost view = { λ m. record {
+      zeros = m.zeros;
+      count = m.count;
+      p0 = m.p0;
+      cycle = m.cycle;
+      remaining = m.remaining;
+    } };
 
-    ghost invariant = { λ m. IsBitCounting (record { zeros = m.zeros; count = m.count; p0 = m.p0; cycle = m.cycle; remaining = m.remaining }) };
+    ghost invariant = { λ m. IsBitCounting (record {
+      zeros = m.zeros;
+      count = m.count;
+      p0 = m.p0;
+      cycle = m.cycle;
+      remaining = m.remaining;
+    }) };
 }
 
 impl BitModel {
-    /// A model of bits.
+    /// Makes a model of bits.
     pub fn new() -> Self
         ensures new_model { result ≡ new_bit_model }
         ensures stands { BitStandsFor [] result }
@@ -45,7 +57,7 @@ impl BitModel {
         }
     }
 
-    /// Makes the model as new.
+    /// Resets the model to a new one.
     pub fn reset(&mut self)
         ensures new_model { self.new ≡ new_bit_model }
         ensures stands { BitStandsFor [] self.new }
@@ -54,7 +66,7 @@ impl BitModel {
         *self = BitModel::new();
     }
 
-    /// The part of 0, of 2^13: 1 to 8,191.
+    /// The part of 0, of 2^13 parts: 1 to 8,191.
     #[inline]
     pub fn p0(&self) -> u32
         ensures value { result ≡ self.now.p0 }
@@ -82,7 +94,7 @@ impl BitModel {
     }
 }
 
-/// The model at the beginning of a cycle, behind one of `cycle` bits, `zeros` of `count` bits being zeros.
+/// The model at the beginning of a cycle, after one of `cycle` bits, if `zeros` of `count` bits are zeros.
 #[inline(never)]
 #[tactic(auto, using(crate::proofs::BitParts::p0_bounds))]
 fn new_bit_cycle(zeros: u32, count: u32, cycle: u32) -> BitModel
@@ -105,7 +117,7 @@ fn new_bit_cycle(zeros: u32, count: u32, cycle: u32) -> BitModel
     }
 }
 
-/// How many zeros of how many bits, halved where there are more than 2^13 bits.
+/// The zeros and the bits, both halved if there are more than 2^13 bits.
 fn small_bit_counts(zeros: u32, count: u32) -> (u32, u32)
     requires some { 1 ≤ zeros }
     requires fewer { zeros < count }

@@ -31,9 +31,11 @@ pub fn cycles_are_due()
 /// A model that stands for a list stands for the longer list after one symbol more.
 pub fn models_stand()
     ensures first { (n : ℕ) → 2 ≤ n → Stands n [] (new_model n) }
-    ensures more { (n : ℕ) (h : List ℕ) (s : ℕ) (m : Counting) → 2 ≤ n → s < n → Stands n h m → Stands n (h ++ s ∷ []) (after_symbol m s) }
+    ensures more { (n : ℕ) (h : List ℕ) (s : ℕ) (m : Counting) → 2 ≤ n → s < n → Stands n h m
+        → Stands n (h ++ s ∷ []) (after_symbol m s) }
     ensures first_of_bits { BitStandsFor [] new_bit_model }
-    ensures more_bits { (h : List Bool) (bit : Bool) (m : BitCounting) → BitStandsFor h m → BitStandsFor (h ++ bit ∷ []) (after_bit m bit) }
+    ensures more_bits { (h : List Bool) (bit : Bool) (m : BitCounting) → BitStandsFor h m
+        → BitStandsFor (h ++ bit ∷ []) (after_bit m bit) }
 {}
 
 /// A new model is sound, and stays so with each symbol, or bit, that it counts.

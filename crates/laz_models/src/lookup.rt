@@ -1,4 +1,4 @@
-//! What a model answers of its distribution.
+//! The questions that a model answers about its distribution.
 ghost use Rattle.std.specs.Prelude.{◌≡◌, ◌+◌, ◌-◌, ◌*◌, ◌<◌, ◌≤◌, ◌^◌, length, replicate, slice_index};
 ghost use Rattle.laz_models.specs.Counting.{starts_of, part_end, AreStarts};
 ghost use Rattle.laz_models.specs.Lookup.{IsLastAt, table_bits};
@@ -7,7 +7,7 @@ ghost use Rattle.laz_models.specs.Place.{starts_in, counting_of, IsShaped, IsLai
 use crate::limits::{MAX_SYMBOLS, SYMBOL_PARTS};
 use crate::place::Place;
 
-/// Where the part of a symbol begins before any symbol was counted.
+/// The start of the part of a symbol in a new model.
 fn first_start(size: u32, s: u32) -> u32
     requires many { 2 ≤ size }
     requires few { size ≤ MAX_SYMBOLS }
@@ -17,7 +17,7 @@ fn first_start(size: u32, s: u32) -> u32
     (0x8000_0000 / size * s) >> 16
 }
 
-/// The part of a symbol before any symbol was counted.
+/// The part of a symbol in a new model.
 #[cold]
 #[inline(never)]
 fn first_part(size: u32, s: u32) -> (u32, u32)
@@ -33,7 +33,7 @@ fn first_part(size: u32, s: u32) -> (u32, u32)
     (first_start(size, s), first_start(size, s + 1))
 }
 
-/// The last symbol whose part begins at `v` or below before any symbol was counted.
+/// The last symbol whose part begins at `v` or below, in a new model.
 #[cold]
 #[inline(never)]
 fn first_find(size: u32, v: u32) -> u32
@@ -47,7 +47,7 @@ fn first_find(size: u32, v: u32) -> u32
     ((((v + 1) << 16) - 1) / (0x8000_0000 / size)).min(size - 1)
 }
 
-/// The part of a symbol, of 2^15.
+/// The part of a symbol, of 2^15 parts.
 #[inline]
 pub fn part(cells: &[u32], place: &Place, s: u32) -> (u32, u32)
     requires model { IsModel place.now cells.now }
@@ -65,10 +65,10 @@ pub fn part(cells: &[u32], place: &Place, s: u32) -> (u32, u32)
     (cells[at], cells[at + 1])
 }
 
-/// `half` where a part that begins at `start` begins at `v` or below, else 0.
+/// `half` if `start` is at most `v`, else 0.
 ///
-/// It is a shift, by the top five bits of the difference, which are all set where it is negative. A branch would be guessed
-/// wrong as often as not.
+/// It is a shift by the top five bits of the difference, which are all set if the difference is negative. A branch
+/// would be mispredicted about half of the time.
 #[inline]
 fn step(half: u32, start: u32, v: u32) -> u32
     requires half { half < 2 ^ 31 }
@@ -102,7 +102,7 @@ fn bisect(starts: &[u32], low: u32, high: u32, v: u32) -> u32
     low
 }
 
-/// Two symbols, between which lies the last one whose part begins at `v` or below.
+/// Two symbols. The last one whose part begins at `v` or below is at least the first and below the second.
 #[inline]
 fn bounds(cells: &[u32], place: &Place, v: u32) -> (u32, u32)
     requires shape { IsShaped place.now }
@@ -121,7 +121,7 @@ fn bounds(cells: &[u32], place: &Place, v: u32) -> (u32, u32)
     (cells[entry], cells[entry + 1] + 1)
 }
 
-/// The last symbol whose part begins at `v` or below, by the cells.
+/// The last symbol whose part begins at `v` or below, in a model that is laid out.
 #[inline]
 fn laid_find(cells: &[u32], place: &Place, v: u32) -> u32
     requires shape { IsShaped place.now }

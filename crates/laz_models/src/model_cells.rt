@@ -1,4 +1,4 @@
-//! The cells of one model: its counts, where its parts begin, and its look-up table.
+//! The cells of one model: its counts, its starts, and its look-up table.
 ghost use Rattle.std.specs.Prelude.{◌≡◌, ℕ, ◌+◌, ◌-◌, ◌*◌, ◌/◌, ◌<◌, ◌≤◌, ◌^◌, length, sum, All, replicate, slice_index};
 ghost use Rattle.laz_models.specs.Counting.{halves_of, starts_of, AreCounts, AreStarts, after_symbol, new_cycle, small_counts, new_model};
 ghost use Rattle.laz_models.specs.Lookup.{IsLastAt, table_bits};
@@ -7,7 +7,7 @@ ghost use Rattle.laz_models.specs.Place.{counts_in, starts_in, laid_state, count
 use crate::limits::{MAX_COUNT, MAX_SYMBOLS};
 use crate::place::Place;
 
-/// Halves each count, upwards.
+/// Halves each count and rounds it up.
 fn halve(counts: &mut [u32])
     requires { All (λ c. c + 1 < 2 ^ 32) counts.old }
     ensures { counts.new ≡ halves_of counts.old }
@@ -25,7 +25,7 @@ fn total_of(counts: &[u32]) -> u32
     counts.iter().sum()
 }
 
-/// Computes where the parts begin.
+/// Writes the start of each symbol's part.
 fn write_starts(starts: &mut [u32], counts: &[u32], total: u32)
     requires lengths { length starts.old ≡ length counts.now }
     requires total { total ≡ sum counts.now }
@@ -40,7 +40,7 @@ fn write_starts(starts: &mut [u32], counts: &[u32], total: u32)
     }
 }
 
-/// The last symbol whose part begins at `v` or below, looked for from `first` on.
+/// The last symbol whose part begins at `v` or below, searched from `first` on.
 #[inline]
 fn walk(starts: &[u32], first: u32, v: u32) -> u32
     requires few { length starts.now ≤ MAX_SYMBOLS }
@@ -73,7 +73,7 @@ fn write_table(table: &mut [u32], starts: &[u32], shift: u32)
     }
 }
 
-/// Computes where the parts of a model begin, and its look-up table.
+/// Writes the starts of a model and its look-up table.
 fn write_distribution(cells: &mut [u32], size: usize, shift: u32, total: u32)
     requires counts { AreCounts (counts_in size cells.old) }
     requires length { length cells.old ≡ extent size }
@@ -91,7 +91,7 @@ fn write_distribution(cells: &mut [u32], size: usize, shift: u32, total: u32)
     write_table(table, starts, shift);
 }
 
-/// Halves the counts of a model where their sum is above 2^15. Gives their sum.
+/// Halves the counts of a model if their sum is above 2^15. Returns their sum.
 fn limit_counts(cells: &mut [u32], size: usize, total: u32) -> u32
     requires length { size ≤ length cells.old }
     requires counts { AreCounts (counts_in size cells.old) }
@@ -115,7 +115,8 @@ fn begin_cycle(cells: &mut [u32], place: &mut Place)
     requires shape { IsShaped place.old }
     requires length { length cells.old ≡ extent place.old.size }
     requires due { IsDue place.old cells.old }
-    ensures new_cycle { laid_state place.new cells.new ≡ new_cycle (counts_in place.old.size cells.old) place.old.cycle }
+    ensures new_cycle { laid_state place.new cells.new
+        ≡ new_cycle (counts_in place.old.size cells.old) place.old.cycle }
     ensures good { IsLaid place.new cells.new }
     ensures place { SamePlace place.old place.new }
 {
@@ -135,7 +136,7 @@ fn fill_ones(cells: &mut [u32], size: usize)
     counts.fill(1);
 }
 
-/// Lays a model out as at the start.
+/// Lays out a new model.
 fn lay_out(cells: &mut [u32], place: &mut Place)
     requires shape { IsShaped place.old }
     requires length { length cells.old ≡ extent place.old.size }
@@ -151,7 +152,7 @@ fn lay_out(cells: &mut [u32], place: &mut Place)
     place.remaining = place.cycle;
 }
 
-/// Lays a model out, if it is as at the start.
+/// Lays a model out if it is new.
 fn lay_out_if_new(cells: &mut [u32], place: &mut Place)
     requires { IsModel place.old cells.old }
     ensures state { laid_state place.new cells.new ≡ counting_of place.old cells.old }

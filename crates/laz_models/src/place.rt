@@ -1,20 +1,20 @@
-//! Where a model of a bank lies.
+//! The place of a model of a bank.
 
-/// Where a model of a bank lies, and how far its present cycle has come.
+/// Where the cells of a model of a bank lie, and how far its present cycle has come.
 #[derive(Clone, Copy)]
 pub struct Place {
-    /// Where its cells begin.
+    /// The index of its first cell.
     pub start: usize,
-    /// Where its cells end.
+    /// The index after its last cell.
     pub end: usize,
     /// How many symbols it has.
     pub size: u32,
-    /// How many bits of a place an entry of the look-up table leaves open.
+    /// How many bits of a position are not used to choose an entry of the look-up table.
     pub shift: u32,
-    /// The sum of the counts when the present cycle began.
+    /// The sum of the counts at the beginning of the present cycle.
     pub total: u32,
     /// How long the present cycle is.
     pub cycle: u32,
-    /// How many symbols of it are still to come, or 0 where the model is as at the start and its cells are not laid out.
+    /// How many symbols of the cycle are still to come, or 0 if the model is new and its cells are not laid out.
     pub remaining: u32,
 }

@@ -6,10 +6,10 @@ use crate::limits::{MAX_SYMBOLS, SYMBOL_PARTS};
 use std::alloc::{AllocError, Global};
 use std::marker::Model;
 
-/// A model of symbols, which gives each of them a part of 2^15.
+/// A model of symbols, which gives each of them some of 2^15 parts.
 ///
-/// It stands for the list of symbols that it counted since it was made or reset, and answers the distribution of that
-/// list. No part is empty, and the last one begins below 32,768. Only `new` takes memory.
+/// It stands for the list of symbols that it has counted since it was made or reset, and answers the distribution of
+/// that list. No part is empty, and the last one begins below 32,768. Only `new` takes memory.
 #[derive(Drop)]
 pub struct SymbolModel {
     bank: ModelBank,
@@ -33,7 +33,7 @@ impl SymbolModel {
     ghost use Rattle.laz_models.specs.Lookup.{IsLastAt};
     ghost use Rattle.laz_models.specs.Sound.{IsSound};
 
-    /// A model of `n` symbols, 2 to 2,048.
+    /// Makes a model of `n` symbols, 2 to 2,048.
     pub fn new(alloc: Global, n: u32) -> Result<Self, AllocError>
         requires many { 2 ≤ n }
         requires few { n ≤ MAX_SYMBOLS }
@@ -46,7 +46,7 @@ impl SymbolModel {
         Ok(SymbolModel { bank })
     }
 
-    /// Makes the model as new.
+    /// Resets the model to a new one.
     pub fn reset(&mut self)
         ensures new_model { self.new ≡ new_model (alphabet_size self.old) }
         ensures size { alphabet_size self.new ≡ alphabet_size self.old }
@@ -56,7 +56,7 @@ impl SymbolModel {
         self.bank.reset();
     }
 
-    /// Where the part of symbol `s` begins and ends, of 2^15. The last symbol's part ends at 32,768.
+    /// The start and the end of the part of symbol `s`, of 2^15 parts. The last part ends at 32,768.
     #[inline]
     pub fn part(&self, s: u32) -> (u32, u32)
         requires { s < alphabet_size self.now }

@@ -1,6 +1,6 @@
-//! Long lists of symbols: the models beside their definition, written plainly, and beside values of another coder.
+//! Long lists of symbols: the models beside their definition, written out plainly, and beside values of another coder.
 ghost use Rattle.std.specs.Prelude.{◌≡◌, ◌<◌, ◌≤◌, length, All, slice_index};
-ghost use Rattle.laz_models.specs.Bank.{sizes_of};
+ghost use Rattle.laz_models.specs.Bank.{alphabet_sizes};
 ghost use Rattle.laz_models.specs.Lookup.{table_bits};
 
 use crate::{BitModel, ModelBank, SymbolModel};
@@ -11,7 +11,7 @@ fn next(state: u32) -> u32 {
     state.wrapping_mul(1_664_525).wrapping_add(1_013_904_223)
 }
 
-/// A symbol below `n`, small ones more often.
+/// A symbol below `n`. Small ones come more often.
 fn symbol(state: u32, n: u32) -> u32
     requires { 0 < n }
     ensures { result < n }
@@ -20,7 +20,7 @@ fn symbol(state: u32, n: u32) -> u32
     (a.wrapping_mul(a) >> 20) % n
 }
 
-/// Adds the symbols to the counts, and halves these where their sum is above 32,768.
+/// Adds the symbols to the counts, and halves the counts if their sum is above 32,768.
 fn added(counts: &mut [u32], symbols: &[u32]) {
     for s in symbols {
         if let Some(count) = counts.get_mut(*s as usize) {
@@ -38,7 +38,7 @@ fn added(counts: &mut [u32], symbols: &[u32]) {
     }
 }
 
-/// Where the parts of `n` symbols begin behind a list of symbols.
+/// The starts of `n` symbols after a list of symbols.
 fn plain(alloc: Global, n: u32, symbols: &[u32]) -> Result<Vec<u32>, AllocError>
     requires { n ≤ 2048 }
 {
@@ -49,9 +49,9 @@ fn plain(alloc: Global, n: u32, symbols: &[u32]) -> Result<Vec<u32>, AllocError>
         if rest.len() < cycle {
             break;
         }
-        let (front, behind) = rest.split_at(cycle);
+        let (front, after) = rest.split_at(cycle);
         added(&mut counts, front);
-        rest = behind;
+        rest = after;
         cycle = (cycle.wrapping_mul(5) / 4).min(8 * (n as usize + 6));
     }
     let mut total = 0u64;
@@ -69,7 +69,7 @@ fn plain(alloc: Global, n: u32, symbols: &[u32]) -> Result<Vec<u32>, AllocError>
     Ok(starts)
 }
 
-/// Whether the parts of a model are those of the definition, on the way to 100,000 symbols and behind them.
+/// Whether the starts of a model are those of the definition, after up to 100,000 symbols.
 fn keeps_the_definition(alloc: Global, n: u32) -> Result<bool, AllocError>
     requires many { 2 ≤ n }
     requires few { n ≤ 2048 }
@@ -96,10 +96,10 @@ fn keeps_the_definition(alloc: Global, n: u32) -> Result<bool, AllocError>
 
 /// Counts symbols of a model of a bank.
 fn draw(bank: &mut ModelBank, m: u32, n: u32, symbols: u32)
-    requires model { m < length (sizes_of bank.old) }
-    requires size { slice_index (sizes_of bank.old) m ≡ n }
+    requires model { m < length (alphabet_sizes bank.old) }
+    requires size { slice_index (alphabet_sizes bank.old) m ≡ n }
     requires some { 0 < n }
-    ensures sizes { sizes_of bank.new ≡ sizes_of bank.old }
+    ensures sizes { alphabet_sizes bank.new ≡ alphabet_sizes bank.old }
 {
     let mut state = m;
     for _ in 0..symbols {
@@ -108,10 +108,10 @@ fn draw(bank: &mut ModelBank, m: u32, n: u32, symbols: u32)
     }
 }
 
-/// Whether `find` of a model answers as a walk over all parts does, for each place.
+/// Whether `find` of a model answers as a walk over all parts does, at each position.
 fn finds(bank: &ModelBank, m: u32, n: u32) -> bool
-    requires model { m < length (sizes_of bank.now) }
-    requires size { slice_index (sizes_of bank.now) m ≡ n }
+    requires model { m < length (alphabet_sizes bank.now) }
+    requires size { slice_index (alphabet_sizes bank.now) m ≡ n }
     requires some { 0 < n }
     requires few { n ≤ 2048 }
 {
@@ -127,10 +127,10 @@ fn finds(bank: &ModelBank, m: u32, n: u32) -> bool
     bank.find(m, u32::MAX) == n - 1
 }
 
-/// Whether the entries of the look-up table of a model are what `find` answers at their places.
+/// Whether the entries of the look-up table of a model are what `find` answers at their positions.
 fn enters(bank: &ModelBank, m: u32, n: u32, bits: u32) -> bool
-    requires model { m < length (sizes_of bank.now) }
-    requires size { slice_index (sizes_of bank.now) m ≡ n }
+    requires model { m < length (alphabet_sizes bank.now) }
+    requires size { slice_index (alphabet_sizes bank.now) m ≡ n }
     requires many { 16 < n }
     requires bits { table_bits n ≡ bits }
     requires most { bits ≤ 9 }
@@ -156,10 +156,10 @@ fn parts_of_the_definition(rt: HostRuntime) {
 
 /// Counts symbols of each model of a bank.
 fn draw_all(bank: &mut ModelBank, sizes: &[u32], symbols: u32)
-    requires sizes { sizes_of bank.old ≡ sizes.now }
+    requires sizes { alphabet_sizes bank.old ≡ sizes.now }
     requires few { length sizes.now ≤ 100 }
     requires range { All (λ n. (2 ≤ n) × (n ≤ 2048)) sizes.now }
-    ensures { sizes_of bank.new ≡ sizes.now }
+    ensures { alphabet_sizes bank.new ≡ sizes.now }
 {
     for (m, n) in sizes.iter().enumerate() {
         draw(bank, m as u32, *n, symbols);
@@ -168,7 +168,7 @@ fn draw_all(bank: &mut ModelBank, sizes: &[u32], symbols: u32)
 
 /// Whether `find` of each model answers as a walk does.
 fn all_find(bank: &ModelBank, sizes: &[u32]) -> bool
-    requires sizes { sizes_of bank.now ≡ sizes.now }
+    requires sizes { alphabet_sizes bank.now ≡ sizes.now }
     requires few { length sizes.now ≤ 100 }
     requires range { All (λ n. (2 ≤ n) × (n ≤ 2048)) sizes.now }
 {
@@ -186,15 +186,15 @@ fn find_of_a_bank(rt: HostRuntime) {
     let mut bank = ModelBank::new(rt.alloc(), &sizes).expect(&rt, "memory");
     for symbols in [0, 1_000, 49_000] {
         draw_all(&mut bank, &sizes, symbols);
-        assert!(rt; all_find(&bank, &sizes), "behind {symbols} more");
-        assert!(rt; enters(&bank, 2, 17, 3), "17 symbols behind {symbols} more");
+        assert!(rt; all_find(&bank, &sizes), "after {symbols} more");
+        assert!(rt; enters(&bank, 2, 17, 3), "17 symbols after {symbols} more");
         assert!(rt;
             enters(&bank, 3, 256, 6),
-            "256 symbols behind {symbols} more"
+            "256 symbols after {symbols} more"
         );
         assert!(rt;
             enters(&bank, 5, 2048, 9),
-            "2,048 symbols behind {symbols} more"
+            "2,048 symbols after {symbols} more"
         );
     }
     bank.reset();
@@ -216,11 +216,11 @@ fn values_of_another_coder(rt: HostRuntime) {
             state = next(state);
             model.count(symbol(state, n));
         }
-        assert_eq!(rt; model.part(1).0, first, "{n} symbols behind {symbols}");
+        assert_eq!(rt; model.part(1).0, first, "{n} symbols after {symbols}");
         assert_eq!(rt;
             model.part(n - 1),
             (last, 32768),
-            "{n} symbols behind {symbols}"
+            "{n} symbols after {symbols}"
         );
         model.reset();
         assert_eq!(rt; model.find(32767), n - 1, "{n} symbols after a reset");
@@ -238,7 +238,7 @@ fn values_of_another_coder(rt: HostRuntime) {
             state = next(state);
             model.count((state >> 16) % 5 == 0);
         }
-        assert_eq!(rt; model.p0(), p0, "behind {bits} bits");
+        assert_eq!(rt; model.p0(), p0, "after {bits} bits");
         model.reset();
         assert_eq!(rt; model.p0(), 4096, "after a reset");
     }

@@ -5,7 +5,7 @@ use Rattle.laz_range.specs.Coding.{Coding, Codes}
 use Rattle.laz_range.specs.Reading.{follow_all}
 use Rattle.laz_range.specs.Choice.{state_after, all_cuts, AreAsked}
 use Rattle.laz_range.specs.Decoding.{Decoding, reading_of, HasRead, ReadsOn, Takes, TakesNone}
-use Rattle.laz_range.proofs.Chain.{Only-then, Only-map, Only-through, Only-same, Nothing-first, Nothing-second, Nothing-through, Nothing-same}
+use Rattle.laz_range.proofs.Chain.{Only-then, Only-through, Only-same, Nothing-first, Nothing-second, Nothing-through, Nothing-same}
 use Rattle.laz_range.proofs.Loops.{Only-push, Nothing-push, Nothing-more}
 
 -- ---- one choice after another
@@ -47,19 +47,7 @@ Takes-empty P cuts d x asked none only within good =
       good = good;
     }
 
--- the same choice under another name
-pub Takes-map : {X Z : Type 0} (f : X → Z) (back : Z → X) (P : X → Type 0) (Q : Z → Type 0) (cuts : X → List Cut) (others : Z → List Cut) (a b : Decoding) (x : X)
-    → ((z : Z) → f (back z) ≡ z) → ((y : X) → P y → Q (f y)) → ((z : Z) → Q z → P (back z)) → ((z : Z) → others z ≡ cuts (back z)) → back (f x) ≡ x
-    → Takes P cuts a b x → Takes Q others a b (f x)
-Takes-map f back P Q cuts others a b x round to from same here h =
-    record {
-      choice = Only-map f back P Q cuts others (reading_of a) x (reading_of b) round to from same here h.choice;
-      bytes = h.bytes;
-      within = h.within;
-      good = h.good;
-    }
-
--- the same choice through a map, which meets each that is asked for
+-- the same choice through a map onto the choices asked for
 pub Takes-through : {X Z : Type 0} (f : X → Z) (P : X → Type 0) (Q : Z → Type 0) (cuts : X → List Cut) (others : Z → List Cut) (a b : Decoding) (x : X)
     → ((y : X) → P y → Q (f y)) → ((z : Z) → Q z → (y : X) × P y × (f y ≡ z)) → ((y : X) → P y → others (f y) ≡ cuts y) → Takes P cuts a b x → Takes Q others a b (f x)
 Takes-through f P Q cuts others a b x to from same h =
@@ -138,7 +126,7 @@ Takes-step {S} {X} next P cuts st now n a b c xs x at f g =
     let here = subst (λ (s : S). Takes (P s) (cuts s) b c x) at g in
     subst (λ (k : ℕ). Takes (AreAsked next P st k) (all_cuts next cuts st) a c (xs ++ x ∷ [])) (sym (add-one n)) (Takes-push next P cuts st n a b c xs x f here)
 
--- where no list of i choices begins the bytes, no longer one does
+-- if no list of i choices begins the bytes, no longer list does
 pub TakesNone-more : {S X : Type 0} (next : S → X → S) (P : S → X → Type 0) (cuts : S → X → List Cut) (st : S) (i n : ℕ) (a b : Decoding) → i ≤ n
     → TakesNone (AreAsked next P st i) (all_cuts next cuts st) a b → TakesNone (AreAsked next P st n) (all_cuts next cuts st) a b
 TakesNone-more next P cuts st i n a b few h =

@@ -1,3 +1,4 @@
+-- What a decoder has read, in the words of what begins its bytes. Cited by crates above.
 use Rattle.std.proofs.Common.{◌≡◌, ℕ, ◌+◌, ◌-◌, ◌*◌, ◌/◌, ◌%◌, ◌^◌, ◌<◌, ◌≤◌, List, [], ◌∷◌, ◌++◌, length, take, drop, Option, Some, None, Result, Ok, Err, IfOk, get_or, OnErr, lit<, lit≤, refl, sym, ap, subst, ◌∙◌, arith, ⊎_elim, length-drop}
 use Rattle.std.specs.Option.{SomeIff, option_and_then}
 use Rattle.laz_range.specs.Cut.{Cut, Raw, IsCut, AreCuts, IsLike, one_event, raw_cuts}
@@ -28,7 +29,7 @@ one-follow r m c e = some_front (follow r c) m e
 no_some : (o : Option Reading) (m : Reading) → o ≡ None → option_and_then (λ (s : Reading). Some s) o ≡ Some m → ⊥
 no_some o m e f = let none : None ≡ Some m = rw e at f in cc
 
--- none where each is none
+-- no choice, if each is none
 pub Nothing-none : {X : Type 0} (P : X → Type 0) (c : X → Cut) (r : Reading) → ((y : X) → P y → follow r (c y) ≡ None) → Nothing P (λ y. c y ∷ []) r
 Nothing-none P c r none y s asked e = no_some (follow r (c y)) s (none y asked) e
 
@@ -124,7 +125,7 @@ pub SomeIff-from : {A : Type 0} (o : Option A) (P : Type 0) (x m : A) → SomeIf
 SomeIff-from {A} None P x m h e = let no : None ≡ Some m = e in absurd (cc)
 SomeIff-from (Some z) P x m h e = let same : z ≡ m = cc in (h.0, sym same ∙ h.1)
 
--- what follows what was read begins the bytes behind it
+-- the events that a decoder can follow are those that begin the bytes after what it has read
 pub follow_all-read : (events cuts : List Cut) (d : Decoding) → HasRead events d → AreCuts cuts
     → SomeIff (follow_all (reading_of d) cuts) (Begins (span (events ++ cuts)) d.bytes) (reading (span (events ++ cuts)) d.bytes)
 follow_all-read events cuts d h all =
@@ -158,7 +159,7 @@ pub TakesNone-NoneBegins : {X : Type 0} (P : X → Type 0) (cuts : X → List Cu
 TakesNone-NoneBegins P cuts old new all h events read y asked begins =
     h.nothing y _ asked (SomeIff-at (follow_all (reading_of old) (cuts y)) _ _ (follow_all-read events (cuts y) old read (all y asked)) begins)
 
--- of what is asked for, what was read alone begins the bytes behind what was read before
+-- of the choices asked for, the one that was read alone begins the bytes after what was read before
 pub Takes-begins : {X : Type 0} (P : X → Type 0) (cuts : X → List Cut) (old new : Decoding) (x : X) → ((y : X) → P y → AreCuts (cuts y)) → Takes P cuts old new x
     → (events : List Cut) → HasRead events old → (y : X) → P y → Begins (span (events ++ cuts y)) old.bytes → y ≡ x
 Takes-begins P cuts old new x all h events read y asked begins =

@@ -1,8 +1,9 @@
+-- The symbols of a distribution are lawful events of one kind. Cited by crates above.
 use Rattle.std.proofs.Common.{◌≡◌, ℕ, ◌+◌, ◌<◌, ◌≤◌, eqb, cond, List, length, get_or, refl, arith, ⊎_elim, inl, inr}
 use Rattle.std.proofs.lemmas.Bool.{cases_lt, cases_eq, cond-true, cond-false, eq-eqb, ne_eqb}
 use Rattle.laz_range.specs.Cut.{IsCut, AreAlike, IsLike, IsDistribution, symbol}
 
--- where a symbol's part ends
+-- the end of a symbol's part
 abbrev pub end_of : List ℕ → ℕ → ℕ
 end_of starts s = cond (eqb (s + 1) (length starts)) 32768 (get_or starts (s + 1) 0)
 

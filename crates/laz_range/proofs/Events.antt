@@ -1,3 +1,4 @@
+-- What the calls of a decoder read: symbols, bits and raw values. Cited by crates above.
 use Rattle.std.proofs.Common.{◌≡◌, ℕ, ◌+◌, ◌-◌, ◌*◌, ◌/◌, ◌^◌, ◌<◌, ◌≤◌, Bool, true, false, List, [], ◌∷◌, length, drop, Some, Result, Ok, Err, IsErr, OnOk, OnErr, ◌↔◌, refl, ◌∙◌, arith, inl, inr, ⊎_elim, ◌⊎◌, subst, length-drop}
 use Rattle.std.specs.Bool.{⊤}
 use Rattle.laz_range.specs.Cut.{Cut, Part, Bit, Raw, IsCut, AreCuts, IsLike, one_event, raw_cuts, start_in, width_in}

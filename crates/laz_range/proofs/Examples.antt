@@ -1,3 +1,4 @@
+-- Worked values of the definitions, which compute.
 use Rattle.std.proofs.Common.{◌≡◌, true, [], ◌∷◌, Some, None, refl}
 use Rattle.std.specs.Option.{option_and_then}
 use Rattle.laz_range.specs.Cut.{Part, Bit, Raw, raw_cuts, start_in, width_in}

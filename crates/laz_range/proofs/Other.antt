@@ -1,3 +1,4 @@
+-- Two events of one kind: they are equal, or their parts are disjoint.
 use Rattle.std.proofs.Common.{◌≡◌, ◌≢◌, Bool, ℕ, ◌+◌, ◌-◌, ◌*◌, ◌/◌, ◌^◌, ◌<◌, ◌≤◌, true, false, eqb, List, Some, None, ◌⊎◌, refl, ap, arith, ⊎_elim, inl, inr}
 use Rattle.std.proofs.lemmas.Bool.{cases_lt, cases_eq, cond-false, ne_eqb}
 use Rattle.std.proofs.lemmas.Nat.{mul-le}
@@ -53,7 +54,7 @@ alike_cases (Bit p bit) (Raw c w) h = absurd h
 alike_cases (Raw b v) (Part low high) h = absurd h
 alike_cases (Raw b v) (Bit q bit) h = absurd h
 
--- where a part that is not the last ends
+-- the end of a part that is not the last
 end_part : (lo hi len : ℕ) → lo < hi → hi < 32768 → start_in len (Part lo hi) + width_in len (Part lo hi) ≡ hi * (len / 32768)
 end_part lo hi len part more =
     let not_last : eqb hi 32768 ≡ false = ne_eqb hi 32768 (λ e. omega arith) in
@@ -91,7 +92,7 @@ apart len (Bit p bit) (Raw c w) h k other = absurd other
 apart len (Raw b v) (Part low high) h k other = absurd other
 apart len (Raw b v) (Bit q bit) h k other = absurd other
 
--- where one of them begins what is left, the other does not
+-- if one of them begins what is left, the other does not
 pub follow-other : (r s : Reading) (c d : Cut) → IsCut c → IsCut d → IsOther c d → follow r c ≡ Some s → follow r d ≡ None
 follow-other r s c d h k other e =
     let lies = IsIn-followed r s c e in
@@ -100,7 +101,7 @@ follow-other r s c d h k other e =
     (λ (behind : start_in r.len d + width_in r.len d ≤ start_in r.len c). follow-above r d (omega (arith, lies.above)))
     (apart r.len c d h k other)
 
--- .. and no bytes are begun by both
+-- no bytes are begun by both
 pub Begins-other : (s : Span) (c d : Cut) (bytes : List ℕ) → IsBytes bytes → IsCut c → IsCut d → IsOther c d → Begins (cut s c) bytes → Begins (cut s d) bytes → ⊥
 Begins-other s c d bytes b h k other f g =
     let one = Begins-subspan s (start_in s.len c) (width_in s.len c) bytes b f in

@@ -1,3 +1,4 @@
+-- Steps of a reading, and raw values of two events.
 use Rattle.std.proofs.Common.{◌≡◌, ℕ, ◌+◌, ◌-◌, ◌*◌, ◌/◌, ◌%◌, ◌^◌, ◌<◌, ◌≤◌, List, [], ◌∷◌, length, get_or, drop, Some, None, refl, sym, ap, ◌∙◌, arith, ⊎_elim}
 use Rattle.std.proofs.lemmas.List.{drop_more, drop_all}
 use Rattle.std.proofs.lemmas.Bool.{cond_below, cond_above, cond-true, cond-false, and_from, and_left, and_right, le-leb, lt-leb, lt-ltb, le-ltb, cases_lt}
@@ -13,7 +14,7 @@ pub refill_step-long : (r : Reading) → 16777216 ≤ r.len → refill_step r �
 unfolding refill_step
 refill_step-long r h = sym (cond_above r.len 16777216 _ _ _ h refl)
 
--- where a byte is left
+-- a byte is left
 pub with_byte-some : (value len taken v n : ℕ) (bytes : List ℕ) → taken < length bytes → v ≡ value * 256 + get_or bytes taken 0 → n ≡ len * 256
     → with_byte (record { value = value; len = len; rest = drop taken bytes }) (drop taken bytes) ≡ Some (record { value = v; len = n; rest = drop (taken + 1) bytes })
 with_byte-some value len taken v n bytes h e f = rw (drop_more bytes taken 0 h, e, f) refl

@@ -1,4 +1,4 @@
--- For readers of whole streams: of what is asked for, which one all the bytes spell. `d` is a decoder of the bytes that has
+-- For readers of whole streams: which of the choices asked for all the bytes spell. `d` is a decoder of the bytes that has
 -- read nothing yet.
 use Rattle.std.proofs.Common.{◌≡◌, ℕ, zero, suc, ◌+◌, ◌*◌, ◌≤◌, List, [], ◌∷◌, ◌++◌, length, take, drop, refl, sym, ap, subst, ◌∙◌, arith, lit<}
 use Rattle.std.proofs.lemmas.List.{take_all, take-take, take-append-drop}
@@ -20,15 +20,15 @@ Begins-Fits s bytes b ends =
     let whole : take (s.shifts + 4) bytes ≡ bytes = take_all (s.shifts + 4) bytes (omega (arith, ends)) in
     record { length = ends; low = rw whole at b.low; high = rw whole at b.high }
 
--- ---- no decoder: the bytes spell nothing
+-- ---- `new` has refused: the bytes spell no list of events
 pub unopened-fits : (bytes : List ℕ) (cuts : List Cut) → ((events : List Cut) → AreCuts events → Begins (span events) bytes → ⊥) → AreCuts cuts → Fits (span cuts) bytes → ⊥
 unopened-fits bytes cuts none all fits = none cuts all (Fits-Begins (span cuts) bytes fits)
 
--- ---- nothing was read: the bytes spell nothing that is asked for
+-- ---- the reader has refused: the bytes spell no choice asked for
 pub none-fits : {X : Type 0} (P : X → Type 0) (cuts : X → List Cut) (d n : Decoding) → ((y : X) → P y → AreCuts (cuts y)) → HasRead [] d → Refuses P cuts d n → (y : X) → P y → Fits (span (cuts y)) d.bytes → ⊥
 none-fits P cuts d n all read none y asked fits = Refuses-NoneBegins P cuts d n all none [] read y asked (Fits-Begins (span (cuts y)) d.bytes fits)
 
--- ---- x was read: what all the bytes spell is x, and then they were all taken
+-- ---- x was read: the bytes can spell no other choice, and if they spell x, all were taken
 pub one-fits : {X : Type 0} (P : X → Type 0) (cuts : X → List Cut) (d n : Decoding) (x : X) → ((y : X) → P y → AreCuts (cuts y)) → HasRead [] d → Takes P cuts d n x
     → (y : X) → P y → Fits (span (cuts y)) d.bytes → (y ≡ x) × (n.taken ≡ length n.bytes)
 one-fits {X} P cuts d n x all read takes y asked fits =

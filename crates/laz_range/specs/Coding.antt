@@ -1,14 +1,16 @@
+-- The states of an encoder.
 use Rattle.std.specs.Prelude.{◌≡◌, ℕ, ◌+◌, ◌*◌, ◌≤◌, List, length}
 use Rattle.laz_range.specs.Cut.{Cut}
 use Rattle.laz_range.specs.Span.{Span, after}
 
--- What is seen of an encoder: the bytes before the place where it began to write, the span of its events, and how many more bytes its room has.
+-- What contracts see of an encoder: the bytes before the place where it began to write, the span of its events, and how
+-- many more bytes its room has.
 pub record Coding : Type 0 where
   pub before : List ℕ
   pub span : Span
   pub left : ℕ
 
--- From one state of an encoder to a later one these events were coded. Each takes three bytes of room at most.
+-- An encoder has coded these events between two states. Each event takes at most three bytes of room.
 pub record Codes (old new : Coding) (events : List Cut) : Type 0 where
   pub span : new.span ≡ after old.span events
   pub before : new.before ≡ old.before

@@ -1,26 +1,27 @@
+-- The output of an encoder.
 use Rattle.std.specs.Prelude.{◌≡◌, ℕ, ◌+◌, ◌-◌, ◌*◌, ◌≤◌, List, length, take, drop}
 use Rattle.laz_range.specs.Span.{Span, number}
 use Rattle.laz_range.specs.Coding.{Coding}
 use Rattle.laz_range.specs.declared.output.Output.{Output}
 
--- The bytes written since `at`.
+-- The bytes written from `at` on.
 abbrev pub written_bytes : Output → List ℕ
 written_bytes o = drop o.at (take o.next o.bytes.items)
 
--- The bytes written and the base spell low.
+-- The span of an output, whose low end the bytes written and the base spell.
 abbrev pub span_of : Output → Span
 span_of o = record { low = number (written_bytes o) * 4294967296 + o.base; len = o.length; shifts = o.next - o.at }
 
--- The same span, from further on.
+-- A span with a greater low end.
 abbrev pub span_from : Span → ℕ → Span
 span_from s from = record { low = s.low + from; len = s.len; shifts = s.shifts }
 
--- There is room for the four bytes of the base.
+-- The room has four more bytes, for the base.
 pub record HasRoom (o : Output) : Type 0 where
   pub from : o.at ≤ o.next
   pub room : o.next + 4 ≤ length o.bytes.items
 
--- All but the written part stays, and at most n bytes more were written.
+-- At most n more bytes were written, and all bytes before `at` stay.
 pub record Writes (n : ℕ) (old new : Output) : Type 0 where
   pub at : new.at ≡ old.at
   pub before : take new.at new.bytes.items ≡ take old.at old.bytes.items
@@ -28,6 +29,11 @@ pub record Writes (n : ℕ) (old new : Output) : Type 0 where
   pub from : old.next ≤ new.next
   pub upto : new.next ≤ old.next + n
 
--- What is seen of an encoder that writes there.
+-- What contracts see of an encoder with this output.
 abbrev pub coding_of : Output → Coding
-coding_of o = record { before = take o.at o.bytes.items; span = span_of o; left = length o.bytes.items - o.at - 4 - (o.next - o.at) }
+coding_of o =
+    record {
+      before = take o.at o.bytes.items;
+      span = span_of o;
+      left = length o.bytes.items - o.at - 4 - (o.next - o.at);
+    }

@@ -2,7 +2,7 @@
 ghost use Rattle.std.specs.Prelude.{◌≡◌, ◌+◌, ◌-◌, ◌<◌, ◌≤◌, ◌^◌, length, take, drop};
 ghost use Rattle.laz_range.specs.Span.{number};
 
-/// Adds one to the number that the bytes spell, greatest digit first.
+/// Adds one to the number that the bytes spell, most significant byte first.
 fn carry(written: &mut [u8])
     requires { number written.old + 1 < 256 ^ length written.old }
     ensures { number written.new ≡ number written.old + 1 }
@@ -16,7 +16,7 @@ fn carry(written: &mut [u8])
 }
 
 /// Adds one to the number that the bytes from `at` up to `next` spell.
-// Carries are rare: kept out of line, they leave the coder's own code short.
+// Carries are rare, so they are kept out of line.
 #[inline(never)]
 pub fn carry_between(bytes: &mut Vec<u8>, at: usize, next: usize)
     requires order { at ≤ next }

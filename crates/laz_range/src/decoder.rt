@@ -11,11 +11,11 @@ use crate::input::{Input, advance};
 use crate::limits::{BIT_PARTS, MAX_LENGTH, MAX_RAW_BITS, MIN_LENGTH, SYMBOL_PARTS};
 use std::marker::Model;
 
-/// Reads events from bytes that it is lent.
+/// Reads events from borrowed bytes.
 ///
-/// Contracts see it as its bytes, how many of them were taken, its value, its length and whether it has answered
-/// [`Bad`]. The value is the number of the bytes taken less the low end of the span of the events read, and is below the
-/// length. After a [`Bad`] it is asked for nothing more.
+/// Contracts see it as its bytes, how many of them were taken, its value, its length, and whether it has answered
+/// [`Bad`]. The value is the number of the bytes taken less the low end of the span of the events read, and it is below
+/// the length. After a [`Bad`] no further call is allowed.
 #[derive(Drop)]
 pub struct Decoder<'a> {
     input: Input<'a>,
@@ -23,21 +23,19 @@ pub struct Decoder<'a> {
 }
 
 impl<'a> Model for Decoder<'a> {
-    ghost use Rattle.std.specs.Prelude.{◌≡◌, ◌≤◌, ◌<◌, false, length};
     ghost use Rattle.laz_range.specs.Decoding.{Decoding};
-    ghost use Rattle.laz_range.specs.Input.{decoding_of};
-    ghost use Rattle.laz_range.specs.declared.limits.TheConstants.{MIN_LENGTH};
+    ghost use Rattle.laz_range.specs.Input.{IsInput, decoding_of};
 
     ghost Value = { Decoding };
 
     ghost view = { λ d. decoding_of d.input d.failed };
 
-    ghost invariant = { λ d. (d.input.taken ≤ length d.input.bytes.now) × (d.failed ≡ false → d.input.value < d.input.length) × (d.failed ≡ false → MIN_LENGTH ≤ d.input.length) };
+    ghost invariant = { λ d. IsInput d.input d.failed };
 }
 
 impl<'a> Decoder<'a> {
-    /// A decoder of the bytes, which takes the first four of them. Bad says that no list of events begins the bytes:
-    /// there are fewer than four, or the first four are all 255.
+    /// Makes a decoder and takes the first four bytes. Bad means that no list of events begins the bytes: there are
+    /// fewer than four, or the first four are all 255.
     pub fn new(bytes: &'a [u8]) -> Result<Self, Bad>
         ensures bad { IsErr result ↔ ((length bytes.now < 4) ⊎ (take 4 bytes.now ≡ 255 ∷ 255 ∷ 255 ∷ 255 ∷ [])) }
         ensures none { OnErr result ((events : List Cut) → AreCuts events → Begins (span events) bytes.now → ⊥) }
@@ -66,8 +64,8 @@ impl<'a> Decoder<'a> {
         })
     }
 
-    /// Where the value lies, in units of 2^-15 of the interval: a symbol is the last one whose part begins there or
-    /// below.
+    /// The part that the value lies in, of 2^15 parts. The next symbol of a distribution is the last one whose part
+    /// begins there or below.
     pub fn at15(&self) -> u32
         requires { self.now.failed ≡ false }
         ensures place { result ≡ symbol_place self.now }
@@ -77,15 +75,17 @@ impl<'a> Decoder<'a> {
         self.input.value / (self.input.length >> 15)
     }
 
-    /// Takes the symbol whose part is from `lo` up to `hi` of 2^15, where the value lies. Bad says that the bytes run
-    /// out: no symbol of any distribution with this part begins what is left of them.
+    /// Takes the symbol whose part is from `lo` up to `hi` of 2^15 parts, which the value lies in. Bad means that the
+    /// bytes run out: no symbol of any distribution with this part begins the rest of them.
     pub fn take15(&mut self, lo: u32, hi: u32) -> Result<(), Bad>
         requires good { self.old.failed ≡ false }
         requires part { lo < hi }
         requires whole { hi ≤ SYMBOL_PARTS }
         requires above { lo ≤ symbol_place self.old }
         requires below { hi < SYMBOL_PARTS → symbol_place self.old < hi }
-        ensures reads { MatchResult result (λ _. Takes (IsLike (Part lo hi)) one_event self.old self.new (Part lo hi)) (λ _. TakesNone (IsLike (Part lo hi)) one_event self.old self.new) }
+        ensures reads { MatchResult result
+            (λ _. Takes (IsLike (Part lo hi)) one_event self.old self.new (Part lo hi))
+            (λ _. TakesNone (IsLike (Part lo hi)) one_event self.old self.new) }
         ensures bad { IsErr result ↔ RunsOut self.old (Part lo hi) }
         ensures read { OnOk result (ReadsOn (one_event (Part lo hi)) self.old self.new) }
         ensures none { OnErr result (NoneBegins (IsLike (Part lo hi)) one_event self.old) }
@@ -100,8 +100,8 @@ impl<'a> Decoder<'a> {
         self.take_part(from, width)
     }
 
-    /// Takes a bit, of which 0 has the first `p0` of 2^13 parts. Bad says that the bytes run out: neither bit begins
-    /// what is left of them.
+    /// Takes a bit, where 0 has the first `p0` of 2^13 parts. Bad means that the bytes run out: neither bit begins the
+    /// rest of them.
     pub fn take13(&mut self, p0: u32) -> Result<bool, Bad>
         requires good { self.old.failed ≡ false }
         requires some { 0 < p0 }
@@ -122,8 +122,8 @@ impl<'a> Decoder<'a> {
         Ok(true)
     }
 
-    /// Takes a raw value of `bits` bits, 1 to 32. Bad says that the bytes run out or spell no such value: none begins
-    /// what is left of them.
+    /// Takes a raw value of `bits` bits, 1 to 32. Bad means that the bytes run out or spell no such value: none begins
+    /// the rest of them.
     pub fn take_raw(&mut self, bits: u32) -> Result<u32, Bad>
         requires good { self.old.failed ≡ false }
         requires some { 0 < bits }
@@ -141,7 +141,7 @@ impl<'a> Decoder<'a> {
         self.take_raw_part(bits)
     }
 
-    /// Takes a raw value of at most 19 bits.
+    /// Takes a raw value of at most 19 bits, which is one event.
     fn take_raw_part(&mut self, bits: u32) -> Result<u32, Bad>
         requires good { self.old.failed ≡ false }
         requires some { 0 < bits }
@@ -160,12 +160,13 @@ impl<'a> Decoder<'a> {
         Ok(v)
     }
 
-    /// Goes on behind a part that the value lies in.
+    /// Goes on after a part that the value lies in.
     fn take_part(&mut self, from: u32, width: u32) -> Result<(), Bad>
         requires good { self.old.failed ≡ false }
         requires above { from ≤ self.old.value }
         requires below { self.old.value < from + width }
-        ensures { MatchResult result (λ _. Advances (reading_after_part (reading_of self.old) from width) self.old self.new) (λ _. Stops (reading_after_part (reading_of self.old) from width) self.old self.new) }
+        ensures { let reading = reading_after_part (reading_of self.old) from width
+            in MatchResult result (λ _. Advances reading self.old self.new) (λ _. Stops reading self.old self.new) }
     {
         match advance(&mut self.input, from, width) {
             Ok(()) => Ok(()),
@@ -176,7 +177,7 @@ impl<'a> Decoder<'a> {
         }
     }
 
-    /// Whether all bytes were taken.
+    /// Whether all bytes are taken.
     pub fn at_end(&self) -> bool
         requires { self.now.failed ≡ false }
         ensures { IsTrue result ↔ (self.now.taken ≡ length self.now.bytes) }

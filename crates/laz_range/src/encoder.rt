@@ -8,11 +8,11 @@ use crate::limits::{BIT_PARTS, MAX_LENGTH, MAX_RAW_BITS, SYMBOL_PARTS};
 use crate::output::{Output, end, narrow};
 use std::marker::Model;
 
-/// Writes events into a room that it is given.
+/// Writes events into a vector that it is given, its room.
 ///
 /// Contracts see it as the bytes before the place where it began to write, as the span of its events (low, len and
-/// shifts, where low has no upper bound), and as `left`: how many bytes more its room has, beside the four that end
-/// the stream. An event takes three bytes at most, and a raw value of more than 19 bits, which is two events, four.
+/// shifts; low has no upper bound), and as `left`: how many more bytes its room has, besides the four that end the
+/// stream. An event takes at most three bytes. A raw value of more than 19 bits is two events and takes at most four.
 #[derive(Drop)]
 pub struct Encoder {
     output: Output,
@@ -31,7 +31,7 @@ impl Model for Encoder {
 }
 
 impl Encoder {
-    /// An encoder without events, which writes into `room` from `at` on.
+    /// Makes an encoder without events that writes into `room` from `at` on.
     pub fn with_room(room: Vec<u8>, at: usize) -> Self
         requires { at + 4 ≤ length room.items }
         ensures span { result.span ≡ initial_span }
@@ -49,8 +49,8 @@ impl Encoder {
         }
     }
 
-    /// Codes a symbol, whose part is from `lo` up to `hi` of 2^15. The last symbol of a distribution has `hi` 32,768
-    /// and gets what the division of the interval by 2^15 leaves, too.
+    /// Codes a symbol whose part is from `lo` up to `hi` of 2^15 parts. The last symbol of a distribution has a `hi` of
+    /// 32,768 and also gets what the division of the interval by 2^15 leaves.
     pub fn cut15(&mut self, lo: u32, hi: u32)
         requires part { lo < hi }
         requires whole { hi ≤ SYMBOL_PARTS }
@@ -67,7 +67,7 @@ impl Encoder {
         narrow(&mut self.output, from, width);
     }
 
-    /// Codes a bit, of which 0 has the first `p0` of 2^13 parts.
+    /// Codes a bit, where 0 has the first `p0` of 2^13 parts.
     pub fn cut13(&mut self, p0: u32, bit: bool)
         requires some { 0 < p0 }
         requires part { p0 < BIT_PARTS }
@@ -83,8 +83,8 @@ impl Encoder {
         }
     }
 
-    /// Codes the raw value `v` of `bits` bits, 1 to 32. One of more than 19 bits is coded as its low 16 bits and then
-    /// the rest.
+    /// Codes the raw value `v` of `bits` bits, 1 to 32. A value of more than 19 bits is coded as its low 16 bits and
+    /// then the rest.
     pub fn raw(&mut self, bits: u32, v: u32)
         requires some { 0 < bits }
         requires few { bits ≤ 32 }
@@ -101,7 +101,7 @@ impl Encoder {
         }
     }
 
-    /// Codes a raw value of at most 19 bits. One of at most 16 bits takes two bytes at most.
+    /// Codes a raw value of at most 19 bits, which is one event. One of at most 16 bits takes at most two bytes.
     fn raw_part(&mut self, bits: u32, v: u32)
         requires some { 0 < bits }
         requires few { bits ≤ MAX_RAW_BITS }
@@ -115,10 +115,11 @@ impl Encoder {
         narrow(&mut self.output, v * unit, unit);
     }
 
-    /// Ends the stream. Gives the room back, and how many bytes were written from `at` on.
+    /// Ends the stream. Returns the room and how many bytes were written from `at` on.
     pub fn finish(self) -> (Vec<u8>, usize)
         ensures count { result.1 ≡ self.span.shifts + 4 }
-        ensures bytes { slice_range result.0.items (length self.before) (length self.before + result.1) ≡ bytes_of self.span }
+        ensures bytes { let at = length self.before
+            in slice_range result.0.items at (at + result.1) ≡ bytes_of self.span }
         ensures fits { Fits self.span (bytes_of self.span) }
         ensures front { take (length self.before + result.1) result.0.items ≡ self.before ++ bytes_of self.span }
         ensures before { take (length self.before) result.0.items ≡ self.before }

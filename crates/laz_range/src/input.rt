@@ -1,16 +1,16 @@
-//! The bytes of a decoder, and where in them it is.
+//! The bytes of a decoder, and how far it has come in them.
 ghost use Rattle.std.specs.Prelude.{◌≡◌, ℕ, ◌+◌, ◌*◌, ◌<◌, ◌≤◌, OnOk, length};
 ghost use Rattle.laz_range.specs.Reading.{refill_step, reading_after_part};
 ghost use Rattle.laz_range.specs.Input.{input_reading, Gives};
 
 use crate::limits::MIN_LENGTH;
 
-/// The bytes run out, or a raw value is none: nothing that was asked for begins what is left of the bytes.
+/// No event of the kind asked for begins the rest of the bytes: they run out, or they spell no such raw value.
 #[derive(Clone, Copy, Debug, PartialEq, Eq)]
 pub struct Bad;
 
-/// `taken` bytes are read. Their number lies `value` above the interval's low end, and `length` is how long it is.
-// `value` and `length` do not lie side by side: written apart and read as one, they would stall the store buffer.
+/// `taken` bytes are taken. Their number lies `value` above the low end of the interval, whose length is `length`.
+// `value` and `length` are not neighbours: written one by one and read as one word, they would stall the store buffer.
 #[derive(Drop)]
 pub struct Input<'a> {
     pub bytes: &'a [u8],
@@ -19,7 +19,7 @@ pub struct Input<'a> {
     pub length: u32,
 }
 
-/// Reads a byte, where the length is below 2^24.
+/// Takes a byte if the length is below 2^24.
 fn refill(input: &mut Input<'_>) -> Result<(), Bad>
     requires within { input.old.taken ≤ length input.old.bytes.now }
     requires below { input.old.value < input.old.length }
@@ -42,7 +42,7 @@ fn refill(input: &mut Input<'_>) -> Result<(), Bad>
     Ok(())
 }
 
-/// Goes on behind the part that begins at `from` and has length `width`, which the value lies in.
+/// Goes on after the part that begins at `from` and has length `width`, which the value lies in.
 pub fn advance(input: &mut Input<'_>, from: u32, width: u32) -> Result<(), Bad>
     requires within { input.old.taken ≤ length input.old.bytes.now }
     requires above { from ≤ input.old.value }

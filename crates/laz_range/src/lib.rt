@@ -1,9 +1,9 @@
 //! The range coder of LAZ: events into bytes, and bytes into events.
 //!
-//! An [`Encoder`] keeps an interval of numbers and cuts, for each event, the event's part out of it; at the end it
-//! writes one number of what is left. A [`Decoder`] follows the same parts from that number. An event is a symbol,
-//! whose part is given in units of 2^-15 of the interval, a bit, whose part is given in units of 2^-13, or a raw value
-//! of 1 to 32 bits. Carries are exact however long the run of bytes 255 is that they go through.
+//! An [`Encoder`] keeps an interval of numbers. Each event cuts its part out of the interval, and at the end the
+//! encoder writes one number of what is left. A [`Decoder`] follows the same parts from that number. An event is a
+//! symbol, which has some of 2^15 parts of the interval, a bit, which has some of 2^13 parts, or a raw value of 1 to 32
+//! bits. A carry is exact however many bytes of 255 it runs through.
 //!
 //! The coder is that of A. Said, "Introduction to Arithmetic Coding" (HP Laboratories 2004), as M. Isenburg, "LASzip:
 //! lossless compression of LiDAR data" (PE&RS 2013) uses it.

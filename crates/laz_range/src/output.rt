@@ -1,4 +1,4 @@
-//! What an encoder has written, and the interval that it is in.
+//! The bytes of an encoder, and its present interval.
 ghost use Rattle.std.specs.Prelude.{◌≡◌, ℕ, ◌+◌, ◌*◌, ◌^◌, ◌<◌, ◌≤◌, ◌-◌, length, take, drop};
 ghost use Rattle.laz_range.specs.Span.{renormal_step, subspan, IsSpan, number, bytes_of, final_number, IsBytes};
 ghost use Rattle.laz_range.specs.Output.{span_of, span_from, written_bytes, HasRoom, Writes};
@@ -6,9 +6,9 @@ ghost use Rattle.laz_range.specs.Output.{span_of, span_from, written_bytes, HasR
 use crate::carry::carry_between;
 use crate::limits::MIN_LENGTH;
 
-/// The bytes from `at` up to `next` are written. They and the 32 bits of `base` spell the interval's low end, and
-/// `length` is how long it is.
-// `base` and `length` do not lie side by side: written apart and read as one, they would stall the store buffer.
+/// The bytes from `at` up to `next` are written. They and the 32 bits of `base` spell the low end of the interval,
+/// whose length is `length`.
+// `base` and `length` are not neighbours: written one by one and read as one word, they would stall the store buffer.
 #[derive(Drop)]
 pub struct Output {
     pub bytes: Vec<u8>,
@@ -18,7 +18,7 @@ pub struct Output {
     pub length: u32,
 }
 
-/// Writes the top byte of the base, where the length is below 2^24.
+/// Writes the top byte of the base if the length is below 2^24.
 fn renormalize(output: &mut Output)
     requires placed { HasRoom output.old }
     requires left { output.old.length < MIN_LENGTH → output.old.next + 5 ≤ length output.old.bytes.items }
@@ -34,7 +34,7 @@ fn renormalize(output: &mut Output)
     }
 }
 
-/// Adds to the base, and carries into the bytes that are written.
+/// Adds to the base, with a carry into the bytes that are written.
 fn add(output: &mut Output, from: u32)
     requires placed { HasRoom output.old }
     requires within { (span_of output.old).low + from < 256 ^ ((span_of output.old).shifts + 4) }
@@ -66,7 +66,7 @@ pub fn narrow(output: &mut Output, from: u32, width: u32)
     output.length = width;
     renormalize(output);
     renormalize(output);
-    renormalize(output); // a part of one number asks for three bytes
+    renormalize(output); // a part of one number needs three bytes
 }
 
 /// Writes a byte.
@@ -74,19 +74,21 @@ fn put(bytes: &mut Vec<u8>, at: usize, next: usize, byte: u8)
     requires order { at ≤ next }
     requires within { next < length bytes.old.items }
     ensures bytes { IsBytes bytes.new.items }
-    ensures number { number (drop at (take (next + 1) bytes.new.items)) ≡ number (drop at (take next bytes.old.items)) * 256 + byte }
+    ensures number { number (drop at (take (next + 1) bytes.new.items))
+        ≡ number (drop at (take next bytes.old.items)) * 256 + byte }
     ensures before { take at bytes.new.items ≡ take at bytes.old.items }
     ensures length { length bytes.new.items ≡ length bytes.old.items }
 {
     bytes[next] = byte;
 }
 
-/// Writes four bytes, the greatest first.
+/// Writes the four bytes of a word, most significant first.
 fn put_word(bytes: &mut Vec<u8>, at: usize, next: usize, word: u32)
     requires order { at ≤ next }
     requires within { next + 4 ≤ length bytes.old.items }
     ensures bytes { IsBytes bytes.new.items }
-    ensures number { number (drop at (take (next + 4) bytes.new.items)) ≡ number (drop at (take next bytes.old.items)) * 4294967296 + word }
+    ensures number { number (drop at (take (next + 4) bytes.new.items))
+        ≡ number (drop at (take next bytes.old.items)) * 4294967296 + word }
     ensures before { take at bytes.new.items ≡ take at bytes.old.items }
     ensures length { length bytes.new.items ≡ length bytes.old.items }
 {
@@ -96,7 +98,7 @@ fn put_word(bytes: &mut Vec<u8>, at: usize, next: usize, word: u32)
     put(bytes, at, next + 3, (word & 0xff) as u8);
 }
 
-/// The last four bytes, after the carry into those that are written.
+/// Adds what ends the stream, with its carry, and returns the last four bytes.
 fn last_word(output: &mut Output) -> u32
     requires placed { HasRoom output.old }
     requires reached { IsSpan (span_of output.old) }
@@ -112,7 +114,7 @@ fn last_word(output: &mut Output) -> u32
     output.base >> 16 << 16
 }
 
-/// Ends the stream. Gives the bytes, and how many of them were written from `at` on.
+/// Ends the stream. Returns the bytes and how many of them were written from `at` on.
 pub fn end(mut output: Output) -> (Vec<u8>, usize)
     requires placed { HasRoom output }
     requires reached { IsSpan (span_of output) }

@@ -4,7 +4,7 @@ ghost use Rattle.std.specs.Prelude.{◌≡◌, ◌+◌, ◌*◌, ◌<◌, ◌≤
 use crate::{Bad, Decoder, Encoder};
 use std::test::Fail;
 
-/// The next of a row of draws: the upper half of a linear congruence modulo 2^64.
+/// The next of a sequence of draws: the upper half of a linear congruence modulo 2^64.
 fn draw(state: &mut u64) -> u32 {
     *state = state
         .wrapping_mul(6364136223846793005)
@@ -12,7 +12,7 @@ fn draw(state: &mut u64) -> u32 {
     (*state >> 32) as u32
 }
 
-/// A part of a symbol, at times as narrow as it can be.
+/// The part of a symbol, sometimes as narrow as possible.
 fn draw_part(state: &mut u64) -> (u32, u32)
     ensures part { result.0 < result.1 }
     ensures whole { result.1 ≤ 32768 }
@@ -67,7 +67,7 @@ fn put_next(encoder: &mut Encoder, state: &mut u64)
     }
 }
 
-/// Reads the event that the draws say, and tells whether it was that one.
+/// Reads an event, and says whether it is the one that the draws give.
 fn take_next(decoder: &mut Decoder<'_>, state: &mut u64) -> Result<bool, Bad>
     requires { decoder.old.failed ≡ false }
     ensures { OnOk result (decoder.new.failed ≡ false) }
@@ -102,7 +102,7 @@ fn put_all(encoder: &mut Encoder, count: u32)
     }
 }
 
-/// How many events are those of the draws, from the first on.
+/// How many events, from the first on, are those of the draws.
 fn take_all(decoder: &mut Decoder<'_>, count: u32) -> Result<u32, Bad>
     requires { decoder.old.failed ≡ false }
     ensures { OnOk result (decoder.new.failed ≡ false) }
@@ -136,7 +136,8 @@ fn ten_thousand_events_are_read_again(rt: HostRuntime) -> Result<(), Fail> {
     Ok(())
 }
 
-// The last row has 40 bytes 255 out before the carry. Its bytes are those of the exact interval, computed apart.
+// In the last row the carry comes after 40 bytes of 255. The expected bytes are computed apart, from the exact
+// interval.
 #[test]
 fn raw_values_make_these_bytes(rt: HostRuntime) -> Result<(), Fail> {
     let long: [u8; 42] = [
