@@ -2,7 +2,6 @@
 use Rattle.std.proofs.Common.{◌≡◌, ℕ, ◌+◌, ◌<◌, ◌≤◌, List, [], ◌∷◌, ◌++◌, length, map, get_or, refl, sym, ap, ◌∙◌, arith, ⊎_elim}
 use Rattle.std.proofs.lemmas.Bool.{cases_lt}
 use Rattle.std.proofs.lemmas.List.{length-map, length_push, get_or-map, get_or_push, get_or_append_left, get_or_default, same_lists}
-use Rattle.std.proofs.lemmas.List.Edits.{length-between}
 use Rattle.laz_models.specs.Bank.{alphabet_sizes}
 use Rattle.laz_models.specs.Counting.{Counting, new_model}
 use Rattle.laz_models.specs.Dist.{alphabet_size}

@@ -146,4 +146,4 @@ ReadsOn-then xs ys a b c f g events read =
 
 -- ---- writing
 pub Codes-none : (a : Coding) → Codes a a []
-Codes-none a = record { span = refl; before = refl; room = refl; used = omega arith }
+Codes-none a = record { span = refl; before = refl; left = refl; used = omega arith }

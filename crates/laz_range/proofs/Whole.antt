@@ -61,6 +61,6 @@ Codes-append a b c xs ys f g =
     record {
       span = g.span ∙ (ap (λ s. after s ys) f.span ∙ sym (after-append a.span xs ys));
       before = g.before ∙ f.before;
-      room = omega (arith, f.room, g.room);
+      left = omega (arith, f.left, g.left);
       used = omega (arith, f.used, g.used, length-append xs ys);
     }

@@ -14,5 +14,5 @@ pub record Coding : Type 0 where
 pub record Codes (old new : Coding) (events : List Cut) : Type 0 where
   pub span : new.span ≡ after old.span events
   pub before : new.before ≡ old.before
-  pub room : new.left + new.span.shifts ≡ old.left + old.span.shifts
+  pub left : new.left + new.span.shifts ≡ old.left + old.span.shifts
   pub used : old.left ≤ new.left + 3 * length events

@@ -123,7 +123,7 @@ impl Encoder {
         ensures fits { Fits self.span (bytes_of self.span) }
         ensures front { take (length self.before + result.1) result.0.items ≡ self.before ++ bytes_of self.span }
         ensures before { take (length self.before) result.0.items ≡ self.before }
-        ensures room { length result.0.items ≡ length self.before + result.1 + self.left }
+        ensures length { length result.0.items ≡ length self.before + result.1 + self.left }
     {
         let Encoder { output } = self;
         end(output)
