@@ -1,7 +1,8 @@
 //! Integers of 32 bits under 2 contexts, with small correctors: each is predicted by the one before it.
 ghost use Rattle.std.specs.Prelude.{◌≡◌, ◌*◌, ◌≤◌, false};
 
-use crate::draws::{add, checksum, draw};
+use crate::draws::{add, draw};
+use crate::report::{Coded, Read, print};
 use anyhow::{Result, bail};
 use laz_integer::IntModel;
 use laz_range::{Bad, Decoder, Encoder};
@@ -49,30 +50,37 @@ fn read_all(decoder: &mut Decoder<'_>, model: &mut IntModel, count: u32) -> Resu
     Ok(sum)
 }
 
-pub fn run(rt: &(impl Print + Eprint + Clock + Alloc<A = Global>), count: u32) -> Result<()> {
+fn code(rt: &(impl Clock + Alloc<A = Global>), count: u32) -> Result<Coded> {
     let alloc = rt.alloc();
     let mut model = IntModel::new(alloc, 32, 2)?;
     let mut encoder = Encoder::with_room(vec![in alloc; 0; 12 * count as usize + 4]?, 0);
     let start = Instant::now(rt)?;
-    let written = code_all(&mut encoder, &mut model, count);
-    let coded = start.elapsed(rt)?;
+    let sum = code_all(&mut encoder, &mut model, count);
+    let time = start.elapsed(rt)?;
     let (room, size) = encoder.finish();
-    let bytes = &room[..size];
-    println!(rt; "{size} bytes, checksum {}", checksum(bytes))?;
+    Ok(Coded {
+        room,
+        size,
+        sum,
+        time,
+    })
+}
+
+fn read(rt: &(impl Clock + Alloc<A = Global>), bytes: &[u8], count: u32) -> Result<Read> {
+    let mut model = IntModel::new(rt.alloc(), 32, 2)?;
     let Ok(mut decoder) = Decoder::new(bytes) else {
         bail!("no events");
     };
-    let mut model = IntModel::new(alloc, 32, 2)?;
     let start = Instant::now(rt)?;
     let Ok(sum) = read_all(&mut decoder, &mut model, count) else {
         bail!("the bytes run out");
     };
-    let read = start.elapsed(rt)?;
-    println!(rt; "integers, checksum {sum}, {written}")?;
-    eprintln!(rt;
-        "code {} ns, read {} ns, {count} integers",
-        coded.as_nanos(),
-        read.as_nanos()
-    )?;
-    Ok(())
+    let time = start.elapsed(rt)?;
+    Ok(Read { sum, time })
+}
+
+pub fn run(rt: &(impl Print + Eprint + Clock + Alloc<A = Global>), count: u32) -> Result<()> {
+    let coded = code(rt, count)?;
+    let read = read(rt, &coded.room[..coded.size], count)?;
+    print(rt, "integers", "integers", &coded, &read, count)
 }

@@ -1,9 +1,10 @@
 //! Symbols of 256 through a bank of models, each under the model that the one before it chooses.
-ghost use Rattle.std.specs.Prelude.{◌≡◌, ◌*◌, ◌≤◌, false, length, replicate};
+ghost use Rattle.std.specs.Prelude.{◌≡◌, ◌*◌, ◌^◌, ◌<◌, ◌≤◌, false, length, replicate};
 ghost use Rattle.laz_models.specs.Bank.{alphabet_sizes};
 
 use crate::draws::{add, checksum};
-use crate::range::{are_starts, drawn, located, locates, skewed};
+use crate::report::{Coded, Read, print};
+use crate::starts::prepare;
 use anyhow::{Result, bail};
 use laz_integer::{put_symbol_of, take_symbol_of};
 use laz_models::ModelBank;
@@ -38,39 +39,41 @@ fn read_all(decoder: &mut Decoder<'_>, bank: &mut ModelBank, count: u32) -> Resu
     Ok(sum)
 }
 
-pub fn run(rt: &(impl Print + Eprint + Clock + Alloc<A = Global>), count: u32) -> Result<()> {
+fn code(rt: &(impl Clock + Alloc<A = Global>), symbols: &[u8]) -> Result<Coded>
+    requires { length symbols.now < 2 ^ 32 }
+{
     let alloc = rt.alloc();
-    let starts = skewed(alloc)?;
-    if !are_starts(&starts) {
-        bail!("no starts");
-    }
-    let table = located(alloc, &starts)?;
-    if !locates(&starts, &table) {
-        bail!("no table");
-    }
-    let symbols = drawn(alloc, &table, count)?;
     let mut bank = ModelBank::new(alloc, &[256; 8])?;
     let mut encoder = Encoder::with_room(vec![in alloc; 0; 3 * symbols.len() + 4]?, 0);
     let start = Instant::now(rt)?;
-    code_all(&mut encoder, &mut bank, &symbols);
-    let coded = start.elapsed(rt)?;
+    code_all(&mut encoder, &mut bank, symbols);
+    let time = start.elapsed(rt)?;
     let (room, size) = encoder.finish();
-    let bytes = &room[..size];
-    println!(rt; "{size} bytes, checksum {}", checksum(bytes))?;
+    let sum = checksum(symbols);
+    Ok(Coded {
+        room,
+        size,
+        sum,
+        time,
+    })
+}
+
+fn read(rt: &(impl Clock + Alloc<A = Global>), bytes: &[u8], count: u32) -> Result<Read> {
+    let mut bank = ModelBank::new(rt.alloc(), &[256; 8])?;
     let Ok(mut decoder) = Decoder::new(bytes) else {
         bail!("no events");
     };
-    let mut bank = ModelBank::new(alloc, &[256; 8])?;
     let start = Instant::now(rt)?;
     let Ok(sum) = read_all(&mut decoder, &mut bank, count) else {
         bail!("the bytes run out");
     };
-    let read = start.elapsed(rt)?;
-    println!(rt; "symbols, checksum {sum}, {}", checksum(&symbols))?;
-    eprintln!(rt;
-        "code {} ns, read {} ns, {count} symbols",
-        coded.as_nanos(),
-        read.as_nanos()
-    )?;
-    Ok(())
+    let time = start.elapsed(rt)?;
+    Ok(Read { sum, time })
+}
+
+pub fn run(rt: &(impl Print + Eprint + Clock + Alloc<A = Global>), count: u32) -> Result<()> {
+    let drawn = prepare(rt.alloc(), count)?;
+    let coded = code(rt, &drawn.symbols)?;
+    let read = read(rt, &coded.room[..coded.size], count)?;
+    print(rt, "symbols", "symbols", &coded, &read, count)
 }

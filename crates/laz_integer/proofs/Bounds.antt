@@ -1,13 +1,13 @@
 -- How many events and parts there are, and how many bytes they take. Meant for the crates of items and chunks, too.
 use Rattle.std.proofs.Common.{◌+◌, ◌≡◌, ℕ, ◌-◌, ◌%◌, ◌^◌, ◌<◌, ◌≤◌, Bool, true, false, List, [], ◌∷◌, ◌++◌, length, ap, arith, lit≤, ⊎_elim}
 use Rattle.std.proofs.lemmas.Bool.{cases_lt}
-use Rattle.laz_integer.specs.Events.{Symbol, Event, cuts_behind, raw_events}
+use Rattle.laz_integer.specs.Events.{Symbol, Event, cuts_after, raw_events}
 use Rattle.laz_integer.specs.Integer.{IntSpell, corrector_events, width_name}
 use Rattle.laz_integer.specs.Fields.{SpellsByte, SpellsWord}
 use Rattle.laz_integer.proofs.Named.{raw-wide, raw-short}
 use Rattle.laz_integer.proofs.Cases.{by-width}
 
-pub length-cuts : (earlier events : List Event) → length (cuts_behind earlier events) ≡ length events
+pub length-cuts : (earlier events : List Event) → length (cuts_after earlier events) ≡ length events
 length-cuts earlier [] = omega arith
 length-cuts earlier (e ∷ events) = omega (arith, length-cuts (earlier ++ e ∷ []) events)
 

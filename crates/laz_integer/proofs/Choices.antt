@@ -9,7 +9,7 @@ use Rattle.laz_range.specs.Reading.{follow_all}
 use Rattle.laz_range.specs.Decoding.{Decoding, Takes, TakesNone, Reads, reading_of}
 use Rattle.laz_range.proofs.Composition.{Takes-then, TakesNone-first, TakesNone-second, Takes-empty}
 use Rattle.laz_integer.specs.Corrector.{choices}
-use Rattle.laz_integer.specs.Integer.{IntState, symbol_cut, high_at, symbol_counted, flag_counted, rest_events, events_cuts, events_next}
+use Rattle.laz_integer.specs.Integer.{IntState, symbol_cut, high_at, symbol_next, flag_next, rest_events, events_cuts, events_next}
 use Rattle.laz_integer.proofs.Cases.{events-zero, events-most, events-narrow, events-wide}
 use Rattle.laz_integer.proofs.Named.{events_cuts-raw, events_next-raw}
 
@@ -149,7 +149,7 @@ zero-none st a b h =
 pub cuts-wide : (st : IntState) (k v : ℕ) → 8 < k → k < 32 → rest_cuts st k v ≡ wide_cuts st k v
 cuts-wide st k v wide small =
     ap (events_cuts st) (events-wide [] k v wide small)
-    ∙ ap (λ l. symbol_cut (high_at st k) (v / 2 ^ (k - 8)) ∷ l) (events_cuts-raw (symbol_counted st (st.contexts + (k - 1)) (v / 2 ^ (k - 8))) (k - 8) (v % 2 ^ (k - 8)))
+    ∙ ap (λ l. symbol_cut (high_at st k) (v / 2 ^ (k - 8)) ∷ l) (events_cuts-raw (symbol_next st (st.contexts + (k - 1)) (v / 2 ^ (k - 8))) (k - 8) (v % 2 ^ (k - 8)))
 
 pub cuts-narrow : (st : IntState) (k v : ℕ) → 0 < k → k ≤ 8 → rest_cuts st k v ≡ symbol_cut (high_at st k) v ∷ []
 cuts-narrow st k v some narrow = ap (events_cuts st) (events-narrow [] k v some narrow)
@@ -157,15 +157,15 @@ cuts-narrow st k v some narrow = ap (events_cuts st) (events-narrow [] k v some 
 pub cuts-most : (st : IntState) (v : ℕ) → rest_cuts st 32 v ≡ []
 cuts-most st v = ap (events_cuts st) (events-most [] v)
 
-pub next-wide : (st : IntState) (k v : ℕ) → 8 < k → k < 32 → rest_next st k v ≡ symbol_counted st (st.contexts + (k - 1)) (v / 2 ^ (k - 8))
+pub next-wide : (st : IntState) (k v : ℕ) → 8 < k → k < 32 → rest_next st k v ≡ symbol_next st (st.contexts + (k - 1)) (v / 2 ^ (k - 8))
 next-wide st k v wide small =
     ap (events_next st) (events-wide [] k v wide small)
-    ∙ events_next-raw (symbol_counted st (st.contexts + (k - 1)) (v / 2 ^ (k - 8))) (k - 8) (v % 2 ^ (k - 8))
+    ∙ events_next-raw (symbol_next st (st.contexts + (k - 1)) (v / 2 ^ (k - 8))) (k - 8) (v % 2 ^ (k - 8))
 
-pub next-narrow : (st : IntState) (k v : ℕ) → 0 < k → k ≤ 8 → rest_next st k v ≡ symbol_counted st (st.contexts + (k - 1)) v
+pub next-narrow : (st : IntState) (k v : ℕ) → 0 < k → k ≤ 8 → rest_next st k v ≡ symbol_next st (st.contexts + (k - 1)) v
 next-narrow st k v some narrow = ap (events_next st) (events-narrow [] k v some narrow)
 
-pub next-zero : (st : IntState) (v : ℕ) → rest_next st 0 v ≡ flag_counted st (eqb v 1)
+pub next-zero : (st : IntState) (v : ℕ) → rest_next st 0 v ≡ flag_next st (eqb v 1)
 next-zero st v = ap (events_next st) (events-zero [] v)
 
 pub next-most : (st : IntState) (v : ℕ) → rest_next st 32 v ≡ st

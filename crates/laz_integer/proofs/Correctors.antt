@@ -7,7 +7,7 @@ use lib.Count.{count_leading_zeros}
 use Rattle.std.specs.Int.Count.{leading_of_zero}
 use Rattle.std.specs.Int.{w32, cast_signed, cast_unsigned}
 use Rattle.std.proofs.lemmas.Int.{of_z-to_z}
-use Rattle.laz_integer.specs.Corrector.{choices, corrector, digits_of, digits_within, width_of, place_of}
+use Rattle.laz_integer.specs.Corrector.{choices, corrector, digits_of, digits_within, width_of, corrector_index}
 
 -- ---- how many correctors there are
 pub choices-more : (k : ℕ) → 0 < k → k < 32 → choices k ≡ 2 ^ k
@@ -120,7 +120,7 @@ most bits size d half some few h more fits e least =
 -- ---- what a corrector comes to
 pub record IsSplit (bits d k v : ℕ) : Type 0 where
   pub width : k ≡ width_of bits d
-  pub place : v ≡ place_of bits d k
+  pub index : v ≡ corrector_index bits d k
   pub digits : k ≤ bits
   pub value : v < choices k
   pub makes : corrector bits k v ≡ d
@@ -133,23 +133,23 @@ width-down : (bits d : ℕ) → 2 ^ (bits - 1) ≤ d → width_of bits d ≡ dig
 unfolding width_of
 width-down bits d h = cond-false (ltb d (2 ^ (bits - 1))) _ _ (le-ltb d (2 ^ (bits - 1)) h)
 
-place-zero : (bits d : ℕ) → place_of bits d 0 ≡ d
-unfolding place_of
-place-zero bits d = refl
+index-zero : (bits d : ℕ) → corrector_index bits d 0 ≡ d
+unfolding corrector_index
+index-zero bits d = refl
 
-place-most : (bits d : ℕ) → place_of bits d 32 ≡ 0
-unfolding place_of
-place-most bits d = refl
+index-most : (bits d : ℕ) → corrector_index bits d 32 ≡ 0
+unfolding corrector_index
+index-most bits d = refl
 
-place-up : (bits d k : ℕ) → 0 < k → k < 32 → d < 2 ^ (bits - 1) → place_of bits d k ≡ d - 1
-unfolding place_of
-place-up bits d k some small h =
+index-up : (bits d k : ℕ) → 0 < k → k < 32 → d < 2 ^ (bits - 1) → corrector_index bits d k ≡ d - 1
+unfolding corrector_index
+index-up bits d k some small h =
     cond-false (eqb k 0) _ _ (ne_eqb k 0 (λ e. omega arith))
     ∙ (cond-false (eqb k 32) _ _ (ne_eqb k 32 (λ e. omega arith)) ∙ cond-true (ltb d (2 ^ (bits - 1))) _ _ (lt-ltb d (2 ^ (bits - 1)) h))
 
-place-down : (bits d k : ℕ) → 0 < k → k < 32 → 2 ^ (bits - 1) ≤ d → place_of bits d k ≡ 2 ^ k - 1 - (2 ^ bits - d)
-unfolding place_of
-place-down bits d k some small h =
+index-down : (bits d k : ℕ) → 0 < k → k < 32 → 2 ^ (bits - 1) ≤ d → corrector_index bits d k ≡ 2 ^ k - 1 - (2 ^ bits - d)
+unfolding corrector_index
+index-down bits d k some small h =
     cond-false (eqb k 0) _ _ (ne_eqb k 0 (λ e. omega arith))
     ∙ (cond-false (eqb k 32) _ _ (ne_eqb k 32 (λ e. omega arith)) ∙ cond-false (ltb d (2 ^ (bits - 1))) _ _ (le-ltb d (2 ^ (bits - 1)) h))
 
@@ -158,7 +158,7 @@ unfolding choices
 split-small bits d h small =
     record {
       width = let none : d - 1 ≡ 0 = omega arith in let zeros : digits_of (d - 1) ≡ digits_of 0 = ap digits_of none in sym (width-up bits d h ∙ (zeros ∙ digits-zero 32));
-      place = sym (place-zero bits d);
+      index = sym (index-zero bits d);
       digits = omega arith;
       value = small;
       makes = corrector-zero bits d;
@@ -172,7 +172,7 @@ split-up bits k size d some few less e one least above is =
     let size_is : d - 1 ≡ size = omega arith in
     record {
       width = is ∙ sym (width-up bits d less ∙ ap digits_of size_is);
-      place = sym (place-up bits d k one (omega (arith, differs, all.0)) less ∙ size_is);
+      index = sym (index-up bits d k one (omega (arith, differs, all.0)) less ∙ size_is);
       digits = all.0;
       value = all.1;
       makes = all.2;
@@ -185,7 +185,7 @@ split-down bits k size v d some few more fits e one small least above f is =
     let size_is : 2 ^ bits - d ≡ size = omega arith in
     record {
       width = is ∙ sym (width-down bits d more ∙ ap digits_of size_is);
-      place = f ∙ sym (place-down bits d k one small more ∙ ap (λ n. 2 ^ k - 1 - n) size_is);
+      index = f ∙ sym (index-down bits d k one small more ∙ ap (λ n. 2 ^ k - 1 - n) size_is);
       digits = all.0;
       value = all.1;
       makes = all.2;
@@ -200,7 +200,7 @@ split-most bits k size d some few more fits e least full is =
     let size_is : 2 ^ bits - d ≡ size = omega arith in
     record {
       width = sym full ∙ (is ∙ sym (width-down bits d more ∙ ap digits_of size_is));
-      place = sym (place-most bits d);
+      index = sym (index-most bits d);
       digits = all.0;
       value = lit< tt;
       makes = all.1;

@@ -3,7 +3,7 @@ use Rattle.laz_range.specs.Span.{span, bytes_of, renormal_step, subspan}
 use Rattle.laz_models.specs.Counting.{starts_of}
 use Rattle.laz_models.specs.Cycles.{cycle_in}
 use Rattle.laz_models.specs.Dist.{counts_at}
-use Rattle.laz_integer.specs.Corrector.{digits_within, width_of, place_of, corrector, corrected}
+use Rattle.laz_integer.specs.Corrector.{digits_within, width_of, corrector_index, corrector, corrected}
 use Rattle.laz_integer.specs.Events.{Symbol, Flag, Bits, cuts_of}
 use Rattle.laz_integer.specs.Integer.{IntEvents, width_name, bit_name, high_name, rest_events}
 
@@ -13,43 +13,43 @@ x = 120 ∷ []
 
 -- the least corrector of 32 bits: its width alone
 least : IntEvents x 32 0 (pos 0) (negsuc 2147483647) ≡ Symbol (width_name x 0) 33 32 ∷ []
-unfolding digits_within width_of place_of rest_events
+unfolding digits_within width_of corrector_index rest_events
 least = refl
 
 least_bytes : bytes_of (span (cuts_of (IntEvents x 32 0 (pos 0) (negsuc 2147483647)))) ≡ 249 ∷ 0 ∷ 0 ∷ 0 ∷ []
-unfolding digits_within width_of place_of rest_events renormal_step subspan starts_of counts_at cycle_in
+unfolding digits_within width_of corrector_index rest_events renormal_step subspan starts_of counts_at cycle_in
 least_bytes = refl
 
 -- a corrector of 2 ^ 20
 twenty : IntEvents x 32 1 (pos 0) (pos 1048576) ≡ Symbol (width_name x 1) 33 20 ∷ Symbol (high_name x 20) 256 255 ∷ Bits 12 4095 ∷ []
-unfolding digits_within width_of place_of rest_events
+unfolding digits_within width_of corrector_index rest_events
 twenty = refl
 
 -- the greatest corrector: 23 raw bits, in 16 and 7
 greatest : IntEvents x 32 0 (pos 0) (pos 2147483647) ≡ Symbol (width_name x 0) 33 31 ∷ Symbol (high_name x 31) 256 255 ∷ Bits 16 65534 ∷ Bits 7 127 ∷ []
-unfolding digits_within width_of place_of rest_events
+unfolding digits_within width_of corrector_index rest_events
 greatest = refl
 
 -- 65,535 with 16 bits is a corrector of -1
 minus_one : IntEvents x 16 0 (pos 0) (pos 65535) ≡ Symbol (width_name x 0) 17 1 ∷ Symbol (high_name x 1) 2 0 ∷ []
-unfolding digits_within width_of place_of rest_events
+unfolding digits_within width_of corrector_index rest_events
 minus_one = refl
 
 minus_one_bytes : bytes_of (span (cuts_of (IntEvents x 16 0 (pos 0) (pos 65535)))) ≡ 16 ∷ 0 ∷ 0 ∷ 0 ∷ []
-unfolding digits_within width_of place_of rest_events renormal_step subspan starts_of counts_at cycle_in
+unfolding digits_within width_of corrector_index rest_events renormal_step subspan starts_of counts_at cycle_in
 minus_one_bytes = refl
 
 -- correctors of 0, 1, 2 and -1: the bit 0, the bit 1, width 1 and width 1
 zero_is : IntEvents x 32 0 (pos 7) (pos 7) ≡ Symbol (width_name x 0) 33 0 ∷ Flag (bit_name x) false ∷ []
-unfolding digits_within width_of place_of rest_events
+unfolding digits_within width_of corrector_index rest_events
 zero_is = refl
 
 one_is : IntEvents x 32 0 (pos 7) (pos 8) ≡ Symbol (width_name x 0) 33 0 ∷ Flag (bit_name x) true ∷ []
-unfolding digits_within width_of place_of rest_events
+unfolding digits_within width_of corrector_index rest_events
 one_is = refl
 
 two_is : IntEvents x 32 0 (pos 7) (pos 9) ≡ Symbol (width_name x 0) 33 1 ∷ Symbol (high_name x 1) 2 1 ∷ []
-unfolding digits_within width_of place_of rest_events
+unfolding digits_within width_of corrector_index rest_events
 two_is = refl
 
 -- read again: the lower half is below the prediction, the upper half above it

@@ -2,7 +2,7 @@ use Rattle.std.proofs.Common.{◌≡◌, ℕ, ◌-◌, ◌/◌, ◌%◌, ◌<◌
 use Rattle.std.proofs.lemmas.Bool.{cases_lt, cond-true, cond-false, eq-eqb, ne_eqb, and_from, and_left, lt-ltb, le-ltb}
 use Rattle.std.proofs.lemmas.List.{append-nil}
 use Rattle.laz_range.specs.Cut.{raw_cuts}
-use Rattle.laz_integer.specs.Events.{Event, Symbol, Flag, Bits, Name, same_text, same_name, symbols_under, bits_under, cut_behind, cuts_behind, raw_events}
+use Rattle.laz_integer.specs.Events.{Event, Symbol, Flag, Bits, Name, same_text, same_name, symbols_under, bits_under, cut_after, cuts_after, raw_events}
 use Rattle.laz_integer.specs.Integer.{IntState, width_name, bit_name, high_name, events_cuts, events_next}
 
 -- ---- names
@@ -80,11 +80,11 @@ bits-raw name b v =
     (λ (short : b ≤ 19). ap (bits_under name) (raw-short b v short))
     (cases_lt 19 b)
 
-pub cuts-raw : (earlier : List Event) (b v : ℕ) → cuts_behind earlier (raw_events b v) ≡ raw_cuts b v
+pub cuts-raw : (earlier : List Event) (b v : ℕ) → cuts_after earlier (raw_events b v) ≡ raw_cuts b v
 cuts-raw earlier b v =
     ⊎_elim
-    (λ (wide : 19 < b). ap (cuts_behind earlier) (raw-wide b v wide) ∙ sym (cond-true (ltb 19 b) _ _ (lt-ltb 19 b wide)))
-    (λ (short : b ≤ 19). ap (cuts_behind earlier) (raw-short b v short) ∙ sym (cond-false (ltb 19 b) _ _ (le-ltb 19 b short)))
+    (λ (wide : 19 < b). ap (cuts_after earlier) (raw-wide b v wide) ∙ sym (cond-true (ltb 19 b) _ _ (lt-ltb 19 b wide)))
+    (λ (short : b ≤ 19). ap (cuts_after earlier) (raw-short b v short) ∙ sym (cond-false (ltb 19 b) _ _ (le-ltb 19 b short)))
     (cases_lt 19 b)
 
 pub events_cuts-raw : (st : IntState) (b v : ℕ) → events_cuts st (raw_events b v) ≡ raw_cuts b v
@@ -102,8 +102,8 @@ events_next-raw st b v =
     (cases_lt 19 b)
 
 -- the parts of one list of events and then another
-pub cuts_behind-append : (earlier xs ys : List Event) → cuts_behind earlier (xs ++ ys) ≡ cuts_behind earlier xs ++ cuts_behind (earlier ++ xs) ys
-cuts_behind-append earlier [] ys = ap (λ l. cuts_behind l ys) (sym (append-nil earlier))
-cuts_behind-append earlier (e ∷ xs) ys =
-    ap (λ l. cut_behind earlier e ∷ l)
-    (cuts_behind-append (earlier ++ e ∷ []) xs ys ∙ ap (λ l. cuts_behind (earlier ++ e ∷ []) xs ++ cuts_behind l ys) (append_assoc earlier (e ∷ []) xs))
+pub cuts_after-append : (earlier xs ys : List Event) → cuts_after earlier (xs ++ ys) ≡ cuts_after earlier xs ++ cuts_after (earlier ++ xs) ys
+cuts_after-append earlier [] ys = ap (λ l. cuts_after l ys) (sym (append-nil earlier))
+cuts_after-append earlier (e ∷ xs) ys =
+    ap (λ l. cut_after earlier e ∷ l)
+    (cuts_after-append (earlier ++ e ∷ []) xs ys ∙ ap (λ l. cuts_after (earlier ++ e ∷ []) xs ++ cuts_after l ys) (append_assoc earlier (e ∷ []) xs))

@@ -7,18 +7,18 @@ use Rattle.laz_models.specs.Counting.{Counting, after_symbol, new_model}
 use Rattle.laz_models.specs.Dist.{alphabet_size}
 use Rattle.laz_models.specs.Bank.{model_at}
 use Rattle.laz_models.proofs.Banks.{StandsFor-push}
-use Rattle.laz_integer.specs.Events.{Event, Symbol, same_text, same_name, symbols_under, cuts_behind, raw_events}
+use Rattle.laz_integer.specs.Events.{Event, Symbol, same_text, same_name, symbols_under, cuts_after, raw_events}
 use Rattle.laz_integer.specs.Integer.{IsInts, IntState, IsIntState, IntStands, IsCorrector, corrector_events, int_cuts, int_next, symbol_cut}
 use Rattle.laz_integer.specs.Uses.{own_name, Silent, AllSilent, absent, apart}
-use Rattle.laz_integer.specs.Fields.{where_marked, byte_events, BankStands, byte_cuts, byte_next, IsByte, word_cuts, word_next, IsWord}
-use Rattle.laz_integer.proofs.Named.{same_text-refl, symbols-with, symbols-without, cuts_behind-append, cuts-raw}
+use Rattle.laz_integer.specs.Fields.{if_marked, byte_events, BankStands, byte_cuts, byte_next, IsByte, word_cuts, word_next, IsWord}
+use Rattle.laz_integer.proofs.Named.{same_text-refl, symbols-with, symbols-without, cuts_after-append, cuts-raw}
 use Rattle.laz_integer.proofs.Stood.{Comes, comes, symbol-cut}
 use Rattle.laz_integer.proofs.Uses.{Silent-none, Silent-append, Silent-other, Silent-raws, Silent-corrector, other_than, absent-split, AllSilent-split, all-silent, bank-silent, int-silent}
 
 -- Events of these uses, which cut these parts if the models before them stand for the earlier events. The models after them then stand for both.
 pub record Piece (kinds : List (List ℕ)) (events : List Event) (cuts : List Cut) (Before After : List Event → Type 0) : Type 0 where
   pub own : (kind : List ℕ) → absent kind kinds ≡ true → Silent kind events
-  pub cut : (earlier : List Event) → Before earlier → cuts_behind earlier events ≡ cuts
+  pub cut : (earlier : List Event) → Before earlier → cuts_after earlier events ≡ cuts
   pub stands : (earlier : List Event) → Before earlier → After (earlier ++ events)
   pub before : (earlier others : List Event) → AllSilent kinds others → Before earlier → Before (earlier ++ others)
   pub after : (earlier others : List Event) → AllSilent kinds others → After earlier → After (earlier ++ others)
@@ -34,7 +34,7 @@ Piece-both kinds more es fs cs ds B A C D one other f g =
     let there = all-silent kinds more fs one g.own in
     record {
       own = λ kind e. let parts = absent-split kind kinds more e in Silent-append kind es fs (f.own kind parts.0) (g.own kind parts.1);
-      cut = λ earlier h. cuts_behind-append earlier es fs ∙ two_lists _ _ _ _ (f.cut earlier h.0) (g.cut (earlier ++ es) (g.before earlier es here h.1));
+      cut = λ earlier h. cuts_after-append earlier es fs ∙ two_lists _ _ _ _ (f.cut earlier h.0) (g.cut (earlier ++ es) (g.before earlier es here h.1));
       stands = λ earlier h.
           let first : A ((earlier ++ es) ++ fs) = f.after (earlier ++ es) fs there (f.stands earlier h.0) in
           let second : D ((earlier ++ es) ++ fs) = g.stands (earlier ++ es) (g.before earlier es here h.1) in
@@ -49,7 +49,7 @@ pub Piece-then : (kinds : List (List ℕ)) (es fs : List Event) (cs ds : List Cu
 Piece-then kinds es fs cs ds B M A f g =
     record {
       own = λ kind e. Silent-append kind es fs (f.own kind e) (g.own kind e);
-      cut = λ earlier h. cuts_behind-append earlier es fs ∙ two_lists _ _ _ _ (f.cut earlier h) (g.cut (earlier ++ es) (f.stands earlier h));
+      cut = λ earlier h. cuts_after-append earlier es fs ∙ two_lists _ _ _ _ (f.cut earlier h) (g.cut (earlier ++ es) (f.stands earlier h));
       stands = λ earlier h. subst A (append_assoc earlier es fs) (g.stands (earlier ++ es) (f.stands earlier h));
       before = f.before;
       after = g.after;
@@ -126,12 +126,12 @@ Piece-int kind st n ctx k v is bits within asked =
 
 -- ---- a byte, if it is marked
 pub Piece-byte : (marked : Bool) (kind : List ℕ) (bank : List Counting) (m expected s : ℕ) → m < length bank → alphabet_size (model_at bank m) ≡ 256 → IsByte marked expected s
-    → Piece (kind ∷ []) (where_marked marked (byte_events kind m s)) (byte_cuts marked bank m s) (λ l. BankStands kind l bank) (λ l. BankStands kind l (byte_next marked bank m s))
+    → Piece (kind ∷ []) (if_marked marked (byte_events kind m s)) (byte_cuts marked bank m s) (λ l. BankStands kind l bank) (λ l. BankStands kind l (byte_next marked bank m s))
 Piece-byte true kind bank m expected s within size asked = Piece-symbol kind bank m 256 s within size (omega arith) asked
 Piece-byte false kind bank m expected s within size asked = Piece-none (kind ∷ []) (λ l. BankStands kind l bank) (frame-bank kind bank)
 
 -- ---- a number of 16 bits, if it is marked
 pub Piece-word : (marked : Bool) (kind : List ℕ) (st : IntState) (n ctx : ℕ) (x : ℕ × ℕ) → IsInts 16 n st → ctx < n → IsWord marked x
-    → Piece (kind ∷ []) (where_marked marked (corrector_events kind 16 ctx x.0 x.1)) (word_cuts marked st ctx x) (λ l. IntStands kind l st) (λ l. IntStands kind l (word_next marked st ctx x))
+    → Piece (kind ∷ []) (if_marked marked (corrector_events kind 16 ctx x.0 x.1)) (word_cuts marked st ctx x) (λ l. IntStands kind l st) (λ l. IntStands kind l (word_next marked st ctx x))
 Piece-word true kind st n ctx x is within asked = Piece-int kind st 16 ctx x.0 x.1 is.state is.bits (omega (arith, is.contexts, within)) asked
 Piece-word false kind st n ctx x is within asked = Piece-none (kind ∷ []) (λ l. IntStands kind l st) (frame-int kind st)

@@ -16,7 +16,7 @@ use Rattle.laz_models.proofs.BitStand.{BitStandsFor-push, BitStandsFor-new_bit_m
 use Rattle.laz_models.proofs.Banks.{size-after_symbol, size-new_model}
 use Rattle.laz_models.specs.Sound.{IsSound}
 use Rattle.laz_integer.specs.Corrector.{choices}
-use Rattle.laz_integer.specs.Events.{Event, Symbol, Flag, Bits, Name, Role, Own, Width, ZeroOrOne, High, same_role, same_text, same_name, symbols_under, bits_under, cut_behind, cuts_behind, cuts_of, raw_events}
+use Rattle.laz_integer.specs.Events.{Event, Symbol, Flag, Bits, Name, Role, Own, Width, ZeroOrOne, High, same_role, same_text, same_name, symbols_under, bits_under, cut_after, cuts_after, cuts_of, raw_events}
 use Rattle.laz_integer.specs.Integer.{IntSpell, corrector_events}
 use Rattle.laz_integer.specs.Ranged.{IsRanged, AreRanged, AreOneKind, HasIntSizes}
 use Rattle.laz_integer.specs.Uses.{name_of, own_name}
@@ -25,7 +25,7 @@ use Rattle.laz_models.proofs.Sounds.{IsSound-new_model, IsSound-after_symbol, Is
 use Rattle.laz_integer.proofs.SymbolParts.{AreCuts-symbol, IsDistribution-starts, symbol_back}
 use Rattle.laz_integer.proofs.Correctors.{power-le}
 use Rattle.laz_integer.proofs.Counted.{IsIntSymbol, AreIntEvents, corrector-events}
-use Rattle.laz_integer.proofs.Named.{cuts_behind-append, raw-wide, raw-short}
+use Rattle.laz_integer.proofs.Named.{cuts_after-append, raw-wide, raw-short}
 use Rattle.laz_integer.proofs.Uses.{both_true}
 
 -- each is below n
@@ -128,7 +128,7 @@ bit-part h =
     (omega (arith, r.0.p0, r.1.p0_some), omega (arith, r.0.p0, r.1.p0_below))
 
 -- ---- lawful events cut lawfully
-pub AreCuts-ranged : (sizes : Name → ℕ) (earlier events : List Event) → AreRanged sizes earlier → AreRanged sizes events → AreCuts (cuts_behind earlier events)
+pub AreCuts-ranged : (sizes : Name → ℕ) (earlier events : List Event) → AreRanged sizes earlier → AreRanged sizes events → AreCuts (cuts_after earlier events)
 AreCuts-ranged sizes earlier [] before h = tt
 AreCuts-ranged sizes earlier (Symbol name n s ∷ events) before h =
     let small : AreBelow n (symbols_under name earlier) = subst (λ (k : ℕ). AreBelow k (symbols_under name earlier)) (sym h.0.0) (under-below sizes name earlier before) in (
@@ -187,7 +187,7 @@ word-ranged sizes true kind ctx pred value events has h = int-ranged sizes kind 
 word-ranged sizes false kind ctx pred value events has h = subst (AreRanged sizes) (sym h.0) tt
 
 -- ---- two lawful events of one kind cut out alike parts, which are equal only if the events are
-pub IsCut-ranged : (sizes : Name → ℕ) (front : List Event) (e : Event) → AreRanged sizes front → IsRanged sizes e → IsCut (cut_behind front e)
+pub IsCut-ranged : (sizes : Name → ℕ) (front : List Event) (e : Event) → AreRanged sizes front → IsRanged sizes e → IsCut (cut_after front e)
 IsCut-ranged sizes front e before h = (AreCuts-ranged sizes front (e ∷ []) before (h, tt)).0
 
 dist-is : (sizes : Name → ℕ) (front : List Event) (name : Name) (n s : ℕ) → AreRanged sizes front → IsRanged sizes (Symbol name n s) → AreStarts n (dist n (symbols_under name front))
@@ -197,17 +197,17 @@ dist-is sizes front name n s before h =
 same_number : (sizes : Name → ℕ) (a b : Name) (n m : ℕ) → n ≡ sizes a → m ≡ sizes b → a ≡ b → m ≡ n
 same_number sizes a b n m e f g = cc
 
-alike-named : (sizes : Name → ℕ) (front : List Event) (a : Name) (n s t : ℕ) → AreRanged sizes front → IsRanged sizes (Symbol a n s) → IsRanged sizes (Symbol a n t) → AreAlike (cut_behind front (Symbol a n s)) (cut_behind front (Symbol a n t))
+alike-named : (sizes : Name → ℕ) (front : List Event) (a : Name) (n s t : ℕ) → AreRanged sizes front → IsRanged sizes (Symbol a n s) → IsRanged sizes (Symbol a n t) → AreAlike (cut_after front (Symbol a n s)) (cut_after front (Symbol a n t))
 alike-named sizes front a n s t before f g =
     let parts = dist-is sizes front a n s before f in
     AreAlike-symbols (dist n (symbols_under a front)) s t (IsDistribution-starts n _ parts) (omega (arith, parts.length, f.3)) (omega (arith, parts.length, g.3))
 
-pub AreAlike-ranged : (sizes : Name → ℕ) (front : List Event) (d e : Event) → AreRanged sizes front → IsRanged sizes d → IsRanged sizes e → AreOneKind d e → AreAlike (cut_behind front d) (cut_behind front e)
+pub AreAlike-ranged : (sizes : Name → ℕ) (front : List Event) (d e : Event) → AreRanged sizes front → IsRanged sizes d → IsRanged sizes e → AreOneKind d e → AreAlike (cut_after front d) (cut_after front e)
 AreAlike-ranged sizes front (Symbol a n s) (Symbol b m t) before f g same =
     let number : m ≡ n = same_number sizes a b n m f.0 g.0 same in
     let other : IsRanged sizes (Symbol a n t) = subst (λ (k : ℕ). IsRanged sizes (Symbol a k t)) number (subst (λ (c : Name). IsRanged sizes (Symbol c m t)) (sym same) g) in
-    subst (λ (k : ℕ). AreAlike (cut_behind front (Symbol a n s)) (cut_behind front (Symbol b k t))) (sym number)
-    (subst (λ (c : Name). AreAlike (cut_behind front (Symbol a n s)) (cut_behind front (Symbol c n t))) same (alike-named sizes front a n s t before f other))
+    subst (λ (k : ℕ). AreAlike (cut_after front (Symbol a n s)) (cut_after front (Symbol b k t))) (sym number)
+    (subst (λ (c : Name). AreAlike (cut_after front (Symbol a n s)) (cut_after front (Symbol c n t))) same (alike-named sizes front a n s t before f other))
 AreAlike-ranged sizes front (Symbol a n s) (Flag b other) before f g same = absurd same
 AreAlike-ranged sizes front (Symbol a n s) (Bits c w) before f g same = absurd same
 AreAlike-ranged sizes front (Flag a bit) (Symbol b m t) before f g same = absurd same
@@ -232,7 +232,7 @@ flags_equal a b bit other e f = cc
 raws_equal : (b c v w : ℕ) → b ≡ c → v ≡ w → Bits b v ≡ Bits c w
 raws_equal b c v w e f = cc
 
-pub event-from_cut : (sizes : Name → ℕ) (front : List Event) (d e : Event) → AreRanged sizes front → IsRanged sizes d → IsRanged sizes e → AreOneKind d e → cut_behind front d ≡ cut_behind front e → d ≡ e
+pub event-from_cut : (sizes : Name → ℕ) (front : List Event) (d e : Event) → AreRanged sizes front → IsRanged sizes d → IsRanged sizes e → AreOneKind d e → cut_after front d ≡ cut_after front e → d ≡ e
 event-from_cut sizes front (Symbol a n s) (Symbol b m t) before f g same cut =
     let number : m ≡ n = same_number sizes a b n m f.0 g.0 same in
     let parts = dist-is sizes front a n s before f in
@@ -249,8 +249,8 @@ event-from_cut sizes front (Bits b v) (Flag a other) before f g same cut = absur
 event-from_cut sizes front (Bits b v) (Bits c w) before f g same cut = raws_equal b c v w same (same_raw b c v w cut)
 
 -- one event more
-pub cuts-more : (front : List Event) (e : Event) → cuts_of (front ++ e ∷ []) ≡ cuts_of front ++ cut_behind front e ∷ []
-cuts-more front e = cuts_behind-append [] front (e ∷ [])
+pub cuts-more : (front : List Event) (e : Event) → cuts_of (front ++ e ∷ []) ≡ cuts_of front ++ cut_after front e ∷ []
+cuts-more front e = cuts_after-append [] front (e ∷ [])
 
-pub Begins-more : (front : List Event) (e : Event) (bytes : List ℕ) → Begins (span (cuts_of (front ++ e ∷ []))) bytes → Begins (span (cuts_of front ++ cut_behind front e ∷ [])) bytes
+pub Begins-more : (front : List Event) (e : Event) (bytes : List ℕ) → Begins (span (cuts_of (front ++ e ∷ []))) bytes → Begins (span (cuts_of front ++ cut_after front e ∷ [])) bytes
 Begins-more front e bytes h = subst (λ (cs : List Cut). Begins (span cs) bytes) (cuts-more front e) h

@@ -6,11 +6,11 @@ use Rattle.laz_range.specs.Cut.{Cut}
 use Rattle.laz_range.specs.Decoding.{Decoding, Reads}
 use Rattle.laz_models.specs.Sound.{AreSound}
 use Rattle.laz_models.proofs.Sounds.{AreSound-set, AreSound-new_model, IsBitCounting-after_bit, IsBitCounting-new_bit_model}
-use Rattle.laz_integer.specs.Integer.{IntState, IsIntState, int_sizes, symbol_counted, flag_counted}
+use Rattle.laz_integer.specs.Integer.{IntState, IsIntState, int_sizes, symbol_next, flag_next}
 use Rattle.laz_integer.proofs.States.{models-count, width-size, high-size, high-in, sizes-new_model, sizes-range}
 
 -- ---- the models of an integer
-pub IsIntState-width : (st : IntState) (ctx k : ℕ) → IsIntState st → ctx < st.contexts → k ≤ st.bits → IsIntState (symbol_counted st ctx k)
+pub IsIntState-width : (st : IntState) (ctx k : ℕ) → IsIntState st → ctx < st.contexts → k ≤ st.bits → IsIntState (symbol_next st ctx k)
 IsIntState-width st ctx k h within small =
     let here : ctx < length st.bank = omega (arith, models-count st h, within) in
     record {
@@ -22,7 +22,7 @@ IsIntState-width st ctx k h within small =
       bit = h.bit;
     }
 
-pub IsIntState-high : (st : IntState) (k s : ℕ) → IsIntState st → 0 < k → k ≤ st.bits → s < 2 ^ min k 8 → IsIntState (symbol_counted st (st.contexts + (k - 1)) s)
+pub IsIntState-high : (st : IntState) (k s : ℕ) → IsIntState st → 0 < k → k ≤ st.bits → s < 2 ^ min k 8 → IsIntState (symbol_next st (st.contexts + (k - 1)) s)
 IsIntState-high st k s h some small digit =
     let here = high-in st k h some small in
     record {
@@ -49,7 +49,7 @@ pub bank-after : {E : Type 0} (result : Result ℕ E) (P : ℕ → Type 0) (next
 bank-after (Ok x) P next st new h asked to is kept = subst (λ (b : List Counting). IsIntState (with_bank st b)) (sym is) (to x asked)
 bank-after (Err e) P next st new h asked to is kept = subst (λ (b : List Counting). IsIntState (with_bank st b)) (sym kept) h
 
-pub IsIntState-flag : (st : IntState) (bit : Bool) → IsIntState st → IsIntState (flag_counted st bit)
+pub IsIntState-flag : (st : IntState) (bit : Bool) → IsIntState st → IsIntState (flag_next st bit)
 IsIntState-flag st bit h =
     record {
       some = h.some;

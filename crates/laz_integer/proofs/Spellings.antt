@@ -8,8 +8,8 @@ use Rattle.laz_range.specs.Span.{Begins, span}
 use Rattle.laz_range.specs.Coding.{Coding, Codes}
 use Rattle.laz_range.specs.Decoding.{Decoding, ReadsOn, Takes, TakesNone}
 use Rattle.laz_range.proofs.Decodings.{Takes-ReadsOn, TakesNone-NoneBegins, Takes-begins}
-use Rattle.laz_integer.specs.Corrector.{choices, corrected, corrector, difference, HasBits, width_of, place_of}
-use Rattle.laz_integer.specs.Events.{Event, cuts_behind}
+use Rattle.laz_integer.specs.Corrector.{choices, corrected, corrector, difference, HasBits, width_of, corrector_index}
+use Rattle.laz_integer.specs.Events.{Event, cuts_after}
 use Rattle.laz_integer.specs.Integer.{IntState, IsIntState, IntStands, IntSpell, IntEvents, IsCorrector, ReadsCorrector, ReadsInt, NoInt, corrector_events, int_cuts, int_next}
 use Rattle.laz_integer.proofs.Correctors.{difference-on, word-fits}
 use Rattle.laz_integer.proofs.Counted.{corrector-events, AreCuts-events, length-events_cuts}
@@ -23,9 +23,9 @@ AreCuts-int st ctx x h within asked =
 
 -- ---- what a reader answers, in the words of its definition
 spelled-cuts : (kind : List ℕ) (earlier : List Event) (st : IntState) (ctx : ℕ) (pred value : ℤ) (events : List Event) (k : ℕ) → IsIntState st → ctx < st.contexts → IntStands kind earlier st
-    → (h : IntSpell kind st.bits ctx pred events value k) → cuts_behind earlier events ≡ int_cuts st ctx k h.v
+    → (h : IntSpell kind st.bits ctx pred events value k) → cuts_after earlier events ≡ int_cuts st ctx k h.v
 spelled-cuts kind earlier st ctx pred value events k is within stands h =
-    ap (cuts_behind earlier) h.is ∙ (comes kind earlier st ctx k h.v is within h.width h.within stands).cuts
+    ap (cuts_after earlier) h.is ∙ (comes kind earlier st ctx k h.v is within h.width h.within stands).cuts
 
 pub no-int : (kind : List ℕ) (earlier : List Event) (st : IntState) (ctx : ℕ) (pred : ℤ) (old new : Decoding) → IsIntState st → ctx < st.contexts → IntStands kind earlier st
     → TakesNone {X = ℕ × ℕ} (IsCorrector st.bits) (λ y. int_cuts st ctx y.0 y.1) old new → NoInt kind earlier st.bits ctx pred old
@@ -79,15 +79,15 @@ corrected-is bits pred real k v few fits word within makes =
 
 -- ---- a writer's events
 abbrev pub IsWritten : ℕ → ℤ → ℤ → ℕ → ℕ → Type 0
-IsWritten bits pred real k v = (k ≡ width_of bits (difference bits pred real)) × (v ≡ place_of bits (difference bits pred real) k)
+IsWritten bits pred real k v = (k ≡ width_of bits (difference bits pred real)) × (v ≡ corrector_index bits (difference bits pred real) k)
 
 pub written-events : (kind : List ℕ) (bits ctx : ℕ) (pred real : ℤ) (k v : ℕ) → IsWritten bits pred real k v → IntEvents kind bits ctx pred real ≡ corrector_events kind bits ctx k v
 written-events kind bits ctx pred real k v h = rw (h.1, h.0) refl
 
 pub written-codes : (kind : List ℕ) (earlier : List Event) (st : IntState) (ctx : ℕ) (pred real : ℤ) (k v : ℕ) (a b : Coding) → IsIntState st → ctx < st.contexts → k ≤ st.bits → v < choices k → IntStands kind earlier st
-    → IsWritten st.bits pred real k v → Codes a b (int_cuts st ctx k v) → Codes a b (cuts_behind earlier (IntEvents kind st.bits ctx pred real))
+    → IsWritten st.bits pred real k v → Codes a b (int_cuts st ctx k v) → Codes a b (cuts_after earlier (IntEvents kind st.bits ctx pred real))
 written-codes kind earlier st ctx pred real k v a b is within range value stands h codes =
-    subst (λ (cs : List Cut). Codes a b cs) (sym (ap (cuts_behind earlier) (written-events kind st.bits ctx pred real k v h) ∙ (comes kind earlier st ctx k v is within range value stands).cuts)) codes
+    subst (λ (cs : List Cut). Codes a b cs) (sym (ap (cuts_after earlier) (written-events kind st.bits ctx pred real k v h) ∙ (comes kind earlier st ctx k v is within range value stands).cuts)) codes
 
 pub written-stands : (kind : List ℕ) (earlier : List Event) (st after : IntState) (ctx : ℕ) (pred real : ℤ) (k v : ℕ) → IsIntState st → ctx < st.contexts → k ≤ st.bits → v < choices k → IntStands kind earlier st
     → IsWritten st.bits pred real k v → after ≡ int_next st ctx k v → IntStands kind (earlier ++ IntEvents kind st.bits ctx pred real) after

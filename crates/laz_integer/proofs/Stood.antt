@@ -11,8 +11,8 @@ use Rattle.laz_models.specs.Bank.{model_at}
 use Rattle.laz_models.proofs.Banks.{StandsFor-push, StandsFor-new_model}
 use Rattle.laz_models.proofs.BitStand.{BitStandsFor-push, BitStandsFor-new_bit_model}
 use Rattle.laz_integer.specs.Corrector.{choices}
-use Rattle.laz_integer.specs.Events.{Event, Symbol, Flag, Name, Bits, Role, Own, Width, ZeroOrOne, High, symbols_under, bits_under, cut_behind, cuts_behind}
-use Rattle.laz_integer.specs.Integer.{IntState, IsInts, IsIntState, IntStands, width_name, bit_name, high_name, corrector_events, symbol_cut, high_at, symbol_counted, flag_counted, event_cut, event_next, events_cuts, events_next, int_cuts, int_next, int_sizes}
+use Rattle.laz_integer.specs.Events.{Event, Symbol, Flag, Name, Bits, Role, Own, Width, ZeroOrOne, High, symbols_under, bits_under, cut_after, cuts_after}
+use Rattle.laz_integer.specs.Integer.{IntState, IsInts, IsIntState, IntStands, width_name, bit_name, high_name, corrector_events, symbol_cut, high_at, symbol_next, flag_next, event_cut, event_next, events_cuts, events_next, int_cuts, int_next, int_sizes}
 use Rattle.laz_integer.specs.Uses.{name_of}
 use Rattle.laz_integer.proofs.Cases.{cuts-use, next-use}
 use Rattle.laz_integer.proofs.Counted.{IsIntSymbol, IsIntEvent, AreIntEvents, corrector-events, IsInts-event}
@@ -21,10 +21,10 @@ use Rattle.laz_integer.proofs.States.{models-count, width-size, high-size, high-
 use Rattle.laz_integer.proofs.Named.{same-width, same-high, same-bit, other-width, other-high, symbols-with, symbols-without, bits-with, symbols-flag, bits-symbol}
 
 -- ---- one event behind others, and the part that its model gives
-pub symbol-cut : (earlier : List Event) (name : Name) (m : Counting) (n s : ℕ) → alphabet_size m ≡ n → StandsFor (symbols_under name earlier) m → cut_behind earlier (Symbol name n s) ≡ symbol_cut m s
+pub symbol-cut : (earlier : List Event) (name : Name) (m : Counting) (n s : ℕ) → alphabet_size m ≡ n → StandsFor (symbols_under name earlier) m → cut_after earlier (Symbol name n s) ≡ symbol_cut m s
 symbol-cut earlier name m n s e stands = rw (← e) (ap (λ parts. symbol parts s) (sym stands.starts))
 
-pub bit-cut : (earlier : List Event) (name : Name) (m : BitCounting) (bit : Bool) → BitStandsFor (bits_under name earlier) m → cut_behind earlier (Flag name bit) ≡ Bit m.p0 bit
+pub bit-cut : (earlier : List Event) (name : Name) (m : BitCounting) (bit : Bool) → BitStandsFor (bits_under name earlier) m → cut_after earlier (Flag name bit) ≡ Bit m.p0 bit
 bit-cut earlier name m bit stands = ap (λ p. Bit p bit) (sym stands.p0)
 
 -- a model that is left alone, or counts one symbol more
@@ -36,7 +36,7 @@ stands-more h g m n s many within e f stands = stands-along (h ++ s ∷ []) g (a
 
 -- ---- a width is counted
 pub stands-width : (kind : List ℕ) (earlier : List Event) (st : IntState) (ctx k : ℕ) → IsIntState st → ctx < st.contexts → k ≤ st.bits → IntStands kind earlier st
-    → IntStands kind (earlier ++ Symbol (width_name kind ctx) (st.bits + 1) k ∷ []) (symbol_counted st ctx k)
+    → IntStands kind (earlier ++ Symbol (width_name kind ctx) (st.bits + 1) k ∷ []) (symbol_next st ctx k)
 stands-width kind earlier st ctx k is within small h =
     let e = Symbol (width_name kind ctx) (st.bits + 1) k in
     let size = width-size st ctx is within in
@@ -67,7 +67,7 @@ stands-width kind earlier st ctx k is within small h =
 
 -- ---- high digits are counted
 pub stands-high : (kind : List ℕ) (earlier : List Event) (st : IntState) (k n s : ℕ) → IsIntState st → 0 < k → k ≤ st.bits → s < 2 ^ min k 8 → IntStands kind earlier st
-    → IntStands kind (earlier ++ Symbol (high_name kind k) n s ∷ []) (symbol_counted st (st.contexts + (k - 1)) s)
+    → IntStands kind (earlier ++ Symbol (high_name kind k) n s ∷ []) (symbol_next st (st.contexts + (k - 1)) s)
 stands-high kind earlier st k n s is some small digit h =
     let size = high-size st k is some small in
     let here = high-in st k is some small in
@@ -103,7 +103,7 @@ stands-high kind earlier st k n s is some small digit h =
     }
 
 -- ---- a bit is counted
-pub stands-bit : (kind : List ℕ) (earlier : List Event) (st : IntState) (bit : Bool) → IntStands kind earlier st → IntStands kind (earlier ++ Flag (bit_name kind) bit ∷ []) (flag_counted st bit)
+pub stands-bit : (kind : List ℕ) (earlier : List Event) (st : IntState) (bit : Bool) → IntStands kind earlier st → IntStands kind (earlier ++ Flag (bit_name kind) bit ∷ []) (flag_next st bit)
 stands-bit kind earlier st bit h =
     record {
       widths = λ c inside. subst (λ (l : List ℕ). StandsFor l (model_at st.bank c)) (sym (symbols-flag (width_name kind c) (bit_name kind) bit earlier)) (h.widths c inside);
@@ -113,7 +113,7 @@ stands-bit kind earlier st bit h =
 
 -- ---- what events come to, under models that stand for the earlier ones
 pub record Comes (kind : List ℕ) (earlier events : List Event) (st next : IntState) (parts : List Cut) : Type 0 where
-  pub cuts : cuts_behind earlier events ≡ parts
+  pub cuts : cuts_after earlier events ≡ parts
   pub stands : IntStands kind (earlier ++ events) next
 
 one_cut : (c d : Cut) → c ≡ d → c ∷ [] ≡ d ∷ []
@@ -137,7 +137,7 @@ comes-symbol kind earlier st bits contexts Width which n s is asked h =
     let stands = stands-width kind earlier st which s is.state within range h in
     record {
       cuts = one_cut _ _ (symbol-cut earlier (width_name kind which) (model_at st.bank which) n s (width-size st which is.state within ∙ size) (h.widths which within));
-      stands = subst (λ (m : ℕ). IntStands kind (earlier ++ Symbol (width_name kind which) m s ∷ []) (symbol_counted st which s)) size stands;
+      stands = subst (λ (m : ℕ). IntStands kind (earlier ++ Symbol (width_name kind which) m s ∷ []) (symbol_next st which s)) size stands;
     }
 comes-symbol kind earlier st bits contexts High which n s is asked h =
     let small : which ≤ st.bits = omega (arith, asked.1, is.bits) in
@@ -156,7 +156,7 @@ comes-event kind earlier st bits contexts (Symbol name n s) is asked h =
     subst (λ (l : List ℕ). Comes kind earlier (Symbol (name_of l name.role name.which) n s ∷ []) st (event_next st (Symbol name n s)) (event_cut st (Symbol name n s) ∷ [])) (sym asked.0)
     (comes-symbol kind earlier st bits contexts name.role name.which n s is asked.1 h)
 comes-event kind earlier st bits contexts (Flag name bit) is asked h =
-    subst (λ (l : Name). Comes kind earlier (Flag l bit ∷ []) st (flag_counted st bit) (Bit st.zero_or_one.p0 bit ∷ [])) (sym asked)
+    subst (λ (l : Name). Comes kind earlier (Flag l bit ∷ []) st (flag_next st bit) (Bit st.zero_or_one.p0 bit ∷ [])) (sym asked)
     (record {
       cuts = one_cut _ _ (bit-cut earlier (bit_name kind) st.zero_or_one bit h.bits);
       stands = stands-bit kind earlier st bit h;
@@ -171,7 +171,7 @@ comes-events kind earlier st bits contexts (e ∷ events) is asked h =
     let first = comes-event kind earlier st bits contexts e is asked.0 h in
     let rest = comes-events kind (earlier ++ e ∷ []) (event_next st e) bits contexts events (IsInts-event kind st bits contexts e is asked.0) asked.1 first.stands in
     record {
-      cuts = cons_cut _ _ _ _ (same_head (cut_behind earlier e) (event_cut st e) first.cuts) rest.cuts;
+      cuts = cons_cut _ _ _ _ (same_head (cut_after earlier e) (event_cut st e) first.cuts) rest.cuts;
       stands = subst (λ (l : List Event). IntStands kind l (events_next (event_next st e) events)) (append_assoc earlier (e ∷ []) events) rest.stands;
     }
 
@@ -181,8 +181,8 @@ pub comes : (kind : List ℕ) (earlier : List Event) (st : IntState) (ctx k v : 
 comes kind earlier st ctx k v is within range value h =
     let all = comes-events kind earlier st st.bits st.contexts (corrector_events kind st.bits ctx k v) (record { state = is; bits = refl; contexts = refl }) (corrector-events kind st.bits st.contexts ctx k v is.few within range value) h in
     record {
-      cuts = all.cuts ∙ ap (λ l. symbol_cut (model_at st.bank ctx) k ∷ l) (cuts-use kind (symbol_counted st ctx k) k v);
-      stands = subst (λ (s : IntState). IntStands kind (earlier ++ corrector_events kind st.bits ctx k v) s) (next-use kind (symbol_counted st ctx k) k v) all.stands;
+      cuts = all.cuts ∙ ap (λ l. symbol_cut (model_at st.bank ctx) k ∷ l) (cuts-use kind (symbol_next st ctx k) k v);
+      stands = subst (λ (s : IntState). IntStands kind (earlier ++ corrector_events kind st.bits ctx k v) s) (next-use kind (symbol_next st ctx k) k v) all.stands;
     }
 
 -- ---- new models stand for no event

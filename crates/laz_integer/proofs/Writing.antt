@@ -5,9 +5,9 @@ use Rattle.std.proofs.lemmas.Nat.{pow_pos}
 use Rattle.std.specs.Int.{w32}
 use lib.Count.{count_leading_zeros}
 use mir.Val.{SFits}
-use Rattle.laz_integer.specs.Corrector.{difference, width_of, place_of, HasBits}
+use Rattle.laz_integer.specs.Corrector.{difference, width_of, corrector_index, HasBits}
 use Rattle.laz_integer.specs.Integer.{IntSpell, IntEvents, IsCorrector, int_width}
-use Rattle.laz_integer.specs.Fields.{int_written}
+use Rattle.laz_integer.specs.Fields.{int_corrector}
 use Rattle.laz_integer.proofs.Correctors.{IsSplit, split-any, split-full, digits-all, power-le, twice}
 use Rattle.laz_integer.proofs.Spellings.{written-spells, corrected-is, word_of}
 
@@ -41,19 +41,19 @@ split-all bits d some few fits =
     (cases_lt k 32)
 
 -- ---- width and place of a difference
-pub splits : (bits d : ℕ) → 1 ≤ bits → bits ≤ 32 → d < 2 ^ bits → IsSplit bits d (width_of bits d) (place_of bits d (width_of bits d))
+pub splits : (bits d : ℕ) → 1 ≤ bits → bits ≤ 32 → d < 2 ^ bits → IsSplit bits d (width_of bits d) (corrector_index bits d (width_of bits d))
 splits bits d some few fits =
     let r = split-all bits d some few fits in
-    let v : r.1 ≡ place_of bits d (width_of bits d) = r.2.place ∙ ap (λ n. place_of bits d n) r.2.width in
-    subst (λ (k : ℕ). IsSplit bits d k (place_of bits d (width_of bits d))) r.2.width (subst (λ (v : ℕ). IsSplit bits d r.0 v) v r.2)
+    let v : r.1 ≡ corrector_index bits d (width_of bits d) = r.2.index ∙ ap (λ n. corrector_index bits d n) r.2.width in
+    subst (λ (k : ℕ). IsSplit bits d k (corrector_index bits d (width_of bits d))) r.2.width (subst (λ (v : ℕ). IsSplit bits d r.0 v) v r.2)
 
 difference-fits : (bits : ℕ) (pred real : ℤ) → difference bits pred real < 2 ^ bits
 difference-fits bits pred real = let some = pow_pos bits in omega arith
 
-pub written-splits : (bits : ℕ) (pred real : ℤ) → 1 ≤ bits → bits ≤ 32 → IsSplit bits (difference bits pred real) (int_written bits pred real).0 (int_written bits pred real).1
+pub written-splits : (bits : ℕ) (pred real : ℤ) → 1 ≤ bits → bits ≤ 32 → IsSplit bits (difference bits pred real) (int_corrector bits pred real).0 (int_corrector bits pred real).1
 written-splits bits pred real some few = splits bits (difference bits pred real) some few (difference-fits bits pred real)
 
-pub IsCorrector-written : (bits : ℕ) (pred real : ℤ) → 1 ≤ bits → bits ≤ 32 → IsCorrector bits (int_written bits pred real)
+pub IsCorrector-written : (bits : ℕ) (pred real : ℤ) → 1 ≤ bits → bits ≤ 32 → IsCorrector bits (int_corrector bits pred real)
 IsCorrector-written bits pred real some few = let r = written-splits bits pred real some few in (r.digits, r.value)
 
 -- ---- the events of a writer spell the integer
@@ -61,5 +61,5 @@ pub spells-written : (kind : List ℕ) (bits ctx : ℕ) (pred real : ℤ) → 1 
     → IntSpell kind bits ctx pred (IntEvents kind bits ctx pred real) real (int_width bits pred real)
 spells-written kind bits ctx pred real some few f g h =
     let r = written-splits bits pred real some few in
-    written-spells kind bits ctx pred real (int_written bits pred real).0 (int_written bits pred real).1 r.digits r.value (refl, refl)
-    (corrected-is bits pred real (int_written bits pred real).0 (int_written bits pred real).1 few g (word_of pred f) h r.makes)
+    written-spells kind bits ctx pred real (int_corrector bits pred real).0 (int_corrector bits pred real).1 r.digits r.value (refl, refl)
+    (corrected-is bits pred real (int_corrector bits pred real).0 (int_corrector bits pred real).1 few g (word_of pred f) h r.makes)

@@ -19,8 +19,8 @@ unfoldable pub width_of : ℕ → ℕ → ℕ
 width_of bits d = if nat_lt d (2 ^ (bits - 1)) then digits_of (d - 1) else digits_of (2 ^ bits - d)
 
 -- Which corrector of that width k it is: c itself where k is 0, c - 1 where c is above 1, and c + 2 ^ k - 1 where it is below 0. There is one of width 32.
-unfoldable pub place_of : ℕ → ℕ → ℕ → ℕ
-place_of bits d k =
+unfoldable pub corrector_index : ℕ → ℕ → ℕ → ℕ
+corrector_index bits d k =
     if k == 0 then d
     else if k == 32 then 0
     else if nat_lt d (2 ^ (bits - 1)) then d - 1

@@ -56,19 +56,19 @@ bits_under name (Flag other bit ∷ events) = if same_name name other then bit �
 bits_under name (Bits b v ∷ events) = bits_under name events
 
 -- The part that an event cuts out, behind earlier events: by the distribution of the earlier symbols, or bits, under its own name.
-abbrev pub cut_behind : List Event → Event → Cut
-cut_behind earlier (Symbol name n s) = symbol (dist n (symbols_under name earlier)) s
-cut_behind earlier (Flag name bit) = Bit (p0_of (bits_under name earlier)) bit
-cut_behind earlier (Bits b v) = Raw b v
+abbrev pub cut_after : List Event → Event → Cut
+cut_after earlier (Symbol name n s) = symbol (dist n (symbols_under name earlier)) s
+cut_after earlier (Flag name bit) = Bit (p0_of (bits_under name earlier)) bit
+cut_after earlier (Bits b v) = Raw b v
 
 -- The parts of a list of events, behind earlier ones.
-abbrev pub cuts_behind : List Event → List Event → List Cut
-cuts_behind earlier [] = []
-cuts_behind earlier (e ∷ events) = cut_behind earlier e ∷ cuts_behind (earlier ++ e ∷ []) events
+abbrev pub cuts_after : List Event → List Event → List Cut
+cuts_after earlier [] = []
+cuts_after earlier (e ∷ events) = cut_after earlier e ∷ cuts_after (earlier ++ e ∷ []) events
 
 -- The parts of the events of a stream.
 abbrev pub cuts_of : List Event → List Cut
-cuts_of events = cuts_behind [] events
+cuts_of events = cuts_after [] events
 
 -- A raw value of more than 19 bits is two events: its low 16 bits, and the rest.
 abbrev pub raw_events : ℕ → ℕ → List Event

@@ -4,7 +4,7 @@ use Rattle.laz_range.specs.Cut.{Cut}
 use Rattle.laz_models.specs.Counting.{Counting, after_symbol}
 use Rattle.laz_models.specs.Dist.{StandsFor}
 use Rattle.laz_models.specs.Bank.{model_at}
-use Rattle.laz_integer.specs.Corrector.{corrected, difference, place_of}
+use Rattle.laz_integer.specs.Corrector.{corrected, difference, corrector_index}
 use Rattle.laz_integer.specs.Events.{Event, Symbol, symbols_under}
 use Rattle.laz_integer.specs.Integer.{IntState, IntEvents, IntSpell, IsCorrector, symbol_cut, int_cuts, int_next, int_width}
 use Rattle.laz_integer.specs.Uses.{own_name}
@@ -12,9 +12,9 @@ use Rattle.laz_integer.specs.Uses.{own_name}
 -- ---- in events
 
 -- Events that stand only if their field is marked.
-abbrev pub where_marked : Bool → List Event → List Event
-where_marked true events = events
-where_marked false events = []
+abbrev pub if_marked : Bool → List Event → List Event
+if_marked true events = events
+if_marked false events = []
 
 -- The event of a byte under model m of a use.
 abbrev pub byte_events : List ℕ → ℕ → ℕ → List Event
@@ -56,13 +56,13 @@ IsByte true expected s = s < 256
 IsByte false expected s = s ≡ expected
 
 -- Which corrector a writer takes, as width and place.
-abbrev pub int_written : ℕ → ℤ → ℤ → ℕ × ℕ
-int_written bits pred real =
-    let k = int_width bits pred real in (k, place_of bits (difference bits pred real) k)
+abbrev pub int_corrector : ℕ → ℤ → ℤ → ℕ × ℕ
+int_corrector bits pred real =
+    let k = int_width bits pred real in (k, corrector_index bits (difference bits pred real) k)
 
 -- The same of a number of 16 bits.
-abbrev pub word_written : ℕ → ℕ → ℕ × ℕ
-word_written pred real = int_written 16 (pos pred) (pos real)
+abbrev pub word_corrector : ℕ → ℕ → ℕ × ℕ
+word_corrector pred real = int_corrector 16 (pos pred) (pos real)
 
 -- The parts of a corrector of a number of 16 bits.
 abbrev pub word_cuts : Bool → IntState → ℕ → ℕ × ℕ → List Cut
@@ -80,6 +80,6 @@ IsWord true x = IsCorrector 16 x
 IsWord false x = x ≡ (0, 0)
 
 -- The number that a corrector makes of its prediction.
-abbrev pub word_made : Bool → ℕ → ℕ × ℕ → ℕ
-word_made true pred x = nat_abs (corrected 16 (pos pred) x.0 x.1)
-word_made false pred x = pred
+abbrev pub word_value : Bool → ℕ → ℕ × ℕ → ℕ
+word_value true pred x = nat_abs (corrected 16 (pos pred) x.0 x.1)
+word_value false pred x = pred

@@ -8,9 +8,9 @@ use Rattle.laz_models.specs.BitCounting.{BitCounting, IsBitCounting, after_bit}
 use Rattle.laz_models.specs.Dist.{StandsFor}
 use Rattle.laz_models.specs.BitDist.{BitStandsFor}
 use Rattle.laz_models.specs.Bank.{model_at, alphabet_sizes}
-use Rattle.laz_integer.specs.Events.{Event, Symbol, Flag, Bits, Name, same_role, Width, ZeroOrOne, High, cuts_behind, raw_events, symbols_under, bits_under}
+use Rattle.laz_integer.specs.Events.{Event, Symbol, Flag, Bits, Name, same_role, Width, ZeroOrOne, High, cuts_after, raw_events, symbols_under, bits_under}
 use Rattle.laz_models.specs.Sound.{AreSound}
-use Rattle.laz_integer.specs.Corrector.{choices, corrected, difference, width_of, place_of}
+use Rattle.laz_integer.specs.Corrector.{choices, corrected, difference, width_of, corrector_index}
 
 -- The models of an integer: of the width, one for each context; of a corrector of 0 or 1; of the high digits, one for each width from 1 on.
 abbrev pub width_name : List ℕ → ℕ → Name
@@ -49,7 +49,7 @@ int_width bits pred real = width_of bits (difference bits pred real)
 -- The events that a writer makes of an integer: those of the folded difference.
 abbrev pub IntEvents : List ℕ → ℕ → ℕ → ℤ → ℤ → List Event
 IntEvents kind bits ctx pred real =
-    let k = int_width bits pred real in corrector_events kind bits ctx k (place_of bits (difference bits pred real) k)
+    let k = int_width bits pred real in corrector_events kind bits ctx k (corrector_index bits (difference bits pred real) k)
 
 -- ---- what the code keeps
 
@@ -104,27 +104,27 @@ abbrev pub high_at : IntState → ℕ → Counting
 high_at st k = model_at st.bank (st.contexts + (k - 1))
 
 -- Which model of the bank a name of an integer's symbols has.
-abbrev pub index_of : IntState → Name → ℕ
-index_of st name = if same_role name.role Width then name.which else st.contexts + (name.which - 1)
+abbrev pub model_index : IntState → Name → ℕ
+model_index st name = if same_role name.role Width then name.which else st.contexts + (name.which - 1)
 
 -- One symbol more in model i of the bank.
-abbrev pub symbol_counted : IntState → ℕ → ℕ → IntState
-symbol_counted st i s = record { bits = st.bits; contexts = st.contexts; zero_or_one = st.zero_or_one; bank = slice_set st.bank i (after_symbol (model_at st.bank i) s) }
+abbrev pub symbol_next : IntState → ℕ → ℕ → IntState
+symbol_next st i s = record { bits = st.bits; contexts = st.contexts; zero_or_one = st.zero_or_one; bank = slice_set st.bank i (after_symbol (model_at st.bank i) s) }
 
 -- One more corrector of 0 or 1.
-abbrev pub flag_counted : IntState → Bool → IntState
-flag_counted st bit = record { bits = st.bits; contexts = st.contexts; zero_or_one = after_bit st.zero_or_one bit; bank = st.bank }
+abbrev pub flag_next : IntState → Bool → IntState
+flag_next st bit = record { bits = st.bits; contexts = st.contexts; zero_or_one = after_bit st.zero_or_one bit; bank = st.bank }
 
 -- The part of an integer's event, by the models as they are.
 abbrev pub event_cut : IntState → Event → Cut
-event_cut st (Symbol name n s) = symbol_cut (model_at st.bank (index_of st name)) s
+event_cut st (Symbol name n s) = symbol_cut (model_at st.bank (model_index st name)) s
 event_cut st (Flag name bit) = Bit st.zero_or_one.p0 bit
 event_cut st (Bits b v) = Raw b v
 
 -- The models after it.
 abbrev pub event_next : IntState → Event → IntState
-event_next st (Symbol name n s) = symbol_counted st (index_of st name) s
-event_next st (Flag name bit) = flag_counted st bit
+event_next st (Symbol name n s) = symbol_next st (model_index st name) s
+event_next st (Flag name bit) = flag_next st bit
 event_next st (Bits b v) = st
 
 -- The parts of an integer's events, each by the models as the events before it left them.
@@ -162,11 +162,11 @@ pub record ReadsCorrector (bits : ℕ) (st : IntState) (ctx : ℕ) (pred value :
 pub record ReadsInt (kind : List ℕ) (earlier : List Event) (bits ctx : ℕ) (pred : ℤ) (value : ℤ) (k : ℕ) (old new : Decoding) (st : IntState) : Type 0 where
   pub events : List Event
   pub spells : IntSpell kind bits ctx pred events value k
-  pub reads : ReadsOn (cuts_behind earlier events) old new
+  pub reads : ReadsOn (cuts_after earlier events) old new
   pub stands : IntStands kind (earlier ++ events) st
-  pub only : (read : List Cut) → HasRead read old → (others : List Event) (other : ℤ) (j : ℕ) → IntSpell kind bits ctx pred others other j → Begins (span (read ++ cuts_behind earlier others)) old.bytes → (others ≡ events) × (other ≡ value) × (j ≡ k)
+  pub only : (read : List Cut) → HasRead read old → (others : List Event) (other : ℤ) (j : ℕ) → IntSpell kind bits ctx pred others other j → Begins (span (read ++ cuts_after earlier others)) old.bytes → (others ≡ events) × (other ≡ value) × (j ≡ k)
 
 -- No spelling with this prediction, put behind what was read, begins the bytes.
 abbrev pub NoInt : List ℕ → List Event → ℕ → ℕ → ℤ → Decoding → Type 0
 NoInt kind earlier bits ctx pred old =
-    (read : List Cut) → HasRead read old → (events : List Event) (value : ℤ) (k : ℕ) → IntSpell kind bits ctx pred events value k → Begins (span (read ++ cuts_behind earlier events)) old.bytes → ⊥
+    (read : List Cut) → HasRead read old → (events : List Event) (value : ℤ) (k : ℕ) → IntSpell kind bits ctx pred events value k → Begins (span (read ++ cuts_after earlier events)) old.bytes → ⊥

@@ -1,6 +1,6 @@
-//! A difference, and the corrector that spells it.
+//! Differences of integers and their correctors: a corrector has a width and an index in that width.
 ghost use Rattle.std.specs.Prelude.{◌≡◌, ℕ, ◌+◌, ◌-◌, ◌*◌, ◌%◌, ◌<◌, ◌≤◌, ◌^◌};
-ghost use Rattle.laz_integer.specs.Corrector.{choices, corrected, corrector, difference, digits_of, place_of, width_of, HasBits};
+ghost use Rattle.laz_integer.specs.Corrector.{choices, corrected, corrector, difference, digits_of, corrector_index, width_of, HasBits};
 
 /// The lowest `bits` bits of a word.
 #[inline]
@@ -12,7 +12,7 @@ fn low_bits(bits: u32, word: u32) -> u32
     word & (u32::MAX >> (32 - bits))
 }
 
-/// The difference of two integers of so many bits.
+/// The difference of two integers of `bits` bits, modulo 2^bits.
 #[inline]
 pub fn between(bits: u32, pred: i32, real: i32) -> u32
     requires some { 1 ≤ bits }
@@ -26,32 +26,32 @@ pub fn between(bits: u32, pred: i32, real: i32) -> u32
     )
 }
 
-/// How wide the corrector of a difference is, and which of that width it is.
+/// The width of a difference's corrector, and its index in that width.
 #[inline]
 pub fn split(bits: u32, difference: u32) -> (u32, u32)
     requires some { 1 ≤ bits }
     requires few { bits ≤ 32 }
     requires fits { difference < 2 ^ bits }
     ensures width { result.0 ≡ width_of bits difference }
-    ensures place { result.1 ≡ place_of bits difference result.0 }
+    ensures index { result.1 ≡ corrector_index bits difference result.0 }
     ensures digits { result.0 ≤ bits }
     ensures value { result.1 < choices result.0 }
     ensures makes { corrector bits result.0 result.1 ≡ difference }
 {
     let half = 1 << (bits - 1);
-    let size = size_of_corrector(half, difference);
+    let size = magnitude(half, difference);
     let width = binary_digits(size);
     if width == 32 {
         return (32, 0);
     }
-    (width, place(half, difference, width, size))
+    (width, index_in_width(half, difference, width, size))
 }
 
-/// The corrector less one where it is above 0, or how far it is below 0.
-// Neither this nor `place` branches: both values are there before one is chosen, since a corrector's sign is not to be
-// foreseen.
+/// The corrector minus 1 if the corrector is above 0, else its distance below 0.
+// Neither this nor `index_in_width` branches, since a corrector's sign is not predictable: both values are computed and
+// then one is selected.
 #[inline]
-fn size_of_corrector(half: u32, difference: u32) -> u32
+fn magnitude(half: u32, difference: u32) -> u32
     requires some { 1 ≤ half }
     requires half { half ≤ 2147483648 }
     requires fits { difference < 2 * half }
@@ -59,13 +59,13 @@ fn size_of_corrector(half: u32, difference: u32) -> u32
     ensures down { half ≤ difference → result ≡ half - (difference - half) }
 {
     let up = difference.wrapping_sub(1);
-    let down = turn(half, difference).wrapping_sub(difference);
+    let down = fold_amount(half, difference).wrapping_sub(difference);
     if up < half - 1 { up } else { down }
 }
 
-/// What is between a difference and its corrector: nothing, or once around.
+/// The amount by which folding lowers a difference: 0, or 2^bits.
 #[inline]
-fn turn(half: u32, difference: u32) -> u32
+fn fold_amount(half: u32, difference: u32) -> u32
     requires { half ≤ 2147483648 }
     ensures up { difference < half → result ≡ 0 }
     ensures down { half ≤ difference → result ≡ 2 * half % 2 ^ 32 }
@@ -77,9 +77,9 @@ fn turn(half: u32, difference: u32) -> u32
     }
 }
 
-/// Which corrector of a width it is.
+/// The index of a corrector in its width.
 #[inline]
-fn place(half: u32, difference: u32, width: u32, size: u32) -> u32
+fn index_in_width(half: u32, difference: u32, width: u32, size: u32) -> u32
     requires small { width < 32 }
     requires above { size < 2 ^ width }
     ensures bit { difference < half → width ≡ 0 → result ≡ difference }
@@ -91,7 +91,7 @@ fn place(half: u32, difference: u32, width: u32, size: u32) -> u32
     if difference < half { up } else { down }
 }
 
-/// How many binary digits a number has.
+/// The number of binary digits of a number.
 #[inline]
 fn binary_digits(size: u32) -> u32
     ensures digits { result ≡ digits_of size }
@@ -103,7 +103,7 @@ fn binary_digits(size: u32) -> u32
     32 - size.leading_zeros()
 }
 
-/// Corrector `v` of width `k`, as a word: it is the same modulo 2^bits.
+/// Corrector `v` of width `k` as a word, up to a multiple of 2^bits.
 #[inline]
 fn corrector_word(bits: u32, k: u32, v: u32) -> u32
     requires few { bits ≤ 32 }

@@ -1,18 +1,18 @@
-//! Fields of a record that are coded only if they are marked as changed.
+//! Fields of a record that are coded only if they are marked as changed: bytes, and numbers of 16 bits.
 ghost use Rattle.std.specs.Prelude.{◌≡◌, ◌+◌, ◌<◌, ◌≤◌, ℕ, pos, false, length, IfOk, MatchResult, OnOk};
 ghost use Rattle.laz_range.specs.Coding.{Codes};
 ghost use Rattle.laz_range.specs.Decoding.{Reads, Takes, TakesNone};
 ghost use Rattle.laz_models.specs.Bank.{model_at, alphabet_sizes};
 ghost use Rattle.laz_models.specs.Dist.{alphabet_size};
 ghost use Rattle.laz_integer.specs.Integer.{IsInts};
-ghost use Rattle.laz_integer.specs.Fields.{IsByte, IsWord, byte_cuts, byte_next, word_cuts, word_made, word_next, word_written};
+ghost use Rattle.laz_integer.specs.Fields.{IsByte, IsWord, byte_cuts, byte_next, word_cuts, word_value, word_next, word_corrector};
 
 use crate::int_model::IntModel;
 use crate::symbols::{put_symbol_of, take_symbol_of};
 use laz_models::ModelBank;
 use laz_range::{Bad, Decoder, Encoder};
 
-/// Codes a byte under model `m` of a bank, if it is marked. The model is one of 256 symbols.
+/// Codes a byte under model `m` of a bank, which has 256 symbols, if the byte is marked.
 #[inline]
 pub fn put_byte(encoder: &mut Encoder, bank: &mut ModelBank, marked: bool, m: u32, byte: u8)
     requires model { m < length bank.old }
@@ -28,8 +28,8 @@ pub fn put_byte(encoder: &mut Encoder, bank: &mut ModelBank, marked: bool, m: u3
     }
 }
 
-/// Takes a byte under model `m` of a bank, if it is marked; else the byte is the expected one. The model is one of 256
-/// symbols. Bad says that the bytes run out: no symbol begins what is left of them.
+/// Reads a byte under model `m` of a bank, which has 256 symbols, if the byte is marked. A byte without its mark is the
+/// expected one. [`Bad`] means that the bytes end too early: no symbol begins those left.
 #[inline]
 pub fn take_byte(
     decoder: &mut Decoder<'_>,
@@ -53,7 +53,8 @@ pub fn take_byte(
     Ok(expected)
 }
 
-/// Codes a number of 16 bits with the prediction `pred`, if it is marked.
+/// Codes a number of 16 bits with the prediction `pred`, if the number is marked. It takes at most 9 bytes of the
+/// encoder's room.
 #[inline]
 pub fn put_word(
     encoder: &mut Encoder,
@@ -66,8 +67,8 @@ pub fn put_word(
     requires ints { IsInts 16 model.old.contexts model.old }
     requires context { ctx < model.old.contexts }
     requires left { 12 ≤ encoder.old.left }
-    ensures codes { Codes encoder.old encoder.new (word_cuts marked model.old ctx (word_written pred real)) }
-    ensures next { model.new ≡ word_next marked model.old ctx (word_written pred real) }
+    ensures codes { Codes encoder.old encoder.new (word_cuts marked model.old ctx (word_corrector pred real)) }
+    ensures next { model.new ≡ word_next marked model.old ctx (word_corrector pred real) }
     ensures ints { IsInts 16 model.old.contexts model.new }
     ensures used { encoder.old.left ≤ encoder.new.left + 9 }
 {
@@ -76,8 +77,8 @@ pub fn put_word(
     }
 }
 
-/// Takes a number of 16 bits with the prediction `pred`, if it is marked; else the number is the prediction. Bad says that
-/// no spelling with this prediction and context begins what is left of the bytes.
+/// Reads a number of 16 bits with the prediction `pred`, if the number is marked. A number without its mark is the
+/// prediction. [`Bad`] means that no spelling with this prediction and context begins the bytes that are left.
 #[inline]
 pub fn take_word(
     decoder: &mut Decoder<'_>,
@@ -90,7 +91,7 @@ pub fn take_word(
     requires within { decoder.old.taken ≤ length decoder.old.bytes }
     requires ints { IsInts 16 model.old.contexts model.old }
     requires context { ctx < model.old.contexts }
-    ensures reads { MatchResult result (λ value. (x : ℕ × ℕ) × Takes (IsWord marked) (word_cuts marked model.old ctx) decoder.old decoder.new x × (value ≡ word_made marked pred x) × (model.new ≡ word_next marked model.old ctx x)) (λ _. TakesNone (IsWord marked) (word_cuts marked model.old ctx) decoder.old decoder.new) }
+    ensures reads { MatchResult result (λ value. (x : ℕ × ℕ) × Takes (IsWord marked) (word_cuts marked model.old ctx) decoder.old decoder.new x × (value ≡ word_value marked pred x) × (model.new ≡ word_next marked model.old ctx x)) (λ _. TakesNone (IsWord marked) (word_cuts marked model.old ctx) decoder.old decoder.new) }
     ensures ints { IsInts 16 model.old.contexts model.new }
 {
     if marked {

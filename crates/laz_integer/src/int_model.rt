@@ -1,11 +1,11 @@
-//! Integers, as correctors of their predictions.
+//! Integers, coded as correctors of their predictions.
 ghost use Rattle.std.specs.Prelude.{◌≡◌, ◌+◌, ◌<◌, ◌≤◌, ◌^◌, ◌++◌, ℕ, ℤ, List, [], false, map, IfOk, OnErr, OnOk, MatchResult};
 ghost use Rattle.laz_range.specs.Coding.{Codes};
 ghost use Rattle.laz_range.specs.Decoding.{Takes, TakesNone};
 ghost use Rattle.laz_models.specs.BitCounting.{new_bit_model};
 ghost use Rattle.laz_models.specs.Counting.{new_model};
-ghost use Rattle.laz_integer.specs.Corrector.{HasBits, corrected, difference, place_of};
-ghost use Rattle.laz_integer.specs.Events.{Event, cuts_behind};
+ghost use Rattle.laz_integer.specs.Corrector.{HasBits, corrected, difference, corrector_index};
+ghost use Rattle.laz_integer.specs.Events.{Event, cuts_after};
 ghost use Rattle.laz_integer.specs.Integer.{IntEvents, IntSpell, IntStands, IsCorrector, IsIntState, NoInt, ReadsCorrector, ReadsInt, int_cuts, int_next, int_sizes, int_width};
 
 use crate::corrector::{between, correct, split};
@@ -15,10 +15,10 @@ use laz_range::{Bad, Decoder, Encoder};
 use std::alloc::{AllocError, Global};
 use std::marker::Model;
 
-/// Codes and reads integers of so many bits, each with a prediction and under a context.
+/// Codes and reads integers of a fixed number of bits, each with a prediction and a context.
 ///
-/// It stands for the events that it coded or read since it was made or reset: each of its models for those under its
-/// name. Only `new` takes memory.
+/// It stands for the events that it has coded or read since it was made or reset: each of its models for the events under
+/// the model's name. Only `new` allocates.
 #[derive(Drop)]
 pub struct IntModel {
     models: Models,
@@ -37,7 +37,7 @@ impl Model for IntModel {
 }
 
 impl IntModel {
-    /// Models of integers of 1 to 32 bits, under 1 to 32 contexts.
+    /// Models of integers of `bits` bits, 1 to 32, with 1 to 32 contexts.
     pub fn new(alloc: Global, bits: u32, contexts: u32) -> Result<Self, AllocError>
         requires some { 1 ≤ bits }
         requires few { bits ≤ 32 }
@@ -54,7 +54,7 @@ impl IntModel {
         Ok(IntModel { models })
     }
 
-    /// Makes all models as new.
+    /// Returns all models to their initial state.
     pub fn reset(&mut self)
         ensures bits { self.new.bits ≡ self.old.bits }
         ensures contexts { self.new.contexts ≡ self.old.contexts }
@@ -67,17 +67,17 @@ impl IntModel {
         self.models.zero_or_one.reset();
     }
 
-    /// Codes `real` with the prediction `pred`, and answers the width k of its corrector. Below 32 bits both are from 0 to
-    /// 2^bits - 1.
+    /// Codes `real` with the prediction `pred` and returns the width k of its corrector. Below 32 bits, `pred` and `real` are
+    /// from 0 to 2^bits - 1. It takes at most 12 bytes of the encoder's room, and at most 9 up to 27 bits.
     pub fn code(&mut self, encoder: &mut Encoder, pred: i32, real: i32, ctx: u32) -> u32
         requires context { ctx < self.old.contexts }
         requires pred { HasBits self.old.bits pred }
         requires real { HasBits self.old.bits real }
         requires left { 12 ≤ encoder.old.left }
         ensures width { result ≡ int_width self.old.bits pred real }
-        ensures codes { let d = difference self.old.bits pred real in Codes encoder.old encoder.new (int_cuts self.old ctx result (place_of self.old.bits d result)) }
-        ensures next { let d = difference self.old.bits pred real in self.new ≡ int_next self.old ctx result (place_of self.old.bits d result) }
-        ensures events { (kind : List ℕ) (earlier : List Event) → IntStands kind earlier self.old → Codes encoder.old encoder.new (cuts_behind earlier (IntEvents kind self.old.bits ctx pred real)) }
+        ensures codes { let d = difference self.old.bits pred real in Codes encoder.old encoder.new (int_cuts self.old ctx result (corrector_index self.old.bits d result)) }
+        ensures next { let d = difference self.old.bits pred real in self.new ≡ int_next self.old ctx result (corrector_index self.old.bits d result) }
+        ensures events { (kind : List ℕ) (earlier : List Event) → IntStands kind earlier self.old → Codes encoder.old encoder.new (cuts_after earlier (IntEvents kind self.old.bits ctx pred real)) }
         ensures stands { (kind : List ℕ) (earlier : List Event) → IntStands kind earlier self.old → IntStands kind (earlier ++ IntEvents kind self.old.bits ctx pred real) self.new }
         ensures spells { (kind : List ℕ) → IntSpell kind self.old.bits ctx pred (IntEvents kind self.old.bits ctx pred real) real result }
         ensures used { encoder.old.left ≤ encoder.new.left + 12 }
@@ -93,9 +93,11 @@ impl IntModel {
         k
     }
 
-    /// Reads an integer with the prediction `pred`, and the width k of its corrector. Below 32 bits the prediction is from 0
-    /// to 2^bits - 1, and so is the integer. Bad says that no spelling with this prediction and context begins what is left
-    /// of the bytes; the models are then good for nothing but a reset.
+    /// Reads an integer with the prediction `pred` and the width k of its corrector. Below 32 bits, `pred` and the integer are
+    /// from 0 to 2^bits - 1.
+    ///
+    /// [`Bad`] means that no spelling with this prediction and context begins the bytes that are left. Reset the models
+    /// before they are used again.
     pub fn read(
         &mut self,
         decoder: &mut Decoder<'_>,

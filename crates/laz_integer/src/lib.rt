@@ -1,7 +1,12 @@
-//! The integer compressor of LASzip: symbols and bits under models, and integers as correctors of their predictions.
+//! The integer compressor of LASzip: symbols and bits under adaptive models, and integers as correctors of their
+//! predictions.
 //!
-//! An integer is coded as the difference to its prediction, folded to the number of its bits: first how wide the
-//! corrector is, under a context, then which one of that width it is (Isenburg, LASzip, PE&RS 2013).
+//! An integer is coded as its corrector, which is the difference to its prediction folded into the integer's number of
+//! bits: first the width of the corrector, under a context, then the index of the corrector in that width (Isenburg,
+//! LASzip, PE&RS 2013).
+//!
+//! For the crates of items it also has fields that are coded only if they are marked as changed, and the laws of events
+//! under the names of their models.
 #![tactic(auto)]
 
 mod corrector;

@@ -1,4 +1,4 @@
-//! The models of an integer.
+//! The models of an integer, and the coding of correctors under them.
 ghost use Rattle.std.specs.Prelude.{◌≡◌, ◌+◌, ◌-◌, ◌/◌, ◌%◌, ◌^◌, ◌<◌, ◌≤◌, min, [], ◌∷◌, false, length, map, IfOk, OnErr};
 ghost use Rattle.laz_range.specs.Cut.{raw_cuts};
 ghost use Rattle.laz_range.specs.Coding.{Codes};
@@ -8,7 +8,7 @@ ghost use Rattle.laz_models.specs.BitCounting.{new_bit_model};
 ghost use Rattle.laz_models.specs.Counting.{new_model};
 ghost use Rattle.laz_models.specs.Dist.{alphabet_size};
 ghost use Rattle.laz_integer.specs.Corrector.{choices};
-ghost use Rattle.laz_integer.specs.Integer.{IsIntState, SameShape, IsCorrector, symbol_cut, high_at, symbol_counted, rest_events, events_cuts, events_next, int_cuts, int_next, int_sizes};
+ghost use Rattle.laz_integer.specs.Integer.{IsIntState, SameShape, IsCorrector, symbol_cut, high_at, symbol_next, rest_events, events_cuts, events_next, int_cuts, int_next, int_sizes};
 ghost use Rattle.laz_integer.specs.Models.{state_of};
 
 use crate::symbols::{put_bit, put_symbol_of, take_bit, take_symbol_of};
@@ -16,7 +16,7 @@ use laz_models::{BitModel, ModelBank};
 use laz_range::{Bad, Decoder, Encoder};
 use std::alloc::{AllocError, Global};
 
-/// The bank has a model of the width for each context, and then one of the high digits for each width from 1 on.
+/// The bank holds a model of the width for each context, then a model of the high digits for each width from 1 on.
 #[derive(Drop)]
 pub struct Models {
     pub bits: u32,
@@ -25,7 +25,7 @@ pub struct Models {
     pub bank: ModelBank,
 }
 
-/// How many symbols each model of the bank has.
+/// The number of symbols of each model of the bank.
 fn sizes(alloc: Global, bits: u32, contexts: u32) -> Result<Vec<u32>, AllocError>
     requires some { 1 ≤ bits }
     requires few { bits ≤ 32 }
@@ -40,7 +40,7 @@ fn sizes(alloc: Global, bits: u32, contexts: u32) -> Result<Vec<u32>, AllocError
     Ok(sizes)
 }
 
-/// Models of integers of so many bits, as new.
+/// New models of integers of `bits` bits.
 pub fn new_models(alloc: Global, bits: u32, contexts: u32) -> Result<Models, AllocError>
     requires some { 1 ≤ bits }
     requires few { bits ≤ 32 }
@@ -57,14 +57,14 @@ pub fn new_models(alloc: Global, bits: u32, contexts: u32) -> Result<Models, All
     })
 }
 
-/// Takes the width of a corrector.
+/// Reads the width of a corrector.
 #[inline]
 fn take_width(models: &mut Models, decoder: &mut Decoder<'_>, ctx: u32) -> Result<u32, Bad>
     requires good { decoder.old.failed ≡ false }
     requires state { IsIntState (state_of models.old) }
     requires context { ctx < models.old.contexts }
     ensures reads { Reads result (λ k. k ≤ models.old.bits) (λ k. symbol_cut (model_at models.old.bank ctx) k ∷ []) decoder.old decoder.new }
-    ensures next { IfOk result (λ k. state_of models.new ≡ symbol_counted (state_of models.old) ctx k) }
+    ensures next { IfOk result (λ k. state_of models.new ≡ symbol_next (state_of models.old) ctx k) }
     ensures kept { OnErr result (state_of models.new ≡ state_of models.old) }
     ensures shape { SameShape (state_of models.old) (state_of models.new) }
     ensures state { IsIntState (state_of models.new) }
@@ -72,7 +72,7 @@ fn take_width(models: &mut Models, decoder: &mut Decoder<'_>, ctx: u32) -> Resul
     take_symbol_of(decoder, &mut models.bank, ctx)
 }
 
-/// Takes the high digits of a corrector of width `k`.
+/// Reads the high digits of a corrector of width `k`.
 #[inline]
 fn take_high(models: &mut Models, decoder: &mut Decoder<'_>, k: u32) -> Result<u32, Bad>
     requires good { decoder.old.failed ≡ false }
@@ -80,7 +80,7 @@ fn take_high(models: &mut Models, decoder: &mut Decoder<'_>, k: u32) -> Result<u
     requires some { 0 < k }
     requires range { k ≤ models.old.bits }
     ensures reads { Reads result (λ s. s < 2 ^ min k 8) (λ s. symbol_cut (high_at (state_of models.old) k) s ∷ []) decoder.old decoder.new }
-    ensures next { IfOk result (λ s. state_of models.new ≡ symbol_counted (state_of models.old) (models.old.contexts + (k - 1)) s) }
+    ensures next { IfOk result (λ s. state_of models.new ≡ symbol_next (state_of models.old) (models.old.contexts + (k - 1)) s) }
     ensures kept { OnErr result (state_of models.new ≡ state_of models.old) }
     ensures shape { SameShape (state_of models.old) (state_of models.new) }
     ensures state { IsIntState (state_of models.new) }
@@ -88,7 +88,7 @@ fn take_high(models: &mut Models, decoder: &mut Decoder<'_>, k: u32) -> Result<u
     take_symbol_of(decoder, &mut models.bank, models.contexts + (k - 1))
 }
 
-/// Takes a corrector of a width above 8.
+/// Reads the index of a corrector of width `k`, which is above 8.
 #[inline]
 fn take_wide(models: &mut Models, decoder: &mut Decoder<'_>, k: u32) -> Result<u32, Bad>
     requires good { decoder.old.failed ≡ false }
@@ -97,7 +97,7 @@ fn take_wide(models: &mut Models, decoder: &mut Decoder<'_>, k: u32) -> Result<u
     requires small { k < 32 }
     requires range { k ≤ models.old.bits }
     ensures reads { Reads result (λ v. v < 2 ^ k) (λ v. symbol_cut (high_at (state_of models.old) k) (v / 2 ^ (k - 8)) ∷ raw_cuts (k - 8) (v % 2 ^ (k - 8))) decoder.old decoder.new }
-    ensures next { IfOk result (λ v. state_of models.new ≡ symbol_counted (state_of models.old) (models.old.contexts + (k - 1)) (v / 2 ^ (k - 8))) }
+    ensures next { IfOk result (λ v. state_of models.new ≡ symbol_next (state_of models.old) (models.old.contexts + (k - 1)) (v / 2 ^ (k - 8))) }
     ensures shape { SameShape (state_of models.old) (state_of models.new) }
     ensures state { IsIntState (state_of models.new) }
 {
@@ -106,7 +106,7 @@ fn take_wide(models: &mut Models, decoder: &mut Decoder<'_>, k: u32) -> Result<u
     Ok((high << (k - 8)) + low)
 }
 
-/// Takes a corrector of width `k`.
+/// Reads the index of a corrector of width `k`.
 #[inline]
 fn take_rest(models: &mut Models, decoder: &mut Decoder<'_>, k: u32) -> Result<u32, Bad>
     requires good { decoder.old.failed ≡ false }
@@ -131,7 +131,7 @@ fn take_rest(models: &mut Models, decoder: &mut Decoder<'_>, k: u32) -> Result<u
     take_wide(models, decoder, k)
 }
 
-/// Takes a corrector: its width, and which one of that width it is.
+/// Reads a corrector: its width, and its index in that width.
 #[inline]
 pub fn take(models: &mut Models, decoder: &mut Decoder<'_>, ctx: u32) -> Result<(u32, u32), Bad>
     requires good { decoder.old.failed ≡ false }
@@ -156,14 +156,14 @@ fn put_high(models: &mut Models, encoder: &mut Encoder, k: u32, s: u32)
     requires symbol { s < 2 ^ min k 8 }
     requires left { 3 ≤ encoder.old.left }
     ensures codes { Codes encoder.old encoder.new (symbol_cut (high_at (state_of models.old) k) s ∷ []) }
-    ensures next { state_of models.new ≡ symbol_counted (state_of models.old) (models.old.contexts + (k - 1)) s }
+    ensures next { state_of models.new ≡ symbol_next (state_of models.old) (models.old.contexts + (k - 1)) s }
     ensures shape { SameShape (state_of models.old) (state_of models.new) }
     ensures state { IsIntState (state_of models.new) }
 {
     put_symbol_of(encoder, &mut models.bank, models.contexts + (k - 1), s);
 }
 
-/// Codes corrector `v` of width `k`.
+/// Codes the index `v` of a corrector of width `k`.
 #[inline]
 fn put_rest(models: &mut Models, encoder: &mut Encoder, k: u32, v: u32)
     requires state { IsIntState (state_of models.old) }
@@ -190,7 +190,7 @@ fn put_rest(models: &mut Models, encoder: &mut Encoder, k: u32, v: u32)
     encoder.raw(k - 8, v & ((1 << (k - 8)) - 1));
 }
 
-/// Codes a corrector: its width `k`, and which one of that width it is.
+/// Codes a corrector: its width `k`, and its index `v` in that width.
 #[inline]
 pub fn put(models: &mut Models, encoder: &mut Encoder, ctx: u32, k: u32, v: u32)
     requires state { IsIntState (state_of models.old) }

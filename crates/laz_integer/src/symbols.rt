@@ -1,4 +1,4 @@
-//! Symbols and bits under models.
+//! Symbols and bits, each coded under a model that then counts it.
 ghost use Rattle.std.specs.Prelude.{◌≡◌, ◌≢◌, ◌<◌, ◌≤◌, ◌↔◌, ℕ, Bool, List, [], ◌∷◌, ◌++◌, ⊤, false, length, slice_set, IfOk, OnErr, IsErr};
 ghost use Rattle.laz_range.specs.Cut.{Bit, symbol};
 ghost use Rattle.laz_range.specs.Coding.{Codes};
@@ -29,7 +29,7 @@ pub fn put_symbol(encoder: &mut Encoder, model: &mut SymbolModel, s: u32)
     model.count(s);
 }
 
-/// Takes a symbol of a model, and counts it. Bad says that the bytes run out: no symbol begins what is left of them.
+/// Reads a symbol of a model, and counts it. [`Bad`] means that the bytes end too early: no symbol begins those left.
 #[inline]
 pub fn take_symbol(decoder: &mut Decoder<'_>, model: &mut SymbolModel) -> Result<u32, Bad>
     requires { decoder.old.failed ≡ false }
@@ -42,11 +42,11 @@ pub fn take_symbol(decoder: &mut Decoder<'_>, model: &mut SymbolModel) -> Result
     ensures stands { (h : List ℕ) → StandsFor h model.old → IfOk result (λ s. StandsFor (h ++ s ∷ []) model.new) }
     ensures none { (h : List ℕ) → StandsFor h model.old → OnErr result (NoneBegins (λ s. s < alphabet_size model.old) (λ s. symbol (dist (alphabet_size model.old) h) s ∷ []) decoder.old) }
 {
-    let s = model.find(decoder.at15());
-    let (lo, hi) = model.part(s);
+    let symbol = model.find(decoder.at15());
+    let (lo, hi) = model.part(symbol);
     decoder.take15(lo, hi)?;
-    model.count(s);
-    Ok(s)
+    model.count(symbol);
+    Ok(symbol)
 }
 
 /// Codes symbol `s` of model `m` of a bank, and counts it.
@@ -67,9 +67,9 @@ pub fn put_symbol_of(encoder: &mut Encoder, bank: &mut ModelBank, m: u32, s: u32
     bank.count(m, s);
 }
 
-/// Takes a symbol of model `m` of a bank, and counts it. Bad says that the bytes run out: no symbol begins what is left
-/// of them.
-// Inlined, so that an integer reads its symbols with the decoder at hand: out of line it costs a tenth more.
+/// Reads a symbol of model `m` of a bank, and counts it. [`Bad`] means that the bytes end too early: no symbol begins those
+/// left.
+// Inlined so that `IntModel::read` keeps the decoder's state in registers: out of line, a read takes a tenth longer.
 #[inline(always)]
 pub fn take_symbol_of(decoder: &mut Decoder<'_>, bank: &mut ModelBank, m: u32) -> Result<u32, Bad>
     requires good { decoder.old.failed ≡ false }
@@ -84,11 +84,11 @@ pub fn take_symbol_of(decoder: &mut Decoder<'_>, bank: &mut ModelBank, m: u32) -
     ensures others { (k : ℕ) → k ≢ m → model_at bank.new k ≡ model_at bank.old k }
     ensures sizes { alphabet_sizes bank.new ≡ alphabet_sizes bank.old }
 {
-    let s = bank.find(m, decoder.at15());
-    let (lo, hi) = bank.part(m, s);
+    let symbol = bank.find(m, decoder.at15());
+    let (lo, hi) = bank.part(m, symbol);
     decoder.take15(lo, hi)?;
-    bank.count(m, s);
-    Ok(s)
+    bank.count(m, symbol);
+    Ok(symbol)
 }
 
 /// Codes a bit under a model, and counts it.
@@ -105,7 +105,7 @@ pub fn put_bit(encoder: &mut Encoder, model: &mut BitModel, bit: bool)
     model.count(bit);
 }
 
-/// Takes a bit under a model, and counts it. Bad says that the bytes run out: neither bit begins what is left of them.
+/// Reads a bit under a model, and counts it. [`Bad`] means that the bytes end too early: neither bit begins those left.
 #[inline]
 pub fn take_bit(decoder: &mut Decoder<'_>, model: &mut BitModel) -> Result<bool, Bad>
     requires { decoder.old.failed ≡ false }

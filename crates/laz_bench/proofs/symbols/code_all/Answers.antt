@@ -1,4 +1,4 @@
-use Rattle.std.proofs.Common.{◌%◌, ◌<◌, arith}
+use Rattle.std.proofs.Common.{◌%◌, arith}
 use Rattle.laz_bench.proofs.Sizes.{size_at}
 use Rattle.laz_bench.proofs.symbols.code_all.Goals as goal
 

@@ -1,5 +1,5 @@
 use Rattle.std.proofs.Common.{◌≤◌, ◌∙◌, ap, arith}
-use Rattle.laz_integer.specs.Corrector.{width_of, place_of}
+use Rattle.laz_integer.specs.Corrector.{width_of, corrector_index}
 use Rattle.laz_integer.specs.Models.{state_of}
 use Rattle.laz_integer.proofs.Spellings.{IsWritten, written-codes, written-stands, written-spells, corrected-is, int-used, int-short, difference-passed, word_of}
 use Rattle.laz_integer.proofs.int_model.IntModel.code.Goals as goal
@@ -9,7 +9,7 @@ returns-clause-events c kind earlier h =
     let st = state_of c.self.inside.models in
     let split = c.split-k.ensures in
     let d = difference-passed st.bits c.args.pred c.args.real _ c.ranges.pred c.ranges.real c.between.ensures.difference in
-    let written : IsWritten st.bits c.args.pred c.args.real c.split-k.result.0 c.split-k.result.1 = (split.width ∙ ap (λ n. width_of st.bits n) d, split.place ∙ ap (λ n. place_of st.bits n c.split-k.result.0) d) in
+    let written : IsWritten st.bits c.args.pred c.args.real c.split-k.result.0 c.split-k.result.1 = (split.width ∙ ap (λ n. width_of st.bits n) d, split.index ∙ ap (λ n. corrector_index st.bits n c.split-k.result.0) d) in
     rw (← c.self.view_is) (written-codes kind earlier st c.args.ctx c.args.pred c.args.real c.split-k.result.0 c.split-k.result.1 _ _ c.self.invariant (rw (← c.self.view_is) at c.requires.context) split.digits split.value (rw (← c.self.view_is) at h) written c.put.ensures.codes)
 
 pub returns-clause-stands : goal.returns-clause-stands
@@ -17,7 +17,7 @@ returns-clause-stands c kind earlier h =
     let st = state_of c.self.inside.models in
     let split = c.split-k.ensures in
     let d = difference-passed st.bits c.args.pred c.args.real _ c.ranges.pred c.ranges.real c.between.ensures.difference in
-    let written : IsWritten st.bits c.args.pred c.args.real c.split-k.result.0 c.split-k.result.1 = (split.width ∙ ap (λ n. width_of st.bits n) d, split.place ∙ ap (λ n. place_of st.bits n c.split-k.result.0) d) in
+    let written : IsWritten st.bits c.args.pred c.args.real c.split-k.result.0 c.split-k.result.1 = (split.width ∙ ap (λ n. width_of st.bits n) d, split.index ∙ ap (λ n. corrector_index st.bits n c.split-k.result.0) d) in
     rw (← c.self.view_is) (written-stands kind earlier st (state_of c.put.new.models) c.args.ctx c.args.pred c.args.real c.split-k.result.0 c.split-k.result.1 c.self.invariant (rw (← c.self.view_is) at c.requires.context) split.digits split.value (rw (← c.self.view_is) at h) written c.put.ensures.next)
 
 pub returns-clause-spells : goal.returns-clause-spells
@@ -25,7 +25,7 @@ returns-clause-spells c kind =
     let st = state_of c.self.inside.models in
     let split = c.split-k.ensures in
     let d = difference-passed st.bits c.args.pred c.args.real _ c.ranges.pred c.ranges.real c.between.ensures.difference in
-    let written : IsWritten st.bits c.args.pred c.args.real c.split-k.result.0 c.split-k.result.1 = (split.width ∙ ap (λ n. width_of st.bits n) d, split.place ∙ ap (λ n. place_of st.bits n c.split-k.result.0) d) in
+    let written : IsWritten st.bits c.args.pred c.args.real c.split-k.result.0 c.split-k.result.1 = (split.width ∙ ap (λ n. width_of st.bits n) d, split.index ∙ ap (λ n. corrector_index st.bits n c.split-k.result.0) d) in
     let makes = corrected-is st.bits c.args.pred c.args.real c.split-k.result.0 c.split-k.result.1 c.self.invariant.few c.ranges.real (word_of c.args.pred c.ranges.pred) (rw (← c.self.view_is) at c.requires.real) (split.makes ∙ d) in
     rw (← c.self.view_is) (written-spells kind st.bits c.args.ctx c.args.pred c.args.real c.split-k.result.0 c.split-k.result.1 split.digits split.value written makes)
 
