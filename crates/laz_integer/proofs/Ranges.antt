@@ -1,36 +1,25 @@
 -- Lawful events cut out lawful parts. Meant for the crates of items and chunks, too.
-use Rattle.std.proofs.Common.{◌≡◌, ℕ, ◌+◌, ◌^◌, ◌<◌, ◌≤◌, eqb, ◌&&◌, min, Bool, true, false, if◌then◌else◌, List, [], ◌∷◌, ◌++◌, refl, sym, ap, subst, ◌∙◌, arith, ⊎_elim, lit<, lit≤, append_assoc}
+use Rattle.std.proofs.Common.{◌≡◌, ℕ, ◌+◌, ◌^◌, ◌<◌, ◌≤◌, eqb, ◌&&◌, min, Bool, true, false, if◌then◌else◌, List, [], ◌∷◌, ◌++◌, refl, sym, ap, subst, ◌∙◌, arith, ⊎_elim, lit<, lit≤}
 use Rattle.std.proofs.lemmas.Bool.{cases_lt, eqb-true}
-use Rattle.std.proofs.lemmas.List.{append-nil}
-use Rattle.std.specs.List.{AllByRecursion}
 use Rattle.laz_range.specs.Cut.{Cut, Bit, Raw, AreCuts, AreAlike, IsCut, symbol}
 use Rattle.laz_range.specs.Span.{Begins, span}
 use Rattle.laz_range.proofs.Distributions.{AreAlike-symbols}
 use Rattle.laz_range.proofs.Cuts.{raw_high}
-use Rattle.laz_models.specs.Counting.{Counting, AreStarts, after_symbol, new_model}
-use Rattle.laz_models.specs.BitCounting.{BitCounting, IsBitCounting, after_bit, new_bit_model}
-use Rattle.laz_models.specs.Dist.{Stands, dist, alphabet_size}
-use Rattle.laz_models.specs.BitDist.{BitStandsFor, p0_of}
-use Rattle.laz_models.proofs.Stand.{Stands-push, Stands-new_model}
-use Rattle.laz_models.proofs.BitStand.{BitStandsFor-push, BitStandsFor-new_bit_model}
-use Rattle.laz_models.proofs.Banks.{size-after_symbol, size-new_model}
-use Rattle.laz_models.specs.Sound.{IsSound}
+use Rattle.laz_models.specs.Counting.{AreStarts}
+use Rattle.laz_models.specs.Dist.{AreSymbols, dist}
+use Rattle.laz_models.proofs.Lists.{dist-AreStarts, p0-some, p0-below}
+use Rattle.laz_models.specs.BitDist.{p0_of}
 use Rattle.laz_integer.specs.Corrector.{choices}
 use Rattle.laz_integer.specs.Events.{Event, Symbol, Flag, Bits, Name, Role, Own, Width, ZeroOrOne, High, same_role, same_text, same_name, symbols_under, bits_under, cut_after, cuts_after, cuts_of, raw_events}
 use Rattle.laz_integer.specs.Integer.{IntSpell, corrector_events}
 use Rattle.laz_integer.specs.Ranged.{IsRanged, AreRanged, AreOneKind, HasIntSizes}
 use Rattle.laz_integer.specs.Uses.{name_of, own_name}
 use Rattle.laz_integer.specs.Fields.{SpellsByte, SpellsWord}
-use Rattle.laz_models.proofs.Sounds.{IsSound-new_model, IsSound-after_symbol, IsBitCounting-after_bit, IsBitCounting-new_bit_model}
 use Rattle.laz_integer.proofs.SymbolParts.{AreCuts-symbol, IsDistribution-starts, symbol_back}
 use Rattle.laz_integer.proofs.Correctors.{power-le}
 use Rattle.laz_integer.proofs.Counted.{IsIntSymbol, AreIntEvents, corrector-events}
 use Rattle.laz_integer.proofs.Named.{cuts_after-append, raw-wide, raw-short}
 use Rattle.laz_integer.proofs.Uses.{both_true}
-
--- each is below n
-abbrev pub AreBelow : ℕ → List ℕ → Type 0
-AreBelow n symbols = AllByRecursion (λ s. s < n) symbols
 
 pub AreRanged-append : (sizes : Name → ℕ) (xs ys : List Event) → AreRanged sizes xs → AreRanged sizes ys → AreRanged sizes (xs ++ ys)
 AreRanged-append sizes [] ys h k = k
@@ -86,57 +75,26 @@ by-case : (P : List ℕ → Type 0) (b : Bool) (xs ys : List ℕ) → (b ≡ tru
 by-case P true xs ys f g = f refl
 by-case P false xs ys f g = g
 
-pub under-below : (sizes : Name → ℕ) (name : Name) (events : List Event) → AreRanged sizes events → AreBelow (sizes name) (symbols_under name events)
-under-below sizes name [] h = tt
-under-below sizes name (Symbol other n s ∷ events) h =
-    let rest = under-below sizes name events h.1 in
-    by-case (AreBelow (sizes name)) (same_name name other) (s ∷ symbols_under name events) (symbols_under name events)
+pub under-AreSymbols : (sizes : Name → ℕ) (name : Name) (events : List Event) → AreRanged sizes events → AreSymbols (sizes name) (symbols_under name events)
+under-AreSymbols sizes name [] h = tt
+under-AreSymbols sizes name (Symbol other n s ∷ events) h =
+    let rest = under-AreSymbols sizes name events h.1 in
+    by-case (AreSymbols (sizes name)) (same_name name other) (s ∷ symbols_under name events) (symbols_under name events)
     (λ same. (omega (arith, h.0.0, h.0.3, ap sizes (name-is name other same)), rest))
     rest
-under-below sizes name (Flag other bit ∷ events) h = under-below sizes name events h.1
-under-below sizes name (Bits b v ∷ events) h = under-below sizes name events h.1
-
--- ---- the parts of every list of symbols are a distribution
-abbrev pub counted_all : Counting → List ℕ → Counting
-counted_all m [] = m
-counted_all m (s ∷ xs) = counted_all (after_symbol m s) xs
-
-stands-all : (n : ℕ) (h xs : List ℕ) (m : Counting) → 2 ≤ n → alphabet_size m ≡ n → Stands n h m → IsSound m → AreBelow n xs → Stands n (h ++ xs) (counted_all m xs) × IsSound (counted_all m xs) × (alphabet_size (counted_all m xs) ≡ n)
-stands-all n h [] m many size stands sound all = (subst (λ l. Stands n l m) (sym (append-nil h)) stands, sound, size)
-stands-all n h (s ∷ xs) m many size stands sound all =
-    let rest = stands-all n (h ++ s ∷ []) xs (after_symbol m s) many (size-after_symbol m s ∙ size) (Stands-push n h s m many all.0 stands) (IsSound-after_symbol m s sound (omega (arith, all.0, size))) all.1 in
-    (subst (λ l. Stands n l (counted_all (after_symbol m s) xs)) (append_assoc h (s ∷ []) xs) rest.0, rest.1, rest.2)
-
-pub dist-parts : (n : ℕ) (h : List ℕ) → 2 ≤ n → n ≤ 2048 → AreBelow n h → AreStarts n (dist n h)
-dist-parts n h many few all =
-    let r = stands-all n [] h (new_model n) many (size-new_model n) (Stands-new_model n many) (IsSound-new_model n many few) all in
-    subst (λ (ps : List ℕ). AreStarts n ps) r.0.starts (subst (λ (k : ℕ). AreStarts k (counted_all (new_model n) h).starts) r.2 r.1.starts)
-
-abbrev pub bits_counted : BitCounting → List Bool → BitCounting
-bits_counted m [] = m
-bits_counted m (b ∷ xs) = bits_counted (after_bit m b) xs
-
-bits-all : (h xs : List Bool) (m : BitCounting) → BitStandsFor h m → IsBitCounting m → BitStandsFor (h ++ xs) (bits_counted m xs) × IsBitCounting (bits_counted m xs)
-bits-all h [] m stands is = (subst (λ l. BitStandsFor l m) (sym (append-nil h)) stands, is)
-bits-all h (b ∷ xs) m stands is =
-    let rest = bits-all (h ++ b ∷ []) xs (after_bit m b) (BitStandsFor-push h b m stands) (IsBitCounting-after_bit m b is) in
-    (subst (λ l. BitStandsFor l (bits_counted (after_bit m b) xs)) (append_assoc h (b ∷ []) xs) rest.0, rest.1)
-
-pub bit-part : (h : List Bool) → (0 < p0_of h) × (p0_of h < 8192)
-bit-part h =
-    let r = bits-all [] h new_bit_model BitStandsFor-new_bit_model IsBitCounting-new_bit_model in
-    (omega (arith, r.0.p0, r.1.p0_some), omega (arith, r.0.p0, r.1.p0_below))
+under-AreSymbols sizes name (Flag other bit ∷ events) h = under-AreSymbols sizes name events h.1
+under-AreSymbols sizes name (Bits b v ∷ events) h = under-AreSymbols sizes name events h.1
 
 -- ---- lawful events cut lawfully
 pub AreCuts-ranged : (sizes : Name → ℕ) (earlier events : List Event) → AreRanged sizes earlier → AreRanged sizes events → AreCuts (cuts_after earlier events)
 AreCuts-ranged sizes earlier [] before h = tt
 AreCuts-ranged sizes earlier (Symbol name n s ∷ events) before h =
-    let small : AreBelow n (symbols_under name earlier) = subst (λ (k : ℕ). AreBelow k (symbols_under name earlier)) (sym h.0.0) (under-below sizes name earlier before) in (
-      (AreCuts-symbol n (dist n (symbols_under name earlier)) s (dist-parts n (symbols_under name earlier) h.0.1 h.0.2 small) h.0.3).0,
+    let small : AreSymbols n (symbols_under name earlier) = subst (λ (k : ℕ). AreSymbols k (symbols_under name earlier)) (sym h.0.0) (under-AreSymbols sizes name earlier before) in (
+      (AreCuts-symbol n (dist n (symbols_under name earlier)) s (dist-AreStarts n (symbols_under name earlier) h.0.1 h.0.2 small) h.0.3).0,
       AreCuts-ranged sizes (earlier ++ Symbol name n s ∷ []) events (AreRanged-append sizes earlier (Symbol name n s ∷ []) before (h.0, tt)) h.1,
     )
 AreCuts-ranged sizes earlier (Flag name bit ∷ events) before h =
-    (bit-part (bits_under name earlier), AreCuts-ranged sizes (earlier ++ Flag name bit ∷ []) events (AreRanged-append sizes earlier (Flag name bit ∷ []) before (h.0, tt)) h.1)
+    ((p0-some (bits_under name earlier), p0-below (bits_under name earlier)), AreCuts-ranged sizes (earlier ++ Flag name bit ∷ []) events (AreRanged-append sizes earlier (Flag name bit ∷ []) before (h.0, tt)) h.1)
 AreCuts-ranged sizes earlier (Bits b v ∷ events) before h =
     (h.0, AreCuts-ranged sizes (earlier ++ Bits b v ∷ []) events (AreRanged-append sizes earlier (Bits b v ∷ []) before (h.0, tt)) h.1)
 
@@ -192,7 +150,7 @@ IsCut-ranged sizes front e before h = (AreCuts-ranged sizes front (e ∷ []) bef
 
 dist-is : (sizes : Name → ℕ) (front : List Event) (name : Name) (n s : ℕ) → AreRanged sizes front → IsRanged sizes (Symbol name n s) → AreStarts n (dist n (symbols_under name front))
 dist-is sizes front name n s before h =
-    dist-parts n (symbols_under name front) h.1 h.2 (subst (λ (k : ℕ). AreBelow k (symbols_under name front)) (sym h.0) (under-below sizes name front before))
+    dist-AreStarts n (symbols_under name front) h.1 h.2 (subst (λ (k : ℕ). AreSymbols k (symbols_under name front)) (sym h.0) (under-AreSymbols sizes name front before))
 
 same_number : (sizes : Name → ℕ) (a b : Name) (n m : ℕ) → n ≡ sizes a → m ≡ sizes b → a ≡ b → m ≡ n
 same_number sizes a b n m e f g = cc

@@ -1,5 +1,6 @@
 use Rattle.std.specs.Prelude.{ℕ, ◌-◌, ◌/◌, ◌%◌, ◌==◌, ◌&&◌, Bool, true, false, if◌then◌else◌, nat_lt, List, [], ◌∷◌, ◌++◌}
 use Rattle.laz_range.specs.Cut.{Cut, Bit, Raw, symbol}
+use Rattle.laz_range.specs.declared.limits.TheConstants.{MAX_RAW_BITS}
 use Rattle.laz_models.specs.Dist.{dist}
 use Rattle.laz_models.specs.BitDist.{p0_of}
 
@@ -72,4 +73,4 @@ cuts_of events = cuts_after [] events
 
 -- A raw value of more than 19 bits is two events: its low 16 bits, and the rest.
 abbrev pub raw_events : ℕ → ℕ → List Event
-raw_events b v = if nat_lt 19 b then Bits 16 (v % 65536) ∷ Bits (b - 16) (v / 65536) ∷ [] else Bits b v ∷ []
+raw_events b v = if nat_lt MAX_RAW_BITS b then Bits 16 (v % 65536) ∷ Bits (b - 16) (v / 65536) ∷ [] else Bits b v ∷ []

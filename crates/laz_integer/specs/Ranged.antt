@@ -1,14 +1,16 @@
 -- Which events are lawful, and which are of one kind.
 use Rattle.std.specs.Prelude.{◌≡◌, ℕ, ◌+◌, ◌^◌, ◌<◌, ◌≤◌, min, List}
 use Rattle.std.specs.List.{AllByRecursion}
+use Rattle.laz_range.specs.declared.limits.TheConstants.{MAX_RAW_BITS}
+use Rattle.laz_models.specs.declared.limits.TheConstants.{MAX_SYMBOLS}
 use Rattle.laz_integer.specs.Events.{Event, Symbol, Flag, Bits, Name}
 use Rattle.laz_integer.specs.Integer.{width_name, high_name}
 
 -- A lawful event, where `sizes` says how many symbols the model of each name has: a symbol is below that number, which is from 2 to 2,048, and a raw value has 1 to 19 bits.
 abbrev pub IsRanged : (Name → ℕ) → Event → Type 0
-IsRanged sizes (Symbol name n s) = (n ≡ sizes name) × (2 ≤ n) × (n ≤ 2048) × (s < n)
+IsRanged sizes (Symbol name n s) = (n ≡ sizes name) × (2 ≤ n) × (n ≤ MAX_SYMBOLS) × (s < n)
 IsRanged sizes (Flag name bit) = Unit {0}
-IsRanged sizes (Bits b v) = (0 < b) × (b ≤ 19) × (v < 2 ^ b)
+IsRanged sizes (Bits b v) = (0 < b) × (b ≤ MAX_RAW_BITS) × (v < 2 ^ b)
 
 -- Each event is lawful.
 abbrev pub AreRanged : (Name → ℕ) → List Event → Type 0
