@@ -1,4 +1,4 @@
--- Fields of a record that are coded only if they are marked: a byte under a model of 256 symbols, or a number of 16 bits as an integer.
+-- Fields of a record that are coded only if they are marked as changed: bytes under models of 256 symbols, and numbers of 16 bits as integers.
 use Rattle.std.specs.Prelude.{◌≡◌, ℕ, ℤ, pos, nat_abs, ◌<◌, Bool, true, false, List, [], ◌∷◌, length, slice_set}
 use Rattle.laz_range.specs.Cut.{Cut}
 use Rattle.laz_models.specs.Counting.{Counting, after_symbol}
@@ -9,9 +9,9 @@ use Rattle.laz_integer.specs.Events.{Event, Symbol, symbols_under}
 use Rattle.laz_integer.specs.Integer.{IntState, IntEvents, IntSpell, IsCorrector, symbol_cut, int_cuts, int_next, int_width}
 use Rattle.laz_integer.specs.Uses.{own_name}
 
--- ---- in events
+-- ---- events
 
--- Events that stand only if their field is marked.
+-- The events of a field, if it is marked; else none.
 abbrev pub if_marked : Bool → List Event → List Event
 if_marked true events = events
 if_marked false events = []
@@ -24,38 +24,38 @@ byte_events kind m s = Symbol (own_name kind m) 256 s ∷ []
 abbrev pub word_events : List ℕ → ℕ → ℕ → ℕ → List Event
 word_events kind ctx pred real = IntEvents kind 16 ctx (pos pred) (pos real)
 
--- Events that spell a byte: if it is marked, a symbol under model m; else none, and it is the expected one.
+-- Events that spell a byte: a symbol under model m if the byte is marked; else none, and the byte is the expected one.
 abbrev pub SpellsByte : Bool → List ℕ → ℕ → ℕ → List Event → ℕ → Type 0
 SpellsByte true kind m expected events s = (s < 256) × (events ≡ byte_events kind m s)
 SpellsByte false kind m expected events s = (events ≡ []) × (s ≡ expected)
 
--- Events that spell a number of 16 bits: if it is marked, those of any corrector that makes it of its prediction; else none, and it is the prediction.
+-- Events that spell a number of 16 bits: those of any corrector that makes it of its prediction if the number is marked; else none, and the number is the prediction.
 abbrev pub SpellsWord : Bool → List ℕ → ℕ → ℕ → List Event → ℕ → Type 0
 SpellsWord true kind ctx pred events value = (k : ℕ) × IntSpell kind 16 ctx (pos pred) events (pos value) k
 SpellsWord false kind ctx pred events value = (events ≡ []) × (value ≡ pred)
 
--- ---- in states of the models
+-- ---- states of models
 
 -- Each model of a bank stands for the symbols under its name of a use.
 abbrev pub BankStands : List ℕ → List Event → List Counting → Type 0
 BankStands kind events bank = (m : ℕ) → m < length bank → StandsFor (symbols_under (own_name kind m) events) (model_at bank m)
 
--- The part of a byte under model m of a bank.
+-- The parts of a byte under model m of a bank.
 abbrev pub byte_cuts : Bool → List Counting → ℕ → ℕ → List Cut
 byte_cuts true bank m s = symbol_cut (model_at bank m) s ∷ []
 byte_cuts false bank m s = []
 
--- The bank after it.
+-- The bank after them.
 abbrev pub byte_next : Bool → List Counting → ℕ → ℕ → List Counting
 byte_next true bank m s = slice_set bank m (after_symbol (model_at bank m) s)
 byte_next false bank m s = bank
 
--- Which bytes may be read: any that is marked, else the expected one.
+-- A byte that may be read: any if it is marked, else the expected one.
 abbrev pub IsByte : Bool → ℕ → ℕ → Type 0
 IsByte true expected s = s < 256
 IsByte false expected s = s ≡ expected
 
--- Which corrector a writer takes, as width and place.
+-- The corrector that a writer chooses, as width and index.
 abbrev pub int_corrector : ℕ → ℤ → ℤ → ℕ × ℕ
 int_corrector bits pred real =
     let k = int_width bits pred real in (k, corrector_index bits (difference bits pred real) k)
@@ -69,12 +69,12 @@ abbrev pub word_cuts : Bool → IntState → ℕ → ℕ × ℕ → List Cut
 word_cuts true st ctx x = int_cuts st ctx x.0 x.1
 word_cuts false st ctx x = []
 
--- The models after them.
+-- The state after them.
 abbrev pub word_next : Bool → IntState → ℕ → ℕ × ℕ → IntState
 word_next true st ctx x = int_next st ctx x.0 x.1
 word_next false st ctx x = st
 
--- Which correctors may be read: any of a number that is marked, else one that stands for none.
+-- A corrector that may be read: any if the number is marked, else (0, 0), which then stands for no corrector.
 abbrev pub IsWord : Bool → ℕ × ℕ → Type 0
 IsWord true x = IsCorrector 16 x
 IsWord false x = x ≡ (0, 0)

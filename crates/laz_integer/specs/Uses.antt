@@ -1,4 +1,4 @@
--- The uses of models: which events are under names of a use, and which uses differ.
+-- Uses of models: which events are under names of a use, and which uses differ.
 use Rattle.std.specs.Prelude.{◌≡◌, ℕ, ◌&&◌, Bool, true, not, List, [], ◌∷◌}
 use Rattle.std.specs.List.{AllByRecursion}
 use Rattle.laz_integer.specs.Events.{Event, Name, Role, Own, same_text, symbols_under, bits_under}

@@ -8,6 +8,7 @@ ghost use Rattle.laz_integer.specs.Integer.{IsInts};
 ghost use Rattle.laz_integer.specs.Fields.{IsByte, IsWord, byte_cuts, byte_next, word_cuts, word_value, word_next, word_corrector};
 
 use crate::int_model::IntModel;
+use crate::limits::{MAX_INT_BYTES, MAX_SHORT_INT_BYTES};
 use crate::symbols::{put_symbol_of, take_symbol_of};
 use laz_models::ModelBank;
 use laz_range::{Bad, Decoder, Encoder};
@@ -66,11 +67,11 @@ pub fn put_word(
 )
     requires ints { IsInts 16 model.old.contexts model.old }
     requires context { ctx < model.old.contexts }
-    requires left { 12 ≤ encoder.old.left }
+    requires left { MAX_INT_BYTES ≤ encoder.old.left }
     ensures codes { Codes encoder.old encoder.new (word_cuts marked model.old ctx (word_corrector pred real)) }
     ensures next { model.new ≡ word_next marked model.old ctx (word_corrector pred real) }
     ensures ints { IsInts 16 model.old.contexts model.new }
-    ensures used { encoder.old.left ≤ encoder.new.left + 9 }
+    ensures used { encoder.old.left ≤ encoder.new.left + MAX_SHORT_INT_BYTES }
 {
     if marked {
         model.code(encoder, pred as i32, real as i32, ctx);

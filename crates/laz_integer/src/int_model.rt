@@ -9,6 +9,7 @@ ghost use Rattle.laz_integer.specs.Events.{Event, cuts_after};
 ghost use Rattle.laz_integer.specs.Integer.{IntEvents, IntSpell, IntStands, IsCorrector, IsIntState, NoInt, ReadsCorrector, ReadsInt, int_cuts, int_next, int_sizes, int_width};
 
 use crate::corrector::{between, correct, split};
+use crate::limits::{MAX_BITS, MAX_CONTEXTS, MAX_INT_BYTES, MAX_SHORT_INT_BYTES, SHORT_BITS};
 use crate::models::{Models, new_models, put, take};
 use laz_models::BitModel;
 use laz_range::{Bad, Decoder, Encoder};
@@ -40,9 +41,9 @@ impl IntModel {
     /// Models of integers of `bits` bits, 1 to 32, with 1 to 32 contexts.
     pub fn new(alloc: Global, bits: u32, contexts: u32) -> Result<Self, AllocError>
         requires some { 1 ≤ bits }
-        requires few { bits ≤ 32 }
+        requires few { bits ≤ MAX_BITS }
         requires context { 1 ≤ contexts }
-        requires contexts { contexts ≤ 32 }
+        requires contexts { contexts ≤ MAX_CONTEXTS }
         ensures bits { IfOk result (λ m. m.bits ≡ bits) }
         ensures contexts { IfOk result (λ m. m.contexts ≡ contexts) }
         ensures bit { IfOk result (λ m. m.zero_or_one ≡ new_bit_model) }
@@ -73,15 +74,15 @@ impl IntModel {
         requires context { ctx < self.old.contexts }
         requires pred { HasBits self.old.bits pred }
         requires real { HasBits self.old.bits real }
-        requires left { 12 ≤ encoder.old.left }
+        requires left { MAX_INT_BYTES ≤ encoder.old.left }
         ensures width { result ≡ int_width self.old.bits pred real }
         ensures codes { let d = difference self.old.bits pred real in Codes encoder.old encoder.new (int_cuts self.old ctx result (corrector_index self.old.bits d result)) }
         ensures next { let d = difference self.old.bits pred real in self.new ≡ int_next self.old ctx result (corrector_index self.old.bits d result) }
         ensures events { (kind : List ℕ) (earlier : List Event) → IntStands kind earlier self.old → Codes encoder.old encoder.new (cuts_after earlier (IntEvents kind self.old.bits ctx pred real)) }
         ensures stands { (kind : List ℕ) (earlier : List Event) → IntStands kind earlier self.old → IntStands kind (earlier ++ IntEvents kind self.old.bits ctx pred real) self.new }
         ensures spells { (kind : List ℕ) → IntSpell kind self.old.bits ctx pred (IntEvents kind self.old.bits ctx pred real) real result }
-        ensures used { encoder.old.left ≤ encoder.new.left + 12 }
-        ensures short { self.old.bits ≤ 27 → encoder.old.left ≤ encoder.new.left + 9 }
+        ensures used { encoder.old.left ≤ encoder.new.left + MAX_INT_BYTES }
+        ensures short { self.old.bits ≤ SHORT_BITS → encoder.old.left ≤ encoder.new.left + MAX_SHORT_INT_BYTES }
         ensures range { result ≤ self.old.bits }
         ensures bits { self.new.bits ≡ self.old.bits }
         ensures contexts { self.new.contexts ≡ self.old.contexts }

@@ -11,6 +11,7 @@ ghost use Rattle.laz_integer.specs.Integer.{IntEvents, IntSpell, IntStands, IntS
 ghost use Rattle.laz_integer.specs.Ranged.{AreOneKind, AreRanged, HasIntSizes, IsRanged};
 ghost use Rattle.laz_integer.specs.Uses.{Silent};
 
+use crate::limits::{MAX_BITS, SHORT_BITS};
 use laz_range::{bytes_fit, fronts_begin, one_begins};
 
 /// Lawful events, coded after lawful events, cut out parts that are not empty.
@@ -43,16 +44,16 @@ pub fn one_event_begins()
 /// The events that a writer makes of an integer spell the integer, for every integer and prediction. Below 32 bits the
 /// integer is from 0 to 2^bits - 1.
 pub fn integers_are_spelled()
-    ensures { (kind : List ℕ) (bits ctx : ℕ) (pred real : ℤ) → 1 ≤ bits → bits ≤ 32 → FitsSigned w32 pred → FitsSigned w32 real → HasBits bits real → IntSpell kind bits ctx pred (IntEvents kind bits ctx pred real) real (int_width bits pred real) }
+    ensures { (kind : List ℕ) (bits ctx : ℕ) (pred real : ℤ) → 1 ≤ bits → bits ≤ MAX_BITS → FitsSigned w32 pred → FitsSigned w32 real → HasBits bits real → IntSpell kind bits ctx pred (IntEvents kind bits ctx pred real) real (int_width bits pred real) }
 {}
 
 /// Events that spell an integer are lawful. There are at most 4 of them, and at most 3 up to 27 bits. None is under a name
 /// of another use.
 pub fn integers_are_lawful()
-    ensures ranged { (sizes : Name → ℕ) (kind : List ℕ) (bits ctx : ℕ) (pred value : ℤ) (events : List Event) (k : ℕ) → HasIntSizes sizes kind bits → 1 ≤ bits → bits ≤ 32 → IntSpell kind bits ctx pred events value k → AreRanged sizes events }
-    ensures few { (kind : List ℕ) (bits ctx : ℕ) (pred value : ℤ) (events : List Event) (k : ℕ) → bits ≤ 32 → IntSpell kind bits ctx pred events value k → length events ≤ 4 }
-    ensures fewer { (kind : List ℕ) (bits ctx : ℕ) (pred value : ℤ) (events : List Event) (k : ℕ) → bits ≤ 27 → IntSpell kind bits ctx pred events value k → length events ≤ 3 }
-    ensures silent { (other kind : List ℕ) (bits ctx : ℕ) (pred value : ℤ) (events : List Event) (k : ℕ) → same_text other kind ≡ false → bits ≤ 32 → IntSpell kind bits ctx pred events value k → Silent other events }
+    ensures ranged { (sizes : Name → ℕ) (kind : List ℕ) (bits ctx : ℕ) (pred value : ℤ) (events : List Event) (k : ℕ) → HasIntSizes sizes kind bits → 1 ≤ bits → bits ≤ MAX_BITS → IntSpell kind bits ctx pred events value k → AreRanged sizes events }
+    ensures few { (kind : List ℕ) (bits ctx : ℕ) (pred value : ℤ) (events : List Event) (k : ℕ) → bits ≤ MAX_BITS → IntSpell kind bits ctx pred events value k → length events ≤ 4 }
+    ensures fewer { (kind : List ℕ) (bits ctx : ℕ) (pred value : ℤ) (events : List Event) (k : ℕ) → bits ≤ SHORT_BITS → IntSpell kind bits ctx pred events value k → length events ≤ 3 }
+    ensures silent { (other kind : List ℕ) (bits ctx : ℕ) (pred value : ℤ) (events : List Event) (k : ℕ) → same_text other kind ≡ false → bits ≤ MAX_BITS → IntSpell kind bits ctx pred events value k → Silent other events }
 {}
 
 /// The models of an integer, and those of a bank, stand for the same events after events of other uses.

@@ -13,6 +13,7 @@ mod corrector;
 mod fields;
 mod int_model;
 mod laws;
+mod limits;
 mod models;
 mod symbols;
 
@@ -21,6 +22,9 @@ pub use int_model::IntModel;
 pub use laws::{
     event_bytes_fit, event_fronts_begin, events_cut, integers_are_lawful, integers_are_spelled,
     one_event_begins, other_uses_leave,
+};
+pub use limits::{
+    HIGH_BITS, MAX_BITS, MAX_CONTEXTS, MAX_INT_BYTES, MAX_SHORT_INT_BYTES, SHORT_BITS,
 };
 pub use symbols::{put_bit, put_symbol, put_symbol_of, take_bit, take_symbol, take_symbol_of};
 
