@@ -2,11 +2,13 @@
 ghost use Rattle.std.specs.Prelude.{◌≡◌, ℕ, ◌+◌, ◌-◌, ◌*◌, ◌%◌, ◌<◌, ◌≤◌, ◌^◌};
 ghost use Rattle.laz_integer.specs.Corrector.{choices, corrected, corrector, difference, digits_of, corrector_index, width_of, HasBits};
 
+use crate::limits::MAX_BITS;
+
 /// The lowest `bits` bits of a word.
 #[inline]
 fn low_bits(bits: u32, word: u32) -> u32
     requires some { 1 ≤ bits }
-    requires few { bits ≤ 32 }
+    requires few { bits ≤ MAX_BITS }
     ensures { result ≡ word % 2 ^ bits }
 {
     word & (u32::MAX >> (32 - bits))
@@ -16,7 +18,7 @@ fn low_bits(bits: u32, word: u32) -> u32
 #[inline]
 pub fn between(bits: u32, pred: i32, real: i32) -> u32
     requires some { 1 ≤ bits }
-    requires few { bits ≤ 32 }
+    requires few { bits ≤ MAX_BITS }
     ensures difference { result ≡ difference bits pred real }
     ensures fits { result < 2 ^ bits }
 {
@@ -30,7 +32,7 @@ pub fn between(bits: u32, pred: i32, real: i32) -> u32
 #[inline]
 pub fn split(bits: u32, difference: u32) -> (u32, u32)
     requires some { 1 ≤ bits }
-    requires few { bits ≤ 32 }
+    requires few { bits ≤ MAX_BITS }
     requires fits { difference < 2 ^ bits }
     ensures width { result.0 ≡ width_of bits difference }
     ensures index { result.1 ≡ corrector_index bits difference result.0 }
@@ -41,8 +43,8 @@ pub fn split(bits: u32, difference: u32) -> (u32, u32)
     let half = 1 << (bits - 1);
     let size = magnitude(half, difference);
     let width = binary_digits(size);
-    if width == 32 {
-        return (32, 0);
+    if width == MAX_BITS {
+        return (MAX_BITS, 0);
     }
     (width, index_in_width(half, difference, width, size))
 }
@@ -80,7 +82,7 @@ fn fold_amount(half: u32, difference: u32) -> u32
 /// The index of a corrector in its width.
 #[inline]
 fn index_in_width(half: u32, difference: u32, width: u32, size: u32) -> u32
-    requires small { width < 32 }
+    requires small { width < MAX_BITS }
     requires above { size < 2 ^ width }
     ensures bit { difference < half → width ≡ 0 → result ≡ difference }
     ensures up { difference < half → 0 < width → 0 < difference → result ≡ difference - 1 }
@@ -95,7 +97,7 @@ fn index_in_width(half: u32, difference: u32, width: u32, size: u32) -> u32
 #[inline]
 fn binary_digits(size: u32) -> u32
     ensures digits { result ≡ digits_of size }
-    ensures few { result ≤ 32 }
+    ensures few { result ≤ MAX_BITS }
     ensures none { result ≡ 0 → size ≡ 0 }
     ensures least { 0 < result → 2 ^ result ≤ 2 * size }
     ensures above { size < 2 ^ result }
@@ -106,7 +108,7 @@ fn binary_digits(size: u32) -> u32
 /// Corrector `v` of width `k` as a word, up to a multiple of 2^bits.
 #[inline]
 fn corrector_word(bits: u32, k: u32, v: u32) -> u32
-    requires few { bits ≤ 32 }
+    requires few { bits ≤ MAX_BITS }
     requires width { k ≤ bits }
     requires value { v < choices k }
     ensures { (p : ℕ) → (p + result) % 2 ^ bits ≡ (p + corrector bits k v) % 2 ^ bits }
@@ -114,7 +116,7 @@ fn corrector_word(bits: u32, k: u32, v: u32) -> u32
     if k == 0 {
         return v;
     }
-    if k == 32 {
+    if k == MAX_BITS {
         return 0x8000_0000;
     }
     if v >= 1 << (k - 1) {
@@ -127,7 +129,7 @@ fn corrector_word(bits: u32, k: u32, v: u32) -> u32
 #[inline]
 pub fn correct(bits: u32, pred: i32, k: u32, v: u32) -> i32
     requires some { 1 ≤ bits }
-    requires few { bits ≤ 32 }
+    requires few { bits ≤ MAX_BITS }
     requires width { k ≤ bits }
     requires value { v < choices k }
     ensures { result ≡ corrected bits pred k v }

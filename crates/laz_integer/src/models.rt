@@ -11,6 +11,7 @@ ghost use Rattle.laz_integer.specs.Corrector.{choices};
 ghost use Rattle.laz_integer.specs.Integer.{IsIntState, SameShape, IsCorrector, symbol_cut, high_at, symbol_next, rest_events, events_cuts, events_next, int_cuts, int_next, int_sizes};
 ghost use Rattle.laz_integer.specs.Models.{state_of};
 
+use crate::limits::{HIGH_BITS, MAX_BITS, MAX_CONTEXTS};
 use crate::symbols::{put_bit, put_symbol_of, take_bit, take_symbol_of};
 use laz_models::{BitModel, ModelBank};
 use laz_range::{Bad, Decoder, Encoder};
@@ -28,14 +29,14 @@ pub struct Models {
 /// The number of symbols of each model of the bank.
 fn sizes(alloc: Global, bits: u32, contexts: u32) -> Result<Vec<u32>, AllocError>
     requires some { 1 ≤ bits }
-    requires few { bits ≤ 32 }
+    requires few { bits ≤ MAX_BITS }
     requires context { 1 ≤ contexts }
-    requires contexts { contexts ≤ 32 }
+    requires contexts { contexts ≤ MAX_CONTEXTS }
     ensures { IfOk result (λ sizes. sizes.items ≡ int_sizes bits contexts) }
 {
     let mut sizes = vec![in alloc; bits + 1; contexts as usize]?;
     for k in 1..bits + 1 {
-        sizes.push(1 << k.min(8))?;
+        sizes.push(1 << k.min(HIGH_BITS))?;
     }
     Ok(sizes)
 }
@@ -43,9 +44,9 @@ fn sizes(alloc: Global, bits: u32, contexts: u32) -> Result<Vec<u32>, AllocError
 /// New models of integers of `bits` bits.
 pub fn new_models(alloc: Global, bits: u32, contexts: u32) -> Result<Models, AllocError>
     requires some { 1 ≤ bits }
-    requires few { bits ≤ 32 }
+    requires few { bits ≤ MAX_BITS }
     requires context { 1 ≤ contexts }
-    requires contexts { contexts ≤ 32 }
+    requires contexts { contexts ≤ MAX_CONTEXTS }
     ensures state { IfOk result (λ models. state_of models ≡ record { bits = bits; contexts = contexts; zero_or_one = new_bit_model; bank = map new_model (int_sizes bits contexts) }) }
 {
     let bank = ModelBank::new(alloc, &sizes(alloc, bits, contexts)?)?;
@@ -79,7 +80,7 @@ fn take_high(models: &mut Models, decoder: &mut Decoder<'_>, k: u32) -> Result<u
     requires state { IsIntState (state_of models.old) }
     requires some { 0 < k }
     requires range { k ≤ models.old.bits }
-    ensures reads { Reads result (λ s. s < 2 ^ min k 8) (λ s. symbol_cut (high_at (state_of models.old) k) s ∷ []) decoder.old decoder.new }
+    ensures reads { Reads result (λ s. s < 2 ^ min k HIGH_BITS) (λ s. symbol_cut (high_at (state_of models.old) k) s ∷ []) decoder.old decoder.new }
     ensures next { IfOk result (λ s. state_of models.new ≡ symbol_next (state_of models.old) (models.old.contexts + (k - 1)) s) }
     ensures kept { OnErr result (state_of models.new ≡ state_of models.old) }
     ensures shape { SameShape (state_of models.old) (state_of models.new) }
@@ -93,17 +94,17 @@ fn take_high(models: &mut Models, decoder: &mut Decoder<'_>, k: u32) -> Result<u
 fn take_wide(models: &mut Models, decoder: &mut Decoder<'_>, k: u32) -> Result<u32, Bad>
     requires good { decoder.old.failed ≡ false }
     requires state { IsIntState (state_of models.old) }
-    requires wide { 8 < k }
-    requires small { k < 32 }
+    requires wide { HIGH_BITS < k }
+    requires small { k < MAX_BITS }
     requires range { k ≤ models.old.bits }
-    ensures reads { Reads result (λ v. v < 2 ^ k) (λ v. symbol_cut (high_at (state_of models.old) k) (v / 2 ^ (k - 8)) ∷ raw_cuts (k - 8) (v % 2 ^ (k - 8))) decoder.old decoder.new }
-    ensures next { IfOk result (λ v. state_of models.new ≡ symbol_next (state_of models.old) (models.old.contexts + (k - 1)) (v / 2 ^ (k - 8))) }
+    ensures reads { Reads result (λ v. v < 2 ^ k) (λ v. symbol_cut (high_at (state_of models.old) k) (v / 2 ^ (k - HIGH_BITS)) ∷ raw_cuts (k - HIGH_BITS) (v % 2 ^ (k - HIGH_BITS))) decoder.old decoder.new }
+    ensures next { IfOk result (λ v. state_of models.new ≡ symbol_next (state_of models.old) (models.old.contexts + (k - 1)) (v / 2 ^ (k - HIGH_BITS))) }
     ensures shape { SameShape (state_of models.old) (state_of models.new) }
     ensures state { IsIntState (state_of models.new) }
 {
     let high = take_high(models, decoder, k)?;
-    let low = decoder.take_raw(k - 8)?;
-    Ok((high << (k - 8)) + low)
+    let low = decoder.take_raw(k - HIGH_BITS)?;
+    Ok((high << (k - HIGH_BITS)) + low)
 }
 
 /// Reads the index of a corrector of width `k`.
@@ -122,10 +123,10 @@ fn take_rest(models: &mut Models, decoder: &mut Decoder<'_>, k: u32) -> Result<u
         let bit = take_bit(decoder, &mut models.zero_or_one)?;
         return Ok(bit as u32);
     }
-    if k == 32 {
+    if k == MAX_BITS {
         return Ok(0);
     }
-    if k <= 8 {
+    if k <= HIGH_BITS {
         return take_high(models, decoder, k);
     }
     take_wide(models, decoder, k)
@@ -153,7 +154,7 @@ fn put_high(models: &mut Models, encoder: &mut Encoder, k: u32, s: u32)
     requires state { IsIntState (state_of models.old) }
     requires some { 0 < k }
     requires range { k ≤ models.old.bits }
-    requires symbol { s < 2 ^ min k 8 }
+    requires symbol { s < 2 ^ min k HIGH_BITS }
     requires left { 3 ≤ encoder.old.left }
     ensures codes { Codes encoder.old encoder.new (symbol_cut (high_at (state_of models.old) k) s ∷ []) }
     ensures next { state_of models.new ≡ symbol_next (state_of models.old) (models.old.contexts + (k - 1)) s }
@@ -179,15 +180,15 @@ fn put_rest(models: &mut Models, encoder: &mut Encoder, k: u32, v: u32)
         put_bit(encoder, &mut models.zero_or_one, v == 1);
         return;
     }
-    if k == 32 {
+    if k == MAX_BITS {
         return;
     }
-    if k <= 8 {
+    if k <= HIGH_BITS {
         put_high(models, encoder, k, v);
         return;
     }
-    put_high(models, encoder, k, v >> (k - 8));
-    encoder.raw(k - 8, v & ((1 << (k - 8)) - 1));
+    put_high(models, encoder, k, v >> (k - HIGH_BITS));
+    encoder.raw(k - HIGH_BITS, v & ((1 << (k - HIGH_BITS)) - 1));
 }
 
 /// Codes a corrector: its width `k`, and its index `v` in that width.
