@@ -22,10 +22,8 @@ pub fn between(bits: u32, pred: i32, real: i32) -> u32
     ensures difference { result ≡ difference bits pred real }
     ensures fits { result < 2 ^ bits }
 {
-    low_bits(
-        bits,
-        real.cast_unsigned().wrapping_sub(pred.cast_unsigned()),
-    )
+    let difference = real.cast_unsigned().wrapping_sub(pred.cast_unsigned());
+    low_bits(bits, difference)
 }
 
 /// The width of a difference's corrector, and its index in that width.
