@@ -1,7 +1,7 @@
 //! Times the coding layers, for a run by hand: `laz_bench MODE COUNT`.
 //!
-//! MODE is `range`, `symbols`, `integer`, or `all` for each of them in turn. Standard output has checksums, which are the
-//! same in each run; standard error has the nanoseconds both ways.
+//! MODE is `range`, `symbols`, `integer`, or `all` for each of them in turn. Standard output has checksums, which are
+//! the same in each run; standard error has the nanoseconds both ways.
 #![tactic(auto)]
 
 mod draws;

@@ -1,4 +1,5 @@
--- Events that stand one after another, each under models of its own: which part each cuts out, and what the models stand for. Meant for the crates of items, too.
+-- Events that stand one after another, each under models of its own: which part each cuts out, and what the models
+-- stand for. Meant for the crates of items, too.
 use Rattle.std.proofs.Common.{◌≡◌, ℕ, ◌<◌, ◌≤◌, Bool, true, false, List, [], ◌∷◌, ◌++◌, length, set, refl, sym, ap, subst, ◌∙◌, arith, ⊎_elim, eqb, append_assoc}
 use Rattle.std.proofs.lemmas.Bool.{cases_eq, and_from, and_left, eq-eqb, ne_eqb}
 use Rattle.std.proofs.lemmas.List.{append-nil, get_or-set_same, get_or-set_other, length-set}
@@ -15,7 +16,8 @@ use Rattle.laz_integer.proofs.Named.{same_text-refl, symbols-with, symbols-witho
 use Rattle.laz_integer.proofs.Stood.{Comes, comes, symbol-cut}
 use Rattle.laz_integer.proofs.Uses.{Silent-none, Silent-append, Silent-other, Silent-raws, Silent-corrector, other_than, absent-split, AllSilent-split, all-silent, bank-silent, int-silent}
 
--- Events of these uses, which cut these parts if the models before them stand for the earlier events. The models after them then stand for both.
+-- Events of these uses, which cut these parts if the models before them stand for the earlier events. The models after
+-- them then stand for both.
 pub record Piece (kinds : List (List ℕ)) (events : List Event) (cuts : List Cut) (Before After : List Event → Type 0) : Type 0 where
   pub own : (kind : List ℕ) → absent kind kinds ≡ true → Silent kind events
   pub cut : (earlier : List Event) → Before earlier → cuts_after earlier events ≡ cuts

@@ -5,14 +5,16 @@ use Rattle.laz_range.specs.declared.limits.TheConstants.{MAX_RAW_BITS}
 use Rattle.laz_models.specs.Dist.{dist}
 use Rattle.laz_models.specs.BitDist.{p0_of}
 
--- What a model of a use codes: an event of the use itself, or of an integer (LASzip's integer compressor) the corrector's width, the corrector if it is 0 or 1, or the high digits of its index.
+-- What a model of a use codes: an event of the use itself, or of an integer (LASzip's integer compressor) the
+-- corrector's width, the corrector if it is 0 or 1, or the high digits of its index.
 pub data Role : Type 0 where
   Own : Role
   Width : Role
   ZeroOrOne : Role
   High : Role
 
--- The name of a model: its use, as the text "dx"; its role; and its number among the models of that role, as the context.
+-- The name of a model: its use, as the text "dx"; its role; and its number among the models of that role, as the
+-- context.
 pub record Name : Type 0 where
   pub kind : List ℕ
   pub role : Role
@@ -59,7 +61,8 @@ bits_under name (Symbol other n s ∷ events) = bits_under name events
 bits_under name (Flag other bit ∷ events) = if same_name name other then bit ∷ bits_under name events else bits_under name events
 bits_under name (Bits b v ∷ events) = bits_under name events
 
--- The part that an event cuts out after earlier events: by the distribution of the earlier symbols, or bits, under the event's own name.
+-- The part that an event cuts out after earlier events: by the distribution of the earlier symbols, or bits, under the
+-- event's own name.
 abbrev pub cut_after : List Event → Event → Cut
 cut_after earlier (Symbol name n s) = symbol (dist n (symbols_under name earlier)) s
 cut_after earlier (Flag name bit) = Bit (p0_of (bits_under name earlier)) bit

@@ -1,4 +1,5 @@
--- Fields of a record that are coded only if they are marked as changed: bytes under models of 256 symbols, and numbers of 16 bits as integers.
+-- Fields of a record that are coded only if they are marked as changed: bytes under models of 256 symbols, and numbers
+-- of 16 bits as integers.
 use Rattle.std.specs.Prelude.{◌≡◌, ℕ, ℤ, pos, nat_abs, ◌<◌, Bool, true, false, List, [], ◌∷◌, length, slice_set}
 use Rattle.laz_range.specs.Cut.{Cut}
 use Rattle.laz_models.specs.Counting.{Counting, after_symbol}
@@ -29,7 +30,8 @@ abbrev pub SpellsByte : Bool → List ℕ → ℕ → ℕ → List Event → ℕ
 SpellsByte true kind m expected events s = (s < 256) × (events ≡ byte_events kind m s)
 SpellsByte false kind m expected events s = (events ≡ []) × (s ≡ expected)
 
--- Events that spell a number of 16 bits: those of any corrector that makes it of its prediction if the number is marked; else none, and the number is the prediction.
+-- Events that spell a number of 16 bits: those of any corrector that makes it of its prediction if the number is
+-- marked; else none, and the number is the prediction.
 abbrev pub SpellsWord : Bool → List ℕ → ℕ → ℕ → List Event → ℕ → Type 0
 SpellsWord true kind ctx pred events value = (k : ℕ) × IntSpell kind 16 ctx (pos pred) events (pos value) k
 SpellsWord false kind ctx pred events value = (events ≡ []) × (value ≡ pred)
@@ -38,7 +40,8 @@ SpellsWord false kind ctx pred events value = (events ≡ []) × (value ≡ pred
 
 -- Each model of a bank stands for the symbols under its name of a use.
 abbrev pub BankStands : List ℕ → List Event → List Counting → Type 0
-BankStands kind events bank = (m : ℕ) → m < length bank → StandsFor (symbols_under (own_name kind m) events) (model_at bank m)
+BankStands kind events bank = (m : ℕ) → m < length bank
+    → StandsFor (symbols_under (own_name kind m) events) (model_at bank m)
 
 -- The parts of a byte under model m of a bank.
 abbrev pub byte_cuts : Bool → List Counting → ℕ → ℕ → List Cut

@@ -16,7 +16,8 @@ use Rattle.laz_integer.specs.Corrector.{choices, corrected, difference, width_of
 
 -- ---- events
 
--- The names of an integer's models: of the width, one for each context; of a corrector of 0 or 1; of the high digits, one for each width from 1 on.
+-- The names of an integer's models: of the width, one for each context; of a corrector of 0 or 1; of the high digits,
+-- one for each width from 1 on.
 abbrev pub width_name : List ℕ → ℕ → Name
 width_name kind ctx = record { kind = kind; role = Width; which = ctx }
 
@@ -26,7 +27,8 @@ bit_name kind = record { kind = kind; role = ZeroOrOne; which = 0 }
 abbrev pub high_name : List ℕ → ℕ → Name
 high_name kind k = record { kind = kind; role = High; which = k }
 
--- The events of a corrector's index v after its width k: a bit if k is 0; none if k is 32; a symbol up to 8 bits; else a symbol of the high 8 bits, and the rest raw.
+-- The events of a corrector's index v after its width k: a bit if k is 0; none if k is 32; a symbol up to 8 bits; else
+-- a symbol of the high 8 bits, and the rest raw.
 unfoldable pub rest_events : List ℕ → ℕ → ℕ → List Event
 rest_events kind k v =
     if k == 0 then Flag (bit_name kind) (v == 1) ∷ []
@@ -38,7 +40,8 @@ rest_events kind k v =
 abbrev pub corrector_events : List ℕ → ℕ → ℕ → ℕ → ℕ → List Event
 corrector_events kind bits ctx k v = Symbol (width_name kind ctx) (bits + 1) k ∷ rest_events kind k v
 
--- Events that spell `value` with its prediction: those of some corrector of width k that makes the value. A reader accepts each of them.
+-- Events that spell `value` with its prediction: those of some corrector of width k that makes the value. A reader
+-- accepts each of them.
 pub record IntSpell (kind : List ℕ) (bits ctx : ℕ) (pred : ℤ) (events : List Event) (value : ℤ) (k : ℕ) : Type 0 where
   pub v : ℕ
   pub width : k ≤ bits
@@ -53,7 +56,8 @@ int_width bits pred real = width_of bits (difference bits pred real)
 -- The events that a writer makes of an integer: those of the folded difference.
 abbrev pub IntEvents : List ℕ → ℕ → ℕ → ℤ → ℤ → List Event
 IntEvents kind bits ctx pred real =
-    let k = int_width bits pred real in corrector_events kind bits ctx k (corrector_index bits (difference bits pred real) k)
+    let k = int_width bits pred real
+    in corrector_events kind bits ctx k (corrector_index bits (difference bits pred real) k)
 
 -- ---- the state of the models
 
@@ -85,9 +89,11 @@ pub record SameShape (old new : IntState) : Type 0 where
 
 -- The models stand for a list of events: each for the symbols, or bits, under its name.
 pub record IntStands (kind : List ℕ) (events : List Event) (st : IntState) : Type 0 where
-  pub widths : (ctx : ℕ) → ctx < st.contexts → StandsFor (symbols_under (width_name kind ctx) events) (model_at st.bank ctx)
+  pub widths : (ctx : ℕ) → ctx < st.contexts
+      → StandsFor (symbols_under (width_name kind ctx) events) (model_at st.bank ctx)
   pub bits : BitStandsFor (bits_under (bit_name kind) events) st.zero_or_one
-  pub highs : (j : ℕ) → j < st.bits → StandsFor (symbols_under (high_name kind (j + 1)) events) (model_at st.bank (st.contexts + j))
+  pub highs : (j : ℕ) → j < st.bits
+      → StandsFor (symbols_under (high_name kind (j + 1)) events) (model_at st.bank (st.contexts + j))
 
 -- The models code integers of n bits with m contexts.
 pub record IsInts (n m : ℕ) (st : IntState) : Type 0 where
@@ -162,15 +168,19 @@ pub record ReadsCorrector (bits : ℕ) (st : IntState) (ctx : ℕ) (pred value :
   pub makes : value ≡ corrected bits pred k v
   pub counts : next ≡ int_next st ctx k v
 
--- The decoder has read the one spelling with this prediction that begins the bytes that are left: no other events do, and so no other value or width.
+-- The decoder has read the one spelling with this prediction that begins the bytes that are left: no other events do,
+-- and so no other value or width.
 pub record ReadsInt (kind : List ℕ) (earlier : List Event) (bits ctx : ℕ) (pred : ℤ) (value : ℤ) (k : ℕ) (old new : Decoding) (st : IntState) : Type 0 where
   pub events : List Event
   pub spells : IntSpell kind bits ctx pred events value k
   pub reads : ReadsOn (cuts_after earlier events) old new
   pub stands : IntStands kind (earlier ++ events) st
-  pub only : (read : List Cut) → HasRead read old → (others : List Event) (other : ℤ) (j : ℕ) → IntSpell kind bits ctx pred others other j → Begins (span (read ++ cuts_after earlier others)) old.bytes → (others ≡ events) × (other ≡ value) × (j ≡ k)
+  pub only : (read : List Cut) → HasRead read old → (others : List Event) (other : ℤ) (j : ℕ)
+      → IntSpell kind bits ctx pred others other j → Begins (span (read ++ cuts_after earlier others)) old.bytes
+      → (others ≡ events) × (other ≡ value) × (j ≡ k)
 
 -- No spelling with this prediction begins the bytes that are left.
 abbrev pub NoInt : List ℕ → List Event → ℕ → ℕ → ℤ → Decoding → Type 0
 NoInt kind earlier bits ctx pred old =
-    (read : List Cut) → HasRead read old → (events : List Event) (value : ℤ) (k : ℕ) → IntSpell kind bits ctx pred events value k → Begins (span (read ++ cuts_after earlier events)) old.bytes → ⊥
+    (read : List Cut) → HasRead read old → (events : List Event) (value : ℤ) (k : ℕ)
+    → IntSpell kind bits ctx pred events value k → Begins (span (read ++ cuts_after earlier events)) old.bytes → ⊥

@@ -7,7 +7,8 @@ use Rattle.laz_integer.specs.declared.limits.TheConstants.{HIGH_BITS}
 use Rattle.laz_integer.specs.Events.{Event, Symbol, Flag, Bits, Name}
 use Rattle.laz_integer.specs.Integer.{width_name, high_name}
 
--- A lawful event, if `sizes` gives the number of symbols of each name's model: a symbol is below that number, which is from 2 to 2,048, and a raw value has 1 to 19 bits.
+-- A lawful event, if `sizes` gives the number of symbols of each name's model: a symbol is below that number, which is
+-- from 2 to 2,048, and a raw value has 1 to 19 bits.
 abbrev pub IsRanged : (Name → ℕ) → Event → Type 0
 IsRanged sizes (Symbol name n s) = (n ≡ sizes name) × (2 ≤ n) × (n ≤ MAX_SYMBOLS) × (s < n)
 IsRanged sizes (Flag name bit) = Unit {0}

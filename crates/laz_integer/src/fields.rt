@@ -92,7 +92,11 @@ pub fn take_word(
     requires within { decoder.old.taken ≤ length decoder.old.bytes }
     requires ints { IsInts 16 model.old.contexts model.old }
     requires context { ctx < model.old.contexts }
-    ensures reads { MatchResult result (λ value. (x : ℕ × ℕ) × Takes (IsWord marked) (word_cuts marked model.old ctx) decoder.old decoder.new x × (value ≡ word_value marked pred x) × (model.new ≡ word_next marked model.old ctx x)) (λ _. TakesNone (IsWord marked) (word_cuts marked model.old ctx) decoder.old decoder.new) }
+    ensures reads { MatchResult result (λ value. (x : ℕ × ℕ)
+        × Takes (IsWord marked) (word_cuts marked model.old ctx) decoder.old decoder.new x
+        × (value ≡ word_value marked pred x)
+        × (model.new ≡ word_next marked model.old ctx x))
+        (λ _. TakesNone (IsWord marked) (word_cuts marked model.old ctx) decoder.old decoder.new) }
     ensures ints { IsInts 16 model.old.contexts model.new }
 {
     if marked {

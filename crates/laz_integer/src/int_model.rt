@@ -18,8 +18,8 @@ use std::marker::Model;
 
 /// Codes and reads integers of a fixed number of bits, each with a prediction and a context.
 ///
-/// It stands for the events that it has coded or read since it was made or reset: each of its models for the events under
-/// the model's name. Only `new` allocates.
+/// It stands for the events that it has coded or read since it was made or reset: each of its models for the events
+/// under the model's name. Only `new` allocates.
 #[derive(Drop)]
 pub struct IntModel {
     models: Models,
@@ -68,19 +68,24 @@ impl IntModel {
         self.models.zero_or_one.reset();
     }
 
-    /// Codes `real` with the prediction `pred` and returns the width k of its corrector. Below 32 bits, `pred` and `real` are
-    /// from 0 to 2^bits - 1. It takes at most 12 bytes of the encoder's room, and at most 9 up to 27 bits.
+    /// Codes `real` with the prediction `pred` and returns the width k of its corrector. Below 32 bits, `pred` and
+    /// `real` are from 0 to 2^bits - 1. It takes at most 12 bytes of the encoder's room, and at most 9 up to 27 bits.
     pub fn code(&mut self, encoder: &mut Encoder, pred: i32, real: i32, ctx: u32) -> u32
         requires context { ctx < self.old.contexts }
         requires pred { HasBits self.old.bits pred }
         requires real { HasBits self.old.bits real }
         requires left { MAX_INT_BYTES ≤ encoder.old.left }
         ensures width { result ≡ int_width self.old.bits pred real }
-        ensures codes { let d = difference self.old.bits pred real in Codes encoder.old encoder.new (int_cuts self.old ctx result (corrector_index self.old.bits d result)) }
-        ensures next { let d = difference self.old.bits pred real in self.new ≡ int_next self.old ctx result (corrector_index self.old.bits d result) }
-        ensures events { (kind : List ℕ) (earlier : List Event) → IntStands kind earlier self.old → Codes encoder.old encoder.new (cuts_after earlier (IntEvents kind self.old.bits ctx pred real)) }
-        ensures stands { (kind : List ℕ) (earlier : List Event) → IntStands kind earlier self.old → IntStands kind (earlier ++ IntEvents kind self.old.bits ctx pred real) self.new }
-        ensures spells { (kind : List ℕ) → IntSpell kind self.old.bits ctx pred (IntEvents kind self.old.bits ctx pred real) real result }
+        ensures codes { let d = difference self.old.bits pred real
+            in Codes encoder.old encoder.new (int_cuts self.old ctx result (corrector_index self.old.bits d result)) }
+        ensures next { let d = difference self.old.bits pred real
+            in self.new ≡ int_next self.old ctx result (corrector_index self.old.bits d result) }
+        ensures events { (kind : List ℕ) (earlier : List Event) → IntStands kind earlier self.old
+            → Codes encoder.old encoder.new (cuts_after earlier (IntEvents kind self.old.bits ctx pred real)) }
+        ensures stands { (kind : List ℕ) (earlier : List Event) → IntStands kind earlier self.old
+            → IntStands kind (earlier ++ IntEvents kind self.old.bits ctx pred real) self.new }
+        ensures spells { (kind : List ℕ)
+            → IntSpell kind self.old.bits ctx pred (IntEvents kind self.old.bits ctx pred real) real result }
         ensures used { encoder.old.left ≤ encoder.new.left + MAX_INT_BYTES }
         ensures short { self.old.bits ≤ SHORT_BITS → encoder.old.left ≤ encoder.new.left + MAX_SHORT_INT_BYTES }
         ensures range { result ≤ self.old.bits }
@@ -94,8 +99,8 @@ impl IntModel {
         k
     }
 
-    /// Reads an integer with the prediction `pred` and the width k of its corrector. Below 32 bits, `pred` and the integer are
-    /// from 0 to 2^bits - 1.
+    /// Reads an integer with the prediction `pred` and the width k of its corrector. Below 32 bits, `pred` and the
+    /// integer are from 0 to 2^bits - 1.
     ///
     /// [`Bad`] means that no spelling with this prediction and context begins the bytes that are left. Reset the models
     /// before they are used again.
@@ -108,10 +113,17 @@ impl IntModel {
         requires good { decoder.old.failed ≡ false }
         requires context { ctx < self.old.contexts }
         requires pred { HasBits self.old.bits pred }
-        ensures reads { MatchResult result (λ x. ReadsCorrector self.old.bits self.old ctx pred x.0 x.1 decoder.old decoder.new self.new) (λ _. TakesNone (IsCorrector self.old.bits) (λ y. int_cuts self.old ctx y.0 y.1) decoder.old decoder.new) }
-        ensures spelled { (kind : List ℕ) (earlier : List Event) → IntStands kind earlier self.old → IfOk result (λ x. ReadsInt kind earlier self.old.bits ctx pred x.0 x.1 decoder.old decoder.new self.new) }
-        ensures none { (kind : List ℕ) (earlier : List Event) → IntStands kind earlier self.old → OnErr result (NoInt kind earlier self.old.bits ctx pred decoder.old) }
-        ensures fixed { (bits : ℕ) → self.old.bits ≡ bits → MatchResult result (λ x. ReadsCorrector bits self.old ctx pred x.0 x.1 decoder.old decoder.new self.new) (λ _. TakesNone (IsCorrector bits) (λ y. int_cuts self.old ctx y.0 y.1) decoder.old decoder.new) }
+        ensures reads { MatchResult result
+            (λ x. ReadsCorrector self.old.bits self.old ctx pred x.0 x.1 decoder.old decoder.new self.new)
+            (λ _. TakesNone (IsCorrector self.old.bits) (λ y. int_cuts self.old ctx y.0 y.1) decoder.old decoder.new) }
+        ensures spelled { (kind : List ℕ) (earlier : List Event) → IntStands kind earlier self.old
+            → IfOk result (λ x. ReadsInt kind earlier self.old.bits ctx pred x.0 x.1 decoder.old decoder.new self.new) }
+        ensures none { (kind : List ℕ) (earlier : List Event) → IntStands kind earlier self.old
+            → OnErr result (NoInt kind earlier self.old.bits ctx pred decoder.old) }
+        ensures fixed { (bits : ℕ) → self.old.bits ≡ bits
+            → MatchResult result
+            (λ x. ReadsCorrector bits self.old ctx pred x.0 x.1 decoder.old decoder.new self.new)
+            (λ _. TakesNone (IsCorrector bits) (λ y. int_cuts self.old ctx y.0 y.1) decoder.old decoder.new) }
         ensures good { OnOk result (decoder.new.failed ≡ false) }
         ensures range { IfOk result (λ x. HasBits self.old.bits x.0) }
         ensures width { IfOk result (λ x. x.1 ≤ self.old.bits) }

@@ -47,7 +47,8 @@ pub fn new_models(alloc: Global, bits: u32, contexts: u32) -> Result<Models, All
     requires few { bits ≤ MAX_BITS }
     requires context { 1 ≤ contexts }
     requires contexts { contexts ≤ MAX_CONTEXTS }
-    ensures state { IfOk result (λ models. state_of models ≡ record { bits = bits; contexts = contexts; zero_or_one = new_bit_model; bank = map new_model (int_sizes bits contexts) }) }
+    ensures state { IfOk result
+        (λ models. state_of models ≡ record { bits = bits; contexts = contexts; zero_or_one = new_bit_model; bank = map new_model (int_sizes bits contexts) }) }
 {
     let bank = ModelBank::new(alloc, &sizes(alloc, bits, contexts)?)?;
     Ok(Models {
@@ -64,7 +65,8 @@ fn take_width(models: &mut Models, decoder: &mut Decoder<'_>, ctx: u32) -> Resul
     requires good { decoder.old.failed ≡ false }
     requires state { IsIntState (state_of models.old) }
     requires context { ctx < models.old.contexts }
-    ensures reads { Reads result (λ k. k ≤ models.old.bits) (λ k. symbol_cut (model_at models.old.bank ctx) k ∷ []) decoder.old decoder.new }
+    ensures reads { Reads result (λ k. k ≤ models.old.bits)
+        (λ k. symbol_cut (model_at models.old.bank ctx) k ∷ []) decoder.old decoder.new }
     ensures next { IfOk result (λ k. state_of models.new ≡ symbol_next (state_of models.old) ctx k) }
     ensures kept { OnErr result (state_of models.new ≡ state_of models.old) }
     ensures shape { SameShape (state_of models.old) (state_of models.new) }
@@ -80,8 +82,10 @@ fn take_high(models: &mut Models, decoder: &mut Decoder<'_>, k: u32) -> Result<u
     requires state { IsIntState (state_of models.old) }
     requires some { 0 < k }
     requires range { k ≤ models.old.bits }
-    ensures reads { Reads result (λ s. s < 2 ^ min k HIGH_BITS) (λ s. symbol_cut (high_at (state_of models.old) k) s ∷ []) decoder.old decoder.new }
-    ensures next { IfOk result (λ s. state_of models.new ≡ symbol_next (state_of models.old) (models.old.contexts + (k - 1)) s) }
+    ensures reads { Reads result (λ s. s < 2 ^ min k HIGH_BITS)
+        (λ s. symbol_cut (high_at (state_of models.old) k) s ∷ []) decoder.old decoder.new }
+    ensures next { IfOk result
+        (λ s. state_of models.new ≡ symbol_next (state_of models.old) (models.old.contexts + (k - 1)) s) }
     ensures kept { OnErr result (state_of models.new ≡ state_of models.old) }
     ensures shape { SameShape (state_of models.old) (state_of models.new) }
     ensures state { IsIntState (state_of models.new) }
@@ -97,8 +101,10 @@ fn take_wide(models: &mut Models, decoder: &mut Decoder<'_>, k: u32) -> Result<u
     requires wide { HIGH_BITS < k }
     requires small { k < MAX_BITS }
     requires range { k ≤ models.old.bits }
-    ensures reads { Reads result (λ v. v < 2 ^ k) (λ v. symbol_cut (high_at (state_of models.old) k) (v / 2 ^ (k - HIGH_BITS)) ∷ raw_cuts (k - HIGH_BITS) (v % 2 ^ (k - HIGH_BITS))) decoder.old decoder.new }
-    ensures next { IfOk result (λ v. state_of models.new ≡ symbol_next (state_of models.old) (models.old.contexts + (k - 1)) (v / 2 ^ (k - HIGH_BITS))) }
+    ensures reads { Reads result (λ v. v < 2 ^ k)
+        (λ v. symbol_cut (high_at (state_of models.old) k) (v / 2 ^ (k - HIGH_BITS)) ∷ raw_cuts (k - HIGH_BITS) (v % 2 ^ (k - HIGH_BITS))) decoder.old decoder.new }
+    ensures next { IfOk result
+        (λ v. state_of models.new ≡ symbol_next (state_of models.old) (models.old.contexts + (k - 1)) (v / 2 ^ (k - HIGH_BITS))) }
     ensures shape { SameShape (state_of models.old) (state_of models.new) }
     ensures state { IsIntState (state_of models.new) }
 {
@@ -114,7 +120,8 @@ fn take_rest(models: &mut Models, decoder: &mut Decoder<'_>, k: u32) -> Result<u
     requires within { decoder.old.taken ≤ length decoder.old.bytes }
     requires state { IsIntState (state_of models.old) }
     requires range { k ≤ models.old.bits }
-    ensures reads { Reads result (λ v. v < choices k) (λ v. events_cuts (state_of models.old) (rest_events [] k v)) decoder.old decoder.new }
+    ensures reads { Reads result (λ v. v < choices k)
+        (λ v. events_cuts (state_of models.old) (rest_events [] k v)) decoder.old decoder.new }
     ensures next { IfOk result (λ v. state_of models.new ≡ events_next (state_of models.old) (rest_events [] k v)) }
     ensures shape { SameShape (state_of models.old) (state_of models.new) }
     ensures state { IsIntState (state_of models.new) }
@@ -138,7 +145,8 @@ pub fn take(models: &mut Models, decoder: &mut Decoder<'_>, ctx: u32) -> Result<
     requires good { decoder.old.failed ≡ false }
     requires state { IsIntState (state_of models.old) }
     requires context { ctx < models.old.contexts }
-    ensures reads { Reads result (λ x. IsCorrector models.old.bits (x.0, x.1)) (λ x. int_cuts (state_of models.old) ctx x.0 x.1) decoder.old decoder.new }
+    ensures reads { Reads result (λ x. IsCorrector models.old.bits (x.0, x.1))
+        (λ x. int_cuts (state_of models.old) ctx x.0 x.1) decoder.old decoder.new }
     ensures next { IfOk result (λ x. state_of models.new ≡ int_next (state_of models.old) ctx x.0 x.1) }
     ensures shape { SameShape (state_of models.old) (state_of models.new) }
     ensures state { IsIntState (state_of models.new) }

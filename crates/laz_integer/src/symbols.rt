@@ -21,7 +21,8 @@ pub fn put_symbol(encoder: &mut Encoder, model: &mut SymbolModel, s: u32)
     ensures codes { Codes encoder.old encoder.new (symbol_cut model.old s ∷ []) }
     ensures after_symbol { model.new ≡ after_symbol model.old s }
     ensures size { alphabet_size model.new ≡ alphabet_size model.old }
-    ensures dist { (h : List ℕ) → StandsFor h model.old → Codes encoder.old encoder.new (symbol (dist (alphabet_size model.old) h) s ∷ []) }
+    ensures dist { (h : List ℕ) → StandsFor h model.old
+        → Codes encoder.old encoder.new (symbol (dist (alphabet_size model.old) h) s ∷ []) }
     ensures stands { (h : List ℕ) → StandsFor h model.old → StandsFor (h ++ s ∷ []) model.new }
 {
     let (lo, hi) = model.part(s);
@@ -33,14 +34,18 @@ pub fn put_symbol(encoder: &mut Encoder, model: &mut SymbolModel, s: u32)
 #[inline]
 pub fn take_symbol(decoder: &mut Decoder<'_>, model: &mut SymbolModel) -> Result<u32, Bad>
     requires { decoder.old.failed ≡ false }
-    ensures reads { Reads result (λ s. s < alphabet_size model.old) (λ s. symbol_cut model.old s ∷ []) decoder.old decoder.new }
+    ensures reads { Reads result (λ s. s < alphabet_size model.old)
+        (λ s. symbol_cut model.old s ∷ []) decoder.old decoder.new }
     ensures bad { IsErr result ↔ RunsOut decoder.old (symbol_cut model.old (symbol_at model.old.starts (symbol_place decoder.old))) }
     ensures after_symbol { IfOk result (λ s. model.new ≡ after_symbol model.old s) }
     ensures kept { OnErr result (model.new ≡ model.old) }
     ensures size { alphabet_size model.new ≡ alphabet_size model.old }
-    ensures read { (h : List ℕ) → StandsFor h model.old → IfOk result (λ s. ReadsOn (symbol (dist (alphabet_size model.old) h) s ∷ []) decoder.old decoder.new) }
+    ensures read { (h : List ℕ) → StandsFor h model.old
+        → IfOk result (λ s. ReadsOn (symbol (dist (alphabet_size model.old) h) s ∷ []) decoder.old decoder.new) }
     ensures stands { (h : List ℕ) → StandsFor h model.old → IfOk result (λ s. StandsFor (h ++ s ∷ []) model.new) }
-    ensures none { (h : List ℕ) → StandsFor h model.old → OnErr result (NoneBegins (λ s. s < alphabet_size model.old) (λ s. symbol (dist (alphabet_size model.old) h) s ∷ []) decoder.old) }
+    ensures none { (h : List ℕ) → StandsFor h model.old
+        → OnErr result (NoneBegins (λ s. s < alphabet_size model.old)
+        (λ s. symbol (dist (alphabet_size model.old) h) s ∷ []) decoder.old) }
 {
     let symbol = model.find(decoder.at15());
     let (lo, hi) = model.part(symbol);
@@ -57,7 +62,8 @@ pub fn put_symbol_of(encoder: &mut Encoder, bank: &mut ModelBank, m: u32, s: u32
     requires left { 3 ≤ encoder.old.left }
     ensures codes { Codes encoder.old encoder.new (symbol_cut (model_at bank.old m) s ∷ []) }
     ensures after_symbol { bank.new ≡ slice_set bank.old m (after_symbol (model_at bank.old m) s) }
-    ensures dist { (h : List ℕ) → StandsFor h (model_at bank.old m) → Codes encoder.old encoder.new (symbol (dist (alphabet_size (model_at bank.old m)) h) s ∷ []) }
+    ensures dist { (h : List ℕ) → StandsFor h (model_at bank.old m)
+        → Codes encoder.old encoder.new (symbol (dist (alphabet_size (model_at bank.old m)) h) s ∷ []) }
     ensures stands { (h : List ℕ) → StandsFor h (model_at bank.old m) → StandsFor (h ++ s ∷ []) (model_at bank.new m) }
     ensures others { (k : ℕ) → k ≢ m → model_at bank.new k ≡ model_at bank.old k }
     ensures sizes { alphabet_sizes bank.new ≡ alphabet_sizes bank.old }
@@ -67,20 +73,25 @@ pub fn put_symbol_of(encoder: &mut Encoder, bank: &mut ModelBank, m: u32, s: u32
     bank.count(m, s);
 }
 
-/// Reads a symbol of model `m` of a bank, and counts it. [`Bad`] means that the bytes end too early: no symbol begins those
-/// left.
+/// Reads a symbol of model `m` of a bank, and counts it. [`Bad`] means that the bytes end too early: no symbol begins
+/// those left.
 // Inlined so that `IntModel::read` keeps the decoder's state in registers: out of line, a read takes a tenth longer.
 #[inline(always)]
 pub fn take_symbol_of(decoder: &mut Decoder<'_>, bank: &mut ModelBank, m: u32) -> Result<u32, Bad>
     requires good { decoder.old.failed ≡ false }
     requires model { m < length bank.old }
-    ensures reads { Reads result (λ s. s < alphabet_size (model_at bank.old m)) (λ s. symbol_cut (model_at bank.old m) s ∷ []) decoder.old decoder.new }
+    ensures reads { Reads result (λ s. s < alphabet_size (model_at bank.old m))
+        (λ s. symbol_cut (model_at bank.old m) s ∷ []) decoder.old decoder.new }
     ensures bad { IsErr result ↔ RunsOut decoder.old (symbol_cut (model_at bank.old m) (symbol_at (model_at bank.old m).starts (symbol_place decoder.old))) }
     ensures after_symbol { IfOk result (λ s. bank.new ≡ slice_set bank.old m (after_symbol (model_at bank.old m) s)) }
     ensures kept { OnErr result (bank.new ≡ bank.old) }
-    ensures read { (h : List ℕ) → StandsFor h (model_at bank.old m) → IfOk result (λ s. ReadsOn (symbol (dist (alphabet_size (model_at bank.old m)) h) s ∷ []) decoder.old decoder.new) }
-    ensures stands { (h : List ℕ) → StandsFor h (model_at bank.old m) → IfOk result (λ s. StandsFor (h ++ s ∷ []) (model_at bank.new m)) }
-    ensures none { (h : List ℕ) → StandsFor h (model_at bank.old m) → OnErr result (NoneBegins (λ s. s < alphabet_size (model_at bank.old m)) (λ s. symbol (dist (alphabet_size (model_at bank.old m)) h) s ∷ []) decoder.old) }
+    ensures read { (h : List ℕ) → StandsFor h (model_at bank.old m)
+        → IfOk result (λ s. ReadsOn (symbol (dist (alphabet_size (model_at bank.old m)) h) s ∷ []) decoder.old decoder.new) }
+    ensures stands { (h : List ℕ) → StandsFor h (model_at bank.old m)
+        → IfOk result (λ s. StandsFor (h ++ s ∷ []) (model_at bank.new m)) }
+    ensures none { (h : List ℕ) → StandsFor h (model_at bank.old m)
+        → OnErr result (NoneBegins (λ s. s < alphabet_size (model_at bank.old m))
+        (λ s. symbol (dist (alphabet_size (model_at bank.old m)) h) s ∷ []) decoder.old) }
     ensures others { (k : ℕ) → k ≢ m → model_at bank.new k ≡ model_at bank.old k }
     ensures sizes { alphabet_sizes bank.new ≡ alphabet_sizes bank.old }
 {
@@ -113,9 +124,12 @@ pub fn take_bit(decoder: &mut Decoder<'_>, model: &mut BitModel) -> Result<bool,
     ensures bad { IsErr result ↔ RunsOut decoder.old (Bit model.old.p0 (bit_of decoder.old model.old.p0)) }
     ensures after_symbol { IfOk result (λ bit. model.new ≡ after_bit model.old bit) }
     ensures kept { OnErr result (model.new ≡ model.old) }
-    ensures read { (h : List Bool) → BitStandsFor h model.old → IfOk result (λ bit. ReadsOn (Bit (p0_of h) bit ∷ []) decoder.old decoder.new) }
-    ensures stands { (h : List Bool) → BitStandsFor h model.old → IfOk result (λ bit. BitStandsFor (h ++ bit ∷ []) model.new) }
-    ensures none { (h : List Bool) → BitStandsFor h model.old → OnErr result (NoneBegins {X = Bool} (λ _. ⊤) (λ bit. Bit (p0_of h) bit ∷ []) decoder.old) }
+    ensures read { (h : List Bool) → BitStandsFor h model.old
+        → IfOk result (λ bit. ReadsOn (Bit (p0_of h) bit ∷ []) decoder.old decoder.new) }
+    ensures stands { (h : List Bool) → BitStandsFor h model.old
+        → IfOk result (λ bit. BitStandsFor (h ++ bit ∷ []) model.new) }
+    ensures none { (h : List Bool) → BitStandsFor h model.old
+        → OnErr result (NoneBegins {X = Bool} (λ _. ⊤) (λ bit. Bit (p0_of h) bit ∷ []) decoder.old) }
 {
     let p0 = model.p0();
     let bit = decoder.take13(p0)?;
