@@ -50,7 +50,8 @@ same_name a b = same_role a.role b.role && ((a.which == b.which) && same_text a.
 -- The symbols that events have under a name, in order.
 abbrev pub symbols_under : Name → List Event → List ℕ
 symbols_under name [] = []
-symbols_under name (Symbol other n s ∷ events) = if same_name name other then s ∷ symbols_under name events else symbols_under name events
+symbols_under name (Symbol other n s ∷ events) =
+    if same_name name other then s ∷ symbols_under name events else symbols_under name events
 symbols_under name (Flag other bit ∷ events) = symbols_under name events
 symbols_under name (Bits b v ∷ events) = symbols_under name events
 
@@ -58,7 +59,8 @@ symbols_under name (Bits b v ∷ events) = symbols_under name events
 abbrev pub bits_under : Name → List Event → List Bool
 bits_under name [] = []
 bits_under name (Symbol other n s ∷ events) = bits_under name events
-bits_under name (Flag other bit ∷ events) = if same_name name other then bit ∷ bits_under name events else bits_under name events
+bits_under name (Flag other bit ∷ events) =
+    if same_name name other then bit ∷ bits_under name events else bits_under name events
 bits_under name (Bits b v ∷ events) = bits_under name events
 
 -- The part that an event cuts out after earlier events: by the distribution of the earlier symbols, or bits, under the

@@ -34,7 +34,8 @@ rest_events kind k v =
     if k == 0 then Flag (bit_name kind) (v == 1) ∷ []
     else if k == MAX_BITS then []
     else if nat_le k HIGH_BITS then Symbol (high_name kind k) (2 ^ k) v ∷ []
-    else Symbol (high_name kind k) (2 ^ HIGH_BITS) (v / 2 ^ (k - HIGH_BITS)) ∷ raw_events (k - HIGH_BITS) (v % 2 ^ (k - HIGH_BITS))
+    else Symbol (high_name kind k) (2 ^ HIGH_BITS) (v / 2 ^ (k - HIGH_BITS))
+    ∷ raw_events (k - HIGH_BITS) (v % 2 ^ (k - HIGH_BITS))
 
 -- The events of a corrector: its width k, under the context, and then its index v in that width.
 abbrev pub corrector_events : List ℕ → ℕ → ℕ → ℕ → ℕ → List Event
@@ -119,11 +120,11 @@ model_index st name = if same_role name.role Width then name.which else st.conte
 
 -- The state after model i of the bank has counted symbol s.
 abbrev pub symbol_next : IntState → ℕ → ℕ → IntState
-symbol_next st i s = record { bits = st.bits; contexts = st.contexts; zero_or_one = st.zero_or_one; bank = slice_set st.bank i (after_symbol (model_at st.bank i) s) }
+symbol_next st i s = record st { bank = slice_set st.bank i (after_symbol (model_at st.bank i) s) }
 
 -- The state after a corrector of 0 or 1.
 abbrev pub flag_next : IntState → Bool → IntState
-flag_next st bit = record { bits = st.bits; contexts = st.contexts; zero_or_one = after_bit st.zero_or_one bit; bank = st.bank }
+flag_next st bit = record st { zero_or_one = after_bit st.zero_or_one bit }
 
 -- The part of an integer's event under the models.
 abbrev pub event_cut : IntState → Event → Cut
@@ -162,7 +163,8 @@ IsCorrector bits x = (x.0 ≤ bits) × (x.1 < choices x.0)
 -- ---- the answers of a reader
 
 -- The decoder has read the corrector of width k and some index, which makes the value, and the models have counted it.
-pub record ReadsCorrector (bits : ℕ) (st : IntState) (ctx : ℕ) (pred value : ℤ) (k : ℕ) (old new : Decoding) (next : IntState) : Type 0 where
+pub record ReadsCorrector (bits : ℕ) (st : IntState) (ctx : ℕ) (pred value : ℤ) (k : ℕ) (old new : Decoding)
+    (next : IntState) : Type 0 where
   pub v : ℕ
   pub takes : Takes {X = ℕ × ℕ} (IsCorrector bits) (λ y. int_cuts st ctx y.0 y.1) old new (k, v)
   pub makes : value ≡ corrected bits pred k v
@@ -170,7 +172,8 @@ pub record ReadsCorrector (bits : ℕ) (st : IntState) (ctx : ℕ) (pred value :
 
 -- The decoder has read the one spelling with this prediction that begins the bytes that are left: no other events do,
 -- and so no other value or width.
-pub record ReadsInt (kind : List ℕ) (earlier : List Event) (bits ctx : ℕ) (pred : ℤ) (value : ℤ) (k : ℕ) (old new : Decoding) (st : IntState) : Type 0 where
+pub record ReadsInt (kind : List ℕ) (earlier : List Event) (bits ctx : ℕ) (pred value : ℤ) (k : ℕ)
+    (old new : Decoding) (st : IntState) : Type 0 where
   pub events : List Event
   pub spells : IntSpell kind bits ctx pred events value k
   pub reads : ReadsOn (cuts_after earlier events) old new

@@ -48,7 +48,8 @@ pub fn new_models(alloc: Global, bits: u32, contexts: u32) -> Result<Models, All
     requires context { 1 ≤ contexts }
     requires contexts { contexts ≤ MAX_CONTEXTS }
     ensures state { IfOk result
-        (λ models. state_of models ≡ record { bits = bits; contexts = contexts; zero_or_one = new_bit_model; bank = map new_model (int_sizes bits contexts) }) }
+        (λ models. state_of models
+        ≡ record { bits = bits; contexts = contexts; zero_or_one = new_bit_model; bank = map new_model (int_sizes bits contexts) }) }
 {
     let bank = ModelBank::new(alloc, &sizes(alloc, bits, contexts)?)?;
     Ok(Models {
@@ -102,9 +103,11 @@ fn take_wide(models: &mut Models, decoder: &mut Decoder<'_>, k: u32) -> Result<u
     requires small { k < MAX_BITS }
     requires range { k ≤ models.old.bits }
     ensures reads { Reads result (λ v. v < 2 ^ k)
-        (λ v. symbol_cut (high_at (state_of models.old) k) (v / 2 ^ (k - HIGH_BITS)) ∷ raw_cuts (k - HIGH_BITS) (v % 2 ^ (k - HIGH_BITS))) decoder.old decoder.new }
+        (λ v. symbol_cut (high_at (state_of models.old) k) (v / 2 ^ (k - HIGH_BITS))
+        ∷ raw_cuts (k - HIGH_BITS) (v % 2 ^ (k - HIGH_BITS))) decoder.old decoder.new }
     ensures next { IfOk result
-        (λ v. state_of models.new ≡ symbol_next (state_of models.old) (models.old.contexts + (k - 1)) (v / 2 ^ (k - HIGH_BITS))) }
+        (λ v. state_of models.new
+        ≡ symbol_next (state_of models.old) (models.old.contexts + (k - 1)) (v / 2 ^ (k - HIGH_BITS))) }
     ensures shape { SameShape (state_of models.old) (state_of models.new) }
     ensures state { IsIntState (state_of models.new) }
 {

@@ -36,7 +36,8 @@ pub fn take_symbol(decoder: &mut Decoder<'_>, model: &mut SymbolModel) -> Result
     requires { decoder.old.failed ≡ false }
     ensures reads { Reads result (λ s. s < alphabet_size model.old)
         (λ s. symbol_cut model.old s ∷ []) decoder.old decoder.new }
-    ensures bad { IsErr result ↔ RunsOut decoder.old (symbol_cut model.old (symbol_at model.old.starts (symbol_place decoder.old))) }
+    ensures bad { IsErr result
+        ↔ RunsOut decoder.old (symbol_cut model.old (symbol_at model.old.starts (symbol_place decoder.old))) }
     ensures after_symbol { IfOk result (λ s. model.new ≡ after_symbol model.old s) }
     ensures kept { OnErr result (model.new ≡ model.old) }
     ensures size { alphabet_size model.new ≡ alphabet_size model.old }
@@ -82,11 +83,13 @@ pub fn take_symbol_of(decoder: &mut Decoder<'_>, bank: &mut ModelBank, m: u32) -
     requires model { m < length bank.old }
     ensures reads { Reads result (λ s. s < alphabet_size (model_at bank.old m))
         (λ s. symbol_cut (model_at bank.old m) s ∷ []) decoder.old decoder.new }
-    ensures bad { IsErr result ↔ RunsOut decoder.old (symbol_cut (model_at bank.old m) (symbol_at (model_at bank.old m).starts (symbol_place decoder.old))) }
+    ensures bad { let model = model_at bank.old m
+        in IsErr result ↔ RunsOut decoder.old (symbol_cut model (symbol_at model.starts (symbol_place decoder.old))) }
     ensures after_symbol { IfOk result (λ s. bank.new ≡ slice_set bank.old m (after_symbol (model_at bank.old m) s)) }
     ensures kept { OnErr result (bank.new ≡ bank.old) }
     ensures read { (h : List ℕ) → StandsFor h (model_at bank.old m)
-        → IfOk result (λ s. ReadsOn (symbol (dist (alphabet_size (model_at bank.old m)) h) s ∷ []) decoder.old decoder.new) }
+        → IfOk result
+        (λ s. ReadsOn (symbol (dist (alphabet_size (model_at bank.old m)) h) s ∷ []) decoder.old decoder.new) }
     ensures stands { (h : List ℕ) → StandsFor h (model_at bank.old m)
         → IfOk result (λ s. StandsFor (h ++ s ∷ []) (model_at bank.new m)) }
     ensures none { (h : List ℕ) → StandsFor h (model_at bank.old m)
