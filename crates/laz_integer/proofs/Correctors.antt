@@ -5,8 +5,6 @@ use Rattle.std.proofs.lemmas.Bool.{cases_lt, cases_eq, cond-true, cond-false, ne
 use Rattle.std.proofs.lemmas.Nat.{pow_pos, mod_below, pow-add, div-mul-add, leading_top}
 use lib.Count.{count_leading_zeros}
 use Rattle.std.specs.Int.Count.{leading_of_zero}
-use Rattle.std.specs.Int.{w32, cast_signed, cast_unsigned}
-use Rattle.std.proofs.lemmas.Int.{of_z-to_z}
 use Rattle.laz_integer.specs.Corrector.{choices, corrector, digits_of, digits_within, width_of, corrector_index}
 
 -- ---- how many correctors there are
@@ -18,7 +16,7 @@ choices-more k some small = cond-false (eqb k 0) _ _ (ne_eqb k 0 (λ e. omega ar
 pub twice : (k : ℕ) → 1 ≤ k → 2 ^ k ≡ 2 * 2 ^ (k - 1)
 twice k some = let e : k ≡ suc (k - 1) = omega arith in let powers : 2 ^ k ≡ 2 ^ suc (k - 1) = ap (λ n. 2 ^ n) e in omega (arith, powers, two-pow-succ (k - 1))
 
--- an exponent is bounded where its power is
+-- an exponent is at most another if its power is
 pub exponent-le : (k b : ℕ) → 2 ^ k ≤ 2 ^ b → k ≤ b
 exponent-le k b h =
     ⊎_elim
@@ -252,14 +250,11 @@ difference-on b p r few small within =
     let all : p + (r + (4294967296 - p)) ≡ r + 2 ^ b * 2 ^ (32 - b) = rw (word_is b few) (omega arith) in
     sym (up-mod p (r + (4294967296 - p)) (2 ^ b)) ∙ (ap (λ n. n % 2 ^ b) all ∙ (add-mul-mod_self_left r (2 ^ b) (2 ^ (32 - b)) ∙ mod-eq_of_lt within))
 
--- a remainder of so many bits is a word
+-- a remainder modulo a power up to 2 ^ 32 is a word
 pub word-fits : (n b : ℕ) → b ≤ 32 → n % 2 ^ b < 4294967296
 word-fits n b few =
     let most : 2 ^ b ≤ 2 ^ 32 = power-le b 32 few in
     omega (arith, most, mod_below n (2 ^ b) (pow_pos b))
-
-pub HasBits-corrected : (b n : ℕ) → b ≤ 32 → cast_unsigned w32 (cast_signed w32 (n % 2 ^ b)) < 2 ^ b
-HasBits-corrected b n few = rw (of_z-to_z w32 (n % 2 ^ b) (word-fits n b few)) (mod_below n (2 ^ b) (pow_pos b))
 
 -- ---- the digits of a word, by its leading zeros
 pub record IsDigits (size k : ℕ) : Type 0 where

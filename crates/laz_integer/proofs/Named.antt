@@ -25,7 +25,7 @@ other-width kind c d ne = and_left (eqb c d) (same_text kind kind) (ne_eqb c d n
 pub other-high : (kind : List ℕ) (c d : ℕ) → (c ≡ d → ⊥) → same_name (high_name kind c) (high_name kind d) ≡ false
 other-high kind c d ne = and_left (eqb c d) (same_text kind kind) (ne_eqb c d ne)
 
--- ---- events behind others
+-- ---- events after others
 cond-append : {X : Type 0} (b : Bool) (x : X) (all xs ys : List X) → all ≡ xs ++ ys → cond b (x ∷ all) all ≡ cond b (x ∷ xs) xs ++ ys
 cond-append false x all xs ys e = e
 cond-append true x all xs ys e = ap (λ l. x ∷ l) e
@@ -65,20 +65,6 @@ raw-wide b v h = cond-true (ltb 19 b) _ _ (lt-ltb 19 b h)
 
 pub raw-short : (b v : ℕ) → b ≤ 19 → raw_events b v ≡ Bits b v ∷ []
 raw-short b v h = cond-false (ltb 19 b) _ _ (le-ltb 19 b h)
-
-pub symbols-raw : (name : Name) (b v : ℕ) → symbols_under name (raw_events b v) ≡ []
-symbols-raw name b v =
-    ⊎_elim
-    (λ (wide : 19 < b). ap (symbols_under name) (raw-wide b v wide))
-    (λ (short : b ≤ 19). ap (symbols_under name) (raw-short b v short))
-    (cases_lt 19 b)
-
-pub bits-raw : (name : Name) (b v : ℕ) → bits_under name (raw_events b v) ≡ []
-bits-raw name b v =
-    ⊎_elim
-    (λ (wide : 19 < b). ap (bits_under name) (raw-wide b v wide))
-    (λ (short : b ≤ 19). ap (bits_under name) (raw-short b v short))
-    (cases_lt 19 b)
 
 pub cuts-raw : (earlier : List Event) (b v : ℕ) → cuts_after earlier (raw_events b v) ≡ raw_cuts b v
 cuts-raw earlier b v =

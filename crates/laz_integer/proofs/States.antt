@@ -8,7 +8,7 @@ use Rattle.laz_models.specs.Counting.{Counting, new_model}
 use Rattle.laz_models.specs.Bank.{model_at, alphabet_sizes}
 use Rattle.laz_models.proofs.Banks.{size-new_model}
 use Rattle.laz_models.specs.Dist.{alphabet_size}
-use Rattle.laz_integer.specs.Integer.{IntState, IsIntState, SameShape, int_sizes, high_at}
+use Rattle.laz_integer.specs.Integer.{IntState, IsIntState, int_sizes, high_at}
 
 cons_same : (x y : ℕ) (xs ys : List ℕ) → x ≡ y → xs ≡ ys → x ∷ xs ≡ y ∷ ys
 cons_same x y xs ys e f = cc
@@ -53,9 +53,6 @@ high-size st k h some within =
 
 pub high-in : (st : IntState) (k : ℕ) → IsIntState st → 0 < k → k ≤ st.bits → st.contexts + (k - 1) < length st.bank
 high-in st k h some within = omega (arith, models-count st h, some, within)
-
-pub SameShape-then : (a b c : IntState) → SameShape a b → SameShape b c → SameShape a c
-SameShape-then a b c f g = record { bits = g.bits ∙ f.bits; contexts = g.contexts ∙ f.contexts; sizes = g.sizes ∙ f.sizes }
 
 size-in : (k : ℕ) → 1 ≤ k → (2 ≤ 2 ^ min k 8) × (2 ^ min k 8 ≤ 2048)
 size-in k some =

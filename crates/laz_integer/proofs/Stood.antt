@@ -20,7 +20,7 @@ use Rattle.laz_integer.proofs.Uses.{int-silent, Silent-raw}
 use Rattle.laz_integer.proofs.States.{models-count, width-size, high-size, high-in, length-sizes, sizes-two}
 use Rattle.laz_integer.proofs.Named.{same-width, same-high, same-bit, other-width, other-high, symbols-with, symbols-without, bits-with, symbols-flag, bits-symbol}
 
--- ---- one event behind others, and the part that its model gives
+-- ---- one event after others, and the part that its model gives
 pub symbol-cut : (earlier : List Event) (name : Name) (m : Counting) (n s : ℕ) → alphabet_size m ≡ n → StandsFor (symbols_under name earlier) m → cut_after earlier (Symbol name n s) ≡ symbol_cut m s
 symbol-cut earlier name m n s e stands = rw (← e) (ap (λ parts. symbol parts s) (sym stands.starts))
 

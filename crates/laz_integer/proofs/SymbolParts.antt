@@ -79,9 +79,6 @@ symbol-nothing m d e h starts stands none =
 pub sized-takes : (m : Counting) (s n : ℕ) (a b : Decoding) → alphabet_size m ≡ n → Takes (λ y. y < alphabet_size m) (λ y. symbol m.starts y ∷ []) a b s → Takes (λ y. y < n) (λ y. symbol m.starts y ∷ []) a b s
 sized-takes m s n a b e h = subst (λ (k : ℕ). Takes (λ y. y < k) (λ y. symbol m.starts y ∷ []) a b s) e h
 
-pub sized-none : (m : Counting) (n : ℕ) (a b : Decoding) → alphabet_size m ≡ n → TakesNone (λ y. y < alphabet_size m) (λ y. symbol m.starts y ∷ []) a b → TakesNone (λ y. y < n) (λ y. symbol m.starts y ∷ []) a b
-sized-none m n a b e h = subst (λ (k : ℕ). TakesNone (λ y. y < k) (λ y. symbol m.starts y ∷ []) a b) e h
-
 -- ---- the symbol at a place
 starts-here : (starts : List ℕ) (place s i : ℕ) → IsDistribution starts → IsLastAt starts place s → i ≤ s → leb (get_or starts i 0) place ≡ true
 starts-here starts place s i h last within =
