@@ -4,7 +4,7 @@ ghost use Rattle.std.specs.Prelude.{◌≡◌, ◌*◌, ◌≤◌, false};
 use crate::draws::{add, draw};
 use crate::report::{Coded, Read, print};
 use anyhow::{Result, bail};
-use laz_integer::IntModel;
+use laz_integer::{IntModel, MAX_INT_BYTES};
 use laz_range::{Bad, Decoder, Encoder};
 use std::alloc::Global;
 use std::rt::Clock;
@@ -20,7 +20,7 @@ fn difference(state: u64) -> i32 {
 fn code_all(encoder: &mut Encoder, model: &mut IntModel, count: u32) -> u64
     requires bits { model.old.bits ≡ 32 }
     requires contexts { 2 ≤ model.old.contexts }
-    requires left { 12 * count ≤ encoder.old.left }
+    requires left { MAX_INT_BYTES * count ≤ encoder.old.left }
 {
     let mut sum: u64 = 0;
     let mut state: u64 = 1;
@@ -53,7 +53,10 @@ fn read_all(decoder: &mut Decoder<'_>, model: &mut IntModel, count: u32) -> Resu
 fn code(rt: &(impl Clock + Alloc<A = Global>), count: u32) -> Result<Coded> {
     let alloc = rt.alloc();
     let mut model = IntModel::new(alloc, 32, 2)?;
-    let mut encoder = Encoder::with_room(vec![in alloc; 0; 12 * count as usize + 4]?, 0);
+    let mut encoder = Encoder::with_room(
+        vec![in alloc; 0; MAX_INT_BYTES as usize * count as usize + 4]?,
+        0,
+    );
     let start = Instant::now(rt)?;
     let sum = code_all(&mut encoder, &mut model, count);
     let time = start.elapsed(rt)?;

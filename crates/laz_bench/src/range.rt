@@ -4,9 +4,9 @@ ghost use Rattle.laz_bench.specs.Starts.{AreStarts, Locates};
 
 use crate::draws::{add, checksum};
 use crate::report::{Coded, Read, print};
-use crate::starts::{Drawn, WHOLE, prepare};
+use crate::starts::{Drawn, prepare};
 use anyhow::{Result, bail};
-use laz_range::{Bad, Decoder, Encoder};
+use laz_range::{Bad, Decoder, Encoder, SYMBOL_PARTS};
 use std::alloc::Global;
 use std::rt::Clock;
 use std::time::Instant;
@@ -29,7 +29,7 @@ fn read_all(decoder: &mut Decoder<'_>, starts: &[u32], table: &[u8], count: u32)
 {
     let mut sum: u64 = 0;
     for _ in 0..count {
-        let place = decoder.at15().min(WHOLE - 1);
+        let place = decoder.at15().min(SYMBOL_PARTS - 1);
         let symbol = table[place as usize];
         let at = symbol as usize;
         decoder.take15(starts[at], starts[at + 1])?;

@@ -4,11 +4,10 @@ ghost use Rattle.laz_bench.specs.Starts.{AreStarts, Locates};
 
 use crate::draws::draw;
 use anyhow::{Result, bail};
+use laz_range::SYMBOL_PARTS;
 use std::alloc::{AllocError, Global};
 
 const SYMBOLS: usize = 256;
-
-pub const WHOLE: u32 = 32_768;
 
 /// Where the part of each symbol begins, and at the end 32,768.
 fn skewed_starts(alloc: Global) -> Result<Vec<u32>, AllocError> {
@@ -18,7 +17,7 @@ fn skewed_starts(alloc: Global) -> Result<Vec<u32>, AllocError> {
         starts.push(start)?;
         start = start.wrapping_add(1 + 5000 / (s + 1));
     }
-    starts.push(WHOLE)?;
+    starts.push(SYMBOL_PARTS)?;
     Ok(starts)
 }
 
@@ -30,7 +29,7 @@ fn are_starts(starts: &[u32]) -> bool
         return false;
     }
     for s in 0..SYMBOLS {
-        if starts[s] >= starts[s + 1] || starts[s + 1] > WHOLE {
+        if starts[s] >= starts[s + 1] || starts[s + 1] > SYMBOL_PARTS {
             return false;
         }
     }
@@ -41,9 +40,9 @@ fn are_starts(starts: &[u32]) -> bool
 fn symbols_by_place(alloc: Global, starts: &[u32]) -> Result<Vec<u8>, AllocError>
     requires { AreStarts starts.now }
 {
-    let mut table = Vec::with_capacity(alloc, WHOLE as usize)?;
+    let mut table = Vec::with_capacity(alloc, SYMBOL_PARTS as usize)?;
     let mut symbol: u8 = 0;
-    for place in 0..WHOLE {
+    for place in 0..SYMBOL_PARTS {
         if place >= starts[symbol as usize + 1] && symbol < 255 {
             symbol += 1;
         }
@@ -57,10 +56,10 @@ fn locates(starts: &[u32], table: &[u8]) -> bool
     requires { AreStarts starts.now }
     ensures { IsTrue result → Locates starts.now table.now }
 {
-    if table.len() != WHOLE as usize {
+    if table.len() != SYMBOL_PARTS as usize {
         return false;
     }
-    for place in 0..WHOLE {
+    for place in 0..SYMBOL_PARTS {
         let symbol = table[place as usize] as usize;
         if starts[symbol] > place || starts[symbol + 1] <= place {
             return false;

@@ -1,11 +1,17 @@
-use Rattle.std.proofs.Common.{◌≡◌, ℕ, pos, negsuc, true, false, List, [], ◌∷◌, refl}
+-- Worked values of the definitions.
+use Rattle.std.proofs.Common.{◌≡◌, ℕ, pos, negsuc, true, false, List, [], ◌∷◌, map, refl}
+use Rattle.std.specs.Prelude.{codes}
+use Rattle.laz_range.specs.Cut.{Part, Bit}
 use Rattle.laz_range.specs.Span.{span, bytes_of, renormal_step, subspan}
-use Rattle.laz_models.specs.Counting.{starts_of}
+use Rattle.laz_models.specs.BitCounting.{new_bit_model}
+use Rattle.laz_models.specs.Counting.{new_model, starts_of}
 use Rattle.laz_models.specs.Cycles.{cycle_in}
 use Rattle.laz_models.specs.Dist.{counts_at}
 use Rattle.laz_integer.specs.Corrector.{digits_within, width_of, corrector_index, corrector, corrected}
 use Rattle.laz_integer.specs.Events.{Symbol, Flag, Bits, cuts_of}
-use Rattle.laz_integer.specs.Integer.{IntEvents, width_name, bit_name, high_name, rest_events}
+use Rattle.laz_integer.specs.Fields.{byte_events, if_marked, word_events}
+use Rattle.laz_integer.specs.Integer.{IntEvents, IntState, int_cuts, int_sizes, symbol_at, width_name, bit_name, high_name, rest_events}
+use Rattle.laz_integer.specs.Uses.{apart, own_name}
 
 -- an integer called "x"
 x : List ℕ
@@ -69,3 +75,39 @@ wraps = refl
 folds : corrected 8 (pos 250) 4 9 ≡ pos 4
 unfolding corrector
 folds = refl
+
+-- a number of 16 bits, marked and not
+word_is : word_events x 0 7 9 ≡ Symbol (width_name x 0) 17 1 ∷ Symbol (high_name x 1) 2 1 ∷ []
+unfolding digits_within width_of corrector_index rest_events
+word_is = refl
+
+unmarked : if_marked false (byte_events x 3 200) ≡ []
+unmarked = refl
+
+marked : if_marked true (byte_events x 3 200) ≡ Symbol (own_name x 3) 256 200 ∷ []
+marked = refl
+
+-- uses that differ, and one that does not
+differ : apart (codes "dx" ∷ codes "z" ∷ []) (codes "dy" ∷ codes "intensity" ∷ []) ≡ true
+differ = refl
+
+again : apart (codes "dx" ∷ codes "z" ∷ []) (codes "dy" ∷ codes "z" ∷ []) ≡ false
+again = refl
+
+-- the symbol of a place: parts from 0, 100 and 32,000 on
+before_second : symbol_at (0 ∷ 100 ∷ 32000 ∷ []) 99 ≡ 0
+before_second = refl
+
+at_second : symbol_at (0 ∷ 100 ∷ 32000 ∷ []) 100 ≡ 1
+at_second = refl
+
+at_last : symbol_at (0 ∷ 100 ∷ 32000 ∷ []) 32767 ≡ 2
+at_last = refl
+
+-- new models of integers of one bit: a corrector of 1 is a width of 0, in the lower half, and a bit of 1
+one_bit : IntState
+one_bit = record { bits = 1; contexts = 1; zero_or_one = new_bit_model; bank = map new_model (int_sizes 1 1) }
+
+one_bit_cuts : int_cuts one_bit 0 0 1 ≡ Part 0 16384 ∷ Bit 4096 true ∷ []
+unfolding one_bit int_sizes rest_events new_model starts_of
+one_bit_cuts = refl

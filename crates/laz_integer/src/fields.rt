@@ -1,5 +1,5 @@
 //! Fields of a record that are coded only if they are marked as changed: bytes, and numbers of 16 bits.
-ghost use Rattle.std.specs.Prelude.{◌≡◌, ◌+◌, ◌<◌, ◌≤◌, ℕ, pos, false, length, IfOk, MatchResult, OnOk};
+ghost use Rattle.std.specs.Prelude.{◌≡◌, ◌+◌, ◌<◌, ◌≤◌, ℕ, false, length, IfOk, MatchResult, OnErr};
 ghost use Rattle.laz_range.specs.Coding.{Codes};
 ghost use Rattle.laz_range.specs.Decoding.{Reads, Takes, TakesNone};
 ghost use Rattle.laz_models.specs.Bank.{model_at, alphabet_sizes};
@@ -45,6 +45,7 @@ pub fn take_byte(
     requires size { alphabet_size (model_at bank.old m) ≡ 256 }
     ensures reads { Reads result (IsByte marked expected) (byte_cuts marked bank.old m) decoder.old decoder.new }
     ensures next { IfOk result (λ byte. bank.new ≡ byte_next marked bank.old m byte) }
+    ensures kept { OnErr result (bank.new ≡ bank.old) }
     ensures sizes { alphabet_sizes bank.new ≡ alphabet_sizes bank.old }
 {
     if marked {

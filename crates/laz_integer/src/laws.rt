@@ -1,5 +1,5 @@
 //! Laws of the definitions, as contracts of functions that do nothing.
-ghost use Rattle.std.specs.Prelude.{◌≡◌, ◌+◌, ◌<◌, ◌≤◌, ◌++◌, ℕ, ℤ, Bool, true, false, List, [], ◌∷◌, length, FitsSigned};
+ghost use Rattle.std.specs.Prelude.{◌≡◌, ◌+◌, ◌≤◌, ◌++◌, ℕ, ℤ, false, List, [], ◌∷◌, length, FitsSigned};
 ghost use Rattle.std.specs.Int.{w32};
 ghost use Rattle.laz_range.specs.Cut.{AreCuts};
 ghost use Rattle.laz_range.specs.Span.{Begins, Fits, IsBytes, bytes_of, span};
