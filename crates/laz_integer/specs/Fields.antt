@@ -2,6 +2,7 @@
 -- of 16 bits as integers.
 use Rattle.std.specs.Prelude.{◌≡◌, ℕ, ℤ, pos, nat_abs, ◌<◌, Bool, true, false, List, [], ◌∷◌, length, slice_set}
 use Rattle.laz_range.specs.Cut.{Cut}
+use Rattle.laz_range.specs.Decoding.{Decoding, Takes}
 use Rattle.laz_models.specs.Counting.{Counting, after_symbol}
 use Rattle.laz_models.specs.Dist.{StandsFor}
 use Rattle.laz_models.specs.Bank.{model_at}
@@ -86,3 +87,11 @@ IsWord false x = x ≡ (0, 0)
 abbrev pub word_value : Bool → ℕ → ℕ × ℕ → ℕ
 word_value true pred x = nat_abs (corrected 16 (pos pred) x.0 x.1)
 word_value false pred x = pred
+
+-- The decoder has read some corrector, which makes the number, and the models have counted it.
+pub record ReadsWord (marked : Bool) (st : IntState) (ctx pred value : ℕ) (old new : Decoding) (next : IntState)
+    : Type 0 where
+  pub corrector : ℕ × ℕ
+  pub takes : Takes (IsWord marked) (word_cuts marked st ctx) old new corrector
+  pub makes : value ≡ word_value marked pred corrector
+  pub counts : next ≡ word_next marked st ctx corrector

@@ -1,11 +1,11 @@
 //! Fields of a record that are coded only if they are marked as changed: bytes, and numbers of 16 bits.
-ghost use Rattle.std.specs.Prelude.{◌≡◌, ◌+◌, ◌<◌, ◌≤◌, ℕ, false, length, IfOk, MatchResult, OnErr};
+ghost use Rattle.std.specs.Prelude.{◌≡◌, ◌+◌, ◌<◌, ◌≤◌, false, length, IfOk, MatchResult, OnErr};
 ghost use Rattle.laz_range.specs.Coding.{Codes};
-ghost use Rattle.laz_range.specs.Decoding.{Reads, Takes, TakesNone};
+ghost use Rattle.laz_range.specs.Decoding.{Reads, TakesNone};
 ghost use Rattle.laz_models.specs.Bank.{model_at, alphabet_sizes};
 ghost use Rattle.laz_models.specs.Dist.{alphabet_size};
 ghost use Rattle.laz_integer.specs.Integer.{IsInts};
-ghost use Rattle.laz_integer.specs.Fields.{IsByte, IsWord, byte_cuts, byte_next, word_cuts, word_value, word_next, word_corrector};
+ghost use Rattle.laz_integer.specs.Fields.{IsByte, IsWord, ReadsWord, byte_cuts, byte_next, word_cuts, word_next, word_corrector};
 
 use crate::int_model::IntModel;
 use crate::limits::{MAX_INT_BYTES, MAX_SHORT_INT_BYTES};
@@ -93,10 +93,8 @@ pub fn take_word(
     requires within { decoder.old.taken ≤ length decoder.old.bytes }
     requires ints { IsInts 16 model.old.contexts model.old }
     requires context { ctx < model.old.contexts }
-    ensures reads { MatchResult result (λ value. (x : ℕ × ℕ)
-        × Takes (IsWord marked) (word_cuts marked model.old ctx) decoder.old decoder.new x
-        × (value ≡ word_value marked pred x)
-        × (model.new ≡ word_next marked model.old ctx x))
+    ensures reads { MatchResult result
+        (λ value. ReadsWord marked model.old ctx pred value decoder.old decoder.new model.new)
         (λ _. TakesNone (IsWord marked) (word_cuts marked model.old ctx) decoder.old decoder.new) }
     ensures ints { IsInts 16 model.old.contexts model.new }
 {

@@ -1,4 +1,7 @@
-//! Symbols and bits, each coded under a model that then counts it.
+//! Symbols and bits, each coded under a model that counts it.
+//!
+//! Where a symbol or bit is coded, the model counts it before the encoder writes: the encoder's stores may alias the
+//! model, whose fields would be loaded again after them.
 ghost use Rattle.std.specs.Prelude.{◌≡◌, ◌≢◌, ◌<◌, ◌≤◌, ◌↔◌, ℕ, Bool, List, [], ◌∷◌, ◌++◌, ⊤, false, length, slice_set, IfOk, OnErr, IsErr};
 ghost use Rattle.laz_range.specs.Cut.{Bit, symbol};
 ghost use Rattle.laz_range.specs.Coding.{Codes};
@@ -26,8 +29,8 @@ pub fn put_symbol(encoder: &mut Encoder, model: &mut SymbolModel, s: u32)
     ensures stands { (h : List ℕ) → StandsFor h model.old → StandsFor (h ++ s ∷ []) model.new }
 {
     let (lo, hi) = model.part(s);
-    encoder.cut15(lo, hi);
     model.count(s);
+    encoder.cut15(lo, hi);
 }
 
 /// Reads a symbol of a model, and counts it. [`Bad`] means that the bytes end too early: no symbol begins those left.
@@ -70,8 +73,8 @@ pub fn put_symbol_of(encoder: &mut Encoder, bank: &mut ModelBank, m: u32, s: u32
     ensures sizes { alphabet_sizes bank.new ≡ alphabet_sizes bank.old }
 {
     let (lo, hi) = bank.part(m, s);
-    encoder.cut15(lo, hi);
     bank.count(m, s);
+    encoder.cut15(lo, hi);
 }
 
 /// Reads a symbol of model `m` of a bank, and counts it. [`Bad`] means that the bytes end too early: no symbol begins
@@ -115,8 +118,8 @@ pub fn put_bit(encoder: &mut Encoder, model: &mut BitModel, bit: bool)
     ensures stands { (h : List Bool) → BitStandsFor h model.old → BitStandsFor (h ++ bit ∷ []) model.new }
 {
     let p0 = model.p0();
-    encoder.cut13(p0, bit);
     model.count(bit);
+    encoder.cut13(p0, bit);
 }
 
 /// Reads a bit under a model, and counts it. [`Bad`] means that the bytes end too early: neither bit begins those left.

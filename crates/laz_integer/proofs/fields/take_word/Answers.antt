@@ -7,18 +7,18 @@ use Rattle.laz_integer.proofs.fields.take_word.Goals as goal
 pub returns-then-marked-clause-reads : goal.returns-then-marked-clause-reads
 returns-then-marked-clause-reads c =
     let read = c.in_ok-value.ensures.fixed 16 c.requires.ints.bits in
-    rw c.if-marked.true (
-      (c.in_ok-value.field-0-1, read.v),
-      read.takes,
-      word-value c.args.pred _ c.in_ok-value.field-0-1 read.v c.in_ok-value.value (word-pos c.args.pred c.ranges.pred.fits) read.makes,
-      read.counts,
-    )
+    rw c.if-marked.true (record {
+      corrector = (c.in_ok-value.field-0-1, read.v);
+      takes = read.takes;
+      makes = word-value c.args.pred _ c.in_ok-value.field-0-1 read.v c.in_ok-value.value (word-pos c.args.pred c.ranges.pred.fits) read.makes;
+      counts = read.counts;
+    })
 
 pub returns-clause-reads : goal.returns-clause-reads
 returns-clause-reads c =
-    rw c.if-marked.false (
-      (0, 0),
-      Takes-empty (IsWord false) (word_cuts false c.args.model.now c.args.ctx) c.args.decoder.now (0, 0) refl refl (λ y p. p) c.requires.within c.requires.good,
-      refl,
-      refl,
-    )
+    rw c.if-marked.false (record {
+      corrector = (0, 0);
+      takes = Takes-empty (IsWord false) (word_cuts false c.args.model.now c.args.ctx) c.args.decoder.now (0, 0) refl refl (λ y p. p) c.requires.within c.requires.good;
+      makes = refl;
+      counts = refl;
+    })
