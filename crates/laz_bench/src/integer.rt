@@ -50,6 +50,7 @@ fn read_all(decoder: &mut Decoder<'_>, model: &mut IntModel, count: u32) -> Resu
     Ok(sum)
 }
 
+#[inline(never)]
 fn code(rt: &(impl Clock + Alloc<A = Global>), count: u32) -> Result<Coded> {
     let alloc = rt.alloc();
     let mut model = IntModel::new(alloc, 32, 2)?;
@@ -69,6 +70,7 @@ fn code(rt: &(impl Clock + Alloc<A = Global>), count: u32) -> Result<Coded> {
     })
 }
 
+#[inline(never)]
 fn read(rt: &(impl Clock + Alloc<A = Global>), bytes: &[u8], count: u32) -> Result<Read> {
     let mut model = IntModel::new(rt.alloc(), 32, 2)?;
     let Ok(mut decoder) = Decoder::new(bytes) else {

@@ -1,5 +1,7 @@
 //! Times the coding layers, for a run by hand: `laz_bench MODE COUNT`.
 //!
+//! What codes and what reads are functions of their own, never inlined, so that the timed loops share no registers.
+//!
 //! MODE is `range`, `symbols`, `integer`, or `all` for each of them in turn. Standard output has checksums, which are
 //! the same in each run; standard error has the nanoseconds both ways.
 #![tactic(auto)]

@@ -38,6 +38,7 @@ fn read_all(decoder: &mut Decoder<'_>, starts: &[u32], table: &[u8], count: u32)
     Ok(sum)
 }
 
+#[inline(never)]
 fn code(rt: &(impl Clock + Alloc<A = Global>), starts: &[u32], symbols: &[u8]) -> Result<Coded>
     requires starts { AreStarts starts.now }
     requires few { length symbols.now < 2 ^ 32 }
@@ -57,6 +58,7 @@ fn code(rt: &(impl Clock + Alloc<A = Global>), starts: &[u32], symbols: &[u8]) -
     })
 }
 
+#[inline(never)]
 fn read(rt: &impl Clock, drawn: &Drawn, bytes: &[u8], count: u32) -> Result<Read> {
     let Ok(mut decoder) = Decoder::new(bytes) else {
         bail!("no events");

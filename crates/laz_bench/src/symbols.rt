@@ -39,6 +39,7 @@ fn read_all(decoder: &mut Decoder<'_>, bank: &mut ModelBank, count: u32) -> Resu
     Ok(sum)
 }
 
+#[inline(never)]
 fn code(rt: &(impl Clock + Alloc<A = Global>), symbols: &[u8]) -> Result<Coded>
     requires { length symbols.now < 2 ^ 32 }
 {
@@ -58,6 +59,7 @@ fn code(rt: &(impl Clock + Alloc<A = Global>), symbols: &[u8]) -> Result<Coded>
     })
 }
 
+#[inline(never)]
 fn read(rt: &(impl Clock + Alloc<A = Global>), bytes: &[u8], count: u32) -> Result<Read> {
     let mut bank = ModelBank::new(rt.alloc(), &[256; 8])?;
     let Ok(mut decoder) = Decoder::new(bytes) else {
