@@ -1,4 +1,5 @@
 pub mod NumberLemmas
-pub mod HeadLemmas
-pub mod FileLemmas
+pub mod VlrLemmas
+pub mod CauseLemmas
+pub mod CountLemmas
 pub mod Examples

@@ -1,6 +1,6 @@
 -- Numbers by their place: what leaves them as they are, and that bytes read and written again are the same.
-use Rattle.std.proofs.Common.{◌≡◌, ℕ, zero, suc, ◌+◌, ◌*◌, ◌/◌, ◌%◌, ◌^◌, ◌<◌, ◌≤◌, List, [], ◌∷◌, ◌++◌, length, take, drop, get_or, slice_index, refl, sym, ap, ◌∙◌, arith, length-append, length-drop}
-use Rattle.std.proofs.lemmas.List.{take_at, drop-drop, length-take-le, get_or-take}
+use Rattle.std.proofs.Common.{◌≡◌, ℕ, zero, suc, ◌+◌, ◌*◌, ◌-◌, ◌/◌, ◌%◌, ◌^◌, ◌<◌, ◌≤◌, List, [], ◌∷◌, ◌++◌, length, take, drop, get_or, slice_index, refl, sym, ap, ◌∙◌, arith, length-append, length-drop, append_assoc}
+use Rattle.std.proofs.lemmas.List.{take_at, drop_at, drop-drop, length-take-le, get_or-take}
 use borrow.Rule.Slice.PartMut.{put_mid}
 use Rattle.std.proofs.Math.Nat.{add-mul-mod_self_left, div-div-eq-div-mul, mod-eq_of_lt, pow-succ'}
 use Rattle.std.specs.Int.{byte_at, bytes_low_first}
@@ -89,3 +89,48 @@ little_bytes-little_number (x ∷ xs) bytes =
     let rest = little_bytes-little_number xs (λ k. bytes (suc k)) in
     let moved = little_from-cons 0 (length xs) x xs in
     rw (moved, bytes_of_cons (length xs) x (little_from 0 (length xs) xs) first, rest) refl
+
+-- a number depends on its own bytes alone
+little_from-nil : (at n : ℕ) → little_from at n [] ≡ 0
+little_from-nil at zero = refl
+little_from-nil at (suc n) = let rest = little_from-nil (suc at) n in rw rest refl
+
+little_from-drop : (at n : ℕ) (xs : List ℕ) → little_from at n xs ≡ little_from 0 n (drop at xs)
+little_from-drop zero n xs = refl
+little_from-drop (suc at) n [] = little_from-nil (suc at) n ∙ sym (little_from-nil 0 n)
+little_from-drop (suc at) n (x ∷ xs) = little_from-cons at n x xs ∙ little_from-drop at n xs
+
+pub number_at-drop : (width at : ℕ) (xs : List ℕ) → number_at width at xs ≡ number_at width 0 (drop at xs)
+unfolding number_at
+number_at-drop width at xs = little_from-drop at width xs
+
+pub number_at-part : (width at : ℕ) (xs : List ℕ) → number_at width at xs ≡ number_at width 0 (take width (drop at xs))
+number_at-part width at xs = number_at-drop width at xs ∙ sym (number_at-take width 0 width (drop at xs) (omega arith))
+
+-- what stands after a part that is replaced by one of its length stays
+pub drop-splice : (xs : List ℕ) (i j n : ℕ) (ys : List ℕ) → i + length ys ≡ j → j ≤ length xs → j ≤ n → drop n (splice xs i j ys) ≡ drop n xs
+drop-splice xs i j n ys fits within after =
+    let joined : splice xs i j ys ≡ (take i xs ++ ys) ++ drop j xs = sym (append_assoc (take i xs) ys (drop j xs)) in
+    let long : length (take i xs ++ ys) ≡ j = omega (arith, length-append (take i xs) ys, length-take-le i xs (omega arith)) in
+    let at_end : drop j (splice xs i j ys) ≡ drop j xs = ap (λ (zs : List ℕ). drop j zs) joined ∙ drop_at (take i xs ++ ys) (drop j xs) j long in
+    let reach : j + (n - j) ≡ n = omega arith in
+    ap (λ (m : ℕ). drop m (splice xs i j ys)) (sym reach) ∙ sym (drop-drop (n - j) j (splice xs i j ys)) ∙ ap (λ (zs : List ℕ). drop (n - j) zs) at_end
+    ∙ drop-drop (n - j) j xs ∙ ap (λ (m : ℕ). drop m xs) reach
+
+pub number_at-splice_after : (width at i j : ℕ) (xs ys : List ℕ) → i + length ys ≡ j → j ≤ length xs → j ≤ at
+    → number_at width at (splice xs i j ys) ≡ number_at width at xs
+number_at-splice_after width at i j xs ys fits within after =
+    number_at-drop width at (splice xs i j ys) ∙ ap (number_at width 0) (drop-splice xs i j at ys fits within after) ∙ sym (number_at-drop width at xs)
+
+reads_back : (width x : ℕ) (rest : List ℕ) → x < 256 ^ width → number_at width 0 (little_bytes width x ++ rest) ≡ x
+unfolding number_at
+reads_back width x rest fits = little_number-reads_back width x rest fits
+
+-- a number that a replaced part begins with is read back
+pub number_at-splice_first : (width at j x : ℕ) (xs rest : List ℕ) → at ≤ length xs → x < 256 ^ width
+    → number_at width at (splice xs at j (little_bytes width x ++ rest)) ≡ x
+number_at-splice_first width at j x xs rest within fits =
+    let front = take at xs in
+    number_at-drop width at (splice xs at j (little_bytes width x ++ rest))
+    ∙ ap (number_at width 0) (drop_at front ((little_bytes width x ++ rest) ++ drop j xs) at (length-take-le at xs within) ∙ append_assoc (little_bytes width x) rest (drop j xs))
+    ∙ reads_back width x (rest ++ drop j xs) fits

@@ -1,9 +1,9 @@
--- The causes by number and by name, in their order.
+-- The causes by number and by name.
 use Rattle.std.specs.Prelude.{ℕ, List, codes}
 use Rattle.las_header.specs.declared.refusal.Refusal.{Refusal}
 use Rattle.las_header.specs.declared.refusal.Refusal.TheVariants as cause
 
--- the place of the cause in the list of causes, from 1
+-- the place of the cause in the enum, from 1
 abbrev pub cause_number : Refusal → ℕ
 cause_number cause.Short = 1
 cause_number cause.Magic = 2
@@ -28,6 +28,10 @@ cause_number cause.ChunkSum = 20
 cause_number (cause.BadChunk _) = 21
 cause_number (cause.RawRange _) = 22
 cause_number cause.TooManyParts = 23
+cause_number cause.PointSum = 24
+cause_number cause.Extended = 25
+cause_number cause.PointCounts = 26
+cause_number cause.NotPacked = 27
 
 -- the name of the cause, in ASCII
 abbrev pub cause_name : Refusal → List ℕ
@@ -54,3 +58,7 @@ cause_name cause.ChunkSum = codes "ChunkSum"
 cause_name (cause.BadChunk _) = codes "BadChunk"
 cause_name (cause.RawRange _) = codes "RawRange"
 cause_name cause.TooManyParts = codes "TooManyParts"
+cause_name cause.PointSum = codes "PointSum"
+cause_name cause.Extended = codes "Extended"
+cause_name cause.PointCounts = codes "PointCounts"
+cause_name cause.NotPacked = codes "NotPacked"

@@ -2,64 +2,78 @@
 
 ghost use Rattle.std.specs.Prelude.{◌≡◌};
 
-/// Why a file is refused. The first condition that holds, in the order of the list, is the cause.
+/// Why a file is refused, each with the condition under which it is.
 ///
-/// Sizes and places are in bytes. A file is packed where bit 7 of its point data format byte is set,
-/// else plain.
+/// A file has S bytes, header size H, offset to the point data O, N points, point data format byte f and record length
+/// L. It is packed if bit 7 of f is set, else plain. N is the number of points at byte 107; for LAS 1.4, if that is 0,
+/// it is the one at byte 247. The refusal of a file is the first of the conditions that holds, in this order: `Short` to
+/// `RecordLength`, `Extended`, `PointCounts`, `Count` to `ChunkSum`, `PointSum`. The other causes come from calls that
+/// name them.
+///
+/// This crate answers `Short` to `StrayVlr`, `Extended` and `PointCounts`.
 #[derive(Clone, Copy, Debug, PartialEq, Eq)]
 pub enum Refusal {
-    /// The file ends within the 227 bytes of the public header block.
+    /// S is below 227.
     Short,
-    /// The file does not begin with `LASF`.
+    /// The first four bytes are not `LASF`.
     Magic,
-    /// The version is not one of 1.0 to 1.2.
+    /// The major version is not 1, or the minor one is above 4.
     Version,
-    /// The header size is below 227.
+    /// H is below 227 for LAS 1.0 to 1.2, below 235 for LAS 1.3, or below 375 for LAS 1.4.
     HeaderSize,
-    /// The offset to the point data lies within the header, behind the end of the file, or too far.
+    /// O is below H, or above S, or above 16,777,216 for a packed file or 16,777,104 for a plain one.
     Offset,
-    /// A variable-length record passes the offset to the point data.
+    /// The 54 bytes of a VLR's head or its payload, one VLR after another from H on, pass O.
     Vlrs,
-    /// The point data format is not one that is read.
+    /// The low seven bits of f are above 3.
     Format,
-    /// The record length is below the size of the format, or too far above it.
+    /// L is below the size of the format, or above that size plus 192.
     RecordLength,
-    /// The file ends before the last record that the header counts.
+    /// Plain: S - O is below N times L, so the file ends before its last point record.
     Count,
-    /// The file goes on behind the last record that the header counts.
+    /// Plain: S - O is above N times L, so the file goes on after its last point record.
     Trailing,
-    /// A plain file has a laszip record among its variable-length records.
+    /// Plain: a VLR is a laszip VLR.
     StrayVlr,
-    /// A packed file has no laszip record, or more than one.
+    /// Packed: the number of laszip VLRs is not one.
     NoVlr,
-    /// The laszip record is too short, or not as long as its items ask.
+    /// Packed: the payload of the laszip VLR is too short, or not as long as its number of items needs.
     VlrShape,
-    /// The compressor is not the pointwise chunked one, or the coder is not the arithmetic one.
+    /// Packed: the compressor is not the chunked one of version 2, or the coder is not the arithmetic one.
     Compressor,
-    /// The items are not those of the format and the record length.
+    /// Packed: the items are not those of the format and the record length.
     Items,
-    /// The chunk size is none that is read.
+    /// Packed: the chunk size is one that is not read.
     ChunkSize,
-    /// There are more than 2^24 chunks.
+    /// Packed: there are more than 2^24 chunks.
     TooManyChunks,
-    /// The position of the chunk table is missing or outside the file.
+    /// Packed: the position of the chunk table is missing or outside the file.
     TablePointer,
-    /// The chunk table is not whole.
+    /// Packed: the chunk table is not whole.
     Table,
-    /// The sizes of the chunks do not add up to the place of the table.
+    /// Packed: the sizes of the chunks do not add up to the place of the chunk table.
     ChunkSum,
-    /// The chunk of this number holds no records of its count.
+    /// The chunk of this number, from 0, does not hold its number of point records.
     BadChunk(u32),
-    /// The kept record of this number, from 0, would get a coordinate outside 32 bits.
+    /// The kept point record of this number, from 0, would get a coordinate outside 32 bits.
     RawRange(u64),
-    /// The records fall into more than 512 parts.
+    /// The point records fall into more than 512 parts.
     TooManyParts,
+    /// Packed, with a number of points for each chunk: these are out of range, or do not add up to N.
+    PointSum,
+    /// LAS 1.4: the number of extended VLRs, at byte 243, is not 0.
+    Extended,
+    /// LAS 1.4: the number of points at byte 247 is 2^32 or more, or it and the one at byte 107 are both not 0 and
+    /// differ.
+    PointCounts,
+    /// The file is plain, and its chunks were to be copied.
+    NotPacked,
 }
 
 impl Refusal {
     ghost use Rattle.las_header.specs.Causes.{cause_number, cause_name};
 
-    /// The number of the cause: its place in the list, from 1.
+    /// The number of the cause, 1 to 27: its place in the enum. No memory is taken.
     pub fn number(&self) -> u8
         ensures { result ≡ cause_number self.now }
     {
@@ -87,10 +101,14 @@ impl Refusal {
             Refusal::BadChunk(_) => 21,
             Refusal::RawRange(_) => 22,
             Refusal::TooManyParts => 23,
+            Refusal::PointSum => 24,
+            Refusal::Extended => 25,
+            Refusal::PointCounts => 26,
+            Refusal::NotPacked => 27,
         }
     }
 
-    /// The name of the cause, as `Trailing`.
+    /// The name of the cause, as `Trailing`. No memory is taken.
     pub fn name(&self) -> &str
         ensures { result.now ≡ cause_name self.now }
     {
@@ -118,6 +136,10 @@ impl Refusal {
             Refusal::BadChunk(_) => "BadChunk",
             Refusal::RawRange(_) => "RawRange",
             Refusal::TooManyParts => "TooManyParts",
+            Refusal::PointSum => "PointSum",
+            Refusal::Extended => "Extended",
+            Refusal::PointCounts => "PointCounts",
+            Refusal::NotPacked => "NotPacked",
         }
     }
 }

@@ -22,6 +22,6 @@ others = (refl, refl, refl, refl)
 classes : (class_of point ≡ 2) × (with_class 31 point ≡ 5 ∷ 0 ∷ 0 ∷ 0 ∷ 254 ∷ 255 ∷ 255 ∷ 255 ∷ 7 ∷ 0 ∷ 0 ∷ 0 ∷ 52 ∷ 18 ∷ 82 ∷ 255 ∷ 241 ∷ 9 ∷ 1 ∷ 2 ∷ [])
 classes = (refl, refl)
 
--- a return number above 5 is counted among the points alone
-counted : counts_of (point ∷ (replicate 14 0 ++ 6 ∷ replicate 5 0) ∷ point ∷ []) ≡ record { points = 3; returns = 0 ∷ 2 ∷ 0 ∷ 0 ∷ 0 ∷ [] }
+-- a record with return number 6 beside two with return number 2
+counted : counts_of (point ∷ (replicate 14 0 ++ 6 ∷ replicate 5 0) ∷ point ∷ []) ≡ record { points = 3; returns = 0 ∷ 2 ∷ 0 ∷ 0 ∷ 0 ∷ 1 ∷ 0 ∷ [] }
 counted = refl

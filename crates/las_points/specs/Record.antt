@@ -1,6 +1,7 @@
--- The fields of a point record by their places (LAS 1.2 specification, "Point Data Record Format 0").
-use Rattle.std.specs.Prelude.{ℕ, ℤ, ◌+◌, ◌*◌, ◌/◌, ◌%◌, List, slice_index, slice_set}
+-- The fields of a point record by their places (LAS 1.2 specification, "Point Data Record Format 0" to "3").
+use Rattle.std.specs.Prelude.{◌≡◌, ◌⊎◌, ◌==◌, if◌then◌else◌, ℕ, ℤ, ◌+◌, ◌*◌, ◌/◌, ◌%◌, List, slice_index, slice_set}
 use Rattle.std.specs.Int.{w8, w32, cast_signed, cast_unsigned}
+use Rattle.las_header.specs.declared.limits.TheConstants.{POINT_RECORD}
 use Rattle.las_header.specs.Numbers.{number_at, with_number_at}
 
 -- the coordinates: signed numbers of 32 bits, before scale and offset
@@ -44,6 +45,27 @@ user_of point = slice_index point 17
 
 abbrev pub source_of : List ℕ → ℕ
 source_of point = number_at 2 18 point
+
+-- the formats with a GPS time, after the fields of format 0
+abbrev pub HasTime : ℕ → Type 0
+HasTime format = (format ≡ 1) ⊎ (format ≡ 3)
+
+-- the GPS time, as the bits of its double
+abbrev pub time_of : List ℕ → ℕ
+time_of point = number_at 8 POINT_RECORD point
+
+-- the formats with colours, after the fields of format 0 and the time if there is one
+abbrev pub HasColours : ℕ → Type 0
+HasColours format = (format ≡ 2) ⊎ (format ≡ 3)
+
+abbrev pub colours_at : (format : ℕ) → ℕ
+colours_at format = if format == 2 then POINT_RECORD else POINT_RECORD + 8
+
+-- red, green and blue
+abbrev pub colours_of : (format : ℕ) → List ℕ → ℕ × ℕ × ℕ
+colours_of format point =
+    let at = colours_at format in
+    (number_at 2 at point, number_at 2 (at + 2) point, number_at 2 (at + 4) point)
 
 -- the record with another value of a field, and every other byte as it was
 abbrev pub with_signed_at : (at : ℕ) → ℤ → List ℕ → List ℕ

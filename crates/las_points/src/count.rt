@@ -4,14 +4,14 @@ ghost use Rattle.std.specs.Prelude.{◌≡◌, ◌≤◌, ◌<◌, ◌-◌, ◌^
 ghost use Rattle.las_points.specs.Tally.{IsWithinPoints, counted_in, counts_of};
 
 use crate::read::return_number;
-use las_header::Counts;
+use las_header::{Counts, POINT_RECORD};
 
-/// Counts one record more: in `points`, and in the number of its return where that is 1 to 5. A record
-/// with another return number is counted in `points` alone.
+/// Counts one record more: in `points`, and in the number of its return if that is 1 to 7. A record with return number 0
+/// is counted in `points` alone.
 ///
-/// There are fewer than 2^32 - 1 points so far, and no return was counted more often than they.
+/// There are fewer than 2^32 - 1 points so far, and no return was counted more often than they. No memory is taken.
 pub fn count_in(counts: &mut Counts, point: &[u8])
-    requires long { 20 ≤ length point.now }
+    requires long { POINT_RECORD ≤ length point.now }
     requires room { counts.old.points < 2 ^ 32 - 1 }
     requires within { IsWithinPoints counts.old }
     ensures counts { counts.new ≡ counted_in counts.old point.now }
@@ -20,7 +20,7 @@ pub fn count_in(counts: &mut Counts, point: &[u8])
 {
     counts.points += 1;
     let number = return_number(point);
-    if number >= 1 && number <= 5 {
+    if number >= 1 {
         counts.returns[usize::from(number) - 1] += 1;
     }
 }

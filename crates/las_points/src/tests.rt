@@ -57,7 +57,7 @@ fn fields_are_changed(rt: HostRuntime) -> Result<(), Fail> {
     );
     let mut counts = Counts {
         points: 0,
-        returns: [0; 5],
+        returns: [0; 7],
     };
     count_in(&mut counts, &point);
     assert_eq!(rt; (counts.points, counts.returns[1]), (1, 1));

@@ -4,11 +4,11 @@ ghost use Rattle.std.specs.Prelude.{◌≡◌, ◌≤◌, length};
 ghost use Rattle.las_header.specs.Numbers.{with_number_at};
 ghost use Rattle.las_points.specs.Record.{class_of, source_of, user_of, with_class, with_signed_at, with_user, x_of, y_of, z_of};
 
-use las_header::{set_u16_at, set_u32_at};
+use las_header::{POINT_RECORD, set_u16_at, set_u32_at};
 
 /// Sets the X coordinate.
 pub fn set_x(point: &mut [u8], value: i32)
-    requires { 20 ≤ length point.old }
+    requires { POINT_RECORD ≤ length point.old }
     ensures bytes { point.new ≡ with_signed_at 0 value point.old }
     ensures value { x_of point.new ≡ value }
 {
@@ -17,7 +17,7 @@ pub fn set_x(point: &mut [u8], value: i32)
 
 /// Sets the Y coordinate.
 pub fn set_y(point: &mut [u8], value: i32)
-    requires { 20 ≤ length point.old }
+    requires { POINT_RECORD ≤ length point.old }
     ensures bytes { point.new ≡ with_signed_at 4 value point.old }
     ensures value { y_of point.new ≡ value }
 {
@@ -26,7 +26,7 @@ pub fn set_y(point: &mut [u8], value: i32)
 
 /// Sets the Z coordinate.
 pub fn set_z(point: &mut [u8], value: i32)
-    requires { 20 ≤ length point.old }
+    requires { POINT_RECORD ≤ length point.old }
     ensures bytes { point.new ≡ with_signed_at 8 value point.old }
     ensures value { z_of point.new ≡ value }
 {
@@ -35,7 +35,7 @@ pub fn set_z(point: &mut [u8], value: i32)
 
 /// Sets the class, 0 to 31: the low five bits of the classification byte. The class flags stay.
 pub fn set_class(point: &mut [u8], value: u8)
-    requires long { 20 ≤ length point.old }
+    requires long { POINT_RECORD ≤ length point.old }
     requires class { value ≤ 31 }
     ensures bytes { point.new ≡ with_class value point.old }
     ensures value { class_of point.new ≡ value }
@@ -45,7 +45,7 @@ pub fn set_class(point: &mut [u8], value: u8)
 
 /// Sets the user data.
 pub fn set_user(point: &mut [u8], value: u8)
-    requires { 20 ≤ length point.old }
+    requires { POINT_RECORD ≤ length point.old }
     ensures bytes { point.new ≡ with_user value point.old }
     ensures value { user_of point.new ≡ value }
 {
@@ -54,7 +54,7 @@ pub fn set_user(point: &mut [u8], value: u8)
 
 /// Sets the point source ID.
 pub fn set_source(point: &mut [u8], value: u16)
-    requires { 20 ≤ length point.old }
+    requires { POINT_RECORD ≤ length point.old }
     ensures bytes { point.new ≡ with_number_at 2 18 value point.old }
     ensures value { source_of point.new ≡ value }
 {

@@ -1,0 +1,7 @@
+use Rattle.std.proofs.Common.{◌≡◌, ◌≤◌, length}
+use Rattle.las_header.specs.Vlrs.{vlr_start}
+use Rattle.las_header.proofs.VlrLemmas.{laszips}
+use Rattle.las_header.proofs.vlrs.count_laszip.Given as goal
+
+abbrev pub invariant-vlrs : goal.invariant-vlrs
+invariant-vlrs l = (l.at ≡ vlr_start l.i l.head) × (l.found ≡ length (laszips l.i l.head)) × (l.found ≤ l.i)

@@ -1,0 +1,34 @@
+-- What is known of every head.
+use Rattle.std.specs.Prelude.{◌≡◌, ℕ, ◌+◌, ◌≤◌, ◌<◌, ◌^◌, nat_eq, true, if◌then◌else◌, List, length, codes}
+use Rattle.std.specs.List.{starts_with}
+use Rattle.las_header.specs.declared.limits.TheConstants.{HEADER_BLOCK, HEADER_BLOCK_1_4, LAST_MINOR, LAST_FORMAT, MAX_EXTRA, MAX_OFFSET}
+use Rattle.las_header.specs.Fields.{major_of, minor_of, header_size_of, least_header_size, point_offset_of, is_packed, format_of, format_size, record_length_of, has_long_counts, extended_count_of, points_of}
+use Rattle.las_header.specs.Vlrs.{vlrs_end, laszip_vlrs_of, first_size}
+
+-- what contracts see of a head: its bytes, up to the point data, and the size of its file in bytes
+pub record HeadView : Type 0 where
+  pub bytes : List ℕ
+  pub size : ℕ
+
+-- how many bytes the laszip VLR of a packed head takes
+abbrev pub laszip_size : List ℕ → ℕ
+laszip_size head = if is_packed head then first_size (laszip_vlrs_of head) else 0
+
+-- A head reaches from the start of the file to the point data, and none of the conditions holds of it that its bytes
+-- alone decide. Without the laszip VLR of a packed file it is at most 2^24 bytes long.
+pub record IsHead (head : List ℕ) : Type 0 where
+  pub block : HEADER_BLOCK ≤ length head
+  pub long_block : has_long_counts head ≡ true → HEADER_BLOCK_1_4 ≤ length head
+  pub signature : starts_with nat_eq head (codes "LASF") ≡ true
+  pub major : major_of head ≡ 1
+  pub minor : minor_of head ≤ LAST_MINOR
+  pub header_size : least_header_size (minor_of head) ≤ header_size_of head
+  pub whole : point_offset_of head ≡ length head
+  pub vlrs : vlrs_end head ≤ length head
+  pub format : format_of head ≤ LAST_FORMAT
+  pub record_length : format_size (format_of head) ≤ record_length_of head
+  pub extra : record_length_of head ≤ format_size (format_of head) + MAX_EXTRA
+  pub extended : has_long_counts head ≡ true → extended_count_of head ≡ 0
+  pub points : points_of head < 2 ^ 32
+  pub small : length head < 2 ^ 32
+  pub near : length head ≤ MAX_OFFSET + laszip_size head
