@@ -1,6 +1,7 @@
 -- Numbers by their place: what leaves them as they are, and that bytes read and written again are the same.
-use Rattle.std.proofs.Common.{◌≡◌, ℕ, zero, suc, ◌+◌, ◌*◌, ◌-◌, ◌/◌, ◌%◌, ◌^◌, ◌<◌, ◌≤◌, List, [], ◌∷◌, ◌++◌, length, take, drop, get_or, slice_index, refl, sym, ap, ◌∙◌, arith, length-append, length-drop, append_assoc}
-use Rattle.std.proofs.lemmas.List.{take_at, drop_at, drop-drop, length-take-le, get_or-take}
+use Rattle.std.proofs.Common.{inl, inr, subst, length-take, ◌≡◌, ℕ, zero, suc, ◌+◌, ◌*◌, ◌-◌, ◌/◌, ◌%◌, ◌^◌, ◌<◌, ◌≤◌, List, [], ◌∷◌, ◌++◌, length, take, drop, get_or, slice_index, refl, sym, ap, ◌∙◌, arith, length-append, length-drop, append_assoc}
+use Rattle.std.proofs.lemmas.List.{get_or-drop, get_or_past, take_at, drop_at, drop-drop, length-take-le, get_or-take}
+use Rattle.std.proofs.lemmas.Bool.{cases_lt}
 use borrow.Rule.Slice.PartMut.{put_mid}
 use Rattle.std.proofs.Math.Nat.{add-mul-mod_self_left, div-div-eq-div-mul, mod-eq_of_lt, pow-succ'}
 use Rattle.std.specs.Int.{byte_at, bytes_low_first}
@@ -122,7 +123,7 @@ pub number_at-splice_after : (width at i j : ℕ) (xs ys : List ℕ) → i + len
 number_at-splice_after width at i j xs ys fits within after =
     number_at-drop width at (splice xs i j ys) ∙ ap (number_at width 0) (drop-splice xs i j at ys fits within after) ∙ sym (number_at-drop width at xs)
 
-reads_back : (width x : ℕ) (rest : List ℕ) → x < 256 ^ width → number_at width 0 (little_bytes width x ++ rest) ≡ x
+pub reads_back : (width x : ℕ) (rest : List ℕ) → x < 256 ^ width → number_at width 0 (little_bytes width x ++ rest) ≡ x
 unfolding number_at
 reads_back width x rest fits = little_number-reads_back width x rest fits
 
@@ -134,3 +135,19 @@ number_at-splice_first width at j x xs rest within fits =
     number_at-drop width at (splice xs at j (little_bytes width x ++ rest))
     ∙ ap (number_at width 0) (drop_at front ((little_bytes width x ++ rest) ++ drop j xs) at (length-take-le at xs within) ∙ append_assoc (little_bytes width x) rest (drop j xs))
     ∙ reads_back width x (rest ++ drop j xs) fits
+
+part_byte : (n at k : ℕ) (xs : List ℕ) → ((k : ℕ) → slice_index xs k < 256) → slice_index (take n (drop at xs)) k < 256
+part_byte n at k xs bytes = elim (cases_lt k n) [
+  | inl inside ↦ rw (get_or-take n (drop at xs) k 0 inside, get_or-drop at xs k 0) (bytes (at + k))
+  | inr past ↦ rw (get_or_past (take n (drop at xs)) k 0 (omega (arith, length-take n (drop at xs)))) (omega arith)
+]
+
+-- the bytes of a number that stands in a list are those bytes
+pub little_number_at : (width at : ℕ) (xs : List ℕ) → at + width ≤ length xs → ((k : ℕ) → slice_index xs k < 256) → little_bytes width (number_at width at xs) ≡ take width (drop at xs)
+unfolding number_at
+little_number_at width at xs within bytes =
+    let part = take width (drop at xs) in
+    let long : length part ≡ width = length_part xs at width within in
+    let small : (k : ℕ) → slice_index part k < 256 = λ k. part_byte width at k xs bytes in
+    let again = little_bytes-little_number part small in
+    ap (λ (n : ℕ). little_bytes width n) (number_at-part width at xs) ∙ subst (λ (w : ℕ). little_bytes w (little_number w part) ≡ part) long again

@@ -1,5 +1,5 @@
 -- VLRs, one after another: where they begin, and which of them are laszip VLRs.
-use Rattle.std.proofs.Common.{◌≡◌, ℕ, zero, suc, ◌+◌, ◌-◌, ◌==◌, ◌&&◌, nat_eq, take, drop, ◌<◌, ◌≤◌, inl, inr, Bool, true, false, cond, List, [], ◌∷◌, ◌++◌, length, Some, refl, sym, ap, ◌∙◌, arith, add-one, filter, slice_get, append-nil}
+use Rattle.std.proofs.Common.{IsSomeAnd, Option, None, subst, ◌≡◌, ℕ, zero, suc, ◌+◌, ◌-◌, ◌==◌, ◌&&◌, nat_eq, take, drop, ◌<◌, ◌≤◌, inl, inr, Bool, true, false, cond, List, [], ◌∷◌, ◌++◌, length, Some, refl, sym, ap, ◌∙◌, arith, add-one, filter, slice_get, append-nil}
 use Rattle.std.proofs.lemmas.Bool.{cases_eq}
 use Rattle.std.proofs.lemmas.List.Elements.{filter-append}
 use Rattle.las_header.specs.declared.vlrs.VlrPlace.{VlrPlace}
@@ -9,7 +9,7 @@ use Rattle.las_header.specs.Fields.{header_size_of, vlr_count_of}
 use Rattle.las_header.proofs.NumberLemmas.{number_at-part}
 use Rattle.std.proofs.lemmas.List.{drop-drop, take-take}
 use Rattle.std.specs.List.{starts_with}
-use Rattle.las_header.specs.Vlrs.{payload_length_at, vlr_start, vlrs_end, vlr_place, first_vlrs, is_laszip}
+use Rattle.las_header.specs.Vlrs.{payload_length_at, vlr_start, vlrs_end, laszip_vlrs_of, vlr_place, first_vlrs, is_laszip}
 
 -- a later VLR begins later
 pub vlr_start-mono : (m n : ℕ) (head : List ℕ) → m ≤ n → vlr_start m head ≤ vlr_start n head
@@ -131,3 +131,50 @@ laszips-same (suc n) to xs ys header same within =
     ∙ ap (λ (p : VlrPlace). laszips n ys ++ cond (is_laszip xs (vlr_place n xs)) (p ∷ []) []) (vlr_place-same n to xs ys header same within)
     ∙ ap (λ (ps : List VlrPlace). ps ++ cond (is_laszip xs (vlr_place n xs)) (vlr_place n xs ∷ []) []) before
     ∙ sym (laszips-suc n xs)
+
+-- there are no more VLRs than bytes
+pub count_within : (n : ℕ) (head : List ℕ) → n ≤ vlr_start n head
+count_within zero head = omega arith
+count_within (suc n) head = let before = count_within n head in omega arith
+
+-- the first laszip VLR among some is one of them
+pub record IsLaszipAt (k n : ℕ) (head : List ℕ) (place : VlrPlace) : Type 0 where
+  pub below : k < n
+  pub there : place ≡ vlr_place k head
+  pub flag : is_laszip head (vlr_place k head) ≡ true
+
+last_found : (n : ℕ) (head : List ℕ) (place : VlrPlace) (b : Bool) → is_laszip head (vlr_place n head) ≡ b
+    → slice_get (cond b (vlr_place n head ∷ []) []) 0 ≡ Some place → IsLaszipAt n (suc n) head place
+last_found n head place true flag found = record { below = omega arith; there = cc; flag = flag }
+last_found n head place false flag found = absurd (cc)
+
+found_in : (n : ℕ) (head : List ℕ) (place : VlrPlace) (ps : List VlrPlace) → ((slice_get ps 0 ≡ Some place) → (k : ℕ) × IsLaszipAt k n head place)
+    → slice_get (ps ++ cond (is_laszip head (vlr_place n head)) (vlr_place n head ∷ []) []) 0 ≡ Some place → (k : ℕ) × IsLaszipAt k (suc n) head place
+found_in n head place [] earlier found = (n, last_found n head place (is_laszip head (vlr_place n head)) refl found)
+found_in n head place (p ∷ ps) earlier found =
+    let at = earlier found in
+    (at.0, record { below = omega (arith, at.1.below); there = at.1.there; flag = at.1.flag })
+
+pub found_at : (n : ℕ) (head : List ℕ) (place : VlrPlace) → slice_get (laszips n head) 0 ≡ Some place → (k : ℕ) × IsLaszipAt k n head place
+found_at zero head place found = absurd (cc)
+found_at (suc n) head place found =
+    found_in n head place (laszips n head) (found_at n head place) (ap (λ (ps : List VlrPlace). slice_get ps 0) (sym (laszips-suc n head)) ∙ found)
+
+-- so its end lies before the end of the last VLR
+pub found_within : (head : List ℕ) (place : VlrPlace) → slice_get (laszip_vlrs_of head) 0 ≡ Some place → place.start + 54 + place.length ≤ vlrs_end head
+found_within head place found =
+    let at = found_at (vlr_count_of head) head place found in
+    let fits = vlr_head_fits at.0 (vlr_count_of head) head at.1.below in
+    subst (λ (p : VlrPlace). p.start + 54 + p.length ≤ vlrs_end head) (sym at.1.there) fits
+
+-- and it begins after the header
+pub found_after : (head : List ℕ) (place : VlrPlace) → slice_get (laszip_vlrs_of head) 0 ≡ Some place → header_size_of head ≤ place.start
+found_after head place found =
+    let at = found_at (vlr_count_of head) head place found in
+    let start = ap (λ (p : VlrPlace). p.start) at.1.there in
+    omega (arith, start, header_before at.0 head)
+
+-- the first laszip VLR, if something is said of it
+pub first_said : (o : Option VlrPlace) (P : VlrPlace → Type 0) → IsSomeAnd o P → (place : VlrPlace) × (o ≡ Some place) × P place
+first_said None P h = absurd h
+first_said (Some place) P h = (place, refl, h)

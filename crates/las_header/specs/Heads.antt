@@ -1,9 +1,10 @@
 -- What is known of every head.
-use Rattle.std.specs.Prelude.{◌≡◌, ℕ, ◌+◌, ◌≤◌, ◌<◌, ◌^◌, nat_eq, true, if◌then◌else◌, List, length, codes}
+use Rattle.std.specs.Prelude.{◌≡◌, ℕ, ◌+◌, ◌≤◌, ◌<◌, ◌^◌, nat_eq, true, false, if◌then◌else◌, List, [], length, codes}
 use Rattle.std.specs.List.{starts_with}
 use Rattle.las_header.specs.declared.limits.TheConstants.{HEADER_BLOCK, HEADER_BLOCK_1_4, LAST_MINOR, LAST_FORMAT, MAX_EXTRA, MAX_OFFSET}
 use Rattle.las_header.specs.Fields.{major_of, minor_of, header_size_of, least_header_size, point_offset_of, is_packed, format_of, format_size, record_length_of, has_long_counts, extended_count_of, points_of}
-use Rattle.las_header.specs.Vlrs.{vlrs_end, laszip_vlrs_of, first_size}
+use Rattle.las_header.specs.Vlrs.{vlrs_end, laszip_vlrs_of, first_size, HasOneVlr}
+use Rattle.las_header.specs.Plain.{with_vlr, plain_of}
 
 -- what contracts see of a head: its bytes, up to the point data, and the size of its file in bytes
 pub record HeadView : Type 0 where
@@ -32,3 +33,18 @@ pub record IsHead (head : List ℕ) : Type 0 where
   pub points : points_of head < 2 ^ 32
   pub small : length head < 2 ^ 32
   pub near : length head ≤ MAX_OFFSET + laszip_size head
+
+-- the new head is the plain one as that of a packed file, and without the laszip VLR it is the old one again
+pub record PacksHead (payload old new : List ℕ) : Type 0 where
+  pub bytes : new ≡ with_vlr payload old
+  pub is_head : IsHead new
+  pub back : plain_of new ≡ old
+  pub packed : is_packed new ≡ true
+  pub laszip : HasOneVlr (vlrs_end old) (length payload) new
+
+-- the new head is the packed one as that of a plain file
+pub record IsPlainOf (old new : List ℕ) : Type 0 where
+  pub bytes : new ≡ plain_of old
+  pub is_head : IsHead new
+  pub plain : is_packed new ≡ false
+  pub none : laszip_vlrs_of new ≡ []

@@ -1,5 +1,5 @@
 -- The variable-length records (VLRs): one after another from the header size on, each a head of 54 bytes and a payload.
-use Rattle.std.specs.Prelude.{ℕ, zero, suc, ◌+◌, ◌==◌, nat_eq, ◌&&◌, Bool, List, [], ◌∷◌, ◌++◌, drop, filter}
+use Rattle.std.specs.Prelude.{◌≡◌, ℕ, zero, suc, ◌+◌, ◌==◌, nat_eq, ◌&&◌, Bool, List, [], ◌∷◌, ◌++◌, drop, filter}
 use Rattle.std.specs.List.{starts_with}
 use Rattle.las_header.specs.declared.limits.TheConstants.{VLR_HEAD, LASZIP_USER_ID, LASZIP_RECORD_ID}
 use Rattle.las_header.specs.declared.vlrs.VlrPlace.{VlrPlace}
@@ -49,3 +49,7 @@ laszip_vlrs_of head = filter (is_laszip head) (vlrs_of head)
 abbrev pub first_size : List VlrPlace → ℕ
 first_size [] = 0
 first_size (place ∷ places) = vlr_size place
+
+-- there is one laszip VLR, and it stands here
+abbrev pub HasOneVlr : (start length : ℕ) → (head : List ℕ) → Type 0
+HasOneVlr start length head = laszip_vlrs_of head ≡ record { start = start; length = length } ∷ []

@@ -1,22 +1,26 @@
 //! The head of a file.
 
-ghost use Rattle.std.specs.Prelude.{◌≡◌, ◌≤◌, ◌+◌, ◌-◌, length, take, true, if◌then◌else◌, Some, None, slice_get, vec_len};
+ghost use Rattle.std.specs.Prelude.{◌≡◌, ◌≤◌, ◌+◌, ◌-◌, length, take, true, if◌then◌else◌, Some, None, IfOk, [], slice_get, vec_len, false};
 ghost use Rattle.std.specs.List.{splice};
 ghost use Rattle.las_header.specs.Counting.{with_count_bytes, with_counts, with_sums};
 ghost use Rattle.las_header.specs.Heads.{IsHead, HeadView};
 ghost use Rattle.las_header.specs.Fields.{minor_of, header_size_of, point_offset_of, vlr_count_of, is_packed, format_of, record_length_of, format_size, points_of, returns_of, has_long_counts, long_returns_of};
-ghost use Rattle.las_header.specs.Vlrs.{laszip_vlrs_of};
+ghost use Rattle.las_header.specs.Vlrs.{vlrs_of, vlrs_end, laszip_vlrs_of, HasOneVlr};
+ghost use Rattle.las_header.specs.Plain.{with_vlr, plain_of};
 ghost use Rattle.las_header.specs.Refusals.{first_cause, front_causes, head_causes};
 
+use crate::changes::{self, put};
 use crate::conditions::head_cause;
 use crate::counts::{Counts, long_bytes, short_bytes};
 use crate::fields;
 use crate::limits::{
     COUNTS_AT, HEADER_BLOCK, HEADER_BLOCK_1_4, LAST_FORMAT, LONG_COUNTS_AT, MAX_EXTRA,
+    MAX_LASZIP_PAYLOAD,
 };
 use crate::numbers::{u32_at, u64_at};
 use crate::refusal::Refusal;
 use crate::vlrs::{self, VlrPlace};
+use std::alloc::{AllocError, Global};
 use std::marker::Model;
 
 /// The bytes of a file before its point data, and the size of the file.
@@ -169,6 +173,50 @@ impl Head {
         vlrs::count_laszip(&self.bytes)
     }
 
+    /// The places of all VLRs, in order.
+    pub fn vlrs(&self, alloc: Global) -> Result<Vec<VlrPlace>, AllocError>
+        ensures { IfOk result (λ places. places.items ≡ vlrs_of self.now.bytes) }
+    {
+        vlrs::places(alloc, &self.bytes)
+    }
+
+    /// The head of the packed file that has this plain one as its plain head: a laszip VLR with this payload, of at most
+    /// 58 bytes, after all other VLRs, one VLR more, a larger offset, and bit 7 of the format byte set. All other bytes
+    /// stay, those between the last VLR and the point data included. The head is plain and has no laszip VLR.
+    pub fn with_vlr(&self, alloc: Global, payload: &[u8]) -> Result<Head, AllocError>
+        requires plain { is_packed self.now.bytes ≡ false }
+        requires none { laszip_vlrs_of self.now.bytes ≡ [] }
+        requires short { length payload.now ≤ MAX_LASZIP_PAYLOAD }
+        ensures bytes { IfOk result (λ head. head.bytes ≡ with_vlr payload.now self.now.bytes) }
+        ensures back { IfOk result (λ head. plain_of head.bytes ≡ self.now.bytes) }
+        ensures packed { IfOk result (λ head. is_packed head.bytes ≡ true) }
+        ensures laszip { IfOk result (λ head. HasOneVlr (vlrs_end self.now.bytes) (length payload.now) head.bytes) }
+        ensures size { IfOk result (λ head. head.size ≡ self.now.size) }
+    {
+        let bytes = changes::with_vlr(alloc, &self.bytes, payload)?;
+        Ok(Head {
+            bytes,
+            size: self.size,
+        })
+    }
+
+    /// The plain head: without its laszip VLR, one VLR fewer, a smaller offset, and bit 7 of the format byte clear. All
+    /// other bytes stay. The head is packed and has exactly one laszip VLR.
+    pub fn without_vlr(&self, alloc: Global) -> Result<Head, AllocError>
+        requires packed { is_packed self.now.bytes ≡ true }
+        requires one { length (laszip_vlrs_of self.now.bytes) ≡ 1 }
+        ensures bytes { IfOk result (λ head. head.bytes ≡ plain_of self.now.bytes) }
+        ensures plain { IfOk result (λ head. is_packed head.bytes ≡ false) }
+        ensures none { IfOk result (λ head. laszip_vlrs_of head.bytes ≡ []) }
+        ensures size { IfOk result (λ head. head.size ≡ self.now.size) }
+    {
+        let bytes = changes::without_vlr(alloc, &self.bytes)?;
+        Ok(Head {
+            bytes,
+            size: self.size,
+        })
+    }
+
     /// The head with these counts in place of its own: the 24 bytes at 107, and for LAS 1.4 the 128 bytes at 247 too. All
     /// other bytes stay. No memory is taken.
     pub fn with_counts(self, counts: Counts) -> Head
@@ -213,15 +261,6 @@ fn put_sums(head: &mut Vec<u8>, short: &[u8], long: &[u8])
     if has_long {
         put(head, LONG_COUNTS_AT, long);
     }
-}
-
-// Writes bytes over those from `at` on.
-fn put(head: &mut Vec<u8>, at: usize, bytes: &[u8])
-    requires { at + length bytes.now ≤ vec_len head.old }
-    ensures bytes { head.new.items ≡ splice head.old.items at (at + length bytes.now) bytes.now }
-    ensures len { vec_len head.new ≡ vec_len head.old }
-{
-    head[at..at + bytes.len()].copy_from_slice(bytes);
 }
 
 // The fifteen numbers at byte 255.

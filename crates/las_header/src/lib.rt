@@ -6,6 +6,7 @@
 //! byte first, and are read and written here for the crates above too.
 #![tactic(auto)]
 
+mod changes;
 mod conditions;
 mod counts;
 mod fields;

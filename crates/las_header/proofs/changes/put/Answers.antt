@@ -2,7 +2,7 @@ use Rattle.std.proofs.Common.{arith, ◌≡◌, ◌+◌, ◌-◌, ◌∙◌, len
 use Rattle.std.proofs.lemmas.List.{with_items_is}
 use Rattle.std.specs.List.{splice}
 use Rattle.las_header.proofs.NumberLemmas.{length-splice, length_part, put_mid-splice}
-use Rattle.las_header.proofs.head.put.Goals as goal
+use Rattle.las_header.proofs.changes.put.Goals as goal
 
 pub returns-clause-bytes : goal.returns-clause-bytes
 returns-clause-bytes c =
