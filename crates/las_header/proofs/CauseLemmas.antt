@@ -1,18 +1,19 @@
 -- What is known where no condition of a list holds, and that the front of a file decides the conditions of its front.
 use Rattle.std.proofs.Common.{◌≡◌, ℕ, zero, suc, ◌+◌, ◌^◌, ◌<◌, ◌≤◌, Bool, true, false, not, ◌&&◌, ◌||◌, cond, nat_lt, nat_le, nat_eq, ◌==◌, ltb-false, List, [], ◌∷◌, length, take, codes, slice_index, None, refl, sym, ap, ◌∙◌, arith}
 use Rattle.std.specs.List.{starts_with}
-use Rattle.std.proofs.lemmas.Bool.{eqb-true, leb-false}
+use Rattle.std.proofs.lemmas.Bool.{eqb-true, leb-false, lt-leb}
 use Rattle.std.proofs.Math.Nat.{pow-succ'}
 use Rattle.std.proofs.lemmas.List.{take-take, get_or-take}
 use Rattle.byteorder.specs.Endian.{little_from}
 use Rattle.las_header.specs.declared.refusal.Refusal.{Refusal}
 use Rattle.las_header.specs.declared.refusal.Refusal.TheVariants as cause
 use Rattle.las_header.specs.Numbers.{number_at}
-use Rattle.las_header.specs.Fields.{major_of, minor_of, header_size_of, least_header_size, point_offset_of, offset_limit, is_packed, format_of, format_size, record_length_of, has_long_counts, short_points_of, long_points_of, points_of}
+use Rattle.las_header.specs.Fields.{major_of, minor_of, header_size_of, least_header_size, point_offset_of, vlr_count_of, offset_limit, is_packed, format_of, format_size, record_length_of, has_long_counts, short_points_of, long_points_of, points_of, extended_count_of}
 use Rattle.las_header.specs.Vlrs.{vlrs_end}
-use Rattle.las_header.specs.Heads.{IsHead}
+use Rattle.las_header.specs.Heads.{IsHead, FrontIsFine, PackedIsFine}
 use Rattle.las_header.specs.Refusals.{first_cause, front_causes, head_causes, FirstOfBoth, FrontDecides, is_short, lacks_signature, has_other_version, has_short_header, has_bad_offset, has_long_vlrs, has_other_format, has_bad_record_length, has_extended_vlrs, has_bad_counts, ends_early, goes_on, has_stray_vlr}
 use Rattle.las_header.proofs.NumberLemmas.{number_at-take}
+use Rattle.las_header.proofs.VlrLemmas.{header_before}
 
 -- if no condition of a list holds, the first one does not, and none of the others does
 pub none_first : (a : Bool) (x : Refusal) (cs : List (Bool × Refusal)) → first_cause ((a, x) ∷ cs) ≡ None → (a ≡ false) × (first_cause cs ≡ None)
@@ -216,7 +217,73 @@ is_head head size points accepted whole fine =
       record_length = known.record_length;
       extra = known.extra;
       extended = λ four. eqb-true _ _ (not_false _ (false_both _ _ known.extended four));
+      counts = known.counts;
       points = points;
       small = omega (arith, blocks.near);
       near = omega (arith, blocks.near);
     }
+
+-- no condition of the front holds of a head within its limits
+not_true : (b : Bool) → b ≡ true → not b ≡ false
+not_true true e = refl
+not_true false e = absurd (cc)
+
+first_none : (a : Bool) (x : Refusal) (cs : List (Bool × Refusal)) → a ≡ false → first_cause cs ≡ None → first_cause ((a, x) ∷ cs) ≡ None
+first_none true x cs e f = absurd (cc)
+first_none false x cs e f = f
+
+both_false : (a b : Bool) → a ≡ false → b ≡ false → (a || b) ≡ false
+both_false true b e f = absurd (cc)
+both_false false b e f = f
+
+pub false_and : (a b : Bool) → a ≡ false → (a && b) ≡ false
+false_and true b e = absurd (cc)
+false_and false b e = refl
+
+-- a number that is not below another
+lt-leb-false : (n m : ℕ) → m ≤ n → nat_lt n m ≡ false
+lt-leb-false n m h = lt-leb (suc n) m (omega arith)
+
+header_within : (head : List ℕ) → IsHead head → header_size_of head ≤ length head
+header_within head is = omega (arith, header_before (vlr_count_of head) head, is.vlrs)
+
+no_extended : (head : List ℕ) (b : Bool) → has_long_counts head ≡ b → IsHead head → (b && not (extended_count_of head == 0)) ≡ false
+no_extended head true long is = ap (λ (n : ℕ). not (n == 0)) (is.extended long)
+no_extended head false long is = refl
+
+pub front_is_fine : FrontIsFine
+front_is_fine head size is within near =
+    let after = header_within head is in
+    let offset_causes = (has_bad_offset head size, cause.Offset) ∷ [] in
+    let header_causes = (has_short_header head, cause.HeaderSize) ∷ offset_causes in
+    let version_causes = (has_other_version head, cause.Version) ∷ header_causes in
+    let magic_causes = (lacks_signature head, cause.Magic) ∷ version_causes in
+    let inside = both_false (nat_lt (point_offset_of head) (header_size_of head)) (nat_lt size (point_offset_of head))
+    (lt-leb-false _ _ (omega (arith, after, is.whole))) (lt-leb-false _ _ (omega (arith, is.whole, within))) in
+    let far = lt-leb-false (offset_limit head) (point_offset_of head) (omega (arith, is.whole, near)) in
+    let offset = first_none (has_bad_offset head size) cause.Offset [] (both_false _ _ inside far) refl in
+    let header = first_none (has_short_header head) cause.HeaderSize offset_causes (lt-leb-false _ _ is.header_size) offset in
+    let number = both_false (not (major_of head == 1)) (nat_lt 4 (minor_of head)) (ap (λ (m : ℕ). not (m == 1)) is.major) (lt-leb-false 4 (minor_of head) is.minor) in
+    let version = first_none (has_other_version head) cause.Version header_causes number header in
+    let magic = first_none (lacks_signature head) cause.Magic version_causes (not_true (starts_with nat_eq head (codes "LASF")) is.signature) version in
+    first_none (is_short size) cause.Short magic_causes (lt-leb-false size 227 (omega (arith, is.block, within))) magic
+
+-- and none of the head of a packed file
+pub packed_is_fine : PackedIsFine
+packed_is_fine head size is packed =
+    let plain : not (is_packed head) ≡ false = ap not packed in
+    let stray_causes = (has_stray_vlr head, cause.StrayVlr) ∷ [] in
+    let on_causes = (goes_on head size, cause.Trailing) ∷ stray_causes in
+    let early_causes = (ends_early head size, cause.Count) ∷ on_causes in
+    let counts_causes = (has_bad_counts head, cause.PointCounts) ∷ early_causes in
+    let extended_causes = (has_extended_vlrs head, cause.Extended) ∷ counts_causes in
+    let length_causes = (has_bad_record_length head, cause.RecordLength) ∷ extended_causes in
+    let format_causes = (has_other_format head, cause.Format) ∷ length_causes in
+    let stray = first_none (has_stray_vlr head) cause.StrayVlr [] (false_and _ _ plain) refl in
+    let on = first_none (goes_on head size) cause.Trailing stray_causes (false_and _ _ plain) stray in
+    let early = first_none (ends_early head size) cause.Count on_causes (false_and _ _ plain) on in
+    let counts = first_none (has_bad_counts head) cause.PointCounts early_causes is.counts early in
+    let extended = first_none (has_extended_vlrs head) cause.Extended counts_causes (no_extended head (has_long_counts head) refl is) counts in
+    let lengths = first_none (has_bad_record_length head) cause.RecordLength extended_causes (both_false _ _ (lt-leb-false _ _ is.record_length) (lt-leb-false _ _ is.extra)) extended in
+    let format = first_none (has_other_format head) cause.Format length_causes (lt-leb-false _ _ is.format) lengths in
+    first_none (has_long_vlrs head) cause.Vlrs format_causes (lt-leb-false _ _ (omega (arith, is.vlrs, is.whole))) format

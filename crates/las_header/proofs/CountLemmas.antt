@@ -1,5 +1,6 @@
 -- A head with other counts is a head.
-use Rattle.std.proofs.Common.{◌≡◌, ℕ, ◌+◌, ◌<◌, ◌≤◌, ◌^◌, ◌==◌, ◌&&◌, ◌%◌, nat_le, nat_eq, Bool, true, false, cond, List, length, take, drop, codes, slice_index, refl, sym, ap, ◌∙◌, subst, arith}
+use Rattle.std.proofs.lemmas.Bool.{lt-leb}
+use Rattle.std.proofs.Common.{◌≡◌, ℕ, ◌+◌, ◌<◌, ◌≤◌, ◌^◌, ◌==◌, ◌&&◌, ◌%◌, nat_le, nat_eq, Bool, true, false, cond, List, length, take, drop, codes, slice_index, refl, sym, ap, ◌∙◌, subst, arith, not, ◌||◌, eq-eqb}
 use Rattle.std.proofs.lemmas.List.{take-take, get_or-take}
 use Rattle.std.specs.List.{splice, starts_with, flat_map}
 use Rattle.byteorder.specs.Endian.{little_bytes}
@@ -7,11 +8,12 @@ use Rattle.las_header.specs.declared.vlrs.VlrPlace.{VlrPlace}
 use Rattle.las_header.specs.Numbers.{number_at}
 use Rattle.las_header.specs.Fields.{minor_of, header_size_of, least_header_size, point_offset_of, vlr_count_of, is_packed, format_of, format_size, record_length_of, has_long_counts, extended_count_of, short_points_of, long_points_of, points_of}
 use Rattle.las_header.specs.Vlrs.{vlr_start, vlrs_end, laszip_vlrs_of, first_size}
-use Rattle.las_header.specs.Heads.{IsHead, laszip_size}
+use Rattle.las_header.specs.Heads.{IsHead, laszip_size, KeepsLayout, SameRecords}
 use Rattle.las_header.specs.Counting.{short_bytes, long_bytes, with_sums}
 use Rattle.las_header.proofs.NumberLemmas.{number_at-take, number_at-splice, number_at-splice_after, number_at-splice_first, take-splice, drop-splice, length-splice}
 use Rattle.las_header.proofs.VlrLemmas.{SameIn-tail, header_before, vlr_start-same, laszips, laszips-same}
-use Rattle.las_header.proofs.CauseLemmas.{least_any, least_block}
+use Rattle.las_header.specs.Refusals.{has_bad_counts}
+use Rattle.las_header.proofs.CauseLemmas.{least_any, least_block, false_and}
 
 -- the fields before the counts are the same, and so is all from the header size on
 pub record SameLayout (old new : List ℕ) : Type 0 where
@@ -41,9 +43,22 @@ signature_part xs = rw (take-take 4 107 xs (omega arith)) refl
 signature_front : (old new : List ℕ) → take 107 new ≡ take 107 old → starts_with nat_eq new (codes "LASF") ≡ starts_with nat_eq old (codes "LASF")
 signature_front old new same = sym (signature_part new) ∙ ap (λ (b : List ℕ). starts_with nat_eq b (codes "LASF")) same ∙ signature_part old
 
+keeps : (old new : List ℕ) → IsHead old → SameLayout old new → KeepsLayout old new
+keeps old new is same =
+    let header : header_size_of new ≡ header_size_of old = number_front 2 94 old new same.front (omega arith) in
+    let count : vlr_count_of new ≡ vlr_count_of old = number_front 4 100 old new same.front (omega arith) in
+    let byte : slice_index new 104 ≡ slice_index old 104 = byte_front 104 old new same.front (omega arith) in
+    let tail = SameIn-tail (header_size_of old) (length old) old new same.tail in
+    record {
+      size = same.size;
+      packed = ap (λ (b : ℕ). nat_le 128 b) byte;
+      laszip = ap (λ (n : ℕ). laszips n new) count ∙ laszips-same (vlr_count_of old) (length old) old new header tail is.vlrs;
+      records = record { format = ap (λ (b : ℕ). b % 128) byte; record_length = number_front 2 105 old new same.front (omega arith) };
+    }
+
 -- so the new list is a head where the old one was, if its counts are right
-pub IsHead-layout : (old new : List ℕ) → IsHead old → SameLayout old new → (has_long_counts new ≡ true → extended_count_of new ≡ 0) → points_of new < 2 ^ 32 → IsHead new
-IsHead-layout old new is same extended points =
+pub IsHead-layout : (old new : List ℕ) → IsHead old → SameLayout old new → (has_long_counts new ≡ true → extended_count_of new ≡ 0) → has_bad_counts new ≡ false → points_of new < 2 ^ 32 → IsHead new
+IsHead-layout old new is same extended counts points =
     let minor : minor_of new ≡ minor_of old = byte_front 25 old new same.front (omega arith) in
     let header : header_size_of new ≡ header_size_of old = number_front 2 94 old new same.front (omega arith) in
     let offset : point_offset_of new ≡ point_offset_of old = number_front 4 96 old new same.front (omega arith) in
@@ -71,6 +86,7 @@ IsHead-layout old new is same extended points =
       record_length = subst (λ (f : ℕ). format_size f ≤ record_length_of new) (sym format) (omega (arith, record_length, is.record_length));
       extra = subst (λ (f : ℕ). record_length_of new ≤ format_size f + 192) (sym format) (omega (arith, record_length, is.extra));
       extended = extended;
+      counts = counts;
       points = points;
       small = omega (arith, is.small, same.size);
       near = subst (λ (n : ℕ). length new ≤ 16777216 + n) (sym laszip) (omega (arith, is.near, same.size));
@@ -99,13 +115,34 @@ either true true x y n p q = p
 either true false x y n p q = q
 either false c x y n p q = q
 
--- a head, and its number of points
-pub record IsCounted (head : List ℕ) (number : ℕ) : Type 0 where
+-- a head with other counts, and its number of points
+pub record IsCounted (old head : List ℕ) (number : ℕ) : Type 0 where
   pub is_head : IsHead head
+  pub kept : KeepsLayout old head
   pub points : points_of head ≡ number
 
+and_false : (b : Bool) → (b && false) ≡ false
+and_false true = refl
+and_false false = refl
+
+same_counts : (b c n : Bool) → (b || (c && n && not true)) ≡ b
+same_counts true c n = refl
+same_counts false true true = refl
+same_counts false true false = refl
+same_counts false false n = refl
+
+-- both numbers of points are the same and fit
+right_counts : (head : List ℕ) (n : ℕ) → n < 2 ^ 32 → short_points_of head ≡ n → long_points_of head ≡ n → has_bad_counts head ≡ false
+right_counts head n fits short long =
+    let small : nat_le (2 ^ 32) n ≡ false = lt-leb (2 ^ 32) n fits in
+    ap (λ (s : ℕ). has_long_counts head && (nat_le (2 ^ 32) (long_points_of head) || (not (s == 0) && not (long_points_of head == 0) && not (s == long_points_of head)))) short
+    ∙ ap (λ (l : ℕ). has_long_counts head && (nat_le (2 ^ 32) l || (not (n == 0) && not (l == 0) && not (n == l)))) long
+    ∙ ap (λ (b : Bool). has_long_counts head && (nat_le (2 ^ 32) n || (not (n == 0) && not (n == 0) && not b))) (eq-eqb n n refl)
+    ∙ ap (λ (b : Bool). has_long_counts head && b) (same_counts (nat_le (2 ^ 32) n) (not (n == 0)) (not (n == 0)) ∙ small)
+    ∙ and_false (has_long_counts head)
+
 short_counted : (points : ℕ) (returns head : List ℕ) → IsHead head → points < 2 ^ 32 → length (short_bytes points returns) ≡ 24 → has_long_counts head ≡ false
-    → IsCounted (splice head 107 131 (short_bytes points returns)) points
+    → IsCounted head (splice head 107 131 (short_bytes points returns)) points
 short_counted points returns head is fits short_size no_long =
     let new = splice head 107 131 (short_bytes points returns) in
     let least = least_any (minor_of head) in
@@ -117,12 +154,13 @@ short_counted points returns head is fits short_size no_long =
     let short : short_points_of new ≡ points = points-short_bytes points 107 returns head (omega (arith, is.block)) fits in
     let counted : points_of new ≡ points = ap (λ (b : Bool). cond (b && (short_points_of new == 0)) (long_points_of new) (short_points_of new)) long ∙ short in
     record {
-      is_head = IsHead-layout head new is layout (λ four. let clash : true ≡ false = sym four ∙ long in absurd (cc)) (omega (arith, counted));
+      is_head = IsHead-layout head new is layout (λ four. let clash : true ≡ false = sym four ∙ long in absurd (cc)) (false_and _ _ long) (omega (arith, counted));
+      kept = keeps head new is layout;
       points = counted;
     }
 
 long_counted : (points : ℕ) (returns long_returns head : List ℕ) → IsHead head → points < 2 ^ 32 → length (short_bytes points returns) ≡ 24 → length (long_bytes points long_returns) ≡ 128 → has_long_counts head ≡ true
-    → IsCounted (splice (splice head 107 131 (short_bytes points returns)) 247 375 (long_bytes points long_returns)) points
+    → IsCounted head (splice (splice head 107 131 (short_bytes points returns)) 247 375 (long_bytes points long_returns)) points
 long_counted points returns long_returns head is fits short_size long_size four =
     let once = splice head 107 131 (short_bytes points returns) in
     let new = splice once 247 375 (long_bytes points long_returns) in
@@ -142,16 +180,17 @@ long_counted points returns long_returns head is fits short_size long_size four 
     number_at-splice 4 243 247 375 once (long_bytes points long_returns) (omega arith) (omega (arith, first.size))
     ∙ number_at-splice_after 4 243 107 131 head (short_bytes points returns) (omega (arith, short_size)) (omega (arith, is.block)) (omega arith) in
     record {
-      is_head = IsHead-layout head new is layout (λ same. extended ∙ is.extended four) (omega (arith, counted));
+      is_head = IsHead-layout head new is layout (λ same. extended ∙ is.extended four) (right_counts new points fits short long) (omega (arith, counted));
+      kept = keeps head new is layout;
       points = counted;
     }
 
 by_set : (b : Bool) (points : ℕ) (returns long_returns head : List ℕ) → IsHead head → points < 2 ^ 32 → length (short_bytes points returns) ≡ 24 → length (long_bytes points long_returns) ≡ 128 → has_long_counts head ≡ b
-    → IsCounted (cond b (splice (splice head 107 131 (short_bytes points returns)) 247 375 (long_bytes points long_returns)) (splice head 107 131 (short_bytes points returns))) points
+    → IsCounted head (cond b (splice (splice head 107 131 (short_bytes points returns)) 247 375 (long_bytes points long_returns)) (splice head 107 131 (short_bytes points returns))) points
 by_set true points returns long_returns head is fits short_size long_size which = long_counted points returns long_returns head is fits short_size long_size which
 by_set false points returns long_returns head is fits short_size long_size which = short_counted points returns head is fits short_size which
 
 -- a head with other counts is a head with that number of points
 pub counted_head : (points : ℕ) (returns long_returns head : List ℕ) → IsHead head → points < 2 ^ 32 → length (short_bytes points returns) ≡ 24 → length (long_bytes points long_returns) ≡ 128
-    → IsCounted (with_sums points returns long_returns head) points
+    → IsCounted head (with_sums points returns long_returns head) points
 counted_head points returns long_returns head is fits short_size long_size = by_set (has_long_counts head) points returns long_returns head is fits short_size long_size refl

@@ -1,5 +1,6 @@
 -- Heads with a VLR more or a VLR fewer: their fields, their VLRs, and that they are heads.
-use Rattle.std.proofs.Common.{◌≡◌, ℕ, zero, suc, ◌+◌, ◌-◌, ◌*◌, ◌<◌, ◌≤◌, ◌^◌, ◌==◌, ◌&&◌, ◌%◌, ◌⊎◌, inl, inr, nat_lt, nat_le, nat_eq, Bool, true, false, cond, List, [], ◌∷◌, ◌++◌, length, take, drop, codes, slice_index, get_or, slice_get, Option, Some, None, refl, sym, ap, ◌∙◌, subst, arith, length-append, length-drop, append_assoc, append-nil, add-one}
+use Rattle.las_header.specs.Refusals.{has_bad_counts}
+use Rattle.std.proofs.Common.{◌≡◌, ℕ, zero, suc, ◌+◌, ◌-◌, ◌*◌, ◌<◌, ◌≤◌, ◌^◌, ◌==◌, ◌&&◌, ◌%◌, ◌⊎◌, inl, inr, nat_lt, nat_le, nat_eq, Bool, true, false, cond, List, [], ◌∷◌, ◌++◌, length, take, drop, codes, slice_index, get_or, slice_get, Option, Some, None, refl, sym, ap, ◌∙◌, subst, arith, length-append, length-drop, append_assoc, append-nil, add-one, not, ◌||◌}
 use Rattle.std.proofs.lemmas.List.{take-take, take_at, take-append-le, drop_at, drop-drop, drop-take, drop-append-le, length-take-le, get_or-take, get_or-drop, take-append-drop, nil_from_length}
 use Rattle.std.proofs.lemmas.Bool.{eqb-true, cases_eq, leb-false, ltb-true}
 use Rattle.std.proofs.Math.Seq.{drop-cons}
@@ -10,7 +11,7 @@ use Rattle.las_header.specs.declared.vlrs.VlrPlace.{VlrPlace}
 use Rattle.las_header.specs.Numbers.{number_at}
 use Rattle.las_header.specs.Fields.{major_of, minor_of, header_size_of, least_header_size, point_offset_of, vlr_count_of, format_byte_of, is_packed, format_of, format_size, record_length_of, has_long_counts, extended_count_of, short_points_of, long_points_of, points_of}
 use Rattle.las_header.specs.Vlrs.{payload_length_at, vlr_start, vlr_place, vlr_size, first_vlrs, vlrs_end, is_laszip, laszip_vlrs_of, first_size, HasOneVlr}
-use Rattle.las_header.specs.Heads.{IsHead, laszip_size, PacksHead, IsPlainOf}
+use Rattle.las_header.specs.Heads.{IsHead, laszip_size, PacksHead, IsPlainOf, SameRecords}
 use Rattle.las_header.specs.Plain.{with_layout, laszip_vlr, with_vlr, without_vlr, plain_of}
 use Rattle.las_header.proofs.NumberLemmas.{number_at-take, number_at-part, number_at-drop, number_at-splice, number_at-splice_after, number_at-splice_first, slice_index-splice, take-splice, drop-splice, length-splice, little_bytes-little_number, little_number_at, reads_back}
 use Rattle.las_header.proofs.VlrLemmas.{SameIn, vlr_start-mono, header_before, vlr_start-same, vlr_place-same, laszips, laszips-suc, laszips-same, laszips-found}
@@ -139,6 +140,48 @@ same_if true true x z y same = same refl
 same_if true false x z y same = refl
 same_if false c x z y same = refl
 
+short_relaid : {old new : List ℕ} {from to : ℕ} {piece : List ℕ} {offset count format : ℕ} → IsRelaid old new from to piece offset count format
+    → short_points_of new ≡ short_points_of old
+short_relaid {old = old} r =
+    let least = least_any (minor_of old) in
+    number_relaid r 4 107 (omega arith) (omega (arith, r.after, r.head.header_size))
+
+long_relaid : {old new : List ℕ} {from to : ℕ} {piece : List ℕ} {offset count format : ℕ} → IsRelaid old new from to piece offset count format
+    → has_long_counts old ≡ true → long_points_of new ≡ long_points_of old
+long_relaid {old = old} r long = number_relaid r 8 247 (omega arith) (omega (arith, least_block (minor_of old) long, r.after, r.head.header_size))
+
+minor_relaid : {old new : List ℕ} {from to : ℕ} {piece : List ℕ} {offset count format : ℕ} → IsRelaid old new from to piece offset count format
+    → minor_of new ≡ minor_of old
+minor_relaid {old = old} {new = new} r = byte_front 25 old new (front_relaid r) (omega arith)
+
+pub points_relaid : {old new : List ℕ} {from to : ℕ} {piece : List ℕ} {offset count format : ℕ} → IsRelaid old new from to piece offset count format
+    → points_of new ≡ points_of old
+points_relaid {old = old} {new = new} r =
+    ap (λ (m : ℕ). cond ((m == 4) && (short_points_of new == 0)) (long_points_of new) (short_points_of new)) (minor_relaid r)
+    ∙ ap (λ (n : ℕ). cond (has_long_counts old && (n == 0)) (long_points_of new) n) (short_relaid r)
+    ∙ same_if (has_long_counts old) (short_points_of old == 0) (long_points_of new) (long_points_of old) (short_points_of old) (long_relaid r)
+
+same_and : (b : Bool) (f : ℕ → Bool) (x z : ℕ) → (b ≡ true → x ≡ z) → (b && f x) ≡ (b && f z)
+same_and true f x z same = ap f (same refl)
+same_and false f x z same = refl
+
+counts_relaid : {old new : List ℕ} {from to : ℕ} {piece : List ℕ} {offset count format : ℕ} → IsRelaid old new from to piece offset count format
+    → has_bad_counts new ≡ has_bad_counts old
+counts_relaid {old = old} {new = new} r =
+    let differ = λ (s l : ℕ). let b : Bool = nat_le (2 ^ 32) l || (not (s == 0) && not (l == 0) && not (s == l)) in b in
+    ap (λ (m : ℕ). (m == 4) && differ (short_points_of new) (long_points_of new)) (minor_relaid r)
+    ∙ ap (λ (s : ℕ). has_long_counts old && differ s (long_points_of new)) (short_relaid r)
+    ∙ same_and (has_long_counts old) (differ (short_points_of old)) (long_points_of new) (long_points_of old) (long_relaid r)
+
+pub records_relaid : {old new : List ℕ} {from to : ℕ} {piece : List ℕ} {offset count format : ℕ} → IsRelaid old new from to piece offset count format
+    → format % 128 ≡ format_of old → SameRecords old new
+records_relaid {old = old} r same_format =
+    let least = least_any (minor_of old) in
+    record {
+      format = ap (λ (b : ℕ). b % 128) (byte_relaid r) ∙ same_format;
+      record_length = number_relaid r 2 105 (omega arith) (omega (arith, r.after, r.head.header_size));
+    }
+
 -- the new list is a head, if its offset, its VLRs and its format are right
 pub relaid_head : {old new : List ℕ} {from to : ℕ} {piece : List ℕ} {offset count format : ℕ} → IsRelaid old new from to piece offset count format
     → offset ≡ length new → offset < 2 ^ 32 → count < 2 ^ 32 → format % 128 ≡ format_of old → vlr_start count new ≤ length new
@@ -156,11 +199,8 @@ relaid_head {old = old} {new = new} {from = from} {offset = offset} {count = cou
     let before : header_size_of old ≤ length new = omega (arith, r.after, r.end, r.order) in
     let was_long = λ (h : has_long_counts new ≡ true). let l : has_long_counts old ≡ true = ap (λ (m : ℕ). m == 4) (sym minor) ∙ h in l in
     let far = λ (h : has_long_counts old ≡ true). let l : 375 ≤ header_size_of old = omega (arith, least_block (minor_of old) h) in l in
-    let points : points_of new ≡ points_of old =
-    ap (λ (m : ℕ). cond ((m == 4) && (short_points_of new == 0)) (long_points_of new) (short_points_of new)) minor
-    ∙ ap (λ (n : ℕ). cond (has_long_counts old && (n == 0)) (long_points_of new) n) (number_relaid r 4 107 (omega arith) (omega (arith, r.after)))
-    ∙ same_if (has_long_counts old) (short_points_of old == 0) (long_points_of new) (long_points_of old) (short_points_of old)
-    (λ h. number_relaid r 8 247 (omega arith) (omega (arith, far h, r.after))) in
+    let points = points_relaid r in
+    let counts = counts_relaid r in
     record {
       block = omega arith;
       long_block = λ h. omega (arith, far (was_long h));
@@ -174,6 +214,7 @@ relaid_head {old = old} {new = new} {from = from} {offset = offset} {count = cou
       record_length = subst (λ (f : ℕ). format_size f ≤ record_length_of new) (sym new_format) (omega (arith, record_length, is.record_length));
       extra = subst (λ (f : ℕ). record_length_of new ≤ format_size f + 192) (sym new_format) (omega (arith, record_length, is.extra));
       extended = λ h. number_relaid r 4 243 (omega arith) (omega (arith, far (was_long h), r.after)) ∙ is.extended (was_long h);
+      counts = counts ∙ is.counts;
       points = omega (arith, points, is.points);
       small = omega (arith, whole, fits);
       near = near;

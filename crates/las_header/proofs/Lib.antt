@@ -5,4 +5,5 @@ pub mod CountLemmas
 pub mod LayoutLemmas
 pub mod PackingLemmas
 pub mod UnpackingLemmas
+pub mod ConditionLemmas
 pub mod Examples

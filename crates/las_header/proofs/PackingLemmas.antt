@@ -15,7 +15,7 @@ use Rattle.las_header.specs.Plain.{with_layout, laszip_vlr, with_vlr, without_vl
 use Rattle.las_header.proofs.NumberLemmas.{number_at-drop, drop-splice, take-splice, little_number_at, reads_back}
 use Rattle.las_header.proofs.VlrLemmas.{vlr_start-more, header_before, count_within, vlr_start-same, laszips, laszips-same, laszips-found}
 use Rattle.las_header.proofs.CauseLemmas.{least_any}
-use Rattle.las_header.proofs.LayoutLemmas.{layout_bytes, same_relaid, IsRelaid, size_relaid, front_relaid, offset_relaid, count_relaid, byte_relaid, after_relaid, header_relaid, vlrs_relaid, relaid_head, take-splice_le, drop_part, drop_after}
+use Rattle.las_header.proofs.LayoutLemmas.{layout_bytes, same_relaid, IsRelaid, size_relaid, front_relaid, offset_relaid, count_relaid, byte_relaid, after_relaid, header_relaid, vlrs_relaid, relaid_head, take-splice_le, drop_part, drop_after, records_relaid, points_relaid}
 
 -- the bytes of a laszip VLR
 length-laszip_vlr : (payload : List ℕ) → length (laszip_vlr payload) ≡ 54 + length payload
@@ -207,5 +207,8 @@ packs payload head p = record {
   is_head = packed_is_head p;
   back = unpacked_again p;
   packed = packed_there p;
+  size = whole_there p;
+  records = records_relaid (relaid p) (omega (arith, plain_byte p));
+  points = points_relaid (relaid p);
   laszip = one_laszip p;
 }

@@ -13,7 +13,7 @@ use Rattle.las_header.specs.Plain.{with_layout, without_vlr, without_first, plai
 use Rattle.las_header.proofs.NumberLemmas.{number_at-drop}
 use Rattle.las_header.proofs.VlrLemmas.{vlr_start-mono, header_before, count_within, vlr_start-same, laszips, laszips-suc, laszips-same, IsLaszipAt, found_at}
 use Rattle.las_header.proofs.CauseLemmas.{least_any}
-use Rattle.las_header.proofs.LayoutLemmas.{IsRelaid, size_relaid, count_relaid, byte_relaid, after_relaid, header_relaid, vlrs_relaid, relaid_head, drop_part}
+use Rattle.las_header.proofs.LayoutLemmas.{IsRelaid, size_relaid, count_relaid, byte_relaid, after_relaid, header_relaid, vlrs_relaid, relaid_head, drop_part, records_relaid, points_relaid}
 
 -- a packed head, its laszip VLR, and the number of this one among the VLRs
 pub record CanUnpack (head : List ℕ) (place : VlrPlace) (k : ℕ) : Type 0 where
@@ -186,5 +186,7 @@ plains head place is packed one first =
       bytes = sym (ap (λ (b : Bool). cond b (without_first (laszip_vlrs_of head) head) head) u.packed ∙ ap (λ (ps : List VlrPlace). without_first ps head) u.only);
       is_head = plain_is_head u;
       plain = plain_there u;
+      records = records_relaid (relaid u) (omega arith);
+      points = points_relaid (relaid u);
       none = none_left u;
     }

@@ -2,8 +2,8 @@ pub mod Numbers
 pub mod Fields
 pub mod Vlrs
 pub mod Plain
-pub mod Heads
 pub mod Counting
 pub mod Causes
 pub mod Refusals
+pub mod Heads
 pub mod Conditions

@@ -1,6 +1,6 @@
 //! What the first bytes of a file decide.
 
-ghost use Rattle.std.specs.Prelude.{◌≡◌, ◌≤◌, min, length, Some, None};
+ghost use Rattle.std.specs.Prelude.{◌≡◌, ◌≤◌, min, length, Some, None, OnOk, IfOk};
 ghost use Rattle.las_header.specs.Fields.{point_offset_of};
 ghost use Rattle.las_header.specs.Refusals.{first_cause, front_causes, lacks_signature, has_other_version, has_short_header, has_bad_offset};
 
@@ -15,6 +15,8 @@ use crate::refusal::Refusal;
 /// holds. No memory is taken.
 pub fn need(front: &[u8], size: u64) -> Result<u32, Refusal>
     requires { length front.now ≡ min size HEADER_BLOCK }
+    ensures accepted { OnOk result (first_cause (front_causes front.now size) ≡ None) }
+    ensures bounds { IfOk result (λ offset. (HEADER_BLOCK ≤ offset) × (offset ≤ size) × (offset ≤ MAX_OFFSET)) }
     ensures offset { first_cause (front_causes front.now size) ≡ None → result ≡ Ok (point_offset_of front.now) }
     ensures refused { (cause : Refusal) → first_cause (front_causes front.now size) ≡ Some cause → result ≡ Err cause }
 {

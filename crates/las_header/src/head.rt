@@ -3,7 +3,7 @@
 ghost use Rattle.std.specs.Prelude.{◌≡◌, ◌≤◌, ◌+◌, ◌-◌, length, take, true, if◌then◌else◌, Some, None, IfOk, [], slice_get, vec_len, false};
 ghost use Rattle.std.specs.List.{splice};
 ghost use Rattle.las_header.specs.Counting.{with_count_bytes, with_counts, with_sums};
-ghost use Rattle.las_header.specs.Heads.{IsHead, HeadView};
+ghost use Rattle.las_header.specs.Heads.{IsHead, HeadView, KeepsLayout, SameRecords};
 ghost use Rattle.las_header.specs.Fields.{minor_of, header_size_of, point_offset_of, vlr_count_of, is_packed, format_of, record_length_of, format_size, points_of, returns_of, has_long_counts, long_returns_of};
 ghost use Rattle.las_header.specs.Vlrs.{vlrs_of, vlrs_end, laszip_vlrs_of, HasOneVlr};
 ghost use Rattle.las_header.specs.Plain.{with_vlr, plain_of};
@@ -15,7 +15,7 @@ use crate::counts::{Counts, long_bytes, short_bytes};
 use crate::fields;
 use crate::limits::{
     COUNTS_AT, HEADER_BLOCK, HEADER_BLOCK_1_4, LAST_FORMAT, LONG_COUNTS_AT, MAX_EXTRA,
-    MAX_LASZIP_PAYLOAD,
+    MAX_LASZIP_PAYLOAD, VLR_HEAD,
 };
 use crate::numbers::{u32_at, u64_at};
 use crate::refusal::Refusal;
@@ -190,6 +190,9 @@ impl Head {
         ensures bytes { IfOk result (λ head. head.bytes ≡ with_vlr payload.now self.now.bytes) }
         ensures back { IfOk result (λ head. plain_of head.bytes ≡ self.now.bytes) }
         ensures packed { IfOk result (λ head. is_packed head.bytes ≡ true) }
+        ensures len { IfOk result (λ head. length head.bytes ≡ length self.now.bytes + (VLR_HEAD + length payload.now)) }
+        ensures records { IfOk result (λ head. SameRecords self.now.bytes head.bytes) }
+        ensures points { IfOk result (λ head. points_of head.bytes ≡ points_of self.now.bytes) }
         ensures laszip { IfOk result (λ head. HasOneVlr (vlrs_end self.now.bytes) (length payload.now) head.bytes) }
         ensures size { IfOk result (λ head. head.size ≡ self.now.size) }
     {
@@ -207,6 +210,8 @@ impl Head {
         requires one { length (laszip_vlrs_of self.now.bytes) ≡ 1 }
         ensures bytes { IfOk result (λ head. head.bytes ≡ plain_of self.now.bytes) }
         ensures plain { IfOk result (λ head. is_packed head.bytes ≡ false) }
+        ensures records { IfOk result (λ head. SameRecords self.now.bytes head.bytes) }
+        ensures points { IfOk result (λ head. points_of head.bytes ≡ points_of self.now.bytes) }
         ensures none { IfOk result (λ head. laszip_vlrs_of head.bytes ≡ []) }
         ensures size { IfOk result (λ head. head.size ≡ self.now.size) }
     {
@@ -222,6 +227,7 @@ impl Head {
     pub fn with_counts(self, counts: Counts) -> Head
         ensures bytes { result.bytes ≡ with_counts counts self.bytes }
         ensures points { points_of result.bytes ≡ counts.points }
+        ensures kept { KeepsLayout self.bytes result.bytes }
         ensures size { result.size ≡ self.size }
     {
         let [first, second, third, fourth, fifth, _, _] = counts.returns;
@@ -238,6 +244,7 @@ impl Head {
     pub fn with_sums(self, points: u32, returns: [u32; 5], long_returns: [u64; 15]) -> Head
         ensures bytes { result.bytes ≡ with_sums points returns long_returns self.bytes }
         ensures points { points_of result.bytes ≡ points }
+        ensures kept { KeepsLayout self.bytes result.bytes }
         ensures size { result.size ≡ self.size }
     {
         let mut head = self;
