@@ -3,7 +3,7 @@ use Rattle.std.proofs.Common.{◌≡◌, ℕ, zero, suc, ◌+◌, ◌^◌, ◌<�
 use Rattle.std.specs.List.{starts_with}
 use Rattle.std.proofs.lemmas.Bool.{eqb-true, leb-false, lt-leb}
 use Rattle.std.proofs.Math.Nat.{pow-succ'}
-use Rattle.std.proofs.lemmas.List.{take-take, get_or-take}
+use Rattle.std.proofs.lemmas.List.{take-take, get_or-take, length-take-le}
 use Rattle.byteorder.specs.Endian.{little_from}
 use Rattle.las_header.specs.declared.refusal.Refusal.{Refusal}
 use Rattle.las_header.specs.declared.refusal.Refusal.TheVariants as cause
@@ -287,3 +287,17 @@ packed_is_fine head size is packed =
     let lengths = first_none (has_bad_record_length head) cause.RecordLength extended_causes (both_false _ _ (lt-leb-false _ _ is.record_length) (lt-leb-false _ _ is.extra)) extended in
     let format = first_none (has_other_format head) cause.Format length_causes (lt-leb-false _ _ is.format) lengths in
     first_none (has_long_vlrs head) cause.Vlrs format_causes (lt-leb-false _ _ (omega (arith, is.vlrs, is.whole))) format
+
+-- What `need` accepted of a file's front is what `Head::read` needs of the bytes before its points. Meant for callers.
+pub record CanRead (head : List ℕ) (size : ℕ) : Type 0 where
+  pub accepted : first_cause (front_causes (take 227 head) size) ≡ None
+  pub whole : point_offset_of (take 227 head) ≡ length head
+
+pub can_read : (file : List ℕ) (offset size : ℕ) → 227 ≤ offset → offset ≤ length file → first_cause (front_causes (take 227 file) size) ≡ None
+    → offset ≡ point_offset_of (take 227 file) → CanRead (take offset file) size
+can_read file offset size block within accepted is =
+    let same : take 227 (take offset file) ≡ take 227 file = take-take 227 offset file block in
+    record {
+      accepted = ap (λ (f : List ℕ). first_cause (front_causes f size)) same ∙ accepted;
+      whole = ap point_offset_of same ∙ sym is ∙ sym (length-take-le offset file within);
+    }
