@@ -194,3 +194,30 @@ fn the_first_of_two_is_named(rt: HostRuntime) -> Result<(), Fail> {
     }
     Ok(())
 }
+
+// A laszip VLR is put after the other VLRs, before the gap, and taken out again.
+#[test]
+fn a_laszip_vlr_comes_and_goes(rt: HostRuntime) -> Result<(), Fail> {
+    let alloc = rt.alloc();
+    let file = file_of(alloc, 2, 227, 1, &vlr())?;
+    let plain = opened(alloc, &file)?.map_err(|_| "refused")?;
+    assert_eq!(rt; plain.laszip_vlr(), None);
+    assert!(rt; !plain.packed() && plain.laszip_count() == 0);
+    let packed = plain.with_vlr(alloc, &PAYLOAD)?;
+    assert_eq!(rt;
+        (packed.offset(), packed.vlr_count(), packed.packed()),
+        (380, 2, true)
+    );
+    let place = VlrPlace {
+        start: 284,
+        length: 40,
+    };
+    assert_eq!(rt; packed.laszip_vlr(), Some(place));
+    let places = packed.vlrs(alloc)?;
+    assert_eq!(rt; places.len(), 2);
+    assert_eq!(rt; places[1], place);
+    assert_eq!(rt; packed.bytes().ends_with(&[7, 7]), true);
+    let again = packed.without_vlr(alloc)?;
+    assert_eq!(rt; again.bytes(), plain.bytes());
+    Ok(())
+}

@@ -63,3 +63,17 @@ fn fields_are_changed(rt: HostRuntime) -> Result<(), Fail> {
     assert_eq!(rt; (counts.points, counts.returns[1]), (1, 1));
     Ok(())
 }
+
+#[test]
+fn times_and_colours_are_read(rt: HostRuntime) -> Result<(), Fail> {
+    let mut point = [0; 34];
+    point[20] = 1;
+    point[27] = 64;
+    point[28] = 2;
+    point[31] = 3;
+    point[32] = 4;
+    assert_eq!(rt; time(3, &point), (64 << 56) + 1);
+    assert_eq!(rt; rgb(3, &point), (2, 768, 4));
+    assert_eq!(rt; rgb(2, &point[..26]), (1, 0, 0));
+    Ok(())
+}
