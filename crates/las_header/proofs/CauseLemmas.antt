@@ -1,4 +1,4 @@
--- What is known where no condition of a list holds, and that the front of a file decides the conditions of its front.
+-- What is known if no condition of a list holds, and that the front of a file decides the conditions of its front.
 use Rattle.std.proofs.Common.{◌≡◌, ℕ, zero, suc, ◌+◌, ◌^◌, ◌<◌, ◌≤◌, Bool, true, false, not, ◌&&◌, ◌||◌, cond, nat_lt, nat_le, nat_eq, ◌==◌, ltb-false, List, [], ◌∷◌, length, take, codes, slice_index, None, refl, sym, ap, ◌∙◌, arith}
 use Rattle.std.specs.List.{starts_with}
 use Rattle.std.proofs.lemmas.Bool.{eqb-true, leb-false, lt-leb}
@@ -84,7 +84,7 @@ front_causes-take file n size block =
 pub front_decides : FrontDecides
 front_decides file size = front_causes-take file 227 size (omega arith)
 
--- a number of so many bytes
+-- a number of `width` bytes is below that power of 256
 pub number_at-bound : (width at : ℕ) (xs : List ℕ) → ((k : ℕ) → slice_index xs k < 256) → number_at width at xs < 256 ^ width
 unfolding number_at
 number_at-bound zero at xs bytes = omega arith

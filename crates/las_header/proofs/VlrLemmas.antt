@@ -88,7 +88,7 @@ number_same width at from to xs ys same after within =
 pub header_before : (n : ℕ) (head : List ℕ) → header_size_of head ≤ vlr_start n head
 header_before n head = vlr_start-mono 0 n head (omega arith)
 
--- where the bytes of the VLRs are the same, these begin at the same places, and the same of them are laszip VLRs
+-- if the bytes of the VLRs are the same, these begin at the same places, and the same of them are laszip VLRs
 pub vlr_start-same : (n to : ℕ) (xs ys : List ℕ) → header_size_of ys ≡ header_size_of xs → SameIn (header_size_of xs) to xs ys
     → vlr_start n xs ≤ to → vlr_start n ys ≡ vlr_start n xs
 vlr_start-same zero to xs ys header same within = header
