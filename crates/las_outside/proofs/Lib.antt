@@ -2,3 +2,4 @@ pub mod ByName
 mod Examples
 pub mod FileLaws
 pub mod Rooms
+pub mod Texts

@@ -1,3 +1,3 @@
-/// The outside could not do what was asked. The count of faults of the object that was asked says so too.
+/// The outside could not do what a call asked of it. The object's count of faults tells so too.
 #[derive(Clone, Copy, Debug, PartialEq, Eq)]
 pub struct Failed;

@@ -1,4 +1,4 @@
-/// Is told when a worker begins and ends an input.
+/// Called when a worker begins an input and when it ends it.
 ///
 /// A gate answers nothing and changes nothing that a contract sees. The workers share it, so it is `Sync`, and both
 /// calls return. It serves a test that has to know whether two workers run at once, or that delays one of them.

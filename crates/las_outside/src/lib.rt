@@ -1,12 +1,14 @@
 //! The outside of the product, behind traits: what is read, written and waited for.
 #![tactic(auto)]
 
+mod calls;
 mod failed;
 mod files;
 mod gate;
 mod mem_files;
 mod mem_room;
 mod mem_sink;
+mod pieces;
 mod real_files;
 mod real_sink;
 mod sink;
@@ -16,6 +18,7 @@ pub use files::Files;
 pub use gate::{Gate, OpenGate};
 pub use mem_files::MemFiles;
 pub use mem_sink::MemSink;
+pub use pieces::put_all;
 pub use real_files::RealFiles;
 pub use real_sink::RealSink;
 pub use sink::Sink;

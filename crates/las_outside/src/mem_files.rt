@@ -1,24 +1,26 @@
 //! Files in memory, which tell what they hold.
-ghost use Rattle.std.specs.Prelude.{◌≡◌, ◌⊎◌, ◌+◌, ◌-◌, ◌^◌, ◌≤◌, ◌<◌, ◌↔◌, ◌++◌, [], ◌∷◌, ℕ, IsErr, IsOk, IsSomeAnd, IfOk, OnOk, OnErr, Some, None, MatchOption, length, take, drop, min, max, unwrap_or, is_err, true};
+ghost use Rattle.std.specs.Prelude.{◌≡◌, ◌⊎◌, ◌+◌, ◌-◌, ◌≤◌, ◌<◌, ◌↔◌, ◌++◌, ◌∷◌, [], ℕ, IsTrue, IsErr, IsOk, IsSome, IsSomeAnd, IfOk, OnOk, OnErr, Some, None, MatchOption, length, take, drop, max, is_err, is_some, ◌&&◌};
 ghost use Rattle.std.specs.FinMap as map;
-ghost use Rattle.las_outside.specs.Faults.{last_count, faults_after};
-ghost use Rattle.las_outside.specs.Files.{WhereTold, IsMissing, bytes_of, holding, patched};
-ghost use Rattle.las_outside.specs.MemFiles.{room_of, IsFirst, IsAbsent};
+ghost use Rattle.las_outside.specs.Calls.{no_calls, next_read_fails, next_keep, kept_of, after_read, after_write, after_asking};
+ghost use Rattle.las_outside.specs.Files.{bytes_of, with_patch};
+ghost use Rattle.las_outside.specs.MemFiles.{room_of, IsFirst, IsAbsent, outside_of};
+ghost use Rattle.las_outside.specs.Outside.{Later};
 
+use crate::calls::Calls;
 use crate::mem_room::MemRoom;
 use crate::{Failed, Files};
 use std::alloc::{AllocError, Global};
 use std::marker::Model;
 
 /// Files in memory. A name has a room, in bytes, once one was prepared for it, and no call of `Files` takes memory.
+/// Calls that are listed fail.
 ///
-/// Contracts see the files, the rooms and the two counts of faults, which start with 0.
+/// Contracts see the files, the rooms and the calls. The counts start with 0.
 #[derive(Drop)]
 pub struct MemFiles {
     alloc: Global,
     rooms: Vec<MemRoom>,
-    read_faults: u64,
-    write_faults: u64,
+    calls: Calls,
 }
 
 impl Model for MemFiles {
@@ -31,8 +33,7 @@ impl Model for MemFiles {
     ghost view = { λ m. record {
       files = files_in m.rooms.items;
       rooms = rooms_in m.rooms.items;
-      read_faults = m.read_faults;
-      write_faults = m.write_faults;
+      calls = m.calls;
     } };
 }
 
@@ -48,31 +49,38 @@ fn place_of(rooms: &[MemRoom], name: &str) -> Option<usize>
     None
 }
 
+// The bytes of a write that are kept: all, or the first ones if the call is listed.
+fn kept_bytes(listed: Option<usize>, bytes: &[u8]) -> &[u8]
+    ensures { result.now ≡ take (kept_of listed (length bytes.now)) bytes.now }
+{
+    match listed {
+        Some(keep) => &bytes[..keep.min(bytes.len())],
+        None => bytes,
+    }
+}
+
 impl MemFiles {
-    /// No files, and no rooms.
+    /// No files, no rooms, and no call that fails.
     pub fn new(alloc: Global) -> MemFiles
         ensures files { result.files ≡ map.empty }
         ensures rooms { result.rooms ≡ map.empty }
-        ensures reads { result.read_faults ≡ 0 }
-        ensures writes { result.write_faults ≡ 0 }
+        ensures calls { result.calls ≡ no_calls }
     {
         MemFiles {
             alloc,
             rooms: Vec::new(alloc),
-            read_faults: 0,
-            write_faults: 0,
+            calls: Calls::new(alloc),
         }
     }
 
-    /// Makes the name's room, in bytes, the greater of this and of the room that it had. Where memory is short, all is
-    /// as before.
+    /// Makes the name's room, in bytes, the greater of this and of the room that it had. If memory is short, all is as
+    /// before.
     pub fn prepare(&mut self, name: &str, room: usize) -> Result<(), AllocError>
         ensures files { self.new.files ≡ self.old.files }
         ensures ok { OnOk result (self.new.rooms
             ≡ map.insert self.old.rooms name.now (max (room_of self.old.rooms name.now) room)) }
         ensures err { OnErr result (self.new.rooms ≡ self.old.rooms) }
-        ensures reads { self.new.read_faults ≡ self.old.read_faults }
-        ensures writes { self.new.write_faults ≡ self.old.write_faults }
+        ensures calls { self.new.calls ≡ self.old.calls }
     {
         match place_of(&self.rooms, name) {
             Some(at) => self.rooms[at].widen(room),
@@ -84,15 +92,14 @@ impl MemFiles {
         }
     }
 
-    /// Makes the name hold these bytes, and its room the greater of their number and of the room that it had. Where
-    /// memory is short, all is as before.
+    /// Makes the name hold these bytes, and its room the greater of their number and of the room that it had. If memory
+    /// is short, all is as before.
     pub fn put_file(&mut self, name: &str, bytes: &[u8]) -> Result<(), AllocError>
         ensures ok { OnOk result (self.new.files ≡ map.insert self.old.files name.now bytes.now) }
         ensures room { OnOk result (self.new.rooms ≡ map.insert self.old.rooms name.now
             (max (room_of self.old.rooms name.now) (length bytes.now))) }
         ensures err { OnErr result (self.new ≡ self.old) }
-        ensures reads { self.new.read_faults ≡ self.old.read_faults }
-        ensures writes { self.new.write_faults ≡ self.old.write_faults }
+        ensures calls { self.new.calls ≡ self.old.calls }
     {
         self.prepare(name, bytes.len())?;
         match place_of(&self.rooms, name) {
@@ -106,7 +113,7 @@ impl MemFiles {
         }
     }
 
-    /// The bytes under a name, or `None` where it is not held.
+    /// The bytes under a name, or `None` if it is not held.
     pub fn get(&self, name: &str) -> Option<&[u8]>
         ensures { MatchOption result (map.get self.now.files name.now ≡ None)
             (λ bytes. map.get self.now.files name.now ≡ Some bytes.now) }
@@ -117,46 +124,128 @@ impl MemFiles {
         }
     }
 
-    // Counts a write that failed.
-    fn write_failed(&mut self) -> Result<(), Failed>
-        ensures err { IsErr result }
-        ensures files { self.new.files ≡ self.old.files }
-        ensures rooms { self.new.rooms ≡ self.old.rooms }
-        ensures reads { self.new.read_faults ≡ self.old.read_faults }
-        ensures writes { self.old.write_faults ≤ self.new.write_faults }
-        ensures counted { self.new.write_faults ≡ faults_after self.old.write_faults true }
+    /// Lists a call that reads, which fails then. The calls of `size` and `read_at` are numbered together, from 1. If
+    /// memory is short, all is as before.
+    pub fn fail_read(&mut self, call: u64) -> Result<(), AllocError>
+        ensures ok { OnOk result (self.new ≡ record self.old {
+          calls = record self.old.calls { failing_reads = self.old.calls.failing_reads ++ call ∷ [] };
+        }) }
+        ensures err { OnErr result (self.new ≡ self.old) }
     {
-        self.write_faults = self.write_faults.saturating_add(1);
-        Err(Failed)
+        self.calls.fail_read(call)
+    }
+
+    /// Lists a call that writes, which fails then. The calls of `create`, `append` and `patch` are numbered together,
+    /// from 1. Of the bytes of the call the first `keep` are kept, if there are so many and they fit the room; of a call
+    /// that is listed twice, the last `keep` counts. If memory is short, all is as before.
+    pub fn fail_write(&mut self, call: u64, keep: usize) -> Result<(), AllocError>
+        ensures ok { OnOk result (self.new ≡ record self.old {
+          calls = record self.old.calls { failing_writes = (call, keep) ∷ self.old.calls.failing_writes };
+        }) }
+        ensures err { OnErr result (self.new ≡ self.old) }
+    {
+        self.calls.fail_write(call, keep)
+    }
+
+    /// How many bytes the calls of `read_at` have asked for.
+    pub fn asked(&self) -> u64
+        ensures { result ≡ self.now.calls.asked }
+    {
+        self.calls.asked()
+    }
+
+    // Makes the name hold no bytes, and says whether it has a room.
+    fn make_empty(&mut self, name: &str) -> bool
+        ensures room { IsTrue result ↔ IsSome (map.get self.old.rooms name.now) }
+        ensures made { IsTrue result → (self.new.files ≡ map.insert self.old.files name.now []) }
+        ensures none { (IsTrue result → ⊥) → (self.new.files ≡ self.old.files) }
+        ensures rooms { self.new.rooms ≡ self.old.rooms }
+        ensures calls { self.new.calls ≡ self.old.calls }
+    {
+        match place_of(&self.rooms, name) {
+            Some(at) => {
+                self.rooms[at].create();
+                true
+            }
+            None => false,
+        }
+    }
+
+    // Adds those of the bytes that fit the room at the end of a file, and says whether all did.
+    fn add_what_fits(&mut self, name: &str, bytes: &[u8]) -> bool
+        requires { IsSomeAnd (map.get self.old.files name.now) (λ _. Unit {0}) }
+        ensures files { self.new.files ≡ map.insert self.old.files name.now
+            (bytes_of (Some self.old.files) name.now
+            ++ take (room_of self.old.rooms name.now - length (bytes_of (Some self.old.files) name.now)) bytes.now) }
+        ensures all { IsTrue result ↔ (length (bytes_of (Some self.old.files) name.now) + length bytes.now
+            ≤ room_of self.old.rooms name.now) }
+        ensures rooms { self.new.rooms ≡ self.old.rooms }
+        ensures calls { self.new.calls ≡ self.old.calls }
+    {
+        match place_of(&self.rooms, name) {
+            Some(at) => self.rooms[at].append(bytes),
+            None => unreachable!("it is held"),
+        }
+    }
+
+    // Replaces the bytes of a file from a position on.
+    fn replace(&mut self, name: &str, pos: usize, bytes: &[u8])
+        requires { IsSomeAnd (map.get self.old.files name.now) (λ old. pos + length bytes.now ≤ length old) }
+        ensures files { self.new.files ≡ map.insert self.old.files name.now
+            (with_patch (bytes_of (Some self.old.files) name.now) pos bytes.now) }
+        ensures rooms { self.new.rooms ≡ self.old.rooms }
+        ensures calls { self.new.calls ≡ self.old.calls }
+    {
+        match place_of(&self.rooms, name) {
+            Some(at) => self.rooms[at].patch(pos, bytes),
+            None => unreachable!("it is held"),
+        }
     }
 }
 
 impl Files for MemFiles {
-    ghost held = { λ m. Some m.files };
+    ghost seen = { outside_of };
 
-    ghost read_faults = { λ m. m.read_faults };
-
-    ghost write_faults = { λ m. m.write_faults };
-
-    /// `Failed` exactly where the name is not held.
+    /// `Failed` exactly if the call is listed or the name is not held. A listed call raises the count of faults, unless
+    /// the name is not held.
     fn size(&mut self, name: &str) -> Result<u64, Failed>
-        ensures length { IfOk result (λ n. IsSomeAnd (map.get self.old.files name.now) (λ bytes. n ≡ length bytes)) }
-        ensures exactly { IsErr result ↔ (map.get self.old.files name.now ≡ None) }
-        ensures same { self.new ≡ self.old }
+        ensures length { IfOk result
+            (λ n. IsSomeAnd (map.get self.old.files name.now) (λ bytes. n ≡ length bytes)) }
+        ensures exactly { IsErr result
+            ↔ (IsTrue (next_read_fails self.old.calls) ⊎ (map.get self.old.files name.now ≡ None)) }
+        ensures change { self.new ≡ record self.old {
+          calls = after_read self.old.calls (next_read_fails self.old.calls && is_some (map.get self.old.files name.now));
+        } }
+        ensures later { Later (outside_of self.old) (outside_of self.new) }
     {
-        match self.get(name) {
-            Some(bytes) => Ok(bytes.len() as u64),
-            None => Err(Failed),
+        let listed = self.calls.next_read();
+        let Some(bytes) = self.get(name) else {
+            return Err(Failed);
+        };
+        let size = bytes.len() as u64;
+        if listed {
+            self.calls.read_failed();
+            return Err(Failed);
         }
+        Ok(size)
     }
 
-    /// Never `Failed`.
+    /// `Failed` exactly if the call is listed.
     fn read_at(&mut self, name: &str, pos: u64, buf: &mut [u8]) -> Result<(), Failed>
         requires { IsSomeAnd (map.get self.old.files name.now) (λ bytes. pos + length buf.old ≤ length bytes) }
-        ensures ok { IsOk result }
-        ensures bytes { buf.new ≡ take (length buf.old) (drop pos (bytes_of (Some self.old.files) name.now)) }
-        ensures same { self.new ≡ self.old }
+        ensures bytes { OnOk result
+            (buf.new ≡ take (length buf.old) (drop pos (bytes_of (Some self.old.files) name.now))) }
+        ensures exactly { IsErr result ↔ IsTrue (next_read_fails self.old.calls) }
+        ensures change { self.new ≡ record self.old {
+          calls = after_read (after_asking self.old.calls (length buf.old)) (is_err result);
+        } }
+        ensures later { Later (outside_of self.old) (outside_of self.new) }
     {
+        self.calls.asks(buf.len());
+        if self.calls.next_read() {
+            self.calls.read_failed();
+            return Err(Failed);
+        }
         let from = pos as usize;
         match self.get(name) {
             Some(bytes) => {
@@ -167,69 +256,66 @@ impl Files for MemFiles {
         }
     }
 
-    /// `Failed` exactly where no room is kept for the name.
+    /// `Failed` exactly if the call is listed or no room is kept for the name, and then the name is as before.
     fn create(&mut self, name: &str) -> Result<(), Failed>
         ensures ok { OnOk result (self.new.files ≡ map.insert self.old.files name.now []) }
         ensures err { OnErr result (self.new.files ≡ self.old.files) }
-        ensures exactly { IsErr result ↔ (map.get self.old.rooms name.now ≡ None) }
+        ensures exactly { IsErr result
+            ↔ (IsSome (next_keep self.old.calls) ⊎ (map.get self.old.rooms name.now ≡ None)) }
         ensures rooms { self.new.rooms ≡ self.old.rooms }
-        ensures reads { self.new.read_faults ≡ self.old.read_faults }
-        ensures writes { self.old.write_faults ≤ self.new.write_faults }
-        ensures counted { self.new.write_faults ≡ faults_after self.old.write_faults (is_err result) }
+        ensures calls { self.new.calls ≡ after_write self.old.calls (is_err result) }
+        ensures later { Later (outside_of self.old) (outside_of self.new) }
     {
-        match place_of(&self.rooms, name) {
-            Some(at) => {
-                self.rooms[at].create();
-                Ok(())
-            }
-            None => self.write_failed(),
+        let listed = self.calls.next_write();
+        if listed.is_none() && self.make_empty(name) {
+            return Ok(());
         }
+        self.calls.write_failed();
+        Err(Failed)
     }
 
-    /// `Failed` exactly where the file with the bytes would pass the room, and then the bytes that fit were added.
+    /// `Failed` exactly if the call is listed or the file with the bytes would pass the room. The bytes that fit were
+    /// added then, and of a listed call at most those that it keeps.
     fn append(&mut self, name: &str, bytes: &[u8]) -> Result<(), Failed>
         requires { IsSomeAnd (map.get self.old.files name.now) (λ _. Unit {0}) }
-        ensures added { OnOk result (self.new.files
+        ensures ok { OnOk result (self.new.files
             ≡ map.insert self.old.files name.now (bytes_of (Some self.old.files) name.now ++ bytes.now)) }
-        ensures filled { OnErr result ((n : ℕ)
-            × (self.new.files
-            ≡ map.insert self.old.files name.now (bytes_of (Some self.old.files) name.now ++ take n bytes.now))
-            × (n ≡ room_of self.old.rooms name.now - length (bytes_of (Some self.old.files) name.now))) }
-        ensures exactly { IsErr result ↔ (room_of self.old.rooms name.now
-            < length (bytes_of (Some self.old.files) name.now) + length bytes.now) }
+        ensures err { OnErr result (self.new.files
+            ≡ map.insert self.old.files name.now (bytes_of (Some self.old.files) name.now
+            ++ take (kept_of (next_keep self.old.calls)
+            (room_of self.old.rooms name.now - length (bytes_of (Some self.old.files) name.now))) bytes.now)) }
+        ensures exactly { IsErr result ↔ (IsSome (next_keep self.old.calls)
+            ⊎ (room_of self.old.rooms name.now < length (bytes_of (Some self.old.files) name.now) + length bytes.now)) }
         ensures rooms { self.new.rooms ≡ self.old.rooms }
-        ensures reads { self.new.read_faults ≡ self.old.read_faults }
-        ensures writes { self.old.write_faults ≤ self.new.write_faults }
-        ensures counted { self.new.write_faults ≡ faults_after self.old.write_faults (is_err result) }
+        ensures calls { self.new.calls ≡ after_write self.old.calls (is_err result) }
+        ensures later { Later (outside_of self.old) (outside_of self.new) }
     {
-        match place_of(&self.rooms, name) {
-            Some(at) => {
-                if self.rooms[at].append(bytes) {
-                    Ok(())
-                } else {
-                    self.write_failed()
-                }
-            }
-            None => unreachable!("it is held"),
+        let listed = self.calls.next_write();
+        let all = self.add_what_fits(name, kept_bytes(listed, bytes));
+        if listed.is_none() && all {
+            return Ok(());
         }
+        self.calls.write_failed();
+        Err(Failed)
     }
 
-    /// Never `Failed`.
+    /// `Failed` exactly if the call is listed. The bytes that it keeps have replaced what stood there then.
     fn patch(&mut self, name: &str, pos: u64, bytes: &[u8]) -> Result<(), Failed>
         requires { IsSomeAnd (map.get self.old.files name.now) (λ old. pos + length bytes.now ≤ length old) }
-        ensures ok { IsOk result }
-        ensures replaced { self.new.files ≡ map.insert self.old.files name.now
-            (patched (bytes_of (Some self.old.files) name.now) pos bytes.now) }
+        ensures files { self.new.files ≡ map.insert self.old.files name.now
+            (with_patch (bytes_of (Some self.old.files) name.now) pos
+            (take (kept_of (next_keep self.old.calls) (length bytes.now)) bytes.now)) }
+        ensures exactly { IsErr result ↔ IsSome (next_keep self.old.calls) }
         ensures rooms { self.new.rooms ≡ self.old.rooms }
-        ensures reads { self.new.read_faults ≡ self.old.read_faults }
-        ensures writes { self.new.write_faults ≡ self.old.write_faults }
+        ensures calls { self.new.calls ≡ after_write self.old.calls (is_err result) }
+        ensures later { Later (outside_of self.old) (outside_of self.new) }
     {
-        match place_of(&self.rooms, name) {
-            Some(at) => {
-                self.rooms[at].patch(pos as usize, bytes);
-                Ok(())
-            }
-            None => unreachable!("it is held"),
+        let listed = self.calls.next_write();
+        self.replace(name, pos as usize, kept_bytes(listed, bytes));
+        if listed.is_none() {
+            return Ok(());
         }
+        self.calls.write_failed();
+        Err(Failed)
     }
 }

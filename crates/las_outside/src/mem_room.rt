@@ -1,11 +1,11 @@
 //! The room that is kept in memory for one name.
 ghost use Rattle.std.specs.Prelude.{◌≡◌, ◌+◌, ◌-◌, ◌≤◌, ◌↔◌, ◌++◌, [], IsTrue, IsSome, IfOk, OnOk, OnErr, Some, None, MatchOption, length, take, max, unwrap_or};
-ghost use Rattle.las_outside.specs.Files.{patched};
+ghost use Rattle.las_outside.specs.Files.{with_patch};
 
 use std::alloc::{AllocError, Global};
 use std::marker::Model;
 
-/// A name's room, and the bytes in it where the name is held.
+/// A name's room, and the bytes in it if the name is held.
 #[derive(Drop)]
 pub struct MemRoom {
     name: String,
@@ -58,14 +58,14 @@ impl MemRoom {
         self.room
     }
 
-    /// The bytes, or `None` where the name is not held.
+    /// The bytes, or `None` if the name is not held.
     pub fn bytes(&self) -> Option<&[u8]>
         ensures { MatchOption result (self.now.bytes ≡ None) (λ bytes. self.now.bytes ≡ Some bytes.now) }
     {
         if self.held { Some(&self.bytes) } else { None }
     }
 
-    /// Makes the room at least so many bytes. Where memory is short, all is as before.
+    /// Makes the room at least this many bytes. If memory is short, all is as before.
     pub fn widen(&mut self, room: usize) -> Result<(), AllocError>
         ensures name { self.new.name ≡ self.old.name }
         ensures bytes { self.new.bytes ≡ self.old.bytes }
@@ -89,7 +89,7 @@ impl MemRoom {
         self.held = true;
     }
 
-    /// Adds those of the bytes that fit the room at the end, and tells whether all did.
+    /// Adds those of the bytes that fit the room at the end, and says whether all did.
     pub fn append(&mut self, bytes: &[u8]) -> bool
         requires { IsSome self.old.bytes }
         ensures name { self.new.name ≡ self.old.name }
@@ -111,7 +111,7 @@ impl MemRoom {
         requires within { pos + length bytes.now ≤ length (unwrap_or self.old.bytes []) }
         ensures name { self.new.name ≡ self.old.name }
         ensures room { self.new.room ≡ self.old.room }
-        ensures bytes { self.new.bytes ≡ Some (patched (unwrap_or self.old.bytes []) pos bytes.now) }
+        ensures bytes { self.new.bytes ≡ Some (with_patch (unwrap_or self.old.bytes []) pos bytes.now) }
     {
         overwrite(self.bytes.as_mut_slice(), pos, bytes);
     }
@@ -120,7 +120,7 @@ impl MemRoom {
 // Puts bytes in the place of those from a position on.
 fn overwrite(old: &mut [u8], pos: usize, bytes: &[u8])
     requires { pos + length bytes.now ≤ length old.old }
-    ensures { old.new ≡ patched old.old pos bytes.now }
+    ensures { old.new ≡ with_patch old.old pos bytes.now }
 {
     old[pos..pos + bytes.len()].copy_from_slice(bytes);
 }

@@ -1,6 +1,6 @@
 //! The files of the system.
-ghost use Rattle.std.specs.Prelude.{◌≡◌, None, ◌<◌, ◌≤◌, length, vec_len, IfOk, IfSome, OnErr};
-ghost use Rattle.las_outside.specs.Faults.{Rose};
+ghost use Rattle.std.specs.Prelude.{◌≡◌, ◌<◌, ◌≤◌, length, vec_len, IfOk, IfSome, OnOk, OnErr, None};
+ghost use Rattle.las_outside.specs.Faults.{count_after};
 
 use crate::{Failed, Files};
 use std::alloc::Global;
@@ -17,11 +17,11 @@ struct Opened {
     file: File,
 }
 
-/// The files of the system. What they hold is not told. Contracts see the two counts of faults, of reads and of writes.
+/// The files of the system. Contracts see the counts alone, and not what the files hold.
 ///
 /// A file is opened at the first call for its name and stays open, once to read and once to write. Reads and writes are
 /// at positions, so none is opened to append: the system would append a patch too. Each error of std is a fault, also
-/// for want of memory, and so is a read that ends before its buffer is full, or a write that takes nothing.
+/// one for lack of memory, and so is a read that ends before its buffer is full, or a write that takes nothing.
 #[derive(Drop)]
 pub struct RealFiles<R: System<File = File> + Drop> {
     rt: R,
@@ -30,21 +30,29 @@ pub struct RealFiles<R: System<File = File> + Drop> {
     written: Vec<Opened>,
     read_faults: u64,
     write_faults: u64,
+    asked: u64,
 }
 
 impl<R: System<File = File> + Drop> Model for RealFiles<R> {
-    ghost use Rattle.std.specs.Prelude.{ℕ};
+    ghost use Rattle.std.specs.Prelude.{None};
+    ghost use Rattle.las_outside.specs.Outside.{Outside, outside_code};
 
-    ghost Value = { ℕ × ℕ };
+    ghost Value = { Outside };
 
-    ghost view = { λ f. (f.read_faults, f.write_faults) };
+    ghost coded = { outside_code };
+
+    ghost view = { λ f. record {
+      held = None;
+      read_faults = f.read_faults;
+      write_faults = f.write_faults;
+      asked = f.asked;
+    } };
 }
 
 impl<R: System<File = File> + AllocGlobal + Drop> RealFiles<R> {
-    /// No file is open yet, and no call has failed.
+    /// No file is open yet, and no call was made.
     pub fn new(rt: R) -> RealFiles<R>
-        ensures reads { result.0 ≡ 0 }
-        ensures writes { result.1 ≡ 0 }
+        ensures { result ≡ record { held = None; read_faults = 0; write_faults = 0; asked = 0 } }
     {
         let alloc = rt.alloc();
         RealFiles {
@@ -54,6 +62,7 @@ impl<R: System<File = File> + AllocGlobal + Drop> RealFiles<R> {
             written: Vec::new(alloc),
             read_faults: 0,
             write_faults: 0,
+            asked: 0,
         }
     }
 }
@@ -65,7 +74,7 @@ fn place_of(opened: &[Opened], name: &str) -> Option<usize>
     opened.iter().position(|o| o.name.as_str() == name)
 }
 
-// Keeps an open file, and answers its index.
+// Keeps an open file, and gives its index.
 fn keep(alloc: Global, opened: &mut Vec<Opened>, name: &str, file: File) -> io::Result<usize>
     ensures { IfOk result (λ i. i < vec_len opened.new) }
 {
@@ -110,7 +119,7 @@ fn to_write<R: System<File = File>>(
 }
 
 // Makes a file hold nothing.
-fn emptied<R: System<File = File>>(
+fn make_empty<R: System<File = File>>(
     rt: &R,
     alloc: Global,
     opened: &mut Vec<Opened>,
@@ -124,10 +133,11 @@ fn emptied<R: System<File = File>>(
     Ok(())
 }
 
-// What std answered, counted where it is an error.
-fn counted<T>(outcome: io::Result<T>, faults: &mut u64) -> Result<T, Failed>
-    ensures failed { OnErr result (Rose faults.old faults.new) }
-    ensures counts { faults.old ≤ faults.new }
+// What std answered, with an error counted.
+fn count_error<T>(outcome: io::Result<T>, faults: &mut u64) -> Result<T, Failed>
+    ensures ok { OnOk result (faults.new ≡ faults.old) }
+    ensures err { OnErr result (faults.new ≡ count_after faults.old 1) }
+    ensures later { faults.old ≤ faults.new }
 {
     match outcome {
         Ok(value) => Ok(value),
@@ -139,31 +149,28 @@ fn counted<T>(outcome: io::Result<T>, faults: &mut u64) -> Result<T, Failed>
 }
 
 impl<R: System<File = File> + AllocGlobal + Drop> Files for RealFiles<R> {
-    ghost held = { λ f. None };
-
-    ghost read_faults = { λ f. f.0 };
-
-    ghost write_faults = { λ f. f.1 };
+    ghost seen = { λ f. f };
 
     fn size(&mut self, name: &str) -> Result<u64, Failed> {
         let outcome = match to_read(&self.rt, self.alloc, &mut self.read, name) {
             Ok(at) => self.read[at].file.metadata().map(|m| m.len()),
             Err(error) => Err(error),
         };
-        counted(outcome, &mut self.read_faults)
+        count_error(outcome, &mut self.read_faults)
     }
 
     fn read_at(&mut self, name: &str, pos: u64, buf: &mut [u8]) -> Result<(), Failed> {
+        self.asked = self.asked.saturating_add(buf.len() as u64);
         let outcome = match to_read(&self.rt, self.alloc, &mut self.read, name) {
             Ok(at) => self.read[at].file.read_exact_at(buf, pos),
             Err(error) => Err(error),
         };
-        counted(outcome, &mut self.read_faults)
+        count_error(outcome, &mut self.read_faults)
     }
 
     fn create(&mut self, name: &str) -> Result<(), Failed> {
-        let outcome = emptied(&self.rt, self.alloc, &mut self.written, name);
-        counted(outcome, &mut self.write_faults)
+        let outcome = make_empty(&self.rt, self.alloc, &mut self.written, name);
+        count_error(outcome, &mut self.write_faults)
     }
 
     fn append(&mut self, name: &str, bytes: &[u8]) -> Result<(), Failed> {
@@ -171,7 +178,7 @@ impl<R: System<File = File> + AllocGlobal + Drop> Files for RealFiles<R> {
             Ok(at) => append_to(&self.written[at].file, bytes),
             Err(error) => Err(error),
         };
-        counted(outcome, &mut self.write_faults)
+        count_error(outcome, &mut self.write_faults)
     }
 
     fn patch(&mut self, name: &str, pos: u64, bytes: &[u8]) -> Result<(), Failed> {
@@ -179,11 +186,11 @@ impl<R: System<File = File> + AllocGlobal + Drop> Files for RealFiles<R> {
             Ok(at) => self.written[at].file.write_all_at(bytes, pos),
             Err(error) => Err(error),
         };
-        counted(outcome, &mut self.write_faults)
+        count_error(outcome, &mut self.write_faults)
     }
 }
 
-// Writes bytes behind those that are there.
+// Writes bytes after those that are there.
 fn append_to(file: &File, bytes: &[u8]) -> io::Result<()> {
     let end = file.metadata()?.len();
     file.write_all_at(bytes, end)

@@ -2,23 +2,18 @@
 ghost use Rattle.std.specs.Prelude.{◌≡◌, None};
 
 use crate::{Failed, Sink};
-use std::io::{self, Stderr, Stdout, Write};
+use std::io::{Stderr, Stdout, Write};
 use std::marker::Model;
 
+/// Standard output or standard error, by the type of its stream. Contracts see its count of faults alone, and not what
+/// was put on it. Each error of std is a fault.
 #[derive(Drop)]
-enum Stream {
-    Out(Stdout),
-    Err(Stderr),
-}
-
-/// Standard output or standard error. What it holds is not told. Contracts see its count of faults.
-#[derive(Drop)]
-pub struct RealSink {
-    stream: Stream,
+pub struct RealSink<W: Write + Drop> {
+    stream: W,
     faults: u64,
 }
 
-impl Model for RealSink {
+impl<W: Write + Drop> Model for RealSink<W> {
     ghost use Rattle.std.specs.Prelude.{ℕ};
 
     ghost Value = { ℕ };
@@ -26,50 +21,81 @@ impl Model for RealSink {
     ghost view = { λ s. s.faults };
 }
 
-impl RealSink {
+impl RealSink<Stdout> {
     /// Standard output.
-    pub fn out(rt: &HostRuntime) -> RealSink
+    pub fn out(rt: &HostRuntime) -> RealSink<Stdout>
         ensures { result ≡ 0 }
     {
-        RealSink {
-            stream: Stream::Out(rt.stdout()),
-            faults: 0,
-        }
+        RealSink::on(rt.stdout())
     }
+}
 
+impl RealSink<Stderr> {
     /// Standard error.
-    pub fn err(rt: &HostRuntime) -> RealSink
+    pub fn err(rt: &HostRuntime) -> RealSink<Stderr>
         ensures { result ≡ 0 }
     {
-        RealSink {
-            stream: Stream::Err(rt.stderr()),
-            faults: 0,
-        }
+        RealSink::on(rt.stderr())
     }
 }
 
-fn write(stream: &mut Stream, bytes: &[u8]) -> io::Result<()> {
-    match stream {
-        Stream::Out(out) => {
-            out.write_all(bytes)?;
-            out.flush()
-        }
-        Stream::Err(err) => err.write_all(bytes),
+impl<W: Write + Drop> RealSink<W> {
+    // A stream on which nothing was put yet.
+    fn on(stream: W) -> RealSink<W>
+        ensures { result ≡ 0 }
+    {
+        RealSink { stream, faults: 0 }
     }
 }
 
-impl Sink for RealSink {
-    ghost written = { λ s. None };
-
-    ghost faults = { λ s. s };
+impl<W: Write + Drop> Sink for RealSink<W> {
+    ghost seen = { λ s. record { written = None; faults = s } };
 
     fn put(&mut self, bytes: &[u8]) -> Result<(), Failed> {
-        match write(&mut self.stream, bytes) {
+        match write_now(&mut self.stream, bytes) {
             Ok(()) => Ok(()),
             Err(_) => {
                 self.faults = self.faults.saturating_add(1);
                 Err(Failed)
             }
         }
+    }
+}
+
+// Writes bytes, and what a buffer may still hold of them.
+fn write_now<W: Write>(stream: &mut W, bytes: &[u8]) -> std::io::Result<()> {
+    stream.write_all(bytes)?;
+    stream.flush()
+}
+
+#[cfg(test)]
+mod tests {
+    use super::*;
+    use std::fs::{self, File};
+    use std::io::Read;
+    use std::test::Fail;
+
+    // What is put reaches the stream at once, and nothing else does.
+    #[test]
+    fn what_is_put(rt: HostRuntime) -> Result<(), Fail> {
+        let name = "las_outside_stream";
+        let mut sink = RealSink::on(File::create(&rt, name)?);
+        sink.put(b"one ")?;
+        sink.put(b"")?;
+        sink.put(b"two")?;
+        let mut text = [0; 9];
+        let length = File::open(&rt, name)?.read(&mut text)?;
+        assert_eq!(rt; length, 7);
+        assert_eq!(rt; &text[..7], b"one two".as_slice());
+        fs::remove_file(&rt, name)?;
+        Ok(())
+    }
+
+    // The standard streams are there and take bytes.
+    #[test]
+    fn standard_streams(rt: HostRuntime) -> Result<(), Fail> {
+        RealSink::out(&rt).put(b"")?;
+        RealSink::err(&rt).put(b"")?;
+        Ok(())
     }
 }

@@ -27,25 +27,67 @@ fn a_real_file(rt: HostRuntime) -> Result<(), Fail> {
     Ok(())
 }
 
-// What is put on the standard streams is taken.
-#[test]
-fn real_streams(rt: HostRuntime) -> Result<(), Fail> {
-    RealSink::out(&rt).put(b"")?;
-    RealSink::err(&rt).put(b"")?;
-    Ok(())
+// Whether bytes were added to a file; not if it is not there.
+fn adds(files: &mut MemFiles, name: &str, bytes: &[u8]) -> bool {
+    match files.get(name) {
+        Some(_) => files.append(name, bytes).is_ok(),
+        None => false,
+    }
 }
 
-// With memory at hand the calls that take some succeed.
+// With memory at hand the calls that take some succeed, and rooms end where they say.
 #[test]
-fn in_memory(rt: HostRuntime) -> Result<(), Fail> {
+fn rooms_in_memory(rt: HostRuntime) -> Result<(), Fail> {
     let mut files = MemFiles::new(rt.alloc());
     files.put_file("a", b"abc")?;
     files.prepare("b", 4)?;
     files.create("b")?;
-    assert!(rt; files.append("b", b"123456").is_err(), "four fit");
+    assert!(rt; !adds(&mut files, "b", b"123456"), "four fit");
     assert_eq!(rt; files.get("b"), Some(b"1234".as_slice()));
-    let mut sink = MemSink::with_room(rt.alloc(), 3)?;
-    assert!(rt; sink.put(b"abcd").is_err(), "three fit");
-    assert_eq!(rt; sink.bytes(), b"abc".as_slice());
+    assert!(rt; files.create("c").is_err(), "no room");
+    assert_eq!(rt; files.size("a")?, 3);
+    Ok(())
+}
+
+// A listed write keeps as many bytes as it was last listed with, if they fit.
+#[test]
+fn listed_writes(rt: HostRuntime) -> Result<(), Fail> {
+    let mut files = MemFiles::new(rt.alloc());
+    files.prepare("b", 8)?;
+    files.fail_write(2, 1)?;
+    files.fail_write(2, 3)?;
+    files.fail_write(4, 1000)?;
+    files.create("b")?;
+    for (bytes, whole) in [("12345", false), ("4", true), ("567890", false)] {
+        let added = adds(&mut files, "b", bytes.as_bytes());
+        assert_eq!(rt; added, whole);
+    }
+    assert_eq!(rt; files.get("b"), Some(b"12345678".as_slice()));
+    Ok(())
+}
+
+// A listed read fails, and what it asked for is counted.
+#[test]
+fn listed_reads(rt: HostRuntime) -> Result<(), Fail> {
+    let mut files = MemFiles::new(rt.alloc());
+    files.put_file("a", b"abc")?;
+    files.fail_read(2)?;
+    for known in [true, false, true] {
+        assert_eq!(rt; files.size("a").is_ok(), known);
+    }
+    assert_eq!(rt; files.asked(), 0);
+    Ok(())
+}
+
+// A listed call on a stream puts nothing, and what is left of a text is not put.
+#[test]
+fn listed_puts(rt: HostRuntime) -> Result<(), Fail> {
+    let mut sink = MemSink::with_room(rt.alloc(), 9)?;
+    sink.fail_put(2)?;
+    let pieces: [&[u8]; 3] = [b"one", b"two", b"three"];
+    assert!(rt; put_all(&mut sink, &pieces).is_err(), "the second piece");
+    assert_eq!(rt; sink.bytes(), b"one".as_slice());
+    assert!(rt; put_all(&mut sink, &pieces).is_err(), "nine bytes fit");
+    assert_eq!(rt; sink.bytes(), b"oneonetwo".as_slice());
     Ok(())
 }
