@@ -1,7 +1,5 @@
 -- Numbers that digits write.
 use Rattle.std.proofs.Common.{◌≡◌, inl, inr, ℕ, ◌+◌, ◌-◌, ◌*◌, ◌/◌, ◌%◌, ◌<◌, ◌≤◌, ◌==◌, nat_lt, min, true, false, if◌then◌else◌, List, [], ◌∷◌, length, get_or, slice_index, take, drop, refl, arith}
-use Rattle.std.proofs.lemmas.Bool.{cases_lt, lt-ltb, le-ltb, ne_eqb}
-use Rattle.las_run.specs.Lines.{decimal_below_100}
 use Rattle.std.specs.Char.{digit_value}
 use Rattle.std.specs.Str.{all_ascii_digits}
 use Rattle.std.specs.Str.Parse.{digits_value, AllDigits}
@@ -21,7 +19,7 @@ at_most_nine word i all within = (digit_at word i (digits word all) within).1
 value_of : (c : ℕ) → 48 ≤ c → c ≤ 57 → digit_value c ≡ c - 48
 value_of c low high = grind (arith, nat_tests)
 
--- one digit more, where all that is above 32 counts as 32
+-- one digit more, with 32 for every greater number
 pub next_digit : (word : List ℕ) (i number byte : ℕ) → all_ascii_digits word ≡ true → i < length word → byte ≡ get_or word i 0 → number ≡ min (digits_value 10 (take i word)) 32
     → min (10 * number + (byte - 48)) 32 ≡ min (digits_value 10 (take (i + 1) word)) 32
 next_digit word i number byte all within is so_far =
@@ -29,17 +27,3 @@ next_digit word i number byte all within is so_far =
     let digit = value_of (get_or word i 0) (at_least_zero word i all within) (at_most_nine word i all within) in
     let low = at_least_zero word i all within in
     omega (arith, more, digit, low, is, so_far)
-
--- two digits without a leading zero
-pub shown_digits : (n : ℕ) → (if slice_index ((48 + n / 10) ∷ (48 + n % 10) ∷ []) 0 == 48 then drop 1 ((48 + n / 10) ∷ (48 + n % 10) ∷ []) else (48 + n / 10) ∷ (48 + n % 10) ∷ []) ≡ decimal_below_100 n
-shown_digits n = elim (cases_lt n 10) [
-  | inl low ↦
-      let none : n / 10 ≡ 0 = omega arith in
-      let same : n % 10 ≡ n = omega arith in
-      let test : nat_lt n 10 ≡ true = lt-ltb n 10 low in
-      rw (test, none, same) refl
-  | inr high ↦
-      let some : (48 + n / 10 == 48) ≡ false = ne_eqb (48 + n / 10) 48 (λ e. let h : n / 10 ≡ 0 = omega (arith, e) in omega (arith, h, high)) in
-      let test : nat_lt n 10 ≡ false = le-ltb n 10 high in
-      rw (test, some) refl
-]

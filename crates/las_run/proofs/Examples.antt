@@ -1,8 +1,10 @@
 -- Worked values of the definitions.
 use Rattle.std.proofs.Common.{◌≡◌, [], ◌∷◌, ◌++◌, List, ℕ, codes, Some, None, refl}
-use Rattle.las_header.specs.declared.refusal.Refusal.TheVariants.{Trailing, Short}
+use Rattle.std.specs.Fmt.{digits}
+use Rattle.las_header.specs.declared.refusal.Refusal.TheVariants.{Trailing, BadChunk}
 use Rattle.las_run.specs.Words.{usage, faults_of, class_of_words}
-use Rattle.las_run.specs.Lines.{usage_line, read_fault_line, refused_line}
+use Rattle.las_run.specs.Endings.{Usage, Unread, Refused}
+use Rattle.las_run.specs.Lines.{line_of}
 use Rattle.las_run.specs.Outputs.{kept}
 
 abbrev keeping : List ℕ → List ℕ → List (List ℕ)
@@ -43,17 +45,24 @@ no_words : usage [] ≡ Some 0
 unfolding faults_of
 no_words = refl
 
-fifth : usage_line 5 ≡ codes "usage: word 5" ++ 10 ∷ []
+fifth : line_of (Usage 5) ≡ codes "usage: word 5" ++ 10 ∷ []
+unfolding digits
 fifth = refl
 
-missing : read_fault_line (codes "none.las") ≡ codes "read fault: none.las" ++ 10 ∷ []
+hundredth : line_of (Usage 100) ≡ codes "usage: word 100" ++ 10 ∷ []
+unfolding digits
+hundredth = refl
+
+missing : line_of (Unread (codes "none.las")) ≡ codes "read fault: none.las" ++ 10 ∷ []
 missing = refl
 
-too_long : refused_line (codes "a.las") Trailing ≡ codes "refused: a.las: 10 Trailing" ++ 10 ∷ []
+too_long : line_of (Refused (codes "a.las") Trailing) ≡ codes "refused: a.las: 10 Trailing" ++ 10 ∷ []
+unfolding digits
 too_long = refl
 
-too_short : refused_line (codes "a.las") Short ≡ codes "refused: a.las: 1 Short" ++ 10 ∷ []
-too_short = refl
+bad_chunk : line_of (Refused (codes "a.laz") (BadChunk 3)) ≡ codes "refused: a.laz: 21 BadChunk 3" ++ 10 ∷ []
+unfolding digits
+bad_chunk = refl
 
 -- a record whose classification byte is this
 abbrev classed : ℕ → List ℕ

@@ -3,5 +3,7 @@ pub mod Converting
 pub mod Digits
 pub mod Endings
 mod Examples
-pub mod Pieces
+pub mod Patching
+pub mod Running
 pub mod Selecting
+pub mod Writing

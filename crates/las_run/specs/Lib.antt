@@ -2,8 +2,12 @@ pub use Rattle.las_header.specs.Refusals
 pub use Rattle.las_outside.specs.Drafts
 pub use Rattle.las_outside.specs.Faults
 pub use Rattle.las_outside.specs.Files
+pub use Rattle.las_outside.specs.Outside
+pub use Rattle.las_outside.specs.Sinks
+pub mod Endings
+pub mod Ends
 pub mod Lines
 pub mod Outputs
-pub mod Run
-pub mod Stop
+pub mod Inputs
+pub mod Runs
 pub mod Words

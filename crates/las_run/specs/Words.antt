@@ -1,5 +1,5 @@
--- What the words of the command line ask for. The command is the first word; options follow, as in LAStools.
-use Rattle.std.specs.Prelude.{ℕ, Bool, not, ◌&&◌, ◌||◌, nat_eq, nat_lt, nat_le, if◌then◌else◌, List, [], ◌∷◌, length, map, codes, slice_index_or, Option, Some, None, String, string_bytes}
+-- What the words of the command line mean. The command is the first word; options follow, as in LAStools.
+use Rattle.std.specs.Prelude.{◌≡◌, ℕ, Bool, not, ◌&&◌, ◌||◌, nat_eq, nat_lt, nat_le, if◌then◌else◌, List, [], ◌∷◌, length, map, codes, slice_index_or, Option, Some, None, String, string_bytes}
 use Rattle.std.specs.declared.alloc.Global.{Global}
 use Rattle.std.specs.List.{ends_with}
 use Rattle.std.specs.Str.{bytes_eq, all_ascii_digits}
@@ -9,13 +9,17 @@ use Rattle.std.specs.Str.Parse.{digits_value}
 abbrev pub texts : List (String Global) → List (List ℕ)
 texts words = map string_bytes words
 
--- the word at an index, and no bytes where it is missing
+-- the word at an index, and no bytes if it is missing
 abbrev pub word_at : List (List ℕ) → ℕ → List ℕ
 word_at words i = slice_index_or words i []
 
 -- the name of the input
 abbrev pub input_of : List (List ℕ) → List ℕ
 input_of words = word_at words 2
+
+-- The words name this input.
+abbrev pub IsInput : List (List ℕ) → List ℕ → Type 0
+IsInput words name = name ≡ input_of words
 
 -- the name of the output
 abbrev pub output_of : List (List ℕ) → List ℕ
@@ -39,8 +43,8 @@ abbrev pub first_index : List (Bool × ℕ) → Option ℕ
 first_index [] = None
 first_index (c ∷ cs) = if c.0 then Some c.1 else first_index cs
 
--- What is wrong with the words, in order, each with the index of the word at fault: a word that is missing or not of
--- its form, then words behind the last, then an output that is the input or that would have to be packed.
+-- What may be wrong with the words, in order, each with the index of the word at fault: a word that is missing or not of
+-- its form, then words after the last, then an output that is the input or that would have to be packed.
 unfoldable pub faults_of : List (List ℕ) → List (Bool × ℕ)
 faults_of words =
     (not (bytes_eq (word_at words 0) (codes "las2las")), 0)
@@ -54,6 +58,6 @@ faults_of words =
     ∷ (bytes_eq (output_of words) (input_of words) || is_packed_name (output_of words), 4)
     ∷ []
 
--- the index of the first wrong word, or none, where the words are accepted
+-- the index of the first wrong word, or none if the words are accepted
 abbrev pub usage : List (List ℕ) → Option ℕ
 usage words = first_index (faults_of words)

@@ -1,56 +1,55 @@
 //! The output of a run.
-ghost use Rattle.std.specs.Prelude.{◌≡◌, ◌+◌, ◌≤◌, [], ◌∷◌, ◌++◌, length, OnOk, OnErr};
-ghost use Rattle.las_header.specs.Counting.{counts_bytes};
-ghost use Rattle.las_outside.specs.Faults.{Rose};
-ghost use Rattle.las_outside.specs.Files.{holding, patched};
-ghost use Rattle.las_outside.specs.Drafts.{LeavesUnfinished};
+ghost use Rattle.std.specs.Prelude.{◌≡◌, ◌⊎◌, ◌+◌, ◌≤◌, [], ◌∷◌, ◌++◌, ℕ, length, take, OnOk, OnErr};
+ghost use Rattle.las_outside.specs.Drafts.{StopsUnfinished, with_patches};
+ghost use Rattle.las_outside.specs.Outside.{Later, with_bytes, with_write_fault};
+ghost use Rattle.las_run.specs.Outputs.{counts_patches};
 
 use crate::select::Selection;
+use las_header::{COUNTS_AT, LONG_COUNTS_AT};
 use las_outside::{Failed, Files};
 
-/// Writes what was selected of a file: the head with no points counted, the records, and then the counts.
+// The minor version with a second set of counts.
+const LONG_COUNTS_MINOR: u8 = 4;
+
+/// Writes what was selected of a file: the head with no points counted, the records, and then the counts, for LAS 1.4
+/// both sets.
 pub fn write_selection<F: Files>(
     files: &mut F,
     name: &str,
     selection: &Selection,
 ) -> Result<(), Failed>
-    ensures written { OnOk result (F.held files.new ≡ holding (F.held files.old) name.now
-        (patched (selection.now.head.bytes ++ selection.now.records.items) 107 (counts_bytes selection.now.counts))) }
-    ensures stopped { OnErr result (LeavesUnfinished name.now (selection.now.head.bytes ++ selection.now.records.items)
-        ((107, counts_bytes selection.now.counts) ∷ []) (F.held files.old) (F.held files.new)) }
-    ensures failed { OnErr result (Rose (F.write_faults files.old) (F.write_faults files.new)) }
-    ensures reads { F.read_faults files.old ≤ F.read_faults files.new }
-    ensures writes { F.write_faults files.old ≤ F.write_faults files.new }
+    ensures ok { OnOk result (F.seen files.new ≡ with_bytes (F.seen files.old) name.now
+        (with_patches (selection.now.head.bytes ++ selection.now.records.items)
+        (counts_patches selection.now.head.bytes selection.now.counts))) }
+    ensures err { OnErr result (StopsUnfinished name.now (selection.now.head.bytes ++ selection.now.records.items)
+        (counts_patches selection.now.head.bytes selection.now.counts) (F.seen files.old) (F.seen files.new)) }
+    ensures later { Later (F.seen files.old) (F.seen files.new) }
 {
+    write_draft(files, name, selection.head.bytes(), &selection.records)?;
     let counts = selection.counts.to_bytes();
-    write_file(
-        files,
-        name,
-        selection.head.bytes(),
-        &selection.records,
-        &counts,
-    )
+    files.patch(name, COUNTS_AT as u64, &counts)?;
+    if selection.head.minor() != LONG_COUNTS_MINOR {
+        return Ok(());
+    }
+    let counts = selection.counts.to_long_bytes();
+    files.patch(name, LONG_COUNTS_AT as u64, &counts)
 }
 
-// Writes a file: its head and its records, and then a patch of the head.
-fn write_file<F: Files>(
+// Writes a file: its head and its records.
+fn write_draft<F: Files>(
     files: &mut F,
     name: &str,
     head: &[u8],
     records: &[u8],
-    patch: &[u8],
 ) -> Result<(), Failed>
-    requires { 107 + length patch.now ≤ length head.now }
-    ensures written { OnOk result (F.held files.new
-        ≡ holding (F.held files.old) name.now (patched (head.now ++ records.now) 107 patch.now)) }
-    ensures stopped { OnErr result (LeavesUnfinished name.now (head.now ++ records.now)
-        ((107, patch.now) ∷ []) (F.held files.old) (F.held files.new)) }
-    ensures failed { OnErr result (Rose (F.write_faults files.old) (F.write_faults files.new)) }
-    ensures reads { F.read_faults files.old ≤ F.read_faults files.new }
-    ensures writes { F.write_faults files.old ≤ F.write_faults files.new }
+    ensures ok { OnOk result
+        (F.seen files.new ≡ with_bytes (F.seen files.old) name.now (head.now ++ records.now)) }
+    ensures err { OnErr result ((F.seen files.new ≡ with_write_fault (F.seen files.old))
+        ⊎ ((n : ℕ) × (F.seen files.new
+        ≡ with_write_fault (with_bytes (F.seen files.old) name.now (take n (head.now ++ records.now)))))) }
+    ensures later { Later (F.seen files.old) (F.seen files.new) }
 {
     files.create(name)?;
     files.append(name, head)?;
-    files.append(name, records)?;
-    files.patch(name, 107, patch)
+    files.append(name, records)
 }

@@ -1,81 +1,147 @@
-//! The line on standard error.
-ghost use Rattle.std.specs.Prelude.{◌≡◌, ◌+◌, ◌/◌, ◌%◌, ◌<◌, ◌≤◌, ◌==◌, if◌then◌else◌, [], ◌∷◌, map, drop, slice_index};
-ghost use Rattle.std.specs.List.{concat};
-ghost use Rattle.las_run.specs.Stop.{IsShort, stop_line};
-ghost use Rattle.las_run.specs.Lines.{Puts, refused_line};
+//! The line on standard error, and the exit status.
+ghost use Rattle.std.specs.Prelude.{◌≡◌, ◌≤◌, ℕ, List};
+ghost use Rattle.las_outside.specs.Sinks.{Puts};
+ghost use Rattle.las_run.specs.Endings.{status_of, Refused};
+ghost use Rattle.las_run.specs.Ends.{cause_of};
+ghost use Rattle.las_run.specs.Lines.{line_of, number_in};
+ghost use Rattle.las_run.specs.Words.{texts};
 
 use crate::stop::Stop;
+use crate::words::word;
+use itoa::Buffer;
 use las_header::Refusal;
-use las_outside::Sink;
+use las_outside::{Failed, Sink, put_all};
 
-/// Puts the line of a run that stops on standard error, in pieces.
-pub fn report<E: Sink>(err: &mut E, input: &str, stop: &Stop)
-    requires { IsShort stop.now }
-    ensures line { Puts (stop_line input.now stop.now) (E.written err.old) (E.written err.new)
-        (E.faults err.old) (E.faults err.new) }
+/// The exit status of a run.
+pub fn status(outcome: &Result<(), Stop>) -> u8
+    ensures status { (words : List (List ℕ)) → result ≡ status_of (cause_of words outcome.now) }
+    ensures known { result ≤ 5 }
 {
+    match outcome {
+        Ok(()) => 0,
+        Err(Stop::Memory) => 1,
+        Err(Stop::Usage(_)) => 2,
+        Err(Stop::Read(_)) => 3,
+        Err(Stop::Write) => 4,
+        Err(Stop::Refused(..)) => 5,
+    }
+}
+
+/// Puts the line of a run on standard error, in pieces: none if all is done. It takes no memory.
+pub fn report<E: Sink>(
+    err: &mut E,
+    words: &[String],
+    outcome: &Result<(), Stop>,
+) -> Result<(), Failed>
+    ensures line { Puts (line_of (cause_of (texts words.now) outcome.now)) (E.seen err.old) (E.seen err.new) }
+{
+    match outcome {
+        Ok(()) => Ok(()),
+        Err(stop) => put_stop(err, words, stop),
+    }
+}
+
+// Puts the line of a run that stops.
+fn put_stop<E: Sink>(err: &mut E, words: &[String], stop: &Stop) -> Result<(), Failed>
+    ensures line { Puts (line_of (cause_of (texts words.now) (Err stop.now))) (E.seen err.old) (E.seen err.new) }
+{
+    let mut digits = Buffer::new();
     match stop {
         Stop::Memory => put_all(err, &[b"no memory", b"\n"]),
         Stop::Usage(index) => {
-            let digits = digits_of(*index);
-            put_all(err, &[b"usage: word ", shown(&digits), b"\n"]);
+            let index = digits.format(*index).as_bytes();
+            put_all(err, &[b"usage: word ", index, b"\n"])
         }
-        Stop::Read => put_all(err, &[b"read fault: ", input.as_bytes(), b"\n"]),
+        Stop::Read(input) => {
+            let name = word(words, *input).as_bytes();
+            put_all(err, &[b"read fault: ", name, b"\n"])
+        }
         Stop::Write => put_all(err, &[b"write fault", b"\n"]),
-        Stop::Refused(cause) => put_refusal(err, input, cause),
+        Stop::Refused(input, cause) => put_refusal(err, word(words, *input), cause),
     }
 }
 
 // Puts the line of a refused input.
-fn put_refusal<E: Sink>(err: &mut E, input: &str, cause: &Refusal)
-    ensures line { Puts (refused_line input.now cause.now) (E.written err.old) (E.written err.new)
-        (E.faults err.old) (E.faults err.new) }
+fn put_refusal<E: Sink>(err: &mut E, name: &str, cause: &Refusal) -> Result<(), Failed>
+    ensures line { Puts (line_of (Refused name.now cause.now)) (E.seen err.old) (E.seen err.new) }
 {
-    let digits = digits_of(usize::from(cause.number()));
-    let name = cause.name().as_bytes();
-    put_all(
-        err,
-        &[
-            b"refused: ",
-            input.as_bytes(),
-            b": ",
-            shown(&digits),
-            b" ",
-            name,
-            b"\n",
-        ],
-    );
-}
-
-// The two decimal digits of a number below 100.
-fn digits_of(number: usize) -> [u8; 2]
-    requires { number < 100 }
-    ensures { result ≡ (48 + number / 10) ∷ (48 + number % 10) ∷ [] }
-{
-    [b'0' + (number / 10) as u8, b'0' + (number % 10) as u8]
-}
-
-// Two digits without a leading zero.
-fn shown(digits: &[u8; 2]) -> &[u8]
-    ensures { result.now ≡ (if slice_index digits.now 0 == 48 then drop 1 digits.now else digits.now) }
-{
-    if digits[0] == b'0' {
-        &digits[1..]
-    } else {
-        digits
+    let name = name.as_bytes();
+    let mut digits = Buffer::new();
+    let number = digits.format(cause.number()).as_bytes();
+    let said = cause.name().as_bytes();
+    match carried(cause) {
+        None => put_all(err, &[b"refused: ", name, b": ", number, b" ", said, b"\n"]),
+        Some(count) => {
+            let mut digits = Buffer::new();
+            let count = digits.format(count).as_bytes();
+            put_all(
+                err,
+                &[
+                    b"refused: ",
+                    name,
+                    b": ",
+                    number,
+                    b" ",
+                    said,
+                    b" ",
+                    count,
+                    b"\n",
+                ],
+            )
+        }
     }
 }
 
-// Puts pieces one after another, up to the first that fails.
-fn put_all<E: Sink>(err: &mut E, pieces: &[&[u8]])
-    ensures line { Puts (concat (map (λ piece. piece.now) pieces.now)) (E.written err.old) (E.written err.new)
-        (E.faults err.old) (E.faults err.new) }
-    ensures counts { E.faults err.old ≤ E.faults err.new }
+// The number that a refusal carries.
+fn carried(cause: &Refusal) -> Option<u64>
+    ensures { result ≡ number_in cause.now }
 {
-    for piece in pieces {
-        match err.put(piece) {
-            Ok(()) => {}
-            Err(_) => return,
+    match cause {
+        Refusal::BadChunk(chunk) => Some(u64::from(*chunk)),
+        Refusal::RawRange(record) => Some(*record),
+        _ => None,
+    }
+}
+
+#[cfg(test)]
+mod tests {
+    use super::*;
+    use las_outside::MemSink;
+    use std::test::Fail;
+
+    // Every line, with numbers of any length.
+    #[test]
+    fn lines(rt: HostRuntime) -> Result<(), Fail> {
+        let words = vec![in rt.alloc(); String::from_str(rt.alloc(), "a.laz")?]?;
+        let lines = [
+            (Stop::Memory, "no memory\n"),
+            (Stop::Usage(7), "usage: word 7\n"),
+            (Stop::Usage(100), "usage: word 100\n"),
+            (Stop::Usage(12345), "usage: word 12345\n"),
+            (Stop::Read(0), "read fault: a.laz\n"),
+            (Stop::Write, "write fault\n"),
+            (
+                Stop::Refused(0, Refusal::Short),
+                "refused: a.laz: 1 Short\n",
+            ),
+            (
+                Stop::Refused(0, Refusal::PointCounts),
+                "refused: a.laz: 26 PointCounts\n",
+            ),
+            (
+                Stop::Refused(0, Refusal::BadChunk(3)),
+                "refused: a.laz: 21 BadChunk 3\n",
+            ),
+            (
+                Stop::Refused(0, Refusal::RawRange(4294967296)),
+                "refused: a.laz: 22 RawRange 4294967296\n",
+            ),
+        ];
+        for (stop, line) in lines {
+            let mut err = MemSink::with_room(rt.alloc(), 100)?;
+            report(&mut err, &words, &Err(stop))?;
+            assert_eq!(rt; err.bytes(), line.as_bytes());
         }
+        Ok(())
     }
 }

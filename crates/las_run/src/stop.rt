@@ -2,7 +2,7 @@
 use las_header::Refusal;
 use std::alloc::AllocError;
 
-/// Why a run ends before its work is done.
+/// Why a run ends before its work is done. An input is given by the index of the word that names it.
 #[derive(Clone, Copy, Debug, PartialEq, Eq)]
 pub enum Stop {
     /// There is not enough memory.
@@ -10,11 +10,11 @@ pub enum Stop {
     /// The word of this index is wrong.
     Usage(usize),
     /// The input could not be read.
-    Read,
+    Read(usize),
     /// The output could not be written.
     Write,
     /// The input is not a file that is read here.
-    Refused(Refusal),
+    Refused(usize, Refusal),
 }
 
 impl From<AllocError> for Stop {

@@ -4,7 +4,16 @@ ghost use Rattle.std.specs.Str.{all_ascii_digits, bytes_eq};
 ghost use Rattle.std.specs.Str.Parse.{digits_value};
 ghost use Rattle.las_run.specs.Words.{texts, word_at, is_class, is_packed_name, first_index, usage};
 
-/// The word at an index, and an empty one where it is missing.
+/// The index of the word that names the input.
+pub const INPUT: usize = 2;
+
+/// The index of the word that names the output.
+pub const OUTPUT: usize = 4;
+
+/// The index of the word that says which class is kept.
+pub const CLASS: usize = 6;
+
+/// The word at an index, and an empty one if it is missing.
 pub fn word(words: &[String], index: usize) -> &str
     ensures { result.now ≡ word_at (texts words.now) index }
 {
@@ -14,7 +23,7 @@ pub fn word(words: &[String], index: usize) -> &str
     }
 }
 
-/// The index of the first wrong word, where the words ask for nothing that is done here.
+/// The index of the first wrong word, or `None` if the words are accepted.
 #[tactic(auto, unfolding(crate::specs::Words::faults_of))]
 pub fn wrong_word(words: &[String]) -> Option<usize>
     ensures { result ≡ usage (texts words.now) }
@@ -68,7 +77,7 @@ fn all_digits(word: &[u8]) -> bool
     true
 }
 
-// The number that digits write, or 32 where it is greater.
+// The number that digits write, or 32 if it is greater.
 fn number(word: &[u8]) -> u16
     requires { IsTrue (all_ascii_digits word.now) }
     ensures { result ≡ min (digits_value 10 word.now) 32 }

@@ -1,55 +1,55 @@
-use Rattle.std.proofs.Common.{◌≡◌, ◌+◌, ◌-◌, ◌*◌, ◌≤◌, ◌++◌, ℕ, List, [], length, take, drop, refl, sym, ◌∙◌, ap, arith, rules}
-use Rattle.std.proofs.lemmas.List.{length-drop, length-take-le}
-use Rattle.las_run.proofs.Selecting.{keeping_none, keep_one, skip_one, kept_counts, kept_bytes, take-moved, drop-moved, length-moved, behind_next}
+use Rattle.std.proofs.Common.{◌≡◌, ◌+◌, ◌-◌, ◌*◌, ◌≤◌, ◌<◌, ◌++◌, ℕ, List, [], length, take, drop, refl, sym, ◌∙◌, ap, arith, rules}
+use Rattle.std.proofs.lemmas.List.{length-drop, length-take-le, drop-drop}
+use Rattle.las_run.proofs.Selecting.{keeping_none, keep_one, skip_one, kept_counts, kept_bytes, countable, length_record, take-moved, drop-moved, length-moved}
 use Rattle.las_run.proofs.select.keep.Goals as goal
 use Rattle.las_run.proofs.select.keep.Goals.{then-class-wanted, else-class-wanted}
 
 pub loop-turn-init : goal.loop-turn-init
 loop-turn-init c = record {
-  so_far = keeping_none c.args.wanted c.args.points (drop 227 c.args.file.now) _ [] (omega (arith, c.requires, length-drop 227 c.args.file.now)) refl (search rules) refl;
-  size = omega arith;
+  so_far = keeping_none c.args.wanted c.args.size c.args.points (drop c.args.offset c.args.file.now) _ [] (omega (arith, c.requires.whole, length-drop c.args.offset c.args.file.now)) refl (search rules) refl;
+  before = omega arith;
+  within = omega (arith, c.requires.whole);
   shape = refl;
 }
 
 -- the slice of the next record
-record_is : (file : List ℕ) (at : ℕ) → take (at + 20 - at) (drop at file) ≡ take 20 (drop at file)
-record_is file at = let size : at + 20 - at ≡ 20 = omega arith in ap (λ (n : ℕ). take n (drop at file)) size
+record_is : (file : List ℕ) (at size : ℕ) → take (at + size - at) (drop at file) ≡ take size (drop at file)
+record_is file at size = let same : at + size - at ≡ size = omega arith in ap (λ (n : ℕ). take n (drop at file)) same
 
 pub loop-turn-preserved : goal.loop-turn-preserved
 loop-turn-preserved c =
     let l = c.loop-turn in
     let file = l.file in
-    let at = 227 + 20 * l.turn in
-    let point = take (at + 20 - at) (drop at file) in
-    let is : point ≡ take 20 (drop at file) = record_is file at in
-    let all = drop 227 c.args.file.now in
+    let at = l.at in
+    let size = c.args.size in
+    let point = take (at + size - at) (drop at file) in
+    let is : point ≡ take size (drop at file) = record_is file at size in
+    let all = drop c.args.offset c.args.file.now in
     let rest = drop at file in
+    let so_far = l.invariant.so_far in
+    let lt = c.loop-turn-test.true in
+    let long : size ≤ length rest = length_record c.args.wanted size c.args.points l._turn all rest l.counts (take l.end file) so_far lt in
+    let left : length rest ≡ length file - at = length-drop at file in
     elim c.if-class-wanted.branch [
       | then-class-wanted w ↦
-          let size : length (take 20 (drop at file)) ≡ 20 = length-take-le 20 (drop at file) (omega (arith, l.invariant.shape, c.requires, length-drop at file, c.loop-turn-test.true)) in
-          let within : l.end + 20 ≤ length file = omega (arith, l.invariant.shape, l.invariant.size, c.requires, c.loop-turn-test.true) in
+          let sized : length (take size rest) ≡ size = length-take-le size rest long in
+          let within : l.end + size ≤ length file = omega (arith, l.invariant.before, l.invariant.within, c.requires.room) in
           let moved = w.move_record.ensures in
-          let behind = ap (λ (f : List ℕ). drop (227 + 20 * (l.turn + 1)) f) moved ∙ drop-moved file (take 20 (drop at file)) l.end size within (227 + 20 * (l.turn + 1)) (omega (arith, l.invariant.size)) ∙ behind_next file l.turn in
-          let added = ap (λ (f : List ℕ). take (l.end + 20) f) moved ∙ take-moved file (take 20 (drop at file)) l.end size within ∙ ap (λ (t : List ℕ). take l.end file ++ t) (sym is) in
+          let after = ap (λ (f : List ℕ). drop (at + size) f) moved ∙ drop-moved file (take size rest) l.end size sized within (at + size) (omega (arith, l.invariant.before)) ∙ sym (drop-drop size at file) in
+          let added = ap (λ (f : List ℕ). take (l.end + size) f) moved ∙ take-moved file (take size rest) l.end size sized within ∙ ap (λ (t : List ℕ). take l.end file ++ t) (sym is) in
+          let same_size = ap length moved ∙ length-moved file (take size rest) l.end size sized within in
           rw (w.file-is, w.counts-is, w.end-is) (record {
-            so_far = keep_one c.args.wanted c.args.points l.turn all rest l.counts (take l.end file) l.invariant.so_far point (drop (227 + 20 * (l.turn + 1)) w.move_record.new.file) w.count_in.new.counts (take (l.end + 20) w.move_record.new.file) c.loop-turn-test.true is behind (sym c.class.ensures ∙ w.if-class-wanted.true)
+            so_far = keep_one c.args.wanted size c.args.points l._turn all rest l.counts (take l.end file) so_far point (drop (at + size) w.move_record.new.file) w.count_in.new.counts (take (l.end + size) w.move_record.new.file) lt is after (sym c.class.ensures ∙ w.if-class-wanted.true)
                 w.count_in.ensures.list w.count_in.ensures.within added;
-            size = omega (arith, l.invariant.size);
-            shape = ap length moved ∙ length-moved file (take 20 (drop at file)) l.end size within ∙ l.invariant.shape;
+            before = omega (arith, l.invariant.before);
+            within = omega (arith, same_size, long, left, l.invariant.within);
+            shape = same_size ∙ l.invariant.shape;
           })
       | else-class-wanted w ↦
           rw (w.file-is, w.counts-is, w.end-is) (record {
-            so_far = skip_one c.args.wanted c.args.points l.turn all rest l.counts (take l.end file) l.invariant.so_far point (drop (227 + 20 * (l.turn + 1)) file) c.loop-turn-test.true is (behind_next file l.turn) (λ same. w.if-class-wanted.false (c.class.ensures ∙ same));
-            size = omega (arith, l.invariant.size);
+            so_far = skip_one c.args.wanted size c.args.points l._turn all rest l.counts (take l.end file) so_far point (drop (at + size) file) lt is (sym (drop-drop size at file)) (λ same. w.if-class-wanted.false (c.class.ensures ∙ same));
+            before = omega (arith, l.invariant.before);
+            within = omega (arith, long, left, l.invariant.within);
             shape = l.invariant.shape;
           })
     ]
-
-pub shape_of-file : goal.shape_of-file
-shape_of-file c = c.loop-turn.invariant.shape
-
-pub returns-clause-records : goal.returns-clause-records
-returns-clause-records c = kept_bytes _ _ _ _ _ _ _ c.loop-turn.invariant.so_far c.loop-turn-test.false
-
-pub returns-clause-counts : goal.returns-clause-counts
-returns-clause-counts c = kept_counts _ _ _ _ _ _ _ c.loop-turn.invariant.so_far c.loop-turn-test.false

@@ -1,0 +1,80 @@
+-- How a run ends: for which cause, with which outputs and which text; the files that this leaves, and its status.
+use Rattle.std.specs.Prelude.{◌≡◌, ℕ, List, [], ◌∷◌, take, map}
+use Rattle.std.specs.FinMap as finmap
+use Rattle.las_header.specs.declared.refusal.Refusal.{Refusal}
+use Rattle.las_outside.specs.Files.{FileMap}
+use Rattle.las_outside.specs.Drafts.{Patch, with_patches, IsUnfinished}
+
+-- An output of a run: its name, its draft, the patches of the draft in order, and how many bytes of the draft are there
+-- after a refusal ended the run.
+pub record Output : Type 0 where
+  pub name : List ℕ
+  pub draft : List ℕ
+  pub patches : List Patch
+  pub stop : ℕ
+
+-- Why a run ends: all is done; memory is short; the word of this index is wrong; the input of this name is not held or
+-- could not be read; an output could not be written; or the input of this name is refused.
+pub data Cause : Type 0 where
+  Done : Cause
+  Memory : Cause
+  Usage : ℕ → Cause
+  Unread : List ℕ → Cause
+  Unwritten : Cause
+  Refused : List ℕ → Refusal → Cause
+
+-- the exit status for each cause
+abbrev pub status_of : Cause → ℕ
+status_of Done = 0
+status_of Memory = 1
+status_of (Usage _) = 2
+status_of (Unread _) = 3
+status_of Unwritten = 4
+status_of (Refused _ _) = 5
+
+-- An ending: its cause, the outputs in the order in which they are created, and the text on standard output.
+pub record Ending : Type 0 where
+  pub cause : Cause
+  pub outputs : List Output
+  pub text : List ℕ
+
+-- an ending that creates no output and puts no text
+abbrev pub ends_at_once : Cause → Ending
+ends_at_once cause = record { cause = cause; outputs = []; text = [] }
+
+-- names with bytes put into files, one after another
+abbrev pub with_all : FileMap → List (List ℕ × List ℕ) → FileMap
+with_all files [] = files
+with_all files (p ∷ ps) = with_all (finmap.insert files p.0 p.1) ps
+
+-- the name and the bytes of an output at the end: finished if all is done, and else the front of its draft
+abbrev pub at_end : Cause → Output → List ℕ × List ℕ
+at_end Done output = (output.name, with_patches output.draft output.patches)
+at_end Memory output = (output.name, take output.stop output.draft)
+at_end (Usage _) output = (output.name, take output.stop output.draft)
+at_end (Unread _) output = (output.name, take output.stop output.draft)
+at_end Unwritten output = (output.name, take output.stop output.draft)
+at_end (Refused _ _) output = (output.name, take output.stop output.draft)
+
+-- the files at an ending
+abbrev pub files_of : Ending → FileMap → FileMap
+files_of ending files = with_all files (map (at_end ending.cause) ending.outputs)
+
+-- these texts are the outputs', each of them unfinished
+abbrev pub AreUnfinished : List Output → List (List ℕ) → Type 0
+AreUnfinished [] [] = Unit {0}
+AreUnfinished [] (t ∷ ts) = ⊥
+AreUnfinished (o ∷ os) [] = ⊥
+AreUnfinished (o ∷ os) (t ∷ ts) = IsUnfinished o.draft o.patches t × AreUnfinished os ts
+
+-- outputs' names with texts
+abbrev pub named : List Output → List (List ℕ) → List (List ℕ × List ℕ)
+named [] ts = []
+named (o ∷ os) [] = []
+named (o ∷ os) (t ∷ ts) = (o.name, t) ∷ named os ts
+
+-- What a run leaves of files whatever ended it: the first of the outputs were created, each is a prefix of its draft or
+-- its draft after some of its patches, and every other name is as before.
+abbrev pub IsLeft : List Output → FileMap → FileMap → Type 0
+IsLeft outputs files now =
+    (k : ℕ) × (texts : List (List ℕ)) × AreUnfinished (take k outputs) texts × (now ≡ with_all files (named (take k outputs) texts))
