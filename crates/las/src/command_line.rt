@@ -4,7 +4,7 @@ use std::alloc::Global;
 use std::env::{self, Env, FillError};
 use std::{io, str};
 
-// The words of the system, with a word that is no UTF-8 as an empty one.
+// The words of the system, with a word that is not UTF-8 as an empty one.
 #[derive(Drop)]
 struct TextWords<'a, R>(&'a R);
 
@@ -26,7 +26,7 @@ impl<R: Env> Env for TextWords<'_, R> {
     }
 }
 
-/// The words behind the program's name. One that is not UTF-8 is an empty word. The only error is want of memory.
+/// The words after the program's name. One that is not UTF-8 is an empty word. The only error is out of memory.
 pub fn text_words<R: Env>(rt: &R, alloc: Global) -> io::Result<Vec<String>> {
     let mut words = Vec::new(alloc);
     for word in env::args(&(TextWords(rt), alloc))?.skip(1) {

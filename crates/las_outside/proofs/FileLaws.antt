@@ -1,5 +1,5 @@
 -- What an output holds after the calls that write it.
-use Rattle.std.proofs.Common.{◌≡◌, inl, inr, ℕ, List, [], take, cond, Option, Some, None, IsSomeAnd, unwrap_or, refl, sym, ◌∙◌, ap, subst}
+use Rattle.std.proofs.Common.{◌≡◌, inl, inr, ℕ, List, [], cond, Option, Some, None, IsSomeAnd, unwrap_or, refl, sym, ◌∙◌, ap, subst}
 use Rattle.std.specs.FinMap as map
 use Rattle.las_outside.specs.Files.{FileMap, WhereKnown, bytes_of, with_file}
 use Rattle.las_outside.specs.Outside.{Outside, with_bytes, with_write_fault}

@@ -2,7 +2,7 @@
 use Rattle.std.proofs.Common.{◌≡◌, ℕ, ◌-◌, ◌<◌, ◌≤◌, min, Bool, true, false, if◌then◌else◌, List, [], ◌++◌, length, take, Option, Some, None, IsSome, IsSomeAnd, Result, Ok, Err, OnErr, unwrap_or, refl, sym, ◌∙◌, ap, subst, arith}
 use Rattle.std.proofs.lemmas.List.{take_min}
 
--- as many bytes as fit behind the old ones
+-- as many bytes as fit after the old ones
 pub bytes_after_append : (held : Bool) (old new bytes : List ℕ) (seen : Option (List ℕ)) (room : ℕ) → (if held then Some old else None) ≡ seen → IsSome seen → new ≡ old ++ take (min (room - length old) (length bytes)) bytes
     → (if held then Some new else None) ≡ Some (unwrap_or seen [] ++ take (room - length (unwrap_or seen [])) bytes)
 bytes_after_append true old new bytes seen room is some made =

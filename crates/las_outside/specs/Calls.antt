@@ -56,7 +56,7 @@ keep_of (listed ∷ others) call = if listed.0 == call then Some listed.1 else k
 abbrev pub next_keep : Calls → Option ℕ
 next_keep calls = keep_of calls.failing_writes (next_call calls.writes)
 
--- how many bytes of a write are kept, if so many fit: all that fit, or those that a listed call keeps
+-- how many bytes of a write are kept, if this many fit: all that fit, or at most those that a listed call keeps
 abbrev pub kept_of : Option ℕ → ℕ → ℕ
 kept_of None fits = fits
 kept_of (Some keep) fits = min keep fits

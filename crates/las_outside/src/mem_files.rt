@@ -136,7 +136,7 @@ impl MemFiles {
     }
 
     /// Lists a call that writes, which fails then. The calls of `create`, `append` and `patch` are numbered together,
-    /// from 1. Of the bytes of the call the first `keep` are kept, if there are so many and they fit the room; of a call
+    /// from 1. Of the bytes of the call the first `keep` are kept, if it has that many and they fit the room; of a call
     /// that is listed twice, the last `keep` counts. If memory is short, all is as before.
     pub fn fail_write(&mut self, call: u64, keep: usize) -> Result<(), AllocError>
         ensures ok { OnOk result (self.new ≡ record self.old {

@@ -1,14 +1,14 @@
 -- What is known of a file from what was read of its front and its head.
-use Rattle.std.proofs.Common.{◌≡◌, ℕ, ◌≤◌, ◌+◌, ◌-◌, ◌*◌, ◌==◌, nat_lt, ltb-false, Bool, true, false, cond, not, ◌&&◌, ◌||◌, List, [], ◌∷◌, ◌++◌, length, take, drop, slice_index, Option, Some, None, Result, Ok, Err, refl, sym, ◌∙◌, ap, subst, arith}
+use Rattle.std.proofs.Common.{◌≡◌, ℕ, ◌≤◌, ◌+◌, ◌-◌, ◌*◌, ◌==◌, nat_lt, ltb-false, Bool, true, false, cond, not, ◌&&◌, List, [], ◌∷◌, length, take, drop, Option, Some, None, Result, Ok, Err, refl, sym, ◌∙◌, ap, subst, arith}
 use Rattle.std.proofs.lemmas.Bool.{eqb-true}
-use Rattle.std.proofs.lemmas.List.{take-take, take_all, length-take-le, length-drop, get_or-take}
+use Rattle.std.proofs.lemmas.List.{take-take, length-take-le, get_or-take}
 use Rattle.las_header.specs.declared.refusal.Refusal.{Refusal}
 use Rattle.las_header.specs.declared.refusal.Refusal.TheVariants as cause
 use Rattle.las_header.specs.declared.limits.TheConstants.{HEADER_BLOCK}
-use Rattle.las_header.specs.Fields.{head_of, is_packed, format_of, minor_of, header_size_of, least_header_size, point_offset_of, record_length_of, points_of, short_points_of, long_points_of, has_long_counts}
+use Rattle.las_header.specs.Fields.{head_of, is_packed, minor_of, header_size_of, least_header_size, point_offset_of, record_length_of, points_of, short_points_of, long_points_of, has_long_counts}
 use Rattle.las_header.specs.Heads.{HeadView}
-use Rattle.las_header.specs.Plain.{plain_head, plain_of, without_first, cut_records, records_of}
-use Rattle.las_header.specs.Refusals.{first_cause, front_causes, head_causes, causes_of, counted_size, or_else, ends_early, goes_on}
+use Rattle.las_header.specs.Plain.{plain_head, without_first, cut_records, records_of}
+use Rattle.las_header.specs.Refusals.{first_cause, front_causes, head_causes, causes_of, counted_size, or_else}
 use Rattle.las_header.specs.Vlrs.{laszip_vlrs_of}
 use Rattle.las_header.proofs.NumberLemmas.{number_at-take}
 use Rattle.las_header.proofs.CauseLemmas.{first_of_both, front_decides, IsFront, accepted_front, IsAcceptedHead, accepted_head}

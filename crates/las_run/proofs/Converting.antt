@@ -1,10 +1,8 @@
 -- From the parts of a run to the cause for which it ends.
-use Rattle.std.proofs.Common.{◌≡◌, ◌≢◌, ◌⊎◌, inl, inr, ℕ, zero, suc, ◌+◌, ◌<◌, ◌≤◌, ◌==◌, lit<, get_or, Bool, true, false, cond, not, List, [], ◌∷◌, ◌++◌, length, take, drop, Option, Some, None, IsSomeAnd, Result, Ok, Err, refl, sym, ◌∙◌, ap, subst, append_assoc, length-append, arith}
+use Rattle.std.proofs.Common.{◌≡◌, inl, inr, ℕ, zero, suc, ◌<◌, ◌≤◌, ◌==◌, lit<, get_or, Bool, true, false, cond, not, List, [], ◌∷◌, ◌++◌, length, Option, Some, None, IsSomeAnd, Err, refl, sym, ◌∙◌, ap, subst, arith}
 use Rattle.std.specs.FinMap as map
 use Rattle.std.specs.List.{concat, splice}
-use Rattle.std.proofs.lemmas.List.{take_at, drop_at, length-take-le}
 use Rattle.las_header.specs.declared.counts.Counts.{Counts}
-use Rattle.las_header.specs.declared.refusal.Refusal.{Refusal}
 use Rattle.las_header.specs.Counting.{short_bytes, long_bytes, counts_bytes, long_counts_bytes, with_counts}
 use Rattle.las_header.specs.Fields.{head_of, has_long_counts, minor_of, point_offset_of}
 use Rattle.las_header.proofs.NumberLemmas.{slice_index-splice, length-splice}
@@ -12,16 +10,15 @@ use Rattle.las_header.specs.Plain.{plain_head}
 use Rattle.las_run.specs.Inputs.{refusal_of}
 use Rattle.las_points.specs.Tally.{counts_of}
 use Rattle.las_outside.specs.Faults.{Rose}
-use Rattle.las_outside.specs.Files.{FileMap, WhereKnown, IsMissing, with_file, with_patch}
-use Rattle.las_outside.specs.Drafts.{Patch, with_patches, IsUnfinished, StopsUnfinished}
-use Rattle.las_outside.specs.Outside.{Outside, with_bytes, with_write_fault}
+use Rattle.las_outside.specs.Files.{FileMap, WhereKnown, IsMissing, with_file}
+use Rattle.las_outside.specs.Drafts.{Patch, with_patches, StopsUnfinished}
+use Rattle.las_outside.specs.Outside.{Outside, with_bytes}
 use Rattle.las_outside.specs.Sinks.{SinkView}
 use Rattle.las_outside.proofs.Texts.{with_more-none}
 use Rattle.las_run.specs.declared.stop.Stop.{Stop}
-use Rattle.las_run.specs.declared.stop.Stop.TheVariants as stop
-use Rattle.las_run.specs.Outputs.{kept_of, output_for, draft_for, patches_for, output_of_kept, counts_patches, IsFinishedOutput}
+use Rattle.las_run.specs.Outputs.{kept_of, draft_for, patches_for, output_of_kept, counts_patches, IsFinishedOutput}
 use Rattle.las_run.specs.Words.{word_at, usage, faults_of, first_index, is_class, input_of, output_of, class_of_words}
-use Rattle.las_run.specs.Endings.{Output, Cause, Done, Memory, Usage, Unread, Unwritten, Refused, Ending, ends_at_once, IsLeft}
+use Rattle.las_run.specs.Endings.{Done, Usage, Unread, Unwritten, Refused, Ending, IsLeft}
 use Rattle.las_run.specs.Ends.{quiet, EndsAs, IsLeftBy, HasOutput, Ends, cause_of, IsUnread, IsRefused}
 use Rattle.las_run.specs.Runs.{Run}
 use Rattle.las_run.proofs.Accepting.{plain_file, plain_is, fields_of}

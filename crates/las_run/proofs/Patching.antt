@@ -3,7 +3,7 @@ use Rattle.std.proofs.Common.{◌≡◌, ℕ, ◌+◌, ◌≤◌, Bool, true, fa
 use Rattle.std.specs.List.{splice}
 use Rattle.std.proofs.lemmas.List.{take_at, drop_at, take-append-drop, length-take-le, length-drop}
 use Rattle.las_outside.specs.Files.{with_patch}
-use Rattle.las_outside.specs.Drafts.{Patch, with_patches}
+use Rattle.las_outside.specs.Drafts.{with_patches}
 
 -- a patch of just one part
 pub patch_part : (before old new after : List ℕ) (at : ℕ) → length before ≡ at → length old ≡ length new → with_patch (before ++ (old ++ after)) at new ≡ before ++ (new ++ after)

@@ -1,10 +1,10 @@
 -- The one ending of words and files.
-use Rattle.std.proofs.Common.{◌≡◌, ◌≢◌, ℕ, List, [], ◌∷◌, Option, Some, None, refl, sym, ◌∙◌, ap, subst, arith}
+use Rattle.std.proofs.Common.{◌≡◌, ◌≢◌, ℕ, List, [], ◌∷◌, Option, Some, None, refl, sym, ◌∙◌, ap, subst}
 use Rattle.std.specs.FinMap as finmap
 use Rattle.las_header.specs.declared.refusal.Refusal.{Refusal}
 use Rattle.las_run.specs.Inputs.{refusal_of}
 use Rattle.las_outside.specs.Files.{FileMap}
-use Rattle.las_run.specs.Endings.{Output, Cause, Done, Usage, Unread, Refused, Ending, ends_at_once, status_of}
+use Rattle.las_run.specs.Endings.{Done, Usage, Unread, Refused, Ending, ends_at_once, status_of}
 use Rattle.las_run.specs.Outputs.{output_of_kept}
 use Rattle.las_run.specs.Runs.{Run, RunOf, Opens, Accepts, Keeps, IsOneEnding, HasEnding}
 use Rattle.las_run.specs.Words.{usage, input_of, output_of, class_of_words}

@@ -1,6 +1,6 @@
 -- What a run says of the cause for which it ended. Each tool says it of its own endings, and the clauses of the top call
 -- follow from it for all tools.
-use Rattle.std.specs.Prelude.{◌≡◌, ◌≢◌, ◌⊎◌, ℕ, List, [], take, Option, Some, Result, Ok, Err}
+use Rattle.std.specs.Prelude.{◌≡◌, ◌≢◌, ◌⊎◌, ℕ, List, [], Some, Result, Ok, Err}
 use Rattle.las_header.specs.declared.refusal.Refusal.{Refusal}
 use Rattle.las_run.specs.Inputs.{refusal_of}
 use Rattle.las_outside.specs.Faults.{Rose}

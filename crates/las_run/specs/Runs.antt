@@ -1,10 +1,10 @@
 -- How a run ends, from the words and the files alone: the definition of the whole program.
-use Rattle.std.specs.Prelude.{◌≡◌, ℕ, List, [], ◌∷◌, length, Option, Some, None}
+use Rattle.std.specs.Prelude.{◌≡◌, ℕ, List, [], ◌∷◌, Option, Some, None}
 use Rattle.std.specs.FinMap as finmap
 use Rattle.las_header.specs.declared.refusal.Refusal.{Refusal}
 use Rattle.las_run.specs.Inputs.{refusal_of}
 use Rattle.las_outside.specs.Files.{FileMap}
-use Rattle.las_run.specs.Endings.{Cause, Done, Usage, Unread, Refused, Ending, ends_at_once}
+use Rattle.las_run.specs.Endings.{Done, Usage, Unread, Refused, Ending, ends_at_once}
 use Rattle.las_run.specs.Outputs.{output_of_kept}
 use Rattle.las_run.specs.Words.{usage, input_of, output_of, class_of_words}
 

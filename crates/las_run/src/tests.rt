@@ -92,10 +92,8 @@ fn file_of(
 ) -> Result<Vec<u8>, AllocError> {
     let fields = fields(shape, points);
     let mut file = Vec::new(alloc);
-    match shape.minor {
-        3 => file.extend_from_slice(&fields[..235])?,
-        4 => file.extend_from_slice(&fields)?,
-        _ => file.extend_from_slice(&fields[..227])?,
+    for byte in fields.iter().take(usize::from(shape.header_size())) {
+        file.push(*byte)?;
     }
     if shape.gap > 0 {
         file.extend_from_slice(&vlr())?;
@@ -106,7 +104,7 @@ fn file_of(
     for (class, number) in records {
         file.extend_from_slice(&[*number, 0, 0, 0, 2, 0, 0, 0, 3, 0, 0, 0, 0, 0, 9, *class])?;
         for i in 16..shape.record_length() {
-            file.push(i as u8)?;
+            file.push((i % 256) as u8)?;
         }
     }
     Ok(file)
@@ -260,7 +258,7 @@ fn overlaid(
     Ok(both)
 }
 
-// What is left of an output of LAS 1.4 if this call that writes fails and keeps so many bytes.
+// What is left of an output of LAS 1.4 if this call that writes fails and keeps this many bytes.
 fn left_after(alloc: Global, call: u64, keep: usize) -> Result<Option<Vec<u8>>, AllocError> {
     let shape = Shape { minor: 4, ..PLAIN };
     let mut draft = file_of(alloc, shape, 0, &KEPT)?;

@@ -1,4 +1,4 @@
-use Rattle.std.proofs.Common.{inr, List, ℕ, [], ◌++◌, take}
+use Rattle.std.proofs.Common.{inr, [], ◌++◌, take}
 use Rattle.std.proofs.lemmas.Result.{on_ok_weaker, on_err_weaker}
 use Rattle.las_outside.proofs.FileLaws.{changed_after, failed_after, known_of}
 use Rattle.las_outside.proofs.Rooms.{on_err}

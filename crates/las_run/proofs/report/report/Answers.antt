@@ -1,5 +1,5 @@
 use Rattle.las_run.specs.Words.{texts}
-use Rattle.las_run.proofs.Endings.{says_done, says_stop}
+use Rattle.las_run.proofs.Endings.{says_done}
 use Rattle.std.proofs.Common.{refl}
 use Rattle.las_run.proofs.report.report.Goals as goal
 

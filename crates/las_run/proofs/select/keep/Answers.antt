@@ -1,6 +1,6 @@
-use Rattle.std.proofs.Common.{◌≡◌, ◌+◌, ◌-◌, ◌*◌, ◌≤◌, ◌<◌, ◌++◌, ℕ, List, [], length, take, drop, refl, sym, ◌∙◌, ap, arith, rules}
+use Rattle.std.proofs.Common.{◌≡◌, ◌+◌, ◌-◌, ◌≤◌, ◌++◌, ℕ, List, [], length, take, drop, refl, sym, ◌∙◌, ap, arith, rules}
 use Rattle.std.proofs.lemmas.List.{length-drop, length-take-le, drop-drop}
-use Rattle.las_run.proofs.Selecting.{keeping_none, keep_one, skip_one, kept_counts, kept_bytes, countable, length_record, take-moved, drop-moved, length-moved}
+use Rattle.las_run.proofs.Selecting.{keeping_none, keep_one, skip_one, length_record, take-moved, drop-moved, length-moved}
 use Rattle.las_run.proofs.select.keep.Goals as goal
 use Rattle.las_run.proofs.select.keep.Goals.{then-class-wanted, else-class-wanted}
 

@@ -1,9 +1,9 @@
-use Rattle.std.proofs.Common.{◌≡◌, List, ℕ, ◌++◌, ◌∙◌, ap}
+use Rattle.std.proofs.Common.{◌≡◌, List, ℕ, ◌∙◌, ap}
 use Rattle.std.specs.Str.Parse.{digits_value}
 use Rattle.std.proofs.lemmas.Result.{err_from_is_err_and}
 use Rattle.las_outside.specs.Drafts.{Patch, with_patches}
-use Rattle.las_run.specs.Words.{texts, is_class, input_of, output_of, class_of_words}
-use Rattle.las_run.specs.Outputs.{draft_for, patches_for, counts_patches}
+use Rattle.las_run.specs.Words.{texts, is_class, output_of, class_of_words}
+use Rattle.las_run.specs.Outputs.{draft_for, counts_patches}
 use Rattle.las_run.proofs.Converting.{accepted_class, ends_unread, ends_refused, ends_done, ends_unwritten, done_by, stopped_by, selected_draft, selected_patches}
 use Rattle.las_run.proofs.top_call.keep_class.Goals as goal
 

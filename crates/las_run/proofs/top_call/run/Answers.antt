@@ -1,6 +1,6 @@
 use Rattle.std.proofs.Common.{◌≡◌, ℕ, List, Some, sym, ◌∙◌, ap}
 use Rattle.las_outside.specs.Files.{FileMap}
-use Rattle.las_run.specs.Endings.{Ending, status_of}
+use Rattle.las_run.specs.Endings.{Ending}
 use Rattle.las_run.specs.Ends.{cause_of, quiet}
 use Rattle.las_run.specs.Runs.{Run}
 use Rattle.las_run.specs.Words.{texts}
