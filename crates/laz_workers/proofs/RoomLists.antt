@@ -1,5 +1,5 @@
 -- Rooms among the rooms of a crew.
-use Rattle.std.proofs.Common.{◌≡◌, ◌⊎◌, ℕ, zero, suc, ◌<◌, true, false, Option, Some, None, List, [], ◌∷◌, length, get_or, map, refl, sym, ap, subst, inl, inr, ⊎_elim, arith}
+use Rattle.std.proofs.Common.{◌≡◌, ◌⊎◌, ℕ, zero, suc, ◌<◌, true, false, Option, Some, None, List, [], ◌∷◌, ◌++◌, length, get_or, map, refl, sym, ap, subst, inl, inr, ⊎_elim, arith}
 use Rattle.std.specs.Prelude.{All, Contains, option_to_list, slice_index_or, ◌==◌, nat_lt}
 use Rattle.std.proofs.lemmas.List.Sums.{sum_by-cons}
 use Rattle.std.proofs.lemmas.List.Elements.{All-contains, Contains-append_cases}
@@ -54,7 +54,7 @@ stands_below n rooms number h lt =
         (cases_Bool (y == x))
 
 -- what the rooms hold being a job's answers, the answer of a room is the job's to the input of its number
-pub answer_there : (answer : List ℕ → Option (List ℕ)) (inputs : List (List ℕ)) (rooms : List RoomSeen) (number : ℕ) (room : RoomSeen) → StandsIn rooms number room → All (HoldsAnswer answer inputs) rooms → answer_in room.bytes room.held ≡ answer (get_or inputs number [])
+pub answer_there : (answer : List ℕ → Option (List ℕ) → Type 0) (inputs : List (List ℕ)) (rooms : List RoomSeen) (number : ℕ) (room : RoomSeen) → StandsIn rooms number room → All (HoldsAnswer answer inputs) rooms → answer (get_or inputs number []) (answer_in room.bytes room.held)
 answer_there answer inputs rooms number room s all = (All-contains (HoldsAnswer answer inputs) rooms room all s.0 number s.1).1
 
 module _ {S : Type 0} where
@@ -120,3 +120,12 @@ map_same f [] [] n h = refl
 map_same f [] (y ∷ ys) n h = absurd (omega arith)
 map_same f (x ∷ xs) [] n h = absurd (omega arith)
 map_same f (x ∷ xs) (y ∷ ys) n h = λ i. h 0 x (omega arith) i ∷ map_same f xs ys (omega arith) (λ k d lt. h (suc k) d (omega (arith, lt))) i
+
+-- a relation that holds place by place of two fronts and of two rests holds place by place of the whole lists
+pub place_by_place : {X : Type 0} (R : X → X → Type 0) (front back front' back' : List X) → length front' ≡ length front → ((k : ℕ) (d : X) → k < length front → R (get_or front k d) (get_or front' k d)) → ((k : ℕ) (d : X) → k < length back → R (get_or back k d) (get_or back' k d))
+    → (k : ℕ) (d : X) → k < length (front ++ back) → R (get_or (front ++ back) k d) (get_or (front' ++ back') k d)
+place_by_place R [] back [] back' n one two k d h = two k d h
+place_by_place R [] back (y ∷ ys) back' n one two k d h = absurd (omega (arith, n))
+place_by_place R (x ∷ xs) back [] back' n one two k d h = absurd (omega (arith, n))
+place_by_place R (x ∷ xs) back (y ∷ ys) back' n one two zero d h = one 0 d (omega arith)
+place_by_place R (x ∷ xs) back (y ∷ ys) back' n one two (suc k) d h = place_by_place R xs back ys back' (omega (arith, n)) (λ i e lt. one (suc i) e (omega (arith, lt))) two k d (omega (arith, h))

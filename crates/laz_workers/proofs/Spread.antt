@@ -6,12 +6,18 @@ use Rattle.std.proofs.lemmas.Bool.Decides.{nat_tests}
 use Rattle.laz_workers.specs.declared.hand.Hand.{Hand}
 use Rattle.laz_workers.specs.Numbers.{times}
 use Rattle.laz_workers.specs.Seen.{ClaimsSeen, PassSeen, opening}
-use Rattle.laz_workers.specs.Rooms.{RoomSeen, HandSeen, rooms_of}
+use Rattle.laz_workers.specs.Rooms.{RoomSeen, HandSeen, rooms_of, lengths_of}
 use Rattle.laz_workers.specs.Shown.{shown}
-use Rattle.laz_workers.specs.Work.{HoldsAnswer, sizes_of, both_rooms}
+use Rattle.laz_workers.specs.Work.{HoldsAnswer, both_rooms}
 use Rattle.laz_workers.specs.Run.{Dealt, IsReady, Worked, HoldsPass, EveryInputFits, under, AllTaken, EndsPast, equipped, drawn_of, drawn_by}
-use Rattle.laz_workers.proofs.RoomLists.{first_there, second_there, map_same}
+use Rattle.laz_workers.proofs.RoomLists.{first_there, second_there}
 use Rattle.laz_workers.proofs.Finish.{Settled}
+
+-- what holds of each length in the list holds of the length of each room
+rooms_fit : (P : ℕ → Type 0) (rooms : List RoomSeen) → All P (lengths_of rooms) → All (λ r. P (length r.bytes)) rooms
+rooms_fit P [] h = All-nil (λ (r : RoomSeen). P (length r.bytes))
+rooms_fit P (r ∷ rs) h =
+    All-cons (λ (r : RoomSeen). P (length r.bytes)) r rs (h 0 (length r.bytes) (omega arith)) (rooms_fit P rs (λ k d lt. h (suc k) d (omega (arith, lt))))
 
 module _ {S : Type 0} where
   pub shown_at : (hands : List (Hand S)) (k : ℕ) (d : Hand S) → get_or (map shown hands) k (shown d) ≡ shown (get_or hands k d)
@@ -35,12 +41,18 @@ module _ {S : Type 0} where
       All-cons P x.first (x.second ∷ rooms_of (map shown xs)) (here 0 x.first (omega arith))
       (All-cons P x.second (rooms_of (map shown xs)) (here 1 x.second (omega arith)) (All-rooms P xs (λ k d lt. h (suc k) d (omega (arith, lt)))))
 
-  map_sizes : (hands : List (Hand S)) → map sizes_of (map shown hands) ≡ map (λ (h : Hand S). sizes_of (shown h)) hands
-  map_sizes [] = refl
-  map_sizes (h ∷ hs) = ap (λ l. sizes_of (shown h) ∷ l) (map_sizes hs)
+  -- two lists of hands whose rooms have the same lengths, hand by hand
+  same_lengths : (xs ys : List (Hand S)) → length xs ≡ length ys → ((k : ℕ) (d : Hand S) → k < length xs → lengths_of (both_rooms (shown (get_or xs k d))) ≡ lengths_of (both_rooms (shown (get_or ys k d)))) → lengths_of (rooms_of (map shown xs)) ≡ lengths_of (rooms_of (map shown ys))
+  same_lengths [] [] n h = refl
+  same_lengths [] (y ∷ ys) n h = absurd (omega arith)
+  same_lengths (x ∷ xs) [] n h = absurd (omega arith)
+  same_lengths (x ∷ xs) (y ∷ ys) n h =
+      let one = h 0 x (omega arith) in
+      let more = same_lengths xs ys (omega arith) (λ k d lt. h (suc k) d (omega (arith, lt))) in
+      λ i. one i ++ more i
 
   -- a hand that began with a fresh pass is settled
-  settled_one : (claims : ClaimsSeen) (answer : List ℕ → Option (List ℕ)) (inputs : List (List ℕ)) (suits : S → Type 0) (old new : Hand S) (w : Worked claims answer inputs suits old new) → w.before.drawn ≡ [] → Settled claims.total new
+  settled_one : (claims : ClaimsSeen) (answer : List ℕ → Option (List ℕ) → Type 0) (inputs : List (List ℕ)) (suits : S → Type 0) (old new : Hand S) (w : Worked claims answer inputs suits old new) → w.before.drawn ≡ [] → Settled claims.total new
   settled_one claims answer inputs suits old new w fresh =
       let drew : drawn_by new ≡ w.numbers = ap drawn_of w.held_after ∙ (w.drawn ∙ ap (λ l. l ++ w.numbers) fresh) in
       record {
@@ -55,20 +67,21 @@ module _ {S : Type 0} where
             w.ended;
       }
 
-  module _ (claims : ClaimsSeen) (fits : List ℕ → ℕ → Type 0) (answer : List ℕ → Option (List ℕ)) (inputs : List (List ℕ)) (suits : S → Type 0) (before dealt : List (Hand S)) (passes : List PassSeen)
+  module _ (claims : ClaimsSeen) (fits : List ℕ → ℕ → Type 0) (answer : List ℕ → Option (List ℕ) → Type 0) (inputs : List (List ℕ)) (suits : S → Type 0) (before dealt : List (Hand S)) (passes : List PassSeen)
       (count : length passes ≡ length before) (same : length dealt ≡ length before) (from : Dealt claims passes)
       (deals : (k : ℕ) (d : Hand S) (e : PassSeen) → k < length before → get_or dealt k d ≡ equipped (get_or before k d) (get_or passes k e)) where
     -- some pass, to read a list of passes with
     some_pass : PassSeen
     some_pass = opening claims
 
-    pub ready_all : EveryInputFits fits inputs (rooms_of (map shown before)) → All (λ (h : HandSeen S). suits h.space) (map shown before) → All (IsReady claims fits inputs suits) dealt
+    pub ready_all : EveryInputFits fits inputs (lengths_of (rooms_of (map shown before))) → All (λ (h : HandSeen S). suits h.space) (map shown before) → All (IsReady claims fits inputs suits) dealt
     ready_all room suit k d lt =
         let lt' : k < length before = omega (arith, lt, same) in
         let h = get_or before k d in
         let p = get_or passes k some_pass in
         let fresh = from.fresh k some_pass (omega (arith, lt', count)) in
         let all = λ (r : RoomSeen). All (λ input. fits input (length r.bytes)) inputs in
+        let rooms = rooms_fit (λ n. All (λ input. fits input n) inputs) (rooms_of (map shown before)) room in
         let Q : HandSeen S → Type 0 = λ x. suits x.space in
         let ready : IsReady claims fits inputs suits (equipped h p) =
         record {
@@ -79,8 +92,8 @@ module _ {S : Type 0} where
           whole = λ _ _. (0, λ x. ap (times x) fresh.1 ∙ grind (arith, nat_tests));
           first_empty = refl;
           second_empty = refl;
-          first_fits = All-contains all (rooms_of (map shown before)) h.first room (first_there before k d lt');
-          second_fits = All-contains all (rooms_of (map shown before)) h.second room (second_there before k d lt');
+          first_fits = All-contains all (rooms_of (map shown before)) h.first rooms (first_there before k d lt');
+          second_fits = All-contains all (rooms_of (map shown before)) h.second rooms (second_there before k d lt');
           suited = subst Q (shown_at before k d) (suit k (shown d) (omega (arith, lt', length-shown before)));
         } in
         subst (IsReady claims fits inputs suits) (sym (deals k d some_pass lt')) ready
@@ -119,12 +132,10 @@ module _ {S : Type 0} where
           let fresh = from.fresh k some_pass (omega (arith, lt, same, same', count)) in
           settled_one claims answer inputs suits (get_or dealt k d) (get_or worked k d) w (ap (λ (p : PassSeen). p.drawn) (began k d lt) ∙ fresh.1)
 
-      pub sizes_all : map sizes_of (map shown worked) ≡ map sizes_of (map shown before)
-      sizes_all =
-          map_sizes worked
-          ∙ (map_same (λ (h : Hand S). sizes_of (shown h)) worked before (same' ∙ same)
-          (λ k d lt. (works k d (omega (arith, lt, same'))).sizes ∙ ap (λ (h : Hand S). sizes_of (shown h)) (deals k d some_pass (omega (arith, lt, same, same'))))
-          ∙ sym (map_sizes before))
+      pub lengths_all : lengths_of (rooms_of (map shown worked)) ≡ lengths_of (rooms_of (map shown before))
+      lengths_all =
+          same_lengths worked before (same' ∙ same)
+          (λ k d lt. (works k d (omega (arith, lt, same'))).lengths ∙ ap (λ (h : Hand S). lengths_of (both_rooms (shown h))) (deals k d some_pass (omega (arith, lt, same, same'))))
 
       pub suited_all : All (λ (h : HandSeen S). suits h.space) (map shown worked)
       suited_all = All-shown (λ (h : HandSeen S). suits h.space) worked (λ k d lt. (works k d (omega (arith, lt, same'))).suited)

@@ -21,7 +21,7 @@ claimed_below total n k e =
     (cases_Bool (nat_lt n total))
 
 -- one claim, and what it left in a room
-pub record Filled (claims : ClaimsSeen) (answer : List ℕ → Option (List ℕ)) (inputs : List (List ℕ)) (p q : PassSeen) (size : ℕ) (room : RoomSeen) : Type 0 where
+pub record Filled (claims : ClaimsSeen) (answer : List ℕ → Option (List ℕ) → Type 0) (inputs : List (List ℕ)) (p q : PassSeen) (size : ℕ) (room : RoomSeen) : Type 0 where
   pub number : ℕ
   pub drew : Drew p q number
   pub stands : option_to_list (number_of room.held) ≡ under claims.total (number ∷ [])
@@ -34,12 +34,12 @@ under_low total n e = let t : nat_lt n total ≡ true = grind (arith, nat_tests)
 under_high : (total n : ℕ) → nat_le total n ≡ true → under total (n ∷ []) ≡ []
 under_high total n e = let t : nat_lt n total ≡ false = grind (arith, nat_tests) in rw t refl
 
-nothing_answered : (answer : List ℕ → Option (List ℕ)) (inputs : List (List ℕ)) (room : RoomSeen) → room.held ≡ Empty → HoldsAnswer answer inputs room
+nothing_answered : (answer : List ℕ → Option (List ℕ) → Type 0) (inputs : List (List ℕ)) (room : RoomSeen) → room.held ≡ Empty → HoldsAnswer answer inputs room
 nothing_answered answer inputs room e number is =
     let none : number_of room.held ≡ number_of Empty = ap number_of e in
     absurd (cc)
 
-module _ {S : Type 0} (claims : ClaimsSeen) (answer : List ℕ → Option (List ℕ)) (inputs : List (List ℕ)) (suits : S → Type 0) (old : Hand S) (p : PassSeen) (held : old.pass ≡ Some p) (own : p.claims ≡ claims) where
+module _ {S : Type 0} (claims : ClaimsSeen) (answer : List ℕ → Option (List ℕ) → Type 0) (inputs : List (List ℕ)) (suits : S → Type 0) (old : Hand S) (p : PassSeen) (held : old.pass ≡ Some p) (own : p.claims ≡ claims) where
   total_is : p.claims.total ≡ claims.total
   total_is = ap (λ (c : ClaimsSeen). c.total) own
 
@@ -60,7 +60,7 @@ module _ {S : Type 0} (claims : ClaimsSeen) (answer : List ℕ → Option (List 
         opens_stays = ap (λ (x : PassSeen). x.opens) d.pass;
         rest_stays = ap (λ (x : PassSeen). x.rest) d.pass;
         out_stays = ap (λ (x : PassSeen). x.out) d.pass;
-        sizes = λ i. (f.sized i, length old.second.bytes);
+        lengths = λ i. f.sized i ∷ length old.second.bytes ∷ [];
         suited = suited;
         drawn = ap (λ (x : PassSeen). x.drawn) d.pass;
         stand = ap (λ l. option_to_list (number_of room.held) ++ (l ++ [])) none ∙ (append-nil (option_to_list (number_of room.held)) ∙ f.stands);
@@ -91,7 +91,7 @@ module _ {S : Type 0} (claims : ClaimsSeen) (answer : List ℕ → Option (List 
         opens_stays = ap (λ (x : PassSeen). x.opens) e.pass ∙ ap (λ (x : PassSeen). x.opens) d.pass;
         rest_stays = ap (λ (x : PassSeen). x.rest) e.pass ∙ ap (λ (x : PassSeen). x.rest) d.pass;
         out_stays = ap (λ (x : PassSeen). x.out) e.pass ∙ ap (λ (x : PassSeen). x.out) d.pass;
-        sizes = λ i. (f.sized i, h.sized i);
+        lengths = λ i. f.sized i ∷ h.sized i ∷ [];
         suited = suited;
         drawn = ap (λ (x : PassSeen). x.drawn) e.pass ∙ (ap (λ (x : PassSeen). x.drawn ++ m ∷ []) d.pass ∙ append_assoc p.drawn (n ∷ []) (m ∷ []));
         stand = ap (λ l. o1 ++ l) (append-nil o2) ∙ ((λ i. f.stands i ++ h.stands i) ∙ sym (filter-append (λ x. nat_lt x claims.total) (n ∷ []) (m ∷ [])));

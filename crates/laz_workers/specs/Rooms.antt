@@ -1,5 +1,5 @@
 -- What contracts see of a crew: the rooms of its hands, and their spaces.
-use Rattle.std.specs.Prelude.{◌≡◌, ℕ, Option, Some, None, option_to_list, List, [], ◌∷◌, length, take, flat_map, Contains}
+use Rattle.std.specs.Prelude.{◌≡◌, ℕ, Option, Some, None, option_to_list, List, [], ◌∷◌, length, take, map, flat_map, Contains}
 use Rattle.laz_workers.specs.declared.held.Held.{Held}
 use Rattle.laz_workers.specs.declared.held.Held.TheVariants.{Empty, Full, Refused}
 
@@ -14,24 +14,25 @@ pub record HandSeen (S : Type 0) : Type 0 where
   pub first : RoomSeen
   pub second : RoomSeen
 
--- the number that stands in a room
+-- the number of the input that was worked into a room
 abbrev pub number_of : Held → Option ℕ
 number_of Empty = None
-number_of (Full number size) = Some number
+number_of (Full number n) = Some number
 number_of (Refused number) = Some number
 
--- how many bytes at a room's front are an answer
-abbrev pub size_of : Held → ℕ
-size_of Empty = 0
-size_of (Full number size) = size
-size_of (Refused number) = 0
+-- how many bytes at the front of the room are an answer
+abbrev pub answer_length : Held → ℕ
+answer_length Empty = 0
+answer_length (Full number n) = n
+answer_length (Refused number) = 0
 
--- the answer that stands in bytes, and none where the input was refused
+-- the answer at the front of the bytes: none if the room is empty or the input was refused
 abbrev pub answer_in : List ℕ → Held → Option (List ℕ)
 answer_in bytes Empty = None
-answer_in bytes (Full number size) = Some (take size bytes)
+answer_in bytes (Full number n) = Some (take n bytes)
 answer_in bytes (Refused number) = None
 
+-- the room without its answer
 abbrev pub emptied : RoomSeen → RoomSeen
 emptied room = record { bytes = room.bytes; held = Empty }
 
@@ -39,7 +40,11 @@ emptied room = record { bytes = room.bytes; held = Empty }
 abbrev pub rooms_of : {S : Type 0} → List (HandSeen S) → List RoomSeen
 rooms_of hands = flat_map (λ h. h.first ∷ h.second ∷ []) hands
 
--- the numbers that stand in rooms, in their order
+-- how many bytes each room has
+abbrev pub lengths_of : List RoomSeen → List ℕ
+lengths_of rooms = map (λ r. length r.bytes) rooms
+
+-- the numbers that stand in rooms, in the order of the rooms
 abbrev pub numbers_in : List RoomSeen → List ℕ
 numbers_in rooms = flat_map (λ r. option_to_list (number_of r.held)) rooms
 
@@ -47,9 +52,10 @@ numbers_in rooms = flat_map (λ r. option_to_list (number_of r.held)) rooms
 abbrev pub StandsIn : List RoomSeen → ℕ → RoomSeen → Type 0
 StandsIn rooms number room = Contains rooms room × (number_of room.held ≡ Some number)
 
+-- an empty room of this length
 abbrev pub IsEmptyRoom : ℕ → RoomSeen → Type 0
-IsEmptyRoom size room = (length room.bytes ≡ size) × (room.held ≡ Empty)
+IsEmptyRoom n room = (length room.bytes ≡ n) × (room.held ≡ Empty)
 
--- a hand with this space and two empty rooms of this size
+-- a hand with this space and two empty rooms of this length
 abbrev pub IsNew : {S : Type 0} → S → ℕ → HandSeen S → Type 0
-IsNew space size hand = (hand.space ≡ space) × IsEmptyRoom size hand.first × IsEmptyRoom size hand.second
+IsNew space n hand = (hand.space ≡ space) × IsEmptyRoom n hand.first × IsEmptyRoom n hand.second

@@ -71,10 +71,7 @@ impl<S> Crew<S> {
     /// Lends the answer to the input of a number that stands in a room. `None` is an input that the job refused.
     pub fn result(&self, number: u32) -> Option<&[u8]>
         requires { Contains (numbers_in (rooms_of self.now)) number }
-        ensures room { (room : RoomSeen) × StandsIn (rooms_of self.now) number room × (option_copied result ≡ answer_in room.bytes room.held) }
-
-        // Behind `run_all`, which says what the rooms hold, it is the job's own answer.
-        ensures answer { (answer : List ℕ → Option (List ℕ)) (inputs : List (List ℕ)) → All (HoldsAnswer answer inputs) (rooms_of self.now) → option_copied result ≡ answer (slice_index_or inputs number []) }
+        ensures { (room : RoomSeen) × StandsIn (rooms_of self.now) number room × (option_copied result ≡ answer_in room.bytes room.held) }
     {
         for hand in &self.hands {
             if hand.first.holds(number) {

@@ -10,7 +10,7 @@ pub trait Job: Sync {
     type Space: Send;
 
     /// The answer to an input. `None` refuses it.
-    ghost answer: { Self → List ℕ → Option (List ℕ) };
+    ghost answer: { Self → List ℕ → Option (List ℕ) → Type 0 };
 
     /// Whether a room of so many bytes suffices for an input.
     ghost fits: { Self → List ℕ → ℕ → Type 0 };

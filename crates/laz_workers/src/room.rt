@@ -13,7 +13,7 @@ pub struct Room {
 }
 
 impl Model for Room {
-    ghost use Rattle.laz_workers.specs.Rooms.{RoomSeen, size_of};
+    ghost use Rattle.laz_workers.specs.Rooms.{RoomSeen, answer_length};
 
     ghost Value = { RoomSeen };
 
@@ -21,11 +21,11 @@ impl Model for Room {
 
     ghost view = { λ r. record { bytes = r.bytes.items; held = r.held } };
 
-    ghost invariant = { λ r. size_of r.held ≤ length r.bytes.items };
+    ghost invariant = { λ r. answer_length r.held ≤ length r.bytes.items };
 }
 
 impl Room {
-    // An empty room of so many bytes.
+    // An empty room of `size` bytes.
     pub(crate) fn new(alloc: Global, size: usize) -> Result<Room, AllocError>
         ensures { IfOk result (λ r. (length r.bytes ≡ size) × (r.held ≡ Held.Empty)) }
     {
@@ -36,6 +36,7 @@ impl Room {
         })
     }
 
+    // Whether the input of this number was worked into this room.
     pub(crate) fn holds(&self, number: u32) -> bool
         ensures { IsTrue result ↔ (number_of self.now.held ≡ Some number) }
     {
@@ -45,6 +46,7 @@ impl Room {
         }
     }
 
+    // The answer, or `None` if the room is empty or its input was refused.
     pub(crate) fn answer(&self) -> Option<&[u8]>
         ensures { option_copied result ≡ answer_in self.now.bytes self.now.held }
     {
@@ -54,6 +56,7 @@ impl Room {
         }
     }
 
+    // Empties the room. Its bytes stay, and count for nothing.
     pub(crate) fn clear(&mut self)
         ensures { self.new ≡ emptied self.old }
     {

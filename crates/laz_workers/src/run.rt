@@ -4,9 +4,9 @@ ghost use Rattle.laz_workers.specs.Shown.{shown};
 ghost use Rattle.laz_workers.specs.declared.held.Held.TheVariants.{Empty};
 ghost use Rattle.laz_workers.specs.declared.hand.Hand.{Hand};
 ghost use Rattle.laz_workers.specs.Seen.{PassSeen, Drew};
-ghost use Rattle.laz_workers.specs.Rooms.{number_of, numbers_in, rooms_of};
+ghost use Rattle.laz_workers.specs.Rooms.{number_of, numbers_in, rooms_of, lengths_of};
 ghost use Rattle.laz_workers.specs.Run.{under, IsReady, Worked, HoldsPass, Dealt, EveryInputFits, IsJoined, equipped, drawn_by};
-ghost use Rattle.laz_workers.specs.Work.{HoldsAnswer, sizes_of, texts};
+ghost use Rattle.laz_workers.specs.Work.{HoldsAnswer, texts};
 
 use crate::claims::Claims;
 use crate::crew::Crew;
@@ -100,7 +100,34 @@ fn deal<S>(hands: &mut [Hand<S>], passes: &mut Vec<Pass>)
     }
 }
 
-// Works the inputs by all hands, each in a thread of its own where one can be made.
+// Works inputs by these hands, split among at most so many threads, of which the caller's is one. Hands that share a
+// thread, or that no thread can be started for, work one after another.
+fn work_in_threads<R: Threads + Sync, J: Job, G: Gate>(
+    rt: &R,
+    job: &J,
+    gate: &G,
+    inputs: &[Vec<u8>],
+    claims: &Claims,
+    hands: &mut [Hand<J::Space>],
+    threads: usize,
+)
+    requires threads { 0 < threads }
+    requires inputs { length inputs.now ≡ claims.now.total }
+    requires ready { All (IsReady claims.now (J.fits job.now) (texts inputs.now) (J.suits job.now)) hands.old }
+    ensures { (k : ℕ) (d : Hand J.Space) → k < length hands.old → Worked claims.now (J.answer job.now) (texts inputs.now) (J.suits job.now) (slice_index_or hands.old k d) (slice_index_or hands.new k d) }
+{
+    thread::for_each_mut(
+        rt,
+        hands,
+        threads,
+        &|_, hand: &mut Hand<J::Space>|
+            requires { (length inputs.now ≡ claims.now.total) × IsReady claims.now (J.fits job.now) (texts inputs.now) (J.suits job.now) hand.old }
+        { work_hand(job, gate, inputs, claims, hand) },
+    );
+}
+
+// Works the inputs by all hands: first by one a thread, as many as there are inputs and at least one, and then by the
+// others in the caller's thread, which find no input left.
 fn fan_out<R: Threads + Sync, J: Job, G: Gate>(
     rt: &R,
     job: &J,
@@ -114,15 +141,10 @@ fn fan_out<R: Threads + Sync, J: Job, G: Gate>(
     requires ready { All (IsReady claims.now (J.fits job.now) (texts inputs.now) (J.suits job.now)) hands.old }
     ensures { (k : ℕ) (d : Hand J.Space) → k < length hands.old → Worked claims.now (J.answer job.now) (texts inputs.now) (J.suits job.now) (slice_index_or hands.old k d) (slice_index_or hands.new k d) }
 {
-    let threads = hands.len();
-    thread::for_each_mut(
-        rt,
-        hands,
-        threads,
-        &|_, hand: &mut Hand<J::Space>|
-            requires { (length inputs.now ≡ claims.now.total) × IsReady claims.now (J.fits job.now) (texts inputs.now) (J.suits job.now) hand.old }
-        { work_hand(job, gate, inputs, claims, hand) },
-    );
+    let threads = inputs.len().max(1).min(hands.len());
+    let (busy, idle) = hands.split_at_mut(threads);
+    work_in_threads(rt, job, gate, inputs, claims, busy, threads);
+    work_in_threads(rt, job, gate, inputs, claims, idle, 1);
 }
 
 fn take_pass<S>(hand: &mut Hand<S>) -> Pass
@@ -164,11 +186,11 @@ fn work_all<R: Threads + Sync, J: Job, G: Gate>(
     hands: &mut [Hand<J::Space>],
 ) -> Pass
     requires hands { 0 < length hands.old }
-    requires fits { EveryInputFits (J.fits job.now) (texts inputs.now) (rooms_of (map shown hands.old)) }
+    requires fits { EveryInputFits (J.fits job.now) (texts inputs.now) (lengths_of (rooms_of (map shown hands.old))) }
     requires suits { All (λ hand. J.suits job.now hand.space) (map shown hands.old) }
     requires passes { (vec_len passes.old ≡ length hands.old) × Dealt claims.now passes.old.items }
     requires inputs { (length inputs.now ≡ claims.now.total) × (length inputs.now ≤ 2 * length hands.old) }
-    ensures hands { map sizes_of (map shown hands.new) ≡ map sizes_of (map shown hands.old) }
+    ensures lengths { lengths_of (rooms_of (map shown hands.new)) ≡ lengths_of (rooms_of (map shown hands.old)) }
     ensures suits { All (λ hand. J.suits job.now hand.space) (map shown hands.new) }
     ensures answers { All (HoldsAnswer (J.answer job.now) (texts inputs.now)) (rooms_of (map shown hands.new)) }
     ensures numbers { HoldsBelow claims.now.total (numbers_in (rooms_of (map shown hands.new))) }
@@ -201,7 +223,7 @@ pub fn run_all<R: Threads + Sync, J: Job, G: Gate>(
     passes: &mut Vec<Pass>,
 )
     requires hands { 0 < length crew.old }
-    requires fits { EveryInputFits (J.fits job.now) (texts inputs.now) (rooms_of crew.old) }
+    requires fits { EveryInputFits (J.fits job.now) (texts inputs.now) (lengths_of (rooms_of crew.old)) }
     requires suits { All (λ hand. J.suits job.now hand.space) crew.old }
     requires passes { (vec_len passes.old ≡ length crew.old) × Dealt claims.now passes.old.items }
     requires inputs { (length inputs.now ≡ claims.now.total) × (length inputs.now ≤ 2 * length crew.old) }
@@ -214,7 +236,7 @@ pub fn run_all<R: Threads + Sync, J: Job, G: Gate>(
 
     // The number of hands and each room's length stay.
     ensures hands { length crew.new ≡ length crew.old }
-    ensures sizes { map sizes_of crew.new ≡ map sizes_of crew.old }
+    ensures lengths { lengths_of (rooms_of crew.new) ≡ lengths_of (rooms_of crew.old) }
     ensures suits { All (λ hand. J.suits job.now hand.space) crew.new }
 {
     let opening = work_all(

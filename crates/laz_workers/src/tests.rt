@@ -57,7 +57,7 @@ struct Next;
 impl Job for Next {
     type Space = u64;
 
-    ghost answer = { λ _ input. if nat_lt (slice_index input 0) 200 then Some ((slice_index input 0 + 1) ∷ []) else None };
+    ghost answer = { λ _ input answer. answer ≡ (if nat_lt (slice_index input 0) 200 then Some ((slice_index input 0 + 1) ∷ []) else None) };
 
     ghost fits = { λ _ input room. (length input ≡ 1) × (room ≡ 1) };
 

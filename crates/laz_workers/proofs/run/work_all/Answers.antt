@@ -1,9 +1,9 @@
 use Rattle.std.proofs.Common.{ℕ, ◌*◌, ◌≤◌, List, All, length, map, sym, ap, ◌∙◌, subst, arith}
 use Rattle.laz_workers.specs.Numbers.{HoldsBelow}
-use Rattle.laz_workers.specs.Rooms.{HandSeen, numbers_in, rooms_of}
-use Rattle.laz_workers.specs.Work.{HoldsAnswer, sizes_of, texts}
+use Rattle.laz_workers.specs.Rooms.{HandSeen, numbers_in, rooms_of, lengths_of}
+use Rattle.laz_workers.specs.Work.{HoldsAnswer, texts}
 use Rattle.laz_workers.specs.Run.{under}
-use Rattle.laz_workers.proofs.Spread.{ready_all, holds_all, settled_all, sizes_all, suited_all, answered_all}
+use Rattle.laz_workers.proofs.Spread.{ready_all, holds_all, settled_all, lengths_all, suited_all, answered_all}
 use Rattle.laz_workers.proofs.Finish.{matched_all, numbers_all}
 use Rattle.laz_workers.proofs.run.work_all.Goals as goal
 
@@ -47,7 +47,7 @@ returns g c =
     let word = c.gather.ensures.whole in
     let W : List ℕ → Type 0 = λ l. HoldsBelow word.0 l in
     record {
-      hands = ap (map sizes_of) shows ∙ sizes_all claims fits answer inputs suits before dealt passes count same from deals worked same' works;
+      lengths = ap (λ (l : List (HandSeen g.row.J-Space.Denot)). lengths_of (rooms_of l)) shows ∙ lengths_all claims fits answer inputs suits before dealt passes count same from deals worked same' works;
       suits = subst P (sym shows) (suited_all claims fits answer inputs suits before dealt passes count same from deals worked same' works);
       answers = subst Q (sym shows) (answered_all claims fits answer inputs suits before dealt passes count same from deals worked same' works);
       numbers = subst R (sym shows) (numbers_all claims.total worked settled few word.0 (subst W drew word.1));

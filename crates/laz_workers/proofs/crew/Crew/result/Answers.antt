@@ -1,7 +1,7 @@
-use Rattle.std.proofs.Common.{map, ap, ◌∙◌, arith}
+use Rattle.std.proofs.Common.{map, ap, ◌∙◌, arith, subst, sym, get_or, []}
 use Rattle.laz_workers.specs.Shown.{shown}
 use Rattle.laz_workers.specs.Rooms.{rooms_of, StandsIn}
-use Rattle.laz_workers.proofs.RoomLists.{first_at, second_at, nowhere_in, answer_there}
+use Rattle.laz_workers.proofs.RoomLists.{first_at, second_at, nowhere_in}
 use Rattle.laz_workers.proofs.crew.Crew.result.Goals as goal
 
 pub returns-then-holds : goal.returns-then-holds
@@ -10,10 +10,7 @@ returns-then-holds g c =
     let is = ap (map shown) c.deref-hand-items.ensures.value ∙ c.self.view_is in
     let stands : StandsIn (rooms_of c.args.self.now) c.args.number h.first =
     (first_at c.deref-hand-items.result.now c.loop-hand.hand-index h c.args.self.now c.loop-hand-test.true c.hand-item.is is, c.holds.ensures.0 c.if-holds.true) in
-    record {
-      room = (h.first, stands, c.answer.ensures);
-      answer = λ answer inputs all. c.answer.ensures ∙ answer_there answer inputs (rooms_of c.args.self.now) c.args.number h.first stands all;
-    }
+    (h.first, stands, c.answer.ensures)
 
 pub returns-then-holds-2 : goal.returns-then-holds-2
 returns-then-holds-2 g c =
@@ -21,10 +18,7 @@ returns-then-holds-2 g c =
     let is = ap (map shown) c.deref-hand-items.ensures.value ∙ c.self.view_is in
     let stands : StandsIn (rooms_of c.args.self.now) c.args.number h.second =
     (second_at c.deref-hand-items.result.now c.loop-hand.hand-index h c.args.self.now c.loop-hand-test.true c.hand-item.is is, c.holds-in-loop-hand.ensures.0 c.if-holds-2.true) in
-    record {
-      room = (h.second, stands, c.answer-then-holds-2.ensures);
-      answer = λ answer inputs all. c.answer-then-holds-2.ensures ∙ answer_there answer inputs (rooms_of c.args.self.now) c.args.number h.second stands all;
-    }
+    (h.second, stands, c.answer-then-holds-2.ensures)
 
 pub unreachable-requires : goal.unreachable-requires
 unreachable-requires g c =
