@@ -5,7 +5,7 @@ use Rattle.std.proofs.lemmas.List.Elements.{All-contains, All-nil, All-cons, Con
 use Rattle.std.proofs.lemmas.Bool.Decides.{nat_tests}
 use Rattle.laz_workers.specs.declared.hand.Hand.{Hand}
 use Rattle.laz_workers.specs.Numbers.{times}
-use Rattle.laz_workers.specs.Seen.{ClaimsSeen, PassSeen, opening}
+use Rattle.laz_workers.specs.Seen.{ClaimsSeen, PassSeen, opening_pass}
 use Rattle.laz_workers.specs.Rooms.{RoomSeen, HandSeen, rooms_of, lengths_of}
 use Rattle.laz_workers.specs.Shown.{shown}
 use Rattle.laz_workers.specs.Work.{HoldsAnswer, both_rooms}
@@ -72,7 +72,7 @@ module _ {S : Type 0} where
       (deals : (k : ℕ) (d : Hand S) (e : PassSeen) → k < length before → get_or dealt k d ≡ equipped (get_or before k d) (get_or passes k e)) where
     -- some pass, to read a list of passes with
     some_pass : PassSeen
-    some_pass = opening claims
+    some_pass = opening_pass claims
 
     pub ready_all : EveryInputFits fits inputs (lengths_of (rooms_of (map shown before))) → All (λ (h : HandSeen S). suits h.space) (map shown before) → All (IsReady claims fits inputs suits) dealt
     ready_all room suit k d lt =

@@ -19,8 +19,8 @@ pub record PassSeen : Type 0 where
   pub out : ℕ
 
 -- the pass with which the claims begin
-abbrev pub opening : ClaimsSeen → PassSeen
-opening c = record { claims = c; opens = true; drawn = []; spent = false; rest = c.workers - 1; out = 0 }
+abbrev pub opening_pass : ClaimsSeen → PassSeen
+opening_pass c = record { claims = c; opens = true; drawn = []; spent = false; rest = c.workers - 1; out = 0 }
 
 -- a pass that is split from another
 abbrev pub split_pass : PassSeen → PassSeen

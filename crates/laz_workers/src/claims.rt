@@ -1,6 +1,7 @@
-ghost use Rattle.std.specs.Prelude.{◌≡◌, ℕ, ◌+◌, ◌-◌, ◌^◌, ◌<◌, ◌≤◌, IfOk, true, false, ◌++◌};
+ghost use Rattle.std.specs.Prelude.{◌≡◌, ℕ, ◌+◌, ◌-◌, ◌^◌, ◌<◌, ◌≤◌, IfOk, IfErr, IsOk, true, false, ◌++◌, vec_len, vec_capacity};
 ghost use Rattle.laz_workers.specs.Numbers.{HoldsBelow};
-ghost use Rattle.laz_workers.specs.Seen.{opening, split_pass, answer_of, Drew};
+ghost use Rattle.laz_workers.specs.Seen.{opening_pass, split_pass, answer_of, Drew};
+ghost use Rattle.laz_workers.specs.Run.{Dealt};
 
 use crate::pass::Pass;
 use crate::view::{Claiming, Draws, Joins, Looks, Sizes, Splits, View};
@@ -22,11 +23,11 @@ impl Model for Claims {
 
     ghost Value = { ClaimsSeen };
 
-    ghost use Rattle.std.specs.Prelude.{◌≡◌};
+    ghost use Rattle.std.specs.Prelude.{◌≡◌, ◌<◌, ◌≤◌};
 
     ghost view = { λ c. record { word = c.table.shared.table_id; total = c.table.shared.key.total; workers = c.table.shared.key.workers } };
 
-    ghost invariant = { λ c. (c.table.shared.table_id.words ≡ 1) × (c.table.shared.table_id.slots ≡ 0) × (c.total ≡ c.table.shared.key.total) };
+    ghost invariant = { λ c. (c.table.shared.table_id.words ≡ 1) × (c.table.shared.table_id.slots ≡ 0) × (c.total ≡ c.table.shared.key.total) × (0 < c.table.shared.key.workers) × (c.table.shared.key.workers ≤ 8) };
 }
 
 impl Claims {
@@ -35,7 +36,7 @@ impl Claims {
     pub fn new(alloc: Global, total: u32, workers: u32) -> Result<(Claims, Pass), AllocError>
         requires total { total ≤ 2 ^ 24 }
         requires workers { (0 < workers) × (workers ≤ 8) }
-        ensures { IfOk result (λ r. (r.0.total ≡ total) × (r.0.workers ≡ workers) × (r.1 ≡ opening r.0)) }
+        ensures { IfOk result (λ r. (r.0.total ≡ total) × (r.0.workers ≡ workers) × (r.1 ≡ opening_pass r.0)) }
     {
         let (table, seat) = Table::of_words(alloc, &[0], &Sizes { total, workers })?;
         let pass = Pass {
@@ -63,6 +64,29 @@ impl Claims {
             rest: 0,
             out: 0,
         }
+    }
+
+    /// Deals a pass to each worker: `passes` gets the opening pass and then the `workers - 1` others, which are split from
+    /// it. None of them has drawn.
+    ///
+    /// `passes` is empty before. With a capacity of `workers`, as a list that was dealt to before has, no memory is taken
+    /// and the answer is `Ok`. `Err` means out of memory: the list stays empty, and the opening pass is dropped.
+    pub fn deal(&self, mut opening: Pass, passes: &mut Vec<Pass>) -> Result<(), AllocError>
+        requires opening { opening ≡ opening_pass self.now }
+        requires empty { vec_len passes.old ≡ 0 }
+        ensures ok { IfOk result (λ _. (vec_len passes.new ≡ self.now.workers) × Dealt self.now passes.new.items) }
+        ensures err { IfErr result (λ _. vec_len passes.new ≡ 0) }
+        ensures room { self.now.workers ≤ vec_capacity passes.old → IsOk result }
+        ensures capacity { vec_capacity passes.old ≤ vec_capacity passes.new }
+    {
+        passes.reserve(opening.rest() as usize + 1)?;
+        for _ in 0..opening.rest() {
+            passes.push_reserved(self.split(&mut opening));
+        }
+        let Ok(()) = passes.insert(0, opening) else {
+            unreachable!()
+        };
+        Ok(())
     }
 
     /// Draws the next number, in one atomic step. `None` is a number at or past the total: the pass is spent then, and

@@ -1,6 +1,5 @@
 ghost use Rattle.std.specs.Prelude.{◌≡◌, ◌+◌, ◌<◌, [], ◌∷◌, ◌++◌, length, ℕ, ◌≤◌, Option, List, All, Contains, slice_index_or, IfOk, IfErr, option_copied};
-ghost use Rattle.laz_workers.specs.Rooms.{RoomSeen, HandSeen, IsEmptyRoom, IsNew, StandsIn, answer_in, numbers_in, rooms_of};
-ghost use Rattle.laz_workers.specs.Work.{HoldsAnswer};
+ghost use Rattle.laz_workers.specs.Rooms.{RoomSeen, HandSeen, IsEmptyRoom, IsNew, StandsIn, answer_in, numbers_in, rooms_of, lengths_of};
 
 use crate::hand::Hand;
 use crate::room::Room;
@@ -37,11 +36,12 @@ impl<S> Crew<S> {
         }
     }
 
-    /// Adds a hand with this space and two empty rooms of `room` bytes each. `Err` is want of memory: it gives the space
+    /// Adds a hand with this space and two empty rooms of `room` bytes each. `Err` means out of memory: it gives the space
     /// back, and the crew is as before.
     pub fn add(&mut self, space: S, room: usize) -> Result<(), (S, AllocError)>
         requires { length self.old < 8 }
         ensures ok { IfOk result (λ _. (hand : HandSeen S) × (self.new ≡ self.old ++ hand ∷ []) × IsNew space room hand) }
+        ensures lengths { IfOk result (λ _. lengths_of (rooms_of self.new) ≡ lengths_of (rooms_of self.old) ++ room ∷ room ∷ []) }
         ensures err { IfErr result (λ e. (self.new ≡ self.old) × (e.0 ≡ space)) }
     {
         let alloc = *self.hands.allocator();

@@ -1,4 +1,4 @@
-ghost use Rattle.std.specs.Prelude.{◌≡◌, ℕ, ◌+◌, ◌-◌, ◌*◌, ◌<◌, ◌≤◌, false, true, option_to_list, [], ◌∷◌, All, length, vec_len, vec_capacity, slice_index_or, map, flat_map, IsSome};
+ghost use Rattle.std.specs.Prelude.{◌≡◌, ℕ, ◌+◌, ◌-◌, ◌*◌, ◌<◌, ◌≤◌, false, true, option_to_list, [], ◌∷◌, All, length, vec_len, vec_capacity, slice_index_or, map, flat_map, IsSome, Contains};
 ghost use Rattle.laz_workers.specs.Numbers.{HoldsBelow};
 ghost use Rattle.laz_workers.specs.Shown.{shown};
 ghost use Rattle.laz_workers.specs.declared.held.Held.TheVariants.{Empty};
@@ -230,12 +230,16 @@ pub fn run_all<R: Threads + Sync, J: Job, G: Gate>(
 
     // Each number below the total stands in exactly one room, with the job's answer or as refused.
     ensures numbers { HoldsBelow claims.now.total (numbers_in (rooms_of crew.new)) }
+    ensures stand { (number : ℕ) → number < claims.now.total → Contains (numbers_in (rooms_of crew.new)) number }
     ensures answers { All (HoldsAnswer (J.answer job.now) (texts inputs.now)) (rooms_of crew.new) }
 
+    // `passes` holds the opening pass alone, to which the others were joined, and keeps its capacity.
     ensures passes { (pass : PassSeen) × (passes.new.items ≡ pass ∷ []) × IsJoined claims.now (rooms_of crew.new) pass }
+    ensures capacity { vec_capacity passes.new ≡ vec_capacity passes.old }
 
-    // The number of hands and each room's length stay.
+    // The number of hands, at most eight, and the length of each room stay, so that at most 16 inputs are worked at once.
     ensures hands { length crew.new ≡ length crew.old }
+    ensures few { length inputs.now ≤ 16 }
     ensures lengths { lengths_of (rooms_of crew.new) ≡ lengths_of (rooms_of crew.old) }
     ensures suits { All (λ hand. J.suits job.now hand.space) crew.new }
 {

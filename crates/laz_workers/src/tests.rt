@@ -1,8 +1,6 @@
 ghost use Rattle.std.specs.Prelude.{◌≡◌, ℕ, ◌+◌, ◌*◌, ◌<◌, ◌≤◌, [], ◌∷◌, All, length, vec_len, slice_index, nat_lt, Some, None, IfOk, if◌then◌else◌, ◌^◌};
 ghost use Rattle.laz_workers.specs.Numbers.{HoldsBelow};
-ghost use Rattle.laz_workers.specs.Seen.{opening};
-ghost use Rattle.laz_workers.specs.Rooms.{rooms_of, numbers_in};
-ghost use Rattle.laz_workers.specs.Run.{Dealt};
+ghost use Rattle.laz_workers.specs.Rooms.{rooms_of, numbers_in, lengths_of};
 
 use crate::{Claims, Crew, Job, Pass, run_all};
 use las_outside::{Gate, OpenGate};
@@ -51,10 +49,71 @@ fn no_number_is_left_of_none(rt: HostRuntime) -> Result<(), Fail> {
     Ok(())
 }
 
-// Answers an input of one byte below 200 with the next byte, and refuses others. A space counts the inputs that it saw.
-struct Next;
+// What happened under one number.
+#[derive(Drop)]
+struct Mark {
+    entered: AtomicU64,
+    worked: AtomicU64,
+    left: AtomicU64,
+    // Work before the number entered, or after it left.
+    outside: AtomicU64,
+}
 
-impl Job for Next {
+// A gate that keeps a mark for each number.
+#[derive(Drop)]
+struct Log {
+    marks: Vec<Mark>,
+}
+
+impl Gate for Log {
+    fn enter(&self, number: u32) {
+        if let Some(mark) = self.marks.get(number as usize) {
+            mark.entered.fetch_add(1, Ordering::SeqCst);
+        }
+    }
+
+    fn leave(&self, number: u32) {
+        if let Some(mark) = self.marks.get(number as usize) {
+            mark.left.fetch_add(1, Ordering::SeqCst);
+        }
+    }
+}
+
+fn log_of(alloc: Global, numbers: usize) -> Result<Log, AllocError> {
+    let mut marks = Vec::new(alloc);
+    for _ in 0..numbers {
+        marks.push(Mark {
+            entered: AtomicU64::new(0),
+            worked: AtomicU64::new(0),
+            left: AtomicU64::new(0),
+            outside: AtomicU64::new(0),
+        })?;
+    }
+    Ok(Log { marks })
+}
+
+// Answers an input of one byte below 200 with the next byte, and refuses others. A space counts the inputs that it saw. If
+// there is a log, the work is marked in it under the number that the byte is.
+#[derive(Drop)]
+struct Next<'a> {
+    log: Option<&'a Log>,
+}
+
+impl<'a> Next<'a> {
+    fn mark(&self, number: u8) {
+        let Some(log) = self.log else {
+            return;
+        };
+        if let Some(mark) = log.marks.get(number as usize) {
+            mark.worked.fetch_add(1, Ordering::SeqCst);
+            if mark.entered.load(Ordering::SeqCst) != 1 || mark.left.load(Ordering::SeqCst) != 0 {
+                mark.outside.fetch_add(1, Ordering::SeqCst);
+            }
+        }
+    }
+}
+
+impl<'a> Job for Next<'a> {
     type Space = u64;
 
     ghost answer = { λ _ input answer. answer ≡ (if nat_lt (slice_index input 0) 200 then Some ((slice_index input 0 + 1) ∷ []) else None) };
@@ -66,6 +125,7 @@ impl Job for Next {
     fn work(&self, input: &[u8], space: &mut u64, room: &mut Vec<u8>) -> Option<usize> {
         *space = space.wrapping_add(1);
         let byte = input[0];
+        self.mark(byte);
         if byte < 200 {
             room[0] = byte + 1;
             return Some(1);
@@ -77,7 +137,7 @@ impl Job for Next {
 // A crew of so many hands, each room of one byte.
 fn crew_of(alloc: Global, hands: u32) -> Result<Crew<u64>, AllocError>
     requires { hands ≤ 8 }
-    ensures { IfOk result (λ c. (length c ≡ hands) × All (λ room. length room.bytes ≡ 1) (rooms_of c)) }
+    ensures { IfOk result (λ c. (length c ≡ hands) × All (λ n. n ≡ 1) (lengths_of (rooms_of c))) }
 {
     let mut crew = Crew::new(alloc);
     for _hand in 0..hands {
@@ -88,20 +148,31 @@ fn crew_of(alloc: Global, hands: u32) -> Result<Crew<u64>, AllocError>
     Ok(crew)
 }
 
-// A pass for each worker: the opening one, and those that are split from it.
-fn passes_of(alloc: Global, claims: &Claims, mut first: Pass) -> Result<Vec<Pass>, AllocError>
-    requires { (first ≡ opening claims.now) × (0 < claims.now.workers) }
-    ensures { IfOk result (λ v. (vec_len v ≡ claims.now.workers) × Dealt claims.now v.items) }
+// Works inputs of one byte by a crew of `hands` hands. Gives the crew and the word at the end.
+fn work_marked<R: Threads + Sync, G: Gate>(
+    rt: &R,
+    alloc: Global,
+    job: &Next<'_>,
+    gate: &G,
+    hands: u32,
+    inputs: &[Vec<u8>],
+) -> Result<(Crew<u64>, u64), AllocError>
+    requires hands { (0 < hands) × (hands ≤ 8) }
+    requires inputs { (length inputs.now ≤ 2 * hands) × All (λ v. vec_len v ≡ 1) inputs.now }
+    ensures { IfOk result (λ r. HoldsBelow (length inputs.now) (numbers_in (rooms_of r.0))) }
 {
+    let mut crew = crew_of(alloc, hands)?;
+    let (claims, first) = Claims::new(alloc, inputs.len() as u32, hands)?;
     let mut passes = Vec::new(alloc);
-    while first.rest() > 0 {
-        passes.push(claims.split(&mut first))?;
-    }
-    passes.insert(0, first)?;
-    Ok(passes)
+    claims.deal(first, &mut passes)?;
+    run_all(rt, job, gate, inputs, &mut crew, &claims, &mut passes);
+    let Some(joined) = passes.pop() else {
+        return Err(AllocError);
+    };
+    Ok((crew, claims.close(joined)))
 }
 
-// Works the inputs by a crew of so many hands. Gives the crew and the word at the end.
+// The same without a log.
 fn work<R: Threads + Sync, G: Gate>(
     rt: &R,
     alloc: Global,
@@ -113,14 +184,7 @@ fn work<R: Threads + Sync, G: Gate>(
     requires inputs { (length inputs.now ≤ 2 * hands) × All (λ v. vec_len v ≡ 1) inputs.now }
     ensures { IfOk result (λ r. HoldsBelow (length inputs.now) (numbers_in (rooms_of r.0))) }
 {
-    let mut crew = crew_of(alloc, hands)?;
-    let (claims, first) = Claims::new(alloc, inputs.len() as u32, hands)?;
-    let mut passes = passes_of(alloc, &claims, first)?;
-    run_all(rt, &Next, gate, inputs, &mut crew, &claims, &mut passes);
-    let Some(joined) = passes.pop() else {
-        return Err(AllocError);
-    };
-    Ok((crew, claims.close(joined)))
+    work_marked(rt, alloc, &Next { log: None }, gate, hands, inputs)
 }
 
 fn inputs_of(alloc: Global, bytes: &[u8]) -> Result<Vec<Vec<u8>>, AllocError>
@@ -254,6 +318,107 @@ fn some_hands_have_no_input(rt: HostRuntime) -> Result<(), Fail> {
             word >= some.len() as u64 && word < 2 * u64::from(hands),
             "at {hands}"
         );
+    }
+    Ok(())
+}
+
+// Holds number 0 until two others have left, for so many turns at most.
+#[derive(Drop)]
+struct Others {
+    left: AtomicU64,
+    missed: AtomicU64,
+}
+
+impl Gate for Others {
+    fn enter(&self, number: u32) {
+        if number == 0 {
+            for _ in 0..200_000_000 {
+                if self.left.load(Ordering::SeqCst) == 2 {
+                    return;
+                }
+                spin_loop();
+            }
+            self.missed.store(1, Ordering::SeqCst);
+        }
+    }
+
+    fn leave(&self, number: u32) {
+        if number > 0 {
+            self.left.fetch_add(1, Ordering::SeqCst);
+        }
+    }
+}
+
+// While one hand is held at number 0, the other works both other inputs: numbers that were dealt to hands before the
+// fan-out would leave one of them with the held hand.
+#[test]
+fn a_free_hand_goes_on(rt: HostRuntime) -> Result<(), Fail> {
+    let gate = Others {
+        left: AtomicU64::new(0),
+        missed: AtomicU64::new(0),
+    };
+    let bytes = [10, 20, 30];
+    let inputs = inputs_of(rt.alloc(), &bytes)?;
+    let (crew, _word) = work(&rt, rt.alloc(), &gate, 2, inputs.as_slice())?;
+    assert!(rt; gate.missed.load(Ordering::SeqCst) == 0 && gate.left.load(Ordering::SeqCst) == 2);
+    assert!(rt; stands_by_number(&crew, &bytes));
+    Ok(())
+}
+
+// Holds each number until four have entered, for so many turns at most.
+#[derive(Drop)]
+struct Four {
+    entered: AtomicU64,
+    missed: AtomicU64,
+}
+
+impl Gate for Four {
+    fn enter(&self, _number: u32) {
+        self.entered.fetch_add(1, Ordering::SeqCst);
+        for _ in 0..200_000_000 {
+            if self.entered.load(Ordering::SeqCst) == 4 {
+                return;
+            }
+            spin_loop();
+        }
+        self.missed.store(1, Ordering::SeqCst);
+    }
+
+    fn leave(&self, _number: u32) {}
+}
+
+// Four inputs meet, by four hands and by eight.
+#[test]
+fn four_hands_meet(rt: HostRuntime) -> Result<(), Fail> {
+    let bytes = [1, 2, 3, 4];
+    let inputs = inputs_of(rt.alloc(), &bytes)?;
+    for hands in [4u32, 8] {
+        let gate = Four {
+            entered: AtomicU64::new(0),
+            missed: AtomicU64::new(0),
+        };
+        let (crew, _word) = work(&rt, rt.alloc(), &gate, hands, inputs.as_slice())?;
+        assert!(rt; gate.missed.load(Ordering::SeqCst) == 0, "at {hands}");
+        assert!(rt; stands_by_number(&crew, &bytes), "at {hands}");
+    }
+    Ok(())
+}
+
+// Each number enters once, is worked once and then leaves once.
+#[test]
+fn each_input_is_worked_once_inside_the_gate(rt: HostRuntime) -> Result<(), Fail> {
+    let bytes = [0, 1, 2, 3, 4, 5, 6, 7, 8, 9, 10, 11, 12, 13, 14, 15];
+    let inputs = inputs_of(rt.alloc(), &bytes)?;
+    let log = log_of(rt.alloc(), bytes.len())?;
+    let job = Next { log: Some(&log) };
+    let (crew, _word) = work_marked(&rt, rt.alloc(), &job, &log, 8, inputs.as_slice())?;
+    assert!(rt; stands_by_number(&crew, &bytes));
+    for (i, mark) in log.marks.iter().enumerate() {
+        let once = mark.entered.load(Ordering::SeqCst) == 1
+            && mark.worked.load(Ordering::SeqCst) == 1
+            && mark.left.load(Ordering::SeqCst) == 1
+            && mark.outside.load(Ordering::SeqCst) == 0;
+        assert!(rt; once, "at {i}");
     }
     Ok(())
 }

@@ -1,6 +1,6 @@
 use Rattle.std.proofs.Common.{◌≡◌, ℕ, List, length, get_or, sym, ◌∙◌}
 use Rattle.laz_workers.proofs.Texts.{texts_each}
-use Rattle.laz_workers.proofs.tests.work.Goals as goal
+use Rattle.laz_workers.proofs.tests.work_marked.Goals as goal
 
 pub run_all-requires-clause-fits : goal.run_all-requires-clause-fits
 run_all-requires-clause-fits g c κs within k d lt =
