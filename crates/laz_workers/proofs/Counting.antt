@@ -10,7 +10,7 @@ use lib.ListN.{get_elem?}
 use Rattle.laz_workers.specs.Numbers.{one_if, times, HoldsBelow}
 
 module _ {X : Type 0} where
-  -- the sum where one place is changed
+  -- the sum after one place is changed
   pub sum_at : (f : X → ℕ) (xs : List X) (i : ℕ) (a b : X) → get_elem? xs i ≡ some a → sum_by f (set xs i b) + f a ≡ sum_by f xs + f b
   sum_at f [] i a b e = absurd (some-ne-none a (sym e))
   sum_at f (x ∷ xs) zero a b e = omega (arith, sum_by-cons f b xs, sum_by-cons f x xs, ap f (some-injective x a e))
@@ -31,7 +31,7 @@ module _ {X : Type 0} where
   term_le f (x ∷ xs) zero a e = omega (arith, sum_by-cons f x xs, ap f (some-injective x a e))
   term_le f (x ∷ xs) (suc i) a e = omega (arith, sum_by-cons f x xs, term_le f xs i a e)
 
-  -- where one element passes the test, two that pass it stand at one place
+  -- if one element passes the test, two that pass it stand at one place
   pub one_place : (p : X → Bool) (xs : List X) → count_by p xs ≡ 1 → (i j : ℕ) (a b : X) → get_elem? xs i ≡ some a → p a ≡ true → get_elem? xs j ≡ some b → p b ≡ true → i ≡ j
   one_place p [] c i j a b e pa e' pb = absurd (some-ne-none a (sym e))
   one_place p (x ∷ xs) c zero zero a b e pa e' pb = refl
@@ -44,11 +44,11 @@ module _ {X : Type 0} where
       let there : count_by p xs ≡ 1 = omega (arith, sum_by-cons (λ y. one_if (p y)) x xs) in
       ap suc (one_place p xs there i j a b e pa e' pb)
 
-  -- where none passes, none does
+  -- if the count is 0, no element passes
   pub none_pass : (p : X → Bool) (xs : List X) → count_by p xs ≡ 0 → (i : ℕ) (a : X) → get_elem? xs i ≡ some a → p a ≡ false
   none_pass p xs c i a e = ⊎_elim (λ (t : p a ≡ true). absurd (omega (arith, term_le (λ y. one_if (p y)) xs i a e, ap one_if t))) (λ f. f) (cases_Bool (p a))
 
-  -- where some pass, one does
+  -- if the count is not 0, some element passes
   pub one_passes : (p : X → Bool) (xs : List X) → 0 < count_by p xs → (i : ℕ) × (a : X) × (get_elem? xs i ≡ some a) × (p a ≡ true)
   one_passes p [] c = absurd (omega arith)
   one_passes p (x ∷ xs) c =

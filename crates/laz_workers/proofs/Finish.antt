@@ -44,7 +44,7 @@ times_under total x (y ∷ ys) =
     (cases_Bool (nat_lt y total)) in
     step ∙ (joins_under total x y m (times x ys) (times_under total x ys) ∙ ap (λ n. cond (nat_lt x total) n 0) (sym whole))
 
--- the numbers below the total, of a list that holds each number below n, where n is at least the total
+-- the numbers below the total, of a list that holds each number below an n of at least the total
 under_whole : (total n : ℕ) (xs : List ℕ) → total ≤ n → HoldsBelow n xs → HoldsBelow total (under total xs)
 under_whole total n xs le h x =
     let e : times x (under total xs) ≡ cond (nat_lt x total) (one_if (nat_lt x n)) 0 = times_under total x xs ∙ ap (λ m. cond (nat_lt x total) m 0) (h x) in

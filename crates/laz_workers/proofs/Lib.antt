@@ -4,6 +4,7 @@ pub mod Steps
 pub mod Runs
 pub mod Examples
 pub mod RoomLists
+pub mod Standing
 pub mod Texts
 pub mod Working
 pub mod Finish

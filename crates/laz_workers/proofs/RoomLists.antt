@@ -1,14 +1,9 @@
--- Rooms among the rooms of a crew.
-use Rattle.std.proofs.Common.{◌≡◌, ◌⊎◌, ℕ, zero, suc, ◌<◌, true, false, Option, Some, None, List, [], ◌∷◌, ◌++◌, length, get_or, map, refl, sym, ap, subst, inl, inr, ⊎_elim, arith}
-use Rattle.std.specs.Prelude.{All, Contains, option_to_list, slice_index_or, ◌==◌, nat_lt}
-use Rattle.std.proofs.lemmas.List.Sums.{sum_by-cons}
-use Rattle.std.proofs.lemmas.List.Elements.{All-contains, Contains-append_cases}
-use Rattle.laz_workers.specs.Work.{HoldsAnswer}
-use Rattle.std.proofs.lemmas.Bool.{cases_Bool}
-use Rattle.std.proofs.lemmas.Bool.Decides.{nat_tests}
+-- Rooms among the rooms of a crew, and lists of hands read place by place.
+use Rattle.std.proofs.Common.{◌≡◌, ◌⊎◌, ℕ, zero, suc, ◌<◌, Option, Some, None, List, [], ◌∷◌, ◌++◌, length, get_or, map, refl, sym, ap, subst, inl, inr, ⊎_elim, arith}
+use Rattle.std.specs.Prelude.{Contains, option_to_list, slice_index_or}
+use Rattle.std.proofs.lemmas.List.Elements.{Contains-append_cases}
 use Rattle.laz_workers.specs.declared.hand.Hand.{Hand}
-use Rattle.laz_workers.specs.Numbers.{one_if, times, HoldsBelow}
-use Rattle.laz_workers.specs.Rooms.{RoomSeen, HandSeen, number_of, numbers_in, answer_in, rooms_of, StandsIn}
+use Rattle.laz_workers.specs.Rooms.{RoomSeen, HandSeen, number_of, numbers_in, rooms_of, StandsIn}
 use Rattle.laz_workers.specs.Shown.{shown}
 
 module _ {X : Type 0} where
@@ -38,24 +33,6 @@ room_of (r ∷ rs) number c =
     (λ (t : Contains held number). (r, (contains_head r rs, option_there (number_of r.held) number t)))
     (λ (t : Contains (numbers_in rs) number). let m = room_of rs number t in (m.0, (contains_tail r rs m.0 m.1.0, m.1.1)))
     (Contains-append_cases held (numbers_in rs) number c)
-
--- where each number below n stands in just one room, one of them stands in some room
-pub stands_below : (n : ℕ) (rooms : List RoomSeen) (number : ℕ) → HoldsBelow n (numbers_in rooms) → number < n → Contains (numbers_in rooms) number
-stands_below n rooms number h lt =
-    let t : nat_lt number n ≡ true = grind (arith, nat_tests) in
-    there number (numbers_in rooms) (omega (arith, h number, ap one_if t))
-  where
-    there : (x : ℕ) (xs : List ℕ) → 0 < times x xs → Contains xs x
-    there x [] p = absurd (omega arith)
-    there x (y ∷ ys) p =
-        ⊎_elim
-        (λ (t : (y == x) ≡ true). let same : y ≡ x = grind (arith, nat_tests) in let P : ℕ → Type 0 = λ z. Contains (y ∷ ys) z in subst P same (contains_head y ys))
-        (λ (t : (y == x) ≡ false). contains_tail y ys x (there x ys (omega (arith, sum_by-cons (λ z. one_if (z == x)) y ys, ap one_if t))))
-        (cases_Bool (y == x))
-
--- what the rooms hold being a job's answers, the answer of a room is the job's to the input of its number
-pub answer_there : (answer : List ℕ → Option (List ℕ) → Type 0) (inputs : List (List ℕ)) (rooms : List RoomSeen) (number : ℕ) (room : RoomSeen) → StandsIn rooms number room → All (HoldsAnswer answer inputs) rooms → answer (get_or inputs number []) (answer_in room.bytes room.held)
-answer_there answer inputs rooms number room s all = (All-contains (HoldsAnswer answer inputs) rooms room all s.0 number s.1).1
 
 module _ {S : Type 0} where
   abbrev all : List (Hand S) → List RoomSeen

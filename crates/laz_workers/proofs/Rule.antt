@@ -1,4 +1,4 @@
--- Each step keeps the rule of claims, and what the rule tells.
+-- Each step keeps the rule of claims, and what follows from the rule.
 use Rattle.std.proofs.Common.{◌≡◌, ◌≢◌, ℕ, ◌+◌, ◌-◌, ◌<◌, ◌≤◌, Bool, true, false, List, [], ◌∷◌, ◌++◌, set, refl, sym, ap, ◌∙◌, subst, ⊎_elim, arith}
 use Rattle.std.specs.Prelude.{◌==◌, nat_lt, nat_le, sum_by, count_by, All, flat_map}
 use Rattle.std.proofs.lemmas.List.Sums.{sum_by-append, sum_by_push}
@@ -28,7 +28,7 @@ module _ (T W word : ℕ) (views : List View) (k : Kept T W word views) where
   pub opens_there : (i : ℕ) (v : View) → get_elem? views i ≡ some v → v.opens ≡ true → v.gone ≡ false
   opens_there i v at o = ⊎_elim (λ (t : v.gone ≡ true). absurd (both_ways v.opens ((k.each i v at).gone t).1 o)) (λ f. f) (cases_Bool v.gone)
 
-  -- what is true of the opening pass's place and of what is gone is true of all, where it is true of each split pass
+  -- what is true of the opening pass's place, of what is gone and of each split pass is true of all
   others : (i : ℕ) (v : View) → get_elem? views i ≡ some v → v.opens ≡ true → (P : View → Type 0) → P gone
       → ((u : View) → u.gone ≡ true → u.drawn ≡ [] → P u) → ((j : ℕ) (u : View) → get_elem? views j ≡ some u → is_split u ≡ true → P u)
       → (j : ℕ) (u : View) → get_elem? (set views i gone) j ≡ some u → P u
@@ -46,7 +46,7 @@ module _ (T W word : ℕ) (views : List View) (k : Kept T W word views) where
       (cases_Bool u.gone))
       (at_set views i j gone u e)
 
-  -- where no pass is out, the opening one holds each number below the word
+  -- if no pass is out, the opening one holds each number below the word
   pub whole : (i : ℕ) (v : View) → get_elem? views i ≡ some v → v.opens ≡ true → v.out ≡ 0 → HoldsBelow word v.drawn
   whole i v at o none x =
       let f : View → ℕ = λ u. times x u.drawn in

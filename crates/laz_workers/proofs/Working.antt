@@ -1,5 +1,5 @@
 -- The work of one hand, from what one or two claims did.
-use Rattle.std.proofs.Common.{◌≡◌, ℕ, ◌+◌, ◌<◌, true, false, Option, Some, None, List, [], ◌∷◌, ◌++◌, length, refl, sym, ap, ◌∙◌, inl, inr, ⊎_elim, append_assoc, arith}
+use Rattle.std.proofs.Common.{◌≡◌, ℕ, ◌+◌, true, false, Option, Some, List, [], ◌∷◌, ◌++◌, length, refl, sym, ap, ◌∙◌, inl, inr, ⊎_elim, append_assoc, arith}
 use Rattle.std.specs.Prelude.{nat_lt, nat_le, option_to_list}
 use Rattle.std.proofs.lemmas.List.{append-nil}
 use Rattle.std.proofs.lemmas.List.Elements.{All-nil, All-cons, filter-append}
@@ -7,18 +7,10 @@ use Rattle.std.proofs.lemmas.Bool.{cases_Bool}
 use Rattle.std.proofs.lemmas.Bool.Decides.{nat_tests}
 use Rattle.laz_workers.specs.declared.hand.Hand.{Hand}
 use Rattle.laz_workers.specs.declared.held.Held.TheVariants.{Empty}
-use Rattle.laz_workers.specs.Seen.{ClaimsSeen, PassSeen, Drew, answer_of}
+use Rattle.laz_workers.specs.Seen.{ClaimsSeen, PassSeen, Drew}
 use Rattle.laz_workers.specs.Rooms.{RoomSeen, number_of}
 use Rattle.laz_workers.specs.Work.{HoldsAnswer}
 use Rattle.laz_workers.specs.Run.{under, Worked}
-
--- a claim's answer is below the total
-pub claimed_below : (total n k : ℕ) → Some k ≡ answer_of total n → k < total
-claimed_below total n k e =
-    ⊎_elim
-    (λ (t : nat_lt n total ≡ true). let below : n < total = grind (arith, nat_tests) in let is : Some k ≡ Some n = e ∙ rw t refl in let same : k ≡ n = cc in omega arith)
-    (λ (t : nat_lt n total ≡ false). let is : Some k ≡ None = e ∙ rw t refl in absurd (cc))
-    (cases_Bool (nat_lt n total))
 
 -- one claim, and what it left in a room
 pub record Filled (claims : ClaimsSeen) (answer : List ℕ → Option (List ℕ) → Type 0) (inputs : List (List ℕ)) (p q : PassSeen) (size : ℕ) (room : RoomSeen) : Type 0 where
@@ -30,9 +22,6 @@ pub record Filled (claims : ClaimsSeen) (answer : List ℕ → Option (List ℕ)
 
 under_low : (total n : ℕ) → nat_le total n ≡ false → under total (n ∷ []) ≡ n ∷ []
 under_low total n e = let t : nat_lt n total ≡ true = grind (arith, nat_tests) in rw t refl
-
-under_high : (total n : ℕ) → nat_le total n ≡ true → under total (n ∷ []) ≡ []
-under_high total n e = let t : nat_lt n total ≡ false = grind (arith, nat_tests) in rw t refl
 
 nothing_answered : (answer : List ℕ → Option (List ℕ) → Type 0) (inputs : List (List ℕ)) (room : RoomSeen) → room.held ≡ Empty → HoldsAnswer answer inputs room
 nothing_answered answer inputs room e number is =

@@ -32,11 +32,11 @@ split_from v = record v { rest = v.rest - 1; out = v.out + 1 }
 abbrev pub split_off : View → View
 split_off v = record { opens = false; gone = false; drawn = []; spent = false; rest = 0; out = 0; joins = 0; total = v.total; workers = v.workers }
 
--- `fetch_add`: the old word is added to the caller's list, and the caller is spent where it is at or past the total
+-- `fetch_add`: the old word is added to the caller's list, and the caller is spent exactly if that number is at or past the total
 abbrev pub drew : View → ℕ → View
 drew v word = record v { drawn = v.drawn ++ word ∷ []; spent = nat_le v.total word }
 
--- `join_seat`: the other's list is added behind
+-- `join_seat`: the other's list is added at the end
 abbrev pub joined : View → View → View
 joined v other = record v { drawn = v.drawn ++ other.drawn; out = v.out - 1; joins = v.joins + 1 }
 
@@ -52,13 +52,13 @@ pub record Fits (total workers splits : ℕ) (v : View) : Type 0 where
   pub gone : v.gone ≡ true → (v.drawn ≡ []) × (v.opens ≡ false)
   -- all that are not gone have the same total and number of workers
   pub sizes : v.gone ≡ false → (v.total ≡ total) × (v.workers ≡ workers)
-  -- a split pass holds one number at or past the total where it is spent, and none otherwise, and splits none off
+  -- a split pass holds one number at or past the total if it is spent, else none, and no pass is split from it
   pub split : is_split v ≡ true → (past total v.drawn ≡ one_if v.spent) × (v.rest ≡ 0) × (v.out ≡ 0)
   -- `out` of the opening pass is the number of split passes
   pub out : v.opens ≡ true → v.out ≡ splits
   -- each worker has a pass that is the opening one, was joined to it, is out or may still be split off
   pub seats : v.opens ≡ true → v.rest + v.out + v.joins + 1 ≡ workers
-  -- the opening pass holds at most as many numbers at or past the total as passes were joined, and one more where it is spent
+  -- the opening pass holds at most as many numbers at or past the total as passes were joined, and one more if it is spent
   pub opening : v.opens ≡ true → past total v.drawn ≤ v.joins + one_if v.spent
 
 -- The rule of the word and the views
@@ -115,14 +115,14 @@ InRange s = (s.total ≤ 2 ^ 24) × (0 < s.workers) × (s.workers ≤ 8)
 abbrev pub Holds : Sizes → State (Unit {0}) View → Type 0
 Holds s state = InRange s × ((word : ℕ) × (state.words ≡ word ∷ []) × Kept s.total s.workers word state.views)
 
--- What a `fetch_add` tells its caller: the number is added to its list, and is greater than each that it held. The opening pass that has none out holds each number below the word that is left
+-- What the caller of a `fetch_add` knows: the number is added to its list, and is greater than each that it held. If the caller is the opening pass and no other is out, its list holds each number below the word that is left
 pub record Draw (step : Step (Unit {0})) (v : Me (Unit {0}) View) (word : ℕ) (w : Me (Unit {0}) View) : Type 0 where
   pub view : w.0 ≡ drew v.0 word
   pub slots : w.1 ≡ v.1
   pub greater : All (λ x. x < word) v.0.drawn
   pub whole : v.0.opens ≡ true → v.0.out ≡ 0 → HoldsBelow (word + 1) w.0.drawn
 
--- What a load tells the opening pass: where it has none out, it holds each number below the word
+-- What the opening pass knows after a load: if no other is out, its list holds each number below the word
 pub record Look (step : Step (Unit {0})) (v : Me (Unit {0}) View) (word : ℕ) (w : Me (Unit {0}) View) : Type 0 where
   pub view : w.0 ≡ v.0
   pub slots : w.1 ≡ v.1
@@ -140,10 +140,10 @@ pub record IsLive (v : View) : Type 0 where
   pub seats : v.opens ≡ true → v.rest + v.out + v.joins + 1 ≡ v.workers
   pub few : v.workers ≤ 8
 
--- Whatever steps the passes take, and in whatever order, the rule holds behind each of them, and the word is at most the total and the number of workers
+-- Whatever steps the passes take, and in whatever order, the rule holds after each of them, and the word is at most the total plus the number of workers
 abbrev pub EveryRunKeepsTheRule : Type 0
 EveryRunKeepsTheRule = (sizes : Sizes) (events : List Event) (s : Claiming) → InRange sizes → Run (made sizes) events s → Kept sizes.total sizes.workers s.word s.views × (s.word ≤ sizes.total + sizes.workers)
 
--- Where the opening pass can close, it holds each number below the word once, and no other
+-- If the claims can be closed, the opening pass holds each number below the word once, and no other
 abbrev pub EveryCloseIsWhole : Type 0
 EveryCloseIsWhole = (total workers : ℕ) (s : Claiming) (i : ℕ) → Kept total workers s.word s.views → Leads s (closes i) s → (v : View) → Has s i v → HoldsBelow s.word v.drawn

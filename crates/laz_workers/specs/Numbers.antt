@@ -1,7 +1,7 @@
 -- Lists of drawn numbers.
 use Rattle.std.specs.Prelude.{◌≡◌, ℕ, Bool, ◌==◌, nat_lt, if◌then◌else◌, List, count_by}
 
--- 1 where a test is true
+-- 1 if the test is true, else 0
 abbrev pub one_if : Bool → ℕ
 one_if b = if b then 1 else 0
 

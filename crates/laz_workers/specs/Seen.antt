@@ -9,7 +9,7 @@ pub record ClaimsSeen : Type 0 where
   pub total : ℕ
   pub workers : ℕ
 
--- the claims that it belongs to, whether it is the opening pass, the numbers that it drew in their order, whether one of its own was at or past the total, how many passes it may still split off, and how many are out
+-- the claims that it belongs to, whether it is the opening pass, the numbers that it drew, in order, whether one of its own was at or past the total, how many passes may still be split from it, and how many were split from it and not joined
 pub record PassSeen : Type 0 where
   pub claims : ClaimsSeen
   pub opens : Bool
@@ -18,20 +18,20 @@ pub record PassSeen : Type 0 where
   pub rest : ℕ
   pub out : ℕ
 
--- the pass with which the claims begin
+-- the opening pass of new claims
 abbrev pub opening_pass : ClaimsSeen → PassSeen
 opening_pass c = record { claims = c; opens = true; drawn = []; spent = false; rest = c.workers - 1; out = 0 }
 
--- a pass that is split from another
+-- a pass that was split from another and has drawn nothing
 abbrev pub split_pass : PassSeen → PassSeen
 split_pass p = record { claims = p.claims; opens = false; drawn = []; spent = false; rest = 0; out = 0 }
 
--- what a claim that drew this number answers
+-- the answer of a claim that drew this number
 abbrev pub answer_of : ℕ → ℕ → Option ℕ
 answer_of total number = if nat_lt number total then Some number else None
 
--- The pass drew the number: it stands behind the others and is greater than each, and the pass is spent where the number is at or past the total. All else stays.
--- The opening pass with none out then holds each number below the word that this step left, once, and no other
+-- The pass drew the number: it follows the others in the list and is greater than each, and the pass is spent exactly if the number is at or past the total. All else stays.
+-- If the pass is the opening one and no other is out, it then holds each number below the word that this step left, once, and no other
 pub record Drew (old new : PassSeen) (number : ℕ) : Type 0 where
   pub pass : new ≡ record old { drawn = old.drawn ++ number ∷ []; spent = nat_le old.claims.total number }
   pub greater : All (λ x. x < number) old.drawn

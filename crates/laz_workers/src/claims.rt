@@ -1,4 +1,4 @@
-ghost use Rattle.std.specs.Prelude.{◌≡◌, ℕ, ◌+◌, ◌-◌, ◌^◌, ◌<◌, ◌≤◌, IfOk, IfErr, IsOk, true, false, ◌++◌, vec_len, vec_capacity};
+ghost use Rattle.std.specs.Prelude.{◌≡◌, ℕ, ◌+◌, ◌-◌, ◌^◌, ◌<◌, ◌≤◌, IfOk, IfErr, IsOk, IfSome, true, false, ◌++◌, vec_len, vec_capacity};
 ghost use Rattle.laz_workers.specs.Numbers.{HoldsBelow};
 ghost use Rattle.laz_workers.specs.Seen.{opening_pass, split_pass, answer_of, Drew};
 ghost use Rattle.laz_workers.specs.Run.{Dealt};
@@ -11,7 +11,8 @@ use std::marker::Model;
 
 /// The numbers below a total, which passes draw from one shared word, each number once in any schedule of threads.
 ///
-/// A claim is one `fetch_add` on the word. Claims are shared by reference, and each thread draws with a pass of its own.
+/// A claim is one `fetch_add` on the word. Claims are shared by reference, and each thread draws with a pass of its own. The
+/// steps and the rule that they keep are this project's own.
 #[derive(Drop)]
 pub struct Claims {
     table: Table<(), View, Sizes, Claiming, Global>,
@@ -31,8 +32,8 @@ impl Model for Claims {
 }
 
 impl Claims {
-    /// Claims on the numbers below `total`, at most 2^24, by at most `workers` passes at once, 1 to 8, and the opening
-    /// pass. The opening pass can have `workers - 1` others split from it.
+    /// Claims on the numbers below `total`, which is at most 2^24, and the opening pass. There are at most `workers` passes
+    /// at once, 1 to 8: the opening pass can have `workers - 1` others split from it. `Err` means out of memory.
     pub fn new(alloc: Global, total: u32, workers: u32) -> Result<(Claims, Pass), AllocError>
         requires total { total ≤ 2 ^ 24 }
         requires workers { (0 < workers) × (workers ≤ 8) }
@@ -89,12 +90,13 @@ impl Claims {
         Ok(())
     }
 
-    /// Draws the next number, in one atomic step. `None` is a number at or past the total: the pass is spent then, and
-    /// draws no more.
+    /// Draws the next number, in one atomic step. `None` means that it is at or past the total: the pass is then spent, and
+    /// draws no further number.
     pub fn claim(&self, pass: &mut Pass) -> Option<u32>
         requires own { pass.old.claims ≡ self.now }
         requires unspent { pass.old.spent ≡ false }
-        ensures { (number : ℕ) × Drew pass.old pass.new number × (result ≡ answer_of self.now.total number) }
+        ensures drew { (number : ℕ) × Drew pass.old pass.new number × (result ≡ answer_of self.now.total number) }
+        ensures below { IfSome result (λ number. number < self.now.total) }
     {
         let number = self.table.shared.fetch_add::<Draws>(&mut pass.seat, 0, 1);
         if number < u64::from(self.total) {
@@ -116,13 +118,13 @@ impl Claims {
     {
         let Pass { seat, .. } = other;
         self.table.shared.join_seat::<Joins>(&mut pass.seat, seat);
-        // A join tells nothing of the word. This load does, and it changes nothing.
+        // The table's join says nothing of the word. This load does, and it changes nothing.
         self.table.shared.load::<Looks>(&mut pass.seat, 0);
         pass.out -= 1;
     }
 
-    /// Ends the claims, and gives the word: how many numbers were drawn in all, with those at or past the total. The
-    /// opening pass holds each number below it, in the order in which the passes drew and were joined.
+    /// Ends the claims, and gives the word: how many numbers were drawn in all, those at or past the total included. The
+    /// opening pass holds each number below it once, in the order in which the passes drew and were joined.
     pub fn close(self, pass: Pass) -> u64
         requires own { pass.claims ≡ self }
         requires opening { pass.opens ≡ true }

@@ -68,7 +68,9 @@ impl<S> Crew<S> {
         self.hands.len()
     }
 
-    /// Lends the answer to the input of a number that stands in a room. `None` is an input that the job refused.
+    /// Lends the answer to the input of a number that stands in a room. `None` means that the job refused the input.
+    ///
+    /// After `run_all`, whose `answers` clause says what each room holds, it is the job's own answer to that input.
     pub fn result(&self, number: u32) -> Option<&[u8]>
         requires { Contains (numbers_in (rooms_of self.now)) number }
         ensures { (room : RoomSeen) × StandsIn (rooms_of self.now) number room × (option_copied result ≡ answer_in room.bytes room.held) }

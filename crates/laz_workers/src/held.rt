@@ -3,7 +3,7 @@
 pub enum Held {
     /// Nothing.
     Empty,
-    /// The answer to the input of this number: so many bytes at the room's front.
+    /// The answer to the input of this number: the first `length` bytes of the room.
     Full { number: u32, length: usize },
     /// The input of this number was refused.
     Refused { number: u32 },

@@ -3,23 +3,24 @@ ghost use Rattle.laz_workers.specs.Work.{Answers};
 
 /// The work that hands do on inputs, each by itself.
 ///
-/// A job means three things: which byte list, if any, it answers for an input; which inputs fit a room of which length;
-/// and which spaces suit it.
+/// A job has three meanings: which answers an input may have, as a relation; which inputs fit a room of which length; and
+/// which spaces suit the job. A relation serves a job that decodes: that bytes hold something is "some spelling exists",
+/// which no function of the bytes says.
 pub trait Job: Sync {
     /// What a hand keeps from one input to the next.
     type Space: Send;
 
-    /// The answer to an input. `None` refuses it.
+    /// Whether this is an answer to the input. `None` as an answer refuses the input.
     ghost answer: { Self → List ℕ → Option (List ℕ) → Type 0 };
 
-    /// Whether a room of so many bytes suffices for an input.
+    /// Whether an input's answer fits a room of this many bytes.
     ghost fits: { Self → List ℕ → ℕ → Type 0 };
 
-    /// Whether the job can work with a space.
+    /// Whether the job can work with the space.
     ghost suits: { Self → Self.Space → Type 0 };
 
-    /// Works one input. `Some(n)` leaves an answer of n bytes at the front of the room, and `None` refuses the input.
-    /// The room keeps its length, and what else it holds is unspecified.
+    /// Works one input. `Some(n)` leaves an answer of n bytes at the front of the room, and `None` refuses the input. The
+    /// room keeps its length; its other bytes are unspecified.
     fn work(&self, input: &[u8], space: &mut Self::Space, room: &mut Vec<u8>) -> Option<usize>
         requires fits { fits self.now input.now (vec_len room.old) }
         requires suits { suits self.now space.old }

@@ -30,7 +30,7 @@ impl Model for Pass {
 }
 
 impl Pass {
-    /// Whether it drew a number at or past the total itself. It draws no more then.
+    /// Whether it drew a number at or past the total itself. A pass that is spent draws no further number.
     pub fn is_spent(&self) -> bool
         ensures { result ≡ self.now.spent }
     {

@@ -1,4 +1,4 @@
-ghost use Rattle.std.specs.Prelude.{◌≡◌, ℕ, ◌+◌, ◌-◌, ◌*◌, ◌<◌, ◌≤◌, false, true, option_to_list, [], ◌∷◌, All, length, vec_len, vec_capacity, slice_index_or, map, flat_map, IsSome, Contains};
+ghost use Rattle.std.specs.Prelude.{◌≡◌, ℕ, ◌+◌, ◌-◌, ◌*◌, ◌<◌, ◌≤◌, false, true, option_to_list, [], ◌∷◌, All, length, vec_len, vec_capacity, slice_index_or, map, flat_map, IsSome, Some, Contains};
 ghost use Rattle.laz_workers.specs.Numbers.{HoldsBelow};
 ghost use Rattle.laz_workers.specs.Shown.{shown};
 ghost use Rattle.laz_workers.specs.declared.held.Held.TheVariants.{Empty};
@@ -19,7 +19,33 @@ use las_outside::Gate;
 use std::thread;
 use std::thread::Threads;
 
-// Draws one number, and works its input into the room if there is one.
+// Works the input of this number into the room, between the gate's two calls.
+fn work_number<J: Job, G: Gate>(
+    job: &J,
+    gate: &G,
+    inputs: &[Vec<u8>],
+    number: u32,
+    space: &mut J::Space,
+    room: &mut Room,
+)
+    requires number { number < length inputs.now }
+    requires fits { All (λ input. J.fits job.now input (length room.old.bytes)) (texts inputs.now) }
+    requires suits { J.suits job.now space.old }
+    ensures stands { number_of room.new.held ≡ Some number }
+    ensures answered { HoldsAnswer (J.answer job.now) (texts inputs.now) room.new }
+    ensures size { length room.new.bytes ≡ length room.old.bytes }
+    ensures suits { J.suits job.now space.new }
+{
+    gate.enter(number);
+    let answer = job.work(&inputs[number as usize], space, &mut room.bytes);
+    room.held = match answer {
+        Some(length) => Held::Full { number, length },
+        None => Held::Refused { number },
+    };
+    gate.leave(number);
+}
+
+// Draws one number and, if it is below the total, works its input into the room.
 fn fill<J: Job, G: Gate>(
     job: &J,
     gate: &G,
@@ -42,17 +68,11 @@ fn fill<J: Job, G: Gate>(
     let Some(number) = claims.claim(pass) else {
         return;
     };
-    gate.enter(number);
-    let answer = job.work(&inputs[number as usize], space, &mut room.bytes);
-    room.held = match answer {
-        Some(length) => Held::Full { number, length },
-        None => Held::Refused { number },
-    };
-    gate.leave(number);
+    work_number(job, gate, inputs, number, space, room);
 }
 
-// The work of one hand: it claims while a room is empty and its pass is not spent, and works what it drew. What it ensures
-// is all that the fan-out needs.
+// The work of one hand: it claims while it has an empty room and its pass is not spent, and works the input of each number
+// that it drew below the total. Its clause is all that the fan-out needs.
 fn work_hand<J: Job, G: Gate>(
     job: &J,
     gate: &G,
@@ -90,7 +110,7 @@ fn equip<S>(hand: &mut Hand<S>, pass: Pass)
 }
 
 // Empties all rooms, and gives pass h to hand h.
-fn deal<S>(hands: &mut [Hand<S>], passes: &mut Vec<Pass>)
+fn equip_all<S>(hands: &mut [Hand<S>], passes: &mut Vec<Pass>)
     requires { vec_len passes.old ≡ length hands.old }
     ensures hands { (k : ℕ) (d : Hand S) (e : PassSeen) → k < length hands.old → slice_index_or hands.new k d ≡ equipped (slice_index_or hands.old k d) (slice_index_or passes.old.items k e) }
     ensures passes { (vec_len passes.new ≡ 0) × (vec_capacity passes.new ≡ vec_capacity passes.old) }
@@ -100,8 +120,8 @@ fn deal<S>(hands: &mut [Hand<S>], passes: &mut Vec<Pass>)
     }
 }
 
-// Works inputs by these hands, split among at most so many threads, of which the caller's is one. Hands that share a
-// thread, or that no thread can be started for, work one after another.
+// Works inputs by these hands, split among at most `threads` threads, one of them the caller's. Hands that share a thread,
+// or that no thread can be started for, work one after another.
 fn work_in_threads<R: Threads + Sync, J: Job, G: Gate>(
     rt: &R,
     job: &J,
@@ -158,8 +178,8 @@ fn take_pass<S>(hand: &mut Hand<S>) -> Pass
     pass
 }
 
-// Takes the passes out of the hands and joins them, in the hands' order, to the first, which is the opening one.
-fn gather<S>(claims: &Claims, hands: &mut [Hand<S>]) -> Pass
+// Takes the passes out of the hands and joins them, in the order of the hands, to the first, which is the opening one.
+fn join_all<S>(claims: &Claims, hands: &mut [Hand<S>]) -> Pass
     requires hands { 0 < length hands.old }
     requires passes { (k : ℕ) (d : Hand S) → k < length hands.old → HoldsPass claims.now (length hands.old) k (slice_index_or hands.old k d) }
     ensures opening { (result.claims ≡ claims.now) × (result.opens ≡ true) × (result.out ≡ 0) }
@@ -197,22 +217,25 @@ fn work_all<R: Threads + Sync, J: Job, G: Gate>(
     ensures joined { IsJoined claims.now (rooms_of (map shown hands.new)) result }
     ensures passes { (vec_len passes.new ≡ 0) × (vec_capacity passes.new ≡ vec_capacity passes.old) }
 {
-    deal(hands, passes);
+    equip_all(hands, passes);
     fan_out(rt, job, gate, inputs, claims, hands);
-    gather(claims, hands)
+    join_all(claims, hands)
 }
 
 /// Works all inputs by the crew's hands, and joins their passes.
 ///
-/// There are as many passes as hands and none has drawn: the first is the opening one, and the others were split from it.
-/// There are as many inputs as the claims have numbers, at most two for each hand. Every input fits every room, and every
-/// hand's space suits the job.
+/// There are as many passes as hands and none has drawn, as `Claims::deal` leaves them. There are as many inputs as the
+/// claims have numbers, at most two for each hand and so at most 16. Every input fits every room, and every hand's space
+/// suits the job.
 ///
 /// The rooms are emptied first, and pass h goes to hand h. Each hand then claims while it has an empty room and its pass
 /// is not spent, and works the input of each number that it draws below the total, between the gate's `enter` and
-/// `leave` of that number. Which hand works which input is left to the schedule; the answers stand by number all the
-/// same. Nothing is refused and no memory is taken. At the end the threads have returned, and `passes` holds the opening
-/// pass alone, to which the others were joined.
+/// `leave` of that number. Which hand works which input depends on the schedule; the answers stand by number all the
+/// same. No more threads are started than there are inputs.
+///
+/// Nothing is refused, and there is no answer for out of memory: if a thread cannot be started, the caller's thread does
+/// its work. At the end the threads have returned, and `passes` holds the opening pass alone, to which the others were
+/// joined.
 pub fn run_all<R: Threads + Sync, J: Job, G: Gate>(
     rt: &R,
     job: &J,

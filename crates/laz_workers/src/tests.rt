@@ -134,7 +134,7 @@ impl<'a> Job for Next<'a> {
     }
 }
 
-// A crew of so many hands, each room of one byte.
+// A crew of `hands` hands, each room of one byte.
 fn crew_of(alloc: Global, hands: u32) -> Result<Crew<u64>, AllocError>
     requires { hands ≤ 8 }
     ensures { IfOk result (λ c. (length c ≡ hands) × All (λ n. n ≡ 1) (lengths_of (rooms_of c))) }
@@ -214,7 +214,7 @@ fn stands_by_number(crew: &Crew<u64>, bytes: &[u8]) -> bool
     true
 }
 
-// Holds number 0 until number 1 has entered, for so many turns at most.
+// Holds number 0 until number 1 has entered, for 200,000,000 turns at most.
 #[derive(Drop)]
 struct Meeting {
     entered: AtomicU64,
@@ -322,7 +322,7 @@ fn some_hands_have_no_input(rt: HostRuntime) -> Result<(), Fail> {
     Ok(())
 }
 
-// Holds number 0 until two others have left, for so many turns at most.
+// Holds number 0 until two others have left, for 200,000,000 turns at most.
 #[derive(Drop)]
 struct Others {
     left: AtomicU64,
@@ -365,7 +365,7 @@ fn a_free_hand_goes_on(rt: HostRuntime) -> Result<(), Fail> {
     Ok(())
 }
 
-// Holds each number until four have entered, for so many turns at most.
+// Holds each number until four have entered, for 200,000,000 turns at most.
 #[derive(Drop)]
 struct Four {
     entered: AtomicU64,

@@ -1,8 +1,8 @@
-//! What a pass knows, and how the atomic steps change it.
+//! What a pass knows, and how each atomic step changes it.
 use atomic_table::{Join, Play, Split, TableRule};
 use std::collections::LinkedList;
 
-/// How many numbers there are, and how many passes may be out at once with the opening one.
+/// How many numbers there are, and how many passes there may be at once, the opening one included.
 #[derive(Clone, Copy)]
 pub struct Sizes {
     pub total: u32,
@@ -13,7 +13,7 @@ pub struct Sizes {
 pub struct View {
     /// Whether it is the pass that the claims began with.
     pub opens: bool,
-    /// Whether it was joined to the opening one and is no more.
+    /// Whether it was joined to the opening one. Then it draws no further number.
     pub gone: bool,
     /// The numbers that it drew, and those of the passes that were joined to it.
     pub drawn: LinkedList<u64>,
@@ -49,7 +49,7 @@ impl Play<(), View> for Draws {
     ghost then = { Draw };
 }
 
-// A load, behind a join.
+// A load, after a join.
 pub struct Looks;
 
 impl Play<(), View> for Looks {

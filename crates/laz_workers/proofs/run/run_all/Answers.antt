@@ -1,9 +1,9 @@
-use Rattle.std.proofs.Common.{◌≡◌, ◌*◌, ◌≤◌, List, All, ◌++◌, length, drop, take, map, sym, ap, ◌∙◌, subst}
+use Rattle.std.proofs.Common.{◌≡◌, List, All, ◌++◌, length, drop, take, map, sym, ap, ◌∙◌, subst}
 use Rattle.std.proofs.Math.Seq.{take-append_seam}
 use Rattle.laz_workers.specs.declared.hand.Hand.{Hand}
 use Rattle.laz_workers.specs.Numbers.{HoldsBelow}
 use Rattle.laz_workers.specs.Rooms.{numbers_in, rooms_of}
-use Rattle.laz_workers.proofs.RoomLists.{stands_below}
+use Rattle.laz_workers.proofs.Standing.{stands_below}
 use Rattle.laz_workers.specs.Shown.{shown}
 use Rattle.laz_workers.specs.Work.{HoldsAnswer, texts}
 use Rattle.laz_workers.proofs.run.run_all.Goals as goal

@@ -1,6 +1,6 @@
 use Rattle.std.proofs.Common.{length}
 use Rattle.laz_workers.specs.Rooms.{rooms_of}
-use Rattle.laz_workers.proofs.RoomLists.{stands_below}
+use Rattle.laz_workers.proofs.Standing.{stands_below}
 use Rattle.laz_workers.proofs.tests.stands_by_number.Goals as goal
 
 pub result-requires : goal.result-requires

@@ -1,4 +1,4 @@
-use Rattle.std.proofs.Common.{map, ap, ◌∙◌, arith, subst, sym, get_or, []}
+use Rattle.std.proofs.Common.{map, ap, ◌∙◌, arith}
 use Rattle.laz_workers.specs.Shown.{shown}
 use Rattle.laz_workers.specs.Rooms.{rooms_of, StandsIn}
 use Rattle.laz_workers.proofs.RoomLists.{first_at, second_at, nowhere_in}

@@ -3,7 +3,7 @@ use Rattle.std.specs.Prelude.{flat_map}
 use Rattle.laz_workers.specs.Numbers.{HoldsBelow}
 use Rattle.laz_workers.specs.Shown.{shown}
 use Rattle.laz_workers.specs.Run.{drawn_by}
-use Rattle.laz_workers.proofs.run.gather.Given as goal
+use Rattle.laz_workers.proofs.run.join_all.Given as goal
 
 abbrev pub invariant-loop-h : goal.invariant-loop-h
 invariant-loop-h g l = record {

@@ -2,7 +2,7 @@ use Rattle.std.proofs.Common.{◌≡◌, ℕ, ◌<◌, ◌≤◌, length, get_or
 use Rattle.std.specs.Prelude.{vec_capacity}
 use Rattle.laz_workers.specs.Seen.{PassSeen}
 use Rattle.laz_workers.specs.Run.{equipped}
-use Rattle.laz_workers.proofs.run.deal.Given as goal
+use Rattle.laz_workers.proofs.run.equip_all.Given as goal
 
 abbrev pub invariant-loop-pass : goal.invariant-loop-pass
 invariant-loop-pass g l = record {
