@@ -1,0 +1,16 @@
+use Rattle.std.proofs.Common.{◌≡◌, ℕ, ◌≤◌, List, false, length, take}
+use Rattle.laz_range.specs.Choice.{AreAsked, all_cuts, state_after}
+use Rattle.laz_range.specs.Decoding.{Takes}
+use Rattle.laz_models.specs.Bank.{sizes_of}
+use Rattle.laz_rgb.specs.Rows.{IsNext, next_cuts, next_row, row_at}
+use Rattle.laz_rgb.specs.Extra.{all_marked, extra_made}
+use Rattle.laz_rgb.proofs.bytes.take_bytes.Given as goal
+
+abbrev pub invariant-loop-i : goal.invariant-loop-i
+invariant-loop-i l =
+    let row = row_at (all_marked (length l.last)) 0 l.fn.bank in
+    record {
+      reads : (xs : List ℕ) × Takes (AreAsked next_row IsNext row l.i) (all_cuts next_row next_cuts row) l.fn.decoder l.decoder xs × (take l.i l.part ≡ extra_made l.last xs) × (l.bank ≡ (state_after next_row row xs).bank);
+      part : length l.part ≡ length l.last;
+      sizes : sizes_of l.bank ≡ sizes_of l.fn.bank;
+    }

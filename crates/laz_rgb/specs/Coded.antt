@@ -1,0 +1,72 @@
+-- The parts that a colour's events cut out, by the models as they are, and the models after them.
+use Rattle.std.specs.Prelude.{◌≡◌, ℕ, ◌+◌, ◌<◌, Bool, false, if◌then◌else◌, List, [], ◌∷◌, ◌++◌, slice_set, slice_index_or}
+use Rattle.laz_range.specs.Cut.{Cut}
+use Rattle.laz_range.specs.Choice.{all_cuts, state_after}
+use Rattle.laz_models.specs.Counting.{Counting, counted}
+use Rattle.laz_models.specs.Bank.{model_at}
+use Rattle.laz_integer.specs.Integer.{symbol_cut}
+use Rattle.laz_rgb.specs.Rows.{next_cuts, next_row, row_at}
+use Rattle.laz_integer.specs.Fields.{IsByte, byte_cuts, byte_next}
+use Rattle.laz_rgb.specs.declared.colour.Colour.{Colour}
+use Rattle.laz_rgb.specs.Colours.{colour_marks, has_bit}
+
+-- The models after the symbol of changes.
+abbrev pub changes_counted : List Counting → ℕ → List Counting
+changes_counted bank s = slice_set bank 0 (counted (model_at bank 0) s)
+
+abbrev pub colour_cuts : List Counting → ℕ → List ℕ → List Cut
+colour_cuts bank s symbols = (symbol_cut (model_at bank 0) s ∷ []) ++ all_cuts next_row next_cuts (row_at (colour_marks s) 1 (changes_counted bank s)) symbols
+
+abbrev pub colour_next : List Counting → ℕ → List ℕ → List Counting
+colour_next bank s symbols = (state_after next_row (row_at (colour_marks s) 1 (changes_counted bank s)) symbols).bank
+
+-- ---- two bytes read, one after another
+abbrev pub IsTwo : Bool → Bool → ℕ × ℕ → Type 0
+IsTwo s t x = IsByte s 0 x.0 × IsByte t 0 x.1
+
+abbrev pub two_cuts : Bool → Bool → List Counting → ℕ → ℕ × ℕ → List Cut
+two_cuts s t bank m x = byte_cuts s bank m x.0 ++ byte_cuts t (byte_next s bank m x.0) (m + 1) x.1
+
+abbrev pub two_next : Bool → Bool → List Counting → ℕ → ℕ × ℕ → List Counting
+two_next s t bank m x = byte_next t (byte_next s bank m x.0) (m + 1) x.1
+
+-- ---- all that is read of a colour: the symbol of changes, and those of red, of green and blue low, of green and blue high
+abbrev pub ColourChoice : Type 0
+ColourChoice = ℕ × ((ℕ × ℕ) × ((ℕ × ℕ) × (ℕ × ℕ)))
+
+abbrev pub mark_at : ℕ → ℕ → Bool
+mark_at s i = slice_index_or (colour_marks s) i false
+
+abbrev pub IsColourChoice : ColourChoice → Type 0
+IsColourChoice x = (x.0 < 128) × (IsTwo (mark_at x.0 0) (mark_at x.0 1) x.1.0 × (IsTwo (mark_at x.0 2) (mark_at x.0 3) x.1.1.0 × IsTwo (mark_at x.0 4) (mark_at x.0 5) x.1.1.1))
+
+abbrev pub after_red : List Counting → ColourChoice → List Counting
+after_red bank x = two_next (mark_at x.0 0) (mark_at x.0 1) (changes_counted bank x.0) 1 x.1.0
+
+abbrev pub after_low : List Counting → ColourChoice → List Counting
+after_low bank x = two_next (mark_at x.0 2) (mark_at x.0 3) (after_red bank x) 3 x.1.1.0
+
+abbrev pub choice_cuts : List Counting → ColourChoice → List Cut
+choice_cuts bank x =
+    (symbol_cut (model_at bank 0) x.0 ∷ [])
+    ++ (two_cuts (mark_at x.0 0) (mark_at x.0 1) (changes_counted bank x.0) 1 x.1.0
+    ++ (two_cuts (mark_at x.0 2) (mark_at x.0 3) (after_red bank x) 3 x.1.1.0
+    ++ two_cuts (mark_at x.0 4) (mark_at x.0 5) (after_low bank x) 5 x.1.1.1))
+
+abbrev pub choice_next : List Counting → ColourChoice → List Counting
+choice_next bank x = two_next (mark_at x.0 4) (mark_at x.0 5) (after_low bank x) 5 x.1.1.1
+
+abbrev pub choice_symbols : ColourChoice → List ℕ
+choice_symbols x = x.1.0.0 ∷ x.1.0.1 ∷ x.1.1.0.0 ∷ x.1.1.0.1 ∷ x.1.1.1.0 ∷ x.1.1.1.1 ∷ []
+
+-- the colour of these bytes
+abbrev pub colour_with : ℕ → ℕ × ℕ → ℕ × ℕ → ℕ × ℕ → Colour
+colour_with s red low high =
+    record {
+      red_low = red.0;
+      red_high = red.1;
+      green_low = if has_bit 64 s then low.0 else red.0;
+      green_high = if has_bit 64 s then high.0 else red.1;
+      blue_low = if has_bit 64 s then low.1 else red.0;
+      blue_high = if has_bit 64 s then high.1 else red.1;
+    }

@@ -1,0 +1,33 @@
+-- Extra bytes of records: each is coded as its difference to the same byte of the record before (LASzip's BYTE, version 2).
+use Rattle.std.specs.Prelude.{◌≡◌, ℕ, ◌+◌, ◌%◌, Bool, true, List, [], ◌∷◌, length, replicate}
+use Rattle.laz_integer.specs.Events.{Event}
+use Rattle.laz_rgb.specs.Rows.{IsRow, byte_of, row_events, symbol_of}
+
+-- The use of the models of extra bytes: "byte".
+abbrev pub byte_kind : List ℕ
+byte_kind = 98 ∷ 121 ∷ 116 ∷ 101 ∷ []
+
+-- All extra bytes are coded.
+abbrev pub all_marked : ℕ → List Bool
+all_marked n = replicate n true
+
+-- The differences of bytes to those of the record before.
+abbrev pub extra_symbols : List ℕ → List ℕ → List ℕ
+extra_symbols (b ∷ last) (c ∷ now) = symbol_of b c ∷ extra_symbols last now
+extra_symbols last now = []
+
+-- The bytes that differences make of those of the record before.
+abbrev pub extra_made : List ℕ → List ℕ → List ℕ
+extra_made (b ∷ last) (s ∷ symbols) = byte_of true b b s ∷ extra_made last symbols
+extra_made last symbols = []
+
+-- The events of extra bytes after others: a symbol each, byte j under model j.
+abbrev pub extra_events : List ℕ → List ℕ → List Event
+extra_events last now = row_events byte_kind (all_marked (length last)) 0 (extra_symbols last now)
+
+-- Events that spell extra bytes after others: a symbol each, which makes the byte of the one before.
+pub record SpellsExtra (last : List ℕ) (events : List Event) (now : List ℕ) : Type 0 where
+  pub symbols : List ℕ
+  pub row : IsRow (all_marked (length last)) symbols
+  pub is : events ≡ row_events byte_kind (all_marked (length last)) 0 symbols
+  pub makes : now ≡ extra_made last symbols

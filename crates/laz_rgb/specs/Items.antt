@@ -1,0 +1,103 @@
+-- What the items stand for: the events of a stream, and the parts of the chunk's points so far, the latest one first. And what a reader answers.
+use Rattle.std.specs.Prelude.{◌≡◌, ℕ, ◌<◌, ◌≤◌, List, [], ◌∷◌, ◌++◌, length, replicate}
+use Rattle.laz_range.specs.Cut.{Cut}
+use Rattle.laz_range.specs.Span.{Begins, span}
+use Rattle.laz_range.specs.Decoding.{Decoding, HasRead, ReadsOn, Takes}
+use Rattle.laz_models.specs.Counting.{Counting}
+use Rattle.laz_models.specs.Bank.{sizes_of}
+use Rattle.laz_integer.specs.Events.{Event, Name, cuts_behind}
+use Rattle.laz_integer.specs.Fields.{BankStands}
+use Rattle.laz_integer.specs.Ranged.{AreRanged}
+
+use Rattle.laz_integer.specs.Uses.{own_name}
+use Rattle.laz_rgb.specs.declared.colour.Colour.{Colour}
+use Rattle.laz_rgb.specs.Colours.{SpellsColour, colour_at, rgb_kind}
+use Rattle.laz_rgb.specs.Extra.{SpellsExtra, byte_kind}
+
+-- ---- a spelling and what it spells, for either item
+
+-- The parts of a spelling, after earlier events.
+abbrev pub spelled_cuts : {V : Type 0} → List Event → List Event × V → List Cut
+spelled_cuts earlier x = cuts_behind earlier x.0
+
+-- Whatever spelling begins the rest of the bytes, this is what it spells.
+abbrev pub OneBegins : {V : Type 0} → (List Event × V → Type 0) → List Event → Decoding → V → Type 0
+OneBegins {V} IsSpelled earlier old value =
+    (read : List Cut) → HasRead read old → (x : List Event × V) → IsSpelled x → Begins (span (read ++ spelled_cuts earlier x)) old.bytes → x.1 ≡ value
+
+-- ---- numbers of symbols under which the events are lawful
+
+-- Those of colours: 128 for the changes, and 256 for each byte.
+pub record HasRgbSizes (sizes : Name → ℕ) : Type 0 where
+  pub changes : sizes (own_name rgb_kind 0) ≡ 128
+  pub bytes : (j : ℕ) → 1 ≤ j → j < 7 → sizes (own_name rgb_kind j) ≡ 256
+
+-- Those of n extra bytes.
+abbrev pub HasExtraSizes : (Name → ℕ) → ℕ → Type 0
+HasExtraSizes sizes n = (j : ℕ) → j < n → sizes (own_name byte_kind j) ≡ 256
+
+-- ---- colours
+
+-- The models of an `Rgb`, and the colour that it saw last.
+pub record RgbState : Type 0 where
+  pub bank : List Counting
+  pub last : Colour
+
+-- What holds of it between any two calls.
+abbrev pub IsRgbState : RgbState → Type 0
+IsRgbState st = sizes_of st.bank ≡ 128 ∷ replicate 6 256
+
+-- The colour of the latest point.
+abbrev pub latest_colour : List Colour → Colour
+latest_colour [] = colour_at []
+latest_colour (c ∷ colours) = c
+
+-- The models stand for the events of a stream, and the colour is that of the latest point.
+pub record RgbStands (events : List Event) (colours : List Colour) (st : RgbState) : Type 0 where
+  pub models : BankStands rgb_kind events st.bank
+  pub last : st.last ≡ latest_colour colours
+
+-- Events, and the colour that they spell after those of earlier points.
+abbrev pub IsSpelledColour : List Colour → List Event × Colour → Type 0
+IsSpelledColour colours x = SpellsColour (latest_colour colours) x.0 x.1
+
+-- A colour was read, by the one spelling that begins the rest of the bytes; the item then stands for its point, too.
+pub record ReadsColour (earlier : List Event) (colours : List Colour) (colour : Colour) (old new : Decoding) (st : RgbState) : Type 0 where
+  pub events : List Event
+  pub takes : Takes (IsSpelledColour colours) (spelled_cuts earlier) old new (events, colour)
+  pub reads : (sizes : Name → ℕ) → HasRgbSizes sizes → AreRanged sizes earlier → ReadsOn (cuts_behind earlier events) old new
+  pub stands : RgbStands (earlier ++ events) (colour ∷ colours) st
+
+-- ---- extra bytes
+
+-- The models of a `Bytes`, and the bytes that it saw last.
+pub record ExtraState : Type 0 where
+  pub bank : List Counting
+  pub last : List ℕ
+
+-- What holds of it between any two calls.
+pub record IsExtraState (st : ExtraState) : Type 0 where
+  pub some : 0 < length st.last
+  pub few : length st.last < 193
+  pub sizes : sizes_of st.bank ≡ replicate (length st.last) 256
+
+-- The extra bytes of the latest point.
+abbrev pub latest_extra : List (List ℕ) → List ℕ
+latest_extra [] = []
+latest_extra (b ∷ extras) = b
+
+-- The models stand for the events of a stream, and the bytes are those of the latest point.
+pub record ExtraStands (events : List Event) (extras : List (List ℕ)) (st : ExtraState) : Type 0 where
+  pub models : BankStands byte_kind events st.bank
+  pub last : st.last ≡ latest_extra extras
+
+-- Events, and the extra bytes that they spell after those of earlier points.
+abbrev pub IsSpelledExtra : List (List ℕ) → List Event × List ℕ → Type 0
+IsSpelledExtra extras x = SpellsExtra (latest_extra extras) x.0 x.1
+
+-- Extra bytes were read, by the one spelling that begins the rest of the bytes; the item then stands for their point, too.
+pub record ReadsExtra (earlier : List Event) (extras : List (List ℕ)) (bytes : List ℕ) (old new : Decoding) (st : ExtraState) : Type 0 where
+  pub events : List Event
+  pub takes : Takes (IsSpelledExtra extras) (spelled_cuts earlier) old new (events, bytes)
+  pub reads : (sizes : Name → ℕ) → HasExtraSizes sizes (length bytes) → AreRanged sizes earlier → ReadsOn (cuts_behind earlier events) old new
+  pub stands : ExtraStands (earlier ++ events) (bytes ∷ extras) st

@@ -1,0 +1,106 @@
+//! A colour read: the symbol of changes, and the bytes that it marks.
+ghost use Rattle.std.specs.Prelude.{◌≡◌, ◌+◌, ◌<◌, ◌≤◌, ◌∷◌, ◌++◌, [], ℕ, false, length, replicate, IfOk, MatchResult, OnOk};
+ghost use Rattle.laz_range.specs.Decoding.{Takes, TakesNone};
+ghost use Rattle.laz_models.specs.Bank.{sizes_of};
+ghost use Rattle.laz_integer.specs.Fields.{IsByte, byte_cuts, byte_next};
+ghost use Rattle.laz_rgb.specs.Rows.{AreRowModels, byte_of};
+ghost use Rattle.laz_rgb.specs.Colours.{colour_made, predicted_blue, predicted_green};
+ghost use Rattle.laz_rgb.specs.Coded.{colour_with, ColourChoice, IsColourChoice, IsTwo, choice_cuts, choice_next, choice_symbols, two_cuts, two_next};
+
+use crate::colour::Colour;
+use crate::writing::{colour_marks, has_bit, moved, predicted_blue};
+use laz_integer::{take_byte, take_symbol_of};
+use laz_models::ModelBank;
+use laz_range::{Bad, Decoder};
+
+// Takes a byte under model `m`: if it is marked, what its symbol makes of the prediction, else the previous byte.
+#[inline]
+fn take_next(
+    decoder: &mut Decoder<'_>,
+    bank: &mut ModelBank,
+    m: u32,
+    marked: bool,
+    predicted: u8,
+    previous: u8,
+) -> Result<u8, Bad>
+    requires good { decoder.old.failed ≡ false }
+    requires within { decoder.old.taken ≤ length decoder.old.bytes }
+    requires models { AreRowModels 1 m bank.old }
+    ensures reads { MatchResult result (λ byte. (s : ℕ) × Takes (IsByte marked 0) (byte_cuts marked bank.old m) decoder.old decoder.new s × (byte ≡ byte_of marked predicted previous s) × (bank.new ≡ byte_next marked bank.old m s)) (λ _. TakesNone (IsByte marked 0) (byte_cuts marked bank.old m) decoder.old decoder.new) }
+    ensures sizes { sizes_of bank.new ≡ sizes_of bank.old }
+{
+    let symbol = take_byte(decoder, bank, marked, m, 0)?;
+    if marked {
+        return Ok(predicted.wrapping_add(symbol));
+    }
+    Ok(previous)
+}
+
+// Takes the two bytes of red under models 1 and 2.
+fn take_red(decoder: &mut Decoder<'_>, bank: &mut ModelBank, low: bool, high: bool, last: &Colour) -> Result<(u8, u8), Bad>
+    requires good { decoder.old.failed ≡ false }
+    requires within { decoder.old.taken ≤ length decoder.old.bytes }
+    requires sizes { sizes_of bank.old ≡ 128 ∷ replicate 6 256 }
+    ensures reads { MatchResult result (λ r. (x : ℕ × ℕ) × Takes (IsTwo low high) (two_cuts low high bank.old 1) decoder.old decoder.new x × (r.0 ≡ byte_of low last.now.red_low last.now.red_low x.0) × (r.1 ≡ byte_of high last.now.red_high last.now.red_high x.1) × (bank.new ≡ two_next low high bank.old 1 x)) (λ _. TakesNone (IsTwo low high) (two_cuts low high bank.old 1) decoder.old decoder.new) }
+    ensures sizes { sizes_of bank.new ≡ sizes_of bank.old }
+{
+    let first = take_next(decoder, bank, 1, low, last.red_low, last.red_low)?;
+    let second = take_next(decoder, bank, 2, high, last.red_high, last.red_high)?;
+    Ok((first, second))
+}
+
+// Takes a byte of green and one of blue, both low or both high, under models `m` and `m + 1`. Red went from `red_from` to
+// `red_to`.
+fn take_green_blue(
+    decoder: &mut Decoder<'_>,
+    bank: &mut ModelBank,
+    m: u32,
+    green_marked: bool,
+    blue_marked: bool,
+    red_from: u8,
+    red_to: u8,
+    green_from: u8,
+    blue_from: u8,
+) -> Result<(u8, u8), Bad>
+    requires good { decoder.old.failed ≡ false }
+    requires within { decoder.old.taken ≤ length decoder.old.bytes }
+    requires models { AreRowModels 2 m bank.old }
+    requires few { m < 1024 }
+    ensures reads { MatchResult result (λ r. (x : ℕ × ℕ) × Takes (IsTwo green_marked blue_marked) (two_cuts green_marked blue_marked bank.old m) decoder.old decoder.new x × (r.0 ≡ byte_of green_marked (predicted_green red_from red_to green_from) green_from x.0) × (r.1 ≡ byte_of blue_marked (predicted_blue red_from red_to green_from r.0 blue_from) blue_from x.1) × (bank.new ≡ two_next green_marked blue_marked bank.old m x)) (λ _. TakesNone (IsTwo green_marked blue_marked) (two_cuts green_marked blue_marked bank.old m) decoder.old decoder.new) }
+    ensures sizes { sizes_of bank.new ≡ sizes_of bank.old }
+{
+    let green = take_next(decoder, bank, m, green_marked, moved(red_from, red_to, green_from), green_from)?;
+    let predicted = predicted_blue(red_from, red_to, green_from, green, blue_from);
+    let blue = take_next(decoder, bank, m + 1, blue_marked, predicted, blue_from)?;
+    Ok((green, blue))
+}
+
+// The colour of these bytes: without bit 64 of the symbol of changes, green and blue equal red.
+fn colour_with(symbol: u32, red: (u8, u8), low: (u8, u8), high: (u8, u8)) -> Colour
+    ensures { result ≡ colour_with symbol red low high }
+{
+    let colours = has_bit(symbol, 64);
+    Colour {
+        red_low: red.0,
+        red_high: red.1,
+        green_low: if colours { low.0 } else { red.0 },
+        green_high: if colours { high.0 } else { red.1 },
+        blue_low: if colours { low.1 } else { red.0 },
+        blue_high: if colours { high.1 } else { red.1 },
+    }
+}
+
+// Takes a colour after another.
+pub(crate) fn take_colour(decoder: &mut Decoder<'_>, bank: &mut ModelBank, last: &Colour) -> Result<Colour, Bad>
+    requires good { decoder.old.failed ≡ false }
+    requires sizes { sizes_of bank.old ≡ 128 ∷ replicate 6 256 }
+    ensures reads { MatchResult result (λ colour. (x : ColourChoice) × Takes IsColourChoice (choice_cuts bank.old) decoder.old decoder.new x × (colour ≡ colour_made x.0 last.now (choice_symbols x)) × (bank.new ≡ choice_next bank.old x)) (λ _. TakesNone IsColourChoice (choice_cuts bank.old) decoder.old decoder.new) }
+    ensures sizes { sizes_of bank.new ≡ sizes_of bank.old }
+{
+    let symbol = take_symbol_of(decoder, bank, 0)?;
+    let marks = colour_marks(symbol);
+    let red = take_red(decoder, bank, marks[0], marks[1], last)?;
+    let low = take_green_blue(decoder, bank, 3, marks[2], marks[3], last.red_low, red.0, last.green_low, last.blue_low)?;
+    let high = take_green_blue(decoder, bank, 5, marks[4], marks[5], last.red_high, red.1, last.green_high, last.blue_high)?;
+    Ok(colour_with(symbol, red, low, high))
+}
