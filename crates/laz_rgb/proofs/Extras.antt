@@ -181,7 +181,7 @@ symbols-row [] now e = tt
 symbols-row (b ∷ last) [] e = absurd (omega (arith, e))
 symbols-row (b ∷ last) (c ∷ now) e = (mod-lt (c + 256 - b) (omega arith), symbols-row last now (omega (arith, e)))
 
-row-length : (marks : List Bool) (xs : List ℕ) → IsRow marks xs → length xs ≡ length marks
+pub row-length : (marks : List Bool) (xs : List ℕ) → IsRow marks xs → length xs ≡ length marks
 row-length [] [] h = refl
 row-length [] (x ∷ xs) h = absurd h
 row-length (t ∷ marks) [] h = absurd h

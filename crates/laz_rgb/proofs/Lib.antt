@@ -5,3 +5,5 @@ pub mod Made
 pub mod Rowed
 pub mod Spelled
 pub mod Extras
+pub mod Written
+pub mod Proved

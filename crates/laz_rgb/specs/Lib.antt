@@ -5,3 +5,4 @@ pub mod Colours
 pub mod Extra
 pub mod Items
 pub mod Coded
+pub mod Laws

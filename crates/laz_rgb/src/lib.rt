@@ -3,10 +3,12 @@
 
 mod bytes;
 mod colour;
+mod laws;
 mod reading;
 mod rgb;
 mod writing;
 
 pub use bytes::Bytes;
 pub use colour::Colour;
+pub use laws::{colours_are_lawful, colours_are_spelled, extras_are_lawful, extras_are_spelled};
 pub use rgb::Rgb;
