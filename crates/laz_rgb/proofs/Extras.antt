@@ -14,9 +14,9 @@ use Rattle.laz_range.proofs.Decodings.{Takes-ReadsOn, Takes-begins}
 use Rattle.laz_range.proofs.Refusals.{Refuses-NoneBegins, Refuses-none, Refuses-step, Refuses-through}
 use Rattle.laz_range.proofs.Whole.{Codes-append}
 use Rattle.laz_models.specs.Counting.{Counting}
-use Rattle.laz_models.specs.Dist.{size_of}
-use Rattle.laz_models.specs.Bank.{model_at, sizes_of}
-use Rattle.laz_integer.specs.Events.{Event, Name, cuts_behind}
+use Rattle.laz_models.specs.Dist.{alphabet_size}
+use Rattle.laz_models.specs.Bank.{model_at, alphabet_sizes}
+use Rattle.laz_integer.specs.Events.{Event, Name, cuts_after}
 use Rattle.laz_integer.specs.Ranged.{AreRanged}
 use Rattle.laz_integer.specs.Fields.{BankStands, IsByte, byte_cuts, byte_next}
 use Rattle.laz_integer.specs.Uses.{own_name}
@@ -143,11 +143,11 @@ module _ (n : ℕ) (bank : List Counting) where
       }
 
 -- models of the same sizes, by their own numbers
-pub extra-model : (n : ℕ) (bank new : List Counting) (i : ℕ) → sizes_of new ≡ sizes_of bank → AreRowModels n 0 bank → i < n → (i < length new) × (size_of (model_at new i) ≡ 256)
+pub extra-model : (n : ℕ) (bank new : List Counting) (i : ℕ) → alphabet_sizes new ≡ alphabet_sizes bank → AreRowModels n 0 bank → i < n → (i < length new) × (alphabet_size (model_at new i) ≡ 256)
 extra-model n bank new i e models lt =
     let found = row-models n 0 bank new e models i lt in
     let same : 0 + i ≡ i = omega arith in
-    subst (λ (k : ℕ). (k < length new) × (size_of (model_at new k) ≡ 256)) same found
+    subst (λ (k : ℕ). (k < length new) × (alphabet_size (model_at new k) ≡ 256)) same found
 
 -- one byte more was coded
 pub extra-step : (n : ℕ) (bank : List Counting) (xs : List ℕ) (i s : ℕ) (now new : List Counting) (a b c : Coding) → length xs ≡ i → i < n → now ≡ (state_after next_row (extra_row n bank) xs).bank
@@ -250,10 +250,10 @@ module _ (earlier : List Event) (extras : List (List ℕ)) (st : ExtraState) (is
         stands = record { models = subst (λ (l : List Counting). BankStands byte_kind (earlier ++ events) l) (sym is') models; last = refl };
       }
 
-  pub codes-extra : (now : List ℕ) (a b : Coding) → length now ≡ n → Codes a b (all_cuts next_row next_cuts row (extra_symbols st.last now)) → Codes a b (cuts_behind earlier (extra_events (latest_extra extras) now))
+  pub codes-extra : (now : List ℕ) (a b : Coding) → length now ≡ n → Codes a b (all_cuts next_row next_cuts row (extra_symbols st.last now)) → Codes a b (cuts_after earlier (extra_events (latest_extra extras) now))
   codes-extra now a b long f =
-      let here : Codes a b (cuts_behind earlier (extra_events st.last now)) = subst (λ (cs : List Cut). Codes a b cs) (sym ((extra-piece (extra_symbols st.last now) (symbols-row st.last now long)).cut earlier h.models)) f in
-      subst (λ (l : List ℕ). Codes a b (cuts_behind earlier (extra_events l now))) h.last here
+      let here : Codes a b (cuts_after earlier (extra_events st.last now)) = subst (λ (cs : List Cut). Codes a b cs) (sym ((extra-piece (extra_symbols st.last now) (symbols-row st.last now long)).cut earlier h.models)) f in
+      subst (λ (l : List ℕ). Codes a b (cuts_after earlier (extra_events l now))) h.last here
 
   pub stands-extra : (now : List ℕ) (new : List Counting) → length now ≡ n → new ≡ (state_after next_row row (extra_symbols st.last now)).bank
       → ExtraStands (earlier ++ extra_events (latest_extra extras) now) (now ∷ extras) (record { bank = new; last = now })

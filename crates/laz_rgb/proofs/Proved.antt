@@ -5,7 +5,7 @@ use Rattle.std.proofs.lemmas.Bool.{cases_Bool}
 use Rattle.std.proofs.lemmas.List.{length-replicate}
 use Rattle.laz_integer.specs.Events.{Event, Name, same_text}
 use Rattle.laz_integer.specs.Uses.{Silent}
-use Rattle.laz_integer.specs.Fields.{byte_events, where_marked}
+use Rattle.laz_integer.specs.Fields.{byte_events, if_marked}
 use Rattle.laz_integer.proofs.Uses.{Silent-append, Silent-none, Silent-other, bank-silent}
 use Rattle.laz_rgb.specs.declared.colour.Colour.{Colour}
 use Rattle.laz_rgb.specs.Rows.{IsRow, byte_of, row_events, symbol_of}
@@ -21,7 +21,7 @@ use Rattle.std.proofs.lemmas.Bool.Decides.{nat_tests}
 use Rattle.laz_rgb.proofs.Written.{Bits, bit-most, bits-of, byte-back, half-small, moved-small, symbol-back}
 
 -- ---- events of one use
-byte-silent : (other kind : List ℕ) (t : Bool) (m s : ℕ) → same_text other kind ≡ false → Silent other (where_marked t (byte_events kind m s))
+byte-silent : (other kind : List ℕ) (t : Bool) (m s : ℕ) → same_text other kind ≡ false → Silent other (if_marked t (byte_events kind m s))
 byte-silent other kind true m s e = Silent-other other kind (byte_events kind m s) e (refl, tt)
 byte-silent other kind false m s e = Silent-none other
 
@@ -29,7 +29,7 @@ row-silent : (other kind : List ℕ) (marks : List Bool) (m : ℕ) (xs : List �
 row-silent other kind [] m xs e = Silent-none other
 row-silent other kind (t ∷ marks) m [] e = Silent-none other
 row-silent other kind (t ∷ marks) m (s ∷ xs) e =
-    Silent-append other (where_marked t (byte_events kind m s)) (row_events kind marks (m + 1) xs) (byte-silent other kind t m s e) (row-silent other kind marks (m + 1) xs e)
+    Silent-append other (if_marked t (byte_events kind m s)) (row_events kind marks (m + 1) xs) (byte-silent other kind t m s e) (row-silent other kind marks (m + 1) xs e)
 
 pub colours-lawful : ColoursAreLawful
 colours-lawful =

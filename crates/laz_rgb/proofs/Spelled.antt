@@ -10,11 +10,11 @@ use Rattle.laz_range.specs.Decoding.{Decoding, HasRead, NoneBegins, ReadsOn, Ref
 use Rattle.laz_range.proofs.Composition.{Takes-through, TakesNone-through}
 use Rattle.laz_range.proofs.Decodings.{AreCuts-append, Takes-ReadsOn, Takes-begins}
 use Rattle.laz_range.proofs.Refusals.{Refuses-none, Refuses-NoneBegins}
-use Rattle.laz_models.specs.Counting.{Counting, counted}
-use Rattle.laz_models.specs.Dist.{size_of}
-use Rattle.laz_models.specs.Bank.{model_at, sizes_of}
+use Rattle.laz_models.specs.Counting.{Counting, after_symbol}
+use Rattle.laz_models.specs.Dist.{alphabet_size}
+use Rattle.laz_models.specs.Bank.{model_at, alphabet_sizes}
 use Rattle.laz_models.proofs.Banks.{sizes-set}
-use Rattle.laz_integer.specs.Events.{Event, Name, Symbol, cuts_behind}
+use Rattle.laz_integer.specs.Events.{Event, Name, Symbol, cuts_after}
 use Rattle.laz_integer.specs.Uses.{own_name}
 use Rattle.laz_integer.specs.Ranged.{AreRanged}
 use Rattle.laz_integer.specs.Fields.{BankStands, IsByte, byte_cuts, byte_next}
@@ -24,17 +24,17 @@ use Rattle.laz_integer.proofs.Ranges.{AreCuts-ranged}
 use Rattle.laz_rgb.specs.declared.colour.Colour.{Colour}
 use Rattle.laz_rgb.specs.Rows.{AreRowModels, IsRow, next_cuts, next_row, row_at, row_events}
 use Rattle.laz_rgb.specs.Colours.{SpellsColour, changes, changes_event, colour_at, colour_events, colour_made, colour_marks, colour_symbols, rgb_kind, symbol_if}
-use Rattle.laz_rgb.specs.Coded.{ColourChoice, IsColourChoice, after_low, after_red, changes_counted, choice_cuts, choice_next, choice_symbols, colour_cuts, colour_next, mark_at}
+use Rattle.laz_rgb.specs.Coded.{ColourChoice, IsColourChoice, after_low, after_red, after_changes, choice_cuts, choice_next, choice_symbols, colour_cuts, colour_next, mark_at}
 use Rattle.laz_rgb.specs.Items.{HasRgbSizes, IsRgbState, IsSpelledColour, OneBegins, ReadsColour, RgbStands, RgbState, latest_colour, spelled_cuts}
 use Rattle.laz_rgb.proofs.Walks.{changes-model, sized-rows}
 use Rattle.laz_rgb.proofs.Rowed.{RowSizes, row-piece, row-ranged, row-sizes}
 
 -- ---- events and parts, of a symbol of changes and the symbols of a row
-rgb-rows : (bank : List Counting) (s n : ℕ) → sizes_of bank ≡ 128 ∷ replicate 6 256 → n ≡ 6 → AreRowModels n 1 (changes_counted bank s)
+rgb-rows : (bank : List Counting) (s n : ℕ) → alphabet_sizes bank ≡ 128 ∷ replicate 6 256 → n ≡ 6 → AreRowModels n 1 (after_changes bank s)
 rgb-rows bank s n e six =
     let within = (changes-model bank e).0 in
-    let sizes : sizes_of (changes_counted bank s) ≡ 128 ∷ replicate 6 256 = sizes-set bank 0 s within ∙ e in
-    subst (λ (k : ℕ). AreRowModels k 1 (changes_counted bank s)) (sym six) (sized-rows 6 1 (changes_counted bank s) (128 ∷ []) sizes refl)
+    let sizes : alphabet_sizes (after_changes bank s) ≡ 128 ∷ replicate 6 256 = sizes-set bank 0 s within ∙ e in
+    subst (λ (k : ℕ). AreRowModels k 1 (after_changes bank s)) (sym six) (sized-rows 6 1 (after_changes bank s) (128 ∷ []) sizes refl)
 
 pub row-six : (s : ℕ) (symbols : List ℕ) → IsRow (colour_marks s) symbols → length symbols ≡ 6
 row-six s [] h = absurd h
@@ -46,19 +46,19 @@ row-six s (a ∷ b ∷ c ∷ d ∷ e ∷ []) h = absurd h.1.1.1.1.1
 row-six s (a ∷ b ∷ c ∷ d ∷ e ∷ f ∷ []) h = refl
 row-six s (a ∷ b ∷ c ∷ d ∷ e ∷ f ∷ g ∷ more) h = absurd h.1.1.1.1.1.1
 
-pub colour-piece : (bank : List Counting) (s : ℕ) (symbols : List ℕ) → sizes_of bank ≡ 128 ∷ replicate 6 256 → s < 128 → IsRow (colour_marks s) symbols
+pub colour-piece : (bank : List Counting) (s : ℕ) (symbols : List ℕ) → alphabet_sizes bank ≡ 128 ∷ replicate 6 256 → s < 128 → IsRow (colour_marks s) symbols
     → Piece (rgb_kind ∷ []) (changes_event s ∷ row_events rgb_kind (colour_marks s) 1 symbols) (colour_cuts bank s symbols) (λ l. BankStands rgb_kind l bank) (λ l. BankStands rgb_kind l (colour_next bank s symbols))
 colour-piece bank s symbols e few row =
     let changes = changes-model bank e in
-    Piece-then (rgb_kind ∷ []) (changes_event s ∷ []) (row_events rgb_kind (colour_marks s) 1 symbols) (symbol_cut (model_at bank 0) s ∷ []) (all_cuts next_row next_cuts (row_at (colour_marks s) 1 (changes_counted bank s)) symbols)
-    (λ l. BankStands rgb_kind l bank) (λ l. BankStands rgb_kind l (changes_counted bank s)) (λ l. BankStands rgb_kind l (colour_next bank s symbols))
+    Piece-then (rgb_kind ∷ []) (changes_event s ∷ []) (row_events rgb_kind (colour_marks s) 1 symbols) (symbol_cut (model_at bank 0) s ∷ []) (all_cuts next_row next_cuts (row_at (colour_marks s) 1 (after_changes bank s)) symbols)
+    (λ l. BankStands rgb_kind l bank) (λ l. BankStands rgb_kind l (after_changes bank s)) (λ l. BankStands rgb_kind l (colour_next bank s symbols))
     (Piece-symbol rgb_kind bank 0 128 s changes.0 changes.1 (omega arith) few)
-    (row-piece rgb_kind (colour_marks s) 1 (changes_counted bank s) symbols (rgb-rows bank s (length symbols) e (row-six s symbols row)) row)
+    (row-piece rgb_kind (colour_marks s) 1 (after_changes bank s) symbols (rgb-rows bank s (length symbols) e (row-six s symbols row)) row)
 
 -- the models keep their sizes
-pub colour-sizes : (bank : List Counting) (s : ℕ) (symbols : List ℕ) → sizes_of bank ≡ 128 ∷ replicate 6 256 → IsRow (colour_marks s) symbols → sizes_of (colour_next bank s symbols) ≡ 128 ∷ replicate 6 256
+pub colour-sizes : (bank : List Counting) (s : ℕ) (symbols : List ℕ) → alphabet_sizes bank ≡ 128 ∷ replicate 6 256 → IsRow (colour_marks s) symbols → alphabet_sizes (colour_next bank s symbols) ≡ 128 ∷ replicate 6 256
 colour-sizes bank s symbols e row =
-    row-sizes (colour_marks s) 1 (changes_counted bank s) symbols (rgb-rows bank s (length symbols) e (row-six s symbols row)) row ∙ (sizes-set bank 0 s (changes-model bank e).0 ∙ e)
+    row-sizes (colour_marks s) 1 (after_changes bank s) symbols (rgb-rows bank s (length symbols) e (row-six s symbols row)) row ∙ (sizes-set bank 0 s (changes-model bank e).0 ∙ e)
 
 -- the events of a spelling are lawful
 pub colour-ranged : (sizes : Name → ℕ) (last : Colour) (events : List Event) (now : Colour) → HasRgbSizes sizes → SpellsColour last events now → AreRanged sizes events
@@ -78,7 +78,7 @@ joined a b c d e f =
 pub choice-cuts : (bank : List Counting) (x : ColourChoice) → choice_cuts bank x ≡ colour_cuts bank x.0 (choice_symbols x)
 choice-cuts bank x =
     let s = x.0 in
-    let b0 = changes_counted bank s in
+    let b0 = after_changes bank s in
     let b2 = after_red bank x in
     let b4 = after_low bank x in
     ap (λ l. (symbol_cut (model_at bank 0) s ∷ []) ++ l)
@@ -167,10 +167,10 @@ module _ (earlier : List Event) (colours : List Colour) (st : RgbState) (is : Is
       (λ l. BankStands rgb_kind l (colour_next st.bank (changes st.last now) (colour_symbols (changes st.last now) st.last now)))
   writer-piece = let s = changes st.last now in colour-piece st.bank s (colour_symbols s st.last now) is few (writer-row s st.last now)
 
-  pub codes-colour : (a b : Coding) → Codes a b (colour_cuts st.bank (changes st.last now) (colour_symbols (changes st.last now) st.last now)) → Codes a b (cuts_behind earlier (colour_events (latest_colour colours) now))
+  pub codes-colour : (a b : Coding) → Codes a b (colour_cuts st.bank (changes st.last now) (colour_symbols (changes st.last now) st.last now)) → Codes a b (cuts_after earlier (colour_events (latest_colour colours) now))
   codes-colour a b f =
-      let here : Codes a b (cuts_behind earlier (colour_events st.last now)) = subst (λ (cs : List Cut). Codes a b cs) (sym (writer-piece.cut earlier h.models)) f in
-      subst (λ (l : Colour). Codes a b (cuts_behind earlier (colour_events l now))) h.last here
+      let here : Codes a b (cuts_after earlier (colour_events st.last now)) = subst (λ (cs : List Cut). Codes a b cs) (sym (writer-piece.cut earlier h.models)) f in
+      subst (λ (l : Colour). Codes a b (cuts_after earlier (colour_events l now))) h.last here
 
   pub stands-colour : (bank : List Counting) → bank ≡ colour_next st.bank (changes st.last now) (colour_symbols (changes st.last now) st.last now)
       → RgbStands (earlier ++ colour_events (latest_colour colours) now) (now ∷ colours) (record { bank = bank; last = now })
@@ -184,7 +184,7 @@ pub writer-state : (st : RgbState) (now : Colour) (bank : List Counting) → IsR
     → IsRgbState (record { bank = bank; last = now })
 writer-state st now bank is e =
     let s = changes st.last now in
-    ap sizes_of e ∙ colour-sizes st.bank s (colour_symbols s st.last now) is (writer-row s st.last now)
+    ap alphabet_sizes e ∙ colour-sizes st.bank s (colour_symbols s st.last now) is (writer-row s st.last now)
 
 -- ---- in the words of what begins the bytes, after lawful events
 module _ (sizes : Name → ℕ) (has : HasRgbSizes sizes) (earlier : List Event) (before : AreRanged sizes earlier) (colours : List Colour) where

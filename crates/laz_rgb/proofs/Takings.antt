@@ -4,10 +4,15 @@ use Rattle.laz_range.specs.Cut.{Cut}
 use Rattle.laz_range.specs.Decoding.{Decoding, Takes, TakesNone}
 use Rattle.laz_range.proofs.Composition.{Takes-then, TakesNone-first, TakesNone-second}
 use Rattle.laz_models.specs.Counting.{Counting}
+use Rattle.laz_models.specs.Dist.{alphabet_size}
 use Rattle.laz_models.specs.Bank.{model_at}
 use Rattle.laz_integer.specs.Fields.{IsByte, byte_cuts, byte_next}
 use Rattle.laz_integer.specs.Integer.{symbol_cut}
-use Rattle.laz_rgb.specs.Coded.{ColourChoice, IsColourChoice, IsTwo, changes_counted, choice_cuts, mark_at, two_cuts, two_next}
+use Rattle.laz_rgb.specs.Coded.{ColourChoice, IsColourChoice, IsTwo, after_changes, choice_cuts, mark_at, two_cuts, two_next}
+
+-- no symbol of a model of n symbols was read
+pub sized-none : (m : Counting) (n : ℕ) (a b : Decoding) → alphabet_size m ≡ n → TakesNone (λ y. y < alphabet_size m) (λ y. symbol_cut m y ∷ []) a b → TakesNone (λ y. y < n) (λ y. symbol_cut m y ∷ []) a b
+sized-none m n a b e f = subst (λ (k : ℕ). TakesNone {X = ℕ} (λ y. y < k) (λ y. symbol_cut m y ∷ []) a b) e f
 
 -- ---- two bytes
 module _ (s t : Bool) (bank mid : List Counting) (m x : ℕ) (a b c : Decoding) (f : Takes (IsByte s 0) (byte_cuts s bank m) a b x) (e : mid ≡ byte_next s bank m x) where
@@ -39,10 +44,10 @@ module _ (bank : List Counting) where
   is_red s = IsTwo (mark_at s 0) (mark_at s 1)
 
   abbrev red_cuts : ℕ → Two → List Cut
-  red_cuts s = two_cuts (mark_at s 0) (mark_at s 1) (changes_counted bank s) 1
+  red_cuts s = two_cuts (mark_at s 0) (mark_at s 1) (after_changes bank s) 1
 
   abbrev red_next : ℕ → Two → List Counting
-  red_next s = two_next (mark_at s 0) (mark_at s 1) (changes_counted bank s) 1
+  red_next s = two_next (mark_at s 0) (mark_at s 1) (after_changes bank s) 1
 
   abbrev is_low : ℕ → Two → Type 0
   is_low s = IsTwo (mark_at s 2) (mark_at s 3)
@@ -74,7 +79,7 @@ module _ (bank : List Counting) where
   pub none-changes : (a b : Decoding) → TakesNone is_changes changes_cut a b → TakesNone IsColourChoice (choice_cuts bank) a b
   none-changes a b f = TakesNone-first {X = ℕ} {Y = Two × (Two × Two)} is_changes is_rest changes_cut rest_cuts a b f
 
-  module _ (s : ℕ) (after : List Counting) (a b : Decoding) (f : Takes is_changes changes_cut a b s) (e : after ≡ changes_counted bank s) where
+  module _ (s : ℕ) (after : List Counting) (a b : Decoding) (f : Takes is_changes changes_cut a b s) (e : after ≡ after_changes bank s) where
     some-rest : (c : Decoding) (x : Two × (Two × Two)) → Takes (is_rest s) (rest_cuts s) b c x → Takes IsColourChoice (choice_cuts bank) a c (s, x)
     some-rest c x g = Takes-then {X = ℕ} {Y = Two × (Two × Two)} is_changes is_rest changes_cut rest_cuts a b c s x f g
 

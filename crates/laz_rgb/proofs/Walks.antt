@@ -7,10 +7,10 @@ use Rattle.laz_range.specs.Choice.{all_cuts, state_after}
 use Rattle.laz_range.proofs.Loops.{all_cuts-push, state_after-push}
 use Rattle.laz_range.proofs.Whole.{Codes-append}
 use Rattle.laz_models.specs.Counting.{Counting}
-use Rattle.laz_models.specs.Dist.{size_of}
-use Rattle.laz_models.specs.Bank.{model_at, sizes_of}
+use Rattle.laz_models.specs.Dist.{StandsFor, alphabet_size}
+use Rattle.laz_models.specs.Bank.{model_at, alphabet_sizes}
 use Rattle.laz_models.proofs.Banks.{size-at}
-use Rattle.laz_integer.specs.Fields.{byte_cuts, byte_next}
+use Rattle.laz_integer.specs.Fields.{BankStands, byte_cuts, byte_next}
 use Rattle.laz_rgb.specs.Rows.{AreRowModels, Row, first_mark, more_marks, next_cuts, next_row}
 
 first-at : (marks : List Bool) → first_mark marks ≡ get_or marks 0 false
@@ -51,32 +51,42 @@ put-step row xs i s bank new a b c n e f g is =
     )
 
 -- models of the same sizes
-pub row-models : (n m : ℕ) (bank new : List Counting) → sizes_of new ≡ sizes_of bank → AreRowModels n m bank → AreRowModels n m new
+pub row-models : (n m : ℕ) (bank new : List Counting) → alphabet_sizes new ≡ alphabet_sizes bank → AreRowModels n m bank → AreRowModels n m new
 row-models n m bank new e h j lt =
     let here = h j lt in
-    at new (sizes_of bank) e (m + j) (size-of-list bank (m + j) here.0) ((sized bank (m + j) here.0) ∙ here.1)
+    at new (alphabet_sizes bank) e (m + j) (size-of-list bank (m + j) here.0) ((sized bank (m + j) here.0) ∙ here.1)
   where
-    size-of-list : (bank : List Counting) (k : ℕ) → k < length bank → k < length (sizes_of bank)
+    size-of-list : (bank : List Counting) (k : ℕ) → k < length bank → k < length (alphabet_sizes bank)
     size-of-list [] k h = absurd (omega arith)
     size-of-list (x ∷ xs) zero h = omega arith
     size-of-list (x ∷ xs) (suc k) h = omega (arith, size-of-list xs k (omega (arith, h)))
 
-    sized : (bank : List Counting) (k : ℕ) (h : k < length bank) → get_or (sizes_of bank) k 0 ≡ size_of (model_at bank k)
+    sized : (bank : List Counting) (k : ℕ) (h : k < length bank) → get_or (alphabet_sizes bank) k 0 ≡ alphabet_size (model_at bank k)
     sized bank k h = sym (size-at bank k (size-of-list bank k h)).1
 
-    at : (new : List Counting) (sizes : List ℕ) → sizes_of new ≡ sizes → (k : ℕ) → k < length sizes → get_or sizes k 0 ≡ 256 → (k < length new) × (size_of (model_at new k) ≡ 256)
+    at : (new : List Counting) (sizes : List ℕ) → alphabet_sizes new ≡ sizes → (k : ℕ) → k < length sizes → get_or sizes k 0 ≡ 256 → (k < length new) × (alphabet_size (model_at new k) ≡ 256)
     at new sizes e k lt is =
         let found = size-at new k (subst (λ (l : List ℕ). k < length l) (sym e) lt) in (found.0, found.1 ∙ (ap (λ l. get_or l k 0) e ∙ is))
 
 -- ---- the models of colours, and of extra bytes
-pub sized-rows : (n m : ℕ) (bank : List Counting) (front : List ℕ) → sizes_of bank ≡ front ++ replicate n 256 → length front ≡ m → AreRowModels n m bank
+pub sized-rows : (n m : ℕ) (bank : List Counting) (front : List ℕ) → alphabet_sizes bank ≡ front ++ replicate n 256 → length front ≡ m → AreRowModels n m bank
 sized-rows n m bank front e len j lt =
     let there : get_or (front ++ replicate n 256) (m + j) 0 ≡ 256 =
     rw (← len) (get_or-append-add front (replicate n 256) j 0 ∙ get_or-replicate n j 256 0 lt) in
-    let long : m + j < length (sizes_of bank) = rw (e, length-append front (replicate n 256), length-replicate {A = ℕ} n 256) (omega (arith, len, lt)) in
+    let long : m + j < length (alphabet_sizes bank) = rw (e, length-append front (replicate n 256), length-replicate {A = ℕ} n 256) (omega (arith, len, lt)) in
     let found = size-at bank (m + j) long in (found.0, found.1 ∙ (ap (λ l. get_or l (m + j) 0) e ∙ there))
 
-pub changes-model : (bank : List Counting) → sizes_of bank ≡ 128 ∷ replicate 6 256 → (0 < length bank) × (size_of (model_at bank 0) ≡ 128)
+pub changes-model : (bank : List Counting) → alphabet_sizes bank ≡ 128 ∷ replicate 6 256 → (0 < length bank) × (alphabet_size (model_at bank 0) ≡ 128)
 changes-model bank e =
-    let long : 0 < length (sizes_of bank) = rw e (omega arith) in
+    let long : 0 < length (alphabet_sizes bank) = rw e (omega arith) in
     let found = size-at bank 0 long in (found.0, found.1 ∙ ap (λ l. get_or l 0 0) e)
+
+-- models that were reset stand for no symbol
+length-sizes : (bank : List Counting) → length (alphabet_sizes bank) ≡ length bank
+length-sizes [] = refl
+length-sizes (x ∷ xs) = ap suc (length-sizes xs)
+
+pub bank-started : (kind : List ℕ) (bank new : List Counting) → alphabet_sizes new ≡ alphabet_sizes bank → ((m : ℕ) → m < length bank → StandsFor [] (model_at new m)) → BankStands kind [] new
+bank-started kind bank new e stands m lt =
+    let same : length new ≡ length bank = sym (length-sizes new) ∙ (ap length e ∙ length-sizes bank) in
+    stands m (omega (arith, lt, same))

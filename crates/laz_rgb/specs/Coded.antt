@@ -2,7 +2,7 @@
 use Rattle.std.specs.Prelude.{◌≡◌, ℕ, ◌+◌, ◌<◌, Bool, false, if◌then◌else◌, List, [], ◌∷◌, ◌++◌, slice_set, slice_index_or}
 use Rattle.laz_range.specs.Cut.{Cut}
 use Rattle.laz_range.specs.Choice.{all_cuts, state_after}
-use Rattle.laz_models.specs.Counting.{Counting, counted}
+use Rattle.laz_models.specs.Counting.{Counting, after_symbol}
 use Rattle.laz_models.specs.Bank.{model_at}
 use Rattle.laz_integer.specs.Integer.{symbol_cut}
 use Rattle.laz_rgb.specs.Rows.{next_cuts, next_row, row_at}
@@ -11,14 +11,14 @@ use Rattle.laz_rgb.specs.declared.colour.Colour.{Colour}
 use Rattle.laz_rgb.specs.Colours.{colour_marks, has_bit}
 
 -- The models after the symbol of changes.
-abbrev pub changes_counted : List Counting → ℕ → List Counting
-changes_counted bank s = slice_set bank 0 (counted (model_at bank 0) s)
+abbrev pub after_changes : List Counting → ℕ → List Counting
+after_changes bank s = slice_set bank 0 (after_symbol (model_at bank 0) s)
 
 abbrev pub colour_cuts : List Counting → ℕ → List ℕ → List Cut
-colour_cuts bank s symbols = (symbol_cut (model_at bank 0) s ∷ []) ++ all_cuts next_row next_cuts (row_at (colour_marks s) 1 (changes_counted bank s)) symbols
+colour_cuts bank s symbols = (symbol_cut (model_at bank 0) s ∷ []) ++ all_cuts next_row next_cuts (row_at (colour_marks s) 1 (after_changes bank s)) symbols
 
 abbrev pub colour_next : List Counting → ℕ → List ℕ → List Counting
-colour_next bank s symbols = (state_after next_row (row_at (colour_marks s) 1 (changes_counted bank s)) symbols).bank
+colour_next bank s symbols = (state_after next_row (row_at (colour_marks s) 1 (after_changes bank s)) symbols).bank
 
 -- ---- two bytes read, one after another
 abbrev pub IsTwo : Bool → Bool → ℕ × ℕ → Type 0
@@ -41,7 +41,7 @@ abbrev pub IsColourChoice : ColourChoice → Type 0
 IsColourChoice x = (x.0 < 128) × (IsTwo (mark_at x.0 0) (mark_at x.0 1) x.1.0 × (IsTwo (mark_at x.0 2) (mark_at x.0 3) x.1.1.0 × IsTwo (mark_at x.0 4) (mark_at x.0 5) x.1.1.1))
 
 abbrev pub after_red : List Counting → ColourChoice → List Counting
-after_red bank x = two_next (mark_at x.0 0) (mark_at x.0 1) (changes_counted bank x.0) 1 x.1.0
+after_red bank x = two_next (mark_at x.0 0) (mark_at x.0 1) (after_changes bank x.0) 1 x.1.0
 
 abbrev pub after_low : List Counting → ColourChoice → List Counting
 after_low bank x = two_next (mark_at x.0 2) (mark_at x.0 3) (after_red bank x) 3 x.1.1.0
@@ -49,7 +49,7 @@ after_low bank x = two_next (mark_at x.0 2) (mark_at x.0 3) (after_red bank x) 3
 abbrev pub choice_cuts : List Counting → ColourChoice → List Cut
 choice_cuts bank x =
     (symbol_cut (model_at bank 0) x.0 ∷ [])
-    ++ (two_cuts (mark_at x.0 0) (mark_at x.0 1) (changes_counted bank x.0) 1 x.1.0
+    ++ (two_cuts (mark_at x.0 0) (mark_at x.0 1) (after_changes bank x.0) 1 x.1.0
     ++ (two_cuts (mark_at x.0 2) (mark_at x.0 3) (after_red bank x) 3 x.1.1.0
     ++ two_cuts (mark_at x.0 4) (mark_at x.0 5) (after_low bank x) 5 x.1.1.1))
 

@@ -4,8 +4,8 @@ use Rattle.laz_range.specs.Cut.{Cut}
 use Rattle.laz_range.specs.Span.{Begins, span}
 use Rattle.laz_range.specs.Decoding.{Decoding, HasRead, ReadsOn, Takes}
 use Rattle.laz_models.specs.Counting.{Counting}
-use Rattle.laz_models.specs.Bank.{sizes_of}
-use Rattle.laz_integer.specs.Events.{Event, Name, cuts_behind}
+use Rattle.laz_models.specs.Bank.{alphabet_sizes}
+use Rattle.laz_integer.specs.Events.{Event, Name, cuts_after}
 use Rattle.laz_integer.specs.Fields.{BankStands}
 use Rattle.laz_integer.specs.Ranged.{AreRanged}
 
@@ -18,7 +18,7 @@ use Rattle.laz_rgb.specs.Extra.{SpellsExtra, byte_kind}
 
 -- The parts of a spelling, after earlier events.
 abbrev pub spelled_cuts : {V : Type 0} → List Event → List Event × V → List Cut
-spelled_cuts earlier x = cuts_behind earlier x.0
+spelled_cuts earlier x = cuts_after earlier x.0
 
 -- Whatever spelling begins the rest of the bytes, this is what it spells.
 abbrev pub OneBegins : {V : Type 0} → (List Event × V → Type 0) → List Event → Decoding → V → Type 0
@@ -45,7 +45,7 @@ pub record RgbState : Type 0 where
 
 -- What holds of it between any two calls.
 abbrev pub IsRgbState : RgbState → Type 0
-IsRgbState st = sizes_of st.bank ≡ 128 ∷ replicate 6 256
+IsRgbState st = alphabet_sizes st.bank ≡ 128 ∷ replicate 6 256
 
 -- The colour of the latest point.
 abbrev pub latest_colour : List Colour → Colour
@@ -65,7 +65,7 @@ IsSpelledColour colours x = SpellsColour (latest_colour colours) x.0 x.1
 pub record ReadsColour (earlier : List Event) (colours : List Colour) (colour : Colour) (old new : Decoding) (st : RgbState) : Type 0 where
   pub events : List Event
   pub takes : Takes (IsSpelledColour colours) (spelled_cuts earlier) old new (events, colour)
-  pub reads : (sizes : Name → ℕ) → HasRgbSizes sizes → AreRanged sizes earlier → ReadsOn (cuts_behind earlier events) old new
+  pub reads : (sizes : Name → ℕ) → HasRgbSizes sizes → AreRanged sizes earlier → ReadsOn (cuts_after earlier events) old new
   pub stands : RgbStands (earlier ++ events) (colour ∷ colours) st
 
 -- ---- extra bytes
@@ -79,7 +79,7 @@ pub record ExtraState : Type 0 where
 pub record IsExtraState (st : ExtraState) : Type 0 where
   pub some : 0 < length st.last
   pub few : length st.last < 193
-  pub sizes : sizes_of st.bank ≡ replicate (length st.last) 256
+  pub sizes : alphabet_sizes st.bank ≡ replicate (length st.last) 256
 
 -- The extra bytes of the latest point.
 abbrev pub latest_extra : List (List ℕ) → List ℕ
@@ -99,5 +99,5 @@ IsSpelledExtra extras x = SpellsExtra (latest_extra extras) x.0 x.1
 pub record ReadsExtra (earlier : List Event) (extras : List (List ℕ)) (bytes : List ℕ) (old new : Decoding) (st : ExtraState) : Type 0 where
   pub events : List Event
   pub takes : Takes (IsSpelledExtra extras) (spelled_cuts earlier) old new (events, bytes)
-  pub reads : (sizes : Name → ℕ) → HasExtraSizes sizes (length bytes) → AreRanged sizes earlier → ReadsOn (cuts_behind earlier events) old new
+  pub reads : (sizes : Name → ℕ) → HasExtraSizes sizes (length bytes) → AreRanged sizes earlier → ReadsOn (cuts_after earlier events) old new
   pub stands : ExtraStands (earlier ++ events) (bytes ∷ extras) st

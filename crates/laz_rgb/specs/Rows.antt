@@ -2,10 +2,10 @@
 use Rattle.std.specs.Prelude.{◌≡◌, ℕ, ◌+◌, ◌-◌, ◌%◌, ◌<◌, Bool, true, false, if◌then◌else◌, List, [], ◌∷◌, ◌++◌, length}
 use Rattle.laz_range.specs.Cut.{Cut}
 use Rattle.laz_models.specs.Counting.{Counting}
-use Rattle.laz_models.specs.Dist.{size_of}
+use Rattle.laz_models.specs.Dist.{alphabet_size}
 use Rattle.laz_models.specs.Bank.{model_at}
 use Rattle.laz_integer.specs.Events.{Event}
-use Rattle.laz_integer.specs.Fields.{IsByte, byte_cuts, byte_events, byte_next, where_marked}
+use Rattle.laz_integer.specs.Fields.{IsByte, byte_cuts, byte_events, byte_next, if_marked}
 
 -- The symbol of a byte with this prediction: their difference, modulo 256.
 abbrev pub symbol_of : ℕ → ℕ → ℕ
@@ -18,7 +18,7 @@ byte_of false predicted previous s = previous
 
 -- The events of a row whose first model is m: a symbol for each marked byte.
 abbrev pub row_events : List ℕ → List Bool → ℕ → List ℕ → List Event
-row_events kind (t ∷ marks) m (s ∷ symbols) = where_marked t (byte_events kind m s) ++ row_events kind marks (m + 1) symbols
+row_events kind (t ∷ marks) m (s ∷ symbols) = if_marked t (byte_events kind m s) ++ row_events kind marks (m + 1) symbols
 row_events kind marks m symbols = []
 
 -- The symbols of a row: below 256 for each marked byte, else 0, which stands for none.
@@ -38,7 +38,7 @@ row_at marks m bank = record { marks = marks; model = m; bank = bank }
 
 -- There are n models from model m on, of 256 symbols each.
 abbrev pub AreRowModels : ℕ → ℕ → List Counting → Type 0
-AreRowModels n m bank = (j : ℕ) → j < n → (m + j < length bank) × (size_of (model_at bank (m + j)) ≡ 256)
+AreRowModels n m bank = (j : ℕ) → j < n → (m + j < length bank) × (alphabet_size (model_at bank (m + j)) ≡ 256)
 
 abbrev pub first_mark : List Bool → Bool
 first_mark [] = false

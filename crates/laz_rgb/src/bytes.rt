@@ -3,8 +3,8 @@ ghost use Rattle.std.specs.Prelude.{◌≡◌, ◌<◌, ◌≤◌, ◌+◌, ◌*
 ghost use Rattle.laz_range.specs.Coding.{Codes};
 ghost use Rattle.laz_range.specs.Choice.{AreAsked, all_cuts, state_after};
 ghost use Rattle.laz_range.specs.Decoding.{NoneBegins, Refuses, Takes};
-ghost use Rattle.laz_models.specs.Bank.{sizes_of};
-ghost use Rattle.laz_integer.specs.Events.{Event, Name, cuts_behind};
+ghost use Rattle.laz_models.specs.Bank.{alphabet_sizes};
+ghost use Rattle.laz_integer.specs.Events.{Event, Name, cuts_after};
 ghost use Rattle.laz_integer.specs.Ranged.{AreRanged};
 ghost use Rattle.laz_rgb.specs.Rows.{AreRowModels, IsNext, byte_of, next_cuts, next_row, row_at};
 ghost use Rattle.laz_rgb.specs.Extra.{all_marked, extra_events, extra_made, extra_symbols};
@@ -45,7 +45,7 @@ fn put_bytes(encoder: &mut Encoder, bank: &mut ModelBank, last: &[u8], part: &[u
     requires left { 3 * length last.now ≤ encoder.old.left }
     ensures codes { Codes encoder.old encoder.new (all_cuts next_row next_cuts (row_at (all_marked (length last.now)) 0 bank.old) (extra_symbols last.now part.now)) }
     ensures next { bank.new ≡ (state_after next_row (row_at (all_marked (length last.now)) 0 bank.old) (extra_symbols last.now part.now)).bank }
-    ensures sizes { sizes_of bank.new ≡ sizes_of bank.old }
+    ensures sizes { alphabet_sizes bank.new ≡ alphabet_sizes bank.old }
     ensures used { encoder.old.left ≤ encoder.new.left + 3 * length last.now }
 {
     for (i, byte) in part.iter().enumerate() {
@@ -70,7 +70,7 @@ fn take_bytes(decoder: &mut Decoder<'_>, bank: &mut ModelBank, last: &[u8], part
     requires models { AreRowModels (length last.now) 0 bank.old }
     ensures reads { let row = row_at (all_marked (length last.now)) 0 bank.old in MatchResult result (λ _. (xs : List ℕ) × Takes (AreAsked next_row IsNext row (length last.now)) (all_cuts next_row next_cuts row) decoder.old decoder.new xs × (part.new ≡ extra_made last.now xs) × (bank.new ≡ (state_after next_row row xs).bank)) (λ _. Refuses (AreAsked next_row IsNext row (length last.now)) (all_cuts next_row next_cuts row) decoder.old decoder.new) }
     ensures good { OnOk result (decoder.new.failed ≡ false) }
-    ensures sizes { sizes_of bank.new ≡ sizes_of bank.old }
+    ensures sizes { alphabet_sizes bank.new ≡ alphabet_sizes bank.old }
 {
     let first = take_symbol_of(decoder, bank, 0)?;
     part[0] = byte_of(last[0], first as u8);
@@ -109,7 +109,7 @@ impl Bytes {
         requires left { 3 * length self.old.last ≤ encoder.old.left }
         ensures extra { length self.new.last ≡ length self.old.last }
         ensures used { encoder.old.left ≤ encoder.new.left + 3 * length self.old.last }
-        ensures events { (earlier : List Event) (extras : List (List ℕ)) → ExtraStands earlier extras self.old → Codes encoder.old encoder.new (cuts_behind earlier (extra_events (latest_extra extras) part.now)) }
+        ensures events { (earlier : List Event) (extras : List (List ℕ)) → ExtraStands earlier extras self.old → Codes encoder.old encoder.new (cuts_after earlier (extra_events (latest_extra extras) part.now)) }
         ensures stands { (earlier : List Event) (extras : List (List ℕ)) → ExtraStands earlier extras self.old → ExtraStands (earlier ++ extra_events (latest_extra extras) part.now) (part.now ∷ extras) self.new }
     {
         put_bytes(encoder, &mut self.bank, &self.last, part);

@@ -1,7 +1,7 @@
 //! A colour read: the symbol of changes, and the bytes that it marks.
 ghost use Rattle.std.specs.Prelude.{◌≡◌, ◌+◌, ◌<◌, ◌≤◌, ◌∷◌, ◌++◌, [], ℕ, false, length, replicate, IfOk, MatchResult, OnOk};
 ghost use Rattle.laz_range.specs.Decoding.{Takes, TakesNone};
-ghost use Rattle.laz_models.specs.Bank.{sizes_of};
+ghost use Rattle.laz_models.specs.Bank.{alphabet_sizes};
 ghost use Rattle.laz_integer.specs.Fields.{IsByte, byte_cuts, byte_next};
 ghost use Rattle.laz_rgb.specs.Rows.{AreRowModels, byte_of};
 ghost use Rattle.laz_rgb.specs.Colours.{colour_made, predicted_blue, predicted_green};
@@ -27,7 +27,7 @@ fn take_next(
     requires within { decoder.old.taken ≤ length decoder.old.bytes }
     requires models { AreRowModels 1 m bank.old }
     ensures reads { MatchResult result (λ byte. (s : ℕ) × Takes (IsByte marked 0) (byte_cuts marked bank.old m) decoder.old decoder.new s × (byte ≡ byte_of marked predicted previous s) × (bank.new ≡ byte_next marked bank.old m s)) (λ _. TakesNone (IsByte marked 0) (byte_cuts marked bank.old m) decoder.old decoder.new) }
-    ensures sizes { sizes_of bank.new ≡ sizes_of bank.old }
+    ensures sizes { alphabet_sizes bank.new ≡ alphabet_sizes bank.old }
 {
     let symbol = take_byte(decoder, bank, marked, m, 0)?;
     if marked {
@@ -40,9 +40,9 @@ fn take_next(
 fn take_red(decoder: &mut Decoder<'_>, bank: &mut ModelBank, low: bool, high: bool, last: &Colour) -> Result<(u8, u8), Bad>
     requires good { decoder.old.failed ≡ false }
     requires within { decoder.old.taken ≤ length decoder.old.bytes }
-    requires sizes { sizes_of bank.old ≡ 128 ∷ replicate 6 256 }
+    requires sizes { alphabet_sizes bank.old ≡ 128 ∷ replicate 6 256 }
     ensures reads { MatchResult result (λ r. (x : ℕ × ℕ) × Takes (IsTwo low high) (two_cuts low high bank.old 1) decoder.old decoder.new x × (r.0 ≡ byte_of low last.now.red_low last.now.red_low x.0) × (r.1 ≡ byte_of high last.now.red_high last.now.red_high x.1) × (bank.new ≡ two_next low high bank.old 1 x)) (λ _. TakesNone (IsTwo low high) (two_cuts low high bank.old 1) decoder.old decoder.new) }
-    ensures sizes { sizes_of bank.new ≡ sizes_of bank.old }
+    ensures sizes { alphabet_sizes bank.new ≡ alphabet_sizes bank.old }
 {
     let first = take_next(decoder, bank, 1, low, last.red_low, last.red_low)?;
     let second = take_next(decoder, bank, 2, high, last.red_high, last.red_high)?;
@@ -67,7 +67,7 @@ fn take_green_blue(
     requires models { AreRowModels 2 m bank.old }
     requires few { m < 1024 }
     ensures reads { MatchResult result (λ r. (x : ℕ × ℕ) × Takes (IsTwo green_marked blue_marked) (two_cuts green_marked blue_marked bank.old m) decoder.old decoder.new x × (r.0 ≡ byte_of green_marked (predicted_green red_from red_to green_from) green_from x.0) × (r.1 ≡ byte_of blue_marked (predicted_blue red_from red_to green_from r.0 blue_from) blue_from x.1) × (bank.new ≡ two_next green_marked blue_marked bank.old m x)) (λ _. TakesNone (IsTwo green_marked blue_marked) (two_cuts green_marked blue_marked bank.old m) decoder.old decoder.new) }
-    ensures sizes { sizes_of bank.new ≡ sizes_of bank.old }
+    ensures sizes { alphabet_sizes bank.new ≡ alphabet_sizes bank.old }
 {
     let green = take_next(decoder, bank, m, green_marked, moved(red_from, red_to, green_from), green_from)?;
     let predicted = predicted_blue(red_from, red_to, green_from, green, blue_from);
@@ -93,9 +93,9 @@ fn colour_with(symbol: u32, red: (u8, u8), low: (u8, u8), high: (u8, u8)) -> Col
 // Takes a colour after another.
 pub(crate) fn take_colour(decoder: &mut Decoder<'_>, bank: &mut ModelBank, last: &Colour) -> Result<Colour, Bad>
     requires good { decoder.old.failed ≡ false }
-    requires sizes { sizes_of bank.old ≡ 128 ∷ replicate 6 256 }
+    requires sizes { alphabet_sizes bank.old ≡ 128 ∷ replicate 6 256 }
     ensures reads { MatchResult result (λ colour. (x : ColourChoice) × Takes IsColourChoice (choice_cuts bank.old) decoder.old decoder.new x × (colour ≡ colour_made x.0 last.now (choice_symbols x)) × (bank.new ≡ choice_next bank.old x)) (λ _. TakesNone IsColourChoice (choice_cuts bank.old) decoder.old decoder.new) }
-    ensures sizes { sizes_of bank.new ≡ sizes_of bank.old }
+    ensures sizes { alphabet_sizes bank.new ≡ alphabet_sizes bank.old }
 {
     let symbol = take_symbol_of(decoder, bank, 0)?;
     let marks = colour_marks(symbol);

@@ -2,7 +2,7 @@
 ghost use Rattle.std.specs.Prelude.{◌≡◌, ◌<◌, ◌≤◌, ◌+◌, ◌++◌, [], ◌∷◌, List, ℕ, length, false, MatchResult, OnErr, OnOk};
 ghost use Rattle.laz_range.specs.Coding.{Codes};
 ghost use Rattle.laz_range.specs.Decoding.{NoneBegins, Refuses};
-ghost use Rattle.laz_integer.specs.Events.{Event, Name, cuts_behind};
+ghost use Rattle.laz_integer.specs.Events.{Event, Name, cuts_after};
 ghost use Rattle.laz_integer.specs.Ranged.{AreRanged};
 ghost use Rattle.laz_rgb.specs.Colours.{colour_at, colour_events};
 ghost use Rattle.laz_rgb.specs.Items.{HasRgbSizes, IsSpelledColour, OneBegins, ReadsColour, RgbStands, latest_colour, spelled_cuts};
@@ -65,7 +65,7 @@ impl Rgb {
         requires part { length part.now ≡ 6 }
         requires left { 21 ≤ encoder.old.left }
         ensures used { encoder.old.left ≤ encoder.new.left + 21 }
-        ensures events { (earlier : List Event) (colours : List Colour) → RgbStands earlier colours self.old → Codes encoder.old encoder.new (cuts_behind earlier (colour_events (latest_colour colours) (colour_at part.now))) }
+        ensures events { (earlier : List Event) (colours : List Colour) → RgbStands earlier colours self.old → Codes encoder.old encoder.new (cuts_after earlier (colour_events (latest_colour colours) (colour_at part.now))) }
         ensures stands { (earlier : List Event) (colours : List Colour) → RgbStands earlier colours self.old
             → let colour = colour_at part.now in RgbStands (earlier ++ colour_events (latest_colour colours) colour) (colour ∷ colours) self.new }
     {

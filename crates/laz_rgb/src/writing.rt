@@ -2,7 +2,7 @@
 ghost use Rattle.std.specs.Prelude.{◌≡◌, ◌+◌, ◌*◌, ◌<◌, ◌≤◌, ◌∷◌, ◌++◌, [], ℕ, length, replicate};
 ghost use Rattle.laz_range.specs.Choice.{all_cuts, state_after};
 ghost use Rattle.laz_range.specs.Coding.{Codes};
-ghost use Rattle.laz_models.specs.Bank.{model_at, sizes_of};
+ghost use Rattle.laz_models.specs.Bank.{model_at, alphabet_sizes};
 ghost use Rattle.laz_integer.specs.Integer.{symbol_cut};
 ghost use Rattle.laz_rgb.specs.Rows.{AreRowModels, next_cuts, next_row, row_at, symbol_of};
 ghost use Rattle.laz_rgb.specs.Colours.{changes, colour_marks, colour_symbols, half_moved, has_bit, moved, symbol_if};
@@ -112,7 +112,7 @@ pub(crate) fn put_row(encoder: &mut Encoder, bank: &mut ModelBank, m: u32, marks
     requires left { 3 * length symbols.now ≤ encoder.old.left }
     ensures codes { Codes encoder.old encoder.new (all_cuts next_row next_cuts (row_at marks.now m bank.old) symbols.now) }
     ensures next { bank.new ≡ (state_after next_row (row_at marks.now m bank.old) symbols.now).bank }
-    ensures sizes { sizes_of bank.new ≡ sizes_of bank.old }
+    ensures sizes { alphabet_sizes bank.new ≡ alphabet_sizes bank.old }
     ensures used { encoder.old.left ≤ encoder.new.left + 3 * length symbols.now }
 {
     for (i, symbol) in symbols.iter().enumerate() {
@@ -122,11 +122,11 @@ pub(crate) fn put_row(encoder: &mut Encoder, bank: &mut ModelBank, m: u32, marks
 
 // Codes a colour after another.
 pub(crate) fn put_colour(encoder: &mut Encoder, bank: &mut ModelBank, last: &Colour, now: &Colour)
-    requires sizes { sizes_of bank.old ≡ 128 ∷ replicate 6 256 }
+    requires sizes { alphabet_sizes bank.old ≡ 128 ∷ replicate 6 256 }
     requires left { 21 ≤ encoder.old.left }
     ensures codes { let s = changes last.now now.now in Codes encoder.old encoder.new (colour_cuts bank.old s (colour_symbols s last.now now.now)) }
     ensures next { let s = changes last.now now.now in bank.new ≡ colour_next bank.old s (colour_symbols s last.now now.now) }
-    ensures sizes { sizes_of bank.new ≡ sizes_of bank.old }
+    ensures sizes { alphabet_sizes bank.new ≡ alphabet_sizes bank.old }
     ensures used { encoder.old.left ≤ encoder.new.left + 21 }
     ensures few { changes last.now now.now < 128 }
 {

@@ -4,7 +4,8 @@ use Rattle.std.proofs.lemmas.Result.{err_from_is_err_and}
 use Rattle.laz_range.specs.Choice.{AreAsked, all_cuts}
 use Rattle.laz_range.specs.Decoding.{Takes}
 use Rattle.laz_models.specs.Bank.{model_at}
-use Rattle.laz_integer.proofs.SymbolParts.{sized-none, sized-takes}
+use Rattle.laz_integer.proofs.SymbolParts.{sized-takes}
+use Rattle.laz_rgb.proofs.Takings.{sized-none}
 use Rattle.laz_rgb.specs.Rows.{IsNext, next_cuts, next_row, row_at}
 use Rattle.laz_rgb.specs.Extra.{all_marked, extra_made}
 use Rattle.laz_rgb.proofs.Extras.{extra-model, extra-more, extra-none, first-none, first-takes, made-step, next-bank, none-made}
@@ -38,7 +39,7 @@ loop-i-init c =
         s ∷ [],
         first-takes (length last) bank s c.args.decoder.now c.take_symbol_of.new.decoder c.requires.some f,
         made,
-        next-bank (length last) bank [] 0 s bank c.take_symbol_of.new.bank refl c.requires.some refl c.in_ok-first.ensures.counted,
+        next-bank (length last) bank [] 0 s bank c.take_symbol_of.new.bank refl c.requires.some refl c.in_ok-first.ensures.after_symbol,
       );
       part = length-set part 0 c.byte_of.result ∙ c.requires.part;
       sizes = c.take_symbol_of.ensures.sizes;

@@ -1,7 +1,7 @@
 use Rattle.std.proofs.Common.{◌≡◌, ℕ, ◌≤◌, List, false, length, take}
 use Rattle.laz_range.specs.Choice.{AreAsked, all_cuts, state_after}
 use Rattle.laz_range.specs.Decoding.{Takes}
-use Rattle.laz_models.specs.Bank.{sizes_of}
+use Rattle.laz_models.specs.Bank.{alphabet_sizes}
 use Rattle.laz_rgb.specs.Rows.{IsNext, next_cuts, next_row, row_at}
 use Rattle.laz_rgb.specs.Extra.{all_marked, extra_made}
 use Rattle.laz_rgb.proofs.bytes.take_bytes.Given as goal
@@ -12,5 +12,5 @@ invariant-loop-i l =
     record {
       reads : (xs : List ℕ) × Takes (AreAsked next_row IsNext row l.i) (all_cuts next_row next_cuts row) l.fn.decoder l.decoder xs × (take l.i l.part ≡ extra_made l.last xs) × (l.bank ≡ (state_after next_row row xs).bank);
       part : length l.part ≡ length l.last;
-      sizes : sizes_of l.bank ≡ sizes_of l.fn.bank;
+      sizes : alphabet_sizes l.bank ≡ alphabet_sizes l.fn.bank;
     }

@@ -1,6 +1,6 @@
 use Rattle.std.proofs.Common.{◌++◌, ◌∷◌, subst}
 use Rattle.laz_range.specs.Coding.{Codes}
-use Rattle.laz_integer.specs.Events.{cuts_behind}
+use Rattle.laz_integer.specs.Events.{cuts_after}
 use Rattle.laz_rgb.specs.declared.colour.Colour.{Colour}
 use Rattle.laz_rgb.specs.Colours.{colour_events}
 use Rattle.laz_rgb.specs.Items.{RgbStands, RgbState, latest_colour}
@@ -16,7 +16,7 @@ pub returns-clause-events : goal.returns-clause-events
 returns-clause-events c earlier colours h =
     let st : RgbState = record { bank = c.self.inside.bank; last = c.self.inside.last } in
     let stood = rw (← c.self.view_is) at h in
-    subst (λ (n : Colour). Codes c.args.encoder.now c.put_colour.new.encoder (cuts_behind earlier (colour_events (latest_colour colours) n))) c.of-now.ensures (codes-colour earlier colours st c.self.invariant stood c.of-now.result c.put_colour.ensures.few c.args.encoder.now c.put_colour.new.encoder c.put_colour.ensures.codes)
+    subst (λ (n : Colour). Codes c.args.encoder.now c.put_colour.new.encoder (cuts_after earlier (colour_events (latest_colour colours) n))) c.of-now.ensures (codes-colour earlier colours st c.self.invariant stood c.of-now.result c.put_colour.ensures.few c.args.encoder.now c.put_colour.new.encoder c.put_colour.ensures.codes)
 
 pub returns-clause-stands : goal.returns-clause-stands
 returns-clause-stands c earlier colours h =
