@@ -74,7 +74,7 @@ row-ranged sizes kind (t ∷ marks) m (s ∷ xs) h asked =
     let zero_on : m + 0 ≡ m = omega arith in
     let here : sizes (own_name kind m) ≡ 256 = subst (λ (k : ℕ). sizes (own_name kind k) ≡ 256) zero_on (h 0 (omega arith)) in
     let more : RowSizes sizes kind (m + 1) (length xs) = λ j lt.
-        let same : m + suc j ≡ m + 1 + j = omega arith in subst (λ (k : ℕ). sizes (own_name kind k) ≡ 256) same (h (suc j) (omega (arith, lt))) in
+    let same : m + suc j ≡ m + 1 + j = omega arith in subst (λ (k : ℕ). sizes (own_name kind k) ≡ 256) same (h (suc j) (omega (arith, lt))) in
     AreRanged-append sizes (if_marked t (byte_events kind m s)) (row_events kind marks (m + 1) xs) (byte-ranged_row sizes kind t m s here asked.0) (row-ranged sizes kind marks (m + 1) xs more asked.1)
 
 byte-few_row : (kind : List ℕ) (t : Bool) (m s : ℕ) → length (if_marked t (byte_events kind m s)) ≤ 1

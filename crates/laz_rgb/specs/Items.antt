@@ -8,7 +8,6 @@ use Rattle.laz_models.specs.Bank.{alphabet_sizes}
 use Rattle.laz_integer.specs.Events.{Event, Name, cuts_after}
 use Rattle.laz_integer.specs.Fields.{BankStands}
 use Rattle.laz_integer.specs.Ranged.{AreRanged}
-
 use Rattle.laz_integer.specs.Uses.{own_name}
 use Rattle.laz_rgb.specs.declared.colour.Colour.{Colour}
 use Rattle.laz_rgb.specs.Colours.{SpellsColour, colour_at, rgb_kind}

@@ -62,7 +62,12 @@ fn byte_of(previous: u8, symbol: u8) -> u8
 }
 
 // Takes the difference of each byte to the one before.
-fn take_bytes(decoder: &mut Decoder<'_>, bank: &mut ModelBank, last: &[u8], part: &mut [u8]) -> Result<(), Bad>
+fn take_bytes(
+    decoder: &mut Decoder<'_>,
+    bank: &mut ModelBank,
+    last: &[u8],
+    part: &mut [u8],
+) -> Result<(), Bad>
     requires good { decoder.old.failed ≡ false }
     requires some { 0 < length last.now }
     requires part { length part.old ≡ length last.now }

@@ -1,6 +1,5 @@
 //! Colours as six bytes, and the symbols of one after another.
 ghost use Rattle.std.specs.Prelude.{◌≡◌, ◌<◌, ℕ, length};
-
 ghost use Rattle.laz_rgb.specs.Colours.{bit_if, changes, colour_at, colour_bytes, is_grey};
 
 /// Red, green and blue of a point record, each as its low and its high byte.
@@ -59,8 +58,10 @@ impl Colour {
         ensures few { result < 128 }
     {
         let red = bit_if(now.red_low != self.red_low, 1) + bit_if(now.red_high != self.red_high, 2);
-        let green = bit_if(now.green_low != self.green_low, 4) + bit_if(now.green_high != self.green_high, 8);
-        let blue = bit_if(now.blue_low != self.blue_low, 16) + bit_if(now.blue_high != self.blue_high, 32);
+        let green = bit_if(now.green_low != self.green_low, 4)
+            + bit_if(now.green_high != self.green_high, 8);
+        let blue = bit_if(now.blue_low != self.blue_low, 16)
+            + bit_if(now.blue_high != self.blue_high, 32);
         red + green + blue + bit_if(!now.is_grey(), 64)
     }
 }

@@ -37,7 +37,13 @@ fn take_next(
 }
 
 // Takes the two bytes of red under models 1 and 2.
-fn take_red(decoder: &mut Decoder<'_>, bank: &mut ModelBank, low: bool, high: bool, last: &Colour) -> Result<(u8, u8), Bad>
+fn take_red(
+    decoder: &mut Decoder<'_>,
+    bank: &mut ModelBank,
+    low: bool,
+    high: bool,
+    last: &Colour,
+) -> Result<(u8, u8), Bad>
     requires good { decoder.old.failed ≡ false }
     requires within { decoder.old.taken ≤ length decoder.old.bytes }
     requires sizes { alphabet_sizes bank.old ≡ 128 ∷ replicate 6 256 }
@@ -69,7 +75,14 @@ fn take_green_blue(
     ensures reads { MatchResult result (λ r. (x : ℕ × ℕ) × Takes (IsTwo green_marked blue_marked) (two_cuts green_marked blue_marked bank.old m) decoder.old decoder.new x × (r.0 ≡ byte_of green_marked (predicted_green red_from red_to green_from) green_from x.0) × (r.1 ≡ byte_of blue_marked (predicted_blue red_from red_to green_from r.0 blue_from) blue_from x.1) × (bank.new ≡ two_next green_marked blue_marked bank.old m x)) (λ _. TakesNone (IsTwo green_marked blue_marked) (two_cuts green_marked blue_marked bank.old m) decoder.old decoder.new) }
     ensures sizes { alphabet_sizes bank.new ≡ alphabet_sizes bank.old }
 {
-    let green = take_next(decoder, bank, m, green_marked, moved(red_from, red_to, green_from), green_from)?;
+    let green = take_next(
+        decoder,
+        bank,
+        m,
+        green_marked,
+        moved(red_from, red_to, green_from),
+        green_from,
+    )?;
     let predicted = predicted_blue(red_from, red_to, green_from, green, blue_from);
     let blue = take_next(decoder, bank, m + 1, blue_marked, predicted, blue_from)?;
     Ok((green, blue))
@@ -91,7 +104,11 @@ fn colour_with(symbol: u32, red: (u8, u8), low: (u8, u8), high: (u8, u8)) -> Col
 }
 
 // Takes a colour after another.
-pub(crate) fn take_colour(decoder: &mut Decoder<'_>, bank: &mut ModelBank, last: &Colour) -> Result<Colour, Bad>
+pub(crate) fn take_colour(
+    decoder: &mut Decoder<'_>,
+    bank: &mut ModelBank,
+    last: &Colour,
+) -> Result<Colour, Bad>
     requires good { decoder.old.failed ≡ false }
     requires sizes { alphabet_sizes bank.old ≡ 128 ∷ replicate 6 256 }
     ensures reads { MatchResult result (λ colour. (x : ColourChoice) × Takes IsColourChoice (choice_cuts bank.old) decoder.old decoder.new x × (colour ≡ colour_made x.0 last.now (choice_symbols x)) × (bank.new ≡ choice_next bank.old x)) (λ _. TakesNone IsColourChoice (choice_cuts bank.old) decoder.old decoder.new) }
@@ -100,7 +117,27 @@ pub(crate) fn take_colour(decoder: &mut Decoder<'_>, bank: &mut ModelBank, last:
     let symbol = take_symbol_of(decoder, bank, 0)?;
     let marks = colour_marks(symbol);
     let red = take_red(decoder, bank, marks[0], marks[1], last)?;
-    let low = take_green_blue(decoder, bank, 3, marks[2], marks[3], last.red_low, red.0, last.green_low, last.blue_low)?;
-    let high = take_green_blue(decoder, bank, 5, marks[4], marks[5], last.red_high, red.1, last.green_high, last.blue_high)?;
+    let low = take_green_blue(
+        decoder,
+        bank,
+        3,
+        marks[2],
+        marks[3],
+        last.red_low,
+        red.0,
+        last.green_low,
+        last.blue_low,
+    )?;
+    let high = take_green_blue(
+        decoder,
+        bank,
+        5,
+        marks[4],
+        marks[5],
+        last.red_high,
+        red.1,
+        last.green_high,
+        last.blue_high,
+    )?;
     Ok(colour_with(symbol, red, low, high))
 }

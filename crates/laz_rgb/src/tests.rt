@@ -74,7 +74,10 @@ fn two_thousand_colours_are_read_again(rt: HostRuntime) -> Result<(), Fail> {
     for shorter in [written - 1, written - 2, written / 2, 4] {
         let mut decoder = Decoder::new(&room[..shorter.min(room.len())])?;
         rgb.start(&[0; 6]);
-        assert!(rt; take_colours(&mut decoder, &mut rgb, 2000).is_err(), "at {shorter}");
+        assert!(rt;
+            take_colours(&mut decoder, &mut rgb, 2000).is_err(),
+            "at {shorter}"
+        );
     }
     Ok(())
 }
@@ -91,7 +94,12 @@ fn coded(alloc: Global, last: &[u8; 6], now: &[u8; 6]) -> Result<(Vec<u8>, usize
 }
 
 // The bytes of a symbol of changes, and of symbols under two of the models 1 to 6.
-fn spelled(alloc: Global, changes: u32, first: (u32, u8), second: (u32, u8)) -> Result<(Vec<u8>, usize), AllocError>
+fn spelled(
+    alloc: Global,
+    changes: u32,
+    first: (u32, u8),
+    second: (u32, u8),
+) -> Result<(Vec<u8>, usize), AllocError>
     requires changes { changes < 128 }
     requires first { (1 ≤ first.0) × (first.0 < 7) }
     requires second { (1 ≤ second.0) × (second.0 < 7) }
@@ -109,9 +117,27 @@ fn spelled(alloc: Global, changes: u32, first: (u32, u8), second: (u32, u8)) -> 
 fn colours_worked_by_hand(rt: HostRuntime) -> Result<(), Fail> {
     // From 0x1010 to 0x2020 in all; from 0x2020 in all to 0x2030, 0x2020, 0x2010; and green as high as it can be.
     let rows = [
-        ([16, 16, 16, 16, 16, 16], [32, 32, 32, 32, 32, 32], 63, (1, 16), (2, 16)),
-        ([32, 32, 32, 32, 32, 32], [48, 32, 32, 32, 16, 32], 81, (1, 16), (4, 232)),
-        ([240, 0, 248, 0, 0, 0], [255, 0, 255, 0, 0, 0], 69, (1, 15), (3, 0)),
+        (
+            [16, 16, 16, 16, 16, 16],
+            [32, 32, 32, 32, 32, 32],
+            63,
+            (1, 16),
+            (2, 16),
+        ),
+        (
+            [32, 32, 32, 32, 32, 32],
+            [48, 32, 32, 32, 16, 32],
+            81,
+            (1, 16),
+            (4, 232),
+        ),
+        (
+            [240, 0, 248, 0, 0, 0],
+            [255, 0, 255, 0, 0, 0],
+            69,
+            (1, 15),
+            (3, 0),
+        ),
     ];
     for (last, now, changes, first, second) in rows {
         let (room, written) = coded(rt.alloc(), &last, &now)?;
@@ -133,7 +159,13 @@ fn put_extra(encoder: &mut Encoder, bytes: &mut Bytes, part: &mut [u8], count: u
     }
 }
 
-fn take_extra(decoder: &mut Decoder<'_>, bytes: &mut Bytes, part: &mut [u8], read: &mut [u8], count: u32) -> Result<u32, Bad>
+fn take_extra(
+    decoder: &mut Decoder<'_>,
+    bytes: &mut Bytes,
+    part: &mut [u8],
+    read: &mut [u8],
+    count: u32,
+) -> Result<u32, Bad>
     requires good { decoder.old.failed ≡ false }
     requires part { length part.old ≡ length bytes.old.last }
     requires read { length read.old ≡ length bytes.old.last }
@@ -164,7 +196,11 @@ fn extra_bytes_are_read_again(rt: HostRuntime) -> Result<(), Fail> {
         let mut decoder = Decoder::new(&room[..written])?;
         part.fill(0);
         bytes.start(&part);
-        assert_eq!(rt; take_extra(&mut decoder, &mut bytes, &mut part, &mut read, 500)?, 500, "with {extra}");
+        assert_eq!(rt;
+            take_extra(&mut decoder, &mut bytes, &mut part, &mut read, 500)?,
+            500,
+            "with {extra}"
+        );
         assert!(rt; decoder.at_end(), "with {extra}");
     }
     Ok(())

@@ -59,7 +59,13 @@ pub(crate) fn half_moved(from: u32, to: u32, byte: u8) -> u8
 
 // The prediction of blue, which moved as red and green moved together.
 #[inline]
-pub(crate) fn predicted_blue(red_from: u8, red_to: u8, green_from: u8, green_to: u8, blue_from: u8) -> u8
+pub(crate) fn predicted_blue(
+    red_from: u8,
+    red_to: u8,
+    green_from: u8,
+    green_to: u8,
+    blue_from: u8,
+) -> u8
     ensures { result ≡ half_moved (red_from + green_from) (red_to + green_to) blue_from }
 {
     half_moved(
@@ -82,7 +88,11 @@ pub(crate) fn symbol_of(predicted: u8, byte: u8) -> u8
 fn symbol_if(marked: bool, predicted: u8, byte: u8) -> u8
     ensures { result ≡ symbol_if marked predicted byte }
 {
-    if marked { symbol_of(predicted, byte) } else { 0 }
+    if marked {
+        symbol_of(predicted, byte)
+    } else {
+        0
+    }
 }
 
 // The symbols of the six bytes of a colour after another, in the order of their coding.
@@ -92,8 +102,20 @@ fn colour_symbols(marks: &[bool; 6], last: &Colour, now: &Colour, symbol: u32) -
 {
     let green_low = moved(last.red_low, now.red_low, last.green_low);
     let green_high = moved(last.red_high, now.red_high, last.green_high);
-    let blue_low = predicted_blue(last.red_low, now.red_low, last.green_low, now.green_low, last.blue_low);
-    let blue_high = predicted_blue(last.red_high, now.red_high, last.green_high, now.green_high, last.blue_high);
+    let blue_low = predicted_blue(
+        last.red_low,
+        now.red_low,
+        last.green_low,
+        now.green_low,
+        last.blue_low,
+    );
+    let blue_high = predicted_blue(
+        last.red_high,
+        now.red_high,
+        last.green_high,
+        now.green_high,
+        last.blue_high,
+    );
     [
         symbol_if(marks[0], last.red_low, now.red_low),
         symbol_if(marks[1], last.red_high, now.red_high),
@@ -105,7 +127,13 @@ fn colour_symbols(marks: &[bool; 6], last: &Colour, now: &Colour, symbol: u32) -
 }
 
 // Codes a row of bytes, whose first model is `m`.
-pub(crate) fn put_row(encoder: &mut Encoder, bank: &mut ModelBank, m: u32, marks: &[bool], symbols: &[u8])
+pub(crate) fn put_row(
+    encoder: &mut Encoder,
+    bank: &mut ModelBank,
+    m: u32,
+    marks: &[bool],
+    symbols: &[u8],
+)
     requires marks { length marks.now ≡ length symbols.now }
     requires models { AreRowModels (length symbols.now) m bank.old }
     requires few { m + length symbols.now < 1024 }
