@@ -1,0 +1,95 @@
+use Rattle.std.proofs.Common.{◌≡◌, ℕ, ◌+◌, ◌/◌, ◌%◌, ◌<◌, eqb, Bool, true, false, List, [], ◌∷◌, ◌++◌, Some, None, refl, sym, ap, subst, ◌∙◌, arith, ⊎_elim, lit<, append_assoc}
+use Rattle.std.specs.List.{find}
+use Rattle.std.specs.Int.{w32, cast_signed}
+use Rattle.std.proofs.lemmas.Bool.{cases_eq, cond-true, cond-false, eq-eqb, ne_eqb}
+use Rattle.laz_range.specs.Cut.{Cut, raw_cuts}
+use Rattle.laz_range.specs.Coding.{Coding, Codes}
+use Rattle.laz_range.proofs.Whole.{Codes-append}
+use Rattle.laz_integer.specs.Events.{Event, cuts_after, raw_events}
+use Rattle.laz_integer.specs.Integer.{IntEvents}
+use Rattle.laz_integer.proofs.Named.{cuts_after-append, cuts-raw}
+use Rattle.laz_gpstime.specs.Meanings.{time_kind}
+use Rattle.laz_gpstime.specs.Sequences.{time_difference}
+use Rattle.laz_gpstime.specs.Slots.{ModelsStand, TimeState}
+use Rattle.laz_gpstime.specs.Times.{context, difference_symbol, near_events, near_rest, near_symbol, new_events, new_symbol, predicted, same_symbol, switch_events, time_symbol}
+use Rattle.laz_gpstime.specs.declared.sequences.Slot.{Slot}
+use Rattle.laz_gpstime.proofs.Models.{raw-piece}
+
+-- ---- one list of events and then another
+pub two-codes : (a b c : Coding) (earlier xs ys : List Event) → Codes a b (cuts_after earlier xs) → Codes b c (cuts_after (earlier ++ xs) ys) → Codes a c (cuts_after earlier (xs ++ ys))
+two-codes a b c earlier xs ys f g = subst (λ (cs : List Cut). Codes a c cs) (sym (cuts_after-append earlier xs ys)) (Codes-append a b c _ _ f g)
+
+pub raw-codes : (a b : Coding) (earlier : List Event) (bits v : ℕ) → Codes a b (raw_cuts bits v) → Codes a b (cuts_after earlier (raw_events bits v))
+raw-codes a b earlier bits v h = subst (λ (cs : List Cut). Codes a b cs) (sym (cuts-raw earlier bits v)) h
+
+pub raw-stands : (earlier : List Event) (bits v : ℕ) (st : TimeState) → ModelsStand earlier st → ModelsStand (earlier ++ raw_events bits v) st
+raw-stands earlier bits v st h = (raw-piece st bits v).stands earlier h
+
+pub two-stand : (earlier xs ys : List Event) (st : TimeState) → ModelsStand ((earlier ++ xs) ++ ys) st → ModelsStand (earlier ++ (xs ++ ys)) st
+two-stand earlier xs ys st h = subst (λ (l : List Event). ModelsStand l st) (append_assoc earlier xs ys) h
+
+-- the models stand, whatever the slots are
+pub stand-still : (events : List Event) (st new : TimeState) → new.symbols ≡ st.symbols → new.integers ≡ st.integers → ModelsStand events st → ModelsStand events new
+stand-still events st new e f h = record { symbols = rw e h.symbols; integers = rw f h.integers }
+
+-- ---- which events
+pub some-switch : (d i : ℕ) → (i ≡ 0 → ⊥) → switch_events d i ≡ time_symbol d (new_symbol d + i) ∷ []
+some-switch d i some = cond-false (eqb i 0) _ _ (ne_eqb i 0 some)
+
+same_list : (a b : Event) (xs ys : List Event) → a ≡ b → xs ≡ ys → a ∷ xs ≡ b ∷ ys
+same_list a b xs ys e f = cc
+
+near-same-parts : (d x s : ℕ) → eqb x 0 ≡ true → s ≡ same_symbol d → time_symbol d s ∷ [] ≡ time_symbol d (near_symbol d x) ∷ near_rest d x
+near-same-parts d x s b at = same_list _ _ _ _ (ap (time_symbol d) (at ∙ sym (cond-true (eqb x 0) _ _ b))) (sym (cond-true (eqb x 0) _ _ b))
+
+near-other-parts : (d x s pred ctx : ℕ) → eqb x 0 ≡ false → s ≡ difference_symbol d x → pred ≡ predicted d s → ctx ≡ context d s
+    → time_symbol d s ∷ IntEvents time_kind 32 ctx (cast_signed w32 pred) (cast_signed w32 x) ≡ time_symbol d (near_symbol d x) ∷ near_rest d x
+near-other-parts d x s pred ctx b at p c =
+    same_list _ _ _ _ (ap (time_symbol d) (at ∙ sym (cond-false (eqb x 0) _ _ b)))
+    (ap (λ n. IntEvents time_kind 32 n (cast_signed w32 pred) (cast_signed w32 x)) (c ∙ ap (context d) at)
+    ∙ (ap (λ n. IntEvents time_kind 32 (context d (difference_symbol d x)) (cast_signed w32 n) (cast_signed w32 x)) (p ∙ ap (predicted d) at)
+    ∙ sym (cond-false (eqb x 0) _ _ b)))
+
+pub near-same : (slot : Slot) (s word time : ℕ) → word ≡ time_difference slot.time time % 4294967296 → word ≡ 0 → s ≡ same_symbol slot.difference → time_symbol slot.difference s ∷ [] ≡ near_events slot.difference slot.time time
+near-same slot s word time is none at =
+    let x : ℕ = time_difference slot.time time % 4294967296 in
+    let b : eqb x 0 ≡ true = eq-eqb x 0 (sym is ∙ none) in
+    near-same-parts slot.difference x s b at
+
+pub near-other : (slot : Slot) (s word time pred ctx : ℕ) → word ≡ time_difference slot.time time % 4294967296 → (word ≡ 0 → ⊥) → s ≡ difference_symbol slot.difference word → pred ≡ predicted slot.difference s → ctx ≡ context slot.difference s
+    → (time_symbol slot.difference s ∷ []) ++ IntEvents time_kind 32 ctx (cast_signed w32 pred) (cast_signed w32 word) ≡ near_events slot.difference slot.time time
+near-other slot s word time pred ctx is some at p c = subst (λ (x : ℕ). time_symbol slot.difference s ∷ IntEvents time_kind 32 ctx (cast_signed w32 pred) (cast_signed w32 word) ≡ time_symbol slot.difference (near_symbol slot.difference x) ∷ near_rest slot.difference x) is (near-other-parts slot.difference word s pred ctx (ne_eqb word 0 some) at p c)
+
+-- ---- the first that a time is near to
+pub found : (f : ℕ → Bool) (i : ℕ) → i < 4 → ((j : ℕ) → j < i → f j ≡ false) → f i ≡ true → find f (0 ∷ 1 ∷ 2 ∷ 3 ∷ []) ≡ Some i
+found f i few before at =
+    ⊎_elim
+    (λ (zero_is : i ≡ 0). rw zero_is (cond-true (f 0) _ _ (rw zero_is at at)))
+    (λ (some : i ≡ 0 → ⊥).
+    let first = cond-false (f 0) (Some 0) (find f (1 ∷ 2 ∷ 3 ∷ [])) (before 0 (omega (arith, some))) in
+    first ∙
+    ⊎_elim
+    (λ (one_is : i ≡ 1). rw one_is (cond-true (f 1) _ _ (rw one_is at at)))
+    (λ (more : i ≡ 1 → ⊥).
+    let second = cond-false (f 1) (Some 1) (find f (2 ∷ 3 ∷ [])) (before 1 (omega (arith, some, more))) in
+    second ∙
+    ⊎_elim
+    (λ (two_is : i ≡ 2). rw two_is (cond-true (f 2) _ _ (rw two_is at at)))
+    (λ (most : i ≡ 2 → ⊥).
+    let three_is : i ≡ 3 = omega (arith, some, more, most, few) in
+    let third = cond-false (f 2) (Some 2) (find f (3 ∷ [])) (before 2 (omega (arith, three_is))) in
+    third ∙ rw three_is (cond-true (f 3) _ _ (rw three_is at at)))
+    (cases_eq i 2))
+    (cases_eq i 1))
+    (cases_eq i 0)
+
+pub not-found : (f : ℕ → Bool) → ((j : ℕ) → j < 4 → f j ≡ false) → find f (0 ∷ 1 ∷ 2 ∷ 3 ∷ []) ≡ None
+not-found f none =
+    cond-false (f 0) (Some 0) (find f (1 ∷ 2 ∷ 3 ∷ [])) (none 0 (lit< tt))
+    ∙ (cond-false (f 1) (Some 1) (find f (2 ∷ 3 ∷ [])) (none 1 (lit< tt))
+    ∙ (cond-false (f 2) (Some 2) (find f (3 ∷ [])) (none 2 (lit< tt))
+    ∙ cond-false (f 3) (Some 3) None (none 3 (lit< tt))))
+
+pub new-is-made : (slot : Slot) (time s hi high low : ℕ) → s ≡ new_symbol slot.difference → hi ≡ slot.time / 4294967296 → high ≡ time / 4294967296 → low ≡ time % 4294967296
+    → (time_symbol slot.difference s ∷ []) ++ (IntEvents time_kind 32 8 (cast_signed w32 hi) (cast_signed w32 high) ++ raw_events 32 low) ≡ new_events slot.difference slot.time time
+new-is-made slot time s hi high low e f g l = rw (e, f, g, l) refl

@@ -1,0 +1,102 @@
+-- What is read of a time: the symbols, and then a corrector and a low word. Choices of them, their parts, and the state
+-- after them.
+use Rattle.std.specs.Prelude.{◌≡◌, ℕ, ◌+◌, ◌*◌, ◌/◌, ◌<◌, ◌≤◌, ◌==◌, if◌then◌else◌, List, [], ◌∷◌, ◌++◌, MatchBool}
+use Rattle.std.specs.Int.{w32, cast_signed, cast_unsigned}
+use Rattle.laz_range.specs.Cut.{Cut, raw_cuts}
+use Rattle.laz_models.specs.Bank.{model_at}
+use Rattle.laz_integer.specs.Corrector.{corrected}
+use Rattle.laz_integer.specs.Integer.{IsCorrector, int_cuts, int_next, symbol_cut}
+use Rattle.laz_gpstime.specs.Meanings.{meaning}
+use Rattle.laz_gpstime.specs.Spelling.{time_plus}
+use Rattle.laz_gpstime.specs.Slots.{TimeState, after_point, after_switch, difference_of, slot_of, symbols_after}
+use Rattle.laz_gpstime.specs.Times.{context, model_of, new_symbol, predicted, same_symbol}
+
+-- ---- what comes first: a switch by i, and then a symbol s that is none
+
+abbrev pub Front : Type 0
+Front = ℕ × ℕ
+
+abbrev pub time_symbol_cuts : TimeState → ℕ → List Cut
+time_symbol_cuts st s = symbol_cut (model_at st.symbols (model_of (difference_of st))) s ∷ []
+
+abbrev pub symbol_next : TimeState → ℕ → TimeState
+symbol_next st s = record { sequences = st.sequences; symbols = symbols_after st s; integers = st.integers }
+
+abbrev pub switch_next : TimeState → ℕ → TimeState
+switch_next st i = record { sequences = after_switch st.sequences i; symbols = symbols_after st (new_symbol (difference_of st) + i); integers = st.integers }
+
+-- The state after a switch by i. A switch by 0 is none.
+abbrev pub state_on : TimeState → ℕ → TimeState
+state_on st i = if i == 0 then st else switch_next st i
+
+abbrev pub switch_cuts : TimeState → ℕ → List Cut
+switch_cuts st i = if i == 0 then [] else time_symbol_cuts st (new_symbol (difference_of st) + i)
+
+abbrev pub IsFront : TimeState → Front → Type 0
+IsFront st x = (x.0 < 4) × (x.1 ≤ new_symbol (difference_of (state_on st x.0)))
+
+abbrev pub front_cuts : TimeState → Front → List Cut
+front_cuts st x = switch_cuts st x.0 ++ time_symbol_cuts (state_on st x.0) x.1
+
+abbrev pub front_next : TimeState → Front → TimeState
+front_next st x = symbol_next (state_on st x.0) x.1
+
+-- ---- what follows symbol s: the width and place of a corrector, and the low word of a new time
+
+abbrev pub Rest : Type 0
+Rest = (ℕ × ℕ) × ℕ
+
+abbrev pub no_rest : Rest
+no_rest = ((0, 0), 0)
+
+abbrev pub IsRest : ℕ → ℕ → Rest → Type 0
+IsRest d s y =
+    MatchBool (s == same_symbol d) (y ≡ no_rest) (IsCorrector 32 y.0 × MatchBool (s == new_symbol d) (y.1 < 4294967296) (y.1 ≡ 0))
+
+abbrev pub word_context : ℕ → ℕ → ℕ
+word_context d s = if s == new_symbol d then 8 else context d s
+
+abbrev pub word_predicted : ℕ → ℕ → ℕ → ℕ
+word_predicted d from s = if s == new_symbol d then from / 4294967296 else predicted d s
+
+abbrev pub rest_cuts : TimeState → ℕ → Rest → List Cut
+rest_cuts st s y =
+    let d = difference_of st in
+    if s == same_symbol d then []
+    else int_cuts st.integers (word_context d s) y.0.0 y.0.1 ++ (if s == new_symbol d then raw_cuts 32 y.1 else [])
+
+abbrev pub word_read : ℕ → ℕ → ℕ → Rest → ℕ
+word_read d from s y = cast_unsigned w32 (corrected 32 (cast_signed w32 (word_predicted d from s)) y.0.0 y.0.1)
+
+-- The time that is read.
+abbrev pub rest_time : ℕ → ℕ → ℕ → Rest → ℕ
+rest_time d from s y =
+    if s == same_symbol d then from
+    else if s == new_symbol d then word_read d from s y * 4294967296 + y.1
+    else time_plus from (word_read d from s y)
+
+abbrev pub rest_next : TimeState → ℕ → Rest → TimeState
+rest_next st s y =
+    let d = difference_of st in
+    record {
+      sequences = after_point st.sequences (meaning (model_of d) s) (rest_time d (slot_of st).time s y);
+      symbols = st.symbols;
+      integers = if s == same_symbol d then st.integers else int_next st.integers (word_context d s) y.0.0 y.0.1;
+    }
+
+-- ---- all that is read of a time
+
+abbrev pub Choice : Type 0
+Choice = Front × Rest
+
+abbrev pub IsChoice : TimeState → Choice → Type 0
+IsChoice st x = IsFront st x.0 × IsRest (difference_of (front_next st x.0)) x.0.1 x.1
+
+abbrev pub choice_cuts : TimeState → Choice → List Cut
+choice_cuts st x = front_cuts st x.0 ++ rest_cuts (front_next st x.0) x.0.1 x.1
+
+abbrev pub choice_next : TimeState → Choice → TimeState
+choice_next st x = rest_next (front_next st x.0) x.0.1 x.1
+
+abbrev pub choice_time : TimeState → Choice → ℕ
+choice_time st x = let after = front_next st x.0 in rest_time (difference_of after) (slot_of after).time x.0.1 x.1

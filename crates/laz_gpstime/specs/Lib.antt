@@ -1,0 +1,11 @@
+pub use Rattle.laz_integer.specs.Events
+pub use Rattle.laz_range.specs.Decoding
+pub mod Meanings
+pub mod Sequences
+pub mod Times
+pub mod Spelling
+pub mod Slots
+pub mod State
+pub mod Items
+pub mod Choices
+pub mod Laws

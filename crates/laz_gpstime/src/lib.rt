@@ -1,0 +1,13 @@
+//! GPS times of point records: the item GPSTIME11 of LASzip, version 2.
+#![tactic(auto)]
+
+mod coding;
+mod gps_time;
+mod laws;
+mod reading;
+mod sequences;
+mod symbols;
+mod times;
+
+pub use gps_time::GpsTime;
+pub use laws::{times_are_lawful, times_are_spelled};
