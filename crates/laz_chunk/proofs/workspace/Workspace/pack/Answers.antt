@@ -1,0 +1,93 @@
+use Rattle.std.proofs.Common.{◌≡◌, ◌++◌, ℕ, ◌+◌, ◌*◌, ◌-◌, ◌/◌, ◌<◌, ◌≤◌, List, length, take, drop, ap, sym, subst, ◌∙◌, refl, arith, length-append}
+use Rattle.std.proofs.lemmas.List.{length-drop, length-take-le}
+use Rattle.laz_range.specs.Span.{Span}
+use Rattle.laz_chunk.specs.Layouts.{Format, Layout, layout, record_length}
+use Rattle.laz_chunk.specs.Stands.{layout_in}
+use Rattle.laz_chunk.specs.Chunks.{count_of}
+use Rattle.laz_chunk.proofs.Chunk.{Put, Started, packed-is, packed-stream, started}
+use Rattle.laz_chunk.proofs.Ends.{whole-records}
+use Rattle.laz_chunk.proofs.workspace.Workspace.pack.Goals as goal
+
+pub put_records-requires-clause-records : goal.put_records-requires-clause-records
+put_records-requires-clause-records c =
+    let l : Layout = layout c.args.self.now in
+    let m : ℕ = record_length l in
+    let records : List ℕ = c.args.records.now in
+    let size_is : c.record_length-size.result ≡ m = c.record_length-size.ensures ∙ ap (λ (f : Format). record_length (layout f)) c.self.view_is in
+    let layout_is : layout_in c.self.inside.items ≡ l = c.self.invariant.0 ∙ ap layout c.self.view_is in
+    let layout_now : layout_in c.start_record.new.items ≡ l = c.start_record.ensures.layout ∙ layout_is in
+    let whole = whole-records l records c.requires.some c.requires.whole in
+    let further : length c.split_at.result.1.now ≡ m * (count_of l records - 1) = (ap length c.split_at.ensures.back ∙ length-drop c.record_length-size.result records) ∙ (ap (λ (n : ℕ). length records - n) size_is ∙ whole.further) in
+    further ∙ (ap (λ (n : ℕ). m * (length records / n - 1)) (sym size_is) ∙ ap (λ (k : Layout). record_length k * (length records / c.record_length-size.result - 1)) (sym layout_now))
+
+pub returns-clause-bytes : goal.returns-clause-bytes
+returns-clause-bytes c =
+    let l : Layout = layout c.args.self.now in
+    let m : ℕ = record_length l in
+    let records : List ℕ = c.args.records.now in
+    let size_is : c.record_length-size.result ≡ m = c.record_length-size.ensures ∙ ap (λ (f : Format). record_length (layout f)) c.self.view_is in
+    let layout_is : layout_in c.self.inside.items ≡ l = c.self.invariant.0 ∙ ap layout c.self.view_is in
+    let layout_now : layout_in c.start_record.new.items ≡ l = c.start_record.ensures.layout ∙ layout_is in
+    let front_is = c.split_at.ensures.front ∙ ap (λ (n : ℕ). take n records) size_is in
+    let back_is = c.split_at.ensures.back ∙ ap (λ (n : ℕ). drop n records) size_is in
+    let long = ap length front_is ∙ (length-take-le m records c.requires.some ∙ sym size_is) in
+    let written_first : take c.record_length-size.result c.replace.result.items ≡ take m records =
+    rw c.replace.ensures.value (ap (λ (n : ℕ). take n c.put_first.new.out.items) (sym long) ∙ (c.put_first.ensures.front ∙ front_is)) in
+    let begun : Started l (take m records) c.start_record.new.items = started _ l _ (take m records) c.start_record.new.items layout_is front_is c.start_record.ensures.stands in
+    let put : Put l (length records / c.record_length-size.result - 1) c.start_record.new.items c.split_at.result.1.now c.with_room-encoder.result c.put_records.new.encoder =
+    subst (λ (k : Layout). Put k (length records / c.record_length-size.result - 1) c.start_record.new.items c.split_at.result.1.now c.with_room-encoder.result c.put_records.new.encoder) layout_now c.put_records.ensures.codes in
+    let puts : Put l (count_of l records - 1) c.start_record.new.items c.split_at.result.1.now c.with_room-encoder.result c.put_records.new.encoder =
+    subst (λ (n : ℕ). Put l (length records / n - 1) c.start_record.new.items c.split_at.result.1.now c.with_room-encoder.result c.put_records.new.encoder) size_is put in
+    let codes = packed-stream l records c.split_at.result.1.now c.start_record.new.items c.with_room-encoder.result c.put_records.new.encoder c.requires.some (λ i. (c.type_inv.records i).fits) back_is begun puts in
+    let before_is : c.put_records.new.encoder.before ≡ take m records = codes.before ∙ (c.with_room-encoder.ensures.before ∙ written_first) in
+    packed-is l records c.put_records.new.encoder.before c.finish-room.result.0.items c.finish-room.result.1 c.record_length-size.result c.with_room-encoder.result c.put_records.new.encoder size_is c.requires.some before_is c.finish-room.ensures.front
+    c.with_room-encoder.ensures.span
+    codes
+
+pub returns-clause-count : goal.returns-clause-count
+returns-clause-count c =
+    let l : Layout = layout c.args.self.now in
+    let m : ℕ = record_length l in
+    let records : List ℕ = c.args.records.now in
+    let size_is : c.record_length-size.result ≡ m = c.record_length-size.ensures ∙ ap (λ (f : Format). record_length (layout f)) c.self.view_is in
+    let layout_is : layout_in c.self.inside.items ≡ l = c.self.invariant.0 ∙ ap layout c.self.view_is in
+    let layout_now : layout_in c.start_record.new.items ≡ l = c.start_record.ensures.layout ∙ layout_is in
+    let front_is = c.split_at.ensures.front ∙ ap (λ (n : ℕ). take n records) size_is in
+    let back_is = c.split_at.ensures.back ∙ ap (λ (n : ℕ). drop n records) size_is in
+    let long = ap length front_is ∙ (length-take-le m records c.requires.some ∙ sym size_is) in
+    let written_first : take c.record_length-size.result c.replace.result.items ≡ take m records =
+    rw c.replace.ensures.value (ap (λ (n : ℕ). take n c.put_first.new.out.items) (sym long) ∙ (c.put_first.ensures.front ∙ front_is)) in
+    let begun : Started l (take m records) c.start_record.new.items = started _ l _ (take m records) c.start_record.new.items layout_is front_is c.start_record.ensures.stands in
+    let put : Put l (length records / c.record_length-size.result - 1) c.start_record.new.items c.split_at.result.1.now c.with_room-encoder.result c.put_records.new.encoder =
+    subst (λ (k : Layout). Put k (length records / c.record_length-size.result - 1) c.start_record.new.items c.split_at.result.1.now c.with_room-encoder.result c.put_records.new.encoder) layout_now c.put_records.ensures.codes in
+    let puts : Put l (count_of l records - 1) c.start_record.new.items c.split_at.result.1.now c.with_room-encoder.result c.put_records.new.encoder =
+    subst (λ (n : ℕ). Put l (length records / n - 1) c.start_record.new.items c.split_at.result.1.now c.with_room-encoder.result c.put_records.new.encoder) size_is put in
+    let codes = packed-stream l records c.split_at.result.1.now c.start_record.new.items c.with_room-encoder.result c.put_records.new.encoder c.requires.some (λ i. (c.type_inv.records i).fits) back_is begun puts in
+    let before_is : c.put_records.new.encoder.before ≡ take m records = codes.before ∙ (c.with_room-encoder.ensures.before ∙ written_first) in
+    let before_long : length c.put_records.new.encoder.before ≡ c.record_length-size.result = ap length before_is ∙ (length-take-le m records c.requires.some ∙ sym size_is) in
+    sym (length-take-le (c.record_length-size.result + c.finish-room.result.1) c.finish-room.result.0.items (omega (arith, c.finish-room.ensures.length, before_long))) ∙ ap length (returns-clause-bytes c)
+
+pub returns-clause-room : goal.returns-clause-room
+returns-clause-room c =
+    let l : Layout = layout c.args.self.now in
+    let m : ℕ = record_length l in
+    let records : List ℕ = c.args.records.now in
+    let size_is : c.record_length-size.result ≡ m = c.record_length-size.ensures ∙ ap (λ (f : Format). record_length (layout f)) c.self.view_is in
+    let layout_is : layout_in c.self.inside.items ≡ l = c.self.invariant.0 ∙ ap layout c.self.view_is in
+    let layout_now : layout_in c.start_record.new.items ≡ l = c.start_record.ensures.layout ∙ layout_is in
+    let front_is = c.split_at.ensures.front ∙ ap (λ (n : ℕ). take n records) size_is in
+    let back_is = c.split_at.ensures.back ∙ ap (λ (n : ℕ). drop n records) size_is in
+    let long = ap length front_is ∙ (length-take-le m records c.requires.some ∙ sym size_is) in
+    let written_first : take c.record_length-size.result c.replace.result.items ≡ take m records =
+    rw c.replace.ensures.value (ap (λ (n : ℕ). take n c.put_first.new.out.items) (sym long) ∙ (c.put_first.ensures.front ∙ front_is)) in
+    let begun : Started l (take m records) c.start_record.new.items = started _ l _ (take m records) c.start_record.new.items layout_is front_is c.start_record.ensures.stands in
+    let put : Put l (length records / c.record_length-size.result - 1) c.start_record.new.items c.split_at.result.1.now c.with_room-encoder.result c.put_records.new.encoder =
+    subst (λ (k : Layout). Put k (length records / c.record_length-size.result - 1) c.start_record.new.items c.split_at.result.1.now c.with_room-encoder.result c.put_records.new.encoder) layout_now c.put_records.ensures.codes in
+    let puts : Put l (count_of l records - 1) c.start_record.new.items c.split_at.result.1.now c.with_room-encoder.result c.put_records.new.encoder =
+    subst (λ (n : ℕ). Put l (length records / n - 1) c.start_record.new.items c.split_at.result.1.now c.with_room-encoder.result c.put_records.new.encoder) size_is put in
+    let codes = packed-stream l records c.split_at.result.1.now c.start_record.new.items c.with_room-encoder.result c.put_records.new.encoder c.requires.some (λ i. (c.type_inv.records i).fits) back_is begun puts in
+    let before_is : c.put_records.new.encoder.before ≡ take m records = codes.before ∙ (c.with_room-encoder.ensures.before ∙ written_first) in
+    let before_long : length c.put_records.new.encoder.before ≡ c.record_length-size.result = ap length before_is ∙ (length-take-le m records c.requires.some ∙ sym size_is) in
+    let same : length c.replace.result.items ≡ length c.args.out.now.items = rw c.replace.ensures.value c.put_first.ensures.room in
+    let shifts = ap (λ (s : Span). s.shifts) c.with_room-encoder.ensures.span in
+    omega (arith, c.finish-room.ensures.length, c.finish-room.ensures.count, same, before_long, shifts, codes.left, c.with_room-encoder.ensures.left)

@@ -1,0 +1,6 @@
+pub use Rattle.laz_integer.specs.Events
+pub use Rattle.laz_range.specs.Decoding
+pub mod Layouts
+pub mod Records
+pub mod Stands
+pub mod Chunks

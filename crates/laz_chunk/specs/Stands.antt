@@ -1,0 +1,70 @@
+-- What the items of a chunk stand for: the events of its stream, and its points so far, the latest one first.
+use Rattle.std.specs.Prelude.{◌≡◌, ℕ, ◌<◌, ◌≤◌, All, Bool, true, false, List, [], ◌∷◌, ◌++◌, Option, Some, None, length}
+use Rattle.laz_range.specs.Cut.{Cut}
+use Rattle.laz_range.specs.Decoding.{Decoding, Takes}
+use Rattle.laz_integer.specs.Events.{Event, cuts_after}
+use Rattle.laz_point10.specs.Points.{IsPoint}
+use Rattle.laz_point10.specs.Items.{PointStands, PointState}
+use Rattle.laz_gpstime.specs.Sequences as sequences
+use Rattle.laz_gpstime.specs.Items.{TimeStands}
+use Rattle.laz_gpstime.specs.Slots.{TimeState}
+use Rattle.laz_rgb.specs.declared.colour.Colour.{Colour}
+use Rattle.laz_rgb.specs.Colours.{colour_bytes}
+use Rattle.laz_rgb.specs.Items.{ExtraStands, ExtraState, RgbStands, RgbState, latest_extra}
+use Rattle.laz_rgb.specs.Laws.{AreBytes}
+use Rattle.laz_chunk.specs.declared.items.Items.{Items}
+use Rattle.laz_chunk.specs.Layouts.{Layout}
+use Rattle.laz_chunk.specs.Records.{ChunkPoint, Record, colours_of, extras_of, points_of, times_of}
+
+-- Whether there is an item.
+abbrev pub has : {X : Type 0} → Option X → Bool
+has None = false
+has (Some x) = true
+
+-- How many extra bytes an item is for: none without one.
+abbrev pub extra_length : Option ExtraState → ℕ
+extra_length None = 0
+extra_length (Some st) = length st.last
+
+-- The layout of the records that the items are for.
+abbrev pub layout_in : Items → Layout
+layout_in items = record { times = has items.gps_time; colours = has items.rgb; extra = extra_length items.extra }
+
+-- An item that may be absent stands for the chunk's parts, if it is there.
+abbrev pub TimesStand : List Event → List sequences.Point → Option TimeState → Type 0
+TimesStand events points None = Unit {0}
+TimesStand events points (Some st) = TimeStands events points st
+
+abbrev pub ColoursStand : List Event → List Colour → Option RgbState → Type 0
+ColoursStand events colours None = Unit {0}
+ColoursStand events colours (Some st) = RgbStands events colours st
+
+abbrev pub ExtrasStand : List Event → List (List ℕ) → Option ExtraState → Type 0
+ExtrasStand events extras None = latest_extra extras ≡ []
+ExtrasStand events extras (Some st) = ExtraStands events extras st
+
+-- All items stand for the events and points.
+pub record ItemsStand (events : List Event) (points : List ChunkPoint) (items : Items) : Type 0 where
+  pub point : PointStands events (points_of points) items.point10
+  pub time : TimesStand events (times_of points) items.gps_time
+  pub colour : ColoursStand events (colours_of points) items.rgb
+  pub extra : ExtrasStand events (extras_of points) items.extra
+
+-- A part was read, by the one spelling that begins the rest of the bytes; what the item stands for then has it, too.
+pub record ReadsPart {V : Type 0} (IsAsked : List Event × V → Type 0) (earlier : List Event) (value : V) (old new : Decoding) (Stands : List Event → Type 0) : Type 0 where
+  pub events : List Event
+  pub takes : Takes IsAsked (λ x. cuts_after earlier x.0) old new (events, value)
+  pub stands : Stands events
+
+-- The fields of a record hold what its bytes can.
+pub record IsRecord (r : Record) : Type 0 where
+  pub point : IsPoint r.point
+  pub time : r.time < 18446744073709551616
+  pub colour : AreBytes (colour_bytes r.colour)
+  pub extra : AreBytes r.extra
+
+-- A chunk's points: at least one, each with fields that its bytes can hold, and all with this many extra bytes.
+pub record AreChunkPoints (extra : ℕ) (points : List ChunkPoint) : Type 0 where
+  pub some : 1 ≤ length points
+  pub fields : All (λ p. IsRecord p.fields) points
+  pub lengths : All (λ p. length p.fields.extra ≡ extra) points

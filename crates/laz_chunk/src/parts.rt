@@ -1,0 +1,196 @@
+//! The parts of a record that may be absent.
+ghost use Rattle.std.specs.Prelude.{◌≡◌, ◌+◌, ◌*◌, ◌≤◌, ◌++◌, [], ◌∷◌, List, ℕ, length, false, MatchResult, OnOk};
+ghost use Rattle.laz_range.specs.Coding.{Codes};
+ghost use Rattle.laz_range.specs.Decoding.{Refuses};
+ghost use Rattle.laz_integer.specs.Events.{Event, cuts_after};
+ghost use Rattle.laz_gpstime.specs.Sequences as sequences;
+ghost use Rattle.laz_gpstime.specs.Items.{point_with};
+ghost use Rattle.laz_rgb.specs.declared.colour.Colour.{Colour};
+ghost use Rattle.laz_rgb.specs.Extra.{SpellsExtra, extra_events};
+ghost use Rattle.laz_rgb.specs.Items.{latest_extra};
+ghost use Rattle.laz_chunk.specs.Layouts.{colour_length, time_length};
+ghost use Rattle.laz_chunk.specs.Records.{SpellsColourIf, SpellsTimeIf, colour_events_if, colour_in, time_events_if, time_in};
+ghost use Rattle.laz_chunk.specs.Stands.{ColoursStand, ExtrasStand, ReadsPart, TimesStand, extra_length, has};
+
+use laz_gpstime::GpsTime;
+use laz_range::{Bad, Decoder, Encoder};
+use laz_rgb::{Bytes, Rgb};
+
+// How long a time's part is.
+pub(crate) fn time_length(item: &Option<GpsTime>) -> usize
+    ensures { result ≡ time_length (has item.now) }
+{
+    match item {
+        Some(_) => 8,
+        None => 0,
+    }
+}
+
+// Begins a chunk with its first time.
+pub(crate) fn start_time(item: &mut Option<GpsTime>, first: &[u8])
+    requires first { length first.now ≡ time_length (has item.old) }
+    ensures has { has item.new ≡ has item.old }
+    ensures stands { TimesStand [] (point_with (time_in (has item.old) first.now) [] ∷ []) item.new }
+{
+    match item {
+        Some(times) => times.start(first),
+        None => {}
+    }
+}
+
+// Codes a time.
+pub(crate) fn code_time(encoder: &mut Encoder, item: &mut Option<GpsTime>, part: &[u8])
+    requires part { length part.now ≡ time_length (has item.old) }
+    requires left { 21 ≤ encoder.old.left }
+    ensures used { encoder.old.left ≤ encoder.new.left + 21 }
+    ensures has { has item.new ≡ has item.old }
+    ensures events { (earlier : List Event) (points : List sequences.Point) → TimesStand earlier points item.old
+        → Codes encoder.old encoder.new (cuts_after earlier (time_events_if (has item.old) points (time_in (has item.old) part.now))) }
+    ensures stands { (earlier : List Event) (points : List sequences.Point) → TimesStand earlier points item.old
+        → let time = time_in (has item.old) part.now in let events = time_events_if (has item.old) points time
+        in TimesStand (earlier ++ events) (point_with time events ∷ points) item.new }
+{
+    match item {
+        Some(times) => times.code(encoder, part),
+        None => {}
+    }
+}
+
+// Reads a time.
+pub(crate) fn read_time(
+    decoder: &mut Decoder<'_>,
+    item: &mut Option<GpsTime>,
+    part: &mut [u8],
+) -> Result<(), Bad>
+    requires part { length part.old ≡ time_length (has item.old) }
+    requires good { decoder.old.failed ≡ false }
+    ensures part { length part.new ≡ length part.old }
+    ensures has { has item.new ≡ has item.old }
+    ensures good { OnOk result (decoder.new.failed ≡ false) }
+    ensures reads { (earlier : List Event) (points : List sequences.Point) → TimesStand earlier points item.old → decoder.old.taken ≤ length decoder.old.bytes
+        → let time = time_in (has item.old) part.new
+        in MatchResult result
+        (λ _. ReadsPart (λ x. SpellsTimeIf (has item.old) points x.0 x.1) earlier time decoder.old decoder.new (λ events. TimesStand (earlier ++ events) (point_with time events ∷ points) item.new))
+        (λ _. Refuses {X = List Event × ℕ} (λ x. SpellsTimeIf (has item.old) points x.0 x.1) (λ x. cuts_after earlier x.0) decoder.old decoder.new) }
+{
+    match item {
+        Some(times) => times.read(decoder, part),
+        None => Ok(()),
+    }
+}
+
+// How long a colour's part is.
+pub(crate) fn colour_length(item: &Option<Rgb>) -> usize
+    ensures { result ≡ colour_length (has item.now) }
+{
+    match item {
+        Some(_) => 6,
+        None => 0,
+    }
+}
+
+// Begins a chunk with its first colour.
+pub(crate) fn start_colour(item: &mut Option<Rgb>, first: &[u8])
+    requires first { length first.now ≡ colour_length (has item.old) }
+    ensures has { has item.new ≡ has item.old }
+    ensures stands { ColoursStand [] (colour_in (has item.old) first.now ∷ []) item.new }
+{
+    match item {
+        Some(colours) => colours.start(first),
+        None => {}
+    }
+}
+
+// Codes a colour.
+pub(crate) fn code_colour(encoder: &mut Encoder, item: &mut Option<Rgb>, part: &[u8])
+    requires part { length part.now ≡ colour_length (has item.old) }
+    requires left { 21 ≤ encoder.old.left }
+    ensures used { encoder.old.left ≤ encoder.new.left + 21 }
+    ensures has { has item.new ≡ has item.old }
+    ensures events { (earlier : List Event) (colours : List Colour) → ColoursStand earlier colours item.old
+        → Codes encoder.old encoder.new (cuts_after earlier (colour_events_if (has item.old) colours (colour_in (has item.old) part.now))) }
+    ensures stands { (earlier : List Event) (colours : List Colour) → ColoursStand earlier colours item.old
+        → let colour = colour_in (has item.old) part.now
+        in ColoursStand (earlier ++ colour_events_if (has item.old) colours colour) (colour ∷ colours) item.new }
+{
+    match item {
+        Some(colours) => colours.code(encoder, part),
+        None => {}
+    }
+}
+
+// Reads a colour.
+pub(crate) fn read_colour(
+    decoder: &mut Decoder<'_>,
+    item: &mut Option<Rgb>,
+    part: &mut [u8],
+) -> Result<(), Bad>
+    requires part { length part.old ≡ colour_length (has item.old) }
+    requires good { decoder.old.failed ≡ false }
+    ensures part { length part.new ≡ length part.old }
+    ensures has { has item.new ≡ has item.old }
+    ensures good { OnOk result (decoder.new.failed ≡ false) }
+    ensures reads { (earlier : List Event) (colours : List Colour) → ColoursStand earlier colours item.old → decoder.old.taken ≤ length decoder.old.bytes
+        → let colour = colour_in (has item.old) part.new
+        in MatchResult result
+        (λ _. ReadsPart (λ x. SpellsColourIf (has item.old) colours x.0 x.1) earlier colour decoder.old decoder.new (λ events. ColoursStand (earlier ++ events) (colour ∷ colours) item.new))
+        (λ _. Refuses {X = List Event × Colour} (λ x. SpellsColourIf (has item.old) colours x.0 x.1) (λ x. cuts_after earlier x.0) decoder.old decoder.new) }
+{
+    match item {
+        Some(colours) => colours.read(decoder, part),
+        None => Ok(()),
+    }
+}
+
+// Begins a chunk with its first extra bytes.
+pub(crate) fn start_extra(item: &mut Option<Bytes>, first: &[u8])
+    requires first { length first.now ≡ extra_length item.old }
+    ensures extra { extra_length item.new ≡ extra_length item.old }
+    ensures has { has item.new ≡ has item.old }
+    ensures stands { ExtrasStand [] (first.now ∷ []) item.new }
+{
+    match item {
+        Some(bytes) => bytes.start(first),
+        None => {}
+    }
+}
+
+// Codes extra bytes.
+pub(crate) fn code_extra(encoder: &mut Encoder, item: &mut Option<Bytes>, part: &[u8])
+    requires part { length part.now ≡ extra_length item.old }
+    requires left { 3 * extra_length item.old ≤ encoder.old.left }
+    ensures used { encoder.old.left ≤ encoder.new.left + 3 * extra_length item.old }
+    ensures extra { extra_length item.new ≡ extra_length item.old }
+    ensures has { has item.new ≡ has item.old }
+    ensures events { (earlier : List Event) (extras : List (List ℕ)) → ExtrasStand earlier extras item.old → Codes encoder.old encoder.new (cuts_after earlier (extra_events (latest_extra extras) part.now)) }
+    ensures stands { (earlier : List Event) (extras : List (List ℕ)) → ExtrasStand earlier extras item.old
+        → ExtrasStand (earlier ++ extra_events (latest_extra extras) part.now) (part.now ∷ extras) item.new }
+{
+    match item {
+        Some(bytes) => bytes.code(encoder, part),
+        None => {}
+    }
+}
+
+// Reads extra bytes.
+pub(crate) fn read_extra(
+    decoder: &mut Decoder<'_>,
+    item: &mut Option<Bytes>,
+    part: &mut [u8],
+) -> Result<(), Bad>
+    requires part { length part.old ≡ extra_length item.old }
+    requires good { decoder.old.failed ≡ false }
+    ensures part { length part.new ≡ length part.old }
+    ensures extra { extra_length item.new ≡ extra_length item.old }
+    ensures has { has item.new ≡ has item.old }
+    ensures good { OnOk result (decoder.new.failed ≡ false) }
+    ensures reads { (earlier : List Event) (extras : List (List ℕ)) → ExtrasStand earlier extras item.old → decoder.old.taken ≤ length decoder.old.bytes
+        → MatchResult result
+        (λ _. ReadsPart (λ x. SpellsExtra (latest_extra extras) x.0 x.1) earlier part.new decoder.old decoder.new (λ events. ExtrasStand (earlier ++ events) (part.new ∷ extras) item.new))
+        (λ _. Refuses {X = List Event × List ℕ} (λ x. SpellsExtra (latest_extra extras) x.0 x.1) (λ x. cuts_after earlier x.0) decoder.old decoder.new) }
+{
+    match item {
+        Some(bytes) => bytes.read(decoder, part),
+        None => Ok(()),
+    }
+}

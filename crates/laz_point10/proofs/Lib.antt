@@ -1,0 +1,12 @@
+pub mod Maps
+pub mod Medians
+pub mod Histories
+pub mod Parts
+pub mod Takings
+pub mod PointTakings
+pub mod PointPieces
+pub mod Choices
+pub mod Lawful
+pub mod Standing
+pub mod Written
+pub mod Examples

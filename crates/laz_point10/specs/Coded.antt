@@ -1,0 +1,169 @@
+-- What the code keeps of earlier points, and all that is read of a point: its parts, its events, the models after it,
+-- and the point that it makes.
+use Rattle.std.specs.Prelude.{◌≡◌, ℕ, pos, ◌+◌, ◌%◌, ◌<◌, ◌≤◌, List, [], ◌∷◌, ◌++◌, length, slice_index, slice_index_or, slice_set}
+use Rattle.std.specs.Int.{w32, int_wrapping_add, int_wrapping_sub}
+use Rattle.laz_range.specs.Cut.{Cut}
+use Rattle.laz_integer.specs.Corrector.{corrected}
+use Rattle.laz_integer.specs.Events.{Event, Symbol}
+use Rattle.laz_integer.specs.Uses.{own_name}
+use Rattle.laz_integer.specs.Integer.{IntStands, corrector_events}
+use Rattle.laz_integer.specs.Fields.{BankStands, byte_events, if_marked, word_value}
+use Rattle.laz_point10.specs.declared.point.Point.{Point}
+use Rattle.laz_point10.specs.declared.median.Median.{Median}
+use Rattle.laz_point10.specs.declared.history.Predictions.{Predictions}
+use Rattle.laz_point10.specs.declared.history.History.{History}
+use Rattle.laz_point10.specs.declared.models.HeadModels.{HeadModels}
+use Rattle.laz_point10.specs.declared.models.SurfaceModels.{SurfaceModels}
+use Rattle.laz_point10.specs.declared.models.ScanModels.{ScanModels}
+use Rattle.laz_point10.specs.declared.models.PlaceModels.{PlaceModels}
+use Rattle.laz_point10.specs.declared.models.Models.{Models}
+use Rattle.laz_point10.specs.Medians.{IsSorted, median_of, middle, no_values, with_value}
+use Rattle.laz_point10.specs.Points.{direction_bit, last_height, last_intensity, latest_point, one_return, return_level, return_map, x_steps, y_steps}
+use Rattle.laz_point10.specs.PointEvents.{changes_kind, classification_kind, flags_kind, has_bit, intensity_context, intensity_kind, point_source_kind, scan_angle_kind, user_data_kind, x_kind, y_context, y_kind, z_context, z_kind}
+use Rattle.laz_point10.specs.Groups.{AreHeadModels, ArePlaceModels, AreScanModels, AreSurfaceModels, HeadChoice, IsHead, IsPlace, IsScan, IsSurface, PlaceChoice, ScanChoice, SurfaceChoice, head_cuts, head_next, head_written, place_cuts, place_next, place_written, scan_cuts, scan_next, scan_written, surface_cuts, surface_next, surface_written}
+
+-- ---- the history of a chunk
+
+-- What it predicts of a point with this flag byte.
+abbrev pub predicted : History → ℕ → Predictions
+predicted h flags =
+    record {
+      previous = h.last;
+      intensity = slice_index h.intensities (return_map flags);
+      dx = middle (slice_index_or h.dx (return_map flags) no_values);
+      dy = middle (slice_index_or h.dy (return_map flags) no_values);
+      z = slice_index_or h.heights (return_level flags) (pos 0);
+    }
+
+-- The history with one point more.
+abbrev pub with_point : History → Point → History
+with_point h p =
+    let m = return_map p.flags in
+    record {
+      last = p;
+      intensities = slice_set h.intensities m p.intensity;
+      heights = slice_set h.heights (return_level p.flags) p.z;
+      dx = slice_set h.dx m (with_value (slice_index_or h.dx m no_values) (int_wrapping_sub w32 p.x h.last.x));
+      dy = slice_set h.dy m (with_value (slice_index_or h.dy m no_values) (int_wrapping_sub w32 p.y h.last.y));
+    }
+
+-- The values of each median are sorted.
+abbrev pub AreSorted : List Median → Type 0
+AreSorted medians = (k : ℕ) → IsSorted (slice_index_or medians k no_values).values
+
+-- The bytes of the last point that choose models are bytes.
+pub record IsHistory (h : History) : Type 0 where
+  pub flags : h.last.flags < 256
+  pub classification : h.last.classification < 256
+  pub user_data : h.last.user_data < 256
+
+-- The history is that of a chunk's points so far, of which there is one at least.
+pub record HistoryStands (points : List Point) (h : History) : Type 0 where
+  pub some : 1 ≤ length points
+  pub last : h.last ≡ latest_point points
+  pub intensities : length h.intensities ≡ 16
+  pub heights : length h.heights ≡ 8
+  pub dx_count : length h.dx ≡ 16
+  pub dy_count : length h.dy ≡ 16
+  pub intensity : (m : ℕ) → m < 16 → slice_index h.intensities m ≡ last_intensity points m
+  pub height : (level : ℕ) → level < 8 → slice_index_or h.heights level (pos 0) ≡ last_height points level
+  pub dx : (m : ℕ) → m < 16 → slice_index_or h.dx m no_values ≡ median_of (x_steps points m)
+  pub dy : (m : ℕ) → m < 16 → slice_index_or h.dy m no_values ≡ median_of (y_steps points m)
+
+-- ---- the models
+
+pub record AreModels (ms : Models) : Type 0 where
+  pub head : AreHeadModels ms.head
+  pub surface : AreSurfaceModels ms.surface
+  pub scan : AreScanModels ms.scan
+  pub place : ArePlaceModels ms.place
+
+-- Each group stands for the events under its names.
+abbrev pub HeadStands : List Event → HeadModels → Type 0
+HeadStands events ms = BankStands changes_kind events ms.changes × BankStands flags_kind events ms.flags
+
+abbrev pub SurfaceStands : List Event → SurfaceModels → Type 0
+SurfaceStands events ms = IntStands intensity_kind events ms.intensity × BankStands classification_kind events ms.classifications
+
+abbrev pub ScanStands : List Event → ScanModels → Type 0
+ScanStands events ms = BankStands scan_angle_kind events ms.angles × (BankStands user_data_kind events ms.users × IntStands point_source_kind events ms.source)
+
+abbrev pub PlaceStands : List Event → PlaceModels → Type 0
+PlaceStands events ms = IntStands x_kind events ms.dx × (IntStands y_kind events ms.dy × IntStands z_kind events ms.z)
+
+abbrev pub ModelsStand : List Event → Models → Type 0
+ModelsStand events ms = HeadStands events ms.head × (SurfaceStands events ms.surface × (ScanStands events ms.scan × PlaceStands events ms.place))
+
+-- ---- the events of each group
+abbrev pub head_events : Point → HeadChoice → List Event
+head_events previous x = (Symbol (own_name changes_kind 0) 64 x.0 ∷ []) ++ if_marked (has_bit 32 x.0) (byte_events flags_kind previous.flags x.1)
+
+abbrev pub surface_events : Predictions → ℕ → ℕ → SurfaceChoice → List Event
+surface_events e changes flags x =
+    if_marked (has_bit 16 changes) (corrector_events intensity_kind 16 (intensity_context flags) x.0.0 x.0.1)
+    ++ if_marked (has_bit 8 changes) (byte_events classification_kind e.previous.classification x.1)
+
+abbrev pub scan_events : Predictions → ℕ → ℕ → ScanChoice → List Event
+scan_events e changes flags x =
+    if_marked (has_bit 4 changes) (byte_events scan_angle_kind (direction_bit flags) x.0)
+    ++ (if_marked (has_bit 2 changes) (byte_events user_data_kind e.previous.user_data x.1.0)
+    ++ if_marked (has_bit 1 changes) (corrector_events point_source_kind 16 0 x.1.1.0 x.1.1.1))
+
+abbrev pub place_events : ℕ → PlaceChoice → List Event
+place_events flags x =
+    corrector_events x_kind 32 (one_return flags) x.0.0 x.0.1
+    ++ (corrector_events y_kind 32 (y_context flags x.0.0) x.1.0.0 x.1.0.1 ++ corrector_events z_kind 32 (z_context flags x.0.0 x.1.0.0) x.1.1.0 x.1.1.1)
+
+-- ---- all that is read of a point
+abbrev pub PointChoice : Type 0
+PointChoice = HeadChoice × (SurfaceChoice × (ScanChoice × PlaceChoice))
+
+abbrev pub IsPointChoice : History → PointChoice → Type 0
+IsPointChoice h x =
+    let e = predicted h x.0.1 in
+    IsHead h.last x.0 × (IsSurface e x.0.0 x.1.0 × (IsScan e x.0.0 x.1.1.0 × IsPlace x.1.1.1))
+
+abbrev pub choice_cuts : Models → History → PointChoice → List Cut
+choice_cuts ms h x =
+    let e = predicted h x.0.1 in
+    head_cuts ms.head h.last x.0
+    ++ (surface_cuts ms.surface e x.0.0 x.0.1 x.1.0
+    ++ (scan_cuts ms.scan e x.0.0 x.0.1 x.1.1.0 ++ place_cuts ms.place x.0.1 x.1.1.1))
+
+abbrev pub choice_events : History → PointChoice → List Event
+choice_events h x =
+    let e = predicted h x.0.1 in
+    head_events h.last x.0
+    ++ (surface_events e x.0.0 x.0.1 x.1.0
+    ++ (scan_events e x.0.0 x.0.1 x.1.1.0 ++ place_events x.0.1 x.1.1.1))
+
+abbrev pub choice_next : Models → History → PointChoice → Models
+choice_next ms h x =
+    let e = predicted h x.0.1 in
+    record {
+      head = head_next ms.head h.last x.0;
+      surface = surface_next ms.surface e x.0.0 x.0.1 x.1.0;
+      scan = scan_next ms.scan e x.0.0 x.0.1 x.1.1.0;
+      place = place_next ms.place x.0.1 x.1.1.1;
+    }
+
+-- The point that it makes.
+abbrev pub point_made : History → PointChoice → Point
+point_made h x =
+    let e = predicted h x.0.1 in
+    record {
+      x = int_wrapping_add w32 h.last.x (corrected 32 e.dx x.1.1.1.0.0 x.1.1.1.0.1);
+      y = int_wrapping_add w32 h.last.y (corrected 32 e.dy x.1.1.1.1.0.0 x.1.1.1.1.0.1);
+      z = corrected 32 e.z x.1.1.1.1.1.0 x.1.1.1.1.1.1;
+      intensity = word_value (has_bit 16 x.0.0) e.intensity x.1.0.0;
+      flags = x.0.1;
+      classification = x.1.0.1;
+      scan_angle = (h.last.scan_angle + x.1.1.0.0) % 256;
+      user_data = x.1.1.0.1.0;
+      point_source = word_value (has_bit 1 x.0.0) h.last.point_source x.1.1.0.1.1;
+    }
+
+-- What a writer takes.
+abbrev pub choice_written : History → Point → PointChoice
+choice_written h p =
+    let e = predicted h p.flags in (head_written e p, (surface_written e p, (scan_written e p, place_written e p)))

@@ -1,0 +1,9 @@
+pub use Rattle.laz_integer.specs.Events
+pub use Rattle.laz_range.specs.Decoding
+pub mod Medians
+pub mod Points
+pub mod PointEvents
+pub mod Groups
+pub mod Coded
+pub mod Items
+pub mod Laws

@@ -1,0 +1,96 @@
+//! The item POINT10.
+ghost use Rattle.std.specs.Prelude.{◌≡◌, ◌+◌, ◌≤◌, ◌++◌, List, [], ◌∷◌, ℕ, length, false, MatchResult, OnErr, OnOk};
+ghost use Rattle.laz_range.specs.Coding.{Codes};
+ghost use Rattle.laz_range.specs.Decoding.{NoneBegins, Refuses};
+ghost use Rattle.laz_integer.specs.Events.{Event, Name, cuts_after};
+ghost use Rattle.laz_integer.specs.Ranged.{AreRanged};
+ghost use Rattle.laz_point10.specs.Points.{point_at};
+ghost use Rattle.laz_point10.specs.PointEvents.{point_events};
+ghost use Rattle.laz_point10.specs.Items.{HasPointSizes, IsSpelledPoint, OneBegins, PointStands, ReadsPoint, spelled_cuts};
+
+use crate::history::History;
+use crate::models::{Models, new_models, reset};
+use crate::point::Point;
+use crate::reading::take_point;
+use crate::writing::put_point;
+use laz_range::{Bad, Decoder, Encoder};
+use std::alloc::{AllocError, Global};
+use std::marker::Model;
+
+/// Codes and reads the points of a chunk, the first 20 bytes of each record, as LASzip's POINT10, version 2.
+///
+/// After `start` the item stands for the chunk's first point, and each call adds one to those that it stands for. Only
+/// `new` takes memory.
+#[derive(Drop)]
+pub struct Point10 {
+    models: Models,
+    history: History,
+}
+
+impl Model for Point10 {
+    ghost use Rattle.laz_point10.specs.Items.{IsPointState, PointState};
+
+    ghost Value = { PointState };
+
+    ghost view = { λ p. record { models = p.models; history = p.history } };
+
+    ghost invariant = { λ p. IsPointState (record { models = p.models; history = p.history }) };
+}
+
+impl Point10 {
+    /// Initial models, of no chunk yet. `Err` means out of memory.
+    pub fn new(alloc: Global) -> Result<Self, AllocError> {
+        let models = new_models(alloc)?;
+        let history = History::of(Point::of(&[0; 20]));
+        Ok(Point10 { models, history })
+    }
+
+    /// Begins a chunk, whose first point is given. All models are initial again.
+    pub fn start(&mut self, first: &[u8])
+        requires { length first.now ≡ 20 }
+        ensures { PointStands [] (point_at first.now ∷ []) self.new }
+    {
+        reset(&mut self.models);
+        self.history = History::of(Point::of(first));
+    }
+
+    /// Codes a point.
+    pub fn code(&mut self, encoder: &mut Encoder, part: &[u8])
+        requires part { length part.now ≡ 20 }
+        requires left { 69 ≤ encoder.old.left }
+        ensures used { encoder.old.left ≤ encoder.new.left + 69 }
+        ensures events { (earlier : List Event) (points : List Point) → PointStands earlier points self.old
+            → Codes encoder.old encoder.new (cuts_after earlier (point_events points (point_at part.now))) }
+        ensures stands { (earlier : List Event) (points : List Point) → PointStands earlier points self.old
+            → let point = point_at part.now in
+            PointStands (earlier ++ point_events points point) (point ∷ points) self.new }
+    {
+        let point = Point::of(part);
+        put_point(encoder, &mut self.models, &self.history, &point);
+        self.history.add(&point);
+    }
+
+    /// Reads a point. `Bad` means that no spelling of a point begins the rest of the bytes; the part is then
+    /// unspecified,
+    /// and the item serves again only after `start`.
+    pub fn read(&mut self, decoder: &mut Decoder<'_>, part: &mut [u8]) -> Result<(), Bad>
+        requires good { decoder.old.failed ≡ false }
+        requires part { length part.old ≡ 20 }
+        ensures part { length part.new ≡ 20 }
+        ensures good { OnOk result (decoder.new.failed ≡ false) }
+        ensures reads { (earlier : List Event) (points : List Point) → PointStands earlier points self.old
+            → MatchResult result (λ _. ReadsPoint earlier points (point_at part.new) decoder.old decoder.new self.new)
+            (λ _. Refuses (IsSpelledPoint points) (spelled_cuts earlier) decoder.old decoder.new) }
+        ensures only { (earlier : List Event) (points : List Point) → PointStands earlier points self.old
+            → (sizes : Name → ℕ) → HasPointSizes sizes → AreRanged sizes earlier
+            → OnOk result (OneBegins (IsSpelledPoint points) earlier decoder.old (point_at part.new)) }
+        ensures none { (earlier : List Event) (points : List Point) → PointStands earlier points self.old
+            → (sizes : Name → ℕ) → HasPointSizes sizes → AreRanged sizes earlier
+            → OnErr result (NoneBegins (IsSpelledPoint points) (spelled_cuts earlier) decoder.old) }
+    {
+        let point = take_point(decoder, &mut self.models, &self.history)?;
+        point.put(part);
+        self.history.add(&point);
+        Ok(())
+    }
+}

@@ -1,0 +1,198 @@
+//! A point read: the symbol of changes, the fields that it marks, and the place.
+ghost use Rattle.std.specs.Prelude.{◌≡◌, ◌<◌, ◌≤◌, ℕ, false, length, IfOk, MatchResult, OnOk};
+ghost use Rattle.laz_range.specs.Decoding.{Reads, Takes, TakesNone};
+ghost use Rattle.laz_integer.specs.Corrector.{corrected};
+ghost use Rattle.laz_integer.specs.Fields.{word_value};
+ghost use Rattle.laz_point10.specs.PointEvents.{has_bit};
+ghost use Rattle.laz_point10.specs.Groups.{AreHeadModels, ArePlaceModels, AreScanModels, AreSurfaceModels, IsHead, IsPlace, IsScan, IsSurface, PlaceChoice, head_cuts, head_next, place_cuts, place_next, scan_cuts, scan_next, surface_cuts, surface_next};
+ghost use Rattle.laz_point10.specs.Coded.{AreModels, IsHistory, IsPointChoice, PointChoice, choice_cuts, choice_next, point_made};
+
+use crate::history::{History, Predictions};
+use crate::models::{HeadModels, Models, PlaceModels, ScanModels, SurfaceModels};
+use crate::point::Point;
+use crate::returns::one_return;
+use crate::writing::{even_below, has_bit, intensity_context};
+use laz_integer::{take_byte, take_symbol_of, take_word};
+use laz_range::{Bad, Decoder};
+
+// Takes the symbol of changes, and the flag byte.
+#[inline]
+fn take_head(
+    decoder: &mut Decoder<'_>,
+    models: &mut HeadModels,
+    previous: &Point,
+) -> Result<(u32, u8), Bad>
+    requires good { decoder.old.failed ≡ false }
+    requires models { AreHeadModels models.old }
+    ensures reads { Reads result (IsHead previous.now) (head_cuts models.old previous.now) decoder.old decoder.new }
+    ensures next { IfOk result (λ x. models.new ≡ head_next models.old previous.now x) }
+    ensures models { AreHeadModels models.new }
+{
+    let changes = take_symbol_of(decoder, &mut models.changes, 0)?;
+    let marked = has_bit(changes, 32);
+    let flags = take_byte(
+        decoder,
+        &mut models.flags,
+        marked,
+        previous.flags as u32,
+        previous.flags,
+    )?;
+    Ok((changes, flags))
+}
+
+// Takes the intensity and the classification byte.
+#[inline]
+fn take_surface(
+    decoder: &mut Decoder<'_>,
+    models: &mut SurfaceModels,
+    e: &Predictions,
+    changes: u32,
+    flags: u8,
+) -> Result<(u16, u8), Bad>
+    requires good { decoder.old.failed ≡ false }
+    requires within { decoder.old.taken ≤ length decoder.old.bytes }
+    requires models { AreSurfaceModels models.old }
+    ensures reads { MatchResult result
+        (λ r. (w : ℕ × ℕ) × Takes (IsSurface e.now changes) (surface_cuts models.old e.now changes flags) decoder.old decoder.new (w, r.1)
+        × (r.0 ≡ word_value (has_bit 16 changes) e.now.intensity w)
+        × (models.new ≡ surface_next models.old e.now changes flags (w, r.1)))
+        (λ _. TakesNone (IsSurface e.now changes) (surface_cuts models.old e.now changes flags) decoder.old decoder.new) }
+    ensures models { AreSurfaceModels models.new }
+{
+    let context = intensity_context(flags);
+    let intensity = take_word(
+        decoder,
+        &mut models.intensity,
+        has_bit(changes, 16),
+        e.intensity,
+        context,
+    )?;
+    let previous = e.previous.classification;
+    let marked = has_bit(changes, 8);
+    let classification = take_byte(
+        decoder,
+        &mut models.classifications,
+        marked,
+        previous as u32,
+        previous,
+    )?;
+    Ok((intensity, classification))
+}
+
+// Takes the difference of the scan angle, the user data and the point source.
+#[inline]
+fn take_scan(
+    decoder: &mut Decoder<'_>,
+    models: &mut ScanModels,
+    e: &Predictions,
+    changes: u32,
+    flags: u8,
+) -> Result<(u8, u8, u16), Bad>
+    requires good { decoder.old.failed ≡ false }
+    requires within { decoder.old.taken ≤ length decoder.old.bytes }
+    requires models { AreScanModels models.old }
+    ensures reads { MatchResult result
+        (λ r. (w : ℕ × ℕ) × Takes (IsScan e.now changes) (scan_cuts models.old e.now changes flags) decoder.old decoder.new (r.0, (r.1, w))
+        × (r.2 ≡ word_value (has_bit 1 changes) e.now.previous.point_source w)
+        × (models.new ≡ scan_next models.old e.now changes flags (r.0, (r.1, w))))
+        (λ _. TakesNone (IsScan e.now changes) (scan_cuts models.old e.now changes flags) decoder.old decoder.new) }
+    ensures models { AreScanModels models.new }
+{
+    let turned = take_byte(
+        decoder,
+        &mut models.angles,
+        has_bit(changes, 4),
+        (flags / 64 % 2) as u32,
+        0,
+    )?;
+    let previous = e.previous.user_data;
+    let user = take_byte(
+        decoder,
+        &mut models.users,
+        has_bit(changes, 2),
+        previous as u32,
+        previous,
+    )?;
+    let source = take_word(
+        decoder,
+        &mut models.source,
+        has_bit(changes, 1),
+        e.previous.point_source,
+        0,
+    )?;
+    Ok((turned, user, source))
+}
+
+// Takes dx, dy and z.
+#[inline]
+fn take_place(
+    decoder: &mut Decoder<'_>,
+    models: &mut PlaceModels,
+    e: &Predictions,
+    flags: u8,
+) -> Result<(i32, i32, i32), Bad>
+    requires good { decoder.old.failed ≡ false }
+    requires models { ArePlaceModels models.old }
+    ensures reads { MatchResult result
+        (λ r. (x : PlaceChoice) × Takes IsPlace (place_cuts models.old flags) decoder.old decoder.new x
+        × ((r.0 ≡ corrected 32 e.now.dx x.0.0 x.0.1) × (r.1 ≡ corrected 32 e.now.dy x.1.0.0 x.1.0.1) × (r.2 ≡ corrected 32 e.now.z x.1.1.0 x.1.1.1))
+        × (models.new ≡ place_next models.old flags x))
+        (λ _. TakesNone IsPlace (place_cuts models.old flags) decoder.old decoder.new) }
+    ensures models { ArePlaceModels models.new }
+{
+    let one = one_return(flags);
+    let (dx, kx) = models.dx.read(decoder, e.dx, one)?;
+    let (dy, ky) = models.dy.read(decoder, e.dy, one + even_below(20, kx))?;
+    let (z, _) = models
+        .z
+        .read(decoder, e.z, one + even_below(18, (kx + ky) / 2))?;
+    Ok((dx, dy, z))
+}
+
+// Takes a point after others.
+#[inline]
+pub fn take_point(
+    decoder: &mut Decoder<'_>,
+    models: &mut Models,
+    history: &History,
+) -> Result<Point, Bad>
+    requires good { decoder.old.failed ≡ false }
+    requires models { AreModels models.old }
+    ensures reads { MatchResult result
+        (λ p. (x : PointChoice) × Takes (IsPointChoice history.now) (choice_cuts models.old history.now) decoder.old decoder.new x
+        × (p ≡ point_made history.now x)
+        × (models.new ≡ choice_next models.old history.now x))
+        (λ _. TakesNone (IsPointChoice history.now) (choice_cuts models.old history.now) decoder.old decoder.new) }
+    ensures models { AreModels models.new }
+    ensures bytes { IsHistory history.now }
+{
+    let last = history.last();
+    let (changes, flags) = take_head(decoder, &mut models.head, &last)?;
+    let e = history.predictions(flags);
+    let (intensity, classification) = take_surface(
+        decoder,
+        &mut models.surface,
+        &e,
+        changes,
+        flags,
+    )?;
+    let (turned, user_data, point_source) = take_scan(
+        decoder,
+        &mut models.scan,
+        &e,
+        changes,
+        flags,
+    )?;
+    let (dx, dy, z) = take_place(decoder, &mut models.place, &e, flags)?;
+    Ok(Point {
+        x: e.previous.x.wrapping_add(dx),
+        y: e.previous.y.wrapping_add(dy),
+        z,
+        intensity,
+        flags,
+        classification,
+        scan_angle: e.previous.scan_angle.wrapping_add(turned),
+        user_data,
+        point_source,
+    })
+}

@@ -1,0 +1,9 @@
+pub use Rattle.las_header.specs.Refusals
+pub use Rattle.las_header.specs.Conditions
+pub mod Payload
+pub mod VlrCauses
+pub mod Entries
+pub mod Table
+pub mod Chunks
+pub mod Steps
+pub mod Laws
