@@ -22,7 +22,8 @@ with_count_bytes short long head =
 
 -- the head with these numbers in each set of counts that it has
 abbrev pub with_sums : (points : ℕ) → (returns long_returns head : List ℕ) → List ℕ
-with_sums points returns long_returns head = with_count_bytes (short_bytes points returns) (long_bytes points long_returns) head
+with_sums points returns long_returns head =
+    with_count_bytes (short_bytes points returns) (long_bytes points long_returns) head
 
 -- the numbers of points of the returns 1 to 15, of which no record of the formats 0 to 3 has one above 7
 abbrev pub long_returns : Counts → List ℕ

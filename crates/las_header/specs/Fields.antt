@@ -1,6 +1,8 @@
 -- The fields of the public header block by their places (LAS specification 1.0 to 1.4, "Public Header Block").
-use Rattle.std.specs.Prelude.{ℕ, ◌+◌, ◌*◌, ◌/◌, ◌%◌, ◌==◌, nat_le, nat_lt, ◌&&◌, Bool, if◌then◌else◌, List, take, slice_index}
-use Rattle.las_header.specs.declared.limits.TheConstants.{HEADER_BLOCK, HEADER_BLOCK_1_3, HEADER_BLOCK_1_4, POINT_RECORD, MAX_OFFSET, MAX_PLAIN_OFFSET}
+use Rattle.std.specs.Prelude.{ℕ, ◌+◌, ◌*◌, ◌/◌, ◌%◌, ◌==◌, nat_le, nat_lt, ◌&&◌, Bool, if◌then◌else◌, List, take}
+use Rattle.std.specs.Prelude.{slice_index}
+use Rattle.las_header.specs.declared.limits.TheConstants.{HEADER_BLOCK, HEADER_BLOCK_1_3, HEADER_BLOCK_1_4}
+use Rattle.las_header.specs.declared.limits.TheConstants.{POINT_RECORD, MAX_OFFSET, MAX_PLAIN_OFFSET}
 use Rattle.las_header.specs.Numbers.{number_at, numbers_at}
 
 -- version: the major number, then the minor one
@@ -16,7 +18,8 @@ header_size_of head = number_at 2 94 head
 
 -- the least header size of a minor version: the length of its public header block
 abbrev pub least_header_size : ℕ → ℕ
-least_header_size minor = if nat_lt minor 3 then HEADER_BLOCK else (if minor == 3 then HEADER_BLOCK_1_3 else HEADER_BLOCK_1_4)
+least_header_size minor =
+    if nat_lt minor 3 then HEADER_BLOCK else (if minor == 3 then HEADER_BLOCK_1_3 else HEADER_BLOCK_1_4)
 
 -- offset to point data: where the first point record begins
 abbrev pub point_offset_of : List ℕ → ℕ
@@ -74,7 +77,8 @@ long_returns_of head = numbers_at 8 15 255 head
 
 -- number of point records: LAS 1.4 leaves the short number at 0 if it uses the long one alone
 abbrev pub points_of : List ℕ → ℕ
-points_of head = if has_long_counts head && (short_points_of head == 0) then long_points_of head else short_points_of head
+points_of head = if has_long_counts head
+    && (short_points_of head == 0) then long_points_of head else short_points_of head
 
 -- the bytes of a file before the point data
 abbrev pub head_of : (file : List ℕ) → List ℕ

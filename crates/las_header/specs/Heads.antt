@@ -1,8 +1,12 @@
 -- What is known of every head.
-use Rattle.std.specs.Prelude.{◌≡◌, ℕ, ◌+◌, ◌≤◌, ◌<◌, ◌^◌, nat_eq, true, false, if◌then◌else◌, List, [], length, codes, None}
+use Rattle.std.specs.Prelude.{◌≡◌, ℕ, ◌+◌, ◌≤◌, ◌<◌, ◌^◌, nat_eq, true, false, if◌then◌else◌, List, [], length, codes}
+use Rattle.std.specs.Prelude.{None}
 use Rattle.std.specs.List.{starts_with}
-use Rattle.las_header.specs.declared.limits.TheConstants.{HEADER_BLOCK, HEADER_BLOCK_1_4, LAST_MINOR, LAST_FORMAT, MAX_EXTRA, MAX_OFFSET, VLR_HEAD}
-use Rattle.las_header.specs.Fields.{major_of, minor_of, header_size_of, least_header_size, point_offset_of, offset_limit, is_packed, format_of, format_size, record_length_of, has_long_counts, extended_count_of, points_of}
+use Rattle.las_header.specs.declared.limits.TheConstants.{HEADER_BLOCK, HEADER_BLOCK_1_4, LAST_MINOR, LAST_FORMAT}
+use Rattle.las_header.specs.declared.limits.TheConstants.{MAX_EXTRA, MAX_OFFSET, VLR_HEAD}
+use Rattle.las_header.specs.Fields.{major_of, minor_of, header_size_of, least_header_size, point_offset_of}
+use Rattle.las_header.specs.Fields.{offset_limit, is_packed, format_of, format_size, record_length_of, has_long_counts}
+use Rattle.las_header.specs.Fields.{extended_count_of, points_of}
 use Rattle.las_header.specs.Vlrs.{vlrs_end, laszip_vlrs_of, first_size, HasOneVlr}
 use Rattle.las_header.specs.Plain.{with_vlr, plain_of}
 use Rattle.las_header.specs.Refusals.{first_cause, front_causes, head_causes, has_bad_counts}
@@ -50,11 +54,13 @@ pub record KeepsLayout (old new : List ℕ) : Type 0 where
 
 -- No condition of the front holds of a head whose offset is within its limit and within the file.
 abbrev pub FrontIsFine : Type 0
-FrontIsFine = (head : List ℕ) (size : ℕ) → IsHead head → length head ≤ size → length head ≤ offset_limit head → first_cause (front_causes head size) ≡ None
+FrontIsFine = (head : List ℕ) (size : ℕ) → IsHead head → length head ≤ size → length head ≤ offset_limit head
+    → first_cause (front_causes head size) ≡ None
 
 -- No condition holds of the head of a packed file that this crate decides.
 abbrev pub PackedIsFine : Type 0
-PackedIsFine = (head : List ℕ) (size : ℕ) → IsHead head → is_packed head ≡ true → first_cause (head_causes head size) ≡ None
+PackedIsFine = (head : List ℕ) (size : ℕ) → IsHead head → is_packed head ≡ true
+    → first_cause (head_causes head size) ≡ None
 
 -- the new head is the plain one as that of a packed file, and without the laszip VLR it is the old one again
 pub record PacksHead (payload old new : List ℕ) : Type 0 where

@@ -2,16 +2,20 @@
 use Rattle.std.specs.Prelude.{ℕ, zero, suc, ◌+◌, ◌-◌, if◌then◌else◌, List, [], ◌∷◌, ◌++◌, take, drop, length}
 use Rattle.std.specs.List.{splice}
 use Rattle.byteorder.specs.Endian.{little_bytes}
-use Rattle.las_header.specs.declared.limits.TheConstants.{VLR_HEAD, LASZIP_USER_ID, LASZIP_RECORD_ID, LASZIP_DESCRIPTION}
+use Rattle.las_header.specs.declared.limits.TheConstants.{VLR_HEAD, LASZIP_USER_ID, LASZIP_RECORD_ID}
+use Rattle.las_header.specs.declared.limits.TheConstants.{LASZIP_DESCRIPTION}
 use Rattle.las_header.specs.declared.vlrs.VlrPlace.{VlrPlace}
-use Rattle.las_header.specs.Fields.{point_offset_of, vlr_count_of, format_byte_of, format_of, record_length_of, points_of, is_packed, head_of}
+use Rattle.las_header.specs.Fields.{point_offset_of, vlr_count_of, format_byte_of, format_of, record_length_of}
+use Rattle.las_header.specs.Fields.{points_of, is_packed, head_of}
 use Rattle.las_header.specs.Vlrs.{vlrs_end, vlr_size, laszip_vlrs_of}
 
 -- the head with another offset to point data, number of VLRs and format byte: the nine bytes from 96 on
 abbrev pub with_layout : (offset count format : ℕ) → List ℕ → List ℕ
-with_layout offset count format head = splice head 96 105 (little_bytes 4 offset ++ (little_bytes 4 count ++ format ∷ []))
+with_layout offset count format head =
+    splice head 96 105 (little_bytes 4 offset ++ (little_bytes 4 count ++ format ∷ []))
 
--- a laszip VLR as it is written: reserved 0, both IDs, the length of the payload, a description of 32 bytes, the payload
+-- a laszip VLR as it is written: reserved 0, both IDs, the length of the payload, a description of 32 bytes, the
+-- payload
 abbrev pub laszip_vlr : (payload : List ℕ) → List ℕ
 laszip_vlr payload =
     little_bytes 2 0 ++ (LASZIP_USER_ID ++ (little_bytes 2 LASZIP_RECORD_ID ++ (little_bytes 2 (length payload)

@@ -1,11 +1,14 @@
 -- Which files are refused, and by which cause: the first condition that holds, in the order of the lists here.
 -- The conditions of packed points follow in the crates that read them, and are joined to these lists.
-use Rattle.std.specs.Prelude.{◌≡◌, ℕ, ◌+◌, ◌-◌, ◌*◌, ◌^◌, ◌==◌, nat_le, nat_lt, nat_eq, not, ◌&&◌, ◌||◌, Bool, if◌then◌else◌, List, [], ◌∷◌, ◌++◌, length, codes, take, Option, Some, None}
+use Rattle.std.specs.Prelude.{◌≡◌, ℕ, ◌+◌, ◌-◌, ◌*◌, ◌^◌, ◌==◌, nat_le, nat_lt, nat_eq, not, ◌&&◌, ◌||◌, Bool}
+use Rattle.std.specs.Prelude.{if◌then◌else◌, List, [], ◌∷◌, ◌++◌, length, codes, take, Option, Some, None}
 use Rattle.std.specs.List.{starts_with}
 use Rattle.las_header.specs.declared.limits.TheConstants.{HEADER_BLOCK, LAST_MINOR, LAST_FORMAT, MAX_EXTRA}
 use Rattle.las_header.specs.declared.refusal.Refusal.{Refusal}
 use Rattle.las_header.specs.declared.refusal.Refusal.TheVariants as cause
-use Rattle.las_header.specs.Fields.{major_of, minor_of, header_size_of, least_header_size, point_offset_of, offset_limit, is_packed, format_of, format_size, record_length_of, has_long_counts, extended_count_of, short_points_of, long_points_of, points_of, head_of}
+use Rattle.las_header.specs.Fields.{major_of, minor_of, header_size_of, least_header_size, point_offset_of}
+use Rattle.las_header.specs.Fields.{offset_limit, is_packed, format_of, format_size, record_length_of, has_long_counts}
+use Rattle.las_header.specs.Fields.{extended_count_of, short_points_of, long_points_of, points_of, head_of}
 use Rattle.las_header.specs.Vlrs.{vlrs_end, laszip_vlrs_of}
 
 -- the first cause of a list whose condition holds
@@ -58,7 +61,8 @@ abbrev pub has_bad_counts : (head : List ℕ) → Bool
 has_bad_counts head =
     has_long_counts head
     && (nat_le (2 ^ 32) (long_points_of head)
-    || (not (short_points_of head == 0) && not (long_points_of head == 0) && not (short_points_of head == long_points_of head)))
+    || (not (short_points_of head == 0) && not (long_points_of head == 0)
+    && not (short_points_of head == long_points_of head)))
 
 -- how many bytes the point records take that the header counts
 abbrev pub counted_size : (head : List ℕ) → ℕ
@@ -85,8 +89,10 @@ front_causes front size =
 -- the conditions that the bytes before the point data decide, in order
 abbrev pub head_causes : (head : List ℕ) → (size : ℕ) → List (Bool × Refusal)
 head_causes head size =
-    (has_long_vlrs head, cause.Vlrs) ∷ (has_other_format head, cause.Format) ∷ (has_bad_record_length head, cause.RecordLength)
-    ∷ (has_extended_vlrs head, cause.Extended) ∷ (has_bad_counts head, cause.PointCounts) ∷ (ends_early head size, cause.Count)
+    (has_long_vlrs head, cause.Vlrs) ∷ (has_other_format head, cause.Format)
+    ∷ (has_bad_record_length head, cause.RecordLength)
+    ∷ (has_extended_vlrs head, cause.Extended) ∷ (has_bad_counts head, cause.PointCounts)
+    ∷ (ends_early head size, cause.Count)
     ∷ (goes_on head size, cause.Trailing) ∷ (has_stray_vlr head, cause.StrayVlr) ∷ []
 
 -- the conditions of a file that its first bytes and its head decide, in order

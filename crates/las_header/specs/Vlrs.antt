@@ -39,7 +39,8 @@ vlr_size place = VLR_HEAD + place.length
 -- a laszip VLR has LASzip's user ID and record ID (Isenburg, LASzip, PE&RS 2013)
 abbrev pub is_laszip : List ℕ → VlrPlace → Bool
 is_laszip head place =
-    starts_with nat_eq (drop (place.start + 2) head) LASZIP_USER_ID && (number_at 2 (place.start + 18) head == LASZIP_RECORD_ID)
+    starts_with nat_eq (drop (place.start + 2) head) LASZIP_USER_ID
+    && (number_at 2 (place.start + 18) head == LASZIP_RECORD_ID)
 
 -- the places of the laszip VLRs, in order
 abbrev pub laszip_vlrs_of : List ℕ → List VlrPlace

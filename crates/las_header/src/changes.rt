@@ -1,6 +1,7 @@
 //! The bytes of heads that are changed.
 
-ghost use Rattle.std.specs.Prelude.{◌≡◌, ◌+◌, ◌<◌, ◌≤◌, ◌^◌, length, vec_len, slice_get, IfOk, IsSomeAnd, true, false, []};
+ghost use Rattle.std.specs.Prelude.{◌≡◌, ◌+◌, ◌<◌, ◌≤◌, ◌^◌, length, vec_len, slice_get, IfOk, IsSomeAnd, true, false};
+ghost use Rattle.std.specs.Prelude.{[]};
 ghost use Rattle.std.specs.List.{splice};
 ghost use Rattle.las_header.specs.Fields.{is_packed, vlr_count_of};
 ghost use Rattle.las_header.specs.Vlrs.{laszip_vlrs_of, vlr_size};
@@ -111,7 +112,8 @@ pub fn without_vlr(alloc: Global, head: &[u8]) -> Result<Vec<u8>, AllocError>
 fn laszip_bounds(head: &[u8]) -> (usize, usize)
     requires head { IsHead head.now }
     requires one { length (laszip_vlrs_of head.now) ≡ 1 }
-    ensures first { IsSomeAnd (slice_get (laszip_vlrs_of head.now) 0) (λ place. (result.0 ≡ place.start) × (result.1 ≡ vlr_size place)) }
+    ensures first { IsSomeAnd (slice_get (laszip_vlrs_of head.now) 0)
+        (λ place. (result.0 ≡ place.start) × (result.1 ≡ vlr_size place)) }
     ensures block { HEADER_BLOCK ≤ result.0 }
     ensures within { result.0 + result.1 ≤ length head.now }
     ensures count { 0 < vlr_count_of head.now }

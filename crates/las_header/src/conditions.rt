@@ -1,9 +1,12 @@
 //! The conditions that the bytes before the point data decide.
 
 ghost use Rattle.std.specs.Prelude.{◌≡◌, ◌≤◌, ◌<◌, ◌^◌, length, true, None};
-ghost use Rattle.las_header.specs.Fields.{header_size_of, least_header_size, minor_of, point_offset_of, points_of, has_long_counts, format_of};
+ghost use Rattle.las_header.specs.Fields.{header_size_of, least_header_size, minor_of, point_offset_of, points_of};
+ghost use Rattle.las_header.specs.Fields.{has_long_counts, format_of};
 ghost use Rattle.las_header.specs.Vlrs.{vlrs_end};
-ghost use Rattle.las_header.specs.Refusals.{first_cause, head_causes, has_long_vlrs, has_other_format, has_bad_record_length, has_extended_vlrs, has_bad_counts, counted_size, ends_early, goes_on, has_stray_vlr};
+ghost use Rattle.las_header.specs.Refusals.{first_cause, head_causes, has_long_vlrs, has_other_format};
+ghost use Rattle.las_header.specs.Refusals.{has_bad_record_length, has_extended_vlrs, has_bad_counts, counted_size};
+ghost use Rattle.las_header.specs.Refusals.{ends_early, goes_on, has_stray_vlr};
 
 use crate::fields::{
     format, has_long_counts, is_packed, long_points, point_offset, points, record_length,

@@ -1,7 +1,9 @@
 //! The fields of the public header block, read from the bytes of a head.
 
 ghost use Rattle.std.specs.Prelude.{◌≡◌, ◌≤◌, length, true};
-ghost use Rattle.las_header.specs.Fields.{header_size_of, least_header_size, minor_of, point_offset_of, vlr_count_of, is_packed, format_of, format_size, record_length_of, has_long_counts, short_points_of, long_points_of, points_of};
+ghost use Rattle.las_header.specs.Fields.{header_size_of, least_header_size, minor_of, point_offset_of, vlr_count_of};
+ghost use Rattle.las_header.specs.Fields.{is_packed, format_of, format_size, record_length_of, has_long_counts};
+ghost use Rattle.las_header.specs.Fields.{short_points_of, long_points_of, points_of};
 
 use crate::limits::{
     COUNTS_AT, HEADER_BLOCK, HEADER_BLOCK_1_3, HEADER_BLOCK_1_4, LONG_COUNTS_AT, POINT_RECORD,

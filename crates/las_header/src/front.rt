@@ -2,7 +2,8 @@
 
 ghost use Rattle.std.specs.Prelude.{◌≡◌, ◌≤◌, min, length, Some, None, OnOk, IfOk};
 ghost use Rattle.las_header.specs.Fields.{point_offset_of};
-ghost use Rattle.las_header.specs.Refusals.{first_cause, front_causes, lacks_signature, has_other_version, has_short_header, has_bad_offset};
+ghost use Rattle.las_header.specs.Refusals.{first_cause, front_causes, lacks_signature, has_other_version};
+ghost use Rattle.las_header.specs.Refusals.{has_short_header, has_bad_offset};
 
 use crate::fields::{header_size, is_packed, least_header_size, point_offset};
 use crate::limits::{HEADER_BLOCK, LAST_MINOR, MAX_OFFSET, MAX_PLAIN_OFFSET};

@@ -1,10 +1,13 @@
 //! The head of a file.
 
-ghost use Rattle.std.specs.Prelude.{◌≡◌, ◌≤◌, ◌+◌, ◌-◌, length, take, true, if◌then◌else◌, Some, None, IfOk, [], slice_get, vec_len, false};
+ghost use Rattle.std.specs.Prelude.{◌≡◌, ◌≤◌, ◌+◌, ◌-◌, length, take, true, if◌then◌else◌, Some, None, IfOk, []};
+ghost use Rattle.std.specs.Prelude.{slice_get, vec_len, false};
 ghost use Rattle.std.specs.List.{splice};
 ghost use Rattle.las_header.specs.Counting.{with_count_bytes, with_counts, with_sums};
 ghost use Rattle.las_header.specs.Heads.{IsHead, HeadView, KeepsLayout, SameRecords};
-ghost use Rattle.las_header.specs.Fields.{minor_of, header_size_of, point_offset_of, vlr_count_of, is_packed, format_of, record_length_of, format_size, points_of, returns_of, has_long_counts, long_returns_of};
+ghost use Rattle.las_header.specs.Fields.{minor_of, header_size_of, point_offset_of, vlr_count_of, is_packed};
+ghost use Rattle.las_header.specs.Fields.{format_of, record_length_of, format_size, points_of, returns_of};
+ghost use Rattle.las_header.specs.Fields.{has_long_counts, long_returns_of};
 ghost use Rattle.las_header.specs.Vlrs.{vlrs_of, vlrs_end, laszip_vlrs_of, HasOneVlr};
 ghost use Rattle.las_header.specs.Plain.{with_vlr, plain_of};
 ghost use Rattle.las_header.specs.Refusals.{first_cause, front_causes, head_causes};
@@ -50,8 +53,10 @@ impl Head {
     pub fn read(bytes: Vec<u8>, size: u64) -> Result<Head, Refusal>
         requires accepted { first_cause (front_causes (take HEADER_BLOCK bytes.items) size) ≡ None }
         requires whole { point_offset_of (take HEADER_BLOCK bytes.items) ≡ length bytes.items }
-        ensures head { first_cause (head_causes bytes.items size) ≡ None → result ≡ Ok (record { bytes = bytes.items; size = size }) }
-        ensures refused { (cause : Refusal) → first_cause (head_causes bytes.items size) ≡ Some cause → result ≡ Err cause }
+        ensures head { first_cause (head_causes bytes.items size) ≡ None
+            → result ≡ Ok (record { bytes = bytes.items; size = size }) }
+        ensures refused { (cause : Refusal) → first_cause (head_causes bytes.items size) ≡ Some cause
+            → result ≡ Err cause }
     {
         match head_cause(&bytes, size) {
             Some(cause) => Err(cause),
@@ -180,9 +185,9 @@ impl Head {
         vlrs::places(alloc, &self.bytes)
     }
 
-    /// The head of the packed file that has this plain one as its plain head: a laszip VLR with this payload, of at most
-    /// 58 bytes, after all other VLRs, one VLR more, a larger offset, and bit 7 of the format byte set. All other bytes
-    /// stay, those between the last VLR and the point data included. The head is plain and has no laszip VLR.
+    /// The head of the packed file that has this plain one as its plain head: a laszip VLR with this payload, of at
+    /// most 58 bytes, after all other VLRs, one VLR more, a larger offset, and bit 7 of the format byte set. All other
+    /// bytes stay, those between the last VLR and the point data included. The head is plain and has no laszip VLR.
     pub fn with_vlr(&self, alloc: Global, payload: &[u8]) -> Result<Head, AllocError>
         requires plain { is_packed self.now.bytes ≡ false }
         requires none { laszip_vlrs_of self.now.bytes ≡ [] }
@@ -190,7 +195,8 @@ impl Head {
         ensures bytes { IfOk result (λ head. head.bytes ≡ with_vlr payload.now self.now.bytes) }
         ensures back { IfOk result (λ head. plain_of head.bytes ≡ self.now.bytes) }
         ensures packed { IfOk result (λ head. is_packed head.bytes ≡ true) }
-        ensures len { IfOk result (λ head. length head.bytes ≡ length self.now.bytes + (VLR_HEAD + length payload.now)) }
+        ensures len { IfOk result
+            (λ head. length head.bytes ≡ length self.now.bytes + (VLR_HEAD + length payload.now)) }
         ensures records { IfOk result (λ head. SameRecords self.now.bytes head.bytes) }
         ensures points { IfOk result (λ head. points_of head.bytes ≡ points_of self.now.bytes) }
         ensures laszip { IfOk result (λ head. HasOneVlr (vlrs_end self.now.bytes) (length payload.now) head.bytes) }
@@ -222,8 +228,8 @@ impl Head {
         })
     }
 
-    /// The head with these counts in place of its own: the 24 bytes at 107, and for LAS 1.4 the 128 bytes at 247 too. All
-    /// other bytes stay. No memory is taken.
+    /// The head with these counts in place of its own: the 24 bytes at 107, and for LAS 1.4 the 128 bytes at 247 too.
+    /// All other bytes stay. No memory is taken.
     pub fn with_counts(self, counts: Counts) -> Head
         ensures bytes { result.bytes ≡ with_counts counts self.bytes }
         ensures points { points_of result.bytes ≡ counts.points }

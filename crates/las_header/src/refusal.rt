@@ -6,9 +6,9 @@ ghost use Rattle.std.specs.Prelude.{◌≡◌};
 ///
 /// A file has S bytes, header size H, offset to the point data O, N points, point data format byte f and record length
 /// L. It is packed if bit 7 of f is set, else plain. N is the number of points at byte 107; for LAS 1.4, if that is 0,
-/// it is the one at byte 247. The refusal of a file is the first of the conditions that holds, in this order: `Short` to
-/// `RecordLength`, `Extended`, `PointCounts`, `Count` to `ChunkSum`, `PointSum`. The other causes come from calls that
-/// name them.
+/// it is the one at byte 247. The refusal of a file is the first of the conditions that holds, in this order: `Short`
+/// to `RecordLength`, `Extended`, `PointCounts`, `Count` to `ChunkSum`, `PointSum`. The other causes come from calls
+/// that name them.
 ///
 /// This crate answers `Short` to `StrayVlr`, `Extended` and `PointCounts`.
 #[derive(Clone, Copy, Debug, PartialEq, Eq)]

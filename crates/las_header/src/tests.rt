@@ -1,5 +1,5 @@
-//! Heads as they stand in files: one change of a head for each condition, heads of each version, heads that are changed,
-//! and heads at the greatest offset.
+//! Heads as they stand in files: one change of a head for each condition, heads of each version, heads that are
+//! changed, and heads at the greatest offset.
 
 ghost use Rattle.std.specs.Prelude.{◌≡◌, ◌<◌, ◌^◌, length};
 

@@ -1,12 +1,13 @@
--- The calls of files or of a stream in memory: how many there were, which are listed to fail, and what is counted of them.
+-- The calls of files or of a stream in memory: how many there were, which are listed to fail, and what is counted of
+-- them.
 use Rattle.std.specs.Prelude.{ℕ, ◌==◌, min, Bool, if◌then◌else◌, List, [], ◌∷◌, Option, Some, None, refl}
 use Rattle.std.specs.List.{list_any}
 use Rattle.std.specs.Coded.{Coded, code_by, coded×, coded_ℕ, coded_list}
 use Rattle.las_outside.specs.Faults.{count_after, faults_after}
 
 -- `reads` and `writes`: how many calls read and how many wrote so far. `failing_reads`: the numbers of the listed calls
--- that read. `failing_writes`: the numbers of the listed calls that write, each with how many of its bytes are kept, the
--- last listed first.
+-- that read. `failing_writes`: the numbers of the listed calls that write, each with how many of its bytes are kept,
+-- the last listed first.
 pub record Calls : Type 0 where
   pub reads : ℕ
   pub writes : ℕ
@@ -19,7 +20,9 @@ pub record Calls : Type 0 where
 abbrev pub calls_code : Coded Calls
 calls_code =
     code_by (ℕ × (ℕ × (List ℕ × (List (ℕ × ℕ) × (ℕ × (ℕ × ℕ))))))
-    (coded× coded_ℕ (coded× coded_ℕ (coded× (coded_list coded_ℕ) (coded× (coded_list (coded× coded_ℕ coded_ℕ)) (coded× coded_ℕ (coded× coded_ℕ coded_ℕ))))))
+    (coded× coded_ℕ (coded× coded_ℕ
+    (coded× (coded_list coded_ℕ)
+    (coded× (coded_list (coded× coded_ℕ coded_ℕ)) (coded× coded_ℕ (coded× coded_ℕ coded_ℕ))))))
     (λ c. (c.reads, (c.writes, (c.failing_reads, (c.failing_writes, (c.read_faults, (c.write_faults, c.asked)))))))
     (λ p. record {
       reads = p.0;
@@ -33,7 +36,15 @@ calls_code =
 
 -- no call yet, and none listed
 abbrev pub no_calls : Calls
-no_calls = record { reads = 0; writes = 0; failing_reads = []; failing_writes = []; read_faults = 0; write_faults = 0; asked = 0 }
+no_calls = record {
+  reads = 0;
+  writes = 0;
+  failing_reads = [];
+  failing_writes = [];
+  read_faults = 0;
+  write_faults = 0;
+  asked = 0;
+}
 
 -- the number of the next call, from 1
 abbrev pub next_call : ℕ → ℕ
@@ -63,11 +74,13 @@ kept_of (Some keep) fits = min keep fits
 
 -- after a call that read, which failed or succeeded
 abbrev pub after_read : Calls → Bool → Calls
-after_read calls failed = record calls { reads = next_call calls.reads; read_faults = faults_after calls.read_faults failed }
+after_read calls failed =
+    record calls { reads = next_call calls.reads; read_faults = faults_after calls.read_faults failed }
 
 -- after a call that wrote, which failed or succeeded
 abbrev pub after_write : Calls → Bool → Calls
-after_write calls failed = record calls { writes = next_call calls.writes; write_faults = faults_after calls.write_faults failed }
+after_write calls failed =
+    record calls { writes = next_call calls.writes; write_faults = faults_after calls.write_faults failed }
 
 -- after bytes were asked for
 abbrev pub after_asking : Calls → ℕ → Calls

@@ -25,11 +25,13 @@ pub record RoomFor : Type 0 where
 
 abbrev pub room_for_code : Coded RoomFor
 room_for_code =
-    code_by (List ℕ × (ℕ × Option (List ℕ))) (coded× (coded_list coded_ℕ) (coded× coded_ℕ (coded_option (coded_list coded_ℕ))))
+    code_by (List ℕ × (ℕ × Option (List ℕ)))
+    (coded× (coded_list coded_ℕ) (coded× coded_ℕ (coded_option (coded_list coded_ℕ))))
     (λ r. (r.name, (r.room, r.bytes))) (λ p. record { name = p.0; room = p.1.0; bytes = p.1.1 }) (λ _. refl)
 
 -- the map with this value at the name, or with none
-abbrev pub with_value : {X : Type 0} → map.FinMap (slice_cmp nat_cmp) X → List ℕ → Option X → map.FinMap (slice_cmp nat_cmp) X
+abbrev pub with_value : {X : Type 0} → map.FinMap (slice_cmp nat_cmp) X → List ℕ → Option X
+    → map.FinMap (slice_cmp nat_cmp) X
 with_value values name None = map.remove values name
 with_value values name (Some x) = map.insert values name x
 
@@ -65,7 +67,8 @@ pub record Memory : Type 0 where
 abbrev pub memory_code : Coded Memory
 memory_code =
     code_by (FileMap × (RoomMap × Calls))
-    (coded× (map.code {R = slice_cmp nat_cmp} (coded_list coded_ℕ) (coded_list coded_ℕ)) (coded× (map.code {R = slice_cmp nat_cmp} (coded_list coded_ℕ) coded_ℕ) calls_code))
+    (coded× (map.code {R = slice_cmp nat_cmp} (coded_list coded_ℕ) (coded_list coded_ℕ))
+    (coded× (map.code {R = slice_cmp nat_cmp} (coded_list coded_ℕ) coded_ℕ) calls_code))
     (λ m. (m.files, (m.rooms, m.calls))) (λ p. record { files = p.0; rooms = p.1.0; calls = p.1.1 }) (λ _. refl)
 
 -- what is seen of files in memory: what they hold is known

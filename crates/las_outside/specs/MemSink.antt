@@ -27,7 +27,8 @@ next_put_fails stream = is_listed stream.failing (next_call stream.calls)
 
 -- the stream with other bytes, after a call that failed or succeeded
 abbrev pub after_put : Stream → List ℕ → Bool → Stream
-after_put stream bytes failed = record stream { bytes = bytes; calls = next_call stream.calls; faults = faults_after stream.faults failed }
+after_put stream bytes failed =
+    record stream { bytes = bytes; calls = next_call stream.calls; faults = faults_after stream.faults failed }
 
 -- what is seen of a stream in memory: what was put on it is known
 abbrev pub sink_of : Stream → SinkView

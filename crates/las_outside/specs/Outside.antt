@@ -18,7 +18,8 @@ pub record Outside : Type 0 where
 abbrev pub outside_code : Coded Outside
 outside_code =
     code_by (Option FileMap × (ℕ × (ℕ × ℕ)))
-    (coded× (coded_option (map.code {R = slice_cmp nat_cmp} (coded_list coded_ℕ) (coded_list coded_ℕ))) (coded× coded_ℕ (coded× coded_ℕ coded_ℕ)))
+    (coded× (coded_option (map.code {R = slice_cmp nat_cmp} (coded_list coded_ℕ) (coded_list coded_ℕ)))
+    (coded× coded_ℕ (coded× coded_ℕ coded_ℕ)))
     (λ o. (o.held, (o.read_faults, (o.write_faults, o.asked))))
     (λ p. record { held = p.0; read_faults = p.1.0; write_faults = p.1.1.0; asked = p.1.1.1 }) (λ _. refl)
 
@@ -38,7 +39,8 @@ with_write_fault outside = record outside { write_faults = count_after outside.w
 abbrev pub with_asked : Outside → ℕ → Outside
 with_asked outside size = record outside { asked = count_after outside.asked size }
 
--- What holds of the outside before and after any calls: no count falls, and known files stay known, unknown ones unknown.
+-- What holds of the outside before and after any calls: no count falls, and known files stay known, unknown ones
+-- unknown.
 pub record Later (old new : Outside) : Type 0 where
   pub known : is_some new.held ≡ is_some old.held
   pub reads : old.read_faults ≤ new.read_faults

@@ -1,7 +1,8 @@
 //! The calls of files in memory: which are listed to fail, and what is counted of them.
 ghost use Rattle.std.specs.Prelude.{◌≡◌, ◌≤◌, ◌∷◌, ◌++◌, [], OnOk, OnErr, if◌then◌else◌, is_ok, take, option_map};
 ghost use Rattle.las_outside.specs.Faults.{count_after};
-ghost use Rattle.las_outside.specs.Calls.{no_calls, next_call, next_read_fails, next_keep, is_listed, keep_of, after_asking};
+ghost use Rattle.las_outside.specs.Calls.{no_calls, next_call, next_read_fails, next_keep, is_listed, keep_of};
+ghost use Rattle.las_outside.specs.Calls.{after_asking};
 
 use std::alloc::{AllocError, Global};
 use std::marker::Model;
@@ -84,7 +85,8 @@ impl Calls {
 
     /// Lists a call that writes, before those that are listed already.
     pub fn fail_write(&mut self, call: u64, keep: usize) -> Result<(), AllocError>
-        ensures ok { OnOk result (self.new ≡ record self.old { failing_writes = (call, keep) ∷ self.old.failing_writes }) }
+        ensures ok { OnOk result (self.new
+            ≡ record self.old { failing_writes = (call, keep) ∷ self.old.failing_writes }) }
         ensures err { OnErr result (self.new ≡ self.old) }
     {
         match self.failing_writes.insert(0, (call, keep)) {

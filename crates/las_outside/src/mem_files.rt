@@ -1,7 +1,10 @@
 //! Files in memory, which tell what they hold.
-ghost use Rattle.std.specs.Prelude.{◌≡◌, ◌⊎◌, ◌+◌, ◌-◌, ◌≤◌, ◌<◌, ◌↔◌, ◌++◌, ◌∷◌, [], ℕ, IsTrue, IsErr, IsOk, IsSome, IsSomeAnd, IfOk, OnOk, OnErr, Some, None, MatchOption, length, take, drop, max, is_err, is_some, ◌&&◌};
+ghost use Rattle.std.specs.Prelude.{◌≡◌, ◌⊎◌, ◌+◌, ◌-◌, ◌≤◌, ◌<◌, ◌↔◌, ◌++◌, ◌∷◌, [], ℕ, IsTrue, IsErr, IsOk, IsSome};
+ghost use Rattle.std.specs.Prelude.{IsSomeAnd, IfOk, OnOk, OnErr, Some, None, MatchOption, length, take, drop, max};
+ghost use Rattle.std.specs.Prelude.{is_err, is_some, ◌&&◌};
 ghost use Rattle.std.specs.FinMap as map;
-ghost use Rattle.las_outside.specs.Calls.{no_calls, next_read_fails, next_keep, kept_of, after_read, after_write, after_asking};
+ghost use Rattle.las_outside.specs.Calls.{no_calls, next_read_fails, next_keep, kept_of, after_read, after_write};
+ghost use Rattle.las_outside.specs.Calls.{after_asking};
 ghost use Rattle.las_outside.specs.Files.{bytes_of, with_patch};
 ghost use Rattle.las_outside.specs.MemFiles.{room_of, IsFirst, IsAbsent, outside_of};
 ghost use Rattle.las_outside.specs.Outside.{Later};
@@ -214,7 +217,8 @@ impl Files for MemFiles {
         ensures exactly { IsErr result
             ↔ (IsTrue (next_read_fails self.old.calls) ⊎ (map.get self.old.files name.now ≡ None)) }
         ensures change { self.new ≡ record self.old {
-          calls = after_read self.old.calls (next_read_fails self.old.calls && is_some (map.get self.old.files name.now));
+          calls = after_read self.old.calls
+              (next_read_fails self.old.calls && is_some (map.get self.old.files name.now));
         } }
         ensures later { Later (outside_of self.old) (outside_of self.new) }
     {

@@ -1,5 +1,6 @@
 //! The room that is kept in memory for one name.
-ghost use Rattle.std.specs.Prelude.{◌≡◌, ◌+◌, ◌-◌, ◌≤◌, ◌↔◌, ◌++◌, [], IsTrue, IsSome, IfOk, OnOk, OnErr, Some, None, MatchOption, length, take, max, unwrap_or};
+ghost use Rattle.std.specs.Prelude.{◌≡◌, ◌+◌, ◌-◌, ◌≤◌, ◌↔◌, ◌++◌, [], IsTrue, IsSome, IfOk, OnOk, OnErr, Some, None};
+ghost use Rattle.std.specs.Prelude.{MatchOption, length, take, max, unwrap_or};
 ghost use Rattle.las_outside.specs.Files.{with_patch};
 
 use std::alloc::{AllocError, Global};
@@ -95,7 +96,8 @@ impl MemRoom {
         ensures name { self.new.name ≡ self.old.name }
         ensures room { self.new.room ≡ self.old.room }
         ensures bytes { self.new.bytes
-            ≡ Some (unwrap_or self.old.bytes [] ++ take (self.old.room - length (unwrap_or self.old.bytes [])) bytes.now) }
+            ≡ Some (unwrap_or self.old.bytes []
+            ++ take (self.old.room - length (unwrap_or self.old.bytes [])) bytes.now) }
         ensures all { IsTrue result
             ↔ (length (unwrap_or self.old.bytes []) + length bytes.now ≤ self.old.room) }
     {

@@ -1,5 +1,6 @@
 //! A stream in memory, which tells what was put on it.
-ghost use Rattle.std.specs.Prelude.{◌≡◌, ◌⊎◌, ◌+◌, ◌-◌, ◌≤◌, ◌<◌, ◌↔◌, ◌++◌, ◌∷◌, [], ℕ, IsErr, IfOk, OnOk, OnErr, IsTrue, length, take, true, false, if◌then◌else◌};
+ghost use Rattle.std.specs.Prelude.{◌≡◌, ◌⊎◌, ◌+◌, ◌-◌, ◌≤◌, ◌<◌, ◌↔◌, ◌++◌, ◌∷◌, [], ℕ, IsErr, IfOk, OnOk, OnErr};
+ghost use Rattle.std.specs.Prelude.{IsTrue, length, take, true, false, if◌then◌else◌};
 ghost use Rattle.las_outside.specs.MemSink.{next_put_fails, after_put, sink_of};
 ghost use Rattle.las_outside.specs.Sinks.{PutLater};
 
@@ -107,7 +108,8 @@ impl Sink for MemSink {
     fn put(&mut self, bytes: &[u8]) -> Result<(), Failed>
         ensures ok { OnOk result (self.new ≡ after_put self.old (self.old.bytes ++ bytes.now) false) }
         ensures err { OnErr result (self.new ≡ after_put self.old
-            (self.old.bytes ++ take (if next_put_fails self.old then 0 else self.old.room - length self.old.bytes) bytes.now) true) }
+            (self.old.bytes ++ take (if next_put_fails self.old then 0 else self.old.room - length self.old.bytes)
+            bytes.now) true) }
         ensures exactly { IsErr result
             ↔ (IsTrue (next_put_fails self.old) ⊎ (self.old.room < length self.old.bytes + length bytes.now)) }
         ensures later { PutLater (sink_of self.old) (sink_of self.new) }

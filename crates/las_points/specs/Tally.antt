@@ -1,5 +1,6 @@
 -- How many point records a list has, in all and by return.
-use Rattle.std.specs.Prelude.{ℕ, ◌+◌, ◌-◌, ◌≤◌, ◌==◌, nat_le, if◌then◌else◌, All, List, [], ◌∷◌, ◌++◌, length, map, count_by, slice_index, slice_set}
+use Rattle.std.specs.Prelude.{ℕ, ◌+◌, ◌-◌, ◌≤◌, ◌==◌, nat_le, if◌then◌else◌, All, List, [], ◌∷◌, ◌++◌, length, map}
+use Rattle.std.specs.Prelude.{count_by, slice_index, slice_set}
 use Rattle.std.specs.List.{concat}
 use Rattle.las_header.specs.declared.counts.Counts.{Counts}
 use Rattle.las_header.specs.Counting.{with_counts}

@@ -1,8 +1,8 @@
 //! Point records, as slices of bytes that are read and changed in place.
 //!
-//! The layout is that of the point data record formats 0 to 3 of the LAS specification (ASPRS). A record of format 0 has
-//! 20 bytes, and the records of the others begin with its fields. Every call needs a record of at least 20 bytes, `time`
-//! and `rgb` one of at least the size of its format. No call takes memory, and none refuses anything.
+//! The layout is that of the point data record formats 0 to 3 of the LAS specification (ASPRS). A record of format 0
+//! has 20 bytes, and the records of the others begin with its fields. Every call needs a record of at least 20 bytes,
+//! `time` and `rgb` one of at least the size of its format. No call takes memory, and none refuses anything.
 #![tactic(auto)]
 
 mod count;

@@ -2,7 +2,9 @@
 
 ghost use Rattle.std.specs.Prelude.{◌≡◌, ◌≤◌, length};
 ghost use Rattle.las_header.specs.Fields.{format_size};
-ghost use Rattle.las_points.specs.Record.{HasTime, HasColours, time_of, colours_of, angle_of, class_byte_of, class_of, direction_of, flags_of, intensity_of, return_number_of, returns_of_pulse as returns_in_pulse, source_of, user_of, x_of, y_of, z_of};
+ghost use Rattle.las_points.specs.Record.{HasTime, HasColours, time_of, colours_of, angle_of, class_byte_of, class_of};
+ghost use Rattle.las_points.specs.Record.{direction_of, flags_of, intensity_of, return_number_of};
+ghost use Rattle.las_points.specs.Record.{returns_of_pulse as returns_in_pulse, source_of, user_of, x_of, y_of, z_of};
 
 use las_header::{POINT_RECORD, u16_at, u32_at, u64_at};
 

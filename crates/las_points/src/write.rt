@@ -2,7 +2,8 @@
 
 ghost use Rattle.std.specs.Prelude.{◌≡◌, ◌≤◌, length};
 ghost use Rattle.las_header.specs.Numbers.{with_number_at};
-ghost use Rattle.las_points.specs.Record.{class_of, source_of, user_of, with_class, with_signed_at, with_user, x_of, y_of, z_of};
+ghost use Rattle.las_points.specs.Record.{class_of, source_of, user_of, with_class, with_signed_at, with_user, x_of};
+ghost use Rattle.las_points.specs.Record.{y_of, z_of};
 
 use las_header::{POINT_RECORD, set_u16_at, set_u32_at};
 

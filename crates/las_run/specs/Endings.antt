@@ -77,4 +77,5 @@ named (o ∷ os) (t ∷ ts) = (o.name, t) ∷ named os ts
 -- its draft after some of its patches, and every other name is as before.
 abbrev pub IsLeft : List Output → FileMap → FileMap → Type 0
 IsLeft outputs files now =
-    (k : ℕ) × (texts : List (List ℕ)) × AreUnfinished (take k outputs) texts × (now ≡ with_all files (named (take k outputs) texts))
+    (k : ℕ) × (texts : List (List ℕ)) × AreUnfinished (take k outputs) texts
+    × (now ≡ with_all files (named (take k outputs) texts))

@@ -1,5 +1,5 @@
--- What a run says of the cause for which it ended. Each tool says it of its own endings, and the clauses of the top call
--- follow from it for all tools.
+-- What a run says of the cause for which it ended. Each tool says it of its own endings, and the clauses of the top
+-- call follow from it for all tools.
 use Rattle.std.specs.Prelude.{◌≡◌, ◌≢◌, ◌⊎◌, ℕ, List, [], Some, Result, Ok, Err}
 use Rattle.las_header.specs.declared.refusal.Refusal.{Refusal}
 use Rattle.las_run.specs.Inputs.{refusal_of}
@@ -83,4 +83,5 @@ IsUnread input name old new outcome =
 -- There is no memory, or the file that the word of this index names is refused, by its first cause.
 abbrev pub IsRefused : ℕ → List ℕ → Stop → Type 0
 IsRefused input file outcome =
-    (outcome ≡ stop.Memory) ⊎ ((cause : Refusal) × (outcome ≡ stop.Refused input cause) × (refusal_of file ≡ Some cause))
+    (outcome ≡ stop.Memory) ⊎
+    ((cause : Refusal) × (outcome ≡ stop.Refused input cause) × (refusal_of file ≡ Some cause))

@@ -27,7 +27,8 @@ output_for class file = counted_file (plain_head file) (kept_of class file)
 -- the patches that set the counts of a head: the 24 bytes at 107, and for LAS 1.4 then the 128 bytes at 247
 abbrev pub counts_patches : List ℕ → Counts → List Patch
 counts_patches head counts =
-    (COUNTS_AT, counts_bytes counts) ∷ (if has_long_counts head then (LONG_COUNTS_AT, long_counts_bytes counts) ∷ [] else [])
+    (COUNTS_AT, counts_bytes counts)
+    ∷ (if has_long_counts head then (LONG_COUNTS_AT, long_counts_bytes counts) ∷ [] else [])
 
 -- the draft of the output: as the output, but with counts of zero
 abbrev pub draft_for : ℕ → List ℕ → List ℕ
@@ -48,4 +49,5 @@ output_of_kept name class file = record {
 
 -- The draft of an accepted file with its patches is the output.
 abbrev pub IsFinishedOutput : Type 0
-IsFinishedOutput = (class : ℕ) (file : List ℕ) → refusal_of file ≡ None → with_patches (draft_for class file) (patches_for class file) ≡ output_for class file
+IsFinishedOutput = (class : ℕ) (file : List ℕ) → refusal_of file ≡ None
+    → with_patches (draft_for class file) (patches_for class file) ≡ output_for class file

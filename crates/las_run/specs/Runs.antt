@@ -21,7 +21,11 @@ Opens name (Some file) Accepted ending = Accepts name (refusal_of file) (Accepte
 -- The class of `las2las -keep_class` is kept: all is done, with one output.
 abbrev pub Keeps : List (List ℕ) → List ℕ → Ending → Type 0
 Keeps words file ending =
-    ending ≡ record { cause = Done; outputs = output_of_kept (output_of words) (class_of_words words) file ∷ []; text = [] }
+    ending ≡ record {
+      cause = Done;
+      outputs = output_of_kept (output_of words) (class_of_words words) file ∷ [];
+      text = [];
+    }
 
 -- wrong words, or those of a command
 abbrev pub RunOf : Option ℕ → List (List ℕ) → FileMap → Ending → Type 0

@@ -1,5 +1,6 @@
 -- What the words of the command line mean. The command is the first word; options follow, as in LAStools.
-use Rattle.std.specs.Prelude.{◌≡◌, ℕ, Bool, not, ◌&&◌, ◌||◌, nat_eq, nat_lt, nat_le, if◌then◌else◌, List, [], ◌∷◌, length, map, codes, slice_index_or, Option, Some, None, String, string_bytes}
+use Rattle.std.specs.Prelude.{◌≡◌, ℕ, Bool, not, ◌&&◌, ◌||◌, nat_eq, nat_lt, nat_le, if◌then◌else◌, List, [], ◌∷◌}
+use Rattle.std.specs.Prelude.{length, map, codes, slice_index_or, Option, Some, None, String, string_bytes}
 use Rattle.std.specs.declared.alloc.Global.{Global}
 use Rattle.std.specs.List.{ends_with}
 use Rattle.std.specs.Str.{bytes_eq, all_ascii_digits}
@@ -43,8 +44,8 @@ abbrev pub first_index : List (Bool × ℕ) → Option ℕ
 first_index [] = None
 first_index (c ∷ cs) = if c.0 then Some c.1 else first_index cs
 
--- What may be wrong with the words, in order, each with the index of the word at fault: a word that is missing or not of
--- its form, then words after the last, then an output that is the input or that would have to be packed.
+-- What may be wrong with the words, in order, each with the index of the word at fault: a word that is missing or not
+-- of its form, then words after the last, then an output that is the input or that would have to be packed.
 unfoldable pub faults_of : List (List ℕ) → List (Bool × ℕ)
 faults_of words =
     (not (bytes_eq (word_at words 0) (codes "las2las")), 0)

@@ -20,7 +20,8 @@ pub fn read_input<F: Files>(
 ) -> Result<Vec<u8>, Stop>
     ensures bytes { IfOk result
         (λ file. WhereKnown (F.seen files.old).held (word_at (texts words.now) input) (λ bytes. bytes ≡ file.items)) }
-    ensures stops { IfErr result (IsUnread input (word_at (texts words.now) input) (F.seen files.old) (F.seen files.new)) }
+    ensures stops { IfErr result
+        (IsUnread input (word_at (texts words.now) input) (F.seen files.old) (F.seen files.new)) }
     ensures files { (F.seen files.new).held ≡ (F.seen files.old).held }
     ensures writes { (F.seen files.new).write_faults ≡ (F.seen files.old).write_faults }
     ensures later { Later (F.seen files.old) (F.seen files.new) }

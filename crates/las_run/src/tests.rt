@@ -46,8 +46,8 @@ impl Shape {
     }
 }
 
-// The fields of a head, with 7 in every byte that nothing reads. It counts points, all of them first returns, and has one
-// VLR if there is a gap after it.
+// The fields of a head, with 7 in every byte that nothing reads. It counts points, all of them first returns, and has
+// one VLR if there is a gap after it.
 fn fields(shape: Shape, points: u32) -> [u8; 375] {
     let mut head = [7; 375];
     let size = shape.header_size();

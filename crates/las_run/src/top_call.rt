@@ -74,8 +74,8 @@ pub fn run<R: Threads + Sync, F: Files, O: Sink, E: Sink, G: Gate>(
         ⊎ Rose (F.seen files.old).read_faults (F.seen files.new).read_faults }
     ensures write { result ≡ 4 → Rose (F.seen files.old).write_faults (F.seen files.new).write_faults }
 
-    // Over known files: what is left, whatever ended the run. Nothing has changed if the defined ending is not 0, and also
-    // after wrong words, a failed read or a refusal.
+    // Over known files: what is left, whatever ended the run. Nothing has changed if the defined ending is not 0, and
+    // also after wrong words, a failed read or a refusal.
     ensures left { (known : FileMap) (ending : Ending) → (F.seen files.old).held ≡ Some known
         → Run (texts words.now) known ending
         → (now : FileMap) × ((F.seen files.new).held ≡ Some now) × IsLeft ending.outputs known now }

@@ -62,9 +62,11 @@ further l records = records_in l (count_of l records - 1) (drop (record_length l
 -- A chunk's bytes: the first record as it stands, and then one stream of all further ones.
 abbrev pub chunk_bytes : Layout → List ℕ → List ℕ
 chunk_bytes l records =
-    take (record_length l) records ++ bytes_of (span (cuts_of (joined (written l (initial_history (first_of l records)) (further l records)))))
+    take (record_length l) records
+    ++ bytes_of (span (cuts_of (joined (written l (initial_history (first_of l records)) (further l records)))))
 
--- The bytes hold the records: they begin with the first one as it stands, and the rest fits the events of some list of spellings, each of which spells its record after those before it.
+-- The bytes hold the records: they begin with the first one as it stands, and the rest fits the events of some list of
+-- spellings, each of which spells its record after those before it.
 pub record Holds (l : Layout) (bytes records : List ℕ) : Type 0 where
   pub enough : record_length l ≤ length bytes
   pub first : take (record_length l) bytes ≡ take (record_length l) records

@@ -29,7 +29,8 @@ record_length l = 20 + (time_length l.times + (colour_length l.colours + l.extra
 abbrev pub most_events : Layout → ℕ
 most_events l = 38 + l.extra
 
--- How many bytes are enough for a chunk: the first record, four bytes that end the stream, and three for each event of the further records. A chunk of no record has none.
+-- How many bytes are enough for a chunk: the first record, four bytes that end the stream, and three for each event of
+-- the further records. A chunk of no record has none.
 abbrev pub room_for : Layout → ℕ → ℕ
 room_for l count = if count == 0 then 0 else record_length l + 4 + 3 * most_events l * (count - 1)
 

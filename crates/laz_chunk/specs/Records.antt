@@ -90,7 +90,8 @@ abbrev pub SpellsColourIf : Bool → List Colour → List Event → Colour → T
 SpellsColourIf true colours events colour = SpellsColour (latest_colour colours) events colour
 SpellsColourIf false colours events colour = (events ≡ []) × (colour ≡ colour_at [])
 
--- Events that spell a record after a chunk's points: those of its parts in order, each spelling its part. There are no events of no extra bytes.
+-- Events that spell a record after a chunk's points: those of its parts in order, each spelling its part. There are no
+-- events of no extra bytes.
 pub record SpellsRecord (l : Layout) (points : List ChunkPoint) (events : List Event) (now : Record) : Type 0 where
   pub point_events : List Event
   pub time_events : List Event
@@ -117,4 +118,5 @@ abbrev pub record_events : Layout → List ChunkPoint → Record → List Event
 record_events l points now =
     point_events (points_of points) now.point
     ++ (time_events_if l.times (times_of points) now.time
-    ++ (colour_events_if l.colours (colours_of points) now.colour ++ extra_events (latest_extra (extras_of points)) now.extra))
+    ++ (colour_events_if l.colours (colours_of points) now.colour
+    ++ extra_events (latest_extra (extras_of points)) now.extra))

@@ -51,7 +51,8 @@ pub record ItemsStand (events : List Event) (points : List ChunkPoint) (items : 
   pub extra : ExtrasStand events (extras_of points) items.extra
 
 -- A part was read, by the one spelling that begins the rest of the bytes; what the item stands for then has it, too.
-pub record ReadsPart {V : Type 0} (IsAsked : List Event × V → Type 0) (earlier : List Event) (value : V) (old new : Decoding) (Stands : List Event → Type 0) : Type 0 where
+pub record ReadsPart {V : Type 0} (IsAsked : List Event × V → Type 0) (earlier : List Event) (value : V)
+    (old new : Decoding) (Stands : List Event → Type 0) : Type 0 where
   pub events : List Event
   pub takes : Takes IsAsked (λ x. cuts_after earlier x.0) old new (events, value)
   pub stands : Stands events

@@ -9,7 +9,8 @@ ghost use Rattle.laz_rgb.specs.declared.colour.Colour.{Colour};
 ghost use Rattle.laz_rgb.specs.Extra.{SpellsExtra, extra_events};
 ghost use Rattle.laz_rgb.specs.Items.{latest_extra};
 ghost use Rattle.laz_chunk.specs.Layouts.{colour_length, time_length};
-ghost use Rattle.laz_chunk.specs.Records.{SpellsColourIf, SpellsTimeIf, colour_events_if, colour_in, time_events_if, time_in};
+ghost use Rattle.laz_chunk.specs.Records.{SpellsColourIf, SpellsTimeIf, colour_events_if, colour_in, time_events_if};
+ghost use Rattle.laz_chunk.specs.Records.{time_in};
 ghost use Rattle.laz_chunk.specs.Stands.{ColoursStand, ExtrasStand, ReadsPart, TimesStand, extra_length, has};
 
 use laz_gpstime::GpsTime;
@@ -45,7 +46,8 @@ pub(crate) fn code_time(encoder: &mut Encoder, item: &mut Option<GpsTime>, part:
     ensures used { encoder.old.left ≤ encoder.new.left + 21 }
     ensures has { has item.new ≡ has item.old }
     ensures events { (earlier : List Event) (points : List sequences.Point) → TimesStand earlier points item.old
-        → Codes encoder.old encoder.new (cuts_after earlier (time_events_if (has item.old) points (time_in (has item.old) part.now))) }
+        → Codes encoder.old encoder.new
+        (cuts_after earlier (time_events_if (has item.old) points (time_in (has item.old) part.now))) }
     ensures stands { (earlier : List Event) (points : List sequences.Point) → TimesStand earlier points item.old
         → let time = time_in (has item.old) part.now in let events = time_events_if (has item.old) points time
         in TimesStand (earlier ++ events) (point_with time events ∷ points) item.new }
@@ -67,11 +69,14 @@ pub(crate) fn read_time(
     ensures part { length part.new ≡ length part.old }
     ensures has { has item.new ≡ has item.old }
     ensures good { OnOk result (decoder.new.failed ≡ false) }
-    ensures reads { (earlier : List Event) (points : List sequences.Point) → TimesStand earlier points item.old → decoder.old.taken ≤ length decoder.old.bytes
+    ensures reads { (earlier : List Event) (points : List sequences.Point) → TimesStand earlier points item.old
+        → decoder.old.taken ≤ length decoder.old.bytes
         → let time = time_in (has item.old) part.new
         in MatchResult result
-        (λ _. ReadsPart (λ x. SpellsTimeIf (has item.old) points x.0 x.1) earlier time decoder.old decoder.new (λ events. TimesStand (earlier ++ events) (point_with time events ∷ points) item.new))
-        (λ _. Refuses {X = List Event × ℕ} (λ x. SpellsTimeIf (has item.old) points x.0 x.1) (λ x. cuts_after earlier x.0) decoder.old decoder.new) }
+        (λ _. ReadsPart (λ x. SpellsTimeIf (has item.old) points x.0 x.1) earlier time decoder.old decoder.new
+        (λ events. TimesStand (earlier ++ events) (point_with time events ∷ points) item.new))
+        (λ _. Refuses {X = List Event × ℕ} (λ x. SpellsTimeIf (has item.old) points x.0 x.1)
+        (λ x. cuts_after earlier x.0) decoder.old decoder.new) }
 {
     match item {
         Some(times) => times.read(decoder, part),
@@ -108,7 +113,8 @@ pub(crate) fn code_colour(encoder: &mut Encoder, item: &mut Option<Rgb>, part: &
     ensures used { encoder.old.left ≤ encoder.new.left + 21 }
     ensures has { has item.new ≡ has item.old }
     ensures events { (earlier : List Event) (colours : List Colour) → ColoursStand earlier colours item.old
-        → Codes encoder.old encoder.new (cuts_after earlier (colour_events_if (has item.old) colours (colour_in (has item.old) part.now))) }
+        → Codes encoder.old encoder.new
+        (cuts_after earlier (colour_events_if (has item.old) colours (colour_in (has item.old) part.now))) }
     ensures stands { (earlier : List Event) (colours : List Colour) → ColoursStand earlier colours item.old
         → let colour = colour_in (has item.old) part.now
         in ColoursStand (earlier ++ colour_events_if (has item.old) colours colour) (colour ∷ colours) item.new }
@@ -130,11 +136,14 @@ pub(crate) fn read_colour(
     ensures part { length part.new ≡ length part.old }
     ensures has { has item.new ≡ has item.old }
     ensures good { OnOk result (decoder.new.failed ≡ false) }
-    ensures reads { (earlier : List Event) (colours : List Colour) → ColoursStand earlier colours item.old → decoder.old.taken ≤ length decoder.old.bytes
+    ensures reads { (earlier : List Event) (colours : List Colour) → ColoursStand earlier colours item.old
+        → decoder.old.taken ≤ length decoder.old.bytes
         → let colour = colour_in (has item.old) part.new
         in MatchResult result
-        (λ _. ReadsPart (λ x. SpellsColourIf (has item.old) colours x.0 x.1) earlier colour decoder.old decoder.new (λ events. ColoursStand (earlier ++ events) (colour ∷ colours) item.new))
-        (λ _. Refuses {X = List Event × Colour} (λ x. SpellsColourIf (has item.old) colours x.0 x.1) (λ x. cuts_after earlier x.0) decoder.old decoder.new) }
+        (λ _. ReadsPart (λ x. SpellsColourIf (has item.old) colours x.0 x.1) earlier colour decoder.old decoder.new
+        (λ events. ColoursStand (earlier ++ events) (colour ∷ colours) item.new))
+        (λ _. Refuses {X = List Event × Colour} (λ x. SpellsColourIf (has item.old) colours x.0 x.1)
+        (λ x. cuts_after earlier x.0) decoder.old decoder.new) }
 {
     match item {
         Some(colours) => colours.read(decoder, part),
@@ -162,7 +171,8 @@ pub(crate) fn code_extra(encoder: &mut Encoder, item: &mut Option<Bytes>, part: 
     ensures used { encoder.old.left ≤ encoder.new.left + 3 * extra_length item.old }
     ensures extra { extra_length item.new ≡ extra_length item.old }
     ensures has { has item.new ≡ has item.old }
-    ensures events { (earlier : List Event) (extras : List (List ℕ)) → ExtrasStand earlier extras item.old → Codes encoder.old encoder.new (cuts_after earlier (extra_events (latest_extra extras) part.now)) }
+    ensures events { (earlier : List Event) (extras : List (List ℕ)) → ExtrasStand earlier extras item.old
+        → Codes encoder.old encoder.new (cuts_after earlier (extra_events (latest_extra extras) part.now)) }
     ensures stands { (earlier : List Event) (extras : List (List ℕ)) → ExtrasStand earlier extras item.old
         → ExtrasStand (earlier ++ extra_events (latest_extra extras) part.now) (part.now ∷ extras) item.new }
 {
@@ -184,10 +194,13 @@ pub(crate) fn read_extra(
     ensures extra { extra_length item.new ≡ extra_length item.old }
     ensures has { has item.new ≡ has item.old }
     ensures good { OnOk result (decoder.new.failed ≡ false) }
-    ensures reads { (earlier : List Event) (extras : List (List ℕ)) → ExtrasStand earlier extras item.old → decoder.old.taken ≤ length decoder.old.bytes
+    ensures reads { (earlier : List Event) (extras : List (List ℕ)) → ExtrasStand earlier extras item.old
+        → decoder.old.taken ≤ length decoder.old.bytes
         → MatchResult result
-        (λ _. ReadsPart (λ x. SpellsExtra (latest_extra extras) x.0 x.1) earlier part.new decoder.old decoder.new (λ events. ExtrasStand (earlier ++ events) (part.new ∷ extras) item.new))
-        (λ _. Refuses {X = List Event × List ℕ} (λ x. SpellsExtra (latest_extra extras) x.0 x.1) (λ x. cuts_after earlier x.0) decoder.old decoder.new) }
+        (λ _. ReadsPart (λ x. SpellsExtra (latest_extra extras) x.0 x.1) earlier part.new decoder.old decoder.new
+        (λ events. ExtrasStand (earlier ++ events) (part.new ∷ extras) item.new))
+        (λ _. Refuses {X = List Event × List ℕ} (λ x. SpellsExtra (latest_extra extras) x.0 x.1)
+        (λ x. cuts_after earlier x.0) decoder.old decoder.new) }
 {
     match item {
         Some(bytes) => bytes.read(decoder, part),

@@ -7,7 +7,8 @@ ghost use Rattle.laz_integer.specs.Events.{Event, cuts_after};
 ghost use Rattle.laz_chunk.specs.Layouts.{Layout, most_events, record_length};
 ghost use Rattle.laz_chunk.specs.Records.{ChunkPoint, Record, SpellsRecord, record_at, record_events, records_in};
 ghost use Rattle.laz_chunk.specs.Stands.{AreChunkPoints, ItemsStand, ReadsPart, layout_in};
-ghost use Rattle.laz_chunk.specs.Chunks.{History, IsSpelled, Spelling, grown, initial_history, spelled_cuts, spelled_records, writing, written};
+ghost use Rattle.laz_chunk.specs.Chunks.{History, IsSpelled, Spelling, grown, initial_history, spelled_cuts};
+ghost use Rattle.laz_chunk.specs.Chunks.{spelled_records, writing, written};
 
 use crate::items::Items;
 use crate::parts::{
@@ -20,7 +21,8 @@ use laz_range::{Bad, Decoder, Encoder};
 pub(crate) fn start_record(items: &mut Items, first: &[u8])
     requires first { length first.now ≡ record_length (layout_in items.old) }
     ensures layout { layout_in items.new ≡ layout_in items.old }
-    ensures stands { let h = initial_history (record_at (layout_in items.old) first.now) in ItemsStand h.0 h.1 items.new }
+    ensures stands { let h = initial_history (record_at (layout_in items.old) first.now) in
+        ItemsStand h.0 h.1 items.new }
 {
     let (point, parts) = first.split_at(20);
     let (time, others) = parts.split_at(time_length(&items.gps_time));
@@ -38,9 +40,11 @@ fn code_record(encoder: &mut Encoder, items: &mut Items, record: &[u8])
     ensures layout { layout_in items.new ≡ layout_in items.old }
     ensures used { encoder.old.left ≤ encoder.new.left + 3 * most_events (layout_in items.old) }
     ensures codes { (h : History) → AreChunkPoints (layout_in items.old).extra h.1 → ItemsStand h.0 h.1 items.old
-        → Codes encoder.old encoder.new (spelled_cuts h (writing (layout_in items.old) h (record_at (layout_in items.old) record.now))) }
+        → Codes encoder.old encoder.new
+        (spelled_cuts h (writing (layout_in items.old) h (record_at (layout_in items.old) record.now))) }
     ensures stands { (h : History) → AreChunkPoints (layout_in items.old).extra h.1 → ItemsStand h.0 h.1 items.old
-        → let after = grown h (writing (layout_in items.old) h (record_at (layout_in items.old) record.now)) in ItemsStand after.0 after.1 items.new }
+        → let after = grown h (writing (layout_in items.old) h (record_at (layout_in items.old) record.now)) in
+        ItemsStand after.0 after.1 items.new }
 {
     let (point, parts) = record.split_at(20);
     let (time, others) = parts.split_at(time_length(&items.gps_time));
@@ -61,7 +65,8 @@ fn read_record(decoder: &mut Decoder<'_>, items: &mut Items, record: &mut [u8]) 
     ensures reads { (h : History) → ItemsStand h.0 h.1 items.old
         → let l = layout_in items.old in let now = record_at l record.new
         in MatchResult result
-        (λ _. ReadsPart (IsSpelled l h) h.0 now decoder.old decoder.new (λ events. let after = grown h (events, now) in ItemsStand after.0 after.1 items.new))
+        (λ _. ReadsPart (IsSpelled l h) h.0 now decoder.old decoder.new
+        (λ events. let after = grown h (events, now) in ItemsStand after.0 after.1 items.new))
         (λ _. Refuses (IsSpelled l h) (spelled_cuts h) decoder.old decoder.new) }
 {
     let (point, parts) = record.split_at_mut(20);
@@ -87,7 +92,9 @@ pub(crate) fn put_records(
     requires left { 3 * most_events (layout_in items.old) * count ≤ encoder.old.left }
     ensures layout { layout_in items.new ≡ layout_in items.old }
     ensures codes { (h : History) → AreChunkPoints (layout_in items.old).extra h.1 → ItemsStand h.0 h.1 items.old
-        → let l = layout_in items.old in Codes encoder.old encoder.new (all_cuts grown spelled_cuts h (written l h (records_in l count records.now))) }
+        → let l = layout_in items.old in
+        Codes encoder.old encoder.new
+        (all_cuts grown spelled_cuts h (written l h (records_in l count records.now))) }
 {
     for i in 0..count {
         let at = i * size;
@@ -113,7 +120,9 @@ pub(crate) fn take_records(
     ensures reads { (h : History) → ItemsStand h.0 h.1 items.old
         → let l = layout_in items.old
         in MatchResult result
-        (λ _. (xs : List Spelling) × Takes (AreAsked grown (IsSpelled l) h count) (all_cuts grown spelled_cuts h) decoder.old decoder.new xs × (spelled_records xs ≡ records_in l count records.new))
+        (λ _. (xs : List Spelling)
+        × Takes (AreAsked grown (IsSpelled l) h count) (all_cuts grown spelled_cuts h) decoder.old decoder.new xs
+        × (spelled_records xs ≡ records_in l count records.new))
         (λ _. Refuses (AreAsked grown (IsSpelled l) h count) (all_cuts grown spelled_cuts h) decoder.old decoder.new) }
 {
     for i in 0..count {

@@ -16,8 +16,8 @@ use std::mem;
 
 /// What packing and unpacking of chunks need: the models of the items of a format, made once.
 ///
-/// Contracts see it as its point format, 0 to 3, and its number of extra bytes a record, 0 to 192. No call changes these.
-/// Only `new` takes memory.
+/// Contracts see it as its point format, 0 to 3, and its number of extra bytes a record, 0 to 192. No call changes
+/// these. Only `new` takes memory.
 #[derive(Drop)]
 pub struct Workspace {
     format: u8,
@@ -48,8 +48,8 @@ fn record_length(format: u8, extra: u16) -> usize
     20 + times + colours + extra as usize
 }
 
-/// How many bytes are enough for a chunk of this many points: of a point format 0 to 3, with 0 to 192 extra bytes. A chunk
-/// of no point takes none.
+/// How many bytes are enough for a chunk of this many points: of a point format 0 to 3, with 0 to 192 extra bytes. A
+/// chunk of no point takes none.
 pub fn room_for(format: u8, extra: u16, points: u32) -> u64
     requires known { format < 4 }
     requires few { extra < 193 }
@@ -126,8 +126,8 @@ impl Workspace {
         })
     }
 
-    /// Packs one or more whole records to the front of `out`, and answers how many bytes that are. `out` keeps its length,
-    /// and has at least `room_for` bytes.
+    /// Packs one or more whole records to the front of `out`, and answers how many bytes that are. `out` keeps its
+    /// length, and has at least `room_for` bytes.
     pub fn pack(&mut self, records: &[u8], out: &mut Vec<u8>) -> usize
         requires some { record_length (layout self.old) ≤ length records.now }
         requires whole { length records.now % record_length (layout self.old) ≡ 0 }
@@ -154,16 +154,20 @@ impl Workspace {
         size + count
     }
 
-    /// Unpacks `count` records, at least 1, into `out`, which is exactly as long. `Bad` means that the bytes hold no list of
-    /// this many records; `out` is then unspecified, and the workspace serves the next chunk.
+    /// Unpacks `count` records, at least 1, into `out`, which is exactly as long. `Bad` means that the bytes hold no
+    /// list of this many records; `out` is then unspecified, and the workspace serves the next chunk.
     pub fn unpack(&mut self, bytes: &[u8], count: u32, out: &mut [u8]) -> Result<(), Bad>
         requires some { 1 ≤ count }
         requires out { length out.old ≡ record_length (layout self.old) * count }
         ensures length { length out.new ≡ length out.old }
         ensures same { self.new ≡ self.old }
         ensures holds { OnOk result (Holds (layout self.old) bytes.now out.new) }
-        ensures only { OnOk result ((records : List ℕ) → AreRecords (layout self.old) count records → Holds (layout self.old) bytes.now records → records ≡ out.new) }
-        ensures bad { OnErr result ((records : List ℕ) → AreRecords (layout self.old) count records → Holds (layout self.old) bytes.now records → ⊥) }
+        ensures only { OnOk result
+            ((records : List ℕ) → AreRecords (layout self.old) count records → Holds (layout self.old) bytes.now records
+            → records ≡ out.new) }
+        ensures bad { OnErr result
+            ((records : List ℕ) → AreRecords (layout self.old) count records → Holds (layout self.old) bytes.now records
+            → ⊥) }
     {
         let size = record_length(self.format, self.extra);
         if bytes.len() < size {

@@ -23,7 +23,11 @@ abbrev pub symbol_next : TimeState → ℕ → TimeState
 symbol_next st s = record { sequences = st.sequences; symbols = symbols_after st s; integers = st.integers }
 
 abbrev pub switch_next : TimeState → ℕ → TimeState
-switch_next st i = record { sequences = after_switch st.sequences i; symbols = symbols_after st (new_symbol (difference_of st) + i); integers = st.integers }
+switch_next st i = record {
+  sequences = after_switch st.sequences i;
+  symbols = symbols_after st (new_symbol (difference_of st) + i);
+  integers = st.integers;
+}
 
 -- The state after a switch by i. A switch by 0 is none.
 abbrev pub state_on : TimeState → ℕ → TimeState
@@ -51,7 +55,8 @@ no_rest = ((0, 0), 0)
 
 abbrev pub IsRest : ℕ → ℕ → Rest → Type 0
 IsRest d s y =
-    MatchBool (s == same_symbol d) (y ≡ no_rest) (IsCorrector 32 y.0 × MatchBool (s == new_symbol d) (y.1 < 4294967296) (y.1 ≡ 0))
+    MatchBool (s == same_symbol d) (y ≡ no_rest)
+    (IsCorrector 32 y.0 × MatchBool (s == new_symbol d) (y.1 < 4294967296) (y.1 ≡ 0))
 
 abbrev pub word_context : ℕ → ℕ → ℕ
 word_context d s = if s == new_symbol d then 8 else context d s

@@ -23,7 +23,8 @@ IsSpelledTime points x = SpellsTime points x.0 x.1
 -- Whatever spelling begins the rest of the bytes, this is what it spells.
 abbrev pub OneBegins : (List Event × ℕ → Type 0) → List Event → Decoding → ℕ → Type 0
 OneBegins IsSpelled earlier old time =
-    (read : List Cut) → HasRead read old → (x : List Event × ℕ) → IsSpelled x → Begins (span (read ++ spelled_cuts earlier x)) old.bytes → x.1 ≡ time
+    (read : List Cut) → HasRead read old → (x : List Event × ℕ) → IsSpelled x
+    → Begins (span (read ++ spelled_cuts earlier x)) old.bytes → x.1 ≡ time
 
 -- The numbers of symbols under which the events of times are lawful.
 pub record HasTimeSizes (sizes : Name → ℕ) : Type 0 where
@@ -41,7 +42,8 @@ pub record TimeStands (events : List Event) (points : List Point) (st : TimeStat
   pub slots : AreSlots points st.sequences
 
 -- A time was read, by the one spelling that begins the rest of the bytes; the item then stands for its point, too.
-pub record ReadsTime (earlier : List Event) (points : List Point) (time : ℕ) (old new : Decoding) (st : TimeState) : Type 0 where
+pub record ReadsTime (earlier : List Event) (points : List Point) (time : ℕ) (old new : Decoding)
+    (st : TimeState) : Type 0 where
   pub events : List Event
   pub takes : Takes (IsSpelledTime points) (spelled_cuts earlier) old new (events, time)
   pub reads : (sizes : Name → ℕ) → HasTimeSizes sizes → AreRanged sizes earlier

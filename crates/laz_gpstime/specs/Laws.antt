@@ -35,5 +35,7 @@ OthersLeaveTimes = (earlier others : List Event) (points : List Point) (st : Tim
 -- The newest point may hold all events of its record: those of other uses, before and after its time's, change nothing.
 abbrev pub PointsHoldRecords : Type 0
 PointsHoldRecords =
-    (earlier before events after : List Event) (time : ℕ) (points : List Point) (st : TimeState) → Silent time_kind before → Silent time_kind after
-    → TimeStands earlier (point_with time events ∷ points) st → TimeStands earlier (point_with time (before ++ (events ++ after)) ∷ points) st
+    (earlier before events after : List Event) (time : ℕ) (points : List Point) (st : TimeState)
+    → Silent time_kind before → Silent time_kind after
+    → TimeStands earlier (point_with time events ∷ points) st
+    → TimeStands earlier (point_with time (before ++ (events ++ after)) ∷ points) st

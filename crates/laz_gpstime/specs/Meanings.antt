@@ -31,7 +31,8 @@ meaning m s =
 -- What the events of a point say of its time. Events under other names say nothing of it.
 abbrev pub meanings : List Event → List Meaning
 meanings [] = []
-meanings (Symbol name n s ∷ events) = if same_name (own_name time_kind name.which) name then meaning name.which s ∷ meanings events else meanings events
+meanings (Symbol name n s ∷ events) =
+    if same_name (own_name time_kind name.which) name then meaning name.which s ∷ meanings events else meanings events
 meanings (Flag name bit ∷ events) = meanings events
 meanings (Bits b v ∷ events) = meanings events
 

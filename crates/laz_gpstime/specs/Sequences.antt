@@ -24,7 +24,8 @@ openings (p ∷ earlier) = if is_new (point_meaning p) then openings earlier + 1
 -- of any other that of the point before it, as many on as it switched.
 abbrev pub sequence : List Point → ℕ
 sequence [] = 0
-sequence (p ∷ earlier) = if is_new (point_meaning p) then (openings earlier + 1) % 4 else (sequence earlier + point_switch p) % 4
+sequence (p ∷ earlier) = if is_new (point_meaning p)
+    then (openings earlier + 1) % 4 else (sequence earlier + point_switch p) % 4
 
 -- The last time of a sequence: that of its latest point, or 0.
 abbrev pub last_time : List Point → ℕ → ℕ
@@ -34,7 +35,8 @@ last_time (p ∷ earlier) s = if sequence (p ∷ earlier) == s then p.time else 
 -- How many differences of a sequence were extreme since its latest opening, point that set the difference, or symbol 1.
 abbrev pub extremes : List Point → ℕ → ℕ
 extremes [] s = 0
-extremes (p ∷ earlier) s = if sequence (p ∷ earlier) == s then extremes_after (point_meaning p) (extremes earlier s) else extremes earlier s
+extremes (p ∷ earlier) s =
+    if sequence (p ∷ earlier) == s then extremes_after (point_meaning p) (extremes earlier s) else extremes earlier s
 
 -- The difference of two times, modulo 2^64.
 abbrev pub time_difference : ℕ → ℕ → ℕ
@@ -46,5 +48,6 @@ abbrev pub difference : List Point → ℕ → ℕ
 difference [] s = 0
 difference (p ∷ earlier) s =
     if sequence (p ∷ earlier) == s then
-    (if is_new (point_meaning p) then 0 else if sets (point_meaning p) (extremes earlier s) then time_difference (last_time earlier s) p.time % 4294967296 else difference earlier s)
+    (if is_new (point_meaning p) then 0 else if sets (point_meaning p) (extremes earlier s)
+    then time_difference (last_time earlier s) p.time % 4294967296 else difference earlier s)
     else difference earlier s

@@ -1,5 +1,6 @@
 -- What the code keeps of the four sequences: a slot for each, whose values each point replaces.
-use Rattle.std.specs.Prelude.{◌≡◌, ℕ, ◌+◌, ◌%◌, ◌<◌, ◌==◌, if◌then◌else◌, List, [], ◌∷◌, ◌++◌, length, Option, Some, None, slice_index_or, slice_set}
+use Rattle.std.specs.Prelude.{◌≡◌, ℕ, ◌+◌, ◌%◌, ◌<◌, ◌==◌, if◌then◌else◌, List, [], ◌∷◌, ◌++◌, length, Option, Some}
+use Rattle.std.specs.Prelude.{None, slice_index_or, slice_set}
 use Rattle.laz_models.specs.Counting.{Counting, after_symbol}
 use Rattle.laz_models.specs.Bank.{alphabet_sizes, model_at}
 use Rattle.laz_integer.specs.Events.{Event}
@@ -22,7 +23,8 @@ abbrev pub next_slot : Slot → Meaning → ℕ → Slot
 next_slot slot m time =
     record {
       time = time;
-      difference = if is_new m then 0 else if sets m slot.extremes then time_difference slot.time time % 4294967296 else slot.difference;
+      difference = if is_new m then 0 else if sets m slot.extremes
+          then time_difference slot.time time % 4294967296 else slot.difference;
       extremes = extremes_after m slot.extremes;
     }
 
@@ -48,7 +50,12 @@ pub record AreSlots (earlier : List Point) (q : Sequences) : Type 0 where
   pub last : q.last ≡ sequence earlier
   pub next : q.next ≡ openings earlier % 4
   pub count : length q.slots ≡ 4
-  pub slot : (s : ℕ) → s < 4 → slot_at q s ≡ record { time = last_time earlier s; difference = difference earlier s; extremes = extremes earlier s }
+  pub slot : (s : ℕ) → s < 4
+      → slot_at q s ≡ record {
+        time = last_time earlier s;
+        difference = difference earlier s;
+        extremes = extremes earlier s;
+      }
 
 -- ---- all that the code keeps
 
@@ -81,7 +88,8 @@ pub record ModelsStand (events : List Event) (st : TimeState) : Type 0 where
 
 -- The models after a symbol of the sequence.
 abbrev pub symbols_after : TimeState → ℕ → List Counting
-symbols_after st s = slice_set st.symbols (model_of (difference_of st)) (after_symbol (model_at st.symbols (model_of (difference_of st))) s)
+symbols_after st s = slice_set st.symbols (model_of (difference_of st))
+    (after_symbol (model_at st.symbols (model_of (difference_of st))) s)
 
 -- ---- after a time that was coded
 
@@ -93,7 +101,8 @@ time_from q i = (slot_at q ((q.last + i) % 4)).time
 abbrev pub after_near : Sequences → ℕ → Sequences
 after_near q time =
     let slot = slot_at q q.last in
-    after_point q (meaning (model_of slot.difference) (near_symbol slot.difference (time_difference slot.time time % 4294967296))) time
+    after_point q (meaning (model_of slot.difference)
+    (near_symbol slot.difference (time_difference slot.time time % 4294967296))) time
 
 -- The slots after a time that is near in the sequence i on, or in none.
 abbrev pub after_coded : Sequences → ℕ → Option ℕ → Sequences

@@ -5,7 +5,8 @@ use Rattle.laz_integer.specs.Events.{Event, raw_events}
 use Rattle.laz_integer.specs.Integer.{IntSpell}
 use Rattle.laz_gpstime.specs.Meanings.{time_kind}
 use Rattle.laz_gpstime.specs.Sequences.{Point}
-use Rattle.laz_gpstime.specs.Times.{context, difference_on, new_symbol, predicted, same_symbol, switch_events, time_on, time_symbol}
+use Rattle.laz_gpstime.specs.Times.{context, difference_on, new_symbol, predicted, same_symbol, switch_events, time_on}
+use Rattle.laz_gpstime.specs.Times.{time_symbol}
 
 -- A time and a signed word of 32 bits, modulo 2^64.
 abbrev pub time_plus : ℕ → ℕ → ℕ
@@ -46,4 +47,6 @@ pub record SpellsTime (earlier : List Point) (events : List Event) (time : ℕ) 
   pub few : i < 4
   pub rest : List Event
   pub is : events ≡ switch_events (difference_on earlier 0) i ++ rest
-  pub spells : SpellsSame (difference_on earlier i) (time_on earlier i) rest time ⊎ (SpellsNear (difference_on earlier i) (time_on earlier i) rest time ⊎ SpellsNew (difference_on earlier i) (time_on earlier i) rest time)
+  pub spells : SpellsSame (difference_on earlier i) (time_on earlier i) rest time
+      ⊎ (SpellsNear (difference_on earlier i) (time_on earlier i) rest time
+      ⊎ SpellsNew (difference_on earlier i) (time_on earlier i) rest time)

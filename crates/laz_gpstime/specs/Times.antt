@@ -1,5 +1,6 @@
 -- Times as 64-bit numbers, and how one is coded after others (LASzip's GPSTIME11, version 2).
-use Rattle.std.specs.Prelude.{ℕ, ◌+◌, ◌-◌, ◌*◌, ◌/◌, ◌%◌, ◌==◌, min, not, Bool, if◌then◌else◌, nat_lt, nat_le, List, [], ◌∷◌, ◌++◌, Option, Some, None, find}
+use Rattle.std.specs.Prelude.{ℕ, ◌+◌, ◌-◌, ◌*◌, ◌/◌, ◌%◌, ◌==◌, min, not, Bool, if◌then◌else◌, nat_lt, nat_le, List, []}
+use Rattle.std.specs.Prelude.{◌∷◌, ◌++◌, Option, Some, None, find}
 use Rattle.std.specs.Int.{w32, w64, cast_signed, from_le_bytes}
 use Rattle.laz_integer.specs.Events.{Event, Symbol, raw_events}
 use Rattle.laz_integer.specs.Integer.{IntEvents}
@@ -92,12 +93,15 @@ near_rest d x =
 
 -- A time that is near to the last one of a sequence, `from`.
 abbrev pub near_events : ℕ → ℕ → ℕ → List Event
-near_events d from time = let x = time_difference from time % 4294967296 in time_symbol d (near_symbol d x) ∷ near_rest d x
+near_events d from time = let x = time_difference from time % 4294967296 in
+    time_symbol d (near_symbol d x) ∷ near_rest d x
 
 -- A time that opens a sequence: its high word, predicted by that of the last time, and its low word.
 abbrev pub new_events : ℕ → ℕ → ℕ → List Event
 new_events d from time =
-    time_symbol d (new_symbol d) ∷ IntEvents time_kind 32 8 (cast_signed w32 (from / 4294967296)) (cast_signed w32 (time / 4294967296)) ++ raw_events 32 (time % 4294967296)
+    time_symbol d (new_symbol d)
+    ∷ IntEvents time_kind 32 8 (cast_signed w32 (from / 4294967296)) (cast_signed w32 (time / 4294967296))
+    ++ raw_events 32 (time % 4294967296)
 
 -- The first of four times that a time is near to.
 abbrev pub nearest : (ℕ → ℕ) → ℕ → Option ℕ
@@ -114,7 +118,8 @@ abbrev pub difference_on : List Point → ℕ → ℕ
 difference_on earlier i = difference earlier (sequence_on earlier i)
 
 abbrev pub events_to : List Point → ℕ → Option ℕ → List Event
-events_to earlier time (Some i) = switch_events (difference_on earlier 0) i ++ near_events (difference_on earlier i) (time_on earlier i) time
+events_to earlier time (Some i) =
+    switch_events (difference_on earlier 0) i ++ near_events (difference_on earlier i) (time_on earlier i) time
 events_to earlier time None = new_events (difference_on earlier 0) (time_on earlier 0) time
 
 -- The events that a writer makes of a time: in the first sequence that it is near to, from that of the latest point on,

@@ -5,8 +5,10 @@ ghost use Rattle.laz_integer.specs.Events.{Event, cuts_after};
 ghost use Rattle.laz_gpstime.specs.Meanings.{New, meaning};
 ghost use Rattle.laz_gpstime.specs.Sequences.{time_difference};
 ghost use Rattle.laz_gpstime.specs.State.{state_of};
-ghost use Rattle.laz_gpstime.specs.Slots.{IsTimeState, ModelsStand, after_coded, difference_of, after_switch, slot_of, state_events, time_from, after_point};
-ghost use Rattle.laz_gpstime.specs.Times.{is_near, model_of, near_events, near_symbol, nearest, new_events, switch_events};
+ghost use Rattle.laz_gpstime.specs.Slots.{IsTimeState, ModelsStand, after_coded, difference_of, after_switch, slot_of};
+ghost use Rattle.laz_gpstime.specs.Slots.{state_events, time_from, after_point};
+ghost use Rattle.laz_gpstime.specs.Times.{is_near, model_of, near_events, near_symbol, nearest, new_events};
+ghost use Rattle.laz_gpstime.specs.Times.{switch_events};
 
 use crate::sequences::{Sequences, add_point, current, difference_word, open_sequence, switch_by};
 use crate::symbols::{context, difference_symbol, new_symbol, predicted, same_symbol};
@@ -56,14 +58,18 @@ fn put_switch(times: &mut Times, encoder: &mut Encoder, i: usize)
 fn put_near(times: &mut Times, encoder: &mut Encoder, time: u64)
     requires state { IsTimeState (state_of times.old) }
     requires left { 15 ≤ encoder.old.left }
-    ensures sequences { let slot = slot_of (state_of times.old) in times.new.sequences ≡ after_point times.old.sequences (meaning (model_of slot.difference) (near_symbol slot.difference (time_difference slot.time time % 4294967296))) time }
+    ensures sequences { let slot = slot_of (state_of times.old) in
+        times.new.sequences ≡ after_point times.old.sequences
+        (meaning (model_of slot.difference) (near_symbol slot.difference (time_difference slot.time time % 4294967296)))
+        time }
     ensures state { IsTimeState (state_of times.new) }
     ensures used { encoder.old.left ≤ encoder.new.left + 15 }
     ensures codes { (earlier : List Event) → ModelsStand earlier (state_of times.old) →
         let slot = slot_of (state_of times.old) in Codes encoder.old encoder.new
         (cuts_after earlier (near_events slot.difference slot.time time)) }
     ensures stands { (earlier : List Event) → ModelsStand earlier (state_of times.old) →
-        let slot = slot_of (state_of times.old) in ModelsStand (earlier ++ near_events slot.difference slot.time time) (state_of times.new) }
+        let slot = slot_of (state_of times.old) in
+        ModelsStand (earlier ++ near_events slot.difference slot.time time) (state_of times.new) }
 {
     let slot = current(&times.sequences);
     let word = difference_word(slot.time, time);
@@ -92,7 +98,8 @@ fn put_new(times: &mut Times, encoder: &mut Encoder, time: u64)
         let slot = slot_of (state_of times.old) in Codes encoder.old encoder.new
         (cuts_after earlier (new_events slot.difference slot.time time)) }
     ensures stands { (earlier : List Event) → ModelsStand earlier (state_of times.old) →
-        let slot = slot_of (state_of times.old) in ModelsStand (earlier ++ new_events slot.difference slot.time time) (state_of times.new) }
+        let slot = slot_of (state_of times.old) in
+        ModelsStand (earlier ++ new_events slot.difference slot.time time) (state_of times.new) }
 {
     let slot = current(&times.sequences);
     put_time_symbol(times, encoder, new_symbol(slot.difference));
@@ -131,13 +138,15 @@ fn nearest(sequences: &Sequences, time: u64) -> Option<usize>
 pub(crate) fn put_time(times: &mut Times, encoder: &mut Encoder, time: u64)
     requires state { IsTimeState (state_of times.old) }
     requires left { 21 ≤ encoder.old.left }
-    ensures sequences { times.new.sequences ≡ after_coded times.old.sequences time (nearest (time_from times.old.sequences) time) }
+    ensures sequences { times.new.sequences
+        ≡ after_coded times.old.sequences time (nearest (time_from times.old.sequences) time) }
     ensures state { IsTimeState (state_of times.new) }
     ensures used { encoder.old.left ≤ encoder.new.left + 21 }
     ensures codes { (earlier : List Event) → ModelsStand earlier (state_of times.old) → Codes encoder.old encoder.new
         (cuts_after earlier (state_events (state_of times.old) time (nearest (time_from times.old.sequences) time))) }
     ensures stands { (earlier : List Event) → ModelsStand earlier (state_of times.old)
-        → ModelsStand (earlier ++ state_events (state_of times.old) time (nearest (time_from times.old.sequences) time)) (state_of times.new) }
+        → ModelsStand (earlier ++ state_events (state_of times.old) time (nearest (time_from times.old.sequences) time))
+        (state_of times.new) }
 {
     match nearest(&times.sequences, time) {
         Some(i) => {

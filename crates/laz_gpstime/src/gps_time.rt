@@ -1,12 +1,14 @@
 //! The item GPSTIME11.
-ghost use Rattle.std.specs.Prelude.{◌≡◌, ◌<◌, ◌≤◌, ◌+◌, ◌++◌, [], ◌∷◌, List, ℕ, length, false, MatchResult, OnErr, OnOk};
+ghost use Rattle.std.specs.Prelude.{◌≡◌, ◌<◌, ◌≤◌, ◌+◌, ◌++◌, [], ◌∷◌, List, ℕ, length, false, MatchResult, OnErr};
+ghost use Rattle.std.specs.Prelude.{OnOk};
 ghost use Rattle.laz_range.specs.Coding.{Codes};
 ghost use Rattle.laz_range.specs.Decoding.{NoneBegins, Refuses};
 ghost use Rattle.laz_integer.specs.Events.{Event, Name, cuts_after};
 ghost use Rattle.laz_integer.specs.Ranged.{AreRanged};
 ghost use Rattle.laz_gpstime.specs.Sequences.{Point};
 ghost use Rattle.laz_gpstime.specs.Times.{time_at, time_events};
-ghost use Rattle.laz_gpstime.specs.Items.{HasTimeSizes, IsSpelledTime, OneBegins, ReadsTime, TimeStands, point_with, spelled_cuts};
+ghost use Rattle.laz_gpstime.specs.Items.{HasTimeSizes, IsSpelledTime, OneBegins, ReadsTime, TimeStands, point_with};
+ghost use Rattle.laz_gpstime.specs.Items.{spelled_cuts};
 
 use crate::coding::put_time;
 use crate::reading::take_time;
@@ -46,7 +48,9 @@ const EMPTY: Slot = Slot {
 
 // The sequences after the first time of a chunk.
 fn sequences_of(time: u64) -> Sequences
-    ensures slots { result.slots ≡ record { time = time; difference = 0; extremes = 0 } ∷ record { time = 0; difference = 0; extremes = 0 } ∷ record { time = 0; difference = 0; extremes = 0 } ∷ record { time = 0; difference = 0; extremes = 0 } ∷ [] }
+    ensures slots { result.slots ≡ record { time = time; difference = 0; extremes = 0 }
+        ∷ record { time = 0; difference = 0; extremes = 0 } ∷ record { time = 0; difference = 0; extremes = 0 }
+        ∷ record { time = 0; difference = 0; extremes = 0 } ∷ [] }
     ensures last { result.last ≡ 0 }
     ensures next { result.next ≡ 0 }
 {
@@ -110,7 +114,8 @@ impl GpsTime {
             → Codes encoder.old encoder.new (cuts_after earlier (time_events points (time_at part.now))) }
         ensures stands { (earlier : List Event) (points : List Point) → TimeStands earlier points self.old
             → let time = time_at part.now in
-            let events = time_events points time in TimeStands (earlier ++ events) (point_with time events ∷ points) self.new }
+            let events = time_events points time in
+            TimeStands (earlier ++ events) (point_with time events ∷ points) self.new }
     {
         put_time(&mut self.times, encoder, time_of(part));
     }

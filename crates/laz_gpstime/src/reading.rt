@@ -1,11 +1,14 @@
 //! A time read.
-ghost use Rattle.std.specs.Prelude.{◌≡◌, ◌≢◌, ◌<◌, ◌≤◌, ◌+◌, ◌*◌, ◌/◌, ◌++◌, [], ◌∷◌, List, ℕ, false, length, IfOk, MatchResult};
+ghost use Rattle.std.specs.Prelude.{◌≡◌, ◌≢◌, ◌<◌, ◌≤◌, ◌+◌, ◌*◌, ◌/◌, ◌++◌, [], ◌∷◌, List, ℕ, false, length, IfOk};
+ghost use Rattle.std.specs.Prelude.{MatchResult};
 ghost use Rattle.std.specs.Int.{w32, cast_signed, cast_unsigned};
 ghost use Rattle.laz_range.specs.Cut.{raw_cuts};
 ghost use Rattle.laz_range.specs.Decoding.{Reads, Refuses, Takes, TakesNone};
 ghost use Rattle.laz_integer.specs.Corrector.{corrected};
 ghost use Rattle.laz_integer.specs.Integer.{IsCorrector, int_cuts, int_next};
-ghost use Rattle.laz_gpstime.specs.Choices.{Choice, Front, IsChoice, IsFront, IsRest, Rest, choice_cuts, choice_next, choice_time, time_symbol_cuts, front_cuts, front_next, symbol_next, rest_cuts, rest_next, rest_time};
+ghost use Rattle.laz_gpstime.specs.Choices.{Choice, Front, IsChoice, IsFront, IsRest, Rest, choice_cuts, choice_next};
+ghost use Rattle.laz_gpstime.specs.Choices.{choice_time, time_symbol_cuts, front_cuts, front_next, symbol_next};
+ghost use Rattle.laz_gpstime.specs.Choices.{rest_cuts, rest_next, rest_time};
 ghost use Rattle.laz_gpstime.specs.Meanings.{meaning};
 ghost use Rattle.laz_gpstime.specs.Spelling.{time_plus};
 ghost use Rattle.laz_gpstime.specs.State.{state_of};

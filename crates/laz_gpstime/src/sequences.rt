@@ -83,7 +83,8 @@ pub(crate) fn add_point(sequences: &mut Sequences, symbol: u32, time: u64)
     requires last { sequences.old.last < 4 }
     requires symbol { symbol < new_symbol (slot_at sequences.old sequences.old.last).difference }
     requires extremes { (slot_at sequences.old sequences.old.last).extremes < 4 }
-    ensures { sequences.new ≡ after_point sequences.old (meaning (model_of (slot_at sequences.old sequences.old.last).difference) symbol) time }
+    ensures { sequences.new ≡ after_point sequences.old
+        (meaning (model_of (slot_at sequences.old sequences.old.last).difference) symbol) time }
 {
     update_slot(&mut sequences.slots[sequences.last], symbol, time);
 }

@@ -1,6 +1,7 @@
 //! The symbols of a sequence, by its difference.
 ghost use Rattle.std.specs.Prelude.{◌≡◌, ◌≢◌, ◌<◌, ◌≤◌};
-ghost use Rattle.laz_gpstime.specs.Times.{context, difference_symbol, model_of, new_symbol, predicted, same_symbol, signs_differ, size_of_word, times_in};
+ghost use Rattle.laz_gpstime.specs.Times.{context, difference_symbol, model_of, new_symbol, predicted, same_symbol};
+ghost use Rattle.laz_gpstime.specs.Times.{signs_differ, size_of_word, times_in};
 
 // Which model has the symbols of a sequence.
 #[inline]

@@ -59,7 +59,8 @@ pub(crate) fn put_word(times: &mut Times, encoder: &mut Encoder, pred: u32, real
     ensures codes { (earlier : List Event) → ModelsStand earlier (state_of times.old) → Codes encoder.old encoder.new
         (cuts_after earlier (IntEvents time_kind 32 ctx (cast_signed w32 pred) (cast_signed w32 real))) }
     ensures stands { (earlier : List Event) → ModelsStand earlier (state_of times.old)
-        → ModelsStand (earlier ++ IntEvents time_kind 32 ctx (cast_signed w32 pred) (cast_signed w32 real)) (state_of times.new) }
+        → ModelsStand (earlier ++ IntEvents time_kind 32 ctx (cast_signed w32 pred) (cast_signed w32 real))
+        (state_of times.new) }
 {
     times
         .integers

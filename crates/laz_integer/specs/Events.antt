@@ -1,5 +1,6 @@
 -- Events under the names of their models, and the parts that they cut out.
-use Rattle.std.specs.Prelude.{ℕ, ◌-◌, ◌/◌, ◌%◌, ◌==◌, ◌&&◌, Bool, true, false, if◌then◌else◌, nat_lt, List, [], ◌∷◌, ◌++◌}
+use Rattle.std.specs.Prelude.{ℕ, ◌-◌, ◌/◌, ◌%◌, ◌==◌, ◌&&◌, Bool, true, false, if◌then◌else◌, nat_lt, List, [], ◌∷◌}
+use Rattle.std.specs.Prelude.{◌++◌}
 use Rattle.laz_range.specs.Cut.{Cut, Bit, Raw, symbol}
 use Rattle.laz_range.specs.declared.limits.TheConstants.{MAX_RAW_BITS}
 use Rattle.laz_models.specs.Dist.{dist}

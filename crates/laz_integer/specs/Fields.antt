@@ -8,7 +8,8 @@ use Rattle.laz_models.specs.Dist.{StandsFor}
 use Rattle.laz_models.specs.Bank.{model_at}
 use Rattle.laz_integer.specs.Corrector.{corrected, difference, corrector_index}
 use Rattle.laz_integer.specs.Events.{Event, Symbol, symbols_under}
-use Rattle.laz_integer.specs.Integer.{IntState, IntEvents, IntSpell, IsCorrector, symbol_cut, int_cuts, int_next, int_width}
+use Rattle.laz_integer.specs.Integer.{IntState, IntEvents, IntSpell, IsCorrector, symbol_cut, int_cuts, int_next}
+use Rattle.laz_integer.specs.Integer.{int_width}
 use Rattle.laz_integer.specs.Uses.{own_name}
 
 -- ---- events

@@ -1,5 +1,6 @@
 -- The events that spell an integer, and the state of the models that code them.
-use Rattle.std.specs.Prelude.{◌≡◌, ℕ, ℤ, ◌+◌, ◌-◌, ◌/◌, ◌%◌, ◌^◌, ◌<◌, ◌≤◌, ◌==◌, min, Bool, List, [], ◌∷◌, ◌++◌, map, count_by, replicate, nat_le, if◌then◌else◌, slice_set}
+use Rattle.std.specs.Prelude.{◌≡◌, ℕ, ℤ, ◌+◌, ◌-◌, ◌/◌, ◌%◌, ◌^◌, ◌<◌, ◌≤◌, ◌==◌, min, Bool, List, [], ◌∷◌, ◌++◌, map}
+use Rattle.std.specs.Prelude.{count_by, replicate, nat_le, if◌then◌else◌, slice_set}
 use Rattle.std.specs.List.{range_with_len}
 use Rattle.laz_range.specs.Cut.{Cut, Bit, Raw, symbol}
 use Rattle.laz_range.specs.Span.{Begins, span}
@@ -10,7 +11,8 @@ use Rattle.laz_models.specs.Dist.{StandsFor}
 use Rattle.laz_models.specs.BitDist.{BitStandsFor}
 use Rattle.laz_models.specs.Bank.{model_at, alphabet_sizes}
 use Rattle.laz_integer.specs.declared.limits.TheConstants.{HIGH_BITS, MAX_BITS, MAX_CONTEXTS}
-use Rattle.laz_integer.specs.Events.{Event, Symbol, Flag, Bits, Name, same_role, Width, ZeroOrOne, High, cuts_after, raw_events, symbols_under, bits_under}
+use Rattle.laz_integer.specs.Events.{Event, Symbol, Flag, Bits, Name, same_role, Width, ZeroOrOne, High, cuts_after}
+use Rattle.laz_integer.specs.Events.{raw_events, symbols_under, bits_under}
 use Rattle.laz_models.specs.Sound.{AreSound}
 use Rattle.laz_integer.specs.Corrector.{choices, corrected, difference, width_of, corrector_index}
 

@@ -1,6 +1,7 @@
 //! Differences of integers and their correctors: a corrector has a width and an index in that width.
 ghost use Rattle.std.specs.Prelude.{◌≡◌, ℕ, ◌+◌, ◌-◌, ◌*◌, ◌%◌, ◌<◌, ◌≤◌, ◌^◌};
-ghost use Rattle.laz_integer.specs.Corrector.{choices, corrected, corrector, difference, digits_of, corrector_index, width_of};
+ghost use Rattle.laz_integer.specs.Corrector.{choices, corrected, corrector, difference, digits_of, corrector_index};
+ghost use Rattle.laz_integer.specs.Corrector.{width_of};
 
 use crate::limits::MAX_BITS;
 

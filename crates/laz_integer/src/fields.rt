@@ -5,7 +5,8 @@ ghost use Rattle.laz_range.specs.Decoding.{Reads, TakesNone};
 ghost use Rattle.laz_models.specs.Bank.{model_at, alphabet_sizes};
 ghost use Rattle.laz_models.specs.Dist.{alphabet_size};
 ghost use Rattle.laz_integer.specs.Integer.{IsInts};
-ghost use Rattle.laz_integer.specs.Fields.{IsByte, IsWord, ReadsWord, byte_cuts, byte_next, word_cuts, word_next, word_corrector};
+ghost use Rattle.laz_integer.specs.Fields.{IsByte, IsWord, ReadsWord, byte_cuts, byte_next, word_cuts, word_next};
+ghost use Rattle.laz_integer.specs.Fields.{word_corrector};
 
 use crate::int_model::IntModel;
 use crate::limits::{MAX_INT_BYTES, MAX_SHORT_INT_BYTES};

@@ -1,12 +1,14 @@
 //! Integers, coded as correctors of their predictions.
-ghost use Rattle.std.specs.Prelude.{◌≡◌, ◌+◌, ◌<◌, ◌≤◌, ◌^◌, ◌++◌, ℕ, List, [], false, map, IfOk, OnErr, OnOk, MatchResult};
+ghost use Rattle.std.specs.Prelude.{◌≡◌, ◌+◌, ◌<◌, ◌≤◌, ◌^◌, ◌++◌, ℕ, List, [], false, map, IfOk, OnErr, OnOk};
+ghost use Rattle.std.specs.Prelude.{MatchResult};
 ghost use Rattle.laz_range.specs.Coding.{Codes};
 ghost use Rattle.laz_range.specs.Decoding.{TakesNone};
 ghost use Rattle.laz_models.specs.BitCounting.{new_bit_model};
 ghost use Rattle.laz_models.specs.Counting.{new_model};
 ghost use Rattle.laz_integer.specs.Corrector.{HasBits, difference, corrector_index};
 ghost use Rattle.laz_integer.specs.Events.{Event, cuts_after};
-ghost use Rattle.laz_integer.specs.Integer.{IntEvents, IntSpell, IntStands, IsCorrector, IsIntState, NoInt, ReadsCorrector, ReadsInt, int_cuts, int_next, int_sizes, int_width};
+ghost use Rattle.laz_integer.specs.Integer.{IntEvents, IntSpell, IntStands, IsCorrector, IsIntState, NoInt};
+ghost use Rattle.laz_integer.specs.Integer.{ReadsCorrector, ReadsInt, int_cuts, int_next, int_sizes, int_width};
 
 use crate::corrector::{between, correct, split};
 use crate::limits::{MAX_BITS, MAX_CONTEXTS, MAX_INT_BYTES, MAX_SHORT_INT_BYTES, SHORT_BITS};

@@ -1,5 +1,6 @@
 //! The models of an integer, and the coding of correctors under them.
-ghost use Rattle.std.specs.Prelude.{◌≡◌, ◌+◌, ◌-◌, ◌/◌, ◌%◌, ◌^◌, ◌<◌, ◌≤◌, min, [], ◌∷◌, false, length, map, IfOk, OnErr};
+ghost use Rattle.std.specs.Prelude.{◌≡◌, ◌+◌, ◌-◌, ◌/◌, ◌%◌, ◌^◌, ◌<◌, ◌≤◌, min, [], ◌∷◌, false, length, map, IfOk};
+ghost use Rattle.std.specs.Prelude.{OnErr};
 ghost use Rattle.laz_range.specs.Cut.{raw_cuts};
 ghost use Rattle.laz_range.specs.Coding.{Codes};
 ghost use Rattle.laz_range.specs.Decoding.{Reads};
@@ -7,7 +8,8 @@ ghost use Rattle.laz_models.specs.Bank.{model_at};
 ghost use Rattle.laz_models.specs.BitCounting.{new_bit_model};
 ghost use Rattle.laz_models.specs.Counting.{new_model};
 ghost use Rattle.laz_integer.specs.Corrector.{choices};
-ghost use Rattle.laz_integer.specs.Integer.{IsIntState, SameShape, IsCorrector, symbol_cut, high_at, symbol_next, rest_events, events_cuts, events_next, int_cuts, int_next, int_sizes};
+ghost use Rattle.laz_integer.specs.Integer.{IsIntState, SameShape, IsCorrector, symbol_cut, high_at, symbol_next};
+ghost use Rattle.laz_integer.specs.Integer.{rest_events, events_cuts, events_next, int_cuts, int_next, int_sizes};
 ghost use Rattle.laz_integer.specs.Models.{state_of};
 
 use crate::limits::{HIGH_BITS, MAX_BITS, MAX_CONTEXTS};
@@ -48,7 +50,12 @@ pub fn new_models(alloc: Global, bits: u32, contexts: u32) -> Result<Models, All
     requires contexts { contexts ≤ MAX_CONTEXTS }
     ensures state { IfOk result
         (λ models. state_of models
-        ≡ record { bits = bits; contexts = contexts; zero_or_one = new_bit_model; bank = map new_model (int_sizes bits contexts) }) }
+        ≡ record {
+          bits = bits;
+          contexts = contexts;
+          zero_or_one = new_bit_model;
+          bank = map new_model (int_sizes bits contexts);
+        }) }
 {
     let bank = ModelBank::new(alloc, &sizes(alloc, bits, contexts)?)?;
     Ok(Models {

@@ -2,7 +2,8 @@
 //!
 //! Where a symbol or bit is coded, the model counts it before the encoder writes: the encoder's stores may alias the
 //! model, whose fields would be loaded again after them.
-ghost use Rattle.std.specs.Prelude.{◌≡◌, ◌≢◌, ◌<◌, ◌≤◌, ◌↔◌, ℕ, Bool, List, [], ◌∷◌, ◌++◌, ⊤, false, length, slice_set, IfOk, OnErr, IsErr};
+ghost use Rattle.std.specs.Prelude.{◌≡◌, ◌≢◌, ◌<◌, ◌≤◌, ◌↔◌, ℕ, Bool, List, [], ◌∷◌, ◌++◌, ⊤, false, length, slice_set};
+ghost use Rattle.std.specs.Prelude.{IfOk, OnErr, IsErr};
 ghost use Rattle.laz_range.specs.Cut.{Bit, symbol};
 ghost use Rattle.laz_range.specs.Coding.{Codes};
 ghost use Rattle.laz_range.specs.Decoding.{Reads, ReadsOn, NoneBegins, RunsOut, bit_of, symbol_place};

@@ -1,5 +1,6 @@
 -- Models of symbols, as they count.
-use Rattle.std.specs.Prelude.{◌≡◌, ℕ, ◌+◌, ◌-◌, ◌*◌, ◌/◌, ◌<◌, ◌≤◌, ◌==◌, min, List, length, take, map, sum, replicate, nat_lt, if◌then◌else◌, slice_index, slice_set}
+use Rattle.std.specs.Prelude.{◌≡◌, ℕ, ◌+◌, ◌-◌, ◌*◌, ◌/◌, ◌<◌, ◌≤◌, ◌==◌, min, List, length, take, map, sum, replicate}
+use Rattle.std.specs.Prelude.{nat_lt, if◌then◌else◌, slice_index, slice_set}
 use Rattle.std.specs.List.{range_with_len}
 use Rattle.laz_models.specs.declared.limits.TheConstants.{MAX_COUNT, MAX_SYMBOLS, SYMBOL_PARTS}
 

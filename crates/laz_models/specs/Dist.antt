@@ -1,5 +1,6 @@
 -- The distribution that a list of symbols gives (LASzip's models of symbols).
-use Rattle.std.specs.Prelude.{◌≡◌, ℕ, zero, suc, ◌+◌, ◌<◌, ◌==◌, List, length, drop, map, count_by, replicate, slice_index, slice_range}
+use Rattle.std.specs.Prelude.{◌≡◌, ℕ, zero, suc, ◌+◌, ◌<◌, ◌==◌, List, length, drop, map, count_by, replicate}
+use Rattle.std.specs.Prelude.{slice_index, slice_range}
 use Rattle.std.specs.List.{AllByRecursion, range_with_len}
 use Rattle.laz_models.specs.Counting.{Counting, first_cycle, next_cycle, small_counts, starts_of}
 use Rattle.laz_models.specs.Cycles.{due, cycle_in, IsInCycle}

@@ -1,5 +1,6 @@
 -- What a distribution answers, and the size of its look-up table.
-use Rattle.std.specs.Prelude.{ℕ, ◌+◌, ◌^◌, ◌<◌, ◌≤◌, List, [], ◌∷◌, length, count_by, nat_lt, if◌then◌else◌, slice_index}
+use Rattle.std.specs.Prelude.{ℕ, ◌+◌, ◌^◌, ◌<◌, ◌≤◌, List, [], ◌∷◌, length, count_by, nat_lt, if◌then◌else◌}
+use Rattle.std.specs.Prelude.{slice_index}
 
 -- s is the greatest symbol whose part begins at v or below.
 pub record IsLastAt (starts : List ℕ) (v s : ℕ) : Type 0 where

@@ -1,5 +1,6 @@
 -- Where the models of a bank lie among its cells, and what the cells hold.
-use Rattle.std.specs.Prelude.{◌≡◌, ℕ, ◌+◌, ◌-◌, ◌*◌, ◌^◌, ◌<◌, ◌≤◌, ◌==◌, List, length, take, drop, sum, if◌then◌else◌, slice_index, slice_index_or, slice_range}
+use Rattle.std.specs.Prelude.{◌≡◌, ℕ, ◌+◌, ◌-◌, ◌*◌, ◌^◌, ◌<◌, ◌≤◌, ◌==◌, List, length, take, drop, sum, if◌then◌else◌}
+use Rattle.std.specs.Prelude.{slice_index, slice_index_or, slice_range}
 use Rattle.laz_models.specs.Counting.{Counting, AreCounts, AreStarts, new_model}
 use Rattle.laz_models.specs.Lookup.{IsLastAt, table_bits, table_length}
 use Rattle.laz_models.specs.declared.place.Place.{Place}

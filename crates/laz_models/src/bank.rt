@@ -1,5 +1,6 @@
 //! A bank of models of symbols.
-ghost use Rattle.std.specs.Prelude.{◌≡◌, ◌≢◌, ℕ, ◌+◌, ◌-◌, ◌*◌, ◌^◌, ◌<◌, ◌≤◌, List, [], ◌∷◌, ◌++◌, length, map, All, IfOk, slice_index, slice_set};
+ghost use Rattle.std.specs.Prelude.{◌≡◌, ◌≢◌, ℕ, ◌+◌, ◌-◌, ◌*◌, ◌^◌, ◌<◌, ◌≤◌, List, [], ◌∷◌, ◌++◌, length, map, All};
+ghost use Rattle.std.specs.Prelude.{IfOk, slice_index, slice_set};
 
 use crate::limits::{MAX_MODELS, MAX_SYMBOLS, SYMBOL_PARTS};
 use crate::place::Place;

@@ -1,6 +1,7 @@
 //! A model of bits.
 ghost use Rattle.std.specs.Prelude.{◌≡◌, ◌+◌, ◌<◌, ◌≤◌, Bool, List, [], ◌∷◌, ◌++◌};
-ghost use Rattle.laz_models.specs.BitCounting.{BitCounting, IsBitCounting, new_bit_model, after_bit, new_bit_cycle, small_bit_counts};
+ghost use Rattle.laz_models.specs.BitCounting.{BitCounting, IsBitCounting, new_bit_model, after_bit, new_bit_cycle};
+ghost use Rattle.laz_models.specs.BitCounting.{small_bit_counts};
 ghost use Rattle.laz_models.specs.BitDist.{p0_of, BitStandsFor};
 
 use crate::limits::{BIT_PARTS, MAX_BIT_COUNT};

@@ -1,8 +1,11 @@
 //! The cells of one model: its counts, its starts, and its look-up table.
-ghost use Rattle.std.specs.Prelude.{◌≡◌, ℕ, ◌+◌, ◌-◌, ◌*◌, ◌/◌, ◌<◌, ◌≤◌, ◌^◌, length, sum, All, replicate, slice_index};
-ghost use Rattle.laz_models.specs.Counting.{halves_of, starts_of, AreCounts, AreStarts, after_symbol, new_cycle, small_counts, new_model};
+ghost use Rattle.std.specs.Prelude.{◌≡◌, ℕ, ◌+◌, ◌-◌, ◌*◌, ◌/◌, ◌<◌, ◌≤◌, ◌^◌, length, sum, All, replicate};
+ghost use Rattle.std.specs.Prelude.{slice_index};
+ghost use Rattle.laz_models.specs.Counting.{halves_of, starts_of, AreCounts, AreStarts, after_symbol, new_cycle};
+ghost use Rattle.laz_models.specs.Counting.{small_counts, new_model};
 ghost use Rattle.laz_models.specs.Lookup.{IsLastAt, table_bits};
-ghost use Rattle.laz_models.specs.Place.{counts_in, starts_in, laid_state, counting_of, IsTable, IsShaped, IsLaid, IsDue, IsModel, SamePlace, extent};
+ghost use Rattle.laz_models.specs.Place.{counts_in, starts_in, laid_state, counting_of, IsTable, IsShaped, IsLaid};
+ghost use Rattle.laz_models.specs.Place.{IsDue, IsModel, SamePlace, extent};
 
 use crate::limits::{MAX_COUNT, MAX_SYMBOLS};
 use crate::place::Place;

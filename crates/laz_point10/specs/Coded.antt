@@ -1,6 +1,7 @@
 -- What the code keeps of earlier points, and all that is read of a point: its parts, its events, the models after it,
 -- and the point that it makes.
-use Rattle.std.specs.Prelude.{◌≡◌, ℕ, pos, ◌+◌, ◌%◌, ◌<◌, ◌≤◌, List, [], ◌∷◌, ◌++◌, length, slice_index, slice_index_or, slice_set}
+use Rattle.std.specs.Prelude.{◌≡◌, ℕ, pos, ◌+◌, ◌%◌, ◌<◌, ◌≤◌, List, [], ◌∷◌, ◌++◌, length, slice_index, slice_index_or}
+use Rattle.std.specs.Prelude.{slice_set}
 use Rattle.std.specs.Int.{w32, int_wrapping_add, int_wrapping_sub}
 use Rattle.laz_range.specs.Cut.{Cut}
 use Rattle.laz_integer.specs.Corrector.{corrected}
@@ -18,9 +19,15 @@ use Rattle.laz_point10.specs.declared.models.ScanModels.{ScanModels}
 use Rattle.laz_point10.specs.declared.models.PlaceModels.{PlaceModels}
 use Rattle.laz_point10.specs.declared.models.Models.{Models}
 use Rattle.laz_point10.specs.Medians.{IsSorted, median_of, middle, no_values, with_value}
-use Rattle.laz_point10.specs.Points.{direction_bit, last_height, last_intensity, latest_point, one_return, return_level, return_map, x_steps, y_steps}
-use Rattle.laz_point10.specs.PointEvents.{changes_kind, classification_kind, flags_kind, has_bit, intensity_context, intensity_kind, point_source_kind, scan_angle_kind, user_data_kind, x_kind, y_context, y_kind, z_context, z_kind}
-use Rattle.laz_point10.specs.Groups.{AreHeadModels, ArePlaceModels, AreScanModels, AreSurfaceModels, HeadChoice, IsHead, IsPlace, IsScan, IsSurface, PlaceChoice, ScanChoice, SurfaceChoice, head_cuts, head_next, head_written, place_cuts, place_next, place_written, scan_cuts, scan_next, scan_written, surface_cuts, surface_next, surface_written}
+use Rattle.laz_point10.specs.Points.{direction_bit, last_height, last_intensity, latest_point, one_return, return_level}
+use Rattle.laz_point10.specs.Points.{return_map, x_steps, y_steps}
+use Rattle.laz_point10.specs.PointEvents.{changes_kind, classification_kind, flags_kind, has_bit, intensity_context}
+use Rattle.laz_point10.specs.PointEvents.{intensity_kind, point_source_kind, scan_angle_kind, user_data_kind, x_kind}
+use Rattle.laz_point10.specs.PointEvents.{y_context, y_kind, z_context, z_kind}
+use Rattle.laz_point10.specs.Groups.{AreHeadModels, ArePlaceModels, AreScanModels, AreSurfaceModels, HeadChoice, IsHead}
+use Rattle.laz_point10.specs.Groups.{IsPlace, IsScan, IsSurface, PlaceChoice, ScanChoice, SurfaceChoice, head_cuts}
+use Rattle.laz_point10.specs.Groups.{head_next, head_written, place_cuts, place_next, place_written, scan_cuts}
+use Rattle.laz_point10.specs.Groups.{scan_next, scan_written, surface_cuts, surface_next, surface_written}
 
 -- ---- the history of a chunk
 
@@ -83,20 +90,24 @@ abbrev pub HeadStands : List Event → HeadModels → Type 0
 HeadStands events ms = BankStands changes_kind events ms.changes × BankStands flags_kind events ms.flags
 
 abbrev pub SurfaceStands : List Event → SurfaceModels → Type 0
-SurfaceStands events ms = IntStands intensity_kind events ms.intensity × BankStands classification_kind events ms.classifications
+SurfaceStands events ms = IntStands intensity_kind events ms.intensity
+    × BankStands classification_kind events ms.classifications
 
 abbrev pub ScanStands : List Event → ScanModels → Type 0
-ScanStands events ms = BankStands scan_angle_kind events ms.angles × (BankStands user_data_kind events ms.users × IntStands point_source_kind events ms.source)
+ScanStands events ms = BankStands scan_angle_kind events ms.angles
+    × (BankStands user_data_kind events ms.users × IntStands point_source_kind events ms.source)
 
 abbrev pub PlaceStands : List Event → PlaceModels → Type 0
 PlaceStands events ms = IntStands x_kind events ms.dx × (IntStands y_kind events ms.dy × IntStands z_kind events ms.z)
 
 abbrev pub ModelsStand : List Event → Models → Type 0
-ModelsStand events ms = HeadStands events ms.head × (SurfaceStands events ms.surface × (ScanStands events ms.scan × PlaceStands events ms.place))
+ModelsStand events ms = HeadStands events ms.head
+    × (SurfaceStands events ms.surface × (ScanStands events ms.scan × PlaceStands events ms.place))
 
 -- ---- the events of each group
 abbrev pub head_events : Point → HeadChoice → List Event
-head_events previous x = (Symbol (own_name changes_kind 0) 64 x.0 ∷ []) ++ if_marked (has_bit 32 x.0) (byte_events flags_kind previous.flags x.1)
+head_events previous x = (Symbol (own_name changes_kind 0) 64 x.0 ∷ [])
+    ++ if_marked (has_bit 32 x.0) (byte_events flags_kind previous.flags x.1)
 
 abbrev pub surface_events : Predictions → ℕ → ℕ → SurfaceChoice → List Event
 surface_events e changes flags x =
@@ -112,7 +123,8 @@ scan_events e changes flags x =
 abbrev pub place_events : ℕ → PlaceChoice → List Event
 place_events flags x =
     corrector_events x_kind 32 (one_return flags) x.0.0 x.0.1
-    ++ (corrector_events y_kind 32 (y_context flags x.0.0) x.1.0.0 x.1.0.1 ++ corrector_events z_kind 32 (z_context flags x.0.0 x.1.0.0) x.1.1.0 x.1.1.1)
+    ++ (corrector_events y_kind 32 (y_context flags x.0.0) x.1.0.0 x.1.0.1
+    ++ corrector_events z_kind 32 (z_context flags x.0.0 x.1.0.0) x.1.1.0 x.1.1.1)
 
 -- ---- all that is read of a point
 abbrev pub PointChoice : Type 0

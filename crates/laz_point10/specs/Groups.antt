@@ -6,7 +6,8 @@ use Rattle.laz_range.specs.Cut.{Cut}
 use Rattle.laz_models.specs.Counting.{Counting, after_symbol}
 use Rattle.laz_models.specs.Bank.{model_at, alphabet_sizes}
 use Rattle.laz_integer.specs.Integer.{IsCorrector, IsInts, int_cuts, int_next, symbol_cut}
-use Rattle.laz_integer.specs.Fields.{IsByte, IsWord, byte_cuts, byte_next, int_corrector, word_cuts, word_next, word_corrector}
+use Rattle.laz_integer.specs.Fields.{IsByte, IsWord, byte_cuts, byte_next, int_corrector, word_cuts, word_next}
+use Rattle.laz_integer.specs.Fields.{word_corrector}
 use Rattle.laz_point10.specs.declared.point.Point.{Point}
 use Rattle.laz_point10.specs.declared.history.Predictions.{Predictions}
 use Rattle.laz_point10.specs.declared.models.HeadModels.{HeadModels}
@@ -32,7 +33,8 @@ abbrev pub IsHead : Point → HeadChoice → Type 0
 IsHead previous x = (x.0 < 64) × IsByte (has_bit 32 x.0) previous.flags x.1
 
 abbrev pub head_cuts : HeadModels → Point → HeadChoice → List Cut
-head_cuts ms previous x = (symbol_cut (model_at ms.changes 0) x.0 ∷ []) ++ byte_cuts (has_bit 32 x.0) ms.flags previous.flags x.1
+head_cuts ms previous x =
+    (symbol_cut (model_at ms.changes 0) x.0 ∷ []) ++ byte_cuts (has_bit 32 x.0) ms.flags previous.flags x.1
 
 abbrev pub head_next : HeadModels → Point → HeadChoice → HeadModels
 head_next ms previous x =
@@ -54,7 +56,8 @@ IsSurface e changes x = IsWord (has_bit 16 changes) x.0 × IsByte (has_bit 8 cha
 
 abbrev pub surface_cuts : SurfaceModels → Predictions → ℕ → ℕ → SurfaceChoice → List Cut
 surface_cuts ms e changes flags x =
-    word_cuts (has_bit 16 changes) ms.intensity (intensity_context flags) x.0 ++ byte_cuts (has_bit 8 changes) ms.classifications e.previous.classification x.1
+    word_cuts (has_bit 16 changes) ms.intensity (intensity_context flags) x.0
+    ++ byte_cuts (has_bit 8 changes) ms.classifications e.previous.classification x.1
 
 abbrev pub surface_next : SurfaceModels → Predictions → ℕ → ℕ → SurfaceChoice → SurfaceModels
 surface_next ms e changes flags x =
@@ -73,12 +76,14 @@ abbrev pub ScanChoice : Type 0
 ScanChoice = ℕ × (ℕ × (ℕ × ℕ))
 
 abbrev pub IsScan : Predictions → ℕ → ScanChoice → Type 0
-IsScan e changes x = IsByte (has_bit 4 changes) 0 x.0 × (IsByte (has_bit 2 changes) e.previous.user_data x.1.0 × IsWord (has_bit 1 changes) x.1.1)
+IsScan e changes x = IsByte (has_bit 4 changes) 0 x.0
+    × (IsByte (has_bit 2 changes) e.previous.user_data x.1.0 × IsWord (has_bit 1 changes) x.1.1)
 
 abbrev pub scan_cuts : ScanModels → Predictions → ℕ → ℕ → ScanChoice → List Cut
 scan_cuts ms e changes flags x =
     byte_cuts (has_bit 4 changes) ms.angles (direction_bit flags) x.0
-    ++ (byte_cuts (has_bit 2 changes) ms.users e.previous.user_data x.1.0 ++ word_cuts (has_bit 1 changes) ms.source 0 x.1.1)
+    ++ (byte_cuts (has_bit 2 changes) ms.users e.previous.user_data x.1.0
+    ++ word_cuts (has_bit 1 changes) ms.source 0 x.1.1)
 
 abbrev pub scan_next : ScanModels → Predictions → ℕ → ℕ → ScanChoice → ScanModels
 scan_next ms e changes flags x =
@@ -103,7 +108,8 @@ IsPlace x = IsCorrector 32 x.0 × (IsCorrector 32 x.1.0 × IsCorrector 32 x.1.1)
 abbrev pub place_cuts : PlaceModels → ℕ → PlaceChoice → List Cut
 place_cuts ms flags x =
     int_cuts ms.dx (one_return flags) x.0.0 x.0.1
-    ++ (int_cuts ms.dy (y_context flags x.0.0) x.1.0.0 x.1.0.1 ++ int_cuts ms.z (z_context flags x.0.0 x.1.0.0) x.1.1.0 x.1.1.1)
+    ++ (int_cuts ms.dy (y_context flags x.0.0) x.1.0.0 x.1.0.1
+    ++ int_cuts ms.z (z_context flags x.0.0 x.1.0.0) x.1.1.0 x.1.1.1)
 
 abbrev pub place_next : PlaceModels → ℕ → PlaceChoice → PlaceModels
 place_next ms flags x =
@@ -121,8 +127,13 @@ abbrev pub surface_written : Predictions → Point → SurfaceChoice
 surface_written e p = (word_corrector e.intensity p.intensity, p.classification)
 
 abbrev pub scan_written : Predictions → Point → ScanChoice
-scan_written e p = (byte_difference e.previous.scan_angle p.scan_angle, (p.user_data, word_corrector e.previous.point_source p.point_source))
+scan_written e p = (
+  byte_difference e.previous.scan_angle p.scan_angle,
+  (p.user_data, word_corrector e.previous.point_source p.point_source),
+)
 
 abbrev pub place_written : Predictions → Point → PlaceChoice
-place_written e p =
-    (int_corrector 32 e.dx (int_wrapping_sub w32 p.x e.previous.x), (int_corrector 32 e.dy (int_wrapping_sub w32 p.y e.previous.y), int_corrector 32 e.z p.z))
+place_written e p = (
+  int_corrector 32 e.dx (int_wrapping_sub w32 p.x e.previous.x),
+  (int_corrector 32 e.dy (int_wrapping_sub w32 p.y e.previous.y), int_corrector 32 e.z p.z),
+)

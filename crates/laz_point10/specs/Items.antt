@@ -10,7 +10,8 @@ use Rattle.laz_integer.specs.Ranged.{AreRanged, HasIntSizes}
 use Rattle.laz_point10.specs.declared.point.Point.{Point}
 use Rattle.laz_point10.specs.declared.history.History.{History}
 use Rattle.laz_point10.specs.declared.models.Models.{Models}
-use Rattle.laz_point10.specs.PointEvents.{SpellsPoint, changes_kind, classification_kind, flags_kind, intensity_kind, point_source_kind, scan_angle_kind, user_data_kind, x_kind, y_kind, z_kind}
+use Rattle.laz_point10.specs.PointEvents.{SpellsPoint, changes_kind, classification_kind, flags_kind, intensity_kind}
+use Rattle.laz_point10.specs.PointEvents.{point_source_kind, scan_angle_kind, user_data_kind, x_kind, y_kind, z_kind}
 use Rattle.laz_point10.specs.Coded.{AreModels, HistoryStands, ModelsStand}
 
 -- The parts of a spelling, after earlier events.
@@ -20,7 +21,8 @@ spelled_cuts earlier x = cuts_after earlier x.0
 -- Whatever spelling begins the rest of the bytes, this is what it spells.
 abbrev pub OneBegins : {V : Type 0} → (List Event × V → Type 0) → List Event → Decoding → V → Type 0
 OneBegins {V} IsSpelled earlier old value =
-    (read : List Cut) → HasRead read old → (x : List Event × V) → IsSpelled x → Begins (span (read ++ spelled_cuts earlier x)) old.bytes → x.1 ≡ value
+    (read : List Cut) → HasRead read old → (x : List Event × V) → IsSpelled x
+    → Begins (span (read ++ spelled_cuts earlier x)) old.bytes → x.1 ≡ value
 
 -- Numbers of symbols under which the events of points are lawful: 64 for the changes, 256 for each byte, and those of
 -- integers.
@@ -55,8 +57,10 @@ abbrev pub IsSpelledPoint : List Point → List Event × Point → Type 0
 IsSpelledPoint points x = SpellsPoint points x.0 x.1
 
 -- A point was read, by the one spelling that begins the rest of the bytes; the item then stands for it, too.
-pub record ReadsPoint (earlier : List Event) (points : List Point) (point : Point) (old new : Decoding) (st : PointState) : Type 0 where
+pub record ReadsPoint (earlier : List Event) (points : List Point) (point : Point) (old new : Decoding)
+    (st : PointState) : Type 0 where
   pub events : List Event
   pub takes : Takes (IsSpelledPoint points) (spelled_cuts earlier) old new (events, point)
-  pub reads : (sizes : Name → ℕ) → HasPointSizes sizes → AreRanged sizes earlier → ReadsOn (cuts_after earlier events) old new
+  pub reads : (sizes : Name → ℕ) → HasPointSizes sizes → AreRanged sizes earlier
+      → ReadsOn (cuts_after earlier events) old new
   pub stands : PointStands (earlier ++ events) (point ∷ points) st

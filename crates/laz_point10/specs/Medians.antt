@@ -1,5 +1,6 @@
 -- The streaming median of a list of values, the latest one first (LASzip's POINT10, version 2).
-use Rattle.std.specs.Prelude.{ℤ, pos, true, if◌then◌else◌, int_lt, int_le, List, [], ◌∷◌, take, drop, replicate, slice_index_or, ◌≤ℤ◌}
+use Rattle.std.specs.Prelude.{ℤ, pos, true, if◌then◌else◌, int_lt, int_le, List, [], ◌∷◌, take, drop, replicate}
+use Rattle.std.specs.Prelude.{slice_index_or, ◌≤ℤ◌}
 use Rattle.laz_point10.specs.declared.median.Median.{Median}
 
 -- A value put among sorted ones, before the first that it is not above.

@@ -1,5 +1,6 @@
 -- The events of a point after others, and which events spell one (LASzip's POINT10, version 2).
-use Rattle.std.specs.Prelude.{◌≡◌, ℕ, ℤ, ◌+◌, ◌-◌, ◌/◌, ◌%◌, ◌<◌, ◌==◌, Bool, min, nat_lt, if◌then◌else◌, List, [], ◌∷◌, ◌++◌, codes}
+use Rattle.std.specs.Prelude.{◌≡◌, ℕ, ℤ, ◌+◌, ◌-◌, ◌/◌, ◌%◌, ◌<◌, ◌==◌, Bool, min, nat_lt, if◌then◌else◌, List, [], ◌∷◌}
+use Rattle.std.specs.Prelude.{◌++◌, codes}
 use Rattle.std.specs.Int.{w32, int_wrapping_add, int_wrapping_sub}
 use Rattle.laz_integer.specs.Events.{Event, Symbol}
 use Rattle.laz_integer.specs.Uses.{own_name}
@@ -91,10 +92,12 @@ events_by e p =
     let dy = int_wrapping_sub w32 p.y e.previous.y in
     let kx = int_width 32 e.dx dx in
     let ky = int_width 32 e.dy dy in
-    ((Symbol (own_name changes_kind 0) 64 changes ∷ []) ++ if_marked (has_bit 32 changes) (byte_events flags_kind e.previous.flags p.flags))
+    ((Symbol (own_name changes_kind 0) 64 changes ∷ [])
+    ++ if_marked (has_bit 32 changes) (byte_events flags_kind e.previous.flags p.flags))
     ++ ((if_marked (has_bit 16 changes) (word_events intensity_kind (intensity_context p.flags) e.intensity p.intensity)
     ++ if_marked (has_bit 8 changes) (byte_events classification_kind e.previous.classification p.classification))
-    ++ ((if_marked (has_bit 4 changes) (byte_events scan_angle_kind (direction_bit p.flags) (byte_difference e.previous.scan_angle p.scan_angle))
+    ++ ((if_marked (has_bit 4 changes)
+    (byte_events scan_angle_kind (direction_bit p.flags) (byte_difference e.previous.scan_angle p.scan_angle))
     ++ (if_marked (has_bit 2 changes) (byte_events user_data_kind e.previous.user_data p.user_data)
     ++ if_marked (has_bit 1 changes) (word_events point_source_kind 0 e.previous.point_source p.point_source)))
     ++ (IntEvents x_kind 32 (one_return p.flags) e.dx dx
@@ -126,14 +129,20 @@ pub record SpellsBy (e : Predictions) (events : List Event) (p : Point) : Type 0
   pub kx : ℕ
   pub ky : ℕ
   pub kz : ℕ
-  pub are : events ≡ ((Symbol (own_name changes_kind 0) 64 changes ∷ []) ++ flags_part) ++ ((intensity_part ++ classification_part) ++ ((angle_part ++ (user_part ++ source_part)) ++ (x_part ++ (y_part ++ z_part))))
+  pub are : events ≡ ((Symbol (own_name changes_kind 0) 64 changes ∷ []) ++ flags_part)
+      ++ ((intensity_part ++ classification_part)
+      ++ ((angle_part ++ (user_part ++ source_part)) ++ (x_part ++ (y_part ++ z_part))))
   pub few : changes < 64
   pub flags : SpellsByte (has_bit 32 changes) flags_kind e.previous.flags e.previous.flags flags_part p.flags
-  pub intensity : SpellsWord (has_bit 16 changes) intensity_kind (intensity_context p.flags) e.intensity intensity_part p.intensity
-  pub classification : SpellsByte (has_bit 8 changes) classification_kind e.previous.classification e.previous.classification classification_part p.classification
+  pub intensity : SpellsWord (has_bit 16 changes) intensity_kind
+      (intensity_context p.flags) e.intensity intensity_part p.intensity
+  pub classification : SpellsByte
+      (has_bit 8 changes) classification_kind e.previous.classification e.previous.classification classification_part
+      p.classification
   pub angle : SpellsByte (has_bit 4 changes) scan_angle_kind (direction_bit p.flags) 0 angle_part turned
   pub angle_is : p.scan_angle ≡ (e.previous.scan_angle + turned) % 256
-  pub user : SpellsByte (has_bit 2 changes) user_data_kind e.previous.user_data e.previous.user_data user_part p.user_data
+  pub user : SpellsByte (has_bit 2 changes) user_data_kind e.previous.user_data e.previous.user_data user_part
+      p.user_data
   pub source : SpellsWord (has_bit 1 changes) point_source_kind 0 e.previous.point_source source_part p.point_source
   pub x : IntSpell x_kind 32 (one_return p.flags) e.dx x_part dx kx
   pub x_is : p.x ≡ int_wrapping_add w32 e.previous.x dx

@@ -1,6 +1,7 @@
 -- A point's fields, what its flag byte says of returns, and look-ups in the earlier points of its chunk, the latest one
 -- first.
-use Rattle.std.specs.Prelude.{ℕ, ℤ, pos, ◌+◌, ◌-◌, ◌*◌, ◌/◌, ◌%◌, ◌==◌, ◌<◌, if◌then◌else◌, List, [], ◌∷◌, map, drop, slice_index, FitsSigned}
+use Rattle.std.specs.Prelude.{ℕ, ℤ, pos, ◌+◌, ◌-◌, ◌*◌, ◌/◌, ◌%◌, ◌==◌, ◌<◌, if◌then◌else◌, List, [], ◌∷◌, map, drop}
+use Rattle.std.specs.Prelude.{slice_index, FitsSigned}
 use Rattle.std.specs.List.{filter, zip}
 use Rattle.std.specs.Int.{w32, int_wrapping_sub}
 use Rattle.las_points.specs.Record.{x_of, y_of, z_of, intensity_of, flags_of, class_byte_of, user_of, source_of}
@@ -82,7 +83,17 @@ latest_or d (x ∷ xs) = x
 
 -- The point without any bit set, which stands for that before a chunk's first.
 abbrev pub zero_point : Point
-zero_point = record { x = pos 0; y = pos 0; z = pos 0; intensity = 0; flags = 0; classification = 0; scan_angle = 0; user_data = 0; point_source = 0 }
+zero_point = record {
+  x = pos 0;
+  y = pos 0;
+  z = pos 0;
+  intensity = 0;
+  flags = 0;
+  classification = 0;
+  scan_angle = 0;
+  user_data = 0;
+  point_source = 0;
+}
 
 abbrev pub latest_point : List Point → Point
 latest_point points = latest_or zero_point points

@@ -71,7 +71,8 @@ impl History {
     #[inline]
     pub fn add(&mut self, point: &Point)
         ensures next { AreSorted self.old.dx → AreSorted self.old.dy → self.new ≡ with_point self.old point.now }
-        ensures stands { (points : List Point) → HistoryStands points self.old → HistoryStands (point.now ∷ points) self.new }
+        ensures stands { (points : List Point) → HistoryStands points self.old
+            → HistoryStands (point.now ∷ points) self.new }
     {
         let m = return_map(point.flags);
         self.dx[m].add(point.x.wrapping_sub(self.last.x));

@@ -6,7 +6,8 @@ ghost use Rattle.laz_integer.specs.Events.{Event, Name, cuts_after};
 ghost use Rattle.laz_integer.specs.Ranged.{AreRanged};
 ghost use Rattle.laz_point10.specs.Points.{point_at};
 ghost use Rattle.laz_point10.specs.PointEvents.{point_events};
-ghost use Rattle.laz_point10.specs.Items.{HasPointSizes, IsSpelledPoint, OneBegins, PointStands, ReadsPoint, spelled_cuts};
+ghost use Rattle.laz_point10.specs.Items.{HasPointSizes, IsSpelledPoint, OneBegins, PointStands, ReadsPoint};
+ghost use Rattle.laz_point10.specs.Items.{spelled_cuts};
 
 use crate::history::History;
 use crate::models::{Models, new_models, reset};

@@ -4,8 +4,11 @@ ghost use Rattle.laz_range.specs.Decoding.{Reads, Takes, TakesNone};
 ghost use Rattle.laz_integer.specs.Corrector.{corrected};
 ghost use Rattle.laz_integer.specs.Fields.{word_value};
 ghost use Rattle.laz_point10.specs.PointEvents.{has_bit};
-ghost use Rattle.laz_point10.specs.Groups.{AreHeadModels, ArePlaceModels, AreScanModels, AreSurfaceModels, IsHead, IsPlace, IsScan, IsSurface, PlaceChoice, head_cuts, head_next, place_cuts, place_next, scan_cuts, scan_next, surface_cuts, surface_next};
-ghost use Rattle.laz_point10.specs.Coded.{AreModels, IsHistory, IsPointChoice, PointChoice, choice_cuts, choice_next, point_made};
+ghost use Rattle.laz_point10.specs.Groups.{AreHeadModels, ArePlaceModels, AreScanModels, AreSurfaceModels, IsHead};
+ghost use Rattle.laz_point10.specs.Groups.{IsPlace, IsScan, IsSurface, PlaceChoice, head_cuts, head_next, place_cuts};
+ghost use Rattle.laz_point10.specs.Groups.{place_next, scan_cuts, scan_next, surface_cuts, surface_next};
+ghost use Rattle.laz_point10.specs.Coded.{AreModels, IsHistory, IsPointChoice, PointChoice, choice_cuts, choice_next};
+ghost use Rattle.laz_point10.specs.Coded.{point_made};
 
 use crate::history::{History, Predictions};
 use crate::models::{HeadModels, Models, PlaceModels, ScanModels, SurfaceModels};
@@ -53,10 +56,12 @@ fn take_surface(
     requires within { decoder.old.taken ≤ length decoder.old.bytes }
     requires models { AreSurfaceModels models.old }
     ensures reads { MatchResult result
-        (λ r. (w : ℕ × ℕ) × Takes (IsSurface e.now changes) (surface_cuts models.old e.now changes flags) decoder.old decoder.new (w, r.1)
+        (λ r. (w : ℕ × ℕ) × Takes (IsSurface e.now changes)
+        (surface_cuts models.old e.now changes flags) decoder.old decoder.new (w, r.1)
         × (r.0 ≡ word_value (has_bit 16 changes) e.now.intensity w)
         × (models.new ≡ surface_next models.old e.now changes flags (w, r.1)))
-        (λ _. TakesNone (IsSurface e.now changes) (surface_cuts models.old e.now changes flags) decoder.old decoder.new) }
+        (λ _. TakesNone (IsSurface e.now changes)
+        (surface_cuts models.old e.now changes flags) decoder.old decoder.new) }
     ensures models { AreSurfaceModels models.new }
 {
     let context = intensity_context(flags);
@@ -92,7 +97,8 @@ fn take_scan(
     requires within { decoder.old.taken ≤ length decoder.old.bytes }
     requires models { AreScanModels models.old }
     ensures reads { MatchResult result
-        (λ r. (w : ℕ × ℕ) × Takes (IsScan e.now changes) (scan_cuts models.old e.now changes flags) decoder.old decoder.new (r.0, (r.1, w))
+        (λ r. (w : ℕ × ℕ) × Takes (IsScan e.now changes)
+        (scan_cuts models.old e.now changes flags) decoder.old decoder.new (r.0, (r.1, w))
         × (r.2 ≡ word_value (has_bit 1 changes) e.now.previous.point_source w)
         × (models.new ≡ scan_next models.old e.now changes flags (r.0, (r.1, w))))
         (λ _. TakesNone (IsScan e.now changes) (scan_cuts models.old e.now changes flags) decoder.old decoder.new) }
@@ -135,7 +141,8 @@ fn take_place(
     requires models { ArePlaceModels models.old }
     ensures reads { MatchResult result
         (λ r. (x : PlaceChoice) × Takes IsPlace (place_cuts models.old flags) decoder.old decoder.new x
-        × ((r.0 ≡ corrected 32 e.now.dx x.0.0 x.0.1) × (r.1 ≡ corrected 32 e.now.dy x.1.0.0 x.1.0.1) × (r.2 ≡ corrected 32 e.now.z x.1.1.0 x.1.1.1))
+        × ((r.0 ≡ corrected 32 e.now.dx x.0.0 x.0.1) × (r.1 ≡ corrected 32 e.now.dy x.1.0.0 x.1.0.1)
+        × (r.2 ≡ corrected 32 e.now.z x.1.1.0 x.1.1.1))
         × (models.new ≡ place_next models.old flags x))
         (λ _. TakesNone IsPlace (place_cuts models.old flags) decoder.old decoder.new) }
     ensures models { ArePlaceModels models.new }
@@ -159,7 +166,8 @@ pub fn take_point(
     requires good { decoder.old.failed ≡ false }
     requires models { AreModels models.old }
     ensures reads { MatchResult result
-        (λ p. (x : PointChoice) × Takes (IsPointChoice history.now) (choice_cuts models.old history.now) decoder.old decoder.new x
+        (λ p. (x : PointChoice) × Takes (IsPointChoice history.now)
+        (choice_cuts models.old history.now) decoder.old decoder.new x
         × (p ≡ point_made history.now x)
         × (models.new ≡ choice_next models.old history.now x))
         (λ _. TakesNone (IsPointChoice history.now) (choice_cuts models.old history.now) decoder.old decoder.new) }

@@ -4,7 +4,9 @@ ghost use Rattle.laz_range.specs.Coding.{Codes};
 ghost use Rattle.laz_integer.specs.Fields.{int_corrector};
 ghost use Rattle.laz_integer.specs.Integer.{IsInts, int_cuts, int_next, int_width};
 ghost use Rattle.laz_point10.specs.PointEvents.{bit_if_changed, changes_of, even_below, has_bit, intensity_context};
-ghost use Rattle.laz_point10.specs.Groups.{AreHeadModels, ArePlaceModels, AreScanModels, AreSurfaceModels, head_cuts, head_next, place_cuts, place_next, place_written, scan_cuts, scan_next, scan_written, surface_cuts, surface_next, surface_written};
+ghost use Rattle.laz_point10.specs.Groups.{AreHeadModels, ArePlaceModels, AreScanModels, AreSurfaceModels, head_cuts};
+ghost use Rattle.laz_point10.specs.Groups.{head_next, place_cuts, place_next, place_written, scan_cuts, scan_next};
+ghost use Rattle.laz_point10.specs.Groups.{scan_written, surface_cuts, surface_next, surface_written};
 ghost use Rattle.laz_point10.specs.Coded.{AreModels, IsHistory, choice_cuts, choice_next, choice_written};
 
 use crate::history::{History, Predictions};
@@ -104,7 +106,8 @@ fn put_surface(
 )
     requires left { 24 ≤ encoder.old.left }
     requires models { AreSurfaceModels models.old }
-    ensures codes { Codes encoder.old encoder.new (surface_cuts models.old e.now changes p.now.flags (surface_written e.now p.now)) }
+    ensures codes { Codes encoder.old encoder.new
+        (surface_cuts models.old e.now changes p.now.flags (surface_written e.now p.now)) }
     ensures next { models.new ≡ surface_next models.old e.now changes p.now.flags (surface_written e.now p.now) }
     ensures models { AreSurfaceModels models.new }
     ensures used { encoder.old.left ≤ encoder.new.left + 12 }
@@ -139,7 +142,8 @@ fn put_scan(
 )
     requires left { 24 ≤ encoder.old.left }
     requires models { AreScanModels models.old }
-    ensures codes { Codes encoder.old encoder.new (scan_cuts models.old e.now changes p.now.flags (scan_written e.now p.now)) }
+    ensures codes { Codes encoder.old encoder.new
+        (scan_cuts models.old e.now changes p.now.flags (scan_written e.now p.now)) }
     ensures next { models.new ≡ scan_next models.old e.now changes p.now.flags (scan_written e.now p.now) }
     ensures models { AreScanModels models.new }
     ensures used { encoder.old.left ≤ encoder.new.left + 15 }
@@ -177,7 +181,8 @@ fn put_int(encoder: &mut Encoder, model: &mut IntModel, pred: i32, real: i32, ct
     requires left { 12 ≤ encoder.old.left }
     ensures width { result ≡ int_width 32 pred real }
     ensures small { result ≤ 32 }
-    ensures codes { let x = int_corrector 32 pred real in Codes encoder.old encoder.new (int_cuts model.old ctx x.0 x.1) }
+    ensures codes { let x = int_corrector 32 pred real in
+        Codes encoder.old encoder.new (int_cuts model.old ctx x.0 x.1) }
     ensures next { let x = int_corrector 32 pred real in model.new ≡ int_next model.old ctx x.0 x.1 }
     ensures ints { IsInts 32 model.old.contexts model.new }
     ensures used { encoder.old.left ≤ encoder.new.left + 12 }
@@ -214,7 +219,8 @@ fn put_place(encoder: &mut Encoder, models: &mut PlaceModels, e: &Predictions, p
 pub fn put_point(encoder: &mut Encoder, models: &mut Models, history: &History, p: &Point)
     requires left { 69 ≤ encoder.old.left }
     requires models { AreModels models.old }
-    ensures codes { Codes encoder.old encoder.new (choice_cuts models.old history.now (choice_written history.now p.now)) }
+    ensures codes { Codes encoder.old encoder.new
+        (choice_cuts models.old history.now (choice_written history.now p.now)) }
     ensures next { models.new ≡ choice_next models.old history.now (choice_written history.now p.now) }
     ensures models { AreModels models.new }
     ensures bytes { IsHistory history.now }

@@ -1,5 +1,6 @@
 -- The events of the range coder of LASzip (Isenburg, PE&RS 2013, after Said 2004).
-use Rattle.std.specs.Prelude.{◌≡◌, ℕ, ◌+◌, ◌-◌, ◌*◌, ◌/◌, ◌%◌, ◌^◌, ◌<◌, ◌≤◌, ◌==◌, ◌⊎◌, Bool, true, false, if◌then◌else◌, List, [], ◌∷◌, length, slice_index, nat_lt}
+use Rattle.std.specs.Prelude.{◌≡◌, ℕ, ◌+◌, ◌-◌, ◌*◌, ◌/◌, ◌%◌, ◌^◌, ◌<◌, ◌≤◌, ◌==◌, ◌⊎◌, Bool, true, false}
+use Rattle.std.specs.Prelude.{if◌then◌else◌, List, [], ◌∷◌, length, slice_index, nat_lt}
 use Rattle.std.specs.List.{AllByRecursion}
 use Rattle.laz_range.specs.declared.limits.TheConstants.{BIT_PARTS, MAX_RAW_BITS, SYMBOL_PARTS}
 

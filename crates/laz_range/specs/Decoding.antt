@@ -1,5 +1,6 @@
 -- The states of a decoder, and what its calls read.
-use Rattle.std.specs.Prelude.{◌≡◌, ℕ, ◌+◌, ◌*◌, ◌/◌, ◌<◌, ◌≤◌, ◌++◌, Bool, true, false, nat_le, List, length, take, drop, Result, MatchResult}
+use Rattle.std.specs.Prelude.{◌≡◌, ℕ, ◌+◌, ◌*◌, ◌/◌, ◌<◌, ◌≤◌, ◌++◌, Bool, true, false, nat_le, List, length, take}
+use Rattle.std.specs.Prelude.{drop, Result, MatchResult}
 use Rattle.laz_range.specs.Cut.{Cut, AreCuts, width_in}
 use Rattle.laz_range.specs.Span.{span, number, IsBytes, Begins, bytes_for}
 use Rattle.laz_range.specs.Reading.{Reading}

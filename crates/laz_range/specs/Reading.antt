@@ -1,5 +1,6 @@
 -- What a decoder follows, without the low end of its span.
-use Rattle.std.specs.Prelude.{◌≡◌, ℕ, ◌+◌, ◌-◌, ◌*◌, ◌/◌, ◌^◌, ◌<◌, ◌≤◌, ◌⊎◌, ◌&&◌, List, [], ◌∷◌, nat_lt, nat_le, if◌then◌else◌, length, take, drop, Option, Some, None, option_and_then}
+use Rattle.std.specs.Prelude.{◌≡◌, ℕ, ◌+◌, ◌-◌, ◌*◌, ◌/◌, ◌^◌, ◌<◌, ◌≤◌, ◌⊎◌, ◌&&◌, List, [], ◌∷◌, nat_lt, nat_le}
+use Rattle.std.specs.Prelude.{if◌then◌else◌, length, take, drop, Option, Some, None, option_and_then}
 use Rattle.laz_range.specs.Cut.{Cut, Raw, start_in, width_in}
 use Rattle.laz_range.specs.Span.{Span, number, bytes_for}
 use Rattle.laz_range.specs.declared.limits.TheConstants.{MAX_LENGTH, MAX_RAW_BITS, MIN_LENGTH}

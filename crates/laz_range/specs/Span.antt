@@ -1,5 +1,6 @@
 -- The interval of Said's coder, in exact numbers, and the bytes that spell a number of it.
-use Rattle.std.specs.Prelude.{◌≡◌, ℕ, zero, suc, ◌+◌, ◌*◌, ◌/◌, ◌%◌, ◌^◌, ◌<◌, ◌≤◌, List, [], ◌∷◌, nat_lt, if◌then◌else◌, length, take, slice_index}
+use Rattle.std.specs.Prelude.{◌≡◌, ℕ, zero, suc, ◌+◌, ◌*◌, ◌/◌, ◌%◌, ◌^◌, ◌<◌, ◌≤◌, List, [], ◌∷◌, nat_lt}
+use Rattle.std.specs.Prelude.{if◌then◌else◌, length, take, slice_index}
 use Rattle.std.specs.Int.Digits.{number_from_digits}
 use Rattle.laz_range.specs.Cut.{Cut, start_in, width_in}
 use Rattle.laz_range.specs.declared.limits.TheConstants.{MAX_LENGTH, MIN_LENGTH}

@@ -1,9 +1,11 @@
 //! The decoder.
-ghost use Rattle.std.specs.Prelude.{◌≡◌, ℕ, Bool, true, false, ◌+◌, ◌*◌, ◌/◌, ◌<◌, ◌≤◌, ◌^◌, ◌↔◌, ◌⊎◌, ⊤, [], ◌∷◌, List, IsTrue, IsErr, IfOk, OnOk, OnErr, MatchResult, Option, length, take};
+ghost use Rattle.std.specs.Prelude.{◌≡◌, ℕ, Bool, true, false, ◌+◌, ◌*◌, ◌/◌, ◌<◌, ◌≤◌, ◌^◌, ◌↔◌, ◌⊎◌, ⊤, [], ◌∷◌};
+ghost use Rattle.std.specs.Prelude.{List, IsTrue, IsErr, IfOk, OnOk, OnErr, MatchResult, Option, length, take};
 ghost use Rattle.laz_range.specs.Cut.{Cut, Part, Bit, Raw, AreCuts, IsLike, one_event, raw_cuts};
 ghost use Rattle.laz_range.specs.Span.{Begins, number, span};
 ghost use Rattle.laz_range.specs.Reading.{quotient, reading_after_part, RefusesPart, RefusesRaw};
-ghost use Rattle.laz_range.specs.Decoding.{HasRead, ReadsOn, NoneBegins, Reads, RunsOut, Takes, TakesNone, bit_of, symbol_place, reading_of};
+ghost use Rattle.laz_range.specs.Decoding.{HasRead, ReadsOn, NoneBegins, Reads, RunsOut, Takes, TakesNone, bit_of};
+ghost use Rattle.laz_range.specs.Decoding.{symbol_place, reading_of};
 ghost use Rattle.laz_range.specs.Input.{Advances, Stops};
 
 pub use crate::input::Bad;

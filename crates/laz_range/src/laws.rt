@@ -1,5 +1,6 @@
 //! Laws of the definitions, as contracts of functions that do nothing.
-ghost use Rattle.std.specs.Prelude.{◌≡◌, ◌+◌, ◌*◌, ◌<◌, ◌≤◌, ◌^◌, ℕ, List, [], ◌∷◌, ◌++◌, length, option_and_then, take};
+ghost use Rattle.std.specs.Prelude.{◌≡◌, ◌+◌, ◌*◌, ◌<◌, ◌≤◌, ◌^◌, ℕ, List, [], ◌∷◌, ◌++◌, length, option_and_then};
+ghost use Rattle.std.specs.Prelude.{take};
 ghost use Rattle.std.specs.Option.{SomeIff};
 ghost use Rattle.laz_range.specs.Cut.{Cut, AreAlike, AreCuts, IsCut, IsDistribution, IsLike, symbol, width_in};
 ghost use Rattle.laz_range.specs.Span.{Begins, Fits, IsBytes, Span, bytes_for, bytes_of, span};

@@ -1,5 +1,6 @@
 -- The parts that a colour's events cut out, by the models as they are, and the models after them.
-use Rattle.std.specs.Prelude.{◌≡◌, ℕ, ◌+◌, ◌<◌, Bool, false, if◌then◌else◌, List, [], ◌∷◌, ◌++◌, slice_set, slice_index_or}
+use Rattle.std.specs.Prelude.{◌≡◌, ℕ, ◌+◌, ◌<◌, Bool, false, if◌then◌else◌, List, [], ◌∷◌, ◌++◌, slice_set}
+use Rattle.std.specs.Prelude.{slice_index_or}
 use Rattle.laz_range.specs.Cut.{Cut}
 use Rattle.laz_range.specs.Choice.{all_cuts, state_after}
 use Rattle.laz_models.specs.Counting.{Counting, after_symbol}
@@ -15,7 +16,9 @@ abbrev pub after_changes : List Counting → ℕ → List Counting
 after_changes bank s = slice_set bank 0 (after_symbol (model_at bank 0) s)
 
 abbrev pub colour_cuts : List Counting → ℕ → List ℕ → List Cut
-colour_cuts bank s symbols = (symbol_cut (model_at bank 0) s ∷ []) ++ all_cuts next_row next_cuts (row_at (colour_marks s) 1 (after_changes bank s)) symbols
+colour_cuts bank s symbols =
+    (symbol_cut (model_at bank 0) s ∷ [])
+    ++ all_cuts next_row next_cuts (row_at (colour_marks s) 1 (after_changes bank s)) symbols
 
 abbrev pub colour_next : List Counting → ℕ → List ℕ → List Counting
 colour_next bank s symbols = (state_after next_row (row_at (colour_marks s) 1 (after_changes bank s)) symbols).bank
@@ -30,7 +33,9 @@ two_cuts s t bank m x = byte_cuts s bank m x.0 ++ byte_cuts t (byte_next s bank 
 abbrev pub two_next : Bool → Bool → List Counting → ℕ → ℕ × ℕ → List Counting
 two_next s t bank m x = byte_next t (byte_next s bank m x.0) (m + 1) x.1
 
--- ---- all that is read of a colour: the symbol of changes, and those of red, of green and blue low, of green and blue high
+-- ---- all that is read of a colour: the symbol of changes, and those of red, of green and blue low, of green and
+-- blue high
+
 abbrev pub ColourChoice : Type 0
 ColourChoice = ℕ × ((ℕ × ℕ) × ((ℕ × ℕ) × (ℕ × ℕ)))
 
@@ -38,7 +43,9 @@ abbrev pub mark_at : ℕ → ℕ → Bool
 mark_at s i = slice_index_or (colour_marks s) i false
 
 abbrev pub IsColourChoice : ColourChoice → Type 0
-IsColourChoice x = (x.0 < 128) × (IsTwo (mark_at x.0 0) (mark_at x.0 1) x.1.0 × (IsTwo (mark_at x.0 2) (mark_at x.0 3) x.1.1.0 × IsTwo (mark_at x.0 4) (mark_at x.0 5) x.1.1.1))
+IsColourChoice x = (x.0 < 128)
+    × (IsTwo (mark_at x.0 0) (mark_at x.0 1) x.1.0
+    × (IsTwo (mark_at x.0 2) (mark_at x.0 3) x.1.1.0 × IsTwo (mark_at x.0 4) (mark_at x.0 5) x.1.1.1))
 
 abbrev pub after_red : List Counting → ColourChoice → List Counting
 after_red bank x = two_next (mark_at x.0 0) (mark_at x.0 1) (after_changes bank x.0) 1 x.1.0

@@ -1,5 +1,6 @@
 -- Colours as six bytes, and how one is coded after another (LASzip's RGB12, version 2).
-use Rattle.std.specs.Prelude.{◌≡◌, ℕ, ◌+◌, ◌-◌, ◌*◌, ◌/◌, ◌%◌, ◌<◌, ◌==◌, ◌&&◌, min, not, Bool, if◌then◌else◌, List, [], ◌∷◌, slice_index}
+use Rattle.std.specs.Prelude.{◌≡◌, ℕ, ◌+◌, ◌-◌, ◌*◌, ◌/◌, ◌%◌, ◌<◌, ◌==◌, ◌&&◌, min, not, Bool, if◌then◌else◌, List, []}
+use Rattle.std.specs.Prelude.{◌∷◌, slice_index}
 use Rattle.laz_integer.specs.Events.{Event, Symbol}
 use Rattle.laz_integer.specs.Uses.{own_name}
 use Rattle.laz_rgb.specs.Rows.{IsRow, byte_of, row_events, symbol_of}
@@ -27,7 +28,8 @@ colour_bytes c = c.red_low ∷ c.red_high ∷ c.green_low ∷ c.green_high ∷ c
 
 -- Red, green and blue are equal.
 abbrev pub is_grey : Colour → Bool
-is_grey c = (c.green_low == c.red_low) && (c.green_high == c.red_high) && (c.blue_low == c.red_low) && (c.blue_high == c.red_high)
+is_grey c = (c.green_low == c.red_low) && (c.green_high == c.red_high) && (c.blue_low == c.red_low)
+    && (c.blue_high == c.red_high)
 
 -- A bit of the symbol of changes.
 abbrev pub bit_if : Bool → ℕ → ℕ
@@ -48,7 +50,8 @@ changes last now =
 abbrev pub has_bit : ℕ → ℕ → Bool
 has_bit bit s = s / bit % 2 == 1
 
--- Which bytes are coded, in the order of their coding: red low and high, green and blue low, green and blue high. Those of green and blue are coded only with bit 64.
+-- Which bytes are coded, in the order of their coding: red low and high, green and blue low, green and blue high. Those
+-- of green and blue are coded only with bit 64.
 abbrev pub colour_marks : ℕ → List Bool
 colour_marks s =
     has_bit 1 s
@@ -72,7 +75,8 @@ abbrev pub predicted_green : ℕ → ℕ → ℕ → ℕ
 predicted_green red_from red_to green_from = moved red_from red_to green_from
 
 abbrev pub predicted_blue : ℕ → ℕ → ℕ → ℕ → ℕ → ℕ
-predicted_blue red_from red_to green_from green_to blue_from = half_moved (red_from + green_from) (red_to + green_to) blue_from
+predicted_blue red_from red_to green_from green_to blue_from =
+    half_moved (red_from + green_from) (red_to + green_to) blue_from
 
 -- The symbol of a byte that is marked; 0, which stands for none, of any other.
 abbrev pub symbol_if : Bool → ℕ → ℕ → ℕ
@@ -84,9 +88,12 @@ colour_symbols s last now =
     symbol_if (has_bit 1 s) last.red_low now.red_low
     ∷ symbol_if (has_bit 2 s) last.red_high now.red_high
     ∷ symbol_if (has_bit 64 s && has_bit 4 s) (predicted_green last.red_low now.red_low last.green_low) now.green_low
-    ∷ symbol_if (has_bit 64 s && has_bit 16 s) (predicted_blue last.red_low now.red_low last.green_low now.green_low last.blue_low) now.blue_low
-    ∷ symbol_if (has_bit 64 s && has_bit 8 s) (predicted_green last.red_high now.red_high last.green_high) now.green_high
-    ∷ symbol_if (has_bit 64 s && has_bit 32 s) (predicted_blue last.red_high now.red_high last.green_high now.green_high last.blue_high) now.blue_high
+    ∷ symbol_if (has_bit 64 s && has_bit 16 s)
+    (predicted_blue last.red_low now.red_low last.green_low now.green_low last.blue_low) now.blue_low
+    ∷ symbol_if (has_bit 64 s && has_bit 8 s)
+    (predicted_green last.red_high now.red_high last.green_high) now.green_high
+    ∷ symbol_if (has_bit 64 s && has_bit 32 s)
+    (predicted_blue last.red_high now.red_high last.green_high now.green_high last.blue_high) now.blue_high
     ∷ []
 
 -- The event of the symbol of changes.
@@ -98,15 +105,22 @@ abbrev pub colour_events : Colour → Colour → List Event
 colour_events last now =
     let s = changes last now in changes_event s ∷ row_events rgb_kind (colour_marks s) 1 (colour_symbols s last now)
 
--- The colour that symbols make of the previous one. A byte without a mark is the previous one; without bit 64, green and blue equal red.
+-- The colour that symbols make of the previous one. A byte without a mark is the previous one; without bit 64, green
+-- and blue equal red.
 abbrev pub colour_made : ℕ → Colour → List ℕ → Colour
 colour_made s last symbols =
     let red_low = byte_of (has_bit 1 s) last.red_low last.red_low (slice_index symbols 0) in
     let red_high = byte_of (has_bit 2 s) last.red_high last.red_high (slice_index symbols 1) in
-    let green_low = byte_of (has_bit 4 s) (predicted_green last.red_low red_low last.green_low) last.green_low (slice_index symbols 2) in
-    let blue_low = byte_of (has_bit 16 s) (predicted_blue last.red_low red_low last.green_low green_low last.blue_low) last.blue_low (slice_index symbols 3) in
-    let green_high = byte_of (has_bit 8 s) (predicted_green last.red_high red_high last.green_high) last.green_high (slice_index symbols 4) in
-    let blue_high = byte_of (has_bit 32 s) (predicted_blue last.red_high red_high last.green_high green_high last.blue_high) last.blue_high (slice_index symbols 5) in
+    let green_low = byte_of (has_bit 4 s) (predicted_green last.red_low red_low last.green_low) last.green_low
+    (slice_index symbols 2) in
+    let blue_low = byte_of (has_bit 16 s)
+    (predicted_blue last.red_low red_low last.green_low green_low last.blue_low) last.blue_low
+    (slice_index symbols 3) in
+    let green_high = byte_of (has_bit 8 s) (predicted_green last.red_high red_high last.green_high) last.green_high
+    (slice_index symbols 4) in
+    let blue_high = byte_of (has_bit 32 s)
+    (predicted_blue last.red_high red_high last.green_high green_high last.blue_high) last.blue_high
+    (slice_index symbols 5) in
     record {
       red_low = red_low;
       red_high = red_high;
@@ -116,7 +130,9 @@ colour_made s last symbols =
       blue_high = if has_bit 64 s then blue_high else red_high;
     }
 
--- Events that spell a colour after another: any symbol of changes, a symbol below 256 for each byte that it marks, and the colour that they make. A marked byte may be the previous one, and without bit 64 the bits of green and blue are free.
+-- Events that spell a colour after another: any symbol of changes, a symbol below 256 for each byte that it marks, and
+-- the colour that they make. A marked byte may be the previous one, and without bit 64 the bits of green and blue are
+-- free.
 pub record SpellsColour (last : Colour) (events : List Event) (now : Colour) : Type 0 where
   pub changes : ℕ
   pub few : changes < 128

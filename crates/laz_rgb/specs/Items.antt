@@ -1,4 +1,5 @@
--- What the items stand for: the events of a stream, and the parts of the chunk's points so far, the latest one first. And what a reader answers.
+-- What the items stand for: the events of a stream, and the parts of the chunk's points so far, the latest one first.
+-- And what a reader answers.
 use Rattle.std.specs.Prelude.{◌≡◌, ℕ, ◌<◌, ◌≤◌, List, [], ◌∷◌, ◌++◌, length, replicate}
 use Rattle.laz_range.specs.Cut.{Cut}
 use Rattle.laz_range.specs.Span.{Begins, span}
@@ -22,7 +23,8 @@ spelled_cuts earlier x = cuts_after earlier x.0
 -- Whatever spelling begins the rest of the bytes, this is what it spells.
 abbrev pub OneBegins : {V : Type 0} → (List Event × V → Type 0) → List Event → Decoding → V → Type 0
 OneBegins {V} IsSpelled earlier old value =
-    (read : List Cut) → HasRead read old → (x : List Event × V) → IsSpelled x → Begins (span (read ++ spelled_cuts earlier x)) old.bytes → x.1 ≡ value
+    (read : List Cut) → HasRead read old → (x : List Event × V) → IsSpelled x
+    → Begins (span (read ++ spelled_cuts earlier x)) old.bytes → x.1 ≡ value
 
 -- ---- numbers of symbols under which the events are lawful
 
@@ -61,10 +63,12 @@ abbrev pub IsSpelledColour : List Colour → List Event × Colour → Type 0
 IsSpelledColour colours x = SpellsColour (latest_colour colours) x.0 x.1
 
 -- A colour was read, by the one spelling that begins the rest of the bytes; the item then stands for its point, too.
-pub record ReadsColour (earlier : List Event) (colours : List Colour) (colour : Colour) (old new : Decoding) (st : RgbState) : Type 0 where
+pub record ReadsColour (earlier : List Event) (colours : List Colour) (colour : Colour) (old new : Decoding)
+    (st : RgbState) : Type 0 where
   pub events : List Event
   pub takes : Takes (IsSpelledColour colours) (spelled_cuts earlier) old new (events, colour)
-  pub reads : (sizes : Name → ℕ) → HasRgbSizes sizes → AreRanged sizes earlier → ReadsOn (cuts_after earlier events) old new
+  pub reads : (sizes : Name → ℕ) → HasRgbSizes sizes → AreRanged sizes earlier
+      → ReadsOn (cuts_after earlier events) old new
   pub stands : RgbStands (earlier ++ events) (colour ∷ colours) st
 
 -- ---- extra bytes
@@ -94,9 +98,12 @@ pub record ExtraStands (events : List Event) (extras : List (List ℕ)) (st : Ex
 abbrev pub IsSpelledExtra : List (List ℕ) → List Event × List ℕ → Type 0
 IsSpelledExtra extras x = SpellsExtra (latest_extra extras) x.0 x.1
 
--- Extra bytes were read, by the one spelling that begins the rest of the bytes; the item then stands for their point, too.
-pub record ReadsExtra (earlier : List Event) (extras : List (List ℕ)) (bytes : List ℕ) (old new : Decoding) (st : ExtraState) : Type 0 where
+-- Extra bytes were read, by the one spelling that begins the rest of the bytes; the item then stands for their point,
+-- too.
+pub record ReadsExtra (earlier : List Event) (extras : List (List ℕ)) (bytes : List ℕ) (old new : Decoding)
+    (st : ExtraState) : Type 0 where
   pub events : List Event
   pub takes : Takes (IsSpelledExtra extras) (spelled_cuts earlier) old new (events, bytes)
-  pub reads : (sizes : Name → ℕ) → HasExtraSizes sizes (length bytes) → AreRanged sizes earlier → ReadsOn (cuts_after earlier events) old new
+  pub reads : (sizes : Name → ℕ) → HasExtraSizes sizes (length bytes) → AreRanged sizes earlier
+      → ReadsOn (cuts_after earlier events) old new
   pub stands : ExtraStands (earlier ++ events) (bytes ∷ extras) st

@@ -14,28 +14,37 @@ AreBytes bytes = All (λ b. b < 256) bytes
 
 -- A writer's events spell the colour.
 abbrev pub ColoursAreSpelled : Type 0
-ColoursAreSpelled = (last now : Colour) → AreBytes (colour_bytes last) → AreBytes (colour_bytes now) → SpellsColour last (colour_events last now) now
+ColoursAreSpelled = (last now : Colour) → AreBytes (colour_bytes last) → AreBytes (colour_bytes now)
+    → SpellsColour last (colour_events last now) now
 
 -- A spelling of a colour is of lawful events, at most 7, and none under a name of another use.
 pub record ColoursAreLawful : Type 0 where
-  pub ranged : (sizes : Name → ℕ) (last : Colour) (events : List Event) (now : Colour) → HasRgbSizes sizes → SpellsColour last events now → AreRanged sizes events
+  pub ranged : (sizes : Name → ℕ) (last : Colour) (events : List Event) (now : Colour) → HasRgbSizes sizes
+      → SpellsColour last events now → AreRanged sizes events
   pub few : (last : Colour) (events : List Event) (now : Colour) → SpellsColour last events now → length events ≤ 7
-  pub silent : (other : List ℕ) (last : Colour) (events : List Event) (now : Colour) → same_text other rgb_kind ≡ false → SpellsColour last events now → Silent other events
+  pub silent : (other : List ℕ) (last : Colour) (events : List Event) (now : Colour) → same_text other rgb_kind ≡ false
+      → SpellsColour last events now → Silent other events
 
 -- Events of other uses leave what an `Rgb` stands for.
 abbrev pub OthersLeaveColours : Type 0
-OthersLeaveColours = (earlier others : List Event) (colours : List Colour) (st : RgbState) → Silent rgb_kind others → RgbStands earlier colours st → RgbStands (earlier ++ others) colours st
+OthersLeaveColours = (earlier others : List Event) (colours : List Colour) (st : RgbState) → Silent rgb_kind others
+    → RgbStands earlier colours st → RgbStands (earlier ++ others) colours st
 
 -- A writer's events spell the extra bytes.
 abbrev pub ExtrasAreSpelled : Type 0
-ExtrasAreSpelled = (last now : List ℕ) → AreBytes last → AreBytes now → length now ≡ length last → SpellsExtra last (extra_events last now) now
+ExtrasAreSpelled = (last now : List ℕ) → AreBytes last → AreBytes now → length now ≡ length last
+    → SpellsExtra last (extra_events last now) now
 
 -- A spelling of extra bytes is of lawful events, at most one a byte, and none under a name of another use.
 pub record ExtrasAreLawful : Type 0 where
-  pub ranged : (sizes : Name → ℕ) (last : List ℕ) (events : List Event) (now : List ℕ) → HasExtraSizes sizes (length last) → SpellsExtra last events now → AreRanged sizes events
-  pub few : (last : List ℕ) (events : List Event) (now : List ℕ) → SpellsExtra last events now → length events ≤ length last
-  pub silent : (other last : List ℕ) (events : List Event) (now : List ℕ) → same_text other byte_kind ≡ false → SpellsExtra last events now → Silent other events
+  pub ranged : (sizes : Name → ℕ) (last : List ℕ) (events : List Event) (now : List ℕ)
+      → HasExtraSizes sizes (length last) → SpellsExtra last events now → AreRanged sizes events
+  pub few : (last : List ℕ) (events : List Event) (now : List ℕ) → SpellsExtra last events now
+      → length events ≤ length last
+  pub silent : (other last : List ℕ) (events : List Event) (now : List ℕ) → same_text other byte_kind ≡ false
+      → SpellsExtra last events now → Silent other events
 
 -- Events of other uses leave what a `Bytes` stands for.
 abbrev pub OthersLeaveExtras : Type 0
-OthersLeaveExtras = (earlier others : List Event) (extras : List (List ℕ)) (st : ExtraState) → Silent byte_kind others → ExtraStands earlier extras st → ExtraStands (earlier ++ others) extras st
+OthersLeaveExtras = (earlier others : List Event) (extras : List (List ℕ)) (st : ExtraState) → Silent byte_kind others
+    → ExtraStands earlier extras st → ExtraStands (earlier ++ others) extras st

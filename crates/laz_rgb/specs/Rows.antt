@@ -1,4 +1,5 @@
--- A row of bytes, each under a model of its own, and each coded only if it is marked. Colours and extra bytes are such rows.
+-- A row of bytes, each under a model of its own, and each coded only if it is marked. Colours and extra bytes are such
+-- rows.
 use Rattle.std.specs.Prelude.{◌≡◌, ℕ, ◌+◌, ◌-◌, ◌%◌, ◌<◌, Bool, true, false, if◌then◌else◌, List, [], ◌∷◌, ◌++◌, length}
 use Rattle.laz_range.specs.Cut.{Cut}
 use Rattle.laz_models.specs.Counting.{Counting}
@@ -18,7 +19,8 @@ byte_of false predicted previous s = previous
 
 -- The events of a row whose first model is m: a symbol for each marked byte.
 abbrev pub row_events : List ℕ → List Bool → ℕ → List ℕ → List Event
-row_events kind (t ∷ marks) m (s ∷ symbols) = if_marked t (byte_events kind m s) ++ row_events kind marks (m + 1) symbols
+row_events kind (t ∷ marks) m (s ∷ symbols) =
+    if_marked t (byte_events kind m s) ++ row_events kind marks (m + 1) symbols
 row_events kind marks m symbols = []
 
 -- The symbols of a row: below 256 for each marked byte, else 0, which stands for none.
@@ -58,4 +60,8 @@ next_cuts row s = byte_cuts (first_mark row.marks) row.bank row.model s
 
 -- The row after it.
 abbrev pub next_row : Row → ℕ → Row
-next_row row s = record { marks = more_marks row.marks; model = row.model + 1; bank = byte_next (first_mark row.marks) row.bank row.model s }
+next_row row s = record {
+  marks = more_marks row.marks;
+  model = row.model + 1;
+  bank = byte_next (first_mark row.marks) row.bank row.model s;
+}

@@ -1,5 +1,6 @@
 //! The item BYTE.
-ghost use Rattle.std.specs.Prelude.{◌≡◌, ◌<◌, ◌≤◌, ◌+◌, ◌*◌, ◌++◌, [], ◌∷◌, List, ℕ, length, vec_len, false, true, IfOk, MatchResult, OnErr, OnOk};
+ghost use Rattle.std.specs.Prelude.{◌≡◌, ◌<◌, ◌≤◌, ◌+◌, ◌*◌, ◌++◌, [], ◌∷◌, List, ℕ, length, vec_len, false, true};
+ghost use Rattle.std.specs.Prelude.{IfOk, MatchResult, OnErr, OnOk};
 ghost use Rattle.laz_range.specs.Coding.{Codes};
 ghost use Rattle.laz_range.specs.Choice.{AreAsked, all_cuts, state_after};
 ghost use Rattle.laz_range.specs.Decoding.{NoneBegins, Refuses, Takes};
@@ -8,7 +9,8 @@ ghost use Rattle.laz_integer.specs.Events.{Event, Name, cuts_after};
 ghost use Rattle.laz_integer.specs.Ranged.{AreRanged};
 ghost use Rattle.laz_rgb.specs.Rows.{AreRowModels, IsNext, byte_of, next_cuts, next_row, row_at};
 ghost use Rattle.laz_rgb.specs.Extra.{all_marked, extra_events, extra_made, extra_symbols};
-ghost use Rattle.laz_rgb.specs.Items.{ExtraStands, HasExtraSizes, IsSpelledExtra, OneBegins, ReadsExtra, latest_extra, spelled_cuts};
+ghost use Rattle.laz_rgb.specs.Items.{ExtraStands, HasExtraSizes, IsSpelledExtra, OneBegins, ReadsExtra, latest_extra};
+ghost use Rattle.laz_rgb.specs.Items.{spelled_cuts};
 
 use crate::writing::symbol_of;
 use laz_integer::{put_byte, take_byte, take_symbol_of};
@@ -19,8 +21,8 @@ use std::marker::Model;
 
 /// Codes and reads the extra bytes of a chunk's points, as LASzip's BYTE, version 2.
 ///
-/// Every record has the same number of extra bytes. After `start` the item stands for the chunk's first ones, and each call
-/// adds those of a point to those that it stands for. Only `new` takes memory.
+/// Every record has the same number of extra bytes. After `start` the item stands for the chunk's first ones, and each
+/// call adds those of a point to those that it stands for. Only `new` takes memory.
 #[derive(Drop)]
 pub struct Bytes {
     bank: ModelBank,
@@ -43,8 +45,12 @@ fn put_bytes(encoder: &mut Encoder, bank: &mut ModelBank, last: &[u8], part: &[u
     requires few { length last.now < 193 }
     requires models { AreRowModels (length last.now) 0 bank.old }
     requires left { 3 * length last.now ≤ encoder.old.left }
-    ensures codes { Codes encoder.old encoder.new (all_cuts next_row next_cuts (row_at (all_marked (length last.now)) 0 bank.old) (extra_symbols last.now part.now)) }
-    ensures next { bank.new ≡ (state_after next_row (row_at (all_marked (length last.now)) 0 bank.old) (extra_symbols last.now part.now)).bank }
+    ensures codes { Codes encoder.old encoder.new
+        (all_cuts next_row next_cuts (row_at (all_marked (length last.now)) 0 bank.old)
+        (extra_symbols last.now part.now)) }
+    ensures next { bank.new ≡
+        (state_after next_row (row_at (all_marked (length last.now)) 0 bank.old)
+        (extra_symbols last.now part.now)).bank }
     ensures sizes { alphabet_sizes bank.new ≡ alphabet_sizes bank.old }
     ensures used { encoder.old.left ≤ encoder.new.left + 3 * length last.now }
 {
@@ -73,7 +79,13 @@ fn take_bytes(
     requires part { length part.old ≡ length last.now }
     requires few { length last.now < 193 }
     requires models { AreRowModels (length last.now) 0 bank.old }
-    ensures reads { let row = row_at (all_marked (length last.now)) 0 bank.old in MatchResult result (λ _. (xs : List ℕ) × Takes (AreAsked next_row IsNext row (length last.now)) (all_cuts next_row next_cuts row) decoder.old decoder.new xs × (part.new ≡ extra_made last.now xs) × (bank.new ≡ (state_after next_row row xs).bank)) (λ _. Refuses (AreAsked next_row IsNext row (length last.now)) (all_cuts next_row next_cuts row) decoder.old decoder.new) }
+    ensures reads { let row = row_at (all_marked (length last.now)) 0 bank.old in
+        MatchResult result (λ _. (xs : List ℕ)
+        × Takes (AreAsked next_row IsNext row (length last.now))
+        (all_cuts next_row next_cuts row) decoder.old decoder.new xs × (part.new ≡ extra_made last.now xs)
+        × (bank.new ≡ (state_after next_row row xs).bank))
+        (λ _. Refuses (AreAsked next_row IsNext row (length last.now))
+        (all_cuts next_row next_cuts row) decoder.old decoder.new) }
     ensures good { OnOk result (decoder.new.failed ≡ false) }
     ensures sizes { alphabet_sizes bank.new ≡ alphabet_sizes bank.old }
 {
@@ -114,24 +126,32 @@ impl Bytes {
         requires left { 3 * length self.old.last ≤ encoder.old.left }
         ensures extra { length self.new.last ≡ length self.old.last }
         ensures used { encoder.old.left ≤ encoder.new.left + 3 * length self.old.last }
-        ensures events { (earlier : List Event) (extras : List (List ℕ)) → ExtraStands earlier extras self.old → Codes encoder.old encoder.new (cuts_after earlier (extra_events (latest_extra extras) part.now)) }
-        ensures stands { (earlier : List Event) (extras : List (List ℕ)) → ExtraStands earlier extras self.old → ExtraStands (earlier ++ extra_events (latest_extra extras) part.now) (part.now ∷ extras) self.new }
+        ensures events { (earlier : List Event) (extras : List (List ℕ)) → ExtraStands earlier extras self.old
+            → Codes encoder.old encoder.new (cuts_after earlier (extra_events (latest_extra extras) part.now)) }
+        ensures stands { (earlier : List Event) (extras : List (List ℕ)) → ExtraStands earlier extras self.old
+            → ExtraStands (earlier ++ extra_events (latest_extra extras) part.now) (part.now ∷ extras) self.new }
     {
         put_bytes(encoder, &mut self.bank, &self.last, part);
         self.last.copy_from_slice(part);
     }
 
-    /// Reads the extra bytes of a record. `Bad` means that no spelling of them begins the rest of the bytes; the part is
-    /// then unspecified, and the item serves again only after `start`.
+    /// Reads the extra bytes of a record. `Bad` means that no spelling of them begins the rest of the bytes; the part
+    /// is then unspecified, and the item serves again only after `start`.
     pub fn read(&mut self, decoder: &mut Decoder<'_>, part: &mut [u8]) -> Result<(), Bad>
         requires good { decoder.old.failed ≡ false }
         requires part { length part.old ≡ length self.old.last }
         ensures part { length part.new ≡ length part.old }
         ensures extra { length self.new.last ≡ length self.old.last }
         ensures good { OnOk result (decoder.new.failed ≡ false) }
-        ensures reads { (earlier : List Event) (extras : List (List ℕ)) → ExtraStands earlier extras self.old → MatchResult result (λ _. ReadsExtra earlier extras part.new decoder.old decoder.new self.new) (λ _. Refuses (IsSpelledExtra extras) (spelled_cuts earlier) decoder.old decoder.new) }
-        ensures only { (earlier : List Event) (extras : List (List ℕ)) → ExtraStands earlier extras self.old → (sizes : Name → ℕ) → HasExtraSizes sizes (length part.old) → AreRanged sizes earlier → OnOk result (OneBegins (IsSpelledExtra extras) earlier decoder.old part.new) }
-        ensures none { (earlier : List Event) (extras : List (List ℕ)) → ExtraStands earlier extras self.old → (sizes : Name → ℕ) → HasExtraSizes sizes (length part.old) → AreRanged sizes earlier → OnErr result (NoneBegins (IsSpelledExtra extras) (spelled_cuts earlier) decoder.old) }
+        ensures reads { (earlier : List Event) (extras : List (List ℕ)) → ExtraStands earlier extras self.old
+            → MatchResult result (λ _. ReadsExtra earlier extras part.new decoder.old decoder.new self.new)
+            (λ _. Refuses (IsSpelledExtra extras) (spelled_cuts earlier) decoder.old decoder.new) }
+        ensures only { (earlier : List Event) (extras : List (List ℕ)) → ExtraStands earlier extras self.old
+            → (sizes : Name → ℕ) → HasExtraSizes sizes (length part.old) → AreRanged sizes earlier
+            → OnOk result (OneBegins (IsSpelledExtra extras) earlier decoder.old part.new) }
+        ensures none { (earlier : List Event) (extras : List (List ℕ)) → ExtraStands earlier extras self.old
+            → (sizes : Name → ℕ) → HasExtraSizes sizes (length part.old) → AreRanged sizes earlier
+            → OnErr result (NoneBegins (IsSpelledExtra extras) (spelled_cuts earlier) decoder.old) }
     {
         take_bytes(decoder, &mut self.bank, &self.last, part)?;
         self.last.copy_from_slice(part);

@@ -138,7 +138,8 @@ pub(crate) fn put_row(
     requires models { AreRowModels (length symbols.now) m bank.old }
     requires few { m + length symbols.now < 1024 }
     requires left { 3 * length symbols.now ≤ encoder.old.left }
-    ensures codes { Codes encoder.old encoder.new (all_cuts next_row next_cuts (row_at marks.now m bank.old) symbols.now) }
+    ensures codes { Codes encoder.old encoder.new
+        (all_cuts next_row next_cuts (row_at marks.now m bank.old) symbols.now) }
     ensures next { bank.new ≡ (state_after next_row (row_at marks.now m bank.old) symbols.now).bank }
     ensures sizes { alphabet_sizes bank.new ≡ alphabet_sizes bank.old }
     ensures used { encoder.old.left ≤ encoder.new.left + 3 * length symbols.now }
@@ -152,8 +153,10 @@ pub(crate) fn put_row(
 pub(crate) fn put_colour(encoder: &mut Encoder, bank: &mut ModelBank, last: &Colour, now: &Colour)
     requires sizes { alphabet_sizes bank.old ≡ 128 ∷ replicate 6 256 }
     requires left { 21 ≤ encoder.old.left }
-    ensures codes { let s = changes last.now now.now in Codes encoder.old encoder.new (colour_cuts bank.old s (colour_symbols s last.now now.now)) }
-    ensures next { let s = changes last.now now.now in bank.new ≡ colour_next bank.old s (colour_symbols s last.now now.now) }
+    ensures codes { let s = changes last.now now.now in
+        Codes encoder.old encoder.new (colour_cuts bank.old s (colour_symbols s last.now now.now)) }
+    ensures next { let s = changes last.now now.now in
+        bank.new ≡ colour_next bank.old s (colour_symbols s last.now now.now) }
     ensures sizes { alphabet_sizes bank.new ≡ alphabet_sizes bank.old }
     ensures used { encoder.old.left ≤ encoder.new.left + 21 }
     ensures few { changes last.now now.now < 128 }

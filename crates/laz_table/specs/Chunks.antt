@@ -1,5 +1,6 @@
 -- The chunks that the header and the laszip VLR of a file let a table have, and what a table is refused for.
-use Rattle.std.specs.Prelude.{◌≡◌, ◌≢◌, ℕ, ◌+◌, ◌-◌, ◌*◌, ◌/◌, ◌<◌, ◌≤◌, min, sum, map, All, Any, ◌⊎◌, Bool, true, false, Some, None, List, [], ◌∷◌, ◌++◌, length}
+use Rattle.std.specs.Prelude.{◌≡◌, ◌≢◌, ℕ, ◌+◌, ◌-◌, ◌*◌, ◌/◌, ◌<◌, ◌≤◌, min, sum, map, All, Any, ◌⊎◌, Bool, true}
+use Rattle.std.specs.Prelude.{false, Some, None, List, [], ◌∷◌, ◌++◌, length}
 use Rattle.std.specs.List.{range_with_len}
 use Rattle.las_header.specs.declared.refusal.Refusal.TheVariants as cause
 use Rattle.las_header.specs.Conditions.{Condition, IsFirst}
@@ -74,8 +75,8 @@ abbrev pub HasChunkSize : Blocks → Type 0
 HasChunkSize (Fixed chunk points) = 0 < chunk
 HasChunkSize (Counted points) = Unit {0}
 
--- What is read of a table that is not refused: the lists that the bytes hold, which are the only ones, and the number of
--- points of each chunk.
+-- What is read of a table that is not refused: the lists that the bytes hold, which are the only ones, and the number
+-- of points of each chunk.
 pub record IsAccepted (bytes : List ℕ) (blocks : Blocks) (total : ℕ) (sizes counts : List ℕ) : Type 0 where
   pub coded : List ℕ
   pub table : HasTable bytes blocks coded counts

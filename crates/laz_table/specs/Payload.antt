@@ -1,5 +1,6 @@
 -- The payload of the laszip VLR, as it is written (Isenburg, LASzip, PE&RS 2013).
-use Rattle.std.specs.Prelude.{ℕ, ◌/◌, ◌%◌, ◌==◌, nat_lt, Bool, true, false, if◌then◌else◌, List, [], ◌∷◌, ◌++◌, length, replicate}
+use Rattle.std.specs.Prelude.{ℕ, ◌/◌, ◌%◌, ◌==◌, nat_lt, Bool, true, false, if◌then◌else◌, List, [], ◌∷◌, ◌++◌, length}
+use Rattle.std.specs.Prelude.{replicate}
 use Rattle.byteorder.specs.Endian.{little_bytes}
 use Rattle.laz_table.specs.declared.limits.TheConstants.{CHUNKED_COMPRESSOR, ARITHMETIC_CODER, ITEM_VERSION}
 
@@ -16,7 +17,8 @@ item_if b kind size = if b then record { kind = kind; size = size } ∷ [] else 
 -- are extra bytes.
 abbrev pub items_of : (format extra : ℕ) → List Item
 items_of format extra =
-    item_if true 6 20 ++ (item_if (format % 2 == 1) 7 8 ++ (item_if (format / 2 == 1) 8 6 ++ item_if (nat_lt 0 extra) 0 extra))
+    item_if true 6 20 ++ (item_if (format % 2 == 1) 7 8
+    ++ (item_if (format / 2 == 1) 8 6 ++ item_if (nat_lt 0 extra) 0 extra))
 
 -- an item in the payload: type, size, version
 abbrev pub item_bytes : Item → List ℕ

@@ -15,7 +15,8 @@ use Rattle.laz_table.specs.declared.chunks.Blocks.{Blocks}
 use Rattle.laz_table.specs.declared.limits.TheConstants.{TABLE_START}
 use Rattle.laz_table.specs.Chunks.{IsChunkCount}
 use Rattle.laz_table.specs.Table.{HoldsEntries}
-use Rattle.laz_table.specs.Entries.{Entry, Latest, after_entry, context_of, entries_of, events_of, no_entry, prediction, signed, table_use}
+use Rattle.laz_table.specs.Entries.{Entry, Latest, after_entry, context_of, entries_of, events_of, no_entry, prediction}
+use Rattle.laz_table.specs.Entries.{signed, table_use}
 
 -- ---- writing
 -- the latest numbers after entries
@@ -48,7 +49,10 @@ number_made before x = cast_unsigned w32 (corrected 32 (signed before) x.0 x.1)
 
 -- the entry that a corrector makes
 abbrev pub entry_made : TableState → ℕ × ℕ → Entry
-entry_made st x = record { counts_points = st.counts_points; number = number_made (prediction st.counts_points st.latest) x }
+entry_made st x = record {
+  counts_points = st.counts_points;
+  number = number_made (prediction st.counts_points st.latest) x;
+}
 
 -- whether a number of points follows an entry
 abbrev pub next_counts_points : (counted counts_points : Bool) → Bool
@@ -76,7 +80,8 @@ entries_made st [] = []
 entries_made st (x ∷ xs) = entry_made st x ∷ entries_made (entry_next st x) xs
 
 -- a decoder has read a number
-pub record ReadsNumber (counts_points : Bool) (before number : ℕ) (models next : IntState) (old new : Decoding) : Type 0 where
+pub record ReadsNumber (counts_points : Bool) (before number : ℕ) (models next : IntState)
+    (old new : Decoding) : Type 0 where
   pub corrector : ℕ × ℕ
   pub takes : Takes (IsCorrector 32) (λ y. int_cuts models (context_of counts_points) y.0 y.1) old new corrector
   pub makes : number ≡ number_made before corrector
@@ -109,11 +114,13 @@ pub record AreLists (counted : Bool) (n : ℕ) (sizes counts : List ℕ) : Type 
 pub record OneTable (bytes : List ℕ) (n : ℕ) (counted : Bool) (sizes counts : List ℕ) : Type 0 where
   pub lists : AreLists counted n sizes counts
   pub holds : HoldsEntries bytes (entries_of sizes counts)
-  pub only : (others more : List ℕ) → AreLists counted n others more → HoldsEntries bytes (entries_of others more) → (others ≡ sizes) × (more ≡ counts)
+  pub only : (others more : List ℕ) → AreLists counted n others more → HoldsEntries bytes (entries_of others more)
+      → (others ≡ sizes) × (more ≡ counts)
 
 -- bytes hold no lists of n chunks
 abbrev pub NoTable : List ℕ → ℕ → (counted : Bool) → Type 0
-NoTable bytes n counted = (sizes counts : List ℕ) → AreLists counted n sizes counts → HoldsEntries bytes (entries_of sizes counts) → ⊥
+NoTable bytes n counted = (sizes counts : List ℕ) → AreLists counted n sizes counts
+    → HoldsEntries bytes (entries_of sizes counts) → ⊥
 
 -- the start of a table of chunks that there may be
 pub record IsTableStart (bytes : List ℕ) (blocks : Blocks) (n : ℕ) : Type 0 where

@@ -1,5 +1,6 @@
 -- What a packed file is refused for by its laszip VLR. The conditions follow those of a head.
-use Rattle.std.specs.Prelude.{ℕ, ◌+◌, ◌-◌, ◌*◌, ◌/◌, ◌==◌, nat_lt, nat_eq, min, not, ◌&&◌, ◌||◌, Bool, List, [], ◌∷◌, ◌++◌, length, take, drop}
+use Rattle.std.specs.Prelude.{ℕ, ◌+◌, ◌-◌, ◌*◌, ◌/◌, ◌==◌, nat_lt, nat_eq, min, not, ◌&&◌, ◌||◌, Bool, List, [], ◌∷◌}
+use Rattle.std.specs.Prelude.{◌++◌, length, take, drop}
 use Rattle.std.specs.List.{starts_with}
 use Rattle.las_header.specs.declared.limits.TheConstants.{VLR_HEAD}
 use Rattle.las_header.specs.declared.refusal.Refusal.{Refusal}
@@ -8,7 +9,8 @@ use Rattle.las_header.specs.declared.vlrs.VlrPlace.{VlrPlace}
 use Rattle.las_header.specs.Numbers.{number_at}
 use Rattle.las_header.specs.Fields.{format_of, format_size, record_length_of, points_of}
 use Rattle.las_header.specs.Vlrs.{laszip_vlrs_of}
-use Rattle.laz_table.specs.declared.limits.TheConstants.{ARITHMETIC_CODER, CHUNKED_COMPRESSOR, COUNTED_CHUNKS, MAX_CHUNKS, MAX_CHUNK_POINTS, PAYLOAD_ITEM, PAYLOAD_START}
+use Rattle.laz_table.specs.declared.limits.TheConstants.{ARITHMETIC_CODER, CHUNKED_COMPRESSOR, COUNTED_CHUNKS}
+use Rattle.laz_table.specs.declared.limits.TheConstants.{MAX_CHUNKS, MAX_CHUNK_POINTS, PAYLOAD_ITEM, PAYLOAD_START}
 use Rattle.laz_table.specs.Payload.{items_of, items_part}
 
 -- the payload of a VLR
@@ -51,7 +53,8 @@ lacks_vlr head = not (length (laszip_vlrs_of head) == 1)
 -- VlrShape: the payload is too short, or not as long as its number of items needs.
 abbrev pub has_other_shape : (payload : List ℕ) → Bool
 has_other_shape payload =
-    nat_lt (length payload) PAYLOAD_START || not (length payload == PAYLOAD_START + PAYLOAD_ITEM * number_at 2 32 payload)
+    nat_lt (length payload) PAYLOAD_START || not
+    (length payload == PAYLOAD_START + PAYLOAD_ITEM * number_at 2 32 payload)
 
 -- Compressor: the compressor or the coder is another one.
 abbrev pub has_other_compressor : (payload : List ℕ) → Bool
@@ -74,7 +77,8 @@ makes_many_chunks points chunk = not (is_counted chunk) && nat_lt MAX_CHUNKS (ch
 abbrev pub payload_causes : (format extra points : ℕ) → (payload : List ℕ) → List (Bool × Refusal)
 payload_causes format extra points payload =
     (has_other_shape payload, cause.VlrShape) ∷ (has_other_compressor payload, cause.Compressor)
-    ∷ (has_other_items format extra payload, cause.Items) ∷ (is_bad_chunk_size points (chunk_size_in payload), cause.ChunkSize)
+    ∷ (has_other_items format extra payload, cause.Items)
+    ∷ (is_bad_chunk_size points (chunk_size_in payload), cause.ChunkSize)
     ∷ (makes_many_chunks points (chunk_size_in payload), cause.TooManyChunks) ∷ []
 
 -- the conditions of a packed file that its laszip VLR decides, in order

@@ -47,8 +47,8 @@ pub struct ChunkList {
 /// Why a chunk table is refused, or not read.
 #[derive(Clone, Copy, Debug, PartialEq, Eq)]
 pub enum TableFault {
-    /// The bytes hold no table of the chunks that the file may have: there are fewer than 8 of them, the version is not 0,
-    /// the number of chunks is another, or no numbers of points and bytes are spelled by what follows.
+    /// The bytes hold no table of the chunks that the file may have: there are fewer than 8 of them, the version is not
+    /// 0, the number of chunks is another, or no numbers of points and bytes are spelled by what follows.
     Table,
     /// The chunks' numbers of bytes do not add up.
     ChunkSum,

@@ -1,6 +1,7 @@
 //! Chunk tables, as they are read.
 
-ghost use Rattle.std.specs.Prelude.{◌≡◌, ◌*◌, ◌+◌, ◌++◌, ◌<◌, ◌≤◌, ℕ, List, [], ◌∷◌, false, true, length, IfOk, MatchResult, OnOk};
+ghost use Rattle.std.specs.Prelude.{◌≡◌, ◌*◌, ◌+◌, ◌++◌, ◌<◌, ◌≤◌, ℕ, List, [], ◌∷◌, false, true, length, IfOk};
+ghost use Rattle.std.specs.Prelude.{MatchResult, OnOk};
 ghost use Rattle.laz_range.specs.Decoding.{TakesNone};
 ghost use Rattle.laz_integer.specs.Integer.{IsCorrector, IsInts, int_cuts};
 ghost use Rattle.laz_table.specs.Entries.{context_of, entries_of};
@@ -24,7 +25,8 @@ fn take_number(
     ensures models { IsInts 32 2 model.new }
     ensures reads { MatchResult result
         (λ number. ReadsNumber counts_points before number model.old model.new decoder.old decoder.new)
-        (λ _. TakesNone (IsCorrector 32) (λ y. int_cuts model.old (context_of counts_points) y.0 y.1) decoder.old decoder.new) }
+        (λ _. TakesNone (IsCorrector 32)
+        (λ y. int_cuts model.old (context_of counts_points) y.0 y.1) decoder.old decoder.new) }
     ensures good { OnOk result (decoder.new.failed ≡ false) }
 {
     let context = context_of(counts_points);
@@ -46,7 +48,8 @@ fn take_next(
     ensures reads { MatchResult result
         (λ number. ReadsNumber counts_points before number model.old model.new decoder.old decoder.new)
         (λ fault. IsFault fault
-        (TakesNone (IsCorrector 32) (λ y. int_cuts model.old (context_of counts_points) y.0 y.1) decoder.old decoder.new)) }
+        (TakesNone (IsCorrector 32)
+        (λ y. int_cuts model.old (context_of counts_points) y.0 y.1) decoder.old decoder.new)) }
     ensures good { OnOk result (decoder.new.failed ≡ false) }
     ensures items { IfOk result (λ number. numbers.new.items ≡ numbers.old.items ++ number ∷ []) }
 {
@@ -71,7 +74,8 @@ pub fn take_counts(
     requires models { IsInts 32 2 model.old }
     ensures len { IfOk result (λ counts. length counts.items ≡ chunks) }
     ensures reads { MatchResult result
-        (λ counts. ReadsEntries (table_start model.old false) chunks decoder.old decoder.new (entries_of [] counts.items))
+        (λ counts. ReadsEntries (table_start model.old false) chunks decoder.old decoder.new
+        (entries_of [] counts.items))
         (λ fault. IsFault fault (NoEntries (table_start model.old false) chunks decoder.old decoder.new)) }
 {
     let mut counts = Vec::new(alloc);
@@ -95,7 +99,8 @@ pub fn take_chunks(
     ensures counts { IfOk result (λ list. length list.counts.items ≡ chunks) }
     ensures sizes { IfOk result (λ list. length list.sizes.items ≡ chunks) }
     ensures reads { MatchResult result
-        (λ list. ReadsEntries (table_start model.old true) (2 * chunks) decoder.old decoder.new (entries_of list.sizes.items list.counts.items))
+        (λ list. ReadsEntries (table_start model.old true) (2 * chunks) decoder.old decoder.new
+        (entries_of list.sizes.items list.counts.items))
         (λ fault. IsFault fault (NoEntries (table_start model.old true) (2 * chunks) decoder.old decoder.new)) }
 {
     let mut sizes = Vec::new(alloc);

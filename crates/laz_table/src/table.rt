@@ -1,7 +1,9 @@
 //! The chunks of a packed file, read from its chunk table.
 
-ghost use Rattle.std.specs.Prelude.{◌≡◌, ◌<◌, ◌^◌, ◌↔◌, ℕ, length, sum, All, IfErr, IfNone, IfOk, IfSome, IsTrue, MatchResult};
-ghost use Rattle.laz_table.specs.Chunks.{AllowsSizes, AreSizes, HasChunkSize, IsAccepted, IsChunkCount, IsChunkSize, IsFirstFault, fixed_sizes, sizes_of};
+ghost use Rattle.std.specs.Prelude.{◌≡◌, ◌<◌, ◌^◌, ◌↔◌, ℕ, length, sum, All, IfErr, IfNone, IfOk, IfSome, IsTrue};
+ghost use Rattle.std.specs.Prelude.{MatchResult};
+ghost use Rattle.laz_table.specs.Chunks.{AllowsSizes, AreSizes, HasChunkSize, IsAccepted, IsChunkCount, IsChunkSize};
+ghost use Rattle.laz_table.specs.Chunks.{IsFirstFault, fixed_sizes, sizes_of};
 ghost use Rattle.laz_table.specs.declared.chunks.TableFault.TheVariants.{Memory};
 ghost use Rattle.laz_table.specs.Steps.{IsFault, IsTableStart, NoTable, OneTable};
 
@@ -14,12 +16,12 @@ use laz_integer::{IntModel, MAX_BITS};
 use laz_range::Decoder;
 use std::alloc::Global;
 
-/// Reads the chunk table that `bytes` begin with, those from the table on. `blocks` is what the head says of the chunks,
-/// with a fixed chunk size of at least 1, and `total` the number of bytes of all chunks, those before the table. The bytes
-/// after the table are not read.
+/// Reads the chunk table that `bytes` begin with, those from the table on. `blocks` is what the head says of the
+/// chunks, with a fixed chunk size of at least 1, and `total` the number of bytes of all chunks, those before the
+/// table. The bytes after the table are not read.
 ///
-/// The list has the number of points of each chunk for both kinds of chunks. The table is refused by the first of `Table`,
-/// `ChunkSum` and `PointSum` whose condition holds.
+/// The list has the number of points of each chunk for both kinds of chunks. The table is refused by the first of
+/// `Table`, `ChunkSum` and `PointSum` whose condition holds.
 pub fn read_table(
     alloc: Global,
     bytes: &[u8],

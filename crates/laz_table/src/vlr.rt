@@ -7,7 +7,9 @@ ghost use Rattle.las_header.specs.declared.refusal.Refusal.{Refusal};
 ghost use Rattle.las_header.specs.Fields.{is_packed};
 ghost use Rattle.las_header.specs.Refusals.{first_cause};
 ghost use Rattle.laz_table.specs.Payload.{item_bytes, items_of, items_part, laszip_payload, payload_start};
-ghost use Rattle.laz_table.specs.VlrCauses.{chunk_size_of, payload_at, payload_causes, vlr_causes, chunk_count, has_other_compressor, has_other_items, has_other_shape, is_bad_chunk_size, makes_many_chunks};
+ghost use Rattle.laz_table.specs.VlrCauses.{chunk_size_of, payload_at, payload_causes, vlr_causes, chunk_count};
+ghost use Rattle.laz_table.specs.VlrCauses.{has_other_compressor, has_other_items, has_other_shape, is_bad_chunk_size};
+ghost use Rattle.laz_table.specs.VlrCauses.{makes_many_chunks};
 
 use crate::limits::{
     ARITHMETIC_CODER, CHUNKED_COMPRESSOR, COUNTED_CHUNKS, ITEM_VERSION, MAX_CHUNK_POINTS,
@@ -19,7 +21,8 @@ use las_header::{
     Head, LAST_FORMAT, MAX_EXTRA, MAX_LASZIP_PAYLOAD, Refusal, VLR_HEAD, VlrPlace, u16_at, u32_at,
 };
 
-/// The payload of the laszip VLR of a file with point data of this format, 0 to 3, with `extra` bytes more a record, 0 to
+/// The payload of the laszip VLR of a file with point data of this format, 0 to 3, with `extra` bytes more a record, 0
+/// to
 /// 192. `chunk` is the number of points of a chunk, or [`COUNTED_CHUNKS`]. No memory is taken.
 pub fn vlr_of(format: u8, extra: u16, chunk: u32) -> ArrayVec<u8, 58>
     requires format { format ≤ LAST_FORMAT }

@@ -16,8 +16,8 @@ use laz_integer::{IntModel, MAX_BITS, MAX_INT_BYTES};
 use laz_range::Encoder;
 use std::alloc::{AllocError, Global};
 
-/// The chunk table of a file whose chunks have a fixed number of points: `counts` has the size of each chunk in bytes, of
-/// at most 2^24 chunks.
+/// The chunk table of a file whose chunks have a fixed number of points: `counts` has the size of each chunk in bytes,
+/// of at most 2^24 chunks.
 pub fn table_of(alloc: Global, counts: &[u32]) -> Result<Vec<u8>, AllocError>
     requires { length counts.now ≤ MAX_CHUNKS }
     ensures { IfOk result (λ table. table.items ≡ table_bytes [] counts.now) }
@@ -32,8 +32,8 @@ pub fn table_of(alloc: Global, counts: &[u32]) -> Result<Vec<u8>, AllocError>
     Ok(table_from(encoder))
 }
 
-/// The chunk table of a file whose chunks have a number of points of their own: `sizes` has the number of points of each
-/// chunk and `counts` its size in bytes. Both are of one length, at most 2^24.
+/// The chunk table of a file whose chunks have a number of points of their own: `sizes` has the number of points of
+/// each chunk and `counts` its size in bytes. Both are of one length, at most 2^24.
 pub fn counted_table_of(alloc: Global, sizes: &[u32], counts: &[u32]) -> Result<Vec<u8>, AllocError>
     requires same { length sizes.now ≡ length counts.now }
     requires few { length counts.now ≤ MAX_CHUNKS }

@@ -1,6 +1,7 @@
--- Claims: numbers that threads draw from one shared word, and what the passes know of it. A view is what one pass knows, plain data that exists in proofs alone.
--- The steps and the rule are this project's own.
-use Rattle.std.specs.Prelude.{◌≡◌, ℕ, ◌+◌, ◌-◌, ◌^◌, ◌<◌, ◌≤◌, Bool, true, false, not, ◌&&◌, nat_lt, nat_le, List, [], ◌∷◌, ◌++◌, All, count_by, sum_by, slice_set}
+-- Claims: numbers that threads draw from one shared word, and what the passes know of it. A view is what one pass
+-- knows, plain data that exists in proofs alone. The steps and the rule are this project's own.
+use Rattle.std.specs.Prelude.{◌≡◌, ℕ, ◌+◌, ◌-◌, ◌^◌, ◌<◌, ◌≤◌, Bool, true, false, not, ◌&&◌, nat_lt, nat_le, List, []}
+use Rattle.std.specs.Prelude.{◌∷◌, ◌++◌, All, count_by, sum_by, slice_set}
 use mathlib.Core.Option.{some}
 use lib.ListN.{get_elem?}
 use Rattle.atomic_table.specs.Table.{State, Step, Me}
@@ -22,7 +23,17 @@ is_split v = not v.opens && not v.gone
 
 -- making: the opening pass has drawn nothing
 abbrev pub opened : Sizes → View
-opened s = record { opens = true; gone = false; drawn = []; spent = false; rest = s.workers - 1; out = 0; joins = 0; total = s.total; workers = s.workers }
+opened s = record {
+  opens = true;
+  gone = false;
+  drawn = [];
+  spent = false;
+  rest = s.workers - 1;
+  out = 0;
+  joins = 0;
+  total = s.total;
+  workers = s.workers;
+}
 
 -- `split_seat`: what the opening pass is then
 abbrev pub split_from : View → View
@@ -30,9 +41,20 @@ split_from v = record v { rest = v.rest - 1; out = v.out + 1 }
 
 -- `split_seat`: the new pass
 abbrev pub split_off : View → View
-split_off v = record { opens = false; gone = false; drawn = []; spent = false; rest = 0; out = 0; joins = 0; total = v.total; workers = v.workers }
+split_off v = record {
+  opens = false;
+  gone = false;
+  drawn = [];
+  spent = false;
+  rest = 0;
+  out = 0;
+  joins = 0;
+  total = v.total;
+  workers = v.workers;
+}
 
--- `fetch_add`: the old word is added to the caller's list, and the caller is spent exactly if that number is at or past the total
+-- `fetch_add`: the old word is added to the caller's list, and the caller is spent exactly if that number is at or past
+-- the total
 abbrev pub drew : View → ℕ → View
 drew v word = record v { drawn = v.drawn ++ word ∷ []; spent = nat_le v.total word }
 
@@ -42,7 +64,17 @@ joined v other = record v { drawn = v.drawn ++ other.drawn; out = v.out - 1; joi
 
 -- `join_seat`: the other is gone, with an empty list
 abbrev pub gone : View
-gone = record { opens = false; gone = true; drawn = []; spent = false; rest = 0; out = 0; joins = 0; total = 0; workers = 0 }
+gone = record {
+  opens = false;
+  gone = true;
+  drawn = [];
+  spent = false;
+  rest = 0;
+  out = 0;
+  joins = 0;
+  total = 0;
+  workers = 0;
+}
 
 -- The rule.
 
@@ -58,7 +90,8 @@ pub record Fits (total workers splits : ℕ) (v : View) : Type 0 where
   pub out : v.opens ≡ true → v.out ≡ splits
   -- each worker has a pass that is the opening one, was joined to it, is out or may still be split off
   pub seats : v.opens ≡ true → v.rest + v.out + v.joins + 1 ≡ workers
-  -- the opening pass holds at most as many numbers at or past the total as passes were joined, and one more if it is spent
+  -- the opening pass holds at most as many numbers at or past the total as passes were joined, and one more if it is
+  -- spent
   pub opening : v.opens ≡ true → past total v.drawn ≤ v.joins + one_if v.spent
 
 -- The rule of the word and the views
@@ -115,7 +148,8 @@ InRange s = (s.total ≤ 2 ^ 24) × (0 < s.workers) × (s.workers ≤ 8)
 abbrev pub Holds : Sizes → State (Unit {0}) View → Type 0
 Holds s state = InRange s × ((word : ℕ) × (state.words ≡ word ∷ []) × Kept s.total s.workers word state.views)
 
--- What the caller of a `fetch_add` knows: the number is added to its list, and is greater than each that it held. If the caller is the opening pass and no other is out, its list holds each number below the word that is left
+-- What the caller of a `fetch_add` knows: the number is added to its list, and is greater than each that it held. If
+-- the caller is the opening pass and no other is out, its list holds each number below the word that is left
 pub record Draw (step : Step (Unit {0})) (v : Me (Unit {0}) View) (word : ℕ) (w : Me (Unit {0}) View) : Type 0 where
   pub view : w.0 ≡ drew v.0 word
   pub slots : w.1 ≡ v.1
@@ -131,7 +165,14 @@ pub record Look (step : Step (Unit {0})) (v : Me (Unit {0}) View) (word : ℕ) (
 
 -- What a pass shows of its view.
 abbrev pub seen : TableId → View → PassSeen
-seen id v = record { claims = record { word = id; total = v.total; workers = v.workers }; opens = v.opens; drawn = v.drawn; spent = v.spent; rest = v.rest; out = v.out }
+seen id v = record {
+  claims = record { word = id; total = v.total; workers = v.workers };
+  opens = v.opens;
+  drawn = v.drawn;
+  spent = v.spent;
+  rest = v.rest;
+  out = v.out;
+}
 
 -- What each pass keeps of its own view
 pub record IsLive (v : View) : Type 0 where
@@ -140,10 +181,13 @@ pub record IsLive (v : View) : Type 0 where
   pub seats : v.opens ≡ true → v.rest + v.out + v.joins + 1 ≡ v.workers
   pub few : v.workers ≤ 8
 
--- Whatever steps the passes take, and in whatever order, the rule holds after each of them, and the word is at most the total plus the number of workers
+-- Whatever steps the passes take, and in whatever order, the rule holds after each of them, and the word is at most the
+-- total plus the number of workers
 abbrev pub EveryRunKeepsTheRule : Type 0
-EveryRunKeepsTheRule = (sizes : Sizes) (events : List Event) (s : Claiming) → InRange sizes → Run (made sizes) events s → Kept sizes.total sizes.workers s.word s.views × (s.word ≤ sizes.total + sizes.workers)
+EveryRunKeepsTheRule = (sizes : Sizes) (events : List Event) (s : Claiming) → InRange sizes → Run (made sizes) events s
+    → Kept sizes.total sizes.workers s.word s.views × (s.word ≤ sizes.total + sizes.workers)
 
 -- If the claims can be closed, the opening pass holds each number below the word once, and no other
 abbrev pub EveryCloseIsWhole : Type 0
-EveryCloseIsWhole = (total workers : ℕ) (s : Claiming) (i : ℕ) → Kept total workers s.word s.views → Leads s (closes i) s → (v : View) → Has s i v → HoldsBelow s.word v.drawn
+EveryCloseIsWhole = (total workers : ℕ) (s : Claiming) (i : ℕ) → Kept total workers s.word s.views
+    → Leads s (closes i) s → (v : View) → Has s i v → HoldsBelow s.word v.drawn

@@ -1,5 +1,6 @@
 -- What contracts see of a crew: the rooms of its hands, and their spaces.
-use Rattle.std.specs.Prelude.{◌≡◌, ℕ, Option, Some, None, option_to_list, List, [], ◌∷◌, length, take, map, flat_map, Contains}
+use Rattle.std.specs.Prelude.{◌≡◌, ℕ, Option, Some, None, option_to_list, List, [], ◌∷◌, length, take, map, flat_map}
+use Rattle.std.specs.Prelude.{Contains}
 use Rattle.laz_workers.specs.declared.held.Held.{Held}
 use Rattle.laz_workers.specs.declared.held.Held.TheVariants.{Empty, Full, Refused}
 

@@ -1,5 +1,6 @@
 -- What `run_all` needs of the passes, what the work of one hand does, and what `run_all` leaves.
-use Rattle.std.specs.Prelude.{◌≡◌, ℕ, ◌+◌, ◌-◌, ◌<◌, ◌≤◌, true, false, nat_lt, Option, Some, None, List, [], ◌∷◌, ◌++◌, length, filter, All, slice_index_or, ◌⊎◌}
+use Rattle.std.specs.Prelude.{◌≡◌, ℕ, ◌+◌, ◌-◌, ◌<◌, ◌≤◌, true, false, nat_lt, Option, Some, None, List, [], ◌∷◌, ◌++◌}
+use Rattle.std.specs.Prelude.{length, filter, All, slice_index_or, ◌⊎◌}
 use Rattle.laz_workers.specs.declared.hand.Hand.{Hand}
 use Rattle.laz_workers.specs.declared.held.Held.TheVariants.{Empty}
 use Rattle.laz_workers.specs.Numbers.{HoldsBelow}
@@ -11,7 +12,8 @@ use Rattle.laz_workers.specs.Work.{HoldsAnswer, both_rooms}
 -- A pass for each hand, before any of them draws: the first is the opening one, and the others were split from it
 pub record Dealt (claims : ClaimsSeen) (passes : List PassSeen) : Type 0 where
   pub fresh : All (λ p. (p.claims ≡ claims) × (p.drawn ≡ []) × (p.spent ≡ false)) passes
-  pub opening : (d : PassSeen) → ((slice_index_or passes 0 d).opens ≡ true) × ((slice_index_or passes 0 d).out ≡ length passes - 1)
+  pub opening : (d : PassSeen)
+      → ((slice_index_or passes 0 d).opens ≡ true) × ((slice_index_or passes 0 d).out ≡ length passes - 1)
   pub split : (k : ℕ) (d : PassSeen) → 0 < k → k < length passes → (slice_index_or passes k d).opens ≡ false
 
 -- The numbers of a list that are below the total
@@ -27,12 +29,14 @@ abbrev pub EndsPast : ℕ → List ℕ → Type 0
 EndsPast total numbers = (earlier : List ℕ) × (last : ℕ) × (numbers ≡ earlier ++ last ∷ []) × (total ≤ last)
 
 -- What the work of one hand does, with the pass that it holds
-pub record Worked {S : Type 0} (claims : ClaimsSeen) (answer : List ℕ → Option (List ℕ) → Type 0) (inputs : List (List ℕ)) (suits : S → Type 0) (old new : Hand S) : Type 0 where
+pub record Worked {S : Type 0} (claims : ClaimsSeen) (answer : List ℕ → Option (List ℕ) → Type 0)
+    (inputs : List (List ℕ)) (suits : S → Type 0) (old new : Hand S) : Type 0 where
   pub before : PassSeen
   pub after : PassSeen
   pub numbers : List ℕ
   pub held_before : old.pass ≡ Some before
-  -- it still holds its pass: one of the same claims, the opening one or a split one as before, with the same `rest` and `out`
+  -- it still holds its pass: one of the same claims, the opening one or a split one as before, with the same `rest` and
+  -- `out`
   pub held_after : new.pass ≡ Some after
   pub claims_stay : after.claims ≡ before.claims
   pub opens_stays : after.opens ≡ before.opens
@@ -41,7 +45,8 @@ pub record Worked {S : Type 0} (claims : ClaimsSeen) (answer : List ℕ → Opti
   -- the rooms keep their lengths, and the space suits the job
   pub lengths : lengths_of (both_rooms (shown new)) ≡ lengths_of (both_rooms (shown old))
   pub suited : suits new.space
-  -- the numbers that it drew stand at the end of the pass's list, and those below the total in the first and then the second room
+  -- the numbers that it drew stand at the end of the pass's list, and those below the total in the first and then the
+  -- second room
   pub drawn : after.drawn ≡ before.drawn ++ numbers
   pub stand : numbers_in (both_rooms (shown new)) ≡ under claims.total numbers
   pub answered : All (HoldsAnswer answer inputs) (both_rooms (shown new))
@@ -50,8 +55,10 @@ pub record Worked {S : Type 0} (claims : ClaimsSeen) (answer : List ℕ → Opti
   -- if the pass is the opening one and no other is out, it holds, for some word, each number below it once and no other
   pub whole : after.opens ≡ true → after.out ≡ 0 → (word : ℕ) × HoldsBelow word after.drawn
 
--- A hand that is ready to work: it holds a pass of these claims that is not spent, its rooms are empty and every input fits them, and its space suits the job
-pub record IsReady {S : Type 0} (claims : ClaimsSeen) (fits : List ℕ → ℕ → Type 0) (inputs : List (List ℕ)) (suits : S → Type 0) (hand : Hand S) : Type 0 where
+-- A hand that is ready to work: it holds a pass of these claims that is not spent, its rooms are empty and every input
+-- fits them, and its space suits the job
+pub record IsReady {S : Type 0} (claims : ClaimsSeen) (fits : List ℕ → ℕ → Type 0) (inputs : List (List ℕ))
+    (suits : S → Type 0) (hand : Hand S) : Type 0 where
   pub pass : PassSeen
   pub held : hand.pass ≡ Some pass
   pub own : pass.claims ≡ claims
@@ -65,7 +72,8 @@ pub record IsReady {S : Type 0} (claims : ClaimsSeen) (fits : List ℕ → ℕ �
 
 -- the hand with empty rooms and this pass
 abbrev pub equipped : {S : Type 0} → Hand S → PassSeen → Hand S
-equipped hand pass = record { space = hand.space; first = emptied hand.first; second = emptied hand.second; pass = Some pass }
+equipped hand pass = record
+    { space = hand.space; first = emptied hand.first; second = emptied hand.second; pass = Some pass }
 
 -- Hand k of n holds a pass of these claims: hand 0 the opening one, with the other n - 1 out
 pub record HoldsPass {S : Type 0} (claims : ClaimsSeen) (n k : ℕ) (hand : Hand S) : Type 0 where
@@ -89,8 +97,9 @@ drawn_by hand = drawn_of hand.pass
 abbrev pub EveryInputFits : (List ℕ → ℕ → Type 0) → List (List ℕ) → List ℕ → Type 0
 EveryInputFits fits inputs lengths = All (λ n. All (λ input. fits input n) inputs) lengths
 
--- What the opening pass is once all others are joined to it: none is out, and for some word it holds each number below it once.
--- Without the numbers at or past the total, its list is the numbers of the rooms, hand by hand, each hand's first room before its second
+-- What the opening pass is once all others are joined to it: none is out, and for some word it holds each number below
+-- it once. Without the numbers at or past the total, its list is the numbers of the rooms, hand by hand, each hand's
+-- first room before its second
 pub record IsJoined (claims : ClaimsSeen) (rooms : List RoomSeen) (pass : PassSeen) : Type 0 where
   pub own : pass.claims ≡ claims
   pub opens : pass.opens ≡ true

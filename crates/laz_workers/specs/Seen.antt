@@ -1,5 +1,6 @@
 -- What contracts see of `Claims` and of a `Pass`.
-use Rattle.std.specs.Prelude.{◌≡◌, ℕ, ◌+◌, ◌-◌, ◌<◌, Bool, true, false, nat_lt, nat_le, if◌then◌else◌, Option, Some, None, List, [], ◌∷◌, ◌++◌, All}
+use Rattle.std.specs.Prelude.{◌≡◌, ℕ, ◌+◌, ◌-◌, ◌<◌, Bool, true, false, nat_lt, nat_le, if◌then◌else◌, Option, Some}
+use Rattle.std.specs.Prelude.{None, List, [], ◌∷◌, ◌++◌, All}
 use Rattle.laz_workers.specs.Numbers.{HoldsBelow}
 use Rattle.atomic_table.specs.Seated.{TableId}
 
@@ -9,7 +10,9 @@ pub record ClaimsSeen : Type 0 where
   pub total : ℕ
   pub workers : ℕ
 
--- the claims that it belongs to, whether it is the opening pass, the numbers that it drew, in order, whether one of its own was at or past the total, how many passes may still be split from it, and how many were split from it and not joined
+-- the claims that it belongs to, whether it is the opening pass, the numbers that it drew, in order, whether one of its
+-- own was at or past the total, how many passes may still be split from it, and how many were split from it and not
+-- joined
 pub record PassSeen : Type 0 where
   pub claims : ClaimsSeen
   pub opens : Bool
@@ -30,8 +33,9 @@ split_pass p = record { claims = p.claims; opens = false; drawn = []; spent = fa
 abbrev pub answer_of : ℕ → ℕ → Option ℕ
 answer_of total number = if nat_lt number total then Some number else None
 
--- The pass drew the number: it follows the others in the list and is greater than each, and the pass is spent exactly if the number is at or past the total. All else stays.
--- If the pass is the opening one and no other is out, it then holds each number below the word that this step left, once, and no other
+-- The pass drew the number: it follows the others in the list and is greater than each, and the pass is spent exactly
+-- if the number is at or past the total. All else stays. If the pass is the opening one and no other is out, it then
+-- holds each number below the word that this step left, once, and no other
 pub record Drew (old new : PassSeen) (number : ℕ) : Type 0 where
   pub pass : new ≡ record old { drawn = old.drawn ++ number ∷ []; spent = nat_le old.claims.total number }
   pub greater : All (λ x. x < number) old.drawn

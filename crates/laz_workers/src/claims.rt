@@ -1,4 +1,5 @@
-ghost use Rattle.std.specs.Prelude.{◌≡◌, ℕ, ◌+◌, ◌-◌, ◌^◌, ◌<◌, ◌≤◌, IfOk, IfErr, IsOk, IfSome, true, false, ◌++◌, vec_len, vec_capacity};
+ghost use Rattle.std.specs.Prelude.{◌≡◌, ℕ, ◌+◌, ◌-◌, ◌^◌, ◌<◌, ◌≤◌, IfOk, IfErr, IsOk, IfSome, true, false, ◌++◌};
+ghost use Rattle.std.specs.Prelude.{vec_len, vec_capacity};
 ghost use Rattle.laz_workers.specs.Numbers.{HoldsBelow};
 ghost use Rattle.laz_workers.specs.Seen.{opening_pass, split_pass, answer_of, Drew};
 ghost use Rattle.laz_workers.specs.Run.{Dealt};
@@ -11,8 +12,8 @@ use std::marker::Model;
 
 /// The numbers below a total, which passes draw from one shared word, each number once in any schedule of threads.
 ///
-/// A claim is one `fetch_add` on the word. Claims are shared by reference, and each thread draws with a pass of its own. The
-/// steps and the rule that they keep are this project's own.
+/// A claim is one `fetch_add` on the word. Claims are shared by reference, and each thread draws with a pass of its
+/// own. The steps and the rule that they keep are this project's own.
 #[derive(Drop)]
 pub struct Claims {
     table: Table<(), View, Sizes, Claiming, Global>,
@@ -26,14 +27,16 @@ impl Model for Claims {
 
     ghost use Rattle.std.specs.Prelude.{◌≡◌, ◌<◌, ◌≤◌};
 
-    ghost view = { λ c. record { word = c.table.shared.table_id; total = c.table.shared.key.total; workers = c.table.shared.key.workers } };
+    ghost view = { λ c. record
+        { word = c.table.shared.table_id; total = c.table.shared.key.total; workers = c.table.shared.key.workers } };
 
-    ghost invariant = { λ c. (c.table.shared.table_id.words ≡ 1) × (c.table.shared.table_id.slots ≡ 0) × (c.total ≡ c.table.shared.key.total) × (0 < c.table.shared.key.workers) × (c.table.shared.key.workers ≤ 8) };
+    ghost invariant = { λ c. (c.table.shared.table_id.words ≡ 1) × (c.table.shared.table_id.slots ≡ 0)
+        × (c.total ≡ c.table.shared.key.total) × (0 < c.table.shared.key.workers) × (c.table.shared.key.workers ≤ 8) };
 }
 
 impl Claims {
-    /// Claims on the numbers below `total`, which is at most 2^24, and the opening pass. There are at most `workers` passes
-    /// at once, 1 to 8: the opening pass can have `workers - 1` others split from it. `Err` means out of memory.
+    /// Claims on the numbers below `total`, which is at most 2^24, and the opening pass. There are at most `workers`
+    /// passes at once, 1 to 8: the opening pass can have `workers - 1` others split from it. `Err` means out of memory.
     pub fn new(alloc: Global, total: u32, workers: u32) -> Result<(Claims, Pass), AllocError>
         requires total { total ≤ 2 ^ 24 }
         requires workers { (0 < workers) × (workers ≤ 8) }
@@ -49,7 +52,8 @@ impl Claims {
         Ok((Claims { table, total }, pass))
     }
 
-    /// Splits a pass from the opening one, with nothing drawn, for a thread of its own. Only the opening pass has a rest.
+    /// Splits a pass from the opening one, with nothing drawn, for a thread of its own. Only the opening pass has a
+    /// rest.
     pub fn split(&self, pass: &mut Pass) -> Pass
         requires own { pass.old.claims ≡ self.now }
         requires rest { 0 < pass.old.rest }
@@ -67,11 +71,11 @@ impl Claims {
         }
     }
 
-    /// Deals a pass to each worker: `passes` gets the opening pass and then the `workers - 1` others, which are split from
-    /// it. None of them has drawn.
+    /// Deals a pass to each worker: `passes` gets the opening pass and then the `workers - 1` others, which are split
+    /// from it. None of them has drawn.
     ///
-    /// `passes` is empty before. With a capacity of `workers`, as a list that was dealt to before has, no memory is taken
-    /// and the answer is `Ok`. `Err` means out of memory: the list stays empty, and the opening pass is dropped.
+    /// `passes` is empty before. With a capacity of `workers`, as a list that was dealt to before has, no memory is
+    /// taken and the answer is `Ok`. `Err` means out of memory: the list stays empty, and the opening pass is dropped.
     pub fn deal(&self, mut opening: Pass, passes: &mut Vec<Pass>) -> Result<(), AllocError>
         requires opening { opening ≡ opening_pass self.now }
         requires empty { vec_len passes.old ≡ 0 }
@@ -90,8 +94,8 @@ impl Claims {
         Ok(())
     }
 
-    /// Draws the next number, in one atomic step. `None` means that it is at or past the total: the pass is then spent, and
-    /// draws no further number.
+    /// Draws the next number, in one atomic step. `None` means that it is at or past the total: the pass is then spent,
+    /// and draws no further number.
     pub fn claim(&self, pass: &mut Pass) -> Option<u32>
         requires own { pass.old.claims ≡ self.now }
         requires unspent { pass.old.spent ≡ false }
@@ -123,8 +127,8 @@ impl Claims {
         pass.out -= 1;
     }
 
-    /// Ends the claims, and gives the word: how many numbers were drawn in all, those at or past the total included. The
-    /// opening pass holds each number below it once, in the order in which the passes drew and were joined.
+    /// Ends the claims, and gives the word: how many numbers were drawn in all, those at or past the total included.
+    /// The opening pass holds each number below it once, in the order in which the passes drew and were joined.
     pub fn close(self, pass: Pass) -> u64
         requires own { pass.claims ≡ self }
         requires opening { pass.opens ≡ true }

@@ -1,5 +1,7 @@
-ghost use Rattle.std.specs.Prelude.{◌≡◌, ◌+◌, ◌<◌, [], ◌∷◌, ◌++◌, length, ℕ, ◌≤◌, Option, List, All, Contains, slice_index_or, IfOk, IfErr, option_copied};
-ghost use Rattle.laz_workers.specs.Rooms.{RoomSeen, HandSeen, IsEmptyRoom, IsNew, StandsIn, answer_in, numbers_in, rooms_of, lengths_of};
+ghost use Rattle.std.specs.Prelude.{◌≡◌, ◌+◌, ◌<◌, [], ◌∷◌, ◌++◌, length, ℕ, ◌≤◌, Option, List, All, Contains};
+ghost use Rattle.std.specs.Prelude.{slice_index_or, IfOk, IfErr, option_copied};
+ghost use Rattle.laz_workers.specs.Rooms.{RoomSeen, HandSeen, IsEmptyRoom, IsNew, StandsIn, answer_in, numbers_in};
+ghost use Rattle.laz_workers.specs.Rooms.{rooms_of, lengths_of};
 
 use crate::hand::Hand;
 use crate::room::Room;
@@ -36,12 +38,14 @@ impl<S> Crew<S> {
         }
     }
 
-    /// Adds a hand with this space and two empty rooms of `room` bytes each. `Err` means out of memory: it gives the space
-    /// back, and the crew is as before.
+    /// Adds a hand with this space and two empty rooms of `room` bytes each. `Err` means out of memory: it gives the
+    /// space back, and the crew is as before.
     pub fn add(&mut self, space: S, room: usize) -> Result<(), (S, AllocError)>
         requires { length self.old < 8 }
-        ensures ok { IfOk result (λ _. (hand : HandSeen S) × (self.new ≡ self.old ++ hand ∷ []) × IsNew space room hand) }
-        ensures lengths { IfOk result (λ _. lengths_of (rooms_of self.new) ≡ lengths_of (rooms_of self.old) ++ room ∷ room ∷ []) }
+        ensures ok { IfOk result
+            (λ _. (hand : HandSeen S) × (self.new ≡ self.old ++ hand ∷ []) × IsNew space room hand) }
+        ensures lengths { IfOk result
+            (λ _. lengths_of (rooms_of self.new) ≡ lengths_of (rooms_of self.old) ++ room ∷ room ∷ []) }
         ensures err { IfErr result (λ e. (self.new ≡ self.old) × (e.0 ≡ space)) }
     {
         let alloc = *self.hands.allocator();
@@ -73,7 +77,8 @@ impl<S> Crew<S> {
     /// After `run_all`, whose `answers` clause says what each room holds, it is the job's own answer to that input.
     pub fn result(&self, number: u32) -> Option<&[u8]>
         requires { Contains (numbers_in (rooms_of self.now)) number }
-        ensures { (room : RoomSeen) × StandsIn (rooms_of self.now) number room × (option_copied result ≡ answer_in room.bytes room.held) }
+        ensures { (room : RoomSeen) × StandsIn (rooms_of self.now) number room
+            × (option_copied result ≡ answer_in room.bytes room.held) }
     {
         for hand in &self.hands {
             if hand.first.holds(number) {

@@ -3,9 +3,9 @@ ghost use Rattle.laz_workers.specs.Work.{Answers};
 
 /// The work that hands do on inputs, each by itself.
 ///
-/// A job has three meanings: which answers an input may have, as a relation; which inputs fit a room of which length; and
-/// which spaces suit the job. A relation serves a job that decodes: that bytes hold something is "some spelling exists",
-/// which no function of the bytes says.
+/// A job has three meanings: which answers an input may have, as a relation; which inputs fit a room of which length;
+/// and which spaces suit the job. A relation serves a job that decodes: that bytes hold something is "some spelling
+/// exists", which no function of the bytes says.
 pub trait Job: Sync {
     /// What a hand keeps from one input to the next.
     type Space: Send;
@@ -19,8 +19,8 @@ pub trait Job: Sync {
     /// Whether the job can work with the space.
     ghost suits: { Self → Self.Space → Type 0 };
 
-    /// Works one input. `Some(n)` leaves an answer of n bytes at the front of the room, and `None` refuses the input. The
-    /// room keeps its length; its other bytes are unspecified.
+    /// Works one input. `Some(n)` leaves an answer of n bytes at the front of the room, and `None` refuses the input.
+    /// The room keeps its length; its other bytes are unspecified.
     fn work(&self, input: &[u8], space: &mut Self::Space, room: &mut Vec<u8>) -> Option<usize>
         requires fits { fits self.now input.now (vec_len room.old) }
         requires suits { suits self.now space.old }

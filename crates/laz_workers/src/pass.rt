@@ -26,7 +26,8 @@ impl Model for Pass {
 
     ghost view = { λ p. seen p.seat.table_id p.seat.me.0 };
 
-    ghost invariant = { λ p. (p.seat.me.1 ≡ []) × IsLive p.seat.me.0 × (p.spent ≡ p.seat.me.0.spent) × (p.rest ≡ p.seat.me.0.rest) × (p.out ≡ p.seat.me.0.out) };
+    ghost invariant = { λ p. (p.seat.me.1 ≡ []) × IsLive p.seat.me.0 × (p.spent ≡ p.seat.me.0.spent)
+        × (p.rest ≡ p.seat.me.0.rest) × (p.out ≡ p.seat.me.0.out) };
 }
 
 impl Pass {

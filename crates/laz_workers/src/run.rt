@@ -1,11 +1,13 @@
-ghost use Rattle.std.specs.Prelude.{◌≡◌, ℕ, ◌+◌, ◌-◌, ◌*◌, ◌<◌, ◌≤◌, false, true, option_to_list, [], ◌∷◌, All, length, vec_len, vec_capacity, slice_index_or, map, flat_map, IsSome, Some, Contains};
+ghost use Rattle.std.specs.Prelude.{◌≡◌, ℕ, ◌+◌, ◌-◌, ◌*◌, ◌<◌, ◌≤◌, false, true, option_to_list, [], ◌∷◌, All, length};
+ghost use Rattle.std.specs.Prelude.{vec_len, vec_capacity, slice_index_or, map, flat_map, IsSome, Some, Contains};
 ghost use Rattle.laz_workers.specs.Numbers.{HoldsBelow};
 ghost use Rattle.laz_workers.specs.Shown.{shown};
 ghost use Rattle.laz_workers.specs.declared.held.Held.TheVariants.{Empty};
 ghost use Rattle.laz_workers.specs.declared.hand.Hand.{Hand};
 ghost use Rattle.laz_workers.specs.Seen.{PassSeen, Drew};
 ghost use Rattle.laz_workers.specs.Rooms.{number_of, numbers_in, rooms_of, lengths_of};
-ghost use Rattle.laz_workers.specs.Run.{under, IsReady, Worked, HoldsPass, Dealt, EveryInputFits, IsJoined, equipped, drawn_by};
+ghost use Rattle.laz_workers.specs.Run.{under, IsReady, Worked, HoldsPass, Dealt, EveryInputFits, IsJoined, equipped};
+ghost use Rattle.laz_workers.specs.Run.{drawn_by};
 ghost use Rattle.laz_workers.specs.Work.{HoldsAnswer, texts};
 
 use crate::claims::Claims;
@@ -60,7 +62,8 @@ fn fill<J: Job, G: Gate>(
     requires empty { room.old.held ≡ Empty }
     requires fits { All (λ input. J.fits job.now input (length room.old.bytes)) (texts inputs.now) }
     requires suits { J.suits job.now space.old }
-    ensures drawn { (number : ℕ) × Drew pass.old pass.new number × (option_to_list (number_of room.new.held) ≡ under claims.now.total (number ∷ [])) }
+    ensures drawn { (number : ℕ) × Drew pass.old pass.new number
+        × (option_to_list (number_of room.new.held) ≡ under claims.now.total (number ∷ [])) }
     ensures answered { HoldsAnswer (J.answer job.now) (texts inputs.now) room.new }
     ensures size { length room.new.bytes ≡ length room.old.bytes }
     ensures suits { J.suits job.now space.new }
@@ -71,8 +74,8 @@ fn fill<J: Job, G: Gate>(
     work_number(job, gate, inputs, number, space, room);
 }
 
-// The work of one hand: it claims while it has an empty room and its pass is not spent, and works the input of each number
-// that it drew below the total. Its clause is all that the fan-out needs.
+// The work of one hand: it claims while it has an empty room and its pass is not spent, and works the input of each
+// number that it drew below the total. Its clause is all that the fan-out needs.
 fn work_hand<J: Job, G: Gate>(
     job: &J,
     gate: &G,
@@ -112,7 +115,8 @@ fn equip<S>(hand: &mut Hand<S>, pass: Pass)
 // Empties all rooms, and gives pass h to hand h.
 fn equip_all<S>(hands: &mut [Hand<S>], passes: &mut Vec<Pass>)
     requires { vec_len passes.old ≡ length hands.old }
-    ensures hands { (k : ℕ) (d : Hand S) (e : PassSeen) → k < length hands.old → slice_index_or hands.new k d ≡ equipped (slice_index_or hands.old k d) (slice_index_or passes.old.items k e) }
+    ensures hands { (k : ℕ) (d : Hand S) (e : PassSeen) → k < length hands.old
+        → slice_index_or hands.new k d ≡ equipped (slice_index_or hands.old k d) (slice_index_or passes.old.items k e) }
     ensures passes { (vec_len passes.new ≡ 0) × (vec_capacity passes.new ≡ vec_capacity passes.old) }
 {
     while let Some(pass) = passes.pop() {
@@ -120,8 +124,8 @@ fn equip_all<S>(hands: &mut [Hand<S>], passes: &mut Vec<Pass>)
     }
 }
 
-// Works inputs by these hands, split among at most `threads` threads, one of them the caller's. Hands that share a thread,
-// or that no thread can be started for, work one after another.
+// Works inputs by these hands, split among at most `threads` threads, one of them the caller's. Hands that share a
+// thread, or that no thread can be started for, work one after another.
 fn work_in_threads<R: Threads + Sync, J: Job, G: Gate>(
     rt: &R,
     job: &J,
@@ -134,14 +138,17 @@ fn work_in_threads<R: Threads + Sync, J: Job, G: Gate>(
     requires threads { 0 < threads }
     requires inputs { length inputs.now ≡ claims.now.total }
     requires ready { All (IsReady claims.now (J.fits job.now) (texts inputs.now) (J.suits job.now)) hands.old }
-    ensures { (k : ℕ) (d : Hand J.Space) → k < length hands.old → Worked claims.now (J.answer job.now) (texts inputs.now) (J.suits job.now) (slice_index_or hands.old k d) (slice_index_or hands.new k d) }
+    ensures { (k : ℕ) (d : Hand J.Space) → k < length hands.old
+        → Worked claims.now (J.answer job.now) (texts inputs.now) (J.suits job.now) (slice_index_or hands.old k d)
+        (slice_index_or hands.new k d) }
 {
     thread::for_each_mut(
         rt,
         hands,
         threads,
         &|_, hand: &mut Hand<J::Space>|
-            requires { (length inputs.now ≡ claims.now.total) × IsReady claims.now (J.fits job.now) (texts inputs.now) (J.suits job.now) hand.old }
+            requires { (length inputs.now ≡ claims.now.total)
+                × IsReady claims.now (J.fits job.now) (texts inputs.now) (J.suits job.now) hand.old }
         { work_hand(job, gate, inputs, claims, hand) },
     );
 }
@@ -159,7 +166,9 @@ fn fan_out<R: Threads + Sync, J: Job, G: Gate>(
     requires hands { 0 < length hands.old }
     requires inputs { length inputs.now ≡ claims.now.total }
     requires ready { All (IsReady claims.now (J.fits job.now) (texts inputs.now) (J.suits job.now)) hands.old }
-    ensures { (k : ℕ) (d : Hand J.Space) → k < length hands.old → Worked claims.now (J.answer job.now) (texts inputs.now) (J.suits job.now) (slice_index_or hands.old k d) (slice_index_or hands.new k d) }
+    ensures { (k : ℕ) (d : Hand J.Space) → k < length hands.old
+        → Worked claims.now (J.answer job.now) (texts inputs.now) (J.suits job.now) (slice_index_or hands.old k d)
+        (slice_index_or hands.new k d) }
 {
     let threads = inputs.len().max(1).min(hands.len());
     let (busy, idle) = hands.split_at_mut(threads);
@@ -181,7 +190,8 @@ fn take_pass<S>(hand: &mut Hand<S>) -> Pass
 // Takes the passes out of the hands and joins them, in the order of the hands, to the first, which is the opening one.
 fn join_all<S>(claims: &Claims, hands: &mut [Hand<S>]) -> Pass
     requires hands { 0 < length hands.old }
-    requires passes { (k : ℕ) (d : Hand S) → k < length hands.old → HoldsPass claims.now (length hands.old) k (slice_index_or hands.old k d) }
+    requires passes { (k : ℕ) (d : Hand S) → k < length hands.old
+        → HoldsPass claims.now (length hands.old) k (slice_index_or hands.old k d) }
     ensures opening { (result.claims ≡ claims.now) × (result.opens ≡ true) × (result.out ≡ 0) }
     ensures drawn { result.drawn ≡ flat_map drawn_by hands.old }
     ensures whole { (word : ℕ) × HoldsBelow word result.drawn }
@@ -225,17 +235,17 @@ fn work_all<R: Threads + Sync, J: Job, G: Gate>(
 /// Works all inputs by the crew's hands, and joins their passes.
 ///
 /// There are as many passes as hands and none has drawn, as `Claims::deal` leaves them. There are as many inputs as the
-/// claims have numbers, at most two for each hand and so at most 16. Every input fits every room, and every hand's space
-/// suits the job.
+/// claims have numbers, at most two for each hand and so at most 16. Every input fits every room, and every hand's
+/// space suits the job.
 ///
-/// The rooms are emptied first, and pass h goes to hand h. Each hand then claims while it has an empty room and its pass
-/// is not spent, and works the input of each number that it draws below the total, between the gate's `enter` and
+/// The rooms are emptied first, and pass h goes to hand h. Each hand then claims while it has an empty room and its
+/// pass is not spent, and works the input of each number that it draws below the total, between the gate's `enter` and
 /// `leave` of that number. Which hand works which input depends on the schedule; the answers stand by number all the
 /// same. No more threads are started than there are inputs.
 ///
-/// Nothing is refused, and there is no answer for out of memory: if a thread cannot be started, the caller's thread does
-/// its work. At the end the threads have returned, and `passes` holds the opening pass alone, to which the others were
-/// joined.
+/// Nothing is refused, and there is no answer for out of memory: if a thread cannot be started, the caller's thread
+/// does its work. At the end the threads have returned, and `passes` holds the opening pass alone, to which the others
+/// were joined.
 pub fn run_all<R: Threads + Sync, J: Job, G: Gate>(
     rt: &R,
     job: &J,
@@ -260,7 +270,8 @@ pub fn run_all<R: Threads + Sync, J: Job, G: Gate>(
     ensures passes { (pass : PassSeen) × (passes.new.items ≡ pass ∷ []) × IsJoined claims.now (rooms_of crew.new) pass }
     ensures capacity { vec_capacity passes.new ≡ vec_capacity passes.old }
 
-    // The number of hands, at most eight, and the length of each room stay, so that at most 16 inputs are worked at once.
+    // The number of hands, at most eight, and the length of each room stay, so that at most 16 inputs are worked at
+    // once.
     ensures hands { length crew.new ≡ length crew.old }
     ensures few { length inputs.now ≤ 16 }
     ensures lengths { lengths_of (rooms_of crew.new) ≡ lengths_of (rooms_of crew.old) }

@@ -1,4 +1,5 @@
-ghost use Rattle.std.specs.Prelude.{◌≡◌, ℕ, ◌+◌, ◌*◌, ◌<◌, ◌≤◌, [], ◌∷◌, All, length, vec_len, slice_index, nat_lt, Some, None, IfOk, if◌then◌else◌, ◌^◌};
+ghost use Rattle.std.specs.Prelude.{◌≡◌, ℕ, ◌+◌, ◌*◌, ◌<◌, ◌≤◌, [], ◌∷◌, All, length, vec_len, slice_index, nat_lt};
+ghost use Rattle.std.specs.Prelude.{Some, None, IfOk, if◌then◌else◌, ◌^◌};
 ghost use Rattle.laz_workers.specs.Numbers.{HoldsBelow};
 ghost use Rattle.laz_workers.specs.Rooms.{rooms_of, numbers_in, lengths_of};
 
@@ -92,8 +93,8 @@ fn log_of(alloc: Global, numbers: usize) -> Result<Log, AllocError> {
     Ok(Log { marks })
 }
 
-// Answers an input of one byte below 200 with the next byte, and refuses others. A space counts the inputs that it saw. If
-// there is a log, the work is marked in it under the number that the byte is.
+// Answers an input of one byte below 200 with the next byte, and refuses others. A space counts the inputs that it saw.
+// If there is a log, the work is marked in it under the number that the byte is.
 #[derive(Drop)]
 struct Next<'a> {
     log: Option<&'a Log>,
@@ -116,7 +117,8 @@ impl<'a> Next<'a> {
 impl<'a> Job for Next<'a> {
     type Space = u64;
 
-    ghost answer = { λ _ input answer. answer ≡ (if nat_lt (slice_index input 0) 200 then Some ((slice_index input 0 + 1) ∷ []) else None) };
+    ghost answer = { λ _ input answer. answer
+        ≡ (if nat_lt (slice_index input 0) 200 then Some ((slice_index input 0 + 1) ∷ []) else None) };
 
     ghost fits = { λ _ input room. (length input ≡ 1) × (room ≡ 1) };
 
