@@ -13,9 +13,10 @@ use Rattle.laz_integer.proofs.Bounds.{length-cuts}
 use Rattle.laz_rgb.specs.Items.{latest_extra}
 use Rattle.laz_chunk.specs.Layouts.{Layout, most_events, record_length, room_for}
 use Rattle.laz_chunk.specs.Records.{ChunkPoint, Record, extras_of, record_at, records_in}
-use Rattle.laz_chunk.specs.Chunks.{AreRecords, History, Holds, IsSpelled, Spelling, chunk_bytes, count_of, first_of, further, grown, initial_history, joined, spelled_cuts, spelled_records, written}
+use Rattle.laz_chunk.specs.Chunks.{AreRecords, History, Holds, IsSpelled, Spelling, chunk_bytes, count_of, first_of, further, grown, initial_history, joined, record_cuts, spelled_records, written}
 use Rattle.laz_chunk.proofs.Ends.{count-is, length-records, length-spelled, less-one}
-use Rattle.laz_chunk.proofs.Fields.{next_suc, part-lengths}
+use Rattle.laz_chunk.proofs.Fields.{part-lengths}
+use Rattle.laz_integer.proofs.Products.{next_suc}
 use Rattle.laz_chunk.proofs.Lawful.{AreCuts-asked, cuts-joined, record-few}
 use Rattle.laz_chunk.proofs.Written.{points-first, written-records, written-spelled}
 

@@ -12,10 +12,11 @@ use Rattle.laz_chunk.specs.declared.items.Items.{Items}
 use Rattle.laz_chunk.specs.Layouts.{Layout, record_length}
 use Rattle.laz_chunk.specs.Records.{Record, record_at, records_in}
 use Rattle.laz_chunk.specs.Stands.{AreChunkPoints, ItemsStand}
-use Rattle.laz_chunk.specs.Chunks.{AreRecords, History, Holds, IsSpelled, Spelling, chunk_bytes, count_of, first_of, further, grown, initial_history, joined, spelled_cuts, spelled_records, written}
+use Rattle.laz_chunk.specs.Chunks.{AreRecords, History, Holds, IsSpelled, Spelling, chunk_bytes, count_of, first_of, further, grown, initial_history, joined, record_cuts, spelled_records, written}
 use Rattle.laz_chunk.proofs.Ends.{Streamed, count-is, holds-made, none-opened, none-read, one-read, only-made, read-streamed, streamed}
 use Rattle.laz_chunk.proofs.Lawful.{cuts-joined}
 use Rattle.laz_chunk.proofs.Written.{points-first}
+use Rattle.laz_integer.proofs.Lists.{two_lists}
 
 -- The items stand for a first record.
 abbrev pub Started : Layout → List ℕ → Items → Type 0
@@ -28,10 +29,10 @@ started k l a b items e f h = subst (λ (b : List ℕ). Started l b items) f (su
 -- What the loop over records answers, if it reads.
 abbrev pub Took : Layout → ℕ → Items → List ℕ → Decoding → Decoding → Type 0
 Took l n items rest a b =
-    (h : History) → ItemsStand h.0 h.1 items → (xs : List Spelling) × Takes (AreAsked grown (IsSpelled l) h n) (all_cuts grown spelled_cuts h) a b xs × (spelled_records xs ≡ records_in l n rest)
+    (h : History) → ItemsStand h.0 h.1 items → (xs : List Spelling) × Takes (AreAsked grown (IsSpelled l) h n) (all_cuts grown record_cuts h) a b xs × (spelled_records xs ≡ records_in l n rest)
 
 abbrev pub Refused : Layout → ℕ → Items → Decoding → Decoding → Type 0
-Refused l n items a b = (h : History) → ItemsStand h.0 h.1 items → Refuses (AreAsked grown (IsSpelled l) h n) (all_cuts grown spelled_cuts h) a b
+Refused l n items a b = (h : History) → ItemsStand h.0 h.1 items → Refuses (AreAsked grown (IsSpelled l) h n) (all_cuts grown record_cuts h) a b
 
 stream-of : (l : Layout) (count : ℕ) (bytes records stream : List ℕ) → stream ≡ drop (record_length l) bytes → AreRecords l count records → Holds l bytes records → Streamed l (first_of l bytes) (count - 1) stream (drop (record_length l) records)
 stream-of l count bytes records stream e are h = subst (λ (b : List ℕ). Streamed l (first_of l bytes) (count - 1) b (drop (record_length l) records)) (sym e) (streamed l count bytes records are h)
@@ -69,7 +70,7 @@ unpacked-only l count bytes records front rest items a b some enough is all smal
 
 -- ---- packing
 abbrev pub Put : Layout → ℕ → Items → List ℕ → Coding → Coding → Type 0
-Put l n items rest a b = (h : History) → AreChunkPoints l.extra h.1 → ItemsStand h.0 h.1 items → Codes a b (all_cuts grown spelled_cuts h (written l h (records_in l n rest)))
+Put l n items rest a b = (h : History) → AreChunkPoints l.extra h.1 → ItemsStand h.0 h.1 items → Codes a b (all_cuts grown record_cuts h (written l h (records_in l n rest)))
 
 pub packed-stream : (l : Layout) (records rest : List ℕ) (items : Items) (a b : Coding) → record_length l ≤ length records → IsBytes records → rest ≡ drop (record_length l) records → Started l (take (record_length l) records) items
     → Put l (count_of l records - 1) items rest a b → Codes a b (cuts_of (joined (written l (initial_history (first_of l records)) (further l records))))
@@ -77,11 +78,8 @@ packed-stream l records rest items a b some small e s put =
     let m : ℕ = record_length l in
     let h : History = initial_history (first_of l records) in
     let fit = points-first l (take m records) (length-take-le m records some) (IsBytes-take m records small) in
-    let codes = subst (λ (r : List ℕ). Codes a b (all_cuts grown spelled_cuts h (written l h (records_in l (count_of l records - 1) r)))) e (put h fit s) in
+    let codes = subst (λ (r : List ℕ). Codes a b (all_cuts grown record_cuts h (written l h (records_in l (count_of l records - 1) r)))) e (put h fit s) in
     subst (λ (cs : List Cut). Codes a b cs) (cuts-joined h (written l h (further l records))) codes
-
-two_lists : (a b c d : List ℕ) → a ≡ b → c ≡ d → a ++ c ≡ b ++ d
-two_lists a b c d e f = cc
 
 pub packed-is : (l : Layout) (records before out : List ℕ) (n size : ℕ) (a b : Coding) → size ≡ record_length l → record_length l ≤ length records → before ≡ take (record_length l) records → take (length before + n) out ≡ before ++ bytes_of b.span
     → a.span ≡ span [] → Codes a b (cuts_of (joined (written l (initial_history (first_of l records)) (further l records)))) → take (size + n) out ≡ chunk_bytes l records

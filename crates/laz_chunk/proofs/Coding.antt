@@ -20,10 +20,11 @@ use Rattle.laz_chunk.specs.declared.items.Items.{Items}
 use Rattle.laz_chunk.specs.Layouts.{Layout, colour_length, record_length, time_length}
 use Rattle.laz_chunk.specs.Records.{ChunkPoint, Record, SpellsColourIf, SpellsTimeIf, colour_events_if, colour_in, colour_part, colours_of, extra_part, extras_of, point_part, points_of, record_at, time_events_if, time_in, time_part, times_of}
 use Rattle.laz_chunk.specs.Stands.{AreChunkPoints, ColoursStand, ExtrasStand, ItemsStand, ReadsPart, TimesStand, has, layout_in}
-use Rattle.laz_chunk.specs.Chunks.{History, IsSpelled, grown, spelled_cuts, writing}
+use Rattle.laz_chunk.specs.Chunks.{History, IsSpelled, grown, record_cuts, writing}
 use Rattle.laz_chunk.proofs.Leaves.{Parts, colour-before, extra-before, parts-stand, time-before}
 use Rattle.laz_chunk.proofs.Whole.{colour-refuses, extra-refuses, point-refuses, record-parts, record-takes, time-refuses}
 use Rattle.laz_chunk.proofs.Written.{record-parts_written}
+use Rattle.laz_integer.specs.Spelled.{spelled_cuts}
 
 -- ---- what each item's call says
 abbrev pub CodesPoint : PointState → PointState → Coding → Coding → List ℕ → Type 0
@@ -55,7 +56,7 @@ codes-four earlier e1 e2 e3 e4 a b c d e f g h k =
 pub code-record : (h : History) (bytes p t q x : List ℕ) (old new : Items) (a b c d e : Coding) → AreChunkPoints (layout_in old).extra h.1 → length bytes ≡ record_length (layout_in old) → IsBytes bytes → ItemsStand h.0 h.1 old
     → p ≡ point_part bytes → t ≡ time_part (layout_in old) bytes → q ≡ colour_part (layout_in old) bytes → x ≡ extra_part (layout_in old) bytes
     → CodesPoint old.point10 new.point10 a b p → CodesTime old.gps_time new.gps_time b c t → CodesColour old.rgb new.rgb c d q → CodesExtra old.extra new.extra d e x
-    → Codes a e (spelled_cuts h (writing (layout_in old) h (record_at (layout_in old) bytes))) × (let after = grown h (writing (layout_in old) h (record_at (layout_in old) bytes)) in ItemsStand after.0 after.1 new)
+    → Codes a e (record_cuts h (writing (layout_in old) h (record_at (layout_in old) bytes))) × (let after = grown h (writing (layout_in old) h (record_at (layout_in old) bytes)) in ItemsStand after.0 after.1 new)
 code-record h bytes p t q x old new a b c d e are size small s ip it iq ix cp ct cq cx =
     let l : Layout = layout_in old in
     let now : Record = record_at l bytes in
@@ -119,18 +120,18 @@ read-record h p t q x old new a b c d e lp lt lq s point ft fq fx =
 -- ---- a part that was refused
 abbrev pub RefusedTime : Option TimeState → Decoding → Decoding → Type 0
 RefusedTime old b c =
-    (earlier : List Event) (points : List sequences.Point) → TimesStand earlier points old → b.taken ≤ length b.bytes → Refuses {X = List Event × ℕ} (λ x. SpellsTimeIf (has old) points x.0 x.1) (λ x. cuts_after earlier x.0) b c
+    (earlier : List Event) (points : List sequences.Point) → TimesStand earlier points old → b.taken ≤ length b.bytes → Refuses {X = List Event × ℕ} (λ x. SpellsTimeIf (has old) points x.0 x.1) (spelled_cuts earlier) b c
 
 abbrev pub RefusedColour : Option RgbState → Decoding → Decoding → Type 0
 RefusedColour old b c =
-    (earlier : List Event) (colours : List Colour) → ColoursStand earlier colours old → b.taken ≤ length b.bytes → Refuses {X = List Event × Colour} (λ x. SpellsColourIf (has old) colours x.0 x.1) (λ x. cuts_after earlier x.0) b c
+    (earlier : List Event) (colours : List Colour) → ColoursStand earlier colours old → b.taken ≤ length b.bytes → Refuses {X = List Event × Colour} (λ x. SpellsColourIf (has old) colours x.0 x.1) (spelled_cuts earlier) b c
 
 abbrev pub RefusedExtra : Option ExtraState → Decoding → Decoding → Type 0
 RefusedExtra old b c =
-    (earlier : List Event) (extras : List (List ℕ)) → ExtrasStand earlier extras old → b.taken ≤ length b.bytes → Refuses {X = List Event × List ℕ} (λ x. SpellsExtra (latest_extra extras) x.0 x.1) (λ x. cuts_after earlier x.0) b c
+    (earlier : List Event) (extras : List (List ℕ)) → ExtrasStand earlier extras old → b.taken ≤ length b.bytes → Refuses {X = List Event × List ℕ} (λ x. SpellsExtra (latest_extra extras) x.0 x.1) (spelled_cuts earlier) b c
 
 abbrev RecordRefused : History → Items → Decoding → Decoding → Type 0
-RecordRefused h old a b = Refuses (IsSpelled (layout_in old) h) (spelled_cuts h) a b
+RecordRefused h old a b = Refuses (IsSpelled (layout_in old) h) (record_cuts h) a b
 
 pub refuse-time : (h : History) (v : Point) (old : Items) (st : PointState) (a b c : Decoding) → ItemsStand h.0 h.1 old → ReadsPoint h.0 (points_of h.1) v a b st → RefusedTime old.gps_time b c → RecordRefused h old a c
 refuse-time h v old st a b c s point ft =

@@ -12,8 +12,9 @@ use Rattle.laz_range.proofs.Reach.{bytes-fit}
 use Rattle.laz_integer.specs.Events.{Event, cuts_after, cuts_of}
 use Rattle.laz_chunk.specs.Layouts.{Layout, record_length}
 use Rattle.laz_chunk.specs.Records.{Record, record_at, records_in}
-use Rattle.laz_chunk.specs.Chunks.{AreRecords, History, Holds, IsSpelled, Spelling, chunk_bytes, count_of, first_of, further, grown, initial_history, joined, spelled_cuts, spelled_records, written}
-use Rattle.laz_chunk.proofs.Fields.{by-parts, joins, records-one}
+use Rattle.laz_chunk.specs.Chunks.{AreRecords, History, Holds, IsSpelled, Spelling, chunk_bytes, count_of, first_of, further, grown, initial_history, joined, record_cuts, spelled_records, written}
+use Rattle.laz_chunk.proofs.Fields.{records-one}
+use Rattle.laz_integer.proofs.Lists.{by-parts, two_lists}
 use Rattle.laz_chunk.proofs.Lawful.{AreCuts-asked, cuts-joined}
 use Rattle.laz_chunk.proofs.Written.{points-first, written-records, written-spelled}
 
@@ -36,7 +37,7 @@ pub record Streamed (l : Layout) (first : Record) (n : ℕ) (bytes rest : List �
   pub xs : List Spelling
   pub asked : AreAsked grown (IsSpelled l) (initial_history first) n xs
   pub are : spelled_records xs ≡ records_in l n rest
-  pub fits : Fits (span (all_cuts grown spelled_cuts (initial_history first) xs)) bytes
+  pub fits : Fits (span (all_cuts grown record_cuts (initial_history first) xs)) bytes
 
 pub streamed : (l : Layout) (count : ℕ) (bytes records : List ℕ) → AreRecords l count records → Holds l bytes records → Streamed l (first_of l bytes) (count - 1) (drop (record_length l) bytes) (drop (record_length l) records)
 streamed l count bytes records are h =
@@ -52,34 +53,34 @@ streamed l count bytes records are h =
       fits = subst (λ (cs : List Cut). Fits (span cs) (drop m bytes)) (sym (cuts-joined (initial_history (first_of l bytes)) h.spellings)) h.fits;
     }
 
-all-cut : (l : Layout) (first : Record) (n : ℕ) (ys : List Spelling) → AreAsked grown (IsSpelled l) (initial_history first) n ys → AreCuts (all_cuts grown spelled_cuts (initial_history first) ys)
+all-cut : (l : Layout) (first : Record) (n : ℕ) (ys : List Spelling) → AreAsked grown (IsSpelled l) (initial_history first) n ys → AreCuts (all_cuts grown record_cuts (initial_history first) ys)
 all-cut l first n ys asked = AreCuts-asked l (initial_history first) ys tt asked.1
 
 -- no decoder
 pub none-opened : (l : Layout) (first : Record) (n : ℕ) (bytes rest : List ℕ) → ((events : List Cut) → AreCuts events → Begins (span events) bytes → ⊥) → Streamed l first n bytes rest → ⊥
-none-opened l first n bytes rest none s = unopened-fits bytes (all_cuts grown spelled_cuts (initial_history first) s.xs) none (all-cut l first n s.xs s.asked) s.fits
+none-opened l first n bytes rest none s = unopened-fits bytes (all_cuts grown record_cuts (initial_history first) s.xs) none (all-cut l first n s.xs s.asked) s.fits
 
 -- none read
 pub none-read : (l : Layout) (first : Record) (n : ℕ) (d e : Decoding) (rest : List ℕ) → HasRead [] d
-    → Refuses (AreAsked grown (IsSpelled l) (initial_history first) n) (all_cuts grown spelled_cuts (initial_history first)) d e → Streamed l first n d.bytes rest → ⊥
-none-read l first n d e rest read none s = none-fits (AreAsked grown (IsSpelled l) (initial_history first) n) (all_cuts grown spelled_cuts (initial_history first)) d e (all-cut l first n) read none s.xs s.asked s.fits
+    → Refuses (AreAsked grown (IsSpelled l) (initial_history first) n) (all_cuts grown record_cuts (initial_history first)) d e → Streamed l first n d.bytes rest → ⊥
+none-read l first n d e rest read none s = none-fits (AreAsked grown (IsSpelled l) (initial_history first) n) (all_cuts grown record_cuts (initial_history first)) d e (all-cut l first n) read none s.xs s.asked s.fits
 
 -- those that were read
 pub one-read : (l : Layout) (first : Record) (n : ℕ) (d e : Decoding) (xs : List Spelling) (rest : List ℕ) → HasRead [] d
-    → Takes (AreAsked grown (IsSpelled l) (initial_history first) n) (all_cuts grown spelled_cuts (initial_history first)) d e xs → Streamed l first n d.bytes rest
+    → Takes (AreAsked grown (IsSpelled l) (initial_history first) n) (all_cuts grown record_cuts (initial_history first)) d e xs → Streamed l first n d.bytes rest
     → (records_in l n rest ≡ spelled_records xs) × (e.taken ≡ length e.bytes)
 one-read l first n d e xs rest read takes s =
-    let one = one-fits (AreAsked grown (IsSpelled l) (initial_history first) n) (all_cuts grown spelled_cuts (initial_history first)) d e xs (all-cut l first n) read takes s.xs s.asked s.fits in
+    let one = one-fits (AreAsked grown (IsSpelled l) (initial_history first) n) (all_cuts grown record_cuts (initial_history first)) d e xs (all-cut l first n) read takes s.xs s.asked s.fits in
     (sym s.are ∙ ap spelled_records one.0, one.1)
 
 pub read-streamed : (l : Layout) (first : Record) (n : ℕ) (d e : Decoding) (xs : List Spelling) (rest : List ℕ) → HasRead [] d
-    → Takes (AreAsked grown (IsSpelled l) (initial_history first) n) (all_cuts grown spelled_cuts (initial_history first)) d e xs → spelled_records xs ≡ records_in l n rest → e.taken ≡ length e.bytes → Streamed l first n d.bytes rest
+    → Takes (AreAsked grown (IsSpelled l) (initial_history first) n) (all_cuts grown record_cuts (initial_history first)) d e xs → spelled_records xs ≡ records_in l n rest → e.taken ≡ length e.bytes → Streamed l first n d.bytes rest
 read-streamed l first n d e xs rest read takes are ends =
     record {
       xs = xs;
       asked = takes.choice.asked;
       are = are;
-      fits = read-fits (AreAsked grown (IsSpelled l) (initial_history first) n) (all_cuts grown spelled_cuts (initial_history first)) d e xs (all-cut l first n) read takes ends;
+      fits = read-fits (AreAsked grown (IsSpelled l) (initial_history first) n) (all_cuts grown record_cuts (initial_history first)) d e xs (all-cut l first n) read takes ends;
     }
 
 -- ---- the whole chunk

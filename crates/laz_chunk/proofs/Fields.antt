@@ -21,6 +21,8 @@ use Rattle.laz_rgb.specs.Laws.{AreBytes}
 use Rattle.laz_chunk.specs.Layouts.{Layout, colour_length, record_length, time_length}
 use Rattle.laz_chunk.specs.Records.{Record, colour_in, colour_part, extra_part, point_part, record_at, records_in, time_in, time_part}
 use Rattle.laz_chunk.specs.Stands.{IsRecord}
+use Rattle.laz_integer.proofs.Lists.{by-parts, no-elements}
+use Rattle.laz_integer.proofs.Products.{next_suc}
 
 -- ---- what bytes give
 point-fits : (a : List ℕ) → IsBytes a → IsPoint (point_at a)
@@ -94,11 +96,6 @@ record-fits l a size h =
 time-one : (a b : List ℕ) → length a ≡ 8 → length b ≡ 8 → IsBytes a → IsBytes b → time_at a ≡ time_at b → a ≡ b
 time-one a b la lb f g e = sym (le_bytes_8 a (time_at a) la f refl) ∙ le_bytes_8 b (time_at a) lb g e
 
-no-elements : (a b : List ℕ) → length a ≡ 0 → length b ≡ 0 → a ≡ b
-no-elements [] [] la lb = refl
-no-elements (x ∷ a) b la lb = absurd (omega (arith, la))
-no-elements [] (x ∷ b) la lb = absurd (omega (arith, lb))
-
 time-one_if : (t : Bool) (a b : List ℕ) → length a ≡ time_length t → length b ≡ time_length t → IsBytes a → IsBytes b → time_in t a ≡ time_in t b → a ≡ b
 time-one_if true a b la lb f g e = time-one a b la lb f g e
 time-one_if false a b la lb f g e = no-elements a b la lb
@@ -117,12 +114,6 @@ colour-one_if : (t : Bool) (a b : List ℕ) → length a ≡ colour_length t →
 colour-one_if true a b la lb e = six a la ∙ (ap colour_bytes e ∙ sym (six b lb))
 colour-one_if false a b la lb e = no-elements a b la lb
 
-pub joins : (a b c d : List ℕ) → a ≡ b → c ≡ d → a ++ c ≡ b ++ d
-joins a b c d e f = cc
-
-pub by-parts : (n : ℕ) (a b : List ℕ) → take n a ≡ take n b → drop n a ≡ drop n b → a ≡ b
-by-parts n a b e f = sym (take-append-drop n a) ∙ (joins _ _ _ _ e f ∙ take-append-drop n b)
-
 pub record-one : (l : Layout) (a b : List ℕ) → length a ≡ record_length l → length b ≡ record_length l → IsBytes a → IsBytes b → record_at l a ≡ record_at l b → a ≡ b
 record-one l a b la lb f g e =
     let pa = part-lengths l a la in
@@ -138,13 +129,7 @@ record-one l a b la lb f g e =
     by-parts 20 a b point
     (by-parts (time_length l.times) (drop 20 a) (drop 20 b) time (by-parts (colour_length l.colours) (drop (time_length l.times) (drop 20 a)) (drop (time_length l.times) (drop 20 b)) colour extra))
 
--- ---- products
-pub next : (i n : ℕ) → n * (i + 1) ≡ n * i + n
-next i n = omega arith
-
-pub next_suc : (i n : ℕ) → n * suc i ≡ n + n * i
-next_suc i n = omega arith
-
+-- ---- records
 cons_records : (r s : Record) (rs ss : List Record) → r ∷ rs ≡ s ∷ ss → (r ≡ s) × (rs ≡ ss)
 cons_records r s rs ss e = (cc, cc)
 

@@ -21,7 +21,7 @@ use Rattle.laz_rgb.specs.Items.{HasExtraSizes, HasRgbSizes, latest_colour, lates
 use Rattle.laz_rgb.proofs.Proved.{colours-lawful, extras-lawful}
 use Rattle.laz_chunk.specs.Layouts.{Layout, most_events}
 use Rattle.laz_chunk.specs.Records.{ChunkPoint, Record, SpellsColourIf, SpellsRecord, SpellsTimeIf, colours_of, extras_of, times_of}
-use Rattle.laz_chunk.specs.Chunks.{History, IsSpelled, Spelling, grown, joined, spelled_cuts}
+use Rattle.laz_chunk.specs.Chunks.{History, IsSpelled, Spelling, grown, joined, record_cuts}
 
 -- ---- the numbers of symbols of all models
 sizes_in : Role → List ℕ → ℕ → ℕ
@@ -103,12 +103,12 @@ record-few l points events now size s =
     )
 
 -- ---- all further records
-pub AreCuts-asked : (l : Layout) (h : History) (xs : List Spelling) → AreRanged sizes h.0 → AllAsked grown (IsSpelled l) h xs → AreCuts (all_cuts grown spelled_cuts h xs)
+pub AreCuts-asked : (l : Layout) (h : History) (xs : List Spelling) → AreRanged sizes h.0 → AllAsked grown (IsSpelled l) h xs → AreCuts (all_cuts grown record_cuts h xs)
 AreCuts-asked l h [] before all = tt
 AreCuts-asked l h (x ∷ xs) before all =
     let own = record-ranged l h.1 x.0 x.1 all.0 in
-    AreCuts-append (cuts_after h.0 x.0) (all_cuts grown spelled_cuts (grown h x) xs) (AreCuts-ranged sizes h.0 x.0 before own) (AreCuts-asked l (grown h x) xs (AreRanged-append sizes h.0 x.0 before own) all.1)
+    AreCuts-append (cuts_after h.0 x.0) (all_cuts grown record_cuts (grown h x) xs) (AreCuts-ranged sizes h.0 x.0 before own) (AreCuts-asked l (grown h x) xs (AreRanged-append sizes h.0 x.0 before own) all.1)
 
-pub cuts-joined : (h : History) (xs : List Spelling) → all_cuts grown spelled_cuts h xs ≡ cuts_after h.0 (joined xs)
+pub cuts-joined : (h : History) (xs : List Spelling) → all_cuts grown record_cuts h xs ≡ cuts_after h.0 (joined xs)
 cuts-joined h [] = refl
 cuts-joined h (x ∷ xs) = ap (λ cs. cuts_after h.0 x.0 ++ cs) (cuts-joined (grown h x) xs) ∙ sym (cuts_after-append h.0 x.0 (joined xs))

@@ -2,7 +2,7 @@
 use Rattle.std.proofs.Common.{◌≡◌, ℕ, Bool, true, false, not, ◌&&◌, List, [], ◌∷◌, ◌++◌, Option, Some, None, refl, sym, ap, subst, ◌∙◌, append_assoc}
 use Rattle.laz_integer.specs.Events.{Event, same_text}
 use Rattle.laz_integer.specs.Uses.{AllSilent, Silent, absent}
-use Rattle.laz_integer.proofs.Uses.{Silent-append, Silent-none, all-silent, both_true, not_true}
+use Rattle.laz_integer.proofs.Uses.{Silent-append, Silent-none, all-silent, first-other}
 use Rattle.laz_point10.specs.Laws.{point_kinds}
 use Rattle.laz_point10.specs.PointEvents.{SpellsPoint}
 use Rattle.laz_point10.specs.Items.{PointStands, PointState}
@@ -57,17 +57,14 @@ pub record Parts (t c : Bool) (points : List ChunkPoint) (e1 e2 e3 e4 : List Eve
   pub colour : SpellsColourIf c (colours_of points) e3 now.colour
   pub extra : SpellsExtra (latest_extra (extras_of points)) e4 now.extra
 
-one-absent : (kind k : List ℕ) (kinds : List (List ℕ)) → absent kind (k ∷ kinds) ≡ true → (same_text kind k ≡ false) × (absent kind kinds ≡ true)
-one-absent kind k kinds h = let p = both_true (not (same_text kind k)) (absent kind kinds) h in (not_true (same_text kind k) p.0, p.1)
-
 -- those after the point's are silent for its uses
 after-point : (t c : Bool) (points : List ChunkPoint) (e1 e2 e3 e4 : List Event) (now : Record) → Parts t c points e1 e2 e3 e4 now → AllSilent point_kinds (e2 ++ (e3 ++ e4))
 after-point t c points e1 e2 e3 e4 now p =
     all-silent point_kinds (time_kind ∷ rgb_kind ∷ byte_kind ∷ []) (e2 ++ (e3 ++ e4)) refl
     (λ kind none.
-    let a = one-absent kind time_kind (rgb_kind ∷ byte_kind ∷ []) none in
-    let b = one-absent kind rgb_kind (byte_kind ∷ []) a.1 in
-    let d = one-absent kind byte_kind ([]) b.1 in
+    let a = first-other kind time_kind (rgb_kind ∷ byte_kind ∷ []) none in
+    let b = first-other kind rgb_kind (byte_kind ∷ []) a.1 in
+    let d = first-other kind byte_kind ([]) b.1 in
     Silent-append kind e2 (e3 ++ e4) (time-silent_if t kind _ e2 _ a.0 p.time) (Silent-append kind e3 e4 (colour-silent_if c kind _ e3 _ b.0 p.colour) (extras-lawful.silent kind _ e4 _ d.0 p.extra)))
 
 -- all items stand for one record more, if each stood for its own part at its place

@@ -1,4 +1,3 @@
-pub mod Joins
 pub mod Leaves
 pub mod Reading
 pub mod Whole

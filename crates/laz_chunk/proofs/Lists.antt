@@ -12,9 +12,10 @@ use Rattle.laz_chunk.specs.declared.items.Items.{Items}
 use Rattle.laz_chunk.specs.Layouts.{Layout, record_length}
 use Rattle.laz_chunk.specs.Records.{Record, record_at, records_in}
 use Rattle.laz_chunk.specs.Stands.{AreChunkPoints, ItemsStand}
-use Rattle.laz_chunk.specs.Chunks.{History, Spelling, grown, spelled_cuts, spelled_records, writing, written}
-use Rattle.laz_chunk.proofs.Fields.{next_suc}
+use Rattle.laz_chunk.specs.Chunks.{History, Spelling, grown, record_cuts, spelled_records, writing, written}
+use Rattle.laz_integer.proofs.Products.{next_suc}
 use Rattle.laz_chunk.proofs.Written.{written-push}
+use Rattle.laz_integer.proofs.Lists.{cons_same, push_same, take-front}
 
 -- ---- the records in bytes
 pub records-more : (l : Layout) (i : ℕ) (a : List ℕ) → records_in l (suc i) a ≡ records_in l i a ++ record_at l (take (record_length l) (drop (record_length l * i) a)) ∷ []
@@ -30,15 +31,6 @@ records-next l i at size a same place =
     let m : ℕ = record_length l in
     let long : at + size - at ≡ m = omega (arith, same) in
     ap (λ (n : ℕ). records_in l n a) (add-one i) ∙ (records-more l i a ∙ rw (long, place) refl)
-
-take-front : (n m : ℕ) (a b : List ℕ) → n ≤ m → take m a ≡ take m b → take n a ≡ take n b
-take-front n m a b few e = sym (take-take n m a few) ∙ (ap (λ (l : List ℕ). take n l) e ∙ take-take n m b few)
-
-cons_same : (r s : Record) (rs ss : List Record) → r ≡ s → rs ≡ ss → r ∷ rs ≡ s ∷ ss
-cons_same r s rs ss e f = cc
-
-push_same : (rs ss : List Record) (r s : Record) → rs ≡ ss → r ≡ s → rs ++ r ∷ [] ≡ ss ++ s ∷ []
-push_same rs ss r s e f = cc
 
 records-front : (l : Layout) (i : ℕ) (a b : List ℕ) → take (record_length l * i) a ≡ take (record_length l * i) b → records_in l i a ≡ records_in l i b
 records-front l zero a b e = refl
@@ -62,21 +54,12 @@ records-set l i at k xs ys size place within =
     let before : take (m * i) new ≡ take (m * i) xs = subst (λ (n : ℕ). take n new ≡ take n xs) place same in
     ap (λ (n : ℕ). records_in l n new) (add-one i) ∙ (records-more l i new ∙ push_same _ _ _ _ (records-front l i new xs before) (ap (record_at l) here))
 
-pub place-is : (i n : ℕ) → i * n ≡ n * i
-place-is i n = omega arith
-
-pub place-within : (i count n : ℕ) → i < count → i * n + n ≤ n * count
-place-within zero (suc count) n few = omega (arith, next_suc count n)
-place-within zero zero n few = absurd (omega (arith, few))
-place-within (suc i) zero n few = absurd (omega (arith, few))
-place-within (suc i) (suc count) n few = omega (arith, place-within i count n (omega (arith, few)), next_suc count n, next_suc i n)
-
 -- ---- a record more is written
-pub codes-push : (l : Layout) (h : History) (rs : List Record) (r : Record) (ss : List Record) (a b c : Coding) → ss ≡ rs ++ r ∷ [] → Codes a b (all_cuts grown spelled_cuts h (written l h rs))
-    → (let g = state_after grown h (written l h rs) in Codes b c (spelled_cuts g (writing l g r))) → Codes a c (all_cuts grown spelled_cuts h (written l h ss))
+pub codes-push : (l : Layout) (h : History) (rs : List Record) (r : Record) (ss : List Record) (a b c : Coding) → ss ≡ rs ++ r ∷ [] → Codes a b (all_cuts grown record_cuts h (written l h rs))
+    → (let g = state_after grown h (written l h rs) in Codes b c (record_cuts g (writing l g r))) → Codes a c (all_cuts grown record_cuts h (written l h ss))
 codes-push l h rs r ss a b c e f g =
-    rw (e, written-push l h rs r, all_cuts-push grown spelled_cuts h (written l h rs) (writing l (state_after grown h (written l h rs)) r))
-    (Codes-append a b c (all_cuts grown spelled_cuts h (written l h rs)) (spelled_cuts (state_after grown h (written l h rs)) (writing l (state_after grown h (written l h rs)) r)) f g)
+    rw (e, written-push l h rs r, all_cuts-push grown record_cuts h (written l h rs) (writing l (state_after grown h (written l h rs)) r))
+    (Codes-append a b c (all_cuts grown record_cuts h (written l h rs)) (record_cuts (state_after grown h (written l h rs)) (writing l (state_after grown h (written l h rs)) r)) f g)
 
 pub after-push : (l : Layout) (h : History) (rs : List Record) (r : Record) (ss : List Record) → ss ≡ rs ++ r ∷ [] → state_after grown h (written l h ss) ≡ (let g = state_after grown h (written l h rs) in grown g (writing l g r))
 after-push l h rs r ss e =

@@ -12,8 +12,9 @@ use Rattle.laz_chunk.specs.declared.items.Items.{Items}
 use Rattle.laz_chunk.specs.Layouts.{Layout, record_length}
 use Rattle.laz_chunk.specs.Records.{Record, record_at, records_in}
 use Rattle.laz_chunk.specs.Stands.{AreChunkPoints, ItemsStand, ReadsPart}
-use Rattle.laz_chunk.specs.Chunks.{History, IsSpelled, Spelling, grown, spelled_cuts, spelled_records, writing, written}
-use Rattle.laz_chunk.proofs.Lists.{after-push, codes-push, place-is, place-within, read-push, records-next}
+use Rattle.laz_chunk.specs.Chunks.{History, IsSpelled, Spelling, grown, record_cuts, spelled_records, writing, written}
+use Rattle.laz_chunk.proofs.Lists.{after-push, codes-push, read-push, records-next}
+use Rattle.laz_integer.proofs.Products.{place-is, place-within}
 use Rattle.laz_chunk.proofs.Written.{points-more}
 
 abbrev pub part : ℕ → ℕ → List ℕ → List ℕ
@@ -30,14 +31,14 @@ part-length i count size m a e long few =
 abbrev pub CodesRecord : Layout → Items → Items → Coding → Coding → List ℕ → Type 0
 CodesRecord l old new a b bytes =
     (h : History) → AreChunkPoints l.extra h.1 → ItemsStand h.0 h.1 old
-    → Codes a b (spelled_cuts h (writing l h (record_at l bytes))) × (let after = grown h (writing l h (record_at l bytes)) in ItemsStand after.0 after.1 new)
+    → Codes a b (record_cuts h (writing l h (record_at l bytes))) × (let after = grown h (writing l h (record_at l bytes)) in ItemsStand after.0 after.1 new)
 
 abbrev pub Stand : Layout → History → Items → Type 0
 Stand l g items = AreChunkPoints l.extra g.1 × ItemsStand g.0 g.1 items
 
 pub put-step : (l k : Layout) (h : History) (i count size : ℕ) (a : List ℕ) (old new : Items) (b c d : Coding) → k ≡ l → size ≡ record_length l → length a ≡ record_length l * count → i < count → IsBytes a
-    → Codes b c (all_cuts grown spelled_cuts h (written l h (records_in l i a))) → Stand l (state_after grown h (written l h (records_in l i a))) old → CodesRecord k old new c d (part i size a)
-    → Codes b d (all_cuts grown spelled_cuts h (written l h (records_in l (i + 1) a))) × Stand l (state_after grown h (written l h (records_in l (i + 1) a))) new
+    → Codes b c (all_cuts grown record_cuts h (written l h (records_in l i a))) → Stand l (state_after grown h (written l h (records_in l i a))) old → CodesRecord k old new c d (part i size a)
+    → Codes b d (all_cuts grown record_cuts h (written l h (records_in l (i + 1) a))) × Stand l (state_after grown h (written l h (records_in l (i + 1) a))) new
 put-step l k h i count size a old new b c d at e long few small codes stands one =
     let m : ℕ = record_length l in
     let bytes : List ℕ = part i size a in
@@ -57,12 +58,12 @@ abbrev pub ReadsRecord : Layout → History → Record → Items → Decoding �
 ReadsRecord l g now new b c = ReadsPart (IsSpelled l g) g.0 now b c (λ events. let after = grown g (events, now) in ItemsStand after.0 after.1 new)
 
 pub take-step : (l : Layout) (h : History) (i : ℕ) (xs : List Spelling) (rs ss : List Record) (now : Record) (new : Items) (a b c : Decoding)
-    → Takes (AreAsked grown (IsSpelled l) h i) (all_cuts grown spelled_cuts h) a b xs → spelled_records xs ≡ rs → ss ≡ rs ++ now ∷ [] → ReadsRecord l (state_after grown h xs) now new b c
-    → (ys : List Spelling) × Takes (AreAsked grown (IsSpelled l) h (i + 1)) (all_cuts grown spelled_cuts h) a c ys × (spelled_records ys ≡ ss) × ItemsStand (state_after grown h ys).0 (state_after grown h ys).1 new
+    → Takes (AreAsked grown (IsSpelled l) h i) (all_cuts grown record_cuts h) a b xs → spelled_records xs ≡ rs → ss ≡ rs ++ now ∷ [] → ReadsRecord l (state_after grown h xs) now new b c
+    → (ys : List Spelling) × Takes (AreAsked grown (IsSpelled l) h (i + 1)) (all_cuts grown record_cuts h) a c ys × (spelled_records ys ≡ ss) × ItemsStand (state_after grown h ys).0 (state_after grown h ys).1 new
 take-step l h i xs rs ss now new a b c f e next r =
     let x : Spelling = (r.events, now) in (
       xs ++ x ∷ [],
-      Takes-step grown (IsSpelled l) spelled_cuts h (state_after grown h xs) i a b c xs x refl f r.takes,
+      Takes-step grown (IsSpelled l) record_cuts h (state_after grown h xs) i a b c xs x refl f r.takes,
       read-push xs x rs ss e next,
       subst (λ (k : History). ItemsStand k.0 k.1 new) (sym (state_after-push grown h xs x)) r.stands,
     )

@@ -13,8 +13,9 @@ use Rattle.laz_rgb.specs.Extra.{SpellsExtra}
 use Rattle.laz_rgb.specs.Items.{latest_extra}
 use Rattle.laz_chunk.specs.Layouts.{Layout, colour_length, time_length}
 use Rattle.laz_chunk.specs.Records.{ChunkPoint, Record, SpellsColourIf, SpellsRecord, SpellsTimeIf, colour_in, colours_of, extras_of, points_of, record_at, time_in, times_of}
-use Rattle.laz_chunk.specs.Chunks.{History, IsSpelled, Spelling, spelled_cuts}
-use Rattle.laz_chunk.proofs.Joins.{Both, both-first, both-second, both-takes}
+use Rattle.laz_chunk.specs.Chunks.{History, IsSpelled, Spelling, record_cuts}
+use Rattle.laz_integer.proofs.Joins.{Both, both-first, both-second, both-takes}
+use Rattle.laz_integer.specs.Spelled.{spelled_cuts}
 
 -- ---- what spells each part
 abbrev pub IsPointPart : List ChunkPoint → List Event × Point → Type 0
@@ -73,13 +74,13 @@ from-record l h z s = (
 )
 
 pub record-takes : (l : Layout) (h : History) (a b c d e : Decoding) (e1 e2 e3 e4 : List Event) (now : Record)
-    → Takes (IsPointPart h.1) (λ x. cuts_after h.0 x.0) a b (e1, now.point)
-    → Takes (IsTimePart l.times h.1) (λ x. cuts_after (h.0 ++ e1) x.0) b c (e2, now.time)
-    → Takes (IsColourPart l.colours h.1) (λ x. cuts_after ((h.0 ++ e1) ++ e2) x.0) c d (e3, now.colour)
-    → Takes (IsExtraPart h.1) (λ x. cuts_after (((h.0 ++ e1) ++ e2) ++ e3) x.0) d e (e4, now.extra)
-    → Takes (IsSpelled l h) (spelled_cuts h) a e (e1 ++ (e2 ++ (e3 ++ e4)), now)
+    → Takes (IsPointPart h.1) (spelled_cuts h.0) a b (e1, now.point)
+    → Takes (IsTimePart l.times h.1) (spelled_cuts (h.0 ++ e1)) b c (e2, now.time)
+    → Takes (IsColourPart l.colours h.1) (spelled_cuts ((h.0 ++ e1) ++ e2)) c d (e3, now.colour)
+    → Takes (IsExtraPart h.1) (spelled_cuts (((h.0 ++ e1) ++ e2) ++ e3)) d e (e4, now.extra)
+    → Takes (IsSpelled l h) (record_cuts h) a e (e1 ++ (e2 ++ (e3 ++ e4)), now)
 record-takes l h a b c d e e1 e2 e3 e4 now f g k m =
-    Takes-through {X = List Event × Fields} {Z = Spelling} made (AreFields l h.1) (IsSpelled l h) (λ x. cuts_after h.0 x.0) (spelled_cuts h) a e (e1 ++ (e2 ++ (e3 ++ e4)), (now.point, (now.time, (now.colour, now.extra))))
+    Takes-through {X = List Event × Fields} {Z = Spelling} made (AreFields l h.1) (IsSpelled l h) (spelled_cuts h.0) (record_cuts h) a e (e1 ++ (e2 ++ (e3 ++ e4)), (now.point, (now.time, (now.colour, now.extra))))
     (to-record l h)
     (from-record l h)
     (λ x p. refl)
@@ -88,22 +89,22 @@ record-takes l h a b c d e e1 e2 e3 e4 now f g k m =
     (both-takes (IsColourPart l.colours h.1) (IsExtraPart h.1) ((h.0 ++ e1) ++ e2) c d e (e3, now.colour) (e4, now.extra) k m)))
 
 -- ---- a part is refused, and so is the record
-record-refuses : (l : Layout) (h : History) (a b : Decoding) → Refuses (AreFields l h.1) (λ x. cuts_after h.0 x.0) a b → Refuses (IsSpelled l h) (spelled_cuts h) a b
-record-refuses l h a b f = Refuses-through {X = List Event × Fields} {Z = Spelling} made (AreFields l h.1) (IsSpelled l h) (λ x. cuts_after h.0 x.0) (spelled_cuts h) a b (from-record l h) (λ x p. refl) f
+record-refuses : (l : Layout) (h : History) (a b : Decoding) → Refuses (AreFields l h.1) (spelled_cuts h.0) a b → Refuses (IsSpelled l h) (record_cuts h) a b
+record-refuses l h a b f = Refuses-through {X = List Event × Fields} {Z = Spelling} made (AreFields l h.1) (IsSpelled l h) (spelled_cuts h.0) (record_cuts h) a b (from-record l h) (λ x p. refl) f
 
-pub point-refuses : (l : Layout) (h : History) (a b : Decoding) → Refuses (IsPointPart h.1) (λ x. cuts_after h.0 x.0) a b → Refuses (IsSpelled l h) (spelled_cuts h) a b
+pub point-refuses : (l : Layout) (h : History) (a b : Decoding) → Refuses (IsPointPart h.1) (spelled_cuts h.0) a b → Refuses (IsSpelled l h) (record_cuts h) a b
 point-refuses l h a b f = record-refuses l h a b (both-first (IsPointPart h.1) (Both (IsTimePart l.times h.1) (Both (IsColourPart l.colours h.1) (IsExtraPart h.1))) h.0 a b f)
 
 pub time-refuses : (l : Layout) (h : History) (a b c : Decoding) (e1 : List Event) (v : Point)
-    → Takes (IsPointPart h.1) (λ x. cuts_after h.0 x.0) a b (e1, v) → Refuses (IsTimePart l.times h.1) (λ x. cuts_after (h.0 ++ e1) x.0) b c → Refuses (IsSpelled l h) (spelled_cuts h) a c
+    → Takes (IsPointPart h.1) (spelled_cuts h.0) a b (e1, v) → Refuses (IsTimePart l.times h.1) (spelled_cuts (h.0 ++ e1)) b c → Refuses (IsSpelled l h) (record_cuts h) a c
 time-refuses l h a b c e1 v f g =
     record-refuses l h a c
     (both-second (IsPointPart h.1) (Both (IsTimePart l.times h.1) (Both (IsColourPart l.colours h.1) (IsExtraPart h.1))) h.0 a b c (e1, v) f
     (both-first (IsTimePart l.times h.1) (Both (IsColourPart l.colours h.1) (IsExtraPart h.1)) (h.0 ++ e1) b c g))
 
 pub colour-refuses : (l : Layout) (h : History) (a b c d : Decoding) (e1 e2 : List Event) (v : Point) (w : ℕ)
-    → Takes (IsPointPart h.1) (λ x. cuts_after h.0 x.0) a b (e1, v) → Takes (IsTimePart l.times h.1) (λ x. cuts_after (h.0 ++ e1) x.0) b c (e2, w)
-    → Refuses (IsColourPart l.colours h.1) (λ x. cuts_after ((h.0 ++ e1) ++ e2) x.0) c d → Refuses (IsSpelled l h) (spelled_cuts h) a d
+    → Takes (IsPointPart h.1) (spelled_cuts h.0) a b (e1, v) → Takes (IsTimePart l.times h.1) (spelled_cuts (h.0 ++ e1)) b c (e2, w)
+    → Refuses (IsColourPart l.colours h.1) (spelled_cuts ((h.0 ++ e1) ++ e2)) c d → Refuses (IsSpelled l h) (record_cuts h) a d
 colour-refuses l h a b c d e1 e2 v w f g k =
     record-refuses l h a d
     (both-second (IsPointPart h.1) (Both (IsTimePart l.times h.1) (Both (IsColourPart l.colours h.1) (IsExtraPart h.1))) h.0 a b d (e1, v) f
@@ -111,9 +112,9 @@ colour-refuses l h a b c d e1 e2 v w f g k =
     (both-first (IsColourPart l.colours h.1) (IsExtraPart h.1) ((h.0 ++ e1) ++ e2) c d k)))
 
 pub extra-refuses : (l : Layout) (h : History) (a b c d e : Decoding) (e1 e2 e3 : List Event) (v : Point) (w : ℕ) (u : Colour)
-    → Takes (IsPointPart h.1) (λ x. cuts_after h.0 x.0) a b (e1, v) → Takes (IsTimePart l.times h.1) (λ x. cuts_after (h.0 ++ e1) x.0) b c (e2, w)
-    → Takes (IsColourPart l.colours h.1) (λ x. cuts_after ((h.0 ++ e1) ++ e2) x.0) c d (e3, u)
-    → Refuses (IsExtraPart h.1) (λ x. cuts_after (((h.0 ++ e1) ++ e2) ++ e3) x.0) d e → Refuses (IsSpelled l h) (spelled_cuts h) a e
+    → Takes (IsPointPart h.1) (spelled_cuts h.0) a b (e1, v) → Takes (IsTimePart l.times h.1) (spelled_cuts (h.0 ++ e1)) b c (e2, w)
+    → Takes (IsColourPart l.colours h.1) (spelled_cuts ((h.0 ++ e1) ++ e2)) c d (e3, u)
+    → Refuses (IsExtraPart h.1) (spelled_cuts (((h.0 ++ e1) ++ e2) ++ e3)) d e → Refuses (IsSpelled l h) (record_cuts h) a e
 extra-refuses l h a b c d e e1 e2 e3 v w u f g k m =
     record-refuses l h a e
     (both-second (IsPointPart h.1) (Both (IsTimePart l.times h.1) (Both (IsColourPart l.colours h.1) (IsExtraPart h.1))) h.0 a b e (e1, v) f

@@ -27,8 +27,9 @@ use Rattle.laz_rgb.proofs.Proved.{colours-spelled, extras-spelled}
 use Rattle.laz_chunk.specs.Layouts.{Layout, record_length}
 use Rattle.laz_chunk.specs.Records.{ChunkPoint, Record, SpellsColourIf, SpellsTimeIf, colour_events_if, colours_of, extras_of, points_of, record_at, record_events, records_in, time_events_if, times_of}
 use Rattle.laz_chunk.specs.Stands.{AreChunkPoints, IsRecord}
-use Rattle.laz_chunk.specs.Chunks.{History, IsSpelled, Spelling, grown, initial_history, spelled_cuts, spelled_records, writing, written}
-use Rattle.laz_chunk.proofs.Fields.{next_suc, part-lengths, record-fits}
+use Rattle.laz_chunk.specs.Chunks.{History, IsSpelled, Spelling, grown, initial_history, record_cuts, spelled_records, writing, written}
+use Rattle.laz_chunk.proofs.Fields.{part-lengths, record-fits}
+use Rattle.laz_integer.proofs.Products.{next_suc}
 use Rattle.laz_chunk.proofs.Leaves.{Parts}
 
 -- ---- a record

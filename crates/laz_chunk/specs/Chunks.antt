@@ -3,7 +3,8 @@ use Rattle.std.specs.Prelude.{◌≡◌, ℕ, ◌*◌, ◌-◌, ◌/◌, ◌<◌
 use Rattle.laz_range.specs.Cut.{Cut}
 use Rattle.laz_range.specs.Choice.{AllAsked}
 use Rattle.laz_range.specs.Span.{Fits, IsBytes, bytes_of, span}
-use Rattle.laz_integer.specs.Events.{Event, cuts_after, cuts_of}
+use Rattle.laz_integer.specs.Events.{Event, cuts_of}
+use Rattle.laz_integer.specs.Spelled.{spelled_cuts}
 use Rattle.laz_chunk.specs.Layouts.{Layout, record_length}
 use Rattle.laz_chunk.specs.Records.{ChunkPoint, Record, SpellsRecord, record_at, record_events, records_in}
 
@@ -23,9 +24,9 @@ grown h x = (h.0 ++ x.0, record { fields = x.1; events = x.0 } ∷ h.1)
 abbrev pub IsSpelled : Layout → History → Spelling → Type 0
 IsSpelled l h x = SpellsRecord l h.1 x.0 x.1
 
--- The parts that the events of a spelling cut out.
-abbrev pub spelled_cuts : History → Spelling → List Cut
-spelled_cuts h x = cuts_after h.0 x.0
+-- The parts of a spelling of a record.
+abbrev pub record_cuts : History → Spelling → List Cut
+record_cuts h x = spelled_cuts h.0 x
 
 -- The history after a chunk's first record, which has no events.
 abbrev pub initial_history : Record → History

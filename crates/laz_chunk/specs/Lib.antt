@@ -1,4 +1,5 @@
 pub use Rattle.laz_integer.specs.Events
+pub use Rattle.laz_integer.specs.Spelled
 pub use Rattle.laz_range.specs.Decoding
 pub mod Layouts
 pub mod Records

@@ -15,6 +15,7 @@ use Rattle.laz_rgb.specs.Laws.{AreBytes}
 use Rattle.laz_chunk.specs.declared.items.Items.{Items}
 use Rattle.laz_chunk.specs.Layouts.{Layout}
 use Rattle.laz_chunk.specs.Records.{ChunkPoint, Record, colours_of, extras_of, points_of, times_of}
+use Rattle.laz_integer.specs.Spelled.{spelled_cuts}
 
 -- Whether there is an item.
 abbrev pub has : {X : Type 0} → Option X → Bool
@@ -54,7 +55,7 @@ pub record ItemsStand (events : List Event) (points : List ChunkPoint) (items : 
 pub record ReadsPart {V : Type 0} (IsAsked : List Event × V → Type 0) (earlier : List Event) (value : V)
     (old new : Decoding) (Stands : List Event → Type 0) : Type 0 where
   pub events : List Event
-  pub takes : Takes IsAsked (λ x. cuts_after earlier x.0) old new (events, value)
+  pub takes : Takes IsAsked (spelled_cuts earlier) old new (events, value)
   pub stands : Stands events
 
 -- The fields of a record hold what its bytes can.

@@ -3,6 +3,7 @@ ghost use Rattle.std.specs.Prelude.{◌≡◌, ◌+◌, ◌*◌, ◌≤◌, ◌+
 ghost use Rattle.laz_range.specs.Coding.{Codes};
 ghost use Rattle.laz_range.specs.Decoding.{Refuses};
 ghost use Rattle.laz_integer.specs.Events.{Event, cuts_after};
+ghost use Rattle.laz_integer.specs.Spelled.{spelled_cuts};
 ghost use Rattle.laz_gpstime.specs.Sequences as sequences;
 ghost use Rattle.laz_gpstime.specs.Items.{point_with};
 ghost use Rattle.laz_rgb.specs.declared.colour.Colour.{Colour};
@@ -76,7 +77,7 @@ pub(crate) fn read_time(
         (λ _. ReadsPart (λ x. SpellsTimeIf (has item.old) points x.0 x.1) earlier time decoder.old decoder.new
         (λ events. TimesStand (earlier ++ events) (point_with time events ∷ points) item.new))
         (λ _. Refuses {X = List Event × ℕ} (λ x. SpellsTimeIf (has item.old) points x.0 x.1)
-        (λ x. cuts_after earlier x.0) decoder.old decoder.new) }
+        (spelled_cuts earlier) decoder.old decoder.new) }
 {
     match item {
         Some(times) => times.read(decoder, part),
@@ -143,7 +144,7 @@ pub(crate) fn read_colour(
         (λ _. ReadsPart (λ x. SpellsColourIf (has item.old) colours x.0 x.1) earlier colour decoder.old decoder.new
         (λ events. ColoursStand (earlier ++ events) (colour ∷ colours) item.new))
         (λ _. Refuses {X = List Event × Colour} (λ x. SpellsColourIf (has item.old) colours x.0 x.1)
-        (λ x. cuts_after earlier x.0) decoder.old decoder.new) }
+        (spelled_cuts earlier) decoder.old decoder.new) }
 {
     match item {
         Some(colours) => colours.read(decoder, part),
@@ -200,7 +201,7 @@ pub(crate) fn read_extra(
         (λ _. ReadsPart (λ x. SpellsExtra (latest_extra extras) x.0 x.1) earlier part.new decoder.old decoder.new
         (λ events. ExtrasStand (earlier ++ events) (part.new ∷ extras) item.new))
         (λ _. Refuses {X = List Event × List ℕ} (λ x. SpellsExtra (latest_extra extras) x.0 x.1)
-        (λ x. cuts_after earlier x.0) decoder.old decoder.new) }
+        (spelled_cuts earlier) decoder.old decoder.new) }
 {
     match item {
         Some(bytes) => bytes.read(decoder, part),

@@ -7,7 +7,7 @@ ghost use Rattle.laz_integer.specs.Events.{Event, cuts_after};
 ghost use Rattle.laz_chunk.specs.Layouts.{Layout, most_events, record_length};
 ghost use Rattle.laz_chunk.specs.Records.{ChunkPoint, Record, SpellsRecord, record_at, record_events, records_in};
 ghost use Rattle.laz_chunk.specs.Stands.{AreChunkPoints, ItemsStand, ReadsPart, layout_in};
-ghost use Rattle.laz_chunk.specs.Chunks.{History, IsSpelled, Spelling, grown, initial_history, spelled_cuts};
+ghost use Rattle.laz_chunk.specs.Chunks.{History, IsSpelled, Spelling, grown, initial_history, record_cuts};
 ghost use Rattle.laz_chunk.specs.Chunks.{spelled_records, writing, written};
 
 use crate::items::Items;
@@ -34,19 +34,19 @@ pub(crate) fn start_record(items: &mut Items, first: &[u8])
 }
 
 // Codes a record.
-fn code_record(encoder: &mut Encoder, items: &mut Items, record: &[u8])
-    requires record { length record.now ≡ record_length (layout_in items.old) }
+fn code_record(encoder: &mut Encoder, items: &mut Items, bytes: &[u8])
+    requires whole { length bytes.now ≡ record_length (layout_in items.old) }
     requires left { 3 * most_events (layout_in items.old) ≤ encoder.old.left }
     ensures layout { layout_in items.new ≡ layout_in items.old }
     ensures used { encoder.old.left ≤ encoder.new.left + 3 * most_events (layout_in items.old) }
     ensures codes { (h : History) → AreChunkPoints (layout_in items.old).extra h.1 → ItemsStand h.0 h.1 items.old
         → Codes encoder.old encoder.new
-        (spelled_cuts h (writing (layout_in items.old) h (record_at (layout_in items.old) record.now))) }
+        (record_cuts h (writing (layout_in items.old) h (record_at (layout_in items.old) bytes.now))) }
     ensures stands { (h : History) → AreChunkPoints (layout_in items.old).extra h.1 → ItemsStand h.0 h.1 items.old
-        → let after = grown h (writing (layout_in items.old) h (record_at (layout_in items.old) record.now)) in
+        → let after = grown h (writing (layout_in items.old) h (record_at (layout_in items.old) bytes.now)) in
         ItemsStand after.0 after.1 items.new }
 {
-    let (point, parts) = record.split_at(20);
+    let (point, parts) = bytes.split_at(20);
     let (time, others) = parts.split_at(time_length(&items.gps_time));
     let (colour, extra) = others.split_at(colour_length(&items.rgb));
     items.point10.code(encoder, point);
@@ -56,20 +56,20 @@ fn code_record(encoder: &mut Encoder, items: &mut Items, record: &[u8])
 }
 
 // Reads a record.
-fn read_record(decoder: &mut Decoder<'_>, items: &mut Items, record: &mut [u8]) -> Result<(), Bad>
-    requires record { length record.old ≡ record_length (layout_in items.old) }
+fn read_record(decoder: &mut Decoder<'_>, items: &mut Items, bytes: &mut [u8]) -> Result<(), Bad>
+    requires whole { length bytes.old ≡ record_length (layout_in items.old) }
     requires good { decoder.old.failed ≡ false }
-    ensures record { length record.new ≡ length record.old }
+    ensures whole { length bytes.new ≡ length bytes.old }
     ensures layout { layout_in items.new ≡ layout_in items.old }
     ensures good { OnOk result (decoder.new.failed ≡ false) }
     ensures reads { (h : History) → ItemsStand h.0 h.1 items.old
-        → let l = layout_in items.old in let now = record_at l record.new
+        → let l = layout_in items.old in let now = record_at l bytes.new
         in MatchResult result
         (λ _. ReadsPart (IsSpelled l h) h.0 now decoder.old decoder.new
         (λ events. let after = grown h (events, now) in ItemsStand after.0 after.1 items.new))
-        (λ _. Refuses (IsSpelled l h) (spelled_cuts h) decoder.old decoder.new) }
+        (λ _. Refuses (IsSpelled l h) (record_cuts h) decoder.old decoder.new) }
 {
-    let (point, parts) = record.split_at_mut(20);
+    let (point, parts) = bytes.split_at_mut(20);
     let (time, others) = parts.split_at_mut(time_length(&items.gps_time));
     let (colour, extra) = others.split_at_mut(colour_length(&items.rgb));
     items.point10.read(decoder, point)?;
@@ -94,7 +94,7 @@ pub(crate) fn put_records(
     ensures codes { (h : History) → AreChunkPoints (layout_in items.old).extra h.1 → ItemsStand h.0 h.1 items.old
         → let l = layout_in items.old in
         Codes encoder.old encoder.new
-        (all_cuts grown spelled_cuts h (written l h (records_in l count records.now))) }
+        (all_cuts grown record_cuts h (written l h (records_in l count records.now))) }
 {
     for i in 0..count {
         let at = i * size;
@@ -121,9 +121,9 @@ pub(crate) fn take_records(
         → let l = layout_in items.old
         in MatchResult result
         (λ _. (xs : List Spelling)
-        × Takes (AreAsked grown (IsSpelled l) h count) (all_cuts grown spelled_cuts h) decoder.old decoder.new xs
+        × Takes (AreAsked grown (IsSpelled l) h count) (all_cuts grown record_cuts h) decoder.old decoder.new xs
         × (spelled_records xs ≡ records_in l count records.new))
-        (λ _. Refuses (AreAsked grown (IsSpelled l) h count) (all_cuts grown spelled_cuts h) decoder.old decoder.new) }
+        (λ _. Refuses (AreAsked grown (IsSpelled l) h count) (all_cuts grown record_cuts h) decoder.old decoder.new) }
 {
     for i in 0..count {
         let at = i * size;

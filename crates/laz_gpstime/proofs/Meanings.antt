@@ -8,6 +8,7 @@ use Rattle.laz_integer.proofs.Cases.{events-zero, events-most, events-narrow, ev
 use Rattle.laz_gpstime.specs.Meanings.{Meaning, Multiple, Switch, meaning, meanings, meaning_in, switch_in, time_kind}
 use Rattle.laz_integer.specs.Uses.{own_name}
 use Rattle.laz_gpstime.specs.Times.{model_of, new_symbol, switch_events, time_symbol}
+use Rattle.laz_integer.proofs.Lists.{cond-append}
 
 -- ---- names
 pub same-time : (m : ℕ) → same_name (own_name time_kind m) (own_name time_kind m) ≡ true
@@ -18,10 +19,6 @@ cond-same true a = refl
 cond-same false a = refl
 
 -- ---- what events say
-cond-append : {X : Type 0} (b : Bool) (x : X) (all xs ys : List X) → all ≡ xs ++ ys → cond b (x ∷ all) all ≡ cond b (x ∷ xs) xs ++ ys
-cond-append false x all xs ys e = e
-cond-append true x all xs ys e = ap (λ l. x ∷ l) e
-
 pub meanings-append : (xs ys : List Event) → meanings (xs ++ ys) ≡ meanings xs ++ meanings ys
 meanings-append [] ys = refl
 meanings-append (Symbol other n s ∷ xs) ys = cond-append (same_name (own_name time_kind other.which) other) (meaning other.which s) _ (meanings xs) (meanings ys) (meanings-append xs ys)

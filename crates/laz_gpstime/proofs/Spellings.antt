@@ -13,7 +13,8 @@ use Rattle.laz_integer.specs.Ranged.{AreRanged}
 use Rattle.laz_integer.proofs.Pieces.{Piece, Piece-none, Piece-then}
 use Rattle.laz_integer.proofs.Ranges.{AreCuts-ranged}
 use Rattle.laz_gpstime.specs.Choices.{Choice, IsChoice, IsRest, Rest, choice_cuts, choice_next, choice_time, rest_cuts, rest_next, state_on, switch_cuts, switch_next, symbol_next, time_symbol_cuts}
-use Rattle.laz_gpstime.specs.Items.{HasTimeSizes, IsSpelledTime, OneBegins, ReadsTime, TimeStands, point_with, spelled_cuts}
+use Rattle.laz_gpstime.specs.Items.{HasTimeSizes, IsSpelledTime, ReadsTime, TimeStands, point_with}
+use Rattle.laz_integer.specs.Spelled.{OneBegins, spelled_cuts}
 use Rattle.laz_gpstime.specs.Meanings.{Meaning, meaning, time_kind}
 use Rattle.laz_gpstime.specs.Sequences.{Point, extremes, point_meaning, point_switch}
 use Rattle.laz_gpstime.specs.Slots.{AreSlots, IsTimeState, ModelsStand, TimeState, after_point, after_switch, difference_of, slot_at, slot_of, symbols_after}

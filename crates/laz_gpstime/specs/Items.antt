@@ -1,9 +1,7 @@
 -- What the item stands for: the events of a stream, and the chunk's points so far, the latest one first. And what a
 -- reader answers.
 use Rattle.std.specs.Prelude.{◌≡◌, ℕ, List, ◌∷◌, ◌++◌}
-use Rattle.laz_range.specs.Cut.{Cut}
-use Rattle.laz_range.specs.Span.{Begins, span}
-use Rattle.laz_range.specs.Decoding.{Decoding, HasRead, ReadsOn, Takes}
+use Rattle.laz_range.specs.Decoding.{Decoding, ReadsOn, Takes}
 use Rattle.laz_integer.specs.Events.{Event, Name, cuts_after}
 use Rattle.laz_integer.specs.Ranged.{AreRanged, HasIntSizes}
 use Rattle.laz_integer.specs.Uses.{own_name}
@@ -11,20 +9,11 @@ use Rattle.laz_gpstime.specs.Meanings.{time_kind}
 use Rattle.laz_gpstime.specs.Sequences.{Point}
 use Rattle.laz_gpstime.specs.Spelling.{SpellsTime}
 use Rattle.laz_gpstime.specs.Slots.{AreSlots, ModelsStand, TimeState}
-
--- The parts of a spelling, after earlier events.
-abbrev pub spelled_cuts : List Event → List Event × ℕ → List Cut
-spelled_cuts earlier x = cuts_after earlier x.0
+use Rattle.laz_integer.specs.Spelled.{spelled_cuts}
 
 -- Events, and the time that they spell after earlier points.
 abbrev pub IsSpelledTime : List Point → List Event × ℕ → Type 0
 IsSpelledTime points x = SpellsTime points x.0 x.1
-
--- Whatever spelling begins the rest of the bytes, this is what it spells.
-abbrev pub OneBegins : (List Event × ℕ → Type 0) → List Event → Decoding → ℕ → Type 0
-OneBegins IsSpelled earlier old time =
-    (read : List Cut) → HasRead read old → (x : List Event × ℕ) → IsSpelled x
-    → Begins (span (read ++ spelled_cuts earlier x)) old.bytes → x.1 ≡ time
 
 -- The numbers of symbols under which the events of times are lawful.
 pub record HasTimeSizes (sizes : Name → ℕ) : Type 0 where

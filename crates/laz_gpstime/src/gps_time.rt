@@ -7,8 +7,9 @@ ghost use Rattle.laz_integer.specs.Events.{Event, Name, cuts_after};
 ghost use Rattle.laz_integer.specs.Ranged.{AreRanged};
 ghost use Rattle.laz_gpstime.specs.Sequences.{Point};
 ghost use Rattle.laz_gpstime.specs.Times.{time_at, time_events};
-ghost use Rattle.laz_gpstime.specs.Items.{HasTimeSizes, IsSpelledTime, OneBegins, ReadsTime, TimeStands, point_with};
-ghost use Rattle.laz_gpstime.specs.Items.{spelled_cuts};
+ghost use Rattle.laz_gpstime.specs.Items.{HasTimeSizes, IsSpelledTime, ReadsTime, TimeStands, point_with};
+ghost use Rattle.laz_integer.specs.Spelled.{OneBegins};
+ghost use Rattle.laz_integer.specs.Spelled.{spelled_cuts};
 
 use crate::coding::put_time;
 use crate::reading::take_time;

@@ -15,3 +15,7 @@ pub mod Ranges
 pub mod Writing
 pub mod Words
 pub mod Examples
+pub mod Lists
+pub mod Products
+pub mod BankModels
+pub mod Joins

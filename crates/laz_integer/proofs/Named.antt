@@ -1,9 +1,10 @@
-use Rattle.std.proofs.Common.{◌≡◌, ℕ, ◌-◌, ◌/◌, ◌%◌, ◌<◌, ◌≤◌, eqb, ltb, cond, Bool, true, false, List, [], ◌∷◌, ◌++◌, refl, sym, ap, ◌∙◌, ⊎_elim, append_assoc}
+use Rattle.std.proofs.Common.{◌≡◌, ℕ, ◌-◌, ◌/◌, ◌%◌, ◌<◌, ◌≤◌, eqb, ltb, Bool, true, false, List, [], ◌∷◌, ◌++◌, refl, sym, ap, ◌∙◌, ⊎_elim, append_assoc}
 use Rattle.std.proofs.lemmas.Bool.{cases_lt, cond-true, cond-false, eq-eqb, ne_eqb, and_from, and_left, lt-ltb, le-ltb}
 use Rattle.std.proofs.lemmas.List.{append-nil}
 use Rattle.laz_range.specs.Cut.{raw_cuts}
 use Rattle.laz_integer.specs.Events.{Event, Symbol, Flag, Bits, Name, same_text, same_name, symbols_under, bits_under, cut_after, cuts_after, raw_events}
 use Rattle.laz_integer.specs.Integer.{IntState, width_name, bit_name, high_name, events_cuts, events_next}
+use Rattle.laz_integer.proofs.Lists.{cond-append}
 
 -- ---- names
 pub same_text-refl : (xs : List ℕ) → same_text xs xs ≡ true
@@ -26,10 +27,6 @@ pub other-high : (kind : List ℕ) (c d : ℕ) → (c ≡ d → ⊥) → same_na
 other-high kind c d ne = and_left (eqb c d) (same_text kind kind) (ne_eqb c d ne)
 
 -- ---- events after others
-cond-append : {X : Type 0} (b : Bool) (x : X) (all xs ys : List X) → all ≡ xs ++ ys → cond b (x ∷ all) all ≡ cond b (x ∷ xs) xs ++ ys
-cond-append false x all xs ys e = e
-cond-append true x all xs ys e = ap (λ l. x ∷ l) e
-
 pub symbols_under-append : (name : Name) (xs ys : List Event) → symbols_under name (xs ++ ys) ≡ symbols_under name xs ++ symbols_under name ys
 symbols_under-append name [] ys = refl
 symbols_under-append name (Symbol other n s ∷ xs) ys = cond-append (same_name name other) s _ (symbols_under name xs) (symbols_under name ys) (symbols_under-append name xs ys)

@@ -15,6 +15,7 @@ use Rattle.laz_integer.specs.Fields.{if_marked, byte_events, BankStands, byte_cu
 use Rattle.laz_integer.proofs.Named.{same_text-refl, symbols-with, symbols-without, cuts_after-append, cuts-raw}
 use Rattle.laz_integer.proofs.Stood.{Comes, comes, symbol-cut}
 use Rattle.laz_integer.proofs.Uses.{Silent-none, Silent-append, Silent-other, Silent-raws, Silent-corrector, other_than, absent-split, AllSilent-split, all-silent, bank-silent, int-silent}
+use Rattle.laz_integer.proofs.Lists.{two_lists}
 
 -- Events of these uses, which cut these parts if the models before them stand for the earlier events. The models after
 -- them then stand for both.
@@ -24,9 +25,6 @@ pub record Piece (kinds : List (List ℕ)) (events : List Event) (cuts : List Cu
   pub stands : (earlier : List Event) → Before earlier → After (earlier ++ events)
   pub before : (earlier others : List Event) → AllSilent kinds others → Before earlier → Before (earlier ++ others)
   pub after : (earlier others : List Event) → AllSilent kinds others → After earlier → After (earlier ++ others)
-
-two_lists : {X : Type 0} (a b c d : List X) → a ≡ b → c ≡ d → a ++ c ≡ b ++ d
-two_lists a b c d e f = cc
 
 -- one piece after another of other uses
 pub Piece-both : (kinds more : List (List ℕ)) (es fs : List Event) (cs ds : List Cut) (B A C D : List Event → Type 0) → apart kinds more ≡ true → apart more kinds ≡ true

@@ -20,6 +20,7 @@ use Rattle.laz_integer.proofs.Correctors.{power-le}
 use Rattle.laz_integer.proofs.Counted.{IsIntSymbol, AreIntEvents, corrector-events}
 use Rattle.laz_integer.proofs.Named.{cuts_after-append, raw-wide, raw-short}
 use Rattle.laz_integer.proofs.Uses.{both_true}
+use Rattle.laz_integer.proofs.Lists.{cons_same}
 
 pub AreRanged-append : (sizes : Name → ℕ) (xs ys : List Event) → AreRanged sizes xs → AreRanged sizes ys → AreRanged sizes (xs ++ ys)
 AreRanged-append sizes [] ys h k = k
@@ -50,9 +51,6 @@ role-is High Own e = no_false e
 role-is High Width e = no_false e
 role-is High ZeroOrOne e = no_false e
 role-is High High e = refl
-
-cons_same : (x y : ℕ) (xs ys : List ℕ) → x ≡ y → xs ≡ ys → x ∷ xs ≡ y ∷ ys
-cons_same x y xs ys e f = cc
 
 text-is : (a b : List ℕ) → same_text a b ≡ true → a ≡ b
 text-is [] [] e = refl

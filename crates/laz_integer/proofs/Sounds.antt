@@ -7,7 +7,8 @@ use Rattle.laz_range.specs.Decoding.{Decoding, Reads}
 use Rattle.laz_models.specs.Sound.{AreSound}
 use Rattle.laz_models.proofs.Sounds.{AreSound-set, AreSound-new_model, IsBitCounting-after_bit, IsBitCounting-new_bit_model}
 use Rattle.laz_integer.specs.Integer.{IntState, IsIntState, int_sizes, symbol_next, flag_next}
-use Rattle.laz_integer.proofs.States.{models-count, width-size, high-size, high-in, sizes-new_model, sizes-range}
+use Rattle.laz_models.proofs.Layouts.{sizes-new_model}
+use Rattle.laz_integer.proofs.States.{models-count, width-size, high-size, high-in, sizes-range}
 
 -- ---- the models of an integer
 pub IsIntState-width : (st : IntState) (ctx k : ℕ) → IsIntState st → ctx < st.contexts → k ≤ st.bits → IsIntState (symbol_next st ctx k)

@@ -6,12 +6,8 @@ use Rattle.std.proofs.lemmas.List.Elements.{All-append, All-replicate, All-from_
 use Rattle.std.proofs.Math.Nat.{pow-le-pow_right}
 use Rattle.laz_models.specs.Counting.{Counting, new_model}
 use Rattle.laz_models.specs.Bank.{model_at, alphabet_sizes}
-use Rattle.laz_models.proofs.Banks.{size-new_model}
 use Rattle.laz_models.specs.Dist.{alphabet_size}
 use Rattle.laz_integer.specs.Integer.{IntState, IsIntState, int_sizes, high_at}
-
-cons_same : (x y : ℕ) (xs ys : List ℕ) → x ≡ y → xs ≡ ys → x ∷ xs ≡ y ∷ ys
-cons_same x y xs ys e f = cc
 
 -- ---- the models of an integer and their sizes
 pub length-sizes : (bits contexts : ℕ) → length (int_sizes bits contexts) ≡ contexts + bits
@@ -83,10 +79,6 @@ sizes-more ones old k n some is e =
     rw (e, is, place, map-range_with_len_more (λ k. 2 ^ min k 8) 1 (k - 1) k last) (append_assoc ones (map (λ k. 2 ^ min k 8) (range_with_len 1 (k - 1))) (2 ^ min k 8 ∷ []))
 
 -- new models
-pub sizes-new_model : (sizes : List ℕ) → alphabet_sizes (map new_model sizes) ≡ sizes
-sizes-new_model [] = refl
-sizes-new_model (n ∷ sizes) = cons_same (alphabet_size (new_model n)) n (alphabet_sizes (map new_model sizes)) sizes (size-new_model n) (sizes-new_model sizes)
-
 pub new_model-sizes : (bank : List Counting) → map (λ m. new_model (alphabet_size m)) bank ≡ map new_model (alphabet_sizes bank)
 new_model-sizes [] = refl
 new_model-sizes (m ∷ bank) = ap (λ l. new_model (alphabet_size m) ∷ l) (new_model-sizes bank)

@@ -125,6 +125,9 @@ Silent-int other kind bits ctx pred value events k e few h =
 pub other_than : (other kind : List ℕ) → absent other (kind ∷ []) ≡ true → same_text other kind ≡ false
 other_than other kind e = not_true (same_text other kind) (both_true _ true e).0
 
+pub first-other : (kind k : List ℕ) (kinds : List (List ℕ)) → absent kind (k ∷ kinds) ≡ true → (same_text kind k ≡ false) × (absent kind kinds ≡ true)
+first-other kind k kinds e = let both = both_true (not (same_text kind k)) (absent kind kinds) e in (not_true (same_text kind k) both.0, both.1)
+
 pub absent-split : (kind : List ℕ) (kinds more : List (List ℕ)) → absent kind (kinds ++ more) ≡ true → (absent kind kinds ≡ true) × (absent kind more ≡ true)
 absent-split kind [] more h = (refl, h)
 absent-split kind (k ∷ kinds) more h =

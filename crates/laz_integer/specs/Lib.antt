@@ -7,3 +7,5 @@ pub mod Integer
 pub mod Ranged
 pub mod Fields
 pub mod Models
+pub mod Spelled
+pub mod Bytes

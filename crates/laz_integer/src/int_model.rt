@@ -12,7 +12,7 @@ ghost use Rattle.laz_integer.specs.Integer.{ReadsCorrector, ReadsInt, int_cuts, 
 
 use crate::corrector::{between, correct, split};
 use crate::limits::{MAX_BITS, MAX_CONTEXTS, MAX_INT_BYTES, MAX_SHORT_INT_BYTES, SHORT_BITS};
-use crate::models::{Models, new_models, put, take};
+use crate::models::{Models, new_models, put, reset_models, take};
 use laz_models::BitModel;
 use laz_range::{Bad, Decoder, Encoder};
 use std::alloc::{AllocError, Global};
@@ -66,8 +66,7 @@ impl IntModel {
         ensures stands { (kind : List ℕ) → IntStands kind [] self.new }
         ensures state { IsIntState self.new }
     {
-        self.models.bank.reset();
-        self.models.zero_or_one.reset();
+        reset_models(&mut self.models);
     }
 
     /// Codes `real` with the prediction `pred` and returns the width k of its corrector. Below 32 bits, `pred` and

@@ -14,6 +14,7 @@ mod fields;
 mod int_model;
 mod laws;
 mod limits;
+mod marks;
 mod models;
 mod symbols;
 
@@ -26,6 +27,7 @@ pub use laws::{
 pub use limits::{
     HIGH_BITS, MAX_BITS, MAX_CONTEXTS, MAX_INT_BYTES, MAX_SHORT_INT_BYTES, SHORT_BITS,
 };
+pub use marks::has_bit;
 pub use symbols::{put_bit, put_symbol, put_symbol_of, take_bit, take_symbol, take_symbol_of};
 
 #[cfg(test)]

@@ -66,6 +66,21 @@ pub fn new_models(alloc: Global, bits: u32, contexts: u32) -> Result<Models, All
     })
 }
 
+/// Returns all models to their initial state.
+pub fn reset_models(models: &mut Models)
+    requires { IsIntState (state_of models.old) }
+    ensures { state_of models.new
+        ≡ record {
+          bits = models.old.bits;
+          contexts = models.old.contexts;
+          zero_or_one = new_bit_model;
+          bank = map new_model (int_sizes models.old.bits models.old.contexts);
+        } }
+{
+    models.bank.reset();
+    models.zero_or_one.reset();
+}
+
 /// Reads the width of a corrector.
 #[inline]
 fn take_width(models: &mut Models, decoder: &mut Decoder<'_>, ctx: u32) -> Result<u32, Bad>

@@ -10,7 +10,8 @@ use Rattle.laz_integer.proofs.Words.{word-made}
 use Rattle.laz_point10.specs.declared.point.Point.{Point}
 use Rattle.laz_point10.specs.declared.history.History.{History}
 use Rattle.laz_point10.specs.Points.{direction_bit, one_return}
-use Rattle.laz_point10.specs.PointEvents.{SpellsBy, changes_kind, classification_kind, flags_kind, has_bit, intensity_context, intensity_kind, point_source_kind, scan_angle_kind, user_data_kind, x_kind, y_context, y_kind, z_context, z_kind}
+use Rattle.laz_point10.specs.PointEvents.{SpellsBy, changes_kind, classification_kind, flags_kind, intensity_context, intensity_kind, point_source_kind, scan_angle_kind, user_data_kind, x_kind, y_context, y_kind, z_context, z_kind}
+use Rattle.laz_integer.specs.Bytes.{has_bit}
 use Rattle.laz_point10.specs.Coded.{PointChoice, IsPointChoice, choice_events, point_made, predicted}
 use Rattle.laz_point10.proofs.Parts.{same-point}
 

@@ -14,7 +14,8 @@ use Rattle.las_header.specs.Numbers.{number_at}
 use Rattle.laz_point10.specs.declared.point.Point.{Point}
 use Rattle.laz_point10.specs.Medians.{median_of, middle, with_value}
 use Rattle.laz_point10.specs.Points.{last_intensity, one_return, point_at, return_level, return_map, x_steps}
-use Rattle.laz_point10.specs.PointEvents.{changes_kind, changes_of, even_below, has_bit, intensity_kind, point_events, x_kind, y_context, y_kind, z_context, z_kind}
+use Rattle.laz_point10.specs.PointEvents.{changes_kind, changes_of, even_below, intensity_kind, point_events, x_kind, y_context, y_kind, z_context, z_kind}
+use Rattle.laz_integer.specs.Bytes.{has_bit}
 
 -- a part of zeros, and one with intensity 7 and the flag byte of the first of one return
 abbrev zeros : Point

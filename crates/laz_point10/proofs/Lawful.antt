@@ -7,7 +7,7 @@ use Rattle.laz_integer.specs.Ranged.{AreRanged}
 use Rattle.laz_integer.specs.Fields.{SpellsByte, SpellsWord, byte_events}
 use Rattle.laz_integer.proofs.Bounds.{byte-few, int-few, word-few}
 use Rattle.laz_integer.proofs.Ranges.{AreRanged-append, byte-ranged, int-ranged, word-ranged}
-use Rattle.laz_integer.proofs.Uses.{Silent-append, Silent-int, Silent-none, Silent-other, bank-silent, both_true, int-silent, not_true}
+use Rattle.laz_integer.proofs.Uses.{Silent-append, Silent-int, Silent-none, Silent-other, bank-silent, first-other, int-silent}
 use Rattle.laz_point10.specs.declared.point.Point.{Point}
 use Rattle.laz_point10.specs.PointEvents.{SpellsPoint, changes_kind, classification_kind, flags_kind, intensity_kind, point_source_kind, scan_angle_kind, user_data_kind, x_kind, y_kind, z_kind}
 use Rattle.laz_point10.specs.Items.{HasPointSizes}
@@ -84,10 +84,6 @@ byte-silent other kind false m expected s events e h = subst (λ (es : List Even
 word-silent : (other kind : List ℕ) (marked : Bool) (ctx pred value : ℕ) (events : List Event) → same_text other kind ≡ false → SpellsWord marked kind ctx pred events value → Silent other events
 word-silent other kind true ctx pred value events e h = Silent-int other kind 16 ctx _ _ events h.0 e (lit≤ tt) h.1
 word-silent other kind false ctx pred value events e h = subst (λ (es : List Event). Silent other es) (sym h.0) (Silent-none other)
-
--- a use that is none of a list's is not the first, and none of the others
-first-other : (kind k : List ℕ) (kinds : List (List ℕ)) → absent kind (k ∷ kinds) ≡ true → (same_text kind k ≡ false) × (absent kind kinds ≡ true)
-first-other kind k kinds e = let both = both_true _ (absent kind kinds) e in (not_true (same_text kind k) both.0, both.1)
 
 point-silent : (other : List ℕ) (points : List Point) (events : List Event) (point : Point) → absent other point_kinds ≡ true → SpellsPoint points events point → Silent other events
 point-silent other points events point e s =

@@ -12,6 +12,7 @@ use Rattle.las_header.specs.Numbers.{number_at}
 use Rattle.laz_point10.specs.declared.point.Point.{Point}
 use Rattle.laz_point10.specs.Points.{point_at}
 use Rattle.laz_point10.specs.Laws.{ArePart, PartsAreOfPoints}
+use Rattle.laz_integer.proofs.Lists.{cons_same}
 
 same-fields : (x x2 y y2 z z2 : ℤ) (a a2 b b2 c c2 d d2 e e2 f f2 : ℕ) → x ≡ x2 → y ≡ y2 → z ≡ z2 → a ≡ a2 → b ≡ b2 → c ≡ c2 → d ≡ d2 → e ≡ e2 → f ≡ f2
     → (let q : Point = record { x = x; y = y; z = z; intensity = a; flags = b; classification = c; scan_angle = d; user_data = e; point_source = f } in q)
@@ -59,9 +60,6 @@ up-to P (suc n) k h within =
     (λ (last : k ≡ n). subst P (sym last) h.1)
     (λ (ne : k ≡ n → ⊥). up-to P n k h.0 (omega (arith, ne)))
     (cases_eq k n)
-
-cons_same : (x y : ℕ) (xs ys : List ℕ) → x ≡ y → xs ≡ ys → x ∷ xs ≡ y ∷ ys
-cons_same x y xs ys e f = cc
 
 ext : (xs ys : List ℕ) → length xs ≡ length ys → ((k : ℕ) → k < length xs → get_or xs k 0 ≡ get_or ys k 0) → xs ≡ ys
 ext [] [] n h = refl

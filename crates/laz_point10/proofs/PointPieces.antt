@@ -15,11 +15,13 @@ use Rattle.laz_point10.specs.declared.models.ScanModels.{ScanModels}
 use Rattle.laz_point10.specs.declared.models.PlaceModels.{PlaceModels}
 use Rattle.laz_point10.specs.declared.models.Models.{Models}
 use Rattle.laz_point10.specs.Points.{IsPoint, direction_bit, one_return}
-use Rattle.laz_point10.specs.PointEvents.{even_below, bit_if_changed, changes_of, events_by, byte_difference, has_bit, intensity_context, changes_kind, flags_kind, intensity_kind, classification_kind, scan_angle_kind, user_data_kind, point_source_kind, x_kind, y_kind, z_kind}
-use Rattle.laz_point10.specs.Groups.{AreByteModels, HeadChoice, head_cuts, head_next, AreHeadModels, SurfaceChoice, surface_cuts, surface_next, AreSurfaceModels, ScanChoice, scan_cuts, scan_next, AreScanModels, PlaceChoice, IsPlace, place_cuts, place_next, ArePlaceModels}
+use Rattle.laz_point10.specs.PointEvents.{even_below, bit_if_changed, changes_of, events_by, intensity_context, changes_kind, flags_kind, intensity_kind, classification_kind, scan_angle_kind, user_data_kind, point_source_kind, x_kind, y_kind, z_kind}
+use Rattle.laz_integer.specs.Bytes.{byte_difference, has_bit}
+use Rattle.laz_point10.specs.Groups.{HeadChoice, head_cuts, head_next, AreHeadModels, SurfaceChoice, surface_cuts, surface_next, AreSurfaceModels, ScanChoice, scan_cuts, scan_next, AreScanModels, PlaceChoice, IsPlace, place_cuts, place_next, ArePlaceModels}
+use Rattle.laz_integer.specs.Bytes.{AreByteModels}
 use Rattle.laz_point10.specs.Coded.{AreModels, HeadStands, SurfaceStands, ScanStands, PlaceStands, ModelsStand, PointChoice, IsPointChoice, choice_cuts, choice_events, choice_next, head_events, surface_events, scan_events, place_events, predicted, choice_written}
 use Rattle.laz_point10.specs.Laws.{point_kinds}
-use Rattle.laz_point10.proofs.Takings.{bank-model, changes-model}
+use Rattle.laz_integer.proofs.BankModels.{byte-model, first-model}
 
 -- ---- a field that is coded if it is marked: what can be coded of it
 abbrev pub MayByte : Bool → ℕ → Type 0
@@ -48,8 +50,8 @@ may-word_any false x h = tt
 
 byte-piece : (marked : Bool) (kind : List ℕ) (bank : List Counting) (n m s : ℕ) → AreByteModels n bank → m < n → MayByte marked s
     → Piece (kind ∷ []) (if_marked marked (byte_events kind m s)) (byte_cuts marked bank m s) (λ l. BankStands kind l bank) (λ l. BankStands kind l (byte_next marked bank m s))
-byte-piece true kind bank n m s has within asked = let model = bank-model n m bank has within in Piece-byte true kind bank m 0 s model.0 model.1 asked
-byte-piece false kind bank n m s has within asked = let model = bank-model n m bank has within in Piece-byte false kind bank m s s model.0 model.1 refl
+byte-piece true kind bank n m s has within asked = let model = byte-model n m bank has within in Piece-byte true kind bank m 0 s model.0 model.1 asked
+byte-piece false kind bank n m s has within asked = let model = byte-model n m bank has within in Piece-byte false kind bank m s s model.0 model.1 refl
 
 word-piece : (marked : Bool) (kind : List ℕ) (st : IntState) (n ctx : ℕ) (x : ℕ × ℕ) → IsInts 16 n st → ctx < n → MayWord marked x
     → Piece (kind ∷ []) (if_marked marked (corrector_events kind 16 ctx x.0 x.1)) (word_cuts marked st ctx x) (λ l. IntStands kind l st) (λ l. IntStands kind l (word_next marked st ctx x))
@@ -133,7 +135,7 @@ piece-head : (ms : HeadModels) (last : Point) (x : HeadChoice) → AreHeadModels
     → Piece head_kinds (head_events last x) (head_cuts ms last x) (λ l. HeadStands l ms) (λ l. HeadStands l (head_next ms last x))
 piece-head ms last x is small asked =
     Piece-both (changes_kind ∷ []) (flags_kind ∷ []) _ _ _ _ _ _ _ _ refl refl
-    (Piece-symbol changes_kind ms.changes 0 64 x.0 (changes-model ms.changes is.changes).0 (changes-model ms.changes is.changes).1 (lit≤ tt) asked.0)
+    (Piece-symbol changes_kind ms.changes 0 64 x.0 (first-model ms.changes 64 [] is.changes).0 (first-model ms.changes 64 [] is.changes).1 (lit≤ tt) asked.0)
     (byte-piece (has_bit 32 x.0) flags_kind ms.flags 256 last.flags x.1 is.flags small asked.1)
 
 piece-surface : (ms : SurfaceModels) (e : Predictions) (changes flags : ℕ) (x : SurfaceChoice) → AreSurfaceModels ms → e.previous.classification < 256 → MaySurface changes x

@@ -18,7 +18,8 @@ use Rattle.laz_point10.specs.declared.models.Models.{Models}
 use Rattle.laz_point10.specs.Points.{IsPoint}
 use Rattle.laz_point10.specs.PointEvents.{SpellsBy, events_by, point_events}
 use Rattle.laz_point10.specs.Coded.{AreModels, HistoryStands, IsHistory, IsPointChoice, ModelsStand, PointChoice, choice_cuts, choice_events, choice_next, choice_written, point_made}
-use Rattle.laz_point10.specs.Items.{HasPointSizes, IsSpelledPoint, OneBegins, PointStands, PointState, ReadsPoint, spelled_cuts}
+use Rattle.laz_point10.specs.Items.{HasPointSizes, IsSpelledPoint, PointStands, PointState, ReadsPoint}
+use Rattle.laz_integer.specs.Spelled.{OneBegins, spelled_cuts}
 use Rattle.laz_point10.specs.Laws.{point_kinds}
 use Rattle.laz_point10.proofs.Choices.{chosen, spelled}
 use Rattle.laz_point10.proofs.Histories.{predicted-is}

@@ -19,9 +19,11 @@ use Rattle.laz_point10.specs.declared.models.SurfaceModels.{SurfaceModels}
 use Rattle.laz_point10.specs.declared.models.ScanModels.{ScanModels}
 use Rattle.laz_point10.specs.declared.models.PlaceModels.{PlaceModels}
 use Rattle.laz_point10.specs.Points.{direction_bit, one_return}
-use Rattle.laz_point10.specs.PointEvents.{even_below, has_bit, intensity_context, y_context, z_context}
+use Rattle.laz_point10.specs.PointEvents.{even_below, intensity_context, y_context, z_context}
+use Rattle.laz_integer.specs.Bytes.{has_bit}
 use Rattle.laz_integer.specs.Fields.{IsByte, IsWord, byte_cuts, int_corrector, word_cuts}
-use Rattle.laz_point10.specs.Groups.{AreByteModels, IsSurface, surface_cuts, IsScan, scan_cuts, IsPlace, place_cuts}
+use Rattle.laz_point10.specs.Groups.{IsSurface, surface_cuts, IsScan, scan_cuts, IsPlace, place_cuts}
+use Rattle.laz_integer.specs.Bytes.{AreByteModels}
 
 pub same-surface : (a b : IntState) (c d : List Counting) → a ≡ b → c ≡ d → (let x : SurfaceModels = record { intensity = a; classifications = c } in x) ≡ record { intensity = b; classifications = d }
 same-surface a b c d e f = cc
@@ -31,27 +33,6 @@ same-scan a b c d m n e f g = cc
 
 pub same-place : (a b c d m n : IntState) → a ≡ b → c ≡ d → m ≡ n → (let x : PlaceModels = record { dx = a; dy = c; z = m } in x) ≡ record { dx = b; dy = d; z = n }
 same-place a b c d m n e f g = cc
-
--- ---- a model of a bank
-pub bank-model : (n m : ℕ) (bank : List Counting) → AreByteModels n bank → m < n → (m < length bank) × (alphabet_size (model_at bank m) ≡ 256)
-bank-model n m bank e within =
-    let long : m < length (alphabet_sizes bank) = rw (e, length-replicate {A = ℕ} n 256) within in
-    let found = size-at bank m long in (found.0, found.1 ∙ (ap (λ l. get_or l m 0) e ∙ get_or-replicate n m 256 0 within))
-
--- initial models stand for no event
-pub new-stands : (sizes : List ℕ) (bank : List Counting) → alphabet_sizes bank ≡ sizes → ((m : ℕ) → m < length sizes → StandsFor [] (model_at bank m)) → (kind : List ℕ) (m : ℕ) → m < length bank → StandsFor [] (model_at bank m)
-new-stands sizes bank e h kind m within = h m (omega (arith, within, ap length e, length-map bank alphabet_size))
-
-pub reset-stands : (old new : List Counting) → alphabet_sizes new ≡ alphabet_sizes old → ((m : ℕ) → m < length old → StandsFor [] (model_at new m)) → (m : ℕ) → m < length new → StandsFor [] (model_at new m)
-reset-stands old new sizes h m within = h m (omega (arith, ap length sizes, length-map old alphabet_size, length-map new alphabet_size, within))
-
-pub changes-model : (bank : List Counting) → alphabet_sizes bank ≡ 64 ∷ [] → (0 < length bank) × (alphabet_size (model_at bank 0) ≡ 64)
-changes-model bank e =
-    let long : 0 < length (alphabet_sizes bank) = rw e (omega arith) in
-    let found = size-at bank 0 long in (found.0, found.1 ∙ ap (λ l. get_or l 0 0) e)
-
-pub sized-none : (m : Counting) (n : ℕ) (a b : Decoding) → alphabet_size m ≡ n → TakesNone (λ y. y < alphabet_size m) (λ y. symbol_cut m y ∷ []) a b → TakesNone (λ y. y < n) (λ y. symbol_cut m y ∷ []) a b
-sized-none m n a b e f = subst (λ (k : ℕ). TakesNone {X = ℕ} (λ y. y < k) (λ y. symbol_cut m y ∷ []) a b) e f
 
 -- ---- an integer of 32 bits
 pub int-takes : (st : IntState) (other ctx : ℕ) (x : ℕ × ℕ) (a b : Decoding) → other ≡ ctx → Takes (IsCorrector 32) (λ y. int_cuts st other y.0 y.1) a b x → Takes (IsCorrector 32) (λ y. int_cuts st ctx y.0 y.1) a b x

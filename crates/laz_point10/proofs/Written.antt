@@ -16,7 +16,8 @@ use Rattle.laz_point10.specs.declared.median.Median.{Median}
 use Rattle.laz_point10.specs.declared.history.Predictions.{Predictions}
 use Rattle.laz_point10.specs.Medians.{median_of, middle, put_in, with_value}
 use Rattle.laz_point10.specs.Points.{IsPoint, latest_or, latest_point, one_return, predictions_of, return_level, return_map, steps, steps_at, zero_point, direction_bit}
-use Rattle.laz_point10.specs.PointEvents.{SpellsBy, bit_if_changed, byte_difference, changes_of, classification_kind, events_by, flags_kind, has_bit, intensity_context, intensity_kind, point_source_kind, scan_angle_kind, user_data_kind, x_kind, y_context, y_kind, z_context, z_kind}
+use Rattle.laz_point10.specs.PointEvents.{SpellsBy, bit_if_changed, changes_of, classification_kind, events_by, flags_kind, intensity_context, intensity_kind, point_source_kind, scan_angle_kind, user_data_kind, x_kind, y_context, y_kind, z_context, z_kind}
+use Rattle.laz_integer.specs.Bytes.{byte_difference, has_bit}
 use Rattle.laz_point10.specs.Laws.{PointsAreSpelled}
 use Rattle.laz_point10.proofs.PointPieces.{changes-small}
 

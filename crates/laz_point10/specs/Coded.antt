@@ -21,7 +21,8 @@ use Rattle.laz_point10.specs.declared.models.Models.{Models}
 use Rattle.laz_point10.specs.Medians.{IsSorted, median_of, middle, no_values, with_value}
 use Rattle.laz_point10.specs.Points.{direction_bit, last_height, last_intensity, latest_point, one_return, return_level}
 use Rattle.laz_point10.specs.Points.{return_map, x_steps, y_steps}
-use Rattle.laz_point10.specs.PointEvents.{changes_kind, classification_kind, flags_kind, has_bit, intensity_context}
+use Rattle.laz_point10.specs.PointEvents.{changes_kind, classification_kind, flags_kind, intensity_context}
+use Rattle.laz_integer.specs.Bytes.{byte_plus, has_bit}
 use Rattle.laz_point10.specs.PointEvents.{intensity_kind, point_source_kind, scan_angle_kind, user_data_kind, x_kind}
 use Rattle.laz_point10.specs.PointEvents.{y_context, y_kind, z_context, z_kind}
 use Rattle.laz_point10.specs.Groups.{AreHeadModels, ArePlaceModels, AreScanModels, AreSurfaceModels, HeadChoice, IsHead}
@@ -170,7 +171,7 @@ point_made h x =
       intensity = word_value (has_bit 16 x.0.0) e.intensity x.1.0.0;
       flags = x.0.1;
       classification = x.1.0.1;
-      scan_angle = (h.last.scan_angle + x.1.1.0.0) % 256;
+      scan_angle = byte_plus h.last.scan_angle x.1.1.0.0;
       user_data = x.1.1.0.1.0;
       point_source = word_value (has_bit 1 x.0.0) h.last.point_source x.1.1.0.1.1;
     }

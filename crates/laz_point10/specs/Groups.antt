@@ -15,11 +15,9 @@ use Rattle.laz_point10.specs.declared.models.SurfaceModels.{SurfaceModels}
 use Rattle.laz_point10.specs.declared.models.ScanModels.{ScanModels}
 use Rattle.laz_point10.specs.declared.models.PlaceModels.{PlaceModels}
 use Rattle.laz_point10.specs.Points.{direction_bit, one_return}
-use Rattle.laz_point10.specs.PointEvents.{byte_difference, changes_of, has_bit, intensity_context, y_context, z_context}
-
--- A bank of n models of a byte.
-abbrev pub AreByteModels : ℕ → List Counting → Type 0
-AreByteModels n bank = alphabet_sizes bank ≡ replicate n 256
+use Rattle.laz_point10.specs.PointEvents.{changes_of, intensity_context, y_context, z_context}
+use Rattle.laz_integer.specs.Bytes.{byte_difference, has_bit}
+use Rattle.laz_integer.specs.Bytes.{AreByteModels}
 
 -- ---- the symbol of changes, and the flag byte
 pub record AreHeadModels (ms : HeadModels) : Type 0 where

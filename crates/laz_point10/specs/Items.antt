@@ -1,9 +1,7 @@
 -- What the item stands for: the events of a stream, and the chunk's points so far, the latest one first. And what a
 -- reader answers.
 use Rattle.std.specs.Prelude.{◌≡◌, ℕ, List, ◌∷◌, ◌++◌}
-use Rattle.laz_range.specs.Cut.{Cut}
-use Rattle.laz_range.specs.Span.{Begins, span}
-use Rattle.laz_range.specs.Decoding.{Decoding, HasRead, ReadsOn, Takes}
+use Rattle.laz_range.specs.Decoding.{Decoding, ReadsOn, Takes}
 use Rattle.laz_integer.specs.Events.{Event, Name, cuts_after}
 use Rattle.laz_integer.specs.Uses.{own_name}
 use Rattle.laz_integer.specs.Ranged.{AreRanged, HasIntSizes}
@@ -13,16 +11,7 @@ use Rattle.laz_point10.specs.declared.models.Models.{Models}
 use Rattle.laz_point10.specs.PointEvents.{SpellsPoint, changes_kind, classification_kind, flags_kind, intensity_kind}
 use Rattle.laz_point10.specs.PointEvents.{point_source_kind, scan_angle_kind, user_data_kind, x_kind, y_kind, z_kind}
 use Rattle.laz_point10.specs.Coded.{AreModels, HistoryStands, ModelsStand}
-
--- The parts of a spelling, after earlier events.
-abbrev pub spelled_cuts : {V : Type 0} → List Event → List Event × V → List Cut
-spelled_cuts earlier x = cuts_after earlier x.0
-
--- Whatever spelling begins the rest of the bytes, this is what it spells.
-abbrev pub OneBegins : {V : Type 0} → (List Event × V → Type 0) → List Event → Decoding → V → Type 0
-OneBegins {V} IsSpelled earlier old value =
-    (read : List Cut) → HasRead read old → (x : List Event × V) → IsSpelled x
-    → Begins (span (read ++ spelled_cuts earlier x)) old.bytes → x.1 ≡ value
+use Rattle.laz_integer.specs.Spelled.{spelled_cuts}
 
 -- Numbers of symbols under which the events of points are lawful: 64 for the changes, 256 for each byte, and those of
 -- integers.

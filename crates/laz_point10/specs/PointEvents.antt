@@ -9,6 +9,7 @@ use Rattle.laz_integer.specs.Fields.{SpellsByte, SpellsWord, byte_events, if_mar
 use Rattle.laz_point10.specs.declared.point.Point.{Point}
 use Rattle.laz_point10.specs.declared.history.Predictions.{Predictions}
 use Rattle.laz_point10.specs.Points.{direction_bit, one_return, predictions_of, return_map}
+use Rattle.laz_integer.specs.Bytes.{byte_difference, byte_plus, has_bit}
 
 -- The uses of the models.
 abbrev pub changes_kind : List ℕ
@@ -43,16 +44,12 @@ z_kind = codes "z"
 
 -- ---- the symbol of changes
 
--- Whether a bit of the symbol is set: 32 for the flag byte, 16 for the intensity, 8 for the classification byte, 4 for
--- the scan angle, 2 for the user data, 1 for the point source.
-unfoldable pub has_bit : ℕ → ℕ → Bool
-has_bit bit changes = changes / bit % 2 == 1
-
 -- The bit of a field that differs from its prediction.
 abbrev pub bit_if_changed : ℕ → ℕ → ℕ → ℕ
 bit_if_changed bit predicted value = if value == predicted then 0 else bit
 
--- The symbol of 64: which fields differ from their predictions.
+-- The symbol of 64: which fields differ from their predictions. Its bits are 32 for the flag byte, 16 for the intensity,
+-- 8 for the classification byte, 4 for the scan angle, 2 for the user data and 1 for the point source.
 unfoldable pub changes_of : Predictions → Point → ℕ
 changes_of e p =
     bit_if_changed 32 e.previous.flags p.flags
@@ -79,10 +76,6 @@ abbrev pub z_context : ℕ → ℕ → ℕ → ℕ
 z_context flags kx ky = one_return flags + even_below 18 ((kx + ky) / 2)
 
 -- ---- what a writer makes
-
--- The difference of two bytes, modulo 256.
-abbrev pub byte_difference : ℕ → ℕ → ℕ
-byte_difference previous byte = (byte + (256 - previous)) % 256
 
 -- The events of a point with these predictions: the changes, each changed field, and dx, dy and z as integers.
 abbrev pub events_by : Predictions → Point → List Event
@@ -140,7 +133,7 @@ pub record SpellsBy (e : Predictions) (events : List Event) (p : Point) : Type 0
       (has_bit 8 changes) classification_kind e.previous.classification e.previous.classification classification_part
       p.classification
   pub angle : SpellsByte (has_bit 4 changes) scan_angle_kind (direction_bit p.flags) 0 angle_part turned
-  pub angle_is : p.scan_angle ≡ (e.previous.scan_angle + turned) % 256
+  pub angle_is : p.scan_angle ≡ byte_plus e.previous.scan_angle turned
   pub user : SpellsByte (has_bit 2 changes) user_data_kind e.previous.user_data e.previous.user_data user_part
       p.user_data
   pub source : SpellsWord (has_bit 1 changes) point_source_kind 0 e.previous.point_source source_part p.point_source

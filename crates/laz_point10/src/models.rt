@@ -3,7 +3,8 @@ ghost use Rattle.std.specs.Prelude.{◌≡◌, List, [], ◌∷◌, ◌≤◌, �
 ghost use Rattle.laz_models.specs.Bank.{alphabet_sizes};
 ghost use Rattle.laz_integer.specs.Fields.{BankStands};
 ghost use Rattle.laz_integer.specs.Integer.{IntStands, IsInts};
-ghost use Rattle.laz_point10.specs.Groups.{AreByteModels, AreHeadModels, ArePlaceModels, AreScanModels};
+ghost use Rattle.laz_point10.specs.Groups.{AreHeadModels, ArePlaceModels, AreScanModels};
+ghost use Rattle.laz_integer.specs.Bytes.{AreByteModels};
 ghost use Rattle.laz_point10.specs.Groups.{AreSurfaceModels};
 ghost use Rattle.laz_point10.specs.Coded.{AreModels, HeadStands, ModelsStand, PlaceStands, ScanStands, SurfaceStands};
 

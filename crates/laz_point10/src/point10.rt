@@ -6,8 +6,9 @@ ghost use Rattle.laz_integer.specs.Events.{Event, Name, cuts_after};
 ghost use Rattle.laz_integer.specs.Ranged.{AreRanged};
 ghost use Rattle.laz_point10.specs.Points.{point_at};
 ghost use Rattle.laz_point10.specs.PointEvents.{point_events};
-ghost use Rattle.laz_point10.specs.Items.{HasPointSizes, IsSpelledPoint, OneBegins, PointStands, ReadsPoint};
-ghost use Rattle.laz_point10.specs.Items.{spelled_cuts};
+ghost use Rattle.laz_point10.specs.Items.{HasPointSizes, IsSpelledPoint, PointStands, ReadsPoint};
+ghost use Rattle.laz_integer.specs.Spelled.{OneBegins};
+ghost use Rattle.laz_integer.specs.Spelled.{spelled_cuts};
 
 use crate::history::History;
 use crate::models::{Models, new_models, reset};

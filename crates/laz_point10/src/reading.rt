@@ -3,7 +3,7 @@ ghost use Rattle.std.specs.Prelude.{◌≡◌, ◌<◌, ◌≤◌, ℕ, false, l
 ghost use Rattle.laz_range.specs.Decoding.{Reads, Takes, TakesNone};
 ghost use Rattle.laz_integer.specs.Corrector.{corrected};
 ghost use Rattle.laz_integer.specs.Fields.{word_value};
-ghost use Rattle.laz_point10.specs.PointEvents.{has_bit};
+ghost use Rattle.laz_integer.specs.Bytes.{has_bit};
 ghost use Rattle.laz_point10.specs.Groups.{AreHeadModels, ArePlaceModels, AreScanModels, AreSurfaceModels, IsHead};
 ghost use Rattle.laz_point10.specs.Groups.{IsPlace, IsScan, IsSurface, PlaceChoice, head_cuts, head_next, place_cuts};
 ghost use Rattle.laz_point10.specs.Groups.{place_next, scan_cuts, scan_next, surface_cuts, surface_next};
@@ -14,8 +14,8 @@ use crate::history::{History, Predictions};
 use crate::models::{HeadModels, Models, PlaceModels, ScanModels, SurfaceModels};
 use crate::point::Point;
 use crate::returns::one_return;
-use crate::writing::{even_below, has_bit, intensity_context};
-use laz_integer::{take_byte, take_symbol_of, take_word};
+use crate::writing::{even_below, intensity_context};
+use laz_integer::{has_bit, take_byte, take_symbol_of, take_word};
 use laz_range::{Bad, Decoder};
 
 // Takes the symbol of changes, and the flag byte.

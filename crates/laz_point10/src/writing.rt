@@ -3,7 +3,7 @@ ghost use Rattle.std.specs.Prelude.{◌≡◌, ◌+◌, ◌<◌, ◌≤◌};
 ghost use Rattle.laz_range.specs.Coding.{Codes};
 ghost use Rattle.laz_integer.specs.Fields.{int_corrector};
 ghost use Rattle.laz_integer.specs.Integer.{IsInts, int_cuts, int_next, int_width};
-ghost use Rattle.laz_point10.specs.PointEvents.{bit_if_changed, changes_of, even_below, has_bit, intensity_context};
+ghost use Rattle.laz_point10.specs.PointEvents.{bit_if_changed, changes_of, even_below, intensity_context};
 ghost use Rattle.laz_point10.specs.Groups.{AreHeadModels, ArePlaceModels, AreScanModels, AreSurfaceModels, head_cuts};
 ghost use Rattle.laz_point10.specs.Groups.{head_next, place_cuts, place_next, place_written, scan_cuts, scan_next};
 ghost use Rattle.laz_point10.specs.Groups.{scan_written, surface_cuts, surface_next, surface_written};
@@ -13,18 +13,8 @@ use crate::history::{History, Predictions};
 use crate::models::{HeadModels, Models, PlaceModels, ScanModels, SurfaceModels};
 use crate::point::Point;
 use crate::returns::{one_return, return_map};
-use laz_integer::{IntModel, put_byte, put_symbol_of, put_word};
+use laz_integer::{IntModel, has_bit, put_byte, put_symbol_of, put_word};
 use laz_range::Encoder;
-
-// Whether a bit of the symbol of changes is set.
-#[inline]
-#[tactic(auto, unfolding(crate::specs::PointEvents::has_bit))]
-pub fn has_bit(changes: u32, bit: u32) -> bool
-    requires { 0 < bit }
-    ensures { result ≡ has_bit bit changes }
-{
-    changes / bit % 2 == 1
-}
 
 // The bit of a field that differs from its prediction.
 #[inline]

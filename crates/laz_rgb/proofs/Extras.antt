@@ -22,9 +22,11 @@ use Rattle.laz_integer.specs.Fields.{BankStands, IsByte, byte_cuts, byte_next}
 use Rattle.laz_integer.specs.Uses.{own_name}
 use Rattle.laz_integer.proofs.Ranges.{AreCuts-ranged}
 use Rattle.laz_integer.proofs.Pieces.{Piece}
-use Rattle.laz_rgb.specs.Rows.{AreRowModels, IsNext, IsRow, Row, byte_of, first_mark, next_cuts, next_row, row_at, row_events, symbol_of}
+use Rattle.laz_rgb.specs.Rows.{AreRowModels, IsNext, IsRow, Row, byte_of, first_mark, next_cuts, next_row, row_at, row_events}
+use Rattle.laz_integer.specs.Bytes.{byte_difference}
 use Rattle.laz_rgb.specs.Extra.{SpellsExtra, all_marked, byte_kind, extra_events, extra_made, extra_symbols}
-use Rattle.laz_rgb.specs.Items.{ExtraStands, ExtraState, HasExtraSizes, IsExtraState, IsSpelledExtra, OneBegins, ReadsExtra, latest_extra, spelled_cuts}
+use Rattle.laz_rgb.specs.Items.{ExtraStands, ExtraState, HasExtraSizes, IsExtraState, IsSpelledExtra, ReadsExtra, latest_extra}
+use Rattle.laz_integer.specs.Spelled.{OneBegins, spelled_cuts}
 use Rattle.laz_rgb.proofs.Walks.{mark-after, model-after, row-models, sized-rows}
 use Rattle.laz_rgb.proofs.Rowed.{RowSizes, row-piece, row-ranged, row-sizes}
 
@@ -34,7 +36,7 @@ length-symbols [] now e = refl
 length-symbols (b ∷ last) [] e = absurd (omega (arith, e))
 length-symbols (b ∷ last) (c ∷ now) e = ap suc (length-symbols last now (omega (arith, e)))
 
-pub symbol-at : (last now : List ℕ) (i : ℕ) → length now ≡ length last → i < length last → get_or (extra_symbols last now) i 0 ≡ symbol_of (get_or last i 0) (get_or now i 0)
+pub symbol-at : (last now : List ℕ) (i : ℕ) → length now ≡ length last → i < length last → get_or (extra_symbols last now) i 0 ≡ byte_difference (get_or last i 0) (get_or now i 0)
 symbol-at [] now i e lt = absurd (omega (arith, lt))
 symbol-at (b ∷ last) [] i e lt = absurd (omega (arith, e))
 symbol-at (b ∷ last) (c ∷ now) zero e lt = refl
@@ -179,7 +181,7 @@ extra-none n bank xs i now a b c lt is f g =
 pub symbols-row : (last now : List ℕ) → length now ≡ length last → IsRow (all_marked (length last)) (extra_symbols last now)
 symbols-row [] now e = tt
 symbols-row (b ∷ last) [] e = absurd (omega (arith, e))
-symbols-row (b ∷ last) (c ∷ now) e = (mod-lt (c + 256 - b) (omega arith), symbols-row last now (omega (arith, e)))
+symbols-row (b ∷ last) (c ∷ now) e = (mod-lt (c + (256 - b)) (omega arith), symbols-row last now (omega (arith, e)))
 
 pub row-length : (marks : List Bool) (xs : List ℕ) → IsRow marks xs → length xs ≡ length marks
 row-length [] [] h = refl

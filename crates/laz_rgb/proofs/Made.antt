@@ -2,7 +2,8 @@
 use Rattle.std.proofs.Common.{◌≡◌, ℕ, ◌&&◌, cond, Bool, true, false, List, [], ◌∷◌, refl, ap, subst, sym, ◌∙◌}
 use Rattle.laz_rgb.specs.declared.colour.Colour.{Colour}
 use Rattle.laz_rgb.specs.Rows.{byte_of}
-use Rattle.laz_rgb.specs.Colours.{colour_made, has_bit, predicted_blue, predicted_green}
+use Rattle.laz_rgb.specs.Colours.{colour_made, predicted_blue, predicted_green}
+use Rattle.laz_integer.specs.Bytes.{has_bit}
 use Rattle.laz_rgb.specs.Coded.{colour_with}
 
 same-colour : (rl rh gl gh bl bh gl' gh' bl' bh' : ℕ) → gl ≡ gl' → gh ≡ gh' → bl ≡ bl' → bh ≡ bh'

@@ -8,8 +8,10 @@ use Rattle.laz_integer.specs.Uses.{Silent}
 use Rattle.laz_integer.specs.Fields.{byte_events, if_marked}
 use Rattle.laz_integer.proofs.Uses.{Silent-append, Silent-none, Silent-other, bank-silent}
 use Rattle.laz_rgb.specs.declared.colour.Colour.{Colour}
-use Rattle.laz_rgb.specs.Rows.{IsRow, byte_of, row_events, symbol_of}
-use Rattle.laz_rgb.specs.Colours.{SpellsColour, changes, changes_event, colour_bytes, colour_events, colour_made, colour_marks, colour_symbols, has_bit, is_grey, predicted_blue, predicted_green, rgb_kind, symbol_if}
+use Rattle.laz_rgb.specs.Rows.{IsRow, byte_of, row_events}
+use Rattle.laz_integer.specs.Bytes.{byte_difference, byte_plus}
+use Rattle.laz_rgb.specs.Colours.{SpellsColour, changes, changes_event, colour_bytes, colour_events, colour_made, colour_marks, colour_symbols, is_grey, predicted_blue, predicted_green, rgb_kind, symbol_if}
+use Rattle.laz_integer.specs.Bytes.{has_bit}
 use Rattle.laz_rgb.specs.Coded.{colour_with}
 use Rattle.laz_rgb.specs.Extra.{SpellsExtra, all_marked, byte_kind, extra_events, extra_made, extra_symbols}
 use Rattle.laz_rgb.specs.Laws.{AreBytes, ColoursAreLawful, ColoursAreSpelled, ExtrasAreLawful, ExtrasAreSpelled, OthersLeaveColours, OthersLeaveExtras}
@@ -18,7 +20,8 @@ use Rattle.laz_rgb.proofs.Rowed.{row-few}
 use Rattle.laz_rgb.proofs.Spelled.{colour-ranged, row-six, writer-row}
 use Rattle.laz_rgb.proofs.Extras.{extra-ranged, row-length, symbols-row}
 use Rattle.std.proofs.lemmas.Bool.Decides.{nat_tests}
-use Rattle.laz_rgb.proofs.Written.{Bits, bit-most, bits-of, byte-back, half-small, moved-small, symbol-back}
+use Rattle.laz_rgb.proofs.Written.{Bits, bit-most, bits-of, byte-back, half-small, moved-small}
+use Rattle.laz_integer.proofs.BankModels.{difference-back}
 
 -- ---- events of one use
 byte-silent : (other kind : List ℕ) (t : Bool) (m s : ℕ) → same_text other kind ≡ false → Silent other (if_marked t (byte_events kind m s))
@@ -63,7 +66,7 @@ made-back [] [] p q e = refl
 made-back [] (c ∷ now) p q e = absurd (omega (arith, e))
 made-back (b ∷ last) [] p q e = absurd (omega (arith, e))
 made-back (b ∷ last) (c ∷ now) p q e =
-    let here : c ≡ (b + symbol_of b c) % 256 = sym (symbol-back b c (p 0 b (omega arith)) (q 0 c (omega arith))) in
+    let here : c ≡ byte_plus b (byte_difference b c) = sym (difference-back b c (p 0 b (omega arith)) (q 0 c (omega arith))) in
     let rest = made-back last now (λ k d lt. p (suc k) d (omega (arith, lt))) (λ k d lt. q (suc k) d (omega (arith, lt))) (omega (arith, e)) in
     λ i. here i ∷ rest i
 

@@ -25,14 +25,16 @@ use Rattle.laz_rgb.specs.declared.colour.Colour.{Colour}
 use Rattle.laz_rgb.specs.Rows.{AreRowModels, IsRow, next_cuts, next_row, row_at, row_events}
 use Rattle.laz_rgb.specs.Colours.{SpellsColour, changes, changes_event, colour_at, colour_events, colour_made, colour_marks, colour_symbols, rgb_kind, symbol_if}
 use Rattle.laz_rgb.specs.Coded.{ColourChoice, IsColourChoice, after_low, after_red, after_changes, choice_cuts, choice_next, choice_symbols, colour_cuts, colour_next, mark_at}
-use Rattle.laz_rgb.specs.Items.{HasRgbSizes, IsRgbState, IsSpelledColour, OneBegins, ReadsColour, RgbStands, RgbState, latest_colour, spelled_cuts}
-use Rattle.laz_rgb.proofs.Walks.{changes-model, sized-rows}
+use Rattle.laz_rgb.specs.Items.{HasRgbSizes, IsRgbState, IsSpelledColour, ReadsColour, RgbStands, RgbState, latest_colour}
+use Rattle.laz_integer.specs.Spelled.{OneBegins, spelled_cuts}
+use Rattle.laz_rgb.proofs.Walks.{sized-rows}
+use Rattle.laz_integer.proofs.BankModels.{first-model}
 use Rattle.laz_rgb.proofs.Rowed.{RowSizes, row-piece, row-ranged, row-sizes}
 
 -- ---- events and parts, of a symbol of changes and the symbols of a row
 rgb-rows : (bank : List Counting) (s n : ℕ) → alphabet_sizes bank ≡ 128 ∷ replicate 6 256 → n ≡ 6 → AreRowModels n 1 (after_changes bank s)
 rgb-rows bank s n e six =
-    let within = (changes-model bank e).0 in
+    let within = (first-model bank 128 (replicate 6 256) e).0 in
     let sizes : alphabet_sizes (after_changes bank s) ≡ 128 ∷ replicate 6 256 = sizes-set bank 0 s within ∙ e in
     subst (λ (k : ℕ). AreRowModels k 1 (after_changes bank s)) (sym six) (sized-rows 6 1 (after_changes bank s) (128 ∷ []) sizes refl)
 
@@ -49,7 +51,7 @@ row-six s (a ∷ b ∷ c ∷ d ∷ e ∷ f ∷ g ∷ more) h = absurd h.1.1.1.1.
 pub colour-piece : (bank : List Counting) (s : ℕ) (symbols : List ℕ) → alphabet_sizes bank ≡ 128 ∷ replicate 6 256 → s < 128 → IsRow (colour_marks s) symbols
     → Piece (rgb_kind ∷ []) (changes_event s ∷ row_events rgb_kind (colour_marks s) 1 symbols) (colour_cuts bank s symbols) (λ l. BankStands rgb_kind l bank) (λ l. BankStands rgb_kind l (colour_next bank s symbols))
 colour-piece bank s symbols e few row =
-    let changes = changes-model bank e in
+    let changes = first-model bank 128 (replicate 6 256) e in
     Piece-then (rgb_kind ∷ []) (changes_event s ∷ []) (row_events rgb_kind (colour_marks s) 1 symbols) (symbol_cut (model_at bank 0) s ∷ []) (all_cuts next_row next_cuts (row_at (colour_marks s) 1 (after_changes bank s)) symbols)
     (λ l. BankStands rgb_kind l bank) (λ l. BankStands rgb_kind l (after_changes bank s)) (λ l. BankStands rgb_kind l (colour_next bank s symbols))
     (Piece-symbol rgb_kind bank 0 128 s changes.0 changes.1 (omega arith) few)
@@ -58,7 +60,7 @@ colour-piece bank s symbols e few row =
 -- the models keep their sizes
 pub colour-sizes : (bank : List Counting) (s : ℕ) (symbols : List ℕ) → alphabet_sizes bank ≡ 128 ∷ replicate 6 256 → IsRow (colour_marks s) symbols → alphabet_sizes (colour_next bank s symbols) ≡ 128 ∷ replicate 6 256
 colour-sizes bank s symbols e row =
-    row-sizes (colour_marks s) 1 (after_changes bank s) symbols (rgb-rows bank s (length symbols) e (row-six s symbols row)) row ∙ (sizes-set bank 0 s (changes-model bank e).0 ∙ e)
+    row-sizes (colour_marks s) 1 (after_changes bank s) symbols (rgb-rows bank s (length symbols) e (row-six s symbols row)) row ∙ (sizes-set bank 0 s (first-model bank 128 (replicate 6 256) e).0 ∙ e)
 
 -- the events of a spelling are lawful
 pub colour-ranged : (sizes : Name → ℕ) (last : Colour) (events : List Event) (now : Colour) → HasRgbSizes sizes → SpellsColour last events now → AreRanged sizes events
@@ -156,7 +158,7 @@ module _ (earlier : List Event) (colours : List Colour) (st : RgbState) (is : Is
 
 -- ---- a writer's row: below 256 if it is marked, else 0
 symbol-row : (t : Bool) (predicted byte : ℕ) → IsByte t 0 (symbol_if t predicted byte)
-symbol-row true predicted byte = mod-lt (byte + 256 - predicted) (omega arith)
+symbol-row true predicted byte = mod-lt (byte + (256 - predicted)) (omega arith)
 symbol-row false predicted byte = refl
 
 pub writer-row : (s : ℕ) (from to : Colour) → IsRow (colour_marks s) (colour_symbols s from to)

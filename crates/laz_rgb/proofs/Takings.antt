@@ -10,10 +10,6 @@ use Rattle.laz_integer.specs.Fields.{IsByte, byte_cuts, byte_next}
 use Rattle.laz_integer.specs.Integer.{symbol_cut}
 use Rattle.laz_rgb.specs.Coded.{ColourChoice, IsColourChoice, IsTwo, after_changes, choice_cuts, mark_at, two_cuts, two_next}
 
--- no symbol of a model of n symbols was read
-pub sized-none : (m : Counting) (n : ℕ) (a b : Decoding) → alphabet_size m ≡ n → TakesNone (λ y. y < alphabet_size m) (λ y. symbol_cut m y ∷ []) a b → TakesNone (λ y. y < n) (λ y. symbol_cut m y ∷ []) a b
-sized-none m n a b e f = subst (λ (k : ℕ). TakesNone {X = ℕ} (λ y. y < k) (λ y. symbol_cut m y ∷ []) a b) e f
-
 -- ---- two bytes
 module _ (s t : Bool) (bank mid : List Counting) (m x : ℕ) (a b c : Decoding) (f : Takes (IsByte s 0) (byte_cuts s bank m) a b x) (e : mid ≡ byte_next s bank m x) where
   pub two-takes : (y : ℕ) → Takes (IsByte t 0) (byte_cuts t mid (m + 1)) b c y → Takes (IsTwo s t) (two_cuts s t bank m) a c (x, y)

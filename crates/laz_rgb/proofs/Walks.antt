@@ -75,18 +75,3 @@ sized-rows n m bank front e len j lt =
     rw (← len) (get_or-append-add front (replicate n 256) j 0 ∙ get_or-replicate n j 256 0 lt) in
     let long : m + j < length (alphabet_sizes bank) = rw (e, length-append front (replicate n 256), length-replicate {A = ℕ} n 256) (omega (arith, len, lt)) in
     let found = size-at bank (m + j) long in (found.0, found.1 ∙ (ap (λ l. get_or l (m + j) 0) e ∙ there))
-
-pub changes-model : (bank : List Counting) → alphabet_sizes bank ≡ 128 ∷ replicate 6 256 → (0 < length bank) × (alphabet_size (model_at bank 0) ≡ 128)
-changes-model bank e =
-    let long : 0 < length (alphabet_sizes bank) = rw e (omega arith) in
-    let found = size-at bank 0 long in (found.0, found.1 ∙ ap (λ l. get_or l 0 0) e)
-
--- models that were reset stand for no symbol
-length-sizes : (bank : List Counting) → length (alphabet_sizes bank) ≡ length bank
-length-sizes [] = refl
-length-sizes (x ∷ xs) = ap suc (length-sizes xs)
-
-pub bank-started : (kind : List ℕ) (bank new : List Counting) → alphabet_sizes new ≡ alphabet_sizes bank → ((m : ℕ) → m < length bank → StandsFor [] (model_at new m)) → BankStands kind [] new
-bank-started kind bank new e stands m lt =
-    let same : length new ≡ length bank = sym (length-sizes new) ∙ (ap length e ∙ length-sizes bank) in
-    stands m (omega (arith, lt, same))

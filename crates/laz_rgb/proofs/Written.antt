@@ -1,8 +1,11 @@
 -- The events that a writer makes of a colour, or of extra bytes, spell them.
 use Rattle.std.proofs.Common.{◌≡◌, ℕ, ◌+◌, ◌-◌, ◌*◌, ◌/◌, ◌%◌, ◌<◌, ◌≤◌, ◌&&◌, cond, Bool, true, false, List, [], ◌∷◌, length, min, refl, sym, ap, ◌∙◌, arith}
 use Rattle.std.specs.Prelude.{◌==◌, not, All}
-use Rattle.laz_rgb.specs.Rows.{byte_of, symbol_of}
-use Rattle.laz_rgb.specs.Colours.{bit_if, half_moved, has_bit, moved, symbol_if}
+use Rattle.laz_rgb.specs.Rows.{byte_of}
+use Rattle.laz_integer.specs.Bytes.{byte_difference}
+use Rattle.laz_rgb.specs.Colours.{bit_if, half_moved, moved, symbol_if}
+use Rattle.laz_integer.specs.Bytes.{has_bit}
+use Rattle.laz_integer.proofs.BankModels.{difference-back}
 
 -- ---- the bits of the symbol of changes
 bit-times : (t : Bool) (k : ℕ) → bit_if t k ≡ k * bit_if t 1
@@ -35,6 +38,7 @@ digits : (r rh g gh b bh c s : ℕ) → r ≤ 1 → rh ≤ 1 → g ≤ 1 → gh 
 digits r rh g gh b bh c s h1 h2 h3 h4 h5 h6 h7 e = (omega arith, omega arith, omega arith, omega arith, omega arith, omega arith, omega arith)
 
 pub bits-of : (r rh g gh b bh c : Bool) → Bits r rh g gh b bh c (bit_if r 1 + bit_if rh 2 + bit_if g 4 + bit_if gh 8 + bit_if b 16 + bit_if bh 32 + bit_if c 64)
+unfolding has_bit
 bits-of r rh g gh b bh c =
     let s = bit_if r 1 + bit_if rh 2 + bit_if g 4 + bit_if gh 8 + bit_if b 16 + bit_if bh 32 + bit_if c 64 in
     let d = digits (bit_if r 1) (bit_if rh 1) (bit_if g 1) (bit_if gh 1) (bit_if b 1) (bit_if bh 1) (bit_if c 1) s (bit-small r) (bit-small rh) (bit-small g) (bit-small gh) (bit-small b) (bit-small bh) (bit-small c)
@@ -50,11 +54,8 @@ bits-of r rh g gh b bh c =
     }
 
 -- ---- one byte
-pub symbol-back : (predicted byte : ℕ) → predicted < 256 → byte < 256 → (predicted + symbol_of predicted byte) % 256 ≡ byte
-symbol-back predicted byte p b = omega arith
-
 pub byte-back : (t : Bool) (predicted previous byte : ℕ) → predicted < 256 → byte < 256 → (t ≡ false → byte ≡ previous) → byte_of t predicted previous (symbol_if t predicted byte) ≡ byte
-byte-back true predicted previous byte p b same = symbol-back predicted byte p b
+byte-back true predicted previous byte p b same = difference-back predicted byte p b
 byte-back false predicted previous byte p b same = sym (same refl)
 
 pub moved-small : (from to byte : ℕ) → moved from to byte < 256

@@ -9,7 +9,8 @@ use Rattle.laz_integer.specs.Integer.{symbol_cut}
 use Rattle.laz_rgb.specs.Rows.{next_cuts, next_row, row_at}
 use Rattle.laz_integer.specs.Fields.{IsByte, byte_cuts, byte_next}
 use Rattle.laz_rgb.specs.declared.colour.Colour.{Colour}
-use Rattle.laz_rgb.specs.Colours.{colour_marks, has_bit}
+use Rattle.laz_rgb.specs.Colours.{colour_marks}
+use Rattle.laz_integer.specs.Bytes.{has_bit}
 
 -- The models after the symbol of changes.
 abbrev pub after_changes : List Counting → ℕ → List Counting

@@ -3,7 +3,8 @@ use Rattle.std.specs.Prelude.{◌≡◌, ℕ, ◌+◌, ◌-◌, ◌*◌, ◌/◌
 use Rattle.std.specs.Prelude.{◌∷◌, slice_index}
 use Rattle.laz_integer.specs.Events.{Event, Symbol}
 use Rattle.laz_integer.specs.Uses.{own_name}
-use Rattle.laz_rgb.specs.Rows.{IsRow, byte_of, row_events, symbol_of}
+use Rattle.laz_rgb.specs.Rows.{IsRow, byte_of, row_events}
+use Rattle.laz_integer.specs.Bytes.{byte_difference, has_bit}
 use Rattle.laz_rgb.specs.declared.colour.Colour.{Colour}
 
 -- The use of the models of colours: "rgb".
@@ -46,10 +47,6 @@ changes last now =
     + bit_if (not (now.blue_high == last.blue_high)) 32
     + bit_if (not (is_grey now)) 64
 
--- Whether a bit of the symbol is set.
-abbrev pub has_bit : ℕ → ℕ → Bool
-has_bit bit s = s / bit % 2 == 1
-
 -- Which bytes are coded, in the order of their coding: red low and high, green and blue low, green and blue high. Those
 -- of green and blue are coded only with bit 64.
 abbrev pub colour_marks : ℕ → List Bool
@@ -80,7 +77,7 @@ predicted_blue red_from red_to green_from green_to blue_from =
 
 -- The symbol of a byte that is marked; 0, which stands for none, of any other.
 abbrev pub symbol_if : Bool → ℕ → ℕ → ℕ
-symbol_if t predicted byte = if t then symbol_of predicted byte else 0
+symbol_if t predicted byte = if t then byte_difference predicted byte else 0
 
 -- The symbols of the six bytes, in the order of their coding.
 abbrev pub colour_symbols : ℕ → Colour → Colour → List ℕ

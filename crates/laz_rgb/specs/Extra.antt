@@ -2,7 +2,8 @@
 -- 2).
 use Rattle.std.specs.Prelude.{◌≡◌, ℕ, ◌+◌, ◌%◌, Bool, true, List, [], ◌∷◌, length, replicate}
 use Rattle.laz_integer.specs.Events.{Event}
-use Rattle.laz_rgb.specs.Rows.{IsRow, byte_of, row_events, symbol_of}
+use Rattle.laz_rgb.specs.Rows.{IsRow, byte_of, row_events}
+use Rattle.laz_integer.specs.Bytes.{byte_difference}
 
 -- The use of the models of extra bytes: "byte".
 abbrev pub byte_kind : List ℕ
@@ -14,7 +15,7 @@ all_marked n = replicate n true
 
 -- The differences of bytes to those of the record before.
 abbrev pub extra_symbols : List ℕ → List ℕ → List ℕ
-extra_symbols (b ∷ last) (c ∷ now) = symbol_of b c ∷ extra_symbols last now
+extra_symbols (b ∷ last) (c ∷ now) = byte_difference b c ∷ extra_symbols last now
 extra_symbols last now = []
 
 -- The bytes that differences make of those of the record before.

@@ -1,9 +1,7 @@
 -- What the items stand for: the events of a stream, and the parts of the chunk's points so far, the latest one first.
 -- And what a reader answers.
 use Rattle.std.specs.Prelude.{◌≡◌, ℕ, ◌<◌, ◌≤◌, List, [], ◌∷◌, ◌++◌, length, replicate}
-use Rattle.laz_range.specs.Cut.{Cut}
-use Rattle.laz_range.specs.Span.{Begins, span}
-use Rattle.laz_range.specs.Decoding.{Decoding, HasRead, ReadsOn, Takes}
+use Rattle.laz_range.specs.Decoding.{Decoding, ReadsOn, Takes}
 use Rattle.laz_models.specs.Counting.{Counting}
 use Rattle.laz_models.specs.Bank.{alphabet_sizes}
 use Rattle.laz_integer.specs.Events.{Event, Name, cuts_after}
@@ -13,18 +11,7 @@ use Rattle.laz_integer.specs.Uses.{own_name}
 use Rattle.laz_rgb.specs.declared.colour.Colour.{Colour}
 use Rattle.laz_rgb.specs.Colours.{SpellsColour, colour_at, rgb_kind}
 use Rattle.laz_rgb.specs.Extra.{SpellsExtra, byte_kind}
-
--- ---- a spelling and what it spells, for either item
-
--- The parts of a spelling, after earlier events.
-abbrev pub spelled_cuts : {V : Type 0} → List Event → List Event × V → List Cut
-spelled_cuts earlier x = cuts_after earlier x.0
-
--- Whatever spelling begins the rest of the bytes, this is what it spells.
-abbrev pub OneBegins : {V : Type 0} → (List Event × V → Type 0) → List Event → Decoding → V → Type 0
-OneBegins {V} IsSpelled earlier old value =
-    (read : List Cut) → HasRead read old → (x : List Event × V) → IsSpelled x
-    → Begins (span (read ++ spelled_cuts earlier x)) old.bytes → x.1 ≡ value
+use Rattle.laz_integer.specs.Spelled.{spelled_cuts}
 
 -- ---- numbers of symbols under which the events are lawful
 

@@ -7,14 +7,11 @@ use Rattle.laz_models.specs.Dist.{alphabet_size}
 use Rattle.laz_models.specs.Bank.{model_at}
 use Rattle.laz_integer.specs.Events.{Event}
 use Rattle.laz_integer.specs.Fields.{IsByte, byte_cuts, byte_events, byte_next, if_marked}
-
--- The symbol of a byte with this prediction: their difference, modulo 256.
-abbrev pub symbol_of : ℕ → ℕ → ℕ
-symbol_of predicted byte = (byte + 256 - predicted) % 256
+use Rattle.laz_integer.specs.Bytes.{byte_plus}
 
 -- The byte that a symbol makes of its prediction; without a mark it is the previous one.
 abbrev pub byte_of : Bool → ℕ → ℕ → ℕ → ℕ
-byte_of true predicted previous s = (predicted + s) % 256
+byte_of true predicted previous s = byte_plus predicted s
 byte_of false predicted previous s = previous
 
 -- The events of a row whose first model is m: a symbol for each marked byte.

@@ -9,10 +9,11 @@ ghost use Rattle.laz_integer.specs.Events.{Event, Name, cuts_after};
 ghost use Rattle.laz_integer.specs.Ranged.{AreRanged};
 ghost use Rattle.laz_rgb.specs.Rows.{AreRowModels, IsNext, byte_of, next_cuts, next_row, row_at};
 ghost use Rattle.laz_rgb.specs.Extra.{all_marked, extra_events, extra_made, extra_symbols};
-ghost use Rattle.laz_rgb.specs.Items.{ExtraStands, HasExtraSizes, IsSpelledExtra, OneBegins, ReadsExtra, latest_extra};
-ghost use Rattle.laz_rgb.specs.Items.{spelled_cuts};
+ghost use Rattle.laz_rgb.specs.Items.{ExtraStands, HasExtraSizes, IsSpelledExtra, ReadsExtra, latest_extra};
+ghost use Rattle.laz_integer.specs.Spelled.{OneBegins};
+ghost use Rattle.laz_integer.specs.Spelled.{spelled_cuts};
 
-use crate::writing::symbol_of;
+use crate::writing::byte_difference;
 use laz_integer::{put_byte, take_byte, take_symbol_of};
 use laz_models::ModelBank;
 use laz_range::{Bad, Decoder, Encoder};
@@ -55,7 +56,7 @@ fn put_bytes(encoder: &mut Encoder, bank: &mut ModelBank, last: &[u8], part: &[u
     ensures used { encoder.old.left ≤ encoder.new.left + 3 * length last.now }
 {
     for (i, byte) in part.iter().enumerate() {
-        put_byte(encoder, bank, true, i as u32, symbol_of(last[i], *byte));
+        put_byte(encoder, bank, true, i as u32, byte_difference(last[i], *byte));
     }
 }
 

@@ -10,8 +10,8 @@ ghost use Rattle.laz_rgb.specs.Coded.{colour_with, ColourChoice, IsColourChoice,
 ghost use Rattle.laz_rgb.specs.Coded.{choice_symbols, two_cuts, two_next};
 
 use crate::colour::Colour;
-use crate::writing::{colour_marks, has_bit, moved, predicted_blue};
-use laz_integer::{take_byte, take_symbol_of};
+use crate::writing::{colour_marks, moved, predicted_blue};
+use laz_integer::{has_bit, take_byte, take_symbol_of};
 use laz_models::ModelBank;
 use laz_range::{Bad, Decoder};
 

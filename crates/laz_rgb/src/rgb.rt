@@ -6,8 +6,9 @@ ghost use Rattle.laz_range.specs.Decoding.{NoneBegins, Refuses};
 ghost use Rattle.laz_integer.specs.Events.{Event, Name, cuts_after};
 ghost use Rattle.laz_integer.specs.Ranged.{AreRanged};
 ghost use Rattle.laz_rgb.specs.Colours.{colour_at, colour_events};
-ghost use Rattle.laz_rgb.specs.Items.{HasRgbSizes, IsSpelledColour, OneBegins, ReadsColour, RgbStands, latest_colour};
-ghost use Rattle.laz_rgb.specs.Items.{spelled_cuts};
+ghost use Rattle.laz_rgb.specs.Items.{HasRgbSizes, IsSpelledColour, ReadsColour, RgbStands, latest_colour};
+ghost use Rattle.laz_integer.specs.Spelled.{OneBegins};
+ghost use Rattle.laz_integer.specs.Spelled.{spelled_cuts};
 
 use crate::colour::Colour;
 use crate::reading::take_colour;

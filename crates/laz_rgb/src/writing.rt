@@ -4,23 +4,15 @@ ghost use Rattle.laz_range.specs.Choice.{all_cuts, state_after};
 ghost use Rattle.laz_range.specs.Coding.{Codes};
 ghost use Rattle.laz_models.specs.Bank.{model_at, alphabet_sizes};
 ghost use Rattle.laz_integer.specs.Integer.{symbol_cut};
-ghost use Rattle.laz_rgb.specs.Rows.{AreRowModels, next_cuts, next_row, row_at, symbol_of};
-ghost use Rattle.laz_rgb.specs.Colours.{changes, colour_marks, colour_symbols, half_moved, has_bit, moved, symbol_if};
+ghost use Rattle.laz_rgb.specs.Rows.{AreRowModels, next_cuts, next_row, row_at};
+ghost use Rattle.laz_integer.specs.Bytes.{byte_difference};
+ghost use Rattle.laz_rgb.specs.Colours.{changes, colour_marks, colour_symbols, half_moved, moved, symbol_if};
 ghost use Rattle.laz_rgb.specs.Coded.{colour_cuts, colour_next};
 
 use crate::colour::Colour;
-use laz_integer::{put_byte, put_symbol_of};
+use laz_integer::{has_bit, put_byte, put_symbol_of};
 use laz_models::ModelBank;
 use laz_range::Encoder;
-
-// Whether a bit of the symbol of changes is set.
-#[inline]
-pub(crate) fn has_bit(symbol: u32, bit: u32) -> bool
-    requires { 0 < bit }
-    ensures { result ≡ has_bit bit symbol }
-{
-    symbol / bit % 2 == 1
-}
 
 // Which bytes are coded, in the order of their coding.
 #[inline]
@@ -75,10 +67,10 @@ pub(crate) fn predicted_blue(
     )
 }
 
-// The symbol of a byte with this prediction.
+// The symbol of a byte with this prediction: their difference, modulo 256.
 #[inline]
-pub(crate) fn symbol_of(predicted: u8, byte: u8) -> u8
-    ensures { result ≡ symbol_of predicted byte }
+pub(crate) fn byte_difference(predicted: u8, byte: u8) -> u8
+    ensures { result ≡ byte_difference predicted byte }
 {
     byte.wrapping_sub(predicted)
 }
@@ -89,7 +81,7 @@ fn symbol_if(marked: bool, predicted: u8, byte: u8) -> u8
     ensures { result ≡ symbol_if marked predicted byte }
 {
     if marked {
-        symbol_of(predicted, byte)
+        byte_difference(predicted, byte)
     } else {
         0
     }

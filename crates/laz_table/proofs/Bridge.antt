@@ -18,6 +18,7 @@ use Rattle.laz_table.specs.Entries.{Entry, Latest, SpellsEntries, SpellsEntry, a
 use Rattle.laz_table.specs.Table.{HoldsEntries}
 use Rattle.laz_table.specs.Steps.{IsEntry, NoEntries, ReadsEntries, TableState, entries_made, entry_cuts, entry_made, entry_next, next_counts_points, number_made, table_start}
 use Rattle.laz_table.proofs.ReadingLemmas.{made-below, made-signed}
+use Rattle.laz_integer.proofs.Lists.{two_lists}
 
 -- ---- the models stay models of 32 bits with two contexts
 ints-events : (kind : List ℕ) (st : IntState) (bits contexts : ℕ) (events : List Event) → IsInts bits contexts st → AreIntEvents kind bits contexts events → IsInts bits contexts (events_next st events)
@@ -59,9 +60,6 @@ cuts-all st (x ∷ xs) is h =
     (AreCuts-int st.models (context_of st.counts_points) x is.state (omega (arith, is.contexts, few)) (subst (λ (b : ℕ). IsCorrector b x) (sym is.bits) h.0))
     (cuts-all (entry_next st x) xs (ints-next st.models (context_of st.counts_points) x is few h.0) h.1)
 
-two_cuts : (a b c d : List Cut) → a ≡ b → c ≡ d → a ++ c ≡ b ++ d
-two_cuts a b c d e f = cc
-
 -- ---- correctors spell the entries that they make
 pub record Spelled (earlier : List Event) (st : TableState) (xs : List (ℕ × ℕ)) : Type 0 where
   pub events : List Event
@@ -83,7 +81,7 @@ spelled earlier st (x ∷ xs) is h all =
     record {
       events = corrector_of st x ++ more.events;
       spells = (corrector_of st x, more.events, refl, spells, more.spells);
-      cut = cuts_after-append earlier (corrector_of st x) more.events ∙ two_cuts _ _ _ _ one.cut more.cut;
+      cut = cuts_after-append earlier (corrector_of st x) more.events ∙ two_lists _ _ _ _ one.cut more.cut;
     }
 
 -- ---- and each spelling is by correctors
@@ -131,7 +129,7 @@ chosen earlier events st (e ∷ entries) is h spells turn =
     record {
       xs = x ∷ more.xs;
       asked = (omega (arith, more.asked.0), (asked, more.asked.1));
-      cut = ap (cuts_after earlier) (spells.2 ∙ ap (λ l. l ++ rest) back.0) ∙ (cuts_after-append earlier (corrector_of st x) rest ∙ two_cuts _ _ _ _ now.cut more.cut);
+      cut = ap (cuts_after earlier) (spells.2 ∙ ap (λ l. l ++ rest) back.0) ∙ (cuts_after-append earlier (corrector_of st x) rest ∙ two_lists _ _ _ _ now.cut more.cut);
       makes = cons_entry (entry_made st x) e (entries_made (entry_next st x) more.xs) entries back.1 more.makes;
     }
 

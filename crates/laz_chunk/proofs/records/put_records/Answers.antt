@@ -4,13 +4,13 @@ use Rattle.laz_range.specs.Coding.{Codes}
 use Rattle.laz_chunk.specs.Layouts.{Layout, most_events, record_length}
 use Rattle.laz_chunk.specs.Records.{records_in}
 use Rattle.laz_chunk.specs.Stands.{AreChunkPoints, ItemsStand, layout_in}
-use Rattle.laz_chunk.specs.Chunks.{History, grown, spelled_cuts, written}
-use Rattle.laz_chunk.proofs.Lists.{place-within}
+use Rattle.laz_chunk.specs.Chunks.{History, grown, record_cuts, written}
+use Rattle.laz_integer.proofs.Products.{place-within}
 use Rattle.laz_chunk.proofs.Steps.{Stand, part-length, put-step}
 use Rattle.laz_chunk.proofs.records.put_records.Goals as goal
 
-pub code_record-requires-clause-record : goal.code_record-requires-clause-record
-code_record-requires-clause-record c =
+pub code_record-requires-clause-whole : goal.code_record-requires-clause-whole
+code_record-requires-clause-whole c =
     part-length c.loop-i.i c.args.count c.args.size (record_length (layout_in c.args.items.now)) c.args.records.now c.requires.size c.requires.records c.loop-i-test.true ∙ ap record_length (sym c.loop-i.invariant.layout)
 
 pub code_record-requires-clause-left : goal.code_record-requires-clause-left
@@ -24,7 +24,7 @@ loop-i-preserved c =
     let old = c.loop-i.invariant in
     let l : Layout = layout_in c.args.items.now in
     let used : c.loop-i.encoder.left ≤ c.code_record.new.encoder.left + 3 * most_events l = subst (λ (k : Layout). c.loop-i.encoder.left ≤ c.code_record.new.encoder.left + 3 * most_events k) old.layout c.code_record.ensures.used in
-    let step : (h : History) → AreChunkPoints l.extra h.1 → ItemsStand h.0 h.1 c.args.items.now → Codes c.args.encoder.now c.code_record.new.encoder (all_cuts grown spelled_cuts h (written l h (records_in l (c.loop-i.i + 1) c.args.records.now))) × Stand l (state_after grown h (written l h (records_in l (c.loop-i.i + 1) c.args.records.now))) c.code_record.new.items = λ h are s.
+    let step : (h : History) → AreChunkPoints l.extra h.1 → ItemsStand h.0 h.1 c.args.items.now → Codes c.args.encoder.now c.code_record.new.encoder (all_cuts grown record_cuts h (written l h (records_in l (c.loop-i.i + 1) c.args.records.now))) × Stand l (state_after grown h (written l h (records_in l (c.loop-i.i + 1) c.args.records.now))) c.code_record.new.items = λ h are s.
     put-step l (layout_in c.loop-i.items) h c.loop-i.i c.args.count c.args.size c.args.records.now c.loop-i.items c.code_record.new.items c.args.encoder.now c.loop-i.encoder c.code_record.new.encoder old.layout c.requires.size c.requires.records c.loop-i-test.true
     (λ i. (c.type_inv.records i).fits)
     (old.codes h are s)

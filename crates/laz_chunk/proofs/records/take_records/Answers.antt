@@ -7,8 +7,9 @@ use Rattle.laz_range.proofs.Refusals.{Refuses-step}
 use Rattle.laz_chunk.specs.Layouts.{Layout, record_length}
 use Rattle.laz_chunk.specs.Records.{record_at, records_in}
 use Rattle.laz_chunk.specs.Stands.{layout_in}
-use Rattle.laz_chunk.specs.Chunks.{History, IsSpelled, grown, spelled_cuts}
-use Rattle.laz_chunk.proofs.Lists.{place-is, place-within, records-set}
+use Rattle.laz_chunk.specs.Chunks.{History, IsSpelled, grown, record_cuts}
+use Rattle.laz_chunk.proofs.Lists.{records-set}
+use Rattle.laz_integer.proofs.Products.{place-is, place-within}
 use Rattle.laz_chunk.proofs.Steps.{ReadsRecord, part-length, take-step}
 use Rattle.laz_chunk.proofs.records.take_records.Goals as goal
 
@@ -18,11 +19,11 @@ loop-i-init c =
       good = c.requires.good;
       layout = refl;
       long = refl;
-      reads = λ h s. ([], Takes-start grown (IsSpelled (layout_in c.args.items.now)) spelled_cuts h c.args.decoder.now c.requires.within c.requires.good, refl, s);
+      reads = λ h s. ([], Takes-start grown (IsSpelled (layout_in c.args.items.now)) record_cuts h c.args.decoder.now c.requires.within c.requires.good, refl, s);
     }
 
-pub read_record-requires-clause-record : goal.read_record-requires-clause-record
-read_record-requires-clause-record c =
+pub read_record-requires-clause-whole : goal.read_record-requires-clause-whole
+read_record-requires-clause-whole c =
     part-length c.loop-i.i c.args.count c.args.size (record_length (layout_in c.args.items.now)) c.loop-i.records c.requires.size (c.loop-i.invariant.long ∙ c.requires.records) c.loop-i-test.true ∙ ap record_length (sym c.loop-i.invariant.layout)
 
 pub read_record-requires-clause-good : goal.read_record-requires-clause-good
@@ -34,8 +35,8 @@ returns-in_err-read_record-clause-reads c h s =
     let l : Layout = layout_in c.args.items.now in
     let old = c.loop-i.invariant.reads h s in
     let g : History = state_after grown h old.0 in
-    let none = subst (λ (k : Layout). Refuses (IsSpelled k g) (spelled_cuts g) c.loop-i.decoder c.read_record.new.decoder) c.loop-i.invariant.layout (c.in_err-read_record.ensures.reads g old.3) in
-    rw p.1 (Refuses-step grown (IsSpelled l) spelled_cuts h g c.loop-i.i c.args.count c.args.decoder.now c.loop-i.decoder c.read_record.new.decoder old.0 refl c.loop-i-test.true old.1 none)
+    let none = subst (λ (k : Layout). Refuses (IsSpelled k g) (record_cuts g) c.loop-i.decoder c.read_record.new.decoder) c.loop-i.invariant.layout (c.in_err-read_record.ensures.reads g old.3) in
+    rw p.1 (Refuses-step grown (IsSpelled l) record_cuts h g c.loop-i.i c.args.count c.args.decoder.now c.loop-i.decoder c.read_record.new.decoder old.0 refl c.loop-i-test.true old.1 none)
 
 pub loop-i-preserved : goal.loop-i-preserved
 loop-i-preserved c =
@@ -53,9 +54,9 @@ loop-i-preserved c =
       reads = λ h s.
           let old = inv.reads h s in
           let g : History = state_after grown h old.0 in
-          let one = subst (λ (k : Layout). ReadsRecord k g (record_at k c.read_record.new.record) c.read_record.new.items c.loop-i.decoder c.read_record.new.decoder) inv.layout (c.in_ok-read_record.ensures.reads g old.3) in
-          take-step l h i old.0 (records_in l i c.loop-i.records) _ (record_at l c.read_record.new.record) c.read_record.new.items c.args.decoder.now c.loop-i.decoder c.read_record.new.decoder old.1 old.2
-          (records-set l i (i * c.args.size) _ c.loop-i.records c.read_record.new.record (c.in_ok-read_record.ensures.record ∙ own) place (omega (arith, within, place, inv.long, c.requires.records, place-is i m)))
+          let one = subst (λ (k : Layout). ReadsRecord k g (record_at k c.read_record.new.bytes) c.read_record.new.items c.loop-i.decoder c.read_record.new.decoder) inv.layout (c.in_ok-read_record.ensures.reads g old.3) in
+          take-step l h i old.0 (records_in l i c.loop-i.records) _ (record_at l c.read_record.new.bytes) c.read_record.new.items c.args.decoder.now c.loop-i.decoder c.read_record.new.decoder old.1 old.2
+          (records-set l i (i * c.args.size) _ c.loop-i.records c.read_record.new.bytes (c.in_ok-read_record.ensures.whole ∙ own) place (omega (arith, within, place, inv.long, c.requires.records, place-is i m)))
           one;
     }
 
@@ -65,6 +66,6 @@ returns-clause-reads c h s =
     let old = c.loop-i.invariant.reads h s in
     let all : c.loop-i.i ≡ c.args.count = omega (arith, c.loop-i-test.false, c.loop-i.auto.i-end) in (
       old.0,
-      subst (λ (n : ℕ). Takes (AreAsked grown (IsSpelled l) h n) (all_cuts grown spelled_cuts h) c.args.decoder.now c.loop-i.decoder old.0) all old.1,
+      subst (λ (n : ℕ). Takes (AreAsked grown (IsSpelled l) h n) (all_cuts grown record_cuts h) c.args.decoder.now c.loop-i.decoder old.0) all old.1,
       old.2 ∙ ap (λ (n : ℕ). records_in l n c.loop-i.records) all,
     )

@@ -1,6 +1,7 @@
 use Rattle.std.proofs.Common.{◌<◌, rules}
 use Rattle.std.proofs.lemmas.Result.{err_from_is_err_and}
-use Rattle.laz_point10.proofs.Takings.{bank-model, same-scan, scan-none_first, scan-none_second, scan-none_third, scan-takes}
+use Rattle.laz_point10.proofs.Takings.{same-scan, scan-none_first, scan-none_second, scan-none_third, scan-takes}
+use Rattle.laz_integer.proofs.BankModels.{byte-model}
 use Rattle.laz_point10.proofs.reading.take_scan.Goals as goal
 
 pub returns-in_err-turned-clause-reads : goal.returns-in_err-turned-clause-reads
@@ -30,4 +31,4 @@ returns-clause-reads c =
 pub take_byte-requires-2-clause-size : goal.take_byte-requires-2-clause-size
 take_byte-requires-2-clause-size c =
     let small : c.args.e.now.previous.user_data < 256 = search rules in
-    (bank-model 256 c.args.e.now.previous.user_data c.args.models.now.users c.requires.models.users small).1
+    (byte-model 256 c.args.e.now.previous.user_data c.args.models.now.users c.requires.models.users small).1

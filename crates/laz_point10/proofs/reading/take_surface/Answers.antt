@@ -1,6 +1,7 @@
 use Rattle.std.proofs.Common.{◌<◌, rules}
 use Rattle.std.proofs.lemmas.Result.{err_from_is_err_and}
-use Rattle.laz_point10.proofs.Takings.{bank-model, same-surface, surface-none_first, surface-none_second, surface-takes}
+use Rattle.laz_point10.proofs.Takings.{same-surface, surface-none_first, surface-none_second, surface-takes}
+use Rattle.laz_integer.proofs.BankModels.{byte-model}
 use Rattle.laz_point10.proofs.reading.take_surface.Goals as goal
 
 pub returns-in_err-intensity-clause-reads : goal.returns-in_err-intensity-clause-reads
@@ -27,4 +28,4 @@ returns-clause-reads c =
 pub take_byte-requires-clause-size : goal.take_byte-requires-clause-size
 take_byte-requires-clause-size c =
     let small : c.args.e.now.previous.classification < 256 = search rules in
-    (bank-model 256 c.args.e.now.previous.classification c.args.models.now.classifications c.requires.models.classifications small).1
+    (byte-model 256 c.args.e.now.previous.classification c.args.models.now.classifications c.requires.models.classifications small).1

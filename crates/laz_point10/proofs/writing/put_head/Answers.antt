@@ -1,8 +1,8 @@
 use Rattle.std.proofs.Common.{◌<◌, rules}
-use Rattle.laz_point10.proofs.Takings.{bank-model}
+use Rattle.laz_integer.proofs.BankModels.{byte-model}
 use Rattle.laz_point10.proofs.writing.put_head.Goals as goal
 
 pub put_byte-requires-clause-size : goal.put_byte-requires-clause-size
 put_byte-requires-clause-size c =
     let small : c.args.previous.now.flags < 256 = search rules in
-    (bank-model 256 c.args.previous.now.flags c.args.models.now.flags c.requires.models.flags small).1
+    (byte-model 256 c.args.previous.now.flags c.args.models.now.flags c.requires.models.flags small).1

@@ -1,6 +1,6 @@
 use Rattle.std.proofs.Common.{◌<◌, rules}
 use Rattle.laz_range.proofs.Whole.{Codes-append}
-use Rattle.laz_point10.proofs.Takings.{bank-model}
+use Rattle.laz_integer.proofs.BankModels.{byte-model}
 use Rattle.laz_point10.proofs.writing.put_surface.Goals as goal
 
 pub returns-clause-codes : goal.returns-clause-codes
@@ -10,4 +10,4 @@ returns-clause-codes c =
 pub put_byte-requires-clause-size : goal.put_byte-requires-clause-size
 put_byte-requires-clause-size c =
     let small : c.args.e.now.previous.classification < 256 = search rules in
-    (bank-model 256 c.args.e.now.previous.classification c.args.models.now.classifications c.requires.models.classifications small).1
+    (byte-model 256 c.args.e.now.previous.classification c.args.models.now.classifications c.requires.models.classifications small).1

@@ -20,8 +20,8 @@ loop-i-preserved c =
     let lt : i < length last = omega (arith, c.loop-i-test.true, c.requires.part) in
     let inside : i < length symbols = omega (arith, lt, length-symbols last part c.requires.part) in
     let xs = take i symbols in
-    let s = c.symbol_of.result in
-    let is : s ≡ get_or symbols i 0 = c.symbol_of.ensures ∙ sym (symbol-at last part i c.requires.part lt) in
+    let s = c.byte_difference.result in
+    let is : s ≡ get_or symbols i 0 = c.byte_difference.ensures ∙ sym (symbol-at last part i c.requires.part lt) in
     let more : take (i + 1) symbols ≡ xs ++ s ∷ [] =
     subst (λ (k : ℕ). take k symbols ≡ xs ++ s ∷ []) (sym (add-one i)) (take-suc symbols i 0 inside ∙ ap (λ z. xs ++ z ∷ []) (sym is)) in
     let step = extra-step (length last) c.args.bank.now xs i s c.loop-i.bank c.put_byte.new.bank c.args.encoder.now c.loop-i.encoder c.put_byte.new.encoder

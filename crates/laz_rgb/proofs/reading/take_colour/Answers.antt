@@ -1,22 +1,24 @@
-use Rattle.std.proofs.Common.{◌∷◌, [], refl, ◌∙◌, arith}
+use Rattle.std.proofs.Common.{◌∷◌, replicate, [], refl, ◌∙◌, arith}
 use Rattle.std.proofs.lemmas.Result.{err_from_is_err_and}
 use Rattle.laz_models.specs.Bank.{model_at}
 use Rattle.laz_integer.proofs.SymbolParts.{sized-takes}
 use Rattle.laz_rgb.proofs.Made.{made-is}
-use Rattle.laz_rgb.proofs.Takings.{bank-high, none-changes, none-high, none-low, none-red, sized-none, some-high}
-use Rattle.laz_rgb.proofs.Walks.{changes-model, sized-rows}
+use Rattle.laz_rgb.proofs.Takings.{bank-high, none-changes, none-high, none-low, none-red, some-high}
+use Rattle.laz_integer.proofs.BankModels.{sized-none}
+use Rattle.laz_rgb.proofs.Walks.{sized-rows}
+use Rattle.laz_integer.proofs.BankModels.{first-model}
 use Rattle.laz_rgb.proofs.reading.take_colour.Goals as goal
 
 pub returns-in_err-symbol-clause-reads : goal.returns-in_err-symbol-clause-reads
 returns-in_err-symbol-clause-reads c =
     let p = err_from_is_err_and c.from_residual.result c.from_residual.ensures.1 in
-    let size = (changes-model c.args.bank.now c.requires.sizes).1 in
+    let size = (first-model c.args.bank.now 128 (replicate 6 256) c.requires.sizes).1 in
     rw p.1 (none-changes c.args.bank.now c.args.decoder.now c.take_symbol_of.new.decoder (sized-none (model_at c.args.bank.now 0) 128 _ _ size c.in_err-symbol.ensures.reads))
 
 pub returns-in_err-red-clause-reads : goal.returns-in_err-red-clause-reads
 returns-in_err-red-clause-reads c =
     let p = err_from_is_err_and c.from_residual-in_err-red.result c.from_residual-in_err-red.ensures.1 in
-    let size = (changes-model c.args.bank.now c.requires.sizes).1 in
+    let size = (first-model c.args.bank.now 128 (replicate 6 256) c.requires.sizes).1 in
     let s = c.in_ok-symbol.symbol in
     let f = sized-takes (model_at c.args.bank.now 0) s 128 _ _ size c.in_ok-symbol.ensures.reads in
     let red = rw c.colour_marks-marks.ensures at c.in_err-red.ensures.reads in
@@ -33,7 +35,7 @@ take_green_blue-requires-2-clause-models c j lt =
 pub returns-in_err-low-clause-reads : goal.returns-in_err-low-clause-reads
 returns-in_err-low-clause-reads c =
     let p = err_from_is_err_and c.from_residual-in_err-low.result c.from_residual-in_err-low.ensures.1 in
-    let size = (changes-model c.args.bank.now c.requires.sizes).1 in
+    let size = (first-model c.args.bank.now 128 (replicate 6 256) c.requires.sizes).1 in
     let s = c.in_ok-symbol.symbol in
     let f = sized-takes (model_at c.args.bank.now 0) s 128 _ _ size c.in_ok-symbol.ensures.reads in
     let red = rw c.colour_marks-marks.ensures at c.in_ok-red.ensures.reads in
@@ -43,7 +45,7 @@ returns-in_err-low-clause-reads c =
 pub returns-in_err-high-clause-reads : goal.returns-in_err-high-clause-reads
 returns-in_err-high-clause-reads c =
     let p = err_from_is_err_and c.from_residual-in_err-high.result c.from_residual-in_err-high.ensures.1 in
-    let size = (changes-model c.args.bank.now c.requires.sizes).1 in
+    let size = (first-model c.args.bank.now 128 (replicate 6 256) c.requires.sizes).1 in
     let s = c.in_ok-symbol.symbol in
     let f = sized-takes (model_at c.args.bank.now 0) s 128 _ _ size c.in_ok-symbol.ensures.reads in
     let red = rw c.colour_marks-marks.ensures at c.in_ok-red.ensures.reads in
@@ -53,7 +55,7 @@ returns-in_err-high-clause-reads c =
 
 pub returns-clause-reads : goal.returns-clause-reads
 returns-clause-reads c =
-    let size = (changes-model c.args.bank.now c.requires.sizes).1 in
+    let size = (first-model c.args.bank.now 128 (replicate 6 256) c.requires.sizes).1 in
     let s = c.in_ok-symbol.symbol in
     let f = sized-takes (model_at c.args.bank.now 0) s 128 _ _ size c.in_ok-symbol.ensures.reads in
     let red = rw c.colour_marks-marks.ensures at c.in_ok-red.ensures.reads in

@@ -1,10 +1,10 @@
--- Two parts of a record, one after another, as one.
-use Rattle.std.proofs.Common.{◌≡◌, List, [], ◌∷◌, ◌++◌, Bool, true, false, refl, sym, ap, subst, ◌∙◌, ◌≤◌, length}
-use Rattle.laz_range.specs.Cut.{Cut}
+-- Two spelled parts of a record, one after another, as one. Meant for the crates of chunks.
+use Rattle.std.proofs.Common.{◌≡◌, List, [], ◌++◌, false, refl, ap, ◌≤◌, length}
 use Rattle.laz_range.specs.Decoding.{Decoding, Refuses, Takes}
 use Rattle.laz_range.proofs.Composition.{Takes-empty, Takes-then, Takes-through}
 use Rattle.laz_range.proofs.Refusals.{Refuses-first, Refuses-second, Refuses-through}
 use Rattle.laz_integer.specs.Events.{Event, cuts_after}
+use Rattle.laz_integer.specs.Spelled.{spelled_cuts}
 use Rattle.laz_integer.proofs.Named.{cuts_after-append}
 
 -- Events that are those of two parts, one after the other.
@@ -29,31 +29,31 @@ from-both : {V W : Type 0} (P : List Event × V → Type 0) (Q : List Event × W
 from-both P Q x h = (((h.first, x.1.0), (h.second, x.1.1)), (h.spells, h.more), same_event x (h.first ++ h.second) h.are)
 
 pub both-takes : {V W : Type 0} (P : List Event × V → Type 0) (Q : List Event × W → Type 0) (earlier : List Event) (a b c : Decoding) (x : List Event × V) (y : List Event × W)
-    → Takes P (λ x. cuts_after earlier x.0) a b x → Takes Q (λ y. cuts_after (earlier ++ x.0) y.0) b c y → Takes (Both P Q) (λ z. cuts_after earlier z.0) a c (joint (x, y))
+    → Takes P (spelled_cuts earlier) a b x → Takes Q (spelled_cuts (earlier ++ x.0)) b c y → Takes (Both P Q) (spelled_cuts earlier) a c (joint (x, y))
 both-takes {V} {W} P Q earlier a b c x y f g =
-    Takes-through {X = (List Event × V) × (List Event × W)} {Z = List Event × (V × W)} joint (λ z. P z.0 × Q z.1) (Both P Q) (λ z. cuts_after earlier z.0.0 ++ cuts_after (earlier ++ z.0.0) z.1.0) (λ z. cuts_after earlier z.0) a c (x, y)
+    Takes-through {X = (List Event × V) × (List Event × W)} {Z = List Event × (V × W)} joint (λ z. P z.0 × Q z.1) (Both P Q) (λ z. cuts_after earlier z.0.0 ++ cuts_after (earlier ++ z.0.0) z.1.0) (spelled_cuts earlier) a c (x, y)
     (to-both P Q)
     (from-both P Q)
     (λ z h. cuts_after-append earlier z.0.0 z.1.0)
-    (Takes-then P (λ z. Q) (λ x. cuts_after earlier x.0) (λ x y. cuts_after (earlier ++ x.0) y.0) a b c x y f g)
+    (Takes-then P (λ z. Q) (spelled_cuts earlier) (λ x y. cuts_after (earlier ++ x.0) y.0) a b c x y f g)
 
 pub both-first : {V W : Type 0} (P : List Event × V → Type 0) (Q : List Event × W → Type 0) (earlier : List Event) (a b : Decoding)
-    → Refuses P (λ x. cuts_after earlier x.0) a b → Refuses (Both P Q) (λ z. cuts_after earlier z.0) a b
+    → Refuses P (spelled_cuts earlier) a b → Refuses (Both P Q) (spelled_cuts earlier) a b
 both-first {V} {W} P Q earlier a b f =
-    Refuses-through {X = (List Event × V) × (List Event × W)} {Z = List Event × (V × W)} joint (λ z. P z.0 × Q z.1) (Both P Q) (λ z. cuts_after earlier z.0.0 ++ cuts_after (earlier ++ z.0.0) z.1.0) (λ z. cuts_after earlier z.0) a b
+    Refuses-through {X = (List Event × V) × (List Event × W)} {Z = List Event × (V × W)} joint (λ z. P z.0 × Q z.1) (Both P Q) (λ z. cuts_after earlier z.0.0 ++ cuts_after (earlier ++ z.0.0) z.1.0) (spelled_cuts earlier) a b
     (from-both P Q)
     (λ z h. cuts_after-append earlier z.0.0 z.1.0)
-    (Refuses-first P (λ z. Q) (λ x. cuts_after earlier x.0) (λ x y. cuts_after (earlier ++ x.0) y.0) a b f)
+    (Refuses-first P (λ z. Q) (spelled_cuts earlier) (λ x y. cuts_after (earlier ++ x.0) y.0) a b f)
 
 pub both-second : {V W : Type 0} (P : List Event × V → Type 0) (Q : List Event × W → Type 0) (earlier : List Event) (a b c : Decoding) (x : List Event × V)
-    → Takes P (λ x. cuts_after earlier x.0) a b x → Refuses Q (λ y. cuts_after (earlier ++ x.0) y.0) b c → Refuses (Both P Q) (λ z. cuts_after earlier z.0) a c
+    → Takes P (spelled_cuts earlier) a b x → Refuses Q (spelled_cuts (earlier ++ x.0)) b c → Refuses (Both P Q) (spelled_cuts earlier) a c
 both-second {V} {W} P Q earlier a b c x f g =
-    Refuses-through {X = (List Event × V) × (List Event × W)} {Z = List Event × (V × W)} joint (λ z. P z.0 × Q z.1) (Both P Q) (λ z. cuts_after earlier z.0.0 ++ cuts_after (earlier ++ z.0.0) z.1.0) (λ z. cuts_after earlier z.0) a c
+    Refuses-through {X = (List Event × V) × (List Event × W)} {Z = List Event × (V × W)} joint (λ z. P z.0 × Q z.1) (Both P Q) (λ z. cuts_after earlier z.0.0 ++ cuts_after (earlier ++ z.0.0) z.1.0) (spelled_cuts earlier) a c
     (from-both P Q)
     (λ z h. cuts_after-append earlier z.0.0 z.1.0)
-    (Refuses-second P (λ z. Q) (λ x. cuts_after earlier x.0) (λ x y. cuts_after (earlier ++ x.0) y.0) a b c x f g)
+    (Refuses-second P (λ z. Q) (spelled_cuts earlier) (λ x y. cuts_after (earlier ++ x.0) y.0) a b c x f g)
 
 -- ---- a part that is absent: no events, and one value
 pub none-takes : {V : Type 0} (P : List Event × V → Type 0) (earlier : List Event) (d : Decoding) (v : V) → P ([], v) → ((y : List Event × V) → P y → y ≡ ([], v)) → d.taken ≤ length d.bytes → d.failed ≡ false
-    → Takes P (λ x. cuts_after earlier x.0) d d ([], v)
-none-takes P earlier d v asked only within good = Takes-empty P (λ x. cuts_after earlier x.0) d ([], v) asked refl only within good
+    → Takes P (spelled_cuts earlier) d d ([], v)
+none-takes P earlier d v asked only within good = Takes-empty P (spelled_cuts earlier) d ([], v) asked refl only within good
