@@ -1,19 +1,18 @@
 -- The laws of chunks.
-use Rattle.std.proofs.Common.{◌≡◌, ℕ, zero, suc, if◌then◌else◌, eqb, ◌+◌, ◌*◌, ◌-◌, ◌<◌, ◌≤◌, List, [], ◌∷◌, ◌++◌, length, map, take, drop, refl, sym, ap, subst, ◌∙◌, arith, lit<, length-append}
-use Rattle.std.specs.Prelude.{All}
+use Rattle.std.proofs.Common.{◌≡◌, ℕ, zero, suc, ◌+◌, ◌*◌, ◌-◌, ◌≤◌, List, [], ◌∷◌, ◌++◌, length, take, drop, sym, ap, subst, ◌∙◌, arith, length-append}
 use Rattle.std.proofs.lemmas.Bool.{ne_eqb}
 use Rattle.std.proofs.lemmas.List.{drop_at, length-drop, length-take-le, take_at}
-use Rattle.laz_range.specs.Cut.{AreCuts, Cut}
-use Rattle.laz_range.specs.Span.{Fits, IsBytes, bytes_of, initial_span, span}
-use Rattle.laz_range.specs.Choice.{AllAsked, all_cuts}
+use Rattle.laz_range.specs.Cut.{AreCuts}
+use Rattle.laz_range.specs.Span.{Fits, bytes_of, initial_span, span}
+use Rattle.laz_range.specs.Choice.{AllAsked}
 use Rattle.laz_range.proofs.Reach.{after-IsSpan, bytes-fit, initial_span-IsSpan}
 use Rattle.laz_range.proofs.Streams.{IsBytes-drop, IsBytes-take, after-few}
-use Rattle.laz_integer.specs.Events.{Event, cuts_of}
+use Rattle.laz_integer.specs.Events.{cuts_of}
 use Rattle.laz_integer.proofs.Bounds.{length-cuts}
 use Rattle.laz_rgb.specs.Items.{latest_extra}
 use Rattle.laz_chunk.specs.Layouts.{Layout, most_events, record_length, room_for}
-use Rattle.laz_chunk.specs.Records.{ChunkPoint, Record, extras_of, record_at, records_in}
-use Rattle.laz_chunk.specs.Chunks.{AreRecords, History, Holds, IsSpelled, Spelling, chunk_bytes, count_of, first_of, further, grown, initial_history, joined, record_cuts, spelled_records, written}
+use Rattle.laz_chunk.specs.Records.{Record, extras_of, records_in}
+use Rattle.laz_chunk.specs.Chunks.{AreRecords, History, Holds, IsSpelled, Spelling, chunk_bytes, count_of, first_of, further, grown, initial_history, joined, spelled_records, written}
 use Rattle.laz_chunk.proofs.Ends.{count-is, length-records, length-spelled, less-one}
 use Rattle.laz_chunk.proofs.Fields.{part-lengths}
 use Rattle.laz_integer.proofs.Products.{next_suc}

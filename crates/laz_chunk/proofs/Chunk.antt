@@ -1,6 +1,6 @@
 -- A whole chunk, as it is packed and unpacked.
-use Rattle.std.proofs.Common.{◌≡◌, ℕ, ◌+◌, ◌*◌, ◌-◌, ◌/◌, ◌%◌, ◌<◌, ◌≤◌, List, [], ◌∷◌, ◌++◌, length, take, drop, refl, sym, ap, subst, ◌∙◌, arith}
-use Rattle.std.proofs.lemmas.List.{length-drop, length-take-le}
+use Rattle.std.proofs.Common.{◌≡◌, ℕ, ◌+◌, ◌*◌, ◌-◌, ◌<◌, ◌≤◌, List, [], ◌++◌, length, take, drop, sym, ap, subst, ◌∙◌, arith}
+use Rattle.std.proofs.lemmas.List.{length-take-le}
 use Rattle.laz_range.specs.Coding.{Coding, Codes}
 use Rattle.laz_range.specs.Choice.{AreAsked, all_cuts}
 use Rattle.laz_range.specs.Decoding.{Decoding, HasRead, Refuses, Takes}
@@ -10,10 +10,10 @@ use Rattle.laz_range.proofs.Streams.{IsBytes-take}
 use Rattle.laz_integer.specs.Events.{cuts_of}
 use Rattle.laz_chunk.specs.declared.items.Items.{Items}
 use Rattle.laz_chunk.specs.Layouts.{Layout, record_length}
-use Rattle.laz_chunk.specs.Records.{Record, record_at, records_in}
+use Rattle.laz_chunk.specs.Records.{record_at, records_in}
 use Rattle.laz_chunk.specs.Stands.{AreChunkPoints, ItemsStand}
 use Rattle.laz_chunk.specs.Chunks.{AreRecords, History, Holds, IsSpelled, Spelling, chunk_bytes, count_of, first_of, further, grown, initial_history, joined, record_cuts, spelled_records, written}
-use Rattle.laz_chunk.proofs.Ends.{Streamed, count-is, holds-made, none-opened, none-read, one-read, only-made, read-streamed, streamed}
+use Rattle.laz_chunk.proofs.Ends.{Streamed, holds-made, none-opened, none-read, one-read, only-made, read-streamed, streamed}
 use Rattle.laz_chunk.proofs.Lawful.{cuts-joined}
 use Rattle.laz_chunk.proofs.Written.{points-first}
 use Rattle.laz_integer.proofs.Lists.{two_lists}

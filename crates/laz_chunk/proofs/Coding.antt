@@ -1,8 +1,8 @@
 -- A record coded and read, part by part.
-use Rattle.std.proofs.Common.{◌≡◌, ℕ, ◌≤◌, Bool, List, [], ◌∷◌, ◌++◌, Option, length, take, drop, refl, sym, ap, subst, ◌∙◌}
+use Rattle.std.proofs.Common.{◌≡◌, ℕ, ◌≤◌, List, ◌∷◌, ◌++◌, Option, length, take, drop, sym, subst}
 use Rattle.laz_range.specs.Coding.{Coding, Codes}
 use Rattle.laz_range.proofs.Whole.{Codes-append}
-use Rattle.laz_range.specs.Decoding.{Decoding, Refuses, Takes}
+use Rattle.laz_range.specs.Decoding.{Decoding, Refuses}
 use Rattle.laz_range.specs.Span.{IsBytes}
 use Rattle.laz_integer.specs.Events.{Event, cuts_after}
 use Rattle.laz_integer.proofs.Named.{cuts_after-append}
@@ -18,11 +18,11 @@ use Rattle.laz_rgb.specs.Extra.{SpellsExtra, extra_events}
 use Rattle.laz_rgb.specs.Items.{ExtraState, RgbState, latest_extra}
 use Rattle.laz_chunk.specs.declared.items.Items.{Items}
 use Rattle.laz_chunk.specs.Layouts.{Layout, colour_length, record_length, time_length}
-use Rattle.laz_chunk.specs.Records.{ChunkPoint, Record, SpellsColourIf, SpellsTimeIf, colour_events_if, colour_in, colour_part, colours_of, extra_part, extras_of, point_part, points_of, record_at, time_events_if, time_in, time_part, times_of}
+use Rattle.laz_chunk.specs.Records.{Record, SpellsColourIf, SpellsTimeIf, colour_events_if, colour_in, colour_part, colours_of, extra_part, extras_of, point_part, points_of, record_at, time_events_if, time_in, time_part, times_of}
 use Rattle.laz_chunk.specs.Stands.{AreChunkPoints, ColoursStand, ExtrasStand, ItemsStand, ReadsPart, TimesStand, has, layout_in}
 use Rattle.laz_chunk.specs.Chunks.{History, IsSpelled, grown, record_cuts, writing}
 use Rattle.laz_chunk.proofs.Leaves.{Parts, colour-before, extra-before, parts-stand, time-before}
-use Rattle.laz_chunk.proofs.Whole.{colour-refuses, extra-refuses, point-refuses, record-parts, record-takes, time-refuses}
+use Rattle.laz_chunk.proofs.Whole.{colour-refuses, extra-refuses, record-parts, record-takes, time-refuses}
 use Rattle.laz_chunk.proofs.Written.{record-parts_written}
 use Rattle.laz_integer.specs.Spelled.{spelled_cuts}
 

@@ -1,22 +1,19 @@
 -- Records that bytes hold, as what is read.
-use Rattle.std.proofs.Common.{◌≡◌, ℕ, zero, suc, ◌+◌, ◌*◌, ◌-◌, ◌/◌, ◌%◌, ◌<◌, ◌≤◌, List, [], ◌∷◌, ◌++◌, length, map, take, drop, refl, sym, ap, subst, ◌∙◌, arith, length-append}
-use Rattle.std.proofs.lemmas.List.{drop_at, length-drop, length-take-le, take-append-drop, take_at}
+use Rattle.std.proofs.Common.{◌≡◌, ℕ, zero, suc, ◌+◌, ◌*◌, ◌-◌, ◌/◌, ◌%◌, ◌≤◌, List, [], ◌∷◌, ◌++◌, length, take, drop, refl, sym, ap, subst, ◌∙◌, arith, length-append}
+use Rattle.std.proofs.lemmas.List.{drop_at, length-drop, length-take-le, take_at}
 use Rattle.std.proofs.Math.Nat.{div-add-mod}
 use Rattle.std.proofs.lemmas.Nat.{div-mul-add}
 use Rattle.laz_range.specs.Cut.{Cut, AreCuts}
-use Rattle.laz_range.specs.Span.{Begins, Fits, IsBytes, bytes_of, span}
+use Rattle.laz_range.specs.Span.{Begins, Fits, IsBytes, span}
 use Rattle.laz_range.specs.Choice.{AllAsked, AreAsked, all_cuts}
 use Rattle.laz_range.specs.Decoding.{Decoding, HasRead, Refuses, Takes}
-use Rattle.laz_range.proofs.Streams.{IsBytes-drop, IsBytes-take, after-few, none-fits, one-fits, read-fits, unopened-fits}
-use Rattle.laz_range.proofs.Reach.{bytes-fit}
-use Rattle.laz_integer.specs.Events.{Event, cuts_after, cuts_of}
+use Rattle.laz_range.proofs.Streams.{IsBytes-drop, none-fits, one-fits, read-fits, unopened-fits}
 use Rattle.laz_chunk.specs.Layouts.{Layout, record_length}
 use Rattle.laz_chunk.specs.Records.{Record, record_at, records_in}
-use Rattle.laz_chunk.specs.Chunks.{AreRecords, History, Holds, IsSpelled, Spelling, chunk_bytes, count_of, first_of, further, grown, initial_history, joined, record_cuts, spelled_records, written}
+use Rattle.laz_chunk.specs.Chunks.{AreRecords, Holds, IsSpelled, Spelling, count_of, first_of, further, grown, initial_history, record_cuts, spelled_records}
 use Rattle.laz_chunk.proofs.Fields.{records-one}
-use Rattle.laz_integer.proofs.Lists.{by-parts, two_lists}
+use Rattle.laz_integer.proofs.Lists.{by-parts}
 use Rattle.laz_chunk.proofs.Lawful.{AreCuts-asked, cuts-joined}
-use Rattle.laz_chunk.proofs.Written.{points-first, written-records, written-spelled}
 
 pub count-is : (l : Layout) (count : ℕ) (records : List ℕ) → length records ≡ record_length l * count → count_of l records ≡ count
 count-is l count records e =

@@ -1,21 +1,18 @@
 -- The fields of records in bytes, and that two records with the same fields are the same bytes.
-use Rattle.std.proofs.Common.{◌≡◌, ℕ, zero, suc, ◌+◌, ◌*◌, ◌-◌, ◌<◌, ◌≤◌, Bool, true, false, List, [], ◌∷◌, ◌++◌, length, take, drop, get_or, replicate, refl, sym, ap, subst, ◌∙◌, arith, lit<, lit≤}
-use Rattle.std.specs.Prelude.{All}
-use Rattle.std.specs.Int.{w64, from_le_bytes, to_le_bytes}
+use Rattle.std.proofs.Common.{◌≡◌, ℕ, zero, suc, ◌*◌, ◌<◌, Bool, true, false, List, [], ◌∷◌, ◌++◌, length, take, drop, refl, sym, ap, ◌∙◌, arith, lit<, lit≤}
+use Rattle.std.specs.Int.{w64, from_le_bytes}
 use Rattle.std.proofs.Math.Facts.{sfits_to_z}
 use Rattle.std.proofs.lemmas.Nat.{le_bytes_8}
-use Rattle.std.proofs.lemmas.List.{append-nil, length-drop, length-take-le, take-append-drop}
+use Rattle.std.proofs.lemmas.List.{append-nil, length-drop, length-take-le}
 use Rattle.std.proofs.lemmas.List.Elements.{All-from_get_or, All-from_recursion}
 use Rattle.byteorder.specs.Numbers.{little_from-lt}
 use Rattle.byteorder.proofs.Bytes.{from_le_bytes-put_mid8}
 use Rattle.las_header.specs.Numbers.{number_at}
 use Rattle.laz_range.specs.Span.{IsBytes}
 use Rattle.laz_range.proofs.Streams.{IsBytes-drop, IsBytes-take}
-use Rattle.laz_point10.specs.declared.point.Point.{Point}
 use Rattle.laz_point10.specs.Points.{IsPoint, point_at}
 use Rattle.laz_point10.proofs.Parts.{parts-of-points}
 use Rattle.laz_gpstime.specs.Times.{time_at}
-use Rattle.laz_rgb.specs.declared.colour.Colour.{Colour}
 use Rattle.laz_rgb.specs.Colours.{colour_at, colour_bytes}
 use Rattle.laz_rgb.specs.Laws.{AreBytes}
 use Rattle.laz_chunk.specs.Layouts.{Layout, colour_length, record_length, time_length}

@@ -1,8 +1,8 @@
 -- The events that spell records are lawful and few.
-use Rattle.std.proofs.Common.{◌≡◌, ℕ, zero, suc, ◌+◌, ◌*◌, ◌-◌, ◌^◌, ◌<◌, ◌≤◌, if◌then◌else◌, eqb, min, Bool, true, false, List, [], ◌∷◌, ◌++◌, length, map, drop, refl, sym, ap, subst, ◌∙◌, arith, lit<, lit≤, ⊎_elim, length-append}
+use Rattle.std.proofs.Common.{◌≡◌, ℕ, ◌^◌, ◌≤◌, if◌then◌else◌, eqb, min, Bool, true, false, List, [], ◌∷◌, ◌++◌, length, refl, sym, ap, subst, ◌∙◌, arith, length-append}
 use Rattle.std.proofs.lemmas.Bool.{ne_eqb}
 use Rattle.laz_range.specs.Cut.{AreCuts}
-use Rattle.laz_range.specs.Choice.{AllAsked, AreAsked, all_cuts}
+use Rattle.laz_range.specs.Choice.{AllAsked, all_cuts}
 use Rattle.laz_range.proofs.Decodings.{AreCuts-append}
 use Rattle.laz_integer.specs.Events.{Event, Name, Role, Own, Width, ZeroOrOne, High, cuts_after, same_text}
 use Rattle.laz_integer.specs.Ranged.{AreRanged}
@@ -20,7 +20,7 @@ use Rattle.laz_rgb.specs.Colours.{rgb_kind}
 use Rattle.laz_rgb.specs.Items.{HasExtraSizes, HasRgbSizes, latest_colour, latest_extra}
 use Rattle.laz_rgb.proofs.Proved.{colours-lawful, extras-lawful}
 use Rattle.laz_chunk.specs.Layouts.{Layout, most_events}
-use Rattle.laz_chunk.specs.Records.{ChunkPoint, Record, SpellsColourIf, SpellsRecord, SpellsTimeIf, colours_of, extras_of, times_of}
+use Rattle.laz_chunk.specs.Records.{ChunkPoint, Record, SpellsColourIf, SpellsRecord, SpellsTimeIf, extras_of}
 use Rattle.laz_chunk.specs.Chunks.{History, IsSpelled, Spelling, grown, joined, record_cuts}
 
 -- ---- the numbers of symbols of all models

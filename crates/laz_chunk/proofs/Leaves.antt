@@ -1,11 +1,11 @@
 -- Events of other items leave what an item stands for, and the events of a record's parts are silent for each other's uses.
-use Rattle.std.proofs.Common.{◌≡◌, ℕ, Bool, true, false, not, ◌&&◌, List, [], ◌∷◌, ◌++◌, Option, Some, None, refl, sym, ap, subst, ◌∙◌, append_assoc}
+use Rattle.std.proofs.Common.{◌≡◌, ℕ, Bool, true, false, List, [], ◌∷◌, ◌++◌, Option, Some, None, refl, sym, subst, ◌∙◌, append_assoc}
 use Rattle.laz_integer.specs.Events.{Event, same_text}
-use Rattle.laz_integer.specs.Uses.{AllSilent, Silent, absent}
+use Rattle.laz_integer.specs.Uses.{AllSilent, Silent}
 use Rattle.laz_integer.proofs.Uses.{Silent-append, Silent-none, all-silent, first-other}
 use Rattle.laz_point10.specs.Laws.{point_kinds}
 use Rattle.laz_point10.specs.PointEvents.{SpellsPoint}
-use Rattle.laz_point10.specs.Items.{PointStands, PointState}
+use Rattle.laz_point10.specs.Items.{PointStands}
 use Rattle.laz_point10.specs.declared.point.Point.{Point}
 use Rattle.laz_point10.proofs.Lawful.{others-leave_points, points-lawful}
 use Rattle.laz_gpstime.specs.Sequences as sequences

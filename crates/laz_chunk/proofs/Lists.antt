@@ -1,21 +1,17 @@
 -- Records one after another, and a list with one more.
-use Rattle.std.proofs.Common.{◌≡◌, ℕ, zero, suc, ◌+◌, ◌*◌, ◌-◌, ◌<◌, ◌≤◌, add-one, List, [], ◌∷◌, ◌++◌, length, map, take, drop, refl, sym, ap, subst, ◌∙◌, arith}
-use Rattle.std.proofs.lemmas.List.{drop-drop, drop-take, drop_at, length-take-le, take-take, take_at}
+use Rattle.std.proofs.Common.{◌≡◌, ℕ, zero, suc, ◌+◌, ◌*◌, ◌-◌, ◌≤◌, add-one, List, [], ◌∷◌, ◌++◌, length, take, drop, refl, sym, ap, subst, ◌∙◌, arith}
+use Rattle.std.proofs.lemmas.List.{drop-drop, drop-take, drop_at, length-take-le, take_at}
 use borrow.Rule.Slice.PartMut.{put_mid}
 use Rattle.laz_range.specs.Coding.{Coding, Codes}
-use Rattle.laz_range.specs.Choice.{AreAsked, all_cuts, state_after}
-use Rattle.laz_range.specs.Decoding.{Decoding, Takes}
-use Rattle.laz_range.specs.Span.{IsBytes}
+use Rattle.laz_range.specs.Choice.{all_cuts, state_after}
 use Rattle.laz_range.proofs.Loops.{all_cuts-push, state_after-push}
 use Rattle.laz_range.proofs.Whole.{Codes-append}
-use Rattle.laz_chunk.specs.declared.items.Items.{Items}
 use Rattle.laz_chunk.specs.Layouts.{Layout, record_length}
 use Rattle.laz_chunk.specs.Records.{Record, record_at, records_in}
-use Rattle.laz_chunk.specs.Stands.{AreChunkPoints, ItemsStand}
 use Rattle.laz_chunk.specs.Chunks.{History, Spelling, grown, record_cuts, spelled_records, writing, written}
 use Rattle.laz_integer.proofs.Products.{next_suc}
 use Rattle.laz_chunk.proofs.Written.{written-push}
-use Rattle.laz_integer.proofs.Lists.{cons_same, push_same, take-front}
+use Rattle.laz_integer.proofs.Lists.{cons_same, take-front, two_lists}
 
 -- ---- the records in bytes
 pub records-more : (l : Layout) (i : ℕ) (a : List ℕ) → records_in l (suc i) a ≡ records_in l i a ++ record_at l (take (record_length l) (drop (record_length l * i) a)) ∷ []
@@ -52,7 +48,7 @@ records-set l i at k xs ys size place within =
     let part : take m (drop at new) ≡ ys = ap (λ (b : List ℕ). take m b) rest ∙ take_at ys (drop k (drop at xs)) m size in
     let here : take m (drop (m * i) new) ≡ ys = subst (λ (n : ℕ). take m (drop n new) ≡ ys) place part in
     let before : take (m * i) new ≡ take (m * i) xs = subst (λ (n : ℕ). take n new ≡ take n xs) place same in
-    ap (λ (n : ℕ). records_in l n new) (add-one i) ∙ (records-more l i new ∙ push_same _ _ _ _ (records-front l i new xs before) (ap (record_at l) here))
+    ap (λ (n : ℕ). records_in l n new) (add-one i) ∙ (records-more l i new ∙ two_lists _ _ _ _ (records-front l i new xs before) (ap (λ (b : List ℕ). record_at l b ∷ []) here))
 
 -- ---- a record more is written
 pub codes-push : (l : Layout) (h : History) (rs : List Record) (r : Record) (ss : List Record) (a b c : Coding) → ss ≡ rs ++ r ∷ [] → Codes a b (all_cuts grown record_cuts h (written l h rs))

@@ -1,7 +1,7 @@
 -- What an item has read, as what a part that may be absent has.
-use Rattle.std.proofs.Common.{◌≡◌, ℕ, ◌≤◌, Bool, true, false, List, [], ◌∷◌, ◌++◌, Option, Some, None, Result, Ok, Err, MatchResult, length, refl, sym, subst}
+use Rattle.std.proofs.Common.{◌≡◌, ℕ, ◌≤◌, true, List, ◌∷◌, ◌++◌, Option, Some, Result, Ok, Err, MatchResult, length, sym, subst}
 use Rattle.laz_range.specs.Decoding.{Decoding, Refuses}
-use Rattle.laz_integer.specs.Events.{Event, cuts_after}
+use Rattle.laz_integer.specs.Events.{Event}
 use Rattle.laz_gpstime.specs.Sequences as sequences
 use Rattle.laz_gpstime.specs.Items.{IsSpelledTime, ReadsTime, TimeStands, point_with}
 use Rattle.laz_gpstime.specs.Slots.{TimeState}

@@ -1,9 +1,9 @@
 -- One record more, in the loops over records.
-use Rattle.std.proofs.Common.{◌≡◌, ℕ, ◌+◌, ◌*◌, ◌-◌, ◌<◌, ◌≤◌, List, [], ◌∷◌, ◌++◌, length, take, drop, refl, sym, ap, subst, ◌∙◌, arith}
+use Rattle.std.proofs.Common.{◌≡◌, ℕ, ◌+◌, ◌*◌, ◌-◌, ◌<◌, List, [], ◌∷◌, ◌++◌, length, take, drop, refl, sym, ap, subst, ◌∙◌, arith}
 use Rattle.std.proofs.lemmas.List.{length-drop, length-take-le}
 use Rattle.laz_range.specs.Coding.{Coding, Codes}
 use Rattle.laz_range.specs.Choice.{AreAsked, all_cuts, state_after}
-use Rattle.laz_range.specs.Decoding.{Decoding, Refuses, Takes}
+use Rattle.laz_range.specs.Decoding.{Decoding, Takes}
 use Rattle.laz_range.specs.Span.{IsBytes}
 use Rattle.laz_range.proofs.Composition.{Takes-step}
 use Rattle.laz_range.proofs.Loops.{state_after-push}

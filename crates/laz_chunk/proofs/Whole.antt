@@ -1,10 +1,10 @@
 -- The four parts of a record, one after another, as the record.
-use Rattle.std.proofs.Common.{◌≡◌, ℕ, ◌+◌, Bool, List, [], ◌∷◌, ◌++◌, length, take, drop, refl, sym, ap, subst, ◌∙◌}
+use Rattle.std.proofs.Common.{◌≡◌, ℕ, Bool, List, ◌++◌, length, take, drop, refl, sym, ap, ◌∙◌}
 use Rattle.std.proofs.lemmas.List.{drop_at, take_at}
 use Rattle.laz_range.specs.Decoding.{Decoding, Refuses, Takes}
 use Rattle.laz_range.proofs.Composition.{Takes-through}
 use Rattle.laz_range.proofs.Refusals.{Refuses-through}
-use Rattle.laz_integer.specs.Events.{Event, cuts_after}
+use Rattle.laz_integer.specs.Events.{Event}
 use Rattle.laz_point10.specs.declared.point.Point.{Point}
 use Rattle.laz_point10.specs.Points.{point_at}
 use Rattle.laz_point10.specs.PointEvents.{SpellsPoint}
@@ -12,7 +12,7 @@ use Rattle.laz_rgb.specs.declared.colour.Colour.{Colour}
 use Rattle.laz_rgb.specs.Extra.{SpellsExtra}
 use Rattle.laz_rgb.specs.Items.{latest_extra}
 use Rattle.laz_chunk.specs.Layouts.{Layout, colour_length, time_length}
-use Rattle.laz_chunk.specs.Records.{ChunkPoint, Record, SpellsColourIf, SpellsRecord, SpellsTimeIf, colour_in, colours_of, extras_of, points_of, record_at, time_in, times_of}
+use Rattle.laz_chunk.specs.Records.{ChunkPoint, Record, SpellsColourIf, SpellsTimeIf, colour_in, colours_of, extras_of, points_of, record_at, time_in, times_of}
 use Rattle.laz_chunk.specs.Chunks.{History, IsSpelled, Spelling, record_cuts}
 use Rattle.laz_integer.proofs.Joins.{Both, both-first, both-second, both-takes}
 use Rattle.laz_integer.specs.Spelled.{spelled_cuts}

@@ -1,16 +1,12 @@
 -- What a writer makes of records spells them, and what the items then stand for.
-use Rattle.std.proofs.Common.{◌≡◌, ℕ, zero, suc, ◌+◌, ◌*◌, ◌-◌, ◌<◌, ◌≤◌, Bool, true, false, List, [], ◌∷◌, ◌++◌, length, map, take, drop, refl, sym, ap, subst, ◌∙◌, arith, lit<, lit≤}
+use Rattle.std.proofs.Common.{◌≡◌, ℕ, zero, suc, ◌*◌, ◌<◌, ◌≤◌, Bool, true, false, List, [], ◌∷◌, ◌++◌, length, take, drop, refl, sym, ap, ◌∙◌, arith, lit≤}
 use Rattle.std.specs.Prelude.{All}
 use Rattle.std.proofs.lemmas.List.Elements.{All-cons, All-head, All-map, All-nil, All-weaker}
-use Rattle.laz_range.specs.Choice.{AllAsked, AreAsked, all_cuts, state_after}
-use Rattle.laz_range.specs.Coding.{Coding, Codes}
-use Rattle.laz_range.proofs.Whole.{Codes-append}
+use Rattle.laz_range.specs.Choice.{AllAsked, state_after}
 use Rattle.laz_range.specs.Span.{IsBytes}
 use Rattle.laz_range.proofs.Streams.{IsBytes-drop, IsBytes-take}
 use Rattle.std.proofs.lemmas.List.{length-drop, length-take-le}
-use Rattle.laz_integer.specs.Events.{Event, cuts_after}
-use Rattle.laz_integer.proofs.Named.{cuts_after-append}
-use Rattle.laz_point10.specs.declared.point.Point.{Point}
+use Rattle.laz_integer.specs.Events.{Event}
 use Rattle.laz_point10.specs.Points.{IsPoint}
 use Rattle.laz_point10.specs.PointEvents.{point_events}
 use Rattle.laz_point10.proofs.Written.{points-spelled}
@@ -25,9 +21,9 @@ use Rattle.laz_rgb.specs.Items.{latest_colour, latest_extra}
 use Rattle.laz_rgb.specs.Laws.{AreBytes}
 use Rattle.laz_rgb.proofs.Proved.{colours-spelled, extras-spelled}
 use Rattle.laz_chunk.specs.Layouts.{Layout, record_length}
-use Rattle.laz_chunk.specs.Records.{ChunkPoint, Record, SpellsColourIf, SpellsTimeIf, colour_events_if, colours_of, extras_of, points_of, record_at, record_events, records_in, time_events_if, times_of}
+use Rattle.laz_chunk.specs.Records.{ChunkPoint, Record, SpellsColourIf, SpellsTimeIf, colour_events_if, colours_of, extras_of, points_of, record_at, records_in, time_events_if, times_of}
 use Rattle.laz_chunk.specs.Stands.{AreChunkPoints, IsRecord}
-use Rattle.laz_chunk.specs.Chunks.{History, IsSpelled, Spelling, grown, initial_history, record_cuts, spelled_records, writing, written}
+use Rattle.laz_chunk.specs.Chunks.{History, IsSpelled, grown, initial_history, spelled_records, writing, written}
 use Rattle.laz_chunk.proofs.Fields.{part-lengths, record-fits}
 use Rattle.laz_integer.proofs.Products.{next_suc}
 use Rattle.laz_chunk.proofs.Leaves.{Parts}

@@ -1,10 +1,9 @@
 -- What the items of a chunk stand for: the events of its stream, and its points so far, the latest one first.
-use Rattle.std.specs.Prelude.{◌≡◌, ℕ, ◌<◌, ◌≤◌, All, Bool, true, false, List, [], ◌∷◌, ◌++◌, Option, Some, None, length}
-use Rattle.laz_range.specs.Cut.{Cut}
+use Rattle.std.specs.Prelude.{◌≡◌, ℕ, ◌<◌, ◌≤◌, All, Bool, true, false, List, [], Option, Some, None, length}
 use Rattle.laz_range.specs.Decoding.{Decoding, Takes}
-use Rattle.laz_integer.specs.Events.{Event, cuts_after}
+use Rattle.laz_integer.specs.Events.{Event}
 use Rattle.laz_point10.specs.Points.{IsPoint}
-use Rattle.laz_point10.specs.Items.{PointStands, PointState}
+use Rattle.laz_point10.specs.Items.{PointStands}
 use Rattle.laz_gpstime.specs.Sequences as sequences
 use Rattle.laz_gpstime.specs.Items.{TimeStands}
 use Rattle.laz_gpstime.specs.Slots.{TimeState}

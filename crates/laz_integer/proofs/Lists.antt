@@ -5,9 +5,6 @@ use Rattle.std.proofs.lemmas.List.{take-append-drop, take-take}
 pub cons_same : {X : Type 0} (x y : X) (xs ys : List X) → x ≡ y → xs ≡ ys → x ∷ xs ≡ y ∷ ys
 cons_same x y xs ys e f = cc
 
-pub push_same : {X : Type 0} (xs ys : List X) (x y : X) → xs ≡ ys → x ≡ y → xs ++ x ∷ [] ≡ ys ++ y ∷ []
-push_same xs ys x y e f = cc
-
 pub two_lists : {X : Type 0} (a b c d : List X) → a ≡ b → c ≡ d → a ++ c ≡ b ++ d
 two_lists a b c d e f = cc
 

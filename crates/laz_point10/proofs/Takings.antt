@@ -1,6 +1,5 @@
 -- What a group of calls has read, one after another: the fields of each group of models.
-use Rattle.std.proofs.Common.{◌≡◌, ℕ, ℤ, ◌+◌, ◌/◌, ◌<◌, List, [], ◌∷◌, ◌++◌, length, get_or, ap, ◌∙◌, subst, arith, lit≤}
-use Rattle.std.proofs.lemmas.List.{get_or-replicate, length-map, length-replicate}
+use Rattle.std.proofs.Common.{◌≡◌, ℕ, ℤ, ◌+◌, ◌/◌, List, ◌++◌, ap, ◌∙◌, subst, lit≤}
 use Rattle.std.specs.Prelude.{FitsSigned}
 use Rattle.std.specs.Int.{w32, cast_signed, cast_unsigned}
 use Rattle.laz_range.specs.Cut.{Cut}
@@ -8,11 +7,8 @@ use Rattle.laz_range.specs.Coding.{Coding, Codes}
 use Rattle.laz_range.specs.Decoding.{Decoding, Takes, TakesNone}
 use Rattle.laz_range.proofs.Composition.{Takes-then, TakesNone-first, TakesNone-second}
 use Rattle.laz_models.specs.Counting.{Counting}
-use Rattle.laz_models.specs.Dist.{StandsFor, alphabet_size}
-use Rattle.laz_models.specs.Bank.{model_at, alphabet_sizes}
-use Rattle.laz_models.proofs.Banks.{size-at}
 use Rattle.laz_integer.specs.Corrector.{corrected}
-use Rattle.laz_integer.specs.Integer.{IntState, IsCorrector, int_cuts, int_next, int_width, symbol_cut}
+use Rattle.laz_integer.specs.Integer.{IntState, IsCorrector, int_cuts, int_next, int_width}
 use Rattle.laz_integer.proofs.Spellings.{corrected-passed}
 use Rattle.laz_point10.specs.declared.history.Predictions.{Predictions}
 use Rattle.laz_point10.specs.declared.models.SurfaceModels.{SurfaceModels}
@@ -23,7 +19,6 @@ use Rattle.laz_point10.specs.PointEvents.{even_below, intensity_context, y_conte
 use Rattle.laz_integer.specs.Bytes.{has_bit}
 use Rattle.laz_integer.specs.Fields.{IsByte, IsWord, byte_cuts, int_corrector, word_cuts}
 use Rattle.laz_point10.specs.Groups.{IsSurface, surface_cuts, IsScan, scan_cuts, IsPlace, place_cuts}
-use Rattle.laz_integer.specs.Bytes.{AreByteModels}
 
 pub same-surface : (a b : IntState) (c d : List Counting) → a ≡ b → c ≡ d → (let x : SurfaceModels = record { intensity = a; classifications = c } in x) ≡ record { intensity = b; classifications = d }
 same-surface a b c d e f = cc

@@ -1,6 +1,6 @@
 -- What the code keeps of earlier points, and all that is read of a point: its parts, its events, the models after it,
 -- and the point that it makes.
-use Rattle.std.specs.Prelude.{◌≡◌, ℕ, pos, ◌+◌, ◌%◌, ◌<◌, ◌≤◌, List, [], ◌∷◌, ◌++◌, length, slice_index, slice_index_or}
+use Rattle.std.specs.Prelude.{◌≡◌, ℕ, pos, ◌<◌, ◌≤◌, List, [], ◌∷◌, ◌++◌, length, slice_index, slice_index_or}
 use Rattle.std.specs.Prelude.{slice_set}
 use Rattle.std.specs.Int.{w32, int_wrapping_add, int_wrapping_sub}
 use Rattle.laz_range.specs.Cut.{Cut}

@@ -1,9 +1,9 @@
 -- The models of a point in groups: what is read of it under each group, by the models as they are, and the models after
 -- it.
-use Rattle.std.specs.Prelude.{◌≡◌, ℕ, ◌<◌, List, [], ◌∷◌, ◌++◌, replicate, slice_set}
+use Rattle.std.specs.Prelude.{◌≡◌, ℕ, ◌<◌, List, [], ◌∷◌, ◌++◌, slice_set}
 use Rattle.std.specs.Int.{w32, int_wrapping_sub}
 use Rattle.laz_range.specs.Cut.{Cut}
-use Rattle.laz_models.specs.Counting.{Counting, after_symbol}
+use Rattle.laz_models.specs.Counting.{after_symbol}
 use Rattle.laz_models.specs.Bank.{model_at, alphabet_sizes}
 use Rattle.laz_integer.specs.Integer.{IsCorrector, IsInts, int_cuts, int_next, symbol_cut}
 use Rattle.laz_integer.specs.Fields.{IsByte, IsWord, byte_cuts, byte_next, int_corrector, word_cuts, word_next}

@@ -1,13 +1,12 @@
 -- Extra bytes: their symbols walked one at a time, and the events that spell them.
-use Rattle.std.proofs.Common.{◌≡◌, ℕ, zero, suc, ◌+◌, ◌-◌, ◌<◌, ◌≤◌, Bool, true, false, List, [], ◌∷◌, ◌++◌, length, take, drop, get_or, set, replicate, refl, sym, ap, subst, ◌∙◌, arith, add-one}
-use Rattle.std.proofs.lemmas.List.{length_push, length-replicate}
+use Rattle.std.proofs.Common.{◌≡◌, ℕ, zero, suc, ◌+◌, ◌-◌, ◌<◌, Bool, true, false, List, [], ◌∷◌, ◌++◌, length, take, drop, get_or, set, refl, sym, ap, subst, ◌∙◌, arith}
+use Rattle.std.proofs.lemmas.List.{length-replicate}
 use Rattle.std.proofs.Math.Nat.{mod-lt}
-use Rattle.std.proofs.Math.Seq.{take-suc}
 use Rattle.laz_range.specs.Cut.{Cut, AreCuts}
-use Rattle.laz_range.specs.Reading.{Reading, follow_all}
+use Rattle.laz_range.specs.Reading.{Reading}
 use Rattle.laz_range.specs.Choice.{AllAsked, AreAsked, Only, all_cuts, state_after}
 use Rattle.laz_range.specs.Coding.{Coding, Codes}
-use Rattle.laz_range.specs.Decoding.{Decoding, NoneBegins, ReadsOn, Refuses, Takes, TakesNone, reading_of}
+use Rattle.laz_range.specs.Decoding.{Decoding, NoneBegins, Refuses, Takes, TakesNone, reading_of}
 use Rattle.laz_range.proofs.Loops.{Nothing-more, Nothing-push, Only-push, all_cuts-push, state_after-push}
 use Rattle.laz_range.proofs.Composition.{Takes-step, Takes-through}
 use Rattle.laz_range.proofs.Decodings.{Takes-ReadsOn, Takes-begins}
@@ -28,7 +27,7 @@ use Rattle.laz_rgb.specs.Extra.{SpellsExtra, all_marked, byte_kind, extra_events
 use Rattle.laz_rgb.specs.Items.{ExtraStands, ExtraState, HasExtraSizes, IsExtraState, IsSpelledExtra, ReadsExtra, latest_extra}
 use Rattle.laz_integer.specs.Spelled.{OneBegins, spelled_cuts}
 use Rattle.laz_rgb.proofs.Walks.{mark-after, model-after, row-models, sized-rows}
-use Rattle.laz_rgb.proofs.Rowed.{RowSizes, row-piece, row-ranged, row-sizes}
+use Rattle.laz_rgb.proofs.Rowed.{RowSizes, row-piece, row-ranged}
 
 -- ---- lists of symbols and of bytes, by place
 pub length-symbols : (last now : List ℕ) → length now ≡ length last → length (extra_symbols last now) ≡ length last

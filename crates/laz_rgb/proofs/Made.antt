@@ -1,5 +1,5 @@
 -- The colour that was read is the one that its symbols make.
-use Rattle.std.proofs.Common.{◌≡◌, ℕ, ◌&&◌, cond, Bool, true, false, List, [], ◌∷◌, refl, ap, subst, sym, ◌∙◌}
+use Rattle.std.proofs.Common.{◌≡◌, ℕ, ◌&&◌, cond, Bool, true, false, [], ◌∷◌, refl, ap, subst, ◌∙◌}
 use Rattle.laz_rgb.specs.declared.colour.Colour.{Colour}
 use Rattle.laz_rgb.specs.Rows.{byte_of}
 use Rattle.laz_rgb.specs.Colours.{colour_made, predicted_blue, predicted_green}

@@ -1,21 +1,18 @@
 -- The laws of the items.
-use Rattle.std.proofs.Common.{◌≡◌, ℕ, suc, ◌+◌, ◌-◌, ◌%◌, ◌<◌, ◌≤◌, ◌&&◌, cond, Bool, true, false, List, [], ◌∷◌, ◌++◌, length, replicate, refl, sym, ap, subst, ◌∙◌, arith, ⊎_elim}
-use Rattle.std.specs.Prelude.{◌==◌, not, All}
-use Rattle.std.proofs.lemmas.Bool.{cases_Bool}
+use Rattle.std.proofs.Common.{◌≡◌, ℕ, suc, ◌+◌, ◌<◌, ◌&&◌, cond, Bool, true, false, List, [], ◌∷◌, length, refl, sym, ap, ◌∙◌, arith}
+use Rattle.std.specs.Prelude.{◌==◌, not}
 use Rattle.std.proofs.lemmas.List.{length-replicate}
-use Rattle.laz_integer.specs.Events.{Event, Name, same_text}
+use Rattle.laz_integer.specs.Events.{same_text}
 use Rattle.laz_integer.specs.Uses.{Silent}
 use Rattle.laz_integer.specs.Fields.{byte_events, if_marked}
 use Rattle.laz_integer.proofs.Uses.{Silent-append, Silent-none, Silent-other, bank-silent}
 use Rattle.laz_rgb.specs.declared.colour.Colour.{Colour}
-use Rattle.laz_rgb.specs.Rows.{IsRow, byte_of, row_events}
+use Rattle.laz_rgb.specs.Rows.{byte_of, row_events}
 use Rattle.laz_integer.specs.Bytes.{byte_difference, byte_plus}
-use Rattle.laz_rgb.specs.Colours.{SpellsColour, changes, changes_event, colour_bytes, colour_events, colour_made, colour_marks, colour_symbols, is_grey, predicted_blue, predicted_green, rgb_kind, symbol_if}
+use Rattle.laz_rgb.specs.Colours.{changes, changes_event, colour_bytes, colour_made, colour_marks, colour_symbols, is_grey, predicted_blue, predicted_green, rgb_kind, symbol_if}
 use Rattle.laz_integer.specs.Bytes.{has_bit}
-use Rattle.laz_rgb.specs.Coded.{colour_with}
-use Rattle.laz_rgb.specs.Extra.{SpellsExtra, all_marked, byte_kind, extra_events, extra_made, extra_symbols}
+use Rattle.laz_rgb.specs.Extra.{all_marked, byte_kind, extra_made, extra_symbols}
 use Rattle.laz_rgb.specs.Laws.{AreBytes, ColoursAreLawful, ColoursAreSpelled, ExtrasAreLawful, ExtrasAreSpelled, OthersLeaveColours, OthersLeaveExtras}
-use Rattle.laz_rgb.proofs.Made.{made-is}
 use Rattle.laz_rgb.proofs.Rowed.{row-few}
 use Rattle.laz_rgb.proofs.Spelled.{colour-ranged, row-six, writer-row}
 use Rattle.laz_rgb.proofs.Extras.{extra-ranged, row-length, symbols-row}

@@ -1,13 +1,12 @@
 -- A row of bytes as events: which parts they cut out, that they are lawful, and that the models stay sound.
-use Rattle.std.proofs.Common.{◌≡◌, ℕ, zero, suc, ◌+◌, ◌<◌, ◌≤◌, Bool, true, false, List, [], ◌∷◌, ◌++◌, length, refl, sym, ap, subst, ◌∙◌, arith}
+use Rattle.std.proofs.Common.{◌≡◌, ℕ, suc, ◌+◌, ◌<◌, ◌≤◌, Bool, true, false, List, [], ◌∷◌, length, refl, sym, subst, ◌∙◌, arith}
 use Rattle.std.proofs.lemmas.List.{length-append}
-use Rattle.laz_range.specs.Cut.{Cut}
 use Rattle.laz_range.specs.Choice.{all_cuts, state_after}
 use Rattle.laz_models.specs.Counting.{Counting}
 use Rattle.laz_models.specs.Dist.{alphabet_size}
 use Rattle.laz_models.specs.Bank.{model_at, alphabet_sizes}
 use Rattle.laz_models.proofs.Banks.{sizes-set}
-use Rattle.laz_integer.specs.Events.{Event, Name}
+use Rattle.laz_integer.specs.Events.{Name}
 use Rattle.laz_integer.specs.Uses.{own_name}
 use Rattle.laz_integer.specs.Ranged.{AreRanged}
 use Rattle.laz_integer.specs.Fields.{BankStands, IsByte, byte_cuts, byte_events, byte_next, if_marked}

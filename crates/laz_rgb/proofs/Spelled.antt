@@ -1,21 +1,18 @@
 -- From what was read of a colour to the events that spell it, and back.
-use Rattle.std.proofs.Common.{◌≡◌, ℕ, ◌+◌, ◌-◌, ◌<◌, ◌≤◌, Bool, true, false, List, [], ◌∷◌, ◌++◌, length, refl, sym, ap, subst, ◌∙◌, arith, append_assoc, replicate}
+use Rattle.std.proofs.Common.{◌≡◌, ℕ, ◌+◌, ◌-◌, ◌<◌, Bool, true, false, List, [], ◌∷◌, ◌++◌, length, refl, sym, ap, subst, ◌∙◌, arith, append_assoc, replicate}
 use Rattle.std.proofs.lemmas.List.{append-nil}
 use Rattle.laz_range.specs.Cut.{Cut, AreCuts}
 use Rattle.std.proofs.Math.Nat.{mod-lt}
 use Rattle.laz_range.specs.Choice.{all_cuts}
 use Rattle.laz_range.specs.Coding.{Coding, Codes}
-use Rattle.laz_range.specs.Span.{Begins, span}
-use Rattle.laz_range.specs.Decoding.{Decoding, HasRead, NoneBegins, ReadsOn, Refuses, Takes, TakesNone}
+use Rattle.laz_range.specs.Decoding.{Decoding, NoneBegins, Refuses, Takes, TakesNone}
 use Rattle.laz_range.proofs.Composition.{Takes-through, TakesNone-through}
-use Rattle.laz_range.proofs.Decodings.{AreCuts-append, Takes-ReadsOn, Takes-begins}
+use Rattle.laz_range.proofs.Decodings.{Takes-ReadsOn, Takes-begins}
 use Rattle.laz_range.proofs.Refusals.{Refuses-none, Refuses-NoneBegins}
-use Rattle.laz_models.specs.Counting.{Counting, after_symbol}
-use Rattle.laz_models.specs.Dist.{alphabet_size}
+use Rattle.laz_models.specs.Counting.{Counting}
 use Rattle.laz_models.specs.Bank.{model_at, alphabet_sizes}
 use Rattle.laz_models.proofs.Banks.{sizes-set}
-use Rattle.laz_integer.specs.Events.{Event, Name, Symbol, cuts_after}
-use Rattle.laz_integer.specs.Uses.{own_name}
+use Rattle.laz_integer.specs.Events.{Event, Name, cuts_after}
 use Rattle.laz_integer.specs.Ranged.{AreRanged}
 use Rattle.laz_integer.specs.Fields.{BankStands, IsByte, byte_cuts, byte_next}
 use Rattle.laz_integer.specs.Integer.{symbol_cut}
@@ -23,7 +20,7 @@ use Rattle.laz_integer.proofs.Pieces.{Piece, Piece-symbol, Piece-then}
 use Rattle.laz_integer.proofs.Ranges.{AreCuts-ranged}
 use Rattle.laz_rgb.specs.declared.colour.Colour.{Colour}
 use Rattle.laz_rgb.specs.Rows.{AreRowModels, IsRow, next_cuts, next_row, row_at, row_events}
-use Rattle.laz_rgb.specs.Colours.{SpellsColour, changes, changes_event, colour_at, colour_events, colour_made, colour_marks, colour_symbols, rgb_kind, symbol_if}
+use Rattle.laz_rgb.specs.Colours.{SpellsColour, changes, changes_event, colour_events, colour_made, colour_marks, colour_symbols, rgb_kind, symbol_if}
 use Rattle.laz_rgb.specs.Coded.{ColourChoice, IsColourChoice, after_low, after_red, after_changes, choice_cuts, choice_next, choice_symbols, colour_cuts, colour_next, mark_at}
 use Rattle.laz_rgb.specs.Items.{HasRgbSizes, IsRgbState, IsSpelledColour, ReadsColour, RgbStands, RgbState, latest_colour}
 use Rattle.laz_integer.specs.Spelled.{OneBegins, spelled_cuts}

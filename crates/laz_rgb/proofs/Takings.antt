@@ -4,11 +4,10 @@ use Rattle.laz_range.specs.Cut.{Cut}
 use Rattle.laz_range.specs.Decoding.{Decoding, Takes, TakesNone}
 use Rattle.laz_range.proofs.Composition.{Takes-then, TakesNone-first, TakesNone-second}
 use Rattle.laz_models.specs.Counting.{Counting}
-use Rattle.laz_models.specs.Dist.{alphabet_size}
 use Rattle.laz_models.specs.Bank.{model_at}
 use Rattle.laz_integer.specs.Fields.{IsByte, byte_cuts, byte_next}
 use Rattle.laz_integer.specs.Integer.{symbol_cut}
-use Rattle.laz_rgb.specs.Coded.{ColourChoice, IsColourChoice, IsTwo, after_changes, choice_cuts, mark_at, two_cuts, two_next}
+use Rattle.laz_rgb.specs.Coded.{IsColourChoice, IsTwo, after_changes, choice_cuts, mark_at, two_cuts, two_next}
 
 -- ---- two bytes
 module _ (s t : Bool) (bank mid : List Counting) (m x : ℕ) (a b c : Decoding) (f : Takes (IsByte s 0) (byte_cuts s bank m) a b x) (e : mid ≡ byte_next s bank m x) where

@@ -1,5 +1,5 @@
 -- A row of bytes, walked one byte at a time.
-use Rattle.std.proofs.Common.{◌≡◌, ℕ, zero, suc, ◌+◌, ◌<◌, replicate, Bool, false, List, [], ◌∷◌, ◌++◌, length, get_or, set, refl, sym, ap, subst, ◌∙◌, arith}
+use Rattle.std.proofs.Common.{◌≡◌, ℕ, zero, suc, ◌+◌, ◌<◌, replicate, Bool, false, List, [], ◌∷◌, ◌++◌, length, get_or, refl, sym, ap, subst, ◌∙◌, arith}
 use Rattle.std.proofs.lemmas.List.{get_or-append-add, get_or-replicate, length-append, length-replicate}
 use Rattle.laz_range.specs.Cut.{Cut}
 use Rattle.laz_range.specs.Coding.{Coding, Codes}
@@ -7,10 +7,10 @@ use Rattle.laz_range.specs.Choice.{all_cuts, state_after}
 use Rattle.laz_range.proofs.Loops.{all_cuts-push, state_after-push}
 use Rattle.laz_range.proofs.Whole.{Codes-append}
 use Rattle.laz_models.specs.Counting.{Counting}
-use Rattle.laz_models.specs.Dist.{StandsFor, alphabet_size}
+use Rattle.laz_models.specs.Dist.{alphabet_size}
 use Rattle.laz_models.specs.Bank.{model_at, alphabet_sizes}
 use Rattle.laz_models.proofs.Banks.{size-at}
-use Rattle.laz_integer.specs.Fields.{BankStands, byte_cuts, byte_next}
+use Rattle.laz_integer.specs.Fields.{byte_cuts, byte_next}
 use Rattle.laz_rgb.specs.Rows.{AreRowModels, Row, first_mark, more_marks, next_cuts, next_row}
 
 first-at : (marks : List Bool) → first_mark marks ≡ get_or marks 0 false

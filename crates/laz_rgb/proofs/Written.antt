@@ -1,8 +1,7 @@
 -- The events that a writer makes of a colour, or of extra bytes, spell them.
-use Rattle.std.proofs.Common.{◌≡◌, ℕ, ◌+◌, ◌-◌, ◌*◌, ◌/◌, ◌%◌, ◌<◌, ◌≤◌, ◌&&◌, cond, Bool, true, false, List, [], ◌∷◌, length, min, refl, sym, ap, ◌∙◌, arith}
-use Rattle.std.specs.Prelude.{◌==◌, not, All}
+use Rattle.std.proofs.Common.{◌≡◌, ℕ, ◌+◌, ◌*◌, ◌/◌, ◌%◌, ◌<◌, ◌≤◌, Bool, true, false, refl, sym, arith}
+use Rattle.std.specs.Prelude.{◌==◌}
 use Rattle.laz_rgb.specs.Rows.{byte_of}
-use Rattle.laz_integer.specs.Bytes.{byte_difference}
 use Rattle.laz_rgb.specs.Colours.{bit_if, half_moved, moved, symbol_if}
 use Rattle.laz_integer.specs.Bytes.{has_bit}
 use Rattle.laz_integer.proofs.BankModels.{difference-back}

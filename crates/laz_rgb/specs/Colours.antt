@@ -1,5 +1,5 @@
 -- Colours as six bytes, and how one is coded after another (LASzip's RGB12, version 2).
-use Rattle.std.specs.Prelude.{◌≡◌, ℕ, ◌+◌, ◌-◌, ◌*◌, ◌/◌, ◌%◌, ◌<◌, ◌==◌, ◌&&◌, min, not, Bool, if◌then◌else◌, List, []}
+use Rattle.std.specs.Prelude.{◌≡◌, ℕ, ◌+◌, ◌-◌, ◌/◌, ◌<◌, ◌==◌, ◌&&◌, min, not, Bool, if◌then◌else◌, List, []}
 use Rattle.std.specs.Prelude.{◌∷◌, slice_index}
 use Rattle.laz_integer.specs.Events.{Event, Symbol}
 use Rattle.laz_integer.specs.Uses.{own_name}

@@ -1,6 +1,6 @@
 -- Extra bytes of records: each is coded as its difference to the same byte of the record before (LASzip's BYTE, version
 -- 2).
-use Rattle.std.specs.Prelude.{◌≡◌, ℕ, ◌+◌, ◌%◌, Bool, true, List, [], ◌∷◌, length, replicate}
+use Rattle.std.specs.Prelude.{◌≡◌, ℕ, Bool, true, List, [], ◌∷◌, length, replicate}
 use Rattle.laz_integer.specs.Events.{Event}
 use Rattle.laz_rgb.specs.Rows.{IsRow, byte_of, row_events}
 use Rattle.laz_integer.specs.Bytes.{byte_difference}

@@ -1,5 +1,5 @@
 -- The laws of the items that a chunk needs.
-use Rattle.std.specs.Prelude.{◌≡◌, ℕ, ◌<◌, ◌≤◌, All, Bool, false, List, ◌++◌, length}
+use Rattle.std.specs.Prelude.{◌≡◌, ℕ, ◌<◌, ◌≤◌, All, false, List, ◌++◌, length}
 use Rattle.laz_integer.specs.Events.{Event, Name, same_text}
 use Rattle.laz_integer.specs.Ranged.{AreRanged}
 use Rattle.laz_integer.specs.Uses.{Silent}

@@ -56,7 +56,13 @@ fn put_bytes(encoder: &mut Encoder, bank: &mut ModelBank, last: &[u8], part: &[u
     ensures used { encoder.old.left ≤ encoder.new.left + 3 * length last.now }
 {
     for (i, byte) in part.iter().enumerate() {
-        put_byte(encoder, bank, true, i as u32, byte_difference(last[i], *byte));
+        put_byte(
+            encoder,
+            bank,
+            true,
+            i as u32,
+            byte_difference(last[i], *byte),
+        );
     }
 }
 

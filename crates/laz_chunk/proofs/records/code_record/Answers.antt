@@ -1,4 +1,4 @@
-use Rattle.std.proofs.Common.{◌≡◌, ◌∙◌, refl, length}
+use Rattle.std.proofs.Common.{◌∙◌}
 use Rattle.laz_chunk.specs.declared.items.Items.{Items}
 use Rattle.laz_chunk.proofs.Coding.{code-record, drop-same, take-same}
 use Rattle.laz_chunk.proofs.records.code_record.Goals as goal
@@ -9,7 +9,7 @@ returns-clause-codes c h are s =
     let new : Items = record { point10 = c.code.new.self; gps_time = c.code_time.new.item; rgb = c.code_colour.new.item; extra = c.code_extra.new.item } in
     let rest = c.split_at.ensures.back in
     let more = c.split_at-2.ensures.back ∙ drop-same _ _ _ _ c.time_length.ensures rest in
-    (code-record h c.args.bytes.now _ _ _ _ items new c.args.encoder.now c.code.new.encoder c.code_time.new.encoder c.code_colour.new.encoder c.code_extra.new.encoder are c.requires.whole (λ i. (c.type_inv.record i).fits) s
+    (code-record h c.args.bytes.now _ _ _ _ items new c.args.encoder.now c.code.new.encoder c.code_time.new.encoder c.code_colour.new.encoder c.code_extra.new.encoder are c.requires.whole (λ i. (c.type_inv.bytes i).fits) s
     c.split_at.ensures.front
     (c.split_at-2.ensures.front ∙ take-same _ _ _ _ c.time_length.ensures rest)
     (c.split_at-3.ensures.front ∙ take-same _ _ _ _ c.colour_length.ensures more)
@@ -25,7 +25,7 @@ returns-clause-stands c h are s =
     let new : Items = record { point10 = c.code.new.self; gps_time = c.code_time.new.item; rgb = c.code_colour.new.item; extra = c.code_extra.new.item } in
     let rest = c.split_at.ensures.back in
     let more = c.split_at-2.ensures.back ∙ drop-same _ _ _ _ c.time_length.ensures rest in
-    (code-record h c.args.bytes.now _ _ _ _ items new c.args.encoder.now c.code.new.encoder c.code_time.new.encoder c.code_colour.new.encoder c.code_extra.new.encoder are c.requires.whole (λ i. (c.type_inv.record i).fits) s
+    (code-record h c.args.bytes.now _ _ _ _ items new c.args.encoder.now c.code.new.encoder c.code_time.new.encoder c.code_colour.new.encoder c.code_extra.new.encoder are c.requires.whole (λ i. (c.type_inv.bytes i).fits) s
     c.split_at.ensures.front
     (c.split_at-2.ensures.front ∙ take-same _ _ _ _ c.time_length.ensures rest)
     (c.split_at-3.ensures.front ∙ take-same _ _ _ _ c.colour_length.ensures more)

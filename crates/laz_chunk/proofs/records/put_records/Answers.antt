@@ -1,4 +1,4 @@
-use Rattle.std.proofs.Common.{◌≡◌, ℕ, ◌+◌, ◌*◌, ◌-◌, ◌≤◌, refl, sym, ap, subst, ◌∙◌, arith}
+use Rattle.std.proofs.Common.{ℕ, ◌+◌, ◌*◌, ◌≤◌, sym, ap, subst, ◌∙◌, arith}
 use Rattle.laz_range.specs.Choice.{all_cuts, state_after}
 use Rattle.laz_range.specs.Coding.{Codes}
 use Rattle.laz_chunk.specs.Layouts.{Layout, most_events, record_length}

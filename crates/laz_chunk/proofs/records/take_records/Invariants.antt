@@ -1,4 +1,4 @@
-use Rattle.std.proofs.Common.{◌≡◌, ◌≤◌, List, false, length}
+use Rattle.std.proofs.Common.{◌≡◌, List, false, length}
 use Rattle.laz_range.specs.Choice.{AreAsked, all_cuts, state_after}
 use Rattle.laz_range.specs.Decoding.{Takes}
 use Rattle.laz_chunk.specs.Records.{records_in}

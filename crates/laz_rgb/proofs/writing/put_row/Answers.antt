@@ -1,9 +1,7 @@
-use Rattle.std.proofs.Common.{◌≡◌, ◌+◌, ◌<◌, ℕ, List, ◌∷◌, ◌++◌, [], length, take, get_or, sym, subst, ◌∙◌, add-one, arith}
+use Rattle.std.proofs.Common.{◌≡◌, ◌+◌, ℕ, ◌∷◌, ◌++◌, [], take, get_or, sym, subst, ◌∙◌, add-one, arith}
 use Rattle.std.proofs.Math.Seq.{take-suc}
 use Rattle.std.proofs.lemmas.List.{length-take-le}
-use Rattle.laz_range.specs.Choice.{all_cuts, state_after}
-use Rattle.laz_range.specs.Coding.{Codes}
-use Rattle.laz_rgb.specs.Rows.{next_cuts, next_row, row_at}
+use Rattle.laz_rgb.specs.Rows.{row_at}
 use Rattle.laz_rgb.proofs.Walks.{put-step, row-models}
 use Rattle.laz_rgb.proofs.writing.put_row.Goals as goal
 

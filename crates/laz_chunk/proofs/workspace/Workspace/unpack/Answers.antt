@@ -1,7 +1,6 @@
-use Rattle.std.proofs.Common.{◌≡◌, ◌++◌, ℕ, ◌+◌, ◌*◌, ◌-◌, ◌<◌, ◌≤◌, List, length, take, drop, ap, sym, subst, ◌∙◌, refl, false, true, arith, length-append}
+use Rattle.std.proofs.Common.{◌≡◌, ◌++◌, ℕ, ◌*◌, ◌-◌, ◌≤◌, List, length, take, drop, ap, sym, subst, ◌∙◌, refl, false, true, arith, length-append}
 use Rattle.std.proofs.lemmas.List.{length-take-le}
 use Rattle.std.proofs.lemmas.Result.{err_from_is_err_and}
-use Rattle.laz_chunk.specs.declared.items.Items.{Items}
 use Rattle.laz_chunk.specs.Layouts.{Format, Layout, layout, record_length}
 use Rattle.laz_chunk.specs.Stands.{layout_in}
 use Rattle.laz_chunk.proofs.Chunk.{Refused, Started, Took, ending-bad, opening-bad, reading-bad, started, unpacked-holds, unpacked-only}

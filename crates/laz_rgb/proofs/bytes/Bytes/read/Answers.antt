@@ -1,8 +1,7 @@
-use Rattle.std.proofs.Common.{◌≡◌, ◌<◌, List, [], ◌++◌, ◌∷◌, ℕ, length, ap, refl, sym, subst, ◌∙◌}
+use Rattle.std.proofs.Common.{◌≡◌, List, [], ℕ, length, ap, refl, sym, subst, ◌∙◌}
 use Rattle.std.proofs.lemmas.Result.{err_from_is_err_and}
 use Rattle.laz_range.specs.Choice.{AreAsked, all_cuts, state_after}
 use Rattle.laz_range.specs.Decoding.{Refuses, Takes}
-use Rattle.laz_models.specs.Counting.{Counting}
 use Rattle.laz_rgb.specs.Rows.{AreRowModels, IsNext, next_cuts, next_row, row_at}
 use Rattle.laz_rgb.specs.Extra.{all_marked, extra_made}
 use Rattle.laz_rgb.specs.Items.{ExtraStands, ExtraState, HasExtraSizes, ReadsExtra, latest_extra}

@@ -1,4 +1,3 @@
-use Rattle.laz_rgb.specs.Extra.{byte_kind}
 use Rattle.laz_integer.proofs.BankModels.{reset-stands}
 use Rattle.laz_rgb.proofs.bytes.Bytes.start.Goals as goal
 

@@ -1,10 +1,9 @@
-use Rattle.std.proofs.Common.{◌≡◌, List, sym, subst, ◌∙◌, ap, refl}
+use Rattle.std.proofs.Common.{◌≡◌, sym, subst, ◌∙◌, ap}
 use Rattle.std.proofs.lemmas.Result.{err_from_is_err_and}
 use Rattle.laz_rgb.specs.declared.colour.Colour.{Colour}
 use Rattle.laz_rgb.specs.Colours.{colour_at, colour_made}
 use Rattle.laz_rgb.specs.Coded.{choice_symbols}
-use Rattle.laz_rgb.specs.Items.{IsSpelledColour, ReadsColour, RgbState}
-use Rattle.laz_integer.specs.Spelled.{OneBegins}
+use Rattle.laz_rgb.specs.Items.{ReadsColour, RgbState}
 use Rattle.laz_rgb.proofs.Spelled.{none-colour, one-colour, reads-colour, refuses-colour}
 use Rattle.laz_rgb.proofs.rgb.Rgb.read.Goals as goal
 

@@ -1,4 +1,3 @@
-use Rattle.laz_rgb.specs.Colours.{rgb_kind}
 use Rattle.laz_integer.proofs.BankModels.{reset-stands}
 use Rattle.laz_rgb.proofs.rgb.Rgb.start.Goals as goal
 
