@@ -1,20 +1,20 @@
 -- From correctors under the models of a table to events that spell its entries, and back.
-use Rattle.std.proofs.Common.{◌≡◌, ℕ, ℤ, ◌+◌, ◌*◌, ◌^◌, ◌<◌, ◌≤◌, Bool, true, false, not, if◌then◌else◌, List, [], ◌∷◌, ◌++◌, length, map, refl, sym, ap, subst, ◌∙◌, arith, lit≤, lit<}
-use Rattle.std.specs.Int.{w32, cast_signed, cast_unsigned}
+use Rattle.std.proofs.Common.{◌≡◌, ℕ, ◌*◌, ◌<◌, Bool, true, false, if◌then◌else◌, List, [], ◌∷◌, ◌++◌, length, refl, sym, ap, subst, ◌∙◌, arith, lit≤, lit<}
+use Rattle.std.specs.Int.{w32, cast_unsigned}
 use Rattle.std.proofs.lemmas.Int.{of_z-to_z}
 use Rattle.laz_range.specs.Cut.{Cut, AreCuts}
 use Rattle.laz_range.specs.Span.{Begins, span}
 use Rattle.laz_range.specs.Choice.{AllAsked, AreAsked, all_cuts}
 use Rattle.laz_range.specs.Decoding.{Decoding, HasRead}
 use Rattle.laz_range.proofs.Decodings.{AreCuts-append, Takes-ReadsOn, Takes-begins, TakesNone-NoneBegins}
-use Rattle.laz_integer.specs.Corrector.{choices, corrected}
+use Rattle.laz_integer.specs.Corrector.{corrected}
 use Rattle.laz_integer.specs.Events.{Event, cuts_after, cuts_of}
-use Rattle.laz_integer.specs.Integer.{IntSpell, IntStands, IntState, IsCorrector, IsInts, corrector_events, event_next, events_next, int_cuts, int_next}
+use Rattle.laz_integer.specs.Integer.{IntStands, IntState, IsCorrector, IsInts, corrector_events, event_next, events_next, int_next}
 use Rattle.laz_integer.proofs.Counted.{AreIntEvents, IsInts-event, corrector-events}
 use Rattle.laz_integer.proofs.Named.{cuts_after-append}
 use Rattle.laz_integer.proofs.Pieces.{Piece-int}
 use Rattle.laz_integer.proofs.Spellings.{AreCuts-int}
-use Rattle.laz_table.specs.Entries.{Entry, Latest, SpellsEntries, SpellsEntry, after_entry, bytes_entry, context_of, entries_of, no_entry, points_entry, prediction, signed, table_use}
+use Rattle.laz_table.specs.Entries.{Entry, SpellsEntries, SpellsEntry, after_entry, context_of, entries_of, no_entry, prediction, signed, table_use}
 use Rattle.laz_table.specs.Table.{HoldsEntries}
 use Rattle.laz_table.specs.Steps.{IsEntry, NoEntries, ReadsEntries, TableState, entries_made, entry_cuts, entry_made, entry_next, next_counts_points, number_made, table_start}
 use Rattle.laz_table.proofs.ReadingLemmas.{made-below, made-signed}

@@ -1,5 +1,5 @@
 -- At most one list of entries is spelled by events that begin some bytes.
-use Rattle.std.proofs.Common.{◌≡◌, ℕ, ℤ, suc, ◌+◌, ◌-◌, ◌*◌, ◌/◌, ◌%◌, ◌^◌, ◌<◌, ◌≤◌, eqb, min, Bool, true, false, if◌then◌else◌, List, [], ◌∷◌, ◌++◌, length, drop, refl, sym, ap, subst, ◌∙◌, arith, lit≤, lit<, ⊎_elim, append_assoc}
+use Rattle.std.proofs.Common.{◌≡◌, ℕ, ℤ, ◌+◌, ◌-◌, ◌*◌, ◌/◌, ◌%◌, ◌^◌, ◌<◌, ◌≤◌, eqb, Bool, if◌then◌else◌, List, [], ◌∷◌, ◌++◌, length, drop, refl, sym, ap, subst, ◌∙◌, arith, ⊎_elim, append_assoc}
 use Rattle.std.proofs.lemmas.Bool.{cases_eq, cases_lt, eq-eqb, ne_eqb}
 use Rattle.std.proofs.lemmas.Nat.{shr_split}
 use Rattle.std.specs.Int.{w32, cast_unsigned}
@@ -14,7 +14,7 @@ use Rattle.laz_integer.specs.Integer.{IntSpell, bit_name, corrector_events, high
 use Rattle.laz_integer.specs.Ranged.{AreOneKind, AreRanged, IsRanged}
 use Rattle.laz_integer.proofs.Cases.{by-width}
 use Rattle.laz_integer.proofs.Named.{cuts_after-append, raw-short, raw-wide}
-use Rattle.laz_integer.proofs.Ranges.{AreAlike-ranged, AreCuts-ranged, AreRanged-append, AreRanged-front, Begins-more, IsCut-ranged, event-from_cut}
+use Rattle.laz_integer.proofs.Ranges.{AreAlike-ranged, AreCuts-ranged, AreRanged-append, Begins-more, IsCut-ranged, event-from_cut}
 use Rattle.laz_table.specs.Entries.{Entry, Latest, SpellsEntries, SpellsEntry, after_entry, context_of, prediction, signed, table_use}
 use Rattle.laz_table.specs.Steps.{next_counts_points}
 use Rattle.laz_table.proofs.Bridge.{AreInTurn}

@@ -1,8 +1,8 @@
 -- Tables read entry by entry.
-use Rattle.std.proofs.Common.{◌≡◌, ℕ, ℤ, ◌+◌, ◌%◌, ◌^◌, ◌<◌, ◌≤◌, Bool, true, false, List, [], ◌∷◌, ◌++◌, length, refl, sym, ap, subst, ◌∙◌, arith}
+use Rattle.std.proofs.Common.{◌≡◌, ℕ, ℤ, ◌+◌, ◌%◌, ◌<◌, ◌≤◌, Bool, false, List, [], ◌∷◌, ◌++◌, length, refl, sym, ap, subst, ◌∙◌, arith}
 use Rattle.std.specs.Int.{w32, cast_signed, cast_unsigned}
 use Rattle.std.proofs.lemmas.Int.{of_z-to_z}
-use Rattle.laz_range.specs.Choice.{AreAsked, all_cuts, state_after}
+use Rattle.laz_range.specs.Choice.{state_after}
 use Rattle.laz_range.specs.Decoding.{Decoding, Takes, TakesNone}
 use Rattle.laz_range.proofs.Composition.{Takes-start, Takes-step, TakesNone-step}
 use Rattle.laz_range.proofs.Loops.{state_after-push}

@@ -1,26 +1,23 @@
 -- Laws of chunk tables: what is written is held, and is short.
-use Rattle.std.proofs.Common.{◌≡◌, ℕ, ℤ, suc, ◌+◌, ◌*◌, ◌^◌, ◌<◌, ◌≤◌, min, Bool, true, false, if◌then◌else◌, List, [], ◌∷◌, ◌++◌, length, take, drop, map, refl, sym, ap, subst, ◌∙◌, arith, lit≤, lit<, length-append}
-use Rattle.std.proofs.lemmas.List.{drop-take, length-take, length-take-le, take-take}
-use Rattle.std.specs.Int.{w32, cast_signed, cast_unsigned}
-use Rattle.std.proofs.lemmas.Int.{of_z-to_z}
+use Rattle.std.proofs.Common.{◌≡◌, ℕ, ◌+◌, ◌*◌, ◌^◌, ◌<◌, ◌≤◌, min, Bool, true, false, if◌then◌else◌, List, [], ◌∷◌, ◌++◌, length, take, drop, refl, sym, ap, subst, ◌∙◌, arith, lit≤, lit<, length-append}
+use Rattle.std.proofs.lemmas.List.{drop-take, length-take, take-take}
+use Rattle.std.specs.Int.{w32}
 use Rattle.std.proofs.Math.Facts.{sfits_to_z}
 use mir.Val.{SFits, Fits}
 use Rattle.byteorder.specs.Endian.{little_bytes}
-use Rattle.las_header.specs.Numbers.{number_at}
 use Rattle.las_header.proofs.NumberLemmas.{number_at-drop, number_at-take, reads_back}
 use Rattle.laz_range.specs.Cut.{AreCuts}
-use Rattle.laz_range.specs.Span.{Begins, IsBytes, Span, after, bytes_of, digits, final_number, initial_span, number, span}
+use Rattle.laz_range.specs.Span.{Begins, IsBytes, Span, bytes_of, final_number, initial_span, number, span}
 use Rattle.laz_range.proofs.Reach.{after-IsSpan, bytes-fit, initial_span-IsSpan, length-digits}
 use Rattle.laz_range.proofs.Streams.{Fits-Begins, IsBytes-drop, after-few}
 use Rattle.laz_integer.specs.Events.{Event, Name, Role, Own, Width, ZeroOrOne, High, cuts_of}
-use Rattle.laz_integer.specs.Integer.{IntEvents, IntSpell, int_width}
-use Rattle.laz_integer.specs.Corrector.{HasBits}
+use Rattle.laz_integer.specs.Integer.{int_width}
 use Rattle.laz_integer.specs.Ranged.{AreRanged, HasIntSizes}
 use Rattle.laz_integer.proofs.Bounds.{corrector-few, int-few, length-cuts}
 use Rattle.laz_integer.proofs.Ranges.{AreCuts-ranged, AreRanged-append, int-ranged}
 use Rattle.laz_integer.proofs.Writing.{IsCorrector-written, spells-written}
 use Rattle.laz_integer.specs.Fields.{int_corrector}
-use Rattle.laz_table.specs.Entries.{Entry, Latest, SpellsEntries, SpellsEntry, after_entry, bytes_entry, context_of, entries_of, entry_events, events_of, no_entry, points_entry, prediction, signed, table_use}
+use Rattle.laz_table.specs.Entries.{Entry, Latest, SpellsEntries, SpellsEntry, after_entry, context_of, entries_of, entry_events, events_of, no_entry, prediction, signed, table_use}
 use Rattle.laz_table.specs.Table.{HoldsEntries, TableHolds, stream_of, table_bytes}
 use Rattle.laz_table.specs.Laws.{AreWords, FrontHolds, HoldsCounted, HoldsFixed, IsOnlyOne, IsShort}
 use Rattle.laz_table.specs.Steps.{AreLists}

@@ -1,5 +1,5 @@
 -- Whole tables: the lists that were read are the only ones, and what a table is refused for.
-use Rattle.std.proofs.Common.{◌≡◌, ◌≢◌, ℕ, ◌+◌, ◌-◌, ◌*◌, ◌<◌, ◌≤◌, ◌⊎◌, inl, inr, min, Bool, true, false, if◌then◌else◌, List, [], ◌∷◌, ◌++◌, length, drop, map, Option, Some, None, Result, Ok, Err, refl, sym, ap, subst, ◌∙◌, arith}
+use Rattle.std.proofs.Common.{◌≡◌, ◌≢◌, ℕ, ◌+◌, ◌-◌, ◌*◌, ◌<◌, inl, inr, min, Bool, true, false, if◌then◌else◌, List, [], ◌∷◌, ◌++◌, length, drop, map, Some, None, Result, Ok, Err, refl, sym, ap, subst, ◌∙◌, arith}
 use Rattle.std.specs.Prelude.{sum, IfOk, IfErr, MatchResult}
 use Rattle.std.specs.List.{range_with_len}
 use Rattle.std.proofs.lemmas.List.FromFn.{map-range_with_len_more}
@@ -12,9 +12,8 @@ use Rattle.laz_integer.specs.Integer.{IntStands, IntState, IsInts}
 use Rattle.laz_table.specs.declared.chunks.Blocks.{Blocks}
 use Rattle.laz_table.specs.declared.chunks.Blocks.TheVariants.{Fixed, Counted}
 use Rattle.laz_table.specs.declared.chunks.TableFault.{TableFault}
-use Rattle.laz_table.specs.declared.chunks.TableFault.TheVariants.{Table, ChunkSum, PointSum, Memory}
-use Rattle.laz_table.specs.Entries.{Entry, entries_of, table_use}
-use Rattle.laz_table.specs.Table.{HoldsEntries, TableHolds}
+use Rattle.laz_table.specs.declared.chunks.TableFault.TheVariants.{Memory}
+use Rattle.laz_table.specs.Entries.{entries_of, table_use}
 use Rattle.laz_table.specs.Chunks.{AllowsSizes, AreSizes, HasOtherBytes, HasOtherPoints, HasTable, IsAccepted, IsChunkCount, IsFirstFault, LacksTable, are_counted, sizes_of, table_causes}
 use Rattle.laz_table.specs.Steps.{AreLists, IsFault, IsTableStart, NoEntries, NoTable, OneTable, ReadsEntries, table_start}
 use Rattle.laz_table.proofs.Bridge.{AreInTurn, counted-counts, counted-length, counted-sizes, counted-turn, counts_in, fixed-counts, fixed-length, fixed-turn, none-opened, none-read, one-read, read-held, sizes_in}

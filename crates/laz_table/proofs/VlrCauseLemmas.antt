@@ -1,5 +1,5 @@
 -- The first cause of a packed file that its laszip VLR decides, if there is one laszip VLR.
-use Rattle.std.proofs.Common.{◌≡◌, ℕ, ◌+◌, ◌≤◌, eqb, not, false, List, [], ◌∷◌, length, Option, Some, None, Result, Err, refl, sym, ap, ◌∙◌, subst, arith}
+use Rattle.std.proofs.Common.{◌≡◌, ℕ, ◌+◌, ◌≤◌, not, false, List, [], ◌∷◌, length, Option, Some, None, Result, Err, sym, ap, ◌∙◌, arith}
 use Rattle.std.specs.Prelude.{slice_get}
 use Rattle.std.proofs.lemmas.Bool.{eq-eqb, cond-false}
 use Rattle.las_header.specs.declared.vlrs.VlrPlace.{VlrPlace}
@@ -9,7 +9,7 @@ use Rattle.las_header.specs.Fields.{format_of, points_of}
 use Rattle.las_header.specs.Vlrs.{laszip_vlrs_of, vlrs_end}
 use Rattle.las_header.specs.Refusals.{first_cause}
 use Rattle.las_header.proofs.VlrLemmas.{found_within}
-use Rattle.laz_table.specs.VlrCauses.{extra_of, first_payload, lacks_vlr, payload_at, payload_causes, payload_of, vlr_causes, chunk_size_of, chunk_size_in}
+use Rattle.laz_table.specs.VlrCauses.{extra_of, first_payload, lacks_vlr, payload_at, payload_causes, payload_of, vlr_causes}
 
 some_is : (p q : VlrPlace) → Some p ≡ Some q → p ≡ q
 some_is p q e = cc

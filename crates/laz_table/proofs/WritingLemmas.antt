@@ -1,5 +1,5 @@
 -- Tables written entry by entry.
-use Rattle.std.proofs.Common.{◌≡◌, ℕ, ℤ, ◌+◌, ◌^◌, ◌<◌, ◌≤◌, Bool, true, false, List, [], ◌∷◌, ◌++◌, length, take, get_or, map, refl, sym, ap, subst, ◌∙◌, arith, append_assoc, add-one, eqb}
+use Rattle.std.proofs.Common.{◌≡◌, ℕ, ℤ, ◌+◌, ◌<◌, ◌≤◌, Bool, true, false, List, [], ◌∷◌, ◌++◌, length, take, get_or, refl, sym, ap, subst, ◌∙◌, arith, append_assoc, add-one, eqb}
 use Rattle.std.proofs.lemmas.List.{append-nil, length-take-le, take_all, take-append-le}
 use Rattle.std.proofs.Math.Seq.{take-suc}
 use Rattle.std.specs.Int.{w32, cast_signed, cast_unsigned}
@@ -12,7 +12,7 @@ use Rattle.laz_range.proofs.Composition.{Codes-none}
 use Rattle.laz_range.proofs.Whole.{Codes-append}
 use Rattle.laz_integer.specs.Corrector.{HasBits}
 use Rattle.laz_integer.specs.Events.{Event, cuts_after, cuts_of}
-use Rattle.laz_integer.specs.Integer.{IntEvents, IntStands, IntState, IsInts, IsIntState}
+use Rattle.laz_integer.specs.Integer.{IntEvents, IntStands, IntState}
 use Rattle.laz_integer.proofs.Named.{cuts_after-append}
 use Rattle.laz_table.specs.Entries.{Entry, Latest, after_entry, bytes_entry, context_of, points_entry, entries_of, entry_events, events_of, no_entry, number_events, signed, table_use}
 use Rattle.laz_table.specs.Table.{stream_of, table_bytes}

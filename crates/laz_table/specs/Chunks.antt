@@ -1,6 +1,6 @@
 -- The chunks that the header and the laszip VLR of a file let a table have, and what a table is refused for.
-use Rattle.std.specs.Prelude.{◌≡◌, ◌≢◌, ℕ, ◌+◌, ◌-◌, ◌*◌, ◌/◌, ◌<◌, ◌≤◌, min, sum, map, All, Any, ◌⊎◌, Bool, true}
-use Rattle.std.specs.Prelude.{false, Some, None, List, [], ◌∷◌, ◌++◌, length}
+use Rattle.std.specs.Prelude.{◌≡◌, ◌≢◌, ℕ, ◌-◌, ◌*◌, ◌<◌, ◌≤◌, min, sum, map, All, Bool, true}
+use Rattle.std.specs.Prelude.{false, Some, None, List, [], ◌∷◌, length}
 use Rattle.std.specs.List.{range_with_len}
 use Rattle.las_header.specs.declared.refusal.Refusal.TheVariants as cause
 use Rattle.las_header.specs.Conditions.{Condition, IsFirst}

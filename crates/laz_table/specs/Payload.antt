@@ -1,5 +1,5 @@
 -- The payload of the laszip VLR, as it is written (Isenburg, LASzip, PE&RS 2013).
-use Rattle.std.specs.Prelude.{ℕ, ◌/◌, ◌%◌, ◌==◌, nat_lt, Bool, true, false, if◌then◌else◌, List, [], ◌∷◌, ◌++◌, length}
+use Rattle.std.specs.Prelude.{ℕ, ◌/◌, ◌%◌, ◌==◌, nat_lt, Bool, true, if◌then◌else◌, List, [], ◌∷◌, ◌++◌, length}
 use Rattle.std.specs.Prelude.{replicate}
 use Rattle.byteorder.specs.Endian.{little_bytes}
 use Rattle.laz_table.specs.declared.limits.TheConstants.{CHUNKED_COMPRESSOR, ARITHMETIC_CODER, ITEM_VERSION}

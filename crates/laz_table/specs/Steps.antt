@@ -1,8 +1,8 @@
 -- Tables entry by entry: what has been written of one, and what has been read.
-use Rattle.std.specs.Prelude.{◌≤◌, length, if◌then◌else◌, ◌≡◌, ℕ, ◌*◌, Bool, true, false, not, List, [], ◌∷◌, ◌++◌}
+use Rattle.std.specs.Prelude.{◌≤◌, length, if◌then◌else◌, ◌≡◌, ℕ, Bool, true, false, not, List, [], ◌∷◌}
 use Rattle.std.specs.Int.{w32, cast_unsigned}
 use Rattle.laz_range.specs.Cut.{Cut}
-use Rattle.laz_range.specs.Choice.{AreAsked, all_cuts, state_after}
+use Rattle.laz_range.specs.Choice.{AreAsked, all_cuts}
 use Rattle.laz_range.specs.Coding.{Coding, Codes}
 use Rattle.laz_range.specs.Decoding.{Decoding, Takes, TakesNone}
 use Rattle.laz_integer.specs.Corrector.{corrected}

@@ -1,6 +1,6 @@
 -- What a packed file is refused for by its laszip VLR. The conditions follow those of a head.
 use Rattle.std.specs.Prelude.{ℕ, ◌+◌, ◌-◌, ◌*◌, ◌/◌, ◌==◌, nat_lt, nat_eq, min, not, ◌&&◌, ◌||◌, Bool, List, [], ◌∷◌}
-use Rattle.std.specs.Prelude.{◌++◌, length, take, drop}
+use Rattle.std.specs.Prelude.{length, take, drop}
 use Rattle.std.specs.List.{starts_with}
 use Rattle.las_header.specs.declared.limits.TheConstants.{VLR_HEAD}
 use Rattle.las_header.specs.declared.refusal.Refusal.{Refusal}

@@ -1,4 +1,3 @@
-use Rattle.std.proofs.Common.{refl}
 use Rattle.laz_table.proofs.ReadingLemmas.{reads-number}
 use Rattle.laz_table.proofs.WritingLemmas.{passed-is}
 use Rattle.laz_table.proofs.reading.take_number.Goals as goal

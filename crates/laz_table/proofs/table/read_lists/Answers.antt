@@ -1,9 +1,8 @@
-use Rattle.std.proofs.Common.{◌≡◌, ℕ, ◌<◌, [], List, Bool, true, false, length, refl, sym, ap, subst, ◌∙◌, arith}
+use Rattle.std.proofs.Common.{ℕ, [], List, Bool, true, false, refl, sym, subst, arith}
 use Rattle.std.specs.Prelude.{MatchResult}
 use Rattle.std.proofs.lemmas.Result.{err_from_is_err_and}
-use Rattle.laz_integer.specs.Integer.{IsInts, IntState}
-use Rattle.laz_table.specs.Entries.{entries_of, table_use}
-use Rattle.laz_table.specs.declared.chunks.ChunkList.{ChunkList}
+use Rattle.laz_integer.specs.Integer.{IsInts}
+use Rattle.laz_table.specs.Entries.{table_use}
 use Rattle.laz_table.specs.declared.chunks.TableFault.{TableFault}
 use Rattle.laz_table.specs.Steps.{IsFault, NoTable, OneTable}
 use Rattle.laz_table.proofs.TableLemmas.{chunks-read, table-read, unopened, unread}

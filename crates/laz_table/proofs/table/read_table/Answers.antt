@@ -1,6 +1,6 @@
 use Rattle.std.proofs.Common.{◌≡◌, ℕ, List, Bool, true, false, drop, sym, ap, subst, ◌∙◌, IsTrue}
 use Rattle.std.specs.Prelude.{sum}
-use Rattle.laz_table.specs.Chunks.{AllowsSizes, are_counted}
+use Rattle.laz_table.specs.Chunks.{AllowsSizes}
 use Rattle.laz_table.specs.Steps.{OneTable}
 use Rattle.laz_table.proofs.TableLemmas.{accepted, first-points}
 use Rattle.laz_table.proofs.table.read_table.Goals as goal

@@ -1,6 +1,4 @@
-use Rattle.std.proofs.Common.{◌≡◌, ℕ, length, Option, Some, None, Ok, sym, ap, subst, ◌∙◌, arith, List, ◌≤◌}
-use Rattle.std.specs.Prelude.{slice_get}
-use Rattle.las_header.specs.declared.refusal.Refusal.{Refusal}
+use Rattle.std.proofs.Common.{◌≡◌, ℕ, length, Ok, sym, ap, ◌∙◌, arith, List}
 use Rattle.las_header.specs.Refusals.{first_cause}
 use Rattle.las_header.specs.Numbers.{number_at}
 use Rattle.las_header.specs.Vlrs.{laszip_vlrs_of}

@@ -1,6 +1,6 @@
-use Rattle.std.proofs.Common.{[], sym, ◌∙◌}
+use Rattle.std.proofs.Common.{sym, ◌∙◌}
 use Rattle.laz_table.specs.Entries.{table_use}
-use Rattle.laz_table.proofs.WritingLemmas.{counted-some, fixed-some, not-empty, table-written}
+use Rattle.laz_table.proofs.WritingLemmas.{counted-some, not-empty, table-written}
 use Rattle.laz_table.proofs.writing.counted_table_of.Goals as goal
 
 pub put_chunks-requires-clause-stands : goal.put_chunks-requires-clause-stands

@@ -1,4 +1,4 @@
-use Rattle.std.proofs.Common.{◌≡◌, ◌+◌, ◌-◌, ◌*◌, ◌≤◌, [], length, take}
+use Rattle.std.proofs.Common.{◌+◌, ◌*◌, ◌≤◌, [], length, take}
 use Rattle.laz_integer.specs.Integer.{IsInts}
 use Rattle.laz_table.specs.Entries.{entries_of}
 use Rattle.laz_table.specs.Steps.{Written}

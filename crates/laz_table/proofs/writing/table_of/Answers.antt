@@ -1,6 +1,6 @@
 use Rattle.std.proofs.Common.{[], sym, ◌∙◌}
 use Rattle.laz_table.specs.Entries.{table_use}
-use Rattle.laz_table.proofs.WritingLemmas.{counted-some, fixed-some, not-empty, table-written}
+use Rattle.laz_table.proofs.WritingLemmas.{fixed-some, not-empty, table-written}
 use Rattle.laz_table.proofs.writing.table_of.Goals as goal
 
 pub put_counts-requires-clause-stands : goal.put_counts-requires-clause-stands
