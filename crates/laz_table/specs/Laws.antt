@@ -32,7 +32,7 @@ abbrev pub IsShort : Type 0
 IsShort = (sizes counts : List ℕ)
     → length (table_bytes sizes counts) ≤ MIN_TABLE_BYTES + MAX_CHUNK_BYTES * length counts
 
--- And so many bytes of a table decide which lists it holds.
+-- And that many of its first bytes decide which lists it holds.
 abbrev pub FrontHolds : Type 0
 FrontHolds =
     (bytes : List ℕ) (n : ℕ) (counted : Bool) (sizes counts : List ℕ)

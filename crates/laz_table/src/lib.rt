@@ -11,6 +11,8 @@ mod laws;
 mod limits;
 mod reading;
 mod table;
+#[cfg(test)]
+mod tests;
 mod vlr;
 mod writing;
 

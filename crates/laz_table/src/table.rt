@@ -98,7 +98,7 @@ fn read_lists(
 }
 
 impl Blocks {
-    // Whether there may be so many chunks.
+    // Whether there may be this number of chunks.
     fn may_have(&self, chunks: u32) -> bool
         requires { HasChunkSize self.now }
         ensures { IsTrue result ↔ IsChunkCount self.now chunks }

@@ -21,9 +21,8 @@ use las_header::{
     Head, LAST_FORMAT, MAX_EXTRA, MAX_LASZIP_PAYLOAD, Refusal, VLR_HEAD, VlrPlace, u16_at, u32_at,
 };
 
-/// The payload of the laszip VLR of a file with point data of this format, 0 to 3, with `extra` bytes more a record, 0
-/// to
-/// 192. `chunk` is the number of points of a chunk, or [`COUNTED_CHUNKS`]. No memory is taken.
+/// The payload of the laszip VLR of a file with point data of this format, 0 to 3, with `extra` bytes more a record,
+/// 0 to 192. `chunk` is the number of points of a chunk, or [`COUNTED_CHUNKS`]. No memory is taken.
 pub fn vlr_of(format: u8, extra: u16, chunk: u32) -> ArrayVec<u8, 58>
     requires format { format ≤ LAST_FORMAT }
     requires extra { extra ≤ MAX_EXTRA }
