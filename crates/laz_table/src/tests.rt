@@ -1,5 +1,5 @@
-//! What no clause says: tables and payloads worked by hand, one change of a head for each condition, and tables that are
-//! drawn, written and read again.
+//! What no clause says: tables and payloads worked by hand, one change of a head for each condition, and tables that
+//! are drawn, written and read again.
 ghost use Rattle.laz_table.specs.Chunks.{HasChunkSize};
 
 use crate::*;
