@@ -48,7 +48,7 @@ const EMPTY: Slot = Slot {
 };
 
 // The sequences after the first time of a chunk.
-fn sequences_of(time: u64) -> Sequences
+pub(crate) fn sequences_of(time: u64) -> Sequences
     ensures slots { result.slots ≡ record { time = time; difference = 0; extremes = 0 }
         ∷ record { time = 0; difference = 0; extremes = 0 } ∷ record { time = 0; difference = 0; extremes = 0 }
         ∷ record { time = 0; difference = 0; extremes = 0 } ∷ [] }
