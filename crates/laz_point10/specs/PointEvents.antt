@@ -48,8 +48,8 @@ z_kind = codes "z"
 abbrev pub bit_if_changed : ℕ → ℕ → ℕ → ℕ
 bit_if_changed bit predicted value = if value == predicted then 0 else bit
 
--- The symbol of 64: which fields differ from their predictions. Its bits are 32 for the flag byte, 16 for the intensity,
--- 8 for the classification byte, 4 for the scan angle, 2 for the user data and 1 for the point source.
+-- The symbol of 64: which fields differ from their predictions. Its bits are 32 for the flag byte, 16 for the
+-- intensity, 8 for the classification byte, 4 for the scan angle, 2 for the user data and 1 for the point source.
 unfoldable pub changes_of : Predictions → Point → ℕ
 changes_of e p =
     bit_if_changed 32 e.previous.flags p.flags
