@@ -204,8 +204,8 @@ fn coded_by(
 
 #[test]
 fn other_multiplier_is_read(rt: HostRuntime) -> Result<(), Fail> {
-    // The difference from 20 to 5,020 as 499 times 10 and 10 more, in place of 500 times 10. It is then not extreme, and
-    // the fourth extreme difference is the next but three.
+    // The difference from 20 to 5,020 as 499 times 10 and 10 more, in place of 500 times 10. It is then not extreme,
+    // and the fourth extreme difference is the next but three.
     let mut item = GpsTime::new(rt.alloc())?;
     let (room, written) = coded_by(rt.alloc(), TIMES[0], &TIMES[1..], 4, 499)?;
     assert!(rt; are_read(&mut item, &room[..written], TIMES[0], &TIMES[1..])?);

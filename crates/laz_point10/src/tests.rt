@@ -73,8 +73,8 @@ fn are_read(
 
 #[test]
 fn points_worked_by_hand(rt: HostRuntime) -> Result<(), Fail> {
-    // Two equal points: of intensity 7, as the first of one return, and of zero bytes alone. The first point's intensity
-    // is not what the second's is predicted by.
+    // Two equal points: of intensity 7, as the first of one return, and of zero bytes alone. The first point's
+    // intensity is not what the second's is predicted by.
     let rows = [
         (7, 9, [0x40, 0xE1, 0xA3, 0x6A, 0x80, 0, 0]),
         (0, 0, [0, 0, 0, 1, 0, 0, 0]),
