@@ -1,6 +1,5 @@
 //! What packs blocks of records, or of a part of each record.
-ghost use Rattle.std.specs.Prelude.{◌≡◌, ◌+◌, ◌*◌, ◌<◌, ◌≤◌, length, IfOk, OnOk, false};
-ghost use Rattle.laz_chunk.specs.Layouts.{layout};
+ghost use Rattle.std.specs.Prelude.{◌≡◌, ◌*◌, ◌<◌, ◌≤◌, length, false};
 
 use crate::items::Item;
 use crate::records::Layout;
@@ -118,29 +117,27 @@ pub struct Chunks {
 
 impl Coder for Chunks {
     fn room(&self, length: usize) -> usize {
-        let count = (length / self.layout.size()).min(u32::MAX as usize) as u32;
-        room_for(self.layout.format, self.layout.extra, count) as usize
+        match self.layout.count(length) {
+            Some(count) => room_for(self.layout.format, self.layout.extra, count) as usize,
+            None => 0,
+        }
     }
 
     fn pack(&mut self, block: &[u8], room: &mut Vec<u8>) -> Result<usize> {
-        let size = self.layout.size();
-        let count = block.len() / size;
-        if count == 0 || block.len() % size != 0 || count > u32::MAX as usize {
+        let Some(count) = self.layout.count(block.len()) else {
             bail!("no whole records");
-        }
-        if room.len() < self.room(block.len()) {
+        };
+        if room_for(self.layout.format, self.layout.extra, count) > room.len() as u64 {
             bail!("no room");
         }
         Ok(self.workspace.pack(block, room))
     }
 
     fn unpack(&mut self, bytes: &[u8], block: &mut [u8]) -> Result<()> {
-        let size = self.layout.size();
-        let count = block.len() / size;
-        if count == 0 || block.len() % size != 0 || count > u32::MAX as usize {
+        let Some(count) = self.layout.count(block.len()) else {
             bail!("no whole records");
-        }
-        match self.workspace.unpack(bytes, count as u32, block) {
+        };
+        match self.workspace.unpack(bytes, count, block) {
             Ok(()) => Ok(()),
             Err(_) => bail!("no chunk"),
         }

@@ -1,5 +1,5 @@
 //! Points drawn along the lines of a scan, a thousand a line.
-ghost use Rattle.std.specs.Prelude.{◌≡◌, ◌<◌};
+ghost use Rattle.std.specs.Prelude.{◌≡◌, ◌*◌, ◌<◌, ◌≤◌, IfSome};
 ghost use Rattle.laz_chunk.specs.Layouts.{layout_of, record_length};
 
 use crate::draws::draw;
@@ -20,8 +20,22 @@ impl Layout {
     pub fn size(self) -> usize
         ensures size { result ≡ record_length (layout_of self.format self.extra) }
         ensures some { 0 < result }
+        ensures few { result < 256 }
     {
         (room_for(self.format, self.extra, 1) - 4) as usize
+    }
+
+    /// How many records a block of `length` bytes has, if it has one or more whole ones.
+    pub fn count(self, length: usize) -> Option<u32>
+        ensures whole { IfSome result (λ n. length ≡ record_length (layout_of self.format self.extra) * n) }
+        ensures some { IfSome result (λ n. 1 ≤ n) }
+    {
+        let size = self.size();
+        let count = length / size;
+        if count == 0 || count > u32::MAX as usize || count * size != length {
+            return None;
+        }
+        Some(count as u32)
     }
 }
 

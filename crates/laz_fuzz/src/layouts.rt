@@ -5,7 +5,7 @@ use crate::changes::change_chunk;
 use crate::draws::Draws;
 use crate::records::draw_records;
 use crate::shape::Shape;
-use crate::trial::{Outcome, try_bytes};
+use crate::trial::{Outcome, packed, try_bytes};
 use anyhow::{Result, bail};
 use laz_chunk::Workspace;
 use std::alloc::{AllocError, Global};
@@ -33,10 +33,7 @@ fn draw_chunk(
     let size = shape.size();
     let mut records = vec![in alloc; 0; size * shape.count as usize]?;
     draw_records(draws, &mut records, size);
-    let mut chunk = vec![in alloc; 0; shape.room()]?;
-    let packed = workspace.pack(&records, &mut chunk);
-    chunk.truncate(packed);
-    Ok(chunk)
+    packed(alloc, workspace, shape, &records)
 }
 
 /// The shape that is asked for: mostly that of the chunk, else one of another number of records.

@@ -17,6 +17,23 @@ pub enum Outcome {
     Lost,
 }
 
+/// The chunk of records.
+pub fn packed(
+    alloc: Global,
+    workspace: &mut Workspace,
+    shape: Shape,
+    records: &[u8],
+) -> Result<Vec<u8>, AllocError>
+    requires suits { workspace.old ≡ record { format = shape.format; extra = shape.extra } }
+    requires whole { length records.now ≡ record_length (layout workspace.old) * shape.count }
+    ensures same { workspace.new ≡ workspace.old }
+{
+    let mut chunk = vec![in alloc; 0; shape.room()]?;
+    let size = workspace.pack(records, &mut chunk);
+    chunk.truncate(size);
+    Ok(chunk)
+}
+
 /// Whether records come back after they were packed.
 fn come_back(
     alloc: Global,
@@ -28,10 +45,9 @@ fn come_back(
     requires whole { length records.now ≡ record_length (layout workspace.old) * shape.count }
     ensures same { workspace.new ≡ workspace.old }
 {
-    let mut chunk = vec![in alloc; 0; shape.room()]?;
+    let chunk = packed(alloc, workspace, shape, records)?;
     let mut again = vec![in alloc; 0; records.len()]?;
-    let size = workspace.pack(records, &mut chunk);
-    match workspace.unpack(&chunk[..size], shape.count, &mut again) {
+    match workspace.unpack(&chunk, shape.count, &mut again) {
         Ok(()) => Ok(again.as_slice() == records),
         Err(_) => Ok(false),
     }
