@@ -9,6 +9,8 @@ use std::alloc::AllocError;
 enum Change {
     /// Some bits are flipped.
     Bits,
+    /// Some bits of the first record are flipped.
+    First,
     /// Some bits are flipped, and bytes appended.
     BitsAndEnd,
     /// The last bytes are cut off.
@@ -23,7 +25,8 @@ enum Change {
 
 fn draw_change(draws: &mut Draws) -> Change {
     match draws.below(8) {
-        0 | 1 => Change::Bits,
+        0 => Change::Bits,
+        1 => Change::First,
         2 => Change::BitsAndEnd,
         3 => Change::Cut,
         4 => Change::End,
@@ -41,6 +44,12 @@ fn flip_bits(draws: &mut Draws, bytes: &mut [u8]) {
         let at = draws.below(bytes.len());
         bytes[at] ^= 1 << draws.below(8);
     }
+}
+
+/// Flips up to four bits of the first `size` bytes.
+fn flip_first(draws: &mut Draws, bytes: &mut [u8], size: usize) {
+    let length = size.min(bytes.len());
+    flip_bits(draws, &mut bytes[..length]);
 }
 
 /// Appends one drawn byte or more, at most `most`.
@@ -83,6 +92,7 @@ pub fn change_chunk(
 ) -> Result<(), AllocError> {
     match draw_change(draws) {
         Change::Bits => flip_bits(draws, chunk),
+        Change::First => flip_first(draws, chunk, size),
         Change::BitsAndEnd => {
             flip_bits(draws, chunk);
             append(draws, chunk, 8)?;

@@ -1,14 +1,8 @@
 //! Blocks packed and unpacked, with their times.
 
-use crate::coder::{Chunks, Coder, Stream};
+use crate::coder::Coder;
 use crate::draws::checksum;
-use crate::items::{Extra, Item};
-use crate::records::{Layout, Part, draw_parts, draw_records};
 use anyhow::{Result, bail};
-use laz_chunk::Workspace;
-use laz_gpstime::GpsTime;
-use laz_point10::Point10;
-use laz_rgb::{Bytes, Rgb};
 use std::alloc::Global;
 use std::rt::Clock;
 use std::time::{Duration, Instant};
@@ -84,7 +78,7 @@ fn unpack<C: Coder>(
 }
 
 /// Packs records in blocks of so many bytes, and unpacks them; both must agree.
-fn run<C: Coder>(
+pub fn run<C: Coder>(
     rt: &(impl Print + Eprint + Clock + Alloc<A = Global>),
     name: &str,
     coder: &mut C,
@@ -123,117 +117,4 @@ fn print(
         read.as_nanos()
     )?;
     Ok(())
-}
-
-fn run_item<I: Item>(
-    rt: &(impl Print + Eprint + Clock + Alloc<A = Global>),
-    name: &str,
-    item: I,
-    part: Part,
-    count: u32,
-    chunk: u32,
-) -> Result<()> {
-    let parts = draw_parts(rt.alloc(), part, count)?;
-    let block = item.size().saturating_mul(chunk as usize);
-    let mut coder = Stream {
-        item,
-        alloc: rt.alloc(),
-    };
-    run(rt, name, &mut coder, &parts, block)
-}
-
-/// Each item, in chunks of `chunk` points.
-pub fn run_items(
-    rt: &(impl Print + Eprint + Clock + Alloc<A = Global>),
-    count: u32,
-    chunk: u32,
-) -> Result<()> {
-    let alloc = rt.alloc();
-    run_item(
-        rt,
-        "POINT10",
-        Point10::new(alloc)?,
-        Part::Point,
-        count,
-        chunk,
-    )?;
-    run_item(
-        rt,
-        "GPSTIME11",
-        GpsTime::new(alloc)?,
-        Part::Time,
-        count,
-        chunk,
-    )?;
-    run_item(rt, "RGB12", Rgb::new(alloc)?, Part::Colour, count, chunk)?;
-    let bytes = Bytes::new(alloc, 4)?;
-    run_item(rt, "BYTE", Extra { bytes }, Part::Extra, count, chunk)
-}
-
-fn run_layout(
-    rt: &(impl Print + Eprint + Clock + Alloc<A = Global>),
-    name: &str,
-    layout: Layout,
-    count: u32,
-    chunk: u32,
-) -> Result<()> {
-    let alloc = rt.alloc();
-    let records = draw_records(alloc, layout, count)?;
-    let block = layout.size().saturating_mul(chunk as usize);
-    let workspace = Workspace::new(alloc, layout.format, layout.extra)?;
-    let mut coder = Chunks { layout, workspace };
-    run(rt, name, &mut coder, &records, block)
-}
-
-/// Whole records of each format, in chunks of `chunk` points.
-pub fn run_chunks(
-    rt: &(impl Print + Eprint + Clock + Alloc<A = Global>),
-    count: u32,
-    chunk: u32,
-) -> Result<()> {
-    run_layout(
-        rt,
-        "format 0",
-        Layout {
-            format: 0,
-            extra: 0,
-        },
-        count,
-        chunk,
-    )?;
-    run_layout(
-        rt,
-        "format 1",
-        Layout {
-            format: 1,
-            extra: 0,
-        },
-        count,
-        chunk,
-    )?;
-    run_layout(
-        rt,
-        "format 2",
-        Layout {
-            format: 2,
-            extra: 0,
-        },
-        count,
-        chunk,
-    )?;
-    run_layout(
-        rt,
-        "format 3",
-        Layout {
-            format: 3,
-            extra: 0,
-        },
-        count,
-        chunk,
-    )?;
-    let extra = Layout {
-        format: 3,
-        extra: 4,
-    };
-    run_layout(rt, "format 3 with 4 extra bytes", extra, count, chunk)
 }

@@ -1,5 +1,5 @@
 use Rattle.std.proofs.Common.{◌≡◌, ◌-◌, ◌≤◌, length, false}
-use Rattle.laz_bench.proofs.coder.read_all.Given as goal
+use Rattle.laz_bench_chunks.proofs.coder.read_all.Given as goal
 
 abbrev pub invariant-loop-at : goal.invariant-loop-at
 invariant-loop-at g l =

@@ -1,0 +1,16 @@
+//! Draws, and checksums of bytes.
+
+/// The next state of a linear congruence modulo 2^64.
+pub fn draw(state: u64) -> u64 {
+    state
+        .wrapping_mul(6364136223846793005)
+        .wrapping_add(1442695040888963407)
+}
+
+pub fn checksum(bytes: &[u8]) -> u64 {
+    let mut sum: u64 = 0;
+    for byte in bytes {
+        sum = sum.wrapping_mul(31).wrapping_add(*byte as u64);
+    }
+    sum
+}
