@@ -1,12 +1,11 @@
 -- Values that compute: filters, changes and what is kept of two records.
-use Rattle.std.proofs.Common.{◌≡◌, ℕ, pos, negsuc, List, [], ◌∷◌, ◌++◌, replicate, Option, Some, None, refl}
+use Rattle.std.proofs.Common.{◌≡◌, ℕ, pos, negsuc, List, [], ◌∷◌, ◌++◌, replicate, Some, None, refl}
 use Rattle.las_header.specs.Numbers.{number_at}
-use Rattle.las_points.specs.Record.{class_of, class_byte_of, x_of}
+use Rattle.las_points.specs.Record.{x_of}
 use Rattle.las_filter.specs.declared.keep.Keep.{Keep}
 use Rattle.las_filter.specs.declared.keep.Keep.TheVariants.{Classes, DropReturns, First, Last, Intensity, NotBelow, NotAbove}
 use Rattle.las_filter.specs.declared.change.Change.{Change}
 use Rattle.las_filter.specs.declared.change.Change.TheVariants.{Translate, SetClass, SetUser}
-use Rattle.las_filter.specs.Filters.{keeps}
 use Rattle.las_filter.specs.Coordinates.{placed}
 use Rattle.las_filter.specs.Changes.{changed, left_by}
 use Rattle.las_filter.specs.Kept.{Steps, Kept, kept}

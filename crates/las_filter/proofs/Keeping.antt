@@ -1,5 +1,5 @@
 -- What is kept of a list of records, one record at a time.
-use Rattle.std.proofs.Common.{◌≡◌, ℕ, suc, ◌+◌, Bool, true, false, cond, not, ◌||◌, List, [], ◌∷◌, ◌++◌, length, map, Option, Some, None, is_some, refl, sym, ◌∙◌, ap, arith}
+use Rattle.std.proofs.Common.{◌≡◌, ℕ, ◌+◌, Bool, true, false, cond, not, ◌||◌, List, [], ◌∷◌, ◌++◌, length, map, Option, Some, None, is_some, refl, sym, ◌∙◌, ap, arith}
 use Rattle.std.specs.Option.{is_none, some_prefix}
 use Rattle.std.specs.List.{filter, position, position_from}
 use Rattle.std.proofs.lemmas.List.{map-append, append-nil}
@@ -7,7 +7,7 @@ use Rattle.std.proofs.lemmas.List.Elements.{filter-append}
 use Rattle.std.proofs.lemmas.Iterator.Adapters.{position_from-zero}
 use Rattle.las_filter.specs.Filters.{keeps_all}
 use Rattle.las_filter.specs.Changes.{changed}
-use Rattle.las_filter.specs.Kept.{Steps, Kept, kept, kept_of, kept_and, kept_with, outcomes, GrowsOneByOne, CountsItsRecords}
+use Rattle.las_filter.specs.Kept.{Steps, Kept, kept, kept_of, kept_and, outcomes, GrowsOneByOne, CountsItsRecords}
 
 abbrev Outcome : Type 0
 Outcome = Option (List ℕ)

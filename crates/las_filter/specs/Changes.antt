@@ -1,5 +1,5 @@
 -- What a change makes of a record, and what changes make of it one after another.
-use Rattle.std.specs.Prelude.{ℕ, ◌≤◌, List, [], ◌∷◌, Option, Some, None}
+use Rattle.std.specs.Prelude.{ℕ, ◌≤◌, List, [], ◌∷◌, Option, Some}
 use Rattle.std.specs.Option.{option_and_then, option_map_or}
 use Rattle.las_header.specs.Numbers.{with_number_at}
 use Rattle.las_points.specs.Record.{with_class, with_user}

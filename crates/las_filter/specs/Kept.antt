@@ -1,5 +1,5 @@
 -- What a plan keeps of a list of records.
-use Rattle.std.specs.Prelude.{◌≡◌, ℕ, Bool, not, ◌||◌, if◌then◌else◌, List, [], ◌∷◌, ◌++◌, length, map, filter}
+use Rattle.std.specs.Prelude.{◌≡◌, ℕ, not, ◌||◌, if◌then◌else◌, List, [], ◌∷◌, ◌++◌, length, map, filter}
 use Rattle.std.specs.Prelude.{Option, Some, None, is_some, position}
 use Rattle.std.specs.Option.{is_none, some_prefix}
 use Rattle.las_filter.specs.declared.keep.Keep.{Keep}
