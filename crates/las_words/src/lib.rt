@@ -5,14 +5,10 @@
 #![tactic(auto)]
 
 mod command;
-
+mod faults;
 mod numbers;
-
-
-
-
+mod pieces;
 mod table;
 mod texts;
 
 pub use crate::command::{Command, Packing, WordFault};
-
