@@ -1,3 +1,5 @@
 pub mod Parsing
 pub mod Cutting
 pub mod Wrong
+pub mod Ranges
+pub mod Saying

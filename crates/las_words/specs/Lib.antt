@@ -4,3 +4,6 @@ pub mod Counts
 pub mod Table
 pub mod Pieces
 pub mod Faults
+pub mod Settings
+pub mod Plans
+pub mod Says

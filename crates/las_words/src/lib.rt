@@ -8,7 +8,11 @@ mod command;
 mod faults;
 mod numbers;
 mod pieces;
+mod plan;
+mod read;
+mod settings;
 mod table;
 mod texts;
 
 pub use crate::command::{Command, Packing, WordFault};
+pub use crate::read::read_words;
