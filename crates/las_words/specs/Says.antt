@@ -13,7 +13,7 @@ use Rattle.las_words.specs.declared.table.Tool.TheVariants.{Laszip, Las2las}
 use Rattle.las_words.specs.declared.table.Flag.TheVariants.{ChunkSize, Cores}
 use Rattle.las_words.specs.declared.pieces.Piece.{Piece}
 use Rattle.las_words.specs.Texts.{word_at, is_packed_name}
-use Rattle.las_words.specs.Table.{command_of, tool_named}
+use Rattle.las_words.specs.Table.{command_row, tool_named}
 use Rattle.las_words.specs.Pieces.{cut}
 use Rattle.las_words.specs.Faults.{first_fault}
 use Rattle.las_words.specs.Settings.{place_of, is_given, text_of, number_of}
@@ -32,7 +32,7 @@ pub data Said : Type 0 where
 -- the number of words, if a required option is missing
 abbrev pub missing_option : Tool → List (List ℕ) → List Piece → Option ℕ
 missing_option tool words pieces =
-    if list_all (λ names. list_any (λ name. is_given words name pieces) names) (command_of tool).required
+    if list_all (λ names. list_any (λ name. is_given words name pieces) names) (command_row tool).required
     then None
     else Some (length words)
 

@@ -37,9 +37,9 @@ pub record Row : Type 0 where
 abbrev pub once : List ℕ → Values → Meaning → Row
 once name values means = record { name = name; values = values; rivals = name ∷ []; means = means }
 
--- an option that is given once, and not beside the other
-abbrev pub form : List ℕ → Row
-form name = record { name = name; values = Nothing; rivals = codes "-olas" ∷ codes "-olaz" ∷ []; means = Setting }
+-- how the output is written: one option of the two, once
+abbrev pub output_form : List ℕ → Row
+output_form name = record { name = name; values = Nothing; rivals = codes "-olas" ∷ codes "-olaz" ∷ []; means = Setting }
 
 -- the first value, and the second, as numbers up to a bound
 abbrev pub first_number : ℕ → List (List ℕ) → ℕ
@@ -61,8 +61,8 @@ row_of Input = once (codes "-i") Name Setting
 row_of Output = once (codes "-o") Name Setting
 row_of ChunkSize = once (codes "-chunk_size") (Number 256 250000) Setting
 row_of Cores = once (codes "-cores") (Number 1 8) Setting
-row_of Olas = form (codes "-olas")
-row_of Olaz = form (codes "-olaz")
+row_of Olas = output_form (codes "-olas")
+row_of Olaz = output_form (codes "-olaz")
 row_of KeepClass = once (codes "-keep_class") (Several 31) (Filters (λ words. Classes (mask_of 31 words)))
 row_of DropClass = once (codes "-drop_class") (Several 31) (Filters (λ words. DropClasses (mask_of 31 words)))
 row_of KeepReturn = once (codes "-keep_return") (Several 7) (Filters (λ words. Returns (mask_of 7 words)))
@@ -90,7 +90,7 @@ row_of SetPointSource =
     once (codes "-set_point_source") (Number 0 65535) (Changes (λ words. SetSource (first_number 65535 words)))
 
 -- A command: its word, its options, and which of them are required, each by its names, of which one has to be given.
-pub record Tools : Type 0 where
+pub record CommandRow : Type 0 where
   pub name : List ℕ
   pub options : List Flag
   pub required : List (List (List ℕ))
@@ -102,9 +102,9 @@ common = Input ∷ Output ∷ ChunkSize ∷ Cores ∷ []
 abbrev pub input_and_output : List (List (List ℕ))
 input_and_output = (codes "-i" ∷ []) ∷ (codes "-o" ∷ []) ∷ []
 
-abbrev pub command_of : Tool → Tools
-command_of Laszip = record { name = codes "laszip"; options = common; required = input_and_output }
-command_of Las2las = record {
+abbrev pub command_row : Tool → CommandRow
+command_row Laszip = record { name = codes "laszip"; options = common; required = input_and_output }
+command_row Las2las = record {
   name = codes "las2las";
   options =
       Input ∷ Output ∷ ChunkSize ∷ Cores ∷ Olas ∷ Olaz
@@ -116,11 +116,11 @@ command_of Las2las = record {
 }
 
 abbrev pub options_of : Tool → List Flag
-options_of tool = (command_of tool).options
+options_of tool = (command_row tool).options
 
 -- the command of a name
 abbrev pub tool_named : List ℕ → Option Tool
-tool_named word = find (λ tool. bytes_eq word (command_of tool).name) (Laszip ∷ Las2las ∷ [])
+tool_named word = find (λ tool. bytes_eq word (command_row tool).name) (Laszip ∷ Las2las ∷ [])
 
 -- the option of a command that has a name
 abbrev pub flag_named : Tool → List ℕ → Option Flag

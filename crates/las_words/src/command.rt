@@ -1,6 +1,10 @@
 //! What words ask for.
 
+ghost use Rattle.std.specs.Prelude.{◌≡◌};
+ghost use Rattle.las_words.specs.declared.command.WordFault.TheVariants.{Memory};
+
 use las_filter::Plan;
+use std::alloc::AllocError;
 
 /// How an output is written.
 #[derive(Clone, Copy, Debug, PartialEq, Eq)]
@@ -47,4 +51,12 @@ pub enum WordFault {
     Usage(usize),
     /// Out of memory.
     Memory,
+}
+
+impl From<AllocError> for WordFault {
+    ghost from_gives = { λ _ fault. fault ≡ Memory };
+
+    fn from(_error: AllocError) -> WordFault {
+        WordFault::Memory
+    }
 }

@@ -19,10 +19,10 @@ pub fn filters_of(alloc: Global, words: &[String], pieces: &[Piece]) -> Result<V
 {
     let mut keeps = Vec::new(alloc);
     for piece in pieces {
-        if let Some(flag) = piece.flag {
-            if let Some(keep) = filter_by(flag, words_from(words, piece.at + 1)) {
-                keeps.push(keep)?;
-            }
+        if let Some(flag) = piece.flag
+            && let Some(keep) = filter_by(flag, words_from(words, piece.at + 1))
+        {
+            keeps.push(keep)?;
         }
     }
     Ok(keeps)
@@ -35,10 +35,10 @@ pub fn changes_of(alloc: Global, words: &[String], pieces: &[Piece]) -> Result<V
 {
     let mut changes = Vec::new(alloc);
     for piece in pieces {
-        if let Some(flag) = piece.flag {
-            if let Some(change) = change_by(flag, words_from(words, piece.at + 1)) {
-                changes.push(change)?;
-            }
+        if let Some(flag) = piece.flag
+            && let Some(change) = change_by(flag, words_from(words, piece.at + 1))
+        {
+            changes.push(change)?;
         }
     }
     Ok(changes)

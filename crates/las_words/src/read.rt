@@ -29,17 +29,11 @@ pub fn read_words(alloc: Global, words: &[String]) -> Result<Command, WordFault>
     let Some(tool) = Tool::named(word(words, 0)) else {
         return Err(WordFault::Usage(0));
     };
-    let pieces = match pieces(alloc, tool, words) {
-        Ok(pieces) => pieces,
-        Err(_) => return Err(WordFault::Memory),
-    };
+    let pieces = pieces(alloc, tool, words)?;
     if let Some(index) = wrong_word(tool, words, &pieces) {
         return Err(WordFault::Usage(index));
     }
-    match command_of(alloc, tool, words, &pieces) {
-        Ok(command) => Ok(command),
-        Err(_) => Err(WordFault::Memory),
-    }
+    Ok(command_of(alloc, tool, words, &pieces)?)
 }
 
 // The index of the first word that is wrong.
@@ -80,10 +74,7 @@ fn same_name(words: &[String], pieces: &[Piece]) -> Option<usize>
     ensures { result ≡ same_name (texts words.now) pieces.now }
 {
     if text_of(words, "-o", pieces) == text_of(words, "-i", pieces) {
-        match place_of(words, "-o", pieces) {
-            Some(at) => Some(at + 1),
-            None => None,
-        }
+        place_of(words, "-o", pieces).map(|at| at + 1)
     } else {
         None
     }

@@ -13,19 +13,19 @@ returns-in_default-clause-usage c = λ index is.
 pub returns-in-Some-wrong_word-clause-usage : goal.returns-in-Some-wrong_word-clause-usage
 returns-in-Some-wrong_word-clause-usage c = λ index is.
     let same : c.in-Some-wrong_word.index ≡ index = cc in
-    wrong (texts c.args.words.now) c.in-Some.tool c.in-Ok.pieces.items index
-        (ap tool_named (sym c.word.ensures) ∙ sym c.named.ensures ∙ c.in-Some.is) c.in-Ok.ensures.pieces
+    wrong (texts c.args.words.now) c.in-Some.tool c.in_ok-pieces.pieces.items index
+        (ap tool_named (sym c.word.ensures) ∙ sym c.named.ensures ∙ c.in-Some.is) c.in_ok-pieces.ensures.pieces
         (ap (wrong_word c.in-Some.tool (texts c.args.words.now)) (sym c.deref.ensures.value) ∙ sym c.wrong_word.ensures ∙ c.in-Some-wrong_word.is ∙ ap (λ (n : ℕ). Some n) same)
 
-pub returns-in-Ok-command_of-clause-command : goal.returns-in-Ok-command_of-clause-command
-returns-in-Ok-command_of-clause-command c =
-    accepted (texts c.args.words.now) c.in-Some.tool c.in-Ok.pieces.items _
-        (ap tool_named (sym c.word.ensures) ∙ sym c.named.ensures ∙ c.in-Some.is) c.in-Ok.ensures.pieces
+pub returns-clause-command : goal.returns-clause-command
+returns-clause-command c =
+    accepted (texts c.args.words.now) c.in-Some.tool c.in_ok-pieces.pieces.items _
+        (ap tool_named (sym c.word.ensures) ∙ sym c.named.ensures ∙ c.in-Some.is) c.in_ok-pieces.ensures.pieces
         (ap (wrong_word c.in-Some.tool (texts c.args.words.now)) (sym c.deref.ensures.value) ∙ sym c.wrong_word.ensures ∙ c.in_default-wrong_word.is)
-        (c.in-Ok-command_of.ensures ∙ ap (asked_of c.in-Some.tool (texts c.args.words.now)) c.deref-2.ensures.value)
+        (c.in_ok-command_of.ensures ∙ ap (asked_of c.in-Some.tool (texts c.args.words.now)) c.deref-2.ensures.value)
 
-pub returns-in-Ok-command_of-clause-sound : goal.returns-in-Ok-command_of-clause-sound
-returns-in-Ok-command_of-clause-sound c =
-    sound (texts c.args.words.now) c.in-Some.tool c.in-Ok.pieces.items _
+pub returns-clause-sound : goal.returns-clause-sound
+returns-clause-sound c =
+    sound (texts c.args.words.now) c.in-Some.tool c.in_ok-pieces.pieces.items _
         (ap (wrong_word c.in-Some.tool (texts c.args.words.now)) (sym c.deref.ensures.value) ∙ sym c.wrong_word.ensures ∙ c.in_default-wrong_word.is)
-        (c.in-Ok-command_of.ensures ∙ ap (asked_of c.in-Some.tool (texts c.args.words.now)) c.deref-2.ensures.value)
+        (c.in_ok-command_of.ensures ∙ ap (asked_of c.in-Some.tool (texts c.args.words.now)) c.deref-2.ensures.value)
