@@ -3,3 +3,4 @@ pub mod Cutting
 pub mod Wrong
 pub mod Ranges
 pub mod Saying
+pub mod Examples

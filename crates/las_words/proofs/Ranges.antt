@@ -25,7 +25,7 @@ use Rattle.las_words.specs.Says.{chunk_of, workers_of}
 -- a number of a range, or a default of that range
 range : (low high number default : ℕ) (b : Bool) → low ≤ default → default ≤ high
     → (low ≤ unwrap_or (cond (b && (nat_le low number && nat_le number high)) (Some number) None) default)
-        × (unwrap_or (cond (b && (nat_le low number && nat_le number high)) (Some number) None) default ≤ high)
+    × (unwrap_or (cond (b && (nat_le low number && nat_le number high)) (Some number) None) default ≤ high)
 range low high number default b least most = (grind (arith, nat_tests), grind (arith, nat_tests))
 
 pub number_range : (most : ℕ) (word : List ℕ) → number_or_zero most word ≤ most

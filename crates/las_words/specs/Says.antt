@@ -66,7 +66,7 @@ asked_of Laszip words pieces =
     laszip (text_of words (codes "-i") pieces) (text_of words (codes "-o") pieces) (chunk_of words pieces) (workers_of words pieces)
 asked_of Las2las words pieces =
     las2las (text_of words (codes "-i") pieces) (text_of words (codes "-o") pieces)
-        (plan_of words pieces) (is_packed words pieces) (chunk_of words pieces) (workers_of words pieces)
+    (plan_of words pieces) (is_packed words pieces) (chunk_of words pieces) (workers_of words pieces)
 
 abbrev pub said_unless : Option ℕ → Asked → Said
 said_unless (Some index) asked = usage index

@@ -12,6 +12,8 @@ mod plan;
 mod read;
 mod settings;
 mod table;
+#[cfg(test)]
+mod tests;
 mod texts;
 
 pub use crate::command::{Command, Packing, WordFault};

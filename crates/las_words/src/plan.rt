@@ -13,7 +13,11 @@ use las_filter::{Change, Keep};
 use std::alloc::{AllocError, Global};
 
 /// The filters, in the order of the words.
-pub fn filters_of(alloc: Global, words: &[String], pieces: &[Piece]) -> Result<Vec<Keep>, AllocError>
+pub fn filters_of(
+    alloc: Global,
+    words: &[String],
+    pieces: &[Piece],
+) -> Result<Vec<Keep>, AllocError>
     requires { All (λ piece. piece.at < length words.now) pieces.now }
     ensures { IfOk result (λ keeps. keeps.items ≡ filters_of (texts words.now) pieces.now) }
 {
@@ -29,7 +33,11 @@ pub fn filters_of(alloc: Global, words: &[String], pieces: &[Piece]) -> Result<V
 }
 
 /// The changes, in the order of the words.
-pub fn changes_of(alloc: Global, words: &[String], pieces: &[Piece]) -> Result<Vec<Change>, AllocError>
+pub fn changes_of(
+    alloc: Global,
+    words: &[String],
+    pieces: &[Piece],
+) -> Result<Vec<Change>, AllocError>
     requires { All (λ piece. piece.at < length words.now) pieces.now }
     ensures { IfOk result (λ changes. changes.items ≡ changes_of (texts words.now) pieces.now) }
 {

@@ -81,7 +81,12 @@ fn same_name(words: &[String], pieces: &[Piece]) -> Option<usize>
 }
 
 // The command of a tool with these options.
-fn command_of(alloc: Global, tool: Tool, words: &[String], pieces: &[Piece]) -> Result<Command, AllocError>
+fn command_of(
+    alloc: Global,
+    tool: Tool,
+    words: &[String],
+    pieces: &[Piece],
+) -> Result<Command, AllocError>
     requires { All (λ piece. piece.at < length words.now) pieces.now }
     ensures { IfOk result (λ command. asked_by command ≡ asked_of tool (texts words.now) pieces.now) }
 {

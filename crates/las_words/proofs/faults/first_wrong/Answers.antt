@@ -6,7 +6,7 @@ use Rattle.las_words.proofs.faults.first_wrong.Goals.{then-k-after-via-then-k-af
 
 pub returns-then-k-after : goal.returns-then-k-after
 returns-then-k-after c = elim c.then-k-after.branch [
-  then-k-after-via-then-k-after w ↦ missing_here c.args.values c.args.at c.args.count c.loop-k.k c.args.after.now _ c.loop-k-test.true w.if-k-after.true c.loop-k.invariant.rest
+  | then-k-after-via-then-k-after w ↦ missing_here c.args.values c.args.at c.args.count c.loop-k.k c.args.after.now _ c.loop-k-test.true w.if-k-after.true c.loop-k.invariant.rest
   | then-k-after-via-else-k-after+then-not-fits w ↦ wrong_here c.args.values c.args.at c.args.count c.loop-k.k c.args.after.now _ c.loop-k-test.true w.if-k-after.false (ap (fits c.args.values) (sym w.word.ensures) ∙ sym w.fits.ensures ∙ w.if-not-fits.true) c.loop-k.invariant.rest
 ]
 

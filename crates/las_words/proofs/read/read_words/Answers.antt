@@ -14,18 +14,18 @@ pub returns-in-Some-wrong_word-clause-usage : goal.returns-in-Some-wrong_word-cl
 returns-in-Some-wrong_word-clause-usage c = λ index is.
     let same : c.in-Some-wrong_word.index ≡ index = cc in
     wrong (texts c.args.words.now) c.in-Some.tool c.in_ok-pieces.pieces.items index
-        (ap tool_named (sym c.word.ensures) ∙ sym c.named.ensures ∙ c.in-Some.is) c.in_ok-pieces.ensures.pieces
-        (ap (wrong_word c.in-Some.tool (texts c.args.words.now)) (sym c.deref.ensures.value) ∙ sym c.wrong_word.ensures ∙ c.in-Some-wrong_word.is ∙ ap (λ (n : ℕ). Some n) same)
+    (ap tool_named (sym c.word.ensures) ∙ sym c.named.ensures ∙ c.in-Some.is) c.in_ok-pieces.ensures.pieces
+    (ap (wrong_word c.in-Some.tool (texts c.args.words.now)) (sym c.deref.ensures.value) ∙ sym c.wrong_word.ensures ∙ c.in-Some-wrong_word.is ∙ ap (λ (n : ℕ). Some n) same)
 
 pub returns-clause-command : goal.returns-clause-command
 returns-clause-command c =
     accepted (texts c.args.words.now) c.in-Some.tool c.in_ok-pieces.pieces.items _
-        (ap tool_named (sym c.word.ensures) ∙ sym c.named.ensures ∙ c.in-Some.is) c.in_ok-pieces.ensures.pieces
-        (ap (wrong_word c.in-Some.tool (texts c.args.words.now)) (sym c.deref.ensures.value) ∙ sym c.wrong_word.ensures ∙ c.in_default-wrong_word.is)
-        (c.in_ok-command_of.ensures ∙ ap (asked_of c.in-Some.tool (texts c.args.words.now)) c.deref-2.ensures.value)
+    (ap tool_named (sym c.word.ensures) ∙ sym c.named.ensures ∙ c.in-Some.is) c.in_ok-pieces.ensures.pieces
+    (ap (wrong_word c.in-Some.tool (texts c.args.words.now)) (sym c.deref.ensures.value) ∙ sym c.wrong_word.ensures ∙ c.in_default-wrong_word.is)
+    (c.in_ok-command_of.ensures ∙ ap (asked_of c.in-Some.tool (texts c.args.words.now)) c.deref-2.ensures.value)
 
 pub returns-clause-sound : goal.returns-clause-sound
 returns-clause-sound c =
     sound (texts c.args.words.now) c.in-Some.tool c.in_ok-pieces.pieces.items _
-        (ap (wrong_word c.in-Some.tool (texts c.args.words.now)) (sym c.deref.ensures.value) ∙ sym c.wrong_word.ensures ∙ c.in_default-wrong_word.is)
-        (c.in_ok-command_of.ensures ∙ ap (asked_of c.in-Some.tool (texts c.args.words.now)) c.deref-2.ensures.value)
+    (ap (wrong_word c.in-Some.tool (texts c.args.words.now)) (sym c.deref.ensures.value) ∙ sym c.wrong_word.ensures ∙ c.in_default-wrong_word.is)
+    (c.in_ok-command_of.ensures ∙ ap (asked_of c.in-Some.tool (texts c.args.words.now)) c.deref-2.ensures.value)
