@@ -16,8 +16,8 @@ pub record Steps : Type 0 where
 abbrev pub steps_of : Plan → Steps
 steps_of plan = record { keeps = plan.keeps.items; changes = plan.changes.items }
 
--- the records that are kept, in order, each changed; and if a change of one is refused, its number, counted from 0. Then
--- the records are those before it.
+-- the records that are kept, in order, each changed; and if a change of one is refused, its number, counted from 0.
+-- Then the records are those before it.
 pub record Kept : Type 0 where
   pub records : List (List ℕ)
   pub raw_range : Option ℕ

@@ -1,5 +1,5 @@
 -- Words one after another, and the options that they are cut into.
-use Rattle.std.proofs.Common.{◌≡◌, ℕ, zero, suc, ◌+◌, ◌-◌, ◌<◌, ◌≤◌, List, [], ◌∷◌, ◌++◌, length, drop, take, refl, sym, ◌∙◌, ap, subst, append_assoc, add-one, arith, String, Global}
+use Rattle.std.proofs.Common.{◌≡◌, ℕ, zero, suc, ◌+◌, ◌-◌, ◌<◌, ◌≤◌, List, [], ◌∷◌, ◌++◌, length, drop, take, sym, ◌∙◌, ap, subst, append_assoc, arith, String, Global}
 use Rattle.std.specs.Prelude.{string_bytes, All}
 use Rattle.std.proofs.lemmas.List.{drop-map, drop_all, length-map, take_rest}
 use Rattle.std.proofs.lemmas.List.Elements.{All-push}

@@ -1,9 +1,9 @@
 -- Values that compute: what words say.
-use Rattle.std.proofs.Common.{◌≡◌, ℕ, pos, negsuc, true, false, List, [], ◌∷◌, ◌++◌, codes, refl}
-use Rattle.las_filter.specs.declared.keep.Keep.TheVariants.{Classes, DropReturns, Intensity, NotBelow, First}
+use Rattle.std.proofs.Common.{◌≡◌, ℕ, pos, negsuc, true, false, List, [], ◌∷◌, codes, refl}
+use Rattle.las_filter.specs.declared.keep.Keep.TheVariants.{Classes, DropReturns, Intensity}
 use Rattle.las_filter.specs.declared.change.Change.TheVariants.{Translate, SetClass}
 use Rattle.las_filter.specs.Kept.{Steps}
-use Rattle.las_words.specs.Says.{Said, asks, usage, says, laszip, las2las}
+use Rattle.las_words.specs.Says.{asks, usage, says, laszip, las2las}
 
 -- the words of `laszip` and of `las2las` with an input and an output, and more words
 abbrev zip : List (List ℕ) → List (List ℕ)

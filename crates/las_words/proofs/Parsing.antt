@@ -1,14 +1,14 @@
 -- What the parse of a word says of its number.
-use Rattle.std.proofs.Common.{◌≡◌, ◌≢◌, ℕ, ℤ, pos, negsuc, ◌<◌, ◌≤◌, ◌^◌, Bool, true, false, cond, ◌&&◌, nat_lt, nat_le, List, length, drop, get_or, Option, Some, None, Result, Ok, Err, refl, sym, ◌∙◌, ap, subst, arith}
+use Rattle.std.proofs.Common.{◌≡◌, ◌≢◌, ℕ, ℤ, pos, negsuc, ◌<◌, ◌≤◌, ◌^◌, Bool, true, false, cond, ◌&&◌, nat_le, List, length, drop, get_or, Some, None, Result, Ok, Err, refl, sym, ◌∙◌, ap, subst, arith}
 use Rattle.std.specs.Prelude.{FitsSigned}
 use Rattle.std.specs.Int.{w32}
 use Rattle.std.specs.Result.{result_ok}
 use Rattle.std.specs.Str.{all_ascii_digits}
-use Rattle.std.specs.Str.Parse.{digits_value, AllDigits, IsNumeral, ParsesUnsigned, ParsesSigned, starts_with_minus, signed_digits_value, without_leading_sign, without_leading_plus}
+use Rattle.std.specs.Str.Parse.{digits_value, IsNumeral, ParsesUnsigned, ParsesSigned, starts_with_minus, signed_digits_value, without_leading_sign, without_leading_plus}
 use Rattle.std.proofs.lemmas.Bool.Decides.{nat_tests}
 use Rattle.std.proofs.lemmas.Str.Parse.{IsNumeralModel, numerals_by_value, tells_all_ascii_digits, parse_digits, digit_at, without_leading_plus_none}
 use Rattle.las_filter.specs.Coordinates.{is_coordinate, in_range}
-use Rattle.las_words.specs.Numbers.{is_digits, is_number, number_in, without_minus, signed_in}
+use Rattle.las_words.specs.Numbers.{is_number, number_in, without_minus, signed_in}
 
 own : IsNumeralModel (λ ds. all_ascii_digits ds ≡ true) (digits_value 10)
 own = numerals_by_value (λ ds. all_ascii_digits ds ≡ true) tells_all_ascii_digits

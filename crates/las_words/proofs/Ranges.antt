@@ -1,5 +1,5 @@
 -- The ranges of what options say.
-use Rattle.std.proofs.Common.{◌≡◌, ℕ, ◌+◌, ◌<◌, ◌≤◌, ◌^◌, Bool, true, false, cond, List, [], ◌∷◌, Option, Some, None, unwrap_or, codes, nat_le, ◌&&◌, ◌*◌, lit≤, refl, arith, drop, take}
+use Rattle.std.proofs.Common.{◌≡◌, ℕ, ◌+◌, ◌<◌, ◌≤◌, ◌^◌, Bool, cond, List, [], ◌∷◌, Option, Some, None, unwrap_or, codes, nat_le, ◌&&◌, ◌*◌, lit≤, arith, drop}
 use Rattle.std.specs.Prelude.{All, bit_or, fold}
 use Rattle.std.specs.List.{cons_option}
 use Rattle.std.specs.Str.Parse.{digits_value}
@@ -12,11 +12,8 @@ use Rattle.las_filter.specs.declared.change.Change.{Change}
 use Rattle.las_filter.specs.Changes.{HasClass}
 use Rattle.las_words.specs.declared.table.Flag.{Flag}
 use Rattle.las_words.specs.declared.table.Flag.TheVariants.{SetClassification}
-use Rattle.las_words.specs.declared.table.Values.TheVariants.{Several}
 use Rattle.las_words.specs.declared.pieces.Piece.{Piece}
-use Rattle.las_words.specs.Counts.{count_of}
 use Rattle.las_words.specs.Numbers.{is_number, number_or_zero}
-use Rattle.las_words.specs.Table.{mask_of}
 use Rattle.las_words.specs.Plans.{changes_of, change_in}
 use Rattle.las_words.specs.Texts.{word_at}
 use Rattle.las_words.specs.Settings.{text_of}

@@ -10,7 +10,7 @@ use Rattle.las_words.specs.Table.{tool_named}
 use Rattle.las_words.specs.Pieces.{cut}
 use Rattle.las_words.specs.Faults.{first_fault}
 use Rattle.las_words.specs.Settings.{place_of, is_given, text_of}
-use Rattle.las_words.specs.Says.{Asked, Said, asks, usage, says, said_to, said_unless, wrong_word, missing_option, same_name, asked_of, chunk_of, workers_of, IsWithinLimits, IsSound}
+use Rattle.las_words.specs.Says.{Asked, asks, usage, says, said_to, said_unless, wrong_word, missing_option, same_name, asked_of, chunk_of, workers_of, IsWithinLimits, IsSound}
 use Rattle.las_words.proofs.Ranges.{chunk_range, workers_range, changes_have_classes}
 
 pub no_tool : (words : List (List ℕ)) → tool_named (word_at words 0) ≡ None → says words ≡ usage 0

@@ -1,5 +1,5 @@
 -- The first value that is wrong, one value at a time.
-use Rattle.std.proofs.Common.{◌≡◌, ℕ, zero, suc, ◌+◌, ◌-◌, ◌<◌, ◌≤◌, Bool, true, false, cond, List, [], ◌∷◌, length, drop, Option, Some, None, refl, sym, ◌∙◌, ap, arith, String, Global}
+use Rattle.std.proofs.Common.{◌≡◌, ℕ, zero, suc, ◌+◌, ◌-◌, ◌<◌, ◌≤◌, Bool, true, false, cond, List, [], ◌∷◌, length, drop, Option, Some, refl, sym, ◌∙◌, ap, arith, String, Global}
 use Rattle.las_words.specs.declared.table.Values.{Values}
 use Rattle.las_words.specs.Texts.{texts, word_at}
 use Rattle.las_words.specs.Faults.{fits, first_wrong}

@@ -31,12 +31,14 @@ first_wrong values at (suc count) (word ∷ words) =
 
 -- the index of a high number that is below its low one
 abbrev pub unordered : Values → (at : ℕ) → List (List ℕ) → Option ℕ
-unordered (Bounds most) at words = if nat_lt (second_number most words) (first_number most words) then Some (at + 1) else None
+unordered (Bounds most) at words =
+    if nat_lt (second_number most words) (first_number most words) then Some (at + 1) else None
 unordered _ at words = None
 
 -- the index of the first value that is wrong, in words that begin at an index
 abbrev pub value_fault : Values → (at : ℕ) → List (List ℕ) → Option ℕ
-value_fault values at words = option_or (first_wrong values at (count_of values words) words) (unordered values at words)
+value_fault values at words =
+    option_or (first_wrong values at (count_of values words) words) (unordered values at words)
 
 -- an option stands after one that it may not follow
 abbrev pub follows_a_rival : List (List ℕ) → List Piece → Flag → Bool

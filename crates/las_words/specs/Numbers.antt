@@ -1,5 +1,6 @@
 -- Numbers as words of the command line write them: one to twenty digits, leading zeros allowed.
-use Rattle.std.specs.Prelude.{ℕ, ℤ, Bool, ◌&&◌, nat_lt, nat_le, if◌then◌else◌, List, drop, length, Option, Some, None, unwrap_or}
+use Rattle.std.specs.Prelude.{ℕ, ℤ, Bool, ◌&&◌, nat_lt, nat_le, if◌then◌else◌, List, drop, length, Option, Some, None}
+use Rattle.std.specs.Prelude.{unwrap_or}
 use Rattle.std.specs.Str.{all_ascii_digits}
 use Rattle.std.specs.Str.Parse.{digits_value, starts_with_minus, signed_digits_value}
 use Rattle.las_filter.specs.Coordinates.{in_range}

@@ -6,7 +6,7 @@ use Rattle.las_filter.specs.declared.change.Change.{Change}
 use Rattle.las_filter.specs.Kept.{Steps}
 use Rattle.las_words.specs.declared.table.Flag.{Flag}
 use Rattle.las_words.specs.declared.pieces.Piece.{Piece}
-use Rattle.las_words.specs.Table.{Meaning, Setting, Filters, Changes, row_of}
+use Rattle.las_words.specs.Table.{Meaning, Filters, Changes, row_of}
 
 -- the filter that an option means, of the words after it
 abbrev pub filter_by : Meaning → List (List ℕ) → Option Keep

@@ -1,5 +1,6 @@
 -- What the words of the command line say: a command with its options, or which word is the first that is wrong.
-use Rattle.std.specs.Prelude.{◌≡◌, ℕ, ◌+◌, ◌≤◌, Bool, false, not, ◌&&◌, ◌||◌, if◌then◌else◌, List, [], drop, length, codes}
+use Rattle.std.specs.Prelude.{◌≡◌, ℕ, ◌+◌, ◌≤◌, Bool, false, not, ◌&&◌, ◌||◌, if◌then◌else◌, List, [], drop, length}
+use Rattle.std.specs.Prelude.{codes}
 use Rattle.std.specs.Prelude.{Option, Some, None, All, string_bytes}
 use Rattle.std.specs.Option.{option_map, option_or}
 use Rattle.std.specs.List.{list_all, list_any}
@@ -63,7 +64,8 @@ workers_of words pieces = number_of words Cores 1 pieces
 -- the command of a tool with these options
 abbrev pub asked_of : Tool → List (List ℕ) → List Piece → Asked
 asked_of Laszip words pieces =
-    laszip (text_of words (codes "-i") pieces) (text_of words (codes "-o") pieces) (chunk_of words pieces) (workers_of words pieces)
+    laszip (text_of words (codes "-i") pieces) (text_of words (codes "-o") pieces)
+    (chunk_of words pieces) (workers_of words pieces)
 asked_of Las2las words pieces =
     las2las (text_of words (codes "-i") pieces) (text_of words (codes "-o") pieces)
     (plan_of words pieces) (is_packed words pieces) (chunk_of words pieces) (workers_of words pieces)

@@ -1,5 +1,5 @@
 -- What options that are looked up by name say.
-use Rattle.std.specs.Prelude.{ℕ, ◌+◌, Bool, List, [], Option, Some, None, find, is_some, unwrap_or}
+use Rattle.std.specs.Prelude.{ℕ, ◌+◌, Bool, List, [], Option, None, find, is_some, unwrap_or}
 use Rattle.std.specs.Option.{option_map, option_map_or}
 use Rattle.std.specs.Str.{bytes_eq}
 use Rattle.las_words.specs.declared.table.Flag.{Flag}
@@ -12,7 +12,8 @@ use Rattle.las_words.specs.Table.{row_of}
 
 -- the index of the first option of a name
 abbrev pub place_of : List (List ℕ) → List ℕ → List Piece → Option ℕ
-place_of words name pieces = option_map (λ piece. piece.at) (find (λ piece. bytes_eq (word_at words piece.at) name) pieces)
+place_of words name pieces =
+    option_map (λ piece. piece.at) (find (λ piece. bytes_eq (word_at words piece.at) name) pieces)
 
 abbrev pub is_given : List (List ℕ) → List ℕ → List Piece → Bool
 is_given words name pieces = is_some (place_of words name pieces)
@@ -28,4 +29,5 @@ number_for _ word = None
 
 -- the number that an option says, or the one that stands for it if it is not given
 abbrev pub number_of : List (List ℕ) → Flag → ℕ → List Piece → ℕ
-number_of words flag default pieces = unwrap_or (number_for (row_of flag).values (text_of words (row_of flag).name pieces)) default
+number_of words flag default pieces =
+    unwrap_or (number_for (row_of flag).values (text_of words (row_of flag).name pieces)) default

@@ -1,5 +1,6 @@
 -- The commands and their options, as data (LAStools, `laszip` and `las2las`).
-use Rattle.std.specs.Prelude.{ℕ, ℤ, pos, Bool, ◌^◌, bit_or, List, [], ◌∷◌, codes, fold, find, take, drop, Option, unwrap_or}
+use Rattle.std.specs.Prelude.{ℕ, ℤ, pos, ◌^◌, bit_or, List, [], ◌∷◌, codes, fold, find, take, Option}
+use Rattle.std.specs.Prelude.{unwrap_or}
 use Rattle.std.specs.Str.{bytes_eq}
 use Rattle.las_filter.specs.declared.keep.Keep.{Keep}
 use Rattle.las_filter.specs.declared.keep.Keep.TheVariants.{Classes, DropClasses, Returns, DropReturns, First, Last}
@@ -11,10 +12,12 @@ use Rattle.las_words.specs.declared.table.Tool.TheVariants.{Laszip, Las2las}
 use Rattle.las_words.specs.declared.table.Values.{Values}
 use Rattle.las_words.specs.declared.table.Values.TheVariants.{Nothing, Name, Number, Bounds, Several, Signed}
 use Rattle.las_words.specs.declared.table.Flag.{Flag}
-use Rattle.las_words.specs.declared.table.Flag.TheVariants.{Input, Output, ChunkSize, Cores, Olas, Olaz, KeepClass, DropClass}
+use Rattle.las_words.specs.declared.table.Flag.TheVariants.{Input, Output, ChunkSize, Cores, Olas, Olaz, KeepClass}
+use Rattle.las_words.specs.declared.table.Flag.TheVariants.{DropClass}
 use Rattle.las_words.specs.declared.table.Flag.TheVariants.{KeepReturn, DropReturn, KeepFirst, KeepLast, KeepIntensity}
 use Rattle.las_words.specs.declared.table.Flag.TheVariants.{DropIntensityBelow, DropIntensityAbove, TranslateRawXyz}
-use Rattle.las_words.specs.declared.table.Flag.TheVariants.{TranslateRawX, TranslateRawY, TranslateRawZ, SetClassification}
+use Rattle.las_words.specs.declared.table.Flag.TheVariants.{TranslateRawX, TranslateRawY, TranslateRawZ}
+use Rattle.las_words.specs.declared.table.Flag.TheVariants.{SetClassification}
 use Rattle.las_words.specs.declared.table.Flag.TheVariants.{SetUserData, SetPointSource}
 use Rattle.las_words.specs.Texts.{word_at}
 use Rattle.las_words.specs.Numbers.{number_or_zero, signed_in}
@@ -39,7 +42,12 @@ once name values means = record { name = name; values = values; rivals = name �
 
 -- how the output is written: one option of the two, once
 abbrev pub output_form : List ℕ → Row
-output_form name = record { name = name; values = Nothing; rivals = codes "-olas" ∷ codes "-olaz" ∷ []; means = Setting }
+output_form name = record {
+  name = name;
+  values = Nothing;
+  rivals = codes "-olas" ∷ codes "-olaz" ∷ [];
+  means = Setting;
+}
 
 -- the first value, and the second, as numbers up to a bound
 abbrev pub first_number : ℕ → List (List ℕ) → ℕ
@@ -54,7 +62,8 @@ shift_at place words = unwrap_or (signed_in (word_at words place)) (pos 0)
 
 -- the bits of a list of numbers up to a bound
 abbrev pub mask_of : ℕ → List (List ℕ) → ℕ
-mask_of most words = fold (λ mask word. bit_or mask (2 ^ number_or_zero most word)) 0 (take (count_of (Several most) words) words)
+mask_of most words =
+    fold (λ mask word. bit_or mask (2 ^ number_or_zero most word)) 0 (take (count_of (Several most) words) words)
 
 abbrev pub row_of : Flag → Row
 row_of Input = once (codes "-i") Name Setting
@@ -70,13 +79,15 @@ row_of DropReturn = once (codes "-drop_return") (Several 7) (Filters (λ words. 
 row_of KeepFirst = once (codes "-keep_first") Nothing (Filters (λ words. First))
 row_of KeepLast = once (codes "-keep_last") Nothing (Filters (λ words. Last))
 row_of KeepIntensity =
-    once (codes "-keep_intensity") (Bounds 65535) (Filters (λ words. Intensity (first_number 65535 words) (second_number 65535 words)))
+    once (codes "-keep_intensity") (Bounds 65535)
+    (Filters (λ words. Intensity (first_number 65535 words) (second_number 65535 words)))
 row_of DropIntensityBelow =
     once (codes "-drop_intensity_below") (Number 0 65535) (Filters (λ words. NotBelow (first_number 65535 words)))
 row_of DropIntensityAbove =
     once (codes "-drop_intensity_above") (Number 0 65535) (Filters (λ words. NotAbove (first_number 65535 words)))
 row_of TranslateRawXyz =
-    once (codes "-translate_raw_xyz") (Signed 3) (Changes (λ words. Translate (shift_at 0 words) (shift_at 1 words) (shift_at 2 words)))
+    once (codes "-translate_raw_xyz") (Signed 3)
+    (Changes (λ words. Translate (shift_at 0 words) (shift_at 1 words) (shift_at 2 words)))
 row_of TranslateRawX =
     once (codes "-translate_raw_x") (Signed 1) (Changes (λ words. Translate (shift_at 0 words) (pos 0) (pos 0)))
 row_of TranslateRawY =

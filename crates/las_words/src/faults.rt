@@ -2,14 +2,16 @@
 
 ghost use Rattle.std.specs.Prelude.{◌≡◌, ◌+◌, ◌<◌, ◌^◌, [], length, All};
 ghost use Rattle.las_words.specs.Texts.{texts};
-ghost use Rattle.las_words.specs.Faults.{fits, first_wrong, unordered, value_fault, follows_a_rival, fault_of, first_fault};
+ghost use Rattle.las_words.specs.Faults.{fits, first_wrong, unordered, value_fault, follows_a_rival, fault_of};
+ghost use Rattle.las_words.specs.Faults.{first_fault};
 
 use crate::numbers::{number_in, number_or_zero, signed_in};
 use crate::pieces::{Piece, count_of, words_from};
 use crate::table::{Flag, Values};
 use crate::texts::word;
 
-/// The index of the first word that is wrong by itself or after those before it. A missing value has the number of words.
+/// The index of the first word that is wrong by itself or after those before it. A missing value has the number of
+/// words.
 pub fn first_fault(words: &[String], pieces: &[Piece]) -> Option<usize>
     requires { All (λ piece. piece.at < length words.now) pieces.now }
     ensures { result ≡ first_fault (texts words.now) [] pieces.now }

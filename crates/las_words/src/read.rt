@@ -1,6 +1,7 @@
 //! Words to a command.
 
-ghost use Rattle.std.specs.Prelude.{◌≡◌, ◌<◌, ◌||◌, ◌&&◌, not, ℕ, Bool, length, All, IfOk, MatchOption, None, Some, Err, codes, string_bytes};
+ghost use Rattle.std.specs.Prelude.{◌≡◌, ◌<◌, ◌||◌, ◌&&◌, not, ℕ, Bool, length, All, IfOk, MatchOption, None, Some};
+ghost use Rattle.std.specs.Prelude.{Err, codes, string_bytes};
 ghost use Rattle.std.specs.Str.{bytes_eq};
 ghost use Rattle.las_filter.specs.Kept.{steps_of};
 ghost use Rattle.las_words.specs.Texts.{texts};

@@ -1,6 +1,5 @@
-use Rattle.std.proofs.Common.{◌≡◌, ◌++◌, ◌+◌, [], ◌∷◌, List, drop, Option, sym, ◌∙◌, ap}
+use Rattle.std.proofs.Common.{◌≡◌, ◌++◌, ◌+◌, [], ◌∷◌, drop, Option, ◌∙◌, ap}
 use Rattle.las_words.specs.declared.table.Flag.{Flag}
-use Rattle.las_words.specs.declared.pieces.Piece.{Piece}
 use Rattle.las_words.specs.Texts.{texts, word_at}
 use Rattle.las_words.specs.Table.{flag_named}
 use Rattle.las_words.specs.Pieces.{count_after}

@@ -1,7 +1,7 @@
 use Rattle.std.proofs.Common.{◌≡◌, ℕ, Some, sym, ◌∙◌, ap}
 use Rattle.las_words.specs.Texts.{texts}
 use Rattle.las_words.specs.Table.{tool_named}
-use Rattle.las_words.specs.Says.{says, usage, wrong_word, asked_of}
+use Rattle.las_words.specs.Says.{usage, wrong_word, asked_of}
 use Rattle.las_words.proofs.Saying.{no_tool, wrong, accepted, sound}
 use Rattle.las_words.proofs.read.read_words.Goals as goal
 
