@@ -1,0 +1,5 @@
+pub mod Masks
+pub mod Filters
+pub mod Coordinates
+pub mod Changes
+pub mod Kept

@@ -1,0 +1,18 @@
+//! What `las2las` does to point records, one at a time: filters that keep or drop a record, and changes of its fields.
+//!
+//! The filters and changes are those of the LAStools program of this name. A [`Plan`] has both. All its filters have to
+//! hold of a record as it was read; then its changes are made in their order. Every call needs a record of at least 20
+//! bytes, as all records of the point data formats 0 to 3 have. No call takes memory.
+#![tactic(auto)]
+
+mod change;
+mod keep;
+mod laws;
+mod plan;
+#[cfg(test)]
+mod tests;
+
+pub use crate::change::{Change, RawRange};
+pub use crate::keep::Keep;
+pub use crate::laws::kept_one_by_one;
+pub use crate::plan::Plan;

@@ -1,0 +1,6 @@
+pub mod Parsing
+pub mod Cutting
+pub mod Wrong
+pub mod Ranges
+pub mod Saying
+pub mod Examples

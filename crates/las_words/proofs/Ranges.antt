@@ -1,0 +1,71 @@
+-- The ranges of what options say.
+use Rattle.std.proofs.Common.{◌≡◌, ℕ, ◌+◌, ◌<◌, ◌≤◌, ◌^◌, Bool, cond, List, [], ◌∷◌, Option, Some, None, unwrap_or, codes, nat_le, ◌&&◌, ◌*◌, lit≤, arith, drop}
+use Rattle.std.specs.Prelude.{All, bit_or, fold}
+use Rattle.std.specs.List.{cons_option}
+use Rattle.std.specs.Str.Parse.{digits_value}
+use Rattle.std.proofs.Math.Nat.{pow-le-pow_right}
+use Rattle.std.proofs.lemmas.Grind.{pow_more}
+use Rattle.std.proofs.lemmas.List.Elements.{All-nil, All-cons}
+use Rattle.std.proofs.lemmas.Bool.Decides.{nat_tests}
+use Rattle.std.proofs.lemmas.Nat.{or_lt, pow_pos}
+use Rattle.las_filter.specs.declared.change.Change.{Change}
+use Rattle.las_filter.specs.Changes.{HasClass}
+use Rattle.las_words.specs.declared.table.Flag.{Flag}
+use Rattle.las_words.specs.declared.table.Flag.TheVariants.{SetClassification}
+use Rattle.las_words.specs.declared.pieces.Piece.{Piece}
+use Rattle.las_words.specs.Numbers.{is_number, number_or_zero}
+use Rattle.las_words.specs.Plans.{changes_of, change_in}
+use Rattle.las_words.specs.Texts.{word_at}
+use Rattle.las_words.specs.Settings.{text_of}
+use Rattle.las_words.specs.Says.{chunk_of, workers_of}
+
+-- a number of a range, or a default of that range
+range : (low high number default : ℕ) (b : Bool) → low ≤ default → default ≤ high
+    → (low ≤ unwrap_or (cond (b && (nat_le low number && nat_le number high)) (Some number) None) default)
+    × (unwrap_or (cond (b && (nat_le low number && nat_le number high)) (Some number) None) default ≤ high)
+range low high number default b least most = (grind (arith, nat_tests), grind (arith, nat_tests))
+
+pub number_range : (most : ℕ) (word : List ℕ) → number_or_zero most word ≤ most
+number_range most word = (range 0 most (digits_value 10 word) 0 (is_number word) (omega arith) (omega arith)).1
+
+bit_range : (most number : ℕ) → number ≤ most → 2 ^ number < 2 ^ (most + 1)
+bit_range most number le =
+    let two : 0 < 2 = omega arith in
+    let below : 2 ^ number ≤ 2 ^ most = pow-le-pow_right two le in
+    let some : 0 < 2 ^ number = pow_pos number in
+    let twice : 2 ^ (most + 1) ≡ 2 ^ most * 2 = pow_more 2 most in
+    omega arith
+
+pub masks_range : (most mask : ℕ) (words : List (List ℕ)) → mask < 2 ^ (most + 1) → fold (λ mask word. bit_or mask (2 ^ number_or_zero most word)) mask words < 2 ^ (most + 1)
+masks_range most mask [] small = small
+masks_range most mask (word ∷ words) small =
+    masks_range most (bit_or mask (2 ^ number_or_zero most word)) words (or_lt (most + 1) mask (2 ^ number_or_zero most word) small (bit_range most (number_or_zero most word) (number_range most word)))
+
+pub chunk_range : (words : List (List ℕ)) (pieces : List Piece) → (256 ≤ chunk_of words pieces) × (chunk_of words pieces ≤ 250000)
+chunk_range words pieces =
+    let text = text_of words (codes "-chunk_size") pieces in
+    range 256 250000 (digits_value 10 text) 50000 (is_number text) (lit≤ tt) (lit≤ tt)
+
+pub workers_range : (words : List (List ℕ)) (pieces : List Piece) → (1 ≤ workers_of words pieces) × (workers_of words pieces ≤ 8)
+workers_range words pieces =
+    let text = text_of words (codes "-cores") pieces in
+    range 1 8 (digits_value 10 text) 1 (is_number text) (lit≤ tt) (lit≤ tt)
+
+-- a change that an option means has a class, if it sets one
+abbrev HasClassIfAny : Option Change → Type 0
+HasClassIfAny None = Unit {0}
+HasClassIfAny (Some change) = HasClass change
+
+class_in : (flag : Option Flag) (after : List (List ℕ)) → HasClassIfAny (change_in flag after)
+class_in None after = tt
+class_in (Some SetClassification) after = number_range 31 (word_at after 0)
+class_in (Some _) after = tt
+
+and_class : (change : Option Change) (changes : List Change) → HasClassIfAny change → All HasClass changes → All HasClass (cons_option change changes)
+and_class None changes class all = all
+and_class (Some change) changes class all = All-cons HasClass change changes class all
+
+pub changes_have_classes : (words : List (List ℕ)) (pieces : List Piece) → All HasClass (changes_of words pieces)
+changes_have_classes words [] = All-nil HasClass
+changes_have_classes words (piece ∷ pieces) =
+    and_class (change_in piece.flag (drop (piece.at + 1) words)) (changes_of words pieces) (class_in piece.flag (drop (piece.at + 1) words)) (changes_have_classes words pieces)

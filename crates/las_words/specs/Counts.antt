@@ -1,0 +1,16 @@
+-- How many words after an option are its values.
+use Rattle.std.specs.Prelude.{ℕ, max, List}
+use Rattle.std.specs.List.{prefix_len}
+use Rattle.las_words.specs.declared.table.Values.{Values}
+use Rattle.las_words.specs.declared.table.Values.TheVariants.{Nothing, Name, Number, Bounds, Several, Signed}
+use Rattle.las_words.specs.Numbers.{is_digits}
+
+-- so many words after an option are its values, or should be: a list is one word, and goes on while the next is of
+-- digits alone
+abbrev pub count_of : Values → List (List ℕ) → ℕ
+count_of Nothing words = 0
+count_of Name words = 1
+count_of (Number low high) words = 1
+count_of (Bounds most) words = 2
+count_of (Several most) words = max 1 (prefix_len is_digits words)
+count_of (Signed count) words = count

@@ -1,0 +1,63 @@
+-- The first word that is wrong by the options and their values, from left to right.
+use Rattle.std.specs.Prelude.{ℕ, zero, suc, ◌+◌, Bool, true, not, nat_lt, if◌then◌else◌, List, [], ◌∷◌, ◌++◌, drop}
+use Rattle.std.specs.Prelude.{Option, Some, None, is_some}
+use Rattle.std.specs.Option.{option_or}
+use Rattle.std.specs.List.{list_any}
+use Rattle.std.specs.Str.{bytes_eq}
+use Rattle.las_words.specs.declared.table.Values.{Values}
+use Rattle.las_words.specs.declared.table.Values.TheVariants.{Nothing, Name, Number, Bounds, Several, Signed}
+use Rattle.las_words.specs.declared.table.Flag.{Flag}
+use Rattle.las_words.specs.declared.pieces.Piece.{Piece}
+use Rattle.las_words.specs.Texts.{word_at}
+use Rattle.las_words.specs.Numbers.{number_in, signed_in}
+use Rattle.las_words.specs.Counts.{count_of}
+use Rattle.las_words.specs.Table.{row_of, first_number, second_number}
+
+-- a word has the form of a value
+abbrev pub fits : Values → List ℕ → Bool
+fits Nothing word = true
+fits Name word = not (bytes_eq word [])
+fits (Number low high) word = is_some (number_in low high word)
+fits (Bounds most) word = is_some (number_in 0 most word)
+fits (Several most) word = is_some (number_in 0 most word)
+fits (Signed count) word = is_some (signed_in word)
+
+-- of so many values, in words that begin at an index, the index of the first that is missing or not of its form
+abbrev pub first_wrong : Values → (at count : ℕ) → List (List ℕ) → Option ℕ
+first_wrong values at zero words = None
+first_wrong values at (suc count) [] = Some at
+first_wrong values at (suc count) (word ∷ words) =
+    if fits values word then first_wrong values (at + 1) count words else Some at
+
+-- the index of a high number that is below its low one
+abbrev pub unordered : Values → (at : ℕ) → List (List ℕ) → Option ℕ
+unordered (Bounds most) at words =
+    if nat_lt (second_number most words) (first_number most words) then Some (at + 1) else None
+unordered _ at words = None
+
+-- the index of the first value that is wrong, in words that begin at an index
+abbrev pub value_fault : Values → (at : ℕ) → List (List ℕ) → Option ℕ
+value_fault values at words =
+    option_or (first_wrong values at (count_of values words) words) (unordered values at words)
+
+-- an option stands after one that it may not follow
+abbrev pub follows_a_rival : List (List ℕ) → List Piece → Flag → Bool
+follows_a_rival words earlier flag =
+    list_any (λ piece. list_any (λ rival. bytes_eq (word_at words piece.at) rival) (row_of flag).rivals) earlier
+
+-- what is wrong with an option of a command, after the options before it, or with its values
+abbrev pub option_fault : List (List ℕ) → List Piece → (at : ℕ) → Option Flag → Option ℕ
+option_fault words earlier at None = Some at
+option_fault words earlier at (Some flag) =
+    if follows_a_rival words earlier flag
+    then Some at
+    else value_fault (row_of flag).values (at + 1) (drop (at + 1) words)
+
+abbrev pub fault_of : List (List ℕ) → List Piece → Piece → Option ℕ
+fault_of words earlier piece = option_fault words earlier piece.at piece.flag
+
+-- the first fault of the options that are left, after those before them
+abbrev pub first_fault : List (List ℕ) → List Piece → List Piece → Option ℕ
+first_fault words earlier [] = None
+first_fault words earlier (piece ∷ pieces) =
+    option_or (fault_of words earlier piece) (first_fault words (earlier ++ piece ∷ []) pieces)

@@ -1,0 +1,9 @@
+pub mod Texts
+pub mod Numbers
+pub mod Counts
+pub mod Table
+pub mod Pieces
+pub mod Faults
+pub mod Settings
+pub mod Plans
+pub mod Says

@@ -1,0 +1,138 @@
+-- The commands and their options, as data (LAStools, `laszip` and `las2las`).
+use Rattle.std.specs.Prelude.{ℕ, ℤ, pos, ◌^◌, bit_or, List, [], ◌∷◌, codes, fold, find, take, Option}
+use Rattle.std.specs.Prelude.{unwrap_or}
+use Rattle.std.specs.Str.{bytes_eq}
+use Rattle.las_filter.specs.declared.keep.Keep.{Keep}
+use Rattle.las_filter.specs.declared.keep.Keep.TheVariants.{Classes, DropClasses, Returns, DropReturns, First, Last}
+use Rattle.las_filter.specs.declared.keep.Keep.TheVariants.{Intensity, NotBelow, NotAbove}
+use Rattle.las_filter.specs.declared.change.Change.{Change}
+use Rattle.las_filter.specs.declared.change.Change.TheVariants.{Translate, SetClass, SetUser, SetSource}
+use Rattle.las_words.specs.declared.table.Tool.{Tool}
+use Rattle.las_words.specs.declared.table.Tool.TheVariants.{Laszip, Las2las}
+use Rattle.las_words.specs.declared.table.Values.{Values}
+use Rattle.las_words.specs.declared.table.Values.TheVariants.{Nothing, Name, Number, Bounds, Several, Signed}
+use Rattle.las_words.specs.declared.table.Flag.{Flag}
+use Rattle.las_words.specs.declared.table.Flag.TheVariants.{Input, Output, ChunkSize, Cores, Olas, Olaz, KeepClass}
+use Rattle.las_words.specs.declared.table.Flag.TheVariants.{DropClass}
+use Rattle.las_words.specs.declared.table.Flag.TheVariants.{KeepReturn, DropReturn, KeepFirst, KeepLast, KeepIntensity}
+use Rattle.las_words.specs.declared.table.Flag.TheVariants.{DropIntensityBelow, DropIntensityAbove, TranslateRawXyz}
+use Rattle.las_words.specs.declared.table.Flag.TheVariants.{TranslateRawX, TranslateRawY, TranslateRawZ}
+use Rattle.las_words.specs.declared.table.Flag.TheVariants.{SetClassification}
+use Rattle.las_words.specs.declared.table.Flag.TheVariants.{SetUserData, SetPointSource}
+use Rattle.las_words.specs.Texts.{word_at}
+use Rattle.las_words.specs.Numbers.{number_or_zero, signed_in}
+use Rattle.las_words.specs.Counts.{count_of}
+
+-- what an option means, of the words that follow it: a setting, which is looked up, a filter, or a change
+pub data Meaning : Type 0 where
+  Setting : Meaning
+  Filters : (List (List ℕ) → Keep) → Meaning
+  Changes : (List (List ℕ) → Change) → Meaning
+
+-- An option: its word, its values, and the options that it may not follow, itself among them if it is given once.
+pub record Row : Type 0 where
+  pub name : List ℕ
+  pub values : Values
+  pub rivals : List (List ℕ)
+  pub means : Meaning
+
+-- an option that is given once
+abbrev pub once : List ℕ → Values → Meaning → Row
+once name values means = record { name = name; values = values; rivals = name ∷ []; means = means }
+
+-- how the output is written: one option of the two, once
+abbrev pub output_form : List ℕ → Row
+output_form name = record {
+  name = name;
+  values = Nothing;
+  rivals = codes "-olas" ∷ codes "-olaz" ∷ [];
+  means = Setting;
+}
+
+-- the first value, and the second, as numbers up to a bound
+abbrev pub first_number : ℕ → List (List ℕ) → ℕ
+first_number most words = number_or_zero most (word_at words 0)
+
+abbrev pub second_number : ℕ → List (List ℕ) → ℕ
+second_number most words = number_or_zero most (word_at words 1)
+
+-- the value of a place as a signed number
+abbrev pub shift_at : ℕ → List (List ℕ) → ℤ
+shift_at place words = unwrap_or (signed_in (word_at words place)) (pos 0)
+
+-- the bits of a list of numbers up to a bound
+abbrev pub mask_of : ℕ → List (List ℕ) → ℕ
+mask_of most words =
+    fold (λ mask word. bit_or mask (2 ^ number_or_zero most word)) 0 (take (count_of (Several most) words) words)
+
+abbrev pub row_of : Flag → Row
+row_of Input = once (codes "-i") Name Setting
+row_of Output = once (codes "-o") Name Setting
+row_of ChunkSize = once (codes "-chunk_size") (Number 256 250000) Setting
+row_of Cores = once (codes "-cores") (Number 1 8) Setting
+row_of Olas = output_form (codes "-olas")
+row_of Olaz = output_form (codes "-olaz")
+row_of KeepClass = once (codes "-keep_class") (Several 31) (Filters (λ words. Classes (mask_of 31 words)))
+row_of DropClass = once (codes "-drop_class") (Several 31) (Filters (λ words. DropClasses (mask_of 31 words)))
+row_of KeepReturn = once (codes "-keep_return") (Several 7) (Filters (λ words. Returns (mask_of 7 words)))
+row_of DropReturn = once (codes "-drop_return") (Several 7) (Filters (λ words. DropReturns (mask_of 7 words)))
+row_of KeepFirst = once (codes "-keep_first") Nothing (Filters (λ words. First))
+row_of KeepLast = once (codes "-keep_last") Nothing (Filters (λ words. Last))
+row_of KeepIntensity =
+    once (codes "-keep_intensity") (Bounds 65535)
+    (Filters (λ words. Intensity (first_number 65535 words) (second_number 65535 words)))
+row_of DropIntensityBelow =
+    once (codes "-drop_intensity_below") (Number 0 65535) (Filters (λ words. NotBelow (first_number 65535 words)))
+row_of DropIntensityAbove =
+    once (codes "-drop_intensity_above") (Number 0 65535) (Filters (λ words. NotAbove (first_number 65535 words)))
+row_of TranslateRawXyz =
+    once (codes "-translate_raw_xyz") (Signed 3)
+    (Changes (λ words. Translate (shift_at 0 words) (shift_at 1 words) (shift_at 2 words)))
+row_of TranslateRawX =
+    once (codes "-translate_raw_x") (Signed 1) (Changes (λ words. Translate (shift_at 0 words) (pos 0) (pos 0)))
+row_of TranslateRawY =
+    once (codes "-translate_raw_y") (Signed 1) (Changes (λ words. Translate (pos 0) (shift_at 0 words) (pos 0)))
+row_of TranslateRawZ =
+    once (codes "-translate_raw_z") (Signed 1) (Changes (λ words. Translate (pos 0) (pos 0) (shift_at 0 words)))
+row_of SetClassification =
+    once (codes "-set_classification") (Number 0 31) (Changes (λ words. SetClass (first_number 31 words)))
+row_of SetUserData = once (codes "-set_user_data") (Number 0 255) (Changes (λ words. SetUser (first_number 255 words)))
+row_of SetPointSource =
+    once (codes "-set_point_source") (Number 0 65535) (Changes (λ words. SetSource (first_number 65535 words)))
+
+-- A command: its word, its options, and which of them are required, each by its names, of which one has to be given.
+pub record CommandRow : Type 0 where
+  pub name : List ℕ
+  pub options : List Flag
+  pub required : List (List (List ℕ))
+
+-- the options of every command here
+abbrev pub common : List Flag
+common = Input ∷ Output ∷ ChunkSize ∷ Cores ∷ []
+
+abbrev pub input_and_output : List (List (List ℕ))
+input_and_output = (codes "-i" ∷ []) ∷ (codes "-o" ∷ []) ∷ []
+
+abbrev pub command_row : Tool → CommandRow
+command_row Laszip = record { name = codes "laszip"; options = common; required = input_and_output }
+command_row Las2las = record {
+  name = codes "las2las";
+  options =
+      Input ∷ Output ∷ ChunkSize ∷ Cores ∷ Olas ∷ Olaz
+      ∷ KeepClass ∷ DropClass ∷ KeepReturn ∷ DropReturn ∷ KeepFirst ∷ KeepLast
+      ∷ KeepIntensity ∷ DropIntensityBelow ∷ DropIntensityAbove
+      ∷ TranslateRawXyz ∷ TranslateRawX ∷ TranslateRawY ∷ TranslateRawZ
+      ∷ SetClassification ∷ SetUserData ∷ SetPointSource ∷ [];
+  required = input_and_output;
+}
+
+abbrev pub options_of : Tool → List Flag
+options_of tool = (command_row tool).options
+
+-- the command of a name
+abbrev pub tool_named : List ℕ → Option Tool
+tool_named word = find (λ tool. bytes_eq word (command_row tool).name) (Laszip ∷ Las2las ∷ [])
+
+-- the option of a command that has a name
+abbrev pub flag_named : Tool → List ℕ → Option Flag
+flag_named tool word = find (λ flag. bytes_eq word (row_of flag).name) (options_of tool)

@@ -1,0 +1,136 @@
+//! Words to a command.
+
+ghost use Rattle.std.specs.Prelude.{◌≡◌, ◌<◌, ◌||◌, ◌&&◌, not, ℕ, Bool, length, All, IfOk, MatchOption, None, Some};
+ghost use Rattle.std.specs.Prelude.{Err, codes, string_bytes};
+ghost use Rattle.std.specs.Str.{bytes_eq};
+ghost use Rattle.las_filter.specs.Kept.{steps_of};
+ghost use Rattle.las_words.specs.Texts.{texts};
+ghost use Rattle.las_words.specs.Settings.{text_of};
+ghost use Rattle.las_words.specs.Plans.{plan_of};
+ghost use Rattle.las_words.specs.Says.{says, asks, usage, asked_by, asked_of, IsSound, missing_option, same_name};
+ghost use Rattle.las_words.specs.Says.{wrong_word, is_packed};
+
+use crate::command::{Command, Packing, WordFault};
+use crate::faults::first_fault;
+use crate::pieces::{Piece, pieces};
+use crate::plan::{changes_of, filters_of};
+use crate::settings::{chunk_of, is_given, place_of, text_of, workers_of};
+use crate::table::Tool;
+use crate::texts::{is_packed_name, word};
+use las_filter::Plan;
+use std::alloc::{AllocError, Global};
+
+/// Reads the words of a command line: the command, or the index of the first word that is wrong. Without any word that
+/// is 0; a missing value or option has the number of words.
+pub fn read_words(alloc: Global, words: &[String]) -> Result<Command, WordFault>
+    ensures command { IfOk result (λ command. says (texts words.now) ≡ asks (asked_by command)) }
+    ensures usage { (index : ℕ) → result ≡ Err (WordFault.Usage index) → says (texts words.now) ≡ usage index }
+    ensures sound { IfOk result (λ command. IsSound (asked_by command)) }
+{
+    let Some(tool) = Tool::named(word(words, 0)) else {
+        return Err(WordFault::Usage(0));
+    };
+    let pieces = pieces(alloc, tool, words)?;
+    if let Some(index) = wrong_word(tool, words, &pieces) {
+        return Err(WordFault::Usage(index));
+    }
+    Ok(command_of(alloc, tool, words, &pieces)?)
+}
+
+// The index of the first word that is wrong.
+fn wrong_word(tool: Tool, words: &[String], pieces: &[Piece]) -> Option<usize>
+    requires { All (λ piece. piece.at < length words.now) pieces.now }
+    ensures { result ≡ wrong_word tool (texts words.now) pieces.now }
+{
+    let fault = first_fault(words, pieces);
+    if fault.is_some() {
+        return fault;
+    }
+    let missing = missing_option(tool, words, pieces);
+    if missing.is_some() {
+        return missing;
+    }
+    same_name(words, pieces)
+}
+
+// The number of words, if a required option is missing. Both commands need an input and an output.
+fn missing_option(tool: Tool, words: &[String], pieces: &[Piece]) -> Option<usize>
+    requires { All (λ piece. piece.at < length words.now) pieces.now }
+    ensures { result ≡ missing_option tool (texts words.now) pieces.now }
+{
+    match tool {
+        Tool::Laszip | Tool::Las2las => {
+            if is_given(words, "-i", pieces) && is_given(words, "-o", pieces) {
+                None
+            } else {
+                Some(words.len())
+            }
+        }
+    }
+}
+
+// The index of the output's name, if it is the input's.
+fn same_name(words: &[String], pieces: &[Piece]) -> Option<usize>
+    requires { All (λ piece. piece.at < length words.now) pieces.now }
+    ensures { result ≡ same_name (texts words.now) pieces.now }
+{
+    if text_of(words, "-o", pieces) == text_of(words, "-i", pieces) {
+        place_of(words, "-o", pieces).map(|at| at + 1)
+    } else {
+        None
+    }
+}
+
+// The command of a tool with these options.
+fn command_of(
+    alloc: Global,
+    tool: Tool,
+    words: &[String],
+    pieces: &[Piece],
+) -> Result<Command, AllocError>
+    requires { All (λ piece. piece.at < length words.now) pieces.now }
+    ensures { IfOk result (λ command. asked_by command ≡ asked_of tool (texts words.now) pieces.now) }
+{
+    let input = String::from_str(alloc, text_of(words, "-i", pieces))?;
+    let output = String::from_str(alloc, text_of(words, "-o", pieces))?;
+    let chunk = chunk_of(words, pieces);
+    let workers = workers_of(words, pieces);
+    match tool {
+        Tool::Laszip => Ok(Command::Laszip {
+            input,
+            output,
+            chunk,
+            workers,
+        }),
+        Tool::Las2las => Ok(Command::Las2las {
+            input,
+            output,
+            plan: plan_of(alloc, words, pieces)?,
+            packing: Packing {
+                packed: is_packed(words, pieces),
+                chunk,
+            },
+            workers,
+        }),
+    }
+}
+
+// The filters and the changes.
+fn plan_of(alloc: Global, words: &[String], pieces: &[Piece]) -> Result<Plan, AllocError>
+    requires { All (λ piece. piece.at < length words.now) pieces.now }
+    ensures { IfOk result (λ plan. steps_of plan ≡ plan_of (texts words.now) pieces.now) }
+{
+    Ok(Plan {
+        keeps: filters_of(alloc, words, pieces)?,
+        changes: changes_of(alloc, words, pieces)?,
+    })
+}
+
+// Whether the output of `las2las` is packed.
+fn is_packed(words: &[String], pieces: &[Piece]) -> bool
+    requires { All (λ piece. piece.at < length words.now) pieces.now }
+    ensures { result ≡ is_packed (texts words.now) pieces.now }
+{
+    is_given(words, "-olaz", pieces)
+        || (!is_given(words, "-olas", pieces) && is_packed_name(text_of(words, "-o", pieces)))
+}

@@ -1,0 +1,22 @@
+//! Words as their bytes.
+
+ghost use Rattle.std.specs.Prelude.{◌≡◌, ◌||◌};
+ghost use Rattle.las_words.specs.Texts.{texts, word_at, is_packed_name};
+
+/// The word at an index, and an empty one if it is missing.
+pub fn word(words: &[String], index: usize) -> &str
+    ensures { result.now ≡ word_at (texts words.now) index }
+{
+    match words.get(index) {
+        Some(word) => word.as_str(),
+        None => "",
+    }
+}
+
+/// Whether LAStools would pack a file of this name.
+pub fn is_packed_name(name: &str) -> bool
+    ensures { result ≡ is_packed_name name.now }
+{
+    let name = name.as_bytes();
+    name.ends_with(b".laz") || name.ends_with(b".LAZ")
+}
