@@ -1,7 +1,7 @@
 //! Times the items of records and whole chunks, for a run by hand: `laz_bench_chunks MODE COUNT CHUNK`.
 //!
-//! MODE is `items`, `chunks`, or `all` for both in turn. COUNT is the number of points, and CHUNK how many of them a chunk
-//! has. Standard output has checksums of the packed bytes, which are the same in each run; standard error has the
+//! MODE is `items`, `chunks`, or `all` for both in turn. COUNT is the number of points, and CHUNK how many of them a
+//! chunk has. Standard output has checksums of the packed bytes, which are the same in each run; standard error has the
 //! nanoseconds both ways. A run fails if what is read back is not what was written.
 #![tactic(auto)]
 

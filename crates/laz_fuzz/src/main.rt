@@ -1,8 +1,9 @@
 //! Tries bytes that may be no chunk: `laz_fuzz SEED COUNT`.
 //!
-//! For each layout of records, COUNT chunks of 2 to 20 drawn records are packed and changed: bits are flipped, bytes are
-//! drawn, cut off and joined. What the bytes hold, if they are accepted, is packed and unpacked again, and must come back.
-//! Standard output has how many were accepted and refused; the status is a failing one if some did not come back.
+//! For each layout of records, COUNT chunks of 2 to 20 drawn records are packed and changed: bits are flipped, bytes
+//! are drawn, cut off and joined. What the bytes hold, if they are accepted, is packed and unpacked again, and must
+//! come back. Standard output has how many were accepted and refused; the status is a failing one if some did not come
+//! back.
 #![tactic(auto)]
 
 mod changes;
