@@ -1,0 +1,11 @@
+//! Files of point records, plain and packed, as streams of blocks: read, written, packed and unpacked.
+//!
+//! A packed file is that of M. Isenburg, "LASzip: lossless compression of LiDAR data" (PE&RS 2013), in chunks of points
+//! with items of version 2.
+#![tactic(auto)]
+
+mod fault;
+mod limits;
+
+pub use fault::Fault;
+pub use limits::PLAIN_BLOCK;
