@@ -1,1 +1,6 @@
 mod Examples
+pub mod Splices
+pub mod Counted
+pub mod Blocks
+pub mod Finished
+pub mod OneAnswer

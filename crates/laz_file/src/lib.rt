@@ -5,7 +5,9 @@
 #![tactic(auto)]
 
 mod fault;
+mod laws;
 mod limits;
 
 pub use fault::Fault;
+pub use laws::{files_have_one_answer, outputs_are_finished};
 pub use limits::PLAIN_BLOCK;
