@@ -4,3 +4,6 @@ pub mod Counted
 pub mod Blocks
 pub mod Finished
 pub mod OneAnswer
+pub mod Accepted
+pub mod Payloads
+pub mod Fronts
