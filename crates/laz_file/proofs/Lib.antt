@@ -7,3 +7,4 @@ pub mod OneAnswer
 pub mod Accepted
 pub mod Payloads
 pub mod Fronts
+pub mod Chunked
