@@ -21,7 +21,7 @@ use Rattle.laz_file.proofs.Accepted.{IsPlainFile}
 use Rattle.laz_file.proofs.Payloads.{payload-chunk, payload-fine, payload-short}
 
 -- the layout of the records is that of their format and length
-layout-length : (format extra : ℕ) → format ≤ 3 → record_length (layout_of format extra) ≡ format_size format + extra
+pub layout-length : (format extra : ℕ) → format ≤ 3 → record_length (layout_of format extra) ≡ format_size format + extra
 layout-length zero extra known = omega arith
 layout-length (suc zero) extra known = omega arith
 layout-length (suc (suc zero)) extra known = omega arith

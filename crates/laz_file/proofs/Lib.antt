@@ -8,3 +8,4 @@ pub mod Accepted
 pub mod Payloads
 pub mod Fronts
 pub mod Chunked
+pub mod Packed
