@@ -2,6 +2,7 @@
 use Rattle.std.proofs.Common.{◌≡◌, ℕ, suc, ◌+◌, ◌*◌, ◌-◌, ◌<◌, ◌≤◌, ◌^◌, ◌==◌, ◌||◌, ◌&&◌, sum, nat_lt, Bool, true, false, cond, List, [], ◌∷◌, ◌++◌, length, map, take, drop, Option, Some, None, refl, sym, ap, subst, ◌∙◌, arith, append_assoc, length-append}
 use Rattle.std.proofs.lemmas.Bool.{cond-false, lt-leb, ne_eqb}
 use Rattle.std.proofs.lemmas.List.{drop_at, length-map, take-append-drop, take-take, take_all, take_at}
+use Rattle.std.proofs.Math.Nat.{mul-le-mul}
 use Rattle.std.specs.List.{concat}
 use Rattle.byteorder.specs.Endian.{little_bytes}
 use Rattle.las_header.specs.declared.refusal.Refusal.{Refusal}
@@ -23,10 +24,12 @@ use Rattle.laz_table.specs.Laws.{AreWords}
 use Rattle.laz_table.specs.Table.{table_bytes}
 use Rattle.laz_table.specs.VlrCauses.{chunk_count, chunk_size_of, extra_of, is_counted, vlr_causes}
 use Rattle.laz_file.specs.Packing.{chunk_blocks, chunks_of, pack, packed_head, record_layout, table_after}
-use Rattle.laz_file.specs.Refusing.{blocks_in, chunks_place, has_bad_pointer, has_last_pointer, table_end, table_part, table_place, tested_causes}
+use Rattle.laz_file.specs.Refusing.{IsAcceptedFile, blocks_in, chunk_causes, chunks_place, has_bad_pointer, has_last_pointer, table_end, table_part, table_place, tested_causes}
+use Rattle.laz_file.specs.Pieces.{ArePieces, ArePiecesIf, Piece, pieces_from}
+use Rattle.laz_file.specs.Records.{HoldBlocks, Unpacks}
 use Rattle.laz_file.proofs.Accepted.{IsPlainFile}
-use Rattle.laz_file.proofs.Blocks.{AreBlocks, blocks-are, cut-joined, cut-length, same-count}
-use Rattle.laz_file.proofs.Chunked.{sum-lengths, table_accepted, words}
+use Rattle.laz_file.proofs.Blocks.{AreBlocks, blocks-are, count-enough, cut-joined, cut-length, same-count}
+use Rattle.laz_file.proofs.Chunked.{pieces_hold, sum-lengths, table_accepted, words}
 use Rattle.laz_file.proofs.Fronts.{chunk_size_is, head_packed, layout-length, layout_same, vlr_fine}
 use Rattle.laz_file.proofs.Payloads.{few-chunks, fixed-size, payload-short, skip}
 
@@ -176,3 +179,112 @@ module _ (file : List ℕ) (chunk : ℕ) (p : IsPlainFile file) (least : 256 ≤
       (and-false (has_last_pointer form) _ not-last))
       (not-below (table_place form) (chunks_place form) (omega (arith, table-place-is, chunks-place-is))))
       (not-below (table_end form) (table_place form) (omega (arith, table-end-is, table-place-is, length-form)))
+
+  -- ---- the table
+  table-part-is : table_part form ≡ table
+  table-part-is =
+      let before : length ((packed ++ pointer) ++ joined) ≡ place = omega (arith, length-append (packed ++ pointer) joined, length-append packed pointer) in
+      ap (λ (n : ℕ). drop n (take (table_end form) form)) table-place-is
+      ∙ ap (λ (n : ℕ). drop place (take n form)) table-end-is
+      ∙ ap (λ (t : List ℕ). drop place t) (take_all (length form) form (omega arith) ∙ sym (append_assoc (packed ++ pointer) joined table))
+      ∙ drop_at ((packed ++ pointer) ++ joined) table place before
+
+  fixed-by : (b : Bool) (size count : ℕ) → b ≡ false → cond b (Counted count) (Fixed size count) ≡ Fixed size count
+  fixed-by true size count e = absurd (cc)
+  fixed-by false size count e = refl
+
+  blocks-in-is : blocks_in (head_of form) ≡ Fixed chunk points
+  blocks-in-is =
+      ap blocks_in head-is
+      ∙ fixed-by (is_counted (chunk_size_of packed)) (chunk_size_of packed) (points_of packed) (ap is_counted (chunk_size_is file chunk p least few) ∙ fixed-size chunk few)
+      ∙ ap (λ (n : ℕ). Fixed n (points_of packed)) (chunk_size_is file chunk p least few)
+      ∙ ap (λ (n : ℕ). Fixed chunk n) (head_packed file chunk p least few).points
+
+  total-is : table_place form - chunks_place form ≡ sum (map length chunks)
+  total-is = omega (arith, table-place-is, chunks-place-is, sum-lengths chunks)
+
+  pub accepted-table : IsAccepted (table_part form) (blocks_in (head_of form)) (table_place form - chunks_place form) (fixed_sizes chunk points) (map length chunks)
+  accepted-table =
+      let sizes = map length chunks in
+      let count : length sizes ≡ chunk_count points chunk = length-map chunks length ∙ length-chunks in
+      let is = table_accepted chunk points sizes (omega (arith, length-map chunks length, chunks-few)) chunk-words count in
+      subst (λ (t : List ℕ). IsAccepted t (blocks_in (head_of form)) (table_place form - chunks_place form) (fixed_sizes chunk points) sizes) (sym table-part-is)
+      (subst (λ (bs : Blocks). IsAccepted table bs (table_place form - chunks_place form) (fixed_sizes chunk points) sizes) (sym blocks-in-is)
+      (subst (λ (n : ℕ). IsAccepted table (Fixed chunk points) n (fixed_sizes chunk points) sizes) (sym total-is) is))
+
+  -- ---- the tested conditions
+  near-is : length packed ≤ offset_limit packed
+  near-is =
+      let limit : offset_limit packed ≡ 16777216 = ap (λ (b : Bool). cond b 16777216 16777104) (head_packed file chunk p least few).packed in
+      omega (arith, head-long, limit)
+
+  front-fine : first_cause (front_causes form (length form)) ≡ None
+  front-fine =
+      let is = (head_packed file chunk p least few).is_head in
+      let size = length form in
+      let same : take 227 form ≡ take 227 packed = sym (take-take 227 (length packed) form is.block) ∙ ap (λ (t : List ℕ). take 227 t) front in
+      ap first_cause (sym (front_decides form size) ∙ ap (λ (t : List ℕ). front_causes t size) same ∙ front_decides packed size)
+      ∙ front_is_fine packed size is (omega (arith, length-form)) near-is
+
+  head-fine : first_cause (head_causes (head_of form) (length form)) ≡ None
+  head-fine =
+      let is = head_packed file chunk p least few in
+      ap (λ (t : List ℕ). first_cause (head_causes t (length form))) head-is ∙ packed_is_fine packed (length form) is.is_head is.packed
+
+  both-fine : (xs ys : List (Bool × Refusal)) → first_cause xs ≡ None → first_cause ys ≡ None → first_cause (xs ++ ys) ≡ None
+  both-fine xs ys e f = first_of_both xs ys ∙ ap (λ (o : Option Refusal). or_else o (first_cause ys)) e ∙ f
+
+  abbrev last : List (Bool × Refusal)
+  last = (has_bad_pointer form, cause.TablePointer) ∷ []
+
+  packed-fine : first_cause (vlr_causes (head_of form) ++ last) ≡ None
+  packed-fine =
+      both-fine (vlr_causes (head_of form)) last
+      (ap (λ (t : List ℕ). first_cause (vlr_causes t)) head-is ∙ vlr_fine file chunk p least few)
+      (skip (has_bad_pointer form) cause.TablePointer [] good-pointer refl)
+
+  tests-fine : first_cause (tested_causes form) ≡ None
+  tests-fine =
+      both-fine (causes_of form) (cond (is_packed (head_of form)) (vlr_causes (head_of form) ++ last) [])
+      (both-fine (front_causes form (length form)) (head_causes (head_of form) (length form)) front-fine head-fine)
+      (ap (λ (b : Bool). first_cause (cond b (vlr_causes (head_of form) ++ last) [])) packed-is ∙ packed-fine)
+
+  pub form_accepted : IsAcceptedFile form
+  form_accepted =
+      IsFirst-append_none (conditions (tested_causes form)) (chunk_causes (is_packed (head_of form)) form) None
+      (subst (λ (o : Option Refusal). IsFirst (conditions (tested_causes form)) o) tests-fine (IsFirst-tests (tested_causes form)))
+      (subst (λ (b : Bool). IsFirst (chunk_causes b form) None) (sym packed-is) accepted-table.fine)
+
+  -- ---- the pieces
+  pub layout-is : record_layout (head_of form) ≡ layout
+  layout-is = ap record_layout head-is ∙ layout_same file chunk p least few
+
+  abbrev pub pieces : List Piece
+  pieces = pieces_from (chunks_place form) (fixed_sizes chunk points) (map length chunks)
+
+  pub form_pieces : ArePieces form pieces
+  form_pieces =
+      subst (λ (b : Bool). ArePiecesIf b form pieces) (sym packed-is)
+      (fixed_sizes chunk points, map length chunks, accepted-table, refl)
+
+  pub form_holds : HoldBlocks form pieces blocks
+  form_holds =
+      let at = chunks_place form in
+      let counts = fixed_sizes chunk points in
+      let same = layout-is in
+      subst (λ (l : Layout). HoldBlocks form (pieces_from at counts (map length (map (chunk_bytes l) blocks))) blocks) same
+      (pieces_hold form packed-is chunk at counts blocks table (subst (λ (l : Layout). AreBlocks l chunk counts blocks) (sym same) are_blocks)
+      (subst (λ (l : Layout). drop at form ≡ concat (map (chunk_bytes l) blocks) ++ table) (sym same) after-pointer))
+
+  pub blocks_joined : concat blocks ≡ records
+  blocks_joined =
+      let size = record_length_of head in
+      let some : 1 ≤ size * chunk = omega (arith, mul-le-mul {n₁ = 1} {m₁ = 1} {n₂ = size} {m₂ = chunk} (omega (arith, p.head.record_length)) (omega (arith, least))) in
+      cut-joined (size * chunk) (chunk_count (length records) (size * chunk)) records (count-enough (length records) (size * chunk) some)
+
+  pub form_unpacks : Unpacks form file
+  form_unpacks =
+      let head_back : plain_head form ≡ head = ap plain_of head-is ∙ (head_packed file chunk p least few).back in
+      let whole : head ++ records ≡ file = take-append-drop (point_offset_of file) file in
+      (blocks, (pieces, form_pieces, form_holds),
+      sym (ap (λ (t : List ℕ). t ++ concat blocks) head_back ∙ ap (λ (t : List ℕ). head ++ t) blocks_joined ∙ whole))
