@@ -1,16 +1,14 @@
 -- What is known of an accepted plain file: its head, and its records.
-use Rattle.std.proofs.Common.{◌≡◌, ◌⊎◌, inl, inr, ℕ, ◌+◌, ◌*◌, ◌-◌, ◌<◌, ◌≤◌, ◌^◌, ◌==◌, ◌&&◌, not, nat_le, nat_lt, Bool, true, false, cond, ltb-false, List, [], ◌∷◌, ◌++◌, length, take, drop, slice_index, Option, Some, None, refl, sym, ap, subst, ◌∙◌, arith, length-drop}
+use Rattle.std.proofs.Common.{◌≡◌, inl, inr, ℕ, ◌*◌, ◌-◌, ◌≤◌, ◌&&◌, not, nat_le, Bool, true, false, cond, ltb-false, List, [], ◌∷◌, ◌++◌, length, take, drop, Option, Some, None, refl, sym, ap, ◌∙◌, arith, length-drop}
 use Rattle.std.proofs.lemmas.List.{get_or-take, length-take-le, nil_from_length}
 use Rattle.las_header.specs.declared.refusal.Refusal.{Refusal}
 use Rattle.las_header.specs.declared.refusal.Refusal.TheVariants as cause
-use Rattle.las_header.specs.declared.vlrs.VlrPlace.{VlrPlace}
 use Rattle.las_header.specs.Conditions.{Condition, IsFirst, conditions}
-use Rattle.las_header.specs.Fields.{format_of, head_of, is_packed, minor_of, offset_limit, point_offset_of, points_of, record_length_of}
+use Rattle.las_header.specs.Fields.{head_of, is_packed, minor_of, point_offset_of, points_of, record_length_of}
 use Rattle.las_header.specs.Heads.{IsHead}
-use Rattle.las_header.specs.Plain.{plain_head}
 use Rattle.las_header.specs.Refusals.{causes_of, counted_size, first_cause, front_causes, head_causes, or_else}
 use Rattle.las_header.specs.Vlrs.{laszip_vlrs_of}
-use Rattle.las_header.proofs.CauseLemmas.{CanRead, IsAcceptedHead, IsFront, accepted_front, accepted_head, can_read, first_of_both, front_decides, is_head, least_any, points_fit}
+use Rattle.las_header.proofs.CauseLemmas.{accepted_front, accepted_head, can_read, first_of_both, front_decides, is_head, least_any, points_fit}
 use Rattle.las_header.proofs.ConditionLemmas.{first_is_tested}
 use Rattle.las_header.proofs.NumberLemmas.{number_at-take}
 use Rattle.laz_range.specs.Span.{IsBytes}

@@ -1,5 +1,5 @@
 -- Records cut into blocks of one size, and joined again.
-use Rattle.std.proofs.Common.{◌≡◌, ◌⊎◌, inl, inr, ℕ, zero, suc, ◌+◌, ◌*◌, ◌-◌, ◌/◌, ◌<◌, ◌≤◌, min, List, [], ◌∷◌, ◌++◌, length, map, take, drop, refl, sym, ap, ◌∙◌, arith, length-drop}
+use Rattle.std.proofs.Common.{◌≡◌, inl, inr, ℕ, zero, suc, ◌+◌, ◌*◌, ◌-◌, ◌<◌, ◌≤◌, min, List, [], ◌∷◌, ◌++◌, length, map, take, drop, refl, sym, ap, ◌∙◌, arith, length-drop}
 use Rattle.std.proofs.lemmas.Bool.{cases_lt}
 use Rattle.std.proofs.lemmas.List.{length-take-le, nil_from_length, take-append-drop, take_all}
 use Rattle.std.proofs.Math.Nat.{div-eq_of_lt-le, lt-mul-div-succ, min-eq_left, min-eq_right, min-le_left, mul-div-le, mul-le-mul_left}
@@ -51,12 +51,15 @@ blocks-from l chunk points k (suc n) bytes some within whole are =
     let more : chunk * k + chunk * n < points = omega (arith, within) in
     let there : points ≡ left + chunk * k = omega (arith, more) in
     let all : length bytes ≡ size * left = omega (arith, whole (omega arith), ap (λ (p : ℕ). size * p) there) in
-    let one : 1 ≤ min chunk left = omega (arith, some, more) in
-    (one, min-le_left chunk left, record { length = part-length size chunk left bytes all; bytes = IsBytes-take (size * chunk) bytes are },
-    blocks-from l chunk points (k + 1) n (drop (size * chunk) bytes) some (omega (arith, within))
-    (λ rest. let far : chunk * k + chunk ≤ points = omega (arith, more, mul-le-mul_left chunk rest) in
-    omega (arith, length-drop (size * chunk) bytes, whole (omega arith), mul-le-mul_left size far))
-    (IsBytes-drop (size * chunk) bytes are))
+    let one : 1 ≤ min chunk left = omega (arith, some, more) in (
+      one,
+      min-le_left chunk left,
+      record { length = part-length size chunk left bytes all; bytes = IsBytes-take (size * chunk) bytes are },
+      blocks-from l chunk points (k + 1) n (drop (size * chunk) bytes) some (omega (arith, within))
+          (λ rest. let far : chunk * k + chunk ≤ points = omega (arith, more, mul-le-mul_left chunk rest) in
+          omega (arith, length-drop (size * chunk) bytes, whole (omega arith), mul-le-mul_left size far))
+          (IsBytes-drop (size * chunk) bytes are),
+    )
 
 -- the number of chunks is enough, and the last one has a record
 pub count-enough : (points chunk : ℕ) → 1 ≤ chunk → points ≤ chunk * chunk_count points chunk

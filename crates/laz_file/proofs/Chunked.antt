@@ -1,27 +1,25 @@
 -- The chunks of blocks of records: their sizes, their table, and the pieces that they are.
-use Rattle.std.proofs.Common.{◌≡◌, ℕ, zero, suc, ◌+◌, ◌*◌, ◌-◌, ◌<◌, ◌≤◌, ◌==◌, sum, Bool, true, false, cond, List, [], ◌∷◌, ◌++◌, length, map, take, drop, None, inl, inr, refl, sym, ap, subst, ◌∙◌, arith, append_assoc}
+use Rattle.std.proofs.Common.{◌≡◌, ℕ, ◌+◌, ◌*◌, ◌-◌, ◌<◌, ◌≤◌, ◌==◌, sum, Bool, true, false, List, [], ◌∷◌, ◌++◌, length, map, take, drop, None, inr, refl, sym, ap, subst, ◌∙◌, arith, append_assoc}
 use Rattle.std.proofs.lemmas.Bool.{cond-false, ne_eqb}
-use Rattle.std.proofs.lemmas.List.{drop-drop, drop_at, length-map, take_at}
+use Rattle.std.proofs.lemmas.List.{drop-drop, drop_at, take_at}
 use Rattle.std.proofs.lemmas.List.Concat.{concat_is, length-flat_map}
 use Rattle.std.proofs.lemmas.List.Sums.{sum-map}
 use Rattle.std.proofs.Math.Nat.{mul-le-mul}
 use Rattle.std.specs.List.{concat}
 use Rattle.las_header.specs.Conditions.{IsFirst}
 use Rattle.las_header.specs.Fields.{head_of, is_packed}
-use Rattle.laz_range.specs.Span.{IsBytes}
 use Rattle.laz_chunk.specs.Chunks.{AreRecords, Holds, chunk_bytes}
 use Rattle.laz_chunk.specs.Layouts.{Layout, most_events, record_length, room_for}
 use Rattle.laz_chunk.proofs.Bounds.{chunk-holds, chunk-most}
-use Rattle.laz_table.specs.declared.chunks.Blocks.{Blocks}
-use Rattle.laz_table.specs.declared.chunks.Blocks.TheVariants.{Fixed, Counted}
-use Rattle.laz_table.specs.Chunks.{HasOtherBytes, HasTable, IsAccepted, LacksTable, fixed_sizes, table_causes}
+use Rattle.laz_table.specs.declared.chunks.Blocks.TheVariants.{Fixed}
+use Rattle.laz_table.specs.Chunks.{HasTable, IsAccepted, fixed_sizes, table_causes}
 use Rattle.laz_table.specs.Laws.{AreWords}
 use Rattle.laz_table.specs.Table.{TableHolds, table_bytes}
 use Rattle.laz_table.specs.VlrCauses.{chunk_count}
 use Rattle.laz_table.proofs.TableBytes.{fixed-bytes}
 use Rattle.laz_table.proofs.TableLaws.{holds-fixed, one-held}
 use Rattle.laz_file.specs.Packing.{record_layout}
-use Rattle.laz_file.specs.Pieces.{Piece, pieces_from}
+use Rattle.laz_file.specs.Pieces.{Piece, piece_bytes, pieces_from}
 use Rattle.laz_file.specs.Records.{HoldBlocks, HoldsBlock, HoldsIf}
 use Rattle.laz_file.proofs.Blocks.{AreBlocks}
 
@@ -100,8 +98,27 @@ module _ (file : List ℕ) (packed : is_packed (head_of file) ≡ true) where
       let more = concat (map (chunk_bytes layout) blocks) ++ rest in
       let from : drop at file ≡ bytes ++ more = there ∙ append_assoc bytes (concat (map (chunk_bytes layout) blocks)) rest in
       let part : take (length bytes) (drop at file) ≡ bytes = ap (λ (t : List ℕ). take (length bytes) t) from ∙ take_at bytes more (length bytes) refl in
+      let next : drop (at + length bytes) file ≡ more = sym (drop-drop (length bytes) at file) ∙ ap (λ (t : List ℕ). drop (length bytes) t) from ∙ drop_at bytes more (length bytes) refl in (
+        holds_block (record { start = at; size = length bytes; count = n }) b (record {
+          are = are.2;
+          holds = subst (λ (t : List ℕ). Holds layout t b) (sym part) (chunk-holds layout n b are.0 are.2);
+        }),
+        pieces_hold most (at + length bytes) counts blocks rest are.3 next,
+      )
+
+  -- the bytes of the pieces are the chunks
+  pub bytes_are : (most at : ℕ) (counts : List ℕ) (blocks : List (List ℕ)) (rest : List ℕ) → AreBlocks (record_layout (head_of file)) most counts blocks
+      → drop at file ≡ concat (map (chunk_bytes (record_layout (head_of file))) blocks) ++ rest
+      → map (piece_bytes file) (pieces_from at counts (map length (map (chunk_bytes (record_layout (head_of file))) blocks))) ≡ map (chunk_bytes (record_layout (head_of file))) blocks
+  bytes_are most at [] [] rest are there = refl
+  bytes_are most at [] (b ∷ blocks) rest are there = absurd are
+  bytes_are most at (n ∷ counts) [] rest are there = absurd are
+  bytes_are most at (n ∷ counts) (b ∷ blocks) rest are there =
+      let layout = record_layout (head_of file) in
+      let bytes = chunk_bytes layout b in
+      let more = concat (map (chunk_bytes layout) blocks) ++ rest in
+      let from : drop at file ≡ bytes ++ more = there ∙ append_assoc bytes (concat (map (chunk_bytes layout) blocks)) rest in
+      let part : take (length bytes) (drop at file) ≡ bytes = ap (λ (t : List ℕ). take (length bytes) t) from ∙ take_at bytes more (length bytes) refl in
       let next : drop (at + length bytes) file ≡ more = sym (drop-drop (length bytes) at file) ∙ ap (λ (t : List ℕ). drop (length bytes) t) from ∙ drop_at bytes more (length bytes) refl in
-      (holds_block (record { start = at; size = length bytes; count = n }) b (record {
-        are = are.2;
-        holds = subst (λ (t : List ℕ). Holds layout t b) (sym part) (chunk-holds layout n b are.0 are.2);
-      }), pieces_hold most (at + length bytes) counts blocks rest are.3 next)
+      ap (λ (t : List ℕ). t ∷ map (piece_bytes file) (pieces_from (at + length bytes) counts (map length (map (chunk_bytes layout) blocks)))) part
+      ∙ ap (λ (ts : List (List ℕ)). bytes ∷ ts) (bytes_are most (at + length bytes) counts blocks rest are.3 next)

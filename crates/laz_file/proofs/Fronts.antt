@@ -1,21 +1,20 @@
 -- The head of an accepted plain file, packed: what is known of it, and that no condition of its laszip VLR holds.
-use Rattle.std.proofs.Common.{◌≡◌, ℕ, zero, suc, ◌+◌, ◌*◌, ◌-◌, ◌<◌, ◌≤◌, Bool, true, false, List, [], ◌∷◌, ◌++◌, length, take, drop, slice_get, Option, Some, None, refl, sym, ap, ◌∙◌, arith}
+use Rattle.std.proofs.Common.{◌≡◌, ℕ, zero, suc, ◌+◌, ◌-◌, ◌≤◌, List, ◌++◌, length, take, drop, slice_get, None, refl, sym, ap, ◌∙◌, arith}
 use Rattle.std.proofs.lemmas.List.{drop-drop, take_at}
-use Rattle.std.specs.List.{splice}
 use Rattle.las_header.specs.declared.vlrs.VlrPlace.{VlrPlace}
-use Rattle.las_header.specs.Fields.{format_byte_of, format_of, format_size, head_of, is_packed, minor_of, point_offset_of, points_of, record_length_of, vlr_count_of}
-use Rattle.las_header.specs.Heads.{IsHead, PacksHead}
-use Rattle.las_header.specs.Plain.{laszip_vlr, plain_head, plain_of, with_vlr, without_first}
+use Rattle.las_header.specs.Fields.{format_byte_of, format_of, format_size, head_of, minor_of, point_offset_of, points_of, record_length_of, vlr_count_of}
+use Rattle.las_header.specs.Heads.{PacksHead}
+use Rattle.las_header.specs.Plain.{laszip_vlr}
 use Rattle.las_header.specs.Refusals.{first_cause}
-use Rattle.las_header.specs.Vlrs.{laszip_vlrs_of, vlrs_end}
+use Rattle.las_header.specs.Vlrs.{vlrs_end}
 use Rattle.las_header.proofs.CauseLemmas.{least_any}
 use Rattle.las_header.proofs.LayoutLemmas.{IsRelaid, after_relaid, drop_part}
 use Rattle.las_header.proofs.PackingLemmas.{CanPack, packs}
 use Rattle.las_header.proofs.VlrLemmas.{header_before}
 use Rattle.laz_table.specs.Payload.{laszip_payload}
-use Rattle.laz_table.specs.VlrCauses.{chunk_size_in, chunk_size_of, extra_of, payload_at, payload_causes, payload_of, vlr_causes}
+use Rattle.laz_table.specs.VlrCauses.{chunk_size_in, chunk_size_of, extra_of, payload_at, payload_causes, vlr_causes}
 use Rattle.laz_table.proofs.VlrCauseLemmas.{payload-decides, payload-is}
-use Rattle.laz_chunk.specs.Layouts.{Layout, layout_of, record_length}
+use Rattle.laz_chunk.specs.Layouts.{layout_of, record_length}
 use Rattle.laz_file.specs.Packing.{packed_head, record_layout}
 use Rattle.laz_file.proofs.Accepted.{IsPlainFile}
 use Rattle.laz_file.proofs.Payloads.{payload-chunk, payload-fine, payload-short}

@@ -1,5 +1,5 @@
 -- The packed form of an accepted plain file: it is accepted, and its chunks hold the records.
-use Rattle.std.proofs.Common.{◌≡◌, ℕ, suc, ◌+◌, ◌*◌, ◌-◌, ◌<◌, ◌≤◌, ◌^◌, ◌==◌, ◌||◌, ◌&&◌, sum, nat_lt, Bool, true, false, cond, List, [], ◌∷◌, ◌++◌, length, map, take, drop, Option, Some, None, refl, sym, ap, subst, ◌∙◌, arith, append_assoc, length-append}
+use Rattle.std.proofs.Common.{◌≡◌, ℕ, suc, ◌+◌, ◌*◌, ◌-◌, ◌<◌, ◌≤◌, ◌||◌, ◌&&◌, sum, nat_lt, Bool, true, false, cond, List, [], ◌∷◌, ◌++◌, length, map, take, drop, Option, None, refl, sym, ap, subst, ◌∙◌, arith, append_assoc, length-append}
 use Rattle.std.proofs.lemmas.Bool.{cond-false, lt-leb, ne_eqb}
 use Rattle.std.proofs.lemmas.List.{drop_at, length-map, take-append-drop, take-take, take_all, take_at}
 use Rattle.std.proofs.Math.Nat.{mul-le-mul}
@@ -8,9 +8,10 @@ use Rattle.byteorder.specs.Endian.{little_bytes}
 use Rattle.las_header.specs.declared.refusal.Refusal.{Refusal}
 use Rattle.las_header.specs.declared.refusal.Refusal.TheVariants as cause
 use Rattle.las_header.specs.Conditions.{IsFirst, conditions}
-use Rattle.las_header.specs.Fields.{format_of, format_size, head_of, is_packed, offset_limit, point_offset_of, points_of, record_length_of}
+use Rattle.las_header.specs.Fields.{format_of, head_of, is_packed, offset_limit, point_offset_of, points_of, record_length_of}
 use Rattle.las_header.specs.Numbers.{number_at}
-use Rattle.las_header.specs.Plain.{cut_records, plain_head, plain_of}
+use Rattle.las_header.specs.Plain.{cut_records, plain_head, plain_of, without_first}
+use Rattle.las_header.specs.Vlrs.{laszip_vlrs_of}
 use Rattle.las_header.specs.Refusals.{causes_of, first_cause, front_causes, head_causes, or_else}
 use Rattle.las_header.proofs.CauseLemmas.{first_of_both, front_decides, front_is_fine, packed_is_fine}
 use Rattle.las_header.proofs.ConditionLemmas.{IsFirst-append_none, IsFirst-tests}
@@ -23,13 +24,14 @@ use Rattle.laz_table.specs.Chunks.{IsAccepted, fixed_sizes}
 use Rattle.laz_table.specs.Laws.{AreWords}
 use Rattle.laz_table.specs.Table.{table_bytes}
 use Rattle.laz_table.specs.VlrCauses.{chunk_count, chunk_size_of, extra_of, is_counted, vlr_causes}
+use Rattle.laz_file.specs.Laws.{CanBePacked, HasItsChunks, ArePackedChunks, IsPackedAccepted, UnpacksAgain}
 use Rattle.laz_file.specs.Packing.{chunk_blocks, chunks_of, pack, packed_head, record_layout, table_after}
 use Rattle.laz_file.specs.Refusing.{IsAcceptedFile, blocks_in, chunk_causes, chunks_place, has_bad_pointer, has_last_pointer, table_end, table_part, table_place, tested_causes}
-use Rattle.laz_file.specs.Pieces.{ArePieces, ArePiecesIf, Piece, pieces_from}
+use Rattle.laz_file.specs.Pieces.{ArePieces, ArePiecesIf, Piece, piece_bytes, pieces_from}
 use Rattle.laz_file.specs.Records.{HoldBlocks, Unpacks}
-use Rattle.laz_file.proofs.Accepted.{IsPlainFile}
+use Rattle.laz_file.proofs.Accepted.{IsPlainFile, plain_file}
 use Rattle.laz_file.proofs.Blocks.{AreBlocks, blocks-are, count-enough, cut-joined, cut-length, same-count}
-use Rattle.laz_file.proofs.Chunked.{pieces_hold, sum-lengths, table_accepted, words}
+use Rattle.laz_file.proofs.Chunked.{bytes_are, pieces_hold, sum-lengths, table_accepted, words}
 use Rattle.laz_file.proofs.Fronts.{chunk_size_is, head_packed, layout-length, layout_same, vlr_fine}
 use Rattle.laz_file.proofs.Payloads.{few-chunks, fixed-size, payload-short, skip}
 
@@ -276,6 +278,18 @@ module _ (file : List ℕ) (chunk : ℕ) (p : IsPlainFile file) (least : 256 ≤
       (pieces_hold form packed-is chunk at counts blocks table (subst (λ (l : Layout). AreBlocks l chunk counts blocks) (sym same) are_blocks)
       (subst (λ (l : Layout). drop at form ≡ concat (map (chunk_bytes l) blocks) ++ table) (sym same) after-pointer))
 
+  form_bytes : map (piece_bytes form) pieces ≡ chunks
+  form_bytes =
+      let at = chunks_place form in
+      let counts = fixed_sizes chunk points in
+      let same = layout-is in
+      subst (λ (l : Layout). map (piece_bytes form) (pieces_from at counts (map length (map (chunk_bytes l) blocks))) ≡ map (chunk_bytes l) blocks) same
+      (bytes_are form packed-is chunk at counts blocks table (subst (λ (l : Layout). AreBlocks l chunk counts blocks) (sym same) are_blocks)
+      (subst (λ (l : Layout). drop at form ≡ concat (map (chunk_bytes l) blocks) ++ table) (sym same) after-pointer))
+
+  pub form_chunks : HasItsChunks head records chunk
+  form_chunks = record { pieces_are = form_pieces; chunks_are = form_bytes; hold = form_holds }
+
   pub blocks_joined : concat blocks ≡ records
   blocks_joined =
       let size = record_length_of head in
@@ -285,6 +299,30 @@ module _ (file : List ℕ) (chunk : ℕ) (p : IsPlainFile file) (least : 256 ≤
   pub form_unpacks : Unpacks form file
   form_unpacks =
       let head_back : plain_head form ≡ head = ap plain_of head-is ∙ (head_packed file chunk p least few).back in
-      let whole : head ++ records ≡ file = take-append-drop (point_offset_of file) file in
-      (blocks, (pieces, form_pieces, form_holds),
-      sym (ap (λ (t : List ℕ). t ++ concat blocks) head_back ∙ ap (λ (t : List ℕ). head ++ t) blocks_joined ∙ whole))
+      let whole : head ++ records ≡ file = take-append-drop (point_offset_of file) file in (
+        blocks,
+        (pieces, form_pieces, form_holds),
+        sym (ap (λ (t : List ℕ). t ++ concat blocks) head_back ∙ ap (λ (t : List ℕ). head ++ t) blocks_joined ∙ whole),
+      )
+
+-- ---- the laws
+known : (file : List ℕ) (chunk : ℕ) → CanBePacked file chunk → IsPlainFile file
+known file chunk can = plain_file file can.accepted can.plain can.bytes
+
+plain-is : (file : List ℕ) → is_packed (head_of file) ≡ false → head_of file ≡ plain_head file
+plain-is file plain = sym (cond-false (is_packed (head_of file)) (without_first (laszip_vlrs_of (head_of file)) (head_of file)) (head_of file) plain)
+
+pub packed_accepted : IsPackedAccepted
+packed_accepted file chunk can =
+    subst (λ (h : List ℕ). IsAcceptedFile (pack h (drop (point_offset_of file) file) chunk)) (plain-is file can.plain)
+    (form_accepted file chunk (known file chunk can) can.least can.most)
+
+pub packed_chunks : ArePackedChunks
+packed_chunks file chunk can =
+    subst (λ (h : List ℕ). HasItsChunks h (drop (point_offset_of file) file) chunk) (plain-is file can.plain)
+    (form_chunks file chunk (known file chunk can) can.least can.most)
+
+pub unpacks_again : UnpacksAgain
+unpacks_again file chunk can =
+    subst (λ (h : List ℕ). Unpacks (pack h (drop (point_offset_of file) file) chunk) file) (plain-is file can.plain)
+    (form_unpacks file chunk (known file chunk can) can.least can.most)

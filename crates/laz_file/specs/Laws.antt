@@ -1,14 +1,20 @@
 -- Laws of files.
-use Rattle.std.specs.Prelude.{◌≡◌, ℕ, ◌*◌, if◌then◌else◌, List, ◌++◌, length, Option, Some, None, true}
+use Rattle.std.specs.Prelude.{◌≡◌, ℕ, ◌*◌, ◌≤◌, true, false, if◌then◌else◌, List, ◌++◌, length, map, drop, Option}
+use Rattle.std.specs.Prelude.{Some, None}
 use Rattle.las_header.specs.declared.refusal.Refusal.{Refusal}
 use Rattle.las_header.specs.Counting.{with_counts}
-use Rattle.las_header.specs.Fields.{record_length_of}
+use Rattle.las_header.specs.Fields.{head_of, is_packed, point_offset_of, points_of, record_length_of}
 use Rattle.las_header.specs.Heads.{IsHead}
+use Rattle.las_header.specs.Plain.{plain_head}
 use Rattle.las_points.specs.Tally.{counted_file, counts_of}
+use Rattle.laz_range.specs.Span.{IsBytes}
+use Rattle.laz_table.specs.declared.limits.TheConstants.{MAX_CHUNK_POINTS}
+use Rattle.laz_table.specs.Chunks.{fixed_sizes}
 use Rattle.laz_file.specs.Outputs.{Output, finished, records_after}
-use Rattle.laz_file.specs.Packing.{pack}
-use Rattle.laz_file.specs.Pieces.{ArePieces, Piece}
-use Rattle.laz_file.specs.Refusing.{IsRefusal}
+use Rattle.laz_file.specs.Packing.{chunk_blocks, chunks_of, pack, packed_file}
+use Rattle.laz_file.specs.Pieces.{ArePieces, Piece, piece_bytes, pieces_from}
+use Rattle.laz_file.specs.Records.{HoldBlocks, Unpacks}
+use Rattle.laz_file.specs.Refusing.{IsAcceptedFile, IsRefusal, chunks_place}
 
 -- A file is refused for at most one cause.
 abbrev pub IsRefusedOnce : Type 0
@@ -38,3 +44,42 @@ abbrev pub IsCountedFile : Type 0
 IsCountedFile = (out : Output) (count : ℕ) (records : List ℕ) → IsHead out.head → out.counted ≡ true → out.chunk ≡ None
     → length records ≡ record_length_of out.head * count
     → finished out records ≡ counted_file out.head (records_after out.head records)
+
+-- An accepted plain file, and a number of records that its chunks may have.
+pub record CanBePacked (file : List ℕ) (chunk : ℕ) : Type 0 where
+  pub accepted : IsAcceptedFile file
+  pub plain : is_packed (head_of file) ≡ false
+  pub bytes : IsBytes file
+  pub least : 256 ≤ chunk
+  pub most : chunk ≤ MAX_CHUNK_POINTS
+
+-- The packed form of such a file is accepted.
+abbrev pub IsPackedAccepted : Type 0
+IsPackedAccepted = (file : List ℕ) (chunk : ℕ) → CanBePacked file chunk → IsAcceptedFile (packed_file file chunk)
+
+-- The pieces of a file, which are these chunks, hold these blocks.
+pub record HasChunks (file : List ℕ) (pieces : List Piece) (chunks blocks : List (List ℕ)) : Type 0 where
+  pub pieces_are : ArePieces file pieces
+  pub chunks_are : map (piece_bytes file) pieces ≡ chunks
+  pub hold : HoldBlocks file pieces blocks
+
+-- the pieces of a packed form: its chunks, one after another, each with its number of records
+abbrev pub pieces_of : (head records : List ℕ) → (chunk : ℕ) → List Piece
+pieces_of head records chunk =
+    pieces_from (chunks_place (pack head records chunk)) (fixed_sizes chunk (points_of head))
+    (map length (chunks_of head (chunk_blocks head records chunk)))
+
+-- a packed form has its chunks, which hold the blocks of the records
+abbrev pub HasItsChunks : (head records : List ℕ) → (chunk : ℕ) → Type 0
+HasItsChunks head records chunk =
+    let blocks = chunk_blocks head records chunk in
+    HasChunks (pack head records chunk) (pieces_of head records chunk) (chunks_of head blocks) blocks
+
+-- The pieces of the packed form of such a file are its chunks, which hold the blocks of its records.
+abbrev pub ArePackedChunks : Type 0
+ArePackedChunks = (file : List ℕ) (chunk : ℕ) → CanBePacked file chunk
+    → HasItsChunks (plain_head file) (drop (point_offset_of file) file) chunk
+
+-- The plain form of the packed form of such a file is the file again.
+abbrev pub UnpacksAgain : Type 0
+UnpacksAgain = (file : List ℕ) (chunk : ℕ) → CanBePacked file chunk → Unpacks (packed_file file chunk) file

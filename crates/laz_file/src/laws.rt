@@ -1,6 +1,7 @@
 //! Laws of files, as contracts of functions that do nothing.
 
-ghost use Rattle.laz_file.specs.Laws.{HasOnePieces, IsCountedFile, IsFinished, IsRefusedOnce};
+ghost use Rattle.laz_file.specs.Laws.{ArePackedChunks, HasOnePieces, IsCountedFile, IsFinished, IsPackedAccepted};
+ghost use Rattle.laz_file.specs.Laws.{IsRefusedOnce, UnpacksAgain};
 
 /// A file is refused for at most one cause, and has at most one list of pieces.
 pub fn files_have_one_answer()
@@ -13,4 +14,12 @@ pub fn files_have_one_answer()
 pub fn outputs_are_finished()
     ensures finished { IsFinished }
     ensures counted { IsCountedFile }
+{}
+
+/// An accepted plain file is packed without loss, in chunks of 256 to 250,000 points: the packed form is accepted, its
+/// pieces are the chunks, which hold the blocks of the records, and its plain form is the file again.
+pub fn files_are_packed_without_loss()
+    ensures accepted { IsPackedAccepted }
+    ensures chunks { ArePackedChunks }
+    ensures back { UnpacksAgain }
 {}
