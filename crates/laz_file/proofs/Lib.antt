@@ -9,3 +9,4 @@ pub mod Payloads
 pub mod Fronts
 pub mod Chunked
 pub mod Packed
+pub mod Whole

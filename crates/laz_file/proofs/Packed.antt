@@ -309,7 +309,7 @@ module _ (file : List ℕ) (chunk : ℕ) (p : IsPlainFile file) (least : 256 ≤
 known : (file : List ℕ) (chunk : ℕ) → CanBePacked file chunk → IsPlainFile file
 known file chunk can = plain_file file can.accepted can.plain can.bytes
 
-plain-is : (file : List ℕ) → is_packed (head_of file) ≡ false → head_of file ≡ plain_head file
+pub plain-is : (file : List ℕ) → is_packed (head_of file) ≡ false → head_of file ≡ plain_head file
 plain-is file plain = sym (cond-false (is_packed (head_of file)) (without_first (laszip_vlrs_of (head_of file)) (head_of file)) (head_of file) plain)
 
 pub packed_accepted : IsPackedAccepted

@@ -1,6 +1,7 @@
 -- Laws of files.
 use Rattle.std.specs.Prelude.{◌≡◌, ℕ, ◌*◌, ◌≤◌, true, false, if◌then◌else◌, List, ◌++◌, length, map, drop, Option}
 use Rattle.std.specs.Prelude.{Some, None}
+use Rattle.std.specs.List.{concat}
 use Rattle.las_header.specs.declared.refusal.Refusal.{Refusal}
 use Rattle.las_header.specs.Counting.{with_counts}
 use Rattle.las_header.specs.Fields.{head_of, is_packed, point_offset_of, points_of, record_length_of}
@@ -13,7 +14,7 @@ use Rattle.laz_table.specs.Chunks.{fixed_sizes}
 use Rattle.laz_file.specs.Outputs.{Output, finished, records_after}
 use Rattle.laz_file.specs.Packing.{chunk_blocks, chunks_of, pack, packed_file}
 use Rattle.laz_file.specs.Pieces.{ArePieces, Piece, piece_bytes, pieces_from}
-use Rattle.laz_file.specs.Records.{HoldBlocks, Unpacks}
+use Rattle.laz_file.specs.Records.{HoldBlocks, IsBadPiece, Unpacks}
 use Rattle.laz_file.specs.Refusing.{IsAcceptedFile, IsRefusal, chunks_place}
 
 -- A file is refused for at most one cause.
@@ -83,3 +84,30 @@ ArePackedChunks = (file : List ℕ) (chunk : ℕ) → CanBePacked file chunk
 -- The plain form of the packed form of such a file is the file again.
 abbrev pub UnpacksAgain : Type 0
 UnpacksAgain = (file : List ℕ) (chunk : ℕ) → CanBePacked file chunk → Unpacks (packed_file file chunk) file
+
+-- The pieces of a file hold these blocks, and no others.
+pub record HoldOnly (file : List ℕ) (pieces : List Piece) (blocks : List (List ℕ)) : Type 0 where
+  pub hold : HoldBlocks file pieces blocks
+  pub only : (others : List (List ℕ)) → HoldBlocks file pieces others → others ≡ blocks
+
+-- The packed form of such a file has no bad piece.
+abbrev pub HasNoBadPiece : Type 0
+HasNoBadPiece = (file : List ℕ) (chunk : ℕ) → CanBePacked file chunk → (pieces : List Piece) (i : ℕ)
+    → ArePieces (packed_file file chunk) pieces → IsBadPiece (packed_file file chunk) pieces i → ⊥
+
+-- What is read of the packed form of such a file is its records: a reader finds that each piece holds one block alone.
+abbrev pub ReadsBack : Type 0
+ReadsBack = (file : List ℕ) (chunk : ℕ) → CanBePacked file chunk → (pieces : List Piece) (blocks : List (List ℕ))
+    → ArePieces (packed_file file chunk) pieces → HoldOnly (packed_file file chunk) pieces blocks
+    → plain_head (packed_file file chunk) ++ concat blocks ≡ file
+
+-- An accepted plain file is its own plain form.
+abbrev pub IsItsPlainForm : Type 0
+IsItsPlainForm = (file : List ℕ) → IsAcceptedFile file → is_packed (head_of file) ≡ false → IsBytes file
+    → Unpacks file file
+
+-- What is read of an accepted plain file is its records.
+abbrev pub ReadsPlain : Type 0
+ReadsPlain = (file : List ℕ) → IsAcceptedFile file → is_packed (head_of file) ≡ false → IsBytes file
+    → (pieces : List Piece) (blocks : List (List ℕ)) → ArePieces file pieces → HoldBlocks file pieces blocks
+    → concat blocks ≡ drop (point_offset_of file) file

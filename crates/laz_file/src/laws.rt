@@ -1,7 +1,7 @@
 //! Laws of files, as contracts of functions that do nothing.
 
 ghost use Rattle.laz_file.specs.Laws.{ArePackedChunks, HasOnePieces, IsCountedFile, IsFinished, IsPackedAccepted};
-ghost use Rattle.laz_file.specs.Laws.{IsRefusedOnce, UnpacksAgain};
+ghost use Rattle.laz_file.specs.Laws.{HasNoBadPiece, IsItsPlainForm, IsRefusedOnce, ReadsBack, ReadsPlain, UnpacksAgain};
 
 /// A file is refused for at most one cause, and has at most one list of pieces.
 pub fn files_have_one_answer()
@@ -22,4 +22,13 @@ pub fn files_are_packed_without_loss()
     ensures accepted { IsPackedAccepted }
     ensures chunks { ArePackedChunks }
     ensures back { UnpacksAgain }
+{}
+
+/// What is read of an accepted plain file, or of its packed form, is its records: no chunk of the packed form is bad,
+/// and the blocks that its chunks hold follow the plain head as they do in the file.
+pub fn files_are_read_whole()
+    ensures none_bad { HasNoBadPiece }
+    ensures packed { ReadsBack }
+    ensures plain { ReadsPlain }
+    ensures plain_form { IsItsPlainForm }
 {}

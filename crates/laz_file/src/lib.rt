@@ -9,5 +9,8 @@ mod laws;
 mod limits;
 
 pub use fault::Fault;
-pub use laws::{files_are_packed_without_loss, files_have_one_answer, outputs_are_finished};
+pub use laws::{
+    files_are_packed_without_loss, files_are_read_whole, files_have_one_answer,
+    outputs_are_finished,
+};
 pub use limits::PLAIN_BLOCK;
