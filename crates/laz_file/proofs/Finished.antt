@@ -91,11 +91,11 @@ head-by : (format lengths : ℕ) (head : List ℕ) (chunk : ℕ) → format_of h
 head-by format lengths head chunk f l =
     ap (λ (n : ℕ). with_vlr (laszip_payload n (record_length_of head - format_size n) chunk) head) f ∙ ap (λ (n : ℕ). with_vlr (laszip_payload format (n - format_size format) chunk) head) l
 
-short-size : (records : List (List ℕ)) → length (counts_bytes (counts_of records)) ≡ 24
+pub short-size : (records : List (List ℕ)) → length (counts_bytes (counts_of records)) ≡ 24
 unfolding short_bytes
 short-size records = refl
 
-long-size : (records : List (List ℕ)) → length (long_counts_bytes (counts_of records)) ≡ 128
+pub long-size : (records : List (List ℕ)) → length (long_counts_bytes (counts_of records)) ≡ 128
 unfolding long_bytes
 long-size records = refl
 

@@ -10,3 +10,5 @@ pub mod Fronts
 pub mod Chunked
 pub mod Packed
 pub mod Whole
+pub mod PlainForms
+pub mod CountedForms

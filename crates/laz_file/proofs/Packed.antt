@@ -40,7 +40,7 @@ words-bound : (xs : List (List ℕ)) → AreWords (map length xs) → length (co
 words-bound [] h = omega arith
 words-bound (x ∷ xs) h = omega (arith, length-append x (concat xs), h.0, words-bound xs h.1)
 
-neither : (a b : Bool) → a ≡ false → b ≡ false → (a || b) ≡ false
+pub neither : (a b : Bool) → a ≡ false → b ≡ false → (a || b) ≡ false
 neither true b e f = absurd (cc)
 neither false b e f = f
 
@@ -48,8 +48,11 @@ and-false : (a b : Bool) → a ≡ false → (a && b) ≡ false
 and-false true b e = absurd (cc)
 and-false false b e = refl
 
-not-below : (a b : ℕ) → b ≤ a → nat_lt a b ≡ false
+pub not-below : (a b : ℕ) → b ≤ a → nat_lt a b ≡ false
 not-below a b h = lt-leb (suc a) b (omega (arith, h))
+
+pub both-fine : (xs ys : List (Bool × Refusal)) → first_cause xs ≡ None → first_cause ys ≡ None → first_cause (xs ++ ys) ≡ None
+both-fine xs ys e f = first_of_both xs ys ∙ ap (λ (o : Option Refusal). or_else o (first_cause ys)) e ∙ f
 
 module _ (file : List ℕ) (chunk : ℕ) (p : IsPlainFile file) (least : 256 ≤ chunk) (few : chunk ≤ 250000) where
   abbrev pub head : List ℕ
@@ -232,9 +235,6 @@ module _ (file : List ℕ) (chunk : ℕ) (p : IsPlainFile file) (least : 256 ≤
   head-fine =
       let is = head_packed file chunk p least few in
       ap (λ (t : List ℕ). first_cause (head_causes t (length form))) head-is ∙ packed_is_fine packed (length form) is.is_head is.packed
-
-  both-fine : (xs ys : List (Bool × Refusal)) → first_cause xs ≡ None → first_cause ys ≡ None → first_cause (xs ++ ys) ≡ None
-  both-fine xs ys e f = first_of_both xs ys ∙ ap (λ (o : Option Refusal). or_else o (first_cause ys)) e ∙ f
 
   abbrev last : List (Bool × Refusal)
   last = (has_bad_pointer form, cause.TablePointer) ∷ []

@@ -1,12 +1,14 @@
 -- Laws of files.
-use Rattle.std.specs.Prelude.{◌≡◌, ℕ, ◌*◌, ◌≤◌, true, false, if◌then◌else◌, List, ◌++◌, length, map, drop, Option}
-use Rattle.std.specs.Prelude.{Some, None}
+use Rattle.std.specs.Prelude.{◌≡◌, ℕ, ◌*◌, ◌^◌, ◌<◌, ◌≤◌, true, false, if◌then◌else◌, List, [], ◌++◌, length}
+use Rattle.std.specs.Prelude.{map, drop, Option, Some, None}
 use Rattle.std.specs.List.{concat}
+use Rattle.las_header.specs.declared.limits.TheConstants.{MAX_PLAIN_OFFSET}
 use Rattle.las_header.specs.declared.refusal.Refusal.{Refusal}
 use Rattle.las_header.specs.Counting.{with_counts}
 use Rattle.las_header.specs.Fields.{head_of, is_packed, point_offset_of, points_of, record_length_of}
 use Rattle.las_header.specs.Heads.{IsHead}
 use Rattle.las_header.specs.Plain.{plain_head}
+use Rattle.las_header.specs.Vlrs.{laszip_vlrs_of}
 use Rattle.las_points.specs.Tally.{counted_file, counts_of}
 use Rattle.laz_range.specs.Span.{IsBytes}
 use Rattle.laz_table.specs.declared.limits.TheConstants.{MAX_CHUNK_POINTS}
@@ -111,3 +113,28 @@ abbrev pub ReadsPlain : Type 0
 ReadsPlain = (file : List ℕ) → IsAcceptedFile file → is_packed (head_of file) ≡ false → IsBytes file
     → (pieces : List Piece) (blocks : List (List ℕ)) → ArePieces file pieces → HoldBlocks file pieces blocks
     → concat blocks ≡ drop (point_offset_of file) file
+
+-- a plain head and the point records that it counts, as bytes
+pub record AreHeadAndRecords (head records : List ℕ) : Type 0 where
+  pub head_is : IsHead head
+  pub plain : is_packed head ≡ false
+  pub none : laszip_vlrs_of head ≡ []
+  pub near : length head ≤ MAX_PLAIN_OFFSET
+  pub head_bytes : IsBytes head
+  pub whole : length records ≡ record_length_of head * points_of head
+  pub record_bytes : IsBytes records
+
+-- They are an accepted file, and so is their packed form, which unpacks to them.
+abbrev pub IsAcceptedPlain : Type 0
+IsAcceptedPlain = (head records : List ℕ) → AreHeadAndRecords head records → IsAcceptedFile (head ++ records)
+
+abbrev pub IsAcceptedPack : Type 0
+IsAcceptedPack = (head records : List ℕ) (chunk : ℕ) → AreHeadAndRecords head records → 256 ≤ chunk
+    → chunk ≤ MAX_CHUNK_POINTS
+    → IsAcceptedFile (pack head records chunk) × Unpacks (pack head records chunk) (head ++ records)
+
+-- A head with the counts of such records is a head that counts them: so is that of a finished output.
+abbrev pub AreCounted : Type 0
+AreCounted = (head records : List ℕ) (count : ℕ) → IsHead head → is_packed head ≡ false → laszip_vlrs_of head ≡ []
+    → length head ≤ MAX_PLAIN_OFFSET → IsBytes head → IsBytes records → length records ≡ record_length_of head * count
+    → count < 2 ^ 32 → AreHeadAndRecords (with_counts (counts_of (records_after head records)) head) records

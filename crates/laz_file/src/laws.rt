@@ -1,7 +1,8 @@
 //! Laws of files, as contracts of functions that do nothing.
 
-ghost use Rattle.laz_file.specs.Laws.{ArePackedChunks, HasOnePieces, IsCountedFile, IsFinished, IsPackedAccepted};
-ghost use Rattle.laz_file.specs.Laws.{HasNoBadPiece, IsItsPlainForm, IsRefusedOnce, ReadsBack, ReadsPlain, UnpacksAgain};
+ghost use Rattle.laz_file.specs.Laws.{AreCounted, ArePackedChunks, HasNoBadPiece, HasOnePieces, IsAcceptedPack};
+ghost use Rattle.laz_file.specs.Laws.{IsAcceptedPlain, IsCountedFile, IsFinished, IsItsPlainForm, IsPackedAccepted};
+ghost use Rattle.laz_file.specs.Laws.{IsRefusedOnce, ReadsBack, ReadsPlain, UnpacksAgain};
 
 /// A file is refused for at most one cause, and has at most one list of pieces.
 pub fn files_have_one_answer()
@@ -31,4 +32,12 @@ pub fn files_are_read_whole()
     ensures packed { ReadsBack }
     ensures plain { ReadsPlain }
     ensures plain_form { IsItsPlainForm }
+{}
+
+/// A plain head and the records that it counts are an accepted file, and so is their packed form, which unpacks to
+/// them. A head with the counts of records counts them.
+pub fn heads_and_records_are_accepted()
+    ensures plain { IsAcceptedPlain }
+    ensures packed { IsAcceptedPack }
+    ensures counted { AreCounted }
 {}

@@ -11,6 +11,6 @@ mod limits;
 pub use fault::Fault;
 pub use laws::{
     files_are_packed_without_loss, files_are_read_whole, files_have_one_answer,
-    outputs_are_finished,
+    heads_and_records_are_accepted, outputs_are_finished,
 };
 pub use limits::PLAIN_BLOCK;
