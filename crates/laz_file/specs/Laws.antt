@@ -29,7 +29,8 @@ HasOnePieces = (file : List ℕ) (one other : List Piece) → ArePieces file one
 
 -- the head of a finished output: with the counts of its records, if they are counted
 abbrev pub final_head : Output → (records : List ℕ) → List ℕ
-final_head out records = if out.counted then with_counts (counts_of (records_after out.head records)) out.head else out.head
+final_head out records =
+    if out.counted then with_counts (counts_of (records_after out.head records)) out.head else out.head
 
 -- a plain head and its records, packed in chunks of this many records, or plain
 abbrev pub file_of : Option ℕ → (head records : List ℕ) → List ℕ
@@ -41,11 +42,10 @@ abbrev pub IsFinished : Type 0
 IsFinished = (out : Output) (records : List ℕ) → IsHead out.head
     → finished out records ≡ file_of out.chunk (final_head out records) records
 
--- A finished output whose records are counted, and which is plain, is the head with the counts of these records, and the
--- records.
+-- A finished output that is plain, and whose records are counted, is the head with their counts, and the records.
 abbrev pub IsCountedFile : Type 0
-IsCountedFile = (out : Output) (count : ℕ) (records : List ℕ) → IsHead out.head → out.counted ≡ true → out.chunk ≡ None
-    → length records ≡ record_length_of out.head * count
+IsCountedFile = (out : Output) (count : ℕ) (records : List ℕ) → IsHead out.head → out.counted ≡ true
+    → out.chunk ≡ None → length records ≡ record_length_of out.head * count
     → finished out records ≡ counted_file out.head (records_after out.head records)
 
 -- An accepted plain file, and a number of records that its chunks may have.
