@@ -1,5 +1,6 @@
 -- What is read of whole files: of packed forms no piece is bad, and of plain files the pieces are the records.
-use Rattle.std.proofs.Common.{◌≡◌, ℕ, zero, suc, ◌+◌, ◌*◌, ◌-◌, ◌≤◌, fold, min, sum, Bool, false, List, [], ◌∷◌, ◌++◌, length, map, take, drop, slice_get, Some, None, refl, sym, ap, subst, ◌∙◌, arith}
+use Rattle.std.proofs.Common.{◌≡◌, inl, inr, ℕ, zero, suc, ◌+◌, ◌*◌, ◌-◌, ◌<◌, ◌≤◌, fold, min, sum, Bool, false, List, [], ◌∷◌, ◌++◌, length, map, take, drop, slice_get, Option, Some, None, refl, sym, ap, subst, ◌∙◌, arith}
+use Rattle.std.proofs.lemmas.Bool.{cases_lt}
 use Rattle.std.proofs.lemmas.List.{drop-drop, take-append-drop, take_all}
 use Rattle.std.proofs.Math.Seq.{take-add}
 use Rattle.std.specs.List.{concat, range_with_len}
@@ -7,10 +8,10 @@ use Rattle.las_header.specs.Fields.{head_of, is_packed, point_offset_of, points_
 use Rattle.las_header.specs.Plain.{plain_head}
 use Rattle.laz_table.specs.Chunks.{fixed_sizes}
 use Rattle.laz_table.specs.VlrCauses.{chunk_count}
-use Rattle.laz_file.specs.Laws.{HasNoBadPiece, IsItsPlainForm, ReadsBack, ReadsPlain}
+use Rattle.laz_file.specs.Laws.{HasNoBadPiece, HoldOnly, IsBadIf, IsItsPlainForm, IsReadOnce, ReadsBack, ReadsPlain, pieces_before}
 use Rattle.laz_file.specs.Packing.{packed_file}
 use Rattle.laz_file.specs.Pieces.{ArePieces, ArePiecesIf, Piece, piece_bytes, pieces_from, plain_pieces}
-use Rattle.laz_file.specs.Records.{HoldBlocks, HoldsBlock, HoldsIf, Unpacks}
+use Rattle.laz_file.specs.Records.{AreRead, HoldBlocks, HoldsBlock, HoldsIf, IsBadPiece, Unpacks}
 use Rattle.laz_file.proofs.Accepted.{IsPlainFile, plain_file}
 use Rattle.laz_file.proofs.Blocks.{count-enough}
 use Rattle.laz_file.proofs.OneAnswer.{one_pieces}
@@ -31,6 +32,45 @@ holds_at file [] (b ∷ blocks) i piece hold e = absurd hold
 holds_at file (p ∷ pieces) [] i piece hold e = absurd hold
 holds_at file (p ∷ pieces) (b ∷ blocks) zero piece hold e = (b, subst (λ (q : Piece). HoldsBlock file q b) (some_same p piece e) hold.0)
 holds_at file (p ∷ pieces) (b ∷ blocks) (suc i) piece hold e = holds_at file pieces blocks i piece hold.1 e
+
+-- a piece that holds a block is not bad
+not_bad : (file : List ℕ) (pieces : List Piece) (i : ℕ) → IsBadPiece file pieces i → ((piece : Piece) → slice_get pieces i ≡ Some piece → (block : List ℕ) × HoldsBlock file piece block) → ⊥
+not_bad file pieces i bad held = let found = held bad.0 bad.1 in bad.2 found.0 found.1
+
+slice_get-take : (i j : ℕ) (pieces : List Piece) (piece : Piece) → i < j → slice_get pieces i ≡ Some piece → slice_get (take j pieces) i ≡ Some piece
+slice_get-take i zero pieces piece before e = absurd (omega (arith, before))
+slice_get-take i (suc j) [] piece before e = absurd (none_some piece e)
+slice_get-take zero (suc j) (p ∷ pieces) piece before e = e
+slice_get-take (suc i) (suc j) (p ∷ pieces) piece before e = slice_get-take i j pieces piece (omega (arith, before)) e
+
+-- nor is one before others that are held
+not_bad_before : (file : List ℕ) (pieces : List Piece) (blocks : List (List ℕ)) (i j : ℕ) → i < j → HoldBlocks file (take j pieces) blocks → IsBadPiece file pieces i → ⊥
+not_bad_before file pieces blocks i j before hold bad =
+    not_bad file pieces i bad (λ piece e. holds_at file (take j pieces) blocks i piece hold (slice_get-take i j pieces piece before e))
+
+-- two numbers of the first bad piece are the same
+same_bad : (file : List ℕ) (pieces : List Piece) (xs ys : List (List ℕ)) (i j : ℕ) → HoldBlocks file (take i pieces) xs → IsBadPiece file pieces i → HoldBlocks file (take j pieces) ys → IsBadPiece file pieces j → j ≡ i
+same_bad file pieces xs ys i j before bad hold worse = elim (cases_lt i j) [
+  | inl less ↦ absurd (not_bad_before file pieces ys i j less hold bad)
+  | inr more ↦ elim (cases_lt j i) [
+    | inl less ↦ absurd (not_bad_before file pieces xs j i less before worse)
+    | inr same ↦ omega (arith, more, same)
+  ]
+]
+
+once : (file : List ℕ) (pieces : List Piece) (blocks : List (List ℕ)) (bad : Option ℕ) → HoldOnly file (pieces_before bad pieces) blocks → IsBadIf bad file pieces
+    → (others : List (List ℕ)) (worse : Option ℕ) → AreRead file pieces others worse → (others ≡ blocks) × (worse ≡ bad)
+once file pieces blocks None holds bad others None read = (holds.only others read, refl)
+once file pieces blocks None holds bad others (Some j) read = absurd (not_bad file pieces j read.1 (λ piece e. holds_at file pieces blocks j piece holds.hold e))
+once file pieces blocks (Some i) holds bad others None read = absurd (not_bad file pieces i bad (λ piece e. holds_at file pieces others i piece read e))
+once file pieces blocks (Some i) holds bad others (Some j) read =
+    let same = same_bad file pieces blocks others i j holds.hold bad read.0 read.1 in
+    (holds.only others (subst (λ (n : ℕ). HoldBlocks file (take n pieces) others) same read.0), ap (λ (n : ℕ). Some n) same)
+
+pub read_once : IsReadOnce
+read_once file pieces blocks bad are holds is others worse of =
+    let same = one_pieces file of.0 pieces of.1 are in
+    once file pieces blocks bad holds is others worse (subst (λ (ps : List Piece). AreRead file ps others worse) same of.2)
 
 pub no_bad_piece : HasNoBadPiece
 no_bad_piece file chunk can pieces i are bad =

@@ -1,6 +1,6 @@
 -- Laws of files.
 use Rattle.std.specs.Prelude.{◌≡◌, ℕ, ◌*◌, ◌^◌, ◌<◌, ◌≤◌, true, false, if◌then◌else◌, List, [], ◌++◌, length}
-use Rattle.std.specs.Prelude.{map, drop, Option, Some, None}
+use Rattle.std.specs.Prelude.{map, take, drop, Option, Some, None}
 use Rattle.std.specs.List.{concat}
 use Rattle.las_header.specs.declared.limits.TheConstants.{MAX_PLAIN_OFFSET}
 use Rattle.las_header.specs.declared.refusal.Refusal.{Refusal}
@@ -16,7 +16,7 @@ use Rattle.laz_table.specs.Chunks.{fixed_sizes}
 use Rattle.laz_file.specs.Outputs.{Output, finished, records_after}
 use Rattle.laz_file.specs.Packing.{chunk_blocks, chunks_of, pack, packed_file}
 use Rattle.laz_file.specs.Pieces.{ArePieces, Piece, piece_bytes, pieces_from}
-use Rattle.laz_file.specs.Records.{HoldBlocks, IsBadPiece, Unpacks}
+use Rattle.laz_file.specs.Records.{AreRecordsOf, HoldBlocks, IsBadPiece, Unpacks}
 use Rattle.laz_file.specs.Refusing.{IsAcceptedFile, IsRefusal, chunks_place}
 
 -- A file is refused for at most one cause.
@@ -91,6 +91,24 @@ UnpacksAgain = (file : List ℕ) (chunk : ℕ) → CanBePacked file chunk → Un
 pub record HoldOnly (file : List ℕ) (pieces : List Piece) (blocks : List (List ℕ)) : Type 0 where
   pub hold : HoldBlocks file pieces blocks
   pub only : (others : List (List ℕ)) → HoldBlocks file pieces others → others ≡ blocks
+
+-- the pieces before the bad one, or all pieces if none is bad
+abbrev pub pieces_before : (bad : Option ℕ) → List Piece → List Piece
+pieces_before None pieces = pieces
+pieces_before (Some i) pieces = take i pieces
+
+-- the piece of this number is bad, if there is a number
+abbrev pub IsBadIf : (bad : Option ℕ) → (file : List ℕ) → List Piece → Type 0
+IsBadIf None file pieces = Unit {0}
+IsBadIf (Some i) file pieces = IsBadPiece file pieces i
+
+-- Records that are read piece by piece are the only ones of the file, and so is the first bad piece: a reader finds that
+-- each piece before it holds one block alone.
+abbrev pub IsReadOnce : Type 0
+IsReadOnce = (file : List ℕ) (pieces : List Piece) (blocks : List (List ℕ)) (bad : Option ℕ) → ArePieces file pieces
+    → HoldOnly file (pieces_before bad pieces) blocks → IsBadIf bad file pieces
+    → (others : List (List ℕ)) (worse : Option ℕ) → AreRecordsOf file others worse
+    → (others ≡ blocks) × (worse ≡ bad)
 
 -- The packed form of such a file has no bad piece.
 abbrev pub HasNoBadPiece : Type 0

@@ -2,12 +2,14 @@
 
 ghost use Rattle.laz_file.specs.Laws.{AreCounted, ArePackedChunks, HasNoBadPiece, HasOnePieces, IsAcceptedPack};
 ghost use Rattle.laz_file.specs.Laws.{IsAcceptedPlain, IsCountedFile, IsFinished, IsItsPlainForm, IsPackedAccepted};
-ghost use Rattle.laz_file.specs.Laws.{IsRefusedOnce, ReadsBack, ReadsPlain, UnpacksAgain};
+ghost use Rattle.laz_file.specs.Laws.{IsReadOnce, IsRefusedOnce, ReadsBack, ReadsPlain, UnpacksAgain};
 
-/// A file is refused for at most one cause, and has at most one list of pieces.
+/// A file is refused for at most one cause, and has at most one list of pieces. Records that are read of it piece by
+/// piece, if each piece holds one block alone, are its only ones, and so is the first bad piece.
 pub fn files_have_one_answer()
     ensures refusal { IsRefusedOnce }
     ensures pieces { HasOnePieces }
+    ensures records { IsReadOnce }
 {}
 
 /// A finished output is its head and its records, packed or plain. Its head has the counts of its records, if they are
