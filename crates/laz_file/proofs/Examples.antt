@@ -18,37 +18,37 @@ use Rattle.laz_file.specs.Pieces.{pieces_from, plain_pieces}
 use Rattle.laz_file.specs.Refusing.{chunks_place, has_bad_pointer, table_end, table_part, table_place, tested_causes}
 
 -- a LAS 1.2 head of 227 bytes and format 0, whose points are first returns
-abbrev head : (offset vlrs format points : ℕ) → List ℕ
+abbrev pub head : (offset vlrs format points : ℕ) → List ℕ
 head offset vlrs format points =
     codes "LASF" ++ replicate 20 0 ++ (1 ∷ 2 ∷ []) ++ replicate 68 0 ++ little_bytes 2 227 ++ little_bytes 4 offset
     ++ little_bytes 4 vlrs ++ (format ∷ 20 ∷ 0 ∷ []) ++ little_bytes 4 points ++ little_bytes 4 points ++ replicate 112 0
 
-abbrev point : List ℕ
+abbrev pub point : List ℕ
 point = 5 ∷ 0 ∷ 0 ∷ 0 ∷ 6 ∷ 0 ∷ 0 ∷ 0 ∷ 7 ∷ 0 ∷ 0 ∷ 0 ∷ 0 ∷ 0 ∷ 9 ∷ 0 ∷ 0 ∷ 0 ∷ 0 ∷ 0 ∷ []
 
 -- its laszip VLR, with chunks of 50,000 points
-abbrev vlr : List ℕ
+abbrev pub vlr : List ℕ
 vlr =
     (0 ∷ 0 ∷ []) ++ codes "laszip encoded" ++ (0 ∷ 0 ∷ 188 ∷ 86 ∷ 40 ∷ 0 ∷ []) ++ codes "laszip version 2 items" ++ replicate 10 0
     ++ (2 ∷ 0 ∷ 0 ∷ 0 ∷ 2 ∷ 2 ∷ 0 ∷ 0 ∷ 0 ∷ 0 ∷ 0 ∷ 0 ∷ 80 ∷ 195 ∷ 0 ∷ 0 ∷ []) ++ replicate 16 255
     ++ (1 ∷ 0 ∷ 6 ∷ 0 ∷ 20 ∷ 0 ∷ 2 ∷ 0 ∷ [])
 
 -- the record, and the end of a stream without events
-abbrev chunk : List ℕ
+abbrev pub chunk : List ℕ
 chunk = point ++ (1 ∷ 0 ∷ 0 ∷ 0 ∷ [])
 
 -- one chunk of 24 bytes
-abbrev table : List ℕ
+abbrev pub table : List ℕ
 table = 0 ∷ 0 ∷ 0 ∷ 0 ∷ 1 ∷ 0 ∷ 0 ∷ 0 ∷ 44 ∷ 92 ∷ 0 ∷ 0 ∷ 0 ∷ []
 
 -- the file of one record, and its packed form with this pointer
-abbrev one : List ℕ
+abbrev pub one : List ℕ
 one = head 227 0 0 1 ++ point
 
-abbrev one_packed : (pointer : List ℕ) → List ℕ
+abbrev pub one_packed : (pointer : List ℕ) → List ℕ
 one_packed pointer = head 321 1 128 1 ++ vlr ++ pointer ++ chunk ++ table
 
-abbrev pointer : List ℕ
+abbrev pub pointer : List ℕ
 pointer = 97 ∷ 1 ∷ 0 ∷ 0 ∷ 0 ∷ 0 ∷ 0 ∷ 0 ∷ []
 
 -- ---- packed files
@@ -108,7 +108,7 @@ unfolding number_at
 after_the_chunk = (refl, refl, refl, refl)
 
 -- eight bytes 255, and the pointer after the table
-abbrev last_pointer : List ℕ
+abbrev pub last_pointer : List ℕ
 last_pointer = one_packed (replicate 8 255) ++ pointer
 
 named_at_the_end : (length last_pointer ≡ 374) × (table_place last_pointer ≡ 353) × (table_end last_pointer ≡ 366) × (table_part last_pointer ≡ table)

@@ -1,4 +1,4 @@
-mod Examples
+pub mod Examples
 pub mod Splices
 pub mod Counted
 pub mod Blocks
@@ -12,3 +12,4 @@ pub mod Packed
 pub mod Whole
 pub mod PlainForms
 pub mod CountedForms
+pub mod Foreign
