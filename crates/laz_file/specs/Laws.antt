@@ -110,12 +110,13 @@ IsReadOnce = (file : List ℕ) (pieces : List Piece) (blocks : List (List ℕ)) 
     → (others : List (List ℕ)) (worse : Option ℕ) → AreRecordsOf file others worse
     → (others ≡ blocks) × (worse ≡ bad)
 
--- The packed form of such a file has no bad piece.
+-- The packed form of an accepted plain file has no bad piece.
 abbrev pub HasNoBadPiece : Type 0
 HasNoBadPiece = (file : List ℕ) (chunk : ℕ) → CanBePacked file chunk → (pieces : List Piece) (i : ℕ)
     → ArePieces (packed_file file chunk) pieces → IsBadPiece (packed_file file chunk) pieces i → ⊥
 
--- What is read of the packed form of such a file is its records: a reader finds that each piece holds one block alone.
+-- What is read of the packed form of an accepted plain file is its records: a reader finds that each piece holds one
+-- block alone.
 abbrev pub ReadsBack : Type 0
 ReadsBack = (file : List ℕ) (chunk : ℕ) → CanBePacked file chunk → (pieces : List Piece) (blocks : List (List ℕ))
     → ArePieces (packed_file file chunk) pieces → HoldOnly (packed_file file chunk) pieces blocks
@@ -151,7 +152,7 @@ IsAcceptedPack = (head records : List ℕ) (chunk : ℕ) → AreHeadAndRecords h
     → chunk ≤ MAX_CHUNK_POINTS
     → IsAcceptedFile (pack head records chunk) × Unpacks (pack head records chunk) (head ++ records)
 
--- A head with the counts of such records is a head that counts them: so is that of a finished output.
+-- A plain head with the counts of whole records, as that of a finished output has, is a head that counts them.
 abbrev pub AreCounted : Type 0
 AreCounted = (head records : List ℕ) (count : ℕ) → IsHead head → is_packed head ≡ false → laszip_vlrs_of head ≡ []
     → length head ≤ MAX_PLAIN_OFFSET → IsBytes head → IsBytes records → length records ≡ record_length_of head * count
