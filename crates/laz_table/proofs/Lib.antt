@@ -6,3 +6,4 @@ pub mod Bridge
 pub mod TableLemmas
 pub mod OneSpelling
 pub mod TableLaws
+pub mod TableBytes

@@ -30,11 +30,11 @@ use Rattle.laz_table.proofs.WritingLemmas.{signed-bits}
 signed-word : (n : ℕ) → n < 4294967296 → SFits w32 (signed n)
 signed-word n h = let word : Fits w32 n = record { fits = h } in sfits_to_z {w = w32} {n = n} word
 
-abbrev AreEntries : List Entry → Type 0
+abbrev pub AreEntries : List Entry → Type 0
 AreEntries [] = Unit {0}
 AreEntries (e ∷ entries) = (e.number < 4294967296) × AreEntries entries
 
-abbrev IsLatest : Latest → Type 0
+abbrev pub IsLatest : Latest → Type 0
 IsLatest l = (l.points < 4294967296) × (l.bytes < 4294967296)
 
 latest-small : (b : Bool) (l : Latest) → IsLatest l → prediction b l < 4294967296
@@ -54,7 +54,7 @@ entry-spelled l e h small =
       spells = spells-written table_use 32 (context_of e.counts_points) (signed before) (signed e.number) (lit≤ tt) (lit≤ tt) (signed-word before (latest-small e.counts_points l h)) (signed-word e.number small) (signed-bits e.number small);
     }
 
-entries-spelled : (l : Latest) (entries : List Entry) → IsLatest l → AreEntries entries → SpellsEntries l (events_of l entries) entries
+pub entries-spelled : (l : Latest) (entries : List Entry) → IsLatest l → AreEntries entries → SpellsEntries l (events_of l entries) entries
 entries-spelled l [] h all = refl
 entries-spelled l (e ∷ entries) h all =
     (entry_events l e, events_of (after_entry l e) entries, refl, entry-spelled l e h all.0, entries-spelled (after_entry l e) entries (latest-next e.counts_points e.number l h all.0) all.1)
@@ -66,14 +66,14 @@ role-size Width k = 33
 role-size ZeroOrOne k = 2
 role-size High k = 2 ^ min k 8
 
-sizes : Name → ℕ
+pub sizes : Name → ℕ
 sizes name = role-size name.role name.which
 
 sizes-are : HasIntSizes sizes table_use 32
 unfolding sizes role-size
 sizes-are = record { widths = λ ctx. refl; highs = λ k. refl }
 
-entries-ranged : (l : Latest) (events : List Event) (entries : List Entry) → SpellsEntries l events entries → AreRanged sizes events
+pub entries-ranged : (l : Latest) (events : List Event) (entries : List Entry) → SpellsEntries l events entries → AreRanged sizes events
 entries-ranged l events [] h = subst (AreRanged sizes) (sym h) tt
 entries-ranged l events (e ∷ entries) h =
     let one = int-ranged sizes table_use 32 (context_of e.counts_points) _ _ h.3.width h.0 sizes-are (lit≤ tt) (lit≤ tt) h.3.spells in
@@ -84,7 +84,7 @@ entries-few l events [] h = omega (arith, ap length h)
 entries-few l events (e ∷ entries) h =
     omega (arith, ap length h.2, length-append h.0 h.1, int-few table_use 32 (context_of e.counts_points) _ _ h.0 h.3.width (lit≤ tt) h.3.spells, entries-few (after_entry l e) h.1 entries h.4)
 
-cuts-lawful : (events : List Event) → AreRanged sizes events → AreCuts (cuts_of events)
+pub cuts-lawful : (events : List Event) → AreRanged sizes events → AreCuts (cuts_of events)
 cuts-lawful events h = AreCuts-ranged sizes [] events tt h
 
 shifts-few : (events : List Event) → (span (cuts_of events)).shifts ≤ 3 * length events
@@ -120,7 +120,7 @@ table-held counted sizes counts few all same =
       coded = stream-held (entries_of sizes counts) all;
     }
 
-fixed-entries : (counts : List ℕ) → AreWords counts → AreEntries (entries_of [] counts)
+pub fixed-entries : (counts : List ℕ) → AreWords counts → AreEntries (entries_of [] counts)
 fixed-entries [] h = tt
 fixed-entries (c ∷ counts) h = (omega (arith, h.0), fixed-entries counts h.1)
 

@@ -1,0 +1,45 @@
+-- The pieces in which the records of a file are read: the chunks of a packed file, and blocks of 50,000 records of a
+-- plain one.
+use Rattle.std.specs.Prelude.{◌≡◌, ℕ, ◌+◌, ◌*◌, ◌-◌, Bool, true, false, List, [], ◌∷◌, take, drop, map}
+use Rattle.las_header.specs.Fields.{head_of, is_packed, point_offset_of, points_of, record_length_of}
+use Rattle.laz_table.specs.Chunks.{IsAccepted, fixed_sizes}
+use Rattle.laz_file.specs.declared.limits.TheConstants.{PLAIN_BLOCK}
+use Rattle.laz_file.specs.Refusing.{blocks_in, chunks_place, table_part, table_place}
+
+-- a piece of a file: where it begins, its number of bytes, and its number of records
+pub record Piece : Type 0 where
+  pub start : ℕ
+  pub size : ℕ
+  pub count : ℕ
+
+-- pieces one after another from a place on, with these numbers of records and of bytes
+abbrev pub pieces_from : ℕ → (counts sizes : List ℕ) → List Piece
+pieces_from at [] sizes = []
+pieces_from at (n ∷ counts) [] = []
+pieces_from at (n ∷ counts) (s ∷ sizes) =
+    record { start = at; size = s; count = n } ∷ pieces_from (at + s) counts sizes
+
+-- the bytes of a piece
+abbrev pub piece_bytes : (file : List ℕ) → Piece → List ℕ
+piece_bytes file piece = take piece.size (drop piece.start file)
+
+-- the pieces of a plain file
+abbrev pub plain_pieces : (file : List ℕ) → List Piece
+plain_pieces file =
+    let counts = fixed_sizes PLAIN_BLOCK (points_of (head_of file)) in
+    pieces_from (point_offset_of file) counts (map (λ n. record_length_of (head_of file) * n) counts)
+
+-- the pieces of a packed file: its chunks, as its table has them
+abbrev pub ArePackedPieces : (file : List ℕ) → List Piece → Type 0
+ArePackedPieces file pieces =
+    (counts : List ℕ) × (sizes : List ℕ)
+    × IsAccepted (table_part file) (blocks_in (head_of file)) (table_place file - chunks_place file) counts sizes
+    × (pieces ≡ pieces_from (chunks_place file) counts sizes)
+
+-- the pieces of an accepted file
+abbrev pub ArePiecesIf : (packed : Bool) → (file : List ℕ) → List Piece → Type 0
+ArePiecesIf true file pieces = ArePackedPieces file pieces
+ArePiecesIf false file pieces = pieces ≡ plain_pieces file
+
+abbrev pub ArePieces : (file : List ℕ) → List Piece → Type 0
+ArePieces file pieces = ArePiecesIf (is_packed (head_of file)) file pieces

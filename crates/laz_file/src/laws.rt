@@ -1,0 +1,45 @@
+//! Laws of files, as contracts of functions that do nothing.
+
+ghost use Rattle.laz_file.specs.Laws.{AreCounted, ArePackedChunks, HasNoBadPiece, HasOnePieces, IsAcceptedPack};
+ghost use Rattle.laz_file.specs.Laws.{IsAcceptedPlain, IsCountedFile, IsFinished, IsItsPlainForm, IsPackedAccepted};
+ghost use Rattle.laz_file.specs.Laws.{IsReadOnce, IsRefusedOnce, ReadsBack, ReadsPlain, UnpacksAgain};
+
+/// A file is refused for at most one cause, and has at most one list of pieces. Records that are read of it piece by
+/// piece, if each piece holds one block alone, are its only ones, and so is the first bad piece.
+pub fn files_have_one_answer()
+    ensures refusal { IsRefusedOnce }
+    ensures pieces { HasOnePieces }
+    ensures records { IsReadOnce }
+{}
+
+/// A finished output is its head and its records, packed or plain. Its head has the counts of its records, if they are
+/// counted.
+pub fn outputs_are_finished()
+    ensures finished { IsFinished }
+    ensures counted { IsCountedFile }
+{}
+
+/// An accepted plain file is packed without loss, in chunks of 256 to 250,000 points: the packed form is accepted, its
+/// pieces are the chunks, which hold the blocks of the records, and its plain form is the file again.
+pub fn files_are_packed_without_loss()
+    ensures accepted { IsPackedAccepted }
+    ensures chunks { ArePackedChunks }
+    ensures back { UnpacksAgain }
+{}
+
+/// What is read of an accepted plain file, or of its packed form, is its records: no chunk of the packed form is bad,
+/// and the blocks that its chunks hold follow the plain head as they do in the file.
+pub fn files_are_read_whole()
+    ensures none_bad { HasNoBadPiece }
+    ensures packed { ReadsBack }
+    ensures plain { ReadsPlain }
+    ensures plain_form { IsItsPlainForm }
+{}
+
+/// A plain head and the records that it counts are an accepted file, and so is their packed form, which unpacks to
+/// them. A head with the counts of records counts them.
+pub fn heads_and_records_are_accepted()
+    ensures plain { IsAcceptedPlain }
+    ensures packed { IsAcceptedPack }
+    ensures counted { AreCounted }
+{}

@@ -1,0 +1,16 @@
+//! Files of point records, plain and packed, as streams of blocks: read, written, packed and unpacked.
+//!
+//! A packed file is that of M. Isenburg, "LASzip: lossless compression of LiDAR data" (PE&RS 2013), in chunks of points
+//! with items of version 2.
+#![tactic(auto)]
+
+mod fault;
+mod laws;
+mod limits;
+
+pub use fault::Fault;
+pub use laws::{
+    files_are_packed_without_loss, files_are_read_whole, files_have_one_answer,
+    heads_and_records_are_accepted, outputs_are_finished,
+};
+pub use limits::PLAIN_BLOCK;
