@@ -5,7 +5,7 @@ use Rattle.las_words.specs.declared.table.Values.{Values}
 use Rattle.las_words.specs.declared.table.Values.TheVariants.{Nothing, Name, Number, Bounds, Several, Signed}
 use Rattle.las_words.specs.Numbers.{is_digits}
 
--- so many words after an option are its values, or should be: a list is one word, and goes on while the next is of
+-- this many words after an option are its values, or should be: a list is one word, and goes on while the next is of
 -- digits alone
 abbrev pub count_of : Values → List (List ℕ) → ℕ
 count_of Nothing words = 0

@@ -22,7 +22,7 @@ fits (Bounds most) word = is_some (number_in 0 most word)
 fits (Several most) word = is_some (number_in 0 most word)
 fits (Signed count) word = is_some (signed_in word)
 
--- of so many values, in words that begin at an index, the index of the first that is missing or not of its form
+-- of this many values, in words that begin at an index, the index of the first that is missing or not of its form
 abbrev pub first_wrong : Values → (at count : ℕ) → List (List ℕ) → Option ℕ
 first_wrong values at zero words = None
 first_wrong values at (suc count) [] = Some at

@@ -11,7 +11,7 @@ abbrev pub count_after : Option Flag → List (List ℕ) → ℕ
 count_after None words = 0
 count_after (Some flag) words = count_of (row_of flag).values words
 
--- the words from an index on, cut into options, after so many words that are values of an option before
+-- the words from an index on, cut into options, after this many words that are values of an option before
 abbrev pub cut : Tool → (at values : ℕ) → List (List ℕ) → List Piece
 cut tool at values [] = []
 cut tool at zero (word ∷ words) =

@@ -51,7 +51,7 @@ pub enum Values {
     Bounds(u32),
     /// One number or more, each up to the bound.
     Several(u32),
-    /// So many signed numbers of 32 bits.
+    /// This many signed numbers of 32 bits.
     Signed(u32),
 }
 

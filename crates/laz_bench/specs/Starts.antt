@@ -1,3 +1,4 @@
+-- The parts of a model of 256 symbols, as they are timed.
 use Rattle.std.specs.Prelude.{◌≡◌, ℕ, ◌+◌, ◌<◌, ◌≤◌, List, length, slice_index}
 
 -- Where the parts of 256 symbols begin, and at the end 2 ^ 15: none is empty.

@@ -77,7 +77,7 @@ fn unpack<C: Coder>(
     Ok(start.elapsed(rt)?)
 }
 
-/// Packs records in blocks of so many bytes, and unpacks them; both must agree.
+/// Packs records in blocks of this many bytes, and unpacks them; both must agree.
 pub fn run<C: Coder>(
     rt: &(impl Print + Eprint + Clock + Alloc<A = Global>),
     name: &str,

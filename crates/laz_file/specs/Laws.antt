@@ -102,8 +102,8 @@ abbrev pub IsBadIf : (bad : Option ℕ) → (file : List ℕ) → List Piece →
 IsBadIf None file pieces = Unit {0}
 IsBadIf (Some i) file pieces = IsBadPiece file pieces i
 
--- Records that are read piece by piece are the only ones of the file, and so is the first bad piece: a reader finds that
--- each piece before it holds one block alone.
+-- Records that are read piece by piece are the only ones of the file, and so is the first bad piece: a reader finds
+-- that each piece before it holds one block alone.
 abbrev pub IsReadOnce : Type 0
 IsReadOnce = (file : List ℕ) (pieces : List Piece) (blocks : List (List ℕ)) (bad : Option ℕ) → ArePieces file pieces
     → HoldOnly file (pieces_before bad pieces) blocks → IsBadIf bad file pieces
