@@ -8,9 +8,10 @@ pub use Rattle.laz_workers.specs.Rooms
 pub use Rattle.laz_workers.specs.Work
 pub use Rattle.laz_chunk.specs.Layouts
 pub use Rattle.laz_chunk.specs.Chunks
-pub use Rattle.laz_table.specs.Chunks
+pub use Rattle.laz_table.specs.Chunks as TableChunks
 pub mod Packing
 pub mod Outputs
 pub mod Refusing
 pub mod Pieces
 pub mod Records
+pub mod Writing

@@ -4,8 +4,12 @@
 //! with items of version 2.
 #![tactic(auto)]
 
+mod batch;
 mod fault;
 mod limits;
+mod pack_job;
+mod packing;
+mod put;
 
 pub use fault::Fault;
 pub use limits::PLAIN_BLOCK;

@@ -1,0 +1,127 @@
+-- What a writer of an output stands for, from call to call.
+use Rattle.std.specs.Prelude.{◌≡◌, ℕ, ◌+◌, ◌*◌, ◌/◌, ◌%◌, ◌<◌, ◌≤◌, min, Bool, true, false, if◌then◌else◌, List, []}
+use Rattle.std.specs.Prelude.{◌∷◌, ◌++◌, length, map, take, Option, Some, None, All}
+use Rattle.std.specs.List.{concat}
+use Rattle.las_header.specs.declared.counts.Counts.{Counts}
+use Rattle.las_header.specs.Fields.{format_of, has_long_counts, record_length_of}
+use Rattle.las_header.specs.Heads.{IsHead}
+use Rattle.las_header.specs.Plain.{cut_records}
+use Rattle.las_outside.specs.Outside.{Outside, with_bytes, with_write_fault}
+use Rattle.las_points.specs.Tally.{counts_of}
+use Rattle.laz_chunk.specs.Chunks.{chunk_bytes, count_of}
+use Rattle.laz_chunk.specs.Layouts.{Format, Layout, layout, record_length, room_for}
+use Rattle.laz_table.specs.VlrCauses.{extra_of}
+use Rattle.laz_file.specs.declared.fault.Fault.{Fault}
+use Rattle.laz_file.specs.declared.fault.Fault.TheVariants.{Refused, Read, Write, Memory}
+use Rattle.laz_file.specs.Outputs.{Output, first_head, front, records_after}
+use Rattle.laz_file.specs.Packing.{blocks_of, packed_head}
+
+-- the answer to a block: its chunk, and never none
+abbrev pub IsChunk : Format → (block : List ℕ) → Option (List ℕ) → Type 0
+IsChunk f block answer = answer ≡ Some (chunk_bytes (layout f) block)
+
+-- A block of records fits a room: whole records, one at least, whose chunk takes no more bytes than the room has.
+pub record FitsRoom (f : Format) (block : List ℕ) (size : ℕ) : Type 0 where
+  pub some : record_length (layout f) ≤ length block
+  pub whole : length block % record_length (layout f) ≡ 0
+  pub room : room_for (layout f) (count_of (layout f) block) ≤ size
+
+-- How a call that writes ends with a fault, after it has made something of the outside: with one failed write more, or
+-- out of memory, with none.
+abbrev pub Stops : Fault → (made now : Outside) → Type 0
+Stops Memory made now = now ≡ made
+Stops Write made now = now ≡ with_write_fault made
+Stops Read made now = ⊥
+Stops (Refused cause) made now = ⊥
+
+-- the chunks of some blocks
+abbrev pub chunks : Format → (blocks : List (List ℕ)) → List (List ℕ)
+chunks f blocks = map (chunk_bytes (layout f)) blocks
+
+-- the chunks of some blocks, one after another
+abbrev pub all_chunks : Format → (blocks : List (List ℕ)) → List ℕ
+all_chunks f blocks = concat (chunks f blocks)
+
+-- ---- the packing of an output
+
+-- what is fixed of it: the format of the records, how many points a chunk has and how many there are at most in all,
+-- where the pointer to the chunk table stands, and how many workers pack
+pub record Plan : Type 0 where
+  pub format : Format
+  pub chunk : ℕ
+  pub most : ℕ
+  pub pointer : ℕ
+  pub workers : ℕ
+
+-- what contracts see of it: what is fixed, the lengths of the chunks that were appended, the full blocks that are kept
+-- back, and the records after them, which make no full block
+pub record PackingSeen : Type 0 where
+  pub plan : Plan
+  pub lengths : List ℕ
+  pub kept : List (List ℕ)
+  pub rest : List ℕ
+
+-- the length of a record, and of a full block, in bytes
+abbrev pub record_size : Plan → ℕ
+record_size plan = record_length (layout plan.format)
+
+abbrev pub block_size : Plan → ℕ
+block_size plan = record_size plan * plan.chunk
+
+-- the blocks of some bytes that are full
+abbrev pub full_blocks : (size : ℕ) → List ℕ → List (List ℕ)
+full_blocks size bytes = cut_records size (length bytes / size) bytes
+
+-- the chunks of the full blocks of some records, and of all blocks, one after another
+abbrev pub full_chunks : Plan → (records : List ℕ) → List ℕ
+full_chunks plan records = all_chunks plan.format (full_blocks (block_size plan) records)
+
+abbrev pub every_chunk : Plan → (records : List ℕ) → List ℕ
+every_chunk plan records = all_chunks plan.format (blocks_of (block_size plan) records)
+
+-- a block of whole records, one at least, and no more than a chunk has or than there are in all
+pub record IsBlock (plan : Plan) (block : List ℕ) : Type 0 where
+  pub count : ℕ
+  pub some : 1 ≤ count
+  pub few : count ≤ plan.chunk
+  pub within : count ≤ plan.most
+  pub size : length block ≡ record_size plan * count
+
+-- each block has this many bytes
+abbrev pub AreFull : ℕ → List (List ℕ) → Type 0
+AreFull size [] = Unit {0}
+AreFull size (block ∷ blocks) = (length block ≡ size) × AreFull size blocks
+
+-- A crew can pack the blocks: it has a worker, its spaces are of the format, and its rooms are for the largest block.
+pub record CanPack (plan : Plan) (spaces : List Format) (rooms : List ℕ) : Type 0 where
+  pub known : plan.format.format < 4
+  pub extra : plan.format.extra < 193
+  pub some : 0 < plan.chunk
+  pub small : plan.chunk ≤ 250000
+  pub hands : 0 < plan.workers
+  pub few : plan.workers ≤ 8
+  pub spaces_are : All (λ space. space ≡ plan.format) spaces
+  pub rooms_are : All (λ room. room ≡ room_for (layout plan.format) (min plan.chunk plan.most)) rooms
+
+-- The packing took these bytes: a block that became full is kept back after the others.
+pub record Took (old new : PackingSeen) (bytes : List ℕ) : Type 0 where
+  pub blocks : List (List ℕ)
+  pub kept : new.kept ≡ old.kept ++ blocks
+  pub full : AreFull (block_size old.plan) blocks
+  pub whole : concat blocks ++ new.rest ≡ old.rest ++ bytes
+  pub short : length new.rest < block_size old.plan
+  pub count : length blocks ≤ 1
+  pub plan : new.plan ≡ old.plan
+  pub lengths : new.lengths ≡ old.lengths
+
+-- The outside is as before but for the output, and the output and its packing stand for some records: the output holds
+-- its front and the chunks of these blocks, the next blocks are kept back, and what is left makes no full block.
+pub record PackedStands (before now : Outside) (name front : List ℕ) (packing : PackingSeen) (records : List ℕ)
+    : Type 0 where
+  pub done : List (List ℕ)
+  pub file : now ≡ with_bytes before name (front ++ all_chunks packing.plan.format done)
+  pub whole : records ≡ concat (done ++ packing.kept) ++ packing.rest
+  pub full : AreFull (block_size packing.plan) (done ++ packing.kept)
+  pub short : length packing.rest < block_size packing.plan
+  pub lengths : packing.lengths ≡ map (λ chunk. length chunk) (chunks packing.plan.format done)
+  pub within : length records ≤ record_size packing.plan * packing.plan.most
