@@ -66,7 +66,7 @@ module _ (plan : Plan) (spaces : List Format) (rooms : List ℕ) (can : CanPack 
 
   pub small_rooms : All (λ (n : ℕ). n < 2 ^ 32) rooms
   small_rooms =
-      let small : room_for (layout plan.format) (min plan.chunk plan.most) < 2 ^ 32 = room_small plan.format (min plan.chunk plan.most) can.extra (omega (arith, can.small)) in
+      let small : room_for (layout plan.format) (min plan.chunk plan.most) < 2 ^ 32 = room_small plan.format (min plan.chunk plan.most) can.extra (omega (arith, can.numbers.small)) in
       All-weaker (λ (n : ℕ). n ≡ room_for (layout plan.format) (min plan.chunk plan.most)) (λ (n : ℕ). n < 2 ^ 32) (λ n is. omega (arith, is, small)) rooms can.rooms_are
 
 -- the plan of a crew
@@ -79,8 +79,7 @@ pub goes_on : (format : Format) (chunk most pointer : ℕ) (old new : List (Hand
 goes_on format chunk most pointer old new can hands rooms suits = record {
   known = can.known;
   extra = can.extra;
-  some = can.some;
-  small = can.small;
+  numbers = record { least = can.numbers.least; small = can.numbers.small; most = can.numbers.most; near = can.numbers.near };
   hands = omega (arith, hands, can.hands);
   few = omega (arith, hands, can.few);
   spaces_are = All-map (λ (s : Format). s ≡ format) (λ (h : HandSeen Format). h.space) new suits;

@@ -73,7 +73,7 @@ pub one_block : (size : ℕ) (rest : List ℕ) → 0 < length rest → length re
 one_block size rest some short =
     let same : length rest + size - 1 ≡ 1 * size + (length rest - 1) = omega arith in
     let count : chunk_count (length rest) size ≡ 1 = ap (λ (n : ℕ). n / size) same ∙ div-mul-add 1 size (length rest - 1) (omega arith) in
-    ap (λ (n : ℕ). cut_records size n rest) count ∙ ap (λ (t : List ℕ). t ∷ []) (take_all rest size (omega arith))
+    ap (λ (n : ℕ). cut_records size n rest) count ∙ ap (λ (t : List ℕ). t ∷ []) (take_all size rest (omega arith))
 
 -- bytes are their full blocks and their rest
 cut_whole : (size n : ℕ) (bytes : List ℕ) → n * size ≤ length bytes → AreFull size (cut_records size n bytes) × (concat (cut_records size n bytes) ++ drop (size * n) bytes ≡ bytes)

@@ -1,2 +1,5 @@
 pub mod Putting
 pub mod Blocks
+pub mod Cutting
+pub mod Standing
+pub mod Ending

@@ -1,5 +1,5 @@
 -- What a writer of an output stands for, from call to call.
-use Rattle.std.specs.Prelude.{◌≡◌, ℕ, ◌+◌, ◌*◌, ◌/◌, ◌%◌, ◌<◌, ◌≤◌, min, Bool, true, false, if◌then◌else◌, List, []}
+use Rattle.std.specs.Prelude.{◌≡◌, ℕ, ◌+◌, ◌*◌, ◌/◌, ◌%◌, ◌^◌, ◌<◌, ◌≤◌, min, Bool, true, false, if◌then◌else◌, List, []}
 use Rattle.std.specs.Prelude.{◌∷◌, ◌++◌, length, map, take, Option, Some, None, All}
 use Rattle.std.specs.List.{concat}
 use Rattle.las_header.specs.declared.counts.Counts.{Counts}
@@ -14,7 +14,7 @@ use Rattle.laz_table.specs.VlrCauses.{extra_of}
 use Rattle.laz_file.specs.declared.fault.Fault.{Fault}
 use Rattle.laz_file.specs.declared.fault.Fault.TheVariants.{Refused, Read, Write, Memory}
 use Rattle.laz_file.specs.Outputs.{Output, first_head, front, records_after}
-use Rattle.laz_file.specs.Packing.{blocks_of, packed_head}
+use Rattle.laz_file.specs.Packing.{blocks_of, packed_head, packed_points}
 
 -- the answer to a block: its chunk, and never none
 abbrev pub IsChunk : Format → (block : List ℕ) → Option (List ℕ) → Type 0
@@ -79,6 +79,10 @@ full_chunks plan records = all_chunks plan.format (full_blocks (block_size plan)
 abbrev pub every_chunk : Plan → (records : List ℕ) → List ℕ
 every_chunk plan records = all_chunks plan.format (blocks_of (block_size plan) records)
 
+-- the chunks of all blocks of some records, and their table
+abbrev pub packed_text : Plan → (records : List ℕ) → List ℕ
+packed_text plan records = packed_points (chunks plan.format (blocks_of (block_size plan) records))
+
 -- a block of whole records, one at least, and no more than a chunk has or than there are in all
 pub record IsBlock (plan : Plan) (block : List ℕ) : Type 0 where
   pub count : ℕ
@@ -92,12 +96,18 @@ abbrev pub AreFull : ℕ → List (List ℕ) → Type 0
 AreFull size [] = Unit {0}
 AreFull size (block ∷ blocks) = (length block ≡ size) × AreFull size blocks
 
+-- The numbers of a plan are in range.
+pub record IsPlan (plan : Plan) : Type 0 where
+  pub least : 256 ≤ plan.chunk
+  pub small : plan.chunk ≤ 250000
+  pub most : plan.most < 2 ^ 32
+  pub near : plan.pointer ≤ 2 ^ 25
+
 -- A crew can pack the blocks: it has a worker, its spaces are of the format, and its rooms are for the largest block.
 pub record CanPack (plan : Plan) (spaces : List Format) (rooms : List ℕ) : Type 0 where
   pub known : plan.format.format < 4
   pub extra : plan.format.extra < 193
-  pub some : 0 < plan.chunk
-  pub small : plan.chunk ≤ 250000
+  pub numbers : IsPlan plan
   pub hands : 0 < plan.workers
   pub few : plan.workers ≤ 8
   pub spaces_are : All (λ space. space ≡ plan.format) spaces
@@ -125,3 +135,4 @@ pub record PackedStands (before now : Outside) (name front : List ℕ) (packing 
   pub short : length packing.rest < block_size packing.plan
   pub lengths : packing.lengths ≡ map (λ chunk. length chunk) (chunks packing.plan.format done)
   pub within : length records ≤ record_size packing.plan * packing.plan.most
+  pub numbers : IsPlan packing.plan

@@ -8,6 +8,7 @@ mod batch;
 mod fault;
 mod limits;
 mod pack_job;
+mod packed_end;
 mod packing;
 mod put;
 

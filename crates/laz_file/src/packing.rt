@@ -1,5 +1,5 @@
 //! The packing of an output: records that become chunks.
-ghost use Rattle.std.specs.Prelude.{◌≡◌, ◌+◌, ◌*◌, ◌<◌, ◌≤◌, ◌++◌, ◌∷◌, [], ℕ, List, length, map, take, All, OnOk, IfOk, IfErr};
+ghost use Rattle.std.specs.Prelude.{◌≡◌, ◌+◌, ◌*◌, ◌<◌, ◌≤◌, ◌++◌, ◌∷◌, [], ℕ, List, length, map, take, All, OnOk, IfOk, IfErr, IsTrue, ◌↔◌};
 ghost use Rattle.las_outside.specs.Outside.{Outside, with_bytes};
 ghost use Rattle.laz_file.specs.Packing.{blocks_of};
 ghost use Rattle.laz_file.specs.Writing.{IsBlock, PackedStands, Stops, Took, all_chunks, block_size, chunks, every_chunk};
@@ -71,7 +71,7 @@ impl Packing {
     }
 
     // Keeps back the block that is being filled, and begins another.
-    fn keep(&mut self) -> Result<(), AllocError>
+    pub(crate) fn keep(&mut self) -> Result<(), AllocError>
         ensures kept { OnOk result (self.new ≡ record self.old { kept = self.old.kept ++ self.old.rest ∷ []; rest = [] }) }
         ensures plan { self.new.plan ≡ self.old.plan }
     {
@@ -136,6 +136,50 @@ impl Packing {
         )?;
         mem::swap(&mut self.kept, &mut self.spare);
         self.kept.clear();
+        Ok(())
+    }
+
+    // Whether as many full blocks are kept back as the workers pack together.
+    fn is_full(&self) -> bool
+        ensures { IsTrue result ↔ (length self.now.kept ≡ 2 * self.now.plan.workers) }
+    {
+        self.kept.len() == 2 * self.crew.hands()
+    }
+
+    /// Adds records. Full blocks are packed and their chunks appended in order, or they are kept back.
+    pub(crate) fn add<R: Threads + Sync, F: Files, G: Gate>(
+        &mut self,
+        rt: &R,
+        alloc: Global,
+        files: &mut F,
+        gate: &G,
+        name: &str,
+        records: &[u8],
+    ) -> Result<(), Fault>
+        requires few { length self.old.kept < 2 * self.old.plan.workers }
+        requires stands { (before : Outside) × (front : List ℕ) × (bytes : List ℕ)
+            × PackedStands before (F.seen files.old) name.now front self.old bytes
+            × (length bytes + length records.now ≤ record_size self.old.plan * self.old.plan.most) }
+        ensures stands { (before : Outside) (front bytes : List ℕ)
+            → PackedStands before (F.seen files.old) name.now front self.old bytes
+            → length bytes + length records.now ≤ record_size self.old.plan * self.old.plan.most
+            → OnOk result (PackedStands before (F.seen files.new) name.now front self.new (bytes ++ records.now)) }
+        ensures stopped { (before : Outside) (front bytes : List ℕ)
+            → PackedStands before (F.seen files.old) name.now front self.old bytes
+            → length bytes + length records.now ≤ record_size self.old.plan * self.old.plan.most
+            → IfErr result (λ fault. (n : ℕ) × Stops fault
+            (with_bytes before name.now (take n (front ++ full_chunks self.old.plan (bytes ++ records.now))))
+            (F.seen files.new)) }
+        ensures few { OnOk result (length self.new.kept < 2 * self.new.plan.workers) }
+        ensures plan { self.new.plan ≡ self.old.plan }
+    {
+        let mut at = 0;
+        while at < records.len() {
+            at += self.take_in(&records[at..])?;
+            if self.is_full() {
+                self.append_kept(rt, alloc, files, gate, name)?;
+            }
+        }
         Ok(())
     }
 }
