@@ -1,5 +1,12 @@
 pub mod Putting
-pub mod Blocks
+pub mod Rooms
 pub mod Cutting
 pub mod Standing
 pub mod Ending
+pub mod Faults
+pub mod Splices
+pub mod Counted
+pub mod Pushing
+pub mod Tallying
+pub mod Patching
+pub mod Finishing

@@ -1,5 +1,5 @@
 -- Chunks that are put one after another.
-use Rattle.std.proofs.Common.{◌≡◌, ℕ, zero, suc, ◌+◌, ◌<◌, ◌≤◌, min, List, [], ◌∷◌, ◌++◌, length, get_or, take, drop, map, Option, Some, None, Result, Ok, Err, IfErr, option_copied, Bor, refl, sym, ◌∙◌, ap, subst, append_assoc, arith}
+use Rattle.std.proofs.Common.{◌≡◌, ℕ, zero, suc, ◌+◌, ◌<◌, ◌≤◌, min, List, [], ◌∷◌, ◌++◌, length, get_or, take, drop, map, Option, Some, None, Result, Ok, Err, IfErr, IfOk, option_copied, Bor, refl, sym, ◌∙◌, ap, subst, append_assoc, arith}
 use Rattle.std.specs.List.{concat}
 use Rattle.std.proofs.lemmas.List.{append-nil, length-take, take_min, take-append-le, take_more}
 use Rattle.std.proofs.Math.Seq.{take-append-add}
@@ -13,6 +13,14 @@ use Rattle.laz_workers.specs.Rooms.{RoomSeen, StandsIn, answer_in, lengths_of}
 pub if_err : {T E : Type 0} (P : E → Type 0) (r : Result T E) (e : E) → IsErrAnd r (λ x. x ≡ e) → P e → IfErr r P
 if_err P (Ok x) e is p = tt
 if_err P (Err x) e is p = subst P (sym is) p
+
+pub if_err_weaker : {T E : Type 0} (P Q : E → Type 0) (r : Result T E) → ((e : E) → P e → Q e) → IfErr r P → IfErr r Q
+if_err_weaker P Q (Ok x) to p = tt
+if_err_weaker P Q (Err e) to p = to e p
+
+pub if_ok_weaker : {T E : Type 0} (P Q : T → Type 0) (r : Result T E) → ((x : T) → P x → Q x) → IfOk r P → IfOk r Q
+if_ok_weaker P Q (Ok x) to p = to x p
+if_ok_weaker P Q (Err e) to p = tt
 
 pub All-unmap : {X Y : Type 0} (P : X → Type 0) (f : Y → X) (ys : List Y) → All P (map f ys) → All (λ y. P (f y)) ys
 All-unmap P f [] h k d lt = absurd (omega (arith, lt))
@@ -83,3 +91,10 @@ lent_small rooms number room o x stands small copied is =
         let is_front : take n bytes ≡ xs = cc in
         omega (arith, fits, ap (λ (t : List ℕ). length t) is_front, length-take n bytes)
     in_room bytes (Refused number) xs fits same = absurd (let clash : None ≡ Some xs = same in cc)
+
+-- a prefix of a list is one of a longer list
+pub prefix_append : (xs more : List ℕ) (n : ℕ) → (m : ℕ) × (take n xs ≡ take m (xs ++ more))
+prefix_append xs more n =
+    let m = min n (length xs) in
+    let short : m ≤ length xs = omega arith in
+    (m, sym (take_min n xs) ∙ sym (take-append-le m xs more short))

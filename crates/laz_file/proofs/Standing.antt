@@ -84,7 +84,7 @@ module _ (before now : Outside) (name front : List ℕ) (p : PackingSeen) (recor
       }
 
   -- full blocks are blocks
-  size_of_all : length records ≡ length (s.done ++ p.kept) * block_size p.plan + length p.rest
+  pub size_of_all : length records ≡ length (s.done ++ p.kept) * block_size p.plan + length p.rest
   size_of_all = ap (λ (t : List ℕ). length t) s.whole ∙ length-append (concat (s.done ++ p.kept)) p.rest ∙ ap (λ (n : ℕ). n + length p.rest) (length_full (block_size p.plan) (s.done ++ p.kept) s.full)
 
   pub kept_blocks : All (IsBlock p.plan) p.kept

@@ -2,18 +2,22 @@
 use Rattle.std.specs.Prelude.{◌≡◌, ℕ, ◌+◌, ◌*◌, ◌/◌, ◌%◌, ◌^◌, ◌<◌, ◌≤◌, min, Bool, true, false, if◌then◌else◌, List, []}
 use Rattle.std.specs.Prelude.{◌∷◌, ◌++◌, length, map, take, Option, Some, None, All}
 use Rattle.std.specs.List.{concat}
+use Rattle.byteorder.specs.Endian.{little_bytes}
 use Rattle.las_header.specs.declared.counts.Counts.{Counts}
+use Rattle.las_header.specs.declared.limits.TheConstants.{COUNTS_AT, LONG_COUNTS_AT}
+use Rattle.las_header.specs.Counting.{counts_bytes, long_counts_bytes}
 use Rattle.las_header.specs.Fields.{format_of, has_long_counts, record_length_of}
 use Rattle.las_header.specs.Heads.{IsHead}
 use Rattle.las_header.specs.Plain.{cut_records}
+use Rattle.las_outside.specs.Drafts.{Patch}
 use Rattle.las_outside.specs.Outside.{Outside, with_bytes, with_write_fault}
-use Rattle.las_points.specs.Tally.{counts_of}
+use Rattle.las_points.specs.Tally.{IsWithinPoints, counts_of}
 use Rattle.laz_chunk.specs.Chunks.{chunk_bytes, count_of}
 use Rattle.laz_chunk.specs.Layouts.{Format, Layout, layout, record_length, room_for}
 use Rattle.laz_table.specs.VlrCauses.{extra_of}
 use Rattle.laz_file.specs.declared.fault.Fault.{Fault}
 use Rattle.laz_file.specs.declared.fault.Fault.TheVariants.{Refused, Read, Write, Memory}
-use Rattle.laz_file.specs.Outputs.{Output, first_head, front, records_after}
+use Rattle.laz_file.specs.Outputs.{Output, front, records_after}
 use Rattle.laz_file.specs.Packing.{blocks_of, packed_head, packed_points}
 
 -- the answer to a block: its chunk, and never none
@@ -101,7 +105,7 @@ pub record IsPlan (plan : Plan) : Type 0 where
   pub least : 256 ≤ plan.chunk
   pub small : plan.chunk ≤ 250000
   pub most : plan.most < 2 ^ 32
-  pub near : plan.pointer ≤ 2 ^ 25
+  pub near : plan.pointer < 2 ^ 32
 
 -- A crew can pack the blocks: it has a worker, its spaces are of the format, and its rooms are for the largest block.
 pub record CanPack (plan : Plan) (spaces : List Format) (rooms : List ℕ) : Type 0 where
@@ -136,3 +140,108 @@ pub record PackedStands (before now : Outside) (name front : List ℕ) (packing 
   pub lengths : packing.lengths ≡ map (λ chunk. length chunk) (chunks packing.plan.format done)
   pub within : length records ≤ record_size packing.plan * packing.plan.most
   pub numbers : IsPlan packing.plan
+
+-- ---- writers
+
+-- what contracts see of a writer: the name of its output; the length of the plain head; the length of a record; how many
+-- records there are at most in all, and how many bytes of records it took; whether the head has a second set of counts;
+-- the counts of the records, if they are counted; the packing, if the output is packed; and whether a call has failed
+pub record WriterSeen : Type 0 where
+  pub name : List ℕ
+  pub start : ℕ
+  pub size : ℕ
+  pub most : ℕ
+  pub taken : ℕ
+  pub long_counts : Bool
+  pub counts : Option Counts
+  pub packing : Option PackingSeen
+  pub failed : Bool
+
+-- No call has failed, and no bytes were asked for.
+pub record SameFaults (old new : Outside) : Type 0 where
+  pub reads : new.read_faults ≡ old.read_faults
+  pub writes : new.write_faults ≡ old.write_faults
+  pub asked : new.asked ≡ old.asked
+
+-- the format of the records that follow a head
+abbrev pub format_in : (head : List ℕ) → Format
+format_in head = record { format = format_of head; extra = extra_of head }
+
+-- a head in the form in which it is written: with a laszip VLR, if the points are packed
+abbrev pub written_head : Option ℕ → (head : List ℕ) → List ℕ
+written_head None head = head
+written_head (Some chunk) head = packed_head head chunk
+
+-- what follows a head: a pointer if the points are packed, to their place
+abbrev pub pointer_part : (packed : Bool) → (head : List ℕ) → List ℕ
+pointer_part true head = little_bytes 8 (length head)
+pointer_part false head = []
+
+-- The plan is one for the records of a head, in chunks of this many.
+pub record IsPlanOf (head : List ℕ) (chunk most : ℕ) (plan : Plan) : Type 0 where
+  pub format : plan.format ≡ format_in head
+  pub chunk_is : plan.chunk ≡ chunk
+  pub most_is : plan.most ≡ most
+  pub pointer : plan.pointer ≡ length (packed_head head chunk)
+
+-- the packing of an output as it begins, if it is packed
+abbrev pub first_packing : (head : List ℕ) → (most pointer workers : ℕ) → Option ℕ → Option PackingSeen
+first_packing head most pointer workers None = None
+first_packing head most pointer workers (Some chunk) = Some record {
+  plan = record { format = format_in head; chunk = chunk; most = most; pointer = pointer; workers = workers };
+  lengths = [];
+  kept = [];
+  rest = [];
+}
+
+-- A packed output stands for some records, and its packing is one for its head.
+pub record ChunksStand (before now : Outside) (out : Output) (chunk most : ℕ) (packing : PackingSeen) (records : List ℕ)
+    : Type 0 where
+  pub plan : IsPlanOf out.head chunk most packing.plan
+  pub few : length packing.kept < 2 * packing.plan.workers
+  pub stands : PackedStands before now out.name (front out) packing records
+
+-- An output stands for some records: the outside is as before but for the output, which holds its front and all of the
+-- records if it is plain, and the chunks of those that are not kept back if it is packed.
+abbrev pub PointsStand : Option ℕ → (before now : Outside) → Output → (most : ℕ) → Option PackingSeen
+    → (records : List ℕ) → Type 0
+PointsStand None before now out most None records = now ≡ with_bytes before out.name (front out ++ records)
+PointsStand None before now out most (Some packing) records = ⊥
+PointsStand (Some chunk) before now out most None records = ⊥
+PointsStand (Some chunk) before now out most (Some packing) records =
+    ChunksStand before now out chunk most packing records
+
+-- The counts are those of the records, if they are counted.
+abbrev pub IsTally : (counted : Bool) → Option Counts → (records : List (List ℕ)) → Type 0
+IsTally true None records = ⊥
+IsTally true (Some counts) records = (counts ≡ counts_of records) × IsWithinPoints counts
+IsTally false None records = Unit {0}
+IsTally false (Some counts) records = ⊥
+
+-- The outside is as before but for the output, and the output and its writer stand for these records, which are whole
+-- ones and at most as many as the writer was made for.
+pub record Stands (before now : Outside) (writer : WriterSeen) (out : Output) (records : List ℕ) : Type 0 where
+  pub head : IsHead out.head
+  pub named : writer.name ≡ out.name
+  pub start : writer.start ≡ length out.head
+  pub size : writer.size ≡ record_length_of out.head
+  pub few : writer.most < 2 ^ 32
+  pub taken : writer.taken ≡ length records
+  pub whole : length records % record_length_of out.head ≡ 0
+  pub within : length records ≤ record_length_of out.head * writer.most
+  pub long : writer.long_counts ≡ has_long_counts out.head
+  pub tally : IsTally out.counted writer.counts (records_after out.head records)
+  pub points : PointsStand out.chunk before now out writer.most writer.packing records
+
+-- ---- the patches that finish an output, as a writer makes them
+
+-- those of the counts, one set or both, if they are counted
+abbrev pub tally_patches : (long : Bool) → Option Counts → List Patch
+tally_patches long None = []
+tally_patches long (Some counts) =
+    (COUNTS_AT, counts_bytes counts) ∷ (if long then (LONG_COUNTS_AT, long_counts_bytes counts) ∷ [] else [])
+
+-- that of a pointer: its place, and where the chunk table begins
+abbrev pub pointer_patch : Option (ℕ × ℕ) → List Patch
+pointer_patch None = []
+pointer_patch (Some pointer) = (pointer.0, little_bytes 8 pointer.1) ∷ []

@@ -5,12 +5,18 @@
 #![tactic(auto)]
 
 mod batch;
+mod begin;
 mod fault;
+mod finish;
 mod limits;
 mod pack_job;
 mod packed_end;
 mod packing;
+mod patch;
 mod put;
+mod tally;
+mod writer;
 
 pub use fault::Fault;
 pub use limits::PLAIN_BLOCK;
+pub use writer::Writer;

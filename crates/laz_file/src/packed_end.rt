@@ -1,7 +1,7 @@
 //! The end of a packed output: the last block, and the chunk table.
 ghost use Rattle.std.specs.Prelude.{◌≡◌, ◌↔◌, ◌+◌, ◌*◌, ◌%◌, ◌^◌, ◌<◌, ◌≤◌, ◌++◌, [], ℕ, List, length, map, sum, take, OnOk};
 ghost use Rattle.std.specs.Prelude.{IfOk, IfErr, IsTrue};
-ghost use Rattle.las_outside.specs.Outside.{Outside, with_bytes};
+ghost use Rattle.las_outside.specs.Outside.{Later, Outside, with_bytes};
 ghost use Rattle.laz_table.specs.Table.{table_bytes};
 ghost use Rattle.laz_file.specs.Packing.{blocks_of};
 ghost use Rattle.laz_file.specs.Writing.{PackedStands, Stops, block_size, chunks, every_chunk, packed_text, record_size};
@@ -29,10 +29,10 @@ impl Packing {
             kept = self.old.kept ++ blocks_of (block_size self.old.plan) self.old.rest; rest = [] }) }
         ensures plan { self.new.plan ≡ self.old.plan }
     {
-        if !self.has_rest() {
-            return Ok(());
+        if self.has_rest() {
+            return self.keep();
         }
-        self.keep()
+        Ok(())
     }
 
     // Packs all blocks that are left, the last one too, together, and appends their chunks in order.
@@ -60,6 +60,7 @@ impl Packing {
             → IfErr result (λ fault. (n : ℕ) × Stops fault
             (with_bytes before name.now (take n (front ++ every_chunk self.old.plan records))) (F.seen files.new)) }
         ensures plan { self.new.plan ≡ self.old.plan }
+        ensures later { Later (F.seen files.old) (F.seen files.new) }
     {
         self.keep_rest()?;
         self.append_kept(rt, alloc, files, gate, name)?;
@@ -114,6 +115,7 @@ impl Packing {
             → PackedStands before (F.seen files.old) name.now front self.old records
             → IfErr result (λ fault. (n : ℕ) × Stops fault
             (with_bytes before name.now (take n (front ++ packed_text self.old.plan records))) (F.seen files.new)) }
+        ensures later { Later (F.seen files.old) (F.seen files.new) }
     {
         self.append_rest(rt, alloc, files, gate, name)?;
         let place = self.table_place();

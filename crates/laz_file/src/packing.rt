@@ -1,6 +1,6 @@
 //! The packing of an output: records that become chunks.
 ghost use Rattle.std.specs.Prelude.{◌≡◌, ◌+◌, ◌*◌, ◌<◌, ◌≤◌, ◌++◌, ◌∷◌, [], ℕ, List, length, map, take, All, OnOk, IfOk, IfErr, IsTrue, ◌↔◌};
-ghost use Rattle.las_outside.specs.Outside.{Outside, with_bytes};
+ghost use Rattle.las_outside.specs.Outside.{Later, Outside, with_bytes};
 ghost use Rattle.laz_file.specs.Packing.{blocks_of};
 ghost use Rattle.laz_file.specs.Writing.{IsBlock, PackedStands, Stops, Took, all_chunks, block_size, chunks, every_chunk};
 ghost use Rattle.laz_file.specs.Writing.{full_chunks, record_size};
@@ -124,6 +124,7 @@ impl Packing {
             lengths = self.old.lengths ++ map (λ chunk. length chunk) (chunks self.old.plan.format self.old.kept);
             kept = [] }) }
         ensures plan { self.new.plan ≡ self.old.plan }
+        ensures later { Later (F.seen files.old) (F.seen files.new) }
     {
         work_batch(rt, alloc, &self.job, gate, self.kept.as_slice(), &mut self.crew)?;
         put_chunks(
@@ -137,6 +138,13 @@ impl Packing {
         mem::swap(&mut self.kept, &mut self.spare);
         self.kept.clear();
         Ok(())
+    }
+
+    /// Where the pointer to the chunk table stands.
+    pub(crate) fn pointer(&self) -> u64
+        ensures { result ≡ self.now.plan.pointer }
+    {
+        self.pointer
     }
 
     // Whether as many full blocks are kept back as the workers pack together.
@@ -172,6 +180,7 @@ impl Packing {
             (F.seen files.new)) }
         ensures few { OnOk result (length self.new.kept < 2 * self.new.plan.workers) }
         ensures plan { self.new.plan ≡ self.old.plan }
+        ensures later { Later (F.seen files.old) (F.seen files.new) }
     {
         let mut at = 0;
         while at < records.len() {

@@ -5,6 +5,7 @@ use Rattle.laz_file.specs.declared.fault.Fault.TheVariants.{Memory}
 use Rattle.laz_file.specs.Writing.{PackingSeen, Plan, Stops, all_chunks, full_chunks}
 use Rattle.laz_file.proofs.Putting.{if_err}
 use Rattle.laz_file.proofs.Standing.{few_more, flushed, kept_blocks, next, next_stopped, stands_within}
+use Rattle.laz_file.proofs.Faults.{later-trans}
 use Rattle.laz_file.proofs.packing.Packing.add.Goals as goal
 
 pub take_in-requires-clause-short : goal.take_in-requires-clause-short
@@ -54,6 +55,7 @@ loop-at-preserved-in_ok-append_kept g c =
       within = omega (arith, t.1, length-take (length records - at) (drop at records), length-drop at records, c.loop-at-test.true);
       few = omega (arith, ap (λ (x : PackingSeen). length x.kept) is, ap (λ (x : Plan). x.workers) (c.append_kept.ensures.plan ∙ c.take_in.ensures.plan), c.loop-at.invariant.few);
       plan = c.append_kept.ensures.plan ∙ (c.take_in.ensures.plan ∙ c.loop-at.invariant.plan);
+      later = later-trans _ _ _ c.loop-at.invariant.later c.append_kept.ensures.later;
       stands = λ before front bytes s room.
           let now = c.loop-at.invariant.stands before front bytes s room in
           let u = next c.args.self.now c.loop-at.self q c.loop-at.invariant.plan before _ c.args.name.now front bytes records at c.in_ok-at.field-0 now t.2 c.loop-at-test.true room in
@@ -71,6 +73,7 @@ loop-at-preserved g c =
       within = omega (arith, t.1, length-take (length records - at) (drop at records), length-drop at records, c.loop-at-test.true);
       few = omega (arith, not_full, few_more c.loop-at.self q _ t.2, ap (λ (x : Plan). x.workers) c.take_in.ensures.plan, c.loop-at.invariant.few);
       plan = c.take_in.ensures.plan ∙ c.loop-at.invariant.plan;
+      later = c.loop-at.invariant.later;
       stands = λ before front bytes s room.
           let now = c.loop-at.invariant.stands before front bytes s room in
           next c.args.self.now c.loop-at.self q c.loop-at.invariant.plan before _ c.args.name.now front bytes records at c.in_ok-at.field-0 now t.2 c.loop-at-test.true room;

@@ -6,7 +6,7 @@ use Rattle.laz_workers.specs.Rooms.{HandSeen, lengths_of, rooms_of}
 use Rattle.laz_workers.specs.Run.{EveryInputFits}
 use Rattle.laz_workers.specs.Work.{HoldsAnswer, texts}
 use Rattle.laz_file.specs.Writing.{FitsRoom, IsBlock, IsChunk, PackingSeen, Stops, all_chunks}
-use Rattle.laz_file.proofs.Blocks.{fit_rooms, goes_on, plan_of, small_rooms}
+use Rattle.laz_file.proofs.Rooms.{fit_rooms, goes_on, plan_of, small_rooms}
 use Rattle.laz_file.proofs.Putting.{All-unmap, if_err}
 use Rattle.laz_file.proofs.packing.Packing.append_kept.Goals as goal
 

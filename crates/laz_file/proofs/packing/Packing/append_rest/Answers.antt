@@ -5,10 +5,7 @@ use Rattle.laz_file.specs.declared.fault.Fault.TheVariants.{Memory}
 use Rattle.laz_file.specs.Writing.{IsBlock, PackingSeen, Stops, all_chunks, chunks}
 use Rattle.laz_file.proofs.Ending.{every_size, every_stopped, every_text, every_within, last_blocks, last_few}
 use Rattle.laz_file.proofs.Putting.{if_err}
-use Rattle.laz_file.proofs.packed_end.Packing.append_rest.Goals as goal
-
-pub keep_rest-requires : goal.keep_rest-requires
-keep_rest-requires g c = let h = c.requires.stands in record { short = h.3.short }
+use Rattle.laz_file.proofs.packing.Packing.append_rest.Goals as goal
 
 pub returns-in_err-keep_rest-clause-stopped : goal.returns-in_err-keep_rest-clause-stopped
 returns-in_err-keep_rest-clause-stopped g c before front records s =

@@ -6,7 +6,7 @@ use Rattle.laz_file.specs.declared.fault.Fault.TheVariants.{Memory}
 use Rattle.laz_file.specs.Writing.{PackingSeen, Plan, Stops, block_size, chunks, every_chunk}
 use Rattle.laz_file.proofs.Ending.{all_chunks_within, chunks_within, few_chunks, length_chunks, table_within, text_is}
 use Rattle.laz_file.proofs.Putting.{if_err}
-use Rattle.laz_file.proofs.packed_end.Packing.append_all.Goals as goal
+use Rattle.laz_file.proofs.packing.Packing.append_all.Goals as goal
 
 pub returns-in_err-append_rest-clause-stopped : goal.returns-in_err-append_rest-clause-stopped
 returns-in_err-append_rest-clause-stopped g c before front records s =
