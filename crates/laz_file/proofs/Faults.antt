@@ -1,6 +1,6 @@
 -- What a call that writes an output does to the counts of faults.
-use Rattle.std.proofs.Common.{◌≡◌, ◌⊎◌, inl, inr, ℕ, ◌≤◌, List, Option, Some, None, refl, sym, ◌∙◌, ap, arith}
-use Rattle.std.specs.Prelude.{is_some}
+use Rattle.std.proofs.Common.{◌≡◌, ◌⊎◌, inl, inr, ℕ, ◌≤◌, List, Option, Some, None, Result, Ok, Err, refl, sym, ◌∙◌, ap, arith}
+use Rattle.std.specs.Prelude.{IsErrAnd}
 use Rattle.las_outside.specs.Faults.{Rose, count_after}
 use Rattle.las_outside.specs.Outside.{Later, Outside, with_bytes, with_write_fault}
 use Rattle.laz_file.specs.declared.fault.Fault.{Fault}
@@ -36,3 +36,8 @@ same_faults before old new name xs ys was is = record {
   writes = ap (λ (o : Outside). o.write_faults) is ∙ sym (ap (λ (o : Outside). o.write_faults) was);
   asked = ap (λ (o : Outside). o.asked) is ∙ sym (ap (λ (o : Outside). o.asked) was);
 }
+
+-- the error of a result, by either way of saying it
+pub err_of : {T E : Type 0} (r : Result T E) (e w : E) → IsErrAnd r (λ x. x ≡ e) → r ≡ Err w → e ≡ w
+err_of (Ok x) e w is of = absurd is
+err_of (Err x) e w is of = let same : x ≡ w = cc in sym is ∙ same

@@ -1,9 +1,13 @@
 -- The end of an output: its length, and the patches that finish it.
-use Rattle.std.proofs.Common.{◌≡◌, ℕ, ◌+◌, ◌*◌, ◌≤◌, ◌<◌, ◌^◌, Bool, true, false, cond, if◌then◌else◌, List, [], ◌∷◌, ◌++◌, length, map, Option, Some, None, refl, sym, ◌∙◌, ap, subst, length-append, arith}
+use Rattle.std.proofs.Common.{◌≡◌, ℕ, ◌+◌, ◌*◌, ◌/◌, ◌≤◌, ◌<◌, ◌^◌, Bool, true, false, cond, if◌then◌else◌, List, [], ◌∷◌, ◌++◌, length, map, Option, Some, None, refl, sym, ◌∙◌, ap, subst, length-append, arith}
 use Rattle.std.specs.Prelude.{All}
 use Rattle.std.specs.List.{concat}
 use Rattle.std.proofs.lemmas.List.Elements.{All-append, All-cons, All-nil}
-use Rattle.std.proofs.Math.Nat.{mul-le-mul}
+use Rattle.std.proofs.lemmas.List.{append-nil}
+use Rattle.std.proofs.lemmas.Nat.{div-mul-add}
+use Rattle.std.proofs.Math.Nat.{mul-le-mul, one-le-mul}
+use Rattle.std.specs.Option.{ForSome}
+use Rattle.las_header.specs.Plain.{cut_records}
 use Rattle.byteorder.specs.Endian.{little_bytes}
 use Rattle.las_header.specs.declared.counts.Counts.{Counts}
 use Rattle.las_header.specs.Counting.{counts_bytes, long_counts_bytes, with_counts}
@@ -17,7 +21,8 @@ use Rattle.laz_table.specs.Payload.{laszip_payload}
 use Rattle.laz_table.specs.VlrCauses.{extra_of}
 use Rattle.laz_file.specs.Outputs.{Output, counts_patches, draft_of, finished, first_head, front, front_of, patches_of, pointer_patches, points_in, records_after}
 use Rattle.laz_file.specs.Packing.{blocks_of, chunk_blocks, chunks_of, packed_head, table_after}
-use Rattle.laz_file.specs.Writing.{IsPlanOf, IsTally, Plan, all_chunks, block_size, every_chunk, format_in, pointer_patch, tally_patches}
+use Rattle.las_outside.specs.Outside.{Outside, with_bytes}
+use Rattle.laz_file.specs.Writing.{ChunksStand, IsPlanOf, IsTally, PackingSeen, Plan, PointsStand, Stands, WriterSeen, first_packing, record_size, written_head, all_chunks, block_size, every_chunk, format_in, pointer_patch, tally_patches}
 use Rattle.laz_file.proofs.Counted.{length-counted, packed_long, packed_longer}
 use Rattle.laz_file.proofs.Patching.{LiesIn, length-with_patches}
 use Rattle.laz_file.proofs.Pushing.{block_size_is, long-size, short-size, zero_packed}
@@ -120,3 +125,51 @@ few_bytes head n most is few within =
   where
     sizes : (f : ℕ) → f ≤ 3 → format_size f ≤ 34
     sizes f h = omega arith
+
+-- the list of patches that a writer makes
+pub list_is : (before now : Outside) (w v : WriterSeen) (out : Output) (records : List ℕ) (list : List Patch) (pointer : Option (ℕ × ℕ)) → Stands before now w out records → v ≡ record w { packing = v.packing }
+    → list ≡ tally_patches v.long_counts v.counts ++ pointer_patch pointer → pointer_patch pointer ≡ pointer_patches out.chunk out.head records → list ≡ patches_of out records
+list_is before now w v out records list pointer s same is there =
+    is ∙ ap (λ (x : WriterSeen). tally_patches x.long_counts x.counts ++ pointer_patch pointer) same
+    ∙ ap (λ (t : List Patch). t ++ pointer_patch pointer) (tally_is out.counted w.counts w.long_counts out.head (records_after out.head records) s.tally s.long)
+    ∙ ap (λ (t : List Patch). (if out.counted then counts_patches out.head (counts_of (records_after out.head records)) else []) ++ t) there
+
+-- An output that begins stands for no records.
+pub begins : (before new : Outside) (out : Output) (most pointer workers : ℕ) (packing : Option PackingSeen) → IsHead out.head → new ≡ with_bytes before out.name (front out) → packing ≡ first_packing out.head most pointer workers out.chunk
+    → pointer ≡ length (written_head out.chunk (first_head out)) → ForSome out.chunk (λ n. (256 ≤ n) × (n ≤ 250000)) → most < 2 ^ 32 → pointer < 2 ^ 32 → 0 < workers → PointsStand out.chunk before new out most packing []
+begins before new out most pointer workers packing is file kept place sizes few near hands = by out.chunk refl kept place sizes
+  where
+    held : new ≡ with_bytes before out.name (front out ++ [])
+    held = file ∙ ap (with_bytes before out.name) (sym (append-nil (front out)))
+
+    by : (k : Option ℕ) → out.chunk ≡ k → packing ≡ first_packing out.head most pointer workers k → pointer ≡ length (written_head k (first_head out)) → ForSome k (λ n. (256 ≤ n) × (n ≤ 250000)) → PointsStand k before new out most packing []
+    by None form p at sizes = subst (λ (q : Option PackingSeen). PointsStand None before new out most q []) (sym p) held
+    by (Some k) form p at sizes =
+        let plan : Plan = record { format = format_in out.head; chunk = k; most = most; pointer = pointer; workers = workers } in
+        let q : PackingSeen = record { plan = plan; lengths = []; kept = []; rest = [] } in
+        let range = sizes_of_form k sizes in
+        let long : 1 ≤ record_size plan * k = one-le-mul (omega arith) (omega (arith, range.0)) in
+        let stands : ChunksStand before new out k most q [] = record {
+          plan = record { format = refl; chunk_is = refl; most_is = refl; pointer = at ∙ first_packed_size out.head k out.counted is };
+          few = omega (arith, hands);
+          stands = record {
+            done = [];
+            file = held;
+            whole = refl;
+            full = tt;
+            short = omega (arith, long);
+            lengths = refl;
+            within = omega arith;
+            numbers = record { least = range.0; small = range.1; most = few; near = near };
+          };
+        } in
+        subst (λ (x : Option PackingSeen). PointsStand (Some k) before new out most x []) (sym p) stands
+      where
+        sizes_of_form : (n : ℕ) → ForSome (Some n) (λ (m : ℕ). (256 ≤ m) × (m ≤ 250000)) → (256 ≤ n) × (n ≤ 250000)
+        sizes_of_form n s = s n refl
+
+-- no records are cut of nothing
+pub no_records : (size : ℕ) → 0 < size → cut_records size (0 / size) [] ≡ []
+no_records size some =
+    let same : 0 ≡ 0 * size + 0 = omega arith in
+    ap (λ (n : ℕ). cut_records size n []) (ap (λ (n : ℕ). n / size) same ∙ div-mul-add 0 size 0 some)

@@ -10,3 +10,4 @@ pub mod Pushing
 pub mod Tallying
 pub mod Patching
 pub mod Finishing
+pub mod Arms

@@ -2,7 +2,7 @@
 use Rattle.std.proofs.Common.{◌≡◌, ◌⊎◌, inl, inr, ℕ, zero, suc, ◌+◌, ◌-◌, ◌*◌, ◌/◌, ◌%◌, ◌<◌, ◌≤◌, ◌^◌, ◌==◌, ◌||◌, nat_le, Bool, true, false, cond, if◌then◌else◌, List, [], ◌∷◌, ◌++◌, length, take, drop, map, Option, Some, None, refl, sym, ◌∙◌, ap, subst, append_assoc, length-append, arith}
 use Rattle.std.specs.List.{concat}
 use Rattle.std.proofs.lemmas.List.{append-nil, drop_all, take_min, take_at}
-use Rattle.std.proofs.Math.Nat.{div-add-mod}
+use Rattle.std.proofs.Math.Nat.{div-add-mod, le_of_mul-le-mul_left, mul-div-le, mul-mod_right}
 use Rattle.byteorder.specs.Endian.{little_bytes}
 use Rattle.las_header.specs.declared.counts.Counts.{Counts}
 use Rattle.las_header.specs.Counting.{counts_bytes, long_counts_bytes, long_bytes, short_bytes, with_counts}
@@ -74,11 +74,11 @@ pub length-cut : (size n : ℕ) (xs : List ℕ) → length (cut_records size n x
 length-cut size zero xs = refl
 length-cut size (suc n) xs = omega (arith, length-cut size n (drop size xs))
 
-short-size : (records : List (List ℕ)) → length (counts_bytes (counts_of records)) ≡ 24
+pub short-size : (records : List (List ℕ)) → length (counts_bytes (counts_of records)) ≡ 24
 unfolding short_bytes
 short-size records = refl
 
-long-size : (records : List (List ℕ)) → length (long_counts_bytes (counts_of records)) ≡ 128
+pub long-size : (records : List (List ℕ)) → length (long_counts_bytes (counts_of records)) ≡ 128
 unfolding long_bytes
 long-size records = refl
 
@@ -139,3 +139,61 @@ zero_written (Some k) head is = zero_packed head k is
 pub front_is : (chunk : Option ℕ) (head : List ℕ) → front_of chunk head ≡ written_head chunk head ++ pointer_part (Rattle.std.specs.Prelude.is_some chunk) (written_head chunk head)
 front_is None head = sym (append-nil head)
 front_is (Some k) head = refl
+
+-- fewer records than a number of 32 bits has values
+pub few_records : (size m n most : ℕ) → 0 < size → most < 2 ^ 32 → m + n ≤ size * most → m / size + n / size < 2 ^ 32
+few_records size m n most some few within =
+    let both : size * (m / size + n / size) ≡ size * (m / size) + size * (n / size) = omega arith in
+    let less : size * (m / size + n / size) ≤ size * most = omega (arith, both, mul-div-le m size, mul-div-le n size, within) in
+    omega (arith, le_of_mul-le-mul_left less some, few)
+
+-- whole records after whole records
+pub whole_both : (size m n : ℕ) → m % size ≡ 0 → n % size ≡ 0 → (m + n) % size ≡ 0
+whole_both size m n one two =
+    let all : m + n ≡ size * (m / size + n / size) = omega (arith, div-add-mod m size, div-add-mod n size, one, two) in
+    ap (λ (k : ℕ). k % size) all ∙ mul-mod_right size (m / size + n / size)
+
+-- a record has at least 20 bytes
+pub record_least : (head : List ℕ) → IsHead head → 20 ≤ record_length_of head
+record_least head is = omega (arith, is.record_length)
+
+-- A writer that took some records more stands for them too.
+pub pushed : (before old new : Outside) (w v : WriterSeen) (out : Output) (bytes records : List ℕ) (packing : Option PackingSeen) (counts : Option Counts) → Stands before old w out bytes → length records % w.size ≡ 0 → w.taken + length records ≤ w.size * w.most
+    → v ≡ record w { taken = w.taken + length records; counts = counts; packing = packing } → PointsStand out.chunk before new out w.most packing (bytes ++ records)
+    → IsTally out.counted counts (records_after out.head bytes ++ cut_records w.size (length records / w.size) records) → Stands before new v out (bytes ++ records)
+pushed before old new w v out bytes records packing counts s whole room is points tally =
+    let x : WriterSeen = record w { taken = w.taken + length records; counts = counts; packing = packing } in
+    let size = record_length_of out.head in
+    let both = length-append bytes records in
+    let even : length records % size ≡ 0 = subst (λ (n : ℕ). length records % n ≡ 0) s.size whole in
+    let cut : records_after out.head bytes ++ cut_records w.size (length records / w.size) records ≡ records_after out.head (bytes ++ records) =
+    ap (λ (n : ℕ). records_after out.head bytes ++ cut_records n (length records / n) records) s.size ∙ sym (cut-append size bytes records (omega (arith, record_least out.head s.head)) s.whole) in
+    let stands : Stands before new x out (bytes ++ records) = record {
+      head = s.head;
+      named = s.named;
+      start = s.start;
+      size = s.size;
+      few = s.few;
+      taken = omega (arith, both, s.taken);
+      whole = ap (λ (n : ℕ). n % size) both ∙ whole_both size (length bytes) (length records) s.whole even;
+      within = subst (λ (n : ℕ). length (bytes ++ records) ≤ n * w.most) s.size (omega (arith, both, room, s.taken));
+      long = s.long;
+      tally = subst (IsTally out.counted counts) cut tally;
+      points = points;
+    } in
+    subst (λ (y : WriterSeen). Stands before new y out (bytes ++ records)) (sym is) stands
+
+-- the counts of more records
+pub tally_more : (counted : Bool) (old : Option Counts) (c0 c1 : Counts) (before more : List (List ℕ)) → old ≡ Some c0 → IsTally counted old before → ((xs : List (List ℕ)) → c0 ≡ counts_of xs → c1 ≡ counts_of (xs ++ more)) → IsWithinPoints c1
+    → IsTally counted (Some c1) (before ++ more)
+tally_more true None c0 c1 before more is t list within = absurd t
+tally_more true (Some c) c0 c1 before more is t list within = let same : c ≡ c0 = cc in (list before (sym same ∙ t.0), within)
+tally_more false None c0 c1 before more is t list within = absurd (let clash : None ≡ Some c0 = is in cc)
+tally_more false (Some c) c0 c1 before more is t list within = absurd t
+
+-- what the counts of records are known to be
+pub tally_room : (counted : Bool) (counts : Option Counts) (c : Counts) (records : List (List ℕ)) → counts ≡ Some c → IsTally counted counts records → (c.points ≡ length records) × IsWithinPoints c
+tally_room true None c records is t = absurd t
+tally_room true (Some x) c records is t = let same : x ≡ c = cc in (ap (λ (y : Counts). y.points) (sym same ∙ t.0), subst IsWithinPoints same t.1)
+tally_room false None c records is t = absurd (let clash : None ≡ Some c = is in cc)
+tally_room false (Some x) c records is t = absurd t

@@ -173,6 +173,7 @@ pub(crate) fn new_packing(
         plan = record { format = format_in head.now.bytes; chunk = chunk; most = most; pointer = pointer; workers = workers };
         lengths = []; kept = []; rest = [] }) }
 {
+    let _ = head.bytes();
     let job = PackJob {
         format: head.format(),
         extra: head.extra(),

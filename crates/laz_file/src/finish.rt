@@ -72,14 +72,13 @@ impl Writer {
         ensures same { self.new ≡ record self.old { packing = self.new.packing } }
         ensures later { Later (F.seen files.old) (F.seen files.new) }
     {
-        match &mut self.packing {
-            None => Ok((None, self.start + self.taken)),
-            Some(packing) => {
-                let at = packing.pointer();
-                let (table, end) = packing.append_all(rt, alloc, files, gate, &self.name)?;
-                Ok((Some((at, table)), end))
-            }
-        }
+        let name = self.name.as_str();
+        let Some(packing) = &mut self.packing else {
+            return Ok((None, self.start + self.taken));
+        };
+        let at = packing.pointer();
+        let (table, end) = packing.append_all(rt, alloc, files, gate, name)?;
+        Ok((Some((at, table)), end))
     }
 
     // Appends the full chunks that were kept back.
@@ -99,12 +98,49 @@ impl Writer {
             → Stands before (F.seen files.old) self.old out records
             → IfErr result (λ fault. (n : ℕ) × Stops fault (with_bytes before out.name (take n (stopped out records)))
             (F.seen files.new)) }
+        ensures fault { IfErr result (λ fault. (fault ≡ Memory) ⊎ (fault ≡ Write)) }
+        ensures write { IsErrOf result Write → Rose (F.seen files.old).write_faults (F.seen files.new).write_faults }
+        ensures calm { OnOk result (SameFaults (F.seen files.old) (F.seen files.new)) }
         ensures later { Later (F.seen files.old) (F.seen files.new) }
     {
-        match &mut self.packing {
-            None => Ok(()),
-            Some(packing) => packing.append_kept(rt, alloc, files, gate, &self.name),
-        }
+        let name = self.name.as_str();
+        let Some(packing) = &mut self.packing else {
+            return Ok(());
+        };
+        packing.append_kept(rt, alloc, files, gate, name)?;
+        Ok(())
+    }
+
+    // What `finish` does, before the writer is dropped.
+    fn finish_all<R: Threads + Sync, F: Files, G: Gate>(
+        &mut self,
+        rt: &R,
+        alloc: Global,
+        files: &mut F,
+        gate: &G,
+    ) -> Result<u64, Fault>
+        requires stands { (before : Outside) × (out : Output) × (records : List ℕ)
+            × Stands before (F.seen files.old) self.old out records }
+
+        ensures finished { (before : Outside) (out : Output) (records : List ℕ)
+            → Stands before (F.seen files.old) self.old out records
+            → OnOk result (F.seen files.new ≡ with_bytes before out.name (finished out records)) }
+        ensures length { (before : Outside) (out : Output) (records : List ℕ)
+            → Stands before (F.seen files.old) self.old out records
+            → IfOk result (λ n. n ≡ length (finished out records)) }
+        ensures stopped { (before : Outside) (out : Output) (records : List ℕ)
+            → Stands before (F.seen files.old) self.old out records
+            → IfErr result (λ fault. (left : List ℕ) × IsUnfinished (draft_of out records) (patches_of out records) left
+            × Stops fault (with_bytes before out.name left) (F.seen files.new)) }
+        ensures fault { IfErr result (λ fault. (fault ≡ Memory) ⊎ (fault ≡ Write)) }
+        ensures write { IsErrOf result Write → Rose (F.seen files.old).write_faults (F.seen files.new).write_faults }
+        ensures calm { OnOk result (SameFaults (F.seen files.old) (F.seen files.new)) }
+        ensures later { Later (F.seen files.old) (F.seen files.new) }
+    {
+        let (pointer, end) = self.append_draft(rt, alloc, files, gate)?;
+        let patches = self.patches(alloc, pointer)?;
+        patch_all(files, self.name.as_str(), patches.as_slice())?;
+        Ok(end)
     }
 
     /// Finishes the output: packs and appends what is left of the records, and the chunk table, and then sets the
@@ -138,10 +174,7 @@ impl Writer {
         ensures later { Later (F.seen files.old) (F.seen files.new) }
     {
         let mut writer = self;
-        let (pointer, end) = writer.append_draft(rt, alloc, files, gate)?;
-        let patches = writer.patches(alloc, pointer)?;
-        patch_all(files, &writer.name, patches.as_slice())?;
-        Ok(end)
+        writer.finish_all(rt, alloc, files, gate)
     }
 
     /// Stops the output before its end: appends the full chunks that were kept back, in order, and nothing else. What

@@ -111,18 +111,25 @@ impl Writer {
         ensures calm { OnOk result (SameFaults (F.seen files.old) (F.seen files.new)) }
         ensures later { Later (F.seen files.old) (F.seen files.new) }
     {
+        let _ = head.bytes();
+        let start = head.offset();
+        let size = head.record_length();
+        let minor = head.minor();
+        let counts = no_tally(counted);
         let first = first_form(alloc, head, chunk, counted)?;
-        let packing = packing_of(alloc, head, chunk, most, workers, first.offset())?;
+        let place = first.offset();
+        let packing = packing_of(alloc, head, chunk, most, workers, place)?;
         let owned = String::from_str(alloc, name)?;
-        put_front(files, name, first.bytes(), chunk.is_some())?;
+        let packed = chunk.is_some();
+        put_front(files, name, first.bytes(), packed)?;
         Ok(Writer {
             name: owned,
-            start: u64::from(head.offset()),
-            size: usize::from(head.record_length()),
+            start: u64::from(start),
+            size: usize::from(size),
             most,
             taken: 0,
-            long_counts: head.minor() == 4,
-            counts: no_tally(counted),
+            long_counts: minor == 4,
+            counts,
             packing,
             failed: false,
         })
@@ -150,7 +157,7 @@ impl Writer {
         ensures points { (before : Outside) (out : Output) (bytes : List ℕ)
             → Stands before (F.seen files.old) self.old out bytes
             → length bytes + length records.now ≤ self.old.size * self.old.most
-            → OnOk result (PointsStand out.chunk before (F.seen files.new) out self.new.most self.new.packing
+            → OnOk result (PointsStand out.chunk before (F.seen files.new) out self.old.most self.new.packing
             (bytes ++ records.now)) }
         ensures stopped { (before : Outside) (out : Output) (bytes : List ℕ)
             → Stands before (F.seen files.old) self.old out bytes
@@ -160,10 +167,12 @@ impl Writer {
         ensures same { self.new ≡ record self.old { packing = self.new.packing } }
         ensures later { Later (F.seen files.old) (F.seen files.new) }
     {
-        match &mut self.packing {
-            None => put(files, &self.name, records),
-            Some(packing) => packing.add(rt, alloc, files, gate, &self.name, records),
-        }
+        let name = self.name.as_str();
+        let Some(packing) = &mut self.packing else {
+            return put(files, name, records);
+        };
+        packing.add(rt, alloc, files, gate, name, records)?;
+        Ok(())
     }
 
     // Counts records, if they are counted.

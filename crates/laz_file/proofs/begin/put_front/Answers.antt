@@ -1,7 +1,6 @@
-use Rattle.std.proofs.Common.{◌≡◌, inl, inr, true, false, Bool, ℕ, List, [], ◌++◌, length, take, sym, ◌∙◌, ap, subst}
-use Rattle.std.proofs.lemmas.Result.{on_ok_weaker}
-use Rattle.std.proofs.lemmas.List.{append-nil}
+use Rattle.std.proofs.Common.{◌≡◌, ◌+◌, inl, inr, true, false, Bool, ℕ, List, [], ◌++◌, length, take, sym, ◌∙◌, ap, subst}
 use Rattle.std.proofs.Math.Seq.{take-append-add}
+use Rattle.byteorder.specs.Endian.{little_bytes}
 use Rattle.las_outside.specs.Outside.{Outside, with_bytes}
 use Rattle.laz_file.specs.Writing.{Stops, pointer_part}
 use Rattle.laz_file.proofs.Putting.{if_err, if_err_weaker, prefix_append}
@@ -21,8 +20,20 @@ returns-in_err-put-clause-stopped g c =
     let m = prefix_append head (pointer_part c.args.packed head) left.0 in
     if_err _ c.from_residual.result _ c.from_residual.ensures.1 (inr (m.0, subst (λ (t : List ℕ). Stops c.in_err-put.field-0.0 (with_bytes old c.args.name.now t) (g.F.Files.seen c.put.new.files)) m.1 left.1))
 
-pub put-requires-2 : goal.put-requires-2
-put-requires-2 g c =
+pub put-requires-then-packed : goal.put-requires-then-packed
+put-requires-then-packed g c =
     let old = g.F.Files.seen c.args.files.now in
     record { held = (old, c.args.head.now, c.in_ok-put.ensures.added old [] c.in-Ok.ensures.ok) }
 
+pub returns-then-packed-clause-stopped : goal.returns-then-packed-clause-stopped
+returns-then-packed-clause-stopped g c =
+    let old = g.F.Files.seen c.args.files.now in
+    let name = c.args.name.now in
+    let head = c.args.head.now in
+    let now = g.F.Files.seen c.put-then-packed.new.files in
+    let pointer = little_bytes 8 (length head) in
+    let all : pointer_part c.args.packed head ≡ pointer = ap (λ (b : Bool). pointer_part b head) c.if-packed.true in
+    if_err_weaker _ _ c.put-then-packed.result (λ e left. inr (length head + left.0,
+    subst (λ (t : List ℕ). Stops e (with_bytes old name t) now)
+    (ap (λ (t : List ℕ). head ++ take left.0 t) c.pointer_bytes-pointer.ensures.bytes ∙ sym (take-append-add head pointer left.0) ∙ ap (λ (t : List ℕ). take (length head + left.0) (head ++ t)) (sym all)) left.1))
+    (c.put-then-packed.ensures.stopped old head (c.in_ok-put.ensures.added old [] c.in-Ok.ensures.ok))
