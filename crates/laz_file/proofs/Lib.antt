@@ -11,3 +11,4 @@ pub mod Tallying
 pub mod Patching
 pub mod Finishing
 pub mod Arms
+pub mod Stopping

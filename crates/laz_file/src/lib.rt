@@ -15,8 +15,10 @@ mod packing;
 mod patch;
 mod put;
 mod tally;
+mod unfinished;
 mod writer;
 
 pub use fault::Fault;
 pub use limits::PLAIN_BLOCK;
+pub use unfinished::stopped_outputs_are_unfinished;
 pub use writer::Writer;

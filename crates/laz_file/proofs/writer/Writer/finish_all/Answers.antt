@@ -80,3 +80,10 @@ returns-clause-calm g c =
     let h = c.requires.stands in
     let held = held_text h.0 _ c.args.self.now h.1 h.2 h.3 in
     same_faults h.0 _ _ h.1.name held.0 _ held.1 (returns-clause-finished g c h.0 h.1 h.2 h.3)
+
+pub returns-in_err-pointer-clause-write : goal.returns-in_err-pointer-clause-write
+returns-in_err-pointer-clause-write g c of =
+    let h = c.requires.stands in
+    let left = c.in_err-pointer.ensures.stopped h.0 h.1 h.2 h.3 in
+    let text = held_text h.0 _ c.args.self.now h.1 h.2 h.3 in
+    stops_rose (g.F.Files.seen c.args.files.now) _ (g.F.Files.seen c.append_draft.new.files) c.in_err-pointer.field-0.0 (sym (ap (λ (o : Outside). o.write_faults) text.1)) left.1 (err_of c.from_residual.result _ _ c.from_residual.ensures.1 of)

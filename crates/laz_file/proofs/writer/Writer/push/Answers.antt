@@ -1,5 +1,6 @@
 use Rattle.std.proofs.Common.{◌≡◌, ◌+◌, ◌*◌, ◌/◌, ◌≤◌, ◌<◌, ◌^◌, Bool, ℕ, Option, List, ◌++◌, length, take, refl, sym, ◌∙◌, ap, subst, arith}
 use Rattle.las_header.specs.Fields.{record_length_of}
+use Rattle.las_header.specs.Plain.{cut_records}
 use Rattle.las_outside.specs.Outside.{Outside, with_bytes}
 use Rattle.laz_file.specs.Outputs.{records_after}
 use Rattle.laz_file.specs.declared.fault.Fault.TheVariants.{Write}
@@ -34,7 +35,19 @@ tally-requires-clause-tally g c =
     subst P (sym c.append_points.ensures.same) here
 
 pub returns-clause-stands : goal.returns-clause-stands
-returns-clause-stands g c before out bytes s = ?
+returns-clause-stands g c before out bytes s =
+    let w = c.args.self.now in
+    let records = c.args.records.now in
+    let packing = c.append_points.new.self.packing in
+    let counts = c.tally.new.self.counts in
+    let room : length bytes + length records ≤ w.size * w.most = omega (arith, c.requires.most, s.taken) in
+    let same = c.append_points.ensures.same in
+    let is = ap (λ (y : WriterSeen). let x : WriterSeen = record y { taken = y.taken + length records } in x) c.self-2.view_is
+    ∙ ap (λ (y : WriterSeen). let x : WriterSeen = record y { taken = y.taken + length records } in x) c.tally.ensures.same
+    ∙ ap (λ (y : WriterSeen). let x : WriterSeen = record y { taken = y.taken + length records; counts = counts } in x) same in
+    let P : WriterSeen → Type 0 = λ x. (counted : Bool) (b : List (List ℕ)) → IsTally counted x.counts b → IsTally counted counts (b ++ cut_records x.size (length records / x.size) records) in
+    let counted = subst P same c.tally.ensures.tally in
+    pushed before _ _ w _ out bytes records packing counts s c.requires.whole c.requires.most is (c.in-Ok.ensures.points before out bytes s room) (counted out.counted (records_after out.head bytes) s.tally)
 
 pub returns-clause-calm : goal.returns-clause-calm
 returns-clause-calm g c =
