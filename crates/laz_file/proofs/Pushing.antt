@@ -93,8 +93,8 @@ zero_packed head chunk is =
     let short = counts_bytes none in
     let long = long_counts_bytes none in
     sym (
-      head-by (format_of head) (record_length_of head) (with_counts none head) chunk (counted_format head short long is (short-size []) (long-size [])) (counted_lengths head short long is (short-size []) (long-size []))
-      ∙ counted_packed head short long is (short-size []) (long-size []) (laszip_payload (format_of head) (extra_of head) chunk))
+    head-by (format_of head) (record_length_of head) (with_counts none head) chunk (counted_format head short long is (short-size []) (long-size [])) (counted_lengths head short long is (short-size []) (long-size []))
+    ∙ counted_packed head short long is (short-size []) (long-size []) (laszip_payload (format_of head) (extra_of head) chunk))
 
 -- A plain output and a packed one, by the packing of its writer.
 module _ (chunk : Option ℕ) (before now : Outside) (out : Output) (most : ℕ) (packing : Option PackingSeen) (records : List ℕ) where

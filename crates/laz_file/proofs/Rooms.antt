@@ -14,7 +14,6 @@ use Rattle.laz_file.proofs.Putting.{All-unmap}
 
 room_some : (l : Layout) (n : ℕ) → 1 ≤ n → room_for l n ≡ record_length l + 4 + 3 * most_events l * (n - 1)
 room_some l n some =
-
     ap (λ (b : Bool). if b then 0 else record_length l + 4 + 3 * most_events l * (n - 1)) (ne_eqb n 0 (λ e. absurd (omega (arith, e, some))))
 
 -- a room for more records is larger

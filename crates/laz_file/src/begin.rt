@@ -170,8 +170,11 @@ pub(crate) fn new_packing(
     requires chunk { (256 ≤ chunk) × (chunk ≤ 250000) }
     requires workers { (0 < workers) × (workers ≤ 8) }
     ensures { IfOk result (λ p. p ≡ record {
-        plan = record { format = format_in head.now.bytes; chunk = chunk; most = most; pointer = pointer; workers = workers };
-        lengths = []; kept = []; rest = [] }) }
+      plan = record { format = format_in head.now.bytes; chunk = chunk; most = most; pointer = pointer; workers = workers };
+      lengths = [];
+      kept = [];
+      rest = [];
+    }) }
 {
     let _ = head.bytes();
     let job = PackJob {
@@ -179,7 +182,12 @@ pub(crate) fn new_packing(
         extra: head.extra(),
     };
     let points = chunk.min(most);
-    let crew = crew_of(alloc, job, room_for(job.format, job.extra, points) as usize, workers)?;
+    let crew = crew_of(
+        alloc,
+        job,
+        room_for(job.format, job.extra, points) as usize,
+        workers,
+    )?;
     let size = usize::from(head.record_length());
     let spare = buffers(alloc, 2 * workers as usize, size * points as usize)?;
     let kept = Vec::with_capacity(alloc, 2 * workers as usize)?;

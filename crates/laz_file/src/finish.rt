@@ -28,7 +28,12 @@ impl Writer {
         };
         add_patch(alloc, &mut list, COUNTS_AT as u64, &counts.to_bytes())?;
         if self.long_counts {
-            add_patch(alloc, &mut list, LONG_COUNTS_AT as u64, &counts.to_long_bytes())?;
+            add_patch(
+                alloc,
+                &mut list,
+                LONG_COUNTS_AT as u64,
+                &counts.to_long_bytes(),
+            )?;
         }
         Ok(list)
     }

@@ -26,7 +26,9 @@ impl Packing {
     fn keep_rest(&mut self) -> Result<(), AllocError>
         requires short { length self.old.rest < block_size self.old.plan }
         ensures kept { OnOk result (self.new ≡ record self.old {
-            kept = self.old.kept ++ blocks_of (block_size self.old.plan) self.old.rest; rest = [] }) }
+          kept = self.old.kept ++ blocks_of (block_size self.old.plan) self.old.rest;
+          rest = [];
+        }) }
         ensures plan { self.new.plan ≡ self.old.plan }
     {
         if self.has_rest() {

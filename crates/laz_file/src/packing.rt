@@ -48,8 +48,11 @@ impl Model for Packing {
     ghost Value = { PackingSeen };
 
     ghost view = { λ p. record {
-        plan = record { format = p.job; chunk = p.chunk; most = p.most; pointer = p.pointer; workers = length p.crew };
-        lengths = p.lengths.items; kept = texts p.kept.items; rest = p.rest.items } };
+      plan = record { format = p.job; chunk = p.chunk; most = p.most; pointer = p.pointer; workers = length p.crew };
+      lengths = p.lengths.items;
+      kept = texts p.kept.items;
+      rest = p.rest.items;
+    } };
 
     ghost invariant = { λ p. let plan : Plan =
         record { format = p.job; chunk = p.chunk; most = p.most; pointer = p.pointer; workers = length p.crew } in
@@ -121,12 +124,20 @@ impl Packing {
             (with_bytes before name.now (text ++ take n (all_chunks self.old.plan.format self.old.kept)))
             (F.seen files.new)) }
         ensures packing { OnOk result (self.new ≡ record self.old {
-            lengths = self.old.lengths ++ map (λ chunk. length chunk) (chunks self.old.plan.format self.old.kept);
-            kept = [] }) }
+          lengths = self.old.lengths ++ map (λ chunk. length chunk) (chunks self.old.plan.format self.old.kept);
+          kept = [];
+        }) }
         ensures plan { self.new.plan ≡ self.old.plan }
         ensures later { Later (F.seen files.old) (F.seen files.new) }
     {
-        work_batch(rt, alloc, &self.job, gate, self.kept.as_slice(), &mut self.crew)?;
+        work_batch(
+            rt,
+            alloc,
+            &self.job,
+            gate,
+            self.kept.as_slice(),
+            &mut self.crew,
+        )?;
         put_chunks(
             files,
             name,

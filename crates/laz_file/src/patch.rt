@@ -60,11 +60,7 @@ fn put_patch<F: Files>(files: &mut F, name: &str, patch: &Patch) -> Result<(), F
 }
 
 /// Patches an output that holds some text, in order, in one call each.
-pub(crate) fn patch_all<F: Files>(
-    files: &mut F,
-    name: &str,
-    patches: &[Patch],
-) -> Result<(), Fault>
+pub(crate) fn patch_all<F: Files>(files: &mut F, name: &str, patches: &[Patch]) -> Result<(), Fault>
     requires held { (before : Outside) × (text : List ℕ) × (F.seen files.old ≡ with_bytes before name.now text)
         × All (λ patch. patch.0 + length patch.1 ≤ length text) patches.now }
     ensures patched { (before : Outside) (text : List ℕ) → F.seen files.old ≡ with_bytes before name.now text

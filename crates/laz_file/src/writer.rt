@@ -49,8 +49,16 @@ impl Model for Writer {
     ghost Value = { WriterSeen };
 
     ghost view = { λ w. record {
-        name = string_bytes w.name; start = w.start; size = w.size; most = w.most; taken = w.taken;
-        long_counts = w.long_counts; counts = w.counts; packing = w.packing; failed = w.failed } };
+      name = string_bytes w.name;
+      start = w.start;
+      size = w.size;
+      most = w.most;
+      taken = w.taken;
+      long_counts = w.long_counts;
+      counts = w.counts;
+      packing = w.packing;
+      failed = w.failed;
+    } };
 }
 
 // The packing of an output, if it is packed.

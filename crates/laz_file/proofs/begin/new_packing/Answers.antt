@@ -14,8 +14,7 @@ invariant_of-result c =
     let f : Format = record { format = c.format.result; extra = c.extra.result } in
     let same : f ≡ format_in h = ap (λ (n : ℕ). let x : Format = record { format = n; extra = c.extra.result } in x) c.format.ensures.field ∙ ap (λ (n : ℕ). let x : Format = record { format = format_of h; extra = n } in x) c.extra.ensures.field in
     let size : c.from-size.result ≡ record_length (layout f) = c.from-size.ensures ∙ c.record_length.ensures.field ∙ sym (record_is h c.bytes.ensures.head) ∙ ap (λ (x : Format). record_length (layout x)) (sym same) in
-    let room : c.room_for.result ≡ room_for (layout f) (min c.args.chunk c.args.most) = c.room_for.ensures ∙ ap (λ (n : ℕ). room_for (layout_of c.format.result c.extra.result) n) c.min-points.ensures in
-    (
+    let room : c.room_for.result ≡ room_for (layout f) (min c.args.chunk c.args.most) = c.room_for.ensures ∙ ap (λ (n : ℕ). room_for (layout_of c.format.result c.extra.result) n) c.min-points.ensures in (
       record {
         known = omega (arith, c.format.ensures.known);
         extra = omega (arith, c.extra.ensures.known);

@@ -33,7 +33,9 @@ returns-then-packed-clause-stopped g c =
     let now = g.F.Files.seen c.put-then-packed.new.files in
     let pointer = little_bytes 8 (length head) in
     let all : pointer_part c.args.packed head ≡ pointer = ap (λ (b : Bool). pointer_part b head) c.if-packed.true in
-    if_err_weaker _ _ c.put-then-packed.result (λ e left. inr (length head + left.0,
-    subst (λ (t : List ℕ). Stops e (with_bytes old name t) now)
-    (ap (λ (t : List ℕ). head ++ take left.0 t) c.pointer_bytes-pointer.ensures.bytes ∙ sym (take-append-add head pointer left.0) ∙ ap (λ (t : List ℕ). take (length head + left.0) (head ++ t)) (sym all)) left.1))
+    if_err_weaker _ _ c.put-then-packed.result (λ e left. inr (
+      length head + left.0,
+      subst (λ (t : List ℕ). Stops e (with_bytes old name t) now)
+          (ap (λ (t : List ℕ). head ++ take left.0 t) c.pointer_bytes-pointer.ensures.bytes ∙ sym (take-append-add head pointer left.0) ∙ ap (λ (t : List ℕ). take (length head + left.0) (head ++ t)) (sym all)) left.1,
+    ))
     (c.put-then-packed.ensures.stopped old head (c.in_ok-put.ensures.added old [] c.in-Ok.ensures.ok))

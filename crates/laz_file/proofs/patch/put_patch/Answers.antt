@@ -27,7 +27,9 @@ returns-in-Ok-clause-replaced g c before text was =
 pub returns-in-Err-clause-stopped : goal.returns-in-Err-clause-stopped
 returns-in-Err-clause-stopped g c before text was =
     let s = passed _ c.args.patch.now c.as_slice.result.now c.patch.view_is c.as_slice.ensures.value in
-    let h = c.in-Err.ensures.err in
-    (h.0, failed_after before c.args.name.now text (λ b. with_patch b c.patch.inside.at (take h.0 c.as_slice.result.now)) _ _ was h.1
-    ∙ ap (λ (n : ℕ). with_write_fault (with_bytes before c.args.name.now (with_patch text n (take h.0 c.as_slice.result.now)))) s.0
-    ∙ ap (λ (b : List ℕ). with_write_fault (with_bytes before c.args.name.now (with_patch text c.args.patch.now.0 (take h.0 b)))) s.1)
+    let h = c.in-Err.ensures.err in (
+      h.0,
+      failed_after before c.args.name.now text (λ b. with_patch b c.patch.inside.at (take h.0 c.as_slice.result.now)) _ _ was h.1
+          ∙ ap (λ (n : ℕ). with_write_fault (with_bytes before c.args.name.now (with_patch text n (take h.0 c.as_slice.result.now)))) s.0
+          ∙ ap (λ (b : List ℕ). with_write_fault (with_bytes before c.args.name.now (with_patch text c.args.patch.now.0 (take h.0 b)))) s.1,
+    )

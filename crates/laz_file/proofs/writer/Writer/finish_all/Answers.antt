@@ -23,12 +23,14 @@ patch_all-requires g c =
     let draft = draft_of h.1 h.2 in
     let list = c.as_slice.ensures.value ∙ list_is h.0 _ c.args.self.now c.append_draft.new.self h.1 h.2 _ c.in_ok-pointer.pointer h.3 c.append_draft.ensures.same c.in_ok-patches.ensures (c.in_ok-pointer.ensures.pointer h.0 h.1 h.2 h.3) in
     let named = c.as_str.ensures.value ∙ ap (λ (v : WriterSeen). v.name) c.self.view_is ∙ ap (λ (v : WriterSeen). v.name) c.append_draft.ensures.same ∙ h.3.named in
-    record { held = (
-      h.0,
-      draft,
-      c.in_ok-pointer.ensures.appended h.0 h.1 h.2 h.3 ∙ ap (λ (n : List ℕ). with_bytes h.0 n draft) (sym named),
-      subst (All (LiesIn draft)) (sym list) (patches_fit h.1 h.2 h.3.head),
-    ) }
+    record {
+      held = (
+        h.0,
+        draft,
+        c.in_ok-pointer.ensures.appended h.0 h.1 h.2 h.3 ∙ ap (λ (n : List ℕ). with_bytes h.0 n draft) (sym named),
+        subst (All (LiesIn draft)) (sym list) (patches_fit h.1 h.2 h.3.head),
+      );
+    }
 
 pub returns-in_err-patch_all-clause-stopped : goal.returns-in_err-patch_all-clause-stopped
 returns-in_err-patch_all-clause-stopped g c before out records s =
