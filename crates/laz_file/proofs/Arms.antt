@@ -1,12 +1,10 @@
 -- The two forms of an output, as the calls of a writer tell them apart.
-use Rattle.std.proofs.Common.{◌≡◌, ℕ, ◌+◌, ◌*◌, ◌%◌, ◌≤◌, ◌<◌, List, [], ◌++◌, length, take, Option, Some, None, refl, sym, ◌∙◌, ap, subst, append_assoc, length-append, arith}
-use Rattle.std.proofs.lemmas.List.{take_at}
+use Rattle.std.proofs.Common.{◌≡◌, ℕ, ◌+◌, ◌*◌, ◌%◌, ◌≤◌, ◌<◌, List, ◌++◌, length, take, Option, Some, None, sym, ◌∙◌, ap, subst, append_assoc, arith}
 use Rattle.std.proofs.Math.Seq.{take-append-add}
-use Rattle.las_header.specs.Fields.{record_length_of}
 use Rattle.las_outside.specs.Outside.{Outside, with_bytes}
 use Rattle.laz_file.specs.Outputs.{Output, draft_of, front, points_in, stopped}
 use Rattle.laz_file.specs.Writing.{ChunksStand, PackedStands, PackingSeen, Plan, PointsStand, Stands, WriterSeen, all_chunks, full_chunks, packed_text, record_size}
-use Rattle.laz_file.proofs.Pushing.{full_is, packed_is, packed_points_of, packed_stands, plain_points, plain_stands, record_size_is, stopped_packed, stopped_plain, text_of}
+use Rattle.laz_file.proofs.Pushing.{packed_is, packed_points_of, packed_stands, plain_points, plain_stands, record_size_is, stopped_packed, stopped_plain, text_of}
 use Rattle.laz_file.proofs.Standing.{flushed_text, stopped_in}
 
 -- what an output holds

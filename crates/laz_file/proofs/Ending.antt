@@ -1,18 +1,18 @@
 -- What a packed output holds at its end.
-use Rattle.std.proofs.Common.{◌≡◌, ℕ, zero, suc, ◌+◌, ◌-◌, ◌*◌, ◌/◌, ◌%◌, ◌^◌, ◌<◌, ◌≤◌, min, List, [], ◌∷◌, ◌++◌, length, take, drop, map, sum, refl, sym, ◌∙◌, ap, subst, append_assoc, length-append, arith}
+use Rattle.std.proofs.Common.{◌≡◌, ℕ, zero, suc, ◌+◌, ◌*◌, ◌/◌, ◌%◌, ◌^◌, ◌<◌, ◌≤◌, min, List, [], ◌∷◌, ◌++◌, length, take, map, sum, refl, sym, ◌∙◌, ap, subst, append_assoc, length-append, arith}
 use Rattle.std.specs.Prelude.{All}
-use Rattle.std.specs.List.{concat, sum_by}
-use Rattle.std.proofs.lemmas.List.{append-nil, length-map, take_at, take_min, take-append-le}
+use Rattle.std.specs.List.{sum_by}
+use Rattle.std.proofs.lemmas.List.{append-nil, take_at, take_min, take-append-le}
 use Rattle.std.proofs.lemmas.List.Elements.{All-append}
 use Rattle.std.proofs.lemmas.List.Sums.{sum_by-cons, sum-map}
 use Rattle.std.proofs.Math.Seq.{take-append-add}
-use Rattle.std.proofs.Math.Nat.{div-add-mod, le_of_mul-le-mul_left, mul-add-mod_self_right, mul-le-mul_left, mul-le-mul_right}
+use Rattle.std.proofs.Math.Nat.{div-add-mod, le_of_mul-le-mul_left, mul-add-mod_self_right, mul-le-mul_left}
 use Rattle.las_outside.specs.Outside.{Outside, with_bytes}
 use Rattle.laz_chunk.specs.Chunks.{chunk_bytes}
 use Rattle.laz_chunk.specs.Layouts.{Format, layout}
 use Rattle.laz_table.specs.Table.{table_bytes}
 use Rattle.laz_file.specs.Packing.{blocks_of}
-use Rattle.laz_file.specs.Writing.{AreFull, IsBlock, PackedStands, PackingSeen, Plan, all_chunks, block_size, chunks, every_chunk, packed_text, record_size}
+use Rattle.laz_file.specs.Writing.{IsBlock, PackedStands, PackingSeen, Plan, all_chunks, block_size, chunks, every_chunk, packed_text, record_size}
 use Rattle.laz_file.proofs.Cutting.{blocks_are, no_block, one_block}
 use Rattle.laz_file.proofs.Standing.{all_chunks-append, kept_blocks, size_of_all, sizes-chunks, split}
 

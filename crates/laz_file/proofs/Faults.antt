@@ -1,8 +1,8 @@
 -- What a call that writes an output does to the counts of faults.
-use Rattle.std.proofs.Common.{◌≡◌, ◌⊎◌, inl, inr, ℕ, ◌≤◌, List, Option, Some, None, Result, Ok, Err, refl, sym, ◌∙◌, ap, arith}
+use Rattle.std.proofs.Common.{◌≡◌, ◌⊎◌, inl, inr, ℕ, List, Result, Ok, Err, refl, sym, ◌∙◌, ap, arith}
 use Rattle.std.specs.Prelude.{IsErrAnd}
 use Rattle.las_outside.specs.Faults.{Rose, count_after}
-use Rattle.las_outside.specs.Outside.{Later, Outside, with_bytes, with_write_fault}
+use Rattle.las_outside.specs.Outside.{Later, Outside, with_bytes}
 use Rattle.laz_file.specs.declared.fault.Fault.{Fault}
 use Rattle.laz_file.specs.declared.fault.Fault.TheVariants.{Refused, Read, Write, Memory}
 use Rattle.laz_file.specs.Writing.{SameFaults, Stops}

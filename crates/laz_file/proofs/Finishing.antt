@@ -1,5 +1,5 @@
 -- The end of an output: its length, and the patches that finish it.
-use Rattle.std.proofs.Common.{◌≡◌, ℕ, ◌+◌, ◌*◌, ◌/◌, ◌≤◌, ◌<◌, ◌^◌, Bool, true, false, cond, if◌then◌else◌, List, [], ◌∷◌, ◌++◌, length, map, Option, Some, None, refl, sym, ◌∙◌, ap, subst, length-append, arith}
+use Rattle.std.proofs.Common.{◌≡◌, ℕ, ◌+◌, ◌*◌, ◌/◌, ◌≤◌, ◌<◌, ◌^◌, Bool, true, false, if◌then◌else◌, List, [], ◌∷◌, ◌++◌, length, Option, Some, None, refl, sym, ◌∙◌, ap, subst, length-append, arith}
 use Rattle.std.specs.Prelude.{All}
 use Rattle.std.specs.List.{concat}
 use Rattle.std.proofs.lemmas.List.Elements.{All-append, All-cons, All-nil}
@@ -13,10 +13,9 @@ use Rattle.las_header.specs.declared.counts.Counts.{Counts}
 use Rattle.las_header.specs.Counting.{counts_bytes, long_counts_bytes, with_counts}
 use Rattle.las_header.specs.Fields.{format_of, format_size, has_long_counts, record_length_of}
 use Rattle.las_header.specs.Heads.{IsHead}
-use Rattle.las_outside.specs.Drafts.{Patch, with_patches}
+use Rattle.las_outside.specs.Drafts.{Patch}
 use Rattle.las_points.specs.Tally.{counts_of}
-use Rattle.laz_chunk.specs.Chunks.{chunk_bytes}
-use Rattle.laz_chunk.specs.Layouts.{Format, layout}
+use Rattle.laz_chunk.specs.Layouts.{Format}
 use Rattle.laz_table.specs.Payload.{laszip_payload}
 use Rattle.laz_table.specs.VlrCauses.{extra_of}
 use Rattle.laz_file.specs.Outputs.{Output, counts_patches, draft_of, finished, first_head, front, front_of, patches_of, pointer_patches, points_in, records_after}

@@ -1,9 +1,8 @@
 -- What an output and its writer stand for, and the definitions of outputs.
-use Rattle.std.proofs.Common.{◌≡◌, ◌⊎◌, inl, inr, ℕ, zero, suc, ◌+◌, ◌-◌, ◌*◌, ◌/◌, ◌%◌, ◌<◌, ◌≤◌, ◌^◌, ◌==◌, ◌||◌, nat_le, Bool, true, false, cond, if◌then◌else◌, List, [], ◌∷◌, ◌++◌, length, take, drop, map, Option, Some, None, refl, sym, ◌∙◌, ap, subst, append_assoc, length-append, arith}
+use Rattle.std.proofs.Common.{◌≡◌, ℕ, zero, suc, ◌+◌, ◌-◌, ◌*◌, ◌/◌, ◌%◌, ◌<◌, ◌≤◌, ◌^◌, ◌==◌, ◌||◌, nat_le, Bool, true, false, List, [], ◌++◌, length, drop, map, Option, Some, None, refl, sym, ◌∙◌, ap, subst, length-append, arith}
 use Rattle.std.specs.List.{concat}
-use Rattle.std.proofs.lemmas.List.{append-nil, drop_all, take_min, take_at}
+use Rattle.std.proofs.lemmas.List.{append-nil, drop_all}
 use Rattle.std.proofs.Math.Nat.{div-add-mod, le_of_mul-le-mul_left, mul-div-le, mul-mod_right}
-use Rattle.byteorder.specs.Endian.{little_bytes}
 use Rattle.las_header.specs.declared.counts.Counts.{Counts}
 use Rattle.las_header.specs.Counting.{counts_bytes, long_counts_bytes, long_bytes, short_bytes, with_counts}
 use Rattle.las_header.specs.Fields.{format_of, format_size, record_length_of}
@@ -15,9 +14,9 @@ use Rattle.laz_chunk.specs.Chunks.{chunk_bytes}
 use Rattle.laz_chunk.specs.Layouts.{Format, Layout, colour_length, layout, record_length, time_length}
 use Rattle.laz_table.specs.Payload.{laszip_payload}
 use Rattle.laz_table.specs.VlrCauses.{extra_of}
-use Rattle.laz_file.specs.Outputs.{Output, first_head, front, front_of, full_points, points_in, records_after, stopped}
+use Rattle.laz_file.specs.Outputs.{Output, front, front_of, full_points, points_in, records_after, stopped}
 use Rattle.laz_file.specs.Packing.{packed_head, packed_points}
-use Rattle.laz_file.specs.Writing.{ChunksStand, IsPlanOf, IsTally, PackedStands, PackingSeen, Plan, PointsStand, Stands, WriterSeen, all_chunks, block_size, every_chunk, format_in, full_blocks, full_chunks, packed_text, pointer_part, record_size, written_head}
+use Rattle.laz_file.specs.Writing.{ChunksStand, IsPlanOf, IsTally, PackingSeen, Plan, PointsStand, Stands, WriterSeen, all_chunks, block_size, format_in, full_blocks, full_chunks, packed_text, pointer_part, record_size, written_head}
 use Rattle.laz_file.proofs.Counted.{counted_format, counted_lengths, counted_packed}
 use Rattle.laz_file.proofs.Cutting.{full_blocks_more, rest_of}
 

@@ -1,5 +1,5 @@
 -- Blocks of records and the rooms of a crew that packs them.
-use Rattle.std.proofs.Common.{◌≡◌, ◌≢◌, ℕ, zero, suc, ◌+◌, ◌-◌, ◌*◌, ◌/◌, ◌%◌, ◌^◌, ◌<◌, ◌≤◌, ◌==◌, min, Bool, true, false, if◌then◌else◌, List, [], ◌∷◌, length, map, refl, sym, ◌∙◌, ap, subst, arith}
+use Rattle.std.proofs.Common.{◌≡◌, ℕ, zero, suc, ◌+◌, ◌-◌, ◌*◌, ◌%◌, ◌^◌, ◌<◌, ◌≤◌, min, Bool, true, false, if◌then◌else◌, List, length, map, sym, ◌∙◌, ap, subst, arith}
 use Rattle.std.specs.Prelude.{All}
 use Rattle.std.proofs.Math.Nat.{mul-le-mul, mul-le-mul_left, mul-mod_right}
 use Rattle.std.proofs.lemmas.Bool.{ne_eqb}
@@ -9,8 +9,7 @@ use Rattle.laz_chunk.specs.Chunks.{count_of}
 use Rattle.laz_chunk.proofs.Ends.{count-is}
 use Rattle.laz_workers.specs.Rooms.{HandSeen, lengths_of, rooms_of}
 use Rattle.laz_workers.specs.Run.{EveryInputFits}
-use Rattle.laz_file.specs.Writing.{CanPack, FitsRoom, IsBlock, Plan, record_size}
-use Rattle.laz_file.proofs.Putting.{All-unmap}
+use Rattle.laz_file.specs.Writing.{CanPack, FitsRoom, IsBlock, Plan}
 
 room_some : (l : Layout) (n : ℕ) → 1 ≤ n → room_for l n ≡ record_length l + 4 + 3 * most_events l * (n - 1)
 room_some l n some =

@@ -1,17 +1,15 @@
 -- What an output and its packing stand for, from call to call.
-use Rattle.std.proofs.Common.{◌≡◌, ℕ, zero, suc, ◌+◌, ◌-◌, ◌*◌, ◌^◌, ◌<◌, ◌≤◌, min, List, [], ◌∷◌, ◌++◌, length, take, drop, map, refl, sym, ◌∙◌, ap, subst, append_assoc, length-append, arith}
+use Rattle.std.proofs.Common.{◌≡◌, ℕ, zero, suc, ◌+◌, ◌-◌, ◌*◌, ◌<◌, ◌≤◌, min, List, [], ◌∷◌, ◌++◌, length, take, drop, map, sym, ◌∙◌, ap, subst, append_assoc, length-append, arith}
 use Rattle.std.specs.Prelude.{All}
 use Rattle.std.specs.List.{concat}
 use Rattle.std.proofs.lemmas.List.{append-nil, length-drop, length-take, take_min, take-append-le, length-take-le, take-append-drop, take_rest}
-use Rattle.std.proofs.lemmas.List.Elements.{All-append}
 use Rattle.std.proofs.Math.Seq.{take-append-add}
 use Rattle.std.proofs.Math.Nat.{le_of_mul-le-mul_left, mul-le-mul_left}
 use Rattle.las_outside.specs.Outside.{Outside, with_bytes}
 use Rattle.laz_chunk.specs.Chunks.{chunk_bytes}
 use Rattle.laz_chunk.specs.Layouts.{Format, layout}
-use Rattle.laz_file.specs.Packing.{blocks_of}
-use Rattle.laz_file.specs.Writing.{AreFull, IsBlock, IsPlan, PackedStands, PackingSeen, Plan, Took, all_chunks, block_size, chunks, every_chunk, full_blocks, full_chunks, record_size}
-use Rattle.laz_file.proofs.Cutting.{AreFull-append, AreFull-back, Splits, blocks_are, full_blocks_are, full_blocks_more, length_full, rest_of}
+use Rattle.laz_file.specs.Writing.{AreFull, IsBlock, IsPlan, PackedStands, PackingSeen, Plan, Took, all_chunks, block_size, chunks, full_blocks, full_chunks, record_size}
+use Rattle.laz_file.proofs.Cutting.{AreFull-append, AreFull-back, Splits, full_blocks_are, full_blocks_more, length_full, rest_of}
 use Rattle.laz_file.proofs.Putting.{concat-append, joined-append, sizes-append}
 
 pub all_chunks-append : (f : Format) (xs ys : List (List ℕ)) → all_chunks f (xs ++ ys) ≡ all_chunks f xs ++ all_chunks f ys

@@ -7,7 +7,7 @@ use Rattle.las_header.specs.Fields.{record_length_of}
 use Rattle.las_header.specs.Heads.{IsHead}
 use Rattle.laz_chunk.specs.Chunks.{chunk_bytes}
 use Rattle.laz_table.specs.Table.{table_bytes}
-use Rattle.laz_file.specs.Outputs.{Output, draft_of, front, full_points, points_in, stopped}
+use Rattle.laz_file.specs.Outputs.{front, full_points, points_in, stopped}
 use Rattle.laz_file.specs.Packing.{blocks_of, chunks_of, record_layout}
 use Rattle.laz_file.specs.Stopping.{IsFrontUnfinished, IsStoppedUnfinished}
 use Rattle.laz_file.specs.Writing.{full_blocks}

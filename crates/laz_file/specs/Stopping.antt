@@ -8,7 +8,8 @@ use Rattle.laz_file.specs.Outputs.{Output, draft_of, front, patches_of, stopped}
 -- A prefix of the front is unfinished.
 abbrev pub IsFrontUnfinished : Type 0
 IsFrontUnfinished =
-    (out : Output) (records : List ℕ) (n : ℕ) → IsUnfinished (draft_of out records) (patches_of out records) (take n (front out))
+    (out : Output) (records : List ℕ) (n : ℕ)
+    → IsUnfinished (draft_of out records) (patches_of out records) (take n (front out))
 
 -- So is a prefix of what stands of an output that is stopped, also if more records would have come.
 abbrev pub IsStoppedUnfinished : Type 0

@@ -1,6 +1,7 @@
 -- What a writer of an output stands for, from call to call.
-use Rattle.std.specs.Prelude.{◌≡◌, ℕ, ◌+◌, ◌*◌, ◌/◌, ◌%◌, ◌^◌, ◌<◌, ◌≤◌, min, Bool, true, false, if◌then◌else◌, List, []}
-use Rattle.std.specs.Prelude.{◌∷◌, ◌++◌, length, map, take, Option, Some, None, All}
+use Rattle.std.specs.Prelude.{◌≡◌, ℕ, ◌*◌, ◌/◌, ◌%◌, ◌^◌, ◌<◌, ◌≤◌, min, Bool, true, false, if◌then◌else◌, List}
+use Rattle.std.specs.Prelude.{[]}
+use Rattle.std.specs.Prelude.{◌∷◌, ◌++◌, length, map, Option, Some, None, All}
 use Rattle.std.specs.List.{concat}
 use Rattle.byteorder.specs.Endian.{little_bytes}
 use Rattle.las_header.specs.declared.counts.Counts.{Counts}
@@ -13,7 +14,7 @@ use Rattle.las_outside.specs.Drafts.{Patch}
 use Rattle.las_outside.specs.Outside.{Outside, with_bytes, with_write_fault}
 use Rattle.las_points.specs.Tally.{IsWithinPoints, counts_of}
 use Rattle.laz_chunk.specs.Chunks.{chunk_bytes, count_of}
-use Rattle.laz_chunk.specs.Layouts.{Format, Layout, layout, record_length, room_for}
+use Rattle.laz_chunk.specs.Layouts.{Format, layout, record_length, room_for}
 use Rattle.laz_table.specs.VlrCauses.{extra_of}
 use Rattle.laz_file.specs.declared.fault.Fault.{Fault}
 use Rattle.laz_file.specs.declared.fault.Fault.TheVariants.{Refused, Read, Write, Memory}
@@ -143,9 +144,9 @@ pub record PackedStands (before now : Outside) (name front : List ℕ) (packing 
 
 -- ---- writers
 
--- what contracts see of a writer: the name of its output; the length of the plain head; the length of a record; how many
+-- what contracts see of a writer: the name of its output; the lengths of the plain head and of a record; how many
 -- records there are at most in all, and how many bytes of records it took; whether the head has a second set of counts;
--- the counts of the records, if they are counted; the packing, if the output is packed; and whether a call has failed
+-- the counts of the records, if they are counted; the packing, if the output is packed; whether a call has failed
 pub record WriterSeen : Type 0 where
   pub name : List ℕ
   pub start : ℕ

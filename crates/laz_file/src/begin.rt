@@ -1,5 +1,6 @@
 //! The beginning of an output: its crew, its buffers and its front.
-ghost use Rattle.std.specs.Prelude.{◌≡◌, ◌⊎◌, ◌+◌, ◌*◌, ◌<◌, ◌≤◌, ◌++◌, ◌^◌, [], ℕ, List, length, map, min, take, true, false, All};
+ghost use Rattle.std.specs.Prelude.{◌≡◌, ◌⊎◌, ◌+◌, ◌*◌, ◌<◌, ◌≤◌, ◌++◌, ◌^◌, [], ℕ, List, length, map, min, take};
+ghost use Rattle.std.specs.Prelude.{true, false, All};
 ghost use Rattle.std.specs.Prelude.{OnOk, IfOk, IfErr, if◌then◌else◌};
 ghost use Rattle.byteorder.specs.Endian.{little_bytes};
 ghost use Rattle.las_header.specs.Counting.{with_counts};
@@ -157,8 +158,8 @@ fn buffers(alloc: Global, count: usize, size: usize) -> Result<Vec<Vec<u8>>, All
     Ok(list)
 }
 
-/// The packing of an output for at most `most` records that follow a head, in chunks of `chunk` points: all of its rooms
-/// and buffers.
+/// The packing of an output for at most `most` records that follow a head, in chunks of `chunk` points: all of its
+/// rooms and buffers.
 pub(crate) fn new_packing(
     alloc: Global,
     head: &Head,
@@ -170,7 +171,8 @@ pub(crate) fn new_packing(
     requires chunk { (256 ≤ chunk) × (chunk ≤ 250000) }
     requires workers { (0 < workers) × (workers ≤ 8) }
     ensures { IfOk result (λ p. p ≡ record {
-      plan = record { format = format_in head.now.bytes; chunk = chunk; most = most; pointer = pointer; workers = workers };
+      plan = record
+          { format = format_in head.now.bytes; chunk = chunk; most = most; pointer = pointer; workers = workers };
       lengths = [];
       kept = [];
       rest = [];

@@ -1,10 +1,12 @@
 //! The end of a packed output: the last block, and the chunk table.
-ghost use Rattle.std.specs.Prelude.{◌≡◌, ◌↔◌, ◌+◌, ◌*◌, ◌%◌, ◌^◌, ◌<◌, ◌≤◌, ◌++◌, [], ℕ, List, length, map, sum, take, OnOk};
+ghost use Rattle.std.specs.Prelude.{◌≡◌, ◌↔◌, ◌+◌, ◌*◌, ◌%◌, ◌^◌, ◌<◌, ◌≤◌, ◌++◌, [], ℕ, List, length, map, sum};
+ghost use Rattle.std.specs.Prelude.{take, OnOk};
 ghost use Rattle.std.specs.Prelude.{IfOk, IfErr, IsTrue};
 ghost use Rattle.las_outside.specs.Outside.{Later, Outside, with_bytes};
 ghost use Rattle.laz_table.specs.Table.{table_bytes};
 ghost use Rattle.laz_file.specs.Packing.{blocks_of};
-ghost use Rattle.laz_file.specs.Writing.{PackedStands, Stops, block_size, chunks, every_chunk, packed_text, record_size};
+ghost use Rattle.laz_file.specs.Writing.{PackedStands, Stops, block_size, chunks, every_chunk, packed_text};
+ghost use Rattle.laz_file.specs.Writing.{record_size};
 
 use crate::Fault;
 use crate::packing::Packing;

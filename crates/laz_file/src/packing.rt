@@ -1,8 +1,10 @@
 //! The packing of an output: records that become chunks.
-ghost use Rattle.std.specs.Prelude.{◌≡◌, ◌+◌, ◌*◌, ◌<◌, ◌≤◌, ◌++◌, ◌∷◌, [], ℕ, List, length, map, take, All, OnOk, IfOk, IfErr, IsTrue, ◌↔◌};
+ghost use Rattle.std.specs.Prelude.{◌≡◌, ◌+◌, ◌*◌, ◌<◌, ◌≤◌, ◌++◌, ◌∷◌, [], ℕ, List, length, map, take, All, OnOk};
+ghost use Rattle.std.specs.Prelude.{IfOk, IfErr, IsTrue, ◌↔◌};
 ghost use Rattle.las_outside.specs.Outside.{Later, Outside, with_bytes};
 ghost use Rattle.laz_file.specs.Packing.{blocks_of};
-ghost use Rattle.laz_file.specs.Writing.{IsBlock, PackedStands, Stops, Took, all_chunks, block_size, chunks, every_chunk};
+ghost use Rattle.laz_file.specs.Writing.{IsBlock, PackedStands, Stops, Took, all_chunks, block_size, chunks};
+ghost use Rattle.laz_file.specs.Writing.{every_chunk};
 ghost use Rattle.laz_file.specs.Writing.{full_chunks, record_size};
 
 use crate::Fault;
@@ -75,7 +77,8 @@ impl Packing {
 
     // Keeps back the block that is being filled, and begins another.
     pub(crate) fn keep(&mut self) -> Result<(), AllocError>
-        ensures kept { OnOk result (self.new ≡ record self.old { kept = self.old.kept ++ self.old.rest ∷ []; rest = [] }) }
+        ensures kept { OnOk result
+            (self.new ≡ record self.old { kept = self.old.kept ++ self.old.rest ∷ []; rest = [] }) }
         ensures plan { self.new.plan ≡ self.old.plan }
     {
         let alloc = *self.rest.allocator();

@@ -1,5 +1,6 @@
 //! Bytes at the end of an output.
-ghost use Rattle.std.specs.Prelude.{◌≡◌, ◌^◌, ◌*◌, ◌<◌, ◌≤◌, ◌++◌, ℕ, List, length, map, take, All, Contains, OnOk, IfErr};
+ghost use Rattle.std.specs.Prelude.{◌≡◌, ◌^◌, ◌*◌, ◌<◌, ◌≤◌, ◌++◌, ℕ, List, length, map, take, All, Contains, OnOk};
+ghost use Rattle.std.specs.Prelude.{IfErr};
 ghost use Rattle.las_outside.specs.Outside.{Later, Outside, with_bytes};
 ghost use Rattle.laz_chunk.specs.Layouts.{Format};
 ghost use Rattle.laz_file.specs.Writing.{IsChunk, Stops, all_chunks, chunks};
@@ -18,7 +19,8 @@ pub(crate) fn put<F: Files>(files: &mut F, name: &str, bytes: &[u8]) -> Result<(
     ensures added { (before : Outside) (text : List ℕ) → F.seen files.old ≡ with_bytes before name.now text
         → OnOk result (F.seen files.new ≡ with_bytes before name.now (text ++ bytes.now)) }
     ensures stopped { (before : Outside) (text : List ℕ) → F.seen files.old ≡ with_bytes before name.now text
-        → IfErr result (λ fault. (n : ℕ) × Stops fault (with_bytes before name.now (text ++ take n bytes.now)) (F.seen files.new)) }
+        → IfErr result (λ fault. (n : ℕ) × Stops fault (with_bytes before name.now (text ++ take n bytes.now))
+        (F.seen files.new)) }
     ensures later { Later (F.seen files.old) (F.seen files.new) }
 {
     match files.append(name, bytes) {

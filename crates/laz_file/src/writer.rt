@@ -1,5 +1,6 @@
 //! An output of point records, plain or packed, that is written as its records come.
-ghost use Rattle.std.specs.Prelude.{◌≡◌, ◌⊎◌, ◌+◌, ◌*◌, ◌%◌, ◌/◌, ◌^◌, ◌<◌, ◌≤◌, ◌++◌, [], ℕ, List, length, take, true, false, Bool};
+ghost use Rattle.std.specs.Prelude.{◌≡◌, ◌⊎◌, ◌+◌, ◌*◌, ◌%◌, ◌/◌, ◌^◌, ◌<◌, ◌≤◌, ◌++◌, [], ℕ, List, length, take};
+ghost use Rattle.std.specs.Prelude.{true, false, Bool};
 ghost use Rattle.std.specs.Prelude.{OnOk, OnErr, IfOk, IfErr, IsErrOf};
 ghost use Rattle.std.specs.Option.{ForSome};
 ghost use Rattle.las_header.specs.Fields.{is_packed};
@@ -113,7 +114,8 @@ impl Writer {
         ensures stopped { let out : Output =
             record { name = name.now; head = head.now.bytes; chunk = chunk; counted = counted } in
             IfErr result (λ fault. Stops fault (F.seen files.old) (F.seen files.new)
-            ⊎ ((n : ℕ) × Stops fault (with_bytes (F.seen files.old) name.now (take n (front out))) (F.seen files.new))) }
+            ⊎ ((n : ℕ) × Stops fault (with_bytes (F.seen files.old) name.now (take n (front out)))
+            (F.seen files.new))) }
         ensures fault { IfErr result (λ fault. (fault ≡ Memory) ⊎ (fault ≡ Write)) }
         ensures write { IsErrOf result Write → Rose (F.seen files.old).write_faults (F.seen files.new).write_faults }
         ensures calm { OnOk result (SameFaults (F.seen files.old) (F.seen files.new)) }

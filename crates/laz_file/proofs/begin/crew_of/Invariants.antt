@@ -1,4 +1,4 @@
-use Rattle.std.proofs.Common.{◌≡◌, ℕ, List, length}
+use Rattle.std.proofs.Common.{◌≡◌, ℕ, length}
 use Rattle.std.specs.Prelude.{All}
 use Rattle.laz_chunk.specs.Layouts.{Format}
 use Rattle.laz_workers.specs.Rooms.{HandSeen, lengths_of, rooms_of}

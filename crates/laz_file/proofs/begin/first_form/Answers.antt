@@ -1,4 +1,4 @@
-use Rattle.std.proofs.Common.{◌≡◌, Bool, if◌then◌else◌, [], List, ℕ, sym, ◌∙◌, ap}
+use Rattle.std.proofs.Common.{Bool, if◌then◌else◌, [], List, ℕ, sym, ◌∙◌, ap}
 use Rattle.las_header.specs.Counting.{with_counts}
 use Rattle.las_points.specs.Tally.{counts_of}
 use Rattle.laz_file.specs.Writing.{written_head}

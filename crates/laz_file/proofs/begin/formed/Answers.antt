@@ -1,4 +1,4 @@
-use Rattle.std.proofs.Common.{◌≡◌, ℕ, List, Option, Some, sym, ◌∙◌, ap, subst}
+use Rattle.std.proofs.Common.{◌≡◌, ℕ, List, Option, sym, ◌∙◌, ap}
 use Rattle.las_header.specs.Fields.{format_of}
 use Rattle.las_header.specs.Heads.{HeadView}
 use Rattle.las_header.specs.Plain.{with_vlr}

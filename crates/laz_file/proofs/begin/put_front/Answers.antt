@@ -1,7 +1,7 @@
-use Rattle.std.proofs.Common.{◌≡◌, ◌+◌, inl, inr, true, false, Bool, ℕ, List, [], ◌++◌, length, take, sym, ◌∙◌, ap, subst}
+use Rattle.std.proofs.Common.{◌≡◌, ◌+◌, inl, inr, Bool, ℕ, List, [], ◌++◌, length, take, sym, ◌∙◌, ap, subst}
 use Rattle.std.proofs.Math.Seq.{take-append-add}
 use Rattle.byteorder.specs.Endian.{little_bytes}
-use Rattle.las_outside.specs.Outside.{Outside, with_bytes}
+use Rattle.las_outside.specs.Outside.{with_bytes}
 use Rattle.laz_file.specs.Writing.{Stops, pointer_part}
 use Rattle.laz_file.proofs.Putting.{if_err, if_err_weaker, prefix_append}
 use Rattle.laz_file.proofs.begin.put_front.Goals as goal

@@ -1,11 +1,10 @@
-use Rattle.std.proofs.Common.{◌≡◌, ℕ, ◌+◌, ◌<◌, ◌≤◌, List, length, take, get_or, sym, ◌∙◌, ap, subst, arith}
+use Rattle.std.proofs.Common.{◌<◌, length, take, sym, ◌∙◌, ap, subst, arith}
 use Rattle.std.proofs.lemmas.List.Elements.{All-take}
 use Rattle.las_outside.specs.Drafts.{IsPatchedInPart, Patch, with_patches}
 use Rattle.las_outside.specs.Files.{with_patch}
-use Rattle.las_outside.specs.Outside.{Outside, with_bytes}
-use Rattle.laz_file.specs.Writing.{Stops}
+use Rattle.las_outside.specs.Outside.{with_bytes}
 use Rattle.laz_file.proofs.Faults.{later-trans}
-use Rattle.laz_file.proofs.Patching.{LiesIn, length-with_patches, patched_part, unpatched, with_patches-more}
+use Rattle.laz_file.proofs.Patching.{LiesIn, length-with_patches, patched_part, with_patches-more}
 use Rattle.laz_file.proofs.Putting.{if_err}
 use Rattle.laz_file.proofs.patch.patch_all.Goals as goal
 

@@ -1,5 +1,4 @@
-use Rattle.std.proofs.Common.{◌≡◌, ◌+◌, ◌≤◌, ℕ, List, length, take}
-use Rattle.std.specs.Prelude.{All}
+use Rattle.std.proofs.Common.{◌≡◌, ℕ, List, take}
 use Rattle.las_outside.specs.Drafts.{with_patches}
 use Rattle.las_outside.specs.Outside.{Later, Outside, with_bytes}
 use Rattle.laz_file.proofs.patch.patch_all.Given as goal

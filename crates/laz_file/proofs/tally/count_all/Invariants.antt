@@ -1,4 +1,4 @@
-use Rattle.std.proofs.Common.{◌≡◌, ℕ, ◌+◌, ◌*◌, ◌-◌, ◌/◌, ◌≤◌, List, ◌++◌, length}
+use Rattle.std.proofs.Common.{◌≡◌, ℕ, ◌+◌, ◌*◌, ◌-◌, ◌/◌, List, length}
 use Rattle.las_points.specs.Tally.{IsWithinPoints, counts_of}
 use Rattle.laz_file.proofs.Tallying.{Counted}
 use Rattle.laz_file.proofs.tally.count_all.Given as goal

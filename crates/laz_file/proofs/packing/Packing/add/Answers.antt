@@ -1,6 +1,6 @@
-use Rattle.std.proofs.Common.{◌≡◌, ◌+◌, ◌-◌, ◌*◌, true, false, ℕ, List, [], ◌++◌, length, take, drop, sym, ◌∙◌, ap, subst, arith}
+use Rattle.std.proofs.Common.{◌≡◌, ◌+◌, ◌-◌, ◌*◌, true, false, ℕ, List, ◌++◌, length, take, drop, sym, ◌∙◌, ap, subst, arith}
 use Rattle.std.proofs.lemmas.List.{length-drop, length-take}
-use Rattle.las_outside.specs.Outside.{Outside, with_bytes}
+use Rattle.las_outside.specs.Outside.{with_bytes}
 use Rattle.laz_file.specs.declared.fault.Fault.TheVariants.{Memory}
 use Rattle.laz_file.specs.Writing.{PackingSeen, Plan, Stops, all_chunks, full_chunks}
 use Rattle.laz_file.proofs.Putting.{if_err}

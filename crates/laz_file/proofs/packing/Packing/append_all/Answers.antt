@@ -1,9 +1,9 @@
-use Rattle.std.proofs.Common.{◌≡◌, ◌+◌, ◌≤◌, ◌^◌, ℕ, List, [], ◌++◌, length, map, sum, take, sym, ◌∙◌, ap, subst, length-append, arith}
+use Rattle.std.proofs.Common.{◌≡◌, ◌≤◌, ◌^◌, ℕ, List, [], ◌++◌, length, map, sum, take, sym, ◌∙◌, ap, subst, length-append, arith}
 use Rattle.las_outside.specs.Outside.{Outside, with_bytes}
 use Rattle.laz_table.specs.Table.{table_bytes}
 use Rattle.laz_file.specs.Packing.{blocks_of}
 use Rattle.laz_file.specs.declared.fault.Fault.TheVariants.{Memory}
-use Rattle.laz_file.specs.Writing.{PackingSeen, Plan, Stops, block_size, chunks, every_chunk}
+use Rattle.laz_file.specs.Writing.{Plan, Stops, block_size, chunks, every_chunk}
 use Rattle.laz_file.proofs.Ending.{all_chunks_within, chunks_within, few_chunks, length_chunks, table_within, text_is}
 use Rattle.laz_file.proofs.Putting.{if_err}
 use Rattle.laz_file.proofs.packing.Packing.append_all.Goals as goal

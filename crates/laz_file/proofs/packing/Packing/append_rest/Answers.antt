@@ -1,4 +1,4 @@
-use Rattle.std.proofs.Common.{◌≡◌, ◌≤◌, ◌*◌, ◌%◌, ℕ, List, ◌++◌, length, map, take, sym, ◌∙◌, ap, subst}
+use Rattle.std.proofs.Common.{◌≤◌, ◌*◌, ℕ, List, ◌++◌, length, map, take, sym, ◌∙◌, ap, subst}
 use Rattle.std.specs.Prelude.{All}
 use Rattle.las_outside.specs.Outside.{Outside, with_bytes}
 use Rattle.laz_file.specs.declared.fault.Fault.TheVariants.{Memory}

@@ -1,9 +1,9 @@
-use Rattle.std.proofs.Common.{◌≡◌, ◌+◌, ◌*◌, ◌≤◌, ℕ, Option, Some, None, List, ◌++◌, length, take, sym, ◌∙◌, ap, subst, arith, length-append}
+use Rattle.std.proofs.Common.{◌≡◌, ℕ, Option, Some, None, List, ◌++◌, length, take, sym, ◌∙◌, ap, subst, arith, length-append}
 use Rattle.las_outside.specs.Outside.{Outside, with_bytes}
-use Rattle.laz_file.specs.Outputs.{draft_of, front, pointer_patches}
+use Rattle.laz_file.specs.Outputs.{front, pointer_patches}
 use Rattle.laz_file.specs.Writing.{PackedStands, Stops, WriterSeen, packed_text}
 use Rattle.laz_file.proofs.Arms.{packed_draft, packed_even, packed_form, plain_draft, plain_form, plain_text}
-use Rattle.laz_file.proofs.Finishing.{few_bytes, front_packed, front_plain, pointer_is}
+use Rattle.laz_file.proofs.Finishing.{front_packed, front_plain, pointer_is}
 use Rattle.laz_file.proofs.Putting.{if_err}
 use Rattle.laz_file.proofs.writer.Writer.append_draft.Goals as goal
 

@@ -1,4 +1,4 @@
-use Rattle.std.proofs.Common.{◌≡◌, ◌*◌, ◌≤◌, ℕ, Option, Some, None, List, ◌++◌, length, take, sym, ◌∙◌, ap, subst, arith}
+use Rattle.std.proofs.Common.{◌≡◌, ℕ, Some, None, List, ◌++◌, take, sym, ◌∙◌, ap, subst, arith}
 use Rattle.las_outside.specs.Outside.{Outside, with_bytes}
 use Rattle.laz_file.specs.Outputs.{front}
 use Rattle.laz_file.specs.Writing.{Stops, WriterSeen, all_chunks}

@@ -1,8 +1,8 @@
-use Rattle.std.proofs.Common.{◌≡◌, ◌+◌, ◌*◌, ◌≤◌, ◌<◌, ℕ, Option, Some, None, List, ◌++◌, length, take, refl, sym, ◌∙◌, ap, subst}
+use Rattle.std.proofs.Common.{◌≡◌, ◌+◌, ℕ, Some, None, List, ◌++◌, length, take, refl, sym, ◌∙◌, ap, subst}
 use Rattle.std.proofs.lemmas.Result.{on_ok_weaker}
 use Rattle.las_outside.specs.Outside.{Outside, with_bytes}
-use Rattle.laz_file.specs.Outputs.{front, stopped}
-use Rattle.laz_file.specs.Writing.{PackedStands, PackingSeen, Plan, Stops, WriterSeen, full_chunks}
+use Rattle.laz_file.specs.Outputs.{front}
+use Rattle.laz_file.specs.Writing.{PackedStands, Stops, WriterSeen, full_chunks}
 use Rattle.laz_file.proofs.Arms.{packed_form, packed_more, packed_room, packed_stopped, plain_more, plain_part, plain_text}
 use Rattle.laz_file.proofs.Putting.{if_err, if_err_weaker}
 use Rattle.laz_file.proofs.writer.Writer.append_points.Goals as goal

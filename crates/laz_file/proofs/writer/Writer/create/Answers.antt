@@ -1,6 +1,6 @@
-use Rattle.std.proofs.Common.{◌≡◌, ⊎_elim, ◌<◌, ◌^◌, ◌==◌, inl, inr, Bool, ℕ, Option, List, [], ◌++◌, length, take, refl, sym, ◌∙◌, ap, subst, arith}
+use Rattle.std.proofs.Common.{◌≡◌, ◌<◌, ◌==◌, inl, inr, Bool, ℕ, List, ◌++◌, length, take, refl, sym, ◌∙◌, ap, subst, arith}
 use Rattle.las_header.specs.Fields.{record_length_of}
-use Rattle.las_outside.specs.Outside.{Outside, with_bytes}
+use Rattle.las_outside.specs.Outside.{with_bytes}
 use Rattle.laz_file.specs.Outputs.{Output, first_head, front}
 use Rattle.laz_file.specs.Writing.{IsTally, Stops, pointer_part, written_head}
 use Rattle.laz_file.proofs.Finishing.{begins, no_records}

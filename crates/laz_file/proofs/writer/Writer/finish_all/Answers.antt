@@ -1,8 +1,8 @@
-use Rattle.std.proofs.Common.{◌≡◌, ◌≤◌, ◌+◌, inl, inr, ℕ, Option, List, ◌++◌, length, take, refl, sym, ◌∙◌, ap, subst}
+use Rattle.std.proofs.Common.{inr, ℕ, List, sym, ◌∙◌, ap, subst}
 use Rattle.std.specs.Prelude.{All}
 use Rattle.las_outside.specs.Drafts.{IsPatchedInPart, Patch, with_patches}
 use Rattle.las_outside.specs.Outside.{Outside, with_bytes}
-use Rattle.laz_file.specs.Outputs.{draft_of, finished, patches_of}
+use Rattle.laz_file.specs.Outputs.{draft_of, patches_of}
 use Rattle.laz_file.specs.declared.fault.Fault.TheVariants.{Memory}
 use Rattle.laz_file.specs.Writing.{Stops, WriterSeen}
 use Rattle.laz_file.proofs.Arms.{held_text}

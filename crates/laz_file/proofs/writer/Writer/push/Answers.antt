@@ -1,7 +1,7 @@
-use Rattle.std.proofs.Common.{◌≡◌, ◌+◌, ◌*◌, ◌/◌, ◌≤◌, ◌<◌, ◌^◌, Bool, ℕ, Option, List, ◌++◌, length, take, refl, sym, ◌∙◌, ap, subst, arith}
+use Rattle.std.proofs.Common.{◌≡◌, ◌+◌, ◌*◌, ◌/◌, ◌≤◌, ◌<◌, ◌^◌, Bool, ℕ, List, ◌++◌, length, sym, ◌∙◌, ap, subst, arith}
 use Rattle.las_header.specs.Fields.{record_length_of}
 use Rattle.las_header.specs.Plain.{cut_records}
-use Rattle.las_outside.specs.Outside.{Outside, with_bytes}
+use Rattle.las_outside.specs.Outside.{Outside}
 use Rattle.laz_file.specs.Outputs.{records_after}
 use Rattle.laz_file.specs.declared.fault.Fault.TheVariants.{Write}
 use Rattle.laz_file.specs.Writing.{IsTally, WriterSeen}

@@ -1,5 +1,4 @@
-use Rattle.std.proofs.Common.{◌≡◌, ◌/◌, ℕ, Some, List, ◌++◌, length, sym, ◌∙◌, ap}
-use Rattle.las_header.specs.declared.counts.Counts.{Counts}
+use Rattle.std.proofs.Common.{◌≡◌, ◌/◌, ℕ, Some, ◌++◌, length, sym, ◌∙◌, ap}
 use Rattle.las_header.specs.Plain.{cut_records}
 use Rattle.las_points.specs.Tally.{counts_of}
 use Rattle.laz_file.specs.Writing.{WriterSeen}
