@@ -13,3 +13,15 @@ pub mod Whole
 pub mod PlainForms
 pub mod CountedForms
 pub mod Foreign
+pub mod Putting
+pub mod Rooms
+pub mod Cutting
+pub mod Standing
+pub mod Ending
+pub mod Faults
+pub mod Pushing
+pub mod Tallying
+pub mod Patching
+pub mod Finishing
+pub mod Arms
+pub mod Stopping

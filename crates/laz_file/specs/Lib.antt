@@ -15,3 +15,5 @@ pub mod Refusing
 pub mod Pieces
 pub mod Records
 pub mod Laws
+pub mod Writing
+pub mod Stopping

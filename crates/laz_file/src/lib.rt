@@ -4,9 +4,20 @@
 //! with items of version 2.
 #![tactic(auto)]
 
+mod batch;
+mod begin;
 mod fault;
 mod laws;
+mod finish;
 mod limits;
+mod pack_job;
+mod packed_end;
+mod packing;
+mod patch;
+mod put;
+mod tally;
+mod unfinished;
+mod writer;
 
 pub use fault::Fault;
 pub use laws::{
@@ -14,3 +25,5 @@ pub use laws::{
     heads_and_records_are_accepted, outputs_are_finished,
 };
 pub use limits::PLAIN_BLOCK;
+pub use unfinished::stopped_outputs_are_unfinished;
+pub use writer::Writer;

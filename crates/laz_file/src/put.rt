@@ -1,0 +1,67 @@
+//! Bytes at the end of an output.
+ghost use Rattle.std.specs.Prelude.{◌≡◌, ◌^◌, ◌*◌, ◌<◌, ◌≤◌, ◌++◌, ℕ, List, length, map, take, All, Contains, OnOk};
+ghost use Rattle.std.specs.Prelude.{IfErr};
+ghost use Rattle.las_outside.specs.Outside.{Later, Outside, with_bytes};
+ghost use Rattle.laz_chunk.specs.Layouts.{Format};
+ghost use Rattle.laz_file.specs.Writing.{IsChunk, Stops, all_chunks, chunks};
+ghost use Rattle.laz_workers.specs.Rooms.{lengths_of, numbers_in, rooms_of};
+ghost use Rattle.laz_workers.specs.Work.{HoldsAnswer, texts};
+
+use crate::Fault;
+use crate::pack_job::PackJob;
+use las_outside::Files;
+use laz_chunk::Workspace;
+use laz_workers::Crew;
+
+/// Appends bytes to an output, in one call.
+pub(crate) fn put<F: Files>(files: &mut F, name: &str, bytes: &[u8]) -> Result<(), Fault>
+    requires held { (before : Outside) × (text : List ℕ) × (F.seen files.old ≡ with_bytes before name.now text) }
+    ensures added { (before : Outside) (text : List ℕ) → F.seen files.old ≡ with_bytes before name.now text
+        → OnOk result (F.seen files.new ≡ with_bytes before name.now (text ++ bytes.now)) }
+    ensures stopped { (before : Outside) (text : List ℕ) → F.seen files.old ≡ with_bytes before name.now text
+        → IfErr result (λ fault. (n : ℕ) × Stops fault (with_bytes before name.now (text ++ take n bytes.now))
+        (F.seen files.new)) }
+    ensures later { Later (F.seen files.old) (F.seen files.new) }
+{
+    match files.append(name, bytes) {
+        Ok(()) => Ok(()),
+        Err(_) => Err(Fault::Write),
+    }
+}
+
+/// Appends the chunks of blocks that a crew has packed, in the order of the blocks, in one call each. The lengths of
+/// the chunks are added to a list.
+pub(crate) fn put_chunks<F: Files>(
+    files: &mut F,
+    name: &str,
+    job: PackJob,
+    blocks: &[Vec<u8>],
+    crew: &Crew<Workspace>,
+    lengths: &mut Vec<u32>,
+) -> Result<(), Fault>
+    requires held { (before : Outside) × (text : List ℕ) × (F.seen files.old ≡ with_bytes before name.now text) }
+    requires few { length blocks.now ≤ 16 }
+    requires stand { (number : ℕ) → number < length blocks.now → Contains (numbers_in (rooms_of crew.now)) number }
+    requires answers { All (HoldsAnswer (IsChunk job) (texts blocks.now)) (rooms_of crew.now) }
+    requires small { All (λ n. n < 2 ^ 32) (lengths_of (rooms_of crew.now)) }
+    ensures added { (before : Outside) (text : List ℕ) → F.seen files.old ≡ with_bytes before name.now text
+        → OnOk result (F.seen files.new ≡ with_bytes before name.now (text ++ all_chunks job (texts blocks.now))) }
+    ensures stopped { (before : Outside) (text : List ℕ) → F.seen files.old ≡ with_bytes before name.now text
+        → IfErr result (λ fault. (n : ℕ) × Stops fault
+        (with_bytes before name.now (text ++ take n (all_chunks job (texts blocks.now)))) (F.seen files.new)) }
+    ensures lengths { OnOk result (lengths.new.items
+        ≡ lengths.old.items ++ map (λ chunk. length chunk) (chunks job (texts blocks.now))) }
+    ensures later { Later (F.seen files.old) (F.seen files.new) }
+{
+    for i in 0..blocks.len() {
+        let Some(chunk) = crew.result(i as u32) else {
+            unreachable!()
+        };
+        match lengths.push(chunk.len() as u32) {
+            Ok(()) => {}
+            Err(_) => return Err(Fault::Memory),
+        }
+        put(files, name, chunk)?;
+    }
+    Ok(())
+}
