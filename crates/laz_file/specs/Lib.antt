@@ -8,7 +8,7 @@ pub use Rattle.laz_workers.specs.Rooms
 pub use Rattle.laz_workers.specs.Work
 pub use Rattle.laz_chunk.specs.Layouts
 pub use Rattle.laz_chunk.specs.Chunks
-pub use Rattle.laz_table.specs.Chunks
+pub use Rattle.laz_table.specs.Chunks as TableChunks
 pub mod Packing
 pub mod Outputs
 pub mod Refusing

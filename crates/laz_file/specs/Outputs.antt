@@ -55,9 +55,10 @@ counts_patches head counts =
 -- the patch that sets the pointer to the chunk table
 abbrev pub pointer_patches : Option ℕ → (head records : List ℕ) → List Patch
 pointer_patches None head records = []
-pointer_patches (Some chunk) head records =
-    (length (packed_head head chunk),
-    little_bytes 8 (table_after head chunk (chunks_of head (chunk_blocks head records chunk)))) ∷ []
+pointer_patches (Some chunk) head records = (
+  length (packed_head head chunk),
+  little_bytes 8 (table_after head chunk (chunks_of head (chunk_blocks head records chunk))),
+) ∷ []
 
 -- the patches of an output of these records: the counts, and then the pointer
 abbrev pub patches_of : Output → (records : List ℕ) → List Patch

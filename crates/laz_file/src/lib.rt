@@ -4,6 +4,7 @@
 //! with items of version 2.
 #![tactic(auto)]
 
+mod batch;
 mod fault;
 mod limits;
 
