@@ -14,3 +14,4 @@ pub mod Outputs
 pub mod Refusing
 pub mod Pieces
 pub mod Records
+pub mod Unpacking

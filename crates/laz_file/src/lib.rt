@@ -7,6 +7,8 @@
 mod batch;
 mod fault;
 mod limits;
+mod unpack_job;
 
 pub use fault::Fault;
 pub use limits::PLAIN_BLOCK;
+pub use unpack_job::UnpackJob;
