@@ -1,1 +1,5 @@
 pub mod Unpacking
+pub mod Knowing
+pub mod Filling
+pub mod Heads
+pub mod TableFront

@@ -15,3 +15,4 @@ pub mod Refusing
 pub mod Pieces
 pub mod Records
 pub mod Unpacking
+pub mod Reading

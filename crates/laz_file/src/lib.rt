@@ -7,6 +7,8 @@
 mod batch;
 mod fault;
 mod limits;
+mod opening;
+mod reading;
 mod unpack_job;
 
 pub use fault::Fault;
