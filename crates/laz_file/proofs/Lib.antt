@@ -3,3 +3,6 @@ pub mod Knowing
 pub mod Filling
 pub mod Heads
 pub mod TableFront
+pub mod PieceLists
+pub mod Accepting
+pub mod Joins

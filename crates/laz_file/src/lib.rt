@@ -6,11 +6,16 @@
 
 mod batch;
 mod fault;
+mod joining;
 mod limits;
+mod listing;
 mod opening;
+mod reader;
 mod reading;
 mod unpack_job;
 
 pub use fault::Fault;
+pub use joining::batches_join;
 pub use limits::PLAIN_BLOCK;
+pub use reader::Reader;
 pub use unpack_job::UnpackJob;
