@@ -30,3 +30,7 @@ known_at held before name P same p = subst (λ (h : Option FileMap). WhereKnown 
 
 pub known_three : (held : Option FileMap) (name : List ℕ) (P Q R S : List ℕ → Type 0) → ((file : List ℕ) → P file → Q file → R file → S file) → WhereKnown held name P → WhereKnown held name Q → WhereKnown held name R → WhereKnown held name S
 known_three held name P Q R S to p q r = known_both held name (λ file. P file × Q file) R S (λ file pq r. to file pq.0 pq.1 r) (known_both held name P Q (λ file. P file × Q file) (λ file p q. (p, q)) p q) r
+
+pub on_ok : {T E P : Type 0} (r : Result T E) → P → OnOk r P
+on_ok (Ok x) p = p
+on_ok (Err e) p = tt

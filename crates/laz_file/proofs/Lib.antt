@@ -6,3 +6,5 @@ pub mod TableFront
 pub mod PieceLists
 pub mod Accepting
 pub mod Joins
+pub mod InputLists
+pub mod BatchAnswers

@@ -15,7 +15,7 @@ use Rattle.laz_table.specs.declared.limits.TheConstants.{MAX_CHUNK_BYTES, MAX_CH
 use Rattle.laz_table.specs.Chunks.{IsChunkCount, fixed_sizes}
 use Rattle.laz_table.specs.VlrCauses.{chunk_size_of, extra_of}
 use Rattle.laz_chunk.specs.Layouts.{Format, record_length}
-use Rattle.laz_workers.specs.Numbers.{HoldsBelow}
+use Rattle.laz_workers.specs.Numbers.{times}
 use Rattle.laz_workers.specs.Rooms.{HandSeen, RoomSeen, answer_in, lengths_of, number_of, numbers_in, rooms_of}
 use Rattle.laz_file.specs.declared.fault.Fault.{Fault}
 use Rattle.laz_file.specs.declared.fault.Fault.TheVariants.{Refused, Read, Write, Memory}
@@ -166,12 +166,9 @@ pub record IsCrewOf (reader : ReaderSeen) (crew : List (HandSeen Format)) : Type
   pub rooms : HaveRoom reader.chunk (record_length (record_layout reader.head.bytes)) reader.left
       (lengths_of (rooms_of crew))
 
--- Blocks stand in rooms as answers, each under its number: each number below some total, which is no less than the
--- number of blocks, stands in exactly one room.
+-- Blocks stand in rooms as answers, each under its number: the number of each of them stands in exactly one room.
 pub record StandInRooms (rooms : List RoomSeen) (blocks : List (List ℕ)) : Type 0 where
-  pub total : ℕ
-  pub numbers : HoldsBelow total (numbers_in rooms)
-  pub within : length blocks ≤ total
+  pub once : (k : ℕ) → k < length blocks → times k (numbers_in rooms) ≡ 1
   pub answers : (k : ℕ) → k < length blocks → All (λ room. number_of room.held ≡ Some k
       → answer_in room.bytes room.held ≡ Some (slice_index_or blocks k [])) rooms
 

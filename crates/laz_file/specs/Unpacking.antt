@@ -17,6 +17,10 @@ count_in input = number_at 4 0 input
 abbrev pub chunk_in : (input : List ℕ) → List ℕ
 chunk_in input = drop 4 input
 
+-- An input has a number of records, which is this one.
+abbrev pub IsInput : (count : ℕ) → (input : List ℕ) → Type 0
+IsInput count input = (4 ≤ length input) × (count_in input ≡ count)
+
 -- An input is one for a chunk of at least one record, and a room of this many bytes is enough for its records.
 pub record FitsUnpacked (l : Layout) (input : List ℕ) (room : ℕ) : Type 0 where
   pub counted : 4 ≤ length input

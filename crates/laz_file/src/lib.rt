@@ -4,8 +4,11 @@
 //! with items of version 2.
 #![tactic(auto)]
 
+mod answers;
 mod batch;
+mod chunks;
 mod fault;
+mod inputs;
 mod joining;
 mod limits;
 mod listing;

@@ -1,10 +1,10 @@
 //! The job of unpacking chunks.
-ghost use Rattle.std.specs.Prelude.{◌≡◌, ◌<◌, length};
+ghost use Rattle.std.specs.Prelude.{◌≡◌, ℕ, ◌<◌, ◌≤◌, true, false, List, length};
 ghost use Rattle.laz_chunk.specs.Layouts.{layout, record_length as length_of};
-ghost use Rattle.laz_file.specs.Unpacking.{FitsUnpacked, UnpackAnswer};
+ghost use Rattle.laz_file.specs.Unpacking.{FitsUnpacked, HoldsNone, UnpackAnswer};
 
 use las_header::{size_of, u32_at};
-use laz_chunk::Workspace;
+use laz_chunk::{Workspace, room_for};
 use laz_workers::Job;
 use std::marker::Model;
 
@@ -41,9 +41,26 @@ impl UnpackJob {
 
     /// How long a record is.
     pub fn record_length(&self) -> usize
-        ensures { result ≡ length_of (layout self.now) }
+        ensures length { result ≡ length_of (layout self.now) }
+        ensures small { result ≤ 226 }
     {
         usize::from(size_of(self.format)) + usize::from(self.extra)
+    }
+
+    /// Whether a chunk of `size` bytes may hold `count` records: whether the number of bytes is one that a chunk of so
+    /// many records can have. The bytes are not looked at.
+    pub fn may_hold(&self, count: u32, size: u32) -> bool
+        ensures some { result ≡ true → 1 ≤ count }
+        ensures none { result ≡ false → (bytes : List ℕ) → length bytes ≡ size → HoldsNone (layout self.now) count bytes }
+    {
+        if count == 0 {
+            return false;
+        }
+        let size = u64::from(size);
+        if size < self.record_length() as u64 + 4 {
+            return false;
+        }
+        size <= room_for(self.format, self.extra, count)
     }
 }
 

@@ -15,5 +15,5 @@ returns-in-Ok-clause-answer c =
     let within : n ≤ len = omega (arith, c.split_at_mut-block.ensures.back_len, c.deref_mut.ensures.len) in (
       front_fits n len out back more long within,
       subst (HoldsOnly (layout c.args.self.now) (count_in c.args.input.now) (chunk_in c.args.input.now)) (sym (front_kept n len out back more long within))
-          (unpacked c.args.self.now c.args.space.now c.args.input.now c.split_at.result.1.now out n c.u32_at-count.result c.record_length.result c.requires.suits c.split_at.ensures.back c.u32_at-count.ensures c.record_length.ensures long (bytes_front n (take len (out ++ back ++ more)) out (front_kept n len out back more long within) (λ i lt. c.type_inv.room i 0 lt)) c.in-Ok.ensures.holds c.in-Ok.ensures.only),
+          (unpacked c.args.self.now c.args.space.now c.args.input.now c.split_at.result.1.now out n c.u32_at-count.result c.record_length.result c.requires.suits c.split_at.ensures.back c.u32_at-count.ensures c.record_length.ensures.length long (bytes_front n (take len (out ++ back ++ more)) out (front_kept n len out back more long within) (λ i lt. c.type_inv.room i 0 lt)) c.in-Ok.ensures.holds c.in-Ok.ensures.only),
     )
