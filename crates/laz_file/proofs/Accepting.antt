@@ -102,10 +102,11 @@ module _ (file : List ℕ) where
         accepted_packed chunk counts sizes a =
             let one = subst (λ (b : List ℕ). IsAccepted b blocks total counts sizes) part_same a in
             let two = subst (λ (b : Blocks). IsAccepted (table_part file) b total counts sizes) blocks_same one in
-            let three = subst (λ (n : ℕ). IsAccepted (table_part file) (blocks_in (head_of file)) n counts sizes) total_place two in
-            (refused_table None a.fine,
-            subst (λ (b : Bool). ArePiecesIf b file (pieces_listed (Some chunk) head.bytes counts sizes)) (sym (ap is_packed (sym h.bytes) ∙ packed))
-            (counts, sizes, three, ap (λ (n : ℕ). pieces_from (n + 8) counts sizes) head_long))
+            let three = subst (λ (n : ℕ). IsAccepted (table_part file) (blocks_in (head_of file)) n counts sizes) total_place two in (
+              refused_table None a.fine,
+              subst (λ (b : Bool). ArePiecesIf b file (pieces_listed (Some chunk) head.bytes counts sizes)) (sym (ap is_packed (sym h.bytes) ∙ packed))
+                  (counts, sizes, three, ap (λ (n : ℕ). pieces_from (n + 8) counts sizes) head_long),
+            )
 
         pub packed_lie : (chunk : ℕ) (counts sizes : List ℕ) → offset + 8 ≤ start → start ≤ length file → sum sizes ≡ total → All (LiesIn file) (pieces_listed (Some chunk) head.bytes counts sizes)
         packed_lie chunk counts sizes before within whole =
@@ -113,11 +114,12 @@ module _ (file : List ℕ) where
 
     pub accepted_plain : is_packed head.bytes ≡ false → IsAcceptedFile file × ArePieces file (pieces_listed None head.bytes [] [])
     accepted_plain plain =
-        let is : is_packed (head_of file) ≡ false = ap is_packed (sym h.bytes) ∙ plain in
-        (after_tests (tested_causes file) (chunk_causes (is_packed (head_of file)) file) None (tested false is ∙ ap (λ (o : Option Refusal). or_else o None) h.none)
-        (subst (λ (b : Bool). IsFirst (chunk_causes b file) None) (sym is) refl),
-        subst (λ (b : Bool). ArePiecesIf b file (pieces_listed None head.bytes [] [])) (sym is)
-        (ap (λ (b : List ℕ). plain_from (record_length_of b) (length head.bytes) (points_of b)) h.bytes ∙ ap (λ (n : ℕ). plain_from (record_length_of (head_of file)) n (points_of (head_of file))) head_long))
+        let is : is_packed (head_of file) ≡ false = ap is_packed (sym h.bytes) ∙ plain in (
+          after_tests (tested_causes file) (chunk_causes (is_packed (head_of file)) file) None (tested false is ∙ ap (λ (o : Option Refusal). or_else o None) h.none)
+              (subst (λ (b : Bool). IsFirst (chunk_causes b file) None) (sym is) refl),
+          subst (λ (b : Bool). ArePiecesIf b file (pieces_listed None head.bytes [] [])) (sym is)
+              (ap (λ (b : List ℕ). plain_from (record_length_of b) (length head.bytes) (points_of b)) h.bytes ∙ ap (λ (n : ℕ). plain_from (record_length_of (head_of file)) n (points_of (head_of file))) head_long),
+        )
 
     pub plain_lies : is_packed head.bytes ≡ false → All (LiesIn file) (pieces_listed None head.bytes [] [])
     plain_lies plain =

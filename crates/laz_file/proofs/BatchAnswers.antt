@@ -74,13 +74,15 @@ module _ (l : Layout) (inputs : List (List ℕ)) (rooms : List RoomSeen) (answer
   pub blocks_answered : (n total : ℕ) → n ≤ total → HoldsBelow total (numbers_in rooms) → ((k : ℕ) → k < n → (room : RoomSeen) × StandsIn rooms k room × IsSome (answer_in room.bytes room.held))
       → (blocks : List (List ℕ)) × (length blocks ≡ n) × StandInRooms rooms blocks × ((k : ℕ) → k < n → HoldsOnly l (count_in (get_or inputs k [])) (chunk_in (get_or inputs k [])) (get_or blocks k []))
   blocks_answered n total within numbers good =
-      let all = collect n (Answered l inputs rooms) (λ k lt. let r = good k lt in answered k r.0 r.1 r.2) in
-      (all.0, all.1,
-      record {
-        once = λ k lt. let below : k < total = omega (arith, all.1, within, lt) in let t : nat_lt k total ≡ true = grind (arith, nat_tests) in numbers k ∙ ap one_if t;
-        answers = λ k lt. (all.2 k (omega (arith, all.1, lt))).stands;
-      },
-      λ k lt. (all.2 k lt).holds)
+      let all = collect n (Answered l inputs rooms) (λ k lt. let r = good k lt in answered k r.0 r.1 r.2) in (
+        all.0,
+        all.1,
+        record {
+          once = λ k lt. let below : k < total = omega (arith, all.1, within, lt) in let t : nat_lt k total ≡ true = grind (arith, nat_tests) in numbers k ∙ ap one_if t;
+          answers = λ k lt. (all.2 k (omega (arith, all.1, lt))).stands;
+        },
+        λ k lt. (all.2 k lt).holds,
+      )
 
   pub refused_there : (k : ℕ) (room : RoomSeen) → StandsIn rooms k room → answer_in room.bytes room.held ≡ None → HoldsNone l (count_in (get_or inputs k [])) (chunk_in (get_or inputs k []))
   refused_there k room stands none = subst (λ (o : Option (List ℕ)). UnpackAnswer l (get_or inputs k []) o) none (answer_there (UnpackAnswer l) inputs rooms k room stands answers)
@@ -121,3 +123,16 @@ cut_short l file at counts sizes n same lt lie none d =
 -- the front of what lies in the file
 pub front_lies : (file : List ℕ) (at : ℕ) (counts sizes : List ℕ) (n : ℕ) → All (LiesIn file) (pieces_from at counts sizes) → All (LiesIn file) (pieces_from at (take n counts) (take n sizes))
 front_lies file at counts sizes n lie = subst (λ (t : List Piece). All (LiesIn file) t) (sym (pieces_from-take n at counts sizes)) (All-take (LiesIn file) n (pieces_from at counts sizes) lie)
+
+-- what the front of the chunks holds, said of all chunks
+module _ (l : Layout) (file : List ℕ) (at : ℕ) (counts sizes : List ℕ) (b : ℕ) where
+  pub front_only : (k : ℕ) (d : Piece) (block : List ℕ) → k < b → HoldsOnly l (get_or (take b counts) k 0) (piece_bytes file (get_or (pieces_from at (take b counts) (take b sizes)) k d)) block → HoldsOnly l (get_or counts k 0) (piece_bytes file (get_or (pieces_from at counts sizes) k d)) block
+  front_only k d block lt h =
+      subst (λ (n : ℕ). HoldsOnly l n (piece_bytes file (get_or (pieces_from at counts sizes) k d)) block) (get_or-take b counts k 0 lt)
+      (subst (λ (p : Piece). HoldsOnly l (get_or (take b counts) k 0) (piece_bytes file p) block) (front_piece b at counts sizes k d lt) h)
+
+  pub front_none : (k m : ℕ) (d : Piece) → k ≡ m → k < b → HoldsNone l (get_or (take b counts) k 0) (piece_bytes file (get_or (pieces_from at (take b counts) (take b sizes)) k d)) → HoldsNone l (get_or counts m 0) (piece_bytes file (get_or (pieces_from at counts sizes) m d))
+  front_none k m d same lt h =
+      subst (λ (n : ℕ). HoldsNone l (get_or counts n 0) (piece_bytes file (get_or (pieces_from at counts sizes) n d))) same
+      (subst (λ (n : ℕ). HoldsNone l n (piece_bytes file (get_or (pieces_from at counts sizes) k d))) (get_or-take b counts k 0 lt)
+      (subst (λ (p : Piece). HoldsNone l (get_or (take b counts) k 0) (piece_bytes file p)) (front_piece b at counts sizes k d lt) h))

@@ -23,6 +23,7 @@ joined file pieces n blocks more None h k =
     let P : List Piece → Type 0 = λ l. HoldBlocks file l (blocks ++ more) in
     subst P (take-append-drop n pieces) (hold-append file (take n pieces) (drop n pieces) blocks more h k)
 joined file pieces n blocks more (Some i) h k =
-    let P : List Piece → Type 0 = λ l. HoldBlocks file l (blocks ++ more) in
-    (subst P (sym (take-add n i pieces)) (hold-append file (take n pieces) (take i (drop n pieces)) blocks more h k.0),
-    (k.1.0, sym (slice_get-drop n i pieces) ∙ k.1.1, k.1.2))
+    let P : List Piece → Type 0 = λ l. HoldBlocks file l (blocks ++ more) in (
+      subst P (sym (take-add n i pieces)) (hold-append file (take n pieces) (take i (drop n pieces)) blocks more h k.0),
+      (k.1.0, sym (slice_get-drop n i pieces) ∙ k.1.1, k.1.2),
+    )

@@ -8,3 +8,4 @@ pub mod Accepting
 pub mod Joins
 pub mod InputLists
 pub mod BatchAnswers
+pub mod Crews

@@ -76,13 +76,19 @@ module _ (blocks : Blocks) (few : AreFewChunks blocks) (part : List ℕ) where
   pub first_from_front : (total : ℕ) (answer : Option Refusal) → IsFirst (table_causes (take (table_size part) part) blocks total) answer → IsFirst (table_causes part blocks total) answer
   first_from_front total answer is = elim is [
     | inl lacks ↦ inl (λ sizes counts h. lacks.0 sizes counts (to_front sizes counts h), lacks.1)
-    | inr has ↦ inr (λ lacks. has.0 (λ sizes counts h. lacks sizes counts (from_front sizes counts h)), elim has.1 [
+    | inr has ↦ inr (
+      λ lacks. has.0 (λ sizes counts h. lacks sizes counts (from_front sizes counts h)),
+      elim has.1 [
         | inl other ↦ inl ((other.0.0, other.0.1, from_front other.0.0 other.0.1 other.0.2, other.0.3), other.1)
-        | inr summed ↦ inr (λ other. summed.0 (other.0, other.1, to_front other.0 other.1 other.2, other.3), elim summed.1 [
+        | inr summed ↦ inr (
+          λ other. summed.0 (other.0, other.1, to_front other.0 other.1 other.2, other.3),
+          elim summed.1 [
             | inl points ↦ inl (from_points blocks refl points.0, points.1)
             | inr fine ↦ inr (λ points. fine.0 (to_points blocks refl points), fine.1)
-          ])
-      ])
+          ],
+        )
+      ],
+    )
   ]
 
   pub accepted_from_front : (total : ℕ) (sizes counts : List ℕ) → IsAccepted (take (table_size part) part) blocks total sizes counts → IsAccepted part blocks total sizes counts

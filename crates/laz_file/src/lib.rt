@@ -7,9 +7,11 @@
 mod answers;
 mod batch;
 mod chunks;
+mod crewing;
 mod fault;
 mod inputs;
 mod joining;
+mod lending;
 mod limits;
 mod listing;
 mod opening;

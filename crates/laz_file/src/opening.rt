@@ -196,7 +196,13 @@ fn read_table_front<F: Files>(
     let mut bytes = Vec::new(alloc);
     read_on(files, name, place.start, &mut bytes, long.min(8) as usize)?;
     let most = table_size(&bytes);
-    read_on(files, name, place.start, &mut bytes, long.min(most) as usize)?;
+    read_on(
+        files,
+        name,
+        place.start,
+        &mut bytes,
+        long.min(most) as usize,
+    )?;
     Ok(bytes)
 }
 

@@ -48,19 +48,18 @@ impl Model for Reader {
 
     ghost Value = { ReaderSeen };
 
-    ghost view = { λ r. record
-        {
-          name = string_bytes r.name;
-          head = r.head;
-          chunk = r.chunk;
-          chunks = length r.counts.items;
-          left = pieces_left r.chunk (record_length_of r.head.bytes) r.place r.records (drop r.next r.counts.items)
-              (drop r.next r.sizes.items);
-          next = r.next + r.blocks;
-          failed = r.failed;
-          buffers = length r.inputs.items;
-          lent = r.block.items;
-        } };
+    ghost view = { λ r. record {
+      name = string_bytes r.name;
+      head = r.head;
+      chunk = r.chunk;
+      chunks = length r.counts.items;
+      left = pieces_left r.chunk (record_length_of r.head.bytes) r.place r.records (drop r.next r.counts.items)
+          (drop r.next r.sizes.items);
+      next = r.next + r.blocks;
+      failed = r.failed;
+      buffers = length r.inputs.items;
+      lent = r.block.items;
+    } };
 
     ghost invariant = { λ r. IsInPlace (record_length_of r.head.bytes) r.place r.records r.blocks r.next r.counts.items
         r.sizes.items };

@@ -21,9 +21,13 @@ returns-clause-blocks g c =
     let counts = c.args.counts.now in
     let n = c.good_answers.result in
     let within : n ≤ length counts = omega (arith, c.good_answers.ensures.within, c.read_inputs.auto.inputs, c.requires.same.1) in
-    let b = blocks_answered l (texts inputs) (rooms_of c.work_batch.new.crew) c.in_ok-work_batch.ensures.answers n (length inputs) c.good_answers.ensures.within c.in_ok-work_batch.ensures.numbers c.good_answers.ensures.good in
-    (b.0, b.1, b.2, known_then _ _ _ _ (λ file are. λ k d lt. let below : k < length counts = omega (arith, lt, within) in
-    only_in_chunk l (get_or counts k 0) (get_or (texts inputs) k []) (piece_bytes file (get_or (pieces_from c.args.place counts c.args.sizes.now) k d)) (get_or b.0 k []) (c.in_ok-read_inputs.ensures.shape k below) (are k d below) (b.3 k lt)) c.in_ok-read_inputs.ensures.known)
+    let b = blocks_answered l (texts inputs) (rooms_of c.work_batch.new.crew) c.in_ok-work_batch.ensures.answers n (length inputs) c.good_answers.ensures.within c.in_ok-work_batch.ensures.numbers c.good_answers.ensures.good in (
+      b.0,
+      b.1,
+      b.2,
+      known_then _ _ _ _ (λ file are. λ k d lt. let below : k < length counts = omega (arith, lt, within) in
+          only_in_chunk l (get_or counts k 0) (get_or (texts inputs) k []) (piece_bytes file (get_or (pieces_from c.args.place counts c.args.sizes.now) k d)) (get_or b.0 k []) (c.in_ok-read_inputs.ensures.shape k below) (are k d below) (b.3 k lt)) c.in_ok-read_inputs.ensures.known,
+    )
 
 pub returns-clause-cut : goal.returns-clause-cut
 returns-clause-cut g c = λ lt.
