@@ -1,5 +1,5 @@
 -- Which file is accepted, and by which cause a file is refused, from what was read of it.
-use Rattle.std.proofs.Common.{◌≡◌, ◌⊎◌, inl, inr, ⊎_elim, ℕ, ◌+◌, ◌-◌, ◌*◌, ◌<◌, ◌≤◌, nat_lt, ltb-false, Bool, true, false, if◌then◌else◌, not, ◌&&◌, ◌||◌, List, [], ◌∷◌, ◌++◌, length, take, drop, map, Option, Some, None, refl, sym, ◌∙◌, ap, subst, arith}
+use Rattle.std.proofs.Common.{◌≡◌, ℕ, ◌+◌, ◌-◌, ◌*◌, ◌≤◌, nat_lt, ltb-false, Bool, true, false, if◌then◌else◌, not, ◌&&◌, List, [], ◌∷◌, ◌++◌, length, take, drop, Option, Some, None, refl, sym, ◌∙◌, ap, subst, arith}
 use Rattle.std.specs.Prelude.{sum, All}
 use Rattle.std.proofs.lemmas.List.{length-take-le}
 use Rattle.las_header.specs.declared.refusal.Refusal.{Refusal}
@@ -12,11 +12,11 @@ use Rattle.las_header.proofs.CauseLemmas.{IsAcceptedHead, IsFront, accepted_fron
 use Rattle.las_header.proofs.ConditionLemmas.{IsFirst-append_none, IsFirst-append_some, IsFirst-tests}
 use Rattle.las_header.proofs.NumberLemmas.{number_at-take}
 use Rattle.laz_table.specs.declared.chunks.Blocks.{Blocks}
-use Rattle.laz_table.specs.Chunks.{IsAccepted, fixed_sizes, table_causes}
+use Rattle.laz_table.specs.Chunks.{IsAccepted, table_causes}
 use Rattle.laz_table.specs.VlrCauses.{chunk_size_of, is_counted, vlr_causes}
 use Rattle.laz_table.specs.declared.chunks.Blocks.TheVariants.{Fixed, Counted}
-use Rattle.laz_file.specs.Pieces.{ArePieces, ArePiecesIf, Piece, pieces_from}
-use Rattle.laz_file.specs.Reading.{AreChunkLists, IsHeadOf, IsTablePlace, LiesIn, pieces_listed, plain_from}
+use Rattle.laz_file.specs.Pieces.{ArePieces, ArePiecesIf, pieces_from}
+use Rattle.laz_file.specs.Reading.{IsHeadOf, IsTablePlace, LiesIn, pieces_listed, plain_from}
 use Rattle.laz_file.specs.Refusing.{IsAcceptedFile, IsRefusal, blocks_in, chunk_causes, chunks_place, has_bad_pointer, table_end, table_part, table_place, tested_causes}
 use Rattle.laz_file.proofs.PieceLists.{pieces_lie, plain_lie}
 

@@ -1,11 +1,9 @@
 -- What a crew answers for a batch of chunks, and what the chunks then hold.
-use Rattle.std.proofs.Common.{◌≡◌, ℕ, zero, suc, ◌+◌, ◌*◌, ◌<◌, ◌≤◌, List, [], ◌∷◌, ◌++◌, length, take, drop, get_or, Option, refl, sym, ◌∙◌, ap, subst, arith}
-use Rattle.std.specs.Prelude.{All, Contains, IsSome, Some, None, unwrap_or, sum}
-use Rattle.std.proofs.lemmas.List.{get_or-take, get_or_default, length-take, take-append-drop}
-use Rattle.std.proofs.lemmas.List.Elements.{All-take, All-get_or}
+use Rattle.std.proofs.Common.{◌≡◌, ℕ, zero, suc, ◌+◌, ◌*◌, ◌<◌, ◌≤◌, List, [], ◌∷◌, length, take, get_or, Option, refl, sym, ◌∙◌, ap, subst, arith}
+use Rattle.std.specs.Prelude.{All, IsSome, Some, None, unwrap_or, sum}
+use Rattle.std.proofs.lemmas.List.{get_or-take, get_or_default}
+use Rattle.std.proofs.lemmas.List.Elements.{All-take}
 use Rattle.std.proofs.lemmas.List.Sums.{sum_by-take-drop}
-use Rattle.byteorder.specs.Endian.{little_bytes}
-use Rattle.las_header.specs.Numbers.{number_at}
 use Rattle.laz_chunk.specs.Layouts.{Layout, record_length}
 use Rattle.laz_workers.specs.Numbers.{HoldsBelow, one_if}
 use Rattle.std.proofs.lemmas.Bool.Decides.{nat_tests}
@@ -14,7 +12,7 @@ use Rattle.std.proofs.Common.{true}
 use Rattle.las_header.proofs.NumberLemmas.{length_part}
 use Rattle.laz_file.proofs.InputLists.{lies_at, piece_at}
 use Rattle.laz_file.specs.Reading.{LiesIn}
-use Rattle.laz_workers.specs.Rooms.{RoomSeen, StandsIn, answer_in, lengths_of, number_of, numbers_in, rooms_of}
+use Rattle.laz_workers.specs.Rooms.{RoomSeen, StandsIn, answer_in, number_of, numbers_in}
 use Rattle.laz_workers.specs.Run.{EveryInputFits}
 use Rattle.laz_workers.specs.Work.{HoldsAnswer}
 use Rattle.laz_workers.proofs.Standing.{answer_there}

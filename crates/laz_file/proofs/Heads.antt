@@ -1,13 +1,11 @@
 -- What is known of a file from what was read of its front, its head and its table.
-use Rattle.std.proofs.Common.{◌≡◌, ◌≢◌, ◌⊎◌, inl, inr, ⊎_elim, ℕ, ◌+◌, ◌-◌, ◌*◌, ◌^◌, ◌<◌, ◌≤◌, ◌==◌, min, nat_lt, Bool, true, false, cond, not, ◌&&◌, ◌||◌, List, [], ◌∷◌, ◌++◌, length, take, drop, Option, Some, None, Result, Ok, Err, refl, sym, ◌∙◌, ap, subst, arith}
-use Rattle.std.specs.Prelude.{IsErrAnd, sum}
-use Rattle.std.proofs.lemmas.List.{take_min, take-take, length-take-le, drop-take, length-drop, length-take, take_all}
-use Rattle.std.proofs.lemmas.Bool.{cases_Bool, cases_lt}
+use Rattle.std.proofs.Common.{◌≡◌, ℕ, min, List, [], length, take, drop, Option, Some, None, Result, Ok, Err, refl, sym, ◌∙◌, ap, arith}
+use Rattle.std.specs.Prelude.{IsErrAnd}
+use Rattle.std.proofs.lemmas.List.{take_min}
 use Rattle.std.proofs.lemmas.Result.{err_from_is_err_and}
 use Rattle.las_header.specs.declared.refusal.Refusal.{Refusal}
 use Rattle.las_header.specs.Fields.{head_of, point_offset_of}
 use Rattle.las_header.specs.Heads.{HeadView}
-use Rattle.las_header.specs.Numbers.{number_at}
 use Rattle.las_header.specs.Refusals.{causes_of, first_cause, front_causes, head_causes, or_else}
 use Rattle.las_header.proofs.CauseLemmas.{first_of_both, front_decides}
 use Rattle.las_header.proofs.NumberLemmas.{number_at-take}

@@ -1,9 +1,9 @@
 -- The inputs of a batch of chunks, one by one.
-use Rattle.std.proofs.Common.{◌≡◌, inl, inr, ℕ, zero, suc, ◌+◌, ◌*◌, ◌<◌, ◌≤◌, List, [], ◌∷◌, ◌++◌, length, take, drop, get_or, set, refl, sym, ◌∙◌, ap, subst, add-zero, arith, length-append}
+use Rattle.std.proofs.Common.{◌≡◌, inl, inr, ℕ, zero, suc, ◌+◌, ◌<◌, ◌≤◌, List, [], ◌∷◌, ◌++◌, length, take, get_or, set, refl, sym, ◌∙◌, ap, subst, add-zero, arith, length-append}
 use Rattle.std.specs.Prelude.{All, Vec, sum}
 use Rattle.std.proofs.lemmas.Bool.{cases_eq}
 use Rattle.std.proofs.lemmas.List.{get_or-set_same, get_or-set_other}
-use Rattle.std.proofs.lemmas.List.Sums.{sum_by-cons, sum_by-take-drop, sum_by_more}
+use Rattle.std.proofs.lemmas.List.Sums.{sum_by-take-drop, sum_by_more}
 use Rattle.byteorder.specs.Endian.{little_bytes}
 use Rattle.las_header.specs.Numbers.{number_at}
 use Rattle.las_header.proofs.NumberLemmas.{reads_back}

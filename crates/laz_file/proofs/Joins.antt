@@ -1,11 +1,11 @@
 -- Blocks that are read one batch after another.
-use Rattle.std.proofs.Common.{◌≡◌, ℕ, zero, suc, ◌+◌, List, [], ◌∷◌, ◌++◌, take, drop, Option, Some, None, refl, sym, ◌∙◌, ap, subst, zero-add, arith}
+use Rattle.std.proofs.Common.{◌≡◌, ℕ, zero, suc, ◌+◌, List, [], ◌∷◌, ◌++◌, take, drop, Some, None, refl, sym, ◌∙◌, ap, subst, zero-add, arith}
 use Rattle.std.specs.Prelude.{slice_get}
 use Rattle.std.proofs.lemmas.List.{take-append-drop}
 use Rattle.std.proofs.Math.Seq.{take-add}
 use Rattle.laz_file.specs.Pieces.{Piece}
-use Rattle.laz_file.specs.Records.{AreRead, HoldBlocks, HoldsBlock}
-use Rattle.laz_file.specs.Reading.{BatchesJoin, moved}
+use Rattle.laz_file.specs.Records.{HoldBlocks}
+use Rattle.laz_file.specs.Reading.{BatchesJoin}
 
 pub hold-append : (file : List ℕ) (pieces others : List Piece) (blocks more : List (List ℕ)) → HoldBlocks file pieces blocks → HoldBlocks file others more → HoldBlocks file (pieces ++ others) (blocks ++ more)
 hold-append file [] others [] more h k = k

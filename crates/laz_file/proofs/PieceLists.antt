@@ -1,5 +1,5 @@
 -- Pieces one after another, and where they lie.
-use Rattle.std.proofs.Common.{◌≡◌, ◌⊎◌, ⊎_elim, ℕ, zero, suc, ◌+◌, ◌-◌, ◌*◌, ◌/◌, ◌<◌, ◌≤◌, min, List, [], ◌∷◌, ◌++◌, length, take, drop, map, get_or, false, Option, Some, None, refl, sym, ◌∙◌, ap, subst, arith}
+use Rattle.std.proofs.Common.{◌≡◌, ⊎_elim, ℕ, zero, suc, ◌+◌, ◌-◌, ◌*◌, ◌<◌, ◌≤◌, min, List, [], ◌∷◌, length, map, false, Option, Some, None, refl, sym, ◌∙◌, ap, subst, arith}
 use Rattle.std.specs.Prelude.{sum, All}
 use Rattle.std.specs.List.{range_with_len}
 use Rattle.std.proofs.lemmas.List.Sums.{sum_by-cons}
@@ -8,7 +8,7 @@ use Rattle.std.proofs.lemmas.Bool.{cases_lt}
 use Rattle.std.proofs.Math.Nat.{mul-le-mul}
 use Rattle.laz_table.specs.Chunks.{fixed_sizes}
 use Rattle.laz_table.specs.VlrCauses.{chunk_count}
-use Rattle.laz_file.specs.Pieces.{Piece, pieces_from}
+use Rattle.laz_file.specs.Pieces.{pieces_from}
 use Rattle.laz_file.specs.Reading.{AreChunkLists, IsHeadOf, IsInPlace, LiesIn, ListsPieces, StandsFor, chunk_of, chunks_in, pieces_listed, plain_from}
 use Rattle.las_header.specs.Heads.{HeadView}
 

@@ -1,7 +1,7 @@
 -- A table that is read from as many bytes as its number of chunks needs.
-use Rattle.std.proofs.Common.{◌≡◌, ◌≢◌, ◌⊎◌, inl, inr, ⊎_elim, ℕ, ◌+◌, ◌-◌, ◌*◌, ◌<◌, ◌≤◌, min, Bool, List, [], length, take, drop, Option, Some, None, refl, sym, ◌∙◌, ap, subst, arith}
-use Rattle.std.specs.Prelude.{sum, All}
-use Rattle.std.proofs.lemmas.List.{take-take, length-take, length-take-le, drop-take, length-drop, take_all}
+use Rattle.std.proofs.Common.{◌≡◌, inl, inr, ⊎_elim, ℕ, ◌+◌, ◌-◌, ◌*◌, ◌<◌, ◌≤◌, min, List, length, take, drop, Option, Some, None, refl, sym, ◌∙◌, ap, subst, arith}
+use Rattle.std.specs.Prelude.{sum}
+use Rattle.std.proofs.lemmas.List.{take-take, length-take-le, drop-take, length-drop, take_all}
 use Rattle.std.proofs.lemmas.List.FromFn.{length-map-range_with_len}
 use Rattle.std.proofs.lemmas.Bool.{cases_lt, cases_eq}
 use Rattle.las_header.specs.declared.refusal.Refusal.{Refusal}
@@ -10,7 +10,7 @@ use Rattle.las_header.specs.Numbers.{number_at}
 use Rattle.las_header.proofs.NumberLemmas.{number_at-take}
 use Rattle.laz_table.specs.declared.chunks.Blocks.{Blocks}
 use Rattle.laz_table.specs.declared.chunks.Blocks.TheVariants.{Fixed, Counted}
-use Rattle.laz_table.specs.Chunks.{HasChunkSize, HasOtherBytes, HasOtherPoints, HasTable, IsAccepted, IsChunkCount, LacksTable, are_counted, fixed_sizes, sizes_of, table_causes}
+use Rattle.laz_table.specs.Chunks.{HasOtherBytes, HasOtherPoints, HasTable, IsAccepted, IsChunkCount, are_counted, sizes_of, table_causes}
 use Rattle.laz_table.specs.Table.{TableHolds}
 use Rattle.laz_table.proofs.TableLaws.{front-holds}
 use Rattle.laz_file.specs.Reading.{AreChunkLists, AreFewChunks, table_size}

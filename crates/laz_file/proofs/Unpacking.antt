@@ -1,12 +1,12 @@
 -- What is unpacked to the front of a room.
-use Rattle.std.proofs.Common.{◌≡◌, get_or, ⊎_elim, ℕ, ◌+◌, ◌*◌, ◌≤◌, ◌<◌, List, ◌++◌, length, take, drop, sym, ◌∙◌, ap, subst, append_assoc, arith, length-append}
+use Rattle.std.proofs.Common.{◌≡◌, get_or, ⊎_elim, ℕ, ◌*◌, ◌≤◌, ◌<◌, List, ◌++◌, length, take, drop, sym, ◌∙◌, ap, subst, append_assoc, arith, length-append}
 use Rattle.std.proofs.lemmas.List.{take-take, length-take, get_or-take, get_or_past}
 use Rattle.std.proofs.lemmas.Bool.{cases_lt}
 use Rattle.std.proofs.Math.Seq.{take-append_seam}
 use Rattle.laz_range.specs.Span.{IsBytes}
-use Rattle.laz_chunk.specs.Layouts.{Format, Layout, layout, record_length}
+use Rattle.laz_chunk.specs.Layouts.{Format, layout, record_length}
 use Rattle.laz_chunk.specs.Chunks.{AreRecords, Holds}
-use Rattle.laz_file.specs.Unpacking.{HoldsOnly, UnpackAnswer, chunk_in, count_in}
+use Rattle.laz_file.specs.Unpacking.{HoldsOnly, chunk_in, count_in}
 
 -- the front of a room is what was written there
 pub front_kept : (n len : ℕ) (out back more : List ℕ) → length out ≡ n → n ≤ len → take n (take len (out ++ back ++ more)) ≡ out

@@ -1,6 +1,6 @@
 -- An output of point records, plain or packed: its draft, in the order in which it is written, and the patches that
 -- finish it.
-use Rattle.std.specs.Prelude.{ℕ, ◌/◌, ◌*◌, Bool, true, false, if◌then◌else◌, List, [], ◌∷◌, ◌++◌, length, Option, Some}
+use Rattle.std.specs.Prelude.{ℕ, ◌/◌, ◌*◌, Bool, if◌then◌else◌, List, [], ◌∷◌, ◌++◌, length, Option, Some}
 use Rattle.std.specs.Prelude.{None}
 use Rattle.std.specs.List.{concat}
 use Rattle.byteorder.specs.Endian.{little_bytes}

@@ -1,5 +1,5 @@
 -- The packed form of a plain file: its head with the laszip VLR, the pointer to the chunk table, the chunks, the table.
-use Rattle.std.specs.Prelude.{ℕ, ◌+◌, ◌*◌, List, [], ◌∷◌, ◌++◌, length, map, drop}
+use Rattle.std.specs.Prelude.{ℕ, ◌+◌, ◌*◌, List, [], ◌++◌, length, map, drop}
 use Rattle.std.specs.List.{concat}
 use Rattle.byteorder.specs.Endian.{little_bytes}
 use Rattle.las_header.specs.Fields.{format_of, record_length_of, point_offset_of}

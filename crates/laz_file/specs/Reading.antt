@@ -1,13 +1,10 @@
 -- What contracts see of a reader, for which file it stands, and what calls that read leave.
-use Rattle.std.specs.Prelude.{◌≡◌, ◌⊎◌, ℕ, ◌+◌, ◌*◌, ◌≤◌, ◌<◌, ◌^◌, Bool, true, false, if◌then◌else◌, List, [], ◌∷◌, ◌++◌, length, map, drop}
-use Rattle.std.specs.Prelude.{min, sum, take, Option, Some, None, IsSome, All, slice_index_or}
-use Rattle.las_header.specs.declared.refusal.Refusal.{Refusal}
-use Rattle.las_header.specs.declared.limits.TheConstants.{MAX_OFFSET}
+use Rattle.std.specs.Prelude.{◌≡◌, ◌⊎◌, ℕ, ◌+◌, ◌*◌, ◌≤◌, ◌<◌, ◌^◌, Bool, false, if◌then◌else◌, List, [], ◌++◌, length, map, drop}
+use Rattle.std.specs.Prelude.{min, sum, take, Option, Some, None, All, slice_index_or}
 use Rattle.las_header.specs.Heads.{HeadView}
-use Rattle.las_header.specs.Fields.{format_of, head_of, is_packed, point_offset_of, points_of, record_length_of}
+use Rattle.las_header.specs.Fields.{format_of, head_of, is_packed, points_of, record_length_of}
 use Rattle.las_header.specs.Refusals.{causes_of, first_cause}
 use Rattle.las_outside.specs.Faults.{Rose}
-use Rattle.las_outside.specs.Files.{FileMap, IsMissing, WhereKnown}
 use Rattle.las_outside.specs.Outside.{Outside}
 use Rattle.las_header.specs.Numbers.{number_at}
 use Rattle.laz_table.specs.declared.chunks.Blocks.{Blocks}

@@ -1,4 +1,4 @@
-use Rattle.std.proofs.Common.{◌≡◌, refl, subst, below_more, Option, List, ℕ}
+use Rattle.std.proofs.Common.{refl, subst, below_more, Option, List, ℕ}
 use Rattle.std.specs.Prelude.{IsSome}
 use Rattle.laz_workers.specs.Rooms.{rooms_of}
 use Rattle.laz_workers.proofs.Standing.{stands_below}

@@ -1,4 +1,4 @@
-use Rattle.std.proofs.Common.{◌≡◌, ◌<◌, ◌≤◌, ◌∙◌, sym, ap, subst, length, ℕ, List, [], get_or, arith}
+use Rattle.std.proofs.Common.{◌≡◌, ◌<◌, ◌≤◌, ◌∙◌, length, [], get_or, arith}
 use Rattle.laz_chunk.specs.Layouts.{layout}
 use Rattle.laz_workers.specs.Rooms.{lengths_of, rooms_of}
 use Rattle.laz_workers.specs.Work.{texts}

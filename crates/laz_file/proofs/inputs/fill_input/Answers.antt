@@ -1,4 +1,4 @@
-use Rattle.std.proofs.Common.{◌≡◌, ◌∙◌, ◌++◌, List, sym, ap, length, ℕ, arith}
+use Rattle.std.proofs.Common.{◌∙◌, ◌++◌, List, ap, ℕ, arith}
 use Rattle.std.proofs.lemmas.List.{append-nil, drop_all}
 use Rattle.byteorder.specs.Endian.{little_bytes}
 use Rattle.laz_file.proofs.Knowing.{on_ok}

@@ -1,6 +1,4 @@
-use Rattle.std.proofs.Common.{◌≡◌, ◌+◌, ◌<◌, ◌≤◌, [], List, ℕ, length, take, drop, get_or, set, sym, ◌∙◌, ap, subst, arith}
-use Rattle.std.specs.Prelude.{sum}
-use Rattle.laz_workers.specs.Work.{texts}
+use Rattle.std.proofs.Common.{◌≡◌, ◌<◌, ℕ, length, take, drop, get_or, sym, ◌∙◌, ap, arith}
 use Rattle.laz_file.specs.Pieces.{Piece, piece_bytes, pieces_from}
 use Rattle.laz_file.specs.Unpacking.{IsInput, unpack_input}
 use Rattle.laz_file.proofs.Knowing.{known_at, known_both, known_then}

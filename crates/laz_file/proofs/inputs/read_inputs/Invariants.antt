@@ -1,4 +1,4 @@
-use Rattle.std.proofs.Common.{◌≡◌, ℕ, ◌+◌, ◌<◌, ◌≤◌, [], get_or, take}
+use Rattle.std.proofs.Common.{◌≡◌, ℕ, ◌+◌, ◌<◌, [], get_or, take}
 use Rattle.std.specs.Prelude.{sum}
 use Rattle.las_outside.specs.Files.{WhereKnown}
 use Rattle.las_outside.specs.Outside.{Later}

@@ -1,4 +1,4 @@
-use Rattle.std.proofs.Common.{◌≡◌, sym, ◌∙◌, ap, subst, List, [], ℕ, arith}
+use Rattle.std.proofs.Common.{sym, ◌∙◌, subst, List, [], ℕ}
 use Rattle.std.specs.Prelude.{Some, None}
 use Rattle.las_header.specs.declared.refusal.Refusal.{Refusal}
 use Rattle.laz_file.specs.Refusing.{IsRefusal}

@@ -1,13 +1,11 @@
-use Rattle.std.proofs.Common.{◌≡◌, ◌+◌, ◌-◌, refl, sym, ◌∙◌, ap, subst, Err, List, ℕ, length, arith, Option, true, if◌then◌else◌, Bool}
-use Rattle.std.specs.Prelude.{Some, None}
+use Rattle.std.proofs.Common.{◌≡◌, ◌+◌, ◌-◌, refl, sym, ◌∙◌, ap, subst, Err, length, arith}
+use Rattle.std.specs.Prelude.{Some}
 use Rattle.las_header.specs.declared.refusal.Refusal.{Refusal}
-use Rattle.las_header.specs.Heads.{HeadView}
-use Rattle.laz_table.specs.VlrCauses.{chunk_size_of}
 use Rattle.laz_file.specs.declared.fault.Fault.{Fault}
 use Rattle.laz_file.specs.Refusing.{IsRefusal}
 use Rattle.laz_file.proofs.Knowing.{known_at, known_both, known_three}
 use Rattle.laz_file.proofs.Heads.{residual_is}
-use Rattle.laz_file.proofs.Accepting.{accepted_packed, head_long, blocks_as, packed_lie, refused_pointer, refused_table}
+use Rattle.laz_file.proofs.Accepting.{accepted_packed, blocks_as, packed_lie, refused_pointer, refused_table}
 use Rattle.laz_file.proofs.listing.read_packed.Goals as goal
 
 pub returns-in_err-place-clause-refused : goal.returns-in_err-place-clause-refused

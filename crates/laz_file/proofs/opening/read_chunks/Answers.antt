@@ -1,10 +1,10 @@
-use Rattle.std.proofs.Common.{◌≡◌, ◌≤◌, sym, ◌∙◌, ap, subst, List, ℕ, length, take, drop, arith, Option}
+use Rattle.std.proofs.Common.{◌≡◌, ◌∙◌, subst, List, ℕ, take, drop}
 use Rattle.std.specs.Prelude.{Some}
-use Rattle.laz_table.specs.Chunks.{IsAccepted, IsFirstFault, table_causes}
+use Rattle.laz_table.specs.Chunks.{IsAccepted, IsFirstFault}
 use Rattle.laz_file.specs.declared.fault.Fault.TheVariants.{Refused}
 use Rattle.laz_file.specs.Reading.{table_size}
 use Rattle.laz_file.proofs.Knowing.{known_then}
-use Rattle.laz_file.proofs.Heads.{never_refused, same_cause}
+use Rattle.laz_file.proofs.Heads.{never_refused}
 use Rattle.laz_file.proofs.TableFront.{accepted_from_front, accepted_lists, first_from_front}
 use Rattle.laz_file.proofs.opening.read_chunks.Goals as goal
 

@@ -1,4 +1,4 @@
-use Rattle.std.proofs.Common.{◌≡◌, sym, ◌∙◌, ap, List, ℕ, length, arith}
+use Rattle.std.proofs.Common.{◌≡◌, ◌∙◌, ap, List, ℕ, length, arith}
 use Rattle.laz_file.proofs.Knowing.{known_both}
 use Rattle.laz_file.proofs.Heads.{front_cause, front_read, never_refused, same_cause}
 use Rattle.laz_file.proofs.opening.read_front.Goals as goal

@@ -1,8 +1,5 @@
-use Rattle.std.proofs.Common.{◌≡◌, ◌≤◌, sym, ◌∙◌, ap, subst, Err, List, ℕ, length, take, arith, Option}
+use Rattle.std.proofs.Common.{◌∙◌, ap, Err, length, arith}
 use Rattle.las_header.specs.Heads.{HeadView}
-use Rattle.las_header.specs.Refusals.{causes_of, first_cause}
-use Rattle.std.specs.Prelude.{Some}
-use Rattle.las_outside.specs.Files.{FileMap, WhereKnown}
 use Rattle.las_outside.specs.Outside.{Outside}
 use Rattle.laz_file.specs.declared.fault.Fault.{Fault}
 use Rattle.laz_file.proofs.Knowing.{known_at, known_both, known_then}

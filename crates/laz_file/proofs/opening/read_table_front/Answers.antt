@@ -1,4 +1,4 @@
-use Rattle.std.proofs.Common.{◌≡◌, ◌≤◌, ◌-◌, refl, drop, sym, ◌∙◌, ap, subst, List, ℕ, length, take, arith, Option}
+use Rattle.std.proofs.Common.{◌-◌, refl, drop, sym, ◌∙◌, ap, List, ℕ, length, take, arith}
 use Rattle.laz_file.specs.Reading.{table_size}
 use Rattle.laz_file.proofs.Knowing.{known_at, known_three}
 use Rattle.laz_file.proofs.TableFront.{front_of_table}

@@ -1,4 +1,4 @@
-use Rattle.std.proofs.Common.{◌≡◌, ◌<◌, ◌∙◌, sym, ap, List, [], ℕ, get_or, Option, arith}
+use Rattle.std.proofs.Common.{◌≡◌, ◌∙◌, sym, ap, List, [], ℕ, get_or, Option, arith}
 use Rattle.std.specs.Prelude.{Some, None}
 use Rattle.laz_workers.specs.Rooms.{answer_in, numbers_in, rooms_of}
 use Rattle.laz_file.specs.Reading.{ReaderSeen}

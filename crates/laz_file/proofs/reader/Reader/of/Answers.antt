@@ -1,4 +1,4 @@
-use Rattle.std.proofs.Common.{◌≡◌, ◌≤◌, ◌<◌, sym, ◌∙◌, ap, subst, List, ℕ, length, arith}
+use Rattle.std.proofs.Common.{◌≡◌, ◌≤◌, sym, ap, subst, List, ℕ, length, arith}
 use Rattle.las_header.specs.Fields.{record_length_of}
 use Rattle.laz_file.specs.Reading.{IsInPlace}
 use Rattle.laz_file.proofs.PieceLists.{placed_packed, placed_plain}

@@ -1,4 +1,4 @@
-use Rattle.std.proofs.Common.{◌≡◌, sym, ◌∙◌, ap, subst, Err, List, ℕ, arith}
+use Rattle.std.proofs.Common.{sym, ap, subst, Err}
 use Rattle.laz_file.specs.declared.fault.Fault.{Fault}
 use Rattle.laz_file.specs.Reading.{ReaderSeen, StandsFor}
 use Rattle.laz_file.proofs.PieceLists.{new_stands}

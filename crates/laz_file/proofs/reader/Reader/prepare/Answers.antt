@@ -1,4 +1,4 @@
-use Rattle.std.proofs.Common.{◌≡◌, ◌≤◌, ◌*◌, ◌∙◌, sym, ap, subst, length, drop, ℕ, List, arith}
+use Rattle.std.proofs.Common.{◌≡◌, ◌≤◌, ◌*◌, ◌∙◌, ap, subst, ℕ, List, arith}
 use Rattle.std.specs.Prelude.{All}
 use Rattle.las_header.specs.Fields.{record_length_of}
 use Rattle.laz_chunk.specs.Layouts.{Format, layout, record_length}

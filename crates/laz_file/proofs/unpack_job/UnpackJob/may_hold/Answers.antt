@@ -1,4 +1,4 @@
-use Rattle.std.proofs.Common.{◌≡◌, ◌≤◌, ◌<◌, ◌∙◌, sym, ap, length, ℕ, arith}
+use Rattle.std.proofs.Common.{◌≡◌, ◌≤◌, ◌∙◌, ap, arith}
 use Rattle.std.proofs.lemmas.Bool.{leb-false}
 use Rattle.laz_chunk.specs.Layouts.{Format, layout, room_for}
 use Rattle.laz_chunk.proofs.Bounds.{chunk-most}

@@ -1,4 +1,4 @@
-use Rattle.std.proofs.Common.{◌≡◌, ◌+◌, ◌*◌, ◌≤◌, ◌<◌, ℕ, List, ◌++◌, length, take, drop, vec_len, sym, ◌∙◌, ap, subst, arith}
+use Rattle.std.proofs.Common.{◌≡◌, ◌*◌, ◌≤◌, ◌++◌, length, take, drop, sym, ◌∙◌, subst, arith}
 use Rattle.laz_file.specs.Unpacking.{HoldsOnly, chunk_in, count_in}
 use Rattle.laz_chunk.specs.Layouts.{layout}
 use Rattle.laz_file.proofs.Unpacking.{bytes_front, front_fits, front_kept, unpacked}
