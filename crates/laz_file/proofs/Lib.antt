@@ -25,3 +25,14 @@ pub mod Patching
 pub mod Finishing
 pub mod Arms
 pub mod Stopping
+pub mod Unpacking
+pub mod Knowing
+pub mod Filling
+pub mod Heads
+pub mod TableFront
+pub mod PieceLists
+pub mod Accepting
+pub mod Joins
+pub mod InputLists
+pub mod BatchAnswers
+pub mod Crews

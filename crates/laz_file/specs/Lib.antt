@@ -17,3 +17,5 @@ pub mod Records
 pub mod Laws
 pub mod Writing
 pub mod Stopping
+pub mod Unpacking
+pub mod Reading

@@ -28,6 +28,7 @@ pub(crate) fn work_batch<R: Threads + Sync, J: Job, G: Gate>(
     ensures stand { OnOk result
         ((number : ℕ) → number < length inputs.now → Contains (numbers_in (rooms_of crew.new)) number) }
     ensures answers { OnOk result (All (HoldsAnswer (J.answer job.now) (texts inputs.now)) (rooms_of crew.new)) }
+    ensures few { length inputs.now ≤ 16 }
     ensures hands { length crew.new ≡ length crew.old }
     ensures lengths { lengths_of (rooms_of crew.new) ≡ lengths_of (rooms_of crew.old) }
     ensures suits { All (λ hand. J.suits job.now hand.space) crew.new }

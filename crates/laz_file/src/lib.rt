@@ -4,26 +4,40 @@
 //! with items of version 2.
 #![tactic(auto)]
 
+mod answers;
 mod batch;
 mod begin;
+mod chunks;
+mod crewing;
 mod fault;
-mod laws;
 mod finish;
+mod inputs;
+mod joining;
+mod laws;
+mod lending;
 mod limits;
+mod listing;
+mod opening;
 mod pack_job;
 mod packed_end;
 mod packing;
 mod patch;
 mod put;
+mod reader;
+mod reading;
 mod tally;
 mod unfinished;
+mod unpack_job;
 mod writer;
 
 pub use fault::Fault;
+pub use joining::batches_join;
 pub use laws::{
     files_are_packed_without_loss, files_are_read_whole, files_have_one_answer,
     heads_and_records_are_accepted, outputs_are_finished,
 };
 pub use limits::PLAIN_BLOCK;
+pub use reader::Reader;
 pub use unfinished::stopped_outputs_are_unfinished;
+pub use unpack_job::UnpackJob;
 pub use writer::Writer;

@@ -1,0 +1,40 @@
+use Rattle.std.proofs.Common.{◌≡◌, ◌<◌, ◌≤◌, ◌∙◌, length, [], get_or, arith}
+use Rattle.laz_chunk.specs.Layouts.{layout}
+use Rattle.laz_workers.specs.Rooms.{lengths_of, rooms_of}
+use Rattle.laz_workers.specs.Work.{texts}
+use Rattle.laz_workers.proofs.Texts.{length-texts}
+use Rattle.laz_file.specs.Pieces.{piece_bytes, pieces_from}
+use Rattle.laz_file.proofs.Knowing.{known_then}
+use Rattle.laz_file.proofs.BatchAnswers.{blocks_answered, inputs_fit, none_in_chunk, only_in_chunk, refused_there}
+use Rattle.laz_file.proofs.chunks.work_chunks.Goals as goal
+
+pub work_batch-requires-clause-fits : goal.work_batch-requires-clause-fits
+work_batch-requires-clause-fits g c κs within =
+    let inputs = c.read_inputs.new.inputs in
+    let count : length (texts inputs) ≡ length c.args.counts.now = length-texts inputs ∙ c.read_inputs.auto.inputs ∙ c.requires.same.1 in
+    inputs_fit (layout c.args.job.now) c.args.counts.now (texts inputs) (lengths_of (rooms_of c.args.crew.now)) count c.in_ok-read_inputs.ensures.shape c.requires.some c.requires.rooms
+
+pub returns-clause-blocks : goal.returns-clause-blocks
+returns-clause-blocks g c =
+    let l = layout c.args.job.now in
+    let inputs = c.read_inputs.new.inputs in
+    let counts = c.args.counts.now in
+    let n = c.good_answers.result in
+    let within : n ≤ length counts = omega (arith, c.good_answers.ensures.within, c.read_inputs.auto.inputs, c.requires.same.1) in
+    let b = blocks_answered l (texts inputs) (rooms_of c.work_batch.new.crew) c.in_ok-work_batch.ensures.answers n (length inputs) c.good_answers.ensures.within c.in_ok-work_batch.ensures.numbers c.good_answers.ensures.good in (
+      b.0,
+      b.1,
+      b.2,
+      known_then _ _ _ _ (λ file are. λ k d lt. let below : k < length counts = omega (arith, lt, within) in
+          only_in_chunk l (get_or counts k 0) (get_or (texts inputs) k []) (piece_bytes file (get_or (pieces_from c.args.place counts c.args.sizes.now) k d)) (get_or b.0 k []) (c.in_ok-read_inputs.ensures.shape k below) (are k d below) (b.3 k lt)) c.in_ok-read_inputs.ensures.known,
+    )
+
+pub returns-clause-cut : goal.returns-clause-cut
+returns-clause-cut g c = λ lt.
+    let l = layout c.args.job.now in
+    let inputs = c.read_inputs.new.inputs in
+    let counts = c.args.counts.now in
+    let n = c.good_answers.result in
+    let r = c.good_answers.ensures.bad (omega (arith, lt, c.read_inputs.auto.inputs, c.requires.same.1)) in
+    let none = refused_there l (texts inputs) (rooms_of c.work_batch.new.crew) c.in_ok-work_batch.ensures.answers n r.0 r.1 r.2 in
+    known_then _ _ _ _ (λ file are. λ d. none_in_chunk l (get_or counts n 0) (get_or (texts inputs) n []) (piece_bytes file (get_or (pieces_from c.args.place counts c.args.sizes.now) n d)) (c.in_ok-read_inputs.ensures.shape n lt) (are n d lt) none) c.in_ok-read_inputs.ensures.known

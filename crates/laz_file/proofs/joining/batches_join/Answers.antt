@@ -1,0 +1,5 @@
+use Rattle.laz_file.proofs.Joins.{joined}
+use Rattle.laz_file.proofs.joining.batches_join.Goals as goal
+
+pub returns : goal.returns
+returns c = joined

@@ -1,0 +1,20 @@
+use Rattle.std.proofs.Common.{◌-◌, refl, drop, sym, ◌∙◌, ap, List, ℕ, length, take, arith}
+use Rattle.laz_file.specs.Reading.{table_size}
+use Rattle.laz_file.proofs.Knowing.{known_at, known_three}
+use Rattle.laz_file.proofs.TableFront.{front_of_table}
+use Rattle.laz_file.proofs.opening.read_table_front.Goals as goal
+
+pub returns-clause-bytes : goal.returns-clause-bytes
+returns-clause-bytes g c =
+    let first = c.read_on.new.bytes.items in
+    let bytes = c.read_on-2.new.bytes.items in
+    let start = c.args.place.start in
+    let end = c.args.place.end in
+    let most = c.table_size-most.result in
+    let held1 = c.in_ok-read_on.ensures.held in
+    known_three _ _ _ _ _ _ (λ file within one two.
+    let first_is = one (c.new-bytes.ensures.items ∙ ap (λ (n : ℕ). take n (drop start file)) (sym c.new-bytes.ensures.len)) ∙ ap (λ (n : ℕ). take n (drop start file)) c.min.ensures in
+    let first_known = first_is ∙ ap (λ (n : ℕ). take n (drop start file)) (sym (c.in_ok-read_on.ensures.len ∙ c.min.ensures)) in
+    front_of_table file first bytes start end (end - start) most c.requires.order within refl first_is c.table_size-most.ensures.bounds.0
+    (λ long. c.table_size-most.ensures.size (omega (arith, long, ap (λ (l : List ℕ). length l) c.deref.ensures.value)) ∙ ap (λ (l : List ℕ). table_size l) c.deref.ensures.value)
+    (two first_known ∙ ap (λ (n : ℕ). take n (drop start file)) c.min-2.ensures)) c.requires.within c.in_ok-read_on.ensures.bytes (known_at _ _ _ _ held1 c.in_ok-read_on-2.ensures.bytes)

@@ -1,0 +1,107 @@
+//! The crew of a reader, and the buffers of its inputs.
+ghost use Rattle.std.specs.Prelude.{◌≡◌, ◌*◌, ◌<◌, ◌≤◌, true, length, All, IfOk, OnErr, OnOk};
+ghost use Rattle.laz_workers.specs.Rooms.{lengths_of, rooms_of};
+ghost use Rattle.laz_file.specs.Reading.{IsCrewOf};
+
+use crate::reader::Reader;
+use crate::unpack_job::UnpackJob;
+use laz_chunk::Workspace;
+use laz_workers::Crew;
+use std::alloc::{AllocError, Global};
+
+/// A crew with this many hands, each with a workspace of this format and two rooms of `room` bytes.
+pub(crate) fn crew_of(
+    alloc: Global,
+    format: u8,
+    extra: u16,
+    workers: u32,
+    room: usize,
+) -> Result<Crew<Workspace>, AllocError>
+    requires known { format < 4 }
+    requires few { extra < 193 }
+    requires workers { workers ≤ 8 }
+    ensures hands { IfOk result (λ crew. length crew ≡ workers) }
+    ensures spaces { IfOk result (λ crew. All (λ hand. hand.space ≡ record { format = format; extra = extra }) crew) }
+    ensures rooms { IfOk result (λ crew. All (λ n. n ≡ room) (lengths_of (rooms_of crew))) }
+{
+    let mut crew = Crew::new(alloc);
+    for _hand in 0..workers {
+        let space = Workspace::new(alloc, format, extra)?;
+        match crew.add(space, room) {
+            Ok(()) => {}
+            Err(_) => return Err(AllocError),
+        }
+    }
+    Ok(crew)
+}
+
+/// This many empty buffers, each with room for `room` bytes.
+pub(crate) fn buffers_of(alloc: Global, count: u32, room: usize) -> Result<Vec<Vec<u8>>, AllocError>
+    ensures { IfOk result (λ buffers. length buffers.items ≡ count) }
+{
+    let mut buffers = Vec::new(alloc);
+    for _buffer in 0..count {
+        buffers.push(Vec::with_capacity(alloc, room)?)?;
+    }
+    Ok(buffers)
+}
+
+/// The greatest of some numbers, or 0.
+pub(crate) fn greatest(numbers: &[u32]) -> u32
+    ensures { All (λ n. n ≤ result) numbers.now }
+{
+    let mut most = 0;
+    for number in numbers {
+        most = most.max(*number);
+    }
+    most
+}
+
+/// The greatest number of bytes of a chunk that may hold records of its count, or 0.
+pub(crate) fn greatest_size(job: &UnpackJob, counts: &[u32], sizes: &[u32]) -> u32
+    requires { length counts.now ≡ length sizes.now }
+{
+    let mut most = 0;
+    for i in 0..counts.len() {
+        if job.may_hold(counts[i], sizes[i]) {
+            most = most.max(sizes[i]);
+        }
+    }
+    most
+}
+
+impl Reader {
+    /// A crew of this reader: a hand for each worker, 1 to 8, with rooms for the greatest chunk. It takes the buffers of
+    /// a batch's inputs into the reader, two for each hand, each with room for the greatest chunk that is read. `Err`
+    /// means out of memory, and the reader has failed.
+    pub fn crew(&mut self, alloc: Global, workers: u32) -> Result<Crew<Workspace>, AllocError>
+        requires workers { (1 ≤ workers) × (workers ≤ 8) }
+        ensures crew { IfOk result (λ crew. IsCrewOf self.new crew) }
+        ensures hands { IfOk result (λ crew. length crew ≡ workers) }
+        ensures kept { OnOk result (self.new ≡ record self.old { buffers = 2 * workers }) }
+        ensures failed { OnErr result (self.new.failed ≡ true) }
+    {
+        match self.prepare(alloc, workers) {
+            Ok(crew) => Ok(crew),
+            Err(_) => {
+                self.failed = true;
+                Err(AllocError)
+            }
+        }
+    }
+
+    fn prepare(&mut self, alloc: Global, workers: u32) -> Result<Crew<Workspace>, AllocError>
+        requires workers { (1 ≤ workers) × (workers ≤ 8) }
+        ensures crew { IfOk result (λ crew. IsCrewOf self.new crew) }
+        ensures hands { IfOk result (λ crew. length crew ≡ workers) }
+        ensures kept { OnOk result (self.new ≡ record self.old { buffers = 2 * workers }) }
+    {
+        let (format, extra) = (self.head.format(), self.head.extra());
+        let job = UnpackJob::new(format, extra);
+        let room = job.record_length() * greatest(&self.counts) as usize;
+        let crew = crew_of(alloc, format, extra, workers, room)?;
+        let size = greatest_size(&job, &self.counts, &self.sizes) as usize;
+        self.inputs = buffers_of(alloc, 2 * workers, 4 + size)?;
+        Ok(crew)
+    }
+}

@@ -1,0 +1,118 @@
+//! The chunks of a file, as a reader lists them.
+ghost use Rattle.std.specs.Prelude.{◌≡◌, ℕ, ◌+◌, ◌-◌, ◌^◌, ◌<◌, ◌≤◌, true, false, [], None, Some, length, sum, if◌then◌else◌};
+ghost use Rattle.std.specs.Prelude.{IfErr, IfOk, IsErrOf, OnOk};
+ghost use Rattle.las_header.specs.declared.refusal.Refusal.{Refusal};
+ghost use Rattle.las_header.specs.Fields.{is_packed, points_of};
+ghost use Rattle.las_header.specs.Refusals.{first_cause};
+ghost use Rattle.las_outside.specs.Files.{WhereKnown};
+ghost use Rattle.las_outside.specs.Outside.{Later};
+ghost use Rattle.laz_table.specs.declared.chunks.Blocks.TheVariants.{Fixed, Counted};
+ghost use Rattle.laz_table.specs.VlrCauses.{chunk_size_of, is_counted, vlr_causes};
+ghost use Rattle.laz_file.specs.declared.fault.Fault.TheVariants.{Refused};
+ghost use Rattle.laz_file.specs.Reading.{AreChunkLists, EndsReading, IsHeadOf, ListsPieces, chunk_of};
+ghost use Rattle.laz_file.specs.Refusing.{IsRefusal};
+
+use crate::Fault;
+use crate::opening::{find_table, read_chunks};
+use las_header::Head;
+use las_outside::Files;
+use laz_table::{Blocks, COUNTED_CHUNKS, ChunkList, read_vlr};
+use std::alloc::Global;
+
+/// The chunk size of a packed file, and for each chunk its number of records and its number of bytes. A plain file has
+/// none.
+#[derive(Drop)]
+pub(crate) struct Listing {
+    pub(crate) chunk: Option<u32>,
+    pub(crate) counts: Vec<u32>,
+    pub(crate) sizes: Vec<u32>,
+}
+
+/// Reads what a file with this head lists of its chunks.
+pub(crate) fn read_list<F: Files>(
+    alloc: Global,
+    files: &mut F,
+    name: &str,
+    head: &Head,
+    size: u64,
+) -> Result<Listing, Fault>
+    requires size { head.now.size ≡ size }
+    requires head { WhereKnown (F.seen files.old).held name.now (λ file. IsHeadOf file head.now) }
+    ensures chunk { IfOk result (λ list. list.chunk ≡ chunk_of head.now.bytes) }
+    ensures lists { IfOk result (λ list. AreChunkLists list.counts.items list.sizes.items (sum list.sizes.items)) }
+    ensures near { IfOk result
+        (λ list. (chunk : ℕ) → list.chunk ≡ Some chunk → length head.now.bytes + 8 + sum list.sizes.items < 2 ^ 64) }
+    ensures plain { IfOk result (λ list. list.chunk ≡ None → list.counts.items ≡ []) }
+    ensures stands { IfOk result (λ list. WhereKnown (F.seen files.old).held name.now
+        (λ file. ListsPieces file list.chunk head.now.bytes list.counts.items list.sizes.items)) }
+    ensures refused { (cause : Refusal) → IsErrOf result (Refused cause)
+        → WhereKnown (F.seen files.old).held name.now (λ file. IsRefusal file (Some cause)) }
+    ensures faults { OnOk result ((F.seen files.new).read_faults ≡ (F.seen files.old).read_faults) }
+    ensures ends { IfErr result (EndsReading ⊥ (F.seen files.old) (F.seen files.new)) }
+    ensures held { (F.seen files.new).held ≡ (F.seen files.old).held }
+    ensures writes { (F.seen files.new).write_faults ≡ (F.seen files.old).write_faults }
+    ensures later { Later (F.seen files.old) (F.seen files.new) }
+{
+    if !head.packed() {
+        return Ok(Listing {
+            chunk: None,
+            counts: Vec::new(alloc),
+            sizes: Vec::new(alloc),
+        });
+    }
+    match read_vlr(head) {
+        Ok(chunk) => read_packed(alloc, files, name, head, size, chunk),
+        Err(cause) => Err(Fault::Refused(cause)),
+    }
+}
+
+// Reads what a packed file lists, with this chunk size in its laszip VLR.
+fn read_packed<F: Files>(
+    alloc: Global,
+    files: &mut F,
+    name: &str,
+    head: &Head,
+    size: u64,
+    chunk: u32,
+) -> Result<Listing, Fault>
+    requires size { head.now.size ≡ size }
+    requires packed { is_packed head.now.bytes ≡ true }
+    requires vlr { first_cause (vlr_causes head.now.bytes) ≡ None }
+    requires chunk { chunk ≡ chunk_size_of head.now.bytes }
+    requires head { WhereKnown (F.seen files.old).held name.now (λ file. IsHeadOf file head.now) }
+    ensures chunk { IfOk result (λ list. list.chunk ≡ chunk_of head.now.bytes) }
+    ensures lists { IfOk result (λ list. AreChunkLists list.counts.items list.sizes.items (sum list.sizes.items)) }
+    ensures near { IfOk result
+        (λ list. (chunk : ℕ) → list.chunk ≡ Some chunk → length head.now.bytes + 8 + sum list.sizes.items < 2 ^ 64) }
+    ensures stands { IfOk result (λ list. WhereKnown (F.seen files.old).held name.now
+        (λ file. ListsPieces file list.chunk head.now.bytes list.counts.items list.sizes.items)) }
+    ensures refused { (cause : Refusal) → IsErrOf result (Refused cause)
+        → WhereKnown (F.seen files.old).held name.now (λ file. IsRefusal file (Some cause)) }
+    ensures faults { OnOk result ((F.seen files.new).read_faults ≡ (F.seen files.old).read_faults) }
+    ensures ends { IfErr result (EndsReading ⊥ (F.seen files.old) (F.seen files.new)) }
+    ensures held { (F.seen files.new).held ≡ (F.seen files.old).held }
+    ensures writes { (F.seen files.new).write_faults ≡ (F.seen files.old).write_faults }
+    ensures later { Later (F.seen files.old) (F.seen files.new) }
+{
+    let offset = u64::from(head.offset());
+    let place = find_table(files, name, offset, size)?;
+    let blocks = blocks_of(chunk, head.points());
+    let total = place.start - (offset + 8);
+    let ChunkList { sizes, counts } = read_chunks(alloc, files, name, place, blocks, total)?;
+    Ok(Listing {
+        chunk: Some(chunk),
+        counts: sizes,
+        sizes: counts,
+    })
+}
+
+// What a head says of the chunks that a table may have.
+fn blocks_of(chunk: u32, points: u32) -> Blocks
+    ensures { result ≡ (if is_counted chunk then Counted points else Fixed chunk points) }
+{
+    if chunk == COUNTED_CHUNKS {
+        Blocks::Counted { points }
+    } else {
+        Blocks::Fixed { chunk, points }
+    }
+}

@@ -1,0 +1,159 @@
+//! A reader of a file, plain or packed, block by block.
+ghost use Rattle.std.specs.Prelude.{◌≡◌, ℕ, ◌+◌, ◌*◌, ◌^◌, ◌<◌, ◌≤◌, [], false, None, Some, length, sum, string_bytes};
+ghost use Rattle.std.specs.Prelude.{IfErr, IfOk, IsErrOf, OnOk};
+ghost use Rattle.las_header.specs.declared.refusal.Refusal.{Refusal};
+ghost use Rattle.las_header.specs.Fields.{points_of, record_length_of};
+ghost use Rattle.las_outside.specs.Files.{IsMissing, WhereKnown};
+ghost use Rattle.las_outside.specs.Outside.{Later};
+ghost use Rattle.laz_file.specs.declared.fault.Fault.TheVariants.{Refused};
+ghost use Rattle.laz_file.specs.Reading.{AreChunkLists, EndsReading, IsNewReader, StandsFor, pieces_listed};
+ghost use Rattle.laz_file.specs.Refusing.{IsRefusal};
+
+use crate::Fault;
+use crate::listing::{Listing, read_list};
+use crate::opening::read_head;
+use las_header::Head;
+use las_outside::Files;
+use std::alloc::Global;
+use std::marker::Model;
+
+/// A file that is read block by block: a packed one chunk by chunk, and a plain one 50,000 records at a time.
+///
+/// Contracts see it as its head, the pieces of the file that are left to read, and the number of the first of them.
+#[derive(Drop)]
+pub struct Reader {
+    pub(crate) name: String,
+    pub(crate) head: Head,
+    pub(crate) chunk: Option<u32>,
+    // Of a packed file: the numbers of records and of bytes of its chunks, and how many of them were read.
+    pub(crate) counts: Vec<u32>,
+    pub(crate) sizes: Vec<u32>,
+    pub(crate) next: u32,
+    // Of a plain file: how many blocks were read, and how many records are left.
+    pub(crate) blocks: u32,
+    pub(crate) records: u32,
+    // Where the next piece begins.
+    pub(crate) place: u64,
+    // Buffers of a batch's inputs, sized once.
+    pub(crate) inputs: Vec<Vec<u8>>,
+    // The block of a plain file that was read last.
+    pub(crate) block: Vec<u8>,
+    pub(crate) failed: bool,
+}
+
+impl Model for Reader {
+    ghost use Rattle.std.specs.Prelude.{◌+◌, drop, length, string_bytes};
+    ghost use Rattle.las_header.specs.Fields.{record_length_of};
+    ghost use Rattle.laz_file.specs.Reading.{IsInPlace, ReaderSeen, pieces_left};
+
+    ghost Value = { ReaderSeen };
+
+    ghost view = { λ r. record {
+      name = string_bytes r.name;
+      head = r.head;
+      chunk = r.chunk;
+      chunks = length r.counts.items;
+      left = pieces_left r.chunk (record_length_of r.head.bytes) r.place r.records (drop r.next r.counts.items)
+          (drop r.next r.sizes.items);
+      next = r.next + r.blocks;
+      failed = r.failed;
+      buffers = length r.inputs.items;
+      lent = r.block.items;
+    } };
+
+    ghost invariant = { λ r. IsInPlace (record_length_of r.head.bytes) r.place r.records r.blocks r.next r.counts.items
+        r.sizes.items };
+}
+
+impl Reader {
+    /// Opens a file: reads its head, and of a packed file its laszip VLR and its chunk table.
+    ///
+    /// The file is refused by the first cause that holds of its bytes. The answer is `Read` if a read failed, or if it
+    /// is known that there is no file of this name, and never `Write`. No file changes.
+    pub fn open<F: Files>(alloc: Global, files: &mut F, name: &str) -> Result<Reader, Fault>
+        // If the files are known: the reader stands for the file, or the cause is the file's.
+        ensures stands { IfOk result (λ reader. WhereKnown (F.seen files.old).held name.now (StandsFor reader)) }
+        ensures refused { (cause : Refusal) → IsErrOf result (Refused cause)
+            → WhereKnown (F.seen files.old).held name.now (λ file. IsRefusal file (Some cause)) }
+        ensures fresh { IfOk result (IsNewReader name.now) }
+        // Nothing but reads is done, and a fault has its cause.
+        ensures faults { OnOk result ((F.seen files.new).read_faults ≡ (F.seen files.old).read_faults) }
+        ensures ends { IfErr result
+            (EndsReading (IsMissing (F.seen files.old).held name.now) (F.seen files.old) (F.seen files.new)) }
+        ensures held { (F.seen files.new).held ≡ (F.seen files.old).held }
+        ensures writes { (F.seen files.new).write_faults ≡ (F.seen files.old).write_faults }
+        ensures later { Later (F.seen files.old) (F.seen files.new) }
+    {
+        let own = String::from_str(alloc, name)?;
+        let (head, size) = read_head(alloc, files, name)?;
+        let list = read_list(alloc, files, name, &head, size)?;
+        Ok(Reader::of(alloc, own, head, list))
+    }
+
+    // A new reader of a file with this head and these chunks.
+    fn of(alloc: Global, name: String, head: Head, list: Listing) -> Reader
+        requires lists { AreChunkLists list.counts.items list.sizes.items (sum list.sizes.items) }
+        requires near { (chunk : ℕ) → list.chunk ≡ Some chunk → length head.bytes + 8 + sum list.sizes.items < 2 ^ 64 }
+        requires plain { list.chunk ≡ None → list.counts.items ≡ [] }
+        ensures { result ≡ record {
+          name = string_bytes name;
+          head = head;
+          chunk = list.chunk;
+          chunks = length list.counts.items;
+          left = pieces_listed list.chunk head.bytes list.counts.items list.sizes.items;
+          next = 0;
+          failed = false;
+          buffers = 0;
+          lent = [];
+        } }
+    {
+        let offset = head.bytes().len() as u64;
+        let (place, records) = match list.chunk {
+            None => (offset, head.points()),
+            Some(_) => (offset + 8, 0),
+        };
+        Reader {
+            name,
+            head,
+            chunk: list.chunk,
+            counts: list.counts,
+            sizes: list.sizes,
+            next: 0,
+            blocks: 0,
+            records,
+            place,
+            inputs: Vec::new(alloc),
+            block: Vec::new(alloc),
+            failed: false,
+        }
+    }
+
+    /// The head of the file.
+    pub fn head(&self) -> &Head
+        ensures { result.now ≡ self.now.head }
+    {
+        &self.head
+    }
+
+    /// The chunk size: `None` exactly if the file is plain, and 2^32 - 1 if each chunk has a number of points of its
+    /// own.
+    pub fn chunk(&self) -> Option<u32>
+        ensures { result ≡ self.now.chunk }
+    {
+        self.chunk
+    }
+
+    /// How many chunks the file has: 0 if it is plain.
+    pub fn chunks(&self) -> u32
+        ensures { result ≡ self.now.chunks }
+    {
+        self.counts.len() as u32
+    }
+
+    /// Whether a call has failed. A reader that has failed is not asked for more.
+    pub fn failed(&self) -> bool
+        ensures { result ≡ self.now.failed }
+    {
+        self.failed
+    }
+}

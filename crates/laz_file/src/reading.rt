@@ -1,0 +1,98 @@
+//! Bytes of a file.
+ghost use Rattle.std.specs.Prelude.{◌≡◌, ◌+◌, ◌-◌, ◌^◌, ◌<◌, ◌≤◌, length, take, drop, vec_len, IfErr, IfOk, OnOk};
+ghost use Rattle.las_header.specs.Numbers.{number_at};
+ghost use Rattle.las_outside.specs.Files.{WhereKnown};
+ghost use Rattle.las_outside.specs.Outside.{Later};
+ghost use Rattle.laz_file.specs.Reading.{FailsReading};
+
+use crate::Fault;
+use las_header::u64_at;
+use las_outside::Files;
+
+/// Reads on: `bytes` has the first of the bytes that stand from `from` on, and gets the others up to `total` of them.
+pub(crate) fn read_on<F: Files>(
+    files: &mut F,
+    name: &str,
+    from: u64,
+    bytes: &mut Vec<u8>,
+    total: usize,
+) -> Result<(), Fault>
+    requires near { from + total < 2 ^ 64 }
+    requires more { vec_len bytes.old ≤ total }
+    requires within { WhereKnown (F.seen files.old).held name.now (λ file. from + total ≤ length file) }
+    ensures len { OnOk result (vec_len bytes.new ≡ total) }
+    ensures front { OnOk result (take (vec_len bytes.old) bytes.new.items ≡ bytes.old.items) }
+    ensures bytes { OnOk result (WhereKnown (F.seen files.old).held name.now (λ file.
+        bytes.old.items ≡ take (vec_len bytes.old) (drop from file) → bytes.new.items ≡ take total (drop from file))) }
+    ensures faults { OnOk result ((F.seen files.new).read_faults ≡ (F.seen files.old).read_faults) }
+    ensures ends { IfErr result (FailsReading (F.seen files.old) (F.seen files.new)) }
+    ensures held { (F.seen files.new).held ≡ (F.seen files.old).held }
+    ensures writes { (F.seen files.new).write_faults ≡ (F.seen files.old).write_faults }
+    ensures later { Later (F.seen files.old) (F.seen files.new) }
+{
+    let start = bytes.len();
+    bytes.resize(total, 0)?;
+    fill_from(files, name, from, bytes, start)
+}
+
+// Reads the bytes that stand from `from` on, but for the first `start`, which are there.
+fn fill_from<F: Files>(
+    files: &mut F,
+    name: &str,
+    from: u64,
+    bytes: &mut [u8],
+    start: usize,
+) -> Result<(), Fault>
+    requires near { from + length bytes.old < 2 ^ 64 }
+    requires start { start ≤ length bytes.old }
+    requires within { WhereKnown (F.seen files.old).held name.now (λ file. from + length bytes.old ≤ length file) }
+    ensures front { OnOk result (take start bytes.new ≡ take start bytes.old) }
+    ensures bytes { OnOk result (WhereKnown (F.seen files.old).held name.now (λ file.
+        drop start bytes.new ≡ take (length bytes.old - start) (drop (from + start) file))) }
+    ensures faults { OnOk result ((F.seen files.new).read_faults ≡ (F.seen files.old).read_faults) }
+    ensures ends { IfErr result (FailsReading (F.seen files.old) (F.seen files.new)) }
+    ensures held { (F.seen files.new).held ≡ (F.seen files.old).held }
+    ensures writes { (F.seen files.new).write_faults ≡ (F.seen files.old).write_faults }
+    ensures later { Later (F.seen files.old) (F.seen files.new) }
+{
+    let (_, rest) = bytes.split_at_mut(start);
+    read_exactly(files, name, from + start as u64, rest)
+}
+
+/// Reads the bytes that stand from `at` on.
+pub(crate) fn read_exactly<F: Files>(
+    files: &mut F,
+    name: &str,
+    at: u64,
+    bytes: &mut [u8],
+) -> Result<(), Fault>
+    requires { WhereKnown (F.seen files.old).held name.now (λ file. at + length bytes.old ≤ length file) }
+    ensures bytes { OnOk result (WhereKnown (F.seen files.old).held name.now
+        (λ file. bytes.new ≡ take (length bytes.old) (drop at file))) }
+    ensures faults { OnOk result ((F.seen files.new).read_faults ≡ (F.seen files.old).read_faults) }
+    ensures ends { IfErr result (FailsReading (F.seen files.old) (F.seen files.new)) }
+    ensures held { (F.seen files.new).held ≡ (F.seen files.old).held }
+    ensures writes { (F.seen files.new).write_faults ≡ (F.seen files.old).write_faults }
+    ensures later { Later (F.seen files.old) (F.seen files.new) }
+{
+    match files.read_at(name, at, bytes) {
+        Ok(()) => Ok(()),
+        Err(_) => Err(Fault::Read),
+    }
+}
+
+/// The number of eight bytes that stands at `at`.
+pub(crate) fn read_number<F: Files>(files: &mut F, name: &str, at: u64) -> Result<u64, Fault>
+    requires { WhereKnown (F.seen files.old).held name.now (λ file. at + 8 ≤ length file) }
+    ensures number { IfOk result
+        (λ n. WhereKnown (F.seen files.old).held name.now (λ file. n ≡ number_at 8 at file)) }
+    ensures faults { OnOk result ((F.seen files.new).read_faults ≡ (F.seen files.old).read_faults) }
+    ensures ends { IfErr result (FailsReading (F.seen files.old) (F.seen files.new)) }
+    ensures held { (F.seen files.new).held ≡ (F.seen files.old).held }
+    ensures writes { (F.seen files.new).write_faults ≡ (F.seen files.old).write_faults }
+    ensures later { Later (F.seen files.old) (F.seen files.new) }
+{
+    let mut bytes = [0; 8];
+    read_exactly(files, name, at, &mut bytes)?;
+    Ok(u64_at(&bytes, 0))
+}
