@@ -53,6 +53,7 @@ option_fault words earlier at (Some flag) =
     then Some at
     else value_fault (row_of flag).values (at + 1) (drop (at + 1) words)
 
+-- what is wrong with a word that should be an option, or with its values
 abbrev pub fault_of : List (List ℕ) → List Piece → Piece → Option ℕ
 fault_of words earlier piece = option_fault words earlier piece.at piece.flag
 

@@ -18,19 +18,24 @@ abbrev pub change_by : Meaning → List (List ℕ) → Option Change
 change_by (Changes change) after = Some (change after)
 change_by _ after = None
 
+-- the same of a word that may be no option
 abbrev pub filter_in : Option Flag → List (List ℕ) → Option Keep
 filter_in None after = None
 filter_in (Some flag) after = filter_by (row_of flag).means after
 
+-- the same of a word that may be no option
 abbrev pub change_in : Option Flag → List (List ℕ) → Option Change
 change_in None after = None
 change_in (Some flag) after = change_by (row_of flag).means after
 
+-- the filters of all options, in their order
 abbrev pub filters_of : List (List ℕ) → List Piece → List Keep
 filters_of words pieces = filter_map (λ piece. filter_in piece.flag (drop (piece.at + 1) words)) pieces
 
+-- the changes of all options, in their order
 abbrev pub changes_of : List (List ℕ) → List Piece → List Change
 changes_of words pieces = filter_map (λ piece. change_in piece.flag (drop (piece.at + 1) words)) pieces
 
+-- the plan of all options
 abbrev pub plan_of : List (List ℕ) → List Piece → Steps
 plan_of words pieces = record { keeps = filters_of words pieces; changes = changes_of words pieces }

@@ -55,9 +55,11 @@ is_packed words pieces =
     is_given words (codes "-olaz") pieces
     || (not (is_given words (codes "-olas") pieces) && is_packed_name (text_of words (codes "-o") pieces))
 
+-- the number of records of a chunk, 50,000 unless it is given
 abbrev pub chunk_of : List (List ℕ) → List Piece → ℕ
 chunk_of words pieces = number_of words ChunkSize 50000 pieces
 
+-- the number of workers, one unless it is given
 abbrev pub workers_of : List (List ℕ) → List Piece → ℕ
 workers_of words pieces = number_of words Cores 1 pieces
 
@@ -70,10 +72,12 @@ asked_of Las2las words pieces =
     las2las (text_of words (codes "-i") pieces) (text_of words (codes "-o") pieces)
     (plan_of words pieces) (is_packed words pieces) (chunk_of words pieces) (workers_of words pieces)
 
+-- a command, unless a word is wrong
 abbrev pub said_unless : Option ℕ → Asked → Said
 said_unless (Some index) asked = usage index
 said_unless None asked = asks asked
 
+-- what the words after the command say
 abbrev pub said_to : Option Tool → List (List ℕ) → Said
 said_to None words = usage 0
 said_to (Some tool) words =
@@ -98,6 +102,7 @@ pub record IsWithinLimits (input output : List ℕ) (chunk workers : ℕ) : Type
   pub some : 1 ≤ workers
   pub few : workers ≤ 8
 
+-- what holds of a command that words ask for, its plan included
 abbrev pub IsSound : Asked → Type 0
 IsSound (laszip input output chunk workers) = IsWithinLimits input output chunk workers
 IsSound (las2las input output plan packed chunk workers) =

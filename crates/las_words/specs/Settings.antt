@@ -15,6 +15,7 @@ abbrev pub place_of : List (List ℕ) → List ℕ → List Piece → Option ℕ
 place_of words name pieces =
     option_map (λ piece. piece.at) (find (λ piece. bytes_eq (word_at words piece.at) name) pieces)
 
+-- an option of a name is given
 abbrev pub is_given : List (List ℕ) → List ℕ → List Piece → Bool
 is_given words name pieces = is_some (place_of words name pieces)
 

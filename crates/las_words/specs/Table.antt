@@ -65,6 +65,7 @@ abbrev pub mask_of : ℕ → List (List ℕ) → ℕ
 mask_of most words =
     fold (λ mask word. bit_or mask (2 ^ number_or_zero most word)) 0 (take (count_of (Several most) words) words)
 
+-- the options
 abbrev pub row_of : Flag → Row
 row_of Input = once (codes "-i") Name Setting
 row_of Output = once (codes "-o") Name Setting
@@ -110,9 +111,11 @@ pub record CommandRow : Type 0 where
 abbrev pub common : List Flag
 common = Input ∷ Output ∷ ChunkSize ∷ Cores ∷ []
 
+-- an input and an output are required
 abbrev pub input_and_output : List (List (List ℕ))
 input_and_output = (codes "-i" ∷ []) ∷ (codes "-o" ∷ []) ∷ []
 
+-- the commands
 abbrev pub command_row : Tool → CommandRow
 command_row Laszip = record { name = codes "laszip"; options = common; required = input_and_output }
 command_row Las2las = record {
@@ -126,6 +129,7 @@ command_row Las2las = record {
   required = input_and_output;
 }
 
+-- the options of a command
 abbrev pub options_of : Tool → List Flag
 options_of tool = (command_row tool).options
 
