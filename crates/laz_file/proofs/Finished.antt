@@ -87,7 +87,7 @@ pack-by : (format lengths : ℕ) (head records : List ℕ) (chunk : ℕ) → for
 pack-by format lengths head records chunk f l =
     ap (λ (n : ℕ). packed_by n (record_length_of head) head records chunk) f ∙ ap (λ (n : ℕ). packed_by format n head records chunk) l
 
-head-by : (format lengths : ℕ) (head : List ℕ) (chunk : ℕ) → format_of head ≡ format → record_length_of head ≡ lengths → packed_head head chunk ≡ with_vlr (laszip_payload format (lengths - format_size format) chunk) head
+pub head-by : (format lengths : ℕ) (head : List ℕ) (chunk : ℕ) → format_of head ≡ format → record_length_of head ≡ lengths → packed_head head chunk ≡ with_vlr (laszip_payload format (lengths - format_size format) chunk) head
 head-by format lengths head chunk f l =
     ap (λ (n : ℕ). with_vlr (laszip_payload n (record_length_of head - format_size n) chunk) head) f ∙ ap (λ (n : ℕ). with_vlr (laszip_payload format (n - format_size format) chunk) head) l
 

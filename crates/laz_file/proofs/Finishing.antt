@@ -24,7 +24,8 @@ use Rattle.las_outside.specs.Outside.{Outside, with_bytes}
 use Rattle.laz_file.specs.Writing.{ChunksStand, IsPlanOf, IsTally, PackingSeen, Plan, PointsStand, Stands, WriterSeen, first_packing, record_size, written_head, all_chunks, block_size, every_chunk, format_in, pointer_patch, tally_patches}
 use Rattle.laz_file.proofs.Counted.{length-counted, packed_long, packed_longer}
 use Rattle.laz_file.proofs.Patching.{LiesIn, length-with_patches}
-use Rattle.laz_file.proofs.Pushing.{block_size_is, long-size, short-size, zero_packed}
+use Rattle.laz_file.proofs.Finished.{long-size, short-size}
+use Rattle.laz_file.proofs.Pushing.{block_size_is, zero_packed}
 
 -- the patches of the counts that a writer keeps
 pub tally_is : (counted : Bool) (counts : Option Counts) (long : Bool) (head : List ℕ) (records : List (List ℕ)) → IsTally counted counts records → long ≡ has_long_counts head

@@ -19,6 +19,7 @@ use Rattle.laz_file.specs.Packing.{packed_head, packed_points}
 use Rattle.laz_file.specs.Writing.{ChunksStand, IsPlanOf, IsTally, PackingSeen, Plan, PointsStand, Stands, WriterSeen, all_chunks, block_size, format_in, full_blocks, full_chunks, packed_text, pointer_part, record_size, written_head}
 use Rattle.laz_file.proofs.Counted.{counted_format, counted_lengths, counted_packed}
 use Rattle.laz_file.proofs.Cutting.{full_blocks_more, rest_of}
+use Rattle.laz_file.proofs.Finished.{head-by, long-size, short-size}
 
 -- a record of a format has the bytes of its items
 parts_of : (f : ℕ) → f ≤ 3 → time_length ((f == 1) || (f == 3)) + colour_length (nat_le 2 f) ≡ 8 * (f % 2) + 6 * (f / 2)
@@ -72,18 +73,6 @@ cut-append size xs ys some whole =
 pub length-cut : (size n : ℕ) (xs : List ℕ) → length (cut_records size n xs) ≡ n
 length-cut size zero xs = refl
 length-cut size (suc n) xs = omega (arith, length-cut size n (drop size xs))
-
-pub short-size : (records : List (List ℕ)) → length (counts_bytes (counts_of records)) ≡ 24
-unfolding short_bytes
-short-size records = refl
-
-pub long-size : (records : List (List ℕ)) → length (long_counts_bytes (counts_of records)) ≡ 128
-unfolding long_bytes
-long-size records = refl
-
-head-by : (format size : ℕ) (head : List ℕ) (chunk : ℕ) → format_of head ≡ format → record_length_of head ≡ size → packed_head head chunk ≡ with_vlr (laszip_payload format (size - format_size format) chunk) head
-head-by format size head chunk f l =
-    ap (λ (n : ℕ). with_vlr (laszip_payload n (record_length_of head - format_size n) chunk) head) f ∙ ap (λ (n : ℕ). with_vlr (laszip_payload format (n - format_size format) chunk) head) l
 
 -- counts of zero are set before or after the head is packed
 pub zero_packed : (head : List ℕ) (chunk : ℕ) → IsHead head → with_counts (counts_of []) (packed_head head chunk) ≡ packed_head (with_counts (counts_of []) head) chunk

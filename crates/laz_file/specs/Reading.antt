@@ -1,5 +1,6 @@
 -- What contracts see of a reader, for which file it stands, and what calls that read leave.
-use Rattle.std.specs.Prelude.{◌≡◌, ◌⊎◌, ℕ, ◌+◌, ◌*◌, ◌≤◌, ◌<◌, ◌^◌, Bool, false, if◌then◌else◌, List, [], ◌++◌, length, map, drop}
+use Rattle.std.specs.Prelude.{◌≡◌, ◌⊎◌, ℕ, ◌+◌, ◌*◌, ◌≤◌, ◌<◌, ◌^◌, Bool, false, if◌then◌else◌, List, [], ◌++◌, length}
+use Rattle.std.specs.Prelude.{map, drop}
 use Rattle.std.specs.Prelude.{min, sum, take, Option, Some, None, All, slice_index_or}
 use Rattle.las_header.specs.Heads.{HeadView}
 use Rattle.las_header.specs.Fields.{format_of, head_of, is_packed, points_of, record_length_of}
@@ -22,8 +23,8 @@ use Rattle.laz_file.specs.Pieces.{ArePieces, Piece, pieces_from}
 use Rattle.laz_file.specs.Records.{AreRead, HoldBlocks}
 use Rattle.laz_file.specs.Refusing.{IsAcceptedFile, has_bad_pointer, table_end, table_place}
 
--- What a call that only reads leaves of the outside, if it ends with this fault. A missing name is an outside as before;
--- after a refusal or out of memory no count of faults has moved, and no call that reads ends with `Write`.
+-- What a call that only reads leaves of the outside, if it ends with this fault. A missing name is an outside as
+-- before; after a refusal or out of memory no count of faults has moved, and no call that reads ends with `Write`.
 abbrev pub EndsReading : (missing : Type 0) → (old new : Outside) → Fault → Type 0
 EndsReading missing old new (Refused cause) = new.read_faults ≡ old.read_faults
 EndsReading missing old new Read = missing ⊎ Rose old.read_faults new.read_faults
@@ -57,13 +58,13 @@ table_size part = MIN_TABLE_BYTES + MAX_CHUNK_BYTES * min (number_at 4 4 part) M
 abbrev pub AreFewChunks : Blocks → Type 0
 AreFewChunks blocks = (n : ℕ) → IsChunkCount blocks n → n ≤ MAX_CHUNKS
 
--- the lists of a table's chunks, whose bytes take so many in all
+-- the lists of a table's chunks, whose bytes take this many in all
 pub record AreChunkLists (counts sizes : List ℕ) (total : ℕ) : Type 0 where
   pub same : length counts ≡ length sizes
   pub few : length counts ≤ MAX_CHUNKS
   pub whole : sum sizes ≡ total
 
--- the pieces of so many records of a plain file, from a place on
+-- the pieces of this many records of a plain file, from a place on
 abbrev pub plain_from : (size at records : ℕ) → List Piece
 plain_from size at records =
     let counts = fixed_sizes PLAIN_BLOCK records in pieces_from at counts (map (λ n. size * n) counts)
@@ -72,7 +73,7 @@ plain_from size at records =
 abbrev pub chunk_of : (head : List ℕ) → Option ℕ
 chunk_of head = if is_packed head then Some (chunk_size_of head) else None
 
--- the pieces that are left to read: of a packed file as many as are listed, of a plain one those of so many records
+-- the pieces that are left to read: of a packed file as many as are listed, of a plain one those of this many records
 abbrev pub pieces_left : (chunk : Option ℕ) → (size at records : ℕ) → (counts sizes : List ℕ) → List Piece
 pieces_left None size at records counts sizes = plain_from size at records
 pieces_left (Some chunk) size at records counts sizes = pieces_from at counts sizes

@@ -71,9 +71,9 @@ pub(crate) fn greatest_size(job: &UnpackJob, counts: &[u32], sizes: &[u32]) -> u
 }
 
 impl Reader {
-    /// A crew of this reader: a hand for each worker, 1 to 8, with rooms for the greatest chunk. It takes the buffers of
-    /// a batch's inputs into the reader, two for each hand, each with room for the greatest chunk that is read. `Err`
-    /// means out of memory, and the reader has failed.
+    /// A crew of this reader: a hand for each worker, 1 to 8, with rooms for the greatest chunk. It takes the buffers
+    /// of a batch's inputs into the reader, two for each hand, each with room for the greatest chunk that is read.
+    /// `Err` means out of memory, and the reader has failed.
     pub fn crew(&mut self, alloc: Global, workers: u32) -> Result<Crew<Workspace>, AllocError>
         requires workers { (1 ≤ workers) × (workers ≤ 8) }
         ensures crew { IfOk result (λ crew. IsCrewOf self.new crew) }

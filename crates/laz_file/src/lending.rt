@@ -7,8 +7,8 @@ use laz_chunk::Workspace;
 use laz_workers::Crew;
 
 impl Reader {
-    /// Lends block i of the last batch: of a packed file the answer under its number in the crew's rooms, and of a plain
-    /// one the block in the reader.
+    /// Lends block i of the last batch: of a packed file the answer under its number in the crew's rooms, and of a
+    /// plain one the block in the reader.
     pub fn block<'a>(&'a self, crew: &'a Crew<Workspace>, i: u32) -> &'a [u8]
         requires { (blocks : List (List ℕ)) × Lends self.now crew.now blocks × (i < length blocks) }
         ensures { (blocks : List (List ℕ)) → Lends self.now crew.now blocks → i < length blocks

@@ -1,5 +1,6 @@
 //! The chunks of a file, as a reader lists them.
-ghost use Rattle.std.specs.Prelude.{◌≡◌, ℕ, ◌+◌, ◌-◌, ◌^◌, ◌<◌, ◌≤◌, true, false, [], None, Some, length, sum, if◌then◌else◌};
+ghost use Rattle.std.specs.Prelude.{◌≡◌, ℕ, ◌+◌, ◌-◌, ◌^◌, ◌<◌, ◌≤◌, true, false, [], None, Some, length, sum};
+ghost use Rattle.std.specs.Prelude.{if◌then◌else◌};
 ghost use Rattle.std.specs.Prelude.{IfErr, IfOk, IsErrOf, OnOk};
 ghost use Rattle.las_header.specs.declared.refusal.Refusal.{Refusal};
 ghost use Rattle.las_header.specs.Fields.{is_packed, points_of};

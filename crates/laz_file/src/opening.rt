@@ -1,6 +1,8 @@
 //! What is read of a file when it is opened: its head and its chunk table.
-ghost use Rattle.std.specs.Prelude.{◌≡◌, ◌⊎◌, ℕ, List, ◌+◌, ◌-◌, ◌*◌, ◌^◌, ◌<◌, ◌≤◌, ◌||◌, nat_lt, min, true, false, [], Some, None};
-ghost use Rattle.std.specs.Prelude.{length, take, drop, sum, vec_len, if◌then◌else◌, IfErr, IfOk, IsErrOf, OnOk, Ok, Err};
+ghost use Rattle.std.specs.Prelude.{◌≡◌, ◌⊎◌, ℕ, List, ◌+◌, ◌-◌, ◌*◌, ◌^◌, ◌<◌, ◌≤◌, ◌||◌, nat_lt, min, true, false};
+ghost use Rattle.std.specs.Prelude.{[], Some, None};
+ghost use Rattle.std.specs.Prelude.{length, take, drop, sum, vec_len, if◌then◌else◌, IfErr, IfOk, IsErrOf, OnOk, Ok};
+ghost use Rattle.std.specs.Prelude.{Err};
 ghost use Rattle.las_header.specs.declared.refusal.Refusal.{Refusal};
 ghost use Rattle.las_header.specs.declared.refusal.Refusal.TheVariants.{TablePointer};
 ghost use Rattle.las_header.specs.Conditions.{IsFirst};
@@ -13,7 +15,8 @@ ghost use Rattle.laz_table.specs.declared.chunks.Blocks.{Blocks};
 ghost use Rattle.laz_table.specs.Chunks.{HasChunkSize, IsAccepted, IsFirstFault, table_causes};
 ghost use Rattle.laz_table.specs.declared.limits.TheConstants.{MAX_CHUNKS, MAX_CHUNK_BYTES, MIN_TABLE_BYTES};
 ghost use Rattle.laz_file.specs.Refusing.{has_bad_pointer};
-ghost use Rattle.laz_file.specs.Reading.{AreChunkLists, AreFewChunks, EndsReading, FailsReading, IsHeadOf, IsTablePlace, table_size};
+ghost use Rattle.laz_file.specs.Reading.{AreChunkLists, AreFewChunks, EndsReading, FailsReading, IsHeadOf};
+ghost use Rattle.laz_file.specs.Reading.{IsTablePlace, table_size};
 ghost use Rattle.laz_file.specs.declared.fault.Fault.TheVariants.{Refused, Memory};
 
 use crate::Fault;

@@ -51,7 +51,8 @@ impl UnpackJob {
     /// many records can have. The bytes are not looked at.
     pub fn may_hold(&self, count: u32, size: u32) -> bool
         ensures some { result ≡ true → 1 ≤ count }
-        ensures none { result ≡ false → (bytes : List ℕ) → length bytes ≡ size → HoldsNone (layout self.now) count bytes }
+        ensures none { result ≡ false → (bytes : List ℕ) → length bytes ≡ size
+            → HoldsNone (layout self.now) count bytes }
     {
         if count == 0 {
             return false;
