@@ -1,5 +1,5 @@
 -- Worked values of the definitions: lengths, rooms, the order of a record's items, and chunks.
-use Rattle.std.proofs.Common.{◌≡◌, ℕ, false, true, List, [], ◌∷◌, ◌++◌, map, refl, replicate}
+use Rattle.std.proofs.Common.{◌≡◌, ℕ, List, [], ◌∷◌, ◌++◌, map, refl, replicate}
 use Rattle.las_header.specs.Numbers.{number_at}
 use Rattle.laz_range.specs.Span.{renormal_step, subspan}
 use Rattle.laz_models.specs.BitDist.{bit_counts_at}
@@ -8,7 +8,7 @@ use Rattle.laz_models.specs.Cycles.{cycle_in}
 use Rattle.laz_models.specs.Dist.{counts_at}
 use Rattle.laz_integer.specs.Bytes.{has_bit}
 use Rattle.laz_integer.specs.Corrector.{corrector_index, digits_within, width_of}
-use Rattle.laz_integer.specs.Events.{Event, Symbol}
+use Rattle.laz_integer.specs.Events.{Symbol}
 use Rattle.laz_integer.specs.Integer.{rest_events}
 use Rattle.laz_integer.specs.Uses.{own_name}
 use Rattle.laz_point10.specs.Points.{one_return, point_at, return_level, return_map}

@@ -1,5 +1,5 @@
 -- The lengths of records, and of rooms for the chunk of whole records.
-use Rattle.std.proofs.Common.{◌≡◌, ℕ, zero, suc, ◌<◌, ◌≤◌, ◌*◌, ◌/◌, ◌%◌, List, length, sym, ap, ◌∙◌, arith}
+use Rattle.std.proofs.Common.{◌≡◌, ℕ, zero, suc, ◌<◌, ◌≤◌, ◌*◌, ◌%◌, List, length, sym, ap, ◌∙◌, arith}
 use Rattle.std.proofs.Math.Nat.{mul-mod_right}
 use Rattle.laz_chunk.specs.Layouts.{Format, HasFormatLength, layout, record_length, room_for}
 use Rattle.laz_chunk.specs.Chunks.{count_of}
