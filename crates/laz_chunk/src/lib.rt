@@ -9,6 +9,8 @@ mod items;
 mod laws;
 mod parts;
 mod records;
+#[cfg(test)]
+mod tests;
 mod workspace;
 
 pub use laws::{
