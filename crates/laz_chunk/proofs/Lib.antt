@@ -10,3 +10,5 @@ pub mod Coding
 pub mod Steps
 pub mod Chunk
 pub mod Bounds
+pub mod Lengths
+mod Examples

@@ -1,5 +1,6 @@
 -- Which items the records of a chunk have, and how long their parts are.
-use Rattle.std.specs.Prelude.{ℕ, ◌+◌, ◌*◌, ◌-◌, ◌==◌, ◌||◌, Bool, true, false, nat_le, if◌then◌else◌}
+use Rattle.std.specs.Prelude.{◌≡◌, ℕ, ◌+◌, ◌*◌, ◌-◌, ◌==◌, ◌||◌, Bool, true, false, nat_le, if◌then◌else◌}
+use Rattle.las_header.specs.Fields.{format_size}
 
 -- What is chosen once for all records: whether they have times and colours, and how many extra bytes.
 pub record Layout : Type 0 where
@@ -24,6 +25,10 @@ colour_length false = 0
 -- The length of a record: a point's 20 bytes, then the parts of its time, its colour and its extra bytes.
 abbrev pub record_length : Layout → ℕ
 record_length l = 20 + (time_length l.times + (colour_length l.colours + l.extra))
+
+-- A record is as long as the LAS specification has it: its format's length, and its extra bytes.
+abbrev pub HasFormatLength : ℕ → ℕ → Type 0
+HasFormatLength format extra = record_length (layout_of format extra) ≡ format_size format + extra
 
 -- How many events a record has at most.
 abbrev pub most_events : Layout → ℕ

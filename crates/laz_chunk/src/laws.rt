@@ -1,9 +1,14 @@
 //! Laws of what bytes hold, as contracts of functions that do nothing, or unpack.
 ghost use Rattle.std.specs.Prelude.{◌≡◌, ◌<◌, ◌≤◌, ◌*◌, ◌+◌, ℕ, List, length};
-ghost use Rattle.laz_chunk.specs.Layouts.{Layout, layout, record_length, room_for};
+ghost use Rattle.laz_chunk.specs.Layouts.{HasFormatLength, Layout, layout, record_length, room_for};
 ghost use Rattle.laz_chunk.specs.Chunks.{AreRecords, Holds, chunk_bytes};
 
 use crate::workspace::Workspace;
+
+/// The records of a point format, 0 to 3, have its length and their extra bytes'.
+pub fn records_have_the_length_of_their_format()
+    ensures { (format extra : ℕ) → format < 4 → HasFormatLength format extra }
+{}
 
 /// What is packed holds the records.
 pub fn chunks_hold()

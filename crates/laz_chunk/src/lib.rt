@@ -9,7 +9,11 @@ mod items;
 mod laws;
 mod parts;
 mod records;
+#[cfg(test)]
+mod tests;
 mod workspace;
 
-pub use laws::{chunks_are_bounded, chunks_hold, one_is_held};
+pub use laws::{
+    chunks_are_bounded, chunks_hold, one_is_held, records_have_the_length_of_their_format,
+};
 pub use workspace::{Workspace, room_for};
