@@ -237,8 +237,8 @@ const TIMES: [u64; 12] = [
     (1 << 62) + 25_030,
 ];
 
-// From 20 to 5,020 it is 499 times 10 and 10 more, in place of 500 times 10; all else is as a writer spells it. The next
-// four differences are extreme, so the last of them becomes the sequence's.
+// From 20 to 5,020 it is 499 times 10 and 10 more, in place of 500 times 10; all else is as a writer spells it. The
+// next four differences are extreme, so the last of them becomes the sequence's.
 const OTHER_MULTIPLIER: [u8; 58] = [
     0, 0, 0, 0, 0, 0, 6, 174, 7, 250, 0, 1, 69, 149, 0, 4, 127, 55, 234, 9, 22, 95, 104, 141, 9,
     32, 167, 225, 0, 74, 87, 106, 30, 2, 93, 154, 46, 0, 19, 69, 122, 113, 1, 91, 118, 113, 214, 5,
