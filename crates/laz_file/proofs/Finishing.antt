@@ -21,7 +21,8 @@ use Rattle.laz_table.specs.VlrCauses.{extra_of}
 use Rattle.laz_file.specs.Outputs.{Output, counts_patches, draft_of, finished, first_head, front, front_of, patches_of, pointer_patches, points_in, records_after}
 use Rattle.laz_file.specs.Packing.{blocks_of, chunk_blocks, chunks_of, packed_head, table_after}
 use Rattle.las_outside.specs.Outside.{Outside, with_bytes}
-use Rattle.laz_file.specs.Writing.{ChunksStand, IsPlanOf, IsTally, PackingSeen, Plan, PointsStand, Stands, WriterSeen, first_packing, record_size, written_head, all_chunks, block_size, every_chunk, format_in, pointer_patch, tally_patches}
+use Rattle.laz_file.specs.Writing.{ChunksStand, IsPlanOf, IsTally, PackingSeen, Plan, PointsStand, Stands, WriterSeen, first_packing, record_size, written_head, all_chunks, block_size, every_chunk, pointer_patch, tally_patches}
+use Rattle.laz_file.specs.Packing.{format_in}
 use Rattle.laz_file.proofs.Counted.{length-counted, packed_long, packed_longer}
 use Rattle.laz_file.proofs.Patching.{LiesIn, length-with_patches}
 use Rattle.laz_file.proofs.Finished.{long-size, short-size}
@@ -114,17 +115,6 @@ pointer_is head chunk most plan records at table is p here there =
     let place : at ≡ length (packed_head head chunk) = here ∙ p.pointer in
     let value : table ≡ table_after head chunk (chunks_of head (chunk_blocks head records chunk)) = omega (arith, there, p.pointer, ap (λ (t : List ℕ). length t) every) in
     ap (λ (n : ℕ). pointer_patch (Some (n, table))) place ∙ ap (λ (n : ℕ). pointer_patch (Some (length (packed_head head chunk), n))) value
-
--- records are few enough for their length to be a number
-pub few_bytes : (head : List ℕ) (n most : ℕ) → IsHead head → most < 2 ^ 32 → n ≤ record_length_of head * most → n ≤ 226 * 2 ^ 32
-few_bytes head n most is few within =
-    let size : record_length_of head ≤ 226 = omega (arith, is.extra, sizes (format_of head) is.format) in
-    let all : most ≤ 2 ^ 32 = omega (arith, few) in
-    let bound : record_length_of head * most ≤ 226 * 2 ^ 32 = mul-le-mul size all in
-    omega (arith, within, bound)
-  where
-    sizes : (f : ℕ) → f ≤ 3 → format_size f ≤ 34
-    sizes f h = omega arith
 
 -- the list of patches that a writer makes
 pub list_is : (before now : Outside) (w v : WriterSeen) (out : Output) (records : List ℕ) (list : List Patch) (pointer : Option (ℕ × ℕ)) → Stands before now w out records → v ≡ record w { packing = v.packing }

@@ -34,10 +34,6 @@ shift : (f g : ℕ → ℕ) (a k : ℕ) → ((i : ℕ) → f (i + 1) ≡ g i) �
 shift f g a zero h = refl
 shift f g a (suc k) h = λ i. h a i ∷ shift f g (a + 1) k h i
 
--- the numbers of records of the pieces of a plain file
-pub counts_none : fixed_sizes 50000 0 ≡ []
-counts_none = refl
-
 pub counts_first : (n : ℕ) → 0 < n → fixed_sizes 50000 n ≡ min 50000 n ∷ fixed_sizes 50000 (n - 50000)
 counts_first n some =
     let k = chunk_count (n - 50000) 50000 in

@@ -16,7 +16,8 @@ use Rattle.laz_table.specs.Payload.{laszip_payload}
 use Rattle.laz_table.specs.VlrCauses.{extra_of}
 use Rattle.laz_file.specs.Outputs.{Output, front, front_of, full_points, points_in, records_after, stopped}
 use Rattle.laz_file.specs.Packing.{packed_head, packed_points}
-use Rattle.laz_file.specs.Writing.{ChunksStand, IsPlanOf, IsTally, PackingSeen, Plan, PointsStand, Stands, WriterSeen, all_chunks, block_size, format_in, full_blocks, full_chunks, packed_text, pointer_part, record_size, written_head}
+use Rattle.laz_file.specs.Writing.{ChunksStand, IsPlanOf, IsTally, PackingSeen, Plan, PointsStand, Stands, WriterSeen, all_chunks, block_size, full_blocks, full_chunks, packed_text, pointer_part, record_size, written_head}
+use Rattle.laz_file.specs.Packing.{format_in}
 use Rattle.laz_file.proofs.Counted.{counted_format, counted_lengths, counted_packed}
 use Rattle.laz_file.proofs.Cutting.{full_blocks_more, rest_of}
 use Rattle.laz_file.proofs.Finished.{head-by, long-size, short-size}
@@ -178,10 +179,3 @@ tally_more true None c0 c1 before more is t list within = absurd t
 tally_more true (Some c) c0 c1 before more is t list within = let same : c ≡ c0 = cc in (list before (sym same ∙ t.0), within)
 tally_more false None c0 c1 before more is t list within = absurd (let clash : None ≡ Some c0 = is in cc)
 tally_more false (Some c) c0 c1 before more is t list within = absurd t
-
--- what the counts of records are known to be
-pub tally_room : (counted : Bool) (counts : Option Counts) (c : Counts) (records : List (List ℕ)) → counts ≡ Some c → IsTally counted counts records → (c.points ≡ length records) × IsWithinPoints c
-tally_room true None c records is t = absurd t
-tally_room true (Some x) c records is t = let same : x ≡ c = cc in (ap (λ (y : Counts). y.points) (sym same ∙ t.0), subst IsWithinPoints same t.1)
-tally_room false None c records is t = absurd (let clash : None ≡ Some c = is in cc)
-tally_room false (Some x) c records is t = absurd t

@@ -18,9 +18,6 @@ all_chunks-append f xs ys = joined-append (λ (b : List ℕ). chunk_bytes (layou
 pub sizes-chunks : (f : Format) (xs ys : List (List ℕ)) → map (λ (t : List ℕ). length t) (chunks f (xs ++ ys)) ≡ map (λ (t : List ℕ). length t) (chunks f xs) ++ map (λ (t : List ℕ). length t) (chunks f ys)
 sizes-chunks f xs ys = sizes-append (λ (b : List ℕ). chunk_bytes (layout f) b) xs ys
 
-pub front_more : (front done more : List ℕ) → (front ++ done) ++ more ≡ front ++ (done ++ more)
-front_more front done more = append_assoc front done more
-
 -- How an output stands, over plain lists.
 module _ (before now : Outside) (name front : List ℕ) (p : PackingSeen) (records : List ℕ) (s : PackedStands before now name front p records) where
   pub split : Splits (block_size p.plan) records (s.done ++ p.kept) p.rest

@@ -52,11 +52,3 @@ left_next size n t rest further more is left =
     let all : length rest ≡ size * suc k = left ∙ ap (λ (m : ℕ). size * m) next in
     let one : size * suc k ≡ size + size * k = omega arith in
     omega (arith, ap (λ (x : List ℕ). length x) is, length-drop size rest, all, one)
-
-pub left_some : (size n t : ℕ) (rest : List ℕ) → t < n → length rest ≡ size * (n - t) → size ≤ length rest
-left_some size n t rest more left =
-    let k = n - (t + 1) in
-    let next : n - t ≡ suc k = omega arith in
-    let all : length rest ≡ size * suc k = left ∙ ap (λ (m : ℕ). size * m) next in
-    let one : size * suc k ≡ size + size * k = omega arith in
-    omega (arith, all, one)

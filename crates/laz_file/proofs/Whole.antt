@@ -8,7 +8,8 @@ use Rattle.las_header.specs.Fields.{head_of, is_packed, point_offset_of, points_
 use Rattle.las_header.specs.Plain.{plain_head}
 use Rattle.laz_table.specs.Chunks.{fixed_sizes}
 use Rattle.laz_table.specs.VlrCauses.{chunk_count}
-use Rattle.laz_file.specs.Laws.{HasNoBadPiece, HoldOnly, IsBadIf, IsItsPlainForm, IsReadOnce, ReadsBack, ReadsPlain, pieces_before}
+use Rattle.laz_file.specs.Laws.{HasNoBadPiece, IsBadIf, IsItsPlainForm, IsReadOnce, ReadsBack, ReadsPlain, pieces_before}
+use Rattle.laz_file.specs.Records.{HoldOnly}
 use Rattle.laz_file.specs.Packing.{packed_file}
 use Rattle.laz_file.specs.Pieces.{ArePieces, ArePiecesIf, Piece, piece_bytes, pieces_from, plain_pieces}
 use Rattle.laz_file.specs.Records.{AreRead, HoldBlocks, HoldsBlock, HoldsIf, IsBadPiece, Unpacks}

@@ -16,7 +16,7 @@ use Rattle.laz_table.specs.Chunks.{fixed_sizes}
 use Rattle.laz_file.specs.Outputs.{Output, finished, records_after}
 use Rattle.laz_file.specs.Packing.{chunk_blocks, chunks_of, pack, packed_file}
 use Rattle.laz_file.specs.Pieces.{ArePieces, Piece, piece_bytes, pieces_from}
-use Rattle.laz_file.specs.Records.{AreRecordsOf, HoldBlocks, IsBadPiece, Unpacks}
+use Rattle.laz_file.specs.Records.{HoldOnly, AreRecordsOf, HoldBlocks, IsBadPiece, Unpacks}
 use Rattle.laz_file.specs.Refusing.{IsAcceptedFile, IsRefusal, chunks_place}
 
 -- A file is refused for at most one cause.
@@ -86,11 +86,6 @@ ArePackedChunks = (file : List ℕ) (chunk : ℕ) → CanBePacked file chunk
 -- The plain form of the packed form of such a file is the file again.
 abbrev pub UnpacksAgain : Type 0
 UnpacksAgain = (file : List ℕ) (chunk : ℕ) → CanBePacked file chunk → Unpacks (packed_file file chunk) file
-
--- The pieces of a file hold these blocks, and no others.
-pub record HoldOnly (file : List ℕ) (pieces : List Piece) (blocks : List (List ℕ)) : Type 0 where
-  pub hold : HoldBlocks file pieces blocks
-  pub only : (others : List (List ℕ)) → HoldBlocks file pieces others → others ≡ blocks
 
 -- the pieces before the bad one, or all pieces if none is bad
 abbrev pub pieces_before : (bad : Option ℕ) → List Piece → List Piece

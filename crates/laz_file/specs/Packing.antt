@@ -7,8 +7,12 @@ use Rattle.las_header.specs.Plain.{cut_records, plain_head, with_vlr}
 use Rattle.laz_table.specs.Payload.{laszip_payload}
 use Rattle.laz_table.specs.Table.{table_bytes}
 use Rattle.laz_table.specs.VlrCauses.{chunk_count, extra_of}
-use Rattle.laz_chunk.specs.Layouts.{Layout, layout_of}
+use Rattle.laz_chunk.specs.Layouts.{Format, Layout, layout_of}
 use Rattle.laz_chunk.specs.Chunks.{chunk_bytes}
+
+-- the format of the records that follow a head
+abbrev pub format_in : (head : List ℕ) → Format
+format_in head = record { format = format_of head; extra = extra_of head }
 
 -- the layout of the point records that follow a head
 abbrev pub record_layout : (head : List ℕ) → Layout

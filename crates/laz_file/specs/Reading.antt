@@ -18,7 +18,7 @@ use Rattle.laz_workers.specs.Rooms.{HandSeen, RoomSeen, answer_in, lengths_of, n
 use Rattle.laz_file.specs.declared.fault.Fault.{Fault}
 use Rattle.laz_file.specs.declared.fault.Fault.TheVariants.{Refused, Read, Write, Memory}
 use Rattle.laz_file.specs.declared.limits.TheConstants.{PLAIN_BLOCK}
-use Rattle.laz_file.specs.Packing.{record_layout}
+use Rattle.laz_file.specs.Packing.{format_in, record_layout}
 use Rattle.laz_file.specs.Pieces.{ArePieces, Piece, pieces_from}
 use Rattle.laz_file.specs.Records.{AreRead, HoldBlocks}
 use Rattle.laz_file.specs.Refusing.{IsAcceptedFile, has_bad_pointer, table_end, table_place}
@@ -146,10 +146,6 @@ pub record IsNewReader (name : List ℕ) (reader : ReaderSeen) : Type 0 where
   pub unprepared : reader.buffers ≡ 0
   pub empty : reader.lent ≡ []
 
--- the format of the records that follow a head
-abbrev pub format_in : (head : List ℕ) → Format
-format_in head = record { format = format_of head; extra = extra_of head }
-
 -- If the file is packed: rooms of these lengths are enough for the block of each piece.
 abbrev pub HaveRoom : (chunk : Option ℕ) → (size : ℕ) → List Piece → (lengths : List ℕ) → Type 0
 HaveRoom None size pieces lengths = Unit {0}
@@ -182,11 +178,6 @@ Lends reader crew blocks = LendsIf reader.chunk reader.lent (rooms_of crew) bloc
 abbrev pub batch_size : (chunk : Option ℕ) → (hands : ℕ) → ℕ
 batch_size None hands = 1
 batch_size (Some chunk) hands = 2 * hands
-
--- The pieces hold these blocks, and no others.
-pub record HoldOnlyBlocks (file : List ℕ) (pieces : List Piece) (blocks : List (List ℕ)) : Type 0 where
-  pub hold : HoldBlocks file pieces blocks
-  pub only : (others : List (List ℕ)) → HoldBlocks file pieces others → others ≡ blocks
 
 -- a number of a piece in all pieces, by its number in those from the n-th on
 abbrev pub moved : (n : ℕ) → Option ℕ → Option ℕ

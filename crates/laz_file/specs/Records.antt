@@ -27,6 +27,11 @@ HoldBlocks file [] (b ∷ blocks) = ⊥
 HoldBlocks file (p ∷ pieces) [] = ⊥
 HoldBlocks file (p ∷ pieces) (b ∷ blocks) = HoldsBlock file p b × HoldBlocks file pieces blocks
 
+-- The pieces of a file hold these blocks, and no others.
+pub record HoldOnly (file : List ℕ) (pieces : List Piece) (blocks : List (List ℕ)) : Type 0 where
+  pub hold : HoldBlocks file pieces blocks
+  pub only : (others : List (List ℕ)) → HoldBlocks file pieces others → others ≡ blocks
+
 -- The piece of this number is the first that holds no records of its count.
 abbrev pub IsBadPiece : (file : List ℕ) → List Piece → ℕ → Type 0
 IsBadPiece file pieces i =

@@ -19,7 +19,7 @@ use Rattle.laz_table.specs.VlrCauses.{extra_of}
 use Rattle.laz_file.specs.declared.fault.Fault.{Fault}
 use Rattle.laz_file.specs.declared.fault.Fault.TheVariants.{Refused, Read, Write, Memory}
 use Rattle.laz_file.specs.Outputs.{Output, front, records_after}
-use Rattle.laz_file.specs.Packing.{blocks_of, packed_head, packed_points}
+use Rattle.laz_file.specs.Packing.{format_in, blocks_of, packed_head, packed_points}
 
 -- the answer to a block: its chunk, and never none
 abbrev pub IsChunk : Format → (block : List ℕ) → Option (List ℕ) → Type 0
@@ -163,10 +163,6 @@ pub record SameFaults (old new : Outside) : Type 0 where
   pub reads : new.read_faults ≡ old.read_faults
   pub writes : new.write_faults ≡ old.write_faults
   pub asked : new.asked ≡ old.asked
-
--- the format of the records that follow a head
-abbrev pub format_in : (head : List ℕ) → Format
-format_in head = record { format = format_of head; extra = extra_of head }
 
 -- a head in the form in which it is written: with a laszip VLR, if the points are packed
 abbrev pub written_head : Option ℕ → (head : List ℕ) → List ℕ

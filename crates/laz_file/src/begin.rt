@@ -9,7 +9,8 @@ ghost use Rattle.las_header.specs.Vlrs.{laszip_vlrs_of};
 ghost use Rattle.las_outside.specs.Outside.{Later, with_bytes};
 ghost use Rattle.las_points.specs.Tally.{counts_of};
 ghost use Rattle.laz_chunk.specs.Layouts.{layout, room_for};
-ghost use Rattle.laz_file.specs.Writing.{CanPack, IsTally, Plan, Stops, format_in, pointer_part, written_head};
+ghost use Rattle.laz_file.specs.Writing.{CanPack, IsTally, Plan, Stops, pointer_part, written_head};
+ghost use Rattle.laz_file.specs.Packing.{format_in};
 ghost use Rattle.laz_workers.specs.Rooms.{lengths_of, rooms_of};
 
 use crate::Fault;

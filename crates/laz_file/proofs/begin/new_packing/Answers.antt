@@ -3,7 +3,7 @@ use Rattle.std.proofs.lemmas.List.Elements.{All-map, All-weaker}
 use Rattle.las_header.specs.Fields.{format_of}
 use Rattle.laz_chunk.specs.Layouts.{Format, layout, layout_of, record_length, room_for}
 use Rattle.laz_workers.specs.Rooms.{HandSeen, lengths_of, rooms_of}
-use Rattle.laz_file.specs.Writing.{format_in}
+use Rattle.laz_file.specs.Packing.{format_in}
 use Rattle.laz_file.proofs.Pushing.{record_is}
 use Rattle.laz_file.proofs.begin.new_packing.Goals as goal
 

@@ -4,7 +4,7 @@ use Rattle.las_header.specs.Fields.{record_length_of}
 use Rattle.laz_chunk.specs.Layouts.{Format, layout, record_length}
 use Rattle.laz_workers.specs.Rooms.{lengths_of, rooms_of}
 use Rattle.laz_file.specs.Packing.{record_layout}
-use Rattle.laz_file.specs.Reading.{format_in}
+use Rattle.laz_file.specs.Packing.{format_in}
 use Rattle.laz_file.proofs.Crews.{have_room}
 use Rattle.laz_file.proofs.reader.Reader.prepare.Goals as goal
 
