@@ -85,3 +85,17 @@ plain_file file accepted plain bytes =
       records = omega (arith, length-drop offset file, early, on, is.whole, long);
       record_bytes = IsBytes-drop offset file bytes;
     }
+
+-- as many records follow the head of an accepted plain file as it counts
+pub plain_records : (file : List ℕ) → IsAcceptedFile file → is_packed (head_of file) ≡ false → IsHead (head_of file) → length (drop (point_offset_of file) file) ≡ record_length_of (head_of file) * points_of (head_of file)
+plain_records file accepted plain is =
+    let size = length file in
+    let offset = point_offset_of file in
+    let head = head_of file in
+    let causes = both_none (front_causes file size) (head_causes head size) (no_causes file accepted) in
+    let front = accepted_front file size causes.0 in
+    let fine = accepted_head head size causes.1 in
+    let long : length head ≡ offset = length-take-le offset file front.within in
+    let early = ltb-false (size - point_offset_of head) (counted_size head) (either_is (is_packed head) _ plain fine.early) in
+    let on = ltb-false (counted_size head) (size - point_offset_of head) (either_is (is_packed head) _ plain fine.on) in
+    omega (arith, length-drop offset file, early, on, is.whole, long)

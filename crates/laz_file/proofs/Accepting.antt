@@ -1,22 +1,24 @@
 -- Which file is accepted, and by which cause a file is refused, from what was read of it.
 use Rattle.std.proofs.Common.{◌≡◌, ℕ, ◌+◌, ◌-◌, ◌*◌, ◌≤◌, nat_lt, ltb-false, Bool, true, false, if◌then◌else◌, not, ◌&&◌, List, [], ◌∷◌, ◌++◌, length, take, drop, Option, Some, None, refl, sym, ◌∙◌, ap, subst, arith}
-use Rattle.std.specs.Prelude.{sum, All}
+use Rattle.std.specs.Prelude.{sum, All, ◌==◌}
 use Rattle.std.proofs.lemmas.List.{length-take-le}
 use Rattle.las_header.specs.declared.refusal.Refusal.{Refusal}
 use Rattle.las_header.specs.declared.refusal.Refusal.TheVariants as cause
 use Rattle.las_header.specs.Conditions.{Condition, IsFirst, conditions}
-use Rattle.las_header.specs.Fields.{head_of, is_packed, minor_of, point_offset_of, points_of, record_length_of}
+use Rattle.las_header.specs.Fields.{format_of, head_of, is_packed, minor_of, point_offset_of, points_of, record_length_of}
 use Rattle.las_header.specs.Heads.{HeadView}
 use Rattle.las_header.specs.Refusals.{causes_of, counted_size, first_cause, front_causes, head_causes, or_else}
-use Rattle.las_header.proofs.CauseLemmas.{IsAcceptedHead, IsFront, accepted_front, accepted_head, first_of_both, least_any}
+use Rattle.las_header.proofs.CauseLemmas.{IsAcceptedHead, IsFront, accepted_front, accepted_head, first_of_both, least_any, none_first}
 use Rattle.las_header.proofs.ConditionLemmas.{IsFirst-append_none, IsFirst-append_some, IsFirst-tests}
 use Rattle.las_header.proofs.NumberLemmas.{number_at-take}
 use Rattle.laz_table.specs.declared.chunks.Blocks.{Blocks}
 use Rattle.laz_table.specs.Chunks.{IsAccepted, table_causes}
-use Rattle.laz_table.specs.VlrCauses.{chunk_size_of, is_counted, vlr_causes}
+use Rattle.laz_table.specs.VlrCauses.{chunk_size_of, extra_of, is_counted, lacks_vlr, payload_causes, payload_of, vlr_causes}
+use Rattle.las_header.specs.Vlrs.{laszip_vlrs_of}
+use Rattle.std.proofs.lemmas.Bool.{eqb-true}
 use Rattle.laz_table.specs.declared.chunks.Blocks.TheVariants.{Fixed, Counted}
 use Rattle.laz_file.specs.Pieces.{ArePieces, ArePiecesIf, pieces_from}
-use Rattle.laz_file.specs.Reading.{IsHeadOf, IsTablePlace, LiesIn, pieces_listed, plain_from}
+use Rattle.laz_file.specs.Reading.{IsHeadOf, IsTablePlace, LiesIn, pieces_listed, plain_from, points_in}
 use Rattle.laz_file.specs.Refusing.{IsAcceptedFile, IsRefusal, blocks_in, chunk_causes, chunks_place, has_bad_pointer, table_end, table_part, table_place, tested_causes}
 use Rattle.laz_file.proofs.PieceLists.{pieces_lie, plain_lie}
 
@@ -132,3 +134,20 @@ module _ (file : List ℕ) where
 pub blocks_as : (head : List ℕ) (chunk points : ℕ) (blocks : Blocks) → blocks ≡ (if is_counted chunk then Counted points else Fixed chunk points) → chunk ≡ chunk_size_of head → points ≡ points_of head → blocks ≡ blocks_in head
 blocks_as head chunk points blocks is chunk_is points_are =
     is ∙ ap (λ (n : ℕ). if is_counted n then Counted points else Fixed n points) chunk_is ∙ ap (λ (n : ℕ). if is_counted (chunk_size_of head) then Counted n else Fixed (chunk_size_of head) n) points_are
+
+points_if : (counted : Bool) (chunk points : ℕ) → points_in (if counted then Counted points else Fixed chunk points) ≡ points
+points_if true chunk points = refl
+points_if false chunk points = refl
+
+pub points_as : (chunk points : ℕ) → points_in (if is_counted chunk then Counted points else Fixed chunk points) ≡ points
+points_as chunk points = points_if (is_counted chunk) chunk points
+
+-- a packed head that is not refused for its laszip VLR has one
+not_false : (b : Bool) → not b ≡ false → b ≡ true
+not_false true e = refl
+not_false false e = absurd (cc)
+
+pub one_vlr : (head : List ℕ) → first_cause (vlr_causes head) ≡ None → length (laszip_vlrs_of head) ≡ 1
+one_vlr head none =
+    let first = none_first (lacks_vlr head) cause.NoVlr (payload_causes (format_of head) (extra_of head) (points_of head) (payload_of head)) none in
+    eqb-true (length (laszip_vlrs_of head)) 1 (not_false (length (laszip_vlrs_of head) == 1) first.0)

@@ -85,6 +85,10 @@ module _ (l : Layout) (inputs : List (List ℕ)) (rooms : List RoomSeen) (answer
   pub refused_there : (k : ℕ) (room : RoomSeen) → StandsIn rooms k room → answer_in room.bytes room.held ≡ None → HoldsNone l (count_in (get_or inputs k [])) (chunk_in (get_or inputs k []))
   refused_there k room stands none = subst (λ (o : Option (List ℕ)). UnpackAnswer l (get_or inputs k []) o) none (answer_there (UnpackAnswer l) inputs rooms k room stands answers)
 
+-- a block that is answered has as many bytes as its records
+pub length_answered : (l : Layout) (count : ℕ) (input block : List ℕ) → IsInput count input → HoldsOnly l (count_in input) (chunk_in input) block → length block ≡ record_length l * count
+length_answered l count input block shape h = h.are.length ∙ ap (λ (n : ℕ). record_length l * n) shape.1
+
 -- an input is that of its chunk
 chunk_of_input : (count : ℕ) (bytes : List ℕ) → chunk_in (unpack_input count bytes) ≡ bytes
 chunk_of_input count bytes = refl

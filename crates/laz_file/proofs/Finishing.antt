@@ -5,13 +5,13 @@ use Rattle.std.specs.List.{concat}
 use Rattle.std.proofs.lemmas.List.Elements.{All-append, All-cons, All-nil}
 use Rattle.std.proofs.lemmas.List.{append-nil}
 use Rattle.std.proofs.lemmas.Nat.{div-mul-add}
-use Rattle.std.proofs.Math.Nat.{mul-le-mul, one-le-mul}
+use Rattle.std.proofs.Math.Nat.{one-le-mul}
 use Rattle.std.specs.Option.{ForSome}
 use Rattle.las_header.specs.Plain.{cut_records}
 use Rattle.byteorder.specs.Endian.{little_bytes}
 use Rattle.las_header.specs.declared.counts.Counts.{Counts}
 use Rattle.las_header.specs.Counting.{counts_bytes, long_counts_bytes, with_counts}
-use Rattle.las_header.specs.Fields.{format_of, format_size, has_long_counts, record_length_of}
+use Rattle.las_header.specs.Fields.{format_of, has_long_counts}
 use Rattle.las_header.specs.Heads.{IsHead}
 use Rattle.las_outside.specs.Drafts.{Patch}
 use Rattle.las_points.specs.Tally.{counts_of}

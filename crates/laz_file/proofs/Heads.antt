@@ -1,13 +1,15 @@
 -- What is known of a file from what was read of its front, its head and its table.
-use Rattle.std.proofs.Common.{◌≡◌, ℕ, min, List, [], length, take, drop, Option, Some, None, Result, Ok, Err, refl, sym, ◌∙◌, ap, arith}
+use Rattle.std.proofs.Common.{◌≡◌, ℕ, ◌≤◌, min, nat_lt, ltb-false, Bool, false, not, ◌&&◌, List, [], ◌∷◌, subst, length, take, drop, Option, Some, None, Result, Ok, Err, refl, sym, ◌∙◌, ap, arith}
 use Rattle.std.specs.Prelude.{IsErrAnd}
 use Rattle.std.proofs.lemmas.List.{take_min}
 use Rattle.std.proofs.lemmas.Result.{err_from_is_err_and}
 use Rattle.las_header.specs.declared.refusal.Refusal.{Refusal}
-use Rattle.las_header.specs.Fields.{head_of, point_offset_of}
+use Rattle.las_header.specs.Fields.{head_of, is_packed, point_offset_of}
+use Rattle.las_header.specs.declared.vlrs.VlrPlace.{VlrPlace}
+use Rattle.las_header.specs.Vlrs.{laszip_vlrs_of}
 use Rattle.las_header.specs.Heads.{HeadView}
 use Rattle.las_header.specs.Refusals.{causes_of, first_cause, front_causes, head_causes, or_else}
-use Rattle.las_header.proofs.CauseLemmas.{first_of_both, front_decides}
+use Rattle.las_header.proofs.CauseLemmas.{accepted_head, first_of_both, front_decides}
 use Rattle.las_header.proofs.NumberLemmas.{number_at-take}
 use Rattle.las_outside.specs.Files.{FileMap, WhereKnown}
 use Rattle.las_outside.specs.Outside.{Outside}
@@ -107,3 +109,18 @@ pub head_known : (held : Option FileMap) (name front bytes : List ℕ) (size off
 head_known held name front bytes size offset long sized fronted read long_is fine offset_is =
     known_three held name (λ file. size ≡ length file) (λ file. front ≡ take 227 file) (λ file. front ≡ take long (drop 0 file) → bytes ≡ take offset (drop 0 file)) (λ file. HeadRead file front bytes size offset)
     (λ file s f r. record { size_is = s; front_is = f; fine = fine; offset_is = offset_is; bytes_are = r (f ∙ ap (λ (n : ℕ). take n file) (sym long_is)) }) sized fronted read
+
+-- a plain head that is not refused has no laszip VLR
+no_places : (places : List VlrPlace) → length places ≤ 0 → places ≡ []
+no_places [] h = refl
+no_places (p ∷ places) h = absurd (omega arith)
+
+pub no_stray : (head : List ℕ) (size : ℕ) → first_cause (head_causes head size) ≡ None → is_packed head ≡ false → laszip_vlrs_of head ≡ []
+no_stray head size none plain =
+    let stray = (accepted_head head size none).stray in
+    no_places (laszip_vlrs_of head) (ltb-false 0 (length (laszip_vlrs_of head)) (ap (λ (b : Bool). not b && nat_lt 0 (length (laszip_vlrs_of head))) (sym plain) ∙ stray))
+
+pub no_stray_read : (bytes : List ℕ) (size : ℕ) (r : Result HeadView Refusal) (head : HeadView) → (first_cause (head_causes bytes size) ≡ None → r ≡ Ok (record { bytes = bytes; size = size })) → ((c : Refusal) → first_cause (head_causes bytes size) ≡ Some c → r ≡ Err c) → r ≡ Ok head → is_packed head.bytes ≡ false → laszip_vlrs_of head.bytes ≡ []
+no_stray_read bytes size r head ok err is =
+    let both = none_of_ok (first_cause (head_causes bytes size)) r (record { bytes = bytes; size = size }) head ok err is in
+    subst (λ (b : List ℕ). is_packed b ≡ false → laszip_vlrs_of b ≡ []) (sym (ap (λ (v : HeadView). v.bytes) both.1)) (no_stray bytes size both.0)

@@ -13,7 +13,8 @@ use Rattle.laz_workers.proofs.Texts.{length-texts}
 use Rattle.laz_file.specs.Pieces.{Piece, pieces_from}
 use Rattle.laz_file.specs.Reading.{LiesIn}
 use Rattle.laz_file.specs.Unpacking.{IsInput}
-use Rattle.laz_file.proofs.PieceLists.{length-pieces, sum-first}
+use Rattle.laz_file.proofs.PieceLists.{length-pieces}
+use Rattle.laz_file.proofs.Sums.{sum-first}
 
 -- the number of records, and then the chunk's bytes
 pub shape_of : (count : ℕ) (front chunk : List ℕ) → front ≡ little_bytes 4 count → count < 4294967296 → IsInput count (front ++ chunk)

@@ -1,5 +1,5 @@
 -- What follows of the bytes of a file, if the files are known.
-use Rattle.std.proofs.Common.{◌≡◌, ℕ, List, Option, Some, None, IsSomeAnd, Result, Ok, Err, OnOk, subst}
+use Rattle.std.proofs.Common.{◌≡◌, ℕ, List, Option, Some, None, IsSomeAnd, Result, Ok, Err, OnOk, IfOk, subst}
 use Rattle.std.specs.FinMap as map
 use Rattle.las_outside.specs.Files.{FileMap, WhereKnown}
 
@@ -34,3 +34,11 @@ known_three held name P Q R S to p q r = known_both held name (λ file. P file �
 pub on_ok : {T E P : Type 0} (r : Result T E) → P → OnOk r P
 on_ok (Ok x) p = p
 on_ok (Err e) p = tt
+
+pub if_ok : {T E P : Type 0} (r : Result T E) → P → IfOk r (λ _. P)
+if_ok (Ok x) p = p
+if_ok (Err e) p = tt
+
+-- the same of a name that is written otherwise
+pub known_as : (held : Option FileMap) (name other : List ℕ) (P : List ℕ → Type 0) → name ≡ other → WhereKnown held name P → WhereKnown held other P
+known_as held name other P same p = subst (λ (n : List ℕ). WhereKnown held n P) same p

@@ -2,6 +2,7 @@ pub mod Examples
 pub mod Splices
 pub mod Counted
 pub mod Blocks
+pub mod Sums
 pub mod Finished
 pub mod OneAnswer
 pub mod Accepted
@@ -36,3 +37,8 @@ pub mod Joins
 pub mod InputLists
 pub mod BatchAnswers
 pub mod Crews
+pub mod Taking
+pub mod Copies
+pub mod Endings
+pub mod Batches
+pub mod WholeOutputs

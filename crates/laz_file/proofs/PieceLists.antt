@@ -1,19 +1,18 @@
 -- Pieces one after another, and where they lie.
-use Rattle.std.proofs.Common.{◌≡◌, ⊎_elim, ℕ, zero, suc, ◌+◌, ◌-◌, ◌*◌, ◌<◌, ◌≤◌, min, List, [], ◌∷◌, length, map, false, Option, Some, None, refl, sym, ◌∙◌, ap, subst, arith}
+use Rattle.std.proofs.Common.{◌≡◌, ℕ, zero, suc, ◌+◌, ◌-◌, ◌*◌, ◌<◌, ◌≤◌, min, List, [], ◌∷◌, length, map, true, false, Option, Some, None, refl, sym, ◌∙◌, ap, arith}
 use Rattle.std.specs.Prelude.{sum, All}
 use Rattle.std.specs.List.{range_with_len}
-use Rattle.std.proofs.lemmas.List.Sums.{sum_by-cons}
 use Rattle.std.proofs.lemmas.List.Elements.{All-nil, All-cons}
-use Rattle.std.proofs.lemmas.Bool.{cases_lt}
+use Rattle.std.proofs.lemmas.List.{length-map}
 use Rattle.std.proofs.Math.Nat.{mul-le-mul}
 use Rattle.laz_table.specs.Chunks.{fixed_sizes}
 use Rattle.laz_table.specs.VlrCauses.{chunk_count}
-use Rattle.laz_file.specs.Pieces.{pieces_from}
-use Rattle.laz_file.specs.Reading.{AreChunkLists, IsHeadOf, IsInPlace, LiesIn, ListsPieces, StandsFor, chunk_of, chunks_in, pieces_listed, plain_from}
+use Rattle.laz_file.specs.Pieces.{Piece, pieces_from}
+use Rattle.laz_file.proofs.Sums.{sum-first, sum-sizes, sum-times}
+use Rattle.laz_file.specs.Reading.{AgreesWithHead, AreChunkLists, IsHeadOf, IsInPlace, LiesIn, ListsPieces, StandsFor, chunk_of, chunks_in, pieces_listed, plain_from, records_in}
+use Rattle.las_header.specs.Fields.{is_packed, points_of}
 use Rattle.las_header.specs.Heads.{HeadView}
-
-pub sum-first : (x : ℕ) (xs : List ℕ) → sum (x ∷ xs) ≡ x + sum xs
-sum-first x xs = sum_by-cons (λ y. y) x xs
+use Rattle.las_header.specs.Vlrs.{laszip_vlrs_of}
 
 -- pieces lie in a file that goes on to their end
 pub pieces_lie : (file : List ℕ) (at : ℕ) (counts sizes : List ℕ) → at + sum sizes ≤ length file → All (LiesIn file) (pieces_from at counts sizes)
@@ -44,25 +43,11 @@ counts_first n some =
     ∙ ap (λ (m : ℕ). min 50000 m ∷ fixed_sizes 50000 (n - 50000)) whole
 
 -- they add up
-summed_none : (size n : ℕ) → n ≡ 0 → sum (map (λ m. size * m) (fixed_sizes 50000 n)) ≡ size * n
-summed_none size n none = subst (λ (m : ℕ). sum (map (λ x. size * x) (fixed_sizes 50000 m)) ≡ size * m) (sym none) (omega arith)
-
-summed : (size k n : ℕ) → n ≤ 50000 * k → sum (map (λ m. size * m) (fixed_sizes 50000 n)) ≡ size * n
-summed size zero n le = summed_none size n (omega arith)
-summed size (suc k) n le =
-    ⊎_elim
-    (λ (some : 0 < n).
-    let m = n - 50000 in
-    let rest = summed size k m (omega arith) in
-    let whole : min 50000 n + m ≡ n = omega arith in
-    let scaled : size * (min 50000 n + m) ≡ size * n = ap (λ (t : ℕ). size * t) whole in
-    let joined : size * min 50000 n + size * m ≡ size * n = omega (arith, scaled) in
-    ap (λ (t : List ℕ). sum (map (λ x. size * x) t)) (counts_first n some) ∙ sum-first (size * min 50000 n) (map (λ x. size * x) (fixed_sizes 50000 m)) ∙ ap (λ (t : ℕ). size * min 50000 n + t) rest ∙ joined)
-    (λ (none : n ≤ 0). summed_none size n (omega arith))
-    (cases_lt 0 n)
+summed : (size n : ℕ) → sum (map (λ m. size * m) (fixed_sizes 50000 n)) ≡ size * n
+summed size n = sum-times size (fixed_sizes 50000 n) ∙ ap (λ (m : ℕ). size * m) (sum-sizes 50000 n (omega arith))
 
 pub plain_lie : (file : List ℕ) (size at n : ℕ) → at + size * n ≤ length file → All (LiesIn file) (plain_from size at n)
-plain_lie file size at n h = let all = summed size n n (omega arith) in pieces_lie file at (fixed_sizes 50000 n) (map (λ m. size * m) (fixed_sizes 50000 n)) (omega (arith, h, all))
+plain_lie file size at n h = let all = summed size n in pieces_lie file at (fixed_sizes 50000 n) (map (λ m. size * m) (fixed_sizes 50000 n)) (omega (arith, h, all))
 
 sum_none : (xs : List ℕ) → length xs ≡ 0 → sum xs ≡ 0
 sum_none [] e = refl
@@ -74,11 +59,11 @@ placed_plain size points offset total counts sizes lists none small few near =
     let no_counts : length counts ≡ 0 = ap (λ (l : List ℕ). length l) none in
     let no_sizes = sum_none sizes (omega (arith, lists.same, no_counts)) in
     let most : size * points ≤ 226 * 4294967296 = mul-le-mul {n₁ = size} {m₁ = points} {n₂ = 226} {m₂ = 4294967296} small (omega arith) in
-    record { same = lists.same; few = lists.few; within = omega arith; near = omega (arith, no_sizes, most, near); number = omega arith }
+    record { same = lists.same; few = lists.few; within = omega arith; near = omega (arith, no_sizes, most, near); number = omega (arith, no_counts) }
 
 pub placed_packed : (size offset total : ℕ) (counts sizes : List ℕ) → AreChunkLists counts sizes total → offset + 8 + sum sizes < 18446744073709551616 → IsInPlace size (offset + 8) 0 0 0 counts sizes
 placed_packed size offset total counts sizes lists near =
-    record { same = lists.same; few = lists.few; within = omega arith; near = omega (arith, near); number = omega arith }
+    record { same = lists.same; few = lists.few; within = omega arith; near = omega (arith, near); number = omega (arith, lists.few) }
 
 chunks_are : (chunk : Option ℕ) (head counts sizes : List ℕ) → length counts ≡ length sizes → (chunk ≡ None → counts ≡ []) → length counts ≡ chunks_in chunk (pieces_listed chunk head counts sizes)
 chunks_are None head counts sizes same none = ap (λ (l : List ℕ). length l) (none refl)
@@ -96,4 +81,27 @@ new_stands file name head chunk counts sizes total h chunk_is lists same none = 
   left = refl;
   lie = lists.lie;
   chunks = chunks_are chunk head.bytes counts sizes same.same none;
+}
+
+-- the pieces have the records that are counted
+pub piece_counts : (at : ℕ) (counts sizes : List ℕ) → length counts ≡ length sizes → map (λ (p : Piece). p.count) (pieces_from at counts sizes) ≡ counts
+piece_counts at [] sizes e = refl
+piece_counts at (n ∷ counts) [] e = absurd (omega arith)
+piece_counts at (n ∷ counts) (s ∷ sizes) e = ap (λ (l : List ℕ). n ∷ l) (piece_counts (at + s) counts sizes (omega arith))
+
+all_listed : (chunk : Option ℕ) (head counts sizes : List ℕ) → length counts ≡ length sizes → ((size : ℕ) → chunk ≡ Some size → sum counts ≡ points_of head) → records_in (pieces_listed chunk head counts sizes) ≡ points_of head
+all_listed None head counts sizes same points =
+    let blocks = fixed_sizes 50000 (points_of head) in
+    ap sum (piece_counts (length head) blocks _ (sym (length-map blocks _))) ∙ sum-sizes 50000 (points_of head) (omega arith)
+all_listed (Some chunk) head counts sizes same points = ap sum (piece_counts (length head + 8) counts sizes same) ∙ points chunk refl
+
+-- a new reader agrees with its head
+pub new_agrees : (name : List ℕ) (head : HeadView) (chunk : Option ℕ) (counts sizes : List ℕ) → chunk ≡ chunk_of head.bytes → (is_packed head.bytes ≡ true → length (laszip_vlrs_of head.bytes) ≡ 1) → (is_packed head.bytes ≡ false → laszip_vlrs_of head.bytes ≡ [])
+    → length counts ≡ length sizes → ((size : ℕ) → chunk ≡ Some size → sum counts ≡ points_of head.bytes)
+    → AgreesWithHead (record { name = name; head = head; chunk = chunk; chunks = length counts; left = pieces_listed chunk head.bytes counts sizes; next = 0; failed = false; buffers = 0; lent = [] })
+new_agrees name head chunk counts sizes chunk_is one none same points = record {
+  chunk = chunk_is;
+  one = one;
+  none = none;
+  records = all_listed chunk head.bytes counts sizes same points;
 }

@@ -1,13 +1,13 @@
 -- What an output and its writer stand for, and the definitions of outputs.
-use Rattle.std.proofs.Common.{◌≡◌, ℕ, zero, suc, ◌+◌, ◌-◌, ◌*◌, ◌/◌, ◌%◌, ◌<◌, ◌≤◌, ◌^◌, ◌==◌, ◌||◌, nat_le, Bool, true, false, List, [], ◌++◌, length, drop, map, Option, Some, None, refl, sym, ◌∙◌, ap, subst, length-append, arith}
+use Rattle.std.proofs.Common.{◌≡◌, ℕ, zero, suc, ◌+◌, ◌*◌, ◌/◌, ◌%◌, ◌<◌, ◌≤◌, ◌^◌, ◌==◌, ◌||◌, nat_le, Bool, true, false, List, [], ◌++◌, length, drop, map, Option, Some, None, refl, sym, ◌∙◌, ap, subst, length-append, arith}
 use Rattle.std.specs.List.{concat}
 use Rattle.std.proofs.lemmas.List.{append-nil, drop_all}
 use Rattle.std.proofs.Math.Nat.{div-add-mod, le_of_mul-le-mul_left, mul-div-le, mul-mod_right}
 use Rattle.las_header.specs.declared.counts.Counts.{Counts}
-use Rattle.las_header.specs.Counting.{counts_bytes, long_counts_bytes, long_bytes, short_bytes, with_counts}
-use Rattle.las_header.specs.Fields.{format_of, format_size, record_length_of}
+use Rattle.las_header.specs.Counting.{counts_bytes, long_counts_bytes, with_counts}
+use Rattle.las_header.specs.Fields.{format_of, record_length_of}
 use Rattle.las_header.specs.Heads.{IsHead}
-use Rattle.las_header.specs.Plain.{cut_records, with_vlr}
+use Rattle.las_header.specs.Plain.{cut_records}
 use Rattle.las_outside.specs.Outside.{Outside, with_bytes}
 use Rattle.las_points.specs.Tally.{IsWithinPoints, counts_of}
 use Rattle.laz_chunk.specs.Chunks.{chunk_bytes}

@@ -10,10 +10,11 @@ use Rattle.las_header.specs.Numbers.{number_at}
 use Rattle.las_header.proofs.NumberLemmas.{number_at-take}
 use Rattle.laz_table.specs.declared.chunks.Blocks.{Blocks}
 use Rattle.laz_table.specs.declared.chunks.Blocks.TheVariants.{Fixed, Counted}
-use Rattle.laz_table.specs.Chunks.{HasOtherBytes, HasOtherPoints, HasTable, IsAccepted, IsChunkCount, are_counted, sizes_of, table_causes}
+use Rattle.laz_table.specs.Chunks.{HasChunkSize, HasOtherBytes, HasOtherPoints, HasTable, IsAccepted, IsChunkCount, are_counted, sizes_of, table_causes}
 use Rattle.laz_table.specs.Table.{TableHolds}
 use Rattle.laz_table.proofs.TableLaws.{front-holds}
-use Rattle.laz_file.specs.Reading.{AreChunkLists, AreFewChunks, table_size}
+use Rattle.laz_file.specs.Reading.{AreChunkLists, AreFewChunks, points_in, table_size}
+use Rattle.laz_file.proofs.Sums.{sum-sizes}
 
 -- a part of a file is what stands after its start
 part_is : (file : List ℕ) (start end : ℕ) → start ≤ end → drop start (take end file) ≡ take (end - start) (drop start file)
@@ -125,3 +126,21 @@ accepted_lists bytes blocks total sizes counts few a =
         | inr wrong ↦ absurd (summed bytes blocks total a.fine (a.coded, counts, a.table, wrong))
       ];
     }
+
+-- so are the points
+points_summed : (bytes : List ℕ) (blocks : Blocks) (total : ℕ) → IsFirst (table_causes bytes blocks total) None → HasOtherPoints bytes blocks → ⊥
+points_summed bytes blocks total is other = elim is [
+  | inl lacks ↦ some_is_none _ lacks.1
+  | inr has ↦ elim has.1 [
+    | inl wrong ↦ some_is_none _ wrong.1
+    | inr right ↦ elim right.1 [ inl points ↦ some_is_none _ points.1 | inr fine ↦ fine.0 other ]
+  ]
+]
+
+pub accepted_points : (bytes : List ℕ) (blocks : Blocks) (total : ℕ) (sizes counts : List ℕ) → HasChunkSize blocks → IsAccepted bytes blocks total sizes counts → sum sizes ≡ points_in blocks
+accepted_points bytes (Fixed chunk points) total sizes counts some a = ap sum a.sizes_are ∙ sum-sizes chunk points some
+accepted_points bytes (Counted points) total sizes counts some a =
+    elim (cases_eq (sum a.coded) points) [
+      | inl right ↦ ap sum a.sizes_are ∙ right
+      | inr wrong ↦ absurd (points_summed bytes (Counted points) total a.fine (a.coded, counts, a.table, λ are. wrong are.1))
+    ]

@@ -1,22 +1,21 @@
 -- What is read of whole files: of packed forms no piece is bad, and of plain files the pieces are the records.
-use Rattle.std.proofs.Common.{◌≡◌, inl, inr, ℕ, zero, suc, ◌+◌, ◌*◌, ◌-◌, ◌<◌, ◌≤◌, fold, min, sum, Bool, false, List, [], ◌∷◌, ◌++◌, length, map, take, drop, slice_get, Option, Some, None, refl, sym, ap, subst, ◌∙◌, arith}
+use Rattle.std.proofs.Common.{◌≡◌, inl, inr, ℕ, zero, suc, ◌+◌, ◌*◌, ◌<◌, ◌≤◌, sum, Bool, false, List, [], ◌∷◌, ◌++◌, length, map, take, drop, slice_get, Option, Some, None, refl, sym, ap, subst, ◌∙◌, arith}
 use Rattle.std.proofs.lemmas.Bool.{cases_lt}
 use Rattle.std.proofs.lemmas.List.{drop-drop, take-append-drop, take_all}
 use Rattle.std.proofs.Math.Seq.{take-add}
-use Rattle.std.specs.List.{concat, range_with_len}
+use Rattle.std.specs.List.{concat}
 use Rattle.las_header.specs.Fields.{head_of, is_packed, point_offset_of, points_of, record_length_of}
 use Rattle.las_header.specs.Plain.{plain_head}
 use Rattle.laz_table.specs.Chunks.{fixed_sizes}
-use Rattle.laz_table.specs.VlrCauses.{chunk_count}
 use Rattle.laz_file.specs.Laws.{HasNoBadPiece, IsBadIf, IsItsPlainForm, IsReadOnce, ReadsBack, ReadsPlain, pieces_before}
 use Rattle.laz_file.specs.Records.{HoldOnly}
 use Rattle.laz_file.specs.Packing.{packed_file}
 use Rattle.laz_file.specs.Pieces.{ArePieces, ArePiecesIf, Piece, piece_bytes, pieces_from, plain_pieces}
 use Rattle.laz_file.specs.Records.{AreRead, HoldBlocks, HoldsBlock, HoldsIf, IsBadPiece, Unpacks}
-use Rattle.laz_file.proofs.Accepted.{IsPlainFile, plain_file}
-use Rattle.laz_file.proofs.Blocks.{count-enough}
+use Rattle.laz_file.proofs.Accepted.{plain_file}
 use Rattle.laz_file.proofs.OneAnswer.{one_pieces}
 use Rattle.laz_file.proofs.Packed.{plain-is, unpacks_again}
+use Rattle.laz_file.proofs.Sums.{sum-first, sum-sizes, sum-times}
 
 -- ---- packed forms
 some_same : (x y : Piece) → Some x ≡ Some y → x ≡ y
@@ -45,7 +44,7 @@ slice_get-take zero (suc j) (p ∷ pieces) piece before e = e
 slice_get-take (suc i) (suc j) (p ∷ pieces) piece before e = slice_get-take i j pieces piece (omega (arith, before)) e
 
 -- nor is one before others that are held
-not_bad_before : (file : List ℕ) (pieces : List Piece) (blocks : List (List ℕ)) (i j : ℕ) → i < j → HoldBlocks file (take j pieces) blocks → IsBadPiece file pieces i → ⊥
+pub not_bad_before : (file : List ℕ) (pieces : List Piece) (blocks : List (List ℕ)) (i j : ℕ) → i < j → HoldBlocks file (take j pieces) blocks → IsBadPiece file pieces i → ⊥
 not_bad_before file pieces blocks i j before hold bad =
     not_bad file pieces i bad (λ piece e. holds_at file (take j pieces) blocks i piece hold (slice_get-take i j pieces piece before e))
 
@@ -91,30 +90,6 @@ reads_back file chunk can pieces blocks are holds =
     ap (λ (bs : List (List ℕ)). plain_head form ++ concat bs) (sym (holds.only whole.0 hold)) ∙ sym whole.2
 
 -- ---- plain files
-fold-first : (a : ℕ) (xs : List ℕ) → fold ◌+◌ a xs ≡ a + fold ◌+◌ 0 xs
-fold-first a [] = omega arith
-fold-first a (x ∷ xs) = omega (arith, fold-first (a + x) xs, fold-first (0 + x) xs)
-
-sum-cons : (x : ℕ) (xs : List ℕ) → sum (x ∷ xs) ≡ x + sum xs
-sum-cons x xs = omega (arith, fold-first (0 + x) xs)
-
--- as many numbers as there are points, from a chunk on
-sum-from : (chunk points k n : ℕ) → points ≤ chunk * (k + n) → sum (map (λ i. min chunk (points - chunk * i)) (range_with_len k n)) ≡ points - chunk * k
-sum-from chunk points k zero enough = omega (arith, enough)
-sum-from chunk points k (suc n) enough =
-    omega (
-      arith,
-      sum-cons (min chunk (points - chunk * k)) (map (λ i. min chunk (points - chunk * i)) (range_with_len (k + 1) n)),
-      sum-from chunk points (k + 1) n (omega (arith, enough)),
-    )
-
-pub sum-sizes : (chunk points : ℕ) → 1 ≤ chunk → sum (fixed_sizes chunk points) ≡ points
-sum-sizes chunk points some = omega (arith, sum-from chunk points 0 (chunk_count points chunk) (omega (arith, count-enough points chunk some)))
-
-sum-times : (size : ℕ) (counts : List ℕ) → sum (map (λ n. size * n) counts) ≡ size * sum counts
-sum-times size [] = omega arith
-sum-times size (n ∷ counts) = omega (arith, sum-times size counts, sum-cons (size * n) (map (λ n. size * n) counts), ap (λ (m : ℕ). size * m) (sum-cons n counts))
-
 -- pieces one after another are the bytes from the first on
 pub pieces-joined : (file : List ℕ) (at size : ℕ) (counts : List ℕ) → concat (map (piece_bytes file) (pieces_from at counts (map (λ n. size * n) counts))) ≡ take (sum (map (λ n. size * n) counts)) (drop at file)
 pieces-joined file at size [] = refl
@@ -122,7 +97,7 @@ pieces-joined file at size (n ∷ counts) =
     let more = sum (map (λ n. size * n) counts) in
     ap (λ (t : List ℕ). take (size * n) (drop at file) ++ t) (pieces-joined file (at + size * n) size counts ∙ ap (λ (t : List ℕ). take more t) (sym (drop-drop (size * n) at file)))
     ∙ sym (take-add (size * n) more (drop at file))
-    ∙ ap (λ (m : ℕ). take m (drop at file)) (sym (sum-cons (size * n) (map (λ n. size * n) counts)))
+    ∙ ap (λ (m : ℕ). take m (drop at file)) (sym (sum-first (size * n) (map (λ n. size * n) counts)))
 
 holds-plain : (file : List ℕ) → is_packed (head_of file) ≡ false → (piece : Piece) → HoldsBlock file piece (piece_bytes file piece)
 holds-plain file plain piece = subst (λ (b : Bool). HoldsIf b file piece (piece_bytes file piece)) (sym plain) refl
@@ -141,7 +116,7 @@ only-plain file plain (p ∷ pieces) [] hold = absurd hold
 only-plain file plain (p ∷ pieces) (b ∷ blocks) hold =
     cons_same b (piece_bytes file p) blocks (map (piece_bytes file) pieces) (subst (λ (c : Bool). HoldsIf c file p b) plain hold.0) (only-plain file plain pieces blocks hold.1)
 
-module _ (file : List ℕ) (p : IsPlainFile file) where
+module _ (file : List ℕ) (plain : is_packed (head_of file) ≡ false) (all : length (drop (point_offset_of file) file) ≡ record_length_of (head_of file) * points_of (head_of file)) where
   abbrev counts : List ℕ
   counts = fixed_sizes 50000 (points_of (head_of file))
 
@@ -149,28 +124,30 @@ module _ (file : List ℕ) (p : IsPlainFile file) where
   whole =
       let size = record_length_of (head_of file) in
       let records = drop (point_offset_of file) file in
-      let all : length records ≤ sum (map (λ n. size * n) counts) =
-      omega (arith, p.records, sum-times size counts, ap (λ (n : ℕ). size * n) (sum-sizes 50000 (points_of (head_of file)) (omega arith))) in
-      pieces-joined file (point_offset_of file) size counts ∙ take_all (sum (map (λ n. size * n) counts)) records all
+      let few : length records ≤ sum (map (λ n. size * n) counts) =
+      omega (arith, all, sum-times size counts, ap (λ (n : ℕ). size * n) (sum-sizes 50000 (points_of (head_of file)) (omega arith))) in
+      pieces-joined file (point_offset_of file) size counts ∙ take_all (sum (map (λ n. size * n) counts)) records few
 
   pub plain_are : ArePieces file (plain_pieces file)
-  plain_are = subst (λ (b : Bool). ArePiecesIf b file (plain_pieces file)) (sym p.plain) refl
+  plain_are = subst (λ (b : Bool). ArePiecesIf b file (plain_pieces file)) (sym plain) refl
 
   pub plain_unpacks : Unpacks file file
   plain_unpacks = (
     map (piece_bytes file) (plain_pieces file),
-    (plain_pieces file, plain_are, hold-plain file p.plain (plain_pieces file)),
-    sym (ap (λ (t : List ℕ). t ++ concat (map (piece_bytes file) (plain_pieces file))) (sym (plain-is file p.plain)) ∙ ap (λ (t : List ℕ). head_of file ++ t) whole ∙ take-append-drop (point_offset_of file) file),
+    (plain_pieces file, plain_are, hold-plain file plain (plain_pieces file)),
+    sym (ap (λ (t : List ℕ). t ++ concat (map (piece_bytes file) (plain_pieces file))) (sym (plain-is file plain)) ∙ ap (λ (t : List ℕ). head_of file ++ t) whole ∙ take-append-drop (point_offset_of file) file),
   )
 
   pub plain_read : (pieces : List Piece) (blocks : List (List ℕ)) → ArePieces file pieces → HoldBlocks file pieces blocks → concat blocks ≡ drop (point_offset_of file) file
   plain_read pieces blocks are hold =
-      ap concat (only-plain file p.plain pieces blocks hold)
+      ap concat (only-plain file plain pieces blocks hold)
       ∙ ap (λ (ps : List Piece). concat (map (piece_bytes file) ps)) (one_pieces file pieces (plain_pieces file) are plain_are)
       ∙ whole
 
 pub is_plain_form : IsItsPlainForm
-is_plain_form file accepted plain bytes = plain_unpacks file (plain_file file accepted plain bytes)
+is_plain_form file accepted plain bytes = let p = plain_file file accepted plain bytes in plain_unpacks file plain p.records
 
 pub reads_plain : ReadsPlain
-reads_plain file accepted plain bytes pieces blocks are hold = plain_read file (plain_file file accepted plain bytes) pieces blocks are hold
+reads_plain file accepted plain bytes pieces blocks are hold =
+    let p = plain_file file accepted plain bytes in
+    plain_read file plain p.records pieces blocks are hold

@@ -19,3 +19,4 @@ pub mod Writing
 pub mod Stopping
 pub mod Unpacking
 pub mod Reading
+pub mod Copying

@@ -1,17 +1,21 @@
 -- What contracts see of a reader, for which file it stands, and what calls that read leave.
-use Rattle.std.specs.Prelude.{◌≡◌, ◌⊎◌, ℕ, ◌+◌, ◌*◌, ◌≤◌, ◌<◌, ◌^◌, Bool, false, if◌then◌else◌, List, [], ◌++◌, length}
+use Rattle.std.specs.Prelude.{◌≡◌, ◌⊎◌, ℕ, ◌+◌, ◌*◌, ◌≤◌, ◌<◌, ◌^◌, Bool, true, false, if◌then◌else◌, List, []}
+use Rattle.std.specs.Prelude.{◌∷◌, ◌++◌}
+use Rattle.std.specs.Prelude.{length}
 use Rattle.std.specs.Prelude.{map, drop}
 use Rattle.std.specs.Prelude.{min, sum, take, Option, Some, None, All, slice_index_or}
 use Rattle.las_header.specs.Heads.{HeadView}
-use Rattle.las_header.specs.Fields.{format_of, head_of, is_packed, points_of, record_length_of}
+use Rattle.las_header.specs.Fields.{head_of, is_packed, points_of, record_length_of}
 use Rattle.las_header.specs.Refusals.{causes_of, first_cause}
+use Rattle.las_header.specs.Vlrs.{laszip_vlrs_of}
 use Rattle.las_outside.specs.Faults.{Rose}
 use Rattle.las_outside.specs.Outside.{Outside}
 use Rattle.las_header.specs.Numbers.{number_at}
 use Rattle.laz_table.specs.declared.chunks.Blocks.{Blocks}
+use Rattle.laz_table.specs.declared.chunks.Blocks.TheVariants.{Fixed, Counted}
 use Rattle.laz_table.specs.declared.limits.TheConstants.{MAX_CHUNK_BYTES, MAX_CHUNKS, MIN_TABLE_BYTES}
 use Rattle.laz_table.specs.Chunks.{IsChunkCount, fixed_sizes}
-use Rattle.laz_table.specs.VlrCauses.{chunk_size_of, extra_of}
+use Rattle.laz_table.specs.VlrCauses.{chunk_size_of}
 use Rattle.laz_chunk.specs.Layouts.{Format, record_length}
 use Rattle.laz_workers.specs.Numbers.{times}
 use Rattle.laz_workers.specs.Rooms.{HandSeen, RoomSeen, answer_in, lengths_of, number_of, numbers_in, rooms_of}
@@ -57,6 +61,11 @@ table_size part = MIN_TABLE_BYTES + MAX_CHUNK_BYTES * min (number_at 4 4 part) M
 -- there may be at most 2^24 chunks
 abbrev pub AreFewChunks : Blocks → Type 0
 AreFewChunks blocks = (n : ℕ) → IsChunkCount blocks n → n ≤ MAX_CHUNKS
+
+-- how many points the chunks of a table have, in all
+abbrev pub points_in : Blocks → ℕ
+points_in (Fixed chunk points) = points
+points_in (Counted points) = points
 
 -- the lists of a table's chunks, whose bytes take this many in all
 pub record AreChunkLists (counts sizes : List ℕ) (total : ℕ) : Type 0 where
@@ -114,7 +123,7 @@ pub record IsInPlace (size at records blocks next : ℕ) (counts sizes : List �
   pub few : length counts ≤ MAX_CHUNKS
   pub within : next ≤ length counts
   pub near : at + sum (drop next sizes) + size * records < 2 ^ 64
-  pub number : next + blocks + records < 2 ^ 32
+  pub number : length counts + blocks + records < 2 ^ 32
 
 -- a piece lies in the file
 abbrev pub LiesIn : (file : List ℕ) → Piece → Type 0
@@ -145,6 +154,25 @@ pub record IsNewReader (name : List ℕ) (reader : ReaderSeen) : Type 0 where
   pub sound : reader.failed ≡ false
   pub unprepared : reader.buffers ≡ 0
   pub empty : reader.lent ≡ []
+
+-- how many records pieces have, in all
+abbrev pub records_in : List Piece → ℕ
+records_in pieces = sum (map (λ piece. piece.count) pieces)
+
+-- A new reader agrees with its head, whether the files are known or not: it has the chunk size of the head; there is one
+-- laszip VLR if the file is packed, and none if it is plain; and the pieces have as many records as the head counts.
+pub record AgreesWithHead (reader : ReaderSeen) : Type 0 where
+  pub chunk : reader.chunk ≡ chunk_of reader.head.bytes
+  pub one : is_packed reader.head.bytes ≡ true → length (laszip_vlrs_of reader.head.bytes) ≡ 1
+  pub none : is_packed reader.head.bytes ≡ false → laszip_vlrs_of reader.head.bytes ≡ []
+  pub records : records_in reader.left ≡ points_of reader.head.bytes
+
+-- Blocks are whole records of one length, each as many as its piece has.
+abbrev pub AreWholeBlocks : (size : ℕ) → List Piece → (blocks : List (List ℕ)) → Type 0
+AreWholeBlocks size [] [] = Unit {0}
+AreWholeBlocks size [] (b ∷ blocks) = ⊥
+AreWholeBlocks size (p ∷ pieces) [] = ⊥
+AreWholeBlocks size (p ∷ pieces) (b ∷ blocks) = (length b ≡ size * p.count) × AreWholeBlocks size pieces blocks
 
 -- If the file is packed: rooms of these lengths are enough for the block of each piece.
 abbrev pub HaveRoom : (chunk : Option ℕ) → (size : ℕ) → List Piece → (lengths : List ℕ) → Type 0

@@ -7,7 +7,7 @@ use Rattle.byteorder.specs.Endian.{little_bytes}
 use Rattle.las_header.specs.declared.counts.Counts.{Counts}
 use Rattle.las_header.specs.declared.limits.TheConstants.{COUNTS_AT, LONG_COUNTS_AT}
 use Rattle.las_header.specs.Counting.{counts_bytes, long_counts_bytes}
-use Rattle.las_header.specs.Fields.{format_of, has_long_counts, record_length_of}
+use Rattle.las_header.specs.Fields.{has_long_counts, record_length_of}
 use Rattle.las_header.specs.Heads.{IsHead}
 use Rattle.las_header.specs.Plain.{cut_records}
 use Rattle.las_outside.specs.Drafts.{Patch}
@@ -15,7 +15,6 @@ use Rattle.las_outside.specs.Outside.{Outside, with_bytes, with_write_fault}
 use Rattle.las_points.specs.Tally.{IsWithinPoints, counts_of}
 use Rattle.laz_chunk.specs.Chunks.{chunk_bytes, count_of}
 use Rattle.laz_chunk.specs.Layouts.{Format, layout, record_length, room_for}
-use Rattle.laz_table.specs.VlrCauses.{extra_of}
 use Rattle.laz_file.specs.declared.fault.Fault.{Fault}
 use Rattle.laz_file.specs.declared.fault.Fault.TheVariants.{Refused, Read, Write, Memory}
 use Rattle.laz_file.specs.Outputs.{Output, front, records_after}

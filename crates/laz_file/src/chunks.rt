@@ -54,6 +54,8 @@ pub(crate) fn next_chunks<R: Threads + Sync, F: Files, G: Gate>(
     ensures end { IfOk result (λ n. n ≡ 0 → length counts.now ≡ 0) }
     ensures blocks { IfOk result (λ n. (blocks : List (List ℕ)) × (length blocks ≡ n)
         × StandInRooms (rooms_of crew.new) blocks
+        × ((k : ℕ) → k < n
+        → length (slice_index_or blocks k []) ≡ record_length (layout job.now) * slice_index counts.now k)
         × WhereKnown (F.seen files.old).held name.now (λ file. (k : ℕ) (d : Piece) → k < n
         → HoldsOnly (layout job.now) (slice_index counts.now k)
         (piece_bytes file (slice_index_or (pieces_from place counts.now sizes.now) k d))
@@ -121,6 +123,8 @@ fn work_chunks<R: Threads + Sync, F: Files, G: Gate>(
     ensures within { IfOk result (λ n. n ≤ length counts.now) }
     ensures blocks { IfOk result (λ n. (blocks : List (List ℕ)) × (length blocks ≡ n)
         × StandInRooms (rooms_of crew.new) blocks
+        × ((k : ℕ) → k < n
+        → length (slice_index_or blocks k []) ≡ record_length (layout job.now) * slice_index counts.now k)
         × WhereKnown (F.seen files.old).held name.now (λ file. (k : ℕ) (d : Piece) → k < n
         → HoldsOnly (layout job.now) (slice_index counts.now k)
         (piece_bytes file (slice_index_or (pieces_from place counts.now sizes.now) k d))

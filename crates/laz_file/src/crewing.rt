@@ -3,6 +3,7 @@ ghost use Rattle.std.specs.Prelude.{◌≡◌, ◌*◌, ◌<◌, ◌≤◌, true
 ghost use Rattle.laz_workers.specs.Rooms.{lengths_of, rooms_of};
 ghost use Rattle.laz_file.specs.Reading.{IsCrewOf};
 
+use crate::limits::PLAIN_BLOCK;
 use crate::reader::Reader;
 use crate::unpack_job::UnpackJob;
 use laz_chunk::Workspace;
@@ -72,8 +73,8 @@ pub(crate) fn greatest_size(job: &UnpackJob, counts: &[u32], sizes: &[u32]) -> u
 
 impl Reader {
     /// A crew of this reader: a hand for each worker, 1 to 8, with rooms for the greatest chunk. It takes the buffers
-    /// of a batch's inputs into the reader, two for each hand, each with room for the greatest chunk that is read.
-    /// `Err` means out of memory, and the reader has failed.
+    /// of a batch's inputs into the reader, two for each hand, each with room for the greatest chunk that is read, and
+    /// of a plain file the room of a block. `Err` means out of memory, and the reader has failed.
     pub fn crew(&mut self, alloc: Global, workers: u32) -> Result<Crew<Workspace>, AllocError>
         requires workers { (1 ≤ workers) × (workers ≤ 8) }
         ensures crew { IfOk result (λ crew. IsCrewOf self.new crew) }
@@ -102,6 +103,8 @@ impl Reader {
         let crew = crew_of(alloc, format, extra, workers, room)?;
         let size = greatest_size(&job, &self.counts, &self.sizes) as usize;
         self.inputs = buffers_of(alloc, 2 * workers, 4 + size)?;
+        let most = self.records.min(PLAIN_BLOCK) as usize;
+        self.block.reserve(job.record_length() * most)?;
         Ok(crew)
     }
 }

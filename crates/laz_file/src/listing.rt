@@ -5,6 +5,7 @@ ghost use Rattle.std.specs.Prelude.{IfErr, IfOk, IsErrOf, OnOk};
 ghost use Rattle.las_header.specs.declared.refusal.Refusal.{Refusal};
 ghost use Rattle.las_header.specs.Fields.{is_packed, points_of};
 ghost use Rattle.las_header.specs.Refusals.{first_cause};
+ghost use Rattle.las_header.specs.Vlrs.{laszip_vlrs_of};
 ghost use Rattle.las_outside.specs.Files.{WhereKnown};
 ghost use Rattle.las_outside.specs.Outside.{Later};
 ghost use Rattle.laz_table.specs.declared.chunks.Blocks.TheVariants.{Fixed, Counted};
@@ -40,6 +41,9 @@ pub(crate) fn read_list<F: Files>(
     requires size { head.now.size ≡ size }
     requires head { WhereKnown (F.seen files.old).held name.now (λ file. IsHeadOf file head.now) }
     ensures chunk { IfOk result (λ list. list.chunk ≡ chunk_of head.now.bytes) }
+    ensures vlr { IfOk result (λ _. is_packed head.now.bytes ≡ true → length (laszip_vlrs_of head.now.bytes) ≡ 1) }
+    ensures points { IfOk result
+        (λ list. (chunk : ℕ) → list.chunk ≡ Some chunk → sum list.counts.items ≡ points_of head.now.bytes) }
     ensures lists { IfOk result (λ list. AreChunkLists list.counts.items list.sizes.items (sum list.sizes.items)) }
     ensures near { IfOk result
         (λ list. (chunk : ℕ) → list.chunk ≡ Some chunk → length head.now.bytes + 8 + sum list.sizes.items < 2 ^ 64) }
@@ -82,6 +86,7 @@ fn read_packed<F: Files>(
     requires chunk { chunk ≡ chunk_size_of head.now.bytes }
     requires head { WhereKnown (F.seen files.old).held name.now (λ file. IsHeadOf file head.now) }
     ensures chunk { IfOk result (λ list. list.chunk ≡ chunk_of head.now.bytes) }
+    ensures points { IfOk result (λ list. sum list.counts.items ≡ points_of head.now.bytes) }
     ensures lists { IfOk result (λ list. AreChunkLists list.counts.items list.sizes.items (sum list.sizes.items)) }
     ensures near { IfOk result
         (λ list. (chunk : ℕ) → list.chunk ≡ Some chunk → length head.now.bytes + 8 + sum list.sizes.items < 2 ^ 64) }

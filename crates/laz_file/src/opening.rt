@@ -6,9 +6,10 @@ ghost use Rattle.std.specs.Prelude.{Err};
 ghost use Rattle.las_header.specs.declared.refusal.Refusal.{Refusal};
 ghost use Rattle.las_header.specs.declared.refusal.Refusal.TheVariants.{TablePointer};
 ghost use Rattle.las_header.specs.Conditions.{IsFirst};
-ghost use Rattle.las_header.specs.Fields.{point_offset_of};
+ghost use Rattle.las_header.specs.Fields.{is_packed, point_offset_of};
 ghost use Rattle.las_header.specs.Numbers.{number_at};
 ghost use Rattle.las_header.specs.Refusals.{causes_of, first_cause, front_causes};
+ghost use Rattle.las_header.specs.Vlrs.{laszip_vlrs_of};
 ghost use Rattle.las_outside.specs.Files.{IsMissing, WhereKnown};
 ghost use Rattle.las_outside.specs.Outside.{Later};
 ghost use Rattle.laz_table.specs.declared.chunks.Blocks.{Blocks};
@@ -16,7 +17,7 @@ ghost use Rattle.laz_table.specs.Chunks.{HasChunkSize, IsAccepted, IsFirstFault,
 ghost use Rattle.laz_table.specs.declared.limits.TheConstants.{MAX_CHUNKS, MAX_CHUNK_BYTES, MIN_TABLE_BYTES};
 ghost use Rattle.laz_file.specs.Refusing.{has_bad_pointer};
 ghost use Rattle.laz_file.specs.Reading.{AreChunkLists, AreFewChunks, EndsReading, FailsReading, IsHeadOf};
-ghost use Rattle.laz_file.specs.Reading.{IsTablePlace, table_size};
+ghost use Rattle.laz_file.specs.Reading.{IsTablePlace, points_in, table_size};
 ghost use Rattle.laz_file.specs.declared.fault.Fault.TheVariants.{Refused, Memory};
 
 use crate::Fault;
@@ -45,6 +46,7 @@ pub(crate) fn read_head<F: Files>(
     ensures head { IfOk result (λ r. WhereKnown (F.seen files.old).held name.now (λ file. IsHeadOf file r.0)) }
     ensures size { IfOk result (λ r. r.0.size ≡ r.1) }
     ensures within { IfOk result (λ r. length r.0.bytes ≤ r.1) }
+    ensures plain { IfOk result (λ r. is_packed r.0.bytes ≡ false → laszip_vlrs_of r.0.bytes ≡ []) }
     ensures refused { (cause : Refusal) → IsErrOf result (Refused cause)
         → WhereKnown (F.seen files.old).held name.now (λ file. first_cause (causes_of file) ≡ Some cause) }
     ensures faults { OnOk result ((F.seen files.new).read_faults ≡ (F.seen files.old).read_faults) }
@@ -159,6 +161,7 @@ pub(crate) fn read_chunks<F: Files>(
     requires order { place.start ≤ place.end }
     requires within { WhereKnown (F.seen files.old).held name.now (λ file. place.end ≤ length file) }
     ensures lists { IfOk result (λ list. AreChunkLists list.sizes.items list.counts.items total) }
+    ensures points { IfOk result (λ list. sum list.sizes.items ≡ points_in blocks) }
     ensures accepted { IfOk result (λ list. WhereKnown (F.seen files.old).held name.now
         (λ file. IsAccepted (drop place.start (take place.end file)) blocks total list.sizes.items
         list.counts.items)) }

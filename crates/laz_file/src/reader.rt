@@ -6,7 +6,8 @@ ghost use Rattle.las_header.specs.Fields.{points_of, record_length_of};
 ghost use Rattle.las_outside.specs.Files.{IsMissing, WhereKnown};
 ghost use Rattle.las_outside.specs.Outside.{Later};
 ghost use Rattle.laz_file.specs.declared.fault.Fault.TheVariants.{Refused};
-ghost use Rattle.laz_file.specs.Reading.{AreChunkLists, EndsReading, IsNewReader, StandsFor, pieces_listed};
+ghost use Rattle.laz_file.specs.Reading.{AgreesWithHead, AreChunkLists, EndsReading, IsNewReader, StandsFor};
+ghost use Rattle.laz_file.specs.Reading.{pieces_listed};
 ghost use Rattle.laz_file.specs.Refusing.{IsRefusal};
 
 use crate::Fault;
@@ -76,6 +77,8 @@ impl Reader {
         ensures refused { (cause : Refusal) → IsErrOf result (Refused cause)
             → WhereKnown (F.seen files.old).held name.now (λ file. IsRefusal file (Some cause)) }
         ensures fresh { IfOk result (IsNewReader name.now) }
+        // The reader agrees with its head, also if the files are not known.
+        ensures whole { IfOk result AgreesWithHead }
         // Nothing but reads is done, and a fault has its cause.
         ensures faults { OnOk result ((F.seen files.new).read_faults ≡ (F.seen files.old).read_faults) }
         ensures ends { IfErr result

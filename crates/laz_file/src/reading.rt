@@ -81,6 +81,29 @@ pub(crate) fn read_exactly<F: Files>(
     }
 }
 
+/// Reads the `size` bytes that stand from `at` on into a buffer, which then has these alone. It takes memory only if
+/// the buffer has no room for them.
+pub(crate) fn read_part<F: Files>(
+    files: &mut F,
+    name: &str,
+    at: u64,
+    size: usize,
+    buffer: &mut Vec<u8>,
+) -> Result<(), Fault>
+    requires { WhereKnown (F.seen files.old).held name.now (λ file. at + size ≤ length file) }
+    ensures len { OnOk result (length buffer.new.items ≡ size) }
+    ensures bytes { OnOk result
+        (WhereKnown (F.seen files.old).held name.now (λ file. buffer.new.items ≡ take size (drop at file))) }
+    ensures faults { OnOk result ((F.seen files.new).read_faults ≡ (F.seen files.old).read_faults) }
+    ensures ends { IfErr result (FailsReading (F.seen files.old) (F.seen files.new)) }
+    ensures held { (F.seen files.new).held ≡ (F.seen files.old).held }
+    ensures writes { (F.seen files.new).write_faults ≡ (F.seen files.old).write_faults }
+    ensures later { Later (F.seen files.old) (F.seen files.new) }
+{
+    buffer.resize(size, 0)?;
+    read_exactly(files, name, at, buffer)
+}
+
 /// The number of eight bytes that stands at `at`.
 pub(crate) fn read_number<F: Files>(files: &mut F, name: &str, at: u64) -> Result<u64, Fault>
     requires { WhereKnown (F.seen files.old).held name.now (λ file. at + 8 ≤ length file) }

@@ -1,9 +1,9 @@
-use Rattle.std.proofs.Common.{◌≡◌, ⊎_elim, ◌<◌, ◌≤◌, ◌==◌, ◌∙◌, false, min, refl, sym, subst, length, ℕ, List, [], take, get_or, arith}
+use Rattle.std.proofs.Common.{◌≡◌, ⊎_elim, ◌<◌, ◌≤◌, ◌==◌, ◌*◌, ◌∙◌, false, min, refl, sym, ap, subst, length, ℕ, List, [], take, get_or, arith}
 use Rattle.std.proofs.lemmas.Bool.{cases_lt}
 use Rattle.std.proofs.lemmas.Bool.Decides.{nat_tests}
-use Rattle.std.proofs.lemmas.List.{length-take-le}
+use Rattle.std.proofs.lemmas.List.{get_or-take, length-take-le}
 use Rattle.las_header.specs.declared.refusal.Refusal.TheVariants.{BadChunk}
-use Rattle.laz_chunk.specs.Layouts.{layout}
+use Rattle.laz_chunk.specs.Layouts.{layout, record_length}
 use Rattle.laz_file.specs.Unpacking.{HoldsNone}
 use Rattle.laz_file.proofs.Knowing.{known_then}
 use Rattle.laz_file.proofs.Heads.{same_cause}
@@ -12,7 +12,7 @@ use Rattle.laz_file.proofs.chunks.next_chunks.Goals as goal
 
 pub returns-then-is_empty-clause-blocks : goal.returns-then-is_empty-clause-blocks
 returns-then-is_empty-clause-blocks g c =
-    ([], refl, record { once = λ k lt. absurd (omega arith); answers = λ k lt. absurd (omega arith) }, known_then _ _ _ _ (λ file lie. λ k d lt. absurd (omega arith)) c.requires.lie)
+    ([], refl, record { once = λ k lt. absurd (omega arith); answers = λ k lt. absurd (omega arith) }, λ k lt. absurd (omega arith), known_then _ _ _ _ (λ file lie. λ k d lt. absurd (omega arith)) c.requires.lie)
 
 pub returns-then-batch-eq0-clause-bad : goal.returns-then-batch-eq0-clause-bad
 returns-then-batch-eq0-clause-bad g c = λ cause is.
@@ -50,7 +50,13 @@ returns-clause-blocks g c =
     let batch = c.batch_of-batch.result in
     let long : length (take batch counts) ≡ batch = length-take-le batch counts (omega (arith, c.batch_of-batch.ensures.within)) in
     let b = c.in_ok-good.ensures.blocks in
-    (b.0, b.1, b.2, known_then _ _ _ _ (λ file are. λ k d lt. front_only l file c.args.place counts sizes batch k d (get_or b.0 k []) (omega (arith, lt, long, c.in_ok-good.ensures.within)) (are k d lt)) b.3)
+    let within : c.in_ok-good.good ≤ batch = omega (arith, long, c.in_ok-good.ensures.within) in (
+      b.0,
+      b.1,
+      b.2,
+      λ k lt. b.3 k lt ∙ ap (λ (n : ℕ). record_length l * n) (get_or-take batch counts k 0 (omega (arith, lt, within))),
+      known_then _ _ _ _ (λ file are. λ k d lt. front_only l file c.args.place counts sizes batch k d (get_or b.0 k []) (omega (arith, lt, within)) (are k d lt)) b.4,
+    )
 
 pub returns-clause-cut : goal.returns-clause-cut
 returns-clause-cut g c = λ lt.

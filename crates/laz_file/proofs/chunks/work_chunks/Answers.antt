@@ -5,7 +5,7 @@ use Rattle.laz_workers.specs.Work.{texts}
 use Rattle.laz_workers.proofs.Texts.{length-texts}
 use Rattle.laz_file.specs.Pieces.{piece_bytes, pieces_from}
 use Rattle.laz_file.proofs.Knowing.{known_then}
-use Rattle.laz_file.proofs.BatchAnswers.{blocks_answered, inputs_fit, none_in_chunk, only_in_chunk, refused_there}
+use Rattle.laz_file.proofs.BatchAnswers.{blocks_answered, inputs_fit, length_answered, none_in_chunk, only_in_chunk, refused_there}
 use Rattle.laz_file.proofs.chunks.work_chunks.Goals as goal
 
 pub work_batch-requires-clause-fits : goal.work_batch-requires-clause-fits
@@ -25,6 +25,7 @@ returns-clause-blocks g c =
       b.0,
       b.1,
       b.2,
+      λ k lt. length_answered l (get_or counts k 0) (get_or (texts inputs) k []) (get_or b.0 k []) (c.in_ok-read_inputs.ensures.shape k (omega (arith, lt, within))) (b.3 k lt),
       known_then _ _ _ _ (λ file are. λ k d lt. let below : k < length counts = omega (arith, lt, within) in
           only_in_chunk l (get_or counts k 0) (get_or (texts inputs) k []) (piece_bytes file (get_or (pieces_from c.args.place counts c.args.sizes.now) k d)) (get_or b.0 k []) (c.in_ok-read_inputs.ensures.shape k below) (are k d below) (b.3 k lt)) c.in_ok-read_inputs.ensures.known,
     )

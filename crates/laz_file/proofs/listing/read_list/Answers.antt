@@ -5,9 +5,9 @@ use Rattle.laz_file.specs.Refusing.{IsRefusal}
 use Rattle.laz_file.specs.Reading.{ListsPieces}
 use Rattle.las_header.specs.Refusals.{first_cause}
 use Rattle.laz_table.specs.VlrCauses.{chunk_size_of, vlr_causes}
-use Rattle.laz_file.proofs.Knowing.{known_then}
+use Rattle.laz_file.proofs.Knowing.{if_ok, known_then}
 use Rattle.laz_file.proofs.Heads.{cause_of_err, none_of_ok, same_cause}
-use Rattle.laz_file.proofs.Accepting.{accepted_plain, plain_lies, refused_vlr}
+use Rattle.laz_file.proofs.Accepting.{accepted_plain, one_vlr, plain_lies, refused_vlr}
 use Rattle.laz_file.proofs.listing.read_list.Goals as goal
 
 pub returns-then-not-packed-clause-stands : goal.returns-then-not-packed-clause-stands
@@ -28,3 +28,14 @@ returns-in-Err-clause-refused g c = λ cause is.
     let packed = sym c.packed.ensures ∙ c.if-not-packed.false in
     known_then _ _ _ _ (λ file h. subst (λ (x : Refusal). IsRefusal file (Some x)) (same_cause c.in-Err.cause cause is) (refused_vlr file c.args.head.now h c.in-Err.cause packed
     (cause_of_err (first_cause (vlr_causes c.args.head.now.bytes)) c.read_vlr.result (chunk_size_of c.args.head.now.bytes) c.in-Err.cause c.read_vlr.ensures.chunk c.read_vlr.ensures.refused c.in-Err.is))) c.requires.head
+
+pub returns-then-not-packed-clause-vlr : goal.returns-then-not-packed-clause-vlr
+returns-then-not-packed-clause-vlr g c = λ packed.
+    let plain = sym c.packed.ensures ∙ c.if-not-packed.true in
+    absurd (cc)
+
+pub returns-in-Ok-clause-vlr : goal.returns-in-Ok-clause-vlr
+returns-in-Ok-clause-vlr g c =
+    let head = c.args.head.now.bytes in
+    let none = none_of_ok (first_cause (vlr_causes head)) c.read_vlr.result (chunk_size_of head) c.in-Ok.chunk c.read_vlr.ensures.chunk c.read_vlr.ensures.refused c.in-Ok.is in
+    if_ok c.read_packed.result (λ _. one_vlr head none.0)

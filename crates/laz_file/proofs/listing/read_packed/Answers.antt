@@ -2,10 +2,11 @@ use Rattle.std.proofs.Common.{◌≡◌, ◌+◌, ◌-◌, refl, sym, ◌∙◌,
 use Rattle.std.specs.Prelude.{Some}
 use Rattle.las_header.specs.declared.refusal.Refusal.{Refusal}
 use Rattle.laz_file.specs.declared.fault.Fault.{Fault}
+use Rattle.laz_file.specs.Reading.{points_in}
 use Rattle.laz_file.specs.Refusing.{IsRefusal}
 use Rattle.laz_file.proofs.Knowing.{known_at, known_both, known_three}
 use Rattle.laz_file.proofs.Heads.{residual_is}
-use Rattle.laz_file.proofs.Accepting.{accepted_packed, blocks_as, packed_lie, refused_pointer, refused_table}
+use Rattle.laz_file.proofs.Accepting.{accepted_packed, blocks_as, packed_lie, points_as, refused_pointer, refused_table}
 use Rattle.laz_file.proofs.listing.read_packed.Goals as goal
 
 pub returns-in_err-place-clause-refused : goal.returns-in_err-place-clause-refused
@@ -39,3 +40,7 @@ returns-clause-stands g c =
     let size_is : c.args.size ≡ length file = sym c.requires.size ∙ h.size in
     let lie = packed_lie file c.args.head.now h c.requires.packed c.requires.vlr start end (start - (offset + 8)) offset c.blocks_of-blocks.result place blocks_are offset_is refl c.args.chunk counts sizes order.0 (omega (arith, order.1, order.2, size_is)) c.in_ok-sizes.ensures.lists.whole in
     record { accepted = both.0; are = both.1; lie = lie }) c.requires.head c.in_ok-place.ensures.place (known_at _ _ _ _ c.in_ok-place.ensures.held c.in_ok-sizes.ensures.accepted)
+
+pub returns-clause-points : goal.returns-clause-points
+returns-clause-points g c =
+    c.in_ok-sizes.ensures.points ∙ ap points_in c.blocks_of-blocks.ensures ∙ points_as c.args.chunk c.points.result ∙ c.points.ensures

@@ -5,7 +5,7 @@ use Rattle.laz_file.specs.declared.fault.Fault.TheVariants.{Refused}
 use Rattle.laz_file.specs.Reading.{table_size}
 use Rattle.laz_file.proofs.Knowing.{known_then}
 use Rattle.laz_file.proofs.Heads.{never_refused}
-use Rattle.laz_file.proofs.TableFront.{accepted_from_front, accepted_lists, first_from_front}
+use Rattle.laz_file.proofs.TableFront.{accepted_from_front, accepted_lists, accepted_points, first_from_front}
 use Rattle.laz_file.proofs.opening.read_chunks.Goals as goal
 
 pub returns-in_err-bytes-clause-refused : goal.returns-in_err-bytes-clause-refused
@@ -13,6 +13,9 @@ returns-in_err-bytes-clause-refused g c = λ cause is. never_refused (g.F.Files.
 
 pub returns-in-Ok-clause-lists : goal.returns-in-Ok-clause-lists
 returns-in-Ok-clause-lists g c = accepted_lists c.deref.result.now c.args.blocks c.args.total c.in-Ok.list.sizes.items c.in-Ok.list.counts.items c.requires.few c.in-Ok.ensures
+
+pub returns-in-Ok-clause-points : goal.returns-in-Ok-clause-points
+returns-in-Ok-clause-points g c = accepted_points c.deref.result.now c.args.blocks c.args.total c.in-Ok.list.sizes.items c.in-Ok.list.counts.items c.requires.size c.in-Ok.ensures
 
 pub returns-in-Ok-clause-accepted : goal.returns-in-Ok-clause-accepted
 returns-in-Ok-clause-accepted g c =

@@ -3,7 +3,7 @@ use Rattle.las_header.specs.Heads.{HeadView}
 use Rattle.las_outside.specs.Outside.{Outside}
 use Rattle.laz_file.specs.declared.fault.Fault.{Fault}
 use Rattle.laz_file.proofs.Knowing.{known_at, known_both, known_then}
-use Rattle.laz_file.proofs.Heads.{head_known, head_accepted, head_given, head_refused, never_refused, refused_by_front, residual_is, same_cause}
+use Rattle.laz_file.proofs.Heads.{head_known, head_accepted, head_given, head_refused, never_refused, no_stray_read, refused_by_front, residual_is, same_cause}
 use Rattle.laz_file.proofs.opening.read_head.Goals as goal
 
 pub returns-in_err-offset-clause-refused : goal.returns-in_err-offset-clause-refused
@@ -43,3 +43,6 @@ returns-in-Err-clause-refused g c = λ cause is.
     let offset = c.in_ok-offset.offset in
     let known = head_known (g.F.Files.seen c.args.files.now).held c.args.name.now front bytes size offset _ c.in-Ok.ensures.length (known_at _ _ _ _ held1 c.in_ok-offset.ensures.bytes) (known_at _ _ _ _ (c.in_ok-offset.ensures.held ∙ held1) c.in_ok-read_on.ensures.bytes) c.in_ok-offset.ensures.len c.in_ok-offset.ensures.front c.in_ok-offset.ensures.offset in
     known_then _ _ _ _ (λ file h. head_refused file front bytes size offset h c.read.result c.in-Err.cause cause c.read.ensures.head c.read.ensures.refused c.in-Err.is (same_cause c.in-Err.cause cause is)) known
+
+pub returns-in-Ok-read-clause-plain : goal.returns-in-Ok-read-clause-plain
+returns-in-Ok-read-clause-plain g c = no_stray_read _ _ c.read.result c.in-Ok-read.head c.read.ensures.head c.read.ensures.refused c.in-Ok-read.is

@@ -1,7 +1,7 @@
 use Rattle.std.proofs.Common.{sym, ap, subst, Err}
 use Rattle.laz_file.specs.declared.fault.Fault.{Fault}
-use Rattle.laz_file.specs.Reading.{ReaderSeen, StandsFor}
-use Rattle.laz_file.proofs.PieceLists.{new_stands}
+use Rattle.laz_file.specs.Reading.{AgreesWithHead, ReaderSeen, StandsFor}
+use Rattle.laz_file.proofs.PieceLists.{new_agrees, new_stands}
 use Rattle.laz_file.proofs.Knowing.{known_at, known_both, known_then}
 use Rattle.laz_file.proofs.Heads.{residual_is}
 use Rattle.laz_file.proofs.Accepting.{refused_head}
@@ -18,3 +18,9 @@ returns-clause-stands g c =
     let list = c.in_ok-list.list in
     known_both _ _ _ _ _ (λ file h lists. subst (λ (r : ReaderSeen). StandsFor r file) (sym c.of.ensures)
     (new_stands file _ head list.chunk list.counts.items list.sizes.items _ h c.in_ok-list.ensures.chunk lists c.in_ok-list.ensures.lists c.in_ok-list.ensures.plain)) c.in_ok-head.ensures.head (known_at _ _ _ _ c.in_ok-head.ensures.held c.in_ok-list.ensures.stands)
+
+pub returns-clause-whole : goal.returns-clause-whole
+returns-clause-whole g c =
+    let list = c.in_ok-list.list in
+    let e = c.in_ok-list.ensures in
+    subst AgreesWithHead (sym c.of.ensures) (new_agrees _ c.in_ok-head.head list.chunk list.counts.items list.sizes.items e.chunk e.vlr c.in_ok-head.ensures.plain e.lists.same e.points)

@@ -1,0 +1,77 @@
+-- How an output ends that records are copied into.
+use Rattle.std.proofs.Common.{◌≡◌, inr, ℕ, ◌<◌, List, [], ◌++◌, length, take, Option, Some, None, sym, ◌∙◌, ap, subst, append_assoc, arith}
+use Rattle.std.specs.Option.{ForSome}
+use Rattle.std.specs.List.{concat}
+use Rattle.std.proofs.lemmas.List.{append-nil}
+use Rattle.las_outside.specs.Drafts.{IsUnfinished}
+use Rattle.las_outside.specs.Files.{FileMap, with_file}
+use Rattle.las_outside.specs.Outside.{Outside, with_bytes}
+use Rattle.laz_file.specs.declared.fault.Fault.{Fault}
+use Rattle.laz_file.specs.declared.fault.Fault.TheVariants.{Refused, Read, Write, Memory}
+use Rattle.laz_file.specs.Copying.{EndsCopying, HasCause, HoldFirst, LeavesFirst, LeavesPart, LeavesUnfinished, with_reads}
+use Rattle.laz_file.specs.Outputs.{Output, draft_of, patches_of, stopped}
+use Rattle.laz_file.specs.Reading.{ReaderSeen}
+use Rattle.laz_file.specs.Writing.{PackingSeen, PointsStand, Stands, Stops, WriterSeen}
+use Rattle.laz_file.proofs.Stopping.{stopped_unfinished}
+use Rattle.laz_file.proofs.Taking.{held_after}
+
+-- a packed output has chunks of some points
+pub some_chunk : (before now : Outside) (w : WriterSeen) (out : Output) (bytes : List ℕ) → Stands before now w out bytes → ForSome out.chunk (λ chunk. 0 < chunk)
+some_chunk before now w out bytes s = by out.chunk w.packing s.points
+  where
+    by : (c : Option ℕ) (p : Option PackingSeen) → PointsStand c before now out w.most p bytes → ForSome c (λ chunk. 0 < chunk)
+    by None p points = λ k e. absurd (let clash : None ≡ Some k = e in cc)
+    by (Some c) None points = absurd points
+    by (Some c) (Some p) points = λ k e. let same : c ≡ k = cc in omega (arith, same, points.stands.numbers.least, points.plan.chunk_is)
+
+-- a prefix of what stands if an output is stopped is unfinished, whatever records come after
+pub leaves_part : (before old : Outside) (w : WriterSeen) (out : Output) (bytes : List ℕ) → Stands before old w out bytes → (records more : List ℕ) (held : Option FileMap) (n : ℕ) → held ≡ with_file before.held out.name (take n (stopped out (bytes ++ records)))
+    → LeavesUnfinished out (bytes ++ (records ++ more)) before.held held
+leaves_part before old w out bytes s records more held n is =
+    let left = take n (stopped out (bytes ++ records)) in
+    inr (
+      left,
+      subst (λ (t : List ℕ). IsUnfinished (draft_of out t) (patches_of out t) left) (append_assoc bytes records more)
+          (stopped_unfinished out (bytes ++ records) more n s.head (some_chunk before old w out bytes s)),
+      is,
+    )
+
+-- an output that could not be finished
+pub leaves_end : (before : Outside) (out : Output) (bytes records more : List ℕ) (held : Option FileMap) (left : List ℕ) → more ≡ [] → IsUnfinished (draft_of out (bytes ++ records)) (patches_of out (bytes ++ records)) left → held ≡ with_file before.held out.name left
+    → LeavesUnfinished out (bytes ++ (records ++ more)) before.held held
+leaves_end before out bytes records more held left none is to =
+    subst (λ (t : List ℕ). LeavesUnfinished out (bytes ++ t) before.held held) (sym (append-nil records) ∙ ap (λ (t : List ℕ). records ++ t) (sym none)) (inr (left, is, to))
+
+-- a fault with its cause, and what it leaves
+pub ends_with : (known was : Option FileMap) (old now : Outside) (reader : ReaderSeen) (out : Output) (bytes : List ℕ) (fault : Fault) → HasCause old now fault → LeavesFirst known was now.held reader out bytes → EndsCopying known was old now reader out bytes fault
+ends_with known was old now reader out bytes (Refused cause) has left = absurd has
+ends_with known was old now reader out bytes Read has left = (has, left)
+ends_with known was old now reader out bytes Write has left = (has, left)
+ends_with known was old now reader out bytes Memory has left = left
+
+-- copying failed
+pub first_part : (old new : Outside) (reader : ReaderSeen) (w : WriterSeen) (n : ℕ) (blocks : List (List ℕ)) (before : Outside) (out : Output) (bytes : List ℕ) → HoldFirst old.held reader n blocks → LeavesPart old new w (concat blocks) → Stands before old w out bytes
+    → LeavesFirst old.held before.held new.held reader out bytes
+first_part old new reader w n blocks before out bytes hold part s =
+    let p = part before out bytes s in
+    (n, blocks, hold, λ more none. leaves_part before old w out bytes s (concat blocks) more new.held p.0 p.1)
+
+-- finishing failed
+pub first_finish : (old new : Outside) (reader : ReaderSeen) (n : ℕ) (blocks : List (List ℕ)) (before : Outside) (out : Output) (bytes : List ℕ) (fault : Fault) (left : List ℕ) → HoldFirst old.held reader n blocks → n ≡ length reader.left
+    → IsUnfinished (draft_of out (bytes ++ concat blocks)) (patches_of out (bytes ++ concat blocks)) left → Stops fault (with_bytes before out.name left) new → LeavesFirst old.held before.held new.held reader out bytes
+first_finish old new reader n blocks before out bytes fault left hold all is stops =
+    (n, blocks, hold, λ more none. leaves_end before out bytes (concat blocks) more new.held left (none all) is (held_after fault (with_bytes before out.name left) new stops))
+
+-- stopping failed
+pub first_stop : (old new : Outside) (reader : ReaderSeen) (w : WriterSeen) (n : ℕ) (blocks : List (List ℕ)) (before mid : Outside) (out : Output) (bytes : List ℕ) (fault : Fault) (k : ℕ) → HoldFirst old.held reader n blocks → Stands before old w out bytes
+    → Stops fault (with_bytes (with_reads before mid) out.name (take k (stopped out (bytes ++ concat blocks)))) new → LeavesFirst old.held before.held new.held reader out bytes
+first_stop old new reader w n blocks before mid out bytes fault k hold s stops = (
+  n,
+  blocks,
+  hold,
+  λ more none. leaves_part before old w out bytes s (concat blocks) more new.held k (held_after fault (with_bytes (with_reads before mid) out.name (take k (stopped out (bytes ++ concat blocks)))) new stops),
+)
+
+-- all pieces, if these are all
+pub hold_all : (held : Option FileMap) (reader : ReaderSeen) (n : ℕ) (blocks : List (List ℕ)) → HoldFirst held reader n blocks → n ≡ length reader.left → HoldFirst held reader (length reader.left) blocks
+hold_all held reader n blocks hold all = subst (λ (k : ℕ). HoldFirst held reader k blocks) all hold

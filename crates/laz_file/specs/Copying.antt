@@ -1,0 +1,126 @@
+-- Whole files: records that go from a reader to a writer, what packs a plain file and what unpacks a packed one, and
+-- what such calls leave.
+use Rattle.std.specs.Prelude.{◌≡◌, ◌⊎◌, ℕ, ◌+◌, ◌*◌, ◌≤◌, false, List, [], ◌++◌, length, take}
+use Rattle.std.specs.Prelude.{Option, Some, None, IsSome, Result, Ok, Err}
+use Rattle.std.specs.List.{concat}
+use Rattle.las_header.specs.declared.refusal.Refusal.{Refusal}
+use Rattle.las_header.specs.declared.refusal.Refusal.TheVariants.{BadChunk}
+use Rattle.las_header.specs.Fields.{record_length_of}
+use Rattle.las_header.specs.Plain.{plain_head}
+use Rattle.las_outside.specs.Drafts.{IsUnfinished}
+use Rattle.las_outside.specs.Faults.{Rose}
+use Rattle.las_outside.specs.Files.{FileMap, WhereKnown, with_file}
+use Rattle.las_outside.specs.Outside.{Outside}
+use Rattle.laz_file.specs.declared.fault.Fault.{Fault}
+use Rattle.laz_file.specs.declared.fault.Fault.TheVariants.{Refused, Read, Write, Memory}
+use Rattle.laz_file.specs.Outputs.{Output, draft_of, finished, patches_of, stopped}
+use Rattle.laz_file.specs.Reading.{AreWholeBlocks, ReaderSeen, records_in}
+use Rattle.laz_file.specs.Records.{AreRecordsOf, HoldOnly, IsBadPiece}
+use Rattle.laz_file.specs.Writing.{Stands, WriterSeen}
+
+-- the packed form of a plain file as an output, and the plain form of a packed one: the records are not counted, since
+-- the head has their counts
+abbrev pub packed_output : (name file : List ℕ) → (chunk : ℕ) → Output
+packed_output name file chunk = record { name = name; head = plain_head file; chunk = Some chunk; counted = false }
+
+abbrev pub plain_output : (name file : List ℕ) → Output
+plain_output name file = record { name = name; head = plain_head file; chunk = None; counted = false }
+
+-- The files are as before, or the output is unfinished, with these records, and every other file is as before.
+abbrev pub LeavesUnfinished : Output → (records : List ℕ) → (old new : Option FileMap) → Type 0
+LeavesUnfinished out records old new =
+    (new ≡ old)
+    ⊎ ((left : List ℕ) × IsUnfinished (draft_of out records) (patches_of out records) left
+    × (new ≡ with_file old out.name left))
+
+-- The same of the output of a file, for its records up to the first bad chunk, if there is one.
+abbrev pub LeavesRecords : Output → (file : List ℕ) → (old new : Option FileMap) → Type 0
+LeavesRecords out file old new =
+    (blocks : List (List ℕ)) (bad : Option ℕ) → AreRecordsOf file blocks bad
+    → LeavesUnfinished out (concat blocks) old new
+
+-- These are the records of a file, up to its first bad chunk if there is one, and no others are.
+pub record AreOnlyRecords (file : List ℕ) (blocks : List (List ℕ)) (bad : Option ℕ) : Type 0 where
+  pub are : AreRecordsOf file blocks bad
+  pub only : (others : List (List ℕ)) (worse : Option ℕ) → AreRecordsOf file others worse
+      → (others ≡ blocks) × (worse ≡ bad)
+
+-- ---- records that go from a reader to a writer
+
+-- the outside as it was, but with the counts of reads that it has now
+abbrev pub with_reads : (before now : Outside) → Outside
+with_reads before now = record before { read_faults = now.read_faults; asked = now.asked }
+
+-- The writer took these records after those that it stood for, and nothing else was written.
+abbrev pub Takes : (old now : Outside) → (writer new : WriterSeen) → (records : List ℕ) → Type 0
+Takes old now writer new records =
+    (before : Outside) (out : Output) (bytes : List ℕ) → Stands before old writer out bytes
+    → Stands (with_reads before now) now new out (bytes ++ records)
+
+-- A call failed while the writer took these records: of the output a prefix is left of what stands if it is stopped
+-- after them.
+abbrev pub LeavesPart : (old now : Outside) → (writer : WriterSeen) → (records : List ℕ) → Type 0
+LeavesPart old now writer records =
+    (before : Outside) (out : Output) (bytes : List ℕ) → Stands before old writer out bytes
+    → (n : ℕ) × (now.held ≡ with_file before.held out.name (take n (stopped out (bytes ++ records))))
+
+-- The writer can take all records that a reader has left: it has not failed, records are as long, and there is room.
+pub record CanTake (reader : ReaderSeen) (writer : WriterSeen) : Type 0 where
+  pub sound : writer.failed ≡ false
+  pub size : writer.size ≡ record_length_of reader.head.bytes
+  pub room : writer.taken + writer.size * records_in reader.left ≤ writer.size * writer.most
+
+-- The first n pieces that a reader has left hold these blocks of records, and no others.
+pub record HoldFirst (held : Option FileMap) (reader : ReaderSeen) (n : ℕ) (blocks : List (List ℕ)) : Type 0 where
+  pub within : n ≤ length reader.left
+  pub whole : AreWholeBlocks (record_length_of reader.head.bytes) (take n reader.left) blocks
+  pub hold : WhereKnown held reader.name (λ file. HoldOnly file (take n reader.left) blocks)
+
+-- The records of a reader end after n pieces: these are all, or the next chunk is the first bad one.
+abbrev pub EndsAfter : (held : Option FileMap) → ReaderSeen → (n : ℕ) → Option Refusal → Type 0
+EndsAfter held reader n None = n ≡ length reader.left
+EndsAfter held reader n (Some cause) =
+    (cause ≡ BadChunk (reader.next + n)) × IsSome reader.chunk
+    × WhereKnown held reader.name (λ file. IsBadPiece file reader.left n)
+
+-- how copying goes on after a fault of a reader: a refusal ends the records, and any other fault the call
+abbrev pub end_of : Fault → Result (Option Refusal) Fault
+end_of (Refused cause) = Ok (Some cause)
+end_of fault = Err fault
+
+-- A call that reads and writes ends with a fault that has its cause, and never with a refusal.
+abbrev pub HasCause : (old now : Outside) → Fault → Type 0
+HasCause old now (Refused cause) = ⊥
+HasCause old now Read = Rose old.read_faults now.read_faults
+HasCause old now Write = Rose old.write_faults now.write_faults
+HasCause old now Memory = Unit {0}
+
+-- All records that a reader has left were copied into an output, after these bytes of records, and it was finished.
+abbrev pub Finishes : (known was now : Option FileMap) → ReaderSeen → Output → (bytes : List ℕ) → Type 0
+Finishes known was now reader out bytes =
+    (blocks : List (List ℕ)) × HoldFirst known reader (length reader.left) blocks
+    × (now ≡ with_file was out.name (finished out (bytes ++ concat blocks)))
+
+-- The records before a bad chunk were copied into an output, and it was stopped.
+abbrev pub Refuses : (known was now : Option FileMap) → ReaderSeen → Output → (bytes : List ℕ) → Refusal → Type 0
+Refuses known was now reader out bytes cause =
+    (n : ℕ) × (blocks : List (List ℕ)) × HoldFirst known reader n blocks × EndsAfter known reader n (Some cause)
+    × (now ≡ with_file was out.name (stopped out (bytes ++ concat blocks)))
+
+-- The output was left unfinished while these records were copied into it, for all records that may come after them:
+-- none, if they are all.
+abbrev pub LeavesFirst : (known was now : Option FileMap) → ReaderSeen → Output → (bytes : List ℕ) → Type 0
+LeavesFirst known was now reader out bytes =
+    (n : ℕ) × (blocks : List (List ℕ)) × HoldFirst known reader n blocks
+    × ((more : List ℕ) → (n ≡ length reader.left → more ≡ [])
+    → LeavesUnfinished out (bytes ++ (concat blocks ++ more)) was now)
+
+-- How copying ends with a fault.
+abbrev pub EndsCopying : (known was : Option FileMap) → (old now : Outside) → ReaderSeen → Output → (bytes : List ℕ)
+    → Fault → Type 0
+EndsCopying known was old now reader out bytes (Refused cause) = Refuses known was now.held reader out bytes cause
+EndsCopying known was old now reader out bytes Read =
+    Rose old.read_faults now.read_faults × LeavesFirst known was now.held reader out bytes
+EndsCopying known was old now reader out bytes Write =
+    Rose old.write_faults now.write_faults × LeavesFirst known was now.held reader out bytes
+EndsCopying known was old now reader out bytes Memory = LeavesFirst known was now.held reader out bytes

@@ -1,0 +1,109 @@
+//! Records that go from a reader to a writer.
+ghost use Rattle.std.specs.Prelude.{◌≡◌, ◌≢◌, ◌⊎◌, ◌%◌, ◌*◌, ◌+◌, ◌≤◌, ℕ, List, length, All, false, IfErr, IfOk, IsErrOf};
+ghost use Rattle.std.specs.Prelude.{OnErr, OnOk};
+ghost use Rattle.std.specs.List.{concat};
+ghost use Rattle.las_outside.specs.Faults.{Rose};
+ghost use Rattle.las_outside.specs.Files.{WhereKnown};
+ghost use Rattle.las_outside.specs.Outside.{Later, Outside};
+ghost use Rattle.laz_file.specs.declared.fault.Fault.TheVariants.{Memory, Write};
+ghost use Rattle.laz_file.specs.Copying.{CanTake, EndsAfter, HasCause, HoldFirst, LeavesPart, Takes, end_of};
+ghost use Rattle.laz_file.specs.Outputs.{Output};
+ghost use Rattle.laz_file.specs.Reading.{IsCrewOf, Lends, StandsFor};
+ghost use Rattle.laz_file.specs.Writing.{SameFaults, Stands};
+
+use crate::Fault;
+use crate::reader::Reader;
+use crate::writer::Writer;
+use las_header::Refusal;
+use las_outside::{Files, Gate};
+use laz_chunk::Workspace;
+use laz_workers::Crew;
+use std::alloc::Global;
+use std::thread::Threads;
+
+// Pushes the blocks of a batch, which a reader and its crew lend, in order.
+fn push_lent<R: Threads + Sync, F: Files, G: Gate>(
+    rt: &R,
+    alloc: Global,
+    files: &mut F,
+    gate: &G,
+    reader: &Reader,
+    crew: &Crew<Workspace>,
+    count: u32,
+    writer: &mut Writer,
+) -> Result<(), Fault>
+    requires lent { (blocks : List (List ℕ)) × Lends reader.now crew.now blocks × (length blocks ≡ count)
+        × All (λ block. length block % writer.old.size ≡ 0) blocks
+        × (writer.old.taken + length (concat blocks) ≤ writer.old.size * writer.old.most) }
+    requires open { writer.old.failed ≡ false }
+    requires stands { (before : Outside) × (out : Output) × (bytes : List ℕ)
+        × Stands before (F.seen files.old) writer.old out bytes }
+    ensures takes { (blocks : List (List ℕ)) → Lends reader.now crew.now blocks → length blocks ≡ count
+        → OnOk result (Takes (F.seen files.old) (F.seen files.new) writer.old writer.new (concat blocks)) }
+    ensures part { (blocks : List (List ℕ)) → Lends reader.now crew.now blocks → length blocks ≡ count
+        → OnErr result (LeavesPart (F.seen files.old) (F.seen files.new) writer.old (concat blocks)) }
+    ensures most { writer.new.most ≡ writer.old.most }
+    ensures open { OnOk result (writer.new.failed ≡ false) }
+    ensures cause { IfErr result (HasCause (F.seen files.old) (F.seen files.new)) }
+    ensures calm { OnOk result (SameFaults (F.seen files.old) (F.seen files.new)) }
+    ensures later { Later (F.seen files.old) (F.seen files.new) }
+{
+    for i in 0..count {
+        writer.push(rt, alloc, files, gate, reader.block(crew, i))?;
+    }
+    Ok(())
+}
+
+// A refusal ends the records that are copied, and any other fault the call.
+fn end_of(fault: Fault) -> Result<Option<Refusal>, Fault>
+    ensures { result ≡ end_of fault }
+{
+    match fault {
+        Fault::Refused(cause) => Ok(Some(cause)),
+        Fault::Read => Err(Fault::Read),
+        Fault::Write => Err(Fault::Write),
+        Fault::Memory => Err(Fault::Memory),
+    }
+}
+
+/// Copies all records that a reader has left into a writer, batch by batch: up to the end of the records, or up to the
+/// first bad chunk, which is the answer.
+pub(crate) fn copy_records<R: Threads + Sync, F: Files, G: Gate>(
+    rt: &R,
+    alloc: Global,
+    files: &mut F,
+    gate: &G,
+    reader: &mut Reader,
+    crew: &mut Crew<Workspace>,
+    writer: &mut Writer,
+) -> Result<Option<Refusal>, Fault>
+    requires open { reader.old.failed ≡ false }
+    requires crew { IsCrewOf reader.old crew.old }
+    requires names { reader.old.name ≢ writer.old.name }
+    requires reads { WhereKnown (F.seen files.old).held reader.old.name (StandsFor reader.old) }
+    requires room { CanTake reader.old writer.old }
+    requires stands { (before : Outside) × (out : Output) × (bytes : List ℕ)
+        × Stands before (F.seen files.old) writer.old out bytes }
+    ensures copied { IfOk result (λ end. (n : ℕ) × (blocks : List (List ℕ))
+        × HoldFirst (F.seen files.old).held reader.old n blocks × EndsAfter (F.seen files.old).held reader.old n end
+        × Takes (F.seen files.old) (F.seen files.new) writer.old writer.new (concat blocks)) }
+    ensures part { OnErr result ((n : ℕ) × (blocks : List (List ℕ))
+        × HoldFirst (F.seen files.old).held reader.old n blocks
+        × LeavesPart (F.seen files.old) (F.seen files.new) writer.old (concat blocks)) }
+    ensures open { OnOk result (writer.new.failed ≡ false) }
+    ensures cause { IfErr result (HasCause (F.seen files.old) (F.seen files.new)) }
+    ensures reads_calm { OnOk result ((F.seen files.new).read_faults ≡ (F.seen files.old).read_faults) }
+    ensures writes_calm { OnOk result ((F.seen files.new).write_faults ≡ (F.seen files.old).write_faults) }
+    ensures later { Later (F.seen files.old) (F.seen files.new) }
+{
+    'batches: loop {
+        let count = match reader.next_batch(rt, alloc, files, gate, crew) {
+            Ok(count) => count,
+            Err(fault) => return end_of(fault),
+        };
+        if count == 0 {
+            return Ok(None);
+        }
+        push_lent(rt, alloc, files, gate, reader, crew, count, writer)?;
+    }
+}

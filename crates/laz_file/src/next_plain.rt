@@ -1,0 +1,50 @@
+//! The next block of a plain file.
+ghost use Rattle.std.specs.Prelude.{◌≡◌, ℕ, ◌+◌, ◌<◌, [], List, None, length, min, take, drop, IfErr, IfOk, OnOk};
+ghost use Rattle.std.specs.Prelude.{slice_index_or};
+ghost use Rattle.las_header.specs.Fields.{record_length_of};
+ghost use Rattle.las_outside.specs.Files.{WhereKnown};
+ghost use Rattle.las_outside.specs.Outside.{Later};
+ghost use Rattle.laz_file.specs.Reading.{AreWholeBlocks, FailsReading, StandsFor};
+ghost use Rattle.laz_file.specs.Records.{HoldOnly};
+
+use crate::Fault;
+use crate::limits::PLAIN_BLOCK;
+use crate::reader::Reader;
+use crate::reading::read_part;
+use las_outside::Files;
+
+impl Reader {
+    // Reads the next block of a plain file into the reader, if there are records left, and answers how many blocks it
+    // has read.
+    pub(crate) fn next_plain<F: Files>(&mut self, files: &mut F) -> Result<u32, Fault>
+        requires plain { self.old.chunk ≡ None }
+        requires stands { WhereKnown (F.seen files.old).held self.old.name (StandsFor self.old) }
+        ensures blocks { IfOk result (λ n. (blocks : List (List ℕ)) × (length blocks ≡ n)
+            × ((k : ℕ) → k < n → slice_index_or blocks k [] ≡ self.new.lent)
+            × AreWholeBlocks (record_length_of self.old.head.bytes) (take n self.old.left) blocks
+            × WhereKnown (F.seen files.old).held self.old.name
+            (λ file. HoldOnly file (take n self.old.left) blocks)) }
+        ensures whole { IfOk result (λ n. n ≡ min 1 (length self.old.left)) }
+        ensures moved { IfOk result (λ n. self.new ≡ record self.old {
+          left = drop n self.old.left;
+          next = self.old.next + n;
+          lent = self.new.lent;
+        }) }
+        ensures faults { OnOk result ((F.seen files.new).read_faults ≡ (F.seen files.old).read_faults) }
+        ensures ends { IfErr result (FailsReading (F.seen files.old) (F.seen files.new)) }
+        ensures held { (F.seen files.new).held ≡ (F.seen files.old).held }
+        ensures writes { (F.seen files.new).write_faults ≡ (F.seen files.old).write_faults }
+        ensures later { Later (F.seen files.old) (F.seen files.new) }
+    {
+        if self.records == 0 {
+            return Ok(0);
+        }
+        let count = self.records.min(PLAIN_BLOCK);
+        let size = usize::from(self.head.record_length()) * count as usize;
+        read_part(files, &self.name, self.place, size, &mut self.block)?;
+        self.place += size as u64;
+        self.records -= count;
+        self.blocks += 1;
+        Ok(1)
+    }
+}

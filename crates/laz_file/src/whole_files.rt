@@ -1,0 +1,168 @@
+//! Whole files: packed and unpacked.
+ghost use Rattle.std.specs.Prelude.{◌≡◌, ◌≢◌, ◌++◌, ℕ, ◌≤◌, List, Some, None, drop, false, IfErr, IsErrOf, OnOk, IsSome};
+ghost use Rattle.std.specs.List.{concat};
+ghost use Rattle.las_header.specs.declared.refusal.Refusal.{Refusal};
+ghost use Rattle.las_header.specs.declared.refusal.Refusal.TheVariants.{BadChunk};
+ghost use Rattle.las_header.specs.Fields.{point_offset_of};
+ghost use Rattle.las_header.specs.Plain.{plain_head};
+ghost use Rattle.las_outside.specs.Faults.{Rose};
+ghost use Rattle.las_outside.specs.Files.{WhereKnown, with_file};
+ghost use Rattle.las_outside.specs.Outside.{Later, Outside};
+ghost use Rattle.laz_file.specs.declared.fault.Fault.TheVariants.{Read, Refused, Write};
+ghost use Rattle.laz_file.specs.Copying.{AreOnlyRecords, CanTake, EndsCopying, Finishes, LeavesRecords};
+ghost use Rattle.laz_file.specs.Copying.{LeavesUnfinished, packed_output, plain_output};
+ghost use Rattle.laz_file.specs.Outputs.{Output, stopped};
+ghost use Rattle.laz_file.specs.Packing.{packed_file};
+ghost use Rattle.laz_file.specs.Reading.{AgreesWithHead, IsCrewOf, IsNewReader, StandsFor};
+ghost use Rattle.laz_file.specs.Writing.{Stands};
+
+use crate::Fault;
+use crate::copying::copy_records;
+use crate::reader::Reader;
+use crate::writer::Writer;
+use las_outside::{Files, Gate};
+use laz_chunk::Workspace;
+use laz_workers::Crew;
+use std::alloc::Global;
+use std::thread::Threads;
+
+// Copies all records that a reader has left into a writer, and finishes the output. After a bad chunk it is stopped.
+fn fill<R: Threads + Sync, F: Files, G: Gate>(
+    rt: &R,
+    alloc: Global,
+    files: &mut F,
+    gate: &G,
+    reader: &mut Reader,
+    crew: &mut Crew<Workspace>,
+    writer: Writer,
+) -> Result<(), Fault>
+    requires open { reader.old.failed ≡ false }
+    requires crew { IsCrewOf reader.old crew.old }
+    requires names { reader.old.name ≢ writer.name }
+    requires reads { WhereKnown (F.seen files.old).held reader.old.name (StandsFor reader.old) }
+    requires room { CanTake reader.old writer }
+    requires stands { (before : Outside) × (out : Output) × (bytes : List ℕ)
+        × Stands before (F.seen files.old) writer out bytes }
+    ensures finished { (before : Outside) (out : Output) (bytes : List ℕ)
+        → Stands before (F.seen files.old) writer out bytes
+        → OnOk result (Finishes (F.seen files.old).held before.held (F.seen files.new).held reader.old out bytes) }
+    ensures ends { (before : Outside) (out : Output) (bytes : List ℕ)
+        → Stands before (F.seen files.old) writer out bytes
+        → IfErr result (EndsCopying (F.seen files.old).held before.held (F.seen files.old) (F.seen files.new) reader.old
+        out bytes) }
+    ensures reads_calm { OnOk result ((F.seen files.new).read_faults ≡ (F.seen files.old).read_faults) }
+    ensures writes_calm { OnOk result ((F.seen files.new).write_faults ≡ (F.seen files.old).write_faults) }
+    ensures later { Later (F.seen files.old) (F.seen files.new) }
+{
+    let mut writer = writer;
+    match copy_records(rt, alloc, files, gate, reader, crew, &mut writer)? {
+        None => {
+            writer.finish(rt, alloc, files, gate)?;
+            Ok(())
+        }
+        Some(cause) => {
+            writer.stop(rt, alloc, files, gate)?;
+            Err(Fault::Refused(cause))
+        }
+    }
+}
+
+/// Packs a plain file: the output, another name than the input's, is its packed form in chunks of `chunk` points, 256 to
+/// 250,000. `workers`, 1 to 8, pack side by side, and what is written does not depend on them.
+///
+/// The answer is `Read` or `Write` if such a call failed, and never `Refused`. Then the files are as before, or the
+/// output is unfinished: a prefix of its draft, or its draft after a part of its patches.
+pub fn pack<R: Threads + Sync, F: Files, G: Gate>(
+    rt: &R,
+    alloc: Global,
+    files: &mut F,
+    gate: &G,
+    reader: Reader,
+    output: &str,
+    chunk: u32,
+    workers: u32,
+) -> Result<(), Fault>
+    requires new { IsNewReader reader.name reader }
+    requires plain { reader.chunk ≡ None }
+    requires chunk { (256 ≤ chunk) × (chunk ≤ 250000) }
+    requires workers { (1 ≤ workers) × (workers ≤ 8) }
+    requires names { output.now ≢ reader.name }
+    requires stands { WhereKnown (F.seen files.old).held reader.name (StandsFor reader) }
+    requires whole { AgreesWithHead reader }
+
+    ensures packed { OnOk result (WhereKnown (F.seen files.old).held reader.name (λ file.
+        (F.seen files.new).held ≡ with_file (F.seen files.old).held output.now (packed_file file chunk))) }
+    ensures left { IfErr result (λ fault. WhereKnown (F.seen files.old).held reader.name (λ file.
+        LeavesUnfinished (packed_output output.now file chunk) (drop (point_offset_of file) file)
+        (F.seen files.old).held (F.seen files.new).held)) }
+    ensures never { (cause : Refusal) → IsErrOf result (Refused cause) → ⊥ }
+    ensures read { IsErrOf result Read → Rose (F.seen files.old).read_faults (F.seen files.new).read_faults }
+    ensures write { IsErrOf result Write → Rose (F.seen files.old).write_faults (F.seen files.new).write_faults }
+    ensures reads_calm { OnOk result ((F.seen files.new).read_faults ≡ (F.seen files.old).read_faults) }
+    ensures writes_calm { OnOk result ((F.seen files.new).write_faults ≡ (F.seen files.old).write_faults) }
+    ensures later { Later (F.seen files.old) (F.seen files.new) }
+{
+    let mut reader = reader;
+    let mut crew = reader.crew(alloc, 1)?;
+    let head = reader.head();
+    let most = head.points();
+    let writer = Writer::create(
+        alloc,
+        files,
+        output,
+        head,
+        Some(chunk),
+        false,
+        most,
+        workers,
+    )?;
+    fill(rt, alloc, files, gate, &mut reader, &mut crew, writer)
+}
+
+/// Unpacks a packed file: the output, another name than the input's, is its plain form. `workers`, 1 to 8, unpack side
+/// by side, and what is written does not depend on them.
+///
+/// The answer is `Refused` with `BadChunk` if a chunk holds no records of its count: it is the first such chunk, and the
+/// output holds its head and all records before it. It is `Read` or `Write` if such a call failed. Then the files are as
+/// before, or the output is a prefix of its draft.
+pub fn unpack<R: Threads + Sync, F: Files, G: Gate>(
+    rt: &R,
+    alloc: Global,
+    files: &mut F,
+    gate: &G,
+    reader: Reader,
+    output: &str,
+    workers: u32,
+) -> Result<(), Fault>
+    requires new { IsNewReader reader.name reader }
+    requires packed { IsSome reader.chunk }
+    requires workers { (1 ≤ workers) × (workers ≤ 8) }
+    requires names { output.now ≢ reader.name }
+    requires stands { WhereKnown (F.seen files.old).held reader.name (StandsFor reader) }
+    requires whole { AgreesWithHead reader }
+
+    ensures unpacked { OnOk result (WhereKnown (F.seen files.old).held reader.name (λ file.
+        (blocks : List (List ℕ)) × AreOnlyRecords file blocks None
+        × ((F.seen files.new).held
+        ≡ with_file (F.seen files.old).held output.now (plain_head file ++ concat blocks)))) }
+    ensures refused { (cause : Refusal) → IsErrOf result (Refused cause)
+        → WhereKnown (F.seen files.old).held reader.name (λ file.
+        (blocks : List (List ℕ)) × (i : ℕ) × (cause ≡ BadChunk i) × AreOnlyRecords file blocks (Some i)
+        × ((F.seen files.new).held ≡ with_file (F.seen files.old).held output.now
+        (stopped (plain_output output.now file) (concat blocks)))) }
+    ensures bad { (cause : Refusal) → IsErrOf result (Refused cause) → (i : ℕ) × (cause ≡ BadChunk i) }
+    ensures left { IfErr result (λ fault. WhereKnown (F.seen files.old).held reader.name (λ file.
+        LeavesRecords (plain_output output.now file) file (F.seen files.old).held (F.seen files.new).held)) }
+    ensures read { IsErrOf result Read → Rose (F.seen files.old).read_faults (F.seen files.new).read_faults }
+    ensures write { IsErrOf result Write → Rose (F.seen files.old).write_faults (F.seen files.new).write_faults }
+    ensures reads_calm { OnOk result ((F.seen files.new).read_faults ≡ (F.seen files.old).read_faults) }
+    ensures writes_calm { OnOk result ((F.seen files.new).write_faults ≡ (F.seen files.old).write_faults) }
+    ensures later { Later (F.seen files.old) (F.seen files.new) }
+{
+    let mut reader = reader;
+    let head = reader.head().without_vlr(alloc)?;
+    let mut crew = reader.crew(alloc, workers)?;
+    let most = head.points();
+    let writer = Writer::create(alloc, files, output, &head, None, false, most, 1)?;
+    fill(rt, alloc, files, gate, &mut reader, &mut crew, writer)
+}
