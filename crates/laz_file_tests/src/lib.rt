@@ -1,0 +1,13 @@
+//! Tests of whole files, over files in memory: what no clause says, and each call once with ample memory.
+#![tactic(auto)]
+
+#[cfg(test)]
+mod faults;
+#[cfg(test)]
+mod opening;
+#[cfg(test)]
+mod samples;
+#[cfg(test)]
+mod streams;
+#[cfg(test)]
+mod trial;
