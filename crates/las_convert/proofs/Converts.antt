@@ -1,0 +1,200 @@
+-- What converting a whole file gives.
+use Rattle.std.proofs.Common.{◌≡◌, ◌⊎◌, inl, inr, ℕ, zero, suc, ◌+◌, ◌%◌, ◌<◌, ◌≤◌, Bool, true, false, List, [], ◌∷◌, ◌++◌, length, take, drop, slice_get, Option, Some, None, refl, sym, ◌∙◌, ap, subst, length-append, arith}
+use Rattle.std.specs.Prelude.{All}
+use Rattle.std.specs.List.{concat}
+use Rattle.std.proofs.lemmas.Bool.{cases_lt}
+use Rattle.std.proofs.lemmas.List.{append-nil, length-take, length-take-le, take_all}
+use Rattle.las_header.specs.declared.refusal.Refusal.{Refusal}
+use Rattle.las_header.specs.declared.refusal.Refusal.TheVariants.{BadChunk, RawRange}
+use Rattle.las_header.specs.Fields.{head_of, record_length_of}
+use Rattle.las_header.specs.Heads.{HeadView}
+use Rattle.las_filter.specs.Kept.{Kept, Steps}
+use Rattle.las_outside.specs.Files.{FileMap}
+use Rattle.laz_file.specs.Copying.{AreOnlyRecords, LeavesUnfinished}
+use Rattle.laz_file.specs.Outputs.{Output}
+use Rattle.laz_file.specs.Pieces.{ArePieces, Piece}
+use Rattle.laz_file.specs.Reading.{AreWholeBlocks, ReaderSeen, StandsFor}
+use Rattle.laz_file.specs.Records.{AreRead, HoldBlocks, HoldOnly, IsBadPiece}
+use Rattle.laz_file.proofs.Copies.{even_whole}
+use Rattle.laz_file.proofs.OneAnswer.{one_pieces}
+use Rattle.laz_file.proofs.Putting.{concat-append}
+use Rattle.laz_file.proofs.Whole.{not_bad_before}
+use Rattle.laz_file.proofs.WholeOutputs.{all_records, records_before}
+use Rattle.las_convert.specs.Adding.{Adds, cut_all}
+use Rattle.las_convert.specs.Converting.{AreFirstRecords, ConvertsTo, Keeps, OnlyConverts, kept_in}
+use Rattle.las_convert.proofs.Adding.{adds_all, kept_from, refused_at}
+use Rattle.las_convert.proofs.Only.{HasRecords, early_refused, even_front, fewer_first, first_kept, more_first, raw_clash, same_refused, stays_in}
+
+hold_length : (file : List ℕ) (ps : List Piece) (bs : List (List ℕ)) → HoldBlocks file ps bs → length bs ≡ length ps
+hold_length file [] [] h = refl
+hold_length file [] (b ∷ bs) h = absurd h
+hold_length file (p ∷ ps) [] h = absurd h
+hold_length file (p ∷ ps) (b ∷ bs) h = ap suc (hold_length file ps bs h.1)
+
+no_length : (zs : List (List ℕ)) → length zs ≡ 0 → zs ≡ []
+no_length [] e = refl
+no_length (z ∷ zs) e = absurd (omega (arith, e))
+
+inside : (ps : List Piece) (j : ℕ) (p : Piece) → slice_get ps j ≡ Some p → j < length ps
+inside [] j p e = absurd (cc)
+inside (q ∷ ps) zero p e = omega arith
+inside (q ∷ ps) (suc j) p e = omega (arith, inside ps j p e)
+
+module _ (plan : Steps) (first : ReaderSeen) (file : List ℕ) (st : StandsFor first file) (new : first.next ≡ 0) (some : 0 < record_length_of first.head.bytes) (n : ℕ) (xs : List (List ℕ)) (within : n ≤ length first.left) (whole : AreWholeBlocks (record_length_of first.head.bytes) (take n first.left) xs) (hold : HoldOnly file (take n first.left) xs) where
+  bytes_is : first.head.bytes ≡ head_of file
+  bytes_is = ap (λ (h : HeadView). h.bytes) st.head
+
+  left_is : first.left ≡ st.pieces
+  left_is = st.left ∙ ap (λ (k : ℕ). drop k st.pieces) new
+
+  has : HasRecords file
+  has = record { some = subst (λ (t : List ℕ). 0 < record_length_of t) bytes_is some }
+
+  mine : HoldOnly file (take n st.pieces) xs
+  mine = subst (λ (ps : List Piece). HoldOnly file (take n ps) xs) left_is hold
+
+  few : n ≤ length st.pieces
+  few = subst (λ (ps : List Piece). n ≤ length ps) left_is within
+
+  even : All (λ block. length block % record_length_of (head_of file) ≡ 0) xs
+  even = subst (λ (t : List ℕ). All (λ block. length block % record_length_of t ≡ 0) xs) bytes_is (even_whole (record_length_of first.head.bytes) (take n first.left) xs whole)
+
+  kept_is : (ones : List (List ℕ)) (refused : Bool) → Adds plan (cut_all (record_length_of first.head.bytes) (concat xs)) ones refused → kept_in plan file xs ≡ kept_from ones (refused_at refused ones)
+  kept_is ones refused adds =
+      adds_all plan (cut_all (record_length_of (head_of file)) (concat xs)) ones refused (subst (λ (t : List ℕ). Adds plan (cut_all (record_length_of t) (concat xs)) ones refused) bytes_is adds)
+
+  -- blocks that are read to the end or to a bad chunk begin with those that were read
+  begins_with : (others : List (List ℕ)) (bad : Option ℕ) → AreRead file st.pieces others bad → (zs : List (List ℕ)) × (others ≡ xs ++ zs) × (n ≡ length st.pieces → zs ≡ [])
+  begins_with others None read =
+      let p = more_first file st.pieces n (length st.pieces) xs others mine (subst (λ (ps : List Piece). HoldBlocks file ps others) (sym (take_all (length st.pieces) st.pieces (omega arith))) read) few in
+      (p.0, p.1, λ all. no_length p.0 (omega (arith, all, hold_length file st.pieces others read, hold_length file (take n st.pieces) xs mine.hold, length-take-le n st.pieces few, ap (λ (t : List (List ℕ)). length t) p.1, length-append xs p.0)))
+  begins_with others (Some i) read = elim (cases_lt i n) [
+    | inl less ↦ absurd (not_bad_before file st.pieces xs i n less mine.hold read.1)
+    | inr more ↦
+        let p = more_first file st.pieces n i xs others mine read.0 more in
+        let near = inside st.pieces i read.1.0 read.1.1 in
+        (p.0, p.1, λ all. absurd (omega (arith, all, near, more)))
+  ]
+
+  same_pieces : (pieces : List Piece) → ArePieces file pieces → pieces ≡ st.pieces
+  same_pieces pieces are = one_pieces file pieces st.pieces are st.are
+
+  read_here : (pieces : List Piece) (others : List (List ℕ)) (bad : Option ℕ) → ArePieces file pieces → AreRead file pieces others bad → AreRead file st.pieces others bad
+  read_here pieces others bad are read = subst (λ (ps : List Piece). AreRead file ps others bad) (same_pieces pieces are) read
+
+  raw_is : (ones : List (List ℕ)) (refused : Bool) → Adds plan (cut_all (record_length_of first.head.bytes) (concat xs)) ones refused → (kept_in plan file xs).raw_range ≡ refused_at refused ones
+  raw_is ones refused adds = ap (λ (k : Kept). k.raw_range) (kept_is ones refused adds)
+
+  ones_are : (ones : List (List ℕ)) (refused : Bool) → Adds plan (cut_all (record_length_of first.head.bytes) (concat xs)) ones refused → concat (kept_in plan file xs).records ≡ concat ones
+  ones_are ones refused adds = ap (λ (k : Kept). concat k.records) (kept_is ones refused adds)
+
+  keeps_here : (ones : List (List ℕ)) (refused : Bool) → Adds plan (cut_all (record_length_of first.head.bytes) (concat xs)) ones refused → Keeps plan file xs (concat ones) (refused_at refused ones)
+  keeps_here ones refused adds = record { records_are = ones_are ones refused adds; raw_range_is = raw_is ones refused adds }
+
+  theirs_are : (ones : List (List ℕ)) (refused : Bool) → Adds plan (cut_all (record_length_of first.head.bytes) (concat xs)) ones refused → (ys : List (List ℕ)) (others : List ℕ) (raw : Option ℕ) → Keeps plan file ys others raw → ys ≡ xs → others ≡ concat ones
+  theirs_are ones refused adds ys others raw k same = sym k.records_are ∙ ap (λ (bs : List (List ℕ)). concat (kept_in plan file bs).records) same ∙ ones_are ones refused adds
+
+  -- no record is refused in blocks that end before
+  never_raw : (ones : List (List ℕ)) → Adds plan (cut_all (record_length_of first.head.bytes) (concat xs)) ones false → (m : ℕ) (ys : List (List ℕ)) (k : ℕ) → HoldBlocks file (take m st.pieces) ys → m ≤ n → (kept_in plan file ys).raw_range ≡ Some k → ⊥
+  never_raw ones adds m ys k held less raw =
+      raw_clash k (kept_in plan file xs).raw_range (early_refused plan file has st.pieces n m xs ys k mine even held less raw) (raw_is ones false adds)
+
+  pub converts_all : (ones : List (List ℕ)) → Adds plan (cut_all (record_length_of first.head.bytes) (concat xs)) ones false → n ≡ length first.left → OnlyConverts plan file (concat ones) None
+  converts_all ones adds all =
+      let here : HoldOnly file (take (length first.left) first.left) xs = subst (λ (k : ℕ). HoldOnly file (take k first.left) xs) all hold in
+      let rs : AreOnlyRecords file xs None = all_records first file st new xs here in
+      let end : n ≡ length st.pieces = all ∙ ap (λ (ps : List Piece). length ps) left_is in
+      record { are = (xs, rs.are, keeps_here ones false adds); only = only rs end }
+    where
+      only : AreOnlyRecords file xs None → n ≡ length st.pieces → (others : List ℕ) (other : Option Refusal) → ConvertsTo plan file others other → (others ≡ concat ones) × (other ≡ None)
+      only rs end others None c = (theirs_are ones false adds c.0 others None c.2 (rs.only c.0 None c.1).0, refl)
+      only rs end others (Some (BadChunk i)) c = absurd (let clash : Some i ≡ None = (rs.only c.0 (Some i) c.1).1 in cc)
+      only rs end others (Some (RawRange k)) c =
+          let f = c.1 in
+          let held = subst (λ (ps : List Piece). HoldBlocks file (take f.number ps) c.0) (same_pieces f.pieces f.are) f.hold in
+          absurd (elim (cases_lt f.number n) [
+            | inl less ↦ never_raw ones adds f.number c.0 k held (omega (arith, less)) c.2.raw_range_is
+            | inr more ↦
+                let every : take f.number st.pieces ≡ take n st.pieces = take_all f.number st.pieces (omega (arith, end, more)) ∙ sym (take_all n st.pieces (omega (arith, end))) in
+                never_raw ones adds n c.0 k (subst (λ (ps : List Piece). HoldBlocks file ps c.0) every held) (omega arith) c.2.raw_range_is
+          ])
+      only rs end others (Some _) c = absurd c
+
+  pub converts_bad : (ones : List (List ℕ)) → Adds plan (cut_all (record_length_of first.head.bytes) (concat xs)) ones false → (cause : Refusal) → cause ≡ BadChunk n → IsBadPiece file first.left n → OnlyConverts plan file (concat ones) (Some cause)
+  converts_bad ones adds cause is bad =
+      let rs : AreOnlyRecords file xs (Some n) = records_before first file st new n xs hold bad in
+      let there : IsBadPiece file st.pieces n = subst (λ (ps : List Piece). IsBadPiece file ps n) left_is bad in
+      subst (λ (x : Refusal). OnlyConverts plan file (concat ones) (Some x)) (sym is) (record { are = (xs, rs.are, keeps_here ones false adds); only = only rs there })
+    where
+      only : AreOnlyRecords file xs (Some n) → IsBadPiece file st.pieces n → (others : List ℕ) (other : Option Refusal) → ConvertsTo plan file others other → (others ≡ concat ones) × (other ≡ Some (BadChunk n))
+      only rs there others None c = absurd (let clash : None ≡ Some n = (rs.only c.0 None c.1).1 in cc)
+      only rs there others (Some (BadChunk i)) c =
+          let e = rs.only c.0 (Some i) c.1 in
+          let same : i ≡ n = (let eq : Some i ≡ Some n = e.1 in cc) in
+          (theirs_are ones false adds c.0 others None c.2 e.0, ap (λ (k : ℕ). Some (BadChunk k)) same)
+      only rs there others (Some (RawRange k)) c =
+          let f = c.1 in
+          let held = subst (λ (ps : List Piece). HoldBlocks file (take f.number ps) c.0) (same_pieces f.pieces f.are) f.hold in
+          absurd (elim (cases_lt n f.number) [
+            | inl more ↦ not_bad_before file st.pieces c.0 n f.number more held there
+            | inr less ↦ never_raw ones adds f.number c.0 k held less c.2.raw_range_is
+          ])
+      only rs there others (Some _) c = absurd c
+
+  pub converts_raw : (ones : List (List ℕ)) → Adds plan (cut_all (record_length_of first.head.bytes) (concat xs)) ones true → (cause : Refusal) → cause ≡ RawRange (length ones) → OnlyConverts plan file (concat ones) (Some cause)
+  converts_raw ones adds cause is =
+      subst (λ (x : Refusal). OnlyConverts plan file (concat ones) (Some x)) (sym is)
+      (record { are = (xs, record { pieces = st.pieces; are = st.are; number = n; hold = mine.hold }, keeps_here ones true adds); only = only })
+    where
+      never_read : (ys : List (List ℕ)) (bad : Option ℕ) → AreRead file st.pieces ys bad → (kept_in plan file ys).raw_range ≡ None → ⊥
+      never_read ys bad read none =
+          let b = begins_with ys bad read in
+          let raw : (kept_in plan file ys).raw_range ≡ Some (length ones) = ap (λ (k : Kept). k.raw_range) (ap (kept_in plan file) b.1 ∙ stays_in plan file has xs b.0 (length ones) even (raw_is ones true adds)) ∙ raw_is ones true adds in
+          raw_clash (length ones) (kept_in plan file ys).raw_range raw none
+      only : (others : List ℕ) (other : Option Refusal) → ConvertsTo plan file others other → (others ≡ concat ones) × (other ≡ Some (RawRange (length ones)))
+      only others None c = absurd (never_read c.0 None (read_here c.1.0 c.0 None c.1.1 c.1.2) c.2.raw_range_is)
+      only others (Some (BadChunk i)) c = absurd (never_read c.0 (Some i) (read_here c.1.0 c.0 (Some i) c.1.1 c.1.2) c.2.raw_range_is)
+      only others (Some (RawRange k)) c =
+          let f = c.1 in
+          let held = subst (λ (ps : List Piece). HoldBlocks file (take f.number ps) c.0) (same_pieces f.pieces f.are) f.hold in
+          let same = same_refused plan file has st.pieces n f.number xs c.0 (length ones) k mine even held (raw_is ones true adds) c.2.raw_range_is in
+          let number : Some k ≡ Some (length ones) = sym c.2.raw_range_is ∙ ap (λ (x : Kept). x.raw_range) same ∙ raw_is ones true adds in
+          let k_is : k ≡ length ones = cc in
+          (sym c.2.records_are ∙ ap (λ (x : Kept). concat x.records) same ∙ ones_are ones true adds, ap (λ (j : ℕ). Some (RawRange j)) k_is)
+      only others (Some _) c = absurd c
+
+  -- ---- what a fault leaves, for all that the file may give
+  module _ (ones_first rest ones : List (List ℕ)) (refused : Bool) (split : cut_all (record_length_of first.head.bytes) (concat xs) ≡ ones_first ++ rest) (adds : Adds plan ones_first ones refused) (out : Output) (was now : Option FileMap) (left : (more : List ℕ) → (n ≡ length first.left → rest ≡ [] → more ≡ []) → LeavesUnfinished out (concat ones ++ more) was now) where
+    split_here : cut_all (record_length_of (head_of file)) (concat xs) ≡ ones_first ++ rest
+    split_here = subst (λ (t : List ℕ). cut_all (record_length_of t) (concat xs) ≡ ones_first ++ rest) bytes_is split
+
+    from_more : (zs : List (List ℕ)) (records : List ℕ) → concat (kept_in plan file (xs ++ zs)).records ≡ records → (n ≡ length st.pieces → zs ≡ []) → LeavesUnfinished out records was now
+    from_more zs records is none =
+        let f = first_kept plan file has xs zs ones_first rest ones refused even split_here adds in
+        let whole_is : concat ones ++ concat f.0 ≡ records = sym (concat-append ones f.0) ∙ ap concat (sym f.1) ∙ is in
+        subst (λ (t : List ℕ). LeavesUnfinished out t was now) whole_is
+        (left (concat f.0) (λ all empty. ap concat (f.2 (none (all ∙ ap (λ (ps : List Piece). length ps) left_is)) empty)))
+
+    from_read : (ys : List (List ℕ)) (bad : Option ℕ) (records : List ℕ) → AreRead file st.pieces ys bad → concat (kept_in plan file ys).records ≡ records → LeavesUnfinished out records was now
+    from_read ys bad records read is =
+        let b = begins_with ys bad read in
+        from_more b.0 records (ap (λ (bs : List (List ℕ)). concat (kept_in plan file bs).records) (sym b.1) ∙ is) b.2
+
+    pub converts_left : (records : List ℕ) (refusal : Option Refusal) → ConvertsTo plan file records refusal → LeavesUnfinished out records was now
+    converts_left records None c = from_read c.0 None records (read_here c.1.0 c.0 None c.1.1 c.1.2) c.2.records_are
+    converts_left records (Some (BadChunk i)) c = from_read c.0 (Some i) records (read_here c.1.0 c.0 (Some i) c.1.1 c.1.2) c.2.records_are
+    converts_left records (Some (RawRange k)) c =
+        let f = c.1 in
+        let held = subst (λ (ps : List Piece). HoldBlocks file (take f.number ps) c.0) (same_pieces f.pieces f.are) f.hold in
+        elim (cases_lt f.number n) [
+          | inl less ↦
+              let p = fewer_first file st.pieces n f.number xs c.0 mine held (omega (arith, less)) in
+              let front = even_front (record_length_of (head_of file)) c.0 p.0 (subst (λ (bs : List (List ℕ)). All (λ block. length block % record_length_of (head_of file) ≡ 0) bs) p.1 even) in
+              let same : kept_in plan file xs ≡ kept_in plan file c.0 = ap (kept_in plan file) p.1 ∙ stays_in plan file has c.0 p.0 k front c.2.raw_range_is in
+              from_more [] records (ap (λ (bs : List (List ℕ)). concat (kept_in plan file bs).records) (append-nil xs) ∙ ap (λ (x : Kept). concat x.records) same ∙ c.2.records_are) (λ all. refl)
+          | inr more ↦
+              let p = more_first file st.pieces n f.number xs c.0 mine held more in
+              let none : n ≡ length st.pieces → p.0 ≡ [] = λ all. no_length p.0 (omega (arith, all, more, hold_length file (take f.number st.pieces) c.0 held, length-take f.number st.pieces, hold_length file (take n st.pieces) xs mine.hold, length-take n st.pieces, ap (λ (t : List (List ℕ)). length t) p.1, length-append xs p.0)) in
+              from_more p.0 records (ap (λ (bs : List (List ℕ)). concat (kept_in plan file bs).records) (sym p.1) ∙ c.2.records_are) none
+        ]
+    converts_left records (Some _) c = absurd c

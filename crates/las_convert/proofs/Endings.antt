@@ -1,0 +1,153 @@
+-- How an output ends that records are converted into.
+use Rattle.std.proofs.Common.{◌≡◌, ◌⊎◌, inl, inr, ℕ, Bool, true, false, cond, List, [], ◌++◌, length, take, Option, Some, None, Result, IfErr, refl, sym, ◌∙◌, ap, subst, append_assoc}
+use Rattle.std.specs.List.{concat}
+use Rattle.std.proofs.lemmas.List.{append-nil, take_all}
+use Rattle.std.proofs.Common.{◌≤◌, arith}
+use Rattle.las_header.specs.declared.refusal.Refusal.{Refusal}
+use Rattle.las_header.specs.declared.refusal.Refusal.TheVariants.{RawRange}
+use Rattle.las_header.specs.Fields.{is_packed, record_length_of}
+use Rattle.las_header.specs.Plain.{plain_of, without_first}
+use Rattle.las_header.specs.Vlrs.{laszip_vlrs_of}
+use Rattle.las_filter.specs.Kept.{Steps}
+use Rattle.las_outside.specs.Drafts.{IsUnfinished}
+use Rattle.las_outside.specs.Files.{FileMap, with_file}
+use Rattle.las_outside.specs.Outside.{Outside, with_bytes}
+use Rattle.laz_file.specs.declared.fault.Fault.{Fault}
+use Rattle.laz_file.specs.declared.fault.Fault.TheVariants.{Refused, Read, Write, Memory}
+use Rattle.laz_file.specs.Copying.{EndsAfter, HasCause, HoldFirst, LeavesUnfinished, with_reads}
+use Rattle.laz_file.specs.Outputs.{Output, draft_of, finished, front, patches_of, stopped}
+use Rattle.laz_file.specs.Reading.{ReaderSeen}
+use Rattle.laz_file.specs.Writing.{Stands, Stops, WriterSeen}
+use Rattle.laz_file.proofs.Endings.{leaves_end, leaves_part}
+use Rattle.laz_file.proofs.Taking.{held_after}
+use Rattle.laz_file.proofs.WholeOutputs.{create_left, err_then}
+use Rattle.las_convert.specs.Adding.{Adds, EndsKeeping, Goes, LeavesKept, cut_all}
+use Rattle.las_convert.specs.Converting.{EndsConverting, FinishesKept, LeavesConverting, RefusesKept, output_of}
+
+-- an output that could not be created
+pub begin_left : {T : Type 0} (r : Result T Fault) (old new : Outside) (reader : ReaderSeen) (name head : List ℕ) (chunk : Option ℕ) → head ≡ plain_of reader.head.bytes
+    → IfErr r (λ fault. Stops fault old new ⊎ ((n : ℕ) × Stops fault (with_bytes old name (take n (front (record { name = name; head = head; chunk = chunk; counted = true })))) new))
+    → IfErr r (λ fault. (records : List ℕ) → LeavesUnfinished (output_of reader name chunk) records old.held new.held)
+begin_left r old new reader name head chunk is =
+    let out : Output = record { name = name; head = head; chunk = chunk; counted = true } in
+    let same : out ≡ output_of reader name chunk = ap (λ (h : List ℕ). let o : Output = record { name = name; head = h; chunk = chunk; counted = true } in o) is in
+    err_then (λ fault. Stops fault old new ⊎ ((n : ℕ) × Stops fault (with_bytes old name (take n (front out))) new)) (λ fault. (records : List ℕ) → LeavesUnfinished (output_of reader name chunk) records old.held new.held) r
+    (λ fault stops records. subst (λ (o : Output). LeavesUnfinished o records old.held new.held) same (create_left old new out fault records stops))
+
+pub plain_itself : (head : List ℕ) → is_packed head ≡ false → head ≡ plain_of head
+plain_itself head is = sym (by (is_packed head) is)
+  where
+    by : (b : Bool) → b ≡ false → cond b (without_first (laszip_vlrs_of head) head) head ≡ head
+    by true e = absurd (cc)
+    by false e = refl
+
+-- the length of a record, by the reader and by the writer
+pub adds_wide : (plan : Steps) (reader : ReaderSeen) (w : WriterSeen) (blocks ones : List (List ℕ)) (refused : Bool) → w.size ≡ record_length_of reader.head.bytes → Adds plan (cut_all w.size (concat blocks)) ones refused → Adds plan (cut_all (record_length_of reader.head.bytes) (concat blocks)) ones refused
+adds_wide plan reader w blocks ones refused same adds = subst (λ (n : ℕ). Adds plan (cut_all n (concat blocks)) ones refused) same adds
+
+-- a fault with its cause, and what it leaves
+pub ends_with : (known was : Option FileMap) (old now : Outside) (plan : Steps) (reader : ReaderSeen) (out : Output) (bytes : List ℕ) (fault : Fault) → HasCause old now fault → LeavesConverting known was now.held plan reader out bytes → EndsConverting known was old now plan reader out bytes fault
+ends_with known was old now plan reader out bytes (Refused cause) has left = absurd has
+ends_with known was old now plan reader out bytes Read has left = (has, left)
+ends_with known was old now plan reader out bytes Write has left = (has, left)
+ends_with known was old now plan reader out bytes Memory has left = left
+
+module _ (old : Outside) (plan : Steps) (reader : ReaderSeen) (w : WriterSeen) (wide : w.size ≡ record_length_of reader.head.bytes) (n : ℕ) (blocks : List (List ℕ)) (hold : HoldFirst old.held reader n blocks) (before : Outside) (out : Output) (bytes : List ℕ) (s : Stands before old w out bytes) where
+  -- converting failed
+  pub left_part : (new : Outside) → LeavesKept plan w.size (concat blocks) old new w → LeavesConverting old.held before.held new.held plan reader out bytes
+  left_part new l =
+      let p = l.part before out bytes s in
+      record {
+        n = n;
+        blocks = blocks;
+        first = l.first;
+        rest = l.rest;
+        ones = l.ones;
+        refused = l.refused;
+        hold = hold;
+        split = ap (λ (k : ℕ). cut_all k (concat blocks)) (sym wide) ∙ l.split;
+        adds = l.adds;
+        left = λ more none. leaves_part before old w out bytes s (concat l.ones) more new.held p.0 p.1;
+      }
+
+  module _ (mid : Outside) (v : WriterSeen) (count : ℕ) (refused : Bool) (g : Goes plan w.size (concat blocks) old mid w v count refused) where
+    adds_here : Adds plan (cut_all (record_length_of reader.head.bytes) (concat blocks)) g.ones refused
+    adds_here = adds_wide plan reader w blocks g.ones refused wide g.adds
+
+    -- finishing failed
+    pub left_finish : (new : Outside) (fault : Fault) (left : List ℕ) → n ≡ length reader.left → IsUnfinished (draft_of out (bytes ++ concat g.ones)) (patches_of out (bytes ++ concat g.ones)) left → Stops fault (with_bytes (with_reads before mid) out.name left) new
+        → LeavesConverting old.held before.held new.held plan reader out bytes
+    left_finish new fault left all is stops = record {
+      n = n;
+      blocks = blocks;
+      first = cut_all (record_length_of reader.head.bytes) (concat blocks);
+      rest = [];
+      ones = g.ones;
+      refused = refused;
+      hold = hold;
+      split = sym (append-nil (cut_all (record_length_of reader.head.bytes) (concat blocks)));
+      adds = adds_here;
+      left = λ more none. leaves_end before out bytes (concat g.ones) more new.held left (none all refl) is (held_after fault (with_bytes (with_reads before mid) out.name left) new stops);
+    }
+
+    -- stopping failed
+    pub left_stop : (new : Outside) (fault : Fault) (k : ℕ) → Stops fault (with_bytes (with_reads before mid) out.name (take k (stopped out (bytes ++ concat g.ones)))) new → LeavesConverting old.held before.held new.held plan reader out bytes
+    left_stop new fault k stops = record {
+      n = n;
+      blocks = blocks;
+      first = cut_all (record_length_of reader.head.bytes) (concat blocks);
+      rest = [];
+      ones = g.ones;
+      refused = refused;
+      hold = hold;
+      split = sym (append-nil (cut_all (record_length_of reader.head.bytes) (concat blocks)));
+      adds = adds_here;
+      left = λ more none. leaves_part before old w out bytes s (concat g.ones) more new.held k (held_after fault (with_bytes (with_reads before mid) out.name (take k (stopped out (bytes ++ concat g.ones)))) new stops);
+    }
+
+    pub finished_all : (now : Option FileMap) → EndsKeeping old.held reader n count refused None → now ≡ with_file before.held out.name (finished out (bytes ++ concat g.ones)) → FinishesKept old.held before.held now plan reader out bytes
+    finished_all now ends is = by refused ends adds_here
+      where
+        by : (r : Bool) → EndsKeeping old.held reader n count r None → Adds plan (cut_all (record_length_of reader.head.bytes) (concat blocks)) g.ones r → FinishesKept old.held before.held now plan reader out bytes
+        by true e adds = absurd (let clash : None ≡ Some (RawRange count) = e in cc)
+        by false e adds = record { blocks = blocks; ones = g.ones; hold = subst (λ (k : ℕ). HoldFirst old.held reader k blocks) e hold; adds = adds; now_is = is }
+
+    pub ends_all : EndsKeeping old.held reader n count refused None → n ≡ length reader.left
+    ends_all ends = by refused ends
+      where
+        by : (r : Bool) → EndsKeeping old.held reader n count r None → n ≡ length reader.left
+        by true e = absurd (let clash : None ≡ Some (RawRange count) = e in cc)
+        by false e = e
+
+    pub refused_here : (cause : Refusal) (now : Option FileMap) → EndsKeeping old.held reader n count refused (Some cause) → now ≡ with_file before.held out.name (stopped out (bytes ++ concat g.ones)) → RefusesKept old.held before.held now plan reader out bytes cause
+    refused_here cause now ends is = record {
+      n = n;
+      blocks = blocks;
+      ones = g.ones;
+      refused = refused;
+      hold = hold;
+      adds = adds_here;
+      ends = subst (λ (k : ℕ). EndsKeeping old.held reader n k refused (Some cause)) g.count_is ends;
+      now_is = is;
+    }
+
+-- what a fault leaves, a refusal too
+pub ends_left : (known : Option FileMap) (before old new : Outside) (plan : Steps) (reader : ReaderSeen) (w : WriterSeen) (out : Output) (bytes : List ℕ) (fault : Fault) → Stands before old w out bytes → EndsConverting known before.held old new plan reader out bytes fault
+    → LeavesConverting known before.held new.held plan reader out bytes
+ends_left known before old new plan reader w out bytes (Refused cause) s e =
+    let text = stopped out (bytes ++ concat e.ones) in
+    record {
+      n = e.n;
+      blocks = e.blocks;
+      first = cut_all (record_length_of reader.head.bytes) (concat e.blocks);
+      rest = [];
+      ones = e.ones;
+      refused = e.refused;
+      hold = e.hold;
+      split = sym (append-nil (cut_all (record_length_of reader.head.bytes) (concat e.blocks)));
+      adds = e.adds;
+      left = λ more none. leaves_part before old w out bytes s (concat e.ones) more new.held (length text) (e.now_is ∙ ap (with_file before.held out.name) (sym (take_all (length text) text (omega arith))));
+    }
+ends_left known before old new plan reader w out bytes Read s e = e.1
+ends_left known before old new plan reader w out bytes Write s e = e.1
+ends_left known before old new plan reader w out bytes Memory s e = e

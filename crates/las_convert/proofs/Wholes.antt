@@ -1,0 +1,95 @@
+-- An output that was begun, and then filled with what a plan keeps of the records of a new reader.
+use Rattle.std.proofs.Common.{◌≡◌, ◌≢◌, ◌⊎◌, inl, inr, ℕ, ◌+◌, ◌<◌, Bool, true, false, List, [], ◌++◌, length, take, Option, Some, None, refl, sym, ◌∙◌, ap, subst, arith}
+use Rattle.std.specs.List.{concat}
+use Rattle.las_header.specs.declared.refusal.Refusal.{Refusal}
+use Rattle.las_header.specs.declared.refusal.Refusal.TheVariants.{BadChunk, RawRange}
+use Rattle.las_header.specs.Fields.{record_length_of}
+use Rattle.las_header.specs.Heads.{HeadView}
+use Rattle.las_header.specs.Plain.{plain_of}
+use Rattle.las_filter.specs.Kept.{Steps}
+use Rattle.las_outside.specs.Files.{FileMap, WhereKnown, with_file}
+use Rattle.las_outside.specs.Outside.{Outside}
+use Rattle.laz_file.specs.Copying.{HoldFirst, LeavesUnfinished}
+use Rattle.laz_file.specs.Outputs.{Output, finished, stopped}
+use Rattle.laz_file.specs.Pieces.{Piece}
+use Rattle.laz_file.specs.Reading.{ReaderSeen, StandsFor}
+use Rattle.laz_file.specs.Records.{HoldOnly, IsBadPiece}
+use Rattle.laz_file.specs.Writing.{Stands, WriterSeen}
+use Rattle.laz_file.proofs.Arms.{held_text}
+use Rattle.laz_file.proofs.Knowing.{known_both}
+use Rattle.laz_file.proofs.Pushing.{record_least}
+use Rattle.laz_file.proofs.Taking.{known_before}
+use Rattle.laz_file.proofs.WholeOutputs.{hold_ready}
+use Rattle.las_convert.specs.Adding.{Adds, EndsKeeping, cut_all}
+use Rattle.las_convert.specs.Converting.{ConvertsTo, FinishesKept, LeavesConverting, OnlyConverts, RefusesKept, converted_output, output_of}
+use Rattle.las_convert.proofs.Converts.{converts_all, converts_bad, converts_left, converts_raw}
+
+pub converted_out : (first reader : ReaderSeen) (file name : List ℕ) (chunk : Option ℕ) → StandsFor first file → reader.head ≡ first.head → output_of reader name chunk ≡ converted_output name file chunk
+converted_out first reader file name chunk st same =
+    ap (λ (h : HeadView). let out : Output = record { name = name; head = plain_of h.bytes; chunk = chunk; counted = true } in out) (same ∙ st.head)
+
+some_same : (x y : Refusal) → Some x ≡ Some y → x ≡ y
+some_same x y e = cc
+
+pub refused_kind : (known was now : Option FileMap) (plan : Steps) (reader : ReaderSeen) (out : Output) (bytes : List ℕ) (cause : Refusal) → RefusesKept known was now plan reader out bytes cause → ((i : ℕ) × (cause ≡ BadChunk i)) ⊎ ((k : ℕ) × (cause ≡ RawRange k))
+refused_kind known was now plan reader out bytes cause r = by r.refused r.ends
+  where
+    by : (b : Bool) → EndsKeeping known reader r.n (length r.ones) b (Some cause) → ((i : ℕ) × (cause ≡ BadChunk i)) ⊎ ((k : ℕ) × (cause ≡ RawRange k))
+    by true e = inr (length r.ones, some_same cause (RawRange (length r.ones)) e)
+    by false e = inl (reader.next + r.n, e.0)
+
+module _ (old mid new : Outside) (plan : Steps) (first reader : ReaderSeen) (buffers : ℕ) (ready : reader ≡ record first { buffers = buffers }) (new_one : first.next ≡ 0) (w : WriterSeen) (wide : w.size ≡ record_length_of reader.head.bytes) (out : Output) (s : Stands old mid w out []) (ne : first.name ≢ out.name) (stands : WhereKnown old.held first.name (StandsFor first)) where
+  text : List ℕ
+  text = (held_text old mid w out [] s).0
+
+  written : mid.held ≡ with_file old.held out.name text
+  unfolding text
+  written = ap (λ (o : Outside). o.held) (held_text old mid w out [] s).1
+
+  same_head : reader.head ≡ first.head
+  same_head = ap (λ (r : ReaderSeen). r.head) ready
+
+  same_left : reader.left ≡ first.left
+  same_left = ap (λ (r : ReaderSeen). r.left) ready
+
+  some : 0 < record_length_of first.head.bytes
+  some = subst (λ (h : HeadView). 0 < record_length_of h.bytes) same_head (omega (arith, wide, s.size, record_least out.head s.head))
+
+  first_hold : (n : ℕ) (blocks : List (List ℕ)) → HoldFirst mid.held reader n blocks → HoldFirst old.held first n blocks
+  first_hold n blocks h = hold_ready mid.held old.held first reader buffers out.name text n blocks ready written ne h
+
+  first_adds : (blocks ones : List (List ℕ)) (refused : Bool) → Adds plan (cut_all (record_length_of reader.head.bytes) (concat blocks)) ones refused → Adds plan (cut_all (record_length_of first.head.bytes) (concat blocks)) ones refused
+  first_adds blocks ones refused adds = subst (λ (h : HeadView). Adds plan (cut_all (record_length_of h.bytes) (concat blocks)) ones refused) same_head adds
+
+  pub finishes : FinishesKept mid.held old.held new.held plan reader out [] → WhereKnown old.held first.name (λ file. (records : List ℕ) × OnlyConverts plan file records None × (new.held ≡ with_file old.held out.name (finished out records)))
+  finishes f =
+      let n = length reader.left in
+      let h = first_hold n f.blocks f.hold in
+      known_both old.held first.name (StandsFor first) (λ file. HoldOnly file (take n first.left) f.blocks) (λ file. (records : List ℕ) × OnlyConverts plan file records None × (new.held ≡ with_file old.held out.name (finished out records)))
+      (λ file st ho. (concat f.ones, converts_all plan first file st new_one some n f.blocks h.within h.whole ho f.ones (first_adds f.blocks f.ones false f.adds) (ap (λ (ps : List Piece). length ps) same_left), f.now_is)) stands h.hold
+
+  pub refuses : (cause : Refusal) → RefusesKept mid.held old.held new.held plan reader out [] cause → WhereKnown old.held first.name (λ file. (records : List ℕ) × OnlyConverts plan file records (Some cause) × (new.held ≡ with_file old.held out.name (stopped out records)))
+  refuses cause r = by r.refused r.ends r.adds
+    where
+      by : (b : Bool) → EndsKeeping mid.held reader r.n (length r.ones) b (Some cause) → Adds plan (cut_all (record_length_of reader.head.bytes) (concat r.blocks)) r.ones b → WhereKnown old.held first.name (λ file. (records : List ℕ) × OnlyConverts plan file records (Some cause) × (new.held ≡ with_file old.held out.name (stopped out records)))
+      by true e adds =
+          let h = first_hold r.n r.blocks r.hold in
+          known_both old.held first.name (StandsFor first) (λ file. HoldOnly file (take r.n first.left) r.blocks) (λ file. (records : List ℕ) × OnlyConverts plan file records (Some cause) × (new.held ≡ with_file old.held out.name (stopped out records)))
+          (λ file st ho. (concat r.ones, converts_raw plan first file st new_one some r.n r.blocks h.within h.whole ho r.ones (first_adds r.blocks r.ones true adds) cause (some_same cause (RawRange (length r.ones)) e), r.now_is)) stands h.hold
+      by false e adds =
+          let h = first_hold r.n r.blocks r.hold in
+          let bad : WhereKnown old.held first.name (λ file. IsBadPiece file first.left r.n) =
+          known_before old.held out.name text first.name (λ file. IsBadPiece file first.left r.n) ne
+          (subst (λ (k : Option FileMap). WhereKnown k first.name (λ file. IsBadPiece file first.left r.n)) written
+          (subst (λ (x : ReaderSeen). WhereKnown mid.held x.name (λ file. IsBadPiece file x.left r.n)) ready e.2)) in
+          let number : reader.next + r.n ≡ r.n = omega (arith, ap (λ (x : ReaderSeen). x.next) ready, new_one) in
+          known_both old.held first.name (λ file. StandsFor first file × HoldOnly file (take r.n first.left) r.blocks) (λ file. IsBadPiece file first.left r.n) (λ file. (records : List ℕ) × OnlyConverts plan file records (Some cause) × (new.held ≡ with_file old.held out.name (stopped out records)))
+          (λ file a b. (concat r.ones, converts_bad plan first file a.0 new_one some r.n r.blocks h.within h.whole a.1 r.ones (first_adds r.blocks r.ones false adds) cause (e.0 ∙ ap BadChunk number) b, r.now_is))
+          (known_both old.held first.name (StandsFor first) (λ file. HoldOnly file (take r.n first.left) r.blocks) (λ file. StandsFor first file × HoldOnly file (take r.n first.left) r.blocks) (λ file st ho. (st, ho)) stands h.hold) bad
+
+  pub leaves : LeavesConverting mid.held old.held new.held plan reader out [] → WhereKnown old.held first.name (λ file. (records : List ℕ) (refusal : Option Refusal) → ConvertsTo plan file records refusal → LeavesUnfinished out records old.held new.held)
+  leaves l =
+      let h = first_hold l.n l.blocks l.hold in
+      let split = subst (λ (v : HeadView). cut_all (record_length_of v.bytes) (concat l.blocks) ≡ l.first ++ l.rest) same_head l.split in
+      known_both old.held first.name (StandsFor first) (λ file. HoldOnly file (take l.n first.left) l.blocks) (λ file. (records : List ℕ) (refusal : Option Refusal) → ConvertsTo plan file records refusal → LeavesUnfinished out records old.held new.held)
+      (λ file st ho. converts_left plan first file st new_one some l.n l.blocks h.within h.whole ho l.first l.rest l.ones l.refused split l.adds out old.held new.held (λ more none. l.left more (λ all empty. none (all ∙ ap (λ (ps : List Piece). length ps) same_left) empty))) stands h.hold

@@ -1,0 +1,26 @@
+use Rattle.std.proofs.Common.{◌≡◌, false, ℕ, List, length}
+use Rattle.std.specs.List.{concat}
+use Rattle.las_filter.specs.Kept.{steps_of}
+use Rattle.las_outside.specs.Files.{WhereKnown}
+use Rattle.las_outside.specs.Outside.{Later}
+use Rattle.laz_file.specs.Copying.{CanTake}
+use Rattle.laz_file.specs.Reading.{IsCrewOf, StandsFor}
+use Rattle.laz_file.proofs.Copies.{HasRead}
+use Rattle.las_convert.specs.Adding.{Goes}
+use Rattle.las_convert.proofs.copying.convert_records.Given as goal
+
+abbrev pub invariant-batches : goal.invariant-batches
+invariant-batches g l = record {
+  sound : l.reader.failed ≡ false;
+  crew : IsCrewOf l.reader l.crew;
+  reads : WhereKnown (g.F.Files.seen l.files).held l.reader.name (StandsFor l.reader);
+  can : CanTake l.reader l.writer;
+  converted : (n : ℕ) × (blocks : List (List ℕ)) × HasRead (g.F.Files.seen l.fn.files).held l.fn.reader l.reader n blocks
+      × Goes (steps_of l.plan) l.fn.writer.size (concat blocks) (g.F.Files.seen l.fn.files) (g.F.Files.seen l.files) l.fn.writer l.writer l.kept false;
+  reads_calm : (g.F.Files.seen l.files).read_faults ≡ (g.F.Files.seen l.fn.files).read_faults;
+  writes_calm : (g.F.Files.seen l.files).write_faults ≡ (g.F.Files.seen l.fn.files).write_faults;
+  later : Later (g.F.Files.seen l.fn.files) (g.F.Files.seen l.files);
+}
+
+abbrev pub decreases-batches : goal.decreases-batches
+decreases-batches g l = length l.reader.left

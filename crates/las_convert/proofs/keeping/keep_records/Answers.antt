@@ -1,0 +1,43 @@
+use Rattle.std.proofs.Common.{◌≡◌, ◌+◌, ◌*◌, ◌-◌, ◌/◌, ◌≤◌, ◌<◌, true, false, length, drop, Some, None, refl, sym, ◌∙◌, ap, subst, ℕ, List, arith}
+use Rattle.std.proofs.lemmas.List.{drop-drop}
+use Rattle.las_filter.specs.Kept.{steps_of}
+use Rattle.las_convert.proofs.Cuts.{KeptSo, block_fits, kept_dropped, kept_more, kept_refused, rest_next}
+use Rattle.las_convert.proofs.keeping.keep_records.Goals as goal
+use Rattle.las_convert.proofs.keeping.keep_records.Goals.{then-keeps+in-Ok, else-keeps}
+
+pub returns-in-Err-clause-kept : goal.returns-in-Err-clause-kept
+returns-in-Err-clause-kept c =
+    let size = c.args.size in
+    let at = c.loop-turn.at in
+    let t = c.loop-turn._turn in
+    let n = length c.args.block.now / size in
+    let within : at ≤ length c.loop-turn.buffer = omega (arith, c.loop-turn.invariant.at, c.loop-turn.auto.buffer, block_fits size t c.args.block.now c.requires.whole c.loop-turn-test.true, c.requires.room) in
+    kept_refused (steps_of c.args.plan.now) size t at c.args.block.now c.loop-turn.buffer c.loop-turn.rest.now c.split_at.result.0.now c.loop-turn.invariant.kept c.loop-turn.invariant.rest c.split_at.ensures.front
+    (at + size - at) n c.put_changed.new.place (sym c.if-keeps.ensures) (c.in-Err.ensures.refused.0 refl) within c.loop-turn-test.true
+
+pub loop-turn-preserved : goal.loop-turn-preserved
+loop-turn-preserved c =
+    let plan = steps_of c.args.plan.now in
+    let size = c.args.size in
+    let block = c.args.block.now in
+    let at = c.loop-turn.at in
+    let t = c.loop-turn._turn in
+    let so = c.loop-turn.invariant.kept in
+    let left = c.loop-turn.invariant.rest in
+    let first = c.split_at.ensures.front in
+    let within : at ≤ length c.loop-turn.buffer = omega (arith, c.loop-turn.invariant.at, c.loop-turn.auto.buffer, block_fits size t block c.requires.whole c.loop-turn-test.true, c.requires.room) in
+    let long : size * (t + 1) ≡ size * t + size = omega arith in
+    record {
+      rest = rest_next size t block c.loop-turn.rest.now c.split_at.result.1.now left c.split_at.ensures.back;
+      at = elim c.if-keeps.branch [ then-keeps+in-Ok w ↦ omega (arith, long, w.at-is, c.loop-turn.invariant.at) | else-keeps w ↦ omega (arith, long, w.at-is, c.loop-turn.invariant.at) ];
+      kept = elim c.if-keeps.branch [
+        | then-keeps+in-Ok w ↦
+            let new = w.put_changed.new.place in
+            let size_is : length new ≡ size = w.put_changed.ensures.size ∙ c.split_at.ensures.front_len in
+            let here = kept_more plan size t at block c.loop-turn.buffer c.loop-turn.rest.now c.split_at.result.0.now so left first (at + size - at) new (sym w.if-keeps.ensures) w.in-Ok.ensures.made size_is within in
+            subst (λ (n : ℕ). KeptSo plan size (t + 1) n block c.if-keeps.buffer) (sym w.at-is) (subst (λ (b : List ℕ). KeptSo plan size (t + 1) (at + size) block b) (sym w.buffer-is) here)
+        | else-keeps w ↦
+            let here = kept_dropped plan size t at block c.loop-turn.buffer c.loop-turn.rest.now c.split_at.result.0.now so left first (sym c.keeps.ensures ∙ w.if-keeps.false) in
+            subst (λ (n : ℕ). KeptSo plan size (t + 1) n block c.if-keeps.buffer) (sym w.at-is) (subst (λ (b : List ℕ). KeptSo plan size (t + 1) at block b) (sym w.buffer-is) here)
+      ];
+    }

@@ -1,0 +1,174 @@
+//! Whole files through a plan.
+ghost use Rattle.std.specs.Prelude.{◌≡◌, ◌≢◌, ◌⊎◌, ◌≤◌, ◌<◌, ◌++◌, [], ℕ, List, Option, All, false, None, Some, IfErr, IfOk};
+ghost use Rattle.std.specs.Prelude.{IsErrOf, OnOk};
+ghost use Rattle.std.specs.Option.{ForSome};
+ghost use Rattle.las_header.specs.declared.refusal.Refusal.{Refusal};
+ghost use Rattle.las_header.specs.declared.refusal.Refusal.TheVariants.{BadChunk, RawRange};
+ghost use Rattle.las_header.specs.Fields.{points_of};
+ghost use Rattle.las_filter.specs.Changes.{HasClass};
+ghost use Rattle.las_filter.specs.Kept.{steps_of};
+ghost use Rattle.las_outside.specs.Faults.{Rose};
+ghost use Rattle.las_outside.specs.Files.{WhereKnown, with_file};
+ghost use Rattle.las_outside.specs.Outside.{Later, Outside};
+ghost use Rattle.laz_file.specs.declared.fault.Fault.TheVariants.{Read, Refused, Write};
+ghost use Rattle.laz_file.specs.Copying.{CanTake, HasCause, LeavesUnfinished};
+ghost use Rattle.laz_file.specs.Outputs.{Output, finished, stopped};
+ghost use Rattle.laz_file.specs.Reading.{AgreesWithHead, IsCrewOf, IsNewReader, StandsFor};
+ghost use Rattle.laz_file.specs.Writing.{SameFaults, Stands};
+ghost use Rattle.las_convert.specs.Converting.{ConvertsTo, EndsConverting, FinishesKept, OnlyConverts, converted_output};
+ghost use Rattle.las_convert.specs.Converting.{output_of};
+
+use crate::copying::{convert_records, grow};
+use las_filter::Plan;
+use las_outside::{Files, Gate};
+use laz_chunk::Workspace;
+use laz_file::{Fault, PLAIN_BLOCK, Reader, Writer};
+use laz_workers::Crew;
+use std::alloc::{AllocError, Global};
+use std::thread::Threads;
+
+// Begins the output: the plain head of the reader's file, with counts of zero.
+fn begin<F: Files>(
+    alloc: Global,
+    files: &mut F,
+    reader: &Reader,
+    output: &str,
+    chunk: Option<u32>,
+    workers: u32,
+) -> Result<Writer, Fault>
+    requires whole { AgreesWithHead reader.now }
+    requires chunk { ForSome chunk (λ n. (256 ≤ n) × (n ≤ 250000)) }
+    requires workers { (1 ≤ workers) × (workers ≤ 8) }
+    ensures stands { IfOk result (λ writer. Stands (F.seen files.old) (F.seen files.new) writer
+        (output_of reader.now output.now chunk) []) }
+    ensures can { IfOk result (CanTake reader.now) }
+    ensures left { IfErr result (λ fault. (records : List ℕ) → LeavesUnfinished (output_of reader.now output.now chunk)
+        records (F.seen files.old).held (F.seen files.new).held) }
+    ensures cause { IfErr result (HasCause (F.seen files.old) (F.seen files.new)) }
+    ensures calm { OnOk result (SameFaults (F.seen files.old) (F.seen files.new)) }
+    ensures later { Later (F.seen files.old) (F.seen files.new) }
+{
+    let head = reader.head();
+    let most = head.points();
+    if head.packed() {
+        let plain = head.without_vlr(alloc)?;
+        return Writer::create(alloc, files, output, &plain, chunk, true, most, workers);
+    }
+    Writer::create(alloc, files, output, head, chunk, true, most, workers)
+}
+
+// A buffer for the records of a block, if its chunks have one size.
+fn room_for_blocks(alloc: Global, reader: &Reader) -> Result<Vec<u8>, AllocError> {
+    let head = reader.head();
+    let most = match reader.chunk() {
+        Some(chunk) if chunk != u32::MAX => chunk,
+        _ => PLAIN_BLOCK,
+    };
+    let size = usize::from(head.record_length());
+    let mut buffer = Vec::new(alloc);
+    grow(&mut buffer, size * most.min(head.points()) as usize)?;
+    Ok(buffer)
+}
+
+// Converts all records that a reader has left into a writer, and finishes the output. After a refusal it is stopped.
+fn fill<R: Threads + Sync, F: Files, G: Gate>(
+    rt: &R,
+    alloc: Global,
+    files: &mut F,
+    gate: &G,
+    plan: &Plan,
+    reader: &mut Reader,
+    crew: &mut Crew<Workspace>,
+    buffer: &mut Vec<u8>,
+    writer: Writer,
+) -> Result<(), Fault>
+    requires classes { All HasClass plan.now.changes.items }
+    requires open { reader.old.failed ≡ false }
+    requires crew { IsCrewOf reader.old crew.old }
+    requires names { reader.old.name ≢ writer.name }
+    requires reads { WhereKnown (F.seen files.old).held reader.old.name (StandsFor reader.old) }
+    requires room { CanTake reader.old writer }
+    requires stands { (before : Outside) × (out : Output) × (bytes : List ℕ)
+        × Stands before (F.seen files.old) writer out bytes }
+    ensures finished { (before : Outside) (out : Output) (bytes : List ℕ)
+        → Stands before (F.seen files.old) writer out bytes
+        → OnOk result (FinishesKept (F.seen files.old).held before.held (F.seen files.new).held (steps_of plan.now)
+        reader.old out bytes) }
+    ensures ends { (before : Outside) (out : Output) (bytes : List ℕ)
+        → Stands before (F.seen files.old) writer out bytes
+        → IfErr result (EndsConverting (F.seen files.old).held before.held (F.seen files.old) (F.seen files.new)
+        (steps_of plan.now) reader.old out bytes) }
+    ensures reads_calm { OnOk result ((F.seen files.new).read_faults ≡ (F.seen files.old).read_faults) }
+    ensures writes_calm { OnOk result ((F.seen files.new).write_faults ≡ (F.seen files.old).write_faults) }
+    ensures later { Later (F.seen files.old) (F.seen files.new) }
+{
+    let mut writer = writer;
+    match convert_records(rt, alloc, files, gate, plan, reader, crew, buffer, &mut writer)? {
+        None => {
+            writer.finish(rt, alloc, files, gate)?;
+            Ok(())
+        }
+        Some(cause) => {
+            writer.stop(rt, alloc, files, gate)?;
+            Err(Fault::Refused(cause))
+        }
+    }
+}
+
+/// Converts a file: the output, another name than the input's, has the records that the plan keeps, changed, under the
+/// input's plain head with their own counts. It is packed in chunks of `chunk` points, 256 to 250,000, or plain.
+/// `workers`, 1 to 8, unpack and pack side by side, and what is written does not depend on them.
+///
+/// The answer is `Refused` with `BadChunk` if a chunk holds no records of its count, or with `RawRange` if a kept record,
+/// counted from 0, has a coordinate that leaves its range: the first of these in the order of the records. The output
+/// then holds its head and all that is kept before it, of a packed output in full chunks. The answer is `Read` or `Write`
+/// if such a call failed; then the files are as before, or the output is a prefix of its draft, or its draft after a part
+/// of its patches.
+pub fn convert<R: Threads + Sync, F: Files, G: Gate>(
+    rt: &R,
+    alloc: Global,
+    files: &mut F,
+    gate: &G,
+    reader: Reader,
+    output: &str,
+    plan: &Plan,
+    chunk: Option<u32>,
+    workers: u32,
+) -> Result<(), Fault>
+    requires new { IsNewReader reader.name reader }
+    requires chunk { ForSome chunk (λ n. (256 ≤ n) × (n ≤ 250000)) }
+    requires classes { All HasClass plan.now.changes.items }
+    requires workers { (1 ≤ workers) × (workers ≤ 8) }
+    requires names { output.now ≢ reader.name }
+    requires stands { WhereKnown (F.seen files.old).held reader.name (StandsFor reader) }
+    requires whole { AgreesWithHead reader }
+
+    ensures converted { OnOk result (WhereKnown (F.seen files.old).held reader.name (λ file.
+        (records : List ℕ) × OnlyConverts (steps_of plan.now) file records None
+        × ((F.seen files.new).held ≡ with_file (F.seen files.old).held output.now
+        (finished (converted_output output.now file chunk) records)))) }
+    ensures refused { (cause : Refusal) → IsErrOf result (Refused cause)
+        → WhereKnown (F.seen files.old).held reader.name (λ file.
+        (records : List ℕ) × OnlyConverts (steps_of plan.now) file records (Some cause)
+        × ((F.seen files.new).held ≡ with_file (F.seen files.old).held output.now
+        (stopped (converted_output output.now file chunk) records))) }
+    ensures bad { (cause : Refusal) → IsErrOf result (Refused cause)
+        → ((i : ℕ) × (cause ≡ BadChunk i)) ⊎ ((k : ℕ) × (cause ≡ RawRange k)) }
+    ensures left { IfErr result (λ fault. WhereKnown (F.seen files.old).held reader.name (λ file.
+        (records : List ℕ) (refusal : Option Refusal) → ConvertsTo (steps_of plan.now) file records refusal
+        → LeavesUnfinished (converted_output output.now file chunk) records (F.seen files.old).held
+        (F.seen files.new).held)) }
+    ensures read { IsErrOf result Read → Rose (F.seen files.old).read_faults (F.seen files.new).read_faults }
+    ensures write { IsErrOf result Write → Rose (F.seen files.old).write_faults (F.seen files.new).write_faults }
+    ensures reads_calm { OnOk result ((F.seen files.new).read_faults ≡ (F.seen files.old).read_faults) }
+    ensures writes_calm { OnOk result ((F.seen files.new).write_faults ≡ (F.seen files.old).write_faults) }
+    ensures later { Later (F.seen files.old) (F.seen files.new) }
+{
+    let mut reader = reader;
+    let mut buffer = room_for_blocks(alloc, &reader)?;
+    let mut crew = reader.crew(alloc, workers)?;
+    let writer = begin(alloc, files, &reader, output, chunk, workers)?;
+    fill(
+        rt, alloc, files, gate, plan, &mut reader, &mut crew, &mut buffer, writer,
+    )
+}
