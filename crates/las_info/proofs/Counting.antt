@@ -1,0 +1,41 @@
+-- Counts of bins, one record after another.
+use Rattle.std.proofs.Common.{◌≡◌, ℕ, ◌+◌, ◌-◌, ◌^◌, ◌<◌, ◌≤◌, ◌∙◌, Bool, true, false, cond, Option, Some, None, unwrap_or, List, [], ◌∷◌, ◌++◌}
+use Rattle.std.proofs.Common.{ap, arith, subst, sym, refl}
+use Rattle.std.specs.Cmp.{nat_cmp_total}
+use Rattle.std.specs.Ordering.{eq_by_cmp, nat_cmp}
+use Rattle.std.specs.FinMap as map
+use Rattle.std.specs.FinMap.{get-empty, get-insert}
+use Rattle.las_info.specs.Tallies.{Tally, count_at, tally_after, with_one}
+
+-- no bin has a count above 0
+pub count-none : (bin : ℕ) → count_at map.empty bin ≡ 0
+count-none bin = ap (λ o. unwrap_or o 0) (get-empty nat_cmp bin)
+
+either : (b : Bool) (n : ℕ) (o : Option ℕ) → unwrap_or (cond b (Some n) o) 0 ≡ cond b n (unwrap_or o 0)
+either true n o = refl
+either false n o = refl
+
+-- the count of a bin after one record more
+pub count-one : (tally : Tally) (bin other : ℕ)
+    → count_at (with_one tally bin) other ≡ cond (eq_by_cmp nat_cmp other bin) (count_at tally bin + 1) (count_at tally other)
+count-one tally bin other =
+    ap (λ o. unwrap_or o 0) (get-insert nat_cmp_total tally bin (count_at tally bin + 1) other)
+    ∙ either (eq_by_cmp nat_cmp other bin) (count_at tally bin + 1) (map.get tally other)
+
+below : (b : Bool) (m n most : ℕ) → m ≤ most → n ≤ most → cond b m n ≤ most
+below true m n most p q = p
+below false m n most p q = q
+
+-- no count grows by more than one
+pub count-more : (tally : Tally) (bin other most : ℕ) → count_at tally bin ≤ most → count_at tally other ≤ most
+    → count_at (with_one tally bin) other ≤ most + 1
+count-more tally bin other most here there =
+    subst (λ n. n ≤ most + 1) (sym (count-one tally bin other))
+    (below (eq_by_cmp nat_cmp other bin) (count_at tally bin + 1) (count_at tally other) (most + 1) (omega (arith, here))
+    (omega (arith, there)))
+
+-- a tally after one record more
+pub tally-grows : (bin_of : List ℕ → ℕ) (tally : Tally) (records : List (List ℕ)) (point : List ℕ)
+    → tally_after bin_of tally (records ++ point ∷ []) ≡ with_one (tally_after bin_of tally records) (bin_of point)
+tally-grows bin_of tally [] point = refl
+tally-grows bin_of tally (r ∷ records) point = tally-grows bin_of (with_one tally (bin_of r)) records point

@@ -1,0 +1,8 @@
+mod Counting
+mod Examples
+mod Finding
+mod Maps
+mod Places
+mod Texts
+mod Widening
+mod Zips

@@ -1,0 +1,9 @@
+use Rattle.std.proofs.Common.{◌≡◌, ◌++◌, codes, take}
+use Rattle.std.specs.Fmt.{decimal}
+use Rattle.std.specs.List.{flat_map}
+use Rattle.las_info.proofs.lines.push_values.Given as goal
+
+abbrev pub invariant-loop-number : goal.invariant-loop-number
+invariant-loop-number l =
+    l.text.items
+    ≡ l.initial.text.items ++ flat_map (λ number. codes " " ++ decimal number) (take l.number-index l.numbers)

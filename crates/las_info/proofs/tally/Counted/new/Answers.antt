@@ -1,0 +1,7 @@
+use Rattle.std.proofs.Common.{◌≡◌, ap, refl, ◌∙◌}
+use Rattle.std.specs.FinMap as map
+use Rattle.las_info.proofs.Maps.{made, made-empty}
+use Rattle.las_info.proofs.tally.Counted.new.Goals as goal
+
+pub returns : goal.returns
+returns c = ap made c.new.ensures.empty ∙ made-empty

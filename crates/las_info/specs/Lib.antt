@@ -1,0 +1,5 @@
+pub mod Tallies
+pub mod Bins
+pub mod Extents
+pub mod Summaries
+pub mod Report

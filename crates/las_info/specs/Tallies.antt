@@ -1,0 +1,30 @@
+-- Tallies of records: how many of them have each bin.
+use Rattle.std.specs.Prelude.{◌≡◌, ℕ, ◌+◌, ◌≤◌, List, [], ◌∷◌, ◌++◌, fold, unwrap_or}
+use Rattle.std.specs.Ordering.{nat_cmp}
+use Rattle.std.specs.FinMap as map
+
+-- bins, each with a count
+abbrev pub Tally : Type 0
+Tally = map.FinMap nat_cmp ℕ
+
+-- the count of a bin, 0 if it has none
+abbrev pub count_at : Tally → (bin : ℕ) → ℕ
+count_at tally bin = unwrap_or (map.get tally bin) 0
+
+-- a tally with one record more in a bin
+abbrev pub with_one : Tally → (bin : ℕ) → Tally
+with_one tally bin = map.insert tally bin (count_at tally bin + 1)
+
+-- a tally after records, each counted in its bin
+abbrev pub tally_after : (bin_of : List ℕ → ℕ) → Tally → (records : List (List ℕ)) → Tally
+tally_after bin_of tally records = fold (λ counted point. with_one counted (bin_of point)) tally records
+
+-- A tally of records is said one record at a time.
+abbrev pub GrowOneByOne : Type 0
+GrowOneByOne = (bin_of : List ℕ → ℕ) (tally : Tally) (records : List (List ℕ)) (point : List ℕ)
+    → tally_after bin_of tally (records ++ point ∷ []) ≡ with_one (tally_after bin_of tally records) (bin_of point)
+
+-- No count grows by more than one for a record.
+abbrev pub GrowByOne : Type 0
+GrowByOne = (tally : Tally) (bin other most : ℕ) → count_at tally bin ≤ most → count_at tally other ≤ most
+    → count_at (with_one tally bin) other ≤ most + 1

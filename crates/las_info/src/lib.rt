@@ -1,0 +1,22 @@
+//! What is in a file of point records: taps that tally its records, a survey that counts them, and a report.
+#![tactic(auto)]
+
+mod choosing;
+mod extents;
+mod laws;
+mod lines;
+mod reporting;
+mod summary;
+mod survey;
+mod tally;
+mod tap;
+mod taps;
+#[cfg(test)]
+mod tests;
+
+pub use crate::choosing::choose;
+pub use crate::laws::tallies_grow_one_by_one;
+pub use crate::reporting::{ReportFault, report};
+pub use crate::survey::Survey;
+pub use crate::tap::Tap;
+pub use crate::taps::{ClassTap, IntensityTap, ReturnTap, SourceTap};

@@ -1,0 +1,237 @@
+//! The four taps of the program.
+ghost use Rattle.std.specs.Prelude.{◌≡◌};
+ghost use Rattle.std.specs.FinMap as map;
+
+use crate::tally::Counted;
+use crate::tap::Tap;
+use las_points::{class, intensity, return_number, source};
+use std::alloc::{AllocError, Global};
+use std::marker::Model;
+
+/// Tallies records by class, 0 to 31. Contracts see its tally.
+#[derive(Drop)]
+pub struct ClassTap {
+    counted: Counted,
+}
+
+impl Model for ClassTap {
+    ghost use Rattle.std.specs.FinMap as map;
+    ghost use Rattle.std.specs.Coded.{coded_ℕ};
+    ghost use Rattle.las_info.specs.Tallies.{Tally};
+
+    ghost Value = { Tally };
+
+    ghost coded = { map.code coded_ℕ coded_ℕ };
+
+    ghost view = { λ t. t.counted };
+}
+
+impl ClassTap {
+    /// A tap that has counted nothing.
+    pub fn new(alloc: Global) -> ClassTap
+        ensures { result ≡ map.empty }
+    {
+        ClassTap {
+            counted: Counted::new(alloc),
+        }
+    }
+}
+
+impl Tap for ClassTap {
+    ghost use Rattle.std.specs.Prelude.{codes};
+    ghost use Rattle.las_points.specs.Record.{class_of};
+
+    ghost name_of = { λ _. codes "class" };
+
+    ghost bin_of = { λ _ point. class_of point };
+
+    ghost tally_of = { λ t. t };
+
+    fn named(&self) -> &str {
+        "class"
+    }
+
+    fn bin(&self, point: &[u8]) -> u32 {
+        u32::from(class(point))
+    }
+
+    fn see(&mut self, point: &[u8]) -> Result<(), AllocError> {
+        let bin = self.bin(point);
+        self.counted.add(bin)
+    }
+
+    fn rows(&self) -> Result<Vec<(u32, u64)>, AllocError> {
+        self.counted.rows()
+    }
+}
+
+/// Tallies records by return number, 0 to 7. Contracts see its tally.
+#[derive(Drop)]
+pub struct ReturnTap {
+    counted: Counted,
+}
+
+impl Model for ReturnTap {
+    ghost use Rattle.std.specs.FinMap as map;
+    ghost use Rattle.std.specs.Coded.{coded_ℕ};
+    ghost use Rattle.las_info.specs.Tallies.{Tally};
+
+    ghost Value = { Tally };
+
+    ghost coded = { map.code coded_ℕ coded_ℕ };
+
+    ghost view = { λ t. t.counted };
+}
+
+impl ReturnTap {
+    /// A tap that has counted nothing.
+    pub fn new(alloc: Global) -> ReturnTap
+        ensures { result ≡ map.empty }
+    {
+        ReturnTap {
+            counted: Counted::new(alloc),
+        }
+    }
+}
+
+impl Tap for ReturnTap {
+    ghost use Rattle.std.specs.Prelude.{codes};
+    ghost use Rattle.las_points.specs.Record.{return_number_of};
+
+    ghost name_of = { λ _. codes "return" };
+
+    ghost bin_of = { λ _ point. return_number_of point };
+
+    ghost tally_of = { λ t. t };
+
+    fn named(&self) -> &str {
+        "return"
+    }
+
+    fn bin(&self, point: &[u8]) -> u32 {
+        u32::from(return_number(point))
+    }
+
+    fn see(&mut self, point: &[u8]) -> Result<(), AllocError> {
+        let bin = self.bin(point);
+        self.counted.add(bin)
+    }
+
+    fn rows(&self) -> Result<Vec<(u32, u64)>, AllocError> {
+        self.counted.rows()
+    }
+}
+
+/// Tallies records by intensity, 256 intensities to a bin: 0 to 255. Contracts see its tally.
+#[derive(Drop)]
+pub struct IntensityTap {
+    counted: Counted,
+}
+
+impl Model for IntensityTap {
+    ghost use Rattle.std.specs.FinMap as map;
+    ghost use Rattle.std.specs.Coded.{coded_ℕ};
+    ghost use Rattle.las_info.specs.Tallies.{Tally};
+
+    ghost Value = { Tally };
+
+    ghost coded = { map.code coded_ℕ coded_ℕ };
+
+    ghost view = { λ t. t.counted };
+}
+
+impl IntensityTap {
+    /// A tap that has counted nothing.
+    pub fn new(alloc: Global) -> IntensityTap
+        ensures { result ≡ map.empty }
+    {
+        IntensityTap {
+            counted: Counted::new(alloc),
+        }
+    }
+}
+
+impl Tap for IntensityTap {
+    ghost use Rattle.std.specs.Prelude.{codes};
+    ghost use Rattle.las_info.specs.Bins.{intensity_bin};
+
+    ghost name_of = { λ _. codes "intensity" };
+
+    ghost bin_of = { λ _ point. intensity_bin point };
+
+    ghost tally_of = { λ t. t };
+
+    fn named(&self) -> &str {
+        "intensity"
+    }
+
+    fn bin(&self, point: &[u8]) -> u32 {
+        u32::from(intensity(point) / 256)
+    }
+
+    fn see(&mut self, point: &[u8]) -> Result<(), AllocError> {
+        let bin = self.bin(point);
+        self.counted.add(bin)
+    }
+
+    fn rows(&self) -> Result<Vec<(u32, u64)>, AllocError> {
+        self.counted.rows()
+    }
+}
+
+/// Tallies records by point source, 0 to 65,535. Contracts see its tally.
+#[derive(Drop)]
+pub struct SourceTap {
+    counted: Counted,
+}
+
+impl Model for SourceTap {
+    ghost use Rattle.std.specs.FinMap as map;
+    ghost use Rattle.std.specs.Coded.{coded_ℕ};
+    ghost use Rattle.las_info.specs.Tallies.{Tally};
+
+    ghost Value = { Tally };
+
+    ghost coded = { map.code coded_ℕ coded_ℕ };
+
+    ghost view = { λ t. t.counted };
+}
+
+impl SourceTap {
+    /// A tap that has counted nothing.
+    pub fn new(alloc: Global) -> SourceTap
+        ensures { result ≡ map.empty }
+    {
+        SourceTap {
+            counted: Counted::new(alloc),
+        }
+    }
+}
+
+impl Tap for SourceTap {
+    ghost use Rattle.std.specs.Prelude.{codes};
+    ghost use Rattle.las_points.specs.Record.{source_of};
+
+    ghost name_of = { λ _. codes "source" };
+
+    ghost bin_of = { λ _ point. source_of point };
+
+    ghost tally_of = { λ t. t };
+
+    fn named(&self) -> &str {
+        "source"
+    }
+
+    fn bin(&self, point: &[u8]) -> u32 {
+        u32::from(source(point))
+    }
+
+    fn see(&mut self, point: &[u8]) -> Result<(), AllocError> {
+        let bin = self.bin(point);
+        self.counted.add(bin)
+    }
+
+    fn rows(&self) -> Result<Vec<(u32, u64)>, AllocError> {
+        self.counted.rows()
+    }
+}
