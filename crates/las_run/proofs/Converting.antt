@@ -1,188 +1,99 @@
--- From the parts of a run to the cause for which it ends.
-use Rattle.std.proofs.Common.{◌≡◌, inl, inr, ℕ, zero, suc, ◌<◌, ◌≤◌, ◌==◌, lit<, get_or, Bool, true, false, cond, not, List, [], ◌∷◌, ◌++◌, length, Option, Some, None, IsSomeAnd, Err, refl, sym, ◌∙◌, ap, subst, arith}
-use Rattle.std.specs.FinMap as map
-use Rattle.std.specs.List.{concat, splice}
-use Rattle.las_header.specs.declared.counts.Counts.{Counts}
-use Rattle.las_header.specs.Counting.{short_bytes, long_bytes, counts_bytes, long_counts_bytes, with_counts}
-use Rattle.las_header.specs.Fields.{head_of, has_long_counts, minor_of, point_offset_of}
-use Rattle.las_header.proofs.NumberLemmas.{slice_index-splice, length-splice}
-use Rattle.las_header.specs.Plain.{plain_head}
-use Rattle.las_run.specs.Inputs.{refusal_of}
-use Rattle.las_points.specs.Tally.{counts_of}
+-- What the call that filters and changes records says of its outcome, as what `las2las` makes of its input.
+use Rattle.std.proofs.Common.{◌≡◌, ◌⊎◌, inl, inr, ℕ, List, [], Option, Some, None, Result, Ok, Err, refl, sym, ◌∙◌, ap, subst}
+use Rattle.std.specs.Prelude.{IfErr, IsErrOf, OnOk}
+use Rattle.las_convert.specs.Converting.{ConvertsTo, OnlyConverts, converted_output}
+use Rattle.las_filter.specs.Kept.{Steps}
+use Rattle.las_header.specs.declared.refusal.Refusal.{Refusal}
+use Rattle.las_header.specs.declared.refusal.Refusal.TheVariants.{BadChunk, RawRange}
 use Rattle.las_outside.specs.Faults.{Rose}
-use Rattle.las_outside.specs.Files.{FileMap, WhereKnown, IsMissing, with_file}
-use Rattle.las_outside.specs.Drafts.{Patch, with_patches, StopsUnfinished}
-use Rattle.las_outside.specs.Outside.{Outside, with_bytes}
-use Rattle.las_outside.specs.Sinks.{SinkView}
-use Rattle.las_outside.proofs.Texts.{with_more-none}
-use Rattle.las_run.specs.declared.stop.Stop.{Stop}
-use Rattle.las_run.specs.Outputs.{kept_of, draft_for, patches_for, output_of_kept, counts_patches, IsFinishedOutput}
-use Rattle.las_run.specs.Words.{word_at, usage, faults_of, first_index, is_class, input_of, output_of, class_of_words}
-use Rattle.las_run.specs.Endings.{Done, Usage, Unread, Unwritten, Refused, Ending, IsLeft}
-use Rattle.las_run.specs.Ends.{quiet, EndsAs, IsLeftBy, HasOutput, Ends, cause_of, IsUnread, IsRefused}
-use Rattle.las_run.specs.Runs.{Run}
-use Rattle.las_run.proofs.Accepting.{plain_file, plain_is, fields_of}
-use Rattle.las_run.proofs.Patching.{patched_counts}
-use Rattle.las_run.proofs.Endings.{nothing_left, at_once, left_before}
-use Rattle.las_run.proofs.Running.{one_ending, kept_ending, usage_ending, missing_ending, refused_ending, done_ending}
+use Rattle.las_outside.specs.Files.{FileMap, WhereKnown, with_file}
+use Rattle.las_outside.specs.Outside.{Outside}
+use Rattle.laz_file.specs.declared.fault.Fault.{Fault}
+use Rattle.laz_file.specs.declared.fault.Fault.TheVariants as file
+use Rattle.laz_file.specs.Copying.{LeavesUnfinished}
+use Rattle.laz_file.specs.Outputs as points
+use Rattle.las_run.specs.Endings.{Cause, ComesAtOpening, Done, Refused, Ending, files_of}
+use Rattle.las_run.specs.Tools.{ConvertsIn, writes}
+use Rattle.las_run.specs.Ends.{EndsMaking, IsOnlyEnding, LeavesOf, MakesAs}
+use Rattle.las_run.proofs.Endings.{left_if_done}
+use Rattle.las_run.proofs.Making.{done_of_one, left_of_one, stopped_of_one}
+use Rattle.las_run.proofs.Opening.{known_more}
 
--- in a list of conditions of which none holds, this one doesn't
-none_at : (cs : List (Bool × ℕ)) (k : ℕ) (d : Bool × ℕ) → first_index cs ≡ None → k < length cs → (get_or cs k d).0 ≡ false
-none_at [] k d e within = absurd (omega arith)
-none_at ((true, i) ∷ cs) k d e within = absurd (cc)
-none_at ((false, i) ∷ cs) zero d e within = refl
-none_at ((false, i) ∷ cs) (suc k) d e within = none_at cs k d e (omega (arith, within))
+-- what `las2las` makes of an input
+module _ (size : Option ℕ) (input output : List ℕ) (plan : Steps) (old new : Outside) where
+  abbrev Makes : List ℕ → Ending → Type 0
+  Makes file ending = ConvertsIn size input output plan file ending
 
-holds_of : (b : Bool) → not b ≡ false → b ≡ true
-holds_of true e = refl
-holds_of false e = absurd (cc)
+  abbrev kept_by : List ℕ → points.Output
+  kept_by file = converted_output output file size
 
--- accepted words name a class
-pub accepted_class : (words : List (List ℕ)) → usage words ≡ None → is_class (word_at words 6) ≡ true
-unfolding faults_of
-accepted_class words accepted = holds_of (is_class (word_at words 6)) (none_at (faults_of words) 6 (false, 0) accepted (lit< tt))
+  abbrev converted : (file records : List ℕ) → Option Refusal → Ending
+  converted file records refusal = writes input (converted_output output file size) records refusal
 
-short_size : (records : List (List ℕ)) → length (counts_bytes (counts_of records)) ≡ 24
-unfolding short_bytes
-short_size records = refl
+  only_ending : (file records : List ℕ) (refusal : Option Refusal) → OnlyConverts plan file records refusal → IsOnlyEnding (Makes file) (converted file records refusal)
+  only_ending file records refusal only = record {
+    makes = (records, refusal, only.are, refl);
+    only = λ other makes.
+        let same = only.only makes.0 makes.1 makes.2 in
+        makes.3 ∙ ap (λ (rs : List ℕ). converted file rs makes.1) same.0 ∙ ap (converted file records) same.1;
+  }
 
-long_size : (records : List (List ℕ)) → length (long_counts_bytes (counts_of records)) ≡ 128
-unfolding long_bytes
-long_size records = refl
+  -- all is done
+  abbrev Converted : List ℕ → Type 0
+  Converted file = (records : List ℕ) × OnlyConverts plan file records None × (new.held ≡ with_file old.held output (points.finished (converted_output output file size) records))
 
--- the draft of an accepted file with its patches
-pub finished_output : IsFinishedOutput
-finished_output class file none =
-    let plain = plain_file file none in
-    let fields = fields_of file plain in
-    let head = plain_head file in
-    let is : head ≡ head_of file = plain_is file plain.plain in
-    let size : length head ≡ point_offset_of file = ap length is ∙ fields.head_size in
-    let both : has_long_counts head ≡ has_long_counts file = ap has_long_counts is ∙ fields.long_is in
-    patched_counts head (has_long_counts head) (counts_bytes (counts_of [])) (long_counts_bytes (counts_of [])) (counts_bytes (counts_of (kept_of class file))) (long_counts_bytes (counts_of (kept_of class file))) (concat (kept_of class file))
-    (omega (arith, size, fields.least)) (λ four. let far = fields.long (sym both ∙ four) in omega (arith, far, size)) (short_size []) (short_size (kept_of class file)) (long_size []) (long_size (kept_of class file))
-
--- the bytes of the input, if the files are known
-got_input : (files : FileMap) (name file : List ℕ) → WhereKnown (Some files) name (λ bytes. bytes ≡ file) → map.get files name ≡ Some file
-got_input files name file h = go (map.get files name) h
-  where
-    go : (o : Option (List ℕ)) → IsSomeAnd o (λ bytes. bytes ≡ file) → o ≡ Some file
-    go None h = absurd h
-    go (Some bytes) h = ap (λ (b : List ℕ). Some b) h
-
-module _ (words : List (List ℕ)) (old now : Outside) (out : SinkView) where
-  one : (files : FileMap) (a b : Ending) → Run words files a → Run words files b → a ≡ b
-  one files a b is_a is_b = one_ending words files a b is_a is_b
-
-  pub ends_wrong : (index : ℕ) → usage words ≡ Some index → now ≡ old → Ends words (Run words) (quiet old now out) (Usage index)
-  ends_wrong index is same = (is, same, at_once words (Run words) one (quiet old now out) (Usage index) (λ files known. usage_ending words files index is) (ap (λ (o : Outside). o.held) same) refl)
-
-  ends_missing : usage words ≡ None → IsMissing old.held (input_of words) → now.held ≡ old.held → EndsAs (Run words) (quiet old now out) (Unread (input_of words))
-  ends_missing accepted missing same = at_once words (Run words) one (quiet old now out) (Unread (input_of words)) (λ files known. missing_ending words files accepted (subst (λ (h : Option FileMap). IsMissing h (input_of words)) known missing)) same refl
-
-  pub ends_unread : (outcome : Stop) → usage words ≡ None → IsUnread 2 (input_of words) old now outcome → now.held ≡ old.held → Ends words (Run words) (quiet old now out) (cause_of words (Err outcome))
-  ends_unread outcome accepted (inl memory) same =
-      subst (λ (s : Stop). Ends words (Run words) (quiet old now out) (cause_of words (Err s))) (sym memory) (left_before words (Run words) one (quiet old now out) same)
-  ends_unread outcome accepted (inr unread) same =
-      subst (λ (s : Stop). Ends words (Run words) (quiet old now out) (cause_of words (Err s))) (sym unread.0) (
-        refl,
-        elim unread.1 [
-          | inl missing ↦ inl (missing, ends_missing accepted missing same)
-          | inr rose ↦ inr (rose, left_before words (Run words) one (quiet old now out) same)
-        ],
-      )
-
-  pub ends_refused : (outcome : Stop) (file : List ℕ) → usage words ≡ None → WhereKnown old.held (input_of words) (λ bytes. bytes ≡ file) → IsRefused 2 file outcome → now.held ≡ old.held → Ends words (Run words) (quiet old now out) (cause_of words (Err outcome))
-  ends_refused outcome file accepted is (inl memory) same =
-      subst (λ (s : Stop). Ends words (Run words) (quiet old now out) (cause_of words (Err s))) (sym memory) (left_before words (Run words) one (quiet old now out) same)
-  ends_refused outcome file accepted is (inr refused) same =
-      subst (λ (s : Stop). Ends words (Run words) (quiet old now out) (cause_of words (Err s))) (sym refused.1) (refl, at_once words (Run words) one (quiet old now out) (Refused (input_of words) refused.0) (λ files known. refused_ending words files file refused.0 accepted (got_input files (input_of words) file (subst (λ (h : Option FileMap). WhereKnown h (input_of words) (λ bytes. bytes ≡ file)) known is)) refused.2) same refl)
-
--- an accepted input of which a class is kept
-module _ (words : List (List ℕ)) (old mid now : Outside) (out : SinkView) (file : List ℕ) (accepted : usage words ≡ None) (is : WhereKnown old.held (input_of words) (λ bytes. bytes ≡ file)) (none : refusal_of file ≡ None)
-    (same : mid.held ≡ old.held) (same_writes : mid.write_faults ≡ old.write_faults) where
-  abbrev pub draft : List ℕ
-  draft = draft_for (class_of_words words) file
-
-  abbrev pub patches : List Patch
-  patches = patches_for (class_of_words words) file
-
-  defined : (files : FileMap) → old.held ≡ Some files → Run words files (kept_ending words file)
-  defined files known = done_ending words files file accepted (got_input files (input_of words) file (subst (λ (h : Option FileMap). WhereKnown h (input_of words) (λ bytes. bytes ≡ file)) known is)) none
-
-  put_held : (files : FileMap) (bytes : List ℕ) (now_held : Option FileMap) → old.held ≡ Some files → now_held ≡ with_file mid.held (output_of words) bytes → now_held ≡ Some (map.insert files (output_of words) bytes)
-  put_held files bytes now_held known stands = stands ∙ ap (λ (h : Option FileMap). with_file h (output_of words) bytes) (same ∙ known)
-
-  pub ends_done : now ≡ with_bytes mid (output_of words) (with_patches draft patches) → Ends words (Run words) (quiet old now out) Done
-  ends_done written files known = (
-    kept_ending words file,
-    defined files known,
+  done_made : WhereKnown old.held input Converted → MakesAs (ConvertsIn size input output plan) input old new Done
+  done_made put = known_more old.held input Converted _ (λ file h. (
+    converted file h.0 None,
+    only_ending file h.0 None h.1,
     refl,
-    put_held files (with_patches draft patches) now.held known (ap (λ (o : Outside). o.held) written),
-    with_more-none out,
-  )
+    refl,
+    λ files known. done_of_one (kept_by file) h.0 (points.finished (kept_by file) h.0) old.held new.held files input h.2 refl known,
+  )) put
 
-  pub ends_unwritten : StopsUnfinished (output_of words) draft patches mid now → Ends words (Run words) (quiet old now out) Unwritten
-  ends_unwritten stops = (rose stops, has_output, left stops)
-    where
-      rose : StopsUnfinished (output_of words) draft patches mid now → Rose old.write_faults now.write_faults
-      rose (inl failed) = let w = ap (λ (o : Outside). o.write_faults) failed in omega (arith, w, same_writes)
-      rose (inr part) = let w = ap (λ (o : Outside). o.write_faults) part.2 in omega (arith, w, same_writes)
+  done_left : WhereKnown old.held input Converted → LeavesOf (ConvertsIn size input output plan) input old new
+  done_left put = known_more old.held input Converted _ (λ file h files ending known makes.
+      let is = (only_ending file h.0 None h.1).only ending makes in (
+        files_of ending files,
+        done_of_one (kept_by file) h.0 (points.finished (kept_by file) h.0) old.held new.held files input h.2 refl known ∙ ap (λ (e : Ending). Some (files_of e files)) (sym is),
+        left_if_done ending files (ap (λ (e : Ending). e.cause) is),
+      )) put
 
-      has_output : HasOutput (Run words) (quiet old now out)
-      has_output files ending known run empty =
-          let e = one_ending words files ending (kept_ending words file) run (defined files known) in
-          let outputs = sym (ap (λ (x : Ending). x.outputs) e) ∙ empty in
-          cc
+  -- a refusal
+  abbrev StoppedBy : Refusal → List ℕ → Type 0
+  StoppedBy cause file = (records : List ℕ) × OnlyConverts plan file records (Some cause) × (new.held ≡ with_file old.held output (points.stopped (converted_output output file size) records))
 
-      of_kept : (files : FileMap) (ending : Ending) (held : FileMap) → old.held ≡ Some files → Run words files ending → IsLeft (output_of_kept (output_of words) (class_of_words words) file ∷ []) files held → IsLeft ending.outputs files held
-      of_kept files ending held known run left =
-          subst (λ (e : Ending). IsLeft e.outputs files held) (one_ending words files (kept_ending words file) ending (defined files known) run) left
+  refused_made : (cause : Refusal) → WhereKnown old.held input (StoppedBy cause) → MakesAs (ConvertsIn size input output plan) input old new (Refused input cause)
+  refused_made cause put = known_more old.held input (StoppedBy cause) _ (λ file h. (
+    converted file h.0 (Some cause),
+    only_ending file h.0 (Some cause) h.1,
+    refl,
+    refl,
+    λ files known. stopped_of_one (kept_by file) h.0 old.held new.held files input cause h.2 known,
+  )) put
 
-      left : StopsUnfinished (output_of words) draft patches mid now → IsLeftBy (Run words) (quiet old now out)
-      left (inl failed) files ending known run =
-          (files, ap (λ (o : Outside). o.held) failed ∙ same ∙ known, nothing_left ending.outputs files)
-      left (inr part) files ending known run = (
-        map.insert files (output_of words) part.0,
-        put_held files part.0 now.held known (ap (λ (o : Outside). o.held) part.2),
-        of_kept files ending (map.insert files (output_of words) part.0) known run (1, part.0 ∷ [], (part.1, tt), refl),
-      )
+  not_first : (cause : Refusal) → ((i : ℕ) × (cause ≡ BadChunk i)) ⊎ ((k : ℕ) × (cause ≡ RawRange k)) → ComesAtOpening cause → ⊥
+  not_first cause (inl bad) first = subst ComesAtOpening bad.1 first
+  not_first cause (inr raw) first = subst ComesAtOpening raw.1 first
 
--- the same with other names for what was written
-pub done_by : (mid now : Outside) (name name' text text' : List ℕ) → name ≡ name' → text ≡ text' → now ≡ with_bytes mid name text → now ≡ with_bytes mid name' text'
-done_by mid now name name' text text' named same is = is ∙ ap (λ (n : List ℕ). with_bytes mid n text) named ∙ ap (with_bytes mid name') same
+  -- what is left
+  abbrev Leaves : List ℕ → Type 0
+  Leaves file = (records : List ℕ) (refusal : Option Refusal) → ConvertsTo plan file records refusal → LeavesUnfinished (converted_output output file size) records old.held new.held
 
-pub stopped_by : (mid now : Outside) (name name' draft draft' : List ℕ) (patches patches' : List Patch) → name ≡ name' → draft ≡ draft' → patches ≡ patches' → StopsUnfinished name draft patches mid now → StopsUnfinished name' draft' patches' mid now
-stopped_by mid now name name' draft draft' patches patches' named same same_patches stops =
-    subst (λ (ps : List Patch). StopsUnfinished name' draft' ps mid now) same_patches
-    (subst (λ (d : List ℕ). StopsUnfinished name' d patches mid now) same (subst (λ (n : List ℕ). StopsUnfinished n draft patches mid now) named stops))
+  left : WhereKnown old.held input Leaves → LeavesOf (ConvertsIn size input output plan) input old new
+  left leaves = known_more old.held input Leaves _ (λ file h files ending known makes.
+      left_of_one (kept_by file) makes.0 old.held new.held files input makes.1 ending (h makes.0 makes.1 makes.2) known makes.3) leaves
 
--- what was selected is the draft and the patches
-pub selected_draft : (class wanted : ℕ) (file head records : List ℕ) (counts : Counts) → wanted ≡ class → head ≡ with_counts (counts_of []) (plain_head file) → records ≡ concat (kept_of wanted file) → head ++ records ≡ draft_for class file
-selected_draft class wanted file head records counts is head_is records_is =
-    ap (λ (h : List ℕ). h ++ records) head_is ∙ ap (λ (r : List ℕ). with_counts (counts_of []) (plain_head file) ++ r) records_is ∙ ap (λ (n : ℕ). draft_for n file) is
-
-sets_by : (b : Bool) (head short long_counts : List ℕ) → 131 ≤ length head → (b ≡ true → 375 ≤ length head) → length short ≡ 24
-    → minor_of (cond b (splice (splice head 107 131 short) 247 375 long_counts) (splice head 107 131 short)) ≡ minor_of head
-sets_by false head short long_counts enough long size = slice_index-splice 25 107 131 head short (omega arith) (omega (arith, enough))
-sets_by true head short long_counts enough long size =
-    let far = long refl in
-    let same : length (splice head 107 131 short) ≡ length head = length-splice head 107 131 short (omega (arith, size)) enough in
-    slice_index-splice 25 247 375 (splice head 107 131 short) long_counts (omega arith) (omega (arith, far, same)) ∙ slice_index-splice 25 107 131 head short (omega arith) (omega (arith, enough))
-
--- a head with other counts has as many sets of them
-same_sets : (file : List ℕ) → refusal_of file ≡ None → has_long_counts (with_counts (counts_of []) (plain_head file)) ≡ has_long_counts (plain_head file)
-same_sets file none =
-    let plain = plain_file file none in
-    let fields = fields_of file plain in
-    let head = plain_head file in
-    let is : head ≡ head_of file = plain_is file plain.plain in
-    let size : length head ≡ point_offset_of file = ap length is ∙ fields.head_size in
-    let both : has_long_counts head ≡ has_long_counts file = ap has_long_counts is ∙ fields.long_is in
-    ap (λ (m : ℕ). m == 4) (sets_by (has_long_counts head) head (counts_bytes (counts_of [])) (long_counts_bytes (counts_of [])) (omega (arith, size, fields.least)) (λ four. let far = fields.long (sym both ∙ four) in omega (arith, far, size)) (short_size []))
-
-pub selected_patches : (class wanted : ℕ) (file head : List ℕ) (counts : Counts) → wanted ≡ class → refusal_of file ≡ None → head ≡ with_counts (counts_of []) (plain_head file) → counts ≡ counts_of (kept_of wanted file) → counts_patches head counts ≡ patches_for class file
-selected_patches class wanted file head counts is none head_is counts_is =
-    let sets = ap has_long_counts head_is ∙ same_sets file none in
-    ap (λ (b : Bool). let ps : List Patch = (107, counts_bytes counts) ∷ cond b ((247, long_counts_bytes counts) ∷ []) [] in ps) sets
-    ∙ ap (λ (k : Counts). counts_patches (plain_head file) k) counts_is ∙ ap (λ (n : ℕ). patches_for n file) is
+  pub ends_converting : (outcome : Result (Unit {0}) Fault)
+      → OnOk outcome (WhereKnown old.held input Converted)
+      → ((cause : Refusal) → IsErrOf outcome (file.Refused cause) → WhereKnown old.held input (StoppedBy cause))
+      → ((cause : Refusal) → IsErrOf outcome (file.Refused cause) → ((i : ℕ) × (cause ≡ BadChunk i)) ⊎ ((k : ℕ) × (cause ≡ RawRange k)))
+      → IfErr outcome (λ fault. WhereKnown old.held input Leaves)
+      → (IsErrOf outcome file.Read → Rose old.read_faults new.read_faults)
+      → (IsErrOf outcome file.Write → Rose old.write_faults new.write_faults)
+      → EndsMaking (ConvertsIn size input output plan) input old new outcome
+  ends_converting (Ok done) made refused kinds leaves read write = (done_made made, done_left made)
+  ends_converting (Err (file.Refused cause)) made refused kinds leaves read write = (refused_made cause (refused cause refl), left leaves, not_first cause (kinds cause refl))
+  ends_converting (Err file.Read) made refused kinds leaves read write = (read refl, left leaves)
+  ends_converting (Err file.Write) made refused kinds leaves read write = (write refl, left leaves)
+  ends_converting (Err file.Memory) made refused kinds leaves read write = left leaves

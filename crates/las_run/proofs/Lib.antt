@@ -1,9 +1,8 @@
-pub mod Accepting
 pub mod Converting
-pub mod Digits
 pub mod Endings
 mod Examples
-pub mod Patching
+pub mod Headline
+pub mod Making
+pub mod Opening
 pub mod Running
-pub mod Selecting
-pub mod Writing
+pub mod Saying

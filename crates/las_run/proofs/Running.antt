@@ -1,64 +1,227 @@
--- The one ending of words and files.
-use Rattle.std.proofs.Common.{◌≡◌, ◌≢◌, ℕ, List, [], ◌∷◌, Option, Some, None, refl, sym, ◌∙◌, ap, subst}
+-- Which words and files have an ending, and that they have one alone.
+use Rattle.std.proofs.Common.{◌≡◌, ◌⊎◌, inl, inr, ℕ, zero, suc, ◌<◌, Bool, true, false, List, [], ◌∷◌, ◌++◌, drop, length, map, take, Option, Some, None, refl, sym, ◌∙◌, ap, subst, arith}
+use Rattle.std.proofs.lemmas.List.{take_all}
 use Rattle.std.specs.FinMap as finmap
+use Rattle.std.specs.List.{concat}
+use Rattle.std.specs.Option.{option_map}
 use Rattle.las_header.specs.declared.refusal.Refusal.{Refusal}
-use Rattle.las_run.specs.Inputs.{refusal_of}
+use Rattle.las_header.specs.declared.refusal.Refusal.TheVariants.{BadChunk, RawRange}
+use Rattle.las_header.specs.Conditions.{IsFirst, conditions}
+use Rattle.las_header.specs.Fields.{head_of, is_packed, point_offset_of}
+use Rattle.las_header.specs.Refusals.{first_cause}
+use Rattle.las_header.proofs.ConditionLemmas.{IsFirst-append_none, IsFirst-append_some, IsFirst-tests}
 use Rattle.las_outside.specs.Files.{FileMap}
-use Rattle.las_run.specs.Endings.{Done, Usage, Unread, Refused, Ending, ends_at_once, status_of}
-use Rattle.las_run.specs.Outputs.{output_of_kept}
-use Rattle.las_run.specs.Runs.{Run, RunOf, Opens, Accepts, Keeps, IsOneEnding, HasEnding}
-use Rattle.las_run.specs.Words.{usage, input_of, output_of, class_of_words}
+use Rattle.las_words.specs.Says.{Asked, Said, asks, laszip, las2las, says, usage}
+use Rattle.laz_file.specs.Copying.{packed_output, plain_output}
+use Rattle.laz_file.specs.Packing.{packed_file}
+use Rattle.laz_file.specs.Pieces.{ArePieces, ArePiecesIf, Piece, piece_bytes, plain_pieces}
+use Rattle.laz_file.specs.Laws.{IsBadIf, pieces_before}
+use Rattle.laz_file.specs.Records.{AreRead, AreRecordsOf, HoldBlocks, HoldOnly, HoldsIf}
+use Rattle.laz_file.specs.Refusing.{IsAcceptedFile, IsRefusal, chunk_causes, tested_causes}
+use Rattle.laz_file.proofs.OneAnswer.{refused_once}
+use Rattle.laz_file.proofs.Whole.{hold-plain, read_once}
+use Rattle.laz_file.proofs.Packed.{packed_accepted, unpacks_again}
+use Rattle.las_filter.specs.Kept.{Steps}
+use Rattle.las_convert.specs.Converting.{AreFirstRecords, ConvertsTo, converted_output, kept_in}
+use Rattle.las_run.specs.Endings.{ComesAtOpening, ComesFirst, Ending, Refused, Unread, Usage, ends_at_once}
+use Rattle.las_run.specs.Tools.{ZipsIf, cause_by, chunk_if, writes}
+use Rattle.las_run.specs.Runs.{Accepts, Makes, Opens, Run, RunOf, input_of}
+use Rattle.las_run.specs.Ends.{IsTheEnding}
+use Rattle.las_run.specs.EndingLaws.{HoldsOnce, IsOneEnding, LaszipMakesOnce, MakesOnce, MissingInputsEnd, PackedFormsEnd, PlainHoldsOnce, PlainInputsEnd, WorkersDoNotMatter, WrongWordsEnd, with_one_worker}
+use Rattle.las_run.proofs.Headline.{is_packed_form}
+use Rattle.las_run.proofs.Opening.{defined, missing_ending, opened}
 
--- the ending if all is done
-abbrev pub kept_ending : List (List ℕ) → List ℕ → Ending
-kept_ending words file = record { cause = Done; outputs = output_of_kept (output_of words) (class_of_words words) file ∷ []; text = [] }
+-- ---- one ending
+some_file : (a b : List ℕ) → ◌≡◌ {A = Option (List ℕ)} (Some a) (Some b) → a ≡ b
+some_file a b e = cc
 
--- There is this ending and no other, and only if all is done it has outputs.
-record IsOnly (Is : Ending → Type 0) : Type 0 where
-  ending : Ending
-  is : Is ending
-  only : (other : Ending) → Is other → other ≡ ending
-  at_once : status_of ending.cause ≢ 0 → ending.outputs ≡ []
+some_cause : (a b : Refusal) → ◌≡◌ {A = Option Refusal} (Some a) (Some b) → a ≡ b
+some_cause a b e = cc
 
-accepts : (words : List (List ℕ)) (name file : List ℕ) (o : Option Refusal) → IsOnly (Accepts name o (Keeps words file))
-accepts words name file None = record { ending = kept_ending words file; is = refl; only = λ other is. is; at_once = λ not. absurd (not refl) }
-accepts words name file (Some refusal) = record { ending = ends_at_once (Refused name refusal); is = refl; only = λ other is. is; at_once = λ _. refl }
+none_cause : {X : Type 0} (c : Refusal) → ◌≡◌ {A = Option Refusal} None (Some c) → X
+none_cause c e = absurd (cc)
 
-opens : (words : List (List ℕ)) (name : List ℕ) (o : Option (List ℕ)) → IsOnly (Opens name o (Keeps words))
-opens words name None = record { ending = ends_at_once (Unread name); is = refl; only = λ other is. is; at_once = λ _. refl }
-opens words name (Some file) = accepts words name file (refusal_of file)
+one_accepted : (name file : List ℕ) (Makes : Ending → Type 0) (one other : Ending) → ((a b : Ending) → Makes a → Makes b → a ≡ b) → Accepts name file Makes one → Accepts name file Makes other → one ≡ other
+one_accepted name file Makes one other once (inl r) (inl s) = r.2 ∙ ap (λ (c : Refusal). ends_at_once (Refused name c)) (some_cause r.0 s.0 (refused_once file (Some r.0) (Some s.0) r.1 s.1)) ∙ sym s.2
+one_accepted name file Makes one other once (inl r) (inr b) = none_cause r.0 (refused_once file None (Some r.0) b.0 r.1)
+one_accepted name file Makes one other once (inr a) (inl s) = none_cause s.0 (refused_once file None (Some s.0) a.0 s.1)
+one_accepted name file Makes one other once (inr a) (inr b) = once one other a.1 b.1
 
-runs : (words : List (List ℕ)) (files : FileMap) (o : Option ℕ) → IsOnly (RunOf o words files)
-runs words files None = opens words (input_of words) (finmap.get files (input_of words))
-runs words files (Some index) = record { ending = ends_at_once (Usage index); is = refl; only = λ other is. is; at_once = λ _. refl }
+one_opened : (name : List ℕ) (o : Option (List ℕ)) (Makes : List ℕ → Ending → Type 0) (one other : Ending) → ((file : List ℕ) → o ≡ Some file → (a b : Ending) → Makes file a → Makes file b → a ≡ b) → Opens name o Makes one → Opens name o Makes other → one ≡ other
+one_opened name None Makes one other once is was = is ∙ sym was
+one_opened name (Some file) Makes one other once is was = one_accepted name file (Makes file) one other (once file refl) is was
+
+one_said : (said : Said) (files : FileMap) (one other : Ending) → ((asked : Asked) (file : List ℕ) → said ≡ asks asked → finmap.get files (input_of asked) ≡ Some file → MakesOnce asked file) → RunOf said files one → RunOf said files other → one ≡ other
+one_said (asks asked) files one other once is was = one_opened (input_of asked) (finmap.get files (input_of asked)) (Makes asked) one other (λ file held. once asked file refl held) is was
+one_said (usage index) files one other once is was = is ∙ sym was
 
 pub one_ending : IsOneEnding
-one_ending words files a b is_a is_b = let h = runs words files (usage words) in h.only a is_a ∙ sym (h.only b is_b)
+one_ending words files one other once is was = one_said (says words) files one other once is was
 
-pub some_ending : HasEnding
-some_ending words files = let h = runs words files (usage words) in (h.ending, h.is)
+-- ---- one list of blocks
+module _ (file : List ℕ) (pieces : List Piece) (are : ArePieces file pieces) (once : HoldsOnce file) where
+  same_blocks : (some : List Piece) (xs ys : List (List ℕ)) → HoldBlocks file some xs → HoldBlocks file some ys → xs ≡ ys
+  same_blocks [] [] [] hold held = refl
+  same_blocks [] [] (y ∷ ys) hold held = absurd held
+  same_blocks [] (x ∷ xs) ys hold held = absurd hold
+  same_blocks (p ∷ some) [] ys hold held = absurd hold
+  same_blocks (p ∷ some) (x ∷ xs) [] hold held = absurd held
+  same_blocks (p ∷ some) (x ∷ xs) (y ∷ ys) hold held =
+      ap (λ (b : List ℕ). b ∷ xs) (once pieces p x y are hold.0 held.0) ∙ ap (λ (bs : List (List ℕ)). y ∷ bs) (same_blocks some xs ys hold.1 held.1)
 
-pub outputs_if_done : (words : List (List ℕ)) (files : FileMap) (ending : Ending) → Run words files ending → status_of ending.cause ≢ 0 → ending.outputs ≡ []
-outputs_if_done words files ending is not =
-    let h = runs words files (usage words) in
-    let same = h.only ending is in
-    ap (λ (e : Ending). e.outputs) same ∙ h.at_once (λ z. not (ap (λ (e : Ending). status_of e.cause) same ∙ z))
+  -- so what is read of the file is read once
+  hold_only : (bad : Option ℕ) (blocks : List (List ℕ)) → AreRead file pieces blocks bad → HoldOnly file (pieces_before bad pieces) blocks × IsBadIf bad file pieces
+  hold_only None blocks read = (record { hold = read; only = λ others held. same_blocks pieces others blocks held read }, tt)
+  hold_only (Some i) blocks read = (record { hold = read.0; only = λ others held. same_blocks (take i pieces) others blocks held read.0 }, read.1)
 
--- the ending in each case
-pub usage_ending : (words : List (List ℕ)) (files : FileMap) (index : ℕ) → usage words ≡ Some index → Run words files (ends_at_once (Usage index))
-usage_ending words files index is = subst (λ (o : Option ℕ). RunOf o words files (ends_at_once (Usage index))) (sym is) refl
+  pub once_read : (blocks : List (List ℕ)) (bad : Option ℕ) → AreRead file pieces blocks bad → (others : List (List ℕ)) (worse : Option ℕ) → AreRecordsOf file others worse → (others ≡ blocks) × (worse ≡ bad)
+  once_read blocks bad read others worse of =
+      let h = hold_only bad blocks read in
+      read_once file pieces blocks bad are h.0 h.1 others worse of
 
-opened : (words : List (List ℕ)) (files : FileMap) (ending : Ending) (o : Option (List ℕ)) → usage words ≡ None → finmap.get files (input_of words) ≡ o → Opens (input_of words) o (Keeps words) ending → Run words files ending
-opened words files ending o accepted got is =
-    subst (λ (u : Option ℕ). RunOf u words files ending) (sym accepted) (subst (λ (f : Option (List ℕ)). Opens (input_of words) f (Keeps words) ending) (sym got) is)
+zips_once : (packed : Bool) (input output : List ℕ) (chunk : ℕ) (file : List ℕ) (one other : Ending) → HoldsOnce file → ZipsIf packed input output chunk file one → ZipsIf packed input output chunk file other → one ≡ other
+zips_once true input output chunk file one other once is was =
+    let same = once_read file was.2.0 was.2.1 once was.0 was.1 was.2.2 is.0 is.1 is.2 in
+    let ending : List (List ℕ) → Option ℕ → Ending = λ blocks bad. writes input (plain_output output file) (concat blocks) (option_map BadChunk bad) in
+    is.3 ∙ ap (λ (bs : List (List ℕ)). ending bs is.1) same.0 ∙ ap (ending was.0) same.1 ∙ sym was.3
+zips_once false input output chunk file one other once is was = is ∙ sym was
 
-pub missing_ending : (words : List (List ℕ)) (files : FileMap) → usage words ≡ None → finmap.get files (input_of words) ≡ None → Run words files (ends_at_once (Unread (input_of words)))
-missing_ending words files accepted got = opened words files _ None accepted got refl
+pub laszip_once : LaszipMakesOnce
+laszip_once input output chunk workers file once one other is was = zips_once (is_packed (head_of file)) input output chunk file one other once is was
 
-pub refused_ending : (words : List (List ℕ)) (files : FileMap) (file : List ℕ) (refusal : Refusal) → usage words ≡ None → finmap.get files (input_of words) ≡ Some file → refusal_of file ≡ Some refusal → Run words files (ends_at_once (Refused (input_of words) refusal))
-refused_ending words files file refusal accepted got is =
-    opened words files _ (Some file) accepted got (subst (λ (o : Option Refusal). Accepts (input_of words) o (Keeps words file) (ends_at_once (Refused (input_of words) refusal))) (sym is) refl)
+plain_once : (packed : Bool) (file : List ℕ) (piece : Piece) (one other : List ℕ) → packed ≡ false → HoldsIf packed file piece one → HoldsIf packed file piece other → one ≡ other
+plain_once true file piece one other plain is was = absurd (cc)
+plain_once false file piece one other plain is was = is ∙ sym was
 
-pub done_ending : (words : List (List ℕ)) (files : FileMap) (file : List ℕ) → usage words ≡ None → finmap.get files (input_of words) ≡ Some file → refusal_of file ≡ None → Run words files (kept_ending words file)
-done_ending words files file accepted got is =
-    opened words files _ (Some file) accepted got (subst (λ (o : Option Refusal). Accepts (input_of words) o (Keeps words file) (kept_ending words file)) (sym is) refl)
+pub plain_holds_once : PlainHoldsOnce
+plain_holds_once file plain pieces piece one other are is was = plain_once (is_packed (head_of file)) file piece one other plain is was
+
+-- ---- some ending
+run_of : (words : List (List ℕ)) (files : FileMap) (said : Said) (ending : Ending) → says words ≡ said → RunOf said files ending → Run words files ending
+run_of words files said ending is run = subst (λ (s : Said). RunOf s files ending) (sym is) run
+
+pub wrong_words_end : WrongWordsEnd
+wrong_words_end words files index is = (ends_at_once (Usage index), run_of words files (usage index) (ends_at_once (Usage index)) is refl)
+
+pub missing_inputs_end : MissingInputsEnd
+missing_inputs_end words files asked is missing =
+    let ending = ends_at_once (Unread (input_of asked)) in
+    (ending, run_of words files (asks asked) ending is (missing_ending asked files missing).defined)
+
+-- a plain file is refused or accepted
+plain_refusal : (file : List ℕ) (packed : Bool) (tests : Option Refusal) → packed ≡ false → IsFirst (conditions (tested_causes file)) tests → IsFirst (conditions (tested_causes file) ++ chunk_causes packed file) tests
+plain_refusal file true tests plain is = absurd (cc)
+plain_refusal file false None plain is = IsFirst-append_none (conditions (tested_causes file)) [] None is refl
+plain_refusal file false (Some cause) plain is = IsFirst-append_some (conditions (tested_causes file)) [] cause is
+
+accepts_by : (name file : List ℕ) (Makes : Ending → Type 0) (ending : Ending) (o : Option Refusal) → IsRefusal file o → Makes ending → (e : Ending) × Accepts name file Makes e
+accepts_by name file Makes ending None is makes = (ending, inr (is, makes))
+accepts_by name file Makes ending (Some cause) is makes = (ends_at_once (Refused name cause), inl (cause, is, refl))
+
+zips_made : (packed : Bool) (input output : List ℕ) (chunk : ℕ) (file : List ℕ) (ending : Ending) → is_packed (head_of file) ≡ packed → ZipsIf packed input output chunk file ending → ZipsIf (is_packed (head_of file)) input output chunk file ending
+zips_made packed input output chunk file ending is makes = subst (λ (b : Bool). ZipsIf b input output chunk file ending) (sym is) makes
+
+-- of all records of a file something is kept
+converts_some : (plan : Steps) (file : List ℕ) (blocks : List (List ℕ)) → AreRecordsOf file blocks None → (records : List ℕ) × (refusal : Option Refusal) × ConvertsTo plan file records refusal
+converts_some plan file blocks are = by_range (kept_in plan file blocks).raw_range refl
+  where
+    by_range : (raw_range : Option ℕ) → (kept_in plan file blocks).raw_range ≡ raw_range → (records : List ℕ) × (refusal : Option Refusal) × ConvertsTo plan file records refusal
+    by_range None is = (concat (kept_in plan file blocks).records, None, (blocks, are, record { records_are = refl; raw_range_is = is }))
+    by_range (Some k) is =
+        let first : AreFirstRecords file blocks = record {
+          pieces = are.0;
+          are = are.1;
+          number = length are.0;
+          hold = subst (λ (ps : List Piece). HoldBlocks file ps blocks) (sym (take_all (length are.0) are.0 (omega arith))) are.2;
+        } in
+        (concat (kept_in plan file blocks).records, Some (RawRange k), (blocks, first, record { records_are = refl; raw_range_is = is }))
+
+las2las_ending : (input output : List ℕ) (plan : Steps) (packed : Bool) (chunk workers : ℕ) (file : List ℕ) (blocks : List (List ℕ)) → AreRecordsOf file blocks None → (ending : Ending) × Makes (las2las input output plan packed chunk workers) file ending
+las2las_ending input output plan packed chunk workers file blocks are =
+    let h = converts_some plan file blocks are in
+    (writes input (converted_output output file (chunk_if packed chunk)) h.0 h.1, (h.0, h.1, h.2, refl))
+
+plain_records : (file : List ℕ) (packed : Bool) → packed ≡ false → ArePiecesIf packed file (plain_pieces file)
+plain_records file true plain = absurd (cc)
+plain_records file false plain = refl
+
+some_plain : (asked : Asked) (file : List ℕ) → is_packed (head_of file) ≡ false → (ending : Ending) × Makes asked file ending
+some_plain (laszip input output chunk workers) file plain =
+    let packing = writes input (packed_output output file chunk) (drop (point_offset_of file) file) None in
+    (packing, zips_made false input output chunk file packing plain refl)
+some_plain (las2las input output plan packed chunk workers) file plain =
+    let pieces = plain_pieces file in
+    las2las_ending input output plan packed chunk workers file (map (piece_bytes file) pieces) (pieces, plain_records file (is_packed (head_of file)) plain, hold-plain file plain pieces)
+
+some_form : (asked : Asked) (file : List ℕ) (blocks : List (List ℕ)) → is_packed (head_of file) ≡ true → AreRecordsOf file blocks None → (ending : Ending) × Makes asked file ending
+some_form (laszip input output chunk workers) file blocks packed are =
+    let ending = writes input (plain_output output file) (concat blocks) None in
+    (ending, zips_made true input output chunk file ending packed (blocks, None, are, refl))
+some_form (las2las input output plan packing chunk workers) file blocks packed are = las2las_ending input output plan packing chunk workers file blocks are
+
+pub plain_inputs_end : PlainInputsEnd
+plain_inputs_end words files asked file is held plain =
+    let tests = first_cause (tested_causes file) in
+    let refusal = plain_refusal file (is_packed (head_of file)) tests plain (IsFirst-tests (tested_causes file)) in
+    let made = some_plain asked file plain in
+    let h = accepts_by (input_of asked) file (Makes asked file) made.0 tests refusal made.1 in
+    (h.0, run_of words files (asks asked) h.0 is (defined asked files (Some file) h.0 held h.1))
+
+pub packed_forms_end : PackedFormsEnd
+packed_forms_end words files asked file chunk is held can =
+    let form = packed_file file chunk in
+    let whole = unpacks_again file chunk can in
+    let made = some_form asked form whole.0 (is_packed_form file chunk can) whole.1 in
+    (made.0, run_of words files (asks asked) made.0 is (defined asked files (Some form) made.0 held (inr (packed_accepted file chunk can, made.1))))
+
+-- ---- the number of workers
+one_worker : (said : Said) (files : FileMap) (ending : Ending) → RunOf said files ending → RunOf (with_one_worker said) files ending
+one_worker (asks (laszip input output chunk workers)) files ending run = run
+one_worker (asks (las2las input output plan packed chunk workers)) files ending run = run
+one_worker (usage index) files ending run = run
+
+any_workers : (said : Said) (files : FileMap) (ending : Ending) → RunOf (with_one_worker said) files ending → RunOf said files ending
+any_workers (asks (laszip input output chunk workers)) files ending run = run
+any_workers (asks (las2las input output plan packed chunk workers)) files ending run = run
+any_workers (usage index) files ending run = run
+
+pub workers_do_not_matter : WorkersDoNotMatter
+workers_do_not_matter words others files ending same run =
+    any_workers (says others) files ending (subst (λ (s : Said). RunOf s files ending) same (one_worker (says words) files ending run))
+
+-- ---- endings before any output
+writes_some : (packed : Bool) (input output : List ℕ) (chunk : ℕ) (file : List ℕ) (ending : Ending) → ZipsIf packed input output chunk file ending → ComesFirst ending.cause → ending.outputs ≡ []
+writes_some true input output chunk file ending makes first = absurd (bad_chunks_late makes.1 input (subst ComesFirst (ap (λ (e : Ending). e.cause) makes.3) first))
+  where
+    bad_chunks_late : (bad : Option ℕ) (name : List ℕ) → ComesFirst (cause_by name (option_map BadChunk bad)) → ⊥
+    bad_chunks_late None name first = first
+    bad_chunks_late (Some i) name first = first
+writes_some false input output chunk file ending makes first = absurd (subst ComesFirst (ap (λ (e : Ending). e.cause) makes) first)
+
+-- a refusal of records comes after the opening
+refused_late : (plan : Steps) (file records : List ℕ) (cause : Refusal) → ConvertsTo plan file records (Some cause) → ComesAtOpening cause → ⊥
+refused_late plan file records (BadChunk i) converts first = first
+refused_late plan file records (RawRange k) converts first = first
+refused_late plan file records cause converts first = converts
+
+kept_late : (plan : Steps) (file records input : List ℕ) (refusal : Option Refusal) → ConvertsTo plan file records refusal → ComesFirst (cause_by input refusal) → ⊥
+kept_late plan file records input None converts first = first
+kept_late plan file records input (Some cause) converts first = refused_late plan file records cause converts first
+
+makes_some : (asked : Asked) (file : List ℕ) (ending : Ending) → Makes asked file ending → ComesFirst ending.cause → ending.outputs ≡ []
+makes_some (laszip input output chunk workers) file ending makes first = writes_some (is_packed (head_of file)) input output chunk file ending makes first
+makes_some (las2las input output plan packed chunk workers) file ending makes first =
+    absurd (kept_late plan file makes.0 input makes.1 makes.2 (subst ComesFirst (ap (λ (e : Ending). e.cause) makes.3) first))
+
+opens_first : (asked : Asked) (o : Option (List ℕ)) (ending : Ending) → Opens (input_of asked) o (Makes asked) ending → ComesFirst ending.cause → ending.outputs ≡ []
+opens_first asked None ending is first = ap (λ (e : Ending). e.outputs) is
+opens_first asked (Some file) ending (inl r) first = ap (λ (e : Ending). e.outputs) r.2
+opens_first asked (Some file) ending (inr a) first = makes_some asked file ending a.1 first
+
+first_said : (said : Said) (files : FileMap) (ending : Ending) → RunOf said files ending → ComesFirst ending.cause → ending.outputs ≡ []
+first_said (asks asked) files ending run first = opens_first asked (finmap.get files (input_of asked)) ending run first
+first_said (usage index) files ending run first = ap (λ (e : Ending). e.outputs) run
+
+-- an ending that comes before any output has none
+pub no_outputs_first : (words : List (List ℕ)) (files : FileMap) (ending : Ending) → Run words files ending → ComesFirst ending.cause → ending.outputs ≡ []
+no_outputs_first words files ending run first = first_said (says words) files ending run first

@@ -2,16 +2,17 @@
 use Rattle.std.specs.Prelude.{◌≡◌, ℕ, List, [], ◌∷◌, take, map}
 use Rattle.std.specs.FinMap as finmap
 use Rattle.las_header.specs.declared.refusal.Refusal.{Refusal}
+use Rattle.las_header.specs.declared.refusal.Refusal.TheVariants as refusal
 use Rattle.las_outside.specs.Files.{FileMap}
 use Rattle.las_outside.specs.Drafts.{Patch, with_patches, IsUnfinished}
 
--- An output of a run: its name, its draft, the patches of the draft in order, and how many bytes of the draft are there
--- after a refusal ended the run.
+-- An output of a run: its name, its draft, the patches of the draft in order, and what stands of it after a refusal
+-- ended the run.
 pub record Output : Type 0 where
   pub name : List ℕ
   pub draft : List ℕ
   pub patches : List Patch
-  pub stop : ℕ
+  pub stopped : List ℕ
 
 -- Why a run ends: all is done; memory is short; the word of this index is wrong; the input of this name is not held or
 -- could not be read; an output could not be written; or the input of this name is refused.
@@ -32,6 +33,23 @@ status_of (Unread _) = 3
 status_of Unwritten = 4
 status_of (Refused _ _) = 5
 
+-- An input is refused for this cause when it is opened, and not while its records are read.
+abbrev pub ComesAtOpening : Refusal → Type 0
+ComesAtOpening (refusal.BadChunk chunk) = ⊥
+ComesAtOpening (refusal.RawRange record_number) = ⊥
+ComesAtOpening refusal.TooManyParts = ⊥
+ComesAtOpening _ = Unit {0}
+
+-- A run that ends for this cause has created no output: the words are wrong, or an input is missing, or is refused when
+-- it is opened.
+abbrev pub ComesFirst : Cause → Type 0
+ComesFirst Done = ⊥
+ComesFirst Memory = ⊥
+ComesFirst (Usage _) = Unit {0}
+ComesFirst (Unread _) = Unit {0}
+ComesFirst Unwritten = ⊥
+ComesFirst (Refused _ refusal) = ComesAtOpening refusal
+
 -- An ending: its cause, the outputs in the order in which they are created, and the text on standard output.
 pub record Ending : Type 0 where
   pub cause : Cause
@@ -47,14 +65,14 @@ abbrev pub with_all : FileMap → List (List ℕ × List ℕ) → FileMap
 with_all files [] = files
 with_all files (p ∷ ps) = with_all (finmap.insert files p.0 p.1) ps
 
--- the name and the bytes of an output at the end: finished if all is done, and else the front of its draft
+-- the name and the bytes of an output at the end: finished if all is done, and else as it was stopped
 abbrev pub at_end : Cause → Output → List ℕ × List ℕ
 at_end Done output = (output.name, with_patches output.draft output.patches)
-at_end Memory output = (output.name, take output.stop output.draft)
-at_end (Usage _) output = (output.name, take output.stop output.draft)
-at_end (Unread _) output = (output.name, take output.stop output.draft)
-at_end Unwritten output = (output.name, take output.stop output.draft)
-at_end (Refused _ _) output = (output.name, take output.stop output.draft)
+at_end Memory output = (output.name, output.stopped)
+at_end (Usage _) output = (output.name, output.stopped)
+at_end (Unread _) output = (output.name, output.stopped)
+at_end Unwritten output = (output.name, output.stopped)
+at_end (Refused _ _) output = (output.name, output.stopped)
 
 -- the files at an ending
 abbrev pub files_of : Ending → FileMap → FileMap

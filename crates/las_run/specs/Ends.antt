@@ -1,25 +1,48 @@
 -- What a run says of the cause for which it ended. Each tool says it of its own endings, and the clauses of the top
 -- call follow from it for all tools.
-use Rattle.std.specs.Prelude.{◌≡◌, ◌≢◌, ◌⊎◌, ℕ, List, [], Some, Result, Ok, Err}
+use Rattle.std.specs.Prelude.{◌≡◌, ◌≢◌, ◌⊎◌, ℕ, List, [], Some, Result, Ok, Err, Contains, slice_index_or}
 use Rattle.las_header.specs.declared.refusal.Refusal.{Refusal}
-use Rattle.las_run.specs.Inputs.{refusal_of}
 use Rattle.las_outside.specs.Faults.{Rose}
-use Rattle.las_outside.specs.Files.{FileMap, IsMissing}
+use Rattle.las_outside.specs.Files.{FileMap, IsMissing, WhereKnown}
 use Rattle.las_outside.specs.Outside.{Outside}
 use Rattle.las_outside.specs.Sinks.{SinkView, with_more}
+use Rattle.las_words.specs.declared.command.Command.{Command}
+use Rattle.las_words.specs.declared.command.WordFault.{WordFault}
+use Rattle.las_words.specs.declared.command.WordFault.TheVariants as fault
+use Rattle.las_words.specs.Says.{Said, asked_by, asks, says, usage}
+use Rattle.laz_file.specs.declared.fault.Fault.{Fault}
+use Rattle.laz_file.specs.declared.fault.Fault.TheVariants as file
+use Rattle.laz_file.specs.Refusing.{IsRefusal}
 use Rattle.las_run.specs.declared.stop.Stop.{Stop}
 use Rattle.las_run.specs.declared.stop.Stop.TheVariants as stop
-use Rattle.las_run.specs.Endings.{Cause, Done, Memory, Usage, Unread, Unwritten, Refused, Ending, files_of, IsLeft}
-use Rattle.las_run.specs.Words.{usage, word_at, IsInput}
+use Rattle.las_run.specs.Endings.{Cause, ComesAtOpening, Done, Memory, Usage, Unread, Unwritten, Refused, Ending}
+use Rattle.las_run.specs.Endings.{files_of, IsLeft}
+use Rattle.las_run.specs.Runs.{RunOf, inputs_of, input_of}
 
--- the cause that an outcome of the code stands for; an input is named by the index of its word
-abbrev pub cause_of : List (List ℕ) → Result (Unit {0}) Stop → Cause
-cause_of words (Ok _) = Done
-cause_of words (Err stop.Memory) = Memory
-cause_of words (Err (stop.Usage index)) = Usage index
-cause_of words (Err (stop.Read input)) = Unread (word_at words input)
-cause_of words (Err stop.Write) = Unwritten
-cause_of words (Err (stop.Refused input cause)) = Refused (word_at words input) cause
+-- The words were read so.
+abbrev pub IsRead : List (List ℕ) → Result Command WordFault → Type 0
+IsRead words (Ok command) = says words ≡ asks (asked_by command)
+IsRead words (Err (fault.Usage index)) = says words ≡ usage index
+IsRead words (Err fault.Memory) = Unit {0}
+
+-- what a fault of the words stands for
+abbrev pub stop_of : WordFault → Stop
+stop_of (fault.Usage index) = stop.Usage index
+stop_of fault.Memory = stop.Memory
+
+-- the names of the inputs of a command that was read
+abbrev pub inputs_read : Result Command WordFault → List (List ℕ)
+inputs_read (Ok command) = inputs_of (asks (asked_by command))
+inputs_read (Err fault) = []
+
+-- the cause that an outcome of the code stands for; an input is given by its number in the names of the inputs
+abbrev pub cause_of : (inputs : List (List ℕ)) → Result (Unit {0}) Stop → Cause
+cause_of inputs (Ok _) = Done
+cause_of inputs (Err stop.Memory) = Memory
+cause_of inputs (Err (stop.Usage index)) = Usage index
+cause_of inputs (Err (stop.Read input)) = Unread (slice_index_or inputs input [])
+cause_of inputs (Err stop.Write) = Unwritten
+cause_of inputs (Err (stop.Refused input cause)) = Refused (slice_index_or inputs input []) cause
 
 -- the files and standard output, before and after a run
 pub record Change : Type 0 where
@@ -32,56 +55,95 @@ pub record Change : Type 0 where
 abbrev pub quiet : Outside → Outside → SinkView → Change
 quiet old now out = record { files = old; files_now = now; out = out; out_now = out }
 
--- the endings of a run, over the files before it
-abbrev pub Endings : Type 1
-Endings = FileMap → Ending → Type 0
+-- This ending is defined, and no other is.
+pub record IsTheEnding (said : Said) (files : FileMap) (ending : Ending) : Type 0 where
+  pub defined : RunOf said files ending
+  pub only : (other : Ending) → RunOf said files other → other ≡ ending
 
--- If the files are known, an ending for this cause is defined for them, and files and text are its own.
-abbrev pub EndsAs : Endings → Change → Cause → Type 0
-EndsAs Defines change cause =
+-- If the files are known, the ending that is defined for them is for this cause, and files and text are its own.
+abbrev pub EndsAs : Said → Change → Cause → Type 0
+EndsAs said change cause =
     (files : FileMap) → change.files.held ≡ Some files
-    → (ending : Ending) × Defines files ending × (ending.cause ≡ cause)
+    → (ending : Ending) × IsTheEnding said files ending × (ending.cause ≡ cause)
     × (change.files_now.held ≡ Some (files_of ending files)) × (change.out_now ≡ with_more change.out ending.text)
 
 -- If the files are known, what stands is left of every ending that is defined for them.
-abbrev pub IsLeftBy : Endings → Change → Type 0
-IsLeftBy Defines change =
-    (files : FileMap) (ending : Ending) → change.files.held ≡ Some files → Defines files ending
+abbrev pub IsLeftBy : Said → Change → Type 0
+IsLeftBy said change =
+    (files : FileMap) (ending : Ending) → change.files.held ≡ Some files → RunOf said files ending
     → (now : FileMap) × (change.files_now.held ≡ Some now) × IsLeft ending.outputs files now
 
 -- If the files are known, no ending without an output is defined for them.
-abbrev pub HasOutput : Endings → Change → Type 0
-HasOutput Defines change =
-    (files : FileMap) (ending : Ending) → change.files.held ≡ Some files → Defines files ending → ending.outputs ≢ []
+abbrev pub HasOutput : Said → Change → Type 0
+HasOutput said change =
+    (files : FileMap) (ending : Ending) → change.files.held ≡ Some files → RunOf said files ending
+    → ending.outputs ≢ []
 
--- A run of these words ended for this cause, and for this reason.
-abbrev pub Ends : List (List ℕ) → Endings → Change → Cause → Type 0
-Ends words Defines change Done = EndsAs Defines change Done
-Ends words Defines change Memory = IsLeftBy Defines change
-Ends words Defines change (Usage index) =
-    (usage words ≡ Some index) × (change.files_now ≡ change.files) × EndsAs Defines change (Usage index)
-Ends words Defines change (Unread name) =
-    IsInput words name
-    × ((IsMissing change.files.held name × EndsAs Defines change (Unread name))
-    ⊎ (Rose change.files.read_faults change.files_now.read_faults × IsLeftBy Defines change))
-Ends words Defines change Unwritten =
-    Rose change.files.write_faults change.files_now.write_faults × HasOutput Defines change × IsLeftBy Defines change
-Ends words Defines change (Refused name refusal) = IsInput words name × EndsAs Defines change (Refused name refusal)
+-- A run of what words say ended for this cause, and for this reason. A refusal that comes when an input is opened
+-- leaves the files as they were.
+abbrev pub Ends : Said → Change → Cause → Type 0
+Ends said change Done = EndsAs said change Done × IsLeftBy said change
+Ends said change Memory = IsLeftBy said change
+Ends said change (Usage index) =
+    (said ≡ usage index) × (change.files_now ≡ change.files) × EndsAs said change (Usage index)
+Ends said change (Unread name) =
+    Contains (inputs_of said) name × IsLeftBy said change
+    × ((IsMissing change.files.held name × EndsAs said change (Unread name))
+    ⊎ Rose change.files.read_faults change.files_now.read_faults)
+Ends said change Unwritten =
+    Rose change.files.write_faults change.files_now.write_faults × HasOutput said change × IsLeftBy said change
+Ends said change (Refused name refusal) =
+    Contains (inputs_of said) name × EndsAs said change (Refused name refusal) × IsLeftBy said change
+    × (ComesAtOpening refusal → change.files_now.held ≡ change.files.held)
 
--- The files are as before, unless all is done or a write failed: the whole input is read before an output is created.
-abbrev pub ReadsFirst : Outside → Outside → Cause → Type 0
-ReadsFirst old new Done = Unit {0}
-ReadsFirst old new Unwritten = Unit {0}
-ReadsFirst old new _ = new.held ≡ old.held
+-- what a fault of a call on the input of this number stands for
+abbrev pub stop_by : ℕ → Fault → Stop
+stop_by number (file.Refused cause) = stop.Refused number cause
+stop_by number file.Read = stop.Read number
+stop_by number file.Write = stop.Write
+stop_by number file.Memory = stop.Memory
 
--- There is no memory, or the input that the word of this index names is known not to be held, or a read failed.
-abbrev pub IsUnread : ℕ → List ℕ → Outside → Outside → Stop → Type 0
-IsUnread input name old new outcome =
-    (outcome ≡ stop.Memory)
-    ⊎ ((outcome ≡ stop.Read input) × (IsMissing old.held name ⊎ Rose old.read_faults new.read_faults))
+-- an outcome of a call on the input of this number
+abbrev pub stopped_by : ℕ → Result (Unit {0}) Fault → Result (Unit {0}) Stop
+stopped_by number (Ok done) = Ok done
+stopped_by number (Err fault) = Err (stop_by number fault)
 
--- There is no memory, or the file that the word of this index names is refused, by its first cause.
-abbrev pub IsRefused : ℕ → List ℕ → Stop → Type 0
-IsRefused input file outcome =
-    (outcome ≡ stop.Memory) ⊎
-    ((cause : Refusal) × (outcome ≡ stop.Refused input cause) × (refusal_of file ≡ Some cause))
+-- How opening the input of this number and this name stops: memory is short; the input is known not to be held, or a
+-- read failed; or the input is refused, by its first cause.
+abbrev pub StopsOpening : (number : ℕ) → (name : List ℕ) → (old new : Outside) → Stop → Type 0
+StopsOpening number name old new stop.Memory = Unit {0}
+StopsOpening number name old new (stop.Usage index) = ⊥
+StopsOpening number name old new (stop.Read input) =
+    (input ≡ number) × (IsMissing old.held name ⊎ Rose old.read_faults new.read_faults)
+StopsOpening number name old new stop.Write = ⊥
+StopsOpening number name old new (stop.Refused input cause) =
+    (input ≡ number) × WhereKnown old.held name (λ file. IsRefusal file (Some cause))
+
+-- This ending is one that a command makes of a file, and no other is.
+pub record IsOnlyEnding (Makes : Ending → Type 0) (ending : Ending) : Type 0 where
+  pub makes : Makes ending
+  pub only : (other : Ending) → Makes other → other ≡ ending
+
+-- If the files are known: of an input, an ending is made that is for this cause, and the files are its own.
+abbrev pub MakesAs : (Makes : List ℕ → Ending → Type 0) → (input : List ℕ) → (old new : Outside) → Cause → Type 0
+MakesAs Makes input old new cause = WhereKnown old.held input (λ file.
+    (ending : Ending) × IsOnlyEnding (Makes file) ending × (ending.cause ≡ cause) × (ending.text ≡ [])
+    × ((files : FileMap) → old.held ≡ Some files → new.held ≡ Some (files_of ending files)))
+
+-- If the files are known: what stands is left of every ending that is made of the input.
+abbrev pub LeavesOf : (Makes : List ℕ → Ending → Type 0) → (input : List ℕ) → (old new : Outside) → Type 0
+LeavesOf Makes input old new = WhereKnown old.held input (λ file.
+    (files : FileMap) (ending : Ending) → old.held ≡ Some files → Makes file ending
+    → (now : FileMap) × (new.held ≡ Some now) × IsLeft ending.outputs files now)
+
+-- What a command says of the outcome with which it made something of an accepted input.
+abbrev pub EndsMaking : (Makes : List ℕ → Ending → Type 0) → (input : List ℕ) → (old new : Outside)
+    → Result (Unit {0}) Fault → Type 0
+EndsMaking Makes input old new (Ok _) = MakesAs Makes input old new Done × LeavesOf Makes input old new
+EndsMaking Makes input old new (Err (file.Refused cause)) =
+    MakesAs Makes input old new (Refused input cause) × LeavesOf Makes input old new × (ComesAtOpening cause → ⊥)
+EndsMaking Makes input old new (Err file.Read) =
+    Rose old.read_faults new.read_faults × LeavesOf Makes input old new
+EndsMaking Makes input old new (Err file.Write) =
+    Rose old.write_faults new.write_faults × LeavesOf Makes input old new
+EndsMaking Makes input old new (Err file.Memory) = LeavesOf Makes input old new

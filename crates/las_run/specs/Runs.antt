@@ -1,45 +1,45 @@
--- How a run ends, from the words and the files alone: the definition of the whole program.
-use Rattle.std.specs.Prelude.{◌≡◌, ℕ, List, [], ◌∷◌, Option, Some, None}
+-- How a run ends, from the words and the files alone: the definition of the whole program. No definition here cites the
+-- number of workers.
+use Rattle.std.specs.Prelude.{◌≡◌, ◌⊎◌, ℕ, List, [], ◌∷◌, Option, Some, None}
 use Rattle.std.specs.FinMap as finmap
 use Rattle.las_header.specs.declared.refusal.Refusal.{Refusal}
-use Rattle.las_run.specs.Inputs.{refusal_of}
 use Rattle.las_outside.specs.Files.{FileMap}
-use Rattle.las_run.specs.Endings.{Done, Usage, Unread, Refused, Ending, ends_at_once}
-use Rattle.las_run.specs.Outputs.{output_of_kept}
-use Rattle.las_run.specs.Words.{usage, input_of, output_of, class_of_words}
+use Rattle.las_words.specs.Says.{Asked, Said, asks, laszip, las2las, says, usage}
+use Rattle.laz_file.specs.Refusing.{IsAcceptedFile, IsRefusal}
+use Rattle.las_run.specs.Endings.{Usage, Unread, Refused, Ending, ends_at_once}
+use Rattle.las_run.specs.Tools.{Zips, Converts}
 
--- an accepted file, or one that is refused for this cause
-abbrev pub Accepts : List ℕ → Option Refusal → (Ending → Type 0) → Ending → Type 0
-Accepts name None Accepted ending = Accepted ending
-Accepts name (Some refusal) Accepted ending = ending ≡ ends_at_once (Refused name refusal)
+-- the name of the input of a command
+abbrev pub input_of : Asked → List ℕ
+input_of (laszip input output chunk workers) = input
+input_of (las2las input output plan packed chunk workers) = input
 
--- An input is opened: it is not held, or refused, or what else ends the run is said of its bytes.
-abbrev pub Opens : List ℕ → Option (List ℕ) → (List ℕ → Ending → Type 0) → Ending → Type 0
-Opens name None Accepted ending = ending ≡ ends_at_once (Unread name)
-Opens name (Some file) Accepted ending = Accepts name (refusal_of file) (Accepted file) ending
+-- the names of the inputs, in the order in which they are read
+abbrev pub inputs_of : Said → List (List ℕ)
+inputs_of (asks asked) = input_of asked ∷ []
+inputs_of (usage index) = []
 
--- The class of `las2las -keep_class` is kept: all is done, with one output.
-abbrev pub Keeps : List (List ℕ) → List ℕ → Ending → Type 0
-Keeps words file ending =
-    ending ≡ record {
-      cause = Done;
-      outputs = output_of_kept (output_of words) (class_of_words words) file ∷ [];
-      text = [];
-    }
+-- What a command makes of an accepted input.
+abbrev pub Makes : Asked → (file : List ℕ) → Ending → Type 0
+Makes (laszip input output chunk workers) file ending = Zips input output chunk file ending
+Makes (las2las input output plan packed chunk workers) file ending = Converts input output plan packed chunk file ending
+
+-- A file is refused by its first cause, or accepted, and then a command makes something of it.
+abbrev pub Accepts : (name file : List ℕ) → (Makes : Ending → Type 0) → Ending → Type 0
+Accepts name file Makes ending =
+    ((refusal : Refusal) × IsRefusal file (Some refusal) × (ending ≡ ends_at_once (Refused name refusal)))
+    ⊎ (IsAcceptedFile file × Makes ending)
+
+-- An input is opened: it is not held, or refused, or accepted.
+abbrev pub Opens : (name : List ℕ) → Option (List ℕ) → (Makes : List ℕ → Ending → Type 0) → Ending → Type 0
+Opens name None Makes ending = ending ≡ ends_at_once (Unread name)
+Opens name (Some file) Makes ending = Accepts name file (Makes file) ending
 
 -- wrong words, or those of a command
-abbrev pub RunOf : Option ℕ → List (List ℕ) → FileMap → Ending → Type 0
-RunOf (Some index) words files ending = ending ≡ ends_at_once (Usage index)
-RunOf None words files ending = Opens (input_of words) (finmap.get files (input_of words)) (Keeps words) ending
+abbrev pub RunOf : Said → FileMap → Ending → Type 0
+RunOf (usage index) files ending = ending ≡ ends_at_once (Usage index)
+RunOf (asks asked) files ending = Opens (input_of asked) (finmap.get files (input_of asked)) (Makes asked) ending
 
 -- A run of these words over these files ends so, if nothing fails and memory suffices.
 abbrev pub Run : List (List ℕ) → FileMap → Ending → Type 0
-Run words files ending = RunOf (usage words) words files ending
-
--- At most one ending is defined for words and files.
-abbrev pub IsOneEnding : Type 0
-IsOneEnding = (words : List (List ℕ)) (files : FileMap) (a b : Ending) → Run words files a → Run words files b → a ≡ b
-
--- Some ending is defined for words and files.
-abbrev pub HasEnding : Type 0
-HasEnding = (words : List (List ℕ)) (files : FileMap) → (ending : Ending) × Run words files ending
+Run words files ending = RunOf (says words) files ending

@@ -1,16 +1,15 @@
 //! The top call of the product: a command line, run over files and streams.
 #![tactic(auto)]
 
+mod input;
+mod las2las;
+mod laszip;
 mod laws;
-mod output;
 mod report;
-mod select;
-mod source;
 mod stop;
 mod top_call;
-mod words;
 
-pub use laws::one_ending;
+pub use laws::{endings_are_defined, one_ending, workers_do_not_matter};
 pub use top_call::run;
 
 #[cfg(test)]

@@ -1,20 +1,20 @@
 //! The line on standard error, and the exit status.
 ghost use Rattle.std.specs.Prelude.{◌≡◌, ◌≤◌, ℕ, List};
 ghost use Rattle.las_outside.specs.Sinks.{Puts};
+ghost use Rattle.std.specs.Prelude.{[], Err, slice_index_or};
 ghost use Rattle.las_run.specs.Endings.{status_of, Refused};
-ghost use Rattle.las_run.specs.Ends.{cause_of};
+ghost use Rattle.las_run.specs.Ends.{cause_of, inputs_read};
 ghost use Rattle.las_run.specs.Lines.{line_of, number_in};
-ghost use Rattle.las_run.specs.Words.{texts};
 
 use crate::stop::Stop;
-use crate::words::word;
 use itoa::Buffer;
 use las_header::Refusal;
 use las_outside::{Failed, Sink, put_all};
+use las_words::{Command, WordFault};
 
 /// The exit status of a run.
 pub fn status(outcome: &Result<(), Stop>) -> u8
-    ensures status { (words : List (List ℕ)) → result ≡ status_of (cause_of words outcome.now) }
+    ensures status { (inputs : List (List ℕ)) → result ≡ status_of (cause_of inputs outcome.now) }
     ensures known { result ≤ 5 }
 {
     match outcome {
@@ -30,20 +30,37 @@ pub fn status(outcome: &Result<(), Stop>) -> u8
 /// Puts the line of a run on standard error, in pieces: none if all is done. It takes no memory.
 pub fn report<E: Sink>(
     err: &mut E,
-    words: &[String],
+    said: &Result<Command, WordFault>,
     outcome: &Result<(), Stop>,
 ) -> Result<(), Failed>
-    ensures line { Puts (line_of (cause_of (texts words.now) outcome.now)) (E.seen err.old) (E.seen err.new) }
+    ensures line { Puts (line_of (cause_of (inputs_read said.now) outcome.now)) (E.seen err.old) (E.seen err.new) }
 {
     match outcome {
         Ok(()) => Ok(()),
-        Err(stop) => put_stop(err, words, stop),
+        Err(stop) => put_stop(err, said, stop),
+    }
+}
+
+// The name of the input of this number, and an empty one if there is none.
+fn input_name(said: &Result<Command, WordFault>, number: usize) -> &str
+    ensures { result.now ≡ slice_index_or (inputs_read said.now) number [] }
+{
+    if number > 0 {
+        return "";
+    }
+    match said {
+        Ok(Command::Laszip { input, .. }) | Ok(Command::Las2las { input, .. }) => input.as_str(),
+        Err(_) => "",
     }
 }
 
 // Puts the line of a run that stops.
-fn put_stop<E: Sink>(err: &mut E, words: &[String], stop: &Stop) -> Result<(), Failed>
-    ensures line { Puts (line_of (cause_of (texts words.now) (Err stop.now))) (E.seen err.old) (E.seen err.new) }
+fn put_stop<E: Sink>(
+    err: &mut E,
+    said: &Result<Command, WordFault>,
+    stop: &Stop,
+) -> Result<(), Failed>
+    ensures line { Puts (line_of (cause_of (inputs_read said.now) (Err stop.now))) (E.seen err.old) (E.seen err.new) }
 {
     let mut digits = Buffer::new();
     match stop {
@@ -53,11 +70,11 @@ fn put_stop<E: Sink>(err: &mut E, words: &[String], stop: &Stop) -> Result<(), F
             put_all(err, &[b"usage: word ", index, b"\n"])
         }
         Stop::Read(input) => {
-            let name = word(words, *input).as_bytes();
+            let name = input_name(said, *input).as_bytes();
             put_all(err, &[b"read fault: ", name, b"\n"])
         }
         Stop::Write => put_all(err, &[b"write fault", b"\n"]),
-        Stop::Refused(input, cause) => put_refusal(err, word(words, *input), cause),
+        Stop::Refused(input, cause) => put_refusal(err, input_name(said, *input), cause),
     }
 }
 
@@ -112,7 +129,12 @@ mod tests {
     // Every line, with numbers of any length.
     #[test]
     fn lines(rt: HostRuntime) -> Result<(), Fail> {
-        let words = vec![in rt.alloc(); String::from_str(rt.alloc(), "a.laz")?]?;
+        let said = Ok(Command::Laszip {
+            input: String::from_str(rt.alloc(), "a.laz")?,
+            output: String::from_str(rt.alloc(), "b.las")?,
+            chunk: 256,
+            workers: 1,
+        });
         let lines = [
             (Stop::Memory, "no memory\n"),
             (Stop::Usage(7), "usage: word 7\n"),
@@ -139,7 +161,7 @@ mod tests {
         ];
         for (stop, line) in lines {
             let mut err = MemSink::with_room(rt.alloc(), 100)?;
-            report(&mut err, &words, &Err(stop))?;
+            report(&mut err, &said, &Err(stop))?;
             assert_eq!(rt; err.bytes(), line.as_bytes());
         }
         Ok(())

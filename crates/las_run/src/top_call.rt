@@ -1,22 +1,35 @@
 //! The top call.
-ghost use Rattle.std.specs.Prelude.{◌≡◌, ◌≤◌, ◌⊎◌, ◌↔◌, ◌≢◌, [], Some, None, IsSome};
+ghost use Rattle.std.specs.Prelude.{◌≡◌, ◌≢◌, ◌≤◌, ◌⊎◌, ◌++◌, ℕ, List, [], Some, None, Err, Any, true, slice_index_or};
+ghost use Rattle.std.specs.FinMap as finmap;
+ghost use Rattle.std.specs.List.{concat};
+ghost use Rattle.std.specs.Result.{ForOk};
+ghost use Rattle.las_header.specs.declared.refusal.Refusal.{Refusal};
+ghost use Rattle.las_header.specs.declared.refusal.Refusal.TheVariants.{BadChunk};
+ghost use Rattle.las_header.specs.Fields.{head_of, is_packed};
+ghost use Rattle.las_header.specs.Plain.{plain_head};
 ghost use Rattle.las_outside.specs.Faults.{Rose};
 ghost use Rattle.las_outside.specs.Files.{FileMap, IsMissing};
 ghost use Rattle.las_outside.specs.Outside.{Later};
 ghost use Rattle.las_outside.specs.Sinks.{SinkView, Puts, with_more};
-ghost use Rattle.las_run.specs.Words.{texts, usage, input_of};
-ghost use Rattle.las_run.specs.Endings.{Cause, Done, Ending, status_of, files_of, IsLeft};
-ghost use Rattle.las_run.specs.Runs.{Run};
+ghost use Rattle.las_words.specs.declared.command.WordFault.{WordFault};
+ghost use Rattle.las_words.specs.Says.{IsSound, asked_by, asks, says, usage};
+ghost use Rattle.las_words.specs.Texts.{texts};
+ghost use Rattle.laz_file.specs.Laws.{CanBePacked};
+ghost use Rattle.laz_file.specs.Packing.{packed_file};
+ghost use Rattle.laz_file.specs.Records.{AreRecordsOf};
+ghost use Rattle.laz_file.specs.Refusing.{IsAcceptedFile, IsRefusal};
+ghost use Rattle.las_run.specs.Endings.{Cause, ComesFirst, Done, Refused, Ending, status_of, files_of, IsLeft};
+ghost use Rattle.las_run.specs.Runs.{Run, inputs_of};
 ghost use Rattle.las_run.specs.Lines.{line_of};
-ghost use Rattle.las_run.specs.Ends.{Ends, ReadsFirst, cause_of, quiet};
+ghost use Rattle.las_run.specs.Ends.{Ends, IsRead, IsTheEnding, cause_of, inputs_read, quiet, stop_of};
+ghost use Rattle.las_run.specs.Headline.{AsksLaszip, EndsUnlessCut, Seen};
 
-use crate::output::write_selection;
+use crate::las2las::las2las;
+use crate::laszip::laszip;
 use crate::report::{report, status};
-use crate::select::selected;
-use crate::source::read_input;
 use crate::stop::Stop;
-use crate::words::{CLASS, INPUT, OUTPUT, class_in, word, wrong_word};
 use las_outside::{Files, Gate, Sink};
+use las_words::{Command, WordFault, read_words};
 use std::alloc::Global;
 use std::thread::Threads;
 
@@ -24,8 +37,8 @@ use std::thread::Threads;
 /// all went well. It answers the exit status: 0 done, 1 out of memory, 2 wrong words, 3 a read that failed or an input
 /// that is not there, 4 a write that failed, 5 an input that is refused.
 ///
-/// The words are `las2las -i INPUT -o OUTPUT -keep_class CLASS`, in this order. The output is the input with the
-/// records of that class alone. A name is a text, and two names of one file are not recognised.
+/// The commands are `laszip`, which packs a plain file and unpacks a packed one, and `las2las`, which filters and
+/// changes records. A name is a text, and two names of one file are not recognised.
 ///
 /// The status is fixed before the line is put, and a fault of `err` changes nothing else.
 pub fn run<R: Threads + Sync, F: Files, O: Sink, E: Sink, G: Gate>(
@@ -41,7 +54,7 @@ pub fn run<R: Threads + Sync, F: Files, O: Sink, E: Sink, G: Gate>(
     // the line on `err`, of which a prefix is put if `err` fails.
     ensures ends { (cause : Cause) × (result ≡ status_of cause)
         × Puts (line_of cause) (E.seen err.old) (E.seen err.new)
-        × Ends (texts words.now) (Run (texts words.now)) (record {
+        × Ends (says (texts words.now)) (record {
           files = F.seen files.old;
           files_now = F.seen files.new;
           out = O.seen out.old;
@@ -49,14 +62,71 @@ pub fn run<R: Threads + Sync, F: Files, O: Sink, E: Sink, G: Gate>(
         }) cause }
     ensures status { result ≤ 5 }
 
-    // Wrong words end the run before any file is asked for.
-    ensures usage { (result ≡ 2) ↔ IsSome (usage (texts words.now)) }
-    ensures unasked { result ≡ 2 → F.seen files.new ≡ F.seen files.old }
+    // Over known files, every accepted plain file is packed to exactly its packed form, and this form is unpacked to
+    // the file; every packed file whose chunks hold records is unpacked; and every other input is refused, by its first
+    // cause or by its first bad chunk. Only memory and faults that are counted can end such a run early.
+    ensures packs { (known : FileMap) (file : List ℕ) (zip : AsksLaszip (texts words.now) known file)
+        → (F.seen files.old).held ≡ Some known → CanBePacked file zip.chunk
+        → EndsUnlessCut (record {
+          status = result;
+          files = F.seen files.old;
+          files_now = F.seen files.new;
+          err = E.seen err.old;
+          err_now = E.seen err.new;
+        }) Done (finmap.insert known zip.output (packed_file file zip.chunk)) }
+    ensures gives_back { (known : FileMap) (file : List ℕ) (chunk : ℕ)
+        (zip : AsksLaszip (texts words.now) known (packed_file file chunk))
+        → (F.seen files.old).held ≡ Some known → CanBePacked file chunk
+        → EndsUnlessCut (record {
+          status = result;
+          files = F.seen files.old;
+          files_now = F.seen files.new;
+          err = E.seen err.old;
+          err_now = E.seen err.new;
+        }) Done (finmap.insert known zip.output file) }
+    ensures unpacks { (known : FileMap) (file : List ℕ) (blocks : List (List ℕ))
+        (zip : AsksLaszip (texts words.now) known file)
+        → (F.seen files.old).held ≡ Some known → IsAcceptedFile file → is_packed (head_of file) ≡ true
+        → AreRecordsOf file blocks None
+        → EndsUnlessCut (record {
+          status = result;
+          files = F.seen files.old;
+          files_now = F.seen files.new;
+          err = E.seen err.old;
+          err_now = E.seen err.new;
+        }) Done (finmap.insert known zip.output (plain_head file ++ concat blocks)) }
+    ensures refuses { (known : FileMap) (file : List ℕ) (refusal : Refusal)
+        (zip : AsksLaszip (texts words.now) known file)
+        → (F.seen files.old).held ≡ Some known → IsRefusal file (Some refusal)
+        → EndsUnlessCut (record {
+          status = result;
+          files = F.seen files.old;
+          files_now = F.seen files.new;
+          err = E.seen err.old;
+          err_now = E.seen err.new;
+        }) (Refused zip.input refusal) known }
+    ensures refuses_chunks { (known : FileMap) (file : List ℕ) (blocks : List (List ℕ)) (chunk : ℕ)
+        (zip : AsksLaszip (texts words.now) known file)
+        → (F.seen files.old).held ≡ Some known → IsAcceptedFile file → is_packed (head_of file) ≡ true
+        → AreRecordsOf file blocks (Some chunk)
+        → EndsUnlessCut (record {
+          status = result;
+          files = F.seen files.old;
+          files_now = F.seen files.new;
+          err = E.seen err.old;
+          err_now = E.seen err.new;
+        }) (Refused zip.input (BadChunk chunk)) (finmap.insert known zip.output (plain_head file ++ concat blocks)) }
 
-    // Over known files: what is done is what is defined, and a refusal comes only if one is defined.
+    // Wrong words end the run before any file is asked for, unless memory is short.
+    ensures usage { result ≡ 2 → (index : ℕ) × (says (texts words.now) ≡ usage index) }
+    ensures wrong { (index : ℕ) → says (texts words.now) ≡ usage index → (result ≡ 2) ⊎ (result ≡ 1) }
+    ensures unasked { (index : ℕ) → says (texts words.now) ≡ usage index → F.seen files.new ≡ F.seen files.old }
+
+    // Over known files: what is done is what is defined and nothing else is, and a refusal comes only if one is
+    // defined.
     ensures done { (known : FileMap) → (F.seen files.old).held ≡ Some known
         → (result ≡ 0) ⊎ ((result ≡ 2) ⊎ (result ≡ 5))
-        → (ending : Ending) × Run (texts words.now) known ending × (status_of ending.cause ≡ result)
+        → (ending : Ending) × IsTheEnding (says (texts words.now)) known ending × (status_of ending.cause ≡ result)
         × ((F.seen files.new).held ≡ Some (files_of ending known))
         × (O.seen out.new ≡ with_more (O.seen out.old) ending.text) }
 
@@ -64,62 +134,95 @@ pub fn run<R: Threads + Sync, F: Files, O: Sink, E: Sink, G: Gate>(
     ensures complete { (known : FileMap) (ending : Ending) → (F.seen files.old).held ≡ Some known
         → Run (texts words.now) known ending
         → ((result ≡ status_of ending.cause) × ((F.seen files.new).held ≡ Some (files_of ending known))
-        × (O.seen out.new ≡ with_more (O.seen out.old) ending.text))
+        × (O.seen out.new ≡ with_more (O.seen out.old) ending.text)
+        × Puts (line_of ending.cause) (E.seen err.old) (E.seen err.new))
         ⊎ ((result ≡ 1) ⊎ (((result ≡ 3) × Rose (F.seen files.old).read_faults (F.seen files.new).read_faults)
         ⊎ ((result ≡ 4) × Rose (F.seen files.old).write_faults (F.seen files.new).write_faults
         × (ending.outputs ≢ [])))) }
 
     // Faults have their causes.
-    ensures read { result ≡ 3 → IsMissing (F.seen files.old).held (input_of (texts words.now))
+    ensures read { result ≡ 3 → Any (IsMissing (F.seen files.old).held) (inputs_of (says (texts words.now)))
         ⊎ Rose (F.seen files.old).read_faults (F.seen files.new).read_faults }
     ensures write { result ≡ 4 → Rose (F.seen files.old).write_faults (F.seen files.new).write_faults }
 
-    // Over known files: what is left, whatever ended the run. Nothing has changed if the defined ending is not 0, and
-    // also after wrong words, a failed read or a refusal.
+    // Over known files: what is left, whatever ended the run. Nothing has changed if the words are wrong, or the input
+    // is missing or refused when it is opened.
     ensures left { (known : FileMap) (ending : Ending) → (F.seen files.old).held ≡ Some known
         → Run (texts words.now) known ending
         → (now : FileMap) × ((F.seen files.new).held ≡ Some now) × IsLeft ending.outputs known now }
     ensures unchanged { (known : FileMap) (ending : Ending) → (F.seen files.old).held ≡ Some known
-        → Run (texts words.now) known ending → status_of ending.cause ≢ 0
-        → (F.seen files.new).held ≡ (F.seen files.old).held }
-    ensures reads_first { (result ≡ 2) ⊎ ((result ≡ 3) ⊎ (result ≡ 5))
+        → Run (texts words.now) known ending → ComesFirst ending.cause
         → (F.seen files.new).held ≡ (F.seen files.old).held }
 
     // No command puts a text on `out` yet. No count falls.
     ensures out { O.seen out.new ≡ O.seen out.old }
     ensures later { Later (F.seen files.old) (F.seen files.new) }
 {
-    let outcome = work(alloc, words, files);
-    let _ = report(err, words, &outcome);
+    let said = read_words(alloc, words);
+    let outcome = work(rt, alloc, files, gate, &said);
+    let _ = report(err, &said, &outcome);
     status(&outcome)
 }
 
 // Does what the words say.
-fn work<F: Files>(alloc: Global, words: &[String], files: &mut F) -> Result<(), Stop>
-    ensures ends { (out : SinkView) → Ends (texts words.now) (Run (texts words.now))
-        (quiet (F.seen files.old) (F.seen files.new) out) (cause_of (texts words.now) result) }
-    ensures reads_first { ReadsFirst (F.seen files.old) (F.seen files.new) (cause_of (texts words.now) result) }
-    ensures usage { IsSome (usage (texts words.now)) → status_of (cause_of (texts words.now) result) ≡ 2 }
+fn work<R: Threads + Sync, F: Files, G: Gate>(
+    rt: &R,
+    alloc: Global,
+    files: &mut F,
+    gate: &G,
+    said: &Result<Command, WordFault>,
+) -> Result<(), Stop>
+    requires sound { ForOk said.now (λ command. IsSound (asked_by command)) }
+    ensures ends { (words : List (List ℕ)) (out : SinkView) → IsRead words said.now
+        → Ends (says words) (quiet (F.seen files.old) (F.seen files.new) out) (cause_of (inputs_read said.now) result) }
+    ensures unread { (fault : WordFault) → said.now ≡ Err fault
+        → (result ≡ Err (stop_of fault)) × (F.seen files.new ≡ F.seen files.old) }
     ensures later { Later (F.seen files.old) (F.seen files.new) }
 {
-    if let Some(index) = wrong_word(words) {
-        return Err(Stop::Usage(index));
+    match said {
+        Ok(command) => obey(rt, alloc, files, gate, command),
+        Err(fault) => Err(stop(*fault)),
     }
-    keep_class(alloc, words, files)
 }
 
-// Keeps the records of a class.
-fn keep_class<F: Files>(alloc: Global, words: &[String], files: &mut F) -> Result<(), Stop>
-    requires { usage (texts words.now) ≡ None }
-    ensures ends { (out : SinkView) → Ends (texts words.now) (Run (texts words.now))
-        (quiet (F.seen files.old) (F.seen files.new) out) (cause_of (texts words.now) result) }
-    ensures reads_first { ReadsFirst (F.seen files.old) (F.seen files.new) (cause_of (texts words.now) result) }
+// Why words that are not read end the run.
+fn stop(fault: WordFault) -> Stop
+    ensures { result ≡ stop_of fault }
+{
+    match fault {
+        WordFault::Usage(index) => Stop::Usage(index),
+        WordFault::Memory => Stop::Memory,
+    }
+}
+
+// Does what a command asks for.
+fn obey<R: Threads + Sync, F: Files, G: Gate>(
+    rt: &R,
+    alloc: Global,
+    files: &mut F,
+    gate: &G,
+    command: &Command,
+) -> Result<(), Stop>
+    requires sound { IsSound (asked_by command.now) }
+    ensures ends { (out : SinkView) → Ends (asks (asked_by command.now))
+        (quiet (F.seen files.old) (F.seen files.new) out) (cause_of (inputs_of (asks (asked_by command.now))) result) }
     ensures later { Later (F.seen files.old) (F.seen files.new) }
 {
-    let file = read_input(alloc, files, words, INPUT)?;
-    let selection = selected(alloc, file, class_in(word(words, CLASS)))?;
-    match write_selection(files, word(words, OUTPUT), &selection) {
-        Ok(()) => Ok(()),
-        Err(_) => Err(Stop::Write),
+    match command {
+        Command::Laszip {
+            input,
+            output,
+            chunk,
+            workers,
+        } => laszip(rt, alloc, files, gate, input, output, *chunk, *workers),
+        Command::Las2las {
+            input,
+            output,
+            plan,
+            packing,
+            workers,
+        } => las2las(
+            rt, alloc, files, gate, input, output, plan, *packing, *workers,
+        ),
     }
 }

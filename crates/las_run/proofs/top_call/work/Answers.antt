@@ -1,8 +1,10 @@
-use Rattle.std.proofs.Common.{refl, sym, ◌∙◌}
-use Rattle.las_run.specs.Words.{texts}
-use Rattle.las_run.proofs.Converting.{ends_wrong}
+use Rattle.las_run.proofs.Saying.{ends_read, ends_unread}
 use Rattle.las_run.proofs.top_call.work.Goals as goal
 
-pub returns-in-Some-clause-ends : goal.returns-in-Some-clause-ends
-returns-in-Some-clause-ends g c =
-    λ out. ends_wrong (texts c.args.words.now) (g.F.Files.seen c.args.files.now) (g.F.Files.seen c.args.files.now) out c.in-Some.index (sym c.wrong_word.ensures ∙ c.in-Some.is) refl
+pub returns-in-Ok-clause-ends : goal.returns-in-Ok-clause-ends
+returns-in-Ok-clause-ends g c =
+    λ words out read. ends_read words c.args.said.now c.in-Ok.command (g.F.Files.seen c.args.files.now) (g.F.Files.seen c.obey.new.files) out c.obey.result c.in-Ok.is read (c.obey.ensures.ends out)
+
+pub returns-in-Err-clause-ends : goal.returns-in-Err-clause-ends
+returns-in-Err-clause-ends g c =
+    λ words out read. ends_unread words c.args.said.now c.in-Err.fault c.stop.result (g.F.Files.seen c.args.files.now) out c.in-Err.is c.stop.ensures read

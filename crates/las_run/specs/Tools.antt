@@ -1,0 +1,65 @@
+-- What each command makes of an input that is accepted: how the run ends then.
+use Rattle.std.specs.Prelude.{◌≡◌, ℕ, Bool, true, false, if◌then◌else◌, List, [], ◌∷◌, drop, Option, Some, None}
+use Rattle.std.specs.List.{concat}
+use Rattle.std.specs.Option.{option_map}
+use Rattle.las_filter.specs.Kept.{Steps}
+use Rattle.las_convert.specs.Converting.{ConvertsTo, converted_output}
+use Rattle.las_header.specs.declared.refusal.Refusal.{Refusal}
+use Rattle.las_header.specs.declared.refusal.Refusal.TheVariants.{BadChunk}
+use Rattle.las_header.specs.Fields.{head_of, is_packed, point_offset_of}
+use Rattle.laz_file.specs.Copying.{packed_output, plain_output}
+use Rattle.laz_file.specs.Outputs as points
+use Rattle.laz_file.specs.Records.{AreRecordsOf}
+use Rattle.las_run.specs.Endings.{Cause, Done, Refused, Ending, Output}
+
+-- an output of point records as one of a run
+abbrev pub output_of : points.Output → (records : List ℕ) → Output
+output_of out records = record {
+  name = out.name;
+  draft = points.draft_of out records;
+  patches = points.patches_of out records;
+  stopped = points.stopped out records;
+}
+
+-- all is done, or the input is refused
+abbrev pub cause_by : (input : List ℕ) → Option Refusal → Cause
+cause_by input None = Done
+cause_by input (Some refusal) = Refused input refusal
+
+-- the ending with one output: of all of its records, or of those before a refusal
+abbrev pub writes : (input : List ℕ) → points.Output → (records : List ℕ) → Option Refusal → Ending
+writes input out records refusal =
+    record { cause = cause_by input refusal; outputs = output_of out records ∷ []; text = [] }
+
+-- `laszip` of a plain input packs it.
+abbrev pub Packs : (input output : List ℕ) → (chunk : ℕ) → (file : List ℕ) → Ending → Type 0
+Packs input output chunk file ending =
+    ending ≡ writes input (packed_output output file chunk) (drop (point_offset_of file) file) None
+
+-- `laszip` of a packed input unpacks it, up to its first bad chunk.
+abbrev pub Unpacks : (input output file : List ℕ) → Ending → Type 0
+Unpacks input output file ending =
+    (blocks : List (List ℕ)) × (bad : Option ℕ) × AreRecordsOf file blocks bad
+    × (ending ≡ writes input (plain_output output file) (concat blocks) (option_map BadChunk bad))
+
+-- `laszip` goes by the contents of its input, and not by the names.
+abbrev pub ZipsIf : (packed : Bool) → (input output : List ℕ) → (chunk : ℕ) → (file : List ℕ) → Ending → Type 0
+ZipsIf true input output chunk file ending = Unpacks input output file ending
+ZipsIf false input output chunk file ending = Packs input output chunk file ending
+
+abbrev pub Zips : (input output : List ℕ) → (chunk : ℕ) → (file : List ℕ) → Ending → Type 0
+Zips input output chunk file ending = ZipsIf (is_packed (head_of file)) input output chunk file ending
+
+-- the chunk size of an output, if it is packed
+abbrev pub chunk_if : (packed : Bool) → (chunk : ℕ) → Option ℕ
+chunk_if packed chunk = if packed then Some chunk else None
+
+-- `las2las` writes what its plan keeps of the records, up to the first refusal: in chunks of this size, if there is one.
+abbrev pub ConvertsIn : (size : Option ℕ) → (input output : List ℕ) → Steps → (file : List ℕ) → Ending → Type 0
+ConvertsIn size input output plan file ending =
+    (records : List ℕ) × (refusal : Option Refusal) × ConvertsTo plan file records refusal
+    × (ending ≡ writes input (converted_output output file size) records refusal)
+
+abbrev pub Converts : (input output : List ℕ) → Steps → (packed : Bool) → (chunk : ℕ) → (file : List ℕ) → Ending
+    → Type 0
+Converts input output plan packed chunk file ending = ConvertsIn (chunk_if packed chunk) input output plan file ending

@@ -1,0 +1,60 @@
+//! The inputs of a run.
+ghost use Rattle.std.specs.Prelude.{◌≡◌, IfErr, IfOk, OnOk};
+ghost use Rattle.las_header.specs.Heads.{IsHead};
+ghost use Rattle.las_outside.specs.Files.{WhereKnown};
+ghost use Rattle.las_outside.specs.Outside.{Later};
+ghost use Rattle.laz_file.specs.Reading.{AgreesWithHead, IsNewReader, StandsFor};
+ghost use Rattle.las_run.specs.Ends.{StopsOpening, stop_by, stopped_by};
+
+use crate::stop::Stop;
+use las_outside::Files;
+use laz_file::{Fault, Reader};
+use std::alloc::Global;
+
+/// Opens the input that has this number and this name.
+pub fn open_input<F: Files>(
+    alloc: Global,
+    files: &mut F,
+    number: usize,
+    name: &str,
+) -> Result<Reader, Stop>
+    ensures stands { IfOk result (λ reader. WhereKnown (F.seen files.old).held name.now (StandsFor reader)) }
+    ensures fresh { IfOk result (IsNewReader name.now) }
+    ensures whole { IfOk result AgreesWithHead }
+    ensures head { IfOk result (λ reader. IsHead reader.head.bytes) }
+    ensures faults { OnOk result ((F.seen files.new).read_faults ≡ (F.seen files.old).read_faults) }
+    ensures stops { IfErr result (StopsOpening number name.now (F.seen files.old) (F.seen files.new)) }
+    ensures held { (F.seen files.new).held ≡ (F.seen files.old).held }
+    ensures writes { (F.seen files.new).write_faults ≡ (F.seen files.old).write_faults }
+    ensures later { Later (F.seen files.old) (F.seen files.new) }
+{
+    match Reader::open(alloc, files, name) {
+        Ok(reader) => {
+            let _ = reader.head().bytes();
+            Ok(reader)
+        }
+        Err(fault) => Err(stop(number, fault)),
+    }
+}
+
+/// The outcome of a call on the input of this number.
+pub fn stopped(number: usize, outcome: Result<(), Fault>) -> Result<(), Stop>
+    ensures { result ≡ stopped_by number outcome }
+{
+    match outcome {
+        Ok(()) => Ok(()),
+        Err(fault) => Err(stop(number, fault)),
+    }
+}
+
+// A fault of a call on the input of this number.
+fn stop(number: usize, fault: Fault) -> Stop
+    ensures { result ≡ stop_by number fault }
+{
+    match fault {
+        Fault::Refused(cause) => Stop::Refused(number, cause),
+        Fault::Read => Stop::Read(number),
+        Fault::Write => Stop::Write,
+        Fault::Memory => Stop::Memory,
+    }
+}

@@ -1,0 +1,70 @@
+//! The command `laszip`: a plain file is packed, and a packed one unpacked.
+ghost use Rattle.std.specs.Prelude.{◌≡◌, ◌≢◌, ◌≤◌, ◌∷◌, []};
+ghost use Rattle.las_header.specs.Heads.{IsHead};
+ghost use Rattle.las_outside.specs.Files.{WhereKnown};
+ghost use Rattle.las_outside.specs.Outside.{Later};
+ghost use Rattle.las_outside.specs.Sinks.{SinkView};
+ghost use Rattle.las_words.specs.Says.{asks, laszip};
+ghost use Rattle.laz_file.specs.Reading.{AgreesWithHead, IsNewReader, StandsFor};
+ghost use Rattle.las_run.specs.Ends.{Ends, EndsMaking, cause_of, quiet};
+ghost use Rattle.las_run.specs.Tools.{Zips};
+
+use crate::input::{open_input, stopped};
+use crate::stop::Stop;
+use las_outside::{Files, Gate};
+use laz_file::{Fault, Reader, pack, unpack};
+use std::alloc::Global;
+use std::thread::Threads;
+
+/// Packs a plain input, in chunks of `chunk` points, and unpacks a packed one.
+pub fn laszip<R: Threads + Sync, F: Files, G: Gate>(
+    rt: &R,
+    alloc: Global,
+    files: &mut F,
+    gate: &G,
+    input: &str,
+    output: &str,
+    chunk: u32,
+    workers: u32,
+) -> Result<(), Stop>
+    requires chunk { (256 ≤ chunk) × (chunk ≤ 250000) }
+    requires workers { (1 ≤ workers) × (workers ≤ 8) }
+    requires names { output.now ≢ input.now }
+    ensures ends { (out : SinkView) → Ends (asks (laszip input.now output.now chunk workers))
+        (quiet (F.seen files.old) (F.seen files.new) out) (cause_of (input.now ∷ []) result) }
+    ensures later { Later (F.seen files.old) (F.seen files.new) }
+{
+    let reader = open_input(alloc, files, 0, input)?;
+    stopped(
+        0,
+        zip(rt, alloc, files, gate, reader, output, chunk, workers),
+    )
+}
+
+// Packs a plain file, and unpacks a packed one.
+fn zip<R: Threads + Sync, F: Files, G: Gate>(
+    rt: &R,
+    alloc: Global,
+    files: &mut F,
+    gate: &G,
+    reader: Reader,
+    output: &str,
+    chunk: u32,
+    workers: u32,
+) -> Result<(), Fault>
+    requires new { IsNewReader reader.name reader }
+    requires whole { AgreesWithHead reader }
+    requires head { IsHead reader.head.bytes }
+    requires chunk { (256 ≤ chunk) × (chunk ≤ 250000) }
+    requires workers { (1 ≤ workers) × (workers ≤ 8) }
+    requires names { output.now ≢ reader.name }
+    requires stands { WhereKnown (F.seen files.old).held reader.name (StandsFor reader) }
+    ensures ends { EndsMaking (Zips reader.name output.now chunk) reader.name (F.seen files.old) (F.seen files.new)
+        result }
+    ensures later { Later (F.seen files.old) (F.seen files.new) }
+{
+    match reader.chunk() {
+        None => pack(rt, alloc, files, gate, reader, output, chunk, workers),
+        Some(_) => unpack(rt, alloc, files, gate, reader, output, workers),
+    }
+}
