@@ -1,7 +1,7 @@
 -- Lists of conditions: there is one first cause, joined lists, and tests. Meant for the crates above, which join their own.
-use Rattle.std.proofs.Common.{◌≡◌, ◌⊎◌, inl, inr, Bool, true, false, List, [], ◌∷◌, ◌++◌, Option, Some, None, refl, sym, ◌∙◌, IsTrue}
+use Rattle.std.proofs.Common.{◌≡◌, inl, inr, Bool, true, false, List, [], ◌∷◌, ◌++◌, Option, Some, None, refl, sym, ◌∙◌}
 use Rattle.las_header.specs.declared.refusal.Refusal.{Refusal}
-use Rattle.las_header.specs.Refusals.{first_cause, or_else}
+use Rattle.las_header.specs.Refusals.{first_cause}
 use Rattle.las_header.specs.Conditions.{Condition, IsFirst, conditions}
 
 -- at most one answer is the first cause of a list

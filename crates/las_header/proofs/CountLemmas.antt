@@ -8,7 +8,7 @@ use Rattle.las_header.specs.declared.vlrs.VlrPlace.{VlrPlace}
 use Rattle.las_header.specs.Numbers.{number_at}
 use Rattle.las_header.specs.Fields.{minor_of, header_size_of, least_header_size, point_offset_of, vlr_count_of, is_packed, format_of, format_size, record_length_of, has_long_counts, extended_count_of, short_points_of, long_points_of, points_of}
 use Rattle.las_header.specs.Vlrs.{vlr_start, vlrs_end, laszip_vlrs_of, first_size}
-use Rattle.las_header.specs.Heads.{IsHead, laszip_size, KeepsLayout, SameRecords}
+use Rattle.las_header.specs.Heads.{IsHead, laszip_size, KeepsLayout}
 use Rattle.las_header.specs.Counting.{short_bytes, long_bytes, with_sums}
 use Rattle.las_header.proofs.NumberLemmas.{number_at-take, number_at-splice, number_at-splice_after, number_at-splice_first, take-splice, drop-splice, length-splice}
 use Rattle.las_header.proofs.VlrLemmas.{SameIn-tail, header_before, vlr_start-same, laszips, laszips-same}

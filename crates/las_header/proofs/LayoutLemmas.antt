@@ -1,20 +1,16 @@
 -- Heads with a VLR more or a VLR fewer: their fields, their VLRs, and that they are heads.
 use Rattle.las_header.specs.Refusals.{has_bad_counts}
-use Rattle.std.proofs.Common.{◌≡◌, ℕ, zero, suc, ◌+◌, ◌-◌, ◌*◌, ◌<◌, ◌≤◌, ◌^◌, ◌==◌, ◌&&◌, ◌%◌, ◌⊎◌, inl, inr, nat_lt, nat_le, nat_eq, Bool, true, false, cond, List, [], ◌∷◌, ◌++◌, length, take, drop, codes, slice_index, get_or, slice_get, Option, Some, None, refl, sym, ap, ◌∙◌, subst, arith, length-append, length-drop, append_assoc, append-nil, add-one, not, ◌||◌}
-use Rattle.std.proofs.lemmas.List.{take-take, take_at, take-append-le, drop_at, drop-drop, drop-take, drop-append-le, length-take-le, get_or-take, get_or-drop, take-append-drop, nil_from_length}
-use Rattle.std.proofs.lemmas.Bool.{eqb-true, cases_eq, leb-false, ltb-true}
-use Rattle.std.proofs.Math.Seq.{drop-cons}
+use Rattle.std.proofs.Common.{◌≡◌, ℕ, ◌+◌, ◌<◌, ◌≤◌, ◌^◌, ◌==◌, ◌&&◌, ◌%◌, nat_le, nat_eq, Bool, true, false, cond, List, [], ◌∷◌, ◌++◌, length, take, drop, codes, slice_index, refl, sym, ap, ◌∙◌, subst, arith, length-append, length-drop, append_assoc, not, ◌||◌}
+use Rattle.std.proofs.lemmas.List.{take-take, drop_at, drop-drop, drop-take, length-take-le, get_or-take, get_or-drop}
 use Rattle.std.specs.List.{splice, starts_with}
-use Rattle.byteorder.specs.Endian.{little_bytes, little_number}
-use Rattle.las_header.specs.declared.limits.TheConstants.{LASZIP_USER_ID, LASZIP_RECORD_ID}
-use Rattle.las_header.specs.declared.vlrs.VlrPlace.{VlrPlace}
+use Rattle.byteorder.specs.Endian.{little_bytes}
 use Rattle.las_header.specs.Numbers.{number_at}
-use Rattle.las_header.specs.Fields.{major_of, minor_of, header_size_of, least_header_size, point_offset_of, vlr_count_of, format_byte_of, is_packed, format_of, format_size, record_length_of, has_long_counts, extended_count_of, short_points_of, long_points_of, points_of}
-use Rattle.las_header.specs.Vlrs.{payload_length_at, vlr_start, vlr_place, vlr_size, first_vlrs, vlrs_end, is_laszip, laszip_vlrs_of, first_size, HasOneVlr}
-use Rattle.las_header.specs.Heads.{IsHead, laszip_size, PacksHead, IsPlainOf, SameRecords}
-use Rattle.las_header.specs.Plain.{with_layout, laszip_vlr, with_vlr, without_vlr, plain_of}
-use Rattle.las_header.proofs.NumberLemmas.{number_at-take, number_at-part, number_at-drop, number_at-splice, number_at-splice_after, number_at-splice_first, slice_index-splice, take-splice, drop-splice, length-splice, little_bytes-little_number, little_number_at, reads_back}
-use Rattle.las_header.proofs.VlrLemmas.{SameIn, vlr_start-mono, header_before, vlr_start-same, vlr_place-same, laszips, laszips-suc, laszips-same, laszips-found}
+use Rattle.las_header.specs.Fields.{minor_of, header_size_of, least_header_size, point_offset_of, vlr_count_of, format_byte_of, format_of, format_size, record_length_of, has_long_counts, short_points_of, long_points_of, points_of}
+use Rattle.las_header.specs.Vlrs.{vlr_start}
+use Rattle.las_header.specs.Heads.{IsHead, laszip_size, SameRecords}
+use Rattle.las_header.specs.Plain.{with_layout}
+use Rattle.las_header.proofs.NumberLemmas.{number_at-take, number_at-part, number_at-drop, take-splice, drop-splice, length-splice, reads_back}
+use Rattle.las_header.proofs.VlrLemmas.{SameIn}
 use Rattle.las_header.proofs.CauseLemmas.{least_any, least_block}
 
 -- nine bytes for the offset, the number of VLRs and the format byte

@@ -1,5 +1,5 @@
 -- A plain head with a laszip VLR: it is a head, this is its one laszip VLR, and without it the plain head is back.
-use Rattle.std.proofs.Common.{◌≡◌, ℕ, zero, suc, ◌+◌, ◌-◌, ◌<◌, ◌≤◌, ◌^◌, ◌==◌, ◌&&◌, ◌%◌, nat_lt, nat_le, nat_eq, Bool, true, false, cond, List, [], ◌∷◌, ◌++◌, length, take, drop, slice_index, get_or, slice_get, refl, sym, ap, ◌∙◌, subst, arith, length-append, length-drop, append_assoc, add-one}
+use Rattle.std.proofs.Common.{◌≡◌, ℕ, ◌+◌, ◌-◌, ◌<◌, ◌≤◌, ◌^◌, ◌==◌, ◌&&◌, ◌%◌, nat_le, nat_eq, Bool, true, false, cond, List, [], ◌∷◌, ◌++◌, length, take, drop, slice_index, refl, sym, ap, ◌∙◌, arith, append_assoc}
 use Rattle.std.proofs.lemmas.List.{drop-drop, drop-take, drop-append-le, length-take-le, take-append-drop}
 use Rattle.std.proofs.lemmas.Bool.{leb-false, le-leb}
 use Rattle.std.proofs.Math.Seq.{drop-cons}
@@ -9,10 +9,10 @@ use Rattle.las_header.specs.declared.limits.TheConstants.{LASZIP_USER_ID, LASZIP
 use Rattle.las_header.specs.declared.vlrs.VlrPlace.{VlrPlace}
 use Rattle.las_header.specs.Numbers.{number_at}
 use Rattle.las_header.specs.Fields.{minor_of, header_size_of, point_offset_of, vlr_count_of, format_byte_of, is_packed, format_of}
-use Rattle.las_header.specs.Vlrs.{payload_length_at, vlr_start, vlr_place, vlr_size, vlrs_end, is_laszip, laszip_vlrs_of, first_size, HasOneVlr}
+use Rattle.las_header.specs.Vlrs.{payload_length_at, vlr_start, vlr_place, vlrs_end, is_laszip, laszip_vlrs_of, first_size, HasOneVlr}
 use Rattle.las_header.specs.Heads.{IsHead, laszip_size, PacksHead}
-use Rattle.las_header.specs.Plain.{with_layout, laszip_vlr, with_vlr, without_vlr, without_first, plain_of}
-use Rattle.las_header.proofs.NumberLemmas.{number_at-drop, drop-splice, take-splice, little_number_at, reads_back}
+use Rattle.las_header.specs.Plain.{with_layout, laszip_vlr, with_vlr, without_first, plain_of}
+use Rattle.las_header.proofs.NumberLemmas.{number_at-drop, little_number_at, reads_back}
 use Rattle.las_header.proofs.VlrLemmas.{vlr_start-more, header_before, count_within, vlr_start-same, laszips, laszips-same, laszips-found}
 use Rattle.las_header.proofs.CauseLemmas.{least_any}
 use Rattle.las_header.proofs.LayoutLemmas.{layout_bytes, same_relaid, IsRelaid, size_relaid, front_relaid, offset_relaid, count_relaid, byte_relaid, after_relaid, header_relaid, vlrs_relaid, relaid_head, take-splice_le, drop_part, drop_after, records_relaid, points_relaid}

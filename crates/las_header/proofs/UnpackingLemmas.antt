@@ -1,15 +1,15 @@
 -- A packed head without its laszip VLR: it is a head, and has no laszip VLR.
-use Rattle.std.proofs.Common.{◌≡◌, ℕ, zero, suc, ◌+◌, ◌-◌, ◌<◌, ◌≤◌, ◌^◌, ◌==◌, ◌&&◌, ◌%◌, ◌⊎◌, inl, inr, nat_le, nat_eq, Bool, true, false, cond, List, [], ◌∷◌, ◌++◌, length, take, drop, slice_get, Option, Some, refl, sym, ap, ◌∙◌, subst, arith, length-append}
+use Rattle.std.proofs.Common.{◌≡◌, ℕ, zero, suc, ◌+◌, ◌-◌, ◌<◌, ◌≤◌, ◌^◌, ◌==◌, ◌&&◌, inl, inr, nat_le, nat_eq, Bool, true, false, cond, List, [], ◌∷◌, length, drop, slice_get, Some, refl, sym, ap, ◌∙◌, subst, arith, length-append}
 use Rattle.std.proofs.lemmas.List.{drop-drop, nil_from_length}
 use Rattle.std.proofs.lemmas.Bool.{cases_eq, lt-leb}
 use Rattle.std.specs.List.{splice, starts_with}
 use Rattle.las_header.specs.declared.limits.TheConstants.{LASZIP_USER_ID, LASZIP_RECORD_ID}
 use Rattle.las_header.specs.declared.vlrs.VlrPlace.{VlrPlace}
 use Rattle.las_header.specs.Numbers.{number_at}
-use Rattle.las_header.specs.Fields.{minor_of, header_size_of, point_offset_of, vlr_count_of, format_byte_of, is_packed, format_of}
-use Rattle.las_header.specs.Vlrs.{payload_length_at, vlr_start, vlr_place, vlr_size, vlrs_end, is_laszip, laszip_vlrs_of, first_size}
+use Rattle.las_header.specs.Fields.{minor_of, point_offset_of, vlr_count_of, is_packed, format_of}
+use Rattle.las_header.specs.Vlrs.{payload_length_at, vlr_start, vlr_place, vlrs_end, is_laszip, laszip_vlrs_of, first_size}
 use Rattle.las_header.specs.Heads.{IsHead, laszip_size, IsPlainOf}
-use Rattle.las_header.specs.Plain.{with_layout, without_vlr, without_first, plain_of}
+use Rattle.las_header.specs.Plain.{without_vlr, without_first}
 use Rattle.las_header.proofs.NumberLemmas.{number_at-drop}
 use Rattle.las_header.proofs.VlrLemmas.{vlr_start-mono, header_before, count_within, vlr_start-same, laszips, laszips-suc, laszips-same, IsLaszipAt, found_at}
 use Rattle.las_header.proofs.CauseLemmas.{least_any}

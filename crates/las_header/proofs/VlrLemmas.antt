@@ -31,9 +31,6 @@ place_fits i at head h is whole = let fits = vlr_head_fits i (vlr_count_of head)
 pub vlr_start-more : (i : ℕ) (head : List ℕ) → vlr_start (i + 1) head ≡ vlr_start i head + 54 + payload_length_at (vlr_start i head) head
 vlr_start-more i head = rw add-one refl
 
-pub first_vlrs-more : (i : ℕ) (head : List ℕ) → first_vlrs (i + 1) head ≡ first_vlrs i head ++ vlr_place i head ∷ []
-first_vlrs-more i head = rw add-one refl
-
 -- a place that is read is that of the VLR of its number, and its end begins the next one
 pub place_is : (p : VlrPlace) (i at : ℕ) (head : List ℕ) → p.start ≡ at → p.length ≡ payload_length_at at head → at ≡ vlr_start i head → p ≡ vlr_place i head
 place_is p i at head start payload is =

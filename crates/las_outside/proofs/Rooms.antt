@@ -23,7 +23,3 @@ not_missing o P is h = subst (λ (s : Option (List ℕ)). IsSomeAnd s P) is h
 pub on_err : {T E P : Type 0} (r : Result T E) → P → OnErr r P
 on_err (Ok x) p = tt
 on_err (Err e) p = p
-
--- what is not within the room passes it
-pub past_room : (all : Bool) (n room : ℕ) → all ≡ false → (n ≤ room → all ≡ true) → room < n
-past_room all n room past within = grind arith

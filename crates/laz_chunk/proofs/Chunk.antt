@@ -1,5 +1,5 @@
 -- A whole chunk, as it is packed and unpacked.
-use Rattle.std.proofs.Common.{◌≡◌, ℕ, ◌+◌, ◌*◌, ◌-◌, ◌<◌, ◌≤◌, List, [], ◌++◌, length, take, drop, sym, ap, subst, ◌∙◌, arith}
+use Rattle.std.proofs.Common.{◌≡◌, ℕ, ◌+◌, ◌*◌, ◌-◌, ◌≤◌, List, [], ◌++◌, length, take, drop, sym, ap, subst, ◌∙◌}
 use Rattle.std.proofs.lemmas.List.{length-take-le}
 use Rattle.laz_range.specs.Coding.{Coding, Codes}
 use Rattle.laz_range.specs.Choice.{AreAsked, all_cuts}
@@ -36,9 +36,6 @@ Refused l n items a b = (h : History) → ItemsStand h.0 h.1 items → Refuses (
 
 stream-of : (l : Layout) (count : ℕ) (bytes records stream : List ℕ) → stream ≡ drop (record_length l) bytes → AreRecords l count records → Holds l bytes records → Streamed l (first_of l bytes) (count - 1) stream (drop (record_length l) records)
 stream-of l count bytes records stream e are h = subst (λ (b : List ℕ). Streamed l (first_of l bytes) (count - 1) b (drop (record_length l) records)) (sym e) (streamed l count bytes records are h)
-
-pub short-bad : (l : Layout) (bytes records : List ℕ) → length bytes < record_length l → Holds l bytes records → ⊥
-short-bad l bytes records short h = absurd (omega (arith, short, h.enough))
 
 pub opening-bad : (l : Layout) (count : ℕ) (bytes records stream : List ℕ) → stream ≡ drop (record_length l) bytes → ((events : List Cut) → AreCuts events → Begins (span events) stream → ⊥) → AreRecords l count records → Holds l bytes records → ⊥
 opening-bad l count bytes records stream e none are h = none-opened l (first_of l bytes) (count - 1) stream (drop (record_length l) records) none (stream-of l count bytes records stream e are h)

@@ -4,7 +4,6 @@ use Rattle.std.specs.Int.{w64, from_le_bytes}
 use Rattle.std.proofs.Math.Facts.{sfits_to_z}
 use Rattle.std.proofs.lemmas.Nat.{le_bytes_8}
 use Rattle.std.proofs.lemmas.List.{append-nil, length-drop, length-take-le}
-use Rattle.std.proofs.lemmas.List.Elements.{All-from_get_or, All-from_recursion}
 use Rattle.byteorder.specs.Numbers.{little_from-lt}
 use Rattle.byteorder.proofs.Bytes.{from_le_bytes-put_mid8}
 use Rattle.las_header.specs.Numbers.{number_at}
@@ -14,7 +13,6 @@ use Rattle.laz_point10.specs.Points.{IsPoint, point_at}
 use Rattle.laz_point10.proofs.Parts.{parts-of-points}
 use Rattle.laz_gpstime.specs.Times.{time_at}
 use Rattle.laz_rgb.specs.Colours.{colour_at, colour_bytes}
-use Rattle.laz_rgb.specs.Laws.{AreBytes}
 use Rattle.laz_chunk.specs.Layouts.{Layout, colour_length, record_length, time_length}
 use Rattle.laz_chunk.specs.Records.{Record, colour_in, colour_part, extra_part, point_part, record_at, records_in, time_in, time_part}
 use Rattle.laz_chunk.specs.Stands.{IsRecord}
@@ -47,18 +45,21 @@ time-below_if : (t : Bool) (a : List ℕ) → length a ≡ time_length t → IsB
 time-below_if true a size h = time-below a size h
 time-below_if false a size h = lit< tt
 
-colour-bytes : (a : List ℕ) → IsBytes a → AreBytes (colour_bytes (colour_at a))
-colour-bytes a h = All-from_recursion (λ b. b < 256) (colour_bytes (colour_at a)) (h 0, (h 1, (h 2, (h 3, (h 4, (h 5, tt))))))
+colour-bytes : (a : List ℕ) → IsBytes a → IsBytes (colour_bytes (colour_at a))
+colour-bytes a h zero = h 0
+colour-bytes a h (suc zero) = h 1
+colour-bytes a h (suc (suc zero)) = h 2
+colour-bytes a h (suc (suc (suc zero))) = h 3
+colour-bytes a h (suc (suc (suc (suc zero)))) = h 4
+colour-bytes a h (suc (suc (suc (suc (suc zero))))) = h 5
+colour-bytes a h (suc (suc (suc (suc (suc (suc i)))))) = lit< tt
 
 IsBytes-none : IsBytes []
 IsBytes-none i = lit< tt
 
-colour-bytes_if : (t : Bool) (a : List ℕ) → IsBytes a → AreBytes (colour_bytes (colour_in t a))
+colour-bytes_if : (t : Bool) (a : List ℕ) → IsBytes a → IsBytes (colour_bytes (colour_in t a))
 colour-bytes_if true a h = colour-bytes a h
 colour-bytes_if false a h = colour-bytes [] IsBytes-none
-
-bytes-are : (a : List ℕ) → IsBytes a → AreBytes a
-bytes-are a h = All-from_get_or (λ b. b < 256) a 0 (λ i within. h i)
 
 pub record PartLengths (l : Layout) (a : List ℕ) : Type 0 where
   pub point : length (point_part a) ≡ 20
@@ -86,7 +87,7 @@ record-fits l a size h =
       point = point-fits (point_part a) (IsBytes-take 20 a h);
       time = time-below_if l.times (time_part l a) (part-lengths l a size).time (IsBytes-take (time_length l.times) (drop 20 a) rest);
       colour = colour-bytes_if l.colours (colour_part l a) (IsBytes-take (colour_length l.colours) (drop (time_length l.times) (drop 20 a)) more);
-      extra = bytes-are (extra_part l a) (IsBytes-drop (colour_length l.colours) (drop (time_length l.times) (drop 20 a)) more);
+      extra = (IsBytes-drop (colour_length l.colours) (drop (time_length l.times) (drop 20 a)) more);
     }
 
 -- ---- two parts with one value

@@ -18,7 +18,6 @@ use Rattle.laz_rgb.specs.declared.colour.Colour.{Colour}
 use Rattle.laz_rgb.specs.Colours.{colour_at, colour_bytes}
 use Rattle.laz_rgb.specs.Extra.{extra_events}
 use Rattle.laz_rgb.specs.Items.{latest_colour, latest_extra}
-use Rattle.laz_rgb.specs.Laws.{AreBytes}
 use Rattle.laz_rgb.proofs.Proved.{colours-spelled, extras-spelled}
 use Rattle.laz_chunk.specs.Layouts.{Layout, record_length}
 use Rattle.laz_chunk.specs.Records.{ChunkPoint, Record, SpellsColourIf, SpellsTimeIf, colour_events_if, colours_of, extras_of, points_of, record_at, records_in, time_events_if, times_of}
@@ -33,7 +32,7 @@ time-spelled_if : (t : Bool) (points : List sequences.Point) (time : ℕ) → Ar
 time-spelled_if true points time all h none = times-spelled points time all h
 time-spelled_if false points time all h none = (refl, none refl)
 
-colour-spelled_if : (t : Bool) (colours : List Colour) (colour : Colour) → AreBytes (colour_bytes (latest_colour colours)) → AreBytes (colour_bytes colour) → (t ≡ false → colour ≡ colour_at []) → SpellsColourIf t colours (colour_events_if t colours colour) colour
+colour-spelled_if : (t : Bool) (colours : List Colour) (colour : Colour) → IsBytes (colour_bytes (latest_colour colours)) → IsBytes (colour_bytes colour) → (t ≡ false → colour ≡ colour_at []) → SpellsColourIf t colours (colour_events_if t colours colour) colour
 colour-spelled_if true colours colour h k none = colours-spelled (latest_colour colours) colour h k
 colour-spelled_if false colours colour h k none = (refl, none refl)
 
@@ -45,11 +44,11 @@ pub record LacksParts (l : Layout) (now : Record) : Type 0 where
 lacks : (l : Layout) (a : List ℕ) → LacksParts l (record_at l a)
 lacks l a = record { time = λ e. rw e refl; colour = λ e. rw e refl }
 
-latest-colour : (points : List ChunkPoint) → 1 ≤ length points → All (λ p. IsRecord p.fields) points → AreBytes (colour_bytes (latest_colour (colours_of points)))
+latest-colour : (points : List ChunkPoint) → 1 ≤ length points → All (λ p. IsRecord p.fields) points → IsBytes (colour_bytes (latest_colour (colours_of points)))
 latest-colour [] some h = absurd (omega (arith, some))
 latest-colour (p ∷ points) some h = (All-head (λ (p : ChunkPoint). IsRecord p.fields) p points h).colour
 
-latest-bytes : (points : List ChunkPoint) → 1 ≤ length points → All (λ p. IsRecord p.fields) points → AreBytes (latest_extra (extras_of points))
+latest-bytes : (points : List ChunkPoint) → 1 ≤ length points → All (λ p. IsRecord p.fields) points → IsBytes (latest_extra (extras_of points))
 latest-bytes [] some h = absurd (omega (arith, some))
 latest-bytes (p ∷ points) some h = (All-head (λ (p : ChunkPoint). IsRecord p.fields) p points h).extra
 

@@ -1,6 +1,7 @@
 -- What the items of a chunk stand for: the events of its stream, and its points so far, the latest one first.
 use Rattle.std.specs.Prelude.{◌≡◌, ℕ, ◌<◌, ◌≤◌, All, Bool, true, false, List, [], Option, Some, None, length}
 use Rattle.laz_range.specs.Decoding.{Decoding, Takes}
+use Rattle.laz_range.specs.Span.{IsBytes}
 use Rattle.laz_integer.specs.Events.{Event}
 use Rattle.laz_point10.specs.Points.{IsPoint}
 use Rattle.laz_point10.specs.Items.{PointStands}
@@ -10,7 +11,6 @@ use Rattle.laz_gpstime.specs.Slots.{TimeState}
 use Rattle.laz_rgb.specs.declared.colour.Colour.{Colour}
 use Rattle.laz_rgb.specs.Colours.{colour_bytes}
 use Rattle.laz_rgb.specs.Items.{ExtraStands, ExtraState, RgbStands, RgbState, latest_extra}
-use Rattle.laz_rgb.specs.Laws.{AreBytes}
 use Rattle.laz_chunk.specs.declared.items.Items.{Items}
 use Rattle.laz_chunk.specs.Layouts.{Layout}
 use Rattle.laz_chunk.specs.Records.{ChunkPoint, Record, colours_of, extras_of, points_of, times_of}
@@ -61,8 +61,8 @@ pub record ReadsPart {V : Type 0} (IsAsked : List Event × V → Type 0) (earlie
 pub record IsRecord (r : Record) : Type 0 where
   pub point : IsPoint r.point
   pub time : r.time < 18446744073709551616
-  pub colour : AreBytes (colour_bytes r.colour)
-  pub extra : AreBytes r.extra
+  pub colour : IsBytes (colour_bytes r.colour)
+  pub extra : IsBytes r.extra
 
 -- A chunk's points: at least one, each with fields that its bytes can hold, and all with this many extra bytes.
 pub record AreChunkPoints (extra : ℕ) (points : List ChunkPoint) : Type 0 where

@@ -1,4 +1,4 @@
-use Rattle.std.proofs.Common.{◌≡◌, ℕ, ◌+◌, ◌/◌, ◌%◌, ◌<◌, eqb, Bool, true, false, List, [], ◌∷◌, ◌++◌, Some, None, refl, sym, ap, subst, ◌∙◌, arith, ⊎_elim, lit<, append_assoc}
+use Rattle.std.proofs.Common.{◌≡◌, ℕ, ◌+◌, ◌/◌, ◌%◌, ◌<◌, eqb, Bool, true, false, List, [], ◌∷◌, ◌++◌, Some, refl, sym, ap, subst, ◌∙◌, arith, ⊎_elim, append_assoc}
 use Rattle.std.specs.List.{find}
 use Rattle.std.specs.Int.{w32, cast_signed}
 use Rattle.std.proofs.lemmas.Bool.{cases_eq, cond-true, cond-false, eq-eqb, ne_eqb}
@@ -82,13 +82,6 @@ found f i few before at =
     (cases_eq i 2))
     (cases_eq i 1))
     (cases_eq i 0)
-
-pub not-found : (f : ℕ → Bool) → ((j : ℕ) → j < 4 → f j ≡ false) → find f (0 ∷ 1 ∷ 2 ∷ 3 ∷ []) ≡ None
-not-found f none =
-    cond-false (f 0) (Some 0) (find f (1 ∷ 2 ∷ 3 ∷ [])) (none 0 (lit< tt))
-    ∙ (cond-false (f 1) (Some 1) (find f (2 ∷ 3 ∷ [])) (none 1 (lit< tt))
-    ∙ (cond-false (f 2) (Some 2) (find f (3 ∷ [])) (none 2 (lit< tt))
-    ∙ cond-false (f 3) (Some 3) None (none 3 (lit< tt))))
 
 pub new-is-made : (slot : Slot) (time s hi high low : ℕ) → s ≡ new_symbol slot.difference → hi ≡ slot.time / 4294967296 → high ≡ time / 4294967296 → low ≡ time % 4294967296
     → (time_symbol slot.difference s ∷ []) ++ (IntEvents time_kind 32 8 (cast_signed w32 hi) (cast_signed w32 high) ++ raw_events 32 low) ≡ new_events slot.difference slot.time time

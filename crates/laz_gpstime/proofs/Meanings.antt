@@ -70,9 +70,6 @@ quiet-append xs ys f g =
       symbols = λ m. symbols_under-append (own_name time_kind m) xs ys ∙ (ap (λ l. l ++ symbols_under (own_name time_kind m) ys) (f.symbols m) ∙ g.symbols m);
     }
 
-pub quiet-new : (ctx k v b low : ℕ) → k ≤ 32 → AreQuiet (corrector_events time_kind 32 ctx k v ++ raw_events b low)
-quiet-new ctx k v b low few = quiet-append (corrector_events time_kind 32 ctx k v) (raw_events b low) (quiet-corrector 32 ctx k v few) (quiet-raw b low)
-
 -- ---- what a symbol says
 pub says-symbol : (d s : ℕ) (rest : List Event) → AreQuiet rest → meanings (time_symbol d s ∷ rest) ≡ meaning (model_of d) s ∷ []
 says-symbol d s rest quiet = cond-true (same_name (own_name time_kind (model_of d)) (own_name time_kind (model_of d))) _ _ (same-time (model_of d)) ∙ ap (λ l. meaning (model_of d) s ∷ l) quiet.say

@@ -1,5 +1,5 @@
 use Rattle.std.proofs.Common.{◌≡◌, ℕ, ◌+◌, ◌%◌, ◌<◌, ◌≤◌, eqb, cond, ◌||◌, ◌&&◌, Bool, true, false, List, length, set, get_or, refl, sym, ap, subst, ◌∙◌, arith, ⊎_elim, lit<}
-use Rattle.std.proofs.lemmas.Bool.{cases_lt, cases_eq, cond-false, eq-eqb, ne_eqb}
+use Rattle.std.proofs.lemmas.Bool.{cases_lt, cases_eq, eq-eqb, ne_eqb}
 use Rattle.std.proofs.lemmas.List.{get_or-set_same, get_or-set_other, length-set, set_past}
 use Rattle.laz_models.specs.Counting.{Counting}
 use Rattle.laz_integer.specs.Integer.{IntState}
@@ -8,30 +8,9 @@ use Rattle.laz_gpstime.specs.Slots.{IsTimeState, TimeState, after_switch, no_slo
 use Rattle.laz_gpstime.specs.Times.{model_of, new_symbol}
 use Rattle.laz_gpstime.specs.declared.sequences.Slot.{Slot}
 use Rattle.laz_gpstime.specs.declared.sequences.Sequences.{Sequences}
-use Rattle.laz_gpstime.proofs.Meanings.{multiple-is}
 use Rattle.laz_gpstime.proofs.Slots.{switch-last, switch-slots}
 
 -- ---- which symbol opens a sequence
-old-six : (s : ℕ) → s < 2 → is_new (meaning 0 s) ≡ false
-old-six s few =
-    ⊎_elim
-    (λ (zero_is : s ≡ 0). rw zero_is refl)
-    (λ (more : s ≡ 0 → ⊥). let one : s ≡ 1 = omega (arith, more, few) in rw one refl)
-    (cases_eq s 0)
-
-old-many : (s : ℕ) → s < 512 → is_new (meaning 1 s) ≡ false
-old-many s few =
-    ⊎_elim
-    (λ (less : s < 511). rw (multiple-is s less) refl)
-    (λ (more : 511 ≤ s). let same : s ≡ 511 = omega (arith, more, few) in rw same refl)
-    (cases_lt s 511)
-
-pub old-symbol : (d s : ℕ) → s < new_symbol d → is_new (meaning (model_of d) s) ≡ false
-old-symbol d s few =
-    ⊎_elim
-    (λ (zero_is : d ≡ 0). let b = eq-eqb d 0 zero_is in rw b (old-six s (rw b at few)))
-    (λ (some : d ≡ 0 → ⊥). let b = ne_eqb d 0 some in rw b (old-many s (rw b at few)))
-    (cases_eq d 0)
 
 pub new-is : (d : ℕ) → meaning (model_of d) (new_symbol d) ≡ New
 new-is d =
@@ -40,19 +19,10 @@ new-is d =
     (λ (some : d ≡ 0 → ⊥). rw (ne_eqb d 0 some) refl)
     (cases_eq d 0)
 
-same_sequences : (a b : List Slot) (l m n k : ℕ) → a ≡ b → l ≡ m → n ≡ k → (let q : Sequences = record { slots = a; last = l; next = n } in q) ≡ record { slots = b; last = m; next = k }
-same_sequences a b l m n k e f g = cc
-
 same_state : (p q : Sequences) (a b : List Counting) (m n : IntState) → p ≡ q → a ≡ b → m ≡ n → (let st : TimeState = record { sequences = p; symbols = a; integers = m } in st) ≡ record { sequences = q; symbols = b; integers = n }
 same_state p q a b m n e f g = cc
 
 -- ---- a point that opens none
-pub point_near : (q : Sequences) (d s time : ℕ) → s < new_symbol d → after_point q (meaning (model_of d) s) time ≡ record { slots = set q.slots q.last (next_slot (slot_at q q.last) (meaning (model_of d) s) time); last = q.last; next = q.next }
-point_near q d s time few =
-    let b = old-symbol d s few in
-    let m : Meaning = meaning (model_of d) s in
-    let at : sequence_for q m ≡ q.last = cond-false (is_new m) _ _ b in
-    same_sequences _ _ _ _ _ _ (ap (λ n. set q.slots n (next_slot (slot_at q n) m time)) at) at (cond-false (is_new m) _ _ b)
 
 -- ---- what holds of the slots holds of them after a point
 below-four : (b : Bool) (m : ℕ) (n : ℕ) → n < 4 → cond b (m % 4) n < 4

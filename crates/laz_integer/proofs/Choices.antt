@@ -7,6 +7,7 @@ use mir.Val.{bool_byte}
 use Rattle.laz_range.specs.Cut.{Cut, Bit, raw_cuts}
 use Rattle.laz_range.specs.Reading.{follow_all}
 use Rattle.laz_range.specs.Decoding.{Decoding, Takes, TakesNone, Reads, reading_of}
+use Rattle.laz_range.proofs.Chain.{same_pair}
 use Rattle.laz_range.proofs.Composition.{Takes-then, TakesNone-first, TakesNone-second, Takes-empty}
 use Rattle.laz_integer.specs.Corrector.{choices}
 use Rattle.laz_integer.specs.Integer.{IntState, symbol_cut, high_at, symbol_next, flag_next, rest_events, events_cuts, events_next}
@@ -82,9 +83,6 @@ wide_fits k v small h =
 
 pub high_is : (k high low : ℕ) → low < 2 ^ (k - 8) → (high * 2 ^ (k - 8) + low) / 2 ^ (k - 8) ≡ high
 high_is k high low small = shr_high high (k - 8) low small
-
-same_pair : (a b c d : ℕ) → a ≡ c → b ≡ d → ◌≡◌ {A = ℕ × ℕ} (a, b) (c, d)
-same_pair a b c d e f = cc
 
 abbrev pub AskedWide : ℕ → ℕ × ℕ → Type 0
 AskedWide k p = (p.0 < 2 ^ min k 8) × (p.1 < 2 ^ (k - 8))

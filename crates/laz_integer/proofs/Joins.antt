@@ -1,7 +1,7 @@
 -- Two spelled parts of a record, one after another, as one. Meant for the crates of chunks.
-use Rattle.std.proofs.Common.{◌≡◌, List, [], ◌++◌, false, refl, ap, ◌≤◌, length}
+use Rattle.std.proofs.Common.{◌≡◌, List, ◌++◌, refl, ap}
 use Rattle.laz_range.specs.Decoding.{Decoding, Refuses, Takes}
-use Rattle.laz_range.proofs.Composition.{Takes-empty, Takes-then, Takes-through}
+use Rattle.laz_range.proofs.Composition.{Takes-then, Takes-through}
 use Rattle.laz_range.proofs.Refusals.{Refuses-first, Refuses-second, Refuses-through}
 use Rattle.laz_integer.specs.Events.{Event, cuts_after}
 use Rattle.laz_integer.specs.Spelled.{spelled_cuts}
@@ -54,6 +54,3 @@ both-second {V} {W} P Q earlier a b c x f g =
     (Refuses-second P (λ z. Q) (spelled_cuts earlier) (λ x y. cuts_after (earlier ++ x.0) y.0) a b c x f g)
 
 -- ---- a part that is absent: no events, and one value
-pub none-takes : {V : Type 0} (P : List Event × V → Type 0) (earlier : List Event) (d : Decoding) (v : V) → P ([], v) → ((y : List Event × V) → P y → y ≡ ([], v)) → d.taken ≤ length d.bytes → d.failed ≡ false
-    → Takes P (spelled_cuts earlier) d d ([], v)
-none-takes P earlier d v asked only within good = Takes-empty P (spelled_cuts earlier) d ([], v) asked refl only within good

@@ -1,4 +1,5 @@
 pub mod SymbolParts
+pub mod Nears
 pub mod Cases
 pub mod Named
 pub mod Choices

@@ -3,18 +3,18 @@
 use Rattle.std.proofs.Common.{◌≡◌, ℕ, ◌<◌, ◌≤◌, Bool, true, false, List, [], ◌∷◌, ◌++◌, length, set, refl, sym, ap, subst, ◌∙◌, arith, ⊎_elim, eqb, append_assoc}
 use Rattle.std.proofs.lemmas.Bool.{cases_eq, and_from, and_left, eq-eqb, ne_eqb}
 use Rattle.std.proofs.lemmas.List.{append-nil, get_or-set_same, get_or-set_other, length-set}
-use Rattle.laz_range.specs.Cut.{Cut, raw_cuts}
+use Rattle.laz_range.specs.Cut.{Cut}
 use Rattle.laz_models.specs.Counting.{Counting, after_symbol, new_model}
 use Rattle.laz_models.specs.Dist.{alphabet_size}
 use Rattle.laz_models.specs.Bank.{model_at}
 use Rattle.laz_models.proofs.Banks.{StandsFor-push}
-use Rattle.laz_integer.specs.Events.{Event, Symbol, same_text, same_name, symbols_under, cuts_after, raw_events}
+use Rattle.laz_integer.specs.Events.{Event, Symbol, same_text, same_name, symbols_under, cuts_after}
 use Rattle.laz_integer.specs.Integer.{IsInts, IntState, IsIntState, IntStands, IsCorrector, corrector_events, int_cuts, int_next, symbol_cut}
 use Rattle.laz_integer.specs.Uses.{own_name, Silent, AllSilent, absent, apart}
 use Rattle.laz_integer.specs.Fields.{if_marked, byte_events, BankStands, byte_cuts, byte_next, IsByte, word_cuts, word_next, IsWord}
-use Rattle.laz_integer.proofs.Named.{same_text-refl, symbols-with, symbols-without, cuts_after-append, cuts-raw}
+use Rattle.laz_integer.proofs.Named.{same_text-refl, symbols-with, symbols-without, cuts_after-append}
 use Rattle.laz_integer.proofs.Stood.{Comes, comes, symbol-cut}
-use Rattle.laz_integer.proofs.Uses.{Silent-none, Silent-append, Silent-other, Silent-raws, Silent-corrector, other_than, absent-split, AllSilent-split, all-silent, bank-silent, int-silent}
+use Rattle.laz_integer.proofs.Uses.{Silent-none, Silent-append, Silent-other, Silent-corrector, other_than, absent-split, AllSilent-split, all-silent, bank-silent, int-silent}
 use Rattle.laz_integer.proofs.Lists.{two_lists}
 
 -- Events of these uses, which cut these parts if the models before them stand for the earlier events. The models after
@@ -64,17 +64,6 @@ Piece-none kinds B frame =
       stands = λ earlier h. subst B (sym (append-nil earlier)) h;
       before = frame;
       after = frame;
-    }
-
--- a raw value
-pub Piece-raw : (b v : ℕ) → Piece [] (raw_events b v) (raw_cuts b v) (λ l. Unit {0}) (λ l. Unit {0})
-Piece-raw b v =
-    record {
-      own = λ kind e. Silent-raws kind b v;
-      cut = λ earlier h. cuts-raw earlier b v;
-      stands = λ earlier h. tt;
-      before = λ earlier others silent h. tt;
-      after = λ earlier others silent h. tt;
     }
 
 -- ---- one symbol of a bank

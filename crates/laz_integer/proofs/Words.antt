@@ -21,9 +21,6 @@ word-fits n h =
 pub word-bits : (n : ℕ) → n < 65536 → HasBits 16 (pos n)
 word-bits n h = omega (arith, word-unsigned n h)
 
-pub byte-bits : (n : ℕ) → n < 256 → HasBits 8 (pos n)
-byte-bits n h = omega (arith, word-unsigned n (omega arith))
-
 -- ---- what a corrector of 16 bits makes is such a number
 pub word-made : (p : ℤ) (k v : ℕ) → corrected 16 p k v ≡ pos (nat_abs (corrected 16 p k v))
 word-made p k v =
@@ -31,14 +28,6 @@ word-made p k v =
     let small : n < 65536 = omega arith in
     let is : corrected 16 p k v ≡ pos n = to_z_pos w32 n (omega (arith, small)) in
     is ∙ ap (λ z. pos (nat_abs z)) (sym is)
-
-pub word-below : (p : ℤ) (k v : ℕ) → nat_abs (corrected 16 p k v) < 65536
-word-below p k v =
-    let n : ℕ = (cast_unsigned w32 p + corrector 16 k v) % 65536 in
-    let small : n < 65536 = omega arith in
-    let is : corrected 16 p k v ≡ pos n = to_z_pos w32 n (omega (arith, small)) in
-    let same : nat_abs (corrected 16 p k v) ≡ n = ap (λ z. nat_abs z) is in
-    omega (arith, same, small)
 
 pub word-value : (pred : ℕ) (p : ℤ) (k v : ℕ) (value : ℤ) → p ≡ pos pred → value ≡ corrected 16 p k v
     → nat_abs (cast_signed w32 (cast_unsigned w32 value)) ≡ nat_abs (corrected 16 (pos pred) k v)

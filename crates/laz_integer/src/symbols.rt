@@ -10,7 +10,7 @@ ghost use Rattle.laz_range.specs.Decoding.{Reads, ReadsOn, NoneBegins, RunsOut, 
 ghost use Rattle.laz_models.specs.Bank.{model_at, alphabet_sizes};
 ghost use Rattle.laz_models.specs.BitCounting.{after_bit};
 ghost use Rattle.laz_models.specs.BitDist.{BitStandsFor, p0_of};
-ghost use Rattle.laz_models.specs.Counting.{after_symbol};
+ghost use Rattle.laz_models.specs.Counting.{after_symbol, AreStarts};
 ghost use Rattle.laz_models.specs.Dist.{StandsFor, dist, alphabet_size};
 ghost use Rattle.laz_integer.specs.Integer.{symbol_at, symbol_cut};
 
@@ -34,6 +34,42 @@ pub fn put_symbol(encoder: &mut Encoder, model: &mut SymbolModel, s: u32)
     encoder.cut15(lo, hi);
 }
 
+/// Reads the next symbol of a model by a division and a search of all parts.
+#[cold]
+#[inline(never)]
+fn take_far(decoder: &mut Decoder<'_>, model: &SymbolModel) -> Result<u32, Bad>
+    requires { decoder.old.failed ≡ false }
+    ensures reads { Reads result (λ s. s < alphabet_size model.now)
+        (λ s. symbol_cut model.now s ∷ []) decoder.old decoder.new }
+    ensures bad { IsErr result
+        ↔ RunsOut decoder.old (symbol_cut model.now (symbol_at model.now.starts (symbol_place decoder.old))) }
+{
+    let symbol = model.find(decoder.at15());
+    let (lo, hi) = model.part(symbol);
+    decoder.take15(lo, hi)?;
+    Ok(symbol)
+}
+
+/// Reads the next symbol of a model.
+// It is nearly always the symbol that the search begins at, or the next one: the two are told apart without a division
+// and without a branch.
+#[inline(always)]
+fn take_next(decoder: &mut Decoder<'_>, model: &SymbolModel) -> Result<u32, Bad>
+    requires { decoder.old.failed ≡ false }
+    ensures reads { Reads result (λ s. s < alphabet_size model.now)
+        (λ s. symbol_cut model.now s ∷ []) decoder.old decoder.new }
+    ensures bad { IsErr result
+        ↔ RunsOut decoder.old (symbol_cut model.now (symbol_at model.now.starts (symbol_place decoder.old))) }
+    ensures starts { AreStarts (alphabet_size model.now) model.now.starts }
+{
+    let near = model.near(decoder.estimate());
+    if decoder.is_from(near.after) {
+        return take_far(decoder, model);
+    }
+    let second = decoder.take_either(near.start, near.next, near.after)?;
+    Ok(near.symbol + second as u32)
+}
+
 /// Reads a symbol of a model, and counts it. [`Bad`] means that the bytes end too early: no symbol begins those left.
 #[inline]
 pub fn take_symbol(decoder: &mut Decoder<'_>, model: &mut SymbolModel) -> Result<u32, Bad>
@@ -52,10 +88,8 @@ pub fn take_symbol(decoder: &mut Decoder<'_>, model: &mut SymbolModel) -> Result
         → OnErr result (NoneBegins (λ s. s < alphabet_size model.old)
         (λ s. symbol (dist (alphabet_size model.old) h) s ∷ []) decoder.old) }
 {
-    let symbol = model.find(decoder.at15());
-    let (lo, hi) = model.part(symbol);
-    decoder.take15(lo, hi)?;
-    model.count(symbol);
+    let symbol = take_next(decoder, model)?;
+    model.count_read(symbol);
     Ok(symbol)
 }
 
@@ -76,6 +110,44 @@ pub fn put_symbol_of(encoder: &mut Encoder, bank: &mut ModelBank, m: u32, s: u32
     let (lo, hi) = bank.part(m, s);
     bank.count(m, s);
     encoder.cut15(lo, hi);
+}
+
+/// Reads the next symbol of model `m` of a bank by a division and a search of all parts.
+#[cold]
+#[inline(never)]
+fn take_far_of(decoder: &mut Decoder<'_>, bank: &ModelBank, m: u32) -> Result<u32, Bad>
+    requires good { decoder.old.failed ≡ false }
+    requires model { m < length bank.now }
+    ensures reads { Reads result (λ s. s < alphabet_size (model_at bank.now m))
+        (λ s. symbol_cut (model_at bank.now m) s ∷ []) decoder.old decoder.new }
+    ensures bad { let model = model_at bank.now m
+        in IsErr result ↔ RunsOut decoder.old (symbol_cut model (symbol_at model.starts (symbol_place decoder.old))) }
+{
+    let symbol = bank.find(m, decoder.at15());
+    let (lo, hi) = bank.part(m, symbol);
+    decoder.take15(lo, hi)?;
+    Ok(symbol)
+}
+
+/// Reads the next symbol of model `m` of a bank.
+// It is nearly always the symbol that the search begins at, or the next one: the two are told apart without a division
+// and without a branch.
+#[inline(always)]
+fn take_next_of(decoder: &mut Decoder<'_>, bank: &ModelBank, m: u32) -> Result<u32, Bad>
+    requires good { decoder.old.failed ≡ false }
+    requires model { m < length bank.now }
+    ensures reads { Reads result (λ s. s < alphabet_size (model_at bank.now m))
+        (λ s. symbol_cut (model_at bank.now m) s ∷ []) decoder.old decoder.new }
+    ensures bad { let model = model_at bank.now m
+        in IsErr result ↔ RunsOut decoder.old (symbol_cut model (symbol_at model.starts (symbol_place decoder.old))) }
+    ensures starts { AreStarts (alphabet_size (model_at bank.now m)) (model_at bank.now m).starts }
+{
+    let near = bank.near(m, decoder.estimate());
+    if decoder.is_from(near.after) {
+        return take_far_of(decoder, bank, m);
+    }
+    let second = decoder.take_either(near.start, near.next, near.after)?;
+    Ok(near.symbol + second as u32)
 }
 
 /// Reads a symbol of model `m` of a bank, and counts it. [`Bad`] means that the bytes end too early: no symbol begins
@@ -102,10 +174,8 @@ pub fn take_symbol_of(decoder: &mut Decoder<'_>, bank: &mut ModelBank, m: u32) -
     ensures others { (k : ℕ) → k ≢ m → model_at bank.new k ≡ model_at bank.old k }
     ensures sizes { alphabet_sizes bank.new ≡ alphabet_sizes bank.old }
 {
-    let symbol = bank.find(m, decoder.at15());
-    let (lo, hi) = bank.part(m, symbol);
-    decoder.take15(lo, hi)?;
-    bank.count(m, symbol);
+    let symbol = take_next_of(decoder, bank, m)?;
+    bank.count_read(m, symbol);
     Ok(symbol)
 }
 

@@ -1,5 +1,5 @@
 -- The models of a bank, one of which changes. Cited by crates above.
-use Rattle.std.proofs.Common.{◌≡◌, ◌⊎◌, ℕ, ◌+◌, ◌-◌, ◌<◌, ◌≤◌, List, [], ◌∷◌, ◌++◌, length, map, set, get_or, refl, sym, ap, ◌∙◌, arith, ⊎_elim, inl, inr}
+use Rattle.std.proofs.Common.{◌≡◌, false, ◌⊎◌, ℕ, ◌+◌, ◌-◌, ◌<◌, ◌≤◌, List, [], ◌∷◌, ◌++◌, length, map, set, get_or, refl, sym, ap, ◌∙◌, arith, ⊎_elim, inl, inr}
 use Rattle.std.proofs.lemmas.Bool.{cases_eq, cases_lt}
 use Rattle.std.proofs.lemmas.List.{length-map, length-set, length-take-le, length-replicate, get_or-map, get_or-set_same, get_or-set_other, get_or_default, set-get_or, map-set, same_lists}
 use Rattle.std.proofs.lemmas.List.Edits.{length-between, get_or-between}
@@ -72,9 +72,9 @@ at bank places cells m p view invariant below read =
 
 pub many-at : (bank : List Counting) (places : List Place) (cells : List ℕ) (m : ℕ) → map (counting_in cells) places ≡ bank → IsBank places cells → m < length bank → 2 ≤ alphabet_size (model_at bank m)
 many-at bank places cells m view invariant below =
-    let p : Place = get_or places m (record { start = 0; end = 0; size = 0; shift = 0; total = 0; cycle = 0; remaining = 0 }) in
+    let p : Place = get_or places m (record { start = 0; end = 0; size = 0; shift = 0; total = 0; cycle = 0; indexed = false; remaining = 0 }) in
     let here : m < length places = omega (arith, length-map places (counting_in cells), ap length view) in
-    let a = at bank places cells m p view invariant below (get_or_default places m (record { start = 0; end = 0; size = 0; shift = 0; total = 0; cycle = 0; remaining = 0 }) p here) in
+    let a = at bank places cells m p view invariant below (get_or_default places m (record { start = 0; end = 0; size = 0; shift = 0; total = 0; cycle = 0; indexed = false; remaining = 0 }) p here) in
     omega (arith, a.size, a.placed.model.shape.many)
 
 -- ---- one model of a bank changes

@@ -5,7 +5,7 @@ use Rattle.laz_models.specs.BitDist.{bit_cycle, bit_counts_at, p0_of}
 use Rattle.laz_models.specs.Counting.{starts_of, small_counts}
 use Rattle.laz_models.specs.Cycles.{due, cycle_in}
 use Rattle.laz_models.specs.Dist.{cycle, counts_at, dist}
-use Rattle.laz_models.specs.Lookup.{table_bits, table_length}
+use Rattle.laz_models.specs.Lookup.{table_bits, search_bits, start_or_guard}
 
 -- The cycles of 2 symbols are 4, 5, 6, .. long, up to 64, and those of 256 symbols 131, 163, ..
 cycles : (cycle 2 0 ≡ 4) × (cycle 2 1 ≡ 5) × (cycle 2 2 ≡ 6) × (cycle 2 16 ≡ 64) × (cycle 256 0 ≡ 131) × (cycle 256 1 ≡ 163)
@@ -29,14 +29,19 @@ halving : (small_counts (32766 ∷ 2 ∷ []) ≡ 32766 ∷ 2 ∷ []) × (small_c
 unfolding small_counts
 halving = (refl, refl)
 
--- A table has 2 ^ 3 + 1 entries from 17 symbols on, and 2 ^ 9 + 1 for 2,048.
+-- An entry for each four symbols, or fewer symbols.
 tables : (table_bits 17 ≡ 3) × (table_bits 32 ≡ 3) × (table_bits 33 ≡ 4) × (table_bits 256 ≡ 6) × (table_bits 516 ≡ 8) × (table_bits 2048 ≡ 9)
 unfolding table_bits
 tables = (refl, refl, refl, refl, refl, refl)
 
-table_lengths : (table_length 16 ≡ 0) × (table_length 17 ≡ 9) × (table_length 2048 ≡ 513)
-unfolding table_length table_bits
-table_lengths = (refl, refl, refl)
+-- A search of n symbols begins at one of as many entries, rounded up to a power of 2.
+searches : (search_bits 2 ≡ 3) × (search_bits 8 ≡ 3) × (search_bits 9 ≡ 4) × (search_bits 33 ≡ 6) × (search_bits 256 ≡ 8) × (search_bits 2048 ≡ 11)
+unfolding search_bits
+searches = (refl, refl, refl, refl, refl, refl)
+
+-- After the last start there is the guard.
+guards : (start_or_guard (0 ∷ 100 ∷ []) 1 ≡ 100) × (start_or_guard (0 ∷ 100 ∷ []) 2 ≡ 65535)
+guards = (refl, refl)
 
 -- ---- bits
 bit_cycles : (bit_cycle 0 ≡ 4) × (bit_cycle 1 ≡ 5) × (bit_cycle 2 ≡ 6) × (bit_cycle 16 ≡ 64) × (due bit_cycle 2 ≡ 9)

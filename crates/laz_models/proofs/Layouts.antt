@@ -1,5 +1,5 @@
 -- The places of new models.
-use Rattle.std.proofs.Common.{◌≡◌, ℕ, ◌+◌, ◌<◌, ◌≤◌, List, [], ◌∷◌, ◌++◌, length, map, get_or, refl, sym, ap, ◌∙◌, arith, ⊎_elim}
+use Rattle.std.proofs.Common.{◌≡◌, false, ℕ, ◌+◌, ◌<◌, ◌≤◌, List, [], ◌∷◌, ◌++◌, length, map, get_or, refl, sym, ap, ◌∙◌, arith, ⊎_elim}
 use Rattle.std.proofs.lemmas.Bool.{cases_lt}
 use Rattle.std.proofs.lemmas.List.{length-map, length_push, get_or-map, get_or_push, get_or_append_left, get_or_default, same_lists}
 use Rattle.laz_models.specs.Bank.{alphabet_sizes}
@@ -23,8 +23,8 @@ each_push P places p each here m d below =
     rw (get_or_push places p d m last) same)
     (cases_lt m (length places))
 
-pub layout-push : (places : List Place) (sizes : List ℕ) (end n : ℕ) (p : Place) → IsLayout places sizes end → IsShaped p → p.size ≡ n → p.remaining ≡ 0 → p.start ≡ end → IsLayout (places ++ p ∷ []) (sizes ++ n ∷ []) p.end
-layout-push places sizes end n p layout shape size first start =
+pub layout-push : (places : List Place) (sizes : List ℕ) (end n : ℕ) (p : Place) → IsLayout places sizes end → IsShaped p → p.size ≡ n → p.remaining ≡ 0 → p.indexed ≡ false → p.start ≡ end → IsLayout (places ++ p ∷ []) (sizes ++ n ∷ []) p.end
+layout-push places sizes end n p layout shape size first unindexed start =
     let more : length (places ++ p ∷ []) ≡ length places + 1 = length_push places p in
     let grows : end ≤ p.end = omega (arith, shape.extent) in
     record {
@@ -34,6 +34,7 @@ layout-push places sizes end n p layout shape size first start =
           (λ m d below. layout.size m d below ∙ sym (get_or_append_left sizes (n ∷ []) 0 m (omega (arith, layout.count))))
           (size ∙ sym (get_or_push sizes n 0 (length places) (sym layout.count)));
       first = each_push (λ m q. q.remaining ≡ 0) places p layout.first first;
+      unindexed = each_push (λ m q. q.indexed ≡ false) places p layout.unindexed unindexed;
       within = each_push (λ m q. q.end ≤ p.end) places p (λ m d below. omega (arith, layout.within m d below)) (omega arith);
       apart = λ i j d order below.
           each_push (λ k q. i < k → (get_or (places ++ p ∷ []) i d).end ≤ q.start) places p
@@ -50,7 +51,7 @@ layout-view places sizes cells end layout =
     same_lists (map (counting_in cells) places) (map new_model sizes) (length-map places (counting_in cells) ∙ (layout.count ∙ sym (length-map sizes new_model)))
     (λ k d below.
     let here : k < length places = omega (arith, length-map places (counting_in cells)) in
-    let p0 : Place = record { start = 0; end = 0; size = 0; shift = 0; total = 0; cycle = 0; remaining = 0 } in
+    let p0 : Place = record { start = 0; end = 0; size = 0; shift = 0; total = 0; cycle = 0; indexed = false; remaining = 0 } in
     get_or-map (counting_in cells) places k p0 d here
     ∙ (counting_of-first (get_or places k p0) (cells_of (get_or places k p0) cells) (layout.first k p0 here)
     ∙ (ap new_model (layout.size k p0 here)
@@ -70,6 +71,7 @@ first-IsBank places cells bank =
             model = record {
               shape = record { many = shape.many; few = shape.few; shift = shape.shift; extent = shape.extent };
               length = placed.model.length;
+              indexed = λ e. absurd (cc);
               laid = λ some. absurd (omega arith);
             };
             within = placed.within;
@@ -87,7 +89,7 @@ first-view places cells bank =
     same_lists (map (counting_in cells) (map as_new places)) (map (λ m. new_model (alphabet_size m)) (map (counting_in cells) places)) (count ∙ sym count_old)
     (λ k d below.
     let here : k < length places = omega arith in
-    let p0 : Place = record { start = 0; end = 0; size = 0; shift = 0; total = 0; cycle = 0; remaining = 0 } in
+    let p0 : Place = record { start = 0; end = 0; size = 0; shift = 0; total = 0; cycle = 0; indexed = false; remaining = 0 } in
     let p : Place = get_or places k p0 in
     let s = fits-place p (cells_of p cells) (bank.placed k p0 here).model in
     get_or-map (counting_in cells) (map as_new places) k (as_new p0) d (omega (arith, length-map places as_new))

@@ -5,7 +5,7 @@ use Rattle.std.proofs.lemmas.Bool.{cases_lt, cond-true, cond-false, lt-ltb, le-l
 use Rattle.std.proofs.lemmas.List.Sums.{count_by-le-length}
 use Rattle.std.proofs.lemmas.Nat.{pow-add}
 use Rattle.laz_models.specs.Counting.{AreStarts}
-use Rattle.laz_models.specs.Lookup.{IsLastAt, table_bits, table_length}
+use Rattle.laz_models.specs.Lookup.{IsLastAt, table_bits, search_bits}
 
 -- parts do not fall
 rising-by : (n : ℕ) (starts : List ℕ) (s d : ℕ) → AreStarts n starts → s + d < n → get_or starts s 0 ≤ get_or starts (s + d) 0
@@ -49,24 +49,22 @@ counts-one k n h = cond-true {A = ℕ} (ltb k n) 1 0 (lt-ltb k n h)
 pub counts-none : (k n : ℕ) → n ≤ k → cond {A = ℕ} (ltb k n) 1 0 ≡ 0
 counts-none k n h = cond-false {A = ℕ} (ltb k n) 1 0 (le-ltb k n h)
 
-pub table_length-none : (n : ℕ) → n ≤ 16 → table_length n ≡ 0
-unfolding table_length
-table_length-none n h = cond-false (ltb 16 n) _ _ (le-ltb 16 n h)
-
-pub table_length-some : (n : ℕ) → 16 < n → table_length n ≡ 2 ^ table_bits n + 1
-unfolding table_length
-table_length-some n h = cond-true (ltb 16 n) _ _ (lt-ltb 16 n h)
-
 -- the entries of a table divide the 2 ^ 15 places
 pub places : (b : ℕ) → b ≤ 15 → 2 ^ b * 2 ^ (15 - b) ≡ 32768
 places b h = let e : b + (15 - b) ≡ 15 = omega arith in sym (pow-add 2 b (15 - b)) ∙ ap (λ k. 2 ^ k) e
 
-pub table-fits : (n : ℕ) → table_length n * 2 ^ (15 - table_bits n) < 131072
-table-fits n =
-    let b : ℕ = table_bits n in
-    let bounds : (3 ≤ b) × (b ≤ 9) = table_bits-bounds n in
-    let unit : 2 ^ (15 - b) ≤ 2 ^ 12 = pow-le-pow_right {n = 2} (lit< tt) {i = 15 - b} {j = 12} (omega (arith, bounds.0)) in
-    ⊎_elim
-    (λ (large : 16 < n). rw (table_length-some n large) (omega (arith, places b (omega (arith, bounds.1)), unit)))
-    (λ (small : n ≤ 16). rw (table_length-none n small) (omega arith))
-    (cases_lt 16 n)
+-- ---- the size of the table of a search
+pub search_bits-bounds : (n : ℕ) → (3 ≤ search_bits n) × (search_bits n ≤ 11)
+unfolding search_bits
+search_bits-bounds n = (omega arith, omega (arith, count_by-le-length (λ b. ltb (2 ^ b) n) (3 ∷ 4 ∷ 5 ∷ 6 ∷ 7 ∷ 8 ∷ 9 ∷ 10 ∷ [])))
+
+-- whether b is too small, for each b from 3 to 10
+pub search_bits-sum : (n : ℕ) → search_bits n ≡ 3 + (0 + cond {A = ℕ} (ltb 8 n) 1 0 + cond {A = ℕ} (ltb 16 n) 1 0 + cond {A = ℕ} (ltb 32 n) 1 0 + cond {A = ℕ} (ltb 64 n) 1 0 + cond {A = ℕ} (ltb 128 n) 1 0 + cond {A = ℕ} (ltb 256 n) 1 0 + cond {A = ℕ} (ltb 512 n) 1 0 + cond {A = ℕ} (ltb 1024 n) 1 0)
+unfolding search_bits
+search_bits-sum n = refl
+
+pub search-few : (n : ℕ) → 2 ^ search_bits n ≤ 2048
+search-few n = pow-le-pow_right {n = 2} (lit< tt) {i = search_bits n} {j = 11} (search_bits-bounds n).1
+
+pub search-whole : (n : ℕ) → 2 ^ search_bits n * 2 ^ (15 - search_bits n) ≡ 32768
+search-whole n = places (search_bits n) (omega (arith, search_bits-bounds n))

@@ -1,15 +1,15 @@
 -- The cells of a model, and one more symbol.
-use Rattle.std.proofs.Common.{◌≡◌, ℕ, ◌+◌, ◌-◌, ◌*◌, ◌/◌, ◌^◌, ◌<◌, ◌≤◌, min, List, length, take, drop, sum, replicate, get_or, refl, sym, ap, ◌∙◌, arith, ⊎_elim, lit<, ◌++◌, set}
-use Rattle.std.proofs.Math.Nat.{mul-le-mul_left, div-mul-le_self, lt-mul-div-succ, div-lt_iff_lt-mul, one-le-pow, pow-le-pow_right}
+use Rattle.std.proofs.Common.{◌≡◌, true, ℕ, zero, suc, ◌+◌, ◌-◌, ◌*◌, ◌/◌, ◌^◌, ◌<◌, ◌≤◌, min, List, [], ◌∷◌, length, take, drop, sum, replicate, get_or, refl, sym, ap, ◌∙◌, arith, ⊎_elim, lit<, ◌++◌, set}
+use Rattle.std.proofs.Math.Nat.{mul-le-mul_left, div-mul-le_self, lt-mul-div-succ, div-lt_iff_lt-mul, one-le-pow}
 use Rattle.std.proofs.lemmas.Nat.{le-div}
 use Rattle.std.proofs.lemmas.List.Sums.{sum_by-set, get_or-le-sum_by}
 use Rattle.std.proofs.lemmas.Bool.{cases_eq, cases_lt, cond-true, cond-false, eq-eqb, ne_eqb}
-use Rattle.std.proofs.lemmas.List.{take_at, take-append-drop, set-append_left, length-set, get_or-set_same, get_or-set_other, drop-set-lt, length-replicate, take-replicate, length-take-le, length-drop, get_or-drop, get_or-take}
+use Rattle.std.proofs.lemmas.List.{take_at, take-append-drop, set-append_left, length-set, get_or-set_same, get_or-set_other, drop-set-lt, length-replicate, take-replicate, length-take-le, length-drop, get_or-drop, get_or-take, get_or_default, get_or_past}
 use Rattle.laz_models.specs.Counting.{AreCounts, AreStarts, counts_with, after_symbol, starts_of, part_end, new_model}
-use Rattle.laz_models.specs.Lookup.{IsLastAt, table_bits, table_length}
-use Rattle.laz_models.specs.Place.{counts_in, starts_in, table_in, laid_state, counting_of, extent, IsShaped, IsLaid}
+use Rattle.laz_models.specs.Lookup.{IsLastAt, search_bits, start_or_guard}
+use Rattle.laz_models.specs.Place.{counts_in, starts_in, guards_in, table_in, laid_state, counting_of, extent, IsShaped, IsLaid}
 use Rattle.laz_models.specs.declared.place.Place.{Place}
-use Rattle.laz_models.proofs.Lookups.{last_at, places, table_bits-bounds, table_length-some, table_length-none}
+use Rattle.laz_models.proofs.Lookups.{last_at, search-few, search-whole}
 use Rattle.laz_models.proofs.Parts.{after_symbol-more, get_or-starts_of, starts_of-AreStarts, AreCounts-ones, sum-ones}
 
 -- ---- a model that is new, or laid out
@@ -73,80 +73,55 @@ part_end-above n starts s h below =
 pub length-starts_in : (p : Place) (cells : List ℕ) → length cells ≡ extent p.size → length (starts_in p.size cells) ≡ p.size
 length-starts_in p cells h = length-take-le p.size (drop p.size cells) (omega (arith, length-drop p.size cells))
 
--- an entry, by its place among the cells
-pub record AreEntries (p : Place) (cells : List ℕ) (t : ℕ) : Type 0 where
-  pub within : 2 * p.size + t < length cells
-  pub last : IsLastAt (starts_in p.size cells) (t * 2 ^ p.shift) (get_or cells (2 * p.size + t) 0)
-
-pub entry_at : (p : Place) (cells : List ℕ) (t : ℕ) → IsShaped p → length cells ≡ extent p.size → IsLaid p cells → 16 < p.size → t ≤ 2 ^ table_bits p.size → AreEntries p cells t
-entry_at p cells t shape size laid many below =
-    let n : ℕ = p.size in
-    let entries : table_length n ≡ 2 ^ table_bits n + 1 = table_length-some n many in
-    let inside : t < length (table_in n cells) = omega (arith, length-drop n cells, length-drop n (drop n cells)) in
-    let at : get_or (table_in n cells) t 0 ≡ get_or cells (2 * n + t) 0 =
-    get_or-drop n (drop n cells) t 0 ∙ (get_or-drop n cells (n + t) 0 ∙ ap (λ i. get_or cells i 0) (omega arith)) in
-    record {
-      within = omega arith;
-      last = rw at at (laid.table t inside);
-    }
-
 -- how many cells there are at most
-pub extent-few : (n : ℕ) → n ≤ 2048 → extent n ≤ 4609
-extent-few n few =
-    let bits : table_bits n ≤ 9 = (table_bits-bounds n).1 in
-    let most : 2 ^ table_bits n ≤ 2 ^ 9 = pow-le-pow_right {n = 2} (lit< tt) {i = table_bits n} {j = 9} bits in
-    ⊎_elim
-    (λ (large : 16 < n). omega (arith, table_length-some n large))
-    (λ (small : n ≤ 16). omega (arith, table_length-none n small))
-    (cases_lt 16 n)
+pub extent-few : (n : ℕ) → n ≤ 2048 → extent n ≤ 6146
+extent-few n few = omega (arith, search-few n)
+
+guard_at : (i g : ℕ) → i < 2 → get_or (g ∷ g ∷ []) i 0 ≡ g
+guard_at zero g h = refl
+guard_at (suc zero) g h = refl
+guard_at (suc (suc i)) g h = absurd (omega arith)
 
 -- the start of a part, by its place among the cells
 pub part_at : (n s : ℕ) (cells : List ℕ) → s < n → get_or (starts_in n cells) s 0 ≡ get_or cells (n + s) 0
 part_at n s cells h = get_or-take n (drop n cells) s 0 h ∙ get_or-drop n cells s 0
 
--- a position below 2 ^ 15 has an entry at or before it and one after it
-pub entry-below : (p : Place) (v : ℕ) → IsShaped p → v < 32768 → v / 2 ^ p.shift + 1 ≤ 2 ^ table_bits p.size
-entry-below p v shape below =
-    let b : ℕ = table_bits p.size in
-    let bits : b ≤ 9 = (table_bits-bounds p.size).1 in
-    let whole : 2 ^ b * 2 ^ p.shift ≡ 32768 = ap (λ k. 2 ^ b * 2 ^ k) shape.shift ∙ places b (omega arith) in
-    let fits : v / 2 ^ p.shift < 2 ^ b = (div-lt_iff_lt-mul {k = 2 ^ p.shift} {x = v} {y = 2 ^ b} (one-le-pow p.shift 2 (lit< tt))).1 (omega arith) in
-    omega arith
+-- the start of a part or a guard, by its place among the cells
+pub start_or_guard-at : (n k : ℕ) (cells : List ℕ) → length (starts_in n cells) ≡ n → guards_in n cells ≡ 65535 ∷ 65535 ∷ [] → k < n + 2 → start_or_guard (starts_in n cells) k ≡ get_or cells (n + k) 0
+start_or_guard-at n k cells count guards below =
+    ⊎_elim
+    (λ (inner : k < n). get_or_default (starts_in n cells) k 65535 0 (omega arith) ∙ part_at n k cells inner)
+    (λ (past : n ≤ k).
+    let i : ℕ = k - n in
+    let few : i < 2 = omega arith in
+    let whole : n + (n + i) ≡ n + k = omega arith in
+    let there : get_or (guards_in n cells) i 0 ≡ get_or cells (n + (n + i)) 0 =
+    get_or-take 2 (drop n (drop n cells)) i 0 few ∙ (get_or-drop n (drop n cells) i 0 ∙ get_or-drop n cells (n + i) 0) in
+    let guard : get_or (guards_in n cells) i 0 ≡ 65535 = rw guards (guard_at i 65535 few) in
+    get_or_past (starts_in n cells) k 65535 (omega arith) ∙ (sym guard ∙ (there ∙ ap (λ j. get_or cells j 0) whole)))
+    (cases_lt k n)
 
--- low and high bound the last symbol whose part begins at v or below
-pub record AreBounds (starts : List ℕ) (n low high v : ℕ) : Type 0 where
-  pub order : low < high
-  pub within : high ≤ n
-  pub start : get_or starts low 0 ≤ v
-  pub end : high < n → v < get_or starts high 0
+-- an entry of the table, by its place among the cells
+pub record AreEntries (p : Place) (cells : List ℕ) (t : ℕ) : Type 0 where
+  pub within : 2 * p.size + 2 + t < length cells
+  pub last : IsLastAt (starts_in p.size cells) (t * 2 ^ p.shift) (get_or cells (2 * p.size + 2 + t) 0)
 
-pub bounds_at : (p : Place) (cells : List ℕ) (v : ℕ) → IsShaped p → length cells ≡ extent p.size → IsLaid p cells → 16 < p.size → v < 32768
-    → AreBounds (starts_in p.size cells) p.size (get_or cells (2 * p.size + v / 2 ^ p.shift) 0) (get_or cells (2 * p.size + v / 2 ^ p.shift + 1) 0 + 1) v
-bounds_at p cells v shape size laid many below =
+pub entry_at : (p : Place) (cells : List ℕ) (t : ℕ) → IsShaped p → length cells ≡ extent p.size → IsLaid p cells → p.indexed ≡ true → t < 2 ^ search_bits p.size → AreEntries p cells t
+entry_at p cells t shape size laid indexed below =
     let n : ℕ = p.size in
-    let unit : ℕ = 2 ^ p.shift in
-    let some : 0 < unit = one-le-pow p.shift 2 (lit< tt) in
-    let t : ℕ = v / unit in
-    let fits : t + 1 ≤ 2 ^ table_bits n = entry-below p v shape below in
-    let down : t * unit ≤ v = div-mul-le_self v unit in
-    let up : v < unit * (t + 1) = lt-mul-div-succ v some in
-    let e = entry_at p cells t shape size laid many (omega arith) in
-    let f = entry_at p cells (t + 1) shape size laid many (omega arith) in
-    let g : IsLastAt (starts_in n cells) ((t + 1) * unit) (get_or cells (2 * n + t + 1) 0) =
-    let place : 2 * n + (t + 1) ≡ 2 * n + t + 1 = omega arith in rw place at f.last in
-    let count : length (starts_in n cells) ≡ n = length-starts_in p cells size in
-    let low : ℕ = get_or cells (2 * n + t) 0 in
-    let high : ℕ = get_or cells (2 * n + t + 1) 0 in
+    let inside : t < length (table_in n cells) = omega (arith, length-drop n cells, length-drop n (drop n cells), length-drop 2 (drop n (drop n cells))) in
+    let at : get_or (table_in n cells) t 0 ≡ get_or cells (2 * n + 2 + t) 0 =
+    get_or-drop 2 (drop n (drop n cells)) t 0 ∙ (get_or-drop n (drop n cells) (2 + t) 0 ∙ (get_or-drop n cells (n + (2 + t)) 0 ∙ ap (λ i. get_or cells i 0) (omega arith))) in
     record {
-      order = omega (arith, g.greatest low e.last.symbol (omega (arith, e.last.start)));
-      within = omega (arith, g.symbol);
-      start = omega (arith, e.last.start);
-      end = λ inner.
-          ⊎_elim
-          (λ (above : v < get_or (starts_in n cells) (high + 1) 0). above)
-          (λ (at : get_or (starts_in n cells) (high + 1) 0 ≤ v). absurd (omega (arith, g.greatest (high + 1) (omega arith) (omega arith))))
-          (cases_lt v (get_or (starts_in n cells) (high + 1) 0));
+      within = omega arith;
+      last = rw at at (laid.table indexed t inside);
     }
+
+-- a place below 2 ^ 15 has an entry
+pub entry-below : (p : Place) (v : ℕ) → IsShaped p → v < 32768 → v / 2 ^ p.shift < 2 ^ search_bits p.size
+entry-below p v shape below =
+    let whole : 2 ^ search_bits p.size * 2 ^ p.shift ≡ 32768 = ap (λ k. 2 ^ search_bits p.size * 2 ^ k) shape.shift ∙ search-whole p.size in
+    (div-lt_iff_lt-mul {k = 2 ^ p.shift} {x = v} {y = 2 ^ search_bits p.size} (one-le-pow p.shift 2 (lit< tt))).1 (omega arith)
 
 -- ---- one symbol more
 -- a write below n
@@ -178,6 +153,7 @@ sum-counts_with counts s below = omega (arith, sum_by-set (λ (x : ℕ). x) coun
 pub record Bumps (n : ℕ) (old new : List ℕ) (s : ℕ) : Type 0 where
   pub counts : counts_in n new ≡ counts_with (counts_in n old) s
   pub starts : starts_in n new ≡ starts_in n old
+  pub guards : guards_in n new ≡ guards_in n old
   pub table : table_in n new ≡ table_in n old
   pub good : AreCounts (counts_in n old) → AreCounts (counts_in n new)
   pub sum : sum (counts_in n new) ≡ sum (counts_in n old) + 1
@@ -192,14 +168,15 @@ bumps n s cells below within =
     record {
       counts = counts;
       starts = ap (take n) rest;
-      table = ap (drop n) rest;
+      guards = ap (λ xs. take 2 (drop n xs)) rest;
+      table = ap (λ xs. drop 2 (drop n xs)) rest;
       good = λ h. rw counts (AreCounts-counts_with (take n cells) s h (omega arith));
       sum = ap sum counts ∙ sum-counts_with (take n cells) s (omega arith);
     }
 
 -- a symbol more, not the last one of the cycle
 abbrev pub one_fewer : Place → Place
-one_fewer p = record { start = p.start; end = p.end; size = p.size; shift = p.shift; total = p.total; cycle = p.cycle; remaining = p.remaining - 1 }
+one_fewer p = record { start = p.start; end = p.end; size = p.size; shift = p.shift; total = p.total; cycle = p.cycle; indexed = p.indexed; remaining = p.remaining - 1 }
 
 pub record Adds (p : Place) (old new : List ℕ) (s : ℕ) : Type 0 where
   pub laid : IsLaid (one_fewer p) new
@@ -212,7 +189,8 @@ adds p cells s laid within below more =
       laid = record {
         counts = b.good laid.counts;
         starts = rw b.starts laid.starts;
-        table = rw (b.table, b.starts) laid.table;
+        guards = b.guards ∙ laid.guards;
+        table = λ e. rw (b.table, b.starts) (laid.table e);
         total = laid.total;
         sum = omega (arith, laid.sum, b.sum);
         remaining = omega arith;

@@ -35,6 +35,7 @@ adds_at p cells s x placed below more read =
         model = record {
           shape = record { many = shape.many; few = shape.few; shift = shape.shift; extent = shape.extent };
           length = ap length same ∙ (length-set (cells_of p cells) s (get_or (cells_of p cells) s 0 + 1) ∙ placed.model.length);
+          indexed = λ _. omega arith;
           laid = λ _. rw same a.laid;
         };
         within = omega (arith, length-set cells (p.start + s) (x + 1), placed.within);

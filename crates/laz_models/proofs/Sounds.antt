@@ -1,5 +1,5 @@
 -- For crates that keep models: a new model is sound, and it stays so with each symbol or bit that it counts.
-use Rattle.std.proofs.Common.{◌≡◌, ℕ, ◌+◌, ◌*◌, ◌/◌, ◌<◌, ◌≤◌, All, List, length, map, sum, take, get_or, set, sym, arith, ⊎_elim, length-set, Bool, true, false, eqb, lit≤, lit<}
+use Rattle.std.proofs.Common.{◌≡◌, false, ℕ, ◌+◌, ◌*◌, ◌/◌, ◌<◌, ◌≤◌, All, List, length, map, sum, take, get_or, set, sym, arith, ⊎_elim, length-set, Bool, true, false, eqb, lit≤, lit<}
 use Rattle.std.proofs.lemmas.Bool.{cases_lt, cases_eq, cond-true, cond-false, eq-eqb, ne_eqb}
 use Rattle.std.proofs.lemmas.List.{get_or-set_same, get_or-set_other, get_or-map, length-map, length-replicate, length-take-le}
 use Rattle.std.proofs.lemmas.List.Elements.{All-get_or}
@@ -110,7 +110,7 @@ IsSound-state p cells model =
 
 pub AreSound-bank : (places : List Place) (cells : List ℕ) → IsBank places cells → AreSound (map (counting_in cells) places)
 AreSound-bank places cells bank m within =
-    let p0 : Place = record { start = 0; end = 0; size = 0; shift = 0; total = 0; cycle = 0; remaining = 0 } in
+    let p0 : Place = record { start = 0; end = 0; size = 0; shift = 0; total = 0; cycle = 0; indexed = false; remaining = 0 } in
     let here : m < length places = omega (arith, within, length-map places (counting_in cells)) in
     rw (get_or-map (counting_in cells) places m p0 (new_model 2) here) (IsSound-state (get_or places m p0) (cells_of (get_or places m p0) cells) (bank.placed m p0 here).model)
 

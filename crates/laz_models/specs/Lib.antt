@@ -5,5 +5,6 @@ pub mod Counting
 pub mod Cycles
 pub mod Dist
 pub mod Lookup
+pub mod Near
 pub mod Place
 pub mod Sound

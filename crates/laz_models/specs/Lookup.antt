@@ -1,6 +1,7 @@
 -- What a distribution answers, and the size of its look-up table.
-use Rattle.std.specs.Prelude.{ℕ, ◌+◌, ◌^◌, ◌<◌, ◌≤◌, List, [], ◌∷◌, length, count_by, nat_lt, if◌then◌else◌}
-use Rattle.std.specs.Prelude.{slice_index}
+use Rattle.std.specs.Prelude.{ℕ, ◌+◌, ◌-◌, ◌^◌, ◌<◌, ◌≤◌, List, [], ◌∷◌, length, count_by, nat_lt, slice_index}
+use Rattle.std.specs.Prelude.{slice_index_or}
+use Rattle.laz_models.specs.declared.limits.TheConstants.{GUARD}
 
 -- s is the greatest symbol whose part begins at v or below.
 pub record IsLastAt (starts : List ℕ) (v s : ℕ) : Type 0 where
@@ -13,6 +14,15 @@ pub record IsLastAt (starts : List ℕ) (v s : ℕ) : Type 0 where
 unfoldable pub table_bits : ℕ → ℕ
 table_bits n = 3 + count_by (λ b. nat_lt (2 ^ (b + 2)) n) (3 ∷ 4 ∷ 5 ∷ 6 ∷ 7 ∷ 8 ∷ [])
 
--- How many entries the look-up table of n symbols has. Up to 16 symbols have no table.
-unfoldable pub table_length : ℕ → ℕ
-table_length n = if nat_lt 16 n then 2 ^ table_bits n + 1 else 0
+-- How many of the 15 bits of a place choose the symbol from which a decoder searches: the least number b from 3 on with
+-- n ≤ 2 ^ b, for n up to 2,048.
+unfoldable pub search_bits : ℕ → ℕ
+search_bits n = 3 + count_by (λ b. nat_lt (2 ^ b) n) (3 ∷ 4 ∷ 5 ∷ 6 ∷ 7 ∷ 8 ∷ 9 ∷ 10 ∷ [])
+
+-- The places in steps of which a decoder's search of n symbols begins.
+abbrev pub search_step : ℕ → ℕ
+search_step n = 2 ^ (15 - search_bits n)
+
+-- The start of the part of symbol s, or the guard if there is no such symbol.
+abbrev pub start_or_guard : List ℕ → ℕ → ℕ
+start_or_guard starts s = slice_index_or starts s GUARD

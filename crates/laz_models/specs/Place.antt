@@ -1,20 +1,25 @@
 -- Where the models of a bank lie among its cells, and what the cells hold.
-use Rattle.std.specs.Prelude.{◌≡◌, ℕ, ◌+◌, ◌-◌, ◌*◌, ◌^◌, ◌<◌, ◌≤◌, ◌==◌, List, length, take, drop, sum, if◌then◌else◌}
-use Rattle.std.specs.Prelude.{slice_index, slice_index_or, slice_range}
+use Rattle.std.specs.Prelude.{◌≡◌, true, false, ℕ, ◌+◌, ◌-◌, ◌*◌, ◌^◌, ◌<◌, ◌≤◌, ◌==◌, List, [], ◌∷◌, length, take}
+use Rattle.std.specs.Prelude.{drop, sum}
+use Rattle.std.specs.Prelude.{if◌then◌else◌, slice_index, slice_index_or, slice_range}
 use Rattle.laz_models.specs.Counting.{Counting, AreCounts, AreStarts, new_model}
-use Rattle.laz_models.specs.Lookup.{IsLastAt, table_bits, table_length}
+use Rattle.laz_models.specs.Lookup.{IsLastAt, search_bits}
 use Rattle.laz_models.specs.declared.place.Place.{Place}
-use Rattle.laz_models.specs.declared.limits.TheConstants.{MAX_COUNT, MAX_SYMBOLS}
+use Rattle.laz_models.specs.declared.limits.TheConstants.{GUARD, MAX_COUNT, MAX_SYMBOLS}
 
--- The cells of a model of n symbols: its counts, its starts, and its look-up table.
+-- The cells of a model of n symbols: its counts, its starts and two guards after them, and the look-up table of the
+-- symbols from which a search begins.
 abbrev pub counts_in : ℕ → List ℕ → List ℕ
 counts_in n cells = take n cells
 
 abbrev pub starts_in : ℕ → List ℕ → List ℕ
 starts_in n cells = take n (drop n cells)
 
+abbrev pub guards_in : ℕ → List ℕ → List ℕ
+guards_in n cells = take 2 (drop n (drop n cells))
+
 abbrev pub table_in : ℕ → List ℕ → List ℕ
-table_in n cells = drop n (drop n cells)
+table_in n cells = drop 2 (drop n (drop n cells))
 
 -- Each entry of the look-up table is the last symbol whose part begins at the entry's position or below.
 abbrev pub IsTable : ℕ → ℕ → List ℕ → Type 0
@@ -34,20 +39,21 @@ laid_state p cells =
 
 -- How many cells a model of n symbols has.
 abbrev pub extent : ℕ → ℕ
-extent n = n + (n + table_length n)
+extent n = n + (n + (2 + 2 ^ search_bits n))
 
 -- What holds of a place, whatever the cells hold.
 pub record IsShaped (p : Place) : Type 0 where
   pub many : 2 ≤ p.size
   pub few : p.size ≤ MAX_SYMBOLS
-  pub shift : p.shift ≡ 15 - table_bits p.size
+  pub shift : p.shift ≡ 15 - search_bits p.size
   pub extent : p.end ≡ p.start + extent p.size
 
 -- What holds of a model whose cells are laid out. `total` is the sum of the counts at the beginning of the cycle.
 pub record IsLaid (p : Place) (cells : List ℕ) : Type 0 where
   pub counts : AreCounts (counts_in p.size cells)
   pub starts : AreStarts p.size (starts_in p.size cells)
-  pub table : IsTable p.size p.shift cells
+  pub guards : guards_in p.size cells ≡ GUARD ∷ GUARD ∷ []
+  pub table : p.indexed ≡ true → IsTable p.size p.shift cells
   pub total : p.total ≤ MAX_COUNT
   pub sum : sum (counts_in p.size cells) + p.remaining ≡ p.total + p.cycle
   pub remaining : 1 ≤ p.remaining
@@ -82,6 +88,7 @@ counting_of p cells = if p.remaining == 0 then new_model p.size else laid_state 
 pub record IsModel (p : Place) (cells : List ℕ) : Type 0 where
   pub shape : IsShaped p
   pub length : length cells ≡ extent p.size
+  pub indexed : p.indexed ≡ true → 0 < p.remaining
   pub laid : 0 < p.remaining → IsLaid p cells
 
 -- All cells except those from `start` up to `end` are unchanged.
@@ -111,10 +118,11 @@ pub record IsLayout (places : List Place) (sizes : List ℕ) (end : ℕ) : Type 
   pub shape : (m : ℕ) (d : Place) → m < length places → IsShaped (slice_index_or places m d)
   pub size : (m : ℕ) (d : Place) → m < length places → (slice_index_or places m d).size ≡ slice_index sizes m
   pub first : (m : ℕ) (d : Place) → m < length places → (slice_index_or places m d).remaining ≡ 0
+  pub unindexed : (m : ℕ) (d : Place) → m < length places → (slice_index_or places m d).indexed ≡ false
   pub within : (m : ℕ) (d : Place) → m < length places → (slice_index_or places m d).end ≤ end
   pub apart : (i j : ℕ) (d : Place) → i < j → j < length places
       → (slice_index_or places i d).end ≤ (slice_index_or places j d).start
 
 -- A place whose model is new.
 abbrev pub as_new : Place → Place
-as_new p = record p { remaining = 0 }
+as_new p = record p { indexed = false; remaining = 0 }

@@ -1,8 +1,10 @@
 //! A bank of models of symbols.
-ghost use Rattle.std.specs.Prelude.{◌≡◌, ◌≢◌, ℕ, ◌+◌, ◌-◌, ◌*◌, ◌^◌, ◌<◌, ◌≤◌, List, [], ◌∷◌, ◌++◌, length, map, All};
+ghost use Rattle.std.specs.Prelude.{◌≡◌, ◌≢◌, ℕ, ◌+◌, ◌-◌, ◌*◌, ◌/◌, ◌^◌, ◌<◌, ◌≤◌, List, [], ◌∷◌, ◌++◌, length, map};
+ghost use Rattle.std.specs.Prelude.{All};
 ghost use Rattle.std.specs.Prelude.{IfOk, slice_index, slice_set};
 
 use crate::limits::{MAX_MODELS, MAX_SYMBOLS, SYMBOL_PARTS};
+use crate::near::Near;
 use crate::place::Place;
 use crate::{bank_cells, lookup};
 use std::alloc::{AllocError, Global};
@@ -33,7 +35,8 @@ impl Model for ModelBank {
 impl ModelBank {
     ghost use Rattle.laz_models.specs.Counting.{after_symbol, new_model, part_end, AreStarts};
     ghost use Rattle.laz_models.specs.Dist.{dist, alphabet_size, StandsFor};
-    ghost use Rattle.laz_models.specs.Lookup.{IsLastAt, table_bits};
+    ghost use Rattle.laz_models.specs.Lookup.{IsLastAt, table_bits, search_step};
+    ghost use Rattle.laz_models.specs.Near.{IsNear};
     ghost use Rattle.laz_models.specs.Bank.{model_at, alphabet_sizes};
     ghost use Rattle.laz_models.specs.Sound.{AreSound};
 
@@ -111,6 +114,20 @@ impl ModelBank {
         lookup::entry(&self.cells[place.start..place.end], place, t)
     }
 
+    /// Where a decoder's search for the symbol of model `m` at place `v` or above begins: at the last symbol whose part
+    /// begins at the multiple of the search step at `v` or below.
+    #[inline(always)]
+    pub fn near(&self, m: u32, v: u32) -> Near
+        requires model { m < length self.now }
+        requires below { v < SYMBOL_PARTS }
+        ensures near { let step = search_step (alphabet_size (model_at self.now m))
+            in IsNear (model_at self.now m).starts (v / step * step) result }
+        ensures starts { AreStarts (alphabet_size (model_at self.now m)) (model_at self.now m).starts }
+    {
+        let place = &self.places[m as usize];
+        lookup::near(&self.cells[place.start..place.end], place, v)
+    }
+
     /// Counts symbol `s` of model `m`.
     #[inline]
     pub fn count(&mut self, m: u32, s: u32)
@@ -123,6 +140,22 @@ impl ModelBank {
         ensures sizes { alphabet_sizes self.new ≡ alphabet_sizes self.old }
         ensures sound { AreSound self.new }
     {
-        bank_cells::count_at(&mut self.cells, &mut self.places[m as usize], s);
+        bank_cells::count_at(&mut self.cells, &mut self.places[m as usize], s, false);
+    }
+
+    /// The same as [`count`](Self::count), for a reader: where a cycle begins, a look-up table is written, from which
+    /// [`near`](Self::near) answers.
+    #[inline]
+    pub fn count_read(&mut self, m: u32, s: u32)
+        requires model { m < length self.old }
+        requires symbol { s < alphabet_size (model_at self.old m) }
+        ensures after_symbol { self.new ≡ slice_set self.old m (after_symbol (model_at self.old m) s) }
+        ensures stands { (h : List ℕ) → StandsFor h (model_at self.old m)
+            → StandsFor (h ++ s ∷ []) (model_at self.new m) }
+        ensures others { (k : ℕ) → k ≢ m → model_at self.new k ≡ model_at self.old k }
+        ensures sizes { alphabet_sizes self.new ≡ alphabet_sizes self.old }
+        ensures sound { AreSound self.new }
+    {
+        bank_cells::count_at(&mut self.cells, &mut self.places[m as usize], s, true);
     }
 }

@@ -1,7 +1,7 @@
 //! The cells of all models of a bank.
-ghost use Rattle.std.specs.Prelude.{◌≡◌, ◌^◌, ◌<◌, ◌≤◌, length, map, All, IfOk};
+ghost use Rattle.std.specs.Prelude.{◌≡◌, false, ◌^◌, ◌<◌, ◌≤◌, length, map, All, IfOk};
 ghost use Rattle.laz_models.specs.Counting.{after_symbol};
-ghost use Rattle.laz_models.specs.Lookup.{table_bits, table_length};
+ghost use Rattle.laz_models.specs.Lookup.{search_bits};
 ghost use Rattle.laz_models.specs.Place.{counting_in, as_new, IsShaped, IsPlaced, IsLayout, SamePlace, SameOutside};
 
 use crate::limits::{MAX_MODELS, MAX_SYMBOLS};
@@ -9,31 +9,22 @@ use crate::model_cells;
 use crate::place::Place;
 use std::alloc::{AllocError, Global};
 
-/// How many bits of a position choose an entry of the look-up table.
-fn table_bits(size: u32) -> u32
+/// How many bits of a place choose the symbol from which a search begins.
+fn search_bits(size: u32) -> u32
     requires few { size ≤ MAX_SYMBOLS }
-    ensures { result ≡ table_bits size }
+    ensures { result ≡ search_bits size }
 {
     match size {
-        ..=32 => 3,
-        ..=64 => 4,
-        ..=128 => 5,
-        ..=256 => 6,
-        ..=512 => 7,
-        ..=1024 => 8,
-        _ => 9,
+        ..=8 => 3,
+        ..=16 => 4,
+        ..=32 => 5,
+        ..=64 => 6,
+        ..=128 => 7,
+        ..=256 => 8,
+        ..=512 => 9,
+        ..=1024 => 10,
+        _ => 11,
     }
-}
-
-/// How many entries the look-up table has.
-fn table_length(size: u32) -> usize
-    requires few { size ≤ MAX_SYMBOLS }
-    ensures { result ≡ table_length size }
-{
-    if size <= 16 {
-        return 0;
-    }
-    (1 << table_bits(size)) + 1
 }
 
 /// The place of a new model whose cells begin at `start`.
@@ -44,15 +35,18 @@ fn first_place(start: usize, size: u32) -> Place
     ensures start { result.start ≡ start }
     ensures size { result.size ≡ size }
     ensures remaining { result.remaining ≡ 0 }
+    ensures unindexed { result.indexed ≡ false }
     ensures shape { IsShaped result }
 {
+    let bits = search_bits(size);
     Place {
         start,
-        end: start + 2 * size as usize + table_length(size),
+        end: start + 2 * size as usize + 2 + (1 << bits),
         size,
-        shift: 15 - table_bits(size),
+        shift: 15 - bits,
         total: 0,
         cycle: 0,
+        indexed: false,
         remaining: 0,
     }
 }
@@ -78,6 +72,7 @@ fn reset_places(places: &mut [Place])
     ensures { places.new ≡ map as_new places.old }
 {
     for place in places.iter_mut() {
+        place.indexed = false;
         place.remaining = 0;
     }
 }
@@ -89,10 +84,11 @@ pub fn reset_all(places: &mut Vec<Place>)
     reset_places(places);
 }
 
-/// Counts a symbol of the model at a place, if the model is new or the symbol is the last of its cycle.
+/// Counts a symbol of the model at a place, if the model is new or the symbol is the last of its cycle. `index` says
+/// whether a look-up table is written for the next cycle.
 #[cold]
 #[inline(never)]
-fn count_at_cycle_end(cells: &mut Vec<u32>, place: &mut Place, s: u32)
+fn count_at_cycle_end(cells: &mut Vec<u32>, place: &mut Place, s: u32, index: bool)
     requires placed { IsPlaced place.old cells.old.items }
     requires symbol { s < place.old.size }
     ensures after_symbol { counting_in cells.new.items place.new
@@ -102,12 +98,12 @@ fn count_at_cycle_end(cells: &mut Vec<u32>, place: &mut Place, s: u32)
     ensures others { SameOutside place.old.start place.old.end cells.old.items cells.new.items }
 {
     let own = &mut cells[place.start..place.end];
-    model_cells::count(own, place, s);
+    model_cells::count(own, place, s, index);
 }
 
-/// Counts a symbol of the model at a place.
+/// Counts a symbol of the model at a place. `index` says whether a look-up table is written if a cycle begins.
 #[inline]
-pub fn count_at(cells: &mut Vec<u32>, place: &mut Place, s: u32)
+pub fn count_at(cells: &mut Vec<u32>, place: &mut Place, s: u32, index: bool)
     requires placed { IsPlaced place.old cells.old.items }
     requires symbol { s < place.old.size }
     ensures after_symbol { counting_in cells.new.items place.new
@@ -117,7 +113,7 @@ pub fn count_at(cells: &mut Vec<u32>, place: &mut Place, s: u32)
     ensures others { SameOutside place.old.start place.old.end cells.old.items cells.new.items }
 {
     if place.remaining <= 1 {
-        count_at_cycle_end(cells, place, s);
+        count_at_cycle_end(cells, place, s, index);
         return;
     }
     cells[place.start + s as usize] += 1;

@@ -11,13 +11,17 @@ mod laws;
 mod limits;
 mod lookup;
 mod model_cells;
+mod near;
 mod place;
 mod symbol_model;
 
 pub use bank::ModelBank;
 pub use bit_model::BitModel;
 pub use laws::{cycles_are_due, models_are_sound, models_stand, starts_rise, zero_has_a_part};
-pub use limits::{BIT_PARTS, MAX_BIT_COUNT, MAX_COUNT, MAX_MODELS, MAX_SYMBOLS, SYMBOL_PARTS};
+pub use limits::{
+    BIT_PARTS, GUARD, MAX_BIT_COUNT, MAX_COUNT, MAX_MODELS, MAX_SYMBOLS, SYMBOL_PARTS,
+};
+pub use near::Near;
 pub use symbol_model::SymbolModel;
 
 #[cfg(test)]

@@ -17,3 +17,6 @@ pub const MAX_SYMBOLS: u32 = 2048;
 
 /// The greatest number of models of a bank.
 pub const MAX_MODELS: usize = 1024;
+
+/// The start that stands for none, after the last one of a distribution.
+pub const GUARD: u32 = 0xffff;

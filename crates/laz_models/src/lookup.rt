@@ -1,10 +1,12 @@
 //! The questions that a model answers about its distribution.
-ghost use Rattle.std.specs.Prelude.{◌≡◌, ◌+◌, ◌-◌, ◌*◌, ◌<◌, ◌≤◌, ◌^◌, length, replicate, slice_index};
+ghost use Rattle.std.specs.Prelude.{◌≡◌, ◌+◌, ◌-◌, ◌*◌, ◌/◌, ◌<◌, ◌≤◌, ◌^◌, true, length, replicate, slice_index};
 ghost use Rattle.laz_models.specs.Counting.{starts_of, part_end, AreStarts};
-ghost use Rattle.laz_models.specs.Lookup.{IsLastAt, table_bits};
+ghost use Rattle.laz_models.specs.Lookup.{IsLastAt, table_bits, search_bits, search_step, start_or_guard};
+ghost use Rattle.laz_models.specs.Near.{IsNear};
 ghost use Rattle.laz_models.specs.Place.{starts_in, counting_of, IsShaped, IsLaid, IsModel, extent};
 
-use crate::limits::{MAX_SYMBOLS, SYMBOL_PARTS};
+use crate::limits::{GUARD, MAX_SYMBOLS, SYMBOL_PARTS};
+use crate::near::Near;
 use crate::place::Place;
 
 /// The start of the part of a symbol in a new model.
@@ -102,25 +104,6 @@ fn bisect(starts: &[u32], low: u32, high: u32, v: u32) -> u32
     low
 }
 
-/// Two symbols. The last one whose part begins at `v` or below is at least the first and below the second.
-#[inline]
-fn bounds(cells: &[u32], place: &Place, v: u32) -> (u32, u32)
-    requires shape { IsShaped place.now }
-    requires length { length cells.now ≡ extent place.now.size }
-    requires laid { IsLaid place.now cells.now }
-    requires below { v < SYMBOL_PARTS }
-    ensures order { result.0 < result.1 }
-    ensures within { result.1 ≤ place.now.size }
-    ensures start { slice_index (starts_in place.now.size cells.now) result.0 ≤ v }
-    ensures end { result.1 < place.now.size → v < slice_index (starts_in place.now.size cells.now) result.1 }
-{
-    if place.size <= 16 {
-        return (0, place.size);
-    }
-    let entry = (2 * place.size + (v >> place.shift)) as usize;
-    (cells[entry], cells[entry + 1] + 1)
-}
-
 /// The last symbol whose part begins at `v` or below, in a model that is laid out.
 #[inline]
 fn laid_find(cells: &[u32], place: &Place, v: u32) -> u32
@@ -132,9 +115,8 @@ fn laid_find(cells: &[u32], place: &Place, v: u32) -> u32
     if v >= SYMBOL_PARTS {
         return place.size - 1;
     }
-    let (low, high) = bounds(cells, place, v);
     let size = place.size as usize;
-    bisect(&cells[size..2 * size], low, high, v)
+    bisect(&cells[size..2 * size], 0, place.size, v)
 }
 
 /// The last symbol whose part begins at `v` or below.
@@ -149,16 +131,88 @@ pub fn find(cells: &[u32], place: &Place, v: u32) -> u32
     laid_find(cells, place, v)
 }
 
-/// An entry of the look-up table.
+/// How many bits of a position choose an entry of the look-up table of a reader.
+fn table_bits(size: u32) -> u32
+    requires few { size ≤ MAX_SYMBOLS }
+    ensures { result ≡ table_bits size }
+{
+    match size {
+        ..=32 => 3,
+        ..=64 => 4,
+        ..=128 => 5,
+        ..=256 => 6,
+        ..=512 => 7,
+        ..=1024 => 8,
+        _ => 9,
+    }
+}
+
+/// An entry of the look-up table of a reader.
 #[inline]
 pub fn entry(cells: &[u32], place: &Place, t: u32) -> u32
     requires model { IsModel place.now cells.now }
-    requires many { 16 < place.now.size }
     requires entry { t ≤ 2 ^ table_bits place.now.size }
     ensures { IsLastAt (counting_of place.now cells.now).starts (t * 2 ^ (15 - table_bits place.now.size)) result }
 {
-    if place.remaining == 0 {
-        return first_find(place.size, t << place.shift);
+    find(cells, place, t << (15 - table_bits(place.size)))
+}
+
+/// The start of the part of a symbol, or the guard.
+fn start_or_guard(cells: &[u32], place: &Place, s: u32) -> u32
+    requires { IsModel place.now cells.now }
+    ensures { result ≡ start_or_guard (counting_of place.now cells.now).starts s }
+{
+    if s >= place.size {
+        return GUARD;
     }
-    cells[(2 * place.size + t) as usize]
+    part(cells, place, s).0
+}
+
+/// Where a search begins in a model that has no look-up table.
+#[cold]
+#[inline(never)]
+fn near_without_table(cells: &[u32], place: &Place, v: u32) -> Near
+    requires { IsModel place.now cells.now }
+    ensures { IsNear (counting_of place.now cells.now).starts v result }
+{
+    let symbol = find(cells, place, v);
+    Near {
+        symbol,
+        start: part(cells, place, symbol).0,
+        next: start_or_guard(cells, place, symbol + 1),
+        after: start_or_guard(cells, place, symbol + 2),
+    }
+}
+
+/// Where a search begins in a model that has a look-up table, by an entry of it.
+#[inline(always)]
+fn near_in_table(cells: &[u32], place: &Place, entry: u32) -> Near
+    requires model { IsModel place.now cells.now }
+    requires indexed { place.now.indexed ≡ true }
+    requires entry { entry < 2 ^ search_bits place.now.size }
+    ensures { IsNear (counting_of place.now cells.now).starts (entry * search_step place.now.size) result }
+{
+    let symbol = cells[(2 * place.size + 2 + entry) as usize];
+    let at = (place.size + symbol) as usize;
+    Near {
+        symbol,
+        start: cells[at],
+        next: cells[at + 1],
+        after: cells[at + 2],
+    }
+}
+
+/// Where a search for the symbol at place `v` or above begins.
+#[inline(always)]
+pub fn near(cells: &[u32], place: &Place, v: u32) -> Near
+    requires model { IsModel place.now cells.now }
+    requires below { v < SYMBOL_PARTS }
+    ensures { let step = search_step place.now.size
+        in IsNear (counting_of place.now cells.now).starts (v / step * step) result }
+{
+    let entry = v >> place.shift;
+    if place.indexed {
+        return near_in_table(cells, place, entry);
+    }
+    near_without_table(cells, place, entry << place.shift)
 }

@@ -1,13 +1,15 @@
 //! The cells of one model: its counts, its starts, and its look-up table.
-ghost use Rattle.std.specs.Prelude.{◌≡◌, ℕ, ◌+◌, ◌-◌, ◌*◌, ◌/◌, ◌<◌, ◌≤◌, ◌^◌, length, sum, All, replicate};
+ghost use Rattle.std.specs.Prelude.{◌≡◌, ℕ, ◌+◌, ◌-◌, ◌*◌, ◌/◌, ◌<◌, ◌≤◌, ◌^◌, true, [], ◌∷◌, length, sum, All};
+ghost use Rattle.std.specs.Prelude.{replicate};
 ghost use Rattle.std.specs.Prelude.{slice_index};
 ghost use Rattle.laz_models.specs.Counting.{halves_of, starts_of, AreCounts, AreStarts, after_symbol, new_cycle};
 ghost use Rattle.laz_models.specs.Counting.{small_counts, new_model};
-ghost use Rattle.laz_models.specs.Lookup.{IsLastAt, table_bits};
-ghost use Rattle.laz_models.specs.Place.{counts_in, starts_in, laid_state, counting_of, IsTable, IsShaped, IsLaid};
+ghost use Rattle.laz_models.specs.Lookup.{IsLastAt, search_bits};
+ghost use Rattle.laz_models.specs.Place.{counts_in, starts_in, guards_in, laid_state, counting_of, IsTable, IsShaped};
+ghost use Rattle.laz_models.specs.Place.{IsLaid};
 ghost use Rattle.laz_models.specs.Place.{IsDue, IsModel, SamePlace, extent};
 
-use crate::limits::{MAX_COUNT, MAX_SYMBOLS};
+use crate::limits::{GUARD, MAX_COUNT, MAX_SYMBOLS};
 use crate::place::Place;
 
 /// Halves each count and rounds it up.
@@ -76,22 +78,48 @@ fn write_table(table: &mut [u32], starts: &[u32], shift: u32)
     }
 }
 
-/// Writes the starts of a model and its look-up table.
-fn write_distribution(cells: &mut [u32], size: usize, shift: u32, total: u32)
+/// Writes the look-up table if `index` is set.
+fn write_table_if(table: &mut [u32], starts: &[u32], shift: u32, index: bool)
+    requires some { 0 < length starts.now }
+    requires few { length starts.now ≤ MAX_SYMBOLS }
+    requires starts { AreStarts (length starts.now) starts.now }
+    requires shift { shift ≤ 12 }
+    requires places { length table.old * 2 ^ shift < 2 ^ 17 }
+    ensures { index ≡ true
+        → (t : ℕ) → t < length table.new → IsLastAt starts.now (t * 2 ^ shift) (slice_index table.new t) }
+{
+    if index {
+        write_table(table, starts, shift);
+    }
+}
+
+/// Writes the two guards after the starts.
+fn write_guards(guards: &mut [u32])
+    requires { length guards.old ≡ 2 }
+    ensures { guards.new ≡ replicate 2 GUARD }
+{
+    guards.fill(GUARD);
+}
+
+/// Writes the starts of a model, the guards after them, and its look-up table if `index` is set.
+fn write_distribution(cells: &mut [u32], size: usize, shift: u32, total: u32, index: bool)
     requires counts { AreCounts (counts_in size cells.old) }
     requires length { length cells.old ≡ extent size }
     requires total { total ≡ sum (counts_in size cells.old) }
     requires small { total ≤ MAX_COUNT }
-    requires shift { shift ≡ 15 - table_bits size }
+    requires shift { shift ≡ 15 - search_bits size }
     ensures counts { counts_in size cells.new ≡ counts_in size cells.old }
     ensures starts { starts_in size cells.new ≡ starts_of (counts_in size cells.old) }
     ensures good { AreStarts size (starts_in size cells.new) }
-    ensures table { IsTable size shift cells.new }
+    ensures guards { guards_in size cells.new ≡ GUARD ∷ GUARD ∷ [] }
+    ensures table { index ≡ true → IsTable size shift cells.new }
 {
     let (counts, rest) = cells.split_at_mut(size);
-    let (starts, table) = rest.split_at_mut(size);
+    let (starts, rest) = rest.split_at_mut(size);
+    let (guards, table) = rest.split_at_mut(2);
     write_starts(starts, counts, total);
-    write_table(table, starts, shift);
+    write_guards(guards);
+    write_table_if(table, starts, shift, index);
 }
 
 /// Halves the counts of a model if their sum is above 2^15. Returns their sum.
@@ -113,8 +141,8 @@ fn limit_counts(cells: &mut [u32], size: usize, total: u32) -> u32
     total_of(counts)
 }
 
-/// Ends the cycle of a model and begins the next one.
-fn begin_cycle(cells: &mut [u32], place: &mut Place)
+/// Ends the cycle of a model and begins the next one, with a look-up table if `index` is set.
+fn begin_cycle(cells: &mut [u32], place: &mut Place, index: bool)
     requires shape { IsShaped place.old }
     requires length { length cells.old ≡ extent place.old.size }
     requires due { IsDue place.old cells.old }
@@ -125,7 +153,8 @@ fn begin_cycle(cells: &mut [u32], place: &mut Place)
 {
     let size = place.size as usize;
     place.total = limit_counts(cells, size, place.total + place.cycle);
-    write_distribution(cells, size, place.shift, place.total);
+    write_distribution(cells, size, place.shift, place.total, index);
+    place.indexed = index;
     place.cycle = (8 * (place.size + 6)).min((5 * place.cycle) >> 2);
     place.remaining = place.cycle;
 }
@@ -139,8 +168,8 @@ fn fill_ones(cells: &mut [u32], size: usize)
     counts.fill(1);
 }
 
-/// Lays out a new model.
-fn lay_out(cells: &mut [u32], place: &mut Place)
+/// Lays out a new model, with a look-up table if `index` is set.
+fn lay_out(cells: &mut [u32], place: &mut Place, index: bool)
     requires shape { IsShaped place.old }
     requires length { length cells.old ≡ extent place.old.size }
     ensures new_model { laid_state place.new cells.new ≡ new_model place.old.size }
@@ -150,25 +179,26 @@ fn lay_out(cells: &mut [u32], place: &mut Place)
     let size = place.size as usize;
     fill_ones(cells, size);
     place.total = place.size;
-    write_distribution(cells, size, place.shift, place.total);
+    write_distribution(cells, size, place.shift, place.total, index);
+    place.indexed = index;
     place.cycle = (place.size + 6) >> 1;
     place.remaining = place.cycle;
 }
 
 /// Lays a model out if it is new.
-fn lay_out_if_new(cells: &mut [u32], place: &mut Place)
+fn lay_out_if_new(cells: &mut [u32], place: &mut Place, index: bool)
     requires { IsModel place.old cells.old }
     ensures state { laid_state place.new cells.new ≡ counting_of place.old cells.old }
     ensures good { IsLaid place.new cells.new }
     ensures place { SamePlace place.old place.new }
 {
     if place.remaining == 0 {
-        lay_out(cells, place);
+        lay_out(cells, place, index);
     }
 }
 
 /// Counts a symbol of a model that is laid out.
-fn add(cells: &mut [u32], place: &mut Place, s: u32)
+fn add(cells: &mut [u32], place: &mut Place, s: u32, index: bool)
     requires shape { IsShaped place.old }
     requires length { length cells.old ≡ extent place.old.size }
     requires laid { IsLaid place.old cells.old }
@@ -180,18 +210,18 @@ fn add(cells: &mut [u32], place: &mut Place, s: u32)
     cells[s as usize] += 1;
     place.remaining -= 1;
     if place.remaining == 0 {
-        begin_cycle(cells, place);
+        begin_cycle(cells, place, index);
     }
 }
 
-/// Counts a symbol.
-pub fn count(cells: &mut [u32], place: &mut Place, s: u32)
+/// Counts a symbol. `index` says whether a look-up table is written if a cycle begins.
+pub fn count(cells: &mut [u32], place: &mut Place, s: u32, index: bool)
     requires model { IsModel place.old cells.old }
     requires symbol { s < place.old.size }
     ensures after_symbol { counting_of place.new cells.new ≡ after_symbol (counting_of place.old cells.old) s }
     ensures good { IsModel place.new cells.new }
     ensures place { SamePlace place.old place.new }
 {
-    lay_out_if_new(cells, place);
-    add(cells, place, s);
+    lay_out_if_new(cells, place, index);
+    add(cells, place, s, index);
 }

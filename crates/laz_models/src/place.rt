@@ -9,12 +9,14 @@ pub struct Place {
     pub end: usize,
     /// How many symbols it has.
     pub size: u32,
-    /// How many bits of a position are not used to choose an entry of the look-up table.
+    /// How many bits of a place are not used to choose an entry of the look-up table.
     pub shift: u32,
     /// The sum of the counts at the beginning of the present cycle.
     pub total: u32,
     /// How long the present cycle is.
     pub cycle: u32,
+    /// Whether the look-up table is that of the present cycle.
+    pub indexed: bool,
     /// How many symbols of the cycle are still to come, or 0 if the model is new and its cells are not laid out.
     pub remaining: u32,
 }

@@ -1,8 +1,9 @@
 //! A model of symbols.
-ghost use Rattle.std.specs.Prelude.{◌≡◌, ℕ, ◌+◌, ◌<◌, ◌≤◌, List, [], ◌∷◌, ◌++◌, IfOk, slice_index};
+ghost use Rattle.std.specs.Prelude.{◌≡◌, ℕ, ◌+◌, ◌*◌, ◌/◌, ◌<◌, ◌≤◌, List, [], ◌∷◌, ◌++◌, IfOk, slice_index};
 
 use crate::bank::ModelBank;
 use crate::limits::{MAX_SYMBOLS, SYMBOL_PARTS};
+use crate::near::Near;
 use std::alloc::{AllocError, Global};
 use std::marker::Model;
 
@@ -30,7 +31,8 @@ impl Model for SymbolModel {
 impl SymbolModel {
     ghost use Rattle.laz_models.specs.Counting.{after_symbol, new_model, part_end, AreStarts};
     ghost use Rattle.laz_models.specs.Dist.{dist, alphabet_size, StandsFor};
-    ghost use Rattle.laz_models.specs.Lookup.{IsLastAt};
+    ghost use Rattle.laz_models.specs.Lookup.{IsLastAt, search_step};
+    ghost use Rattle.laz_models.specs.Near.{IsNear};
     ghost use Rattle.laz_models.specs.Sound.{IsSound};
 
     /// Makes a model of `n` symbols, 2 to 2,048.
@@ -81,6 +83,18 @@ impl SymbolModel {
         self.bank.find(0, v)
     }
 
+    /// Where a decoder's search for the symbol at place `v` or above begins: at the last symbol whose part begins at
+    /// the multiple of the search step at `v` or below.
+    #[inline(always)]
+    pub fn near(&self, v: u32) -> Near
+        requires { v < SYMBOL_PARTS }
+        ensures near { let step = search_step (alphabet_size self.now)
+            in IsNear self.now.starts (v / step * step) result }
+        ensures starts { AreStarts (alphabet_size self.now) self.now.starts }
+    {
+        self.bank.near(0, v)
+    }
+
     /// Counts symbol `s`.
     #[inline]
     pub fn count(&mut self, s: u32)
@@ -91,5 +105,18 @@ impl SymbolModel {
         ensures sound { IsSound self.new }
     {
         self.bank.count(0, s);
+    }
+
+    /// The same as [`count`](Self::count), for a reader: where a cycle begins, a look-up table is written, from which
+    /// [`near`](Self::near) answers.
+    #[inline]
+    pub fn count_read(&mut self, s: u32)
+        requires { s < alphabet_size self.old }
+        ensures after_symbol { self.new ≡ after_symbol self.old s }
+        ensures stands { (h : List ℕ) → StandsFor h self.old → StandsFor (h ++ s ∷ []) self.new }
+        ensures size { alphabet_size self.new ≡ alphabet_size self.old }
+        ensures sound { IsSound self.new }
+    {
+        self.bank.count_read(0, s);
     }
 }

@@ -118,12 +118,6 @@ low-is m v values high five_are is values_are high_is =
     let back = ap (drop 1) (five m.values five_are) in
     rw is (same-median _ _ _ _ (values_are ∙ sym (ap (put_in v) back)) high_is)
 
-pub lt-round : (v a : ℤ) → FitsSigned w32 v → FitsSigned w32 a → int_lt (round v) (round a) ≡ int_lt v a
-lt-round v a f g = ap (λ z. int_lt z (round a)) (to_z-of_z w32 v f) ∙ ap (int_lt v) (to_z-of_z w32 a g)
-
-pub le-round : (v a : ℤ) → FitsSigned w32 v → FitsSigned w32 a → int_le (round v) (round a) ≡ int_le v a
-le-round v a f g = ap (λ z. int_le z (round a)) (to_z-of_z w32 v f) ∙ ap (int_le v) (to_z-of_z w32 a g)
-
 le-passed : (a b : ℤ) → FitsSigned w32 a → FitsSigned w32 b → a ≤ℤ b → round a ≤ℤ round b
 le-passed a b f g h = subst (λ (z : ℤ). z ≤ℤ round b) (sym (to_z-of_z w32 a f)) (subst (λ (z : ℤ). a ≤ℤ z) (sym (to_z-of_z w32 b g)) h)
 

@@ -1,11 +1,11 @@
 -- For readers of several events: what each call has read, one after another, is what all of them have read.
-use Rattle.std.proofs.Common.{◌≡◌, ℕ, suc, ◌+◌, ◌<◌, ◌≤◌, List, [], ◌∷◌, ◌++◌, length, false, refl, sym, ap, subst, ◌∙◌, arith, add-one, append_assoc}
+use Rattle.std.proofs.Common.{◌≡◌, ℕ, suc, ◌+◌, ◌<◌, ◌≤◌, List, [], ◌∷◌, ◌++◌, length, false, refl, sym, ap, subst, ◌∙◌, arith, add-one}
 use Rattle.laz_range.specs.Cut.{Cut}
 use Rattle.laz_range.specs.Coding.{Coding, Codes}
 use Rattle.laz_range.specs.Reading.{follow_all}
 use Rattle.laz_range.specs.Choice.{state_after, all_cuts, AreAsked}
-use Rattle.laz_range.specs.Decoding.{Decoding, reading_of, HasRead, ReadsOn, Takes, TakesNone}
-use Rattle.laz_range.proofs.Chain.{Only-then, Only-through, Only-same, Nothing-first, Nothing-second, Nothing-through, Nothing-same}
+use Rattle.laz_range.specs.Decoding.{Decoding, reading_of, Takes, TakesNone}
+use Rattle.laz_range.proofs.Chain.{Only-then, Only-through, Nothing-first, Nothing-second, Nothing-through}
 use Rattle.laz_range.proofs.Loops.{Only-push, Nothing-push, Nothing-more}
 
 -- ---- one choice after another
@@ -63,15 +63,6 @@ pub TakesNone-through : {X Z : Type 0} (f : X → Z) (P : X → Type 0) (Q : Z �
 TakesNone-through f P Q cuts others a b from same h =
     record { nothing = Nothing-through f P Q cuts others (reading_of a) from same h.nothing; bytes = h.bytes; failed = h.failed }
 
--- the same of events that are equal
-pub Takes-same : {X : Type 0} (P : X → Type 0) (cuts others : X → List Cut) (a b : Decoding) (x : X) → ((y : X) → P y → others y ≡ cuts y) → Takes P cuts a b x → Takes P others a b x
-Takes-same P cuts others a b x same h =
-    record { choice = Only-same P cuts others (reading_of a) x (reading_of b) same h.choice; bytes = h.bytes; within = h.within; good = h.good }
-
-pub TakesNone-same : {X : Type 0} (P : X → Type 0) (cuts others : X → List Cut) (a b : Decoding) → ((y : X) → P y → others y ≡ cuts y) → TakesNone P cuts a b → TakesNone P others a b
-TakesNone-same P cuts others a b same h =
-    record { nothing = Nothing-same P cuts others (reading_of a) same h.nothing; bytes = h.bytes; failed = h.failed }
-
 -- a choice among fewer
 pub Takes-fewer : {X : Type 0} (P Q : X → Type 0) (cuts : X → List Cut) (a b : Decoding) (x : X) → Q x → ((y : X) → Q y → P y) → Takes P cuts a b x → Takes Q cuts a b x
 Takes-fewer P Q cuts a b x asked from h =
@@ -81,12 +72,6 @@ Takes-fewer P Q cuts a b x asked from h =
       within = h.within;
       good = h.good;
     }
-
--- one choice after another, whose events together are `all`
-pub Takes-both : {X Y : Type 0} (P : X → Type 0) (Q : X → Y → Type 0) (cuts : X → List Cut) (more : X → Y → List Cut) (all : X × Y → List Cut) (a b c : Decoding) (x : X) (y : Y)
-    → ((z : X × Y) → all z ≡ cuts z.0 ++ more z.0 z.1) → Takes P cuts a b x → Takes (Q x) (more x) b c y → Takes {X = X × Y} (λ z. P z.0 × Q z.0 z.1) all a c (x, y)
-Takes-both {X} {Y} P Q cuts more all a b c x y same f g =
-    Takes-same {X = X × Y} (λ z. P z.0 × Q z.0 z.1) (λ z. cuts z.0 ++ more z.0 z.1) all a c (x, y) (λ z asked. same z) (Takes-then P Q cuts more a b c x y f g)
 
 -- ---- a loop of choices, each under the state that the ones before left
 only_empty : {X : Type 0} (xs : List X) → length xs ≡ 0 → xs ≡ []
@@ -139,10 +124,6 @@ TakesNone-step {S} next P cuts st now i n a b c xs at within f g =
     TakesNone-more next P cuts st (suc i) n a c (omega (arith, within)) (TakesNone-push next P cuts st i a b c xs f here)
 
 -- ---- in the words of what was read
-pub ReadsOn-then : (xs ys : List Cut) (a b c : Decoding) → ReadsOn xs a b → ReadsOn ys b c → ReadsOn (xs ++ ys) a c
-ReadsOn-then xs ys a b c f g events read =
-    let both : HasRead ((events ++ xs) ++ ys) c = g (events ++ xs) (f events read) in
-    subst (λ (cs : List Cut). HasRead cs c) (append_assoc events xs ys) both
 
 -- ---- writing
 pub Codes-none : (a : Coding) → Codes a a []

@@ -1,5 +1,5 @@
 -- The symbols of a distribution are lawful events of one kind. Cited by crates above.
-use Rattle.std.proofs.Common.{◌≡◌, ℕ, ◌+◌, ◌<◌, ◌≤◌, eqb, cond, List, length, get_or, refl, arith, ⊎_elim, inl, inr}
+use Rattle.std.proofs.Common.{◌≡◌, ℕ, zero, suc, ◌+◌, ◌<◌, ◌≤◌, eqb, cond, List, length, get_or, refl, arith, ⊎_elim, inl, inr}
 use Rattle.std.proofs.lemmas.Bool.{cases_lt, cases_eq, cond-true, cond-false, eq-eqb, ne_eqb}
 use Rattle.laz_range.specs.Cut.{IsCut, AreAlike, IsLike, IsDistribution, symbol}
 
@@ -45,3 +45,8 @@ AreAlike-symbols starts s t h within inside =
 
 pub IsLike-symbols : (starts : List ℕ) (s t : ℕ) → IsDistribution starts → s < length starts → t < length starts → IsLike (symbol starts s) (symbol starts t)
 IsLike-symbols starts s t h within inside = (IsCut-symbol starts t h inside, AreAlike-symbols starts s t h within inside)
+
+-- the parts before a symbol are not empty
+pub symbol-le : (starts : List ℕ) (s : ℕ) → IsDistribution starts → s < length starts → s ≤ get_or starts s 0
+symbol-le starts zero h within = omega arith
+symbol-le starts (suc s) h within = omega (arith, symbol-le starts s h (omega arith), h.grows s (suc s) (omega arith) within)

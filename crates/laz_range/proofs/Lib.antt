@@ -9,9 +9,13 @@ pub mod Whole
 pub mod Chain
 pub mod Loops
 pub mod Decodings
+pub mod Ahead
 pub mod Ends
+pub mod Reciprocals
 pub mod Events
 pub mod Distributions
+pub mod Choosing
+pub mod Renewals
 pub mod Examples
 pub mod Composition
 pub mod Refusals

@@ -4,17 +4,13 @@ use Rattle.laz_range.specs.Cut.{Cut, AreCuts}
 use Rattle.laz_range.specs.Reading.{follow_all}
 use Rattle.laz_range.specs.Choice.{state_after, all_cuts, AreAsked}
 use Rattle.laz_range.specs.Decoding.{Decoding, reading_of, NoneBegins, Refuses, Takes, TakesNone}
-use Rattle.laz_range.proofs.Chain.{Nothing-first, Nothing-second, Nothing-through, Nothing-same}
+use Rattle.laz_range.proofs.Chain.{Nothing-first, Nothing-second, Nothing-through}
 use Rattle.laz_range.proofs.Decodings.{SomeIff-at, follow_all-read}
 use Rattle.laz_range.proofs.Loops.{Nothing-push, Nothing-more}
 
 -- a decoder that failed
 pub Refuses-none : {X : Type 0} (P : X → Type 0) (cuts : X → List Cut) (a b : Decoding) → TakesNone P cuts a b → Refuses P cuts a b
 Refuses-none P cuts a b h = record { nothing = h.nothing; bytes = h.bytes }
-
--- a choice among fewer
-pub Refuses-fewer : {X : Type 0} (P Q : X → Type 0) (cuts : X → List Cut) (a b : Decoding) → ((y : X) → Q y → P y) → Refuses P cuts a b → Refuses Q cuts a b
-Refuses-fewer P Q cuts a b from h = record { nothing = λ y s q e. h.nothing y s (from y q) e; bytes = h.bytes }
 
 -- ---- one choice after another: the first is refused, or the second
 pub Refuses-first : {X Y : Type 0} (P : X → Type 0) (Q : X → Y → Type 0) (cuts : X → List Cut) (more : X → Y → List Cut) (a b : Decoding)
@@ -31,21 +27,6 @@ pub Refuses-through : {X Z : Type 0} (f : X → Z) (P : X → Type 0) (Q : Z →
     → ((z : Z) → Q z → (y : X) × P y × (f y ≡ z)) → ((y : X) → P y → others (f y) ≡ cuts y) → Refuses P cuts a b → Refuses Q others a b
 Refuses-through f P Q cuts others a b from same h =
     record { nothing = Nothing-through f P Q cuts others (reading_of a) from same h.nothing; bytes = h.bytes }
-
--- the same of events that are equal
-pub Refuses-same : {X : Type 0} (P : X → Type 0) (cuts others : X → List Cut) (a b : Decoding) → ((y : X) → P y → others y ≡ cuts y) → Refuses P cuts a b → Refuses P others a b
-Refuses-same P cuts others a b same h = record { nothing = Nothing-same P cuts others (reading_of a) same h.nothing; bytes = h.bytes }
-
--- one choice after another, whose events together are `all`
-pub Refuses-both_first : {X Y : Type 0} (P : X → Type 0) (Q : X → Y → Type 0) (cuts : X → List Cut) (more : X → Y → List Cut) (all : X × Y → List Cut) (a b : Decoding)
-    → ((z : X × Y) → all z ≡ cuts z.0 ++ more z.0 z.1) → Refuses P cuts a b → Refuses {X = X × Y} (λ z. P z.0 × Q z.0 z.1) all a b
-Refuses-both_first {X} {Y} P Q cuts more all a b same f =
-    Refuses-same {X = X × Y} (λ z. P z.0 × Q z.0 z.1) (λ z. cuts z.0 ++ more z.0 z.1) all a b (λ z asked. same z) (Refuses-first P Q cuts more a b f)
-
-pub Refuses-both_second : {X Y : Type 0} (P : X → Type 0) (Q : X → Y → Type 0) (cuts : X → List Cut) (more : X → Y → List Cut) (all : X × Y → List Cut) (a b c : Decoding) (x : X)
-    → ((z : X × Y) → all z ≡ cuts z.0 ++ more z.0 z.1) → Takes P cuts a b x → Refuses (Q x) (more x) b c → Refuses {X = X × Y} (λ z. P z.0 × Q z.0 z.1) all a c
-Refuses-both_second {X} {Y} P Q cuts more all a b c x same f g =
-    Refuses-same {X = X × Y} (λ z. P z.0 × Q z.0 z.1) (λ z. cuts z.0 ++ more z.0 z.1) all a c (λ z asked. same z) (Refuses-second P Q cuts more a b c x f g)
 
 -- ---- a loop of choices: one of them is refused
 pub Refuses-push : {S X : Type 0} (next : S → X → S) (P : S → X → Type 0) (cuts : S → X → List Cut) (st : S) (n : ℕ) (a b c : Decoding) (xs : List X)

@@ -6,3 +6,4 @@ pub mod Reading
 pub mod Choice
 pub mod Decoding
 pub mod Input
+pub mod Search

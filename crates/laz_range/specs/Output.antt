@@ -1,6 +1,6 @@
 -- The output of an encoder.
 use Rattle.std.specs.Prelude.{◌≡◌, ℕ, ◌+◌, ◌-◌, ◌*◌, ◌≤◌, List, length, take, drop}
-use Rattle.laz_range.specs.Span.{Span, number}
+use Rattle.laz_range.specs.Span.{Span, number, renormal_step}
 use Rattle.laz_range.specs.Coding.{Coding}
 use Rattle.laz_range.specs.declared.output.Output.{Output}
 
@@ -15,6 +15,10 @@ span_of o = record { low = number (written_bytes o) * 4294967296 + o.base; len =
 -- A span with a greater low end.
 abbrev pub span_from : Span → ℕ → Span
 span_from s from = record { low = s.low + from; len = s.len; shifts = s.shifts }
+
+-- A span with another length, renormalised.
+abbrev pub renewed : Span → ℕ → Span
+renewed s width = renormal_step (renormal_step (renormal_step (record { low = s.low; len = width; shifts = s.shifts })))
 
 -- The room has four more bytes, for the base.
 pub record HasRoom (o : Output) : Type 0 where

@@ -1,7 +1,8 @@
 //! The decoder.
 ghost use Rattle.std.specs.Prelude.{◌≡◌, ℕ, Bool, true, false, ◌+◌, ◌*◌, ◌/◌, ◌<◌, ◌≤◌, ◌^◌, ◌↔◌, ◌⊎◌, ⊤, [], ◌∷◌};
-ghost use Rattle.std.specs.Prelude.{List, IsTrue, IsErr, IfOk, OnOk, OnErr, MatchResult, Option, length, take};
+ghost use Rattle.std.specs.Prelude.{List, IsTrue, IsErr, IfOk, OnOk, OnErr, MatchResult, Option, length, take, nat_le};
 ghost use Rattle.laz_range.specs.Cut.{Cut, Part, Bit, Raw, AreCuts, IsLike, one_event, raw_cuts};
+ghost use Rattle.laz_range.specs.Search.{AreTwo, estimated_place, part_of_two};
 ghost use Rattle.laz_range.specs.Span.{Begins, number, span};
 ghost use Rattle.laz_range.specs.Reading.{quotient, reading_after_part, RefusesPart, RefusesRaw};
 ghost use Rattle.laz_range.specs.Decoding.{HasRead, ReadsOn, NoneBegins, Reads, RunsOut, Takes, TakesNone, bit_of};
@@ -11,6 +12,8 @@ ghost use Rattle.laz_range.specs.Input.{Advances, Stops};
 pub use crate::input::Bad;
 use crate::input::{Input, advance};
 use crate::limits::{BIT_PARTS, MAX_LENGTH, MAX_RAW_BITS, MIN_LENGTH, SYMBOL_PARTS};
+use crate::reciprocal::estimate;
+use crate::search::{either, parts};
 use std::marker::Model;
 
 /// Reads events from borrowed bytes.
@@ -100,6 +103,50 @@ impl<'a> Decoder<'a> {
             hi * unit - from
         };
         self.take_part(from, width)
+    }
+
+    /// A place of 2^15 parts that is at or below the one that the value lies in, and seldom far from it. It takes no
+    /// division: a search for the next symbol begins there.
+    #[inline(always)]
+    pub fn estimate(&self) -> u32
+        requires { self.now.failed ≡ false }
+        ensures is { result ≡ estimated_place self.now.value self.now.len }
+        ensures below { result ≤ symbol_place self.now }
+        ensures within { result < SYMBOL_PARTS }
+    {
+        estimate(self.input.value, self.input.length)
+    }
+
+    /// Whether the value lies at a place of 2^15 parts or above.
+    #[inline(always)]
+    pub fn is_from(&self, place: u32) -> bool
+        requires { self.now.failed ≡ false }
+        ensures { IsTrue result ↔ (place ≤ symbol_place self.now) }
+    {
+        parts(place, self.input.length >> 15) <= self.input.value as u64
+    }
+
+    /// Takes one of two symbols that follow each other, and answers whether it is the second one. Their parts begin at
+    /// `start` and `next` of 2^15 parts, and the second one ends at `after`. The value lies in one of them. A part that
+    /// ends with the interval ends at a guard. Bad means that the bytes run out: no symbol of any distribution with
+    /// this part begins the rest of them.
+    #[inline(always)]
+    pub fn take_either(&mut self, start: u32, next: u32, after: u32) -> Result<bool, Bad>
+        requires good { self.old.failed ≡ false }
+        requires two { AreTwo start next after }
+        requires above { start ≤ symbol_place self.old }
+        requires below { symbol_place self.old < after }
+        ensures choice { IfOk result (λ second. second ≡ nat_le next (symbol_place self.old)) }
+        ensures reads { let part = part_of_two start next after (nat_le next (symbol_place self.old))
+            in MatchResult result
+            (λ _. Takes (IsLike part) one_event self.old self.new part)
+            (λ _. TakesNone (IsLike part) one_event self.old self.new) }
+        ensures bad { let part = part_of_two start next after (nat_le next (symbol_place self.old))
+            in IsErr result ↔ RunsOut self.old part }
+    {
+        let (second, from, width) = either(start, next, after, self.input.length, self.input.value);
+        self.take_part(from, width)?;
+        Ok(second)
     }
 
     /// Takes a bit, where 0 has the first `p0` of 2^13 parts. Bad means that the bytes run out: neither bit begins the

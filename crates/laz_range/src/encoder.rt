@@ -51,6 +51,7 @@ impl Encoder {
 
     /// Codes a symbol whose part is from `lo` up to `hi` of 2^15 parts. The last symbol of a distribution has a `hi` of
     /// 32,768 and also gets what the division of the interval by 2^15 leaves.
+    #[inline(always)]
     pub fn cut15(&mut self, lo: u32, hi: u32)
         requires part { lo < hi }
         requires whole { hi ≤ SYMBOL_PARTS }
@@ -68,6 +69,7 @@ impl Encoder {
     }
 
     /// Codes a bit, where 0 has the first `p0` of 2^13 parts.
+    #[inline(always)]
     pub fn cut13(&mut self, p0: u32, bit: bool)
         requires some { 0 < p0 }
         requires part { p0 < BIT_PARTS }
@@ -102,6 +104,7 @@ impl Encoder {
     }
 
     /// Codes a raw value of at most 19 bits, which is one event. One of at most 16 bits takes at most two bytes.
+    #[inline(always)]
     fn raw_part(&mut self, bits: u32, v: u32)
         requires some { 0 < bits }
         requires few { bits ≤ MAX_RAW_BITS }

@@ -13,9 +13,12 @@ mod carry;
 mod decoder;
 mod encoder;
 mod input;
+mod lacking;
 mod laws;
 mod limits;
 mod output;
+mod reciprocal;
+mod search;
 
 pub use decoder::{Bad, Decoder};
 pub use encoder::Encoder;
@@ -23,7 +26,7 @@ pub use laws::{
     bytes_fit, events_follow, fronts_begin, fronts_fit, one_begins, parts_are_alike,
     shifts_are_few, shifts_grow, spans_lie,
 };
-pub use limits::{BIT_PARTS, MAX_LENGTH, MAX_RAW_BITS, MIN_LENGTH, SYMBOL_PARTS};
+pub use limits::{BIT_PARTS, GUARD, MAX_LENGTH, MAX_RAW_BITS, MIN_LENGTH, SYMBOL_PARTS};
 
 #[cfg(test)]
 mod tests;

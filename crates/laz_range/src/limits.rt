@@ -14,3 +14,7 @@ pub const MAX_LENGTH: u32 = 0xffff_ffff;
 
 /// The least length of the interval between two events, which is 2^24. A shorter one is renormalised.
 pub const MIN_LENGTH: u32 = 0x100_0000;
+
+/// The start that stands for none, after the last one of a distribution: the value lies below it, whatever the length
+/// of the interval is.
+pub const GUARD: u32 = 0xffff;

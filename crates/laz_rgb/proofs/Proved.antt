@@ -12,7 +12,8 @@ use Rattle.laz_integer.specs.Bytes.{byte_difference, byte_plus}
 use Rattle.laz_rgb.specs.Colours.{changes, changes_event, colour_bytes, colour_made, colour_marks, colour_symbols, is_grey, predicted_blue, predicted_green, rgb_kind, symbol_if}
 use Rattle.laz_integer.specs.Bytes.{has_bit}
 use Rattle.laz_rgb.specs.Extra.{all_marked, byte_kind, extra_made, extra_symbols}
-use Rattle.laz_rgb.specs.Laws.{AreBytes, ColoursAreLawful, ColoursAreSpelled, ExtrasAreLawful, ExtrasAreSpelled, OthersLeaveColours, OthersLeaveExtras}
+use Rattle.laz_range.specs.Span.{IsBytes}
+use Rattle.laz_rgb.specs.Laws.{ColoursAreLawful, ColoursAreSpelled, ExtrasAreLawful, ExtrasAreSpelled, OthersLeaveColours, OthersLeaveExtras}
 use Rattle.laz_rgb.proofs.Rowed.{row-few}
 use Rattle.laz_rgb.proofs.Spelled.{colour-ranged, row-six, writer-row}
 use Rattle.laz_rgb.proofs.Extras.{extra-ranged, row-length, symbols-row}
@@ -58,13 +59,13 @@ pub others-leave_extras : OthersLeaveExtras
 others-leave_extras earlier others extras st silent h = record { models = bank-silent byte_kind st.bank earlier others silent h.models; last = h.last }
 
 -- ---- what is written is read back
-made-back : (last now : List ℕ) → AreBytes last → AreBytes now → length now ≡ length last → now ≡ extra_made last (extra_symbols last now)
+made-back : (last now : List ℕ) → IsBytes last → IsBytes now → length now ≡ length last → now ≡ extra_made last (extra_symbols last now)
 made-back [] [] p q e = refl
 made-back [] (c ∷ now) p q e = absurd (omega (arith, e))
 made-back (b ∷ last) [] p q e = absurd (omega (arith, e))
 made-back (b ∷ last) (c ∷ now) p q e =
-    let here : c ≡ byte_plus b (byte_difference b c) = sym (difference-back b c (p 0 b (omega arith)) (q 0 c (omega arith))) in
-    let rest = made-back last now (λ k d lt. p (suc k) d (omega (arith, lt))) (λ k d lt. q (suc k) d (omega (arith, lt))) (omega (arith, e)) in
+    let here : c ≡ byte_plus b (byte_difference b c) = sym (difference-back b c (p 0) (q 0)) in
+    let rest = made-back last now (λ k. p (suc k)) (λ k. q (suc k)) (omega (arith, e)) in
     λ i. here i ∷ rest i
 
 pub extras-spelled : ExtrasAreSpelled
@@ -102,7 +103,7 @@ blue-back true t v from to green_from blue_from g b r green blue same same' grey
     ∙ byte-back v (predicted_blue from to green_from g blue_from) blue_from b (half-small (from + green_from) (to + g) blue_from) blue same'
 blue-back false t v from to green_from blue_from g b r green blue same same' grey = sym (grey refl)
 
-module _ (last now : Colour) (p : AreBytes (colour_bytes last)) (q : AreBytes (colour_bytes now)) where
+module _ (last now : Colour) (p : IsBytes (colour_bytes last)) (q : IsBytes (colour_bytes now)) where
   abbrev sym_of : ℕ
   sym_of = changes last now
 
@@ -132,14 +133,14 @@ module _ (last now : Colour) (p : AreBytes (colour_bytes last)) (q : AreBytes (c
   made-colour : colour_made sym_of last (colour_symbols sym_of last now) ≡ now
   made-colour =
       let u = has_bit 64 sym_of in
-      let r0 = byte-back (has_bit 1 sym_of) last.red_low last.red_low now.red_low (p 0 0 (omega arith)) (q 0 0 (omega arith)) (unmarked (has_bit 1 sym_of) now.red_low last.red_low bits.red_low) in
-      let r1 = byte-back (has_bit 2 sym_of) last.red_high last.red_high now.red_high (p 1 0 (omega arith)) (q 1 0 (omega arith)) (unmarked (has_bit 2 sym_of) now.red_high last.red_high bits.red_high) in
+      let r0 = byte-back (has_bit 1 sym_of) last.red_low last.red_low now.red_low (p 0) (q 0) (unmarked (has_bit 1 sym_of) now.red_low last.red_low bits.red_low) in
+      let r1 = byte-back (has_bit 2 sym_of) last.red_high last.red_high now.red_high (p 1) (q 1) (unmarked (has_bit 2 sym_of) now.red_high last.red_high bits.red_high) in
       let g0 = unmarked (has_bit 4 sym_of) now.green_low last.green_low bits.green_low in
       let g1 = unmarked (has_bit 8 sym_of) now.green_high last.green_high bits.green_high in
-      let gl = green-back u (has_bit 4 sym_of) (predicted_green last.red_low now.red_low last.green_low) last.green_low now.green_low now.red_low (moved-small last.red_low now.red_low last.green_low) (q 2 0 (omega arith)) g0 (λ e. (grey e).0) in
-      let gh = green-back u (has_bit 8 sym_of) (predicted_green last.red_high now.red_high last.green_high) last.green_high now.green_high now.red_high (moved-small last.red_high now.red_high last.green_high) (q 3 0 (omega arith)) g1 (λ e. (grey e).1) in
-      let bl = blue-back u (has_bit 4 sym_of) (has_bit 16 sym_of) last.red_low now.red_low last.green_low last.blue_low now.green_low now.blue_low now.red_low (q 2 0 (omega arith)) (q 4 0 (omega arith)) g0 (unmarked (has_bit 16 sym_of) now.blue_low last.blue_low bits.blue_low) (λ e. (grey e).2) in
-      let bh = blue-back u (has_bit 8 sym_of) (has_bit 32 sym_of) last.red_high now.red_high last.green_high last.blue_high now.green_high now.blue_high now.red_high (q 3 0 (omega arith)) (q 5 0 (omega arith)) g1 (unmarked (has_bit 32 sym_of) now.blue_high last.blue_high bits.blue_high) (λ e. (grey e).3) in
+      let gl = green-back u (has_bit 4 sym_of) (predicted_green last.red_low now.red_low last.green_low) last.green_low now.green_low now.red_low (moved-small last.red_low now.red_low last.green_low) (q 2) g0 (λ e. (grey e).0) in
+      let gh = green-back u (has_bit 8 sym_of) (predicted_green last.red_high now.red_high last.green_high) last.green_high now.green_high now.red_high (moved-small last.red_high now.red_high last.green_high) (q 3) g1 (λ e. (grey e).1) in
+      let bl = blue-back u (has_bit 4 sym_of) (has_bit 16 sym_of) last.red_low now.red_low last.green_low last.blue_low now.green_low now.blue_low now.red_low (q 2) (q 4) g0 (unmarked (has_bit 16 sym_of) now.blue_low last.blue_low bits.blue_low) (λ e. (grey e).2) in
+      let bh = blue-back u (has_bit 8 sym_of) (has_bit 32 sym_of) last.red_high now.red_high last.green_high last.blue_high now.green_high now.blue_high now.red_high (q 3) (q 5) g1 (unmarked (has_bit 32 sym_of) now.blue_high last.blue_high bits.blue_high) (λ e. (grey e).3) in
       let first : colour_made sym_of last (colour_symbols sym_of last now) ≡ with_red now.red_low now.red_high = λ i. with_red (r0 i) (r1 i) in
       first ∙ (λ i. record { red_low = now.red_low; red_high = now.red_high; green_low = gl i; green_high = gh i; blue_low = bl i; blue_high = bh i })
 

@@ -85,9 +85,6 @@ choice-cuts bank x =
     (byte_cuts (mark_at s 2) b2 3 x.1.1.0.0) (byte_cuts (mark_at s 3) (byte_next (mark_at s 2) b2 3 x.1.1.0.0) 4 x.1.1.0.1)
     (byte_cuts (mark_at s 4) b4 5 x.1.1.1.0) (byte_cuts (mark_at s 5) (byte_next (mark_at s 4) b4 5 x.1.1.1.0) 6 x.1.1.1.1))
 
-pub choice-next : (bank : List Counting) (x : ColourChoice) → choice_next bank x ≡ colour_next bank x.0 (choice_symbols x)
-choice-next bank x = refl
-
 pub choice-row : (x : ColourChoice) → IsColourChoice x → IsRow (colour_marks x.0) (choice_symbols x)
 choice-row x h = (h.1.0.0, (h.1.0.1, (h.1.1.0.0, (h.1.1.0.1, (h.1.1.1.0, (h.1.1.1.1, tt))))))
 

@@ -1,5 +1,6 @@
 -- The laws of the items that a chunk needs.
-use Rattle.std.specs.Prelude.{◌≡◌, ℕ, ◌<◌, ◌≤◌, All, false, List, ◌++◌, length}
+use Rattle.std.specs.Prelude.{◌≡◌, ℕ, ◌≤◌, false, List, ◌++◌, length}
+use Rattle.laz_range.specs.Span.{IsBytes}
 use Rattle.laz_integer.specs.Events.{Event, Name, same_text}
 use Rattle.laz_integer.specs.Ranged.{AreRanged}
 use Rattle.laz_integer.specs.Uses.{Silent}
@@ -8,13 +9,9 @@ use Rattle.laz_rgb.specs.Colours.{SpellsColour, colour_bytes, colour_events, rgb
 use Rattle.laz_rgb.specs.Extra.{SpellsExtra, byte_kind, extra_events}
 use Rattle.laz_rgb.specs.Items.{ExtraStands, ExtraState, HasExtraSizes, HasRgbSizes, RgbStands, RgbState}
 
--- Each number is a byte.
-abbrev pub AreBytes : List ℕ → Type 0
-AreBytes bytes = All (λ b. b < 256) bytes
-
 -- A writer's events spell the colour.
 abbrev pub ColoursAreSpelled : Type 0
-ColoursAreSpelled = (last now : Colour) → AreBytes (colour_bytes last) → AreBytes (colour_bytes now)
+ColoursAreSpelled = (last now : Colour) → IsBytes (colour_bytes last) → IsBytes (colour_bytes now)
     → SpellsColour last (colour_events last now) now
 
 -- A spelling of a colour is of lawful events, at most 7, and none under a name of another use.
@@ -32,7 +29,7 @@ OthersLeaveColours = (earlier others : List Event) (colours : List Colour) (st :
 
 -- A writer's events spell the extra bytes.
 abbrev pub ExtrasAreSpelled : Type 0
-ExtrasAreSpelled = (last now : List ℕ) → AreBytes last → AreBytes now → length now ≡ length last
+ExtrasAreSpelled = (last now : List ℕ) → IsBytes last → IsBytes now → length now ≡ length last
     → SpellsExtra last (extra_events last now) now
 
 -- A spelling of extra bytes is of lawful events, at most one a byte, and none under a name of another use.

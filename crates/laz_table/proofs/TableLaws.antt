@@ -100,9 +100,6 @@ stream-held (e ∷ entries) all =
     let fits = bytes-fit (span (cuts_of events)) (after-IsSpan initial_span (cuts_of events) initial_span-IsSpan cuts) in
     (events, spells, Fits-Begins (span (cuts_of events)) (bytes_of (span (cuts_of events))) fits)
 
-start-length : (n : ℕ) → length (little_bytes 4 0 ++ little_bytes 4 n) ≡ 8
-start-length n = refl
-
 table-length : (sizes counts : List ℕ) → length (table_bytes sizes counts) ≡ 8 + length (stream_of (entries_of sizes counts))
 table-length sizes counts = length-append (little_bytes 4 0 ++ little_bytes 4 (length counts)) (stream_of (entries_of sizes counts))
 

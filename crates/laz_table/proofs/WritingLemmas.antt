@@ -8,7 +8,6 @@ use Rattle.laz_range.specs.Cut.{Cut}
 use Rattle.byteorder.specs.Endian.{little_bytes}
 use Rattle.laz_range.specs.Coding.{Coding, Codes}
 use Rattle.laz_range.specs.Span.{after, bytes_of, initial_span, span}
-use Rattle.laz_range.proofs.Composition.{Codes-none}
 use Rattle.laz_range.proofs.Whole.{Codes-append}
 use Rattle.laz_integer.specs.Corrector.{HasBits}
 use Rattle.laz_integer.specs.Events.{Event, cuts_after, cuts_of}
@@ -40,8 +39,6 @@ counted-push (x ∷ sizes) [] s c e = absurd (omega (arith, e))
 counted-push (x ∷ sizes) (y ∷ counts) s c e = ap (λ es. points_entry x ∷ bytes_entry y ∷ es) (counted-push sizes counts s c (omega (arith, e)))
 
 -- ---- one more entry was written
-pub Written-none : (a : Coding) (st : IntState) → IntStands table_use [] st → Written a a st no_entry []
-Written-none a st h = record { codes = Codes-none a; stands = h; numbers = refl }
 
 pub Written-push : (start a b : Coding) (st next : IntState) (l : Latest) (entries : List Entry) (e : Entry) → Written start a st l entries
     → ((earlier : List Event) → IntStands table_use earlier st → Codes a b (cuts_after earlier (entry_events l e)))
@@ -60,9 +57,6 @@ Written-push start a b st next l entries e w codes stands =
 -- ---- numbers of 32 bits as integers
 pub signed-bits : (n : ℕ) → n < 4294967296 → HasBits 32 (signed n)
 signed-bits n h = omega (arith, of_z-to_z w32 n h)
-
-pub signed-fits : (st : IntState) (n : ℕ) → st.bits ≡ 32 → n < 4294967296 → HasBits st.bits (signed n)
-signed-fits st n e h = subst (λ (b : ℕ). HasBits b (signed n)) (sym e) (signed-bits n h)
 
 pub same-events : (bits ctx : ℕ) (p r : ℤ) (b : Bool) (before number : ℕ) → bits ≡ 32 → ctx ≡ context_of b → p ≡ signed before → r ≡ signed number → IntEvents table_use bits ctx p r ≡ number_events b before number
 same-events bits ctx p r b before number e f g h =

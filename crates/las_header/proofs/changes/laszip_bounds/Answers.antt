@@ -1,4 +1,4 @@
-use Rattle.std.proofs.Common.{◌≡◌, ◌∙◌, sym, arith}
+use Rattle.std.proofs.Common.{◌∙◌, sym, arith}
 use Rattle.las_header.proofs.VlrLemmas.{found_within, found_after}
 use Rattle.las_header.specs.Fields.{minor_of}
 use Rattle.las_header.proofs.CauseLemmas.{least_any}

@@ -1,6 +1,6 @@
-use Rattle.std.proofs.Common.{◌≡◌, ℕ, ◌+◌, ◌<◌, ◌≤◌, List, length, subst, sym, ap, ◌∙◌, arith}
+use Rattle.std.proofs.Common.{◌≡◌, ℕ, ◌+◌, List, length, subst, sym, ap, ◌∙◌, arith}
 use Rattle.std.specs.List.{splice}
-use Rattle.las_header.specs.Fields.{point_offset_of, vlr_count_of, format_of, format_byte_of}
+use Rattle.las_header.specs.Fields.{point_offset_of, vlr_count_of, format_byte_of}
 use Rattle.las_header.specs.Vlrs.{vlrs_end}
 use Rattle.las_header.specs.Plain.{with_layout, laszip_vlr, with_vlr}
 use Rattle.las_header.specs.Heads.{PacksHead}

@@ -1,7 +1,6 @@
-use Rattle.std.proofs.Common.{◌≡◌, ℕ, ◌+◌, ◌-◌, ◌≤◌, List, [], ◌++◌, length, take, drop, slice_get, Option, Some, subst, sym, ap, ◌∙◌, arith, length-append, length-drop}
+use Rattle.std.proofs.Common.{◌≡◌, ℕ, ◌+◌, ◌-◌, List, [], length, take, drop, slice_get, subst, sym, ap, ◌∙◌, arith, length-append}
 use Rattle.std.proofs.lemmas.List.{length-take-le}
 use Rattle.std.specs.List.{splice}
-use Rattle.las_header.specs.declared.vlrs.VlrPlace.{VlrPlace}
 use Rattle.las_header.specs.Fields.{point_offset_of, vlr_count_of, format_of}
 use Rattle.las_header.specs.Vlrs.{laszip_vlrs_of, vlr_size}
 use Rattle.las_header.specs.Plain.{with_layout, without_vlr}

@@ -14,6 +14,6 @@ loop-size-preserved c =
     let front : take (i + 1) sizes ≡ take i sizes ++ get_or sizes i 0 ∷ [] = take_more sizes i 0 (omega arith) in
     let few = c.first_place-place.ensures.shape.few in
     record {
-      layout = rw (more, front) (layout-push c.loop-size.places.items (take i sizes) c.loop-size.end (get_or sizes i 0) p c.loop-size.invariant.layout c.first_place-place.ensures.shape c.first_place-place.ensures.size c.first_place-place.ensures.remaining c.first_place-place.ensures.start);
+      layout = rw (more, front) (layout-push c.loop-size.places.items (take i sizes) c.loop-size.end (get_or sizes i 0) p c.loop-size.invariant.layout c.first_place-place.ensures.shape c.first_place-place.ensures.size c.first_place-place.ensures.remaining c.first_place-place.ensures.unindexed c.first_place-place.ensures.start);
       room = omega (arith, c.first_place-place.ensures.shape.extent, c.first_place-place.ensures.start, extent-few p.size few, c.loop-size.invariant.room);
     }

@@ -6,5 +6,5 @@ abbrev pub invariant-loop-size : goal.invariant-loop-size
 invariant-loop-size l =
     record {
       layout : IsLayout l.places.items (take l.size-index l.sizes) l.end;
-      room : l.end ≤ 4609 * l.size-index;
+      room : l.end ≤ 6146 * l.size-index;
     }

@@ -1,14 +1,14 @@
-use Rattle.std.proofs.Common.{◌≡◌, ◌++◌, ◌∙◌, ap, take, length, arith}
+use Rattle.std.proofs.Common.{◌≡◌, ◌^◌, ◌++◌, ◌∙◌, ap, take, length, arith}
 use Rattle.std.proofs.lemmas.List.{take_at, drop_at, length-take-le}
 use Rattle.laz_models.specs.Counting.{AreStarts, starts_of}
-use Rattle.laz_models.specs.Lookup.{table_length}
 use Rattle.laz_models.specs.Place.{counts_in, starts_in}
-use Rattle.laz_models.proofs.Lookups.{table_bits-bounds, table-fits}
+use Rattle.laz_models.specs.Lookup.{search_bits}
+use Rattle.laz_models.proofs.Lookups.{search_bits-bounds, search-whole}
 use Rattle.laz_models.proofs.Parts.{starts_of-AreStarts}
 use Rattle.laz_models.proofs.model_cells.write_distribution.Goals as goal
 
-pub write_table-requires-clause-starts : goal.write_table-requires-clause-starts
-write_table-requires-clause-starts c =
+pub write_table_if-requires-clause-starts : goal.write_table_if-requires-clause-starts
+write_table_if-requires-clause-starts c =
     let counts = counts_in c.args.size c.args.cells.now in
     let size : length counts ≡ c.args.size = length-take-le c.args.size c.args.cells.now (omega (arith, c.requires.length)) in
     let is : c.write_starts.new.starts ≡ starts_of counts = c.write_starts.ensures ∙ ap starts_of c.split_at_mut-counts.ensures.front in
@@ -16,13 +16,13 @@ write_table-requires-clause-starts c =
     let same : length (starts_of counts) ≡ length counts = good.length in
     rw (is, same) good
 
-pub write_table-requires-clause-shift : goal.write_table-requires-clause-shift
-write_table-requires-clause-shift c = omega (arith, c.requires.shift, table_bits-bounds c.args.size)
+pub write_table_if-requires-clause-shift : goal.write_table_if-requires-clause-shift
+write_table_if-requires-clause-shift c = omega (arith, c.requires.shift, search_bits-bounds c.args.size)
 
-pub write_table-requires-clause-places : goal.write_table-requires-clause-places
-write_table-requires-clause-places c =
-    let rest : length c.split_at_mut-starts.result.1.now ≡ table_length c.args.size = omega (arith, c.split_at_mut-starts.ensures.back_len, c.split_at_mut-counts.ensures.back_len, c.requires.length) in
-    rw (rest, c.requires.shift) (table-fits c.args.size)
+pub write_table_if-requires-clause-places : goal.write_table_if-requires-clause-places
+write_table_if-requires-clause-places c =
+    let rest : length c.split_at_mut-guards.result.1.now ≡ 2 ^ search_bits c.args.size = omega (arith, c.split_at_mut-guards.ensures.back_len, c.split_at_mut-starts.ensures.back_len, c.split_at_mut-counts.ensures.back_len, c.requires.length) in
+    rw (rest, c.requires.shift) (omega (arith, search-whole c.args.size))
 
 pub returns-clause-good : goal.returns-clause-good
 returns-clause-good c =
@@ -30,7 +30,7 @@ returns-clause-good c =
     let size : length counts ≡ c.args.size = length-take-le c.args.size c.args.cells.now (omega (arith, c.requires.length)) in
     let is : c.write_starts.new.starts ≡ starts_of counts = c.write_starts.ensures ∙ ap starts_of c.split_at_mut-counts.ensures.front in
     let good : AreStarts (length counts) (starts_of counts) = starts_of-AreStarts counts c.requires.counts (omega (arith, c.requires.total)) in
-    let here : starts_in c.args.size (c.split_at_mut-counts.result.0.now ++ (c.write_starts.new.starts ++ c.write_table.new.table)) ≡ starts_of counts =
-    ap (take c.args.size) (drop_at c.split_at_mut-counts.result.0.now (c.write_starts.new.starts ++ c.write_table.new.table) c.args.size c.split_at_mut-counts.ensures.front_len)
-    ∙ (take_at c.write_starts.new.starts c.write_table.new.table c.args.size (c.write_starts.auto.starts ∙ c.split_at_mut-starts.ensures.front_len) ∙ is) in
+    let here : starts_in c.args.size (c.split_at_mut-counts.result.0.now ++ (c.write_starts.new.starts ++ (c.write_guards.new.guards ++ c.write_table_if.new.table))) ≡ starts_of counts =
+    ap (take c.args.size) (drop_at c.split_at_mut-counts.result.0.now (c.write_starts.new.starts ++ (c.write_guards.new.guards ++ c.write_table_if.new.table)) c.args.size c.split_at_mut-counts.ensures.front_len)
+    ∙ (take_at c.write_starts.new.starts (c.write_guards.new.guards ++ c.write_table_if.new.table) c.args.size (c.write_starts.auto.starts ∙ c.split_at_mut-starts.ensures.front_len) ∙ is) in
     rw here (rw size at good)

@@ -1,26 +1,17 @@
-use Rattle.std.proofs.Common.{refl, lit≤, arith}
-use Rattle.std.proofs.lemmas.Result.{err_from_is_err_and, on_ok_weaker}
-use Rattle.laz_range.specs.Reading.{reading_after_part}
+use Rattle.std.proofs.Common.{arith}
+use Rattle.laz_range.proofs.Ahead.{reads_ahead, long_ahead, below_ahead}
 use Rattle.laz_range.proofs.input.advance.Goals as goal
 
-pub returns-in_err-refill-clause-reads : goal.returns-in_err-refill-clause-reads
-unfolding reading_after_part
-returns-in_err-refill-clause-reads c =
-    let p = err_from_is_err_and c.from_residual.result c.from_residual.ensures.1 in
-    rw (p.1, c.in_err-refill.ensures.reads) refl
-
-pub returns-in_err-refill-2-clause-reads : goal.returns-in_err-refill-2-clause-reads
-unfolding reading_after_part
-returns-in_err-refill-2-clause-reads c =
-    let p = err_from_is_err_and c.from_residual-in_err-refill-2.result c.from_residual-in_err-refill-2.ensures.1 in
-    rw (p.1, c.in_ok-refill.ensures.reads, c.in_err-refill-2.ensures.reads) refl
-
 pub returns-clause-reads : goal.returns-clause-reads
-unfolding reading_after_part
-returns-clause-reads c = rw (c.in_ok-refill.ensures.reads, c.in_ok-refill-2.ensures.reads) c.refill-3.ensures.reads
+returns-clause-reads c =
+    let w = c.args.input.now in
+    rw (c.with_bytes_of-input.ensures, c.word_at-ahead.ensures.number)
+    (reads_ahead w.value w.length c.args.from c.args.width c.bytes_lacking-more.result w.taken w.bytes.now c.word_at-ahead.ensures.bytes (omega arith) (omega arith) (omega arith) c.bytes_lacking-more.ensures.lacking)
+
+pub returns-clause-below : goal.returns-clause-below
+returns-clause-below c =
+    rw c.with_bytes_of-input.ensures
+    (below_ahead _ c.args.width c.word_at-ahead.result c.bytes_lacking-more.result (omega arith) (omega arith) (omega arith) c.bytes_lacking-more.ensures.lacking)
 
 pub returns-clause-long : goal.returns-clause-long
-returns-clause-long c =
-    on_ok_weaker c.refill-3.result
-    (λ longer. longer 65536 (lit≤ tt) (c.in_ok-refill-2.ensures.longer 256 (lit≤ tt) (c.in_ok-refill.ensures.longer 1 (lit≤ tt) (omega arith))))
-    c.refill-3.ensures.longer
+returns-clause-long c = long_ahead c.args.width c.bytes_lacking-more.result (omega arith) (omega arith) c.bytes_lacking-more.ensures.lacking

@@ -1,11 +1,5 @@
-use Rattle.std.proofs.Common.{arith}
 use Rattle.laz_models.proofs.Banks.{at}
 use Rattle.laz_models.proofs.bank.ModelBank.entry.Goals as goal
-
-pub entry-requires-clause-many : goal.entry-requires-clause-many
-entry-requires-clause-many c =
-    let a = at c.args.self.now c.self.inside.places.items c.self.inside.cells.items c.args.m c.index-place.result.now c.self.view_is c.self.invariant c.requires.model c.index-place.ensures in
-    omega (arith, a.size, c.requires.many)
 
 pub entry-requires-clause-entry : goal.entry-requires-clause-entry
 entry-requires-clause-entry c =

@@ -1,6 +1,6 @@
 use Rattle.std.proofs.Common.{arith}
 use Rattle.laz_models.proofs.Lookups.{table_bits-sum, counts-one, counts-none}
-use Rattle.laz_models.proofs.bank_cells.table_bits.Goals as goal
+use Rattle.laz_models.proofs.lookup.table_bits.Goals as goal
 
 pub returns-in-0-to-32 : goal.returns-in-0-to-32
 returns-in-0-to-32 c =

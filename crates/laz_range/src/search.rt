@@ -1,0 +1,45 @@
+//! The symbol whose part holds the value, by products in place of a division.
+ghost use Rattle.std.specs.Prelude.{◌≡◌, ◌+◌, ◌*◌, ◌/◌, ◌<◌, ◌≤◌, nat_le, if◌then◌else◌};
+ghost use Rattle.laz_range.specs.Cut.{start_in, width_in};
+ghost use Rattle.laz_range.specs.Search.{AreTwo, part_of_two};
+
+use crate::limits::{MIN_LENGTH, SYMBOL_PARTS};
+
+/// A number of parts, as a length.
+#[inline(always)]
+pub fn parts(count: u32, unit: u32) -> u64
+    ensures { result ≡ count * unit }
+{
+    count as u64 * unit as u64
+}
+
+/// One of two lengths.
+#[inline(always)]
+fn choose(second: bool, yes: u64, no: u64) -> u64
+    ensures { result ≡ if second then yes else no }
+{
+    if second { yes } else { no }
+}
+
+/// Whether the value lies in the second of two parts, where its part begins, and how long that is.
+// The values are chosen. A branch would be mispredicted.
+#[inline(always)]
+pub fn either(start: u32, next: u32, after: u32, len: u32, value: u32) -> (bool, u32, u32)
+    requires two { AreTwo start next after }
+    requires above { start ≤ value / (len / SYMBOL_PARTS) }
+    requires below { value / (len / SYMBOL_PARTS) < after }
+    requires value { value < len }
+    requires long { MIN_LENGTH ≤ len }
+    ensures second { result.0 ≡ nat_le next (value / (len / SYMBOL_PARTS)) }
+    ensures from { result.1 ≡ start_in len (part_of_two start next after result.0) }
+    ensures width { result.2 ≡ width_in len (part_of_two start next after result.0) }
+    ensures above { result.1 ≤ value }
+    ensures below { value < result.1 + result.2 }
+{
+    let unit = len >> 15;
+    let middle = parts(next, unit);
+    let second = middle <= value as u64;
+    let low = choose(second, middle, parts(start, unit));
+    let high = choose(second, parts(after, unit), middle).min(len as u64);
+    (second, low as u32, (high - low) as u32)
+}
