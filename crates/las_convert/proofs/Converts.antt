@@ -1,5 +1,5 @@
 -- What converting a whole file gives.
-use Rattle.std.proofs.Common.{◌≡◌, ◌⊎◌, inl, inr, ℕ, zero, suc, ◌+◌, ◌%◌, ◌<◌, ◌≤◌, Bool, true, false, List, [], ◌∷◌, ◌++◌, length, take, drop, slice_get, Option, Some, None, refl, sym, ◌∙◌, ap, subst, length-append, arith}
+use Rattle.std.proofs.Common.{◌≡◌, inl, inr, ℕ, zero, suc, ◌%◌, ◌<◌, ◌≤◌, Bool, true, false, List, [], ◌∷◌, ◌++◌, length, take, drop, slice_get, Option, Some, None, refl, sym, ◌∙◌, ap, subst, length-append, arith}
 use Rattle.std.specs.Prelude.{All}
 use Rattle.std.specs.List.{concat}
 use Rattle.std.proofs.lemmas.Bool.{cases_lt}
@@ -21,7 +21,7 @@ use Rattle.laz_file.proofs.Putting.{concat-append}
 use Rattle.laz_file.proofs.Whole.{not_bad_before}
 use Rattle.laz_file.proofs.WholeOutputs.{all_records, records_before}
 use Rattle.las_convert.specs.Adding.{Adds, cut_all}
-use Rattle.las_convert.specs.Converting.{AreFirstRecords, ConvertsTo, Keeps, OnlyConverts, kept_in}
+use Rattle.las_convert.specs.Converting.{ConvertsTo, Keeps, OnlyConverts, kept_in}
 use Rattle.las_convert.proofs.Adding.{adds_all, kept_from, refused_at}
 use Rattle.las_convert.proofs.Only.{HasRecords, early_refused, even_front, fewer_first, first_kept, more_first, raw_clash, same_refused, stays_in}
 
@@ -151,6 +151,7 @@ module _ (plan : Steps) (first : ReaderSeen) (file : List ℕ) (st : StandsFor f
           let b = begins_with ys bad read in
           let raw : (kept_in plan file ys).raw_range ≡ Some (length ones) = ap (λ (k : Kept). k.raw_range) (ap (kept_in plan file) b.1 ∙ stays_in plan file has xs b.0 (length ones) even (raw_is ones true adds)) ∙ raw_is ones true adds in
           raw_clash (length ones) (kept_in plan file ys).raw_range raw none
+
       only : (others : List ℕ) (other : Option Refusal) → ConvertsTo plan file others other → (others ≡ concat ones) × (other ≡ Some (RawRange (length ones)))
       only others None c = absurd (never_read c.0 None (read_here c.1.0 c.0 None c.1.1 c.1.2) c.2.raw_range_is)
       only others (Some (BadChunk i)) c = absurd (never_read c.0 (Some i) (read_here c.1.0 c.0 (Some i) c.1.1 c.1.2) c.2.raw_range_is)

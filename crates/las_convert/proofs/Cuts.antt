@@ -1,9 +1,8 @@
 -- Records that are cut off one after another.
-use Rattle.std.proofs.Common.{◌≡◌, ℕ, zero, suc, true, false, Option, Some, None, ◌+◌, ◌*◌, ◌-◌, ◌/◌, ◌%◌, ◌<◌, ◌≤◌, List, [], ◌∷◌, ◌++◌, length, take, drop, refl, sym, ◌∙◌, ap, subst, append_assoc, length-append, arith}
+use Rattle.std.proofs.Common.{◌≡◌, ℕ, zero, suc, true, false, Some, None, ◌+◌, ◌*◌, ◌-◌, ◌/◌, ◌%◌, ◌<◌, ◌≤◌, List, [], ◌∷◌, ◌++◌, length, take, drop, refl, sym, ◌∙◌, ap, subst, append_assoc, length-append, arith}
 use Rattle.std.specs.List.{concat}
-use Rattle.std.proofs.lemmas.List.{append-nil, drop-drop, length-drop, length-take-le, take-append-le, take_at}
+use Rattle.std.proofs.lemmas.List.{append-nil, drop-drop}
 use Rattle.std.proofs.Math.Nat.{div-add-mod, mul-le-mul_left}
-use Rattle.std.proofs.Math.Seq.{take-append-add}
 use Rattle.las_header.specs.Plain.{cut_records}
 use borrow.Rule.Slice.PartMut.{put_mid}
 use Rattle.std.proofs.lemmas.Slice.{take-put_mid, take-put_mid_below}
@@ -87,8 +86,7 @@ module _ (plan : Steps) (size t at : ℕ) (block buffer rest point : List ℕ) (
       let here = subst (λ (rs : List (List ℕ)). Adds plan rs so.ones true) (sym next) (subst (λ (os : List (List ℕ)). Adds plan (cut_records size t block ++ point ∷ []) os true) (append-nil so.ones) both) in
       let all : (t + 1) + (n - (t + 1)) ≡ n = omega arith in
       let others = cut_records size (n - (t + 1)) (drop (size * (t + 1)) block) in
-      let whole : cut_records size (t + 1) block ++ others ≡ cut_records size n block = sym (cut_rest size (t + 1) (n - (t + 1)) block) ∙ ap (λ (m : ℕ). cut_records size m block) all in
-      (
+      let whole : cut_records size (t + 1) block ++ others ≡ cut_records size n block = sym (cut_rest size (t + 1) (n - (t + 1)) block) ∙ ap (λ (m : ℕ). cut_records size m block) all in (
         so.ones,
         take-put_mid_below at k buffer new at (omega arith) within ∙ so.bytes,
         so.size_is,

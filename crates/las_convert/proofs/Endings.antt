@@ -1,8 +1,8 @@
 -- How an output ends that records are converted into.
-use Rattle.std.proofs.Common.{◌≡◌, ◌⊎◌, inl, inr, ℕ, Bool, true, false, cond, List, [], ◌++◌, length, take, Option, Some, None, Result, IfErr, refl, sym, ◌∙◌, ap, subst, append_assoc}
+use Rattle.std.proofs.Common.{◌≡◌, ◌⊎◌, ℕ, Bool, true, false, cond, List, [], ◌++◌, length, take, Option, Some, None, Result, IfErr, refl, sym, ◌∙◌, ap, subst}
 use Rattle.std.specs.List.{concat}
 use Rattle.std.proofs.lemmas.List.{append-nil, take_all}
-use Rattle.std.proofs.Common.{◌≤◌, arith}
+use Rattle.std.proofs.Common.{arith}
 use Rattle.las_header.specs.declared.refusal.Refusal.{Refusal}
 use Rattle.las_header.specs.declared.refusal.Refusal.TheVariants.{RawRange}
 use Rattle.las_header.specs.Fields.{is_packed, record_length_of}
@@ -14,7 +14,7 @@ use Rattle.las_outside.specs.Files.{FileMap, with_file}
 use Rattle.las_outside.specs.Outside.{Outside, with_bytes}
 use Rattle.laz_file.specs.declared.fault.Fault.{Fault}
 use Rattle.laz_file.specs.declared.fault.Fault.TheVariants.{Refused, Read, Write, Memory}
-use Rattle.laz_file.specs.Copying.{EndsAfter, HasCause, HoldFirst, LeavesUnfinished, with_reads}
+use Rattle.laz_file.specs.Copying.{HasCause, HoldFirst, LeavesUnfinished, with_reads}
 use Rattle.laz_file.specs.Outputs.{Output, draft_of, finished, front, patches_of, stopped}
 use Rattle.laz_file.specs.Reading.{ReaderSeen}
 use Rattle.laz_file.specs.Writing.{Stands, Stops, WriterSeen}

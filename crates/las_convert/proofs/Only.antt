@@ -1,9 +1,9 @@
 -- What converting gives is the only thing that it can give.
-use Rattle.std.proofs.Common.{◌≡◌, ◌⊎◌, inl, inr, ℕ, zero, suc, ◌+◌, ◌*◌, ◌-◌, ◌%◌, ◌<◌, ◌≤◌, Bool, true, false, cond, not, ◌||◌, List, [], ◌∷◌, ◌++◌, length, map, take, drop, Option, Some, None, is_some, refl, sym, ◌∙◌, ap, subst, append_assoc, length-append, arith}
+use Rattle.std.proofs.Common.{◌≡◌, inl, inr, ℕ, zero, suc, ◌+◌, ◌-◌, ◌%◌, ◌<◌, ◌≤◌, Bool, true, false, cond, not, ◌||◌, List, [], ◌∷◌, ◌++◌, length, take, drop, Option, Some, None, is_some, refl, sym, ◌∙◌, ap, subst, append_assoc, arith}
 use Rattle.std.specs.Prelude.{All}
 use Rattle.std.specs.List.{concat}
 use Rattle.std.proofs.lemmas.Bool.{cases_lt}
-use Rattle.std.proofs.lemmas.List.{append-nil, length-drop, length-take, take-append-drop, take_all}
+use Rattle.std.proofs.lemmas.List.{append-nil, take-append-drop}
 use Rattle.std.proofs.Math.Seq.{take-add}
 use Rattle.las_header.specs.Fields.{head_of, record_length_of}
 use Rattle.las_filter.specs.Filters.{keeps_all}
@@ -11,13 +11,13 @@ use Rattle.las_filter.specs.Changes.{changed}
 use Rattle.las_filter.specs.Kept.{Kept, Steps, kept, kept_and}
 use Rattle.las_filter.proofs.Keeping.{grows}
 use Rattle.laz_file.specs.Pieces.{Piece}
-use Rattle.laz_file.specs.Records.{HoldBlocks, HoldOnly, IsBadPiece}
+use Rattle.laz_file.specs.Records.{HoldBlocks, HoldOnly}
 use Rattle.laz_file.proofs.Joins.{hold-append}
 use Rattle.laz_file.proofs.Putting.{concat-append}
 use Rattle.laz_file.proofs.Pushing.{cut-append}
 use Rattle.las_convert.specs.Adding.{Adds, cut_all}
 use Rattle.las_convert.specs.Converting.{kept_in}
-use Rattle.las_convert.proofs.Adding.{adds_all, kept_from, refused_at, stays_all}
+use Rattle.las_convert.proofs.Adding.{adds_all, stays_all}
 use Rattle.las_convert.proofs.Going.{cut_none, even_all}
 
 -- ---- blocks of some first pieces, and of others

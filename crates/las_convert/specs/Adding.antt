@@ -5,7 +5,7 @@ use Rattle.std.specs.List.{concat}
 use Rattle.las_header.specs.declared.refusal.Refusal.{Refusal}
 use Rattle.las_header.specs.declared.refusal.Refusal.TheVariants.{RawRange}
 use Rattle.las_header.specs.Plain.{cut_records}
-use Rattle.las_filter.specs.Kept.{Kept, Steps, kept}
+use Rattle.las_filter.specs.Kept.{Steps, kept}
 use Rattle.las_outside.specs.Files.{FileMap}
 use Rattle.las_outside.specs.Outside.{Outside}
 use Rattle.laz_file.specs.Copying.{EndsAfter, LeavesPart, Takes}

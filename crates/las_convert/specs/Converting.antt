@@ -39,8 +39,9 @@ pub record AreFirstRecords (file : List ℕ) (blocks : List (List ℕ)) : Type 0
   pub number : ℕ
   pub hold : HoldBlocks file (take number pieces) blocks
 
--- The records that a plan keeps of an accepted file, one after another, and the refusal that ends them, if there is one:
--- the first bad chunk, or the number of the first kept record with a coordinate out of range, whichever comes first.
+-- The records that a plan keeps of an accepted file, one after another, and the refusal that ends them, if there is
+-- one: the first bad chunk, or the number of the first kept record with a coordinate out of range, whichever comes
+-- first.
 abbrev pub ConvertsTo : Steps → (file records : List ℕ) → Option Refusal → Type 0
 ConvertsTo plan file records None =
     (blocks : List (List ℕ)) × AreRecordsOf file blocks None × Keeps plan file blocks records None
@@ -67,8 +68,8 @@ abbrev pub records_read : ReaderSeen → (blocks : List (List ℕ)) → List (Li
 records_read reader blocks = cut_all (record_length_of reader.head.bytes) (concat blocks)
 
 -- All records that a reader has left were converted into an output, and it was finished.
-pub record FinishesKept (known was now : Option FileMap) (plan : Steps) (reader : ReaderSeen) (out : Output) (bytes : List ℕ)
-    : Type 0 where
+pub record FinishesKept (known was now : Option FileMap) (plan : Steps) (reader : ReaderSeen) (out : Output)
+    (bytes : List ℕ) : Type 0 where
   pub blocks : List (List ℕ)
   pub ones : List (List ℕ)
   pub hold : HoldFirst known reader (length reader.left) blocks
@@ -76,8 +77,8 @@ pub record FinishesKept (known was now : Option FileMap) (plan : Steps) (reader 
   pub now_is : now ≡ with_file was out.name (finished out (bytes ++ concat ones))
 
 -- The records before a refusal were converted into an output, and it was stopped.
-pub record RefusesKept (known was now : Option FileMap) (plan : Steps) (reader : ReaderSeen) (out : Output) (bytes : List ℕ)
-    (cause : Refusal) : Type 0 where
+pub record RefusesKept (known was now : Option FileMap) (plan : Steps) (reader : ReaderSeen) (out : Output)
+    (bytes : List ℕ) (cause : Refusal) : Type 0 where
   pub n : ℕ
   pub blocks : List (List ℕ)
   pub ones : List (List ℕ)

@@ -1,5 +1,6 @@
 //! Whole files through a plan.
-ghost use Rattle.std.specs.Prelude.{◌≡◌, ◌≢◌, ◌⊎◌, ◌≤◌, ◌<◌, ◌++◌, [], ℕ, List, Option, All, false, None, Some, IfErr, IfOk};
+ghost use Rattle.std.specs.Prelude.{◌≡◌, ◌≢◌, ◌⊎◌, ◌≤◌, ◌<◌, ◌++◌, [], ℕ, List, Option, All, false, None, Some};
+ghost use Rattle.std.specs.Prelude.{IfErr, IfOk};
 ghost use Rattle.std.specs.Prelude.{IsErrOf, OnOk};
 ghost use Rattle.std.specs.Option.{ForSome};
 ghost use Rattle.las_header.specs.declared.refusal.Refusal.{Refusal};
@@ -15,7 +16,8 @@ ghost use Rattle.laz_file.specs.Copying.{CanTake, HasCause, LeavesUnfinished};
 ghost use Rattle.laz_file.specs.Outputs.{Output, finished, stopped};
 ghost use Rattle.laz_file.specs.Reading.{AgreesWithHead, IsCrewOf, IsNewReader, StandsFor};
 ghost use Rattle.laz_file.specs.Writing.{SameFaults, Stands};
-ghost use Rattle.las_convert.specs.Converting.{ConvertsTo, EndsConverting, FinishesKept, OnlyConverts, converted_output};
+ghost use Rattle.las_convert.specs.Converting.{ConvertsTo, EndsConverting, FinishesKept, OnlyConverts};
+ghost use Rattle.las_convert.specs.Converting.{converted_output};
 ghost use Rattle.las_convert.specs.Converting.{output_of};
 
 use crate::copying::{convert_records, grow};
@@ -103,7 +105,17 @@ fn fill<R: Threads + Sync, F: Files, G: Gate>(
     ensures later { Later (F.seen files.old) (F.seen files.new) }
 {
     let mut writer = writer;
-    match convert_records(rt, alloc, files, gate, plan, reader, crew, buffer, &mut writer)? {
+    match convert_records(
+        rt,
+        alloc,
+        files,
+        gate,
+        plan,
+        reader,
+        crew,
+        buffer,
+        &mut writer,
+    )? {
         None => {
             writer.finish(rt, alloc, files, gate)?;
             Ok(())
@@ -119,11 +131,11 @@ fn fill<R: Threads + Sync, F: Files, G: Gate>(
 /// input's plain head with their own counts. It is packed in chunks of `chunk` points, 256 to 250,000, or plain.
 /// `workers`, 1 to 8, unpack and pack side by side, and what is written does not depend on them.
 ///
-/// The answer is `Refused` with `BadChunk` if a chunk holds no records of its count, or with `RawRange` if a kept record,
-/// counted from 0, has a coordinate that leaves its range: the first of these in the order of the records. The output
-/// then holds its head and all that is kept before it, of a packed output in full chunks. The answer is `Read` or `Write`
-/// if such a call failed; then the files are as before, or the output is a prefix of its draft, or its draft after a part
-/// of its patches.
+/// The answer is `Refused` with `BadChunk` if a chunk holds no records of its count, or with `RawRange` if a kept
+/// record, counted from 0, has a coordinate that leaves its range: the first of these in the order of the records. The
+/// output then holds its head and all that is kept before it, of a packed output in full chunks. The answer is `Read`
+/// or `Write` if such a call failed; then the files are as before, or the output is a prefix of its draft, or its draft
+/// after a part of its patches.
 pub fn convert<R: Threads + Sync, F: Files, G: Gate>(
     rt: &R,
     alloc: Global,
@@ -169,6 +181,14 @@ pub fn convert<R: Threads + Sync, F: Files, G: Gate>(
     let mut crew = reader.crew(alloc, workers)?;
     let writer = begin(alloc, files, &reader, output, chunk, workers)?;
     fill(
-        rt, alloc, files, gate, plan, &mut reader, &mut crew, &mut buffer, writer,
+        rt,
+        alloc,
+        files,
+        gate,
+        plan,
+        &mut reader,
+        &mut crew,
+        &mut buffer,
+        writer,
     )
 }

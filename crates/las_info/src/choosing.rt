@@ -1,5 +1,6 @@
 //! Taps that are chosen by their names.
-ghost use Rattle.std.specs.Prelude.{◌≡◌, ◌<◌, ℕ, List, IfOk, IsSome, All, Some, find, length, slice_index_or, string_bytes, false, true};
+ghost use Rattle.std.specs.Prelude.{◌≡◌, ◌<◌, ℕ, List, IfOk, IsSome, All, Some, find, length, slice_index_or};
+ghost use Rattle.std.specs.Prelude.{string_bytes, false, true};
 ghost use Rattle.std.specs.List.{AllPairs, AllZip};
 ghost use Rattle.std.specs.Str.{bytes_eq};
 

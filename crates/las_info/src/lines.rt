@@ -9,7 +9,11 @@ use itoa::Buffer;
 use std::alloc::AllocError;
 
 /// Adds a line of a word and numbers.
-pub(crate) fn push_numbers(text: &mut Vec<u8>, word: &[u8], numbers: &[u64]) -> Result<(), AllocError>
+pub(crate) fn push_numbers(
+    text: &mut Vec<u8>,
+    word: &[u8],
+    numbers: &[u64],
+) -> Result<(), AllocError>
     ensures { OnOk result (text.new.items ≡ text.old.items ++ number_line word.now numbers.now) }
 {
     text.extend_from_slice(word)?;

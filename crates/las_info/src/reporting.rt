@@ -233,8 +233,8 @@ fn text_of(
 }
 
 /// Puts the report of a file with this head, whose records the survey was shown, by one call: the head, the counts and
-/// the ranges of the records, and each tap of the survey. `chunk` is the chunk size and the number of chunks of a packed
-/// file, and `None` of a plain one.
+/// the ranges of the records, and each tap of the survey. `chunk` is the chunk size and the number of chunks of a
+/// packed file, and `None` of a plain one.
 pub fn report<O: Sink>(
     alloc: Global,
     survey: &Survey,

@@ -12,9 +12,7 @@ use std::alloc::{AllocError, Global};
 use std::test::Fail;
 
 // Class 2, intensity 1000, return 1 of 1, source 9, at 5, 6, 7.
-const FIRST: [u8; 20] = [
-    5, 0, 0, 0, 6, 0, 0, 0, 7, 0, 0, 0, 232, 3, 9, 2, 0, 0, 9, 0,
-];
+const FIRST: [u8; 20] = [5, 0, 0, 0, 6, 0, 0, 0, 7, 0, 0, 0, 232, 3, 9, 2, 0, 0, 9, 0];
 
 // Class 1, intensity 767, return 2 of 2, source 9, at -1, 2^31 - 1, -2^31.
 const SECOND: [u8; 20] = [
@@ -75,7 +73,10 @@ fn a_packed_file_of_one_record(rt: HostRuntime) -> Result<(), Fail> {
     let mut survey = Survey::new(Vec::new(alloc));
     survey.see(&FIRST)?;
     let mut out = MemSink::with_room(alloc, 1_000)?;
-    assert_eq!(rt; report(alloc, &survey, &head, Some((50_000, 1)), &mut out), Ok(()));
+    assert_eq!(rt;
+        report(alloc, &survey, &head, Some((50_000, 1)), &mut out),
+        Ok(())
+    );
     let text = "version 1.2\nheader 227\noffset 321\nvlrs 1\n\
         vlr 6c61737a697020656e636f6465640000 22204 40\nformat 0\nlength 20\npoints 1\npacked 50000 1\n\
         header returns 1 0 0 0 0\nrecord returns 1 0 0 0 0\nraw x 5 5\nraw y 6 6\nraw z 7 7\n";
@@ -147,7 +148,12 @@ fn every_tap_of_two_records(rt: HostRuntime) -> Result<(), Fail> {
     summary.add(&FIRST);
     summary.add(&SECOND);
     let mut taps: Vec<Box<dyn Tap>> = Vec::new(alloc);
-    taps.push(Box::new(alloc, seen(Parity { counted: Counted::new(alloc) })?)?)?;
+    taps.push(Box::new(
+        alloc,
+        seen(Parity {
+            counted: Counted::new(alloc),
+        })?,
+    )?)?;
     taps.push(Box::new(alloc, seen(SourceTap::new(alloc))?)?)?;
     taps.push(Box::new(alloc, seen(ClassTap::new(alloc))?)?)?;
     taps.push(Box::new(alloc, seen(IntensityTap::new(alloc))?)?)?;
@@ -172,7 +178,10 @@ fn no_record_and_a_stream_that_fails(rt: HostRuntime) -> Result<(), Fail> {
     let head = opened(alloc, &file)?.expect(&rt, "a head");
     let survey = Survey::new(Vec::new(alloc));
     let mut out = MemSink::with_room(alloc, 20)?;
-    assert_eq!(rt; report(alloc, &survey, &head, None, &mut out), Err(ReportFault::Failed));
+    assert_eq!(rt;
+        report(alloc, &survey, &head, None, &mut out),
+        Err(ReportFault::Failed)
+    );
     assert_eq!(rt; out.bytes(), "version 1.2\nheader 2".as_bytes());
     let mut out = MemSink::with_room(alloc, 1_000)?;
     assert_eq!(rt; report(alloc, &survey, &head, None, &mut out), Ok(()));

@@ -11,8 +11,8 @@ use Rattle.laz_file.specs.Records.{HoldsBlock}
 use Rattle.las_run.specs.Endings.{Ending}
 use Rattle.las_run.specs.Runs.{Makes, Run, input_of}
 
--- Each piece of a file holds at most one block of records. A call that has unpacked a chunk has shown this of it, and of
--- a plain file it is a law.
+-- Each piece of a file holds at most one block of records. A call that has unpacked a chunk has shown this of it, and
+-- of a plain file it is a law.
 abbrev pub HoldsOnce : (file : List ℕ) → Type 0
 HoldsOnce file =
     (pieces : List Piece) (piece : Piece) (one other : List ℕ) → ArePieces file pieces

@@ -54,7 +54,8 @@ Zips input output chunk file ending = ZipsIf (is_packed (head_of file)) input ou
 abbrev pub chunk_if : (packed : Bool) → (chunk : ℕ) → Option ℕ
 chunk_if packed chunk = if packed then Some chunk else None
 
--- `las2las` writes what its plan keeps of the records, up to the first refusal: in chunks of this size, if there is one.
+-- `las2las` writes what its plan keeps of the records, up to the first refusal: in chunks of this size, if there is
+-- one.
 abbrev pub ConvertsIn : (size : Option ℕ) → (input output : List ℕ) → Steps → (file : List ℕ) → Ending → Type 0
 ConvertsIn size input output plan file ending =
     (records : List ℕ) × (refusal : Option Refusal) × ConvertsTo plan file records refusal

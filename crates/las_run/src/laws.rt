@@ -1,5 +1,6 @@
 //! Laws of the definitions that the top call's contract cites.
-ghost use Rattle.las_run.specs.EndingLaws.{IsOneEnding, LaszipMakesOnce, MissingInputsEnd, PackedFormsEnd, PlainHoldsOnce};
+ghost use Rattle.las_run.specs.EndingLaws.{IsOneEnding, LaszipMakesOnce, MissingInputsEnd, PackedFormsEnd};
+ghost use Rattle.las_run.specs.EndingLaws.{PlainHoldsOnce};
 ghost use Rattle.las_run.specs.EndingLaws.{PlainInputsEnd, WorkersDoNotMatter, WrongWordsEnd};
 
 /// At most one ending is defined for words and files, if the command makes at most one of its input. `laszip` does if

@@ -111,9 +111,6 @@ pieces_from-take (suc n) at (c ∷ counts) (s ∷ sizes) = ap (λ (t : List Piec
 pub front_piece : (n at : ℕ) (counts sizes : List ℕ) (k : ℕ) (d : Piece) → k < n → get_or (pieces_from at (take n counts) (take n sizes)) k d ≡ get_or (pieces_from at counts sizes) k d
 front_piece n at counts sizes k d lt = ap (λ (t : List Piece). get_or t k d) (pieces_from-take n at counts sizes) ∙ get_or-take n (pieces_from at counts sizes) k d lt
 
-pub sum_front : (n : ℕ) (sizes : List ℕ) → sum (take n sizes) ≤ sum sizes
-sum_front n sizes = omega (arith, sum_by-take-drop (λ x. x) sizes n)
-
 -- a chunk whose length no chunk of its count can have holds nothing
 pub cut_short : (l : Layout) (file : List ℕ) (at : ℕ) (counts sizes : List ℕ) (n : ℕ) → length counts ≡ length sizes → n < length counts → All (LiesIn file) (pieces_from at counts sizes) → ((bytes : List ℕ) → length bytes ≡ get_or sizes n 0 → HoldsNone l (get_or counts n 0) bytes)
     → (d : Piece) → HoldsNone l (get_or counts n 0) (piece_bytes file (get_or (pieces_from at counts sizes) n d))

@@ -110,8 +110,7 @@ read_begins file pieces n blocks others (Some i) within first read = elim (cases
       let s = hold_split file (take n pieces) (take (i - n) (drop n pieces)) others whole in
       let k = length (take n pieces) in
       let same : take k others ≡ blocks = first.only (take k others) s.0 in
-      let inside : i < length pieces = found pieces i read.1.0 read.1.1 in
-      (
+      let inside : i < length pieces = found pieces i read.1.0 read.1.1 in (
         concat (drop k others),
         ap concat (sym (take-append-drop k others)) ∙ concat-append (take k others) (drop k others) ∙ ap (λ (t : List (List ℕ)). concat t ++ concat (drop k others)) same,
         λ all. absurd (omega (arith, all, inside, more)),
@@ -195,8 +194,8 @@ end_bad held first reader n blocks cause r is packed bad = (
   is ∙ ap BadChunk r.next,
   subst (λ (o : Option ℕ). IsSome o) r.chunk packed,
   subst (λ (name : List ℕ). WhereKnown held name (λ file. IsBadPiece file first.left n)) r.named
-  (known_then held reader.name (λ file. IsBadPiece file reader.left 0) (λ file. IsBadPiece file first.left n)
-  (λ file b. (b.0, sym (ap (λ (ps : List Piece). slice_get ps 0) r.left ∙ slice_get-drop n first.left) ∙ b.1, b.2)) bad),
+      (known_then held reader.name (λ file. IsBadPiece file reader.left 0) (λ file. IsBadPiece file first.left n)
+      (λ file b. (b.0, sym (ap (λ (ps : List Piece). slice_get ps 0) r.left ∙ slice_get-drop n first.left) ∙ b.1, b.2)) bad),
 )
 
 -- ---- a writer that takes the blocks
@@ -224,7 +223,6 @@ module _ (old now : Outside) (w v : WriterSeen) (blocks : List (List ℕ)) (i : 
       let one : length (concat (take (i + 1) blocks)) ≡ length (concat (take i blocks)) + length (get_or blocks i []) = ap (λ (x : List ℕ). length x) (concat_more blocks i within) ∙ length-append (concat (take i blocks)) (get_or blocks i []) in
       let size : v.size * v.most ≡ w.size * w.most = ap (λ (n : ℕ). n * v.most) same_size ∙ ap (λ (n : ℕ). w.size * n) most in
       omega (arith, taken, all, one, size, room)
-
 
 -- there is room for a batch
 pub room_for : (reader : ReaderSeen) (v : WriterSeen) (m : ℕ) (ys : List (List ℕ)) → CanTake reader v → AreWholeBlocks (record_length_of reader.head.bytes) (take m reader.left) ys → v.taken + length (concat ys) ≤ v.size * v.most

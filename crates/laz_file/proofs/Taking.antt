@@ -110,8 +110,7 @@ stopped_more before now w out bytes xs ys s = by out.chunk w.packing s.points
         let some : 0 < size = omega (arith, points.stands.short, block_size_is out.head s.head k w.most p.plan points.plan) in
         let f = λ (b : List ℕ). chunk_bytes (record_layout out.head) b in
         let full = full_blocks size xs in
-        let more = full_blocks size (rest_of size xs ++ ys) in
-        (
+        let more = full_blocks size (rest_of size xs ++ ys) in (
           concat (map f more),
           ap (λ (t : List (List ℕ)). front out ++ concat (map f t)) (full_blocks_more size xs ys some)
               ∙ ap (λ (t : List ℕ). front out ++ t) (joined-append f full more)

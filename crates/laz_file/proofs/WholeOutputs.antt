@@ -121,10 +121,6 @@ pub no_chunk : (chunk : Option ℕ) → chunk ≡ None → IsSome chunk → ⊥
 no_chunk None none some = absurd (cc)
 no_chunk (Some n) none some = absurd (cc)
 
-pub packed_kind : (packed : Bool) (n : ℕ) → IsSome (cond packed (Some n) None) → packed ≡ true
-packed_kind true n some = refl
-packed_kind false n some = absurd (cc)
-
 -- ---- an output that was created, and then filled with the records of a new reader
 module _ (old mid new : Outside) (first reader : ReaderSeen) (buffers : ℕ) (ready : reader ≡ record first { buffers = buffers }) (new_one : first.next ≡ 0) (w : WriterSeen) (out : Output) (s : Stands old mid w out []) (ne : first.name ≢ out.name) (stands : WhereKnown old.held first.name (StandsFor first)) where
   written : (text : List ℕ) × (mid.held ≡ with_file old.held out.name text)

@@ -159,8 +159,9 @@ pub record IsNewReader (name : List ℕ) (reader : ReaderSeen) : Type 0 where
 abbrev pub records_in : List Piece → ℕ
 records_in pieces = sum (map (λ piece. piece.count) pieces)
 
--- A new reader agrees with its head, whether the files are known or not: it has the chunk size of the head; there is one
--- laszip VLR if the file is packed, and none if it is plain; and the pieces have as many records as the head counts.
+-- A new reader agrees with its head, whether the files are known or not: it has the chunk size of the head; there is
+-- one laszip VLR if the file is packed, and none if it is plain; and the pieces have as many records as the head
+-- counts.
 pub record AgreesWithHead (reader : ReaderSeen) : Type 0 where
   pub chunk : reader.chunk ≡ chunk_of reader.head.bytes
   pub one : is_packed reader.head.bytes ≡ true → length (laszip_vlrs_of reader.head.bytes) ≡ 1

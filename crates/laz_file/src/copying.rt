@@ -1,5 +1,6 @@
 //! Records that go from a reader to a writer.
-ghost use Rattle.std.specs.Prelude.{◌≡◌, ◌≢◌, ◌⊎◌, ◌%◌, ◌*◌, ◌+◌, ◌≤◌, ℕ, List, length, All, false, IfErr, IfOk, IsErrOf};
+ghost use Rattle.std.specs.Prelude.{◌≡◌, ◌≢◌, ◌⊎◌, ◌%◌, ◌*◌, ◌+◌, ◌≤◌, ℕ, List, length, All, false, IfErr, IfOk};
+ghost use Rattle.std.specs.Prelude.{IsErrOf};
 ghost use Rattle.std.specs.Prelude.{OnErr, OnOk};
 ghost use Rattle.std.specs.List.{concat};
 ghost use Rattle.las_outside.specs.Faults.{Rose};

@@ -1,5 +1,6 @@
 //! Whole files: packed and unpacked.
-ghost use Rattle.std.specs.Prelude.{◌≡◌, ◌≢◌, ◌++◌, ℕ, ◌≤◌, List, Some, None, drop, false, IfErr, IsErrOf, OnOk, IsSome};
+ghost use Rattle.std.specs.Prelude.{◌≡◌, ◌≢◌, ◌++◌, ℕ, ◌≤◌, List, Some, None, drop, false, IfErr, IsErrOf, OnOk};
+ghost use Rattle.std.specs.Prelude.{IsSome};
 ghost use Rattle.std.specs.List.{concat};
 ghost use Rattle.las_header.specs.declared.refusal.Refusal.{Refusal};
 ghost use Rattle.las_header.specs.declared.refusal.Refusal.TheVariants.{BadChunk};
@@ -67,8 +68,8 @@ fn fill<R: Threads + Sync, F: Files, G: Gate>(
     }
 }
 
-/// Packs a plain file: the output, another name than the input's, is its packed form in chunks of `chunk` points, 256 to
-/// 250,000. `workers`, 1 to 8, pack side by side, and what is written does not depend on them.
+/// Packs a plain file: the output, another name than the input's, is its packed form in chunks of `chunk` points, 256
+/// to 250,000. `workers`, 1 to 8, pack side by side, and what is written does not depend on them.
 ///
 /// The answer is `Read` or `Write` if such a call failed, and never `Refused`. Then the files are as before, or the
 /// output is unfinished: a prefix of its draft, or its draft after a part of its patches.
@@ -122,9 +123,9 @@ pub fn pack<R: Threads + Sync, F: Files, G: Gate>(
 /// Unpacks a packed file: the output, another name than the input's, is its plain form. `workers`, 1 to 8, unpack side
 /// by side, and what is written does not depend on them.
 ///
-/// The answer is `Refused` with `BadChunk` if a chunk holds no records of its count: it is the first such chunk, and the
-/// output holds its head and all records before it. It is `Read` or `Write` if such a call failed. Then the files are as
-/// before, or the output is a prefix of its draft.
+/// The answer is `Refused` with `BadChunk` if a chunk holds no records of its count: it is the first such chunk, and
+/// the output holds its head and all records before it. It is `Read` or `Write` if such a call failed. Then the files
+/// are as before, or the output is a prefix of its draft.
 pub fn unpack<R: Threads + Sync, F: Files, G: Gate>(
     rt: &R,
     alloc: Global,

@@ -101,8 +101,8 @@ pub fn head_of(alloc: Global, shape: Shape, points: u32) -> Result<Vec<u8>, Allo
     Ok(head)
 }
 
-// A file of this many records: of class 2 or 5, each the only return of its pulse, and with other bytes that change from
-// record to record.
+// A file of this many records: of class 2 or 5, each the only return of its pulse, and with other bytes that change
+// from record to record.
 pub fn file_of(alloc: Global, shape: Shape, points: u32) -> Result<Vec<u8>, AllocError> {
     let mut file = head_of(alloc, shape, points)?;
     for i in 0..points {
@@ -198,7 +198,7 @@ pub fn made(alloc: Global, base: &[u8], edits: &[Edit]) -> Result<Vec<u8>, Alloc
 pub fn files_with(alloc: Global, input: &[u8], output: &str) -> Result<MemFiles, AllocError> {
     let mut files = MemFiles::new(alloc);
     files.put_file("a", input)?;
-    files.prepare(output, 3_000_000)?;
+    files.prepare(output, 100_000)?;
     Ok(files)
 }
 

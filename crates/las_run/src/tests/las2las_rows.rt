@@ -12,7 +12,9 @@ const FIRST: &str = "07 00 00 00 00 00 00 00 00 00 00 00 64 00 11 02 00 00 00 00
 
 const SECOND: &str = "08 00 00 00 00 00 00 00 00 00 00 00 C8 00 12 65 00 00 00 00";
 
-// The second with another class, and moved.
+// The first with another class; the second with another class, and moved.
+const FIFTH: &str = "07 00 00 00 00 00 00 00 00 00 00 00 64 00 11 05 00 00 00 00";
+
 const SET: &str = "08 00 00 00 00 00 00 00 00 00 00 00 C8 00 12 7F 00 00 00 00";
 
 const MOVED: &str = "09 00 00 00 00 00 00 00 00 00 00 00 C8 00 12 65 00 00 00 00";
@@ -53,8 +55,8 @@ const ROWS: [(&str, &[Edit]); 13] = [
     ),
     ("-keep_class 3", &[NO_COUNT]),
     (
-        "-set_classification 5 -keep_class 2 -set_classification 2",
-        &[ONE_FIRST, Add(FIRST)],
+        "-set_classification 5 -keep_class 2",
+        &[ONE_FIRST, Add(FIFTH)],
     ),
 ];
 

@@ -101,8 +101,8 @@ fn holds<R: Threads + Sync + AllocGlobal>(
     }
 }
 
-// The packed file of one record as others write it: with the pointer at its end, and with chunks of their own numbers of
-// points.
+// The packed file of one record as others write it: with the pointer at its end, and with chunks of their own numbers
+// of points.
 const LAST_POINTER: Input = Input {
     edits: &[
         Add(CHUNK),

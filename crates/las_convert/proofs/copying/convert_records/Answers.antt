@@ -1,4 +1,4 @@
-use Rattle.std.proofs.Common.{◌≡◌, ◌≢◌, ◌%◌, ◌*◌, ◌+◌, ◌≤◌, ◌<◌, ◌^◌, true, false, ℕ, Bool, List, Option, [], ◌++◌, length, take, drop, refl, Err, sym, ◌∙◌, ap, subst, arith}
+use Rattle.std.proofs.Common.{◌≡◌, ◌%◌, ◌+◌, ◌<◌, true, false, ℕ, Bool, List, Option, [], ◌++◌, length, take, refl, Err, sym, ◌∙◌, ap, subst, arith}
 use Rattle.std.specs.Prelude.{All}
 use Rattle.std.specs.List.{concat}
 use Rattle.las_header.specs.Fields.{record_length_of}

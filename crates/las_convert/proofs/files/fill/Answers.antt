@@ -1,6 +1,5 @@
-use Rattle.std.proofs.Common.{◌≡◌, ℕ, List, ◌++◌, Option, None, Some, Err, sym, ◌∙◌, ap, subst}
+use Rattle.std.proofs.Common.{◌++◌, Err, ap, subst}
 use Rattle.std.specs.List.{concat}
-use Rattle.las_header.specs.declared.refusal.Refusal.{Refusal}
 use Rattle.las_filter.specs.Kept.{steps_of}
 use Rattle.las_outside.specs.Outside.{Outside}
 use Rattle.laz_file.specs.Copying.{with_reads}

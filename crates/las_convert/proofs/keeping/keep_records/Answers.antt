@@ -1,5 +1,4 @@
-use Rattle.std.proofs.Common.{◌≡◌, ◌+◌, ◌*◌, ◌-◌, ◌/◌, ◌≤◌, ◌<◌, true, false, length, drop, Some, None, refl, sym, ◌∙◌, ap, subst, ℕ, List, arith}
-use Rattle.std.proofs.lemmas.List.{drop-drop}
+use Rattle.std.proofs.Common.{◌≡◌, ◌+◌, ◌*◌, ◌-◌, ◌/◌, ◌≤◌, length, refl, sym, ◌∙◌, subst, ℕ, List, arith}
 use Rattle.las_filter.specs.Kept.{steps_of}
 use Rattle.las_convert.proofs.Cuts.{KeptSo, block_fits, kept_dropped, kept_more, kept_refused, rest_next}
 use Rattle.las_convert.proofs.keeping.keep_records.Goals as goal

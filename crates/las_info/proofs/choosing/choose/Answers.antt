@@ -23,27 +23,27 @@ loop-i-preserved g c =
     let here : i ≤ i = omega arith in
     let there : find (λ tap. bytes_eq ((goal.Tap-dyn g (tap.vtable, tap.value)).name_of tap.value) (string_bytes x))
     c.args.taps.items ≡ Some c.take_first-tap.result =
-        sym (subst (λ n. find (λ tap. bytes_eq ((goal.Tap-dyn g (tap.vtable, tap.value)).name_of tap.value)
-        (string_bytes n)) c.loop-i.left.items
-        ≡ find (λ tap. bytes_eq ((goal.Tap-dyn g (tap.vtable, tap.value)).name_of tap.value)
-        (string_bytes n)) c.args.taps.items) (sym c.index-names-i.is)
-        (c.loop-i.invariant.1 i x here c.loop-i-test.true))
-        ∙ subst (λ n. find (λ tap. bytes_eq ((goal.Tap-dyn g (tap.vtable, tap.value)).name_of tap.value) n)
-        c.loop-i.left.items ≡ Some c.take_first-tap.result) name c.take_first-tap.ensures.first in (
+    sym (subst (λ n. find (λ tap. bytes_eq ((goal.Tap-dyn g (tap.vtable, tap.value)).name_of tap.value)
+    (string_bytes n)) c.loop-i.left.items
+    ≡ find (λ tap. bytes_eq ((goal.Tap-dyn g (tap.vtable, tap.value)).name_of tap.value)
+    (string_bytes n)) c.args.taps.items) (sym c.index-names-i.is)
+    (c.loop-i.invariant.1 i x here c.loop-i-test.true))
+    ∙ subst (λ n. find (λ tap. bytes_eq ((goal.Tap-dyn g (tap.vtable, tap.value)).name_of tap.value) n)
+    c.loop-i.left.items ≡ Some c.take_first-tap.result) name c.take_first-tap.ensures.first in (
       subst (λ taps. AllZip (λ name tap. find (λ other. bytes_eq
-      ((goal.Tap-dyn g (other.vtable, other.value)).name_of other.value) (string_bytes name)) c.args.taps.items ≡ Some tap)
-      (take (i + 1) names) taps) (sym c.in_ok-push.ensures.items)
-      (one_longer (λ name tap. find (λ other. bytes_eq ((goal.Tap-dyn g (other.vtable, other.value)).name_of other.value)
-      (string_bytes name)) c.args.taps.items ≡ Some tap) names c.loop-i.chosen.items i x c.take_first-tap.result
-      c.loop-i-test.true c.loop-i.invariant.0
-      (subst (λ n. find (λ tap. bytes_eq ((goal.Tap-dyn g (tap.vtable, tap.value)).name_of tap.value) (string_bytes n))
-      c.args.taps.items ≡ Some c.take_first-tap.result) c.index-names-i.is there)),
+          ((goal.Tap-dyn g (other.vtable, other.value)).name_of other.value) (string_bytes name)) c.args.taps.items ≡ Some tap)
+          (take (i + 1) names) taps) (sym c.in_ok-push.ensures.items)
+          (one_longer (λ name tap. find (λ other. bytes_eq ((goal.Tap-dyn g (other.vtable, other.value)).name_of other.value)
+          (string_bytes name)) c.args.taps.items ≡ Some tap) names c.loop-i.chosen.items i x c.take_first-tap.result
+          c.loop-i-test.true c.loop-i.invariant.0
+          (subst (λ n. find (λ tap. bytes_eq ((goal.Tap-dyn g (tap.vtable, tap.value)).name_of tap.value) (string_bytes n))
+          c.args.taps.items ≡ Some c.take_first-tap.result) c.index-names-i.is there)),
       λ k d le lt.
-      let later : i < k = omega (arith, le) in
-      let before : i ≤ k = omega (arith, le) in
-      c.take_first-tap.ensures.others (string_bytes (get_or names k d))
-      (ap (λ n. bytes_eq n (string_bytes (get_or names k d)))
-      (name ∙ ap string_bytes (c.index-names-i.is ∙ get_or_default names i x d c.loop-i-test.true))
-      ∙ c.requires.distinct i k d later lt)
-      ∙ c.loop-i.invariant.1 k d before lt,
+          let later : i < k = omega (arith, le) in
+          let before : i ≤ k = omega (arith, le) in
+          c.take_first-tap.ensures.others (string_bytes (get_or names k d))
+          (ap (λ n. bytes_eq n (string_bytes (get_or names k d)))
+          (name ∙ ap string_bytes (c.index-names-i.is ∙ get_or_default names i x d c.loop-i-test.true))
+          ∙ c.requires.distinct i k d later lt)
+          ∙ c.loop-i.invariant.1 k d before lt,
     )

@@ -9,7 +9,7 @@ returns c records is =
     λ i. record {
       counts = c.count_in.ensures.list records (ap (λ s. s.counts) seen) i;
       extents = (
-        c.extended.ensures ∙ ap (λ s. extents_with s.extents c.args.point.now) seen
-        ∙ sym (one_more_extends records c.args.point.now)
-      ) i;
+          c.extended.ensures ∙ ap (λ s. extents_with s.extents c.args.point.now) seen
+          ∙ sym (one_more_extends records c.args.point.now)
+          ) i;
     }
