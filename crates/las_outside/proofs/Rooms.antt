@@ -1,5 +1,5 @@
 -- The room for one name.
-use Rattle.std.proofs.Common.{◌≡◌, ℕ, ◌-◌, ◌<◌, ◌≤◌, min, Bool, true, false, if◌then◌else◌, List, [], ◌++◌, length, take, Option, Some, None, IsSome, IsSomeAnd, Result, Ok, Err, OnErr, unwrap_or, refl, sym, ◌∙◌, ap, subst, arith}
+use Rattle.std.proofs.Common.{◌≡◌, ℕ, ◌-◌, min, Bool, true, false, if◌then◌else◌, List, [], ◌++◌, length, take, Option, Some, None, IsSome, IsSomeAnd, Result, Ok, Err, OnErr, unwrap_or, refl, sym, ◌∙◌, ap, subst}
 use Rattle.std.proofs.lemmas.List.{take_min}
 
 -- as many bytes as fit after the old ones
