@@ -1,18 +1,18 @@
 -- What the call that filters and changes records says of its outcome, as what `las2las` makes of its input.
-use Rattle.std.proofs.Common.{◌≡◌, ◌⊎◌, inl, inr, ℕ, List, [], Option, Some, None, Result, Ok, Err, refl, sym, ◌∙◌, ap, subst}
+use Rattle.std.proofs.Common.{◌≡◌, ◌⊎◌, inl, inr, ℕ, List, Option, Some, None, Result, Ok, Err, refl, sym, ◌∙◌, ap, subst}
 use Rattle.std.specs.Prelude.{IfErr, IsErrOf, OnOk}
 use Rattle.las_convert.specs.Converting.{ConvertsTo, OnlyConverts, converted_output}
 use Rattle.las_filter.specs.Kept.{Steps}
 use Rattle.las_header.specs.declared.refusal.Refusal.{Refusal}
 use Rattle.las_header.specs.declared.refusal.Refusal.TheVariants.{BadChunk, RawRange}
 use Rattle.las_outside.specs.Faults.{Rose}
-use Rattle.las_outside.specs.Files.{FileMap, WhereKnown, with_file}
+use Rattle.las_outside.specs.Files.{WhereKnown, with_file}
 use Rattle.las_outside.specs.Outside.{Outside}
 use Rattle.laz_file.specs.declared.fault.Fault.{Fault}
 use Rattle.laz_file.specs.declared.fault.Fault.TheVariants as file
 use Rattle.laz_file.specs.Copying.{LeavesUnfinished}
 use Rattle.laz_file.specs.Outputs as points
-use Rattle.las_run.specs.Endings.{Cause, ComesAtOpening, Done, Refused, Ending, files_of}
+use Rattle.las_run.specs.Endings.{ComesAtOpening, Done, Refused, Ending, files_of}
 use Rattle.las_run.specs.Tools.{ConvertsIn, writes}
 use Rattle.las_run.specs.Ends.{EndsMaking, IsOnlyEnding, LeavesOf, MakesAs}
 use Rattle.las_run.proofs.Endings.{left_if_done}

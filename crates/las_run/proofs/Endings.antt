@@ -1,6 +1,6 @@
 -- What is left at an ending, and what a run says of its cause.
 use Rattle.std.proofs.Common.{◌≡◌, ◌≢◌, ◌⊎◌, inl, inr, ℕ, zero, suc, List, [], ◌∷◌, length, take, map, Some, Result, Ok, Err, refl, sym, ◌∙◌, ap, subst, arith}
-use Rattle.std.specs.Prelude.{Any, Contains, slice_index_or}
+use Rattle.std.specs.Prelude.{Any, Contains}
 use Rattle.std.proofs.lemmas.List.{take_all}
 use Rattle.las_outside.specs.Drafts.{Patch, with_patches, IsPatchedInPart}
 use Rattle.las_outside.specs.Faults.{Rose}
@@ -10,7 +10,7 @@ use Rattle.las_outside.specs.Sinks.{SinkView, Puts, with_more}
 use Rattle.las_outside.proofs.Texts.{with_more-none}
 use Rattle.las_words.specs.Says.{Said, usage}
 use Rattle.las_run.specs.declared.stop.Stop.{Stop}
-use Rattle.las_run.specs.Endings.{Output, Cause, ComesAtOpening, ComesFirst, Done, Memory, Usage, Unread, Unwritten, Refused, Ending, ends_at_once, status_of, at_end, with_all, files_of, AreUnfinished, named, IsLeft}
+use Rattle.las_run.specs.Endings.{Output, Cause, Done, Memory, Usage, Unread, Unwritten, Refused, Ending, ends_at_once, status_of, at_end, with_all, files_of, AreUnfinished, named, IsLeft}
 use Rattle.las_run.specs.Runs.{RunOf, inputs_of}
 use Rattle.las_run.specs.Ends.{Change, EndsAs, IsLeftBy, IsTheEnding, Ends, cause_of}
 use Rattle.las_run.specs.Lines.{line_of}

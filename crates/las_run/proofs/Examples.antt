@@ -1,5 +1,5 @@
 -- Worked values of the definitions.
-use Rattle.std.proofs.Common.{◌≡◌, [], ◌∷◌, ◌++◌, List, ℕ, codes, Some, None, refl}
+use Rattle.std.proofs.Common.{◌≡◌, [], ◌∷◌, ◌++◌, codes, refl}
 use Rattle.std.specs.Fmt.{digits}
 use Rattle.las_header.specs.declared.refusal.Refusal.TheVariants.{BadChunk, RawRange, Trailing}
 use Rattle.las_run.specs.Endings.{Usage, Unread, Refused}

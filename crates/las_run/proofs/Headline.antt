@@ -1,5 +1,5 @@
 -- What `laszip` makes of every file, from what a run says of every ending that is defined.
-use Rattle.std.proofs.Common.{◌≡◌, ◌≢◌, ◌⊎◌, inl, inr, ℕ, Bool, true, false, List, [], ◌∷◌, ◌++◌, drop, Option, Some, None, refl, sym, ◌∙◌, ap, subst}
+use Rattle.std.proofs.Common.{◌≡◌, inl, inr, ℕ, Bool, true, false, List, ◌++◌, drop, Some, None, refl, sym, ap, subst}
 use Rattle.std.specs.FinMap as map
 use Rattle.std.specs.List.{concat}
 use Rattle.las_header.specs.declared.refusal.Refusal.{Refusal}
@@ -10,7 +10,7 @@ use Rattle.las_header.specs.Plain.{plain_head}
 use Rattle.las_outside.specs.Files.{FileMap}
 use Rattle.las_outside.specs.Outside.{Outside}
 use Rattle.las_outside.specs.Sinks.{SinkView}
-use Rattle.las_words.specs.Says.{Asked, Said, asks, laszip, says}
+use Rattle.las_words.specs.Says.{Asked, Said, laszip, says}
 use Rattle.laz_file.specs.Copying.{packed_output, plain_output}
 use Rattle.laz_file.specs.Laws.{CanBePacked}
 use Rattle.laz_file.specs.Outputs.{finished}
@@ -20,7 +20,7 @@ use Rattle.laz_file.specs.Refusing.{IsAcceptedFile, IsRefusal}
 use Rattle.laz_file.proofs.Accepted.{plain_file}
 use Rattle.laz_file.proofs.Finished.{finished_is}
 use Rattle.laz_file.proofs.Packed.{packed-is, packed_accepted, plain-is, unpacks_again}
-use Rattle.las_run.specs.Endings.{Cause, Done, Refused, Ending, ends_at_once, files_of}
+use Rattle.las_run.specs.Endings.{Done, Refused, Ending, ends_at_once, files_of}
 use Rattle.las_run.specs.Tools.{ZipsIf, writes}
 use Rattle.las_run.specs.Runs.{Run, RunOf}
 use Rattle.las_run.specs.Ends.{quiet}

@@ -1,5 +1,5 @@
 -- What the calls that pack and unpack say of their outcome, as what `laszip` makes of its input.
-use Rattle.std.proofs.Common.{◌≡◌, ◌≢◌, ◌⊎◌, inl, inr, ℕ, Bool, true, false, cond, List, [], ◌∷◌, ◌++◌, length, take, drop, Option, Some, None, Result, Ok, Err, refl, sym, ◌∙◌, ap, subst, arith}
+use Rattle.std.proofs.Common.{◌≡◌, inl, inr, ℕ, Bool, true, false, cond, List, [], ◌∷◌, ◌++◌, drop, Option, Some, None, Result, Ok, Err, refl, sym, ◌∙◌, ap, subst}
 use Rattle.std.specs.Prelude.{IfErr, IsErrOf, IsSome, OnOk}
 use Rattle.std.specs.FinMap as map
 use Rattle.std.specs.List.{concat}
@@ -18,12 +18,11 @@ use Rattle.laz_file.specs.declared.fault.Fault.TheVariants as file
 use Rattle.laz_file.specs.Copying.{AreOnlyRecords, LeavesRecords, LeavesUnfinished, packed_output, plain_output}
 use Rattle.laz_file.specs.Outputs as points
 use Rattle.laz_file.specs.Packing.{packed_file}
-use Rattle.laz_file.specs.Reading.{ReaderSeen, StandsFor, chunk_of}
-use Rattle.laz_file.specs.Records.{AreRecordsOf}
+use Rattle.laz_file.specs.Reading.{ReaderSeen, StandsFor}
 use Rattle.laz_file.proofs.Finished.{finished_is}
 use Rattle.laz_file.proofs.Packed.{plain-is}
-use Rattle.las_run.specs.Endings.{Cause, ComesAtOpening, Done, Refused, Ending, IsLeft, files_of}
-use Rattle.las_run.specs.Tools.{Packs, Unpacks, Zips, ZipsIf, cause_by, writes}
+use Rattle.las_run.specs.Endings.{ComesAtOpening, Done, Refused, Ending, IsLeft, files_of}
+use Rattle.las_run.specs.Tools.{Zips, ZipsIf, writes}
 use Rattle.las_run.specs.Ends.{EndsMaking, IsOnlyEnding, LeavesOf, MakesAs}
 use Rattle.las_run.proofs.Endings.{left_if_done, nothing_left}
 use Rattle.las_run.proofs.Opening.{both_known, known_more}

@@ -1,5 +1,5 @@
 -- From an input that is opened, and from what a command makes of it, to the cause for which a run ends.
-use Rattle.std.proofs.Common.{◌≡◌, ◌≢◌, ◌⊎◌, inl, inr, ℕ, Bool, true, false, List, [], ◌∷◌, length, lit<, Option, Some, None, IsSomeAnd, Result, Ok, Err, refl, sym, ◌∙◌, ap, subst, arith}
+use Rattle.std.proofs.Common.{◌≡◌, ◌≢◌, inl, inr, ℕ, Bool, true, false, List, [], ◌∷◌, lit<, Option, Some, None, IsSomeAnd, Result, Ok, Err, refl, sym, ◌∙◌, ap, subst}
 use Rattle.std.specs.Prelude.{Contains}
 use Rattle.std.specs.FinMap as map
 use Rattle.las_header.specs.declared.refusal.Refusal.{Refusal}
@@ -16,7 +16,7 @@ use Rattle.laz_file.proofs.OneAnswer.{refused_once}
 use Rattle.las_header.specs.Fields.{head_of, is_packed}
 use Rattle.las_run.specs.declared.stop.Stop.{Stop}
 use Rattle.las_run.specs.declared.stop.Stop.TheVariants as stop
-use Rattle.las_run.specs.Endings.{Cause, Done, Unread, Unwritten, Refused, Ending, IsLeft, Output, ends_at_once, files_of}
+use Rattle.las_run.specs.Endings.{Cause, Done, Unread, Refused, Ending, IsLeft, Output, ends_at_once, files_of}
 use Rattle.las_run.specs.Tools.{ZipsIf}
 use Rattle.las_run.specs.Runs.{Accepts, Makes, Opens, RunOf, input_of, inputs_of}
 use Rattle.las_run.specs.Ends.{quiet, Ends, EndsAs, EndsMaking, HasOutput, IsLeftBy, IsOnlyEnding, IsTheEnding, LeavesOf, MakesAs, StopsOpening, cause_of, stopped_by}

@@ -1,5 +1,5 @@
 -- Which words and files have an ending, and that they have one alone.
-use Rattle.std.proofs.Common.{◌≡◌, ◌⊎◌, inl, inr, ℕ, zero, suc, ◌<◌, Bool, true, false, List, [], ◌∷◌, ◌++◌, drop, length, map, take, Option, Some, None, refl, sym, ◌∙◌, ap, subst, arith}
+use Rattle.std.proofs.Common.{◌≡◌, inl, inr, ℕ, Bool, true, false, List, [], ◌∷◌, ◌++◌, drop, length, map, take, Option, Some, None, refl, sym, ◌∙◌, ap, subst, arith}
 use Rattle.std.proofs.lemmas.List.{take_all}
 use Rattle.std.specs.FinMap as finmap
 use Rattle.std.specs.List.{concat}
@@ -17,7 +17,7 @@ use Rattle.laz_file.specs.Packing.{packed_file}
 use Rattle.laz_file.specs.Pieces.{ArePieces, ArePiecesIf, Piece, piece_bytes, plain_pieces}
 use Rattle.laz_file.specs.Laws.{IsBadIf, pieces_before}
 use Rattle.laz_file.specs.Records.{AreRead, AreRecordsOf, HoldBlocks, HoldOnly, HoldsIf}
-use Rattle.laz_file.specs.Refusing.{IsAcceptedFile, IsRefusal, chunk_causes, tested_causes}
+use Rattle.laz_file.specs.Refusing.{IsRefusal, chunk_causes, tested_causes}
 use Rattle.laz_file.proofs.OneAnswer.{refused_once}
 use Rattle.laz_file.proofs.Whole.{hold-plain, read_once}
 use Rattle.laz_file.proofs.Packed.{packed_accepted, unpacks_again}
@@ -26,15 +26,11 @@ use Rattle.las_convert.specs.Converting.{AreFirstRecords, ConvertsTo, converted_
 use Rattle.las_run.specs.Endings.{ComesAtOpening, ComesFirst, Ending, Refused, Unread, Usage, ends_at_once}
 use Rattle.las_run.specs.Tools.{ZipsIf, cause_by, chunk_if, writes}
 use Rattle.las_run.specs.Runs.{Accepts, Makes, Opens, Run, RunOf, input_of}
-use Rattle.las_run.specs.Ends.{IsTheEnding}
 use Rattle.las_run.specs.EndingLaws.{HoldsOnce, IsOneEnding, LaszipMakesOnce, MakesOnce, MissingInputsEnd, PackedFormsEnd, PlainHoldsOnce, PlainInputsEnd, WorkersDoNotMatter, WrongWordsEnd, with_one_worker}
 use Rattle.las_run.proofs.Headline.{is_packed_form}
-use Rattle.las_run.proofs.Opening.{defined, missing_ending, opened}
+use Rattle.las_run.proofs.Opening.{defined, missing_ending}
 
 -- ---- one ending
-some_file : (a b : List ℕ) → ◌≡◌ {A = Option (List ℕ)} (Some a) (Some b) → a ≡ b
-some_file a b e = cc
-
 some_cause : (a b : Refusal) → ◌≡◌ {A = Option Refusal} (Some a) (Some b) → a ≡ b
 some_cause a b e = cc
 

@@ -1,5 +1,5 @@
 -- From words that were read to the cause for which a run ends.
-use Rattle.std.proofs.Common.{◌≡◌, ◌⊎◌, inl, inr, ℕ, List, [], ◌∷◌, Some, Result, Ok, Err, refl, sym, ◌∙◌, ap, subst}
+use Rattle.std.proofs.Common.{◌≡◌, ◌⊎◌, inl, inr, ℕ, List, Result, Ok, Err, refl, sym, ◌∙◌, subst}
 use Rattle.std.specs.Prelude.{IfOk}
 use Rattle.las_outside.specs.Files.{FileMap}
 use Rattle.las_outside.specs.Outside.{Outside}
@@ -9,7 +9,7 @@ use Rattle.las_words.specs.declared.command.WordFault.{WordFault}
 use Rattle.las_words.specs.declared.command.WordFault.TheVariants as fault
 use Rattle.las_words.specs.Says.{Asked, Said, asked_by, asks, says, usage}
 use Rattle.las_run.specs.declared.stop.Stop.{Stop}
-use Rattle.las_run.specs.Endings.{ComesFirst, Done, Ending, Memory, Refused, Unread, Unwritten, Usage, ends_at_once, status_of}
+use Rattle.las_run.specs.Endings.{Usage, ends_at_once, status_of}
 use Rattle.las_run.specs.Runs.{RunOf, inputs_of}
 use Rattle.las_run.specs.Ends.{Ends, IsRead, IsTheEnding, cause_of, inputs_read, quiet, stop_of}
 use Rattle.las_run.proofs.Endings.{at_once, left_before}

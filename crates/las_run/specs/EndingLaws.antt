@@ -1,5 +1,5 @@
 -- Laws of endings.
-use Rattle.std.specs.Prelude.{◌≡◌, ℕ, false, List, Option, Some, None}
+use Rattle.std.specs.Prelude.{◌≡◌, ℕ, false, List, Some, None}
 use Rattle.std.specs.FinMap as finmap
 use Rattle.las_header.specs.Fields.{head_of, is_packed}
 use Rattle.las_outside.specs.Files.{FileMap}

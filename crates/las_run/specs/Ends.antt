@@ -1,7 +1,6 @@
 -- What a run says of the cause for which it ended. Each tool says it of its own endings, and the clauses of the top
 -- call follow from it for all tools.
 use Rattle.std.specs.Prelude.{◌≡◌, ◌≢◌, ◌⊎◌, ℕ, List, [], Some, Result, Ok, Err, Contains, slice_index_or}
-use Rattle.las_header.specs.declared.refusal.Refusal.{Refusal}
 use Rattle.las_outside.specs.Faults.{Rose}
 use Rattle.las_outside.specs.Files.{FileMap, IsMissing, WhereKnown}
 use Rattle.las_outside.specs.Outside.{Outside}
@@ -17,7 +16,7 @@ use Rattle.las_run.specs.declared.stop.Stop.{Stop}
 use Rattle.las_run.specs.declared.stop.Stop.TheVariants as stop
 use Rattle.las_run.specs.Endings.{Cause, ComesAtOpening, Done, Memory, Usage, Unread, Unwritten, Refused, Ending}
 use Rattle.las_run.specs.Endings.{files_of, IsLeft}
-use Rattle.las_run.specs.Runs.{RunOf, inputs_of, input_of}
+use Rattle.las_run.specs.Runs.{RunOf, inputs_of}
 
 -- The words were read so.
 abbrev pub IsRead : List (List ℕ) → Result Command WordFault → Type 0

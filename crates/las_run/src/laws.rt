@@ -1,7 +1,6 @@
 //! Laws of the definitions that the top call's contract cites.
 ghost use Rattle.las_run.specs.EndingLaws.{IsOneEnding, LaszipMakesOnce, MissingInputsEnd, PackedFormsEnd};
-ghost use Rattle.las_run.specs.EndingLaws.{PlainHoldsOnce};
-ghost use Rattle.las_run.specs.EndingLaws.{PlainInputsEnd, WorkersDoNotMatter, WrongWordsEnd};
+ghost use Rattle.las_run.specs.EndingLaws.{PlainHoldsOnce, PlainInputsEnd, WorkersDoNotMatter, WrongWordsEnd};
 
 /// At most one ending is defined for words and files, if the command makes at most one of its input. `laszip` does if
 /// each piece of the input holds at most one block of records, as the pieces of a plain file do. Of a packed input, a
@@ -12,8 +11,8 @@ pub fn one_ending()
     ensures plain { PlainHoldsOnce }
 {}
 
-/// Which words and files have an ending: wrong words, a missing input, every plain input, and every
-/// packed form of an accepted plain file.
+/// Which words and files have an ending: wrong words, a missing input, every plain input, and every packed form of an
+/// accepted plain file.
 pub fn endings_are_defined()
     ensures wrong { WrongWordsEnd }
     ensures missing { MissingInputsEnd }

@@ -1,4 +1,6 @@
 //! Files of the tests, and runs over them.
+ghost use Rattle.std.specs.Prelude.{◌≤◌};
+
 use crate::run;
 use las_header::{set_u16_at, set_u32_at, set_u64_at};
 use las_outside::{Gate, MemFiles, MemSink, OpenGate};
@@ -27,7 +29,9 @@ pub const NEWEST: Shape = Shape {
 };
 
 impl Shape {
-    pub fn header_size(self) -> u16 {
+    pub fn header_size(self) -> u16
+        ensures { result ≤ 375 }
+    {
         match self.minor {
             3 => 235,
             4 => 375,
@@ -157,13 +161,11 @@ pub fn part(alloc: Global, file: &[u8], from: usize, to: usize) -> Result<Vec<u8
 
 // The number of four bytes at a place.
 pub fn number_at(file: &[u8], at: usize) -> usize {
-    let mut number = 0;
-    let mut shift = 0;
-    for byte in file.iter().skip(at).take(4) {
-        number |= usize::from(*byte) << shift;
-        shift = (shift + 8) % 32;
+    let mut bytes = [0; 4];
+    for (place, byte) in bytes.iter_mut().zip(file.iter().skip(at)) {
+        *place = *byte;
     }
-    number
+    u32::from_le_bytes(bytes) as usize
 }
 
 // A file with one change.

@@ -1,10 +1,9 @@
-use Rattle.std.proofs.Common.{◌≡◌, [], ◌∷◌, List, ℕ, Result, Ok, Err, subst, sym}
+use Rattle.std.proofs.Common.{◌≡◌, [], ◌∷◌, List, ℕ, Result, subst, sym}
 use Rattle.std.proofs.lemmas.Result.{err_from_is_err_and}
 use Rattle.las_words.specs.Says.{Asked, asks, las2las}
 use Rattle.las_filter.specs.Kept.{steps_of}
 use Rattle.laz_file.specs.Reading.{StandsFor}
 use Rattle.laz_file.specs.Refusing.{IsAcceptedFile}
-use Rattle.las_outside.specs.Files.{WhereKnown}
 use Rattle.las_run.specs.declared.stop.Stop.{Stop}
 use Rattle.las_run.specs.Ends.{Ends, EndsMaking, cause_of, quiet}
 use Rattle.las_run.specs.Tools.{Converts}

@@ -1,9 +1,8 @@
-use Rattle.std.proofs.Common.{◌≡◌, [], ◌∷◌, List, ℕ, Result, Ok, Err, subst, sym}
+use Rattle.std.proofs.Common.{◌≡◌, [], ◌∷◌, List, ℕ, Result, subst, sym}
 use Rattle.std.proofs.lemmas.Result.{err_from_is_err_and}
 use Rattle.las_words.specs.Says.{Asked, asks, laszip}
 use Rattle.laz_file.specs.Reading.{StandsFor}
 use Rattle.laz_file.specs.Refusing.{IsAcceptedFile}
-use Rattle.las_outside.specs.Files.{WhereKnown}
 use Rattle.las_run.specs.declared.stop.Stop.{Stop}
 use Rattle.las_run.specs.Ends.{Ends, EndsMaking, cause_of, quiet}
 use Rattle.las_run.specs.Tools.{Zips}

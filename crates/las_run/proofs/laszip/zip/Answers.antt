@@ -1,4 +1,4 @@
-use Rattle.std.proofs.Common.{sym, ap, ◌∙◌}
+use Rattle.std.proofs.Common.{sym, ap}
 use Rattle.std.specs.Prelude.{is_some}
 use Rattle.las_run.proofs.Making.{ends_packing, ends_unpacking}
 use Rattle.las_run.proofs.laszip.zip.Goals as goal

@@ -1,9 +1,9 @@
-use Rattle.std.proofs.Common.{◌≡◌, ◌⊎◌, inl, inr, ℕ, List, Some, Result, Err, sym, ◌∙◌, ap, subst}
+use Rattle.std.proofs.Common.{◌≡◌, Some, Result, Err, sym, ◌∙◌, ap}
 use Rattle.las_outside.specs.Files.{FileMap}
 use Rattle.las_words.specs.Says.{says}
 use Rattle.las_words.specs.Texts.{texts}
 use Rattle.las_run.specs.declared.stop.Stop.{Stop}
-use Rattle.las_run.specs.Endings.{Ending, status_of}
+use Rattle.las_run.specs.Endings.{status_of}
 use Rattle.las_run.specs.Ends.{cause_of, inputs_read, quiet, stop_of}
 use Rattle.las_run.proofs.Endings.{complete, done, left, left_of_none, read_cause, write_cause, wrong_words}
 use Rattle.las_run.proofs.Headline as headline
