@@ -25,7 +25,7 @@ Adds plan records ones refused =
 abbrev pub cut_all : (size : ℕ) → List ℕ → List (List ℕ)
 cut_all size bytes = cut_records size (length bytes / size) bytes
 
--- Of some records so many are kept, and then one is refused, or none; the writer took those that are kept.
+-- Of some records `count` are kept, and then one is refused, or none; the writer took those that are kept.
 pub record Goes (plan : Steps) (size : ℕ) (records : List ℕ) (old now : Outside) (w v : WriterSeen) (count : ℕ)
     (refused : Bool) : Type 0 where
   pub ones : List (List ℕ)

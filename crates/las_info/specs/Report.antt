@@ -31,7 +31,7 @@ vlr_line head place =
     (encode_lower (take 16 (drop (place.start + 2) head)) ∷ decimal (number_at 2 (place.start + 18) head)
     ∷ decimal place.length ∷ [])
 
--- how the points are stored: plain, or in so many chunks of this many points
+-- how the points are stored: plain, or packed, with the number of chunks and the points of a chunk
 abbrev pub packed_line : (chunk : Option (ℕ × ℕ)) → List ℕ
 packed_line None = line (codes "packed") (codes "no" ∷ [])
 packed_line (Some chunk) = number_line (codes "packed") (chunk.0 ∷ chunk.1 ∷ [])

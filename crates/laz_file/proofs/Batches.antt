@@ -102,7 +102,7 @@ module _ (l : Layout) (file : List ℕ) (packed : is_packed (head_of file) ≡ t
       let p = get_or ps i d in
       (p, slice_get-get_or ps i d lt, λ block h. let c = as_chunk p block h in none d block c.0 c.1)
 
--- blocks of so many bytes are whole records
+-- blocks, each of as many bytes as the records of its piece have, are whole records
 pub whole_blocks : (size : ℕ) (ps : List Piece) (blocks : List (List ℕ)) → length blocks ≤ length ps → ((k : ℕ) (d : Piece) → k < length blocks → length (get_or blocks k []) ≡ size * (get_or ps k d).count) → AreWholeBlocks size (take (length blocks) ps) blocks
 whole_blocks size ps [] within each = tt
 whole_blocks size [] (b ∷ bs) within each = absurd (omega arith)

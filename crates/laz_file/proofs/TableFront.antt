@@ -49,7 +49,7 @@ module _ (blocks : Blocks) (few : AreFewChunks blocks) (part : List ℕ) where
   at_number : (n : ℕ) → number_at 4 4 part ≡ n → n ≤ 16777216 → table_size part ≡ 12 + 24 * n
   at_number n is le = let m : min (number_at 4 4 part) 16777216 ≡ n = omega arith in ap (λ (k : ℕ). 12 + 24 * k) m
 
-  -- so many bytes decide which lists the part begins with
+  -- the bytes read decide which lists the part begins with
   pub to_front : (sizes counts : List ℕ) → HasTable part blocks sizes counts → HasTable (take (table_size part) part) blocks sizes counts
   to_front sizes counts h =
       let n = length counts in

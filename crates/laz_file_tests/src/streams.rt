@@ -69,7 +69,7 @@ const CUTS: [&[u32]; 3] = [
     &[0, 0, 640, 0, 639],
 ];
 
-// Chunks of 256 points: one for so many, and a second one of 24 bytes for one point more.
+// Chunks of 256 points: one for 256 points, and a second one of 24 bytes for one point more.
 #[test]
 fn the_last_chunk_has_the_rest(rt: HostRuntime) -> Result<(), Fail> {
     let alloc = rt.alloc();

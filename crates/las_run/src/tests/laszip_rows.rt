@@ -338,7 +338,7 @@ fn newest_version(rt: HostRuntime) -> Result<(), Fail> {
     Ok(())
 }
 
-// The place of the table of a packed file of so many points, all bytes zero, and its number of chunks.
+// The place of the table of a packed file of `points` points, all bytes zero, and its number of chunks.
 fn default_table<R: Threads + Sync + AllocGlobal>(
     rt: &R,
     points: u32,
