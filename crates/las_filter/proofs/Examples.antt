@@ -1,5 +1,6 @@
 -- Values that compute: filters, changes and what is kept of two records.
-use Rattle.std.proofs.Common.{◌≡◌, ℕ, pos, negsuc, List, [], ◌∷◌, ◌++◌, replicate, Some, None, refl}
+use Rattle.std.proofs.Common.{◌≡◌, ℕ, pos, negsuc, List, [], ◌∷◌, ◌++◌, codes, replicate, Some, None, refl}
+use Rattle.std.specs.Fmt.{digits}
 use Rattle.las_header.specs.Numbers.{number_at}
 use Rattle.las_points.specs.Record.{x_of}
 use Rattle.las_filter.specs.declared.keep.Keep.{Keep}
@@ -9,6 +10,7 @@ use Rattle.las_filter.specs.declared.change.Change.TheVariants.{Translate, SetCl
 use Rattle.las_filter.specs.Coordinates.{placed}
 use Rattle.las_filter.specs.Changes.{changed, left_by}
 use Rattle.las_filter.specs.Kept.{Steps, Kept, kept}
+use Rattle.las_filter.specs.Parts.{part_name}
 
 -- a record with coordinates (x, 0, 0) of two bytes, an intensity, a flag byte and a classification byte
 abbrev record_of : ℕ → ℕ → ℕ → ℕ → List ℕ
@@ -86,3 +88,16 @@ left = refl
 least : (x_of (0 ∷ 0 ∷ 0 ∷ 128 ∷ replicate 16 0) ≡ negsuc 2147483647) × (changed (Translate (negsuc 0) (pos 0) (pos 0) ∷ []) (0 ∷ 0 ∷ 0 ∷ 128 ∷ replicate 16 0) ≡ None)
 unfolding number_at placed
 least = (refl, refl)
+
+-- parts of a file that ends in .las, and one whose number has more than seven digits
+first_part : part_name (codes "p") (codes ".las") 0 ≡ codes "p_0000000.las"
+unfolding digits
+first_part = refl
+
+later_part : part_name (codes "p") [] 1234567 ≡ codes "p_1234567"
+unfolding digits
+later_part = refl
+
+long_part : part_name (codes "p") (codes ".LAS") 12345678 ≡ codes "p_12345678.LAS"
+unfolding digits
+long_part = refl

@@ -3,3 +3,4 @@ pub mod Filters
 pub mod Coordinates
 pub mod Changes
 pub mod Kept
+pub mod Parts

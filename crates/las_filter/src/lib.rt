@@ -9,6 +9,7 @@ mod change;
 mod keep;
 mod laws;
 mod plan;
+mod rule;
 #[cfg(test)]
 mod tests;
 
@@ -16,3 +17,4 @@ pub use crate::change::{Change, RawRange};
 pub use crate::keep::Keep;
 pub use crate::laws::kept_one_by_one;
 pub use crate::plan::Plan;
+pub use crate::rule::Rule;
