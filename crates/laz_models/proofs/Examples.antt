@@ -5,7 +5,7 @@ use Rattle.laz_models.specs.BitDist.{bit_cycle, bit_counts_at, p0_of}
 use Rattle.laz_models.specs.Counting.{starts_of, small_counts}
 use Rattle.laz_models.specs.Cycles.{due, cycle_in}
 use Rattle.laz_models.specs.Dist.{cycle, counts_at, dist}
-use Rattle.laz_models.specs.Lookup.{table_bits, search_bits, start_or_guard}
+use Rattle.laz_models.specs.Lookup.{first_entry, table_bits, search_bits, start_or_guard}
 
 -- The cycles of 2 symbols are 4, 5, 6, .. long, up to 64, and those of 256 symbols 131, 163, ..
 cycles : (cycle 2 0 ≡ 4) × (cycle 2 1 ≡ 5) × (cycle 2 2 ≡ 6) × (cycle 2 16 ≡ 64) × (cycle 256 0 ≡ 131) × (cycle 256 1 ≡ 163)
@@ -56,3 +56,7 @@ bits = (refl, refl, refl, refl)
 bit_halving : (small_bit_counts 8191 8192 ≡ (8191, 8192)) × (small_bit_counts 100 8193 ≡ (50, 4097)) × (small_bit_counts 8199 8200 ≡ (4100, 4101))
 unfolding small_bit_counts
 bit_halving = (refl, refl, refl)
+
+-- In steps of 128 places a part that begins at 0, 1, 128 or 129 has begun at entry 0, 1, 1 or 2.
+first_entries : (first_entry 0 7 ≡ 0) × (first_entry 1 7 ≡ 1) × (first_entry 128 7 ≡ 1) × (first_entry 129 7 ≡ 2)
+first_entries = (refl, refl, refl, refl)

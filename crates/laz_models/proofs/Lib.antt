@@ -11,3 +11,4 @@ pub mod Parts
 pub mod Places
 pub mod Sounds
 pub mod Stand
+pub mod Tables

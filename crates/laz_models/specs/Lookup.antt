@@ -1,5 +1,5 @@
 -- What a distribution answers, and the size of its look-up table.
-use Rattle.std.specs.Prelude.{ℕ, ◌+◌, ◌-◌, ◌^◌, ◌<◌, ◌≤◌, List, [], ◌∷◌, length, count_by, nat_lt, slice_index}
+use Rattle.std.specs.Prelude.{ℕ, ◌+◌, ◌-◌, ◌*◌, ◌/◌, ◌^◌, ◌<◌, ◌≤◌, List, [], ◌∷◌, length, count_by, nat_lt, slice_index}
 use Rattle.std.specs.Prelude.{slice_index_or}
 use Rattle.laz_models.specs.declared.limits.TheConstants.{GUARD}
 
@@ -23,6 +23,22 @@ search_bits n = 3 + count_by (λ b. nat_lt (2 ^ b) n) (3 ∷ 4 ∷ 5 ∷ 6 ∷ 7
 abbrev pub search_step : ℕ → ℕ
 search_step n = 2 ^ (15 - search_bits n)
 
+-- The first entry of a look-up table, in steps of 2 ^ shift places, at whose place a part has begun.
+abbrev pub first_entry : ℕ → ℕ → ℕ
+first_entry start shift = (start + (2 ^ shift - 1)) / 2 ^ shift
+
 -- The start of the part of symbol s, or the guard if there is no such symbol.
 abbrev pub start_or_guard : List ℕ → ℕ → ℕ
 start_or_guard starts s = slice_index_or starts s GUARD
+
+-- Each entry of a look-up table that is being written has a symbol whose part has begun at the entry's place.
+abbrev pub HaveBegun : List ℕ → ℕ → List ℕ → Type 0
+HaveBegun starts shift table =
+    (t : ℕ) → t < length table
+    → (slice_index table t < length starts) × (slice_index starts (slice_index table t) ≤ t * 2 ^ shift)
+
+-- Each of the first n symbols is at most the one at the first entry at whose place its part has begun.
+abbrev pub AreMarked : ℕ → List ℕ → ℕ → List ℕ → Type 0
+AreMarked n starts shift table =
+    (k : ℕ) → k < n → first_entry (slice_index starts k) shift < length table
+    → k ≤ slice_index table (first_entry (slice_index starts k) shift)

@@ -128,6 +128,17 @@ impl ModelBank {
         lookup::near(&self.cells[place.start..place.end], place, v)
     }
 
+    /// The same as [`near`](Self::near) with a search step of 1, by a search of all parts: the symbol at place `v` itself.
+    #[inline(always)]
+    pub fn near_at(&self, m: u32, v: u32) -> Near
+        requires { m < length self.now }
+        ensures near { IsNear (model_at self.now m).starts v result }
+        ensures starts { AreStarts (alphabet_size (model_at self.now m)) (model_at self.now m).starts }
+    {
+        let place = &self.places[m as usize];
+        lookup::near_without_table(&self.cells[place.start..place.end], place, v)
+    }
+
     /// Counts symbol `s` of model `m`.
     #[inline]
     pub fn count(&mut self, m: u32, s: u32)

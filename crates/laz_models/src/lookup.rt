@@ -168,19 +168,47 @@ fn start_or_guard(cells: &[u32], place: &Place, s: u32) -> u32
     part(cells, place, s).0
 }
 
-/// Where a search begins in a model that has no look-up table.
+/// The last symbol whose part begins at `v` or below, and where it begins.
+// What is out of line answers in registers: a struct would be answered in memory, also where it is not called.
 #[cold]
 #[inline(never)]
-fn near_without_table(cells: &[u32], place: &Place, v: u32) -> Near
+fn last_at(cells: &[u32], place: &Place, v: u32) -> (u32, u32)
+    requires { IsModel place.now cells.now }
+    ensures symbol { IsLastAt (counting_of place.now cells.now).starts v result.0 }
+    ensures start { result.1 ≡ slice_index (counting_of place.now cells.now).starts result.0 }
+{
+    let symbol = find(cells, place, v);
+    (symbol, part(cells, place, symbol).0)
+}
+
+/// The starts of the two parts after that of a symbol.
+#[cold]
+#[inline(never)]
+fn starts_after(cells: &[u32], place: &Place, symbol: u32) -> (u32, u32)
+    requires model { IsModel place.now cells.now }
+    requires symbol { symbol < place.now.size }
+    ensures next { result.0 ≡ start_or_guard (counting_of place.now cells.now).starts (symbol + 1) }
+    ensures after { result.1 ≡ start_or_guard (counting_of place.now cells.now).starts (symbol + 2) }
+{
+    (
+        start_or_guard(cells, place, symbol + 1),
+        start_or_guard(cells, place, symbol + 2),
+    )
+}
+
+/// Where a search begins in a model that has no look-up table.
+#[inline(always)]
+pub fn near_without_table(cells: &[u32], place: &Place, v: u32) -> Near
     requires { IsModel place.now cells.now }
     ensures { IsNear (counting_of place.now cells.now).starts v result }
 {
-    let symbol = find(cells, place, v);
+    let (symbol, start) = last_at(cells, place, v);
+    let (next, after) = starts_after(cells, place, symbol);
     Near {
         symbol,
-        start: part(cells, place, symbol).0,
-        next: start_or_guard(cells, place, symbol + 1),
-        after: start_or_guard(cells, place, symbol + 2),
+        start,
+        next,
+        after,
     }
 }
 

@@ -4,12 +4,12 @@ ghost use Rattle.std.specs.Prelude.{replicate};
 ghost use Rattle.std.specs.Prelude.{slice_index};
 ghost use Rattle.laz_models.specs.Counting.{halves_of, starts_of, AreCounts, AreStarts, after_symbol, new_cycle};
 ghost use Rattle.laz_models.specs.Counting.{small_counts, new_model};
-ghost use Rattle.laz_models.specs.Lookup.{IsLastAt, search_bits};
+ghost use Rattle.laz_models.specs.Lookup.{AreMarked, HaveBegun, IsLastAt, first_entry, search_bits};
 ghost use Rattle.laz_models.specs.Place.{counts_in, starts_in, guards_in, laid_state, counting_of, IsTable, IsShaped};
 ghost use Rattle.laz_models.specs.Place.{IsLaid};
 ghost use Rattle.laz_models.specs.Place.{IsDue, IsModel, SamePlace, extent};
 
-use crate::limits::{GUARD, MAX_COUNT, MAX_SYMBOLS};
+use crate::limits::{GUARD, MAX_COUNT, MAX_SYMBOLS, SYMBOL_PARTS};
 use crate::place::Place;
 
 /// Halves each count and rounds it up.
@@ -45,24 +45,37 @@ fn write_starts(starts: &mut [u32], counts: &[u32], total: u32)
     }
 }
 
-/// The last symbol whose part begins at `v` or below, searched from `first` on.
-#[inline]
-fn walk(starts: &[u32], first: u32, v: u32) -> u32
+/// The first entry of a look-up table at whose place a part that begins at `start` has begun.
+#[inline(always)]
+fn first_entry(start: u32, shift: u32) -> u32
+    requires start { start < SYMBOL_PARTS }
+    requires shift { shift ≤ 12 }
+    ensures { result ≡ first_entry start shift }
+{
+    (start + ((1 << shift) - 1)) >> shift
+}
+
+/// Writes each symbol to the first entry at whose place its part has begun. Where there are several, the last one stays.
+fn mark(table: &mut [u32], starts: &[u32], shift: u32)
+    requires some { 0 < length starts.now }
     requires few { length starts.now ≤ MAX_SYMBOLS }
     requires starts { AreStarts (length starts.now) starts.now }
-    requires symbol { first < length starts.now }
-    requires start { slice_index starts.now first ≤ v }
-    ensures { IsLastAt starts.now v result }
+    requires shift { shift ≤ 12 }
+    requires empty { (t : ℕ) → t < length table.old → slice_index table.old t ≡ 0 }
+    ensures begun { HaveBegun starts.now shift table.new }
+    ensures marked { AreMarked (length starts.now) starts.now shift table.new }
 {
-    for next in first as usize + 1..starts.len() {
-        if starts[next] > v {
-            return next as u32 - 1;
+    for s in 0..starts.len() {
+        let entry = first_entry(starts[s], shift) as usize;
+        if entry < table.len() {
+            table[entry] = s as u32;
         }
     }
-    starts.len() as u32 - 1
 }
 
 /// Writes the look-up table.
+// Symbols are marked and spread over the entries after them. A search of each entry's symbol would branch on how many
+// symbols begin at it, which nothing foresees.
 fn write_table(table: &mut [u32], starts: &[u32], shift: u32)
     requires some { 0 < length starts.now }
     requires few { length starts.now ≤ MAX_SYMBOLS }
@@ -71,10 +84,12 @@ fn write_table(table: &mut [u32], starts: &[u32], shift: u32)
     requires places { length table.old * 2 ^ shift < 2 ^ 17 }
     ensures { (t : ℕ) → t < length table.new → IsLastAt starts.now (t * 2 ^ shift) (slice_index table.new t) }
 {
-    let mut s = 0;
+    table.fill(0);
+    mark(table, starts, shift);
+    let mut last = 0;
     for t in 0..table.len() {
-        s = walk(starts, s, (t as u32) << shift);
-        table[t] = s;
+        last = table[t].max(last);
+        table[t] = last;
     }
 }
 

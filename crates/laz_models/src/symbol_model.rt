@@ -95,6 +95,15 @@ impl SymbolModel {
         self.bank.near(0, v)
     }
 
+    /// The same as [`near`](Self::near) with a search step of 1, by a search of all parts: the symbol at place `v` itself.
+    #[inline(always)]
+    pub fn near_at(&self, v: u32) -> Near
+        ensures near { IsNear self.now.starts v result }
+        ensures starts { AreStarts (alphabet_size self.now) self.now.starts }
+    {
+        self.bank.near_at(0, v)
+    }
+
     /// Counts symbol `s`.
     #[inline]
     pub fn count(&mut self, s: u32)

@@ -1,8 +1,8 @@
 -- Bytes that are read ahead, four at a time.
-use Rattle.std.proofs.Common.{◌≡◌, ℕ, zero, suc, ◌+◌, ◌-◌, ◌*◌, ◌/◌, ◌%◌, ◌^◌, ◌<◌, ◌≤◌, List, [], ◌∷◌, length, get_or, take, drop, Some, refl, sym, ap, ◌∙◌, arith, length-drop, ⊎_elim, lit<}
+use Rattle.std.proofs.Common.{◌≡◌, ℕ, zero, suc, ◌+◌, ◌-◌, ◌*◌, ◌/◌, ◌%◌, ◌^◌, ◌<◌, ◌≤◌, List, [], ◌∷◌, length, take, drop, Some, refl, sym, ap, ◌∙◌, arith, length-drop, ⊎_elim, lit<}
 use Rattle.std.proofs.Math.Nat.{pow-le-pow_right, mod-eq_of_lt}
 use Rattle.std.proofs.lemmas.Nat.{leading_top, mul-le}
-use Rattle.std.proofs.lemmas.List.{drop-drop, get_or-drop}
+use Rattle.std.proofs.lemmas.List.{drop-drop}
 use Rattle.std.proofs.lemmas.Bool.{cases_lt}
 use Rattle.std.proofs.lemmas.Bool.Decides.{nat_tests}
 use lib.Count.{count_leading_zeros}
@@ -103,11 +103,7 @@ joined_below value width word n few below small =
 same_reading : (v w n k : ℕ) (xs ys : List ℕ) → v ≡ w → n ≡ k → xs ≡ ys → Some (let r : Reading = record { value = v; len = n; rest = xs } in r) ≡ Some (record { value = w; len = k; rest = ys })
 same_reading v w n k xs ys e f g = cc
 
-abbrev pub ahead_of : ℕ → ℕ → ℕ → List ℕ → Reading
-ahead_of value width n bytes =
-    record { value = value * 256 ^ n + number (take 4 bytes) / 256 ^ (4 - n); len = width * 256 ^ n; rest = drop n bytes }
-
--- of four bytes that are left
+-- of the bytes that are left, by how many are taken
 reads_none : (value len from width : ℕ) (xs : List ℕ) (v : ℕ) → 16777216 ≤ width → v ≡ value - from
     → reading_after_part (record { value = value; len = len; rest = xs }) from width ≡ Some (record { value = v; len = width; rest = xs })
 unfolding reading_after_part
@@ -154,45 +150,29 @@ reads_three value len from width a b c xs v n h k e f =
 pub of_lacking : (n width : ℕ) → 0 < width → width < 4294967296 → n ≡ bytes_for width → Lacking width n
 of_lacking n width some small e = let all = lacking width some small in rw (e ∙ sym all.is) all
 
--- the first digits of a number of four
-first_digits : (a b c d : ℕ) → a < 256 → b < 256 → c < 256 → d < 256
-    → (number (a ∷ b ∷ c ∷ d ∷ []) / 16777216 ≡ a) × (number (a ∷ b ∷ c ∷ d ∷ []) / 65536 ≡ a * 256 + b) × (number (a ∷ b ∷ c ∷ d ∷ []) / 256 ≡ (a * 256 + b) * 256 + c) × (number (a ∷ b ∷ c ∷ d ∷ []) < 4294967296)
-first_digits a b c d p q r s = (omega arith, omega arith, omega arith, omega arith)
+reads_by : (value len from width n : ℕ) (bytes : List ℕ) → Lacking width n → 0 < width → n ≤ length bytes
+    → reading_after_part (record { value = value; len = len; rest = bytes }) from width ≡ Some (record { value = (value - from) * 256 ^ n + number (take n bytes); len = width * 256 ^ n; rest = drop n bytes })
+reads_by value len from width zero bytes l some enough =
+    reads_none value len from width bytes _ (omega (arith, l.long)) (omega arith) ∙ same_reading _ _ _ _ _ _ refl (omega arith) refl
+reads_by value len from width (suc zero) [] l some enough = absurd (omega arith)
+reads_by value len from width (suc zero) (a ∷ xs) l some enough = reads_one value len from width a xs _ _ (omega (arith, l.long)) (omega (arith, l.fits)) (omega arith) (omega arith)
+reads_by value len from width (suc (suc zero)) [] l some enough = absurd (omega arith)
+reads_by value len from width (suc (suc zero)) (a ∷ []) l some enough = absurd (omega arith)
+reads_by value len from width (suc (suc zero)) (a ∷ b ∷ xs) l some enough = reads_two value len from width a b xs _ _ (omega (arith, l.long)) (omega (arith, l.fits)) (omega arith) (omega arith)
+reads_by value len from width (suc (suc (suc zero))) [] l some enough = absurd (omega arith)
+reads_by value len from width (suc (suc (suc zero))) (a ∷ []) l some enough = absurd (omega arith)
+reads_by value len from width (suc (suc (suc zero))) (a ∷ b ∷ []) l some enough = absurd (omega arith)
+reads_by value len from width (suc (suc (suc zero))) (a ∷ b ∷ c ∷ xs) l some enough = reads_three value len from width a b c xs _ _ some (omega (arith, l.fits)) (omega arith) (omega arith)
+reads_by value len from width (suc (suc (suc (suc n)))) bytes l some enough = absurd (omega (arith, l.few))
 
-reads_listed : (value len from width n a b c d : ℕ) (xs : List ℕ) → a < 256 → b < 256 → c < 256 → d < 256 → n < 4 → Lacking width n → 0 < width
-    → reading_after_part (record { value = value; len = len; rest = a ∷ b ∷ c ∷ d ∷ xs }) from width ≡ Some (ahead_of (value - from) width n (a ∷ b ∷ c ∷ d ∷ xs))
-reads_listed value len from width zero a b c d xs p q r s few l some =
-    let digits = first_digits a b c d p q r s in
-    reads_none value len from width (a ∷ b ∷ c ∷ d ∷ xs) _ (omega (arith, l.long)) (omega (arith, digits.3)) ∙ same_reading _ _ _ _ _ _ refl (omega arith) refl
-reads_listed value len from width (suc zero) a b c d xs p q r s few l some =
-    let digits = first_digits a b c d p q r s in
-    reads_one value len from width a (b ∷ c ∷ d ∷ xs) _ _ (omega (arith, l.long)) (omega (arith, l.fits)) (omega (arith, digits.0)) (omega arith)
-reads_listed value len from width (suc (suc zero)) a b c d xs p q r s few l some =
-    let digits = first_digits a b c d p q r s in
-    reads_two value len from width a b (c ∷ d ∷ xs) _ _ (omega (arith, l.long)) (omega (arith, l.fits)) (omega (arith, digits.1)) (omega arith)
-reads_listed value len from width (suc (suc (suc zero))) a b c d xs p q r s few l some =
-    let digits = first_digits a b c d p q r s in
-    reads_three value len from width a b c (d ∷ xs) _ _ some (omega (arith, l.fits)) (omega (arith, digits.2)) (omega arith)
-reads_listed value len from width (suc (suc (suc (suc n)))) a b c d xs p q r s few l some = absurd (omega arith)
-
-reads_of : (value len from width n : ℕ) (bytes xs : List ℕ) → bytes ≡ xs → ((i : ℕ) → get_or bytes i 0 < 256) → 4 ≤ length bytes → Lacking width n → 0 < width
-    → reading_after_part (record { value = value; len = len; rest = bytes }) from width ≡ Some (ahead_of (value - from) width n bytes)
-reads_of value len from width n bytes [] e small enough l some = absurd (omega (arith, ap length e))
-reads_of value len from width n bytes (a ∷ []) e small enough l some = absurd (omega (arith, ap length e))
-reads_of value len from width n bytes (a ∷ b ∷ []) e small enough l some = absurd (omega (arith, ap length e))
-reads_of value len from width n bytes (a ∷ b ∷ c ∷ []) e small enough l some = absurd (omega (arith, ap length e))
-reads_of value len from width n bytes (a ∷ b ∷ c ∷ d ∷ xs) e small enough l some =
-    let all = rw e at small in
-    rw e (reads_listed value len from width n a b c d xs (all 0) (all 1) (all 2) (all 3) l.few l some)
-
--- the reading after a part, if four bytes are left
-pub reads_ahead : (value len from width n taken : ℕ) (bytes : List ℕ) → ((i : ℕ) → get_or bytes i 0 < 256) → taken + 4 ≤ length bytes → 0 < width → width < 4294967296 → n ≡ bytes_for width
+-- the reading after a part, if as many bytes are left as it lacks
+pub reads_ahead : (value len from width n taken : ℕ) (bytes : List ℕ) → taken + n ≤ length bytes → 0 < width → width < 4294967296 → n ≡ bytes_for width
     → reading_after_part (record { value = value; len = len; rest = drop taken bytes }) from width
-    ≡ Some (record { value = (value - from) * 256 ^ n + number (take 4 (drop taken bytes)) / 256 ^ (4 - n); len = width * 2 ^ (8 * n) % 4294967296; rest = drop (taken + n) bytes })
-reads_ahead value len from width n taken bytes small enough some fits e =
+    ≡ Some (record { value = (value - from) * 256 ^ n + number (take n (drop taken bytes)); len = width * 2 ^ (8 * n) % 4294967296; rest = drop (taken + n) bytes })
+reads_ahead value len from width n taken bytes enough some fits e =
     let l = of_lacking n width some fits e in
     let len_is : width * 2 ^ (8 * n) % 4294967296 ≡ width * 256 ^ n = ap (λ p. width * p % 4294967296) (powers n l.few) ∙ mod-eq_of_lt l.fits in
-    reads_of value len from width n (drop taken bytes) (drop taken bytes) refl (λ i. rw get_or-drop (small (taken + i))) (omega (arith, length-drop taken bytes)) l some
+    reads_by value len from width n (drop taken bytes) l some (omega (arith, length-drop taken bytes))
     ∙ same_reading _ _ _ _ _ _ refl (sym len_is) (drop-drop n taken bytes)
 
 pub long_ahead : (width n : ℕ) → 0 < width → width < 4294967296 → n ≡ bytes_for width → 16777216 ≤ width * 2 ^ (8 * n) % 4294967296

@@ -2,7 +2,10 @@
 use Rattle.std.proofs.Common.{◌≡◌, ℕ, ◌-◌, ◌*◌, ◌/◌, ◌<◌, ◌≤◌, min, Bool, true, false, leb, eqb, cond, sym, ap, ◌∙◌, arith, ⊎_elim}
 use Rattle.std.proofs.lemmas.Nat.{le-div, div_below, mul-le}
 use Rattle.std.proofs.lemmas.Bool.{cases_lt, cond-true, cond-false, eq-eqb, ne_eqb, le-leb, lt-leb}
-use Rattle.laz_range.specs.Cut.{Part, IsCut, width_in}
+use Rattle.laz_range.specs.declared.input.Input.{Input}
+use Rattle.laz_range.specs.Cut.{Part, Bit, IsCut, width_in}
+use Rattle.laz_range.specs.Reading.{IsIn}
+use Rattle.laz_range.specs.Input.{input_reading}
 use Rattle.laz_range.specs.Search.{AreTwo, part_of_two}
 
 -- a place, by a product
@@ -55,3 +58,13 @@ IsCut-two start next after value two below small =
 -- a place is below a guard
 pub place-small : (value len : ℕ) → value < len → 16777216 ≤ len → value / (len / 32768) < 65535
 place-small value len below long = div_below value (len / 32768) 65535 (omega arith) (omega arith)
+
+-- ---- bits
+-- the value lies in the part of the bit that it gives
+pub bit-lies : (i : Input) (p0 : ℕ) → i.value < i.length → IsIn (input_reading i) (Bit p0 (leb (p0 * (i.length / 8192)) i.value))
+bit-lies i p0 below =
+    let split : ℕ = p0 * (i.length / 8192) in
+    ⊎_elim
+    (λ (zero : i.value < split). rw (lt-leb split i.value zero) (record { above = omega arith; below = omega (arith, zero) }))
+    (λ (one : split ≤ i.value). rw (le-leb split i.value one) (record { above = one; below = omega (arith, one, below) }))
+    (cases_lt i.value split)

@@ -1,5 +1,5 @@
 -- What a decoder has read, in the words of what begins its bytes. Cited by crates above.
-use Rattle.std.proofs.Common.{◌≡◌, ℕ, ◌+◌, ◌-◌, ◌*◌, ◌/◌, ◌%◌, ◌^◌, ◌<◌, ◌≤◌, List, [], ◌∷◌, ◌++◌, length, take, drop, Option, Some, None, Result, Ok, Err, IfOk, get_or, OnErr, lit<, lit≤, refl, sym, ap, subst, ◌∙◌, arith, ⊎_elim, length-drop}
+use Rattle.std.proofs.Common.{◌≡◌, ℕ, ◌+◌, ◌-◌, ◌*◌, ◌/◌, ◌%◌, ◌^◌, ◌<◌, ◌≤◌, List, [], ◌∷◌, ◌++◌, length, take, drop, Option, Some, None, Result, Ok, Err, get_or, lit<, lit≤, refl, sym, ap, subst, ◌∙◌, arith, ⊎_elim, length-drop}
 use Rattle.std.specs.Option.{SomeIff, option_and_then}
 use Rattle.laz_range.specs.Cut.{Cut, Raw, IsCut, AreCuts, IsLike, one_event, raw_cuts}
 use Rattle.laz_range.specs.Span.{initial_span, span, number, Begins}
@@ -184,15 +184,6 @@ Reads-same (Err e) P cuts others old new same h =
       bytes = h.bytes;
       failed = h.failed;
     }
-
--- ---- the clauses of a call, from what it read
-pub Reads-read : {X E : Type 0} (result : Result X E) (P : X → Type 0) (cuts : X → List Cut) (old new : Decoding) → ((x : X) → P x → AreCuts (cuts x)) → Reads result P cuts old new → IfOk result (λ x. ReadsOn (cuts x) old new)
-Reads-read (Ok x) P cuts old new all h = Takes-ReadsOn P cuts old new x (all x h.choice.asked) h
-Reads-read (Err e) P cuts old new all h = tt
-
-pub Reads-none : {X E : Type 0} (result : Result X E) (P : X → Type 0) (cuts : X → List Cut) (old new : Decoding) → ((x : X) → P x → AreCuts (cuts x)) → Reads result P cuts old new → OnErr result (NoneBegins P cuts old)
-Reads-none (Ok x) P cuts old new all h = tt
-Reads-none (Err e) P cuts old new all h = TakesNone-NoneBegins P cuts old new all h
 
 pub AreCuts-raw : (b v : ℕ) → 0 < b → b ≤ 32 → v < 2 ^ b → AreCuts (raw_cuts b v)
 AreCuts-raw b v some few small =

@@ -1,18 +1,17 @@
 -- What the calls of a decoder read: symbols, bits and raw values. Cited by crates above.
-use Rattle.std.proofs.Common.{◌≡◌, ℕ, ◌+◌, ◌-◌, ◌*◌, ◌/◌, ◌^◌, ◌<◌, ◌≤◌, Bool, true, false, List, [], ◌∷◌, length, drop, Some, Result, Ok, Err, IsErr, OnOk, OnErr, ◌↔◌, refl, ◌∙◌, arith, inl, inr, ⊎_elim, ◌⊎◌, subst, length-drop}
+use Rattle.std.proofs.Common.{◌≡◌, ℕ, ◌+◌, ◌-◌, ◌*◌, ◌/◌, ◌^◌, ◌<◌, ◌≤◌, Bool, List, [], ◌∷◌, length, drop, Some, Result, Ok, Err, IsErr, OnOk, OnErr, ◌↔◌, refl, ◌∙◌, arith, inl, inr, ⊎_elim, ◌⊎◌, subst, length-drop}
 use Rattle.std.specs.Bool.{⊤}
 use Rattle.laz_range.specs.Cut.{Cut, Part, Bit, Raw, IsCut, AreCuts, IsLike, one_event, raw_cuts, start_in, width_in}
 use Rattle.laz_range.specs.Span.{bytes_for}
 use Rattle.laz_range.specs.Reading.{Reading, IsIn, follow, reading_after_part, quotient, RefusesPart, RefusesRaw}
-use Rattle.laz_range.specs.Decoding.{Decoding, reading_of, Takes, TakesNone, RunsOut, ReadsOn, NoneBegins, bit_of}
+use Rattle.laz_range.specs.Decoding.{Decoding, reading_of, Takes, TakesNone, RunsOut, ReadsOn, NoneBegins}
 use Rattle.laz_range.specs.Input.{Advances, Stops}
-use Rattle.laz_range.proofs.Refills.{follow-in, wide_small}
+use Rattle.laz_range.proofs.Refills.{raw_cuts-narrow, follow-in, wide_small}
 use Rattle.laz_range.proofs.Ends.{short_of, enough_for}
-use Rattle.laz_range.proofs.Decodings.{Only-one, Nothing-one, Only-pull, Takes-ReadsOn, TakesNone-NoneBegins, Only-wide, Nothing-wide_low, Nothing-wide_high, one-follow}
+use Rattle.laz_range.proofs.Decodings.{Reads-same, Only-one, Nothing-one, Only-pull, Takes-ReadsOn, TakesNone-NoneBegins, Only-wide, Nothing-wide_low, Nothing-wide_high, one-follow}
 use Rattle.laz_range.proofs.Chain.{some_injective}
 use Rattle.laz_range.proofs.Cuts.{raw_high}
 use Rattle.std.specs.Result.{MatchResult}
-use Rattle.std.proofs.lemmas.Bool.{le-leb, lt-leb}
 
 pub like_self : (c : Cut) → IsCut c → IsLike c c
 like_self (Part lo hi) is = (is, inl (refl, refl))
@@ -82,12 +81,6 @@ pub bit-stops : (d n : Decoding) (p0 : ℕ) (bit : Bool) → 0 < p0 → p0 < 819
     → Stops (reading_after_part (reading_of d) (start_in d.len (Bit p0 bit)) (width_in d.len (Bit p0 bit))) d n → TakesNone {X = Bool} (λ _. ⊤) (λ b. Bit p0 b ∷ []) d n
 bit-stops d n p0 bit some part lies h =
     TakesNone-pull (Bit p0) (IsLike (Bit p0 bit)) (λ _. ⊤) one_event d n (event-stops d n (Bit p0 bit) (some, part) lies h) (λ z q. ((some, part), refl))
-
-pub zero_said : (d : Decoding) (p0 : ℕ) → d.value < p0 * (d.len / 8192) → bit_of d p0 ≡ false
-zero_said d p0 h = lt-leb _ d.value h
-
-pub one_said : (d : Decoding) (p0 : ℕ) → p0 * (d.len / 8192) ≤ d.value → bit_of d p0 ≡ true
-one_said d p0 h = le-leb _ d.value h
 
 pub AreCuts-bit : (p0 : ℕ) (bit : Bool) → 0 < p0 → p0 < 8192 → AreCuts (Bit p0 bit ∷ [])
 AreCuts-bit p0 bit some part = ((some, part), tt)
@@ -185,12 +178,16 @@ wide-taken d m b low wide f is first second refused =
     both.1)
     refused
 
-pub narrow-refused : {E : Type 0} (d : Decoding) (b : ℕ) (result : Result ℕ E) → b ≤ 19 → IsErr result ↔ RefusesPart (reading_of d) b → IsErr result ↔ RefusesRaw (reading_of d) b
-narrow-refused d b result few h = (
-  λ e. inl (few, h.0 e),
-  λ refused.
-      ⊎_elim
-      (λ (narrow : (b ≤ 19) × RefusesPart (reading_of d) b). h.1 narrow.1)
-      (λ (both : (19 < b) × (RefusesPart (reading_of d) 16 ⊎ ((k : Reading) × (follow (reading_of d) (Raw 16 (quotient (reading_of d) 16)) ≡ Some k) × RefusesPart k (b - 16)))). absurd (omega (arith, few, both.0)))
-      refused,
-)
+-- ---- a raw value of one part
+pub narrow-takes : (d n : Decoding) (b v : ℕ) → b ≤ 19 → TakesRaw b d n v → Takes (λ w. w < 2 ^ b) (raw_cuts b) d n v
+narrow-takes d n b v few f = Reads-same {E = Unit {0}} (Ok v) (λ w. w < 2 ^ b) (λ w. Raw b w ∷ []) (raw_cuts b) d n (λ w. raw_cuts-narrow b w few) f
+
+pub narrow-stops : (d n : Decoding) (b : ℕ) → b ≤ 19 → StopsRaw b d n → TakesNone (λ w. w < 2 ^ b) (raw_cuts b) d n
+narrow-stops d n b few f = Reads-same {E = Unit {0}} (Err (tt {0})) (λ w. w < 2 ^ b) (λ w. Raw b w ∷ []) (raw_cuts b) d n (λ w. raw_cuts-narrow b w few) f
+
+pub narrow-taken : (d : Decoding) (b : ℕ) → b ≤ 19 → (RefusesPart (reading_of d) b → ⊥) → RefusesRaw (reading_of d) b → ⊥
+narrow-taken d b few one refused =
+    ⊎_elim
+    (λ (narrow : (b ≤ 19) × RefusesPart (reading_of d) b). one narrow.1)
+    (λ (both : (19 < b) × (RefusesPart (reading_of d) 16 ⊎ ((k : Reading) × (follow (reading_of d) (Raw 16 (quotient (reading_of d) 16)) ≡ Some k) × RefusesPart k (b - 16)))). omega (arith, few, both.0))
+    refused

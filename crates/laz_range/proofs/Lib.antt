@@ -20,3 +20,6 @@ pub mod Examples
 pub mod Composition
 pub mod Refusals
 pub mod Streams
+pub mod Fronts
+pub mod Windows
+pub mod LastWords

@@ -1,7 +1,6 @@
 -- All bytes of a renormalisation at once.
-use Rattle.std.proofs.Common.{◌≡◌, ℕ, zero, suc, ◌+◌, ◌-◌, ◌*◌, ◌/◌, ◌%◌, ◌^◌, ◌<◌, ◌≤◌, List, take, refl, sym, ap, ◌∙◌, arith}
+use Rattle.std.proofs.Common.{◌≡◌, ℕ, zero, suc, ◌+◌, ◌-◌, ◌*◌, ◌/◌, ◌%◌, ◌^◌, ◌<◌, ◌≤◌, refl, sym, ap, ◌∙◌, arith}
 use Rattle.std.proofs.Math.Nat.{mod-eq_of_lt}
-use Rattle.std.proofs.lemmas.List.{take-take}
 use Rattle.std.proofs.lemmas.Nat.{and_mask}
 use lib.Bits.{bit_and}
 use Rattle.laz_range.specs.Span.{Span, renormal_step, bytes_for}
@@ -71,21 +70,3 @@ renews w base v at next len shifts n some fits is small order count e =
 -- ---- the bytes of a word, one after another
 pub low_byte : (n : ℕ) → bit_and n 255 ≡ n % 256
 low_byte n = and_mask n 8
-
--- the bytes that a word puts after others are its first ones
-pub word_bytes : (w a b c d word n : ℕ) → word < 4294967296 → a ≡ w * 256 + word / 16777216 → b ≡ a * 256 + word / 65536 % 256 → c ≡ b * 256 + word / 256 % 256 → d ≡ c * 256 + word % 256
-    → (x : ℕ) → n ≤ 4 → (n ≡ 0 → x ≡ w) → (n ≡ 1 → x ≡ a) → (n ≡ 2 → x ≡ b) → (n ≡ 3 → x ≡ c) → (n ≡ 4 → x ≡ d) → x ≡ w * 256 ^ n + word / 256 ^ (4 - n)
-word_bytes w a b c d word zero small p q r s x few e f g h i = omega (arith, e refl)
-word_bytes w a b c d word (suc zero) small p q r s x few e f g h i = omega (arith, f refl)
-word_bytes w a b c d word (suc (suc zero)) small p q r s x few e f g h i = omega (arith, g refl)
-word_bytes w a b c d word (suc (suc (suc zero))) small p q r s x few e f g h i = omega (arith, h refl)
-word_bytes w a b c d word (suc (suc (suc (suc zero)))) small p q r s x few e f g h i = omega (arith, i refl)
-word_bytes w a b c d word (suc (suc (suc (suc (suc n))))) small p q r s x few e f g h i = absurd (omega arith)
-
--- fronts that are the same have the same shorter fronts
-pub same_front : (i j : ℕ) (xs ys : List ℕ) → i ≤ j → take j xs ≡ take j ys → take i xs ≡ take i ys
-same_front i j xs ys h e = sym (take-take i j xs h) ∙ (ap (take i) e ∙ take-take i j ys h)
-
--- all four of them
-pub word_whole : (w word x : ℕ) → x ≡ w * 256 ^ 4 + word / 256 ^ (4 - 4) → x ≡ w * 4294967296 + word
-word_whole w word x e = omega (arith, e)

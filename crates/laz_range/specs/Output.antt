@@ -1,29 +1,32 @@
 -- The output of an encoder.
-use Rattle.std.specs.Prelude.{◌≡◌, ℕ, ◌+◌, ◌-◌, ◌*◌, ◌≤◌, List, length, take, drop}
-use Rattle.laz_range.specs.Span.{Span, number, renormal_step}
+use Rattle.std.specs.Prelude.{◌≡◌, ℕ, ◌+◌, ◌-◌, ◌*◌, ◌/◌, ◌%◌, ◌≤◌, List, length, take, drop}
+use Rattle.laz_range.specs.Span.{Span, number, IsBytes}
 use Rattle.laz_range.specs.Coding.{Coding}
 use Rattle.laz_range.specs.declared.output.Output.{Output}
 
--- The bytes written from `at` on.
-abbrev pub written_bytes : Output → List ℕ
-written_bytes o = drop o.at (take o.next o.bytes.items)
+-- The low end of an interval, which the bytes from `at` up to `next` and the lower half of `low` spell.
+abbrev pub low_of : ℕ → ℕ → ℕ → List ℕ → ℕ
+low_of at next low bytes = number (drop at (take next bytes)) * 4294967296 + low % 4294967296
 
--- The span of an output, whose low end the bytes written and the base spell.
+-- The span of an output.
 abbrev pub span_of : Output → Span
-span_of o = record { low = number (written_bytes o) * 4294967296 + o.base; len = o.length; shifts = o.next - o.at }
+span_of o = record { low = low_of o.at o.next o.low o.bytes.items; len = o.length; shifts = o.next - o.at }
 
--- A span with a greater low end.
-abbrev pub span_from : Span → ℕ → Span
-span_from s from = record { low = s.low + from; len = s.len; shifts = s.shifts }
+-- Between two lists the bytes before `at` are the same, and in the second one those from it up to `next + 4` spell d.
+pub record Spells (at next d : ℕ) (old new : List ℕ) : Type 0 where
+  pub before : take at new ≡ take at old
+  pub spelled : number (drop at (take (next + 4) new)) ≡ d
 
--- A span with another length, renormalised.
-abbrev pub renewed : Span → ℕ → Span
-renewed s width = renormal_step (renormal_step (renormal_step (record { low = s.low; len = width; shifts = s.shifts })))
+-- The upper half of `low` is the number of the last four of the first `next` bytes, or of all of them.
+abbrev pub IsWindow : ℕ → ℕ → List ℕ → Type 0
+IsWindow low next bytes = low / 4294967296 ≡ number (take next bytes) % 4294967296
 
--- The room has four more bytes, for the base.
+-- The room has four more bytes, for the lower half of `low`, whose upper half is as the bytes written are.
 pub record HasRoom (o : Output) : Type 0 where
   pub from : o.at ≤ o.next
   pub room : o.next + 4 ≤ length o.bytes.items
+  pub bytes : IsBytes o.bytes.items
+  pub window : IsWindow o.low o.next o.bytes.items
 
 -- At most n more bytes were written, and all bytes before `at` stay.
 pub record Writes (n : ℕ) (old new : Output) : Type 0 where

@@ -12,6 +12,10 @@ reciprocal top = 140737488355328 / ((top + 1) * 2097152 - 1)
 abbrev pub AreReciprocals : List ℕ → Type 0
 AreReciprocals table = (i : ℕ) → i < 1024 → slice_index table i ≡ reciprocal (i + 1024)
 
+-- The top 11 bits of a length without its leading zeros.
+abbrev pub top_bits : ℕ → ℕ
+top_bits len = len * 2 ^ leading_zeros w32 len / 2097152
+
 -- The place of a value, of 2 ^ 15 parts of a length, as the reciprocal of the length's top 11 bits gives it.
 abbrev pub estimated_place : ℕ → ℕ → ℕ
 estimated_place value len =

@@ -1,8 +1,11 @@
 //! One added to the number that bytes spell.
-ghost use Rattle.std.specs.Prelude.{◌≡◌, ◌+◌, ◌-◌, ◌<◌, ◌≤◌, ◌^◌, length, take, drop};
+ghost use Rattle.std.specs.Prelude.{◌≡◌, ◌+◌, ◌-◌, ◌<◌, ◌≤◌, ◌^◌, length, take};
 ghost use Rattle.laz_range.specs.Span.{number};
 
 /// Adds one to the number that the bytes spell, most significant byte first.
+// Carries that run so far are rare, so they are kept out of line.
+#[cold]
+#[inline(never)]
 fn carry(written: &mut [u8])
     requires { number written.old + 1 < 256 ^ length written.old }
     ensures { number written.new ≡ number written.old + 1 }
@@ -15,16 +18,12 @@ fn carry(written: &mut [u8])
     written[i] += 1;
 }
 
-/// Adds one to the number that the bytes from `at` up to `next` spell.
-// Carries are rare, so they are kept out of line.
-#[inline(never)]
-pub fn carry_between(bytes: &mut Vec<u8>, at: usize, next: usize)
-    requires order { at ≤ next }
-    requires within { next ≤ length bytes.old.items }
-    requires fits { number (drop at (take next bytes.old.items)) + 1 < 256 ^ (next - at) }
-    ensures number { number (drop at (take next bytes.new.items)) ≡ number (drop at (take next bytes.old.items)) + 1 }
-    ensures before { take at bytes.new.items ≡ take at bytes.old.items }
-    ensures length { length bytes.new.items ≡ length bytes.old.items }
+/// Adds one to the number that the first `end` bytes spell.
+#[inline(always)]
+pub fn carry_into(bytes: &mut [u8], end: usize)
+    requires within { end ≤ length bytes.old }
+    requires fits { number (take end bytes.old) + 1 < 256 ^ end }
+    ensures { number (take end bytes.new) ≡ number (take end bytes.old) + 1 }
 {
-    carry(&mut bytes[at..next]);
+    carry(&mut bytes[..end]);
 }

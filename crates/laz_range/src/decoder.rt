@@ -12,8 +12,8 @@ ghost use Rattle.laz_range.specs.Input.{Advances, Stops};
 pub use crate::input::Bad;
 use crate::input::{Input, advance};
 use crate::limits::{BIT_PARTS, MAX_LENGTH, MAX_RAW_BITS, MIN_LENGTH, SYMBOL_PARTS};
-use crate::reciprocal::estimate;
-use crate::search::{either, parts};
+use crate::reciprocal::{estimate, top_of};
+use crate::search::{bit_part, either, parts};
 use std::marker::Model;
 
 /// Reads events from borrowed bytes.
@@ -64,6 +64,7 @@ impl<'a> Decoder<'a> {
                 value,
                 taken: 4,
                 length: MAX_LENGTH,
+                top: top_of(MAX_LENGTH),
             },
             failed: false,
         })
@@ -71,6 +72,7 @@ impl<'a> Decoder<'a> {
 
     /// The part that the value lies in, of 2^15 parts. The next symbol of a distribution is the last one whose part
     /// begins there or below.
+    #[inline(always)]
     pub fn at15(&self) -> u32
         requires { self.now.failed ≡ false }
         ensures place { result ≡ symbol_place self.now }
@@ -82,6 +84,7 @@ impl<'a> Decoder<'a> {
 
     /// Takes the symbol whose part is from `lo` up to `hi` of 2^15 parts, which the value lies in. Bad means that the
     /// bytes run out: no symbol of any distribution with this part begins the rest of them.
+    #[inline(always)]
     pub fn take15(&mut self, lo: u32, hi: u32) -> Result<(), Bad>
         requires good { self.old.failed ≡ false }
         requires part { lo < hi }
@@ -114,7 +117,7 @@ impl<'a> Decoder<'a> {
         ensures below { result ≤ symbol_place self.now }
         ensures within { result < SYMBOL_PARTS }
     {
-        estimate(self.input.value, self.input.length)
+        estimate(self.input.value, self.input.length, self.input.top)
     }
 
     /// Whether the value lies at a place of 2^15 parts or above.
@@ -151,6 +154,7 @@ impl<'a> Decoder<'a> {
 
     /// Takes a bit, where 0 has the first `p0` of 2^13 parts. Bad means that the bytes run out: neither bit begins the
     /// rest of them.
+    #[inline(always)]
     pub fn take13(&mut self, p0: u32) -> Result<bool, Bad>
         requires good { self.old.failed ≡ false }
         requires some { 0 < p0 }
@@ -161,18 +165,15 @@ impl<'a> Decoder<'a> {
         ensures read { IfOk result (λ bit. ReadsOn (Bit p0 bit ∷ []) self.old self.new) }
         ensures none { OnErr result (NoneBegins {X = Bool} (λ _. ⊤) (λ bit. Bit p0 bit ∷ []) self.old) }
     {
-        let split = p0 * (self.input.length >> 13);
-        if self.input.value < split {
-            self.take_part(0, split)?;
-            return Ok(false);
-        }
-        let width = self.input.length - split;
-        self.take_part(split, width)?;
-        Ok(true)
+        let bit = p0 * (self.input.length >> 13) <= self.input.value;
+        let (from, width) = bit_part(p0, self.input.length, bit);
+        self.take_part(from, width)?;
+        Ok(bit)
     }
 
     /// Takes a raw value of `bits` bits, 1 to 32. Bad means that the bytes run out or spell no such value: none begins
     /// the rest of them.
+    #[inline(always)]
     pub fn take_raw(&mut self, bits: u32) -> Result<u32, Bad>
         requires good { self.old.failed ≡ false }
         requires some { 0 < bits }
@@ -182,15 +183,20 @@ impl<'a> Decoder<'a> {
         ensures read { IfOk result (λ v. ReadsOn (raw_cuts bits v) self.old self.new) }
         ensures none { OnErr result (NoneBegins (λ v. v < 2 ^ bits) (raw_cuts bits) self.old) }
     {
+        let (mut low, mut more) = (0, bits);
         if bits > MAX_RAW_BITS {
-            let low = self.take_raw_part(16)?;
-            let high = self.take_raw_part(bits - 16)?;
+            low = self.take_raw_part(16)?;
+            more = bits - 16;
+        }
+        let high = self.take_raw_part(more)?;
+        if bits > MAX_RAW_BITS {
             return Ok((high << 16) + low);
         }
-        self.take_raw_part(bits)
+        Ok(high)
     }
 
     /// Takes a raw value of at most 19 bits, which is one event.
+    #[inline(always)]
     fn take_raw_part(&mut self, bits: u32) -> Result<u32, Bad>
         requires good { self.old.failed ≡ false }
         requires some { 0 < bits }
@@ -210,6 +216,7 @@ impl<'a> Decoder<'a> {
     }
 
     /// Goes on after a part that the value lies in.
+    #[inline(always)]
     fn take_part(&mut self, from: u32, width: u32) -> Result<(), Bad>
         requires good { self.old.failed ≡ false }
         requires above { from ≤ self.old.value }
@@ -227,6 +234,7 @@ impl<'a> Decoder<'a> {
     }
 
     /// Whether all bytes are taken.
+    #[inline(always)]
     pub fn at_end(&self) -> bool
         requires { self.now.failed ≡ false }
         ensures { IsTrue result ↔ (self.now.taken ≡ length self.now.bytes) }

@@ -6,6 +6,8 @@ ghost use Rattle.laz_range.specs.Coding.{Codes};
 
 use crate::limits::{BIT_PARTS, MAX_LENGTH, MAX_RAW_BITS, SYMBOL_PARTS};
 use crate::output::{Output, end, narrow};
+use crate::search::bit_part;
+use crate::window::last_four;
 use std::marker::Model;
 
 /// Writes events into a vector that it is given, its room.
@@ -40,8 +42,8 @@ impl Encoder {
     {
         Encoder {
             output: Output {
+                low: (last_four(&room, at) as u64) << 32,
                 bytes: room,
-                base: 0,
                 at,
                 next: at,
                 length: MAX_LENGTH,
@@ -76,17 +78,13 @@ impl Encoder {
         requires left { 3 ≤ self.old.left }
         ensures { Codes self.old self.new (Bit p0 bit ∷ []) }
     {
-        let from = p0 * (self.output.length >> 13);
-        if bit {
-            let width = self.output.length - from;
-            narrow(&mut self.output, from, width);
-        } else {
-            narrow(&mut self.output, 0, from);
-        }
+        let (from, width) = bit_part(p0, self.output.length, bit);
+        narrow(&mut self.output, from, width);
     }
 
     /// Codes the raw value `v` of `bits` bits, 1 to 32. A value of more than 19 bits is coded as its low 16 bits and
     /// then the rest.
+    #[inline(always)]
     pub fn raw(&mut self, bits: u32, v: u32)
         requires some { 0 < bits }
         requires few { bits ≤ 32 }
@@ -95,12 +93,13 @@ impl Encoder {
         requires wide { MAX_RAW_BITS < bits → 4 ≤ self.old.left }
         ensures { Codes self.old self.new (raw_cuts bits v) }
     {
+        let (mut more, mut rest) = (bits, v);
         if bits > MAX_RAW_BITS {
             self.raw_part(16, v & 0xffff);
-            self.raw_part(bits - 16, v >> 16);
-        } else {
-            self.raw_part(bits, v);
+            more = bits - 16;
+            rest = v >> 16;
         }
+        self.raw_part(more, rest);
     }
 
     /// Codes a raw value of at most 19 bits, which is one event. One of at most 16 bits takes at most two bytes.

@@ -16,9 +16,11 @@ mod input;
 mod lacking;
 mod laws;
 mod limits;
+mod number;
 mod output;
 mod reciprocal;
 mod search;
+mod window;
 
 pub use decoder::{Bad, Decoder};
 pub use encoder::Encoder;

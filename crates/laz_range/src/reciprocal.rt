@@ -1,6 +1,6 @@
 //! Reciprocals of the interval's length, so that a place is estimated without a division.
 ghost use Rattle.std.specs.Prelude.{◌≡◌, ◌*◌, ◌/◌, ◌<◌, ◌≤◌};
-ghost use Rattle.laz_range.specs.Search.{reciprocal, AreReciprocals, estimated_place};
+ghost use Rattle.laz_range.specs.Search.{reciprocal, AreReciprocals, estimated_place, top_bits};
 
 use crate::limits::{MIN_LENGTH, SYMBOL_PARTS};
 
@@ -108,16 +108,26 @@ fn reciprocal(top: u32) -> u32
     entry(&RECIPROCALS, top)
 }
 
-/// A place of 2^15 parts at or below the one that the value lies in.
+/// The top 11 bits of a length without its leading zeros.
+// The mask changes nothing. It lets one bit scan serve this and the number of bytes that a length lacks.
 #[inline(always)]
-pub fn estimate(value: u32, len: u32) -> u32
+pub fn top_of(len: u32) -> u32
+    requires { 0 < len }
+    ensures { result ≡ top_bits len }
+{
+    (len << (len.leading_zeros() & 31)) >> 21
+}
+
+/// A place of 2^15 parts at or below the one that the value lies in. `top` has the top bits of the length.
+#[inline(always)]
+pub fn estimate(value: u32, len: u32, top: u32) -> u32
     requires long { MIN_LENGTH ≤ len }
     requires below { value < len }
+    requires top { top ≡ top_bits len }
     ensures is { result ≡ estimated_place value len }
     ensures place { result * (len / SYMBOL_PARTS) ≤ value }
     ensures within { result < SYMBOL_PARTS }
 {
-    let zeros = len.leading_zeros();
-    let product = value as u64 * reciprocal((len << zeros) >> 21) as u64;
-    (product >> (32 - zeros)) as u32
+    let product = value as u64 * reciprocal(top) as u64;
+    (product >> (32 - len.leading_zeros())) as u32
 }

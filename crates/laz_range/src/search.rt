@@ -1,9 +1,9 @@
 //! The symbol whose part holds the value, by products in place of a division.
 ghost use Rattle.std.specs.Prelude.{◌≡◌, ◌+◌, ◌*◌, ◌/◌, ◌<◌, ◌≤◌, nat_le, if◌then◌else◌};
-ghost use Rattle.laz_range.specs.Cut.{start_in, width_in};
+ghost use Rattle.laz_range.specs.Cut.{Bit, start_in, width_in};
 ghost use Rattle.laz_range.specs.Search.{AreTwo, part_of_two};
 
-use crate::limits::{MIN_LENGTH, SYMBOL_PARTS};
+use crate::limits::{BIT_PARTS, MIN_LENGTH, SYMBOL_PARTS};
 
 /// A number of parts, as a length.
 #[inline(always)]
@@ -19,6 +19,26 @@ fn choose(second: bool, yes: u64, no: u64) -> u64
     ensures { result ≡ if second then yes else no }
 {
     if second { yes } else { no }
+}
+
+/// Where the part of a bit begins, and how long it is.
+// Both are chosen. A branch would be mispredicted.
+#[inline(always)]
+pub fn bit_part(p0: u32, len: u32, bit: bool) -> (u32, u32)
+    requires some { 0 < p0 }
+    requires part { p0 < BIT_PARTS }
+    requires long { MIN_LENGTH ≤ len }
+    ensures from { result.0 ≡ start_in len (Bit p0 bit) }
+    ensures width { result.1 ≡ width_in len (Bit p0 bit) }
+    ensures some { 0 < result.1 }
+    ensures within { result.0 + result.1 ≤ len }
+{
+    let split = p0 * (len >> 13);
+    if bit {
+        (split, len - split)
+    } else {
+        (0, split)
+    }
 }
 
 /// Whether the value lies in the second of two parts, where its part begins, and how long that is.

@@ -2,17 +2,7 @@ use Rattle.std.proofs.Common.{arith}
 use Rattle.laz_models.proofs.Banks.{fits-place}
 use Rattle.laz_models.proofs.lookup.near_without_table.Goals as goal
 
-pub part-requires-clause-symbol : goal.part-requires-clause-symbol
-part-requires-clause-symbol c =
+pub starts_after-next-requires-clause-symbol : goal.starts_after-next-requires-clause-symbol
+starts_after-next-requires-clause-symbol c =
     let fits = fits-place c.args.place.now c.args.cells.now c.requires in
-    omega (arith, c.find-symbol.ensures.symbol, fits.starts.length, c.requires.shape.few)
-
-pub overflow_add-symbol : goal.overflow_add-symbol
-overflow_add-symbol c =
-    let fits = fits-place c.args.place.now c.args.cells.now c.requires in
-    omega (arith, c.find-symbol.ensures.symbol, fits.starts.length, c.requires.shape.few)
-
-pub overflow_add-symbol-2 : goal.overflow_add-symbol-2
-overflow_add-symbol-2 c =
-    let fits = fits-place c.args.place.now c.args.cells.now c.requires in
-    omega (arith, c.find-symbol.ensures.symbol, fits.starts.length, c.requires.shape.few)
+    omega (arith, c.last_at-symbol.ensures.symbol.symbol, fits.starts.length, c.requires.shape.few)

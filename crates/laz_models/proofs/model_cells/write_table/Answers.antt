@@ -1,21 +1,23 @@
-use Rattle.std.proofs.Common.{◌≡◌, ℕ, ◌*◌, ◌%◌, ◌^◌, ◌<◌, ◌≢◌, length, arith, below_more, get_or-set_other, get_or-set_same}
-use Rattle.std.proofs.Math.Nat.{mod-eq_of_lt, mul-le-mul_right}
-use Rattle.laz_models.specs.Lookup.{IsLastAt}
+use Rattle.std.proofs.Common.{◌<◌, ◌≢◌, get_or, length, arith, below_more, get_or-set_other, get_or-set_same}
+use Rattle.laz_models.proofs.Tables.{greatest-of, last-greatest}
 use Rattle.laz_models.proofs.model_cells.write_table.Goals as goal
-
--- the place of an entry fits
-place : (t n unit : ℕ) → t < n → n * unit < 131072 → (t * unit) % 4294967296 ≡ t * unit
-place t n unit below few = mod-eq_of_lt (omega (arith, mul-le-mul_right {m = t} {n = n} unit (omega arith)))
 
 pub loop-t-preserved : goal.loop-t-preserved
 loop-t-preserved c =
-    let here : c.loop-t.t < length c.loop-t.table = omega arith in
-    let fits : (c.loop-t.t * 2 ^ c.args.shift) % 4294967296 ≡ c.loop-t.t * 2 ^ c.args.shift = place c.loop-t.t (length c.args.table.now) (2 ^ c.args.shift) (omega arith) c.requires.places in
-    let last : IsLastAt c.args.starts.now (c.loop-t.t * 2 ^ c.args.shift) c.walk-s.result = rw fits at c.walk-s.ensures in
+    let l = c.loop-t in
+    let starts = c.args.starts.now in
+    let init = c.mark.new.table in
+    let here : l.t < length l.table = omega arith in
+    let inside : l.t < length init = omega arith in
+    let g = greatest-of starts init c.args.shift l.t l.last (get_or l.table l.t 0) c.max-last.result l.invariant.begun l.invariant.marked inside (l.invariant.rest l.t (omega arith)) c.max-last.ensures l.invariant.symbol l.invariant.start l.invariant.greatest in
     record {
-      symbol = last.symbol;
-      start = omega (arith, last.start);
+      begun = l.invariant.begun;
+      marked = l.invariant.marked;
+      symbol = g.symbol;
+      start = omega (arith, g.start);
+      greatest = g.greatest;
+      rest = λ i after. let other : i ≢ l.t = omega (arith, after) in rw get_or-set_other (l.invariant.rest i (omega (arith, after)));
       entries = below_more _ _
-          (λ t below. let other : t ≢ c.loop-t.t = omega arith in rw get_or-set_other (c.loop-t.invariant.entries t below))
-          (rw (get_or-set_same c.loop-t.table c.loop-t.t c.walk-s.result 0 here) last);
+          (λ i below. let other : i ≢ l.t = omega arith in rw get_or-set_other (l.invariant.entries i below))
+          (rw (get_or-set_same l.table l.t c.max-last.result 0 here) (last-greatest starts c.args.shift l.t c.max-last.result g));
     }

@@ -1,22 +1,22 @@
-use Rattle.std.proofs.Common.{◌≡◌, ◌+◌, ◌-◌, ◌∙◌, ap, sym, take, drop, lit≤, arith}
-use Rattle.laz_range.specs.Span.{number, final_number}
+use Rattle.std.proofs.Common.{◌≡◌, ◌+◌, ◌-◌, ◌≤◌, ◌∙◌, List, ℕ, ap, length, take, drop, arith}
+use Rattle.std.proofs.lemmas.List.{with_items_is}
+use Rattle.laz_range.specs.Span.{final_number, bytes_of}
 use Rattle.laz_range.specs.Output.{span_of}
 use Rattle.laz_range.proofs.Numbers.{digits_from_number, IsBytes-part}
 use Rattle.laz_range.proofs.Spans.{length-written}
-use Rattle.laz_range.proofs.Renewals.{word_whole}
 use Rattle.laz_range.proofs.output.end.Goals as goal
 
 pub returns-clause-bytes : goal.returns-clause-bytes
 returns-clause-bytes c =
-    let old = c.args.output in
-    let new = c.last_word-word.new.output in
-    let items = c.put_word.new.bytes.items in
-    let same = c.last_word-word.ensures.rest.at in
-    let place : old.at + (new.next - new.at + 4) ≡ new.next + 4 = omega arith in
-    let value : number (drop old.at (take (new.next + 4) items)) ≡ final_number (span_of old) =
-    ap (λ k. number (drop k (take (new.next + 4) items))) (sym same) ∙ (word_whole _ c.last_word-word.result _ (c.put_word.ensures.number 4 (lit≤ tt)) ∙ c.last_word-word.ensures.number) in
-    rw place
-    (digits_from_number (drop old.at (take (new.next + 4) items)) (old.next - old.at + 4) (final_number (span_of old))
-    (IsBytes-part items old.at (new.next + 4) c.put_word.ensures.bytes)
-    (length-written old.at (new.next + 4) items (omega arith) (omega arith) ∙ omega arith)
-    value)
+    let o = c.args.output in
+    let ys = c.write_last.new.bytes in
+    let same : length ys ≡ o.bytes.len = c.write_last.auto.bytes ∙ omega (arith, o.bytes.ok.0) in
+    let room : o.next + 4 ≤ length ys = omega (arith, c.write_last.auto.bytes, c.requires.placed.room) in
+    let place : o.at + (o.next - o.at + 4) ≡ o.next + 4 = omega (arith, c.requires.placed.from) in
+    let spells = rw c.deref_mut.ensures.value at c.write_last.ensures.spells in
+    let bytes : drop o.at (take (o.next + 4) ys) ≡ bytes_of (span_of o) =
+    digits_from_number (drop o.at (take (o.next + 4) ys)) (o.next - o.at + 4) (final_number (span_of o))
+    (IsBytes-part ys o.at (o.next + 4) c.write_last.ensures.bytes)
+    (length-written o.at (o.next + 4) ys (omega (arith, c.requires.placed.from)) room ∙ omega (arith, c.requires.placed.from))
+    spells.spelled in
+    rw place (ap (λ (xs : List ℕ). drop o.at (take (o.next + 4) xs)) (with_items_is o.bytes ys same) ∙ bytes)

@@ -1,9 +1,10 @@
-use Rattle.std.proofs.Common.{arith, lit≤}
 use Rattle.laz_range.proofs.Cuts.{raw_high}
 use Rattle.laz_range.proofs.encoder.Encoder.raw.Goals as goal
+use Rattle.laz_range.proofs.encoder.Encoder.raw.Goals.{then-bits-gt-MAX_RAW_BITS, else-bits-gt-MAX_RAW_BITS}
 
-pub raw_part-requires-then-bits-gt-MAX_RAW_BITS-clause-value : goal.raw_part-requires-then-bits-gt-MAX_RAW_BITS-clause-value
-raw_part-requires-then-bits-gt-MAX_RAW_BITS-clause-value c = raw_high _ _ c.if-bits-gt-MAX_RAW_BITS.true c.requires.value
-
-pub raw_part-requires-then-bits-gt-MAX_RAW_BITS-clause-left : goal.raw_part-requires-then-bits-gt-MAX_RAW_BITS-clause-left
-raw_part-requires-then-bits-gt-MAX_RAW_BITS-clause-left c = omega (arith, c.raw_part.ensures.short (lit≤ tt), c.requires.wide c.if-bits-gt-MAX_RAW_BITS.true)
+pub raw_part-requires-2-clause-value : goal.raw_part-requires-2-clause-value
+raw_part-requires-2-clause-value c =
+    elim c.if-bits-gt-MAX_RAW_BITS.branch [
+      | then-bits-gt-MAX_RAW_BITS w ↦ rw (w.rest-is, w.more-is) (raw_high _ _ w.if-bits-gt-MAX_RAW_BITS.true c.requires.value)
+      | else-bits-gt-MAX_RAW_BITS w ↦ rw (w.rest-is, w.more-is) c.requires.value
+    ]
