@@ -19,6 +19,7 @@ use laz_range::{Bad, Decoder, Encoder};
 use laz_rgb::{Bytes, Rgb};
 
 // How long a time's part is.
+#[inline(always)]
 pub(crate) fn time_length(item: &Option<GpsTime>) -> usize
     ensures { result ≡ time_length (has item.now) }
 {
@@ -41,6 +42,7 @@ pub(crate) fn start_time(item: &mut Option<GpsTime>, first: &[u8])
 }
 
 // Codes a time.
+#[inline(always)]
 pub(crate) fn code_time(encoder: &mut Encoder, item: &mut Option<GpsTime>, part: &[u8])
     requires part { length part.now ≡ time_length (has item.old) }
     requires left { 21 ≤ encoder.old.left }
@@ -60,6 +62,7 @@ pub(crate) fn code_time(encoder: &mut Encoder, item: &mut Option<GpsTime>, part:
 }
 
 // Reads a time.
+#[inline(always)]
 pub(crate) fn read_time(
     decoder: &mut Decoder<'_>,
     item: &mut Option<GpsTime>,
@@ -86,6 +89,7 @@ pub(crate) fn read_time(
 }
 
 // How long a colour's part is.
+#[inline(always)]
 pub(crate) fn colour_length(item: &Option<Rgb>) -> usize
     ensures { result ≡ colour_length (has item.now) }
 {
@@ -108,6 +112,7 @@ pub(crate) fn start_colour(item: &mut Option<Rgb>, first: &[u8])
 }
 
 // Codes a colour.
+#[inline(always)]
 pub(crate) fn code_colour(encoder: &mut Encoder, item: &mut Option<Rgb>, part: &[u8])
     requires part { length part.now ≡ colour_length (has item.old) }
     requires left { 21 ≤ encoder.old.left }
@@ -127,6 +132,7 @@ pub(crate) fn code_colour(encoder: &mut Encoder, item: &mut Option<Rgb>, part: &
 }
 
 // Reads a colour.
+#[inline(always)]
 pub(crate) fn read_colour(
     decoder: &mut Decoder<'_>,
     item: &mut Option<Rgb>,
@@ -166,6 +172,7 @@ pub(crate) fn start_extra(item: &mut Option<Bytes>, first: &[u8])
 }
 
 // Codes extra bytes.
+#[inline(always)]
 pub(crate) fn code_extra(encoder: &mut Encoder, item: &mut Option<Bytes>, part: &[u8])
     requires part { length part.now ≡ extra_length item.old }
     requires left { 3 * extra_length item.old ≤ encoder.old.left }
@@ -184,6 +191,7 @@ pub(crate) fn code_extra(encoder: &mut Encoder, item: &mut Option<Bytes>, part: 
 }
 
 // Reads extra bytes.
+#[inline(always)]
 pub(crate) fn read_extra(
     decoder: &mut Decoder<'_>,
     item: &mut Option<Bytes>,

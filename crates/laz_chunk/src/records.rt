@@ -34,6 +34,7 @@ pub(crate) fn start_record(items: &mut Items, first: &[u8])
 }
 
 // Codes a record.
+#[inline(always)]
 fn code_record(encoder: &mut Encoder, items: &mut Items, bytes: &[u8])
     requires whole { length bytes.now ≡ record_length (layout_in items.old) }
     requires left { 3 * most_events (layout_in items.old) ≤ encoder.old.left }
@@ -56,6 +57,7 @@ fn code_record(encoder: &mut Encoder, items: &mut Items, bytes: &[u8])
 }
 
 // Reads a record.
+#[inline(always)]
 fn read_record(decoder: &mut Decoder<'_>, items: &mut Items, bytes: &mut [u8]) -> Result<(), Bad>
     requires whole { length bytes.old ≡ record_length (layout_in items.old) }
     requires good { decoder.old.failed ≡ false }
@@ -80,6 +82,7 @@ fn read_record(decoder: &mut Decoder<'_>, items: &mut Items, bytes: &mut [u8]) -
 }
 
 // Codes records.
+#[inline(always)]
 pub(crate) fn put_records(
     encoder: &mut Encoder,
     items: &mut Items,
@@ -103,6 +106,7 @@ pub(crate) fn put_records(
 }
 
 // Reads records.
+#[inline(always)]
 pub(crate) fn take_records(
     decoder: &mut Decoder<'_>,
     items: &mut Items,

@@ -210,6 +210,13 @@ fn drawn_records_go_both_ways(rt: HostRuntime) -> Result<(), Fail> {
     Ok(())
 }
 
+// The greatest chunk that `las` makes unasked has 50,000 points; this one has five times as many, of the longest records.
+#[test]
+fn long_chunk_goes_both_ways(rt: HostRuntime) -> Result<(), Fail> {
+    assert!(rt; go_both_ways(rt.alloc(), 3, 192, 250_000)?);
+    Ok(())
+}
+
 // Records of zeros with these times.
 fn records_with(alloc: Global, times: &[u64]) -> Result<Vec<u8>, AllocError> {
     let mut records = Vec::new(alloc);

@@ -16,7 +16,7 @@ use crate::times::{Times, put_time_symbol, put_word};
 use laz_range::Encoder;
 
 // The high word of a time.
-#[inline]
+#[inline(always)]
 pub(crate) fn high(time: u64) -> u32
     ensures { result ≡ time / 4294967296 }
 {
@@ -24,7 +24,7 @@ pub(crate) fn high(time: u64) -> u32
 }
 
 // The low word of a time.
-#[inline]
+#[inline(always)]
 pub(crate) fn low(time: u64) -> u32
     ensures { result ≡ time % 4294967296 }
 {
@@ -32,7 +32,7 @@ pub(crate) fn low(time: u64) -> u32
 }
 
 // Codes a switch by `i`. A switch by 0 is none.
-#[inline]
+#[inline(always)]
 fn put_switch(times: &mut Times, encoder: &mut Encoder, i: usize)
     requires state { IsTimeState (state_of times.old) }
     requires few { i < 4 }
@@ -54,7 +54,7 @@ fn put_switch(times: &mut Times, encoder: &mut Encoder, i: usize)
 }
 
 // Codes a time that is near to the last one of its sequence.
-#[inline]
+#[inline(always)]
 fn put_near(times: &mut Times, encoder: &mut Encoder, time: u64)
     requires state { IsTimeState (state_of times.old) }
     requires left { 15 ≤ encoder.old.left }
@@ -87,7 +87,7 @@ fn put_near(times: &mut Times, encoder: &mut Encoder, time: u64)
 }
 
 // Codes a time that opens a sequence.
-#[inline]
+#[inline(always)]
 fn put_new(times: &mut Times, encoder: &mut Encoder, time: u64)
     requires state { IsTimeState (state_of times.old) }
     requires left { 21 ≤ encoder.old.left }
@@ -109,7 +109,7 @@ fn put_new(times: &mut Times, encoder: &mut Encoder, time: u64)
 }
 
 // Whether a time is near to the last one of the sequence `i` on.
-#[inline]
+#[inline(always)]
 fn is_near(sequences: &Sequences, i: usize, time: u64) -> bool
     requires last { sequences.now.last < 4 }
     requires few { i < 4 }
@@ -120,7 +120,7 @@ fn is_near(sequences: &Sequences, i: usize, time: u64) -> bool
 }
 
 // How many sequences on the first one is that a time is near to.
-#[inline]
+#[inline(always)]
 fn nearest(sequences: &Sequences, time: u64) -> Option<usize>
     requires { sequences.now.last < 4 }
     ensures nearest { result ≡ nearest (time_from sequences.now) time }
@@ -135,6 +135,7 @@ fn nearest(sequences: &Sequences, time: u64) -> Option<usize>
 }
 
 // Codes a time.
+#[inline(always)]
 pub(crate) fn put_time(times: &mut Times, encoder: &mut Encoder, time: u64)
     requires state { IsTimeState (state_of times.old) }
     requires left { 21 ≤ encoder.old.left }

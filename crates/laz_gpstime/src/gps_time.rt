@@ -63,6 +63,7 @@ pub(crate) fn sequences_of(time: u64) -> Sequences
 }
 
 // The time in the eight bytes of a record.
+#[inline(always)]
 fn time_of(part: &[u8]) -> u64
     requires { length part.now ≡ 8 }
     ensures { result ≡ time_at part.now }
@@ -73,6 +74,7 @@ fn time_of(part: &[u8]) -> u64
 }
 
 // Writes a time into the eight bytes of a record.
+#[inline(always)]
 fn set_time(part: &mut [u8], time: u64)
     requires { length part.old ≡ 8 }
     ensures time { time_at part.new ≡ time }
@@ -107,6 +109,7 @@ impl GpsTime {
     }
 
     /// Codes a time.
+    #[inline(always)]
     pub fn code(&mut self, encoder: &mut Encoder, part: &[u8])
         requires part { length part.now ≡ 8 }
         requires left { 21 ≤ encoder.old.left }
@@ -123,6 +126,7 @@ impl GpsTime {
 
     /// Reads a time. `Bad` means that no spelling of a time begins the rest of the bytes; the part is then unspecified,
     /// and the item serves again only after `start`.
+    #[inline(always)]
     pub fn read(&mut self, decoder: &mut Decoder<'_>, part: &mut [u8]) -> Result<(), Bad>
         requires good { decoder.old.failed ≡ false }
         requires part { length part.old ≡ 8 }

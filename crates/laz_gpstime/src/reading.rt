@@ -23,7 +23,7 @@ use laz_integer::take_symbol_of;
 use laz_range::{Bad, Decoder};
 
 // Takes a symbol of the latest point's sequence.
-#[inline]
+#[inline(always)]
 fn take_time_symbol(times: &mut Times, decoder: &mut Decoder<'_>) -> Result<u32, Bad>
     requires good { decoder.old.failed ≡ false }
     requires state { IsTimeState (state_of times.old) }
@@ -38,7 +38,7 @@ fn take_time_symbol(times: &mut Times, decoder: &mut Decoder<'_>) -> Result<u32,
 }
 
 // Takes a symbol of the latest point's sequence that is no switch.
-#[inline]
+#[inline(always)]
 fn take_last_symbol(times: &mut Times, decoder: &mut Decoder<'_>) -> Result<u32, Bad>
     requires good { decoder.old.failed ≡ false }
     requires state { IsTimeState (state_of times.old) }
@@ -57,7 +57,7 @@ fn take_last_symbol(times: &mut Times, decoder: &mut Decoder<'_>) -> Result<u32,
 }
 
 // Takes a symbol that is no switch, after one switch at most.
-#[inline]
+#[inline(always)]
 fn take_symbols(times: &mut Times, decoder: &mut Decoder<'_>) -> Result<u32, Bad>
     requires good { decoder.old.failed ≡ false }
     requires state { IsTimeState (state_of times.old) }
@@ -76,7 +76,7 @@ fn take_symbols(times: &mut Times, decoder: &mut Decoder<'_>) -> Result<u32, Bad
 }
 
 // Takes a word with a prediction.
-#[inline]
+#[inline(always)]
 fn take_word(times: &mut Times, decoder: &mut Decoder<'_>, pred: u32, ctx: u32) -> Result<u32, Bad>
     requires good { decoder.old.failed ≡ false }
     requires state { IsTimeState (state_of times.old) }
@@ -95,7 +95,7 @@ fn take_word(times: &mut Times, decoder: &mut Decoder<'_>, pred: u32, ctx: u32) 
 }
 
 // A time and a signed word, modulo 2^64.
-#[inline]
+#[inline(always)]
 fn time_plus(from: u64, word: u32) -> u64
     ensures { result ≡ time_plus from word }
 {
@@ -107,7 +107,7 @@ fn time_plus(from: u64, word: u32) -> u64
 }
 
 // Takes what follows the symbol of a difference.
-#[inline]
+#[inline(always)]
 fn take_near(times: &mut Times, decoder: &mut Decoder<'_>, symbol: u32) -> Result<u64, Bad>
     requires good { decoder.old.failed ≡ false }
     requires state { IsTimeState (state_of times.old) }
@@ -129,7 +129,7 @@ fn take_near(times: &mut Times, decoder: &mut Decoder<'_>, symbol: u32) -> Resul
 }
 
 // Takes what follows the symbol of a new sequence.
-#[inline]
+#[inline(always)]
 fn take_new(times: &mut Times, decoder: &mut Decoder<'_>) -> Result<u64, Bad>
     requires good { decoder.old.failed ≡ false }
     requires state { IsTimeState (state_of times.old) }
@@ -149,7 +149,7 @@ fn take_new(times: &mut Times, decoder: &mut Decoder<'_>) -> Result<u64, Bad>
 }
 
 // Takes what follows a symbol that is no switch.
-#[inline]
+#[inline(always)]
 fn take_rest(times: &mut Times, decoder: &mut Decoder<'_>, symbol: u32) -> Result<u64, Bad>
     requires good { decoder.old.failed ≡ false }
     requires within { decoder.old.taken ≤ length decoder.old.bytes }
@@ -174,6 +174,7 @@ fn take_rest(times: &mut Times, decoder: &mut Decoder<'_>, symbol: u32) -> Resul
 }
 
 // Takes a time.
+#[inline(always)]
 pub(crate) fn take_time(times: &mut Times, decoder: &mut Decoder<'_>) -> Result<u64, Bad>
     requires good { decoder.old.failed ≡ false }
     requires state { IsTimeState (state_of times.old) }

@@ -22,7 +22,7 @@ pub struct Sequences {
 }
 
 // The low word of the difference of two times.
-#[inline]
+#[inline(always)]
 pub(crate) fn difference_word(from: u64, to: u64) -> u32
     ensures { result ≡ time_difference from to % 4294967296 }
 {
@@ -30,7 +30,7 @@ pub(crate) fn difference_word(from: u64, to: u64) -> u32
 }
 
 // Updates a slot by a point of its sequence that opens none.
-#[inline]
+#[inline(always)]
 pub(crate) fn update_slot(slot: &mut Slot, symbol: u32, time: u64)
     requires symbol { symbol < new_symbol slot.old.difference }
     requires extremes { slot.old.extremes < 4 }
@@ -57,7 +57,7 @@ pub(crate) fn update_slot(slot: &mut Slot, symbol: u32, time: u64)
 }
 
 // The slot of the latest point's sequence.
-#[inline]
+#[inline(always)]
 pub(crate) fn current(sequences: &Sequences) -> Slot
     requires { sequences.now.last < 4 }
     ensures { result ≡ slot_at sequences.now sequences.now.last }
@@ -66,7 +66,7 @@ pub(crate) fn current(sequences: &Sequences) -> Slot
 }
 
 // Switches `i` sequences on.
-#[inline]
+#[inline(always)]
 pub(crate) fn switch_by(sequences: &mut Sequences, i: usize)
     requires last { sequences.old.last < 4 }
     requires few { i < 4 }
@@ -78,7 +78,7 @@ pub(crate) fn switch_by(sequences: &mut Sequences, i: usize)
 }
 
 // Adds a point that opens no sequence.
-#[inline]
+#[inline(always)]
 pub(crate) fn add_point(sequences: &mut Sequences, symbol: u32, time: u64)
     requires last { sequences.old.last < 4 }
     requires symbol { symbol < new_symbol (slot_at sequences.old sequences.old.last).difference }
@@ -90,7 +90,7 @@ pub(crate) fn add_point(sequences: &mut Sequences, symbol: u32, time: u64)
 }
 
 // Opens a sequence by a time.
-#[inline]
+#[inline(always)]
 pub(crate) fn open_sequence(sequences: &mut Sequences, time: u64)
     requires next { sequences.old.next < 4 }
     ensures { sequences.new ≡ after_point sequences.old New time }

@@ -4,7 +4,7 @@ ghost use Rattle.laz_gpstime.specs.Times.{context, difference_symbol, model_of, 
 ghost use Rattle.laz_gpstime.specs.Times.{signs_differ, size_of_word, times_in};
 
 // Which model has the symbols of a sequence.
-#[inline]
+#[inline(always)]
 pub(crate) fn model_of(difference: u32) -> u32
     ensures { result ≡ model_of difference }
 {
@@ -12,7 +12,7 @@ pub(crate) fn model_of(difference: u32) -> u32
 }
 
 // The symbol of the same time.
-#[inline]
+#[inline(always)]
 pub(crate) fn same_symbol(difference: u32) -> u32
     ensures { result ≡ same_symbol difference }
 {
@@ -20,7 +20,7 @@ pub(crate) fn same_symbol(difference: u32) -> u32
 }
 
 // The symbol of a new sequence.
-#[inline]
+#[inline(always)]
 pub(crate) fn new_symbol(difference: u32) -> u32
     ensures { result ≡ new_symbol difference }
 {
@@ -28,7 +28,7 @@ pub(crate) fn new_symbol(difference: u32) -> u32
 }
 
 // The size of a word, signed, without its sign.
-#[inline]
+#[inline(always)]
 fn size_of_word(word: u32) -> u32
     ensures size { result ≡ size_of_word word }
     ensures most { result ≤ 2147483648 }
@@ -42,7 +42,7 @@ fn size_of_word(word: u32) -> u32
 }
 
 // The quotient of `word` and `difference`, without signs, rounded to the nearest number, halves up.
-#[inline]
+#[inline(always)]
 fn times_in(difference: u32, word: u32) -> u64
     requires { difference ≢ 0 }
     ensures { result ≡ times_in difference word }
@@ -57,7 +57,7 @@ fn times_in(difference: u32, word: u32) -> u64
 }
 
 // Whether one of two words, signed, is below 0 and the other is not.
-#[inline]
+#[inline(always)]
 fn signs_differ(difference: u32, word: u32) -> bool
     ensures { result ≡ signs_differ difference word }
 {
@@ -65,7 +65,7 @@ fn signs_differ(difference: u32, word: u32) -> bool
 }
 
 // The symbol of the difference `word`.
-#[inline]
+#[inline(always)]
 pub(crate) fn difference_symbol(difference: u32, word: u32) -> u32
     ensures symbol { result ≡ difference_symbol difference word }
     ensures below { result < new_symbol difference }
@@ -85,7 +85,7 @@ pub(crate) fn difference_symbol(difference: u32, word: u32) -> u32
 }
 
 // The multiple of `difference` that a symbol stands for.
-#[inline]
+#[inline(always)]
 pub(crate) fn predicted(difference: u32, symbol: u32) -> u32
     ensures { result ≡ predicted difference symbol }
 {
@@ -97,7 +97,7 @@ pub(crate) fn predicted(difference: u32, symbol: u32) -> u32
 }
 
 // The context of a difference, by its symbol.
-#[inline]
+#[inline(always)]
 pub(crate) fn context(difference: u32, symbol: u32) -> u32
     ensures context { result ≡ context difference symbol }
     ensures few { result < 8 }

@@ -27,7 +27,7 @@ pub struct Times {
 }
 
 // Codes a symbol of the latest point's sequence.
-#[inline]
+#[inline(always)]
 pub(crate) fn put_time_symbol(times: &mut Times, encoder: &mut Encoder, symbol: u32)
     requires state { IsTimeState (state_of times.old) }
     requires symbol { symbol < symbols_of (difference_of (state_of times.old)) }
@@ -47,7 +47,7 @@ pub(crate) fn put_time_symbol(times: &mut Times, encoder: &mut Encoder, symbol: 
 }
 
 // Codes a word with a prediction.
-#[inline]
+#[inline(always)]
 pub(crate) fn put_word(times: &mut Times, encoder: &mut Encoder, pred: u32, real: u32, ctx: u32)
     requires state { IsTimeState (state_of times.old) }
     requires context { ctx < 9 }

@@ -1,6 +1,6 @@
 use Rattle.std.proofs.Common.{◌≡◌, ℕ, ◌+◌, ◌-◌, ◌*◌, ◌/◌, ◌%◌, ◌^◌, ◌<◌, ◌≤◌, eqb, min, Bool, true, false, List, [], ◌∷◌, ◌++◌, length, refl, sym, ap, ◌∙◌, arith, ⊎_elim, lit<, lit≤, Result, Ok, Err}
 use Rattle.std.specs.Bool.{⊤}
-use Rattle.std.proofs.lemmas.Bool.{cases_eq, eq-eqb, ne_eqb}
+use Rattle.std.proofs.lemmas.Bool.{cases_eq, cases_lt, eq-eqb, ne_eqb}
 use Rattle.std.proofs.lemmas.Nat.{mul-le, pow-add, pow_pos, mod_below, shr_below, shl_whole, shr_split, shr_high, mod_low}
 use Rattle.std.proofs.Math.Nat.{pow-le-pow_right}
 use mir.Val.{bool_byte}
@@ -176,3 +176,28 @@ one_choice y h = omega arith
 pub most-takes : (st : IntState) (d : Decoding) → d.taken ≤ length d.bytes → d.failed ≡ false → Takes (λ v. v < choices 32) (rest_cuts st 32) d d 0
 unfolding choices
 most-takes st d within good = Takes-empty (λ v. v < choices 32) (rest_cuts st 32) d 0 (lit< tt) (cuts-most st 0) (λ y q. one_choice y q) within good
+
+-- ---- the digits of a corrector, narrow or wide
+pub digits-none_high : (st : IntState) (k : ℕ) (a b : Decoding) → 0 < k → k < 32 → TakesNone (λ s. s < 2 ^ min k 8) (λ s. symbol_cut (high_at st k) s ∷ []) a b → TakesNone (λ v. v < 2 ^ k) (rest_cuts st k) a b
+digits-none_high st k a b some small f =
+    ⊎_elim
+    (λ (wide : 8 < k). TakesNone-onto (λ v. v) (λ v. v < 2 ^ k) (λ v. v < 2 ^ k) (wide_cuts st k) (rest_cuts st k) a b (λ z q. q) (λ z. cuts-wide st k z wide small) (wide-none_high st k a b wide f))
+    (λ (narrow : k ≤ 8).
+    let same : 2 ^ min k 8 ≡ 2 ^ k = ap (λ n. 2 ^ n) (let least : min k 8 ≡ k = omega (arith, narrow) in least) in
+    TakesNone-onto (λ v. v) (λ s. s < 2 ^ min k 8) (λ v. v < 2 ^ k) (λ s. symbol_cut (high_at st k) s ∷ []) (rest_cuts st k) a b (λ z q. omega (arith, q, same)) (λ z. cuts-narrow st k z some narrow) f)
+    (cases_lt 8 k)
+
+pub digits-narrow : (st : IntState) (k v : ℕ) (a b : Decoding) → 0 < k → k ≤ 8 → Takes (λ s. s < 2 ^ min k 8) (λ s. symbol_cut (high_at st k) s ∷ []) a b v → Takes (λ v. v < 2 ^ k) (rest_cuts st k) a b v
+digits-narrow st k v a b some narrow f =
+    let same : 2 ^ min k 8 ≡ 2 ^ k = ap (λ n. 2 ^ n) (let least : min k 8 ≡ k = omega (arith, narrow) in least) in
+    Takes-onto (λ y. y) (λ y. y) (λ s. s < 2 ^ min k 8) (λ v. v < 2 ^ k) (λ s. symbol_cut (high_at st k) s ∷ []) (rest_cuts st k) a b v (λ z q. refl) (omega (arith, f.choice.asked, same)) (λ z q. omega (arith, q, same)) (λ z. cuts-narrow st k z some narrow) refl f
+
+pub digits-none_low : (st : IntState) (k high : ℕ) (a b c : Decoding) → 8 < k → k < 32 → Takes (λ s. s < 2 ^ min k 8) (λ s. symbol_cut (high_at st k) s ∷ []) a b high → TakesNone (λ v. v < 2 ^ (k - 8)) (raw_cuts (k - 8)) b c → TakesNone (λ v. v < 2 ^ k) (rest_cuts st k) a c
+digits-none_low st k high a b c wide small f g =
+    TakesNone-onto (λ v. v) (λ v. v < 2 ^ k) (λ v. v < 2 ^ k) (wide_cuts st k) (rest_cuts st k) a c (λ z q. q) (λ z. cuts-wide st k z wide small) (wide-none_low st k high a b c wide f g)
+
+pub digits-wide : (st : IntState) (k high low : ℕ) (a b c : Decoding) → 8 < k → k < 32 → Takes (λ s. s < 2 ^ min k 8) (λ s. symbol_cut (high_at st k) s ∷ []) a b high → Takes (λ v. v < 2 ^ (k - 8)) (raw_cuts (k - 8)) b c low
+    → Takes (λ v. v < 2 ^ k) (rest_cuts st k) a c (high * 2 ^ (k - 8) + low)
+digits-wide st k high low a b c wide small f g =
+    let h = wide-takes st k high low a b c wide f g in
+    Takes-onto (λ y. y) (λ y. y) (λ v. v < 2 ^ k) (λ v. v < 2 ^ k) (wide_cuts st k) (rest_cuts st k) a c (high * 2 ^ (k - 8) + low) (λ z q. refl) h.choice.asked (λ z q. q) (λ z. cuts-wide st k z wide small) refl h

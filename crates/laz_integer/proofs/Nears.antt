@@ -137,3 +137,16 @@ chosen n starts e place near false are is low below said =
     (λ (less : place < near.next). let same : near.symbol + 0 ≡ near.symbol = omega arith in rw same (chosen-first n starts e place near are is low less))
     (λ (above : near.next ≤ place). let no : true ≡ false = sym (le-leb near.next place above) ∙ said in cc)
     (cases_lt place near.next)
+
+-- the place of a value lies below the end of the two parts that its own symbol begins
+pub place-before : (n : ℕ) (starts : List ℕ) (place : ℕ) (near : Near) → AreStarts n starts → IsNear starts place near → place < 65535 → place < near.after
+place-before n starts place near are is small =
+    ⊎_elim
+    (λ (more : near.symbol + 1 < n).
+    let next : near.next ≡ get_or starts (near.symbol + 1) 0 = is.next ∙ inner n starts (near.symbol + 1) are more in
+    ⊎_elim
+    (λ (less : place < get_or starts (near.symbol + 1) 0). omega (arith, next, less, (after-next n starts place near are is more).0))
+    (λ (from : get_or starts (near.symbol + 1) 0 ≤ place). absurd (omega (arith, is.symbol.greatest (near.symbol + 1) (omega (arith, more, are.length)) from)))
+    (cases_lt place (get_or starts (near.symbol + 1) 0)))
+    (λ (last : n ≤ near.symbol + 1). omega (arith, is.after, past n starts (near.symbol + 2) are (omega (arith, last)), small))
+    (cases_lt (near.symbol + 1) n)

@@ -8,6 +8,8 @@ use Rattle.laz_range.specs.Decoding.{Decoding, HasRead, ReadsOn, Takes}
 use Rattle.laz_models.specs.Counting.{Counting, after_symbol}
 use Rattle.laz_models.specs.BitCounting.{BitCounting, IsBitCounting, after_bit}
 use Rattle.laz_models.specs.Dist.{StandsFor}
+use Rattle.laz_models.specs.Near.{IsNear}
+use Rattle.laz_models.specs.declared.near.Near.{Near}
 use Rattle.laz_models.specs.BitDist.{BitStandsFor}
 use Rattle.laz_models.specs.Bank.{model_at, alphabet_sizes}
 use Rattle.laz_integer.specs.declared.limits.TheConstants.{HIGH_BITS, MAX_BITS, MAX_CONTEXTS}
@@ -111,6 +113,13 @@ symbol_cut m s = symbol m.starts s
 -- The symbol whose part contains a place, by the starts of the parts: the last one that starts there or before.
 abbrev pub symbol_at : List ℕ → ℕ → ℕ
 symbol_at starts place = count_by (λ start. nat_le start place) starts - 1
+
+-- A search that begins near a place, from which on the place lies in one of the next two parts.
+pub record HasPlace (starts : List ℕ) (place : ℕ) (near : Near) : Type 0 where
+  pub from : ℕ
+  pub is : IsNear starts from near
+  pub low : from ≤ place
+  pub high : place < near.after
 
 -- The model of the high digits of width k.
 abbrev pub high_at : IntState → ℕ → Counting

@@ -6,7 +6,7 @@ ghost use Rattle.laz_integer.specs.Corrector.{width_of};
 use crate::limits::MAX_BITS;
 
 /// The lowest `bits` bits of a word.
-#[inline]
+#[inline(always)]
 fn low_bits(bits: u32, word: u32) -> u32
     requires some { 1 ≤ bits }
     requires few { bits ≤ MAX_BITS }
@@ -16,7 +16,7 @@ fn low_bits(bits: u32, word: u32) -> u32
 }
 
 /// The difference of two integers of `bits` bits, modulo 2^bits.
-#[inline]
+#[inline(always)]
 pub fn between(bits: u32, pred: i32, real: i32) -> u32
     requires some { 1 ≤ bits }
     requires few { bits ≤ MAX_BITS }
@@ -28,7 +28,7 @@ pub fn between(bits: u32, pred: i32, real: i32) -> u32
 }
 
 /// The width of a difference's corrector, and its index in that width.
-#[inline]
+#[inline(always)]
 pub fn split(bits: u32, difference: u32) -> (u32, u32)
     requires some { 1 ≤ bits }
     requires few { bits ≤ MAX_BITS }
@@ -51,7 +51,7 @@ pub fn split(bits: u32, difference: u32) -> (u32, u32)
 /// The corrector minus 1 if the corrector is above 0, else its distance below 0.
 // Neither this nor `index_in_width` branches, since a corrector's sign is not predictable: both values are computed and
 // then one is selected.
-#[inline]
+#[inline(always)]
 fn magnitude(half: u32, difference: u32) -> u32
     requires some { 1 ≤ half }
     requires half { half ≤ 2147483648 }
@@ -65,7 +65,7 @@ fn magnitude(half: u32, difference: u32) -> u32
 }
 
 /// The amount by which folding lowers a difference: 0, or 2^bits.
-#[inline]
+#[inline(always)]
 fn fold_amount(half: u32, difference: u32) -> u32
     requires { half ≤ 2147483648 }
     ensures up { difference < half → result ≡ 0 }
@@ -79,7 +79,7 @@ fn fold_amount(half: u32, difference: u32) -> u32
 }
 
 /// The index of a corrector in its width.
-#[inline]
+#[inline(always)]
 fn index_in_width(half: u32, difference: u32, width: u32, size: u32) -> u32
     requires small { width < MAX_BITS }
     requires above { size < 2 ^ width }
@@ -93,7 +93,7 @@ fn index_in_width(half: u32, difference: u32, width: u32, size: u32) -> u32
 }
 
 /// The number of binary digits of a number.
-#[inline]
+#[inline(always)]
 fn binary_digits(size: u32) -> u32
     ensures digits { result ≡ digits_of size }
     ensures few { result ≤ MAX_BITS }
@@ -105,7 +105,7 @@ fn binary_digits(size: u32) -> u32
 }
 
 /// Corrector `v` of width `k` as a word, up to a multiple of 2^bits.
-#[inline]
+#[inline(always)]
 fn corrector_word(bits: u32, k: u32, v: u32) -> u32
     requires few { bits ≤ MAX_BITS }
     requires width { k ≤ bits }
@@ -125,7 +125,7 @@ fn corrector_word(bits: u32, k: u32, v: u32) -> u32
 }
 
 /// The integer that corrector `v` of width `k` makes of a prediction.
-#[inline]
+#[inline(always)]
 pub fn correct(bits: u32, pred: i32, k: u32, v: u32) -> i32
     requires some { 1 ≤ bits }
     requires few { bits ≤ MAX_BITS }

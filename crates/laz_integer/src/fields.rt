@@ -15,7 +15,7 @@ use laz_models::ModelBank;
 use laz_range::{Bad, Decoder, Encoder};
 
 /// Codes a byte under model `m` of a bank, which has 256 symbols, if the byte is marked.
-#[inline]
+#[inline(always)]
 pub fn put_byte(encoder: &mut Encoder, bank: &mut ModelBank, marked: bool, m: u32, byte: u8)
     requires model { m < length bank.old }
     requires size { alphabet_size (model_at bank.old m) ≡ 256 }
@@ -32,7 +32,7 @@ pub fn put_byte(encoder: &mut Encoder, bank: &mut ModelBank, marked: bool, m: u3
 
 /// Reads a byte under model `m` of a bank, which has 256 symbols, if the byte is marked. A byte without its mark is the
 /// expected one. [`Bad`] means that the bytes end too early: no symbol begins those left.
-#[inline]
+#[inline(always)]
 pub fn take_byte(
     decoder: &mut Decoder<'_>,
     bank: &mut ModelBank,
@@ -58,7 +58,7 @@ pub fn take_byte(
 
 /// Codes a number of 16 bits with the prediction `pred`, if the number is marked. It takes at most 9 bytes of the
 /// encoder's room.
-#[inline]
+#[inline(always)]
 pub fn put_word(
     encoder: &mut Encoder,
     model: &mut IntModel,
@@ -82,7 +82,7 @@ pub fn put_word(
 
 /// Reads a number of 16 bits with the prediction `pred`, if the number is marked. A number without its mark is the
 /// prediction. [`Bad`] means that no spelling with this prediction and context begins the bytes that are left.
-#[inline]
+#[inline(always)]
 pub fn take_word(
     decoder: &mut Decoder<'_>,
     model: &mut IntModel,

@@ -71,6 +71,7 @@ impl IntModel {
 
     /// Codes `real` with the prediction `pred` and returns the width k of its corrector. Below 32 bits, `pred` and
     /// `real` are from 0 to 2^bits - 1. It takes at most 12 bytes of the encoder's room, and at most 9 up to 27 bits.
+    #[inline(always)]
     pub fn code(&mut self, encoder: &mut Encoder, pred: i32, real: i32, ctx: u32) -> u32
         requires context { ctx < self.old.contexts }
         requires pred { HasBits self.old.bits pred }
@@ -105,6 +106,7 @@ impl IntModel {
     ///
     /// [`Bad`] means that no spelling with this prediction and context begins the bytes that are left. Reset the models
     /// before they are used again.
+    #[inline(always)]
     pub fn read(
         &mut self,
         decoder: &mut Decoder<'_>,

@@ -82,7 +82,7 @@ pub fn reset_models(models: &mut Models)
 }
 
 /// Reads the width of a corrector.
-#[inline]
+#[inline(always)]
 fn take_width(models: &mut Models, decoder: &mut Decoder<'_>, ctx: u32) -> Result<u32, Bad>
     requires good { decoder.old.failed ≡ false }
     requires state { IsIntState (state_of models.old) }
@@ -98,7 +98,7 @@ fn take_width(models: &mut Models, decoder: &mut Decoder<'_>, ctx: u32) -> Resul
 }
 
 /// Reads the high digits of a corrector of width `k`.
-#[inline]
+#[inline(always)]
 fn take_high(models: &mut Models, decoder: &mut Decoder<'_>, k: u32) -> Result<u32, Bad>
     requires good { decoder.old.failed ≡ false }
     requires state { IsIntState (state_of models.old) }
@@ -115,30 +115,30 @@ fn take_high(models: &mut Models, decoder: &mut Decoder<'_>, k: u32) -> Result<u
     take_symbol_of(decoder, &mut models.bank, models.contexts + (k - 1))
 }
 
-/// Reads the index of a corrector of width `k`, which is above 8.
-#[inline]
-fn take_wide(models: &mut Models, decoder: &mut Decoder<'_>, k: u32) -> Result<u32, Bad>
+/// Reads the index of a corrector of width `k`, which is no bit: its high digits, and the rest raw.
+#[inline(always)]
+fn take_digits(models: &mut Models, decoder: &mut Decoder<'_>, k: u32) -> Result<u32, Bad>
     requires good { decoder.old.failed ≡ false }
     requires state { IsIntState (state_of models.old) }
-    requires wide { HIGH_BITS < k }
+    requires some { 0 < k }
     requires small { k < MAX_BITS }
     requires range { k ≤ models.old.bits }
     ensures reads { Reads result (λ v. v < 2 ^ k)
-        (λ v. symbol_cut (high_at (state_of models.old) k) (v / 2 ^ (k - HIGH_BITS))
-        ∷ raw_cuts (k - HIGH_BITS) (v % 2 ^ (k - HIGH_BITS))) decoder.old decoder.new }
-    ensures next { IfOk result
-        (λ v. state_of models.new
-        ≡ symbol_next (state_of models.old) (models.old.contexts + (k - 1)) (v / 2 ^ (k - HIGH_BITS))) }
+        (λ v. events_cuts (state_of models.old) (rest_events [] k v)) decoder.old decoder.new }
+    ensures next { IfOk result (λ v. state_of models.new ≡ events_next (state_of models.old) (rest_events [] k v)) }
     ensures shape { SameShape (state_of models.old) (state_of models.new) }
     ensures state { IsIntState (state_of models.new) }
 {
     let high = take_high(models, decoder, k)?;
+    if k <= HIGH_BITS {
+        return Ok(high);
+    }
     let low = decoder.take_raw(k - HIGH_BITS)?;
     Ok((high << (k - HIGH_BITS)) + low)
 }
 
 /// Reads the index of a corrector of width `k`.
-#[inline]
+#[inline(always)]
 fn take_rest(models: &mut Models, decoder: &mut Decoder<'_>, k: u32) -> Result<u32, Bad>
     requires good { decoder.old.failed ≡ false }
     requires within { decoder.old.taken ≤ length decoder.old.bytes }
@@ -157,14 +157,11 @@ fn take_rest(models: &mut Models, decoder: &mut Decoder<'_>, k: u32) -> Result<u
     if k == MAX_BITS {
         return Ok(0);
     }
-    if k <= HIGH_BITS {
-        return take_high(models, decoder, k);
-    }
-    take_wide(models, decoder, k)
+    take_digits(models, decoder, k)
 }
 
 /// Reads a corrector: its width, and its index in that width.
-#[inline]
+#[inline(always)]
 pub fn take(models: &mut Models, decoder: &mut Decoder<'_>, ctx: u32) -> Result<(u32, u32), Bad>
     requires good { decoder.old.failed ≡ false }
     requires state { IsIntState (state_of models.old) }
@@ -180,8 +177,23 @@ pub fn take(models: &mut Models, decoder: &mut Decoder<'_>, ctx: u32) -> Result<
     Ok((k, v))
 }
 
+/// The high digits of the index `v` of a corrector of width `k`: all of them up to 8, and else the first 8.
+#[inline(always)]
+fn high_digits(k: u32, v: u32) -> u32
+    requires small { k < MAX_BITS }
+    requires value { v < 2 ^ k }
+    ensures narrow { k ≤ HIGH_BITS → result ≡ v }
+    ensures wide { HIGH_BITS < k → result ≡ v / 2 ^ (k - HIGH_BITS) }
+    ensures below { result < 2 ^ min k HIGH_BITS }
+{
+    if k <= HIGH_BITS {
+        return v;
+    }
+    v >> (k - HIGH_BITS)
+}
+
 /// Codes the high digits of a corrector of width `k`.
-#[inline]
+#[inline(always)]
 fn put_high(models: &mut Models, encoder: &mut Encoder, k: u32, s: u32)
     requires state { IsIntState (state_of models.old) }
     requires some { 0 < k }
@@ -196,8 +208,29 @@ fn put_high(models: &mut Models, encoder: &mut Encoder, k: u32, s: u32)
     put_symbol_of(encoder, &mut models.bank, models.contexts + (k - 1), s);
 }
 
+/// Codes the index `v` of a corrector of width `k`, which is no bit: its high digits, and the rest raw.
+#[inline(always)]
+fn put_digits(models: &mut Models, encoder: &mut Encoder, k: u32, v: u32)
+    requires state { IsIntState (state_of models.old) }
+    requires some { 0 < k }
+    requires small { k < MAX_BITS }
+    requires range { k ≤ models.old.bits }
+    requires value { v < 2 ^ k }
+    requires left { 7 ≤ encoder.old.left }
+    ensures codes { Codes encoder.old encoder.new (events_cuts (state_of models.old) (rest_events [] k v)) }
+    ensures next { state_of models.new ≡ events_next (state_of models.old) (rest_events [] k v) }
+    ensures shape { SameShape (state_of models.old) (state_of models.new) }
+    ensures state { IsIntState (state_of models.new) }
+{
+    put_high(models, encoder, k, high_digits(k, v));
+    if k <= HIGH_BITS {
+        return;
+    }
+    encoder.raw(k - HIGH_BITS, v & ((1 << (k - HIGH_BITS)) - 1));
+}
+
 /// Codes the index `v` of a corrector of width `k`.
-#[inline]
+#[inline(always)]
 fn put_rest(models: &mut Models, encoder: &mut Encoder, k: u32, v: u32)
     requires state { IsIntState (state_of models.old) }
     requires range { k ≤ models.old.bits }
@@ -215,16 +248,11 @@ fn put_rest(models: &mut Models, encoder: &mut Encoder, k: u32, v: u32)
     if k == MAX_BITS {
         return;
     }
-    if k <= HIGH_BITS {
-        put_high(models, encoder, k, v);
-        return;
-    }
-    put_high(models, encoder, k, v >> (k - HIGH_BITS));
-    encoder.raw(k - HIGH_BITS, v & ((1 << (k - HIGH_BITS)) - 1));
+    put_digits(models, encoder, k, v);
 }
 
 /// Codes a corrector: its width `k`, and its index `v` in that width.
-#[inline]
+#[inline(always)]
 pub fn put(models: &mut Models, encoder: &mut Encoder, ctx: u32, k: u32, v: u32)
     requires state { IsIntState (state_of models.old) }
     requires context { ctx < models.old.contexts }

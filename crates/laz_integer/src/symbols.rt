@@ -12,13 +12,13 @@ ghost use Rattle.laz_models.specs.BitCounting.{after_bit};
 ghost use Rattle.laz_models.specs.BitDist.{BitStandsFor, p0_of};
 ghost use Rattle.laz_models.specs.Counting.{after_symbol, AreStarts};
 ghost use Rattle.laz_models.specs.Dist.{StandsFor, dist, alphabet_size};
-ghost use Rattle.laz_integer.specs.Integer.{symbol_at, symbol_cut};
+ghost use Rattle.laz_integer.specs.Integer.{HasPlace, symbol_at, symbol_cut};
 
-use laz_models::{BitModel, ModelBank, SymbolModel};
+use laz_models::{BitModel, ModelBank, Near, SymbolModel};
 use laz_range::{Bad, Decoder, Encoder};
 
 /// Codes symbol `s` of a model, and counts it.
-#[inline]
+#[inline(always)]
 pub fn put_symbol(encoder: &mut Encoder, model: &mut SymbolModel, s: u32)
     requires symbol { s < alphabet_size model.old }
     requires left { 3 ≤ encoder.old.left }
@@ -34,25 +34,24 @@ pub fn put_symbol(encoder: &mut Encoder, model: &mut SymbolModel, s: u32)
     encoder.cut15(lo, hi);
 }
 
-/// Reads the next symbol of a model by a division and a search of all parts.
-#[cold]
-#[inline(never)]
-fn take_far(decoder: &mut Decoder<'_>, model: &SymbolModel) -> Result<u32, Bad>
-    requires { decoder.old.failed ≡ false }
-    ensures reads { Reads result (λ s. s < alphabet_size model.now)
-        (λ s. symbol_cut model.now s ∷ []) decoder.old decoder.new }
-    ensures bad { IsErr result
-        ↔ RunsOut decoder.old (symbol_cut model.now (symbol_at model.now.starts (symbol_place decoder.old))) }
+/// Where the search for the next symbol of a model begins: at that symbol, or at the one before it.
+// Nearly always a table tells it, and else a division and a search of all parts, out of line. What is out of line sees
+// no decoder, so that the decoder's state may stay in registers.
+#[inline(always)]
+fn near_next(decoder: &Decoder<'_>, model: &SymbolModel) -> Near
+    requires { decoder.now.failed ≡ false }
+    ensures near { HasPlace model.now.starts (symbol_place decoder.now) result }
+    ensures starts { AreStarts (alphabet_size model.now) model.now.starts }
 {
-    let symbol = model.find(decoder.at15());
-    let (lo, hi) = model.part(symbol);
-    decoder.take15(lo, hi)?;
-    Ok(symbol)
+    let near = model.near(decoder.estimate());
+    if decoder.is_from(near.after) {
+        return model.near_at(decoder.at15());
+    }
+    near
 }
 
 /// Reads the next symbol of a model.
-// It is nearly always the symbol that the search begins at, or the next one: the two are told apart without a division
-// and without a branch.
+// It is the symbol that the search begins at, or the next one: the two are told apart without a branch.
 #[inline(always)]
 fn take_next(decoder: &mut Decoder<'_>, model: &SymbolModel) -> Result<u32, Bad>
     requires { decoder.old.failed ≡ false }
@@ -62,16 +61,13 @@ fn take_next(decoder: &mut Decoder<'_>, model: &SymbolModel) -> Result<u32, Bad>
         ↔ RunsOut decoder.old (symbol_cut model.now (symbol_at model.now.starts (symbol_place decoder.old))) }
     ensures starts { AreStarts (alphabet_size model.now) model.now.starts }
 {
-    let near = model.near(decoder.estimate());
-    if decoder.is_from(near.after) {
-        return take_far(decoder, model);
-    }
+    let near = near_next(decoder, model);
     let second = decoder.take_either(near.start, near.next, near.after)?;
     Ok(near.symbol + second as u32)
 }
 
 /// Reads a symbol of a model, and counts it. [`Bad`] means that the bytes end too early: no symbol begins those left.
-#[inline]
+#[inline(always)]
 pub fn take_symbol(decoder: &mut Decoder<'_>, model: &mut SymbolModel) -> Result<u32, Bad>
     requires { decoder.old.failed ≡ false }
     ensures reads { Reads result (λ s. s < alphabet_size model.old)
@@ -94,7 +90,7 @@ pub fn take_symbol(decoder: &mut Decoder<'_>, model: &mut SymbolModel) -> Result
 }
 
 /// Codes symbol `s` of model `m` of a bank, and counts it.
-#[inline]
+#[inline(always)]
 pub fn put_symbol_of(encoder: &mut Encoder, bank: &mut ModelBank, m: u32, s: u32)
     requires model { m < length bank.old }
     requires symbol { s < alphabet_size (model_at bank.old m) }
@@ -112,26 +108,22 @@ pub fn put_symbol_of(encoder: &mut Encoder, bank: &mut ModelBank, m: u32, s: u32
     encoder.cut15(lo, hi);
 }
 
-/// Reads the next symbol of model `m` of a bank by a division and a search of all parts.
-#[cold]
-#[inline(never)]
-fn take_far_of(decoder: &mut Decoder<'_>, bank: &ModelBank, m: u32) -> Result<u32, Bad>
-    requires good { decoder.old.failed ≡ false }
+/// Where the search for the next symbol of model `m` of a bank begins: at that symbol, or at the one before it.
+#[inline(always)]
+fn near_next_of(decoder: &Decoder<'_>, bank: &ModelBank, m: u32) -> Near
+    requires good { decoder.now.failed ≡ false }
     requires model { m < length bank.now }
-    ensures reads { Reads result (λ s. s < alphabet_size (model_at bank.now m))
-        (λ s. symbol_cut (model_at bank.now m) s ∷ []) decoder.old decoder.new }
-    ensures bad { let model = model_at bank.now m
-        in IsErr result ↔ RunsOut decoder.old (symbol_cut model (symbol_at model.starts (symbol_place decoder.old))) }
+    ensures near { HasPlace (model_at bank.now m).starts (symbol_place decoder.now) result }
+    ensures starts { AreStarts (alphabet_size (model_at bank.now m)) (model_at bank.now m).starts }
 {
-    let symbol = bank.find(m, decoder.at15());
-    let (lo, hi) = bank.part(m, symbol);
-    decoder.take15(lo, hi)?;
-    Ok(symbol)
+    let near = bank.near(m, decoder.estimate());
+    if decoder.is_from(near.after) {
+        return bank.near_at(m, decoder.at15());
+    }
+    near
 }
 
 /// Reads the next symbol of model `m` of a bank.
-// It is nearly always the symbol that the search begins at, or the next one: the two are told apart without a division
-// and without a branch.
 #[inline(always)]
 fn take_next_of(decoder: &mut Decoder<'_>, bank: &ModelBank, m: u32) -> Result<u32, Bad>
     requires good { decoder.old.failed ≡ false }
@@ -142,17 +134,13 @@ fn take_next_of(decoder: &mut Decoder<'_>, bank: &ModelBank, m: u32) -> Result<u
         in IsErr result ↔ RunsOut decoder.old (symbol_cut model (symbol_at model.starts (symbol_place decoder.old))) }
     ensures starts { AreStarts (alphabet_size (model_at bank.now m)) (model_at bank.now m).starts }
 {
-    let near = bank.near(m, decoder.estimate());
-    if decoder.is_from(near.after) {
-        return take_far_of(decoder, bank, m);
-    }
+    let near = near_next_of(decoder, bank, m);
     let second = decoder.take_either(near.start, near.next, near.after)?;
     Ok(near.symbol + second as u32)
 }
 
 /// Reads a symbol of model `m` of a bank, and counts it. [`Bad`] means that the bytes end too early: no symbol begins
 /// those left.
-// Inlined so that `IntModel::read` keeps the decoder's state in registers: out of line, a read takes a tenth longer.
 #[inline(always)]
 pub fn take_symbol_of(decoder: &mut Decoder<'_>, bank: &mut ModelBank, m: u32) -> Result<u32, Bad>
     requires good { decoder.old.failed ≡ false }
@@ -180,7 +168,7 @@ pub fn take_symbol_of(decoder: &mut Decoder<'_>, bank: &mut ModelBank, m: u32) -
 }
 
 /// Codes a bit under a model, and counts it.
-#[inline]
+#[inline(always)]
 pub fn put_bit(encoder: &mut Encoder, model: &mut BitModel, bit: bool)
     requires { 3 ≤ encoder.old.left }
     ensures codes { Codes encoder.old encoder.new (Bit model.old.p0 bit ∷ []) }
@@ -194,7 +182,7 @@ pub fn put_bit(encoder: &mut Encoder, model: &mut BitModel, bit: bool)
 }
 
 /// Reads a bit under a model, and counts it. [`Bad`] means that the bytes end too early: neither bit begins those left.
-#[inline]
+#[inline(always)]
 pub fn take_bit(decoder: &mut Decoder<'_>, model: &mut BitModel) -> Result<bool, Bad>
     requires { decoder.old.failed ≡ false }
     ensures reads { Reads result (λ _. ⊤) (λ bit. Bit model.old.p0 bit ∷ []) decoder.old decoder.new }

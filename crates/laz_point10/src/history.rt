@@ -43,7 +43,7 @@ impl History {
     }
 
     // The last point.
-    #[inline]
+    #[inline(always)]
     pub fn last(&self) -> Point
         ensures last { result ≡ self.now.last }
         ensures bytes { IsHistory self.now }
@@ -52,7 +52,7 @@ impl History {
     }
 
     // What is predicted of a point with this flag byte.
-    #[inline]
+    #[inline(always)]
     pub fn predictions(&self, flags: u8) -> Predictions
         ensures predicted { result ≡ predicted self.now flags }
         ensures bytes { IsHistory self.now }
@@ -68,7 +68,7 @@ impl History {
     }
 
     // Adds a point.
-    #[inline]
+    #[inline(always)]
     pub fn add(&mut self, point: &Point)
         ensures next { AreSorted self.old.dx → AreSorted self.old.dy → self.new ≡ with_point self.old point.now }
         ensures stands { (points : List Point) → HistoryStands points self.old

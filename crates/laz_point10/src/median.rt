@@ -10,7 +10,7 @@ pub struct Median {
 }
 
 // Four sorted values and one more, sorted. No branch: each place has one of its two neighbours or the new value.
-#[inline]
+#[inline(always)]
 fn put_in(a: i32, b: i32, c: i32, d: i32, v: i32) -> [i32; 5]
     ensures { a ≤ℤ b → b ≤ℤ c → c ≤ℤ d → result ≡ put_in v (a ∷ b ∷ c ∷ d ∷ []) }
 {
@@ -35,7 +35,7 @@ impl Median {
     }
 
     // The middle value.
-    #[inline]
+    #[inline(always)]
     pub fn middle(&self) -> i32
         ensures { result ≡ middle self.now }
     {
@@ -43,7 +43,7 @@ impl Median {
     }
 
     // The four values that stay: all but the greatest if it is high, else all but the least.
-    #[inline]
+    #[inline(always)]
     fn kept(&self) -> [i32; 4]
         ensures high { self.now.high ≡ true → result ≡ take 4 self.now.values }
         ensures low { self.now.high ≡ false → result ≡ drop 1 self.now.values }
@@ -57,7 +57,7 @@ impl Median {
     }
 
     // Whether it is high after a value.
-    #[inline]
+    #[inline(always)]
     fn is_high_after(&self, v: i32) -> bool
         ensures high { self.now.high ≡ true → result ≡ int_lt v (middle self.now) }
         ensures low { self.now.high ≡ false → result ≡ int_le v (middle self.now) }
@@ -67,7 +67,7 @@ impl Median {
     }
 
     // Adds a value. No branch here either: what depends on `high` is selected.
-    #[inline]
+    #[inline(always)]
     pub fn add(&mut self, v: i32)
         ensures { IsSorted self.old.values → self.new ≡ with_value self.old v }
     {

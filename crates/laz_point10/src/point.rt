@@ -22,7 +22,7 @@ pub struct Point {
 
 impl Point {
     // The point in the 20 bytes of a record.
-    #[inline]
+    #[inline(always)]
     pub(crate) fn of(part: &[u8]) -> Point
         requires { length part.now ≡ 20 }
         ensures point { result ≡ point_at part.now }
@@ -42,7 +42,7 @@ impl Point {
     }
 
     // Writes the point into the 20 bytes of a record.
-    #[inline]
+    #[inline(always)]
     pub(crate) fn put(self, part: &mut [u8])
         requires { length part.old ≡ 20 }
         ensures { point_at part.new ≡ self }

@@ -57,6 +57,7 @@ impl Point10 {
     }
 
     /// Codes a point.
+    #[inline(always)]
     pub fn code(&mut self, encoder: &mut Encoder, part: &[u8])
         requires part { length part.now ≡ 20 }
         requires left { 69 ≤ encoder.old.left }
@@ -75,6 +76,7 @@ impl Point10 {
     /// Reads a point. `Bad` means that no spelling of a point begins the rest of the bytes; the part is then
     /// unspecified,
     /// and the item serves again only after `start`.
+    #[inline(always)]
     pub fn read(&mut self, decoder: &mut Decoder<'_>, part: &mut [u8]) -> Result<(), Bad>
         requires good { decoder.old.failed ≡ false }
         requires part { length part.old ≡ 20 }

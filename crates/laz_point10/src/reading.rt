@@ -19,7 +19,7 @@ use laz_integer::{has_bit, take_byte, take_symbol_of, take_word};
 use laz_range::{Bad, Decoder};
 
 // Takes the symbol of changes, and the flag byte.
-#[inline]
+#[inline(always)]
 fn take_head(
     decoder: &mut Decoder<'_>,
     models: &mut HeadModels,
@@ -44,7 +44,7 @@ fn take_head(
 }
 
 // Takes the intensity and the classification byte.
-#[inline]
+#[inline(always)]
 fn take_surface(
     decoder: &mut Decoder<'_>,
     models: &mut SurfaceModels,
@@ -85,7 +85,7 @@ fn take_surface(
 }
 
 // Takes the difference of the scan angle, the user data and the point source.
-#[inline]
+#[inline(always)]
 fn take_scan(
     decoder: &mut Decoder<'_>,
     models: &mut ScanModels,
@@ -130,7 +130,7 @@ fn take_scan(
 }
 
 // Takes dx, dy and z.
-#[inline]
+#[inline(always)]
 fn take_place(
     decoder: &mut Decoder<'_>,
     models: &mut PlaceModels,
@@ -157,7 +157,7 @@ fn take_place(
 }
 
 // Takes a point after others.
-#[inline]
+#[inline(always)]
 pub fn take_point(
     decoder: &mut Decoder<'_>,
     models: &mut Models,

@@ -10,7 +10,7 @@ const MAP: [u8; 64] = [
 ];
 
 // Where the map has a flag byte, 0 to 15.
-#[inline]
+#[inline(always)]
 pub fn return_map(flags: u8) -> usize
     ensures map { result ≡ return_map flags }
     ensures small { result < 16 }
@@ -19,7 +19,7 @@ pub fn return_map(flags: u8) -> usize
 }
 
 // How far the return number is from the number of returns, 0 to 7.
-#[inline]
+#[inline(always)]
 #[tactic(auto, unfolding(crate::specs::Points::return_level))]
 pub fn return_level(flags: u8) -> usize
     ensures level { result ≡ return_level flags }
@@ -29,7 +29,7 @@ pub fn return_level(flags: u8) -> usize
 }
 
 // 1 if the pulse has one return, else 0.
-#[inline]
+#[inline(always)]
 #[tactic(auto, unfolding(crate::specs::Points::one_return))]
 pub fn one_return(flags: u8) -> u32
     ensures one { result ≡ one_return flags }

@@ -17,7 +17,7 @@ use laz_integer::{IntModel, has_bit, put_byte, put_symbol_of, put_word};
 use laz_range::Encoder;
 
 // The bit of a field that differs from its prediction.
-#[inline]
+#[inline(always)]
 fn bit_if_changed(bit: u32, predicted: u16, value: u16) -> u32
     ensures { result ≡ bit_if_changed bit predicted value }
 {
@@ -25,7 +25,7 @@ fn bit_if_changed(bit: u32, predicted: u16, value: u16) -> u32
 }
 
 // The symbol of changes of a point.
-#[inline]
+#[inline(always)]
 #[tactic(auto, unfolding(crate::specs::PointEvents::changes_of))]
 fn changes_of(e: &Predictions, p: &Point) -> u32
     ensures changes { result ≡ changes_of e.now p.now }
@@ -40,7 +40,7 @@ fn changes_of(e: &Predictions, p: &Point) -> u32
 }
 
 // The context of the intensity, 0 to 3.
-#[inline]
+#[inline(always)]
 pub fn intensity_context(flags: u8) -> u32
     ensures context { result ≡ intensity_context flags }
     ensures small { result < 4 }
@@ -49,7 +49,7 @@ pub fn intensity_context(flags: u8) -> u32
 }
 
 // A width with bit 0 cleared, if it is below `most`; else `most`.
-#[inline]
+#[inline(always)]
 #[tactic(auto, unfolding(crate::specs::PointEvents::even_below))]
 pub fn even_below(most: u32, k: u32) -> u32
     ensures even { result ≡ even_below most k }
@@ -59,7 +59,7 @@ pub fn even_below(most: u32, k: u32) -> u32
 }
 
 // Codes the symbol of changes, and the flag byte.
-#[inline]
+#[inline(always)]
 fn put_head(
     encoder: &mut Encoder,
     models: &mut HeadModels,
@@ -86,7 +86,7 @@ fn put_head(
 }
 
 // Codes the intensity and the classification byte.
-#[inline]
+#[inline(always)]
 fn put_surface(
     encoder: &mut Encoder,
     models: &mut SurfaceModels,
@@ -122,7 +122,7 @@ fn put_surface(
 }
 
 // Codes the scan angle, the user data and the point source.
-#[inline]
+#[inline(always)]
 fn put_scan(
     encoder: &mut Encoder,
     models: &mut ScanModels,
@@ -164,7 +164,7 @@ fn put_scan(
 }
 
 // Codes a number of 32 bits, and answers the width of its corrector.
-#[inline]
+#[inline(always)]
 fn put_int(encoder: &mut Encoder, model: &mut IntModel, pred: i32, real: i32, ctx: u32) -> u32
     requires ints { IsInts 32 model.old.contexts model.old }
     requires context { ctx < model.old.contexts }
@@ -181,7 +181,7 @@ fn put_int(encoder: &mut Encoder, model: &mut IntModel, pred: i32, real: i32, ct
 }
 
 // Codes dx, dy and z.
-#[inline]
+#[inline(always)]
 fn put_place(encoder: &mut Encoder, models: &mut PlaceModels, e: &Predictions, p: &Point)
     requires left { 36 ≤ encoder.old.left }
     requires models { ArePlaceModels models.old }
@@ -205,7 +205,7 @@ fn put_place(encoder: &mut Encoder, models: &mut PlaceModels, e: &Predictions, p
 }
 
 // Codes a point after others.
-#[inline]
+#[inline(always)]
 pub fn put_point(encoder: &mut Encoder, models: &mut Models, history: &History, p: &Point)
     requires left { 69 ≤ encoder.old.left }
     requires models { AreModels models.old }

@@ -41,6 +41,7 @@ impl Model for Bytes {
 }
 
 // Codes the difference of each byte to the one before.
+#[inline(always)]
 fn put_bytes(encoder: &mut Encoder, bank: &mut ModelBank, last: &[u8], part: &[u8])
     requires part { length part.now ≡ length last.now }
     requires few { length last.now < 193 }
@@ -67,7 +68,7 @@ fn put_bytes(encoder: &mut Encoder, bank: &mut ModelBank, last: &[u8], part: &[u
 }
 
 // The byte that a symbol makes of the one before.
-#[inline]
+#[inline(always)]
 fn byte_of(previous: u8, symbol: u8) -> u8
     ensures { result ≡ byte_of true previous previous symbol }
 {
@@ -75,6 +76,7 @@ fn byte_of(previous: u8, symbol: u8) -> u8
 }
 
 // Takes the difference of each byte to the one before.
+#[inline(always)]
 fn take_bytes(
     decoder: &mut Decoder<'_>,
     bank: &mut ModelBank,
@@ -128,6 +130,7 @@ impl Bytes {
     }
 
     /// Codes the extra bytes of a record.
+    #[inline(always)]
     pub fn code(&mut self, encoder: &mut Encoder, part: &[u8])
         requires part { length part.now ≡ length self.old.last }
         requires left { 3 * length self.old.last ≤ encoder.old.left }
@@ -144,6 +147,7 @@ impl Bytes {
 
     /// Reads the extra bytes of a record. `Bad` means that no spelling of them begins the rest of the bytes; the part
     /// is then unspecified, and the item serves again only after `start`.
+    #[inline(always)]
     pub fn read(&mut self, decoder: &mut Decoder<'_>, part: &mut [u8]) -> Result<(), Bad>
         requires good { decoder.old.failed ≡ false }
         requires part { length part.old ≡ length self.old.last }

@@ -15,6 +15,7 @@ pub struct Colour {
 
 impl Colour {
     // The colour in the six bytes of a record.
+    #[inline(always)]
     pub(crate) fn of(part: &[u8]) -> Colour
         requires { length part.now ≡ 6 }
         ensures { result ≡ colour_at part.now }
@@ -30,6 +31,7 @@ impl Colour {
     }
 
     // Writes the colour into the six bytes of a record.
+    #[inline(always)]
     pub(crate) fn put(self, part: &mut [u8])
         requires { length part.old ≡ 6 }
         ensures { part.new ≡ colour_bytes self }
@@ -43,6 +45,7 @@ impl Colour {
     }
 
     // Whether red, green and blue are equal.
+    #[inline(always)]
     fn is_grey(&self) -> bool
         ensures { result ≡ is_grey self.now }
     {
@@ -53,6 +56,7 @@ impl Colour {
     }
 
     // The symbol of changes of a colour after this one.
+    #[inline(always)]
     pub(crate) fn changes(&self, now: &Colour) -> u32
         ensures same { result ≡ changes self.now now.now }
         ensures few { result < 128 }
@@ -66,6 +70,7 @@ impl Colour {
     }
 }
 
+#[inline(always)]
 fn bit_if(set: bool, bit: u32) -> u32
     ensures { result ≡ bit_if set bit }
 {

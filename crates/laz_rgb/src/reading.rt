@@ -16,7 +16,7 @@ use laz_models::ModelBank;
 use laz_range::{Bad, Decoder};
 
 // Takes a byte under model `m`: if it is marked, what its symbol makes of the prediction, else the previous byte.
-#[inline]
+#[inline(always)]
 fn take_next(
     decoder: &mut Decoder<'_>,
     bank: &mut ModelBank,
@@ -42,6 +42,7 @@ fn take_next(
 }
 
 // Takes the two bytes of red under models 1 and 2.
+#[inline(always)]
 fn take_red(
     decoder: &mut Decoder<'_>,
     bank: &mut ModelBank,
@@ -66,6 +67,7 @@ fn take_red(
 
 // Takes a byte of green and one of blue, both low or both high, under models `m` and `m + 1`. Red went from `red_from`
 // to `red_to`.
+#[inline(always)]
 fn take_green_blue(
     decoder: &mut Decoder<'_>,
     bank: &mut ModelBank,
@@ -105,6 +107,7 @@ fn take_green_blue(
 }
 
 // The colour of these bytes: without bit 64 of the symbol of changes, green and blue equal red.
+#[inline(always)]
 fn colour_with(symbol: u32, red: (u8, u8), low: (u8, u8), high: (u8, u8)) -> Colour
     ensures { result ≡ colour_with symbol red low high }
 {
@@ -120,6 +123,7 @@ fn colour_with(symbol: u32, red: (u8, u8), low: (u8, u8), high: (u8, u8)) -> Col
 }
 
 // Takes a colour after another.
+#[inline(always)]
 pub(crate) fn take_colour(
     decoder: &mut Decoder<'_>,
     bank: &mut ModelBank,

@@ -64,6 +64,7 @@ impl Rgb {
     }
 
     /// Codes a colour.
+    #[inline(always)]
     pub fn code(&mut self, encoder: &mut Encoder, part: &[u8])
         requires part { length part.now ≡ 6 }
         requires left { 21 ≤ encoder.old.left }
@@ -82,6 +83,7 @@ impl Rgb {
 
     /// Reads a colour. `Bad` means that no spelling of a colour begins the rest of the bytes; the part is then
     /// unspecified, and the item serves again only after `start`.
+    #[inline(always)]
     pub fn read(&mut self, decoder: &mut Decoder<'_>, part: &mut [u8]) -> Result<(), Bad>
         requires good { decoder.old.failed ≡ false }
         requires part { length part.old ≡ 6 }

@@ -15,7 +15,7 @@ use laz_models::ModelBank;
 use laz_range::Encoder;
 
 // Which bytes are coded, in the order of their coding.
-#[inline]
+#[inline(always)]
 pub(crate) fn colour_marks(symbol: u32) -> [bool; 6]
     ensures { result ≡ colour_marks symbol }
 {
@@ -31,7 +31,7 @@ pub(crate) fn colour_marks(symbol: u32) -> [bool; 6]
 }
 
 // A byte moved as far as from one byte to another, and kept within 0 to 255.
-#[inline]
+#[inline(always)]
 pub(crate) fn moved(from: u8, to: u8, byte: u8) -> u8
     ensures { result ≡ moved from to byte }
 {
@@ -40,7 +40,7 @@ pub(crate) fn moved(from: u8, to: u8, byte: u8) -> u8
 }
 
 // A byte moved half as far as from one number to another, halves cut towards 0, and kept within 0 to 255.
-#[inline]
+#[inline(always)]
 pub(crate) fn half_moved(from: u32, to: u32, byte: u8) -> u8
     requires { (from < 512) × (to < 512) }
     ensures { result ≡ half_moved from to byte }
@@ -50,7 +50,7 @@ pub(crate) fn half_moved(from: u32, to: u32, byte: u8) -> u8
 }
 
 // The prediction of blue, which moved as red and green moved together.
-#[inline]
+#[inline(always)]
 pub(crate) fn predicted_blue(
     red_from: u8,
     red_to: u8,
@@ -68,7 +68,7 @@ pub(crate) fn predicted_blue(
 }
 
 // The symbol of a byte with this prediction: their difference, modulo 256.
-#[inline]
+#[inline(always)]
 pub(crate) fn byte_difference(predicted: u8, byte: u8) -> u8
     ensures { result ≡ byte_difference predicted byte }
 {
@@ -76,7 +76,7 @@ pub(crate) fn byte_difference(predicted: u8, byte: u8) -> u8
 }
 
 // The symbol of a byte that is marked, else 0.
-#[inline]
+#[inline(always)]
 fn symbol_if(marked: bool, predicted: u8, byte: u8) -> u8
     ensures { result ≡ symbol_if marked predicted byte }
 {
@@ -88,6 +88,7 @@ fn symbol_if(marked: bool, predicted: u8, byte: u8) -> u8
 }
 
 // The symbols of the six bytes of a colour after another, in the order of their coding.
+#[inline(always)]
 fn colour_symbols(marks: &[bool; 6], last: &Colour, now: &Colour, symbol: u32) -> [u8; 6]
     requires { marks.now ≡ colour_marks symbol }
     ensures { result ≡ colour_symbols symbol last.now now.now }
@@ -119,6 +120,7 @@ fn colour_symbols(marks: &[bool; 6], last: &Colour, now: &Colour, symbol: u32) -
 }
 
 // Codes a row of bytes, whose first model is `m`.
+#[inline(always)]
 pub(crate) fn put_row(
     encoder: &mut Encoder,
     bank: &mut ModelBank,
@@ -142,6 +144,7 @@ pub(crate) fn put_row(
 }
 
 // Codes a colour after another.
+#[inline(always)]
 pub(crate) fn put_colour(encoder: &mut Encoder, bank: &mut ModelBank, last: &Colour, now: &Colour)
     requires sizes { alphabet_sizes bank.old ≡ 128 ∷ replicate 6 256 }
     requires left { 21 ≤ encoder.old.left }
