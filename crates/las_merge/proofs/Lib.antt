@@ -1,0 +1,12 @@
+pub mod Examples
+pub mod Kept
+pub mod Merges
+pub mod Taken
+pub mod Copied
+pub mod Opened
+pub mod Begun
+pub mod Filled
+pub mod Known
+pub mod Ends
+pub mod Whole
+pub mod Parts

@@ -1,0 +1,103 @@
+-- Inputs that were opened, one after another.
+use Rattle.std.proofs.Common.{◌≡◌, inl, inr, ℕ, ◌+◌, ◌<◌, ◌≤◌, Bool, true, cond, List, [], ◌∷◌, ◌++◌, length, take, Option, Some, None, refl, sym, ◌∙◌, ap, subst, length-append, arith}
+use Rattle.std.specs.Prelude.{All}
+use Rattle.std.proofs.lemmas.List.{take_more}
+use Rattle.std.proofs.lemmas.List.Elements.{All-nil, All-push}
+use Rattle.std.proofs.lemmas.Bool.Decides.{Decides-eqb}
+use Rattle.std.proofs.lemmas.Slice.Eq.{bytes_eq-Decides}
+use Rattle.las_header.specs.Fields.{format_of, record_length_of}
+use Rattle.las_outside.specs.Faults.{Rose}
+use Rattle.las_outside.specs.Files.{FileMap, IsMissing, WhereKnown}
+use Rattle.las_outside.specs.Outside.{Outside}
+use Rattle.laz_file.specs.declared.fault.Fault.{Fault}
+use Rattle.laz_file.specs.declared.fault.Fault.TheVariants as fault
+use Rattle.laz_file.specs.Reading.{ReaderSeen}
+use Rattle.laz_file.specs.Refusing.{IsRefusal}
+use Rattle.las_merge.specs.declared.field.Field.{Field}
+use Rattle.las_merge.specs.declared.field.Field.TheVariants.{Format, Length, Scales, Offsets, Bounds}
+use Rattle.las_merge.specs.declared.fault.MergeFault.{MergeFault}
+use Rattle.las_merge.specs.declared.fault.MergeFault.TheVariants.{At, Unequal, TooManyPoints, Write, Memory}
+use Rattle.las_merge.specs.Fields.{bytes_in, first_difference, first_in, is_same}
+use Rattle.las_merge.specs.Inputs.{item_at}
+use Rattle.las_merge.specs.Opening.{AreOpen, EndsOpening, FailsNext, FailsOpening, IsNext, IsOpen, first_read, names_read}
+
+-- ---- a head does not differ from itself
+
+same_in : (field : Field) (head : List ℕ) → is_same field head head ≡ true
+same_in Format head = (Decides-eqb (format_of head) (format_of head)).1 refl
+same_in Length head = (Decides-eqb (record_length_of head) (record_length_of head)).1 refl
+same_in Scales head = (bytes_eq-Decides (bytes_in 131 24 head) (bytes_in 131 24 head)).1 refl
+same_in Offsets head = (bytes_eq-Decides (bytes_in 155 24 head) (bytes_in 155 24 head)).1 refl
+same_in Bounds head = (bytes_eq-Decides (bytes_in 179 48 head) (bytes_in 179 48 head)).1 refl
+
+none_in : (fields : List Field) (head : List ℕ) → first_in fields head head ≡ None
+none_in [] head = refl
+none_in (field ∷ fields) head = ap (λ (b : Bool). cond b (first_in fields head head) (Some field)) (same_in field head) ∙ none_in fields head
+
+pub no_difference : (head : List ℕ) → first_difference head head ≡ None
+no_difference head = none_in (Format ∷ Length ∷ Scales ∷ Offsets ∷ Bounds ∷ []) head
+
+-- ---- one input more
+
+alike_more : (readers : List ReaderSeen) (reader : ReaderSeen) → All (λ r. first_difference (first_read readers) r.head.bytes ≡ None) readers → (1 ≤ length readers → first_difference (first_read readers) reader.head.bytes ≡ None)
+    → All (λ r. first_difference (first_read (readers ++ reader ∷ [])) r.head.bytes ≡ None) (readers ++ reader ∷ [])
+alike_more [] reader all here = All-push (λ (r : ReaderSeen). first_difference reader.head.bytes r.head.bytes ≡ None) [] reader (All-nil (λ (r : ReaderSeen). first_difference reader.head.bytes r.head.bytes ≡ None)) (no_difference reader.head.bytes)
+alike_more (x ∷ xs) reader all here = All-push (λ (r : ReaderSeen). first_difference x.head.bytes r.head.bytes ≡ None) (x ∷ xs) reader all (here (omega arith))
+
+names_more : (readers : List ReaderSeen) (reader : ReaderSeen) → names_read (readers ++ reader ∷ []) ≡ names_read readers ++ reader.name ∷ []
+names_more [] reader = refl
+names_more (x ∷ xs) reader = ap (λ (ns : List (List ℕ)). x.name ∷ ns) (names_more xs reader)
+
+pub open_none : (held : Option FileMap) (names : List (List ℕ)) → AreOpen held names []
+open_none held names = record {
+  within = omega arith;
+  named = refl;
+  opened = All-nil (IsOpen held);
+  alike = All-nil (λ (r : ReaderSeen). first_difference [] r.head.bytes ≡ None);
+}
+
+pub open_more : (held : Option FileMap) (names : List (List ℕ)) (readers : List ReaderSeen) (reader : ReaderSeen) → AreOpen held names readers → length readers < length names → IsNext held (item_at names (length readers)) readers reader → AreOpen held names (readers ++ reader ∷ [])
+open_more held names readers reader all within next =
+    let long : length (readers ++ reader ∷ []) ≡ length readers + 1 = omega (arith, length-append readers (reader ∷ [])) in
+    record {
+      within = omega (arith, long, within);
+      named =
+          names_more readers reader
+          ∙ ap (λ (ns : List (List ℕ)). ns ++ reader.name ∷ []) all.named
+          ∙ ap (λ (n : List ℕ). take (length readers) names ++ n ∷ []) next.named
+          ∙ sym (take_more names (length readers) [] within)
+          ∙ ap (λ (k : ℕ). take k names) (sym long);
+      opened = All-push (IsOpen held) readers reader all.opened next.opened;
+      alike = alike_more readers reader all.alike next.alike;
+    }
+
+-- ---- a fault
+
+fails_since : (name : List ℕ) (start old new : Outside) → old.held ≡ start.held → old.read_faults ≡ start.read_faults → (f : Fault) → FailsOpening name old new f → FailsOpening name start new f
+fails_since name start old new held reads (fault.Refused cause) h = subst (λ (o : Option FileMap). WhereKnown o name (λ file. IsRefusal file (Some cause))) held h
+fails_since name start old new held reads fault.Read (inl missing) = inl (subst (λ (o : Option FileMap). IsMissing o name) held missing)
+fails_since name start old new held reads fault.Read (inr rose) = inr (subst (λ (n : ℕ). Rose n new.read_faults) reads rose)
+fails_since name start old new held reads fault.Write h = h
+fails_since name start old new held reads fault.Memory h = h
+
+pub next_ends : (names : List (List ℕ)) (readers : List ReaderSeen) (name : List ℕ) (start old new : Outside) → AreOpen start.held names readers → length readers < length names → name ≡ item_at names (length readers) → old.held ≡ start.held → old.read_faults ≡ start.read_faults → (f : MergeFault)
+    → FailsNext name readers old new f → EndsOpening names start new f
+next_ends names readers name start old new all within named held reads (At number cause) h =
+    let at : name ≡ item_at names number = named ∙ ap (λ (k : ℕ). item_at names k) (sym h.0) in (
+      readers,
+      record { opened = all; number_is = sym h.0; within = omega (arith, within, h.0) },
+      subst (λ (n : List ℕ). FailsOpening n start new cause) at (fails_since name start old new held reads cause h.1),
+    )
+next_ends names readers name start old new all within named held reads (Unequal number field) h =
+    let at : name ≡ item_at names number = named ∙ ap (λ (k : ℕ). item_at names k) (sym h.0) in (
+      readers,
+      h.2.0,
+      record { opened = all; number_is = sym h.0; within = omega (arith, within, h.0) },
+      omega (arith, h.0, h.1),
+      h.2.1 ∙ at,
+      subst (λ (o : Option FileMap). IsOpen o h.2.0) held h.2.2,
+      h.2.3,
+    )
+next_ends names readers name start old new all within named held reads TooManyPoints h = absurd h
+next_ends names readers name start old new all within named held reads Write h = absurd h
+next_ends names readers name start old new all within named held reads Memory h = absurd h

@@ -1,0 +1,278 @@
+use Rattle.std.proofs.Common.{◌≡◌, ◌⊎◌, inl, inr, ℕ, ◌<◌, ◌≤◌, ◌^◌, List, length, ◌∙◌, ap, subst, arith}
+use Rattle.std.specs.Prelude.{string_bytes}
+use Rattle.std.specs.declared.alloc.Global.{Global}
+use Rattle.std.proofs.lemmas.List.{length-map}
+use Rattle.las_header.specs.Heads.{HeadView}
+use Rattle.las_outside.specs.Faults.{Rose}
+use Rattle.laz_file.specs.declared.fault.Fault.TheVariants as fault
+use Rattle.laz_file.specs.Reading.{ReaderSeen}
+use Rattle.laz_file.proofs.Faults.{err_of}
+use Rattle.laz_file.proofs.Putting.{if_err}
+use Rattle.laz_file.proofs.WholeOutputs.{err_at, err_then, ok_then}
+use Rattle.las_merge.specs.declared.fault.MergeFault.TheVariants.{At, Unequal, TooManyPoints, Write}
+use Rattle.las_merge.specs.Copying.{EndsMerging, FailsBeginning, output_under}
+use Rattle.las_merge.specs.Inputs.{CanMerge, IfKnown, names_of}
+use Rattle.las_merge.specs.Merging.{LeavesMerged, merged_output}
+use Rattle.las_merge.specs.Opening.{EndsOpening, names_read, points_read}
+use Rattle.las_merge.proofs.Ends.{before_by, can_by, first_before, many_by, refused_by, unequal_by}
+use Rattle.las_merge.proofs.Known.{files_of}
+use Rattle.las_merge.proofs.Whole.{at_number, can_merge, ends_mid, head_first, left_begun, merged_all, merged_bad, merged_left, names_are, other_names, readers_open, readers_other}
+use Rattle.las_merge.proofs.merging.merge.Goals as goal
+
+pub returns-in_err-readers-clause-refused : goal.returns-in_err-readers-clause-refused
+returns-in_err-readers-clause-refused g c number cause is known holds =
+    let old = g.F.Files.seen c.args.files.now in
+    let new = g.F.Files.seen c.open_inputs.new.files in
+    let names = names_of c.args.inputs.now in
+    let e = c.in_err-readers.field-0.0 in
+    let d = subst (EndsOpening names old new) (err_of c.from_residual.result e (At number (fault.Refused cause)) c.from_residual.ensures.1 is) c.in_err-readers.ensures.ends in
+    inl (refused_by old.held known holds names number cause d.0 d.1 d.2, c.open_inputs.ensures.held)
+
+pub returns-in_err-readers-clause-unequal : goal.returns-in_err-readers-clause-unequal
+returns-in_err-readers-clause-unequal g c number field is =
+    let old = g.F.Files.seen c.args.files.now in
+    let new = g.F.Files.seen c.open_inputs.new.files in
+    let names = names_of c.args.inputs.now in
+    let e = c.in_err-readers.field-0.0 in
+    let d = subst (EndsOpening names old new) (err_of c.from_residual.result e (Unequal number field) c.from_residual.ensures.1 is) c.in_err-readers.ensures.ends in (
+      omega (arith, d.2.within, length-map c.args.inputs.now (string_bytes {Z = Global})),
+      c.open_inputs.ensures.held,
+      λ known holds. unequal_by old.held known holds names number field d.0 d.1 d.2 d.3 d.4 d.5 d.6,
+    )
+
+pub returns-in_err-readers-clause-too_many : goal.returns-in_err-readers-clause-too_many
+returns-in_err-readers-clause-too_many g c is =
+    let old = g.F.Files.seen c.args.files.now in
+    let new = g.F.Files.seen c.open_inputs.new.files in
+    let names = names_of c.args.inputs.now in
+    let e = c.in_err-readers.field-0.0 in
+    let d = subst (EndsOpening names old new) (err_of c.from_residual.result e TooManyPoints c.from_residual.ensures.1 is) c.in_err-readers.ensures.ends in
+    (c.open_inputs.ensures.held, λ known holds. many_by old.held known holds names d.0 d.1 d.2 d.3)
+
+pub returns-in_err-readers-clause-at : goal.returns-in_err-readers-clause-at
+returns-in_err-readers-clause-at g c number cause is =
+    let old = g.F.Files.seen c.args.files.now in
+    let new = g.F.Files.seen c.open_inputs.new.files in
+    let names = names_of c.args.inputs.now in
+    let e = c.in_err-readers.field-0.0 in
+    let d = subst (EndsOpening names old new) (err_of c.from_residual.result e (At number cause) c.from_residual.ensures.1 is) c.in_err-readers.ensures.ends in (
+      omega (arith, d.1.within, length-map c.args.inputs.now (string_bytes {Z = Global})),
+      λ known holds. before_by old.held known holds names number d.0 d.1,
+    )
+
+pub returns-in_err-most-clause-too_many : goal.returns-in_err-most-clause-too_many
+returns-in_err-most-clause-too_many g c is =
+    let old = g.F.Files.seen c.args.files.now in
+    let names = names_of c.args.inputs.now in
+    let readers = c.in_ok-readers.readers.items in
+    let opened = c.in_ok-readers.ensures.opened in
+    let all : length readers ≡ length names = omega (arith, c.in_ok-readers.ensures.all, length-map c.args.inputs.now (string_bytes {Z = Global})) in
+    let many : 2 ^ 32 ≤ points_read readers = subst (λ (rs : List ReaderSeen). 2 ^ 32 ≤ points_read rs) c.deref.ensures.value c.in_err-most.ensures.many.1 in
+    (c.open_inputs.ensures.held, λ known holds. many_by old.held known holds names readers opened all many)
+
+pub returns-in_err-writer-clause-write : goal.returns-in_err-writer-clause-write
+returns-in_err-writer-clause-write g c is =
+    let old = g.F.Files.seen c.args.files.now in
+    let mid = g.F.Files.seen c.open_inputs.new.files in
+    let now = g.F.Files.seen c.begin.new.files in
+    let names = names_of c.args.inputs.now in
+    let readers = c.in_ok-readers.readers.items in
+    let opened = c.in_ok-readers.ensures.opened in
+    let all : length readers ≡ length names = omega (arith, c.in_ok-readers.ensures.all, length-map c.args.inputs.now (string_bytes {Z = Global})) in
+    let some : 1 ≤ length names = omega (arith, c.requires.some, length-map c.args.inputs.now (string_bytes {Z = Global})) in
+    let name = c.args.output.now in
+    let chunk = c.args.chunk in
+    let head = c.head.result.now.bytes in
+    let head_is = ap (λ (h : HeadView). h.bytes) c.head.ensures ∙ head_first readers c.index.result.now (omega (arith, all, some)) c.index.ensures in
+    let other = other_names c.args.inputs.now name c.requires.names in
+    let same = c.open_inputs.ensures.held in
+    let few : points_read readers < 2 ^ 32 = subst (λ (rs : List ReaderSeen). points_read rs < 2 ^ 32) c.deref.ensures.value c.in_ok-most.ensures.small in
+    let e = c.in_err-writer.field-0.0 in
+    let d = subst (FailsBeginning mid now (output_under name head chunk)) (err_of c.from_residual-in_err-writer.result e Write c.from_residual-in_err-writer.ensures.1 is) c.in_err-writer.ensures.ends in
+    (subst (λ (n : ℕ). Rose n now.write_faults) c.open_inputs.ensures.writes d.0, λ known holds. (files_of known (names_read readers), can_by old.held known holds names readers opened all few))
+
+pub returns-in_err-writer-clause-left : goal.returns-in_err-writer-clause-left
+returns-in_err-writer-clause-left g c =
+    let old = g.F.Files.seen c.args.files.now in
+    let mid = g.F.Files.seen c.open_inputs.new.files in
+    let now = g.F.Files.seen c.begin.new.files in
+    let names = names_of c.args.inputs.now in
+    let readers = c.in_ok-readers.readers.items in
+    let opened = c.in_ok-readers.ensures.opened in
+    let all : length readers ≡ length names = omega (arith, c.in_ok-readers.ensures.all, length-map c.args.inputs.now (string_bytes {Z = Global})) in
+    let some : 1 ≤ length names = omega (arith, c.requires.some, length-map c.args.inputs.now (string_bytes {Z = Global})) in
+    let name = c.args.output.now in
+    let chunk = c.args.chunk in
+    let head = c.head.result.now.bytes in
+    let head_is = ap (λ (h : HeadView). h.bytes) c.head.ensures ∙ head_first readers c.index.result.now (omega (arith, all, some)) c.index.ensures in
+    let other = other_names c.args.inputs.now name c.requires.names in
+    let same = c.open_inputs.ensures.held in
+    let few : points_read readers < 2 ^ 32 = subst (λ (rs : List ReaderSeen). points_read rs < 2 ^ 32) c.deref.ensures.value c.in_ok-most.ensures.small in
+    let e = c.in_err-writer.field-0.0 in
+    if_err _ c.from_residual-in_err-writer.result _ c.from_residual-in_err-writer.ensures.1
+    (λ known holds. left_begun old.held names readers opened all name head chunk some head_is known holds few mid now e same c.in_err-writer.ensures.ends)
+
+pub fill-requires-clause-opened : goal.fill-requires-clause-opened
+fill-requires-clause-opened g c κs within =
+    let old = g.F.Files.seen c.args.files.now in
+    let mid = g.F.Files.seen c.open_inputs.new.files in
+    let now = g.F.Files.seen c.begin.new.files in
+    let names = names_of c.args.inputs.now in
+    let readers = c.in_ok-readers.readers.items in
+    let opened = c.in_ok-readers.ensures.opened in
+    let all : length readers ≡ length names = omega (arith, c.in_ok-readers.ensures.all, length-map c.args.inputs.now (string_bytes {Z = Global})) in
+    let some : 1 ≤ length names = omega (arith, c.requires.some, length-map c.args.inputs.now (string_bytes {Z = Global})) in
+    let name = c.args.output.now in
+    let chunk = c.args.chunk in
+    let head = c.head.result.now.bytes in
+    let head_is = ap (λ (h : HeadView). h.bytes) c.head.ensures ∙ head_first readers c.index.result.now (omega (arith, all, some)) c.index.ensures in
+    let other = other_names c.args.inputs.now name c.requires.names in
+    let same = c.open_inputs.ensures.held in
+    readers_open old.held names readers opened all name head chunk some head_is other mid now c.in_ok-writer.writer same c.in_ok-writer.ensures.stands
+
+pub fill-requires-clause-names : goal.fill-requires-clause-names
+fill-requires-clause-names g c κs within =
+    let old = g.F.Files.seen c.args.files.now in
+    let mid = g.F.Files.seen c.open_inputs.new.files in
+    let now = g.F.Files.seen c.begin.new.files in
+    let names = names_of c.args.inputs.now in
+    let readers = c.in_ok-readers.readers.items in
+    let opened = c.in_ok-readers.ensures.opened in
+    let all : length readers ≡ length names = omega (arith, c.in_ok-readers.ensures.all, length-map c.args.inputs.now (string_bytes {Z = Global})) in
+    let some : 1 ≤ length names = omega (arith, c.requires.some, length-map c.args.inputs.now (string_bytes {Z = Global})) in
+    let name = c.args.output.now in
+    let chunk = c.args.chunk in
+    let head = c.head.result.now.bytes in
+    let head_is = ap (λ (h : HeadView). h.bytes) c.head.ensures ∙ head_first readers c.index.result.now (omega (arith, all, some)) c.index.ensures in
+    let other = other_names c.args.inputs.now name c.requires.names in
+    let same = c.open_inputs.ensures.held in
+    readers_other old.held names readers opened all name head chunk some head_is other c.in_ok-writer.writer.name c.in_ok-writer.ensures.stands.named
+
+pub returns-clause-merged : goal.returns-clause-merged
+returns-clause-merged g c =
+    let old = g.F.Files.seen c.args.files.now in
+    let mid = g.F.Files.seen c.open_inputs.new.files in
+    let now = g.F.Files.seen c.begin.new.files in
+    let names = names_of c.args.inputs.now in
+    let readers = c.in_ok-readers.readers.items in
+    let opened = c.in_ok-readers.ensures.opened in
+    let all : length readers ≡ length names = omega (arith, c.in_ok-readers.ensures.all, length-map c.args.inputs.now (string_bytes {Z = Global})) in
+    let some : 1 ≤ length names = omega (arith, c.requires.some, length-map c.args.inputs.now (string_bytes {Z = Global})) in
+    let name = c.args.output.now in
+    let chunk = c.args.chunk in
+    let head = c.head.result.now.bytes in
+    let head_is = ap (λ (h : HeadView). h.bytes) c.head.ensures ∙ head_first readers c.index.result.now (omega (arith, all, some)) c.index.ensures in
+    let other = other_names c.args.inputs.now name c.requires.names in
+    let same = c.open_inputs.ensures.held in
+    let few : points_read readers < 2 ^ 32 = subst (λ (rs : List ReaderSeen). points_read rs < 2 ^ 32) c.deref.ensures.value c.in_ok-most.ensures.small in
+    let new = g.F.Files.seen c.fill.new.files in
+    let out = output_under name head chunk in
+    let w = c.in_ok-writer.writer in
+    let s = c.in_ok-writer.ensures.stands in
+    ok_then c.fill.result (λ f known holds. merged_all old.held names readers opened all name head chunk some head_is other mid now w same s known holds few f.0 new.held f.1 f.2) (c.fill.ensures.finished mid out s)
+
+pub returns-clause-refused : goal.returns-clause-refused
+returns-clause-refused g c number cause is known holds =
+    let old = g.F.Files.seen c.args.files.now in
+    let mid = g.F.Files.seen c.open_inputs.new.files in
+    let now = g.F.Files.seen c.begin.new.files in
+    let names = names_of c.args.inputs.now in
+    let readers = c.in_ok-readers.readers.items in
+    let opened = c.in_ok-readers.ensures.opened in
+    let all : length readers ≡ length names = omega (arith, c.in_ok-readers.ensures.all, length-map c.args.inputs.now (string_bytes {Z = Global})) in
+    let some : 1 ≤ length names = omega (arith, c.requires.some, length-map c.args.inputs.now (string_bytes {Z = Global})) in
+    let name = c.args.output.now in
+    let chunk = c.args.chunk in
+    let head = c.head.result.now.bytes in
+    let head_is = ap (λ (h : HeadView). h.bytes) c.head.ensures ∙ head_first readers c.index.result.now (omega (arith, all, some)) c.index.ensures in
+    let other = other_names c.args.inputs.now name c.requires.names in
+    let same = c.open_inputs.ensures.held in
+    let few : points_read readers < 2 ^ 32 = subst (λ (rs : List ReaderSeen). points_read rs < 2 ^ 32) c.deref.ensures.value c.in_ok-most.ensures.small in
+    let new = g.F.Files.seen c.fill.new.files in
+    let out = output_under name head chunk in
+    let w = c.in_ok-writer.writer in
+    let s = c.in_ok-writer.ensures.stands in
+    let ends = c.fill.ensures.ends mid out s in
+    let e = err_at (EndsMerging now.held mid.held now new (names_read readers) out) c.fill.result (At number (fault.Refused cause)) ends is in
+    inr (merged_bad old.held names readers opened all name head chunk some head_is other mid now w same s known holds few number cause e.0 new.held e.1 e.2)
+
+pub returns-clause-at : goal.returns-clause-at
+returns-clause-at g c number cause is =
+    let old = g.F.Files.seen c.args.files.now in
+    let mid = g.F.Files.seen c.open_inputs.new.files in
+    let now = g.F.Files.seen c.begin.new.files in
+    let names = names_of c.args.inputs.now in
+    let readers = c.in_ok-readers.readers.items in
+    let opened = c.in_ok-readers.ensures.opened in
+    let all : length readers ≡ length names = omega (arith, c.in_ok-readers.ensures.all, length-map c.args.inputs.now (string_bytes {Z = Global})) in
+    let some : 1 ≤ length names = omega (arith, c.requires.some, length-map c.args.inputs.now (string_bytes {Z = Global})) in
+    let name = c.args.output.now in
+    let chunk = c.args.chunk in
+    let head = c.head.result.now.bytes in
+    let head_is = ap (λ (h : HeadView). h.bytes) c.head.ensures ∙ head_first readers c.index.result.now (omega (arith, all, some)) c.index.ensures in
+    let other = other_names c.args.inputs.now name c.requires.names in
+    let same = c.open_inputs.ensures.held in
+    let few : points_read readers < 2 ^ 32 = subst (λ (rs : List ReaderSeen). points_read rs < 2 ^ 32) c.deref.ensures.value c.in_ok-most.ensures.small in
+    let new = g.F.Files.seen c.fill.new.files in
+    let out = output_under name head chunk in
+    let w = c.in_ok-writer.writer in
+    let s = c.in_ok-writer.ensures.stands in
+    let ends = c.fill.ensures.ends mid out s in
+    let e = err_at (EndsMerging now.held mid.held now new (names_read readers) out) c.fill.result (At number cause) ends is in
+    let within : number < length names = subst (λ (ns : List (List ℕ)). number < length ns) (names_are old.held names readers opened all) (at_number now.held mid.held now new (names_read readers) out number cause e) in (
+      omega (arith, within, length-map c.args.inputs.now (string_bytes {Z = Global})),
+      λ known holds. first_before known names (files_of known names) number (can_merge old.held names readers opened all name head chunk some head_is other mid now w same s known holds few) within,
+    )
+
+pub returns-clause-write : goal.returns-clause-write
+returns-clause-write g c is =
+    let old = g.F.Files.seen c.args.files.now in
+    let mid = g.F.Files.seen c.open_inputs.new.files in
+    let now = g.F.Files.seen c.begin.new.files in
+    let names = names_of c.args.inputs.now in
+    let readers = c.in_ok-readers.readers.items in
+    let opened = c.in_ok-readers.ensures.opened in
+    let all : length readers ≡ length names = omega (arith, c.in_ok-readers.ensures.all, length-map c.args.inputs.now (string_bytes {Z = Global})) in
+    let some : 1 ≤ length names = omega (arith, c.requires.some, length-map c.args.inputs.now (string_bytes {Z = Global})) in
+    let name = c.args.output.now in
+    let chunk = c.args.chunk in
+    let head = c.head.result.now.bytes in
+    let head_is = ap (λ (h : HeadView). h.bytes) c.head.ensures ∙ head_first readers c.index.result.now (omega (arith, all, some)) c.index.ensures in
+    let other = other_names c.args.inputs.now name c.requires.names in
+    let same = c.open_inputs.ensures.held in
+    let few : points_read readers < 2 ^ 32 = subst (λ (rs : List ReaderSeen). points_read rs < 2 ^ 32) c.deref.ensures.value c.in_ok-most.ensures.small in
+    let new = g.F.Files.seen c.fill.new.files in
+    let out = output_under name head chunk in
+    let w = c.in_ok-writer.writer in
+    let s = c.in_ok-writer.ensures.stands in
+    let ends = c.fill.ensures.ends mid out s in
+    let e = err_at (EndsMerging now.held mid.held now new (names_read readers) out) c.fill.result Write ends is in (
+      subst (λ (n : ℕ). Rose n new.write_faults) (c.in_ok-writer.ensures.calm.writes ∙ c.open_inputs.ensures.writes) e.0,
+      λ known holds. (files_of known names, can_merge old.held names readers opened all name head chunk some head_is other mid now w same s known holds few),
+    )
+
+pub returns-clause-left : goal.returns-clause-left
+returns-clause-left g c =
+    let old = g.F.Files.seen c.args.files.now in
+    let mid = g.F.Files.seen c.open_inputs.new.files in
+    let now = g.F.Files.seen c.begin.new.files in
+    let names = names_of c.args.inputs.now in
+    let readers = c.in_ok-readers.readers.items in
+    let opened = c.in_ok-readers.ensures.opened in
+    let all : length readers ≡ length names = omega (arith, c.in_ok-readers.ensures.all, length-map c.args.inputs.now (string_bytes {Z = Global})) in
+    let some : 1 ≤ length names = omega (arith, c.requires.some, length-map c.args.inputs.now (string_bytes {Z = Global})) in
+    let name = c.args.output.now in
+    let chunk = c.args.chunk in
+    let head = c.head.result.now.bytes in
+    let head_is = ap (λ (h : HeadView). h.bytes) c.head.ensures ∙ head_first readers c.index.result.now (omega (arith, all, some)) c.index.ensures in
+    let other = other_names c.args.inputs.now name c.requires.names in
+    let same = c.open_inputs.ensures.held in
+    let few : points_read readers < 2 ^ 32 = subst (λ (rs : List ReaderSeen). points_read rs < 2 ^ 32) c.deref.ensures.value c.in_ok-most.ensures.small in
+    let new = g.F.Files.seen c.fill.new.files in
+    let out = output_under name head chunk in
+    let w = c.in_ok-writer.writer in
+    let s = c.in_ok-writer.ensures.stands in
+    let ends = c.fill.ensures.ends mid out s in
+    err_then (EndsMerging now.held mid.held now new (names_read readers) out)
+    (λ cause. IfKnown old.held (λ known. (new.held ≡ old.held) ⊎ ((merged : List (List ℕ)) × CanMerge known names merged × LeavesMerged (merged_output name merged chunk) merged old.held new.held))) c.fill.result
+    (λ cause e known holds. merged_left old.held names readers opened all name head chunk some head_is other mid now w same s known holds few new.held (ends_mid mid now new (names_read readers) w out s cause e)) ends

@@ -1,0 +1,15 @@
+use Rattle.std.proofs.Common.{◌≡◌, length}
+use Rattle.las_outside.specs.Outside.{Later}
+use Rattle.las_merge.specs.Inputs.{names_of}
+use Rattle.las_merge.specs.Opening.{AreOpen}
+use Rattle.las_merge.proofs.opening.open_inputs.Given as goal
+
+abbrev pub invariant-inputs : goal.invariant-inputs
+invariant-inputs g l = record {
+  opened : AreOpen (g.F.Files.seen l.fn.files).held (names_of l.inputs) l.readers.items;
+  count : length l.readers.items ≡ l.input-index;
+  faults : (g.F.Files.seen l.files).read_faults ≡ (g.F.Files.seen l.fn.files).read_faults;
+  held : (g.F.Files.seen l.files).held ≡ (g.F.Files.seen l.fn.files).held;
+  writes : (g.F.Files.seen l.files).write_faults ≡ (g.F.Files.seen l.fn.files).write_faults;
+  later : Later (g.F.Files.seen l.fn.files) (g.F.Files.seen l.files);
+}

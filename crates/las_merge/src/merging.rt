@@ -1,0 +1,236 @@
+//! Whole files that are merged.
+ghost use Rattle.std.specs.Prelude.{◌≡◌, ◌≢◌, ◌⊎◌, ◌*◌, ◌<◌, ◌≤◌, ℕ, List, [], All, true, false, None, Some, length};
+ghost use Rattle.std.specs.Prelude.{IfErr, IfOk, IsErrOf, OnOk, string_bytes};
+ghost use Rattle.std.specs.Option.{ForSome};
+ghost use Rattle.las_header.specs.declared.refusal.Refusal.{Refusal};
+ghost use Rattle.las_header.specs.declared.refusal.Refusal.TheVariants.{BadChunk};
+ghost use Rattle.las_header.specs.Fields.{is_packed, record_length_of};
+ghost use Rattle.las_header.specs.Vlrs.{laszip_vlrs_of};
+ghost use Rattle.las_outside.specs.Faults.{Rose};
+ghost use Rattle.las_outside.specs.Files.{IsMissing, with_file};
+ghost use Rattle.las_outside.specs.Outside.{Later, Outside};
+ghost use Rattle.laz_file.specs.declared.fault.Fault.{Fault};
+ghost use Rattle.laz_file.specs.declared.fault.Fault.TheVariants as file;
+ghost use Rattle.laz_file.specs.Outputs.{Output, finished, stopped};
+ghost use Rattle.laz_file.specs.Writing.{SameFaults, Stands};
+ghost use Rattle.las_merge.specs.declared.fault.MergeFault.TheVariants.{At, Memory, TooManyPoints, Unequal, Write};
+ghost use Rattle.las_merge.specs.declared.field.Field.{Field};
+ghost use Rattle.las_merge.specs.Copying.{CopiesAll, EndsMerging, FailsBeginning, output_under, output_with};
+ghost use Rattle.las_merge.specs.Inputs.{AreFirst, CanMerge, IfKnown, IsKeptBy, item_at, names_of};
+ghost use Rattle.las_merge.specs.Opening.{IsOpen, names_read, points_read};
+ghost use Rattle.las_merge.specs.Merging.{LeavesMerged, OnlyMerges, merged_output};
+
+use crate::MergeFault;
+use crate::copying::copy_inputs;
+use crate::opening::{count_points, open_inputs};
+use las_header::Head;
+use las_outside::{Files, Gate};
+use laz_file::{Fault, Reader, Writer};
+use std::alloc::Global;
+use std::thread::Threads;
+
+// A fault of the output alone.
+fn fault_of_output(fault: Fault) -> MergeFault
+    requires kind { (fault ≡ file.Memory) ⊎ (fault ≡ file.Write) }
+    ensures memory { fault ≡ file.Memory → result ≡ Memory }
+    ensures write { fault ≡ file.Write → result ≡ Write }
+{
+    match fault {
+        Fault::Write => MergeFault::Write,
+        _ => MergeFault::Memory,
+    }
+}
+
+// Begins the output under a plain head, with counts of zero.
+fn create<F: Files>(
+    alloc: Global,
+    files: &mut F,
+    head: &Head,
+    output: &str,
+    chunk: Option<u32>,
+    most: u32,
+    workers: u32,
+) -> Result<Writer, MergeFault>
+    requires plain { is_packed head.now.bytes ≡ false }
+    requires none { laszip_vlrs_of head.now.bytes ≡ [] }
+    requires chunk { ForSome chunk (λ n. (256 ≤ n) × (n ≤ 250000)) }
+    requires workers { (1 ≤ workers) × (workers ≤ 8) }
+    ensures stands { IfOk result (λ writer. Stands (F.seen files.old) (F.seen files.new) writer
+        (output_with output.now head.now.bytes chunk) []) }
+    ensures fresh { IfOk result (λ writer. (writer.failed ≡ false) × (writer.most ≡ most)) }
+    ensures ends { IfErr result (FailsBeginning (F.seen files.old) (F.seen files.new)
+        (output_with output.now head.now.bytes chunk)) }
+    ensures calm { OnOk result (SameFaults (F.seen files.old) (F.seen files.new)) }
+    ensures later { Later (F.seen files.old) (F.seen files.new) }
+{
+    match Writer::create(alloc, files, output, head, chunk, true, most, workers) {
+        Ok(writer) => Ok(writer),
+        Err(fault) => Err(fault_of_output(fault)),
+    }
+}
+
+// Begins the output: the plain head of the first input, with counts of zero.
+fn begin<F: Files>(
+    alloc: Global,
+    files: &mut F,
+    head: &Head,
+    output: &str,
+    chunk: Option<u32>,
+    most: u32,
+    workers: u32,
+) -> Result<Writer, MergeFault>
+    requires one { is_packed head.now.bytes ≡ true → length (laszip_vlrs_of head.now.bytes) ≡ 1 }
+    requires none { is_packed head.now.bytes ≡ false → laszip_vlrs_of head.now.bytes ≡ [] }
+    requires chunk { ForSome chunk (λ n. (256 ≤ n) × (n ≤ 250000)) }
+    requires workers { (1 ≤ workers) × (workers ≤ 8) }
+    ensures stands { IfOk result (λ writer. Stands (F.seen files.old) (F.seen files.new) writer
+        (output_under output.now head.now.bytes chunk) []) }
+    ensures fresh { IfOk result (λ writer. (writer.failed ≡ false) × (writer.most ≡ most) × (writer.taken ≡ 0)
+        × (writer.size ≡ record_length_of head.now.bytes)) }
+    ensures ends { IfErr result (FailsBeginning (F.seen files.old) (F.seen files.new)
+        (output_under output.now head.now.bytes chunk)) }
+    ensures calm { OnOk result (SameFaults (F.seen files.old) (F.seen files.new)) }
+    ensures later { Later (F.seen files.old) (F.seen files.new) }
+{
+    if !head.packed() {
+        return create(alloc, files, head, output, chunk, most, workers);
+    }
+    match head.without_vlr(alloc) {
+        Ok(plain) => create(alloc, files, &plain, output, chunk, most, workers),
+        Err(_) => Err(MergeFault::Memory),
+    }
+}
+
+// Copies the records of all inputs into the output, and finishes it. After a bad chunk it is stopped.
+fn fill<R: Threads + Sync, F: Files, G: Gate>(
+    rt: &R,
+    alloc: Global,
+    files: &mut F,
+    gate: &G,
+    readers: Vec<Reader>,
+    workers: u32,
+    writer: Writer,
+) -> Result<(), MergeFault>
+    requires few { length readers.items ≤ 32 }
+    requires workers { (1 ≤ workers) × (workers ≤ 8) }
+    requires opened { All (IsOpen (F.seen files.old).held) readers.items }
+    requires sizes { All (λ reader. record_length_of reader.head.bytes ≡ writer.size) readers.items }
+    requires names { All (λ reader. reader.name ≢ writer.name) readers.items }
+    requires room { writer.size * points_read readers.items ≤ writer.size * writer.most }
+    requires fresh { (writer.failed ≡ false) × (writer.taken ≡ 0) }
+    requires stands { (before : Outside) × (out : Output) × Stands before (F.seen files.old) writer out [] }
+    ensures finished { (before : Outside) (out : Output) → Stands before (F.seen files.old) writer out []
+        → OnOk result ((records : List ℕ) × CopiesAll (F.seen files.old).held (names_read readers.items) records
+        × ((F.seen files.new).held ≡ with_file before.held out.name (finished out records))) }
+    ensures ends { (before : Outside) (out : Output) → Stands before (F.seen files.old) writer out []
+        → IfErr result (EndsMerging (F.seen files.old).held before.held (F.seen files.old) (F.seen files.new)
+        (names_read readers.items) out) }
+    ensures reads_calm { OnOk result ((F.seen files.new).read_faults ≡ (F.seen files.old).read_faults) }
+    ensures writes_calm { OnOk result ((F.seen files.new).write_faults ≡ (F.seen files.old).write_faults) }
+    ensures later { Later (F.seen files.old) (F.seen files.new) }
+{
+    let mut writer = writer;
+    match copy_inputs(rt, alloc, files, gate, readers, workers, &mut writer)? {
+        None => match writer.finish(rt, alloc, files, gate) {
+            Ok(_) => Ok(()),
+            Err(fault) => Err(fault_of_output(fault)),
+        },
+        Some(bad) => match writer.stop(rt, alloc, files, gate) {
+            Ok(()) => Err(MergeFault::At(bad.input, Fault::Refused(bad.cause))),
+            Err(fault) => Err(fault_of_output(fault)),
+        },
+    }
+}
+
+/// Merges 1 to 32 files: the output, another name than any input's, has the records of all inputs, in their order, under
+/// the plain head of the first input with the counts of these records. It is packed in chunks of `chunk` points, 256 to
+/// 250,000, or plain. `workers`, 1 to 8, unpack and pack side by side, and what is written does not depend on them. An
+/// input may be given more than once.
+///
+/// The inputs are opened in order, and each is compared with the first: it has the same format (a packed and a plain
+/// input may be merged), record length, scales, offsets and box. Doubles are compared as bytes. Of later inputs nothing
+/// but their records is kept.
+///
+/// The answer is `At` with a `Refused`, `Read` or `Memory` fault of the input of that number, `Unequal` for the first
+/// input that differs, or `TooManyPoints` if the inputs have 2^32 records or more. An input is opened only if all before
+/// it were opened and are like the first, and the output is created after all of this: until then no file changes. A
+/// chunk that holds no records of its count is `At` with `BadChunk`: the output then holds its head and all records
+/// before it, of a packed output in full chunks. After any other fault the files are as before, or the output is a
+/// prefix of its draft, or its draft after a part of its patches. `Write` means that the output could not be written, and
+/// a read or a write that failed has raised its count.
+pub fn merge<R: Threads + Sync, F: Files, G: Gate>(
+    rt: &R,
+    alloc: Global,
+    files: &mut F,
+    gate: &G,
+    inputs: &[String],
+    output: &str,
+    chunk: Option<u32>,
+    workers: u32,
+) -> Result<(), MergeFault>
+    requires some { 1 ≤ length inputs.now }
+    requires few { length inputs.now ≤ 32 }
+    requires chunk { ForSome chunk (λ n. (256 ≤ n) × (n ≤ 250000)) }
+    requires workers { (1 ≤ workers) × (workers ≤ 8) }
+    requires names { All (λ name. string_bytes name ≢ output.now) inputs.now }
+
+    ensures merged { OnOk result (IfKnown (F.seen files.old).held (λ known.
+        (merged : List (List ℕ)) × (records : List ℕ) × CanMerge known (names_of inputs.now) merged
+        × OnlyMerges merged records None
+        × ((F.seen files.new).held ≡ with_file (F.seen files.old).held output.now
+        (finished (merged_output output.now merged chunk) records)))) }
+
+    // An input is refused when it is opened, or a chunk of it is bad.
+    ensures refused { (number : ℕ) (cause : Refusal) → IsErrOf result (At number (file.Refused cause))
+        → IfKnown (F.seen files.old).held (λ known.
+        (IsKeptBy known (names_of inputs.now) (At number (file.Refused cause))
+        × ((F.seen files.new).held ≡ (F.seen files.old).held))
+        ⊎ ((merged : List (List ℕ)) × (records : List ℕ) × (bad : ℕ) × (cause ≡ BadChunk bad)
+        × CanMerge known (names_of inputs.now) merged
+        × OnlyMerges merged records (Some (record { file = number; chunk = bad }))
+        × ((F.seen files.new).held ≡ with_file (F.seen files.old).held output.now
+        (stopped (merged_output output.now merged chunk) records)))) }
+    ensures unequal { (number : ℕ) (field : Field) → IsErrOf result (Unequal number field)
+        → (number < length inputs.now) × ((F.seen files.new).held ≡ (F.seen files.old).held)
+        × IfKnown (F.seen files.old).held (λ known. IsKeptBy known (names_of inputs.now) (Unequal number field)) }
+    ensures too_many { IsErrOf result TooManyPoints
+        → ((F.seen files.new).held ≡ (F.seen files.old).held)
+        × IfKnown (F.seen files.old).held (λ known. IsKeptBy known (names_of inputs.now) TooManyPoints) }
+
+    // A read that failed is an input's, and so is a missing input: those before it are held, accepted when they are
+    // opened, and like the first.
+    ensures at { (number : ℕ) (cause : Fault) → IsErrOf result (At number cause)
+        → (number < length inputs.now) × IfKnown (F.seen files.old).held (λ known.
+        (before : List (List ℕ)) × AreFirst known (names_of inputs.now) before × (length before ≡ number)) }
+    ensures read { (number : ℕ) → IsErrOf result (At number file.Read)
+        → (IsMissing (F.seen files.old).held (item_at (names_of inputs.now) number)
+        × ((F.seen files.new).held ≡ (F.seen files.old).held))
+        ⊎ Rose (F.seen files.old).read_faults (F.seen files.new).read_faults }
+    ensures write { IsErrOf result Write → Rose (F.seen files.old).write_faults (F.seen files.new).write_faults
+        × IfKnown (F.seen files.old).held (λ known.
+        (merged : List (List ℕ)) × CanMerge known (names_of inputs.now) merged) }
+    ensures never { (number : ℕ) → IsErrOf result (At number file.Write) → ⊥ }
+
+    // The output is begun only if the inputs can be merged, and then it is left unfinished.
+    ensures left { IfErr result (λ cause. IfKnown (F.seen files.old).held (λ known.
+        ((F.seen files.new).held ≡ (F.seen files.old).held)
+        ⊎ ((merged : List (List ℕ)) × CanMerge known (names_of inputs.now) merged
+        × LeavesMerged (merged_output output.now merged chunk) merged (F.seen files.old).held
+        (F.seen files.new).held))) }
+    ensures reads_calm { OnOk result ((F.seen files.new).read_faults ≡ (F.seen files.old).read_faults) }
+    ensures writes_calm { OnOk result ((F.seen files.new).write_faults ≡ (F.seen files.old).write_faults) }
+    ensures later { Later (F.seen files.old) (F.seen files.new) }
+{
+    let readers = open_inputs(alloc, files, inputs)?;
+    let most = count_points(&readers)?;
+    let writer = begin(
+        alloc,
+        files,
+        readers[0].head(),
+        output,
+        chunk,
+        most,
+        workers,
+    )?;
+    fill(rt, alloc, files, gate, readers, workers, writer)
+}

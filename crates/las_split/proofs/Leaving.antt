@@ -1,0 +1,59 @@
+-- What is left of parts, for all that a file may give.
+use Rattle.std.proofs.Common.{◌≡◌, inl, ℕ, map, List, [], ◌∷◌, ◌++◌, length, take, Option, refl, sym, ◌∙◌, ap, subst, append_assoc}
+use Rattle.std.specs.List.{concat}
+use Rattle.las_outside.specs.Files.{FileMap}
+use Rattle.laz_file.specs.Outputs.{finished, stopped}
+use Rattle.las_split.specs.Files.{with_files}
+use Rattle.las_split.specs.Outputs.{AreUnfinished, LeavesParts, PartFile, all_finished, all_stopped, named, output_under, outputs_under}
+use Rattle.las_split.specs.Parts.{numbers_of_parts, part}
+use Rattle.las_split.specs.Sorting.{ArePrefixes, LeavesPrefixes, Task, bytes_at, output_at}
+use Rattle.las_split.proofs.PartLists.{parts_begin}
+use Rattle.las_split.proofs.Placing.{prefix_more}
+
+-- an output of a part, and its records
+abbrev pub file_at : Task → (records : List (List ℕ)) → ℕ → PartFile
+file_at task records n = record { output = output_under task.stem task.end task.head n; records = concat (part task.rule records n) }
+
+take_map : (f : ℕ → PartFile) (ns ms : List ℕ) → take (length ns) (map f (ns ++ ms)) ≡ map f ns
+take_map f [] ms = refl
+take_map f (n ∷ ns) ms = ap (λ (t : List PartFile). f n ∷ t) (take_map f ns ms)
+
+texts_of : List (List ℕ × List ℕ) → List (List ℕ)
+texts_of ps = map (λ p. p.1) ps
+
+-- prefixes of what parts hold are unfinished, whatever records come after
+unfinished : (task : Task) (xs more : List (List ℕ)) (ns : List ℕ) (ps : List (List ℕ × List ℕ)) → ArePrefixes task (bytes_at task xs) ns ps
+    → AreUnfinished (map (file_at task (xs ++ more)) ns) (texts_of ps) × (named (map (file_at task (xs ++ more)) ns) (texts_of ps) ≡ ps)
+unfolding texts_of
+unfinished task xs more [] [] are = (tt, refl)
+unfinished task xs more [] (p ∷ ps) are = absurd are
+unfinished task xs more (n ∷ ns) [] are = absurd are
+unfinished task xs more (n ∷ ns) (p ∷ ps) are =
+    let rest = unfinished task xs more ns ps are.1 in
+    let m = prefix_more task xs more n are.0.1.0 in
+    let pair : List ℕ × List ℕ = ((output_at task n).name, p.1) in (
+      (inl (m.0, are.0.1.1 ∙ m.1), rest.0),
+      ap (λ (t : List (List ℕ × List ℕ)). pair ∷ t) rest.1 ∙ ap (λ (name : List ℕ). let q : List ℕ × List ℕ = (name, p.1) in q ∷ ps) (sym are.0.0),
+    )
+
+pub leaves_parts : (task : Task) (was now : Option FileMap) (xs more : List (List ℕ)) → LeavesPrefixes task was now xs → LeavesParts (outputs_under task.stem task.end task.head task.rule (xs ++ more)) was now
+leaves_parts task was now xs more l =
+    let b = parts_begin task.rule xs more in
+    let all : numbers_of_parts task.rule (xs ++ more) ≡ l.numbers ++ (l.others ++ b.0) = b.1 ∙ ap (λ (t : List ℕ). t ++ b.0) l.split ∙ append_assoc l.numbers l.others b.0 in
+    let f = file_at task (xs ++ more) in
+    let first : take (length l.numbers) (map f (numbers_of_parts task.rule (xs ++ more))) ≡ map f l.numbers = ap (λ (t : List ℕ). take (length l.numbers) (map f t)) all ∙ take_map f l.numbers (l.others ++ b.0) in
+    let u = unfinished task xs more l.numbers l.texts l.are in (
+      length l.numbers,
+      texts_of l.texts,
+      subst (λ (ps : List PartFile). AreUnfinished ps (texts_of l.texts)) (sym first) u.0,
+      l.held ∙ ap (with_files was) (sym u.1) ∙ ap (λ (ps : List PartFile). with_files was (named ps (texts_of l.texts))) (sym first),
+    )
+
+-- what parts hold when they are finished, and when they are stopped
+pub finished_texts : (task : Task) (records : List (List ℕ)) (ns : List ℕ) → all_finished (map (file_at task records) ns) ≡ map (λ n. ((output_at task n).name, finished (output_at task n) (bytes_at task records n))) ns
+finished_texts task records [] = refl
+finished_texts task records (n ∷ ns) = ap (λ (t : List (List ℕ × List ℕ)). let q : List ℕ × List ℕ = ((output_at task n).name, finished (output_at task n) (bytes_at task records n)) in q ∷ t) (finished_texts task records ns)
+
+pub stopped_texts : (task : Task) (records : List (List ℕ)) (ns : List ℕ) → all_stopped (map (file_at task records) ns) ≡ map (λ n. ((output_at task n).name, stopped (output_at task n) (bytes_at task records n))) ns
+stopped_texts task records [] = refl
+stopped_texts task records (n ∷ ns) = ap (λ (t : List (List ℕ × List ℕ)). let q : List ℕ × List ℕ = ((output_at task n).name, stopped (output_at task n) (bytes_at task records n)) in q ∷ t) (stopped_texts task records ns)

@@ -1,0 +1,17 @@
+pub mod PartNaming
+pub mod PartLists
+pub mod PuttingFiles
+pub mod Changing
+pub mod Standing
+pub mod Opening
+pub mod Placing
+pub mod SortingPoints
+pub mod PushedParts
+pub mod Blocks
+pub mod Splits
+pub mod Leaving
+pub mod EndingParts
+pub mod BatchesTaken
+pub mod WholeSplits
+pub mod Joining
+pub mod Examples

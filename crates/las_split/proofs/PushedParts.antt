@@ -1,0 +1,217 @@
+-- The records of a block go into the parts, one part after another.
+use Rattle.std.proofs.Common.{◌≡◌, ℕ, zero, suc, ◌+◌, ◌*◌, ◌%◌, ◌<◌, ◌≤◌, ◌==◌, Bool, true, false, cond, map, List, [], ◌∷◌, ◌++◌, length, take, drop, get_or, set, Option, None, refl, sym, ◌∙◌, ap, subst, length-append, arith}
+use Rattle.std.specs.List.{concat}
+use Rattle.std.proofs.lemmas.List.{append-nil, drop_all, length-drop, length-take-le, take-append-drop, take_all}
+use Rattle.std.proofs.Math.ListN.{length-set}
+use Rattle.std.proofs.Math.Nat.{mul-mod_right}
+use Rattle.std.proofs.Math.Seq.{drop-cons}
+use Rattle.las_filter.specs.declared.rule.Rule.{Rule}
+use Rattle.las_header.specs.Fields.{points_of, record_length_of}
+use Rattle.las_header.specs.Plain.{cut_records}
+use Rattle.las_outside.specs.Files.{FileMap, with_file}
+use Rattle.las_outside.specs.Outside.{Outside}
+use Rattle.laz_file.specs.Outputs.{front}
+use Rattle.laz_file.specs.Writing.{Stands, WriterSeen}
+use Rattle.laz_file.proofs.Putting.{concat-append}
+use Rattle.las_split.specs.declared.limits.TheConstants.{MAX_PARTS}
+use Rattle.las_split.specs.Files.{with_files}
+use Rattle.las_split.specs.Parts.{number_by, numbers_from, part, part_from}
+use Rattle.las_split.specs.Sorting.{ArePrefixes, AreSorted, AreWriters, HasRoom, InParts, IsWriter, LeavesPrefixes, PushedSo, Task, bytes_at, chosen, has, output_at, standing}
+use Rattle.las_split.proofs.Changing.{AreOnce, firsts_once, next_done, next_part, next_stands}
+use Rattle.las_split.proofs.PartLists.{part-append, part_none}
+use Rattle.las_split.proofs.Placing.{all_prefixes, prefixes-append, whole_prefix}
+use Rattle.las_split.proofs.SortingPoints.{chosen_part}
+use Rattle.las_split.proofs.Standing.{stands_anywhere, text_is, writer_as, writers_after, writers_at, writers_length, writers_more}
+
+-- the records of a part are some of the records
+pub part_within : (rule : Rule) (at : ℕ) (xs : List (List ℕ)) (n : ℕ) → length (concat (part_from rule at xs n)) ≤ length (concat xs)
+part_within rule at [] n = omega arith
+part_within rule at (x ∷ xs) n = by (number_by rule at x == n) (part_within rule (at + 1) xs n)
+  where
+    by : (b : Bool) → length (concat (part_from rule (at + 1) xs n)) ≤ length (concat xs) → length (concat (cond b (x ∷ part_from rule (at + 1) xs n) (part_from rule (at + 1) xs n))) ≤ length (concat (x ∷ xs))
+    by true less = omega (arith, less, length-append x (concat (part_from rule (at + 1) xs n)), length-append x (concat xs))
+    by false less = omega (arith, less, length-append x (concat xs))
+
+-- whole records, by their number
+pub cut_size : (size n : ℕ) (bytes : List ℕ) → length bytes ≡ size * n → length (concat (cut_records size n bytes)) ≡ size * n
+cut_size size zero bytes is = omega arith
+cut_size size (suc n) bytes is =
+    let all : size * suc n ≡ size + size * n = omega arith in
+    let first : length (take size bytes) ≡ size = length-take-le size bytes (omega (arith, is, all)) in
+    omega (arith, all, length-append (take size bytes) (concat (cut_records size n (drop size bytes))), first, cut_size size n (drop size bytes) (omega (arith, is, all, length-drop size bytes)))
+
+pub cut_count : (size n : ℕ) (bytes : List ℕ) → length (cut_records size n bytes) ≡ n
+cut_count size zero bytes = refl
+cut_count size (suc n) bytes = ap suc (cut_count size n (drop size bytes))
+
+module _ (task : Task) (was now : Option FileMap) (ns : List ℕ) (ws : List WriterSeen) (records block : List (List ℕ)) where
+  all_records : List (List ℕ)
+  all_records = records ++ block
+
+  pub pushed_first : InParts task was now ns ws (records ++ block) records → PushedSo task was now ns ws 0 records block
+  pushed_first i = record {
+    numbers_are = i.numbers_are;
+    few = i.few;
+    small = i.small;
+    same = writers_length task (bytes_at task records) ns ws i.writers_are;
+    before = tt;
+    after = i.writers_are;
+    held = i.held;
+    sized = i.sized;
+  }
+
+  pub pushed_last : (place : ℕ) → length ns ≤ place → length (concat block) ≡ record_length_of task.head * length block → PushedSo task was now ns ws place records block → InParts task was now ns ws (records ++ block) (records ++ block)
+  pushed_last place end whole p =
+      let every : take place ns ≡ ns = take_all place ns end in
+      let none : drop place ns ≡ [] = drop_all place ns end in
+      let writers : take place ws ≡ ws = take_all place ws (omega (arith, end, p.same)) in
+      let f = bytes_at task (records ++ block) in
+      let count : record_length_of task.head * length (records ++ block) ≡ record_length_of task.head * length records + record_length_of task.head * length block =
+      ap (λ (n : ℕ). record_length_of task.head * n) (length-append records block) ∙ (let e : record_length_of task.head * (length records + length block) ≡ record_length_of task.head * length records + record_length_of task.head * length block = omega arith in e) in
+      record {
+        numbers_are = p.numbers_are;
+        few = p.few;
+        small = p.small;
+        writers_are = subst (λ (ms : List ℕ). AreWriters task f ms ws) every (subst (AreWriters task f (take place ns)) writers p.before);
+        held = p.held ∙ ap (λ (ms : List ℕ). with_files was (map (standing task f) (take place ns) ++ map (standing task (bytes_at task records)) ms)) none
+            ∙ ap (with_files was) (append-nil (map (standing task f) (take place ns))) ∙ ap (λ (ms : List ℕ). with_files was (map (standing task f) ms)) every;
+        sized = omega (arith, ap (λ (t : List ℕ). length t) (concat-append records block), length-append (concat records) (concat block), p.sized, whole, count);
+      }
+
+  module _ (place : ℕ) (p : PushedSo task was now ns ws place records block) (within : place < length ns) where
+    n : ℕ
+    n = get_or ns place 0
+
+    once : AreOnce ns
+    once = subst AreOnce (sym p.numbers_are) (firsts_once (numbers_from task.rule 0 (records ++ block)))
+
+    -- the next writer stands for the records before
+    pub next_here : now ≡ with_file now (output_at task (get_or ns place 0)).name (front (output_at task (get_or ns place 0)) ++ bytes_at task records (get_or ns place 0))
+    next_here = next_stands task (λ k. front (output_at task k) ++ bytes_at task (records ++ block) k) (λ k. front (output_at task k) ++ bytes_at task records k) ns p.small once place within was now p.held
+
+    pub next_writer : (d : WriterSeen) → IsWriter task (get_or ns place 0) (get_or ws place d) (bytes_at task records (get_or ns place 0))
+    next_writer d = writers_at task (bytes_at task records) ns ws place d p.after within p.same
+
+    -- it took its records of the block
+    pub pushed_one : (new : Option FileMap) (w : WriterSeen) → IsWriter task (get_or ns place 0) w (bytes_at task (records ++ block) (get_or ns place 0))
+        → new ≡ with_file now (output_at task (get_or ns place 0)).name (front (output_at task (get_or ns place 0)) ++ bytes_at task (records ++ block) (get_or ns place 0))
+        → PushedSo task was new ns (set ws place w) (place + 1) records block
+    pushed_one new w is to = record {
+      numbers_are = p.numbers_are;
+      few = p.few;
+      small = p.small;
+      same = length-set ws place w ∙ p.same;
+      before = writers_more task (bytes_at task (records ++ block)) ns ws place w p.before within p.same is;
+      after = writers_past;
+      held = next_done task (λ k. front (output_at task k) ++ bytes_at task (records ++ block) k) (λ k. front (output_at task k) ++ bytes_at task records k) ns p.small once place within was now p.held new to;
+      sized = p.sized;
+    }
+      where
+        same_past : (vs : List WriterSeen) (j : ℕ) → drop (suc j) (set vs j w) ≡ drop (suc j) vs
+        same_past [] j = refl
+        same_past (v ∷ vs) zero = refl
+        same_past (v ∷ vs) (suc j) = same_past vs j
+
+        writers_past : AreWriters task (bytes_at task records) (drop (place + 1) ns) (drop (place + 1) (set ws place w))
+        writers_past =
+            let one : place + 1 ≡ suc place = omega arith in
+            let same : drop (place + 1) (set ws place w) ≡ drop (place + 1) ws = ap (λ (k : ℕ). drop k (set ws place w)) one ∙ same_past ws place ∙ ap (λ (k : ℕ). drop k ws) (sym one) in
+            subst (AreWriters task (bytes_at task records) (drop (place + 1) ns)) (sym same) (writers_after task (bytes_at task records) ns ws place p.after within p.same)
+
+    -- it has none
+    pub pushed_none : (d : WriterSeen) → bytes_at task records (get_or ns place 0) ≡ bytes_at task (records ++ block) (get_or ns place 0) → PushedSo task was now ns ws (place + 1) records block
+    pushed_none d same =
+        let here = next_here ∙ ap (λ (b : List ℕ). with_file now (output_at task (get_or ns place 0)).name (front (output_at task (get_or ns place 0)) ++ b)) same in
+        let w = get_or ws place d in
+        subst (λ (vs : List WriterSeen). PushedSo task was now ns vs (place + 1) records block) (itself ws place (omega (arith, within, p.same)))
+        (pushed_one now w (writer_as task (get_or ns place 0) w (bytes_at task records (get_or ns place 0)) (bytes_at task (records ++ block) (get_or ns place 0)) same (next_writer d)) here)
+      where
+        itself : (vs : List WriterSeen) (j : ℕ) → j < length vs → set vs j (get_or vs j d) ≡ vs
+        itself [] j lt = refl
+        itself (v ∷ vs) zero lt = refl
+        itself (v ∷ vs) (suc j) lt = ap (λ (t : List WriterSeen). v ∷ t) (itself vs j (omega (arith, lt)))
+
+    -- a call failed while it took them
+    pub pushed_left : (new : Option FileMap) (k : ℕ) → new ≡ with_file now (output_at task (get_or ns place 0)).name (take k (front (output_at task (get_or ns place 0)) ++ bytes_at task (records ++ block) (get_or ns place 0)))
+        → LeavesPrefixes task was new (records ++ block)
+    pushed_left new k to =
+        let f = bytes_at task (records ++ block) in
+        let first = map (standing task f) (take place ns) in
+        let rest = map (standing task (bytes_at task records)) (drop (suc place) ns) in
+        let one : List ℕ × List ℕ = ((output_at task (get_or ns place 0)).name, take k (front (output_at task (get_or ns place 0)) ++ f (get_or ns place 0))) in
+        let parts : ns ≡ take place ns ++ get_or ns place 0 ∷ drop (suc place) ns = sym (take-append-drop place ns) ∙ ap (λ (t : List ℕ). take place ns ++ t) (drop-cons ns place 0 within) in
+        record {
+          numbers = ns;
+          others = [];
+          split = sym p.numbers_are ∙ sym (append-nil ns);
+          few = subst (λ (t : List ℕ). length t ≤ MAX_PARTS) p.numbers_are p.few;
+          texts = first ++ one ∷ rest;
+          are = subst (λ (ms : List ℕ). ArePrefixes task f ms (first ++ one ∷ rest)) (sym parts)
+              (prefixes-append task f (take place ns) (get_or ns place 0 ∷ drop (suc place) ns) first (one ∷ rest) (whole_texts (take place ns)) ((refl, (k, refl)), all_prefixes task records block (drop (suc place) ns)));
+          held = next_part task (λ m. front (output_at task m) ++ f m) (λ m. front (output_at task m) ++ bytes_at task records m) ns p.small once place within was now p.held new (take k (front (output_at task (get_or ns place 0)) ++ f (get_or ns place 0))) to;
+        }
+      where
+        whole_texts : (ms : List ℕ) → ArePrefixes task (bytes_at task (records ++ block)) ms (map (standing task (bytes_at task (records ++ block))) ms)
+        whole_texts [] = tt
+        whole_texts (m ∷ ms) =
+            let text = front (output_at task m) ++ bytes_at task (records ++ block) m in
+            ((refl, (length text, whole_prefix text)), whole_texts ms)
+
+-- ---- what is pushed
+
+module _ (task : Task) (ns of_records : List ℕ) (present : List Bool) (records block : List (List ℕ)) (s : AreSorted task ns of_records present records block) where
+  pub bytes_more : (n : ℕ) → bytes_at task (records ++ block) n ≡ bytes_at task records n ++ concat (chosen of_records block n)
+  bytes_more n =
+      let far : 0 + length records ≡ length records = omega arith in
+      ap concat (part-append task.rule 0 records block n) ∙ concat-append (part task.rule records n) (part_from task.rule (0 + length records) block n)
+      ∙ ap (λ (k : ℕ). bytes_at task records n ++ concat (part_from task.rule k block n)) far
+      ∙ ap (λ (t : List (List ℕ)). bytes_at task records n ++ concat t) (sym (chosen_part task.rule (length records) block n) ∙ ap (λ (ms : List ℕ). chosen ms block n) (sym s.numbers_are))
+
+  -- no record of the block is in a part that is not present
+  pub bytes_same : (place : ℕ) (d : Bool) → place < length ns → get_or present place d ≡ false → bytes_at task records (get_or ns place 0) ≡ bytes_at task (records ++ block) (get_or ns place 0)
+  bytes_same place d within none =
+      let n = get_or ns place 0 in
+      let gone : has n of_records ≡ false = sym (mark ns place within) ∙ ap (λ (t : List Bool). get_or t place d) (sym s.present_are) ∙ none in
+      let empty : chosen of_records block n ≡ [] = ap (λ (ms : List ℕ). chosen ms block n) s.numbers_are ∙ chosen_part task.rule (length records) block n ∙ part_none task.rule (length records) block n (ap (has n) (sym s.numbers_are) ∙ gone) in
+      sym (bytes_more n ∙ ap (λ (t : List (List ℕ)). bytes_at task records n ++ concat t) empty ∙ append-nil (bytes_at task records n))
+    where
+      mark : (ms : List ℕ) (j : ℕ) → j < length ms → get_or (map (λ k. has k of_records) ms) j d ≡ has (get_or ms j 0) of_records
+      mark [] j lt = absurd (omega (arith, lt))
+      mark (m ∷ ms) zero lt = refl
+      mark (m ∷ ms) (suc j) lt = mark ms j (omega (arith, lt))
+
+  pub marks_length : length present ≡ length ns
+  marks_length = ap (λ (t : List Bool). length t) s.present_are ∙ by ns
+    where
+      by : (ms : List ℕ) → length (map (λ k. has k of_records) ms) ≡ length ms
+      by [] = refl
+      by (m ∷ ms) = ap suc (by ms)
+
+-- there is room for it
+pub room_for : (task : Task) (n size len total : ℕ) (w : WriterSeen) (records : List (List ℕ)) → HasRoom task size (length records) total → IsWriter task n w (bytes_at task records n) → length (concat records) ≡ record_length_of task.head * length records → len ≤ total → w.taken + len ≤ w.size * w.most
+room_for task n size len total w records room is sized less =
+    let o : Outside = record { held = None; read_faults = 0; write_faults = 0; asked = 0 } in
+    let s = is.stands o in
+    let wide : w.size ≡ size = s.size ∙ sym room.size_is in
+    let count : w.taken ≤ length (concat records) = omega (arith, s.taken, part_within task.rule 0 records n) in
+    let all : length (concat records) ≡ size * length records = sized ∙ ap (λ (k : ℕ). k * length records) (sym room.size_is) in
+    let limit : w.size * w.most ≡ size * points_of task.head = ap (λ (k : ℕ). k * w.most) wide ∙ ap (λ (k : ℕ). size * k) is.most in
+    omega (arith, count, all, limit, room.room, less)
+
+pub even_for : (task : Task) (n size total len k : ℕ) (w : WriterSeen) (bytes : List ℕ) (index : ℕ) → HasRoom task size index total → IsWriter task n w bytes → len ≡ size * k → len % w.size ≡ 0
+even_for task n size total len k w bytes index room is even =
+    let o : Outside = record { held = None; read_faults = 0; write_faults = 0; asked = 0 } in
+    let wide : w.size ≡ size = (is.stands o).size ∙ sym room.size_is in
+    ap (λ (m : ℕ). len % m) wide ∙ ap (λ (m : ℕ). m % size) even ∙ mul-mod_right size k
+
+-- a writer that took more records
+pub took : (task : Task) (n : ℕ) (now new : Outside) (w : WriterSeen) (bytes more : List ℕ) → Stands now new w (output_at task n) (bytes ++ more) → w.failed ≡ false → w.most ≡ points_of task.head → (all : List ℕ) → all ≡ bytes ++ more
+    → IsWriter task n w all × (new.held ≡ with_file now.held (output_at task n).name (front (output_at task n) ++ all))
+took task n now new w bytes more s sound most all is = (
+  writer_as task n w (bytes ++ more) all (sym is) (record { stands = stands_anywhere task n now new w (bytes ++ more) s; sound = sound; most = most }),
+  ap (λ (o : Outside). o.held) (text_is task n now new w (bytes ++ more) s) ∙ ap (λ (b : List ℕ). with_file now.held (output_at task n).name (front (output_at task n) ++ b)) (sym is),
+)
+
+-- a writer, for want of another
+pub no_writer : WriterSeen
+no_writer = record { name = []; start = 0; size = 0; most = 0; taken = 0; long_counts = false; counts = None; packing = None; failed = false }

@@ -1,0 +1,247 @@
+use Rattle.std.proofs.Common.{◌≡◌, ℕ, ◌*◌, List, [], Option, Some, None, refl, sym, ◌∙◌, ap, subst}
+use Rattle.std.specs.Prelude.{unwrap_or, string_bytes}
+use Rattle.las_header.specs.declared.refusal.Refusal.{Refusal}
+use Rattle.las_header.specs.Heads.{HeadView, IsHead}
+use Rattle.las_header.specs.Plain.{plain_of}
+use Rattle.las_outside.specs.Files.{FileMap, WhereKnown}
+use Rattle.laz_file.specs.Reading.{ReaderSeen, StandsFor}
+use Rattle.laz_file.proofs.Knowing.{known_both, known_then}
+use Rattle.laz_file.proofs.Putting.{if_err, if_ok_weaker}
+use Rattle.laz_file.proofs.WholeOutputs.{stands_ready}
+use Rattle.las_split.specs.Files.{with_files}
+use Rattle.las_split.specs.Outputs.{LeavesParts, PartFile, all_finished, all_stopped, outputs_under, part_files}
+use Rattle.las_split.specs.Parts.{numbers_of_parts}
+use Rattle.las_split.specs.Sorting.{EndsSplitting, task_of}
+use Rattle.las_split.specs.Splitting.{OnlySplits, SplitsTo}
+use Rattle.las_split.proofs.WholeSplits.{files_are, leaves_splits, only_leaves, prefixes_leave, splits_end, stopped_leave, err_if}
+use Rattle.las_split.proofs.files.split.Goals as goal
+
+pub returns-in_err-crew-clause-left : goal.returns-in_err-crew-clause-left
+returns-in_err-crew-clause-left g c =
+    let old = (g.F.Files.seen c.args.files.now).held in
+    let first = c.args.reader in
+    let rule = c.args.rule.now in
+    let stem = string_bytes c.args.output.now.stem in
+    let end = string_bytes c.args.output.now.end in
+    if_err _ c.from_residual.result _ c.from_residual.ensures.1
+    (known_then old first.name (StandsFor first) (λ file. (records : List (List ℕ)) (refusal : Option Refusal) → SplitsTo rule file records refusal → LeavesParts (part_files stem end rule file records) old old)
+    (λ file st. λ records refusal to. (0, [], tt, refl)) c.requires.stands)
+
+pub split_records-requires-clause-reads : goal.split_records-requires-clause-reads
+split_records-requires-clause-reads g c κs lives =
+    let old = (g.F.Files.seen c.args.files.now).held in
+    let first = c.args.reader in
+    let rule = c.args.rule.now in
+    let stem = string_bytes c.args.output.now.stem in
+    let end = string_bytes c.args.output.now.end in
+    let reader = c.crew.new.self in
+    let ready = c.in_ok-crew.ensures.kept in
+    subst (λ (name : List ℕ). WhereKnown old name (StandsFor reader)) (sym (ap (λ (r : ReaderSeen). r.name) ready))
+    (known_then old first.name (StandsFor first) (StandsFor reader) (λ file st. stands_ready first reader (2 * c.args.workers) file ready st) c.requires.stands)
+
+pub returns-in_err-split_records-clause-left : goal.returns-in_err-split_records-clause-left
+returns-in_err-split_records-clause-left g c =
+    let old = (g.F.Files.seen c.args.files.now).held in
+    let first = c.args.reader in
+    let rule = c.args.rule.now in
+    let stem = string_bytes c.args.output.now.stem in
+    let end = string_bytes c.args.output.now.end in
+    let reader = c.crew.new.self in
+    let ready = c.in_ok-crew.ensures.kept in
+    let heads : reader.head ≡ first.head = ap (λ (r : ReaderSeen). r.head) ready in
+    let plain = c.in_ok-plain.plain in
+    let task = task_of c.args.output.now (unwrap_or plain reader.head) rule in
+    let head : IsHead first.head.bytes = subst (λ (h : HeadView). IsHead h.bytes) heads c.plain_head.ensures.head in
+    let same : task.head ≡ plain_of first.head.bytes = c.in_ok-plain.ensures.plain.bytes ∙ ap (λ (h : HeadView). plain_of h.bytes) heads in
+    let mid = (g.F.Files.seen c.split_records.new.files).held in
+    let ns = c.split_records.new.parts.numbers in
+    let ws = c.split_records.new.parts.writers.items in
+    let turn = λ (now : Option FileMap) (k : WhereKnown old first.name (λ file. (records : List (List ℕ)) (refusal : Option Refusal) → SplitsTo rule file records refusal → LeavesParts (outputs_under stem end task.head rule records) old now)).
+    known_both old first.name (StandsFor first) (λ file. (records : List (List ℕ)) (refusal : Option Refusal) → SplitsTo rule file records refusal → LeavesParts (outputs_under stem end task.head rule records) old now)
+    (λ file. (records : List (List ℕ)) (refusal : Option Refusal) → SplitsTo rule file records refusal → LeavesParts (part_files stem end rule file records) old now)
+    (λ file st l. λ records refusal to. subst (λ (ps : List PartFile). LeavesParts ps old now) (files_are task first file records same st) (l records refusal to)) c.requires.stands k in
+    let p = c.in_err-split_records.ensures.left in
+    if_err _ c.from_residual-in_err-split_records.result _ c.from_residual-in_err-split_records.ensures.1
+    (turn mid (leaves_splits task old first reader (2 * c.args.workers) ready c.requires.new.first head c.requires.stands p.0 p.1 p.2 mid p.3))
+
+pub finish_all-requires-clause-parts : goal.finish_all-requires-clause-parts
+finish_all-requires-clause-parts g c κs lives =
+    let old = (g.F.Files.seen c.args.files.now).held in
+    let first = c.args.reader in
+    let rule = c.args.rule.now in
+    let stem = string_bytes c.args.output.now.stem in
+    let end = string_bytes c.args.output.now.end in
+    let reader = c.crew.new.self in
+    let ready = c.in_ok-crew.ensures.kept in
+    let heads : reader.head ≡ first.head = ap (λ (r : ReaderSeen). r.head) ready in
+    let plain = c.in_ok-plain.plain in
+    let task = task_of c.args.output.now (unwrap_or plain reader.head) rule in
+    let head : IsHead first.head.bytes = subst (λ (h : HeadView). IsHead h.bytes) heads c.plain_head.ensures.head in
+    let same : task.head ≡ plain_of first.head.bytes = c.in_ok-plain.ensures.plain.bytes ∙ ap (λ (h : HeadView). plain_of h.bytes) heads in
+    let mid = (g.F.Files.seen c.split_records.new.files).held in
+    let ns = c.split_records.new.parts.numbers in
+    let ws = c.split_records.new.parts.writers.items in
+    let d = c.in_ok-split_records.ensures.takes in
+    let ends = subst (EndsSplitting old reader d.0 d.2) c.in-None.is d.5 in
+    let e = splits_end task old first reader (2 * c.args.workers) ready c.requires.new.first head c.requires.stands d.0 d.1 d.3 mid ns ws d.2 None d.4 ends in
+    (task, old, e.0, e.1)
+
+pub returns-in-None-clause-split : goal.returns-in-None-clause-split
+returns-in-None-clause-split g c =
+    let old = (g.F.Files.seen c.args.files.now).held in
+    let first = c.args.reader in
+    let rule = c.args.rule.now in
+    let stem = string_bytes c.args.output.now.stem in
+    let end = string_bytes c.args.output.now.end in
+    let reader = c.crew.new.self in
+    let ready = c.in_ok-crew.ensures.kept in
+    let heads : reader.head ≡ first.head = ap (λ (r : ReaderSeen). r.head) ready in
+    let plain = c.in_ok-plain.plain in
+    let task = task_of c.args.output.now (unwrap_or plain reader.head) rule in
+    let head : IsHead first.head.bytes = subst (λ (h : HeadView). IsHead h.bytes) heads c.plain_head.ensures.head in
+    let same : task.head ≡ plain_of first.head.bytes = c.in_ok-plain.ensures.plain.bytes ∙ ap (λ (h : HeadView). plain_of h.bytes) heads in
+    let mid = (g.F.Files.seen c.split_records.new.files).held in
+    let ns = c.split_records.new.parts.numbers in
+    let ws = c.split_records.new.parts.writers.items in
+    let d = c.in_ok-split_records.ensures.takes in
+    let ends = subst (EndsSplitting old reader d.0 d.2) c.in-None.is d.5 in
+    let e = splits_end task old first reader (2 * c.args.workers) ready c.requires.new.first head c.requires.stands d.0 d.1 d.3 mid ns ws d.2 None d.4 ends in
+    let new = (g.F.Files.seen c.finish_all.new.files).held in
+    if_ok_weaker _ _ c.finish_all.result
+    (λ numbers x.
+    known_both old first.name (StandsFor first) (λ file. OnlySplits rule file e.0 None)
+    (λ file. (records : List (List ℕ)) × OnlySplits rule file records None × (numbers.items ≡ numbers_of_parts rule records) × (new ≡ with_files old (all_finished (part_files stem end rule file records))))
+    (λ file st o. (e.0, o, x.0, x.1 ∙ ap (λ (ps : List PartFile). with_files old (all_finished ps)) (files_are task first file e.0 same st))) c.requires.stands e.2)
+    (c.finish_all.ensures.finished task old e.0 e.1)
+
+pub returns-in-None-clause-left : goal.returns-in-None-clause-left
+returns-in-None-clause-left g c =
+    let old = (g.F.Files.seen c.args.files.now).held in
+    let first = c.args.reader in
+    let rule = c.args.rule.now in
+    let stem = string_bytes c.args.output.now.stem in
+    let end = string_bytes c.args.output.now.end in
+    let reader = c.crew.new.self in
+    let ready = c.in_ok-crew.ensures.kept in
+    let heads : reader.head ≡ first.head = ap (λ (r : ReaderSeen). r.head) ready in
+    let plain = c.in_ok-plain.plain in
+    let task = task_of c.args.output.now (unwrap_or plain reader.head) rule in
+    let head : IsHead first.head.bytes = subst (λ (h : HeadView). IsHead h.bytes) heads c.plain_head.ensures.head in
+    let same : task.head ≡ plain_of first.head.bytes = c.in_ok-plain.ensures.plain.bytes ∙ ap (λ (h : HeadView). plain_of h.bytes) heads in
+    let mid = (g.F.Files.seen c.split_records.new.files).held in
+    let ns = c.split_records.new.parts.numbers in
+    let ws = c.split_records.new.parts.writers.items in
+    let turn = λ (now : Option FileMap) (k : WhereKnown old first.name (λ file. (records : List (List ℕ)) (refusal : Option Refusal) → SplitsTo rule file records refusal → LeavesParts (outputs_under stem end task.head rule records) old now)).
+    known_both old first.name (StandsFor first) (λ file. (records : List (List ℕ)) (refusal : Option Refusal) → SplitsTo rule file records refusal → LeavesParts (outputs_under stem end task.head rule records) old now)
+    (λ file. (records : List (List ℕ)) (refusal : Option Refusal) → SplitsTo rule file records refusal → LeavesParts (part_files stem end rule file records) old now)
+    (λ file st l. λ records refusal to. subst (λ (ps : List PartFile). LeavesParts ps old now) (files_are task first file records same st) (l records refusal to)) c.requires.stands k in
+    let d = c.in_ok-split_records.ensures.takes in
+    let ends = subst (EndsSplitting old reader d.0 d.2) c.in-None.is d.5 in
+    let e = splits_end task old first reader (2 * c.args.workers) ready c.requires.new.first head c.requires.stands d.0 d.1 d.3 mid ns ws d.2 None d.4 ends in
+    let new = (g.F.Files.seen c.finish_all.new.files).held in
+    err_if _ c.finish_all.result (λ fault l. turn new (only_leaves task old new first.name e.0 None e.2 l)) (c.finish_all.ensures.left task old e.0 e.1)
+
+pub stop_all-requires-clause-parts : goal.stop_all-requires-clause-parts
+stop_all-requires-clause-parts g c κs lives =
+    let old = (g.F.Files.seen c.args.files.now).held in
+    let first = c.args.reader in
+    let rule = c.args.rule.now in
+    let stem = string_bytes c.args.output.now.stem in
+    let end = string_bytes c.args.output.now.end in
+    let reader = c.crew.new.self in
+    let ready = c.in_ok-crew.ensures.kept in
+    let heads : reader.head ≡ first.head = ap (λ (r : ReaderSeen). r.head) ready in
+    let plain = c.in_ok-plain.plain in
+    let task = task_of c.args.output.now (unwrap_or plain reader.head) rule in
+    let head : IsHead first.head.bytes = subst (λ (h : HeadView). IsHead h.bytes) heads c.plain_head.ensures.head in
+    let same : task.head ≡ plain_of first.head.bytes = c.in_ok-plain.ensures.plain.bytes ∙ ap (λ (h : HeadView). plain_of h.bytes) heads in
+    let mid = (g.F.Files.seen c.split_records.new.files).held in
+    let ns = c.split_records.new.parts.numbers in
+    let ws = c.split_records.new.parts.writers.items in
+    let d = c.in_ok-split_records.ensures.takes in
+    let ends = subst (EndsSplitting old reader d.0 d.2) c.in-Some.is d.5 in
+    let e = splits_end task old first reader (2 * c.args.workers) ready c.requires.new.first head c.requires.stands d.0 d.1 d.3 mid ns ws d.2 (Some c.in-Some.cause) d.4 ends in
+    (task, old, e.0, e.1)
+
+pub returns-in_err-stop_all-in-Some-clause-left : goal.returns-in_err-stop_all-in-Some-clause-left
+returns-in_err-stop_all-in-Some-clause-left g c =
+    let old = (g.F.Files.seen c.args.files.now).held in
+    let first = c.args.reader in
+    let rule = c.args.rule.now in
+    let stem = string_bytes c.args.output.now.stem in
+    let end = string_bytes c.args.output.now.end in
+    let reader = c.crew.new.self in
+    let ready = c.in_ok-crew.ensures.kept in
+    let heads : reader.head ≡ first.head = ap (λ (r : ReaderSeen). r.head) ready in
+    let plain = c.in_ok-plain.plain in
+    let task = task_of c.args.output.now (unwrap_or plain reader.head) rule in
+    let head : IsHead first.head.bytes = subst (λ (h : HeadView). IsHead h.bytes) heads c.plain_head.ensures.head in
+    let same : task.head ≡ plain_of first.head.bytes = c.in_ok-plain.ensures.plain.bytes ∙ ap (λ (h : HeadView). plain_of h.bytes) heads in
+    let mid = (g.F.Files.seen c.split_records.new.files).held in
+    let ns = c.split_records.new.parts.numbers in
+    let ws = c.split_records.new.parts.writers.items in
+    let turn = λ (now : Option FileMap) (k : WhereKnown old first.name (λ file. (records : List (List ℕ)) (refusal : Option Refusal) → SplitsTo rule file records refusal → LeavesParts (outputs_under stem end task.head rule records) old now)).
+    known_both old first.name (StandsFor first) (λ file. (records : List (List ℕ)) (refusal : Option Refusal) → SplitsTo rule file records refusal → LeavesParts (outputs_under stem end task.head rule records) old now)
+    (λ file. (records : List (List ℕ)) (refusal : Option Refusal) → SplitsTo rule file records refusal → LeavesParts (part_files stem end rule file records) old now)
+    (λ file st l. λ records refusal to. subst (λ (ps : List PartFile). LeavesParts ps old now) (files_are task first file records same st) (l records refusal to)) c.requires.stands k in
+    let d = c.in_ok-split_records.ensures.takes in
+    let ends = subst (EndsSplitting old reader d.0 d.2) c.in-Some.is d.5 in
+    let e = splits_end task old first reader (2 * c.args.workers) ready c.requires.new.first head c.requires.stands d.0 d.1 d.3 mid ns ws d.2 (Some c.in-Some.cause) d.4 ends in
+    let new = (g.F.Files.seen c.stop_all.new.files).held in
+    let l = prefixes_leave task old new e.0 (c.in_err-stop_all-in-Some.ensures.left task old e.0 e.1) in
+    if_err _ c.from_residual-in_err-stop_all-in-Some.result _ c.from_residual-in_err-stop_all-in-Some.ensures.1 (turn new (only_leaves task old new first.name e.0 (Some c.in-Some.cause) e.2 l))
+
+pub returns-clause-refused : goal.returns-clause-refused
+returns-clause-refused g c cause is =
+    let old = (g.F.Files.seen c.args.files.now).held in
+    let first = c.args.reader in
+    let rule = c.args.rule.now in
+    let stem = string_bytes c.args.output.now.stem in
+    let end = string_bytes c.args.output.now.end in
+    let reader = c.crew.new.self in
+    let ready = c.in_ok-crew.ensures.kept in
+    let heads : reader.head ≡ first.head = ap (λ (r : ReaderSeen). r.head) ready in
+    let plain = c.in_ok-plain.plain in
+    let task = task_of c.args.output.now (unwrap_or plain reader.head) rule in
+    let head : IsHead first.head.bytes = subst (λ (h : HeadView). IsHead h.bytes) heads c.plain_head.ensures.head in
+    let same : task.head ≡ plain_of first.head.bytes = c.in_ok-plain.ensures.plain.bytes ∙ ap (λ (h : HeadView). plain_of h.bytes) heads in
+    let mid = (g.F.Files.seen c.split_records.new.files).held in
+    let ns = c.split_records.new.parts.numbers in
+    let ws = c.split_records.new.parts.writers.items in
+    let d = c.in_ok-split_records.ensures.takes in
+    let ends = subst (EndsSplitting old reader d.0 d.2) c.in-Some.is d.5 in
+    let e = splits_end task old first reader (2 * c.args.workers) ready c.requires.new.first head c.requires.stands d.0 d.1 d.3 mid ns ws d.2 (Some c.in-Some.cause) d.4 ends in
+    let new = (g.F.Files.seen c.stop_all.new.files).held in
+    let is_cause : c.in-Some.cause ≡ cause = cc in
+    let s = c.in_ok-stop_all-in-Some.ensures.stopped task old e.0 e.1 in
+    known_both old first.name (StandsFor first) (λ file. OnlySplits rule file e.0 (Some c.in-Some.cause))
+    (λ file. (records : List (List ℕ)) × OnlySplits rule file records (Some cause) × (new ≡ with_files old (all_stopped (part_files stem end rule file records))))
+    (λ file st o. (e.0, subst (λ (x : Refusal). OnlySplits rule file e.0 (Some x)) is_cause o, s ∙ ap (λ (ps : List PartFile). with_files old (all_stopped ps)) (files_are task first file e.0 same st))) c.requires.stands e.2
+
+pub returns-clause-left : goal.returns-clause-left
+returns-clause-left g c =
+    let old = (g.F.Files.seen c.args.files.now).held in
+    let first = c.args.reader in
+    let rule = c.args.rule.now in
+    let stem = string_bytes c.args.output.now.stem in
+    let end = string_bytes c.args.output.now.end in
+    let reader = c.crew.new.self in
+    let ready = c.in_ok-crew.ensures.kept in
+    let heads : reader.head ≡ first.head = ap (λ (r : ReaderSeen). r.head) ready in
+    let plain = c.in_ok-plain.plain in
+    let task = task_of c.args.output.now (unwrap_or plain reader.head) rule in
+    let head : IsHead first.head.bytes = subst (λ (h : HeadView). IsHead h.bytes) heads c.plain_head.ensures.head in
+    let same : task.head ≡ plain_of first.head.bytes = c.in_ok-plain.ensures.plain.bytes ∙ ap (λ (h : HeadView). plain_of h.bytes) heads in
+    let mid = (g.F.Files.seen c.split_records.new.files).held in
+    let ns = c.split_records.new.parts.numbers in
+    let ws = c.split_records.new.parts.writers.items in
+    let turn = λ (now : Option FileMap) (k : WhereKnown old first.name (λ file. (records : List (List ℕ)) (refusal : Option Refusal) → SplitsTo rule file records refusal → LeavesParts (outputs_under stem end task.head rule records) old now)).
+    known_both old first.name (StandsFor first) (λ file. (records : List (List ℕ)) (refusal : Option Refusal) → SplitsTo rule file records refusal → LeavesParts (outputs_under stem end task.head rule records) old now)
+    (λ file. (records : List (List ℕ)) (refusal : Option Refusal) → SplitsTo rule file records refusal → LeavesParts (part_files stem end rule file records) old now)
+    (λ file st l. λ records refusal to. subst (λ (ps : List PartFile). LeavesParts ps old now) (files_are task first file records same st) (l records refusal to)) c.requires.stands k in
+    let d = c.in_ok-split_records.ensures.takes in
+    let ends = subst (EndsSplitting old reader d.0 d.2) c.in-Some.is d.5 in
+    let e = splits_end task old first reader (2 * c.args.workers) ready c.requires.new.first head c.requires.stands d.0 d.1 d.3 mid ns ws d.2 (Some c.in-Some.cause) d.4 ends in
+    let new = (g.F.Files.seen c.stop_all.new.files).held in
+    let s = c.in_ok-stop_all-in-Some.ensures.stopped task old e.0 e.1 in
+    turn new (only_leaves task old new first.name e.0 (Some c.in-Some.cause) e.2 (stopped_leave task old mid new ns ws e.0 e.1 s))

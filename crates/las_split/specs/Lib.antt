@@ -1,0 +1,5 @@
+pub mod Parts
+pub mod Files
+pub mod Outputs
+pub mod Splitting
+pub mod Sorting

@@ -1,0 +1,265 @@
+//! Records that go from a reader into the parts.
+ghost use Rattle.std.specs.Prelude.{◌≡◌, ◌≢◌, ◌%◌, ◌*◌, ◌+◌, ◌≤◌, ◌<◌, ◌^◌, ℕ, Bool, List, Option, [], length, All, false};
+ghost use Rattle.std.specs.Prelude.{IfErr, IfOk, MatchOption, OnErr, OnOk, string_bytes, true, unwrap_or, vec_len};
+ghost use Rattle.std.specs.List.{concat};
+ghost use Rattle.las_header.specs.Fields.{is_packed, points_of, record_length_of};
+ghost use Rattle.las_header.specs.Heads.{IsHead};
+ghost use Rattle.las_header.specs.Vlrs.{laszip_vlrs_of};
+ghost use Rattle.las_filter.specs.Parts.{part_name};
+ghost use Rattle.las_outside.specs.Files.{FileMap, WhereKnown};
+ghost use Rattle.las_outside.specs.Outside.{Later};
+ghost use Rattle.laz_file.specs.Copying.{HasCause, HoldFirst, end_of};
+ghost use Rattle.laz_file.specs.Reading.{IsCrewOf, Lends, StandsFor, records_in};
+ghost use Rattle.laz_file.specs.Writing.{SameFaults};
+ghost use Rattle.las_split.specs.Parts.{IsRule};
+ghost use Rattle.las_split.specs.Sorting.{EndsSplitting, HasRoom, InParts, IsPlainFor, LeavesBlock, TakesBlock, cut_all};
+ghost use Rattle.las_split.specs.Sorting.{task_of};
+
+use crate::part_names::PartNames;
+use crate::parts::Parts;
+use crate::pushing::push_parts;
+use crate::sorting::{Sorted, sort_block};
+use las_filter::Rule;
+use las_header::{Head, Refusal};
+use las_outside::{Files, Gate};
+use laz_chunk::Workspace;
+use laz_file::{Fault, Reader};
+use laz_workers::Crew;
+use std::alloc::{AllocError, Global};
+use std::thread::Threads;
+
+// Makes a buffer at least as long as this.
+fn grow(buffer: &mut Vec<u8>, size: usize) -> Result<(), AllocError>
+    ensures { OnOk result (size ≤ vec_len buffer.new) }
+{
+    if buffer.len() < size {
+        buffer.resize(size, 0)?;
+    }
+    Ok(())
+}
+
+// Takes the records of a block into their parts. The answer is false if one of them would open one part too many; then
+// those before it were taken.
+fn split_block<R: Threads + Sync, F: Files, G: Gate>(
+    rt: &R,
+    alloc: Global,
+    files: &mut F,
+    gate: &G,
+    names: &PartNames,
+    head: &Head,
+    rule: &Rule,
+    index: u64,
+    size: usize,
+    block: &[u8],
+    sorted: &mut Sorted,
+    buffer: &mut Vec<u8>,
+    parts: &mut Parts,
+) -> Result<bool, Fault>
+    requires plain { is_packed head.now.bytes ≡ false }
+    requires none { laszip_vlrs_of head.now.bytes ≡ [] }
+    requires rule { IsRule rule.now }
+    requires room { HasRoom (task_of names.now head.now rule.now) size index (length block.now) }
+    requires whole { length block.now % size ≡ 0 }
+    requires parts { (was : Option FileMap) × (records : List (List ℕ))
+        × InParts (task_of names.now head.now rule.now) was (F.seen files.old).held parts.old.numbers
+        parts.old.writers.items records records
+        × (index ≡ length records) }
+    ensures takes { (was : Option FileMap) (records : List (List ℕ))
+        → InParts (task_of names.now head.now rule.now) was (F.seen files.old).held parts.old.numbers
+        parts.old.writers.items records records
+        → index ≡ length records
+        → IfOk result (TakesBlock (task_of names.now head.now rule.now) was (F.seen files.new).held parts.new.numbers
+        parts.new.writers.items records (cut_all size block.now)) }
+    ensures left { (was : Option FileMap) (records : List (List ℕ))
+        → InParts (task_of names.now head.now rule.now) was (F.seen files.old).held parts.old.numbers
+        parts.old.writers.items records records
+        → index ≡ length records
+        → OnErr result (LeavesBlock (task_of names.now head.now rule.now) was (F.seen files.new).held records
+        (cut_all size block.now)) }
+    ensures cause { IfErr result (HasCause (F.seen files.old) (F.seen files.new)) }
+    ensures calm { OnOk result (SameFaults (F.seen files.old) (F.seen files.new)) }
+    ensures later { Later (F.seen files.old) (F.seen files.new) }
+{
+    let taken = sort_block(
+        alloc, files, names, head, rule, index, size, block, parts, sorted,
+    )?;
+    let length = size * taken;
+    grow(buffer, length)?;
+    push_parts(
+        rt,
+        alloc,
+        files,
+        gate,
+        size,
+        &block[..length],
+        sorted,
+        buffer,
+        parts,
+    )?;
+    if taken < block.len() / size {
+        return Ok(false);
+    }
+    Ok(true)
+}
+
+// The plain head: that of the file, if it is plain.
+fn plain_of<'a>(plain: &'a Option<Head>, reader: &'a Reader) -> &'a Head
+    ensures { result.now ≡ unwrap_or plain.now reader.now.head }
+{
+    match plain {
+        Some(head) => head,
+        None => reader.head(),
+    }
+}
+
+// Takes the records of a batch, which a reader and its crew lend, into their parts, in order. The answer is the place of
+// the next record, or none if a record would open one part too many; then those before it were taken.
+fn split_batch<R: Threads + Sync, F: Files, G: Gate>(
+    rt: &R,
+    alloc: Global,
+    files: &mut F,
+    gate: &G,
+    names: &PartNames,
+    plain: &Option<Head>,
+    rule: &Rule,
+    index: u64,
+    size: usize,
+    reader: &Reader,
+    crew: &Crew<Workspace>,
+    count: u32,
+    sorted: &mut Sorted,
+    buffer: &mut Vec<u8>,
+    parts: &mut Parts,
+) -> Result<Option<u64>, Fault>
+    requires plain { IsPlainFor reader.now.head (unwrap_or plain.now reader.now.head) }
+    requires rule { IsRule rule.now }
+    requires lent { (blocks : List (List ℕ)) × Lends reader.now crew.now blocks × (length blocks ≡ count)
+        × All (λ block. length block % size ≡ 0) blocks
+        × HasRoom (task_of names.now (unwrap_or plain.now reader.now.head) rule.now) size index (length (concat blocks)) }
+    requires parts { (was : Option FileMap) × (records : List (List ℕ))
+        × InParts (task_of names.now (unwrap_or plain.now reader.now.head) rule.now) was (F.seen files.old).held
+        parts.old.numbers parts.old.writers.items records records
+        × (index ≡ length records) }
+    ensures takes { (blocks : List (List ℕ)) (was : Option FileMap) (records : List (List ℕ))
+        → Lends reader.now crew.now blocks → length blocks ≡ count → All (λ block. length block % size ≡ 0) blocks
+        → InParts (task_of names.now (unwrap_or plain.now reader.now.head) rule.now) was (F.seen files.old).held
+        parts.old.numbers parts.old.writers.items records records
+        → index ≡ length records
+        → IfOk result (λ after. MatchOption after
+        (TakesBlock (task_of names.now (unwrap_or plain.now reader.now.head) rule.now) was (F.seen files.new).held
+        parts.new.numbers parts.new.writers.items records (cut_all size (concat blocks)) false)
+        (λ next. TakesBlock (task_of names.now (unwrap_or plain.now reader.now.head) rule.now) was
+        (F.seen files.new).held parts.new.numbers parts.new.writers.items records (cut_all size (concat blocks)) true
+        × (next ≡ length records + length (cut_all size (concat blocks))))) }
+    ensures left { (blocks : List (List ℕ)) (was : Option FileMap) (records : List (List ℕ))
+        → Lends reader.now crew.now blocks → length blocks ≡ count → All (λ block. length block % size ≡ 0) blocks
+        → InParts (task_of names.now (unwrap_or plain.now reader.now.head) rule.now) was (F.seen files.old).held
+        parts.old.numbers parts.old.writers.items records records
+        → index ≡ length records
+        → OnErr result (LeavesBlock (task_of names.now (unwrap_or plain.now reader.now.head) rule.now) was
+        (F.seen files.new).held records (cut_all size (concat blocks))) }
+    ensures cause { IfErr result (HasCause (F.seen files.old) (F.seen files.new)) }
+    ensures calm { OnOk result (SameFaults (F.seen files.old) (F.seen files.new)) }
+    ensures later { Later (F.seen files.old) (F.seen files.new) }
+{
+    let head = plain_of(plain, reader);
+    let mut next = index;
+    for i in 0..count {
+        let block = reader.block(crew, i);
+        if !split_block(
+            rt, alloc, files, gate, names, head, rule, next, size, block, sorted, buffer, parts,
+        )? {
+            return Ok(None);
+        }
+        next += (block.len() / size) as u64;
+    }
+    Ok(Some(next))
+}
+
+// A refusal ends the records that are split, and any other fault the call.
+fn end_of(fault: Fault) -> Result<Option<Refusal>, Fault>
+    ensures { result ≡ end_of fault }
+{
+    match fault {
+        Fault::Refused(cause) => Ok(Some(cause)),
+        Fault::Read => Err(Fault::Read),
+        Fault::Write => Err(Fault::Write),
+        Fault::Memory => Err(Fault::Memory),
+    }
+}
+
+/// Takes all records that a reader has left into parts, batch by batch: up to the end of the records, or up to the
+/// first bad chunk or the first record that would open one part too many, which is the answer.
+pub(crate) fn split_records<R: Threads + Sync, F: Files, G: Gate>(
+    rt: &R,
+    alloc: Global,
+    files: &mut F,
+    gate: &G,
+    names: &PartNames,
+    plain: &Option<Head>,
+    rule: &Rule,
+    reader: &mut Reader,
+    crew: &mut Crew<Workspace>,
+    parts: &mut Parts,
+) -> Result<Option<Refusal>, Fault>
+    requires open { reader.old.failed ≡ false }
+    requires crew { IsCrewOf reader.old crew.old }
+    requires names { (number : ℕ) → number < 2 ^ 32
+        → part_name (string_bytes names.now.stem) (string_bytes names.now.end) number ≢ reader.old.name }
+    requires reads { WhereKnown (F.seen files.old).held reader.old.name (StandsFor reader.old) }
+    requires plain { IsPlainFor reader.old.head (unwrap_or plain.now reader.old.head) }
+    requires rule { IsRule rule.now }
+    requires head { IsHead reader.old.head.bytes }
+    requires all { records_in reader.old.left ≡ points_of reader.old.head.bytes }
+    requires numbers { parts.old.numbers ≡ [] }
+    requires writers { parts.old.writers.items ≡ [] }
+    ensures takes { IfOk result (λ end. (n : ℕ) × (blocks : List (List ℕ)) × (all : Bool)
+        × HoldFirst (F.seen files.old).held reader.old n blocks
+        × TakesBlock (task_of names.now (unwrap_or plain.now reader.old.head) rule.now) (F.seen files.old).held
+        (F.seen files.new).held parts.new.numbers parts.new.writers.items []
+        (cut_all (record_length_of reader.old.head.bytes) (concat blocks)) all
+        × EndsSplitting (F.seen files.old).held reader.old n all end) }
+    ensures left { OnErr result ((n : ℕ) × (blocks : List (List ℕ))
+        × HoldFirst (F.seen files.old).held reader.old n blocks
+        × LeavesBlock (task_of names.now (unwrap_or plain.now reader.old.head) rule.now) (F.seen files.old).held
+        (F.seen files.new).held [] (cut_all (record_length_of reader.old.head.bytes) (concat blocks))) }
+    ensures cause { IfErr result (HasCause (F.seen files.old) (F.seen files.new)) }
+    ensures reads_calm { OnOk result ((F.seen files.new).read_faults ≡ (F.seen files.old).read_faults) }
+    ensures writes_calm { OnOk result ((F.seen files.new).write_faults ≡ (F.seen files.old).write_faults) }
+    ensures later { Later (F.seen files.old) (F.seen files.new) }
+{
+    let size = usize::from(reader.head().record_length());
+    let mut sorted = Sorted::new(alloc);
+    let mut buffer = Vec::new(alloc);
+    let mut index = 0;
+    'batches: loop {
+        let count = match reader.next_batch(rt, alloc, files, gate, crew) {
+            Ok(count) => count,
+            Err(fault) => return end_of(fault),
+        };
+        if count == 0 {
+            return Ok(None);
+        }
+        let after = split_batch(
+            rt,
+            alloc,
+            files,
+            gate,
+            names,
+            plain,
+            rule,
+            index,
+            size,
+            reader,
+            crew,
+            count,
+            &mut sorted,
+            &mut buffer,
+            parts,
+        )?;
+        let Some(next) = after else {
+            return Ok(Some(Refusal::TooManyParts));
+        };
+        index = next;
+    }
+}

@@ -1,0 +1,182 @@
+//! Whole files into parts.
+ghost use Rattle.std.specs.Prelude.{◌≡◌, ◌≢◌, ◌⊎◌, ◌^◌, ◌≤◌, ◌<◌, ℕ, List, Option, None, Some, IfErr, IfOk, IsErrOf};
+ghost use Rattle.std.specs.Prelude.{OnErr, OnOk, string_bytes, unwrap_or};
+ghost use Rattle.las_header.specs.declared.refusal.Refusal.{Refusal};
+ghost use Rattle.las_header.specs.declared.refusal.Refusal.TheVariants.{BadChunk, TooManyParts};
+ghost use Rattle.las_header.specs.Heads.{IsHead};
+ghost use Rattle.las_filter.specs.Parts.{part_name};
+ghost use Rattle.las_outside.specs.Faults.{Rose};
+ghost use Rattle.las_outside.specs.Files.{FileMap, WhereKnown};
+ghost use Rattle.las_outside.specs.Outside.{Later};
+ghost use Rattle.laz_file.specs.declared.fault.Fault.TheVariants.{Read, Refused, Write};
+ghost use Rattle.laz_file.specs.Copying.{HasCause};
+ghost use Rattle.laz_file.specs.Reading.{AgreesWithHead, IsNewReader, StandsFor};
+ghost use Rattle.laz_file.specs.Writing.{SameFaults};
+ghost use Rattle.las_split.specs.Files.{with_files};
+ghost use Rattle.las_split.specs.Outputs.{LeavesParts, all_finished, all_stopped, outputs_under, part_files};
+ghost use Rattle.las_split.specs.Parts.{IsRule, numbers_of_parts};
+ghost use Rattle.las_split.specs.Sorting.{InParts, IsPlainFor, LeavesPrefixes, Task};
+ghost use Rattle.las_split.specs.Splitting.{OnlySplits, SplitsTo};
+
+use crate::copying::split_records;
+use crate::part_names::PartNames;
+use crate::parts::Parts;
+use las_filter::Rule;
+use las_header::Head;
+use las_outside::{Files, Gate};
+use laz_file::{Fault, Reader};
+use std::alloc::{AllocError, Global};
+use std::thread::Threads;
+
+// The plain head of a packed file. A plain one has its own.
+fn plain_head(alloc: Global, reader: &Reader) -> Result<Option<Head>, AllocError>
+    requires { AgreesWithHead reader.now }
+    ensures plain { IfOk result (λ plain. IsPlainFor reader.now.head (unwrap_or plain reader.now.head)) }
+    ensures head { IsHead reader.now.head.bytes }
+{
+    let head = reader.head();
+    let _ = head.bytes();
+    if !head.packed() {
+        return Ok(None);
+    }
+    let plain = head.without_vlr(alloc)?;
+    Ok(Some(plain))
+}
+
+// Finishes the outputs of all parts, in the order of their first records, and gives their numbers.
+fn finish_all<R: Threads + Sync, F: Files, G: Gate>(
+    rt: &R,
+    alloc: Global,
+    files: &mut F,
+    gate: &G,
+    parts: Parts,
+) -> Result<Vec<u32>, Fault>
+    requires parts { (task : Task) × (was : Option FileMap) × (records : List (List ℕ))
+        × InParts task was (F.seen files.old).held parts.numbers parts.writers.items records records }
+    ensures finished { (task : Task) (was : Option FileMap) (records : List (List ℕ))
+        → InParts task was (F.seen files.old).held parts.numbers parts.writers.items records records
+        → IfOk result (λ numbers. (numbers.items ≡ numbers_of_parts task.rule records)
+        × ((F.seen files.new).held ≡ with_files was (all_finished
+        (outputs_under task.stem task.end task.head task.rule records)))) }
+    ensures left { (task : Task) (was : Option FileMap) (records : List (List ℕ))
+        → InParts task was (F.seen files.old).held parts.numbers parts.writers.items records records
+        → OnErr result (LeavesParts (outputs_under task.stem task.end task.head task.rule records) was
+        (F.seen files.new).held) }
+    ensures cause { IfErr result (HasCause (F.seen files.old) (F.seen files.new)) }
+    ensures calm { OnOk result (SameFaults (F.seen files.old) (F.seen files.new)) }
+    ensures later { Later (F.seen files.old) (F.seen files.new) }
+{
+    let Parts { numbers, writers } = parts;
+    let mut rest = writers;
+    rest.as_mut_slice().reverse();
+    while let Some(writer) = rest.pop() {
+        writer.finish(rt, alloc, files, gate)?;
+    }
+    Ok(numbers.into_list())
+}
+
+// Stops the outputs of all parts, in the order of their first records.
+fn stop_all<R: Threads + Sync, F: Files, G: Gate>(
+    rt: &R,
+    alloc: Global,
+    files: &mut F,
+    gate: &G,
+    parts: Parts,
+) -> Result<(), Fault>
+    requires parts { (task : Task) × (was : Option FileMap) × (records : List (List ℕ))
+        × InParts task was (F.seen files.old).held parts.numbers parts.writers.items records records }
+    ensures stopped { (task : Task) (was : Option FileMap) (records : List (List ℕ))
+        → InParts task was (F.seen files.old).held parts.numbers parts.writers.items records records
+        → OnOk result ((F.seen files.new).held ≡ with_files was (all_stopped
+        (outputs_under task.stem task.end task.head task.rule records))) }
+    ensures left { (task : Task) (was : Option FileMap) (records : List (List ℕ))
+        → InParts task was (F.seen files.old).held parts.numbers parts.writers.items records records
+        → OnErr result (LeavesPrefixes task was (F.seen files.new).held records) }
+    ensures cause { IfErr result (HasCause (F.seen files.old) (F.seen files.new)) }
+    ensures calm { OnOk result (SameFaults (F.seen files.old) (F.seen files.new)) }
+    ensures later { Later (F.seen files.old) (F.seen files.new) }
+{
+    let Parts {
+        numbers: _,
+        writers,
+    } = parts;
+    let mut rest = writers;
+    rest.as_mut_slice().reverse();
+    while let Some(writer) = rest.pop() {
+        writer.stop(rt, alloc, files, gate)?;
+    }
+    Ok(())
+}
+
+/// Splits a file: each part that has a record becomes a plain file of its own, under the input's plain head with the
+/// counts of the part. It is created at the part's first record. A number of records a part, in `Every`, is 1 or more,
+/// and no part has the input's name. `workers`, 1 to 8, unpack side by side, and what is written does not depend on
+/// them. The answer is the numbers of the parts, in the order of their first records.
+///
+/// The answer is `Refused` with `BadChunk` if a chunk holds no records of its count, or with `TooManyParts` if a record
+/// would open a 513th part: the first of these in the order of the records. Each part then holds its head, with counts
+/// of zero, and its records before that. The answer is `Read` or `Write` if such a call failed; then the first of the
+/// parts, or none, were created, and each of them is a prefix of its draft, or its draft after a part of its patches.
+pub fn split<R: Threads + Sync, F: Files, G: Gate>(
+    rt: &R,
+    alloc: Global,
+    files: &mut F,
+    gate: &G,
+    reader: Reader,
+    output: &PartNames,
+    rule: &Rule,
+    workers: u32,
+) -> Result<Vec<u32>, Fault>
+    requires new { IsNewReader reader.name reader }
+    requires rule { IsRule rule.now }
+    requires workers { (1 ≤ workers) × (workers ≤ 8) }
+    requires names { (number : ℕ) → number < 2 ^ 32
+        → part_name (string_bytes output.now.stem) (string_bytes output.now.end) number ≢ reader.name }
+    requires stands { WhereKnown (F.seen files.old).held reader.name (StandsFor reader) }
+    requires whole { AgreesWithHead reader }
+
+    ensures split { IfOk result (λ numbers. WhereKnown (F.seen files.old).held reader.name (λ file.
+        (records : List (List ℕ)) × OnlySplits rule.now file records None
+        × (numbers.items ≡ numbers_of_parts rule.now records)
+        × ((F.seen files.new).held ≡ with_files (F.seen files.old).held (all_finished
+        (part_files (string_bytes output.now.stem) (string_bytes output.now.end) rule.now file records))))) }
+    ensures refused { (cause : Refusal) → IsErrOf result (Refused cause)
+        → WhereKnown (F.seen files.old).held reader.name (λ file.
+        (records : List (List ℕ)) × OnlySplits rule.now file records (Some cause)
+        × ((F.seen files.new).held ≡ with_files (F.seen files.old).held (all_stopped
+        (part_files (string_bytes output.now.stem) (string_bytes output.now.end) rule.now file records)))) }
+    ensures bad { (cause : Refusal) → IsErrOf result (Refused cause)
+        → ((i : ℕ) × (cause ≡ BadChunk i)) ⊎ (cause ≡ TooManyParts) }
+    ensures left { IfErr result (λ fault. WhereKnown (F.seen files.old).held reader.name (λ file.
+        (records : List (List ℕ)) (refusal : Option Refusal) → SplitsTo rule.now file records refusal
+        → LeavesParts (part_files (string_bytes output.now.stem) (string_bytes output.now.end) rule.now file records)
+        (F.seen files.old).held (F.seen files.new).held)) }
+    ensures read { IsErrOf result Read → Rose (F.seen files.old).read_faults (F.seen files.new).read_faults }
+    ensures write { IsErrOf result Write → Rose (F.seen files.old).write_faults (F.seen files.new).write_faults }
+    ensures reads_calm { OnOk result ((F.seen files.new).read_faults ≡ (F.seen files.old).read_faults) }
+    ensures writes_calm { OnOk result ((F.seen files.new).write_faults ≡ (F.seen files.old).write_faults) }
+    ensures later { Later (F.seen files.old) (F.seen files.new) }
+{
+    let mut reader = reader;
+    let mut crew = reader.crew(alloc, workers)?;
+    let plain = plain_head(alloc, &reader)?;
+    let mut parts = Parts::new(alloc);
+    match split_records(
+        rt,
+        alloc,
+        files,
+        gate,
+        output,
+        &plain,
+        rule,
+        &mut reader,
+        &mut crew,
+        &mut parts,
+    )? {
+        None => finish_all(rt, alloc, files, gate, parts),
+        Some(cause) => {
+            stop_all(rt, alloc, files, gate, parts)?;
+            Err(Fault::Refused(cause))
+        }
+    }
+}
