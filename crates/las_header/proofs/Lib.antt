@@ -7,3 +7,4 @@ pub mod PackingLemmas
 pub mod UnpackingLemmas
 pub mod ConditionLemmas
 pub mod Examples
+pub mod Cutting

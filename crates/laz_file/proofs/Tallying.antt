@@ -1,7 +1,6 @@
 -- Records that are counted one by one.
 use Rattle.std.proofs.Common.{◌≡◌, ℕ, suc, ◌+◌, ◌-◌, ◌*◌, ◌/◌, ◌%◌, ◌<◌, ◌≤◌, List, [], ◌∷◌, ◌++◌, length, take, drop, sym, ◌∙◌, ap, append_assoc, arith}
-use Rattle.std.proofs.lemmas.List.{append-nil, length-drop}
-use Rattle.std.proofs.Math.Nat.{div-add-mod}
+use Rattle.std.proofs.lemmas.List.{append-nil}
 use Rattle.las_header.specs.declared.counts.Counts.{Counts}
 use Rattle.las_header.specs.Plain.{cut_records}
 use Rattle.las_points.specs.Tally.{counts_of}
@@ -37,18 +36,3 @@ all_counted size n t records rest before counts end c =
     let none : n - t ≡ 0 = omega arith in
     let all : cut_records size n records ≡ c.done = c.cut ∙ ap (λ (k : ℕ). c.done ++ cut_records size k rest) none ∙ append-nil c.done in
     c.counts_are ∙ ap (λ (t : List (List ℕ)). counts_of (before ++ t)) (sym all)
-
--- how many bytes are left
-pub left_first : (size : ℕ) (records : List ℕ) → length records % size ≡ 0 → length records ≡ size * (length records / size - 0)
-left_first size records whole =
-    let all : length records / size ≡ length records / size - 0 = omega arith in
-    let divided : length records ≡ size * (length records / size) = omega (arith, div-add-mod (length records) size, whole) in
-    divided ∙ ap (λ (n : ℕ). size * n) all
-
-pub left_next : (size n t : ℕ) (rest further : List ℕ) → t < n → further ≡ drop size rest → length rest ≡ size * (n - t) → length further ≡ size * (n - (t + 1))
-left_next size n t rest further more is left =
-    let k = n - (t + 1) in
-    let next : n - t ≡ suc k = omega arith in
-    let all : length rest ≡ size * suc k = left ∙ ap (λ (m : ℕ). size * m) next in
-    let one : size * suc k ≡ size + size * k = omega arith in
-    omega (arith, ap (λ (x : List ℕ). length x) is, length-drop size rest, all, one)

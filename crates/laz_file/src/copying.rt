@@ -67,9 +67,13 @@ fn end_of(fault: Fault) -> Result<Option<Refusal>, Fault>
     }
 }
 
-/// Copies all records that a reader has left into a writer, batch by batch: up to the end of the records, or up to the
-/// first bad chunk, which is the answer.
-pub(crate) fn copy_records<R: Threads + Sync, F: Files, G: Gate>(
+/// Copies all records that a reader has left into a writer of another name, batch by batch: up to the end of the records,
+/// or up to the first bad chunk, which is the answer `Some`.
+///
+/// The crew is one of this reader, and the writer has room for all of the records. `Err` is `Read` or `Write` if such a
+/// call failed, or `Memory`, and never `Refused`: of the output then a prefix stands of what stands if it is stopped
+/// after some of the records.
+pub fn copy_records<R: Threads + Sync, F: Files, G: Gate>(
     rt: &R,
     alloc: Global,
     files: &mut F,
@@ -91,6 +95,7 @@ pub(crate) fn copy_records<R: Threads + Sync, F: Files, G: Gate>(
     ensures part { OnErr result ((n : ℕ) × (blocks : List (List ℕ))
         × HoldFirst (F.seen files.old).held reader.old n blocks
         × LeavesPart (F.seen files.old) (F.seen files.new) writer.old (concat blocks)) }
+    ensures most { writer.new.most ≡ writer.old.most }
     ensures open { OnOk result (writer.new.failed ≡ false) }
     ensures cause { IfErr result (HasCause (F.seen files.old) (F.seen files.new)) }
     ensures reads_calm { OnOk result ((F.seen files.new).read_faults ≡ (F.seen files.old).read_faults) }

@@ -35,6 +35,7 @@ mod unpack_job;
 mod whole_files;
 mod writer;
 
+pub use copying::copy_records;
 pub use fault::Fault;
 pub use joining::batches_join;
 pub use laws::{

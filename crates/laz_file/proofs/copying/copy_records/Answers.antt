@@ -19,6 +19,7 @@ batches-init g c =
       crew = c.requires.crew;
       reads = c.requires.reads;
       can = c.requires.room;
+      most = refl;
       copied = (0, [], read_none old.held reader (StandsFor reader) c.requires.reads, takes_none old c.args.writer.now);
       reads_calm = refl;
       writes_calm = refl;
@@ -128,6 +129,7 @@ batches-preserved g c =
           ((known_taken later new v u (concat b.0) (with_reads s.0 later) s.1 (s.2 ++ concat done.1) (read s.0 s.1 s.2 s.3) here reader.name (λ e. other (e ∙ (t.named ∙ sym s.3.named))) (StandsFor next)).0
           (subst (λ (h : Option FileMap). WhereKnown h reader.name (StandsFor next)) (sym c.next_batch.ensures.held) c.in-Ok.ensures.stands));
       can = room_after later new reader next old.held v u n b.0 (with_reads s.0 later) s.1 (s.2 ++ concat done.1) (read s.0 s.1 s.2 s.3) c.batches.invariant.can more here c.push_lent.ensures.most c.in_ok-push_lent.ensures.open;
+      most = c.push_lent.ensures.most ∙ c.batches.invariant.most;
       copied = (done.0 + n, done.1 ++ b.0, read_more old.held first reader next done.0 n done.1 b.0 done.2 more, takes);
       reads_calm = c.in_ok-push_lent.ensures.calm.reads ∙ c.in-Ok.ensures.faults ∙ c.batches.invariant.reads_calm;
       writes_calm = c.in_ok-push_lent.ensures.calm.writes ∙ c.next_batch.ensures.writes ∙ c.batches.invariant.writes_calm;

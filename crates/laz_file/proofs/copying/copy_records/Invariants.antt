@@ -13,6 +13,7 @@ invariant-batches g l = record {
   crew : IsCrewOf l.reader l.crew;
   reads : WhereKnown (g.F.Files.seen l.files).held l.reader.name (StandsFor l.reader);
   can : CanTake l.reader l.writer;
+  most : l.writer.most ≡ l.fn.writer.most;
   copied : (n : ℕ) × (blocks : List (List ℕ)) × HasRead (g.F.Files.seen l.fn.files).held l.fn.reader l.reader n blocks
       × Takes (g.F.Files.seen l.fn.files) (g.F.Files.seen l.files) l.fn.writer l.writer (concat blocks);
   reads_calm : (g.F.Files.seen l.files).read_faults ≡ (g.F.Files.seen l.fn.files).read_faults;
