@@ -1,11 +1,12 @@
 -- Counts of bins, one record after another.
-use Rattle.std.proofs.Common.{◌≡◌, ℕ, ◌+◌, ◌-◌, ◌^◌, ◌<◌, ◌≤◌, ◌∙◌, Bool, true, false, cond, Option, Some, None, unwrap_or, List, [], ◌∷◌, ◌++◌}
-use Rattle.std.proofs.Common.{ap, arith, subst, sym, refl}
+use Rattle.std.proofs.Common.{◌≡◌, ℕ, ◌+◌, ◌≤◌, ◌∙◌, Bool, true, false, cond, Option, Some, unwrap_or, List, [], ◌∷◌, ◌++◌}
+use Rattle.std.proofs.Common.{ap, arith, length, subst, sym, refl}
+use Rattle.std.proofs.Math.Path.{fun_ext}
 use Rattle.std.specs.Cmp.{nat_cmp_total}
 use Rattle.std.specs.Ordering.{eq_by_cmp, nat_cmp}
 use Rattle.std.specs.FinMap as map
 use Rattle.std.specs.FinMap.{get-empty, get-insert}
-use Rattle.las_info.specs.Tallies.{Tally, count_at, tally_after, with_one}
+use Rattle.las_info.specs.Tallies.{TapSeen, Tally, count_at, shown, shown_all, tally_after, with_one}
 
 -- no bin has a count above 0
 pub count-none : (bin : ℕ) → count_at map.empty bin ≡ 0
@@ -39,3 +40,25 @@ pub tally-grows : (bin_of : List ℕ → ℕ) (tally : Tally) (records : List (L
     → tally_after bin_of tally (records ++ point ∷ []) ≡ with_one (tally_after bin_of tally records) (bin_of point)
 tally-grows bin_of tally [] point = refl
 tally-grows bin_of tally (r ∷ records) point = tally-grows bin_of (with_one tally (bin_of r)) records point
+
+-- a tap whose parts are those of a tap that was shown a record
+pub same_tap : (old new : TapSeen) (point : List ℕ) → new.name ≡ old.name → ((other : List ℕ) → new.bin other ≡ old.bin other)
+    → new.tally ≡ with_one old.tally (old.bin point) → new ≡ shown old point
+same_tap old new point name rule tally =
+    ap (λ (n : List ℕ). record { name = n; bin = new.bin; tally = new.tally }) name
+    ∙ ap (λ (b : List ℕ → ℕ). record { name = old.name; bin = b; tally = new.tally }) (fun_ext rule)
+    ∙ ap (λ (t : Tally). record { name = old.name; bin = old.bin; tally = t }) tally
+
+-- a tap that was shown some records, and one more
+pub shown-more : (tap : TapSeen) (records : List (List ℕ)) (point : List ℕ)
+    → shown (shown_all tap records) point ≡ shown_all tap (records ++ point ∷ [])
+shown-more tap records point =
+    ap (λ (t : Tally). record { name = tap.name; bin = tap.bin; tally = t }) (sym (tally-grows tap.bin tap.tally records point))
+
+-- no count of it grows by more than the number of the records
+pub shown-few : (tap : TapSeen) (records : List (List ℕ)) (bin most : ℕ) → ((b : ℕ) → count_at tap.tally b ≤ most)
+    → count_at (shown_all tap records).tally bin ≤ most + length records
+shown-few tap [] bin most few = omega (arith, few bin)
+shown-few tap (r ∷ records) bin most few =
+    let rest = shown-few (shown tap r) records bin (most + 1) (λ b. count-more tap.tally (tap.bin r) b most (few (tap.bin r)) (few b)) in
+    omega (arith, rest)

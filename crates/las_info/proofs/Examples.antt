@@ -1,14 +1,10 @@
 -- Values that compute: two records, tallied and summed up, and lines of a report.
-use Rattle.std.proofs.Common.{◌≡◌, ℕ, pos, negsuc, List, [], ◌∷◌, ◌++◌, codes, refl, replicate, Some, None}
-use Rattle.std.specs.FinMap as bins
-use Rattle.std.specs.Fmt.{decimal}
+use Rattle.std.proofs.Common.{◌≡◌, ℕ, pos, negsuc, List, [], ◌∷◌, codes, refl, Some, None}
 use Rattle.las_header.specs.Numbers.{number_at}
-use Rattle.las_points.specs.Record.{class_of}
 use Rattle.las_info.specs.Bins.{intensity_bin}
 use Rattle.las_info.specs.Extents.{extents_of}
-use Rattle.las_info.specs.Report.{bin_line, number_line, packed_line}
+use Rattle.las_info.specs.Report.{bin_line, packed_line}
 use Rattle.las_info.specs.Summaries.{summary_of}
-use Rattle.las_info.specs.Tallies.{tally_after}
 
 -- class 2, intensity 1000, return 1 of 1, at 5, 6, 7
 abbrev first : List ℕ

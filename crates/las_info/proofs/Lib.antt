@@ -1,4 +1,4 @@
-mod Counting
+pub mod Counting
 mod Examples
 mod Finding
 mod Maps
@@ -6,3 +6,4 @@ mod Places
 mod Texts
 mod Widening
 mod Zips
+pub mod Shown

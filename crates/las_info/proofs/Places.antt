@@ -1,8 +1,8 @@
 -- The VLRs of a head lie in it.
-use Rattle.std.proofs.Common.{ℕ, zero, suc, ◌+◌, ◌<◌, ◌≤◌, List, length, All, arith}
+use Rattle.std.proofs.Common.{ℕ, zero, suc, ◌+◌, ◌≤◌, List, length, All, arith}
 use Rattle.las_header.specs.Heads.{IsHead}
 use Rattle.las_header.specs.Fields.{vlr_count_of}
-use Rattle.las_header.specs.Vlrs.{first_vlrs, vlr_place, vlr_start, vlrs_end, vlrs_of}
+use Rattle.las_header.specs.Vlrs.{first_vlrs, vlr_place, vlr_start, vlrs_of}
 use Rattle.las_header.proofs.VlrLemmas.{vlr_head_fits}
 use Rattle.std.proofs.lemmas.List.Elements.{All-push}
 

@@ -1,9 +1,8 @@
 -- Extents of records are said one record at a time.
-use Rattle.std.proofs.Common.{◌≡◌, ℕ, ℤ, List, [], ◌∷◌, ◌++◌, map, refl, sym, ◌∙◌, ap, Some}
+use Rattle.std.proofs.Common.{◌≡◌, ℕ, ℤ, List, [], ◌∷◌, ◌++◌, map, refl, Some}
 use Rattle.std.specs.Prelude.{fold}
 use Rattle.std.specs.Int.{int_max, int_min}
 use Rattle.las_points.specs.Record.{x_of, y_of, z_of}
-use Rattle.las_info.specs.declared.extents.Range.{Range}
 use Rattle.las_info.specs.Extents.{extents_of, extents_with, range_of, widened}
 
 folded : (f : ℤ → ℤ → ℤ) (g : List ℕ → ℤ) (a : ℤ) (records : List (List ℕ)) (point : List ℕ)

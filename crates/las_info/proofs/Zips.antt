@@ -1,8 +1,8 @@
 -- Two lists that are related place by place, while one of them is changed from its front on.
-use Rattle.std.proofs.Common.{◌≡◌, ℕ, ◌+◌, ◌<◌, ◌≤◌, ◌∙◌, List, [], ◌∷◌, ◌++◌, length, take, drop, ap, sym, subst, arith}
-use Rattle.std.proofs.Common.{get_or, set}
-use Rattle.std.proofs.lemmas.List.{drop-drop, drop-set-lt, get_or-drop, get_or_default, take_more, take_more_set}
-use Rattle.std.proofs.lemmas.List.Elements.{All-get_or, all_zip_more}
+use Rattle.std.proofs.Common.{◌≡◌, ℕ, ◌+◌, ◌<◌, ◌∙◌, List, [], ◌∷◌, ◌++◌, length, take, drop, ap, sym, subst, arith}
+use Rattle.std.proofs.Common.{get_or, map, set}
+use Rattle.std.proofs.lemmas.List.{drop-drop, drop-set-lt, get_or-drop, get_or_default, take_more, take_more_set, map-append}
+use Rattle.std.proofs.lemmas.List.Elements.{All-get_or}
 use Rattle.std.specs.List.{All, AllZip}
 
 module _ {X : Type 0} where
@@ -21,19 +21,23 @@ module _ {X : Type 0} where
   later : (start now : List X) (i : ℕ) → drop i now ≡ drop i start → drop (i + 1) now ≡ drop (i + 1) start
   later start now i e = sym (drop-drop 1 i now) ∙ ap (λ xs. drop 1 xs) e ∙ drop-drop 1 i start
 
-  -- one place more is changed
-  pub one_more : (R : X → X → Type 0) (start now : List X) (i : ℕ) (d y : X) → i < length now → length now ≡ length start
-      → drop i now ≡ drop i start → AllZip R (take i start) (take i now) → R (get_or now i d) y
+-- one place more is changed, as far as a function sees it
+module _ {X Y : Type 0} (f : X → Y) (change : Y → Y) where
+  pub one_mapped : (start now : List X) (i : ℕ) (d y : X) → i < length now → length now ≡ length start
+      → drop i now ≡ drop i start → map f (take i now) ≡ map (λ x. change (f x)) (take i start)
+      → f y ≡ change (f (get_or now i d))
       → (drop (i + 1) (set now i y) ≡ drop (i + 1) start)
-      × AllZip R (take (i + 1) start) (take (i + 1) (set now i y))
-  one_more R start now i d y lt same left zip r =
+      × (map f (take (i + 1) (set now i y)) ≡ map (λ x. change (f x)) (take (i + 1) start))
+  one_mapped start now i d y lt same left so_far is =
       let below : i < i + 1 = omega arith in
       let within : i < length start = omega (arith, same) in (
         drop-set-lt (i + 1) now i y below ∙ later start now i left,
-        subst (AllZip R (take (i + 1) start)) (sym (take_more_set now i y lt))
-            (all_zip_more R start (take i now) i (get_or start i d) y within
-            (get_or_default start i d (get_or start i d) within) zip
-            (subst (λ x. R x y) (first_left now start i d left) r)),
+        ap (map f) (take_more_set now i y lt)
+            ∙ map-append f (take i now) (y ∷ [])
+            ∙ ap (λ (ys : List Y). ys ++ f y ∷ []) so_far
+            ∙ ap (λ (z : Y). map (λ x. change (f x)) (take i start) ++ z ∷ []) (is ∙ ap (λ (x : X). change (f x)) (first_left now start i d left))
+            ∙ sym (map-append (λ x. change (f x)) (take i start) (get_or start i d ∷ []))
+            ∙ ap (map (λ x. change (f x))) (sym (take_more start i d within)),
       )
 
 module _ {X Y : Type 0} (R : X → Y → Type 0) where

@@ -3,3 +3,4 @@ pub mod Bins
 pub mod Extents
 pub mod Summaries
 pub mod Report
+pub mod Surveys

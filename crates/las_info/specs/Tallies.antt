@@ -19,6 +19,20 @@ with_one tally bin = map.insert tally bin (count_at tally bin + 1)
 abbrev pub tally_after : (bin_of : List ℕ → ℕ) → Tally → (records : List (List ℕ)) → Tally
 tally_after bin_of tally records = fold (λ counted point. with_one counted (bin_of point)) tally records
 
+-- what contracts see of a tap: its name, the bin of a record, and what it has counted
+pub record TapSeen : Type 0 where
+  pub name : List ℕ
+  pub bin : List ℕ → ℕ
+  pub tally : Tally
+
+-- a tap that was shown a record: it counts one more in the record's bin
+abbrev pub shown : TapSeen → (point : List ℕ) → TapSeen
+shown tap point = record tap { tally = with_one tap.tally (tap.bin point) }
+
+-- a tap that was shown some records, one after another
+abbrev pub shown_all : TapSeen → (records : List (List ℕ)) → TapSeen
+shown_all tap records = record tap { tally = tally_after tap.bin tap.tally records }
+
 -- A tally of records is said one record at a time.
 abbrev pub GrowOneByOne : Type 0
 GrowOneByOne = (bin_of : List ℕ → ℕ) (tally : Tally) (records : List (List ℕ)) (point : List ℕ)

@@ -165,21 +165,21 @@ fn push_bins(text: &mut Vec<u8>, rows: &[(u32, u64)]) -> Result<(), AllocError>
 
 // The name of a tap.
 fn name(tap: &Box<dyn Tap>) -> &str
-    ensures { result.now ≡ name_of tap.now }
+    ensures { result.now ≡ (tap_seen tap.now).name }
 {
     tap.named()
 }
 
 // The bins of a tap.
 fn rows(tap: &Box<dyn Tap>) -> Result<Vec<(u32, u64)>, AllocError>
-    ensures { IfOk result (λ rows. rows.items ≡ bins.entries (tally_of tap.now)) }
+    ensures { IfOk result (λ rows. rows.items ≡ bins.entries (tap_seen tap.now).tally) }
 {
     tap.rows()
 }
 
 // Adds the lines of a tap.
 fn push_tap(text: &mut Vec<u8>, tap: &Box<dyn Tap>) -> Result<(), AllocError>
-    ensures { OnOk result (text.new.items ≡ text.old.items ++ tally_text (name_of tap.now) (tally_of tap.now)) }
+    ensures { OnOk result (text.new.items ≡ text.old.items ++ tally_text (tap_seen tap.now).name (tap_seen tap.now).tally) }
 {
     let rows = rows(tap)?;
     push_text(text, b"tally", name(tap).as_bytes())?;
@@ -190,7 +190,7 @@ fn push_tap(text: &mut Vec<u8>, tap: &Box<dyn Tap>) -> Result<(), AllocError>
 // Adds the lines of taps.
 fn push_taps(text: &mut Vec<u8>, taps: &[Box<dyn Tap>]) -> Result<(), AllocError>
     ensures { OnOk result (text.new.items
-        ≡ text.old.items ++ flat_map (λ tap. tally_text (name_of tap) (tally_of tap)) taps.now) }
+        ≡ text.old.items ++ flat_map (λ tap. tally_text (tap_seen tap).name (tap_seen tap).tally) taps.now) }
 {
     for tap in taps {
         push_tap(text, tap)?;
@@ -223,7 +223,7 @@ fn text_of(
     chunk: Option<(u32, u32)>,
 ) -> Result<Vec<u8>, AllocError>
     ensures { IfOk result (λ text. text.items ≡ report_text head.now.bytes chunk survey.now.summary
-        (flat_map (λ tap. tally_text (name_of tap) (tally_of tap)) survey.now.taps.items)) }
+        (flat_map (λ tap. tally_text (tap_seen tap).name (tap_seen tap).tally) survey.now.taps.items)) }
 {
     let mut text = Vec::new(alloc);
     push_head(&mut text, alloc, head, chunk)?;
@@ -243,10 +243,10 @@ pub fn report<O: Sink>(
     out: &mut O,
 ) -> Result<(), ReportFault>
     ensures put { OnOk result (O.seen out.new ≡ with_more (O.seen out.old) (report_text head.now.bytes chunk
-        survey.now.summary (flat_map (λ tap. tally_text (name_of tap) (tally_of tap)) survey.now.taps.items))) }
+        survey.now.summary (flat_map (λ tap. tally_text (tap_seen tap).name (tap_seen tap).tally) survey.now.taps.items))) }
     ensures failed { IsErrOf result Failed → (n : ℕ) × (O.seen out.new ≡ with_fault (with_more (O.seen out.old)
         (take n (report_text head.now.bytes chunk survey.now.summary
-        (flat_map (λ tap. tally_text (name_of tap) (tally_of tap)) survey.now.taps.items))))) }
+        (flat_map (λ tap. tally_text (tap_seen tap).name (tap_seen tap).tally) survey.now.taps.items))))) }
     ensures memory { IsErrOf result Memory → O.seen out.new ≡ O.seen out.old }
     ensures later { PutLater (O.seen out.old) (O.seen out.new) }
 {

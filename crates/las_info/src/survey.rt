@@ -1,9 +1,10 @@
 //! What is counted of the records of a file.
-ghost use Rattle.std.specs.Prelude.{◌≡◌, ℕ, ◌-◌, ◌^◌, ◌<◌, ◌≤◌, ◌++◌, ◌∷◌, [], List, OnOk, length, All};
-ghost use Rattle.std.specs.List.{AllZip};
+ghost use Rattle.std.specs.Prelude.{◌≡◌, ℕ, ◌+◌, ◌-◌, ◌/◌, ◌%◌, ◌^◌, ◌<◌, ◌≤◌, ◌++◌, ◌∷◌, [], List, OnOk, length, map, All};
 ghost use Rattle.las_header.specs.declared.limits.TheConstants.{POINT_RECORD};
 ghost use Rattle.las_info.specs.Summaries.{summary_of};
-ghost use Rattle.las_info.specs.Tallies.{count_at, with_one};
+ghost use Rattle.las_info.specs.Tallies.{TapSeen, count_at, shown};
+ghost use Rattle.las_info.specs.Surveys.{IsShown};
+ghost use Rattle.las_header.specs.Plain.{cut_records};
 
 use crate::summary::Summary;
 use crate::tap::Tap;
@@ -12,10 +13,8 @@ use std::alloc::AllocError;
 // Shows a record to a tap.
 fn show_one(tap: &mut Box<dyn Tap>, point: &[u8]) -> Result<(), AllocError>
     requires long { POINT_RECORD ≤ length point.now }
-    requires room { count_at (tally_of tap.old) (bin_of tap.old point.now) < 2 ^ 64 - 1 }
-    ensures shown { OnOk result ((name_of tap.new ≡ name_of tap.old)
-        × ((other : List ℕ) → bin_of tap.new other ≡ bin_of tap.old other)
-        × (tally_of tap.new ≡ with_one (tally_of tap.old) (bin_of tap.old point.now))) }
+    requires room { count_at (tap_seen tap.old).tally ((tap_seen tap.old).bin point.now) < 2 ^ 64 - 1 }
+    ensures { OnOk result (tap_seen tap.new ≡ shown (tap_seen tap.old) point.now) }
 {
     tap.see(point)
 }
@@ -23,10 +22,9 @@ fn show_one(tap: &mut Box<dyn Tap>, point: &[u8]) -> Result<(), AllocError>
 /// Shows a record to taps, one after another.
 pub(crate) fn show_all(taps: &mut [Box<dyn Tap>], point: &[u8]) -> Result<(), AllocError>
     requires long { POINT_RECORD ≤ length point.now }
-    requires room { All (λ tap. count_at (tally_of tap) (bin_of tap point.now) < 2 ^ 64 - 1) taps.old }
-    ensures shown { OnOk result (AllZip (λ was now. (name_of now ≡ name_of was)
-        × ((other : List ℕ) → bin_of now other ≡ bin_of was other)
-        × (tally_of now ≡ with_one (tally_of was) (bin_of was point.now))) taps.old taps.new) }
+    requires room { All (λ tap. count_at (tap_seen tap).tally ((tap_seen tap).bin point.now) < 2 ^ 64 - 1) taps.old }
+    ensures shown { OnOk result (map (λ tap. tap_seen tap) taps.new
+        ≡ map (λ tap. shown (tap_seen tap) point.now) taps.old) }
 {
     for i in 0..taps.len() {
         show_one(&mut taps[i], point)?;
@@ -61,15 +59,42 @@ impl Survey {
     pub fn see(&mut self, point: &[u8]) -> Result<(), AllocError>
         requires long { POINT_RECORD ≤ length point.now }
         requires fewer { self.old.summary.counts.points < 2 ^ 32 - 1 }
-        requires room { All (λ tap. count_at (tally_of tap) (bin_of tap point.now) < 2 ^ 64 - 1) self.old.taps.items }
+        requires room { All (λ tap. count_at (tap_seen tap).tally ((tap_seen tap).bin point.now) < 2 ^ 64 - 1) self.old.taps.items }
         ensures counted { OnOk result ((records : List (List ℕ)) → self.old.summary ≡ summary_of records
             → self.new.summary ≡ summary_of (records ++ point.now ∷ [])) }
-        ensures shown { OnOk result (AllZip (λ was now. (name_of now ≡ name_of was)
-            × ((other : List ℕ) → bin_of now other ≡ bin_of was other)
-            × (tally_of now ≡ with_one (tally_of was) (bin_of was point.now))) self.old.taps.items
-            self.new.taps.items) }
+        ensures shown { OnOk result (map (λ tap. tap_seen tap) self.new.taps.items
+            ≡ map (λ tap. shown (tap_seen tap) point.now) self.old.taps.items) }
     {
         self.summary.add(point);
         show_all(&mut self.taps, point)
+    }
+    /// Counts whole records of one size, 20 bytes or more, which stand one after another, and shows each to the taps.
+    /// `Err` means out of memory, and the survey is of no use.
+    ///
+    /// With them the survey counts fewer than 2^32, and no tap had counted more than 2^63 in a bin before the first.
+    pub fn see_all(&mut self, size: usize, block: &[u8]) -> Result<(), AllocError>
+        requires size { POINT_RECORD ≤ size }
+        requires whole { length block.now % size ≡ 0 }
+        requires shown { (taps : List TapSeen) × (before : List (List ℕ)) × IsShown taps before (record {
+          summary = self.old.summary;
+          taps = map (λ tap. tap_seen tap) self.old.taps.items;
+        })
+            × All (λ tap. (bin : ℕ) → count_at tap.tally bin ≤ 2 ^ 63) taps
+            × (length before + length block.now / size < 2 ^ 32) }
+        ensures { (taps : List TapSeen) (before : List (List ℕ)) → IsShown taps before (record {
+          summary = self.old.summary;
+          taps = map (λ tap. tap_seen tap) self.old.taps.items;
+        }) → OnOk result (IsShown taps (before ++ cut_records size (length block.now / size) block.now) (record {
+          summary = self.new.summary;
+          taps = map (λ tap. tap_seen tap) self.new.taps.items;
+        })) }
+    {
+        let mut rest = block;
+        for _turn in 0..block.len() / size {
+            let (point, further) = rest.split_at(size);
+            self.see(point)?;
+            rest = further;
+        }
+        Ok(())
     }
 }

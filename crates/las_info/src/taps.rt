@@ -41,11 +41,7 @@ impl Tap for ClassTap {
     ghost use Rattle.std.specs.Prelude.{codes};
     ghost use Rattle.las_points.specs.Record.{class_of};
 
-    ghost name_of = { λ _. codes "class" };
-
-    ghost bin_of = { λ _ point. class_of point };
-
-    ghost tally_of = { λ t. t };
+    ghost tap_seen = { λ t. record { name = codes "class"; bin = λ point. class_of point; tally = t } };
 
     fn named(&self) -> &str {
         "class"
@@ -98,11 +94,7 @@ impl Tap for ReturnTap {
     ghost use Rattle.std.specs.Prelude.{codes};
     ghost use Rattle.las_points.specs.Record.{return_number_of};
 
-    ghost name_of = { λ _. codes "return" };
-
-    ghost bin_of = { λ _ point. return_number_of point };
-
-    ghost tally_of = { λ t. t };
+    ghost tap_seen = { λ t. record { name = codes "return"; bin = λ point. return_number_of point; tally = t } };
 
     fn named(&self) -> &str {
         "return"
@@ -155,11 +147,7 @@ impl Tap for IntensityTap {
     ghost use Rattle.std.specs.Prelude.{codes};
     ghost use Rattle.las_info.specs.Bins.{intensity_bin};
 
-    ghost name_of = { λ _. codes "intensity" };
-
-    ghost bin_of = { λ _ point. intensity_bin point };
-
-    ghost tally_of = { λ t. t };
+    ghost tap_seen = { λ t. record { name = codes "intensity"; bin = λ point. intensity_bin point; tally = t } };
 
     fn named(&self) -> &str {
         "intensity"
@@ -212,11 +200,7 @@ impl Tap for SourceTap {
     ghost use Rattle.std.specs.Prelude.{codes};
     ghost use Rattle.las_points.specs.Record.{source_of};
 
-    ghost name_of = { λ _. codes "source" };
-
-    ghost bin_of = { λ _ point. source_of point };
-
-    ghost tally_of = { λ t. t };
+    ghost tap_seen = { λ t. record { name = codes "source"; bin = λ point. source_of point; tally = t } };
 
     fn named(&self) -> &str {
         "source"

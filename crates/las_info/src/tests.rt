@@ -94,11 +94,7 @@ impl Tap for Parity {
     ghost use Rattle.std.specs.Prelude.{codes, ◌%◌};
     ghost use Rattle.las_points.specs.Record.{flags_of};
 
-    ghost name_of = { λ _. codes "parity" };
-
-    ghost bin_of = { λ _ point. flags_of point % 2 };
-
-    ghost tally_of = { λ t. t.counted };
+    ghost tap_seen = { λ t. record { name = codes "parity"; bin = λ point. flags_of point % 2; tally = t.counted } };
 
     fn named(&self) -> &str {
         "parity"
@@ -120,7 +116,7 @@ impl Tap for Parity {
 
 // A tap of no record, after the two.
 fn seen<T: Tap>(tap: T) -> Result<T, AllocError>
-    requires { T.tally_of tap ≡ map.empty }
+    requires { (T.tap_seen tap).tally ≡ map.empty }
 {
     let mut tap = tap;
     tap.see(&FIRST)?;

@@ -6,13 +6,13 @@ use Rattle.las_outside.specs.Drafts.{Patch, with_patches, IsPatchedInPart}
 use Rattle.las_outside.specs.Faults.{Rose}
 use Rattle.las_outside.specs.Files.{FileMap, IsMissing, with_patch}
 use Rattle.las_outside.specs.Outside.{Outside}
-use Rattle.las_outside.specs.Sinks.{SinkView, Puts, with_more}
+use Rattle.las_outside.specs.Sinks.{SinkView, Puts, with_fault, with_more, written_after}
 use Rattle.las_outside.proofs.Texts.{with_more-none}
-use Rattle.las_words.specs.Says.{Said, usage}
+use Rattle.las_words.specs.Says.{usage}
 use Rattle.las_run.specs.declared.stop.Stop.{Stop}
 use Rattle.las_run.specs.Endings.{Output, Cause, Done, Memory, Usage, Unread, Unwritten, Refused, Ending, ends_at_once, status_of, at_end, with_all, files_of, AreUnfinished, named, IsLeft}
-use Rattle.las_run.specs.Runs.{RunOf, inputs_of}
-use Rattle.las_run.specs.Ends.{Change, EndsAs, IsLeftBy, IsTheEnding, Ends, cause_of}
+use Rattle.las_run.specs.Runs.{RunOf, Task, inputs_of}
+use Rattle.las_run.specs.Ends.{Change, EndsAs, FailsToWrite, IsLeftBy, IsQuiet, IsTheEnding, Ends, cause_of}
 use Rattle.las_run.specs.Lines.{line_of}
 
 -- a number that is none of three
@@ -73,26 +73,26 @@ pub any_of : (xs : List (List ℕ)) (x : List ℕ) (P : List ℕ → Type 0) →
 any_of xs x P is holds = (is.0, x, is.1, is.2, holds)
 
 -- The ending of a run, and what is left of it.
-module _ (said : Said) (change : Change) where
+module _ (task : Task) (change : Change) where
   -- an ending at once, if no other is defined
-  pub at_once : (cause : Cause) → ((files : FileMap) → change.files.held ≡ Some files → IsTheEnding said files (ends_at_once cause)) → change.files_now.held ≡ change.files.held → change.out_now ≡ change.out → EndsAs said change cause
+  pub at_once : (cause : Cause) → ((files : FileMap) → change.files.held ≡ Some files → IsTheEnding task files (ends_at_once cause)) → change.files_now.held ≡ change.files.held → change.out_now ≡ change.out → EndsAs task change cause
   at_once cause defined same quiet files known = (ends_at_once cause, defined files known, refl, same ∙ known, quiet ∙ with_more-none change.out)
 
-  pub left_before : change.files_now.held ≡ change.files.held → IsLeftBy said change
+  pub left_before : change.files_now.held ≡ change.files.held → IsLeftBy task change
   left_before same files ending known defined = (files, same ∙ known, nothing_left ending.outputs files)
 
-  left_at_once : (cause : Cause) → EndsAs said change cause → change.files_now ≡ change.files → IsLeftBy said change
+  left_at_once : (cause : Cause) → EndsAs task change cause → change.files_now ≡ change.files → IsLeftBy task change
   left_at_once cause ends same = left_before (ap (λ (o : Outside). o.held) same)
 
-  pub left : (cause : Cause) → Ends said change cause → IsLeftBy said change
+  pub left : (cause : Cause) → Ends task change cause → IsLeftBy task change
   left Done e = e.1
-  left Memory e = e
+  left Memory e = e.0
   left (Usage i) e = left_at_once (Usage i) e.2 e.1
   left (Unread name) e = e.1
-  left Unwritten e = e.2
+  left Unwritten e = e.1
   left (Refused name r) e = e.2
 
-  as_defined : (cause : Cause) (files : FileMap) (ending : Ending) (err err_now : SinkView) → EndsAs said change cause → Puts (line_of cause) err err_now → change.files.held ≡ Some files → RunOf said files ending
+  as_defined : (cause : Cause) (files : FileMap) (ending : Ending) (err err_now : SinkView) → EndsAs task change cause → Puts (line_of cause) err err_now → change.files.held ≡ Some files → RunOf task files ending
       → (status_of cause ≡ status_of ending.cause) × (change.files_now.held ≡ Some (files_of ending files)) × (change.out_now ≡ with_more change.out ending.text) × Puts (line_of ending.cause) err err_now
   as_defined cause files ending err err_now ends puts known defined =
       let h = ends files known in
@@ -109,9 +109,10 @@ module _ (said : Said) (change : Change) where
   IsComplete status files ending err err_now =
       ((status ≡ status_of ending.cause) × (change.files_now.held ≡ Some (files_of ending files)) × (change.out_now ≡ with_more change.out ending.text) × Puts (line_of ending.cause) err err_now)
       ⊎ ((status ≡ 1) ⊎ (((status ≡ 3) × Rose change.files.read_faults change.files_now.read_faults)
-      ⊎ ((status ≡ 4) × Rose change.files.write_faults change.files_now.write_faults × (ending.outputs ≢ []))))
+      ⊎ (((status ≡ 4) × Rose change.files.write_faults change.files_now.write_faults × (ending.outputs ≢ []))
+      ⊎ ((status ≡ 4) × Rose change.out.faults change.out_now.faults × (ending.text ≢ [])))))
 
-  pub complete : (cause : Cause) (files : FileMap) (ending : Ending) (err err_now : SinkView) → Ends said change cause → Puts (line_of cause) err err_now → change.files.held ≡ Some files → RunOf said files ending
+  pub complete : (cause : Cause) (files : FileMap) (ending : Ending) (err err_now : SinkView) → Ends task change cause → Puts (line_of cause) err err_now → change.files.held ≡ Some files → RunOf task files ending
       → IsComplete (status_of cause) files ending err err_now
   complete Done files ending err err_now e puts known defined = inl (as_defined Done files ending err err_now e.0 puts known defined)
   complete Memory files ending err err_now e puts known defined = inr (inl refl)
@@ -120,19 +121,24 @@ module _ (said : Said) (change : Change) where
     | inl missing ↦ inl (as_defined (Unread name) files ending err err_now missing.1 puts known defined)
     | inr failed ↦ inr (inr (inl (refl, failed)))
   ]
-  complete Unwritten files ending err err_now e puts known defined = inr (inr (inr (refl, e.0, e.1 files ending known defined)))
+  complete Unwritten files ending err err_now e puts known defined = elim e.0 [
+    | inl write ↦ inr (inr (inr (inl (refl, write.0, write.1 files ending known defined))))
+    | inr put ↦
+        let h = put.known files known in
+        inr (inr (inr (inr (refl, put.rose, subst (λ (x : Ending). x.text ≢ []) (sym (h.1.only ending defined)) h.3))))
+  ]
   complete (Refused name r) files ending err err_now e puts known defined = inl (as_defined (Refused name r) files ending err err_now e.1 puts known defined)
 
   -- what is done or refused is defined
   abbrev pub IsDefined : ℕ → FileMap → Type 0
   IsDefined status files =
-      (ending : Ending) × IsTheEnding said files ending × (status_of ending.cause ≡ status)
+      (ending : Ending) × IsTheEnding task files ending × (status_of ending.cause ≡ status)
       × (change.files_now.held ≡ Some (files_of ending files)) × (change.out_now ≡ with_more change.out ending.text)
 
-  defined_by : (cause : Cause) (files : FileMap) → EndsAs said change cause → change.files.held ≡ Some files → IsDefined (status_of cause) files
+  defined_by : (cause : Cause) (files : FileMap) → EndsAs task change cause → change.files.held ≡ Some files → IsDefined (status_of cause) files
   defined_by cause files ends known = let h = ends files known in (h.0, h.1, ap status_of h.2, h.3, h.4)
 
-  pub done : (cause : Cause) (files : FileMap) → Ends said change cause → change.files.held ≡ Some files → (status_of cause ≡ 0) ⊎ ((status_of cause ≡ 2) ⊎ (status_of cause ≡ 5)) → IsDefined (status_of cause) files
+  pub done : (cause : Cause) (files : FileMap) → Ends task change cause → change.files.held ≡ Some files → (status_of cause ≡ 0) ⊎ ((status_of cause ≡ 2) ⊎ (status_of cause ≡ 5)) → IsDefined (status_of cause) files
   done Done files e known is = defined_by Done files e.0 known
   done Memory files e known is = absurd (none_of 1 0 2 5 (omega arith) (omega arith) (omega arith) is)
   done (Usage i) files e known is = defined_by (Usage i) files e.2 known
@@ -140,7 +146,7 @@ module _ (said : Said) (change : Change) where
   done Unwritten files e known is = absurd (none_of 4 0 2 5 (omega arith) (omega arith) (omega arith) is)
   done (Refused name r) files e known is = defined_by (Refused name r) files e.1 known
 
-  pub wrong_words : (cause : Cause) → Ends said change cause → status_of cause ≡ 2 → (index : ℕ) × (said ≡ usage index)
+  pub wrong_words : (cause : Cause) → Ends task change cause → status_of cause ≡ 2 → (index : ℕ) × (task.said ≡ usage index)
   wrong_words Done e is = absurd (omega (arith, is))
   wrong_words Memory e is = absurd (omega (arith, is))
   wrong_words (Usage i) e is = (i, e.0)
@@ -148,24 +154,70 @@ module _ (said : Said) (change : Change) where
   wrong_words Unwritten e is = absurd (omega (arith, is))
   wrong_words (Refused name r) e is = absurd (omega (arith, is))
 
-  pub read_cause : (cause : Cause) → Ends said change cause → status_of cause ≡ 3 → Any (IsMissing change.files.held) (inputs_of said) ⊎ Rose change.files.read_faults change.files_now.read_faults
+  pub read_cause : (cause : Cause) → Ends task change cause → status_of cause ≡ 3 → Any (IsMissing change.files.held) (inputs_of task.said) ⊎ Rose change.files.read_faults change.files_now.read_faults
   read_cause Done e is = absurd (omega (arith, is))
   read_cause Memory e is = absurd (omega (arith, is))
   read_cause (Usage i) e is = absurd (omega (arith, is))
   read_cause (Unread name) e is = elim e.2 [
-    | inl missing ↦ inl (any_of (inputs_of said) name (IsMissing change.files.held) e.0 missing.0)
+    | inl missing ↦ inl (any_of (inputs_of task.said) name (IsMissing change.files.held) e.0 missing.0)
     | inr failed ↦ inr failed
   ]
   read_cause Unwritten e is = absurd (omega (arith, is))
   read_cause (Refused name r) e is = absurd (omega (arith, is))
 
-  pub write_cause : (cause : Cause) → Ends said change cause → status_of cause ≡ 4 → Rose change.files.write_faults change.files_now.write_faults
+  pub write_cause : (cause : Cause) → Ends task change cause → status_of cause ≡ 4 → Rose change.files.write_faults change.files_now.write_faults ⊎ Rose change.out.faults change.out_now.faults
   write_cause Done e is = absurd (omega (arith, is))
   write_cause Memory e is = absurd (omega (arith, is))
   write_cause (Usage i) e is = absurd (omega (arith, is))
   write_cause (Unread name) e is = absurd (omega (arith, is))
-  write_cause Unwritten e is = e.0
+  write_cause Unwritten e is = elim e.0 [
+    | inl write ↦ inl write.0
+    | inr put ↦ inr put.rose
+  ]
   write_cause (Refused name r) e is = absurd (omega (arith, is))
+
+  -- ---- standard output
+  quiet_unless : (cause : Cause) → Ends task change cause → (status_of cause ≡ 0) ⊎ ((status_of cause ≡ 4) ⊎ IsQuiet change)
+  quiet_unless Done e = inl refl
+  quiet_unless Memory e = inr (inr e.1)
+  quiet_unless (Usage i) e = inr (inr e.3)
+  quiet_unless (Unread name) e = inr (inr e.3)
+  quiet_unless Unwritten e = inr (inl refl)
+  quiet_unless (Refused name r) e = inr (inr e.4)
+
+  pub quiet_but : (cause : Cause) → Ends task change cause → (status_of cause ≡ 0) ⊎ ((status_of cause ≡ 4) ⊎ (change.out_now ≡ change.out))
+  quiet_but cause e = quiet_unless cause e
+
+  abbrev pub IsPut : Ending → Type 0
+  IsPut ending = (n : ℕ) × (change.out_now.written ≡ written_after change.out.written (take n ending.text))
+
+  nothing_put : (ending : Ending) → IsQuiet change → IsPut ending
+  nothing_put ending quiet = (0, ap (λ (o : SinkView). o.written) (quiet ∙ with_more-none change.out ∙ ap (with_more change.out) (sym (take_0 ending.text))))
+    where
+      take_0 : (text : List ℕ) → take 0 text ≡ []
+      take_0 [] = refl
+      take_0 (x ∷ text) = refl
+
+  all_put : (files : FileMap) (ending : Ending) (cause : Cause) → EndsAs task change cause → change.files.held ≡ Some files → RunOf task files ending → IsPut ending
+  all_put files ending cause ends known defined =
+      let h = ends files known in
+      let is : h.0 ≡ ending = sym (h.1.only ending defined) in
+      let whole : take (length ending.text) ending.text ≡ ending.text = take_all (length ending.text) ending.text (omega arith) in
+      (length ending.text, ap (λ (o : SinkView). o.written) (h.4 ∙ ap (λ (e : Ending). with_more change.out e.text) is ∙ ap (with_more change.out) (sym whole)))
+
+  pub put_of : (cause : Cause) (files : FileMap) (ending : Ending) → Ends task change cause → change.files.held ≡ Some files → RunOf task files ending → IsPut ending
+  put_of Done files ending e known defined = all_put files ending Done e.0 known defined
+  put_of Memory files ending e known defined = nothing_put ending e.1
+  put_of (Usage i) files ending e known defined = nothing_put ending e.3
+  put_of (Unread name) files ending e known defined = nothing_put ending e.3
+  put_of Unwritten files ending e known defined = elim e.0 [
+    | inl write ↦ nothing_put ending write.2
+    | inr put ↦
+        let h = put.known files known in
+        let is : h.0 ≡ ending = sym (h.1.only ending defined) in
+        (h.5.0, ap (λ (o : SinkView). o.written) (h.5.1 ∙ ap (λ (e : Ending). with_fault (with_more change.out (take h.5.0 e.text))) is))
+  ]
+  put_of (Refused name r) files ending e known defined = nothing_put ending e.4
 
 -- the text of a stop was put
 pub says : (inputs : List (List ℕ)) (stop other : Stop) (text : List ℕ) (old new : SinkView) → stop ≡ other → text ≡ line_of (cause_of inputs (Err other)) → Puts text old new → Puts (line_of (cause_of inputs (Err stop))) old new

@@ -1,5 +1,5 @@
 -- What the calls that pack and unpack say of their outcome, as what `laszip` makes of its input.
-use Rattle.std.proofs.Common.{◌≡◌, inl, inr, ℕ, Bool, true, false, cond, List, [], ◌∷◌, ◌++◌, drop, Option, Some, None, Result, Ok, Err, refl, sym, ◌∙◌, ap, subst}
+use Rattle.std.proofs.Common.{◌≡◌, ◌≢◌, inl, inr, ℕ, Bool, true, false, cond, List, [], ◌∷◌, ◌++◌, drop, Option, Some, None, Result, Ok, Err, refl, sym, ◌∙◌, ap, subst}
 use Rattle.std.specs.Prelude.{IfErr, IsErrOf, IsSome, OnOk}
 use Rattle.std.specs.FinMap as map
 use Rattle.std.specs.List.{concat}
@@ -25,7 +25,7 @@ use Rattle.las_run.specs.Endings.{ComesAtOpening, Done, Refused, Ending, IsLeft,
 use Rattle.las_run.specs.Tools.{Zips, ZipsIf, writes}
 use Rattle.las_run.specs.Ends.{EndsMaking, IsOnlyEnding, LeavesOf, MakesAs}
 use Rattle.las_run.proofs.Endings.{left_if_done, nothing_left}
-use Rattle.las_run.proofs.Opening.{both_known, known_more}
+use Rattle.las_run.proofs.Opening.{both_known, known_more, some_outputs}
 
 -- ---- outputs that are written
 
@@ -45,6 +45,10 @@ done_of_one out records text held now files input put is known = put ∙ ap (λ 
 
 pub stopped_of_one : (out : points.Output) (records : List ℕ) (held now : Option FileMap) (files : FileMap) (input : List ℕ) (refusal : Refusal) → now ≡ with_file held out.name (points.stopped out records) → held ≡ Some files → now ≡ Some (files_of (writes input out records (Some refusal)) files)
 stopped_of_one out records held now files input refusal put known = put ∙ ap (λ (h : Option FileMap). with_file h out.name (points.stopped out records)) known
+
+pub zips_output : (packed : Bool) (input output : List ℕ) (chunk : ℕ) (file : List ℕ) (ending : Ending) → ZipsIf packed input output chunk file ending → ending.outputs ≢ []
+zips_output true input output chunk file ending makes = some_outputs ending.outputs _ _ (ap (λ (e : Ending). e.outputs) makes.3)
+zips_output false input output chunk file ending makes = some_outputs ending.outputs _ _ (ap (λ (e : Ending). e.outputs) makes)
 
 -- ---- what is known of a reader's file
 some_is_none : (n : ℕ) → ◌≡◌ {A = Option ℕ} (Some n) None → ⊥

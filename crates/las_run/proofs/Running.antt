@@ -11,8 +11,10 @@ use Rattle.las_header.specs.Fields.{head_of, is_packed, point_offset_of}
 use Rattle.las_header.specs.Refusals.{first_cause}
 use Rattle.las_header.proofs.ConditionLemmas.{IsFirst-append_none, IsFirst-append_some, IsFirst-tests}
 use Rattle.las_outside.specs.Files.{FileMap}
-use Rattle.las_words.specs.Says.{Asked, Said, asks, laszip, las2las, says, usage}
+use Rattle.las_info.specs.Tallies.{TapSeen}
+use Rattle.las_words.specs.Says.{Asked, Said, asks, laszip, las2las, lasinfo, usage}
 use Rattle.laz_file.specs.Copying.{packed_output, plain_output}
+use Rattle.laz_file.specs.Outputs.{records_after}
 use Rattle.laz_file.specs.Packing.{packed_file}
 use Rattle.laz_file.specs.Pieces.{ArePieces, ArePiecesIf, Piece, piece_bytes, plain_pieces}
 use Rattle.laz_file.specs.Laws.{IsBadIf, pieces_before}
@@ -24,8 +26,8 @@ use Rattle.laz_file.proofs.Packed.{packed_accepted, unpacks_again}
 use Rattle.las_filter.specs.Kept.{Steps}
 use Rattle.las_convert.specs.Converting.{AreFirstRecords, ConvertsTo, converted_output, kept_in}
 use Rattle.las_run.specs.Endings.{ComesAtOpening, ComesFirst, Ending, Refused, Unread, Usage, ends_at_once}
-use Rattle.las_run.specs.Tools.{ZipsIf, cause_by, chunk_if, writes}
-use Rattle.las_run.specs.Runs.{Accepts, Makes, Opens, Run, RunOf, input_of}
+use Rattle.las_run.specs.Tools.{Converts, Reports, ZipsIf, cause_by, chosen_taps, chunk_if, report_of, reports, writes}
+use Rattle.las_run.specs.Runs.{Accepts, Makes, Opens, RunOf, RunsAs, Task, input_of}
 use Rattle.las_run.specs.EndingLaws.{HoldsOnce, IsOneEnding, LaszipMakesOnce, MakesOnce, MissingInputsEnd, PackedFormsEnd, PlainHoldsOnce, PlainInputsEnd, WorkersDoNotMatter, WrongWordsEnd, with_one_worker}
 use Rattle.las_run.proofs.Headline.{is_packed_form}
 use Rattle.las_run.proofs.Opening.{defined, missing_ending}
@@ -47,12 +49,12 @@ one_opened : (name : List ℕ) (o : Option (List ℕ)) (Makes : List ℕ → End
 one_opened name None Makes one other once is was = is ∙ sym was
 one_opened name (Some file) Makes one other once is was = one_accepted name file (Makes file) one other (once file refl) is was
 
-one_said : (said : Said) (files : FileMap) (one other : Ending) → ((asked : Asked) (file : List ℕ) → said ≡ asks asked → finmap.get files (input_of asked) ≡ Some file → MakesOnce asked file) → RunOf said files one → RunOf said files other → one ≡ other
-one_said (asks asked) files one other once is was = one_opened (input_of asked) (finmap.get files (input_of asked)) (Makes asked) one other (λ file held. once asked file refl held) is was
-one_said (usage index) files one other once is was = is ∙ sym was
+one_said : (taps : List TapSeen) (said : Said) (files : FileMap) (one other : Ending) → ((asked : Asked) (file : List ℕ) → said ≡ asks asked → finmap.get files (input_of asked) ≡ Some file → MakesOnce taps asked file) → RunsAs taps said files one → RunsAs taps said files other → one ≡ other
+one_said taps (asks asked) files one other once is was = one_opened (input_of asked) (finmap.get files (input_of asked)) (Makes taps asked) one other (λ file held. once asked file refl held) is was
+one_said taps (usage index) files one other once is was = is ∙ sym was
 
 pub one_ending : IsOneEnding
-one_ending words files one other once is was = one_said (says words) files one other once is was
+one_ending task files one other once is was = one_said task.taps task.said files one other once is was
 
 -- ---- one list of blocks
 module _ (file : List ℕ) (pieces : List Piece) (are : ArePieces file pieces) (once : HoldsOnce file) where
@@ -83,7 +85,7 @@ zips_once true input output chunk file one other once is was =
 zips_once false input output chunk file one other once is was = is ∙ sym was
 
 pub laszip_once : LaszipMakesOnce
-laszip_once input output chunk workers file once one other is was = zips_once (is_packed (head_of file)) input output chunk file one other once is was
+laszip_once taps input output chunk workers file once one other is was = zips_once (is_packed (head_of file)) input output chunk file one other once is was
 
 plain_once : (packed : Bool) (file : List ℕ) (piece : Piece) (one other : List ℕ) → packed ≡ false → HoldsIf packed file piece one → HoldsIf packed file piece other → one ≡ other
 plain_once true file piece one other plain is was = absurd (cc)
@@ -93,16 +95,16 @@ pub plain_holds_once : PlainHoldsOnce
 plain_holds_once file plain pieces piece one other are is was = plain_once (is_packed (head_of file)) file piece one other plain is was
 
 -- ---- some ending
-run_of : (words : List (List ℕ)) (files : FileMap) (said : Said) (ending : Ending) → says words ≡ said → RunOf said files ending → Run words files ending
-run_of words files said ending is run = subst (λ (s : Said). RunOf s files ending) (sym is) run
+run_of : (task : Task) (files : FileMap) (said : Said) (ending : Ending) → task.said ≡ said → RunsAs task.taps said files ending → RunOf task files ending
+run_of task files said ending is run = subst (λ (s : Said). RunsAs task.taps s files ending) (sym is) run
 
 pub wrong_words_end : WrongWordsEnd
-wrong_words_end words files index is = (ends_at_once (Usage index), run_of words files (usage index) (ends_at_once (Usage index)) is refl)
+wrong_words_end task files index is = (ends_at_once (Usage index), run_of task files (usage index) (ends_at_once (Usage index)) is refl)
 
 pub missing_inputs_end : MissingInputsEnd
-missing_inputs_end words files asked is missing =
+missing_inputs_end task files asked is missing =
     let ending = ends_at_once (Unread (input_of asked)) in
-    (ending, run_of words files (asks asked) ending is (missing_ending asked files missing).defined)
+    (ending, run_of task files (asks asked) ending is (missing_ending task.taps asked files missing).defined)
 
 -- a plain file is refused or accepted
 plain_refusal : (file : List ℕ) (packed : Bool) (tests : Option Refusal) → packed ≡ false → IsFirst (conditions (tested_causes file)) tests → IsFirst (conditions (tested_causes file) ++ chunk_causes packed file) tests
@@ -132,8 +134,8 @@ converts_some plan file blocks are = by_range (kept_in plan file blocks).raw_ran
         } in
         (concat (kept_in plan file blocks).records, Some (RawRange k), (blocks, first, record { records_are = refl; raw_range_is = is }))
 
-las2las_ending : (input output : List ℕ) (plan : Steps) (packed : Bool) (chunk workers : ℕ) (file : List ℕ) (blocks : List (List ℕ)) → AreRecordsOf file blocks None → (ending : Ending) × Makes (las2las input output plan packed chunk workers) file ending
-las2las_ending input output plan packed chunk workers file blocks are =
+las2las_ending : (input output : List ℕ) (plan : Steps) (packed : Bool) (chunk : ℕ) (file : List ℕ) (blocks : List (List ℕ)) → AreRecordsOf file blocks None → (ending : Ending) × Converts input output plan packed chunk file ending
+las2las_ending input output plan packed chunk file blocks are =
     let h = converts_some plan file blocks are in
     (writes input (converted_output output file (chunk_if packed chunk)) h.0 h.1, (h.0, h.1, h.2, refl))
 
@@ -141,49 +143,61 @@ plain_records : (file : List ℕ) (packed : Bool) → packed ≡ false → ArePi
 plain_records file true plain = absurd (cc)
 plain_records file false plain = refl
 
-some_plain : (asked : Asked) (file : List ℕ) → is_packed (head_of file) ≡ false → (ending : Ending) × Makes asked file ending
-some_plain (laszip input output chunk workers) file plain =
+reported : (taps : List TapSeen) (input : List ℕ) (tallies : List (List ℕ)) (file : List ℕ) (blocks : List (List ℕ)) (pieces : List Piece) → ArePieces file pieces → HoldBlocks file pieces blocks → (ending : Ending) × Reports taps input tallies file ending
+reported taps input tallies file blocks pieces are hold =
+    (reports input (report_of (chosen_taps taps tallies) file pieces (records_after (head_of file) (concat blocks))) None, (blocks, None, pieces, (pieces, are, hold), are, refl))
+
+some_plain : (taps : List TapSeen) (asked : Asked) (file : List ℕ) → is_packed (head_of file) ≡ false → (ending : Ending) × Makes taps asked file ending
+some_plain taps (laszip input output chunk workers) file plain =
     let packing = writes input (packed_output output file chunk) (drop (point_offset_of file) file) None in
     (packing, zips_made false input output chunk file packing plain refl)
-some_plain (las2las input output plan packed chunk workers) file plain =
+some_plain taps (las2las input output plan packed chunk workers) file plain =
     let pieces = plain_pieces file in
-    las2las_ending input output plan packed chunk workers file (map (piece_bytes file) pieces) (pieces, plain_records file (is_packed (head_of file)) plain, hold-plain file plain pieces)
+    las2las_ending input output plan packed chunk file (map (piece_bytes file) pieces) (pieces, plain_records file (is_packed (head_of file)) plain, hold-plain file plain pieces)
+some_plain taps (lasinfo input tallies workers) file plain =
+    let pieces = plain_pieces file in
+    reported taps input tallies file (map (piece_bytes file) pieces) pieces (plain_records file (is_packed (head_of file)) plain) (hold-plain file plain pieces)
 
-some_form : (asked : Asked) (file : List ℕ) (blocks : List (List ℕ)) → is_packed (head_of file) ≡ true → AreRecordsOf file blocks None → (ending : Ending) × Makes asked file ending
-some_form (laszip input output chunk workers) file blocks packed are =
+some_form : (taps : List TapSeen) (asked : Asked) (file : List ℕ) (blocks : List (List ℕ)) → is_packed (head_of file) ≡ true → AreRecordsOf file blocks None → (ending : Ending) × Makes taps asked file ending
+some_form taps (laszip input output chunk workers) file blocks packed are =
     let ending = writes input (plain_output output file) (concat blocks) None in
     (ending, zips_made true input output chunk file ending packed (blocks, None, are, refl))
-some_form (las2las input output plan packing chunk workers) file blocks packed are = las2las_ending input output plan packing chunk workers file blocks are
+some_form taps (las2las input output plan packing chunk workers) file blocks packed are = las2las_ending input output plan packing chunk file blocks are
+some_form taps (lasinfo input tallies workers) file blocks packed are = reported taps input tallies file blocks are.0 are.1 are.2
 
 pub plain_inputs_end : PlainInputsEnd
-plain_inputs_end words files asked file is held plain =
+plain_inputs_end task files asked file is held plain =
     let tests = first_cause (tested_causes file) in
     let refusal = plain_refusal file (is_packed (head_of file)) tests plain (IsFirst-tests (tested_causes file)) in
-    let made = some_plain asked file plain in
-    let h = accepts_by (input_of asked) file (Makes asked file) made.0 tests refusal made.1 in
-    (h.0, run_of words files (asks asked) h.0 is (defined asked files (Some file) h.0 held h.1))
+    let made = some_plain task.taps asked file plain in
+    let h = accepts_by (input_of asked) file (Makes task.taps asked file) made.0 tests refusal made.1 in
+    (h.0, run_of task files (asks asked) h.0 is (defined task.taps asked files (Some file) h.0 held h.1))
 
 pub packed_forms_end : PackedFormsEnd
-packed_forms_end words files asked file chunk is held can =
+packed_forms_end task files asked file chunk is held can =
     let form = packed_file file chunk in
     let whole = unpacks_again file chunk can in
-    let made = some_form asked form whole.0 (is_packed_form file chunk can) whole.1 in
-    (made.0, run_of words files (asks asked) made.0 is (defined asked files (Some form) made.0 held (inr (packed_accepted file chunk can, made.1))))
+    let made = some_form task.taps asked form whole.0 (is_packed_form file chunk can) whole.1 in
+    (made.0, run_of task files (asks asked) made.0 is (defined task.taps asked files (Some form) made.0 held (inr (packed_accepted file chunk can, made.1))))
 
 -- ---- the number of workers
-one_worker : (said : Said) (files : FileMap) (ending : Ending) → RunOf said files ending → RunOf (with_one_worker said) files ending
-one_worker (asks (laszip input output chunk workers)) files ending run = run
-one_worker (asks (las2las input output plan packed chunk workers)) files ending run = run
-one_worker (usage index) files ending run = run
+one_worker : (taps : List TapSeen) (said : Said) (files : FileMap) (ending : Ending) → RunsAs taps said files ending → RunsAs taps (with_one_worker said) files ending
+one_worker taps (asks (laszip input output chunk workers)) files ending run = run
+one_worker taps (asks (las2las input output plan packed chunk workers)) files ending run = run
+one_worker taps (asks (lasinfo input tallies workers)) files ending run = run
+one_worker taps (usage index) files ending run = run
 
-any_workers : (said : Said) (files : FileMap) (ending : Ending) → RunOf (with_one_worker said) files ending → RunOf said files ending
-any_workers (asks (laszip input output chunk workers)) files ending run = run
-any_workers (asks (las2las input output plan packed chunk workers)) files ending run = run
-any_workers (usage index) files ending run = run
+any_workers : (taps : List TapSeen) (said : Said) (files : FileMap) (ending : Ending) → RunsAs taps (with_one_worker said) files ending → RunsAs taps said files ending
+any_workers taps (asks (laszip input output chunk workers)) files ending run = run
+any_workers taps (asks (las2las input output plan packed chunk workers)) files ending run = run
+any_workers taps (asks (lasinfo input tallies workers)) files ending run = run
+any_workers taps (usage index) files ending run = run
 
 pub workers_do_not_matter : WorkersDoNotMatter
-workers_do_not_matter words others files ending same run =
-    any_workers (says others) files ending (subst (λ (s : Said). RunOf s files ending) same (one_worker (says words) files ending run))
+workers_do_not_matter task other files ending same taps run =
+    any_workers other.taps other.said files ending
+    (subst (λ (ts : List TapSeen). RunsAs ts (with_one_worker other.said) files ending) taps
+    (subst (λ (s : Said). RunsAs task.taps s files ending) same (one_worker task.taps task.said files ending run)))
 
 -- ---- endings before any output
 writes_some : (packed : Bool) (input output : List ℕ) (chunk : ℕ) (file : List ℕ) (ending : Ending) → ZipsIf packed input output chunk file ending → ComesFirst ending.cause → ending.outputs ≡ []
@@ -204,20 +218,25 @@ kept_late : (plan : Steps) (file records input : List ℕ) (refusal : Option Ref
 kept_late plan file records input None converts first = first
 kept_late plan file records input (Some cause) converts first = refused_late plan file records cause converts first
 
-makes_some : (asked : Asked) (file : List ℕ) (ending : Ending) → Makes asked file ending → ComesFirst ending.cause → ending.outputs ≡ []
-makes_some (laszip input output chunk workers) file ending makes first = writes_some (is_packed (head_of file)) input output chunk file ending makes first
-makes_some (las2las input output plan packed chunk workers) file ending makes first =
+makes_some : (taps : List TapSeen) (asked : Asked) (file : List ℕ) (ending : Ending) → Makes taps asked file ending → ComesFirst ending.cause → ending.outputs ≡ []
+makes_some taps (laszip input output chunk workers) file ending makes first = writes_some (is_packed (head_of file)) input output chunk file ending makes first
+makes_some taps (las2las input output plan packed chunk workers) file ending makes first =
     absurd (kept_late plan file makes.0 input makes.1 makes.2 (subst ComesFirst (ap (λ (e : Ending). e.cause) makes.3) first))
+makes_some taps (lasinfo input tallies workers) file ending makes first = no_outputs makes.1 _ makes.5
+  where
+    no_outputs : (bad : Option ℕ) (report : List ℕ) → ending ≡ reports input report bad → ending.outputs ≡ []
+    no_outputs None report is = ap (λ (e : Ending). e.outputs) is
+    no_outputs (Some i) report is = ap (λ (e : Ending). e.outputs) is
 
-opens_first : (asked : Asked) (o : Option (List ℕ)) (ending : Ending) → Opens (input_of asked) o (Makes asked) ending → ComesFirst ending.cause → ending.outputs ≡ []
-opens_first asked None ending is first = ap (λ (e : Ending). e.outputs) is
-opens_first asked (Some file) ending (inl r) first = ap (λ (e : Ending). e.outputs) r.2
-opens_first asked (Some file) ending (inr a) first = makes_some asked file ending a.1 first
+opens_first : (taps : List TapSeen) (asked : Asked) (o : Option (List ℕ)) (ending : Ending) → Opens (input_of asked) o (Makes taps asked) ending → ComesFirst ending.cause → ending.outputs ≡ []
+opens_first taps asked None ending is first = ap (λ (e : Ending). e.outputs) is
+opens_first taps asked (Some file) ending (inl r) first = ap (λ (e : Ending). e.outputs) r.2
+opens_first taps asked (Some file) ending (inr a) first = makes_some taps asked file ending a.1 first
 
-first_said : (said : Said) (files : FileMap) (ending : Ending) → RunOf said files ending → ComesFirst ending.cause → ending.outputs ≡ []
-first_said (asks asked) files ending run first = opens_first asked (finmap.get files (input_of asked)) ending run first
-first_said (usage index) files ending run first = ap (λ (e : Ending). e.outputs) run
+first_said : (taps : List TapSeen) (said : Said) (files : FileMap) (ending : Ending) → RunsAs taps said files ending → ComesFirst ending.cause → ending.outputs ≡ []
+first_said taps (asks asked) files ending run first = opens_first taps asked (finmap.get files (input_of asked)) ending run first
+first_said taps (usage index) files ending run first = ap (λ (e : Ending). e.outputs) run
 
 -- an ending that comes before any output has none
-pub no_outputs_first : (words : List (List ℕ)) (files : FileMap) (ending : Ending) → Run words files ending → ComesFirst ending.cause → ending.outputs ≡ []
-no_outputs_first words files ending run first = first_said (says words) files ending run first
+pub no_outputs_first : (task : Task) (files : FileMap) (ending : Ending) → RunOf task files ending → ComesFirst ending.cause → ending.outputs ≡ []
+no_outputs_first task files ending run first = first_said task.taps task.said files ending run first

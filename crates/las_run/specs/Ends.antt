@@ -1,28 +1,30 @@
 -- What a run says of the cause for which it ended. Each tool says it of its own endings, and the clauses of the top
 -- call follow from it for all tools.
-use Rattle.std.specs.Prelude.{◌≡◌, ◌≢◌, ◌⊎◌, ℕ, List, [], Some, Result, Ok, Err, Contains, slice_index_or}
+use Rattle.std.specs.Prelude.{◌≡◌, ◌≢◌, ◌⊎◌, ℕ, List, [], take, Some, Result, Ok, Err, Contains, slice_index_or}
 use Rattle.las_outside.specs.Faults.{Rose}
 use Rattle.las_outside.specs.Files.{FileMap, IsMissing, WhereKnown}
 use Rattle.las_outside.specs.Outside.{Outside}
-use Rattle.las_outside.specs.Sinks.{SinkView, with_more}
+use Rattle.las_outside.specs.Sinks.{SinkView, with_fault, with_more}
 use Rattle.las_words.specs.declared.command.Command.{Command}
 use Rattle.las_words.specs.declared.command.WordFault.{WordFault}
 use Rattle.las_words.specs.declared.command.WordFault.TheVariants as fault
-use Rattle.las_words.specs.Says.{Said, asked_by, asks, says, usage}
+use Rattle.las_words.specs.Says.{Said, asked_by, asks, usage}
 use Rattle.laz_file.specs.declared.fault.Fault.{Fault}
 use Rattle.laz_file.specs.declared.fault.Fault.TheVariants as file
 use Rattle.laz_file.specs.Refusing.{IsRefusal}
+use Rattle.las_info.specs.declared.reporting.ReportFault.{ReportFault}
+use Rattle.las_info.specs.declared.reporting.ReportFault.TheVariants as report
 use Rattle.las_run.specs.declared.stop.Stop.{Stop}
 use Rattle.las_run.specs.declared.stop.Stop.TheVariants as stop
 use Rattle.las_run.specs.Endings.{Cause, ComesAtOpening, Done, Memory, Usage, Unread, Unwritten, Refused, Ending}
 use Rattle.las_run.specs.Endings.{files_of, IsLeft}
-use Rattle.las_run.specs.Runs.{RunOf, inputs_of}
+use Rattle.las_run.specs.Runs.{RunOf, Task, inputs_of}
 
 -- The words were read so.
-abbrev pub IsRead : List (List ℕ) → Result Command WordFault → Type 0
-IsRead words (Ok command) = says words ≡ asks (asked_by command)
-IsRead words (Err (fault.Usage index)) = says words ≡ usage index
-IsRead words (Err fault.Memory) = Unit {0}
+abbrev pub IsRead : Said → Result Command WordFault → Type 0
+IsRead said (Ok command) = said ≡ asks (asked_by command)
+IsRead said (Err (fault.Usage index)) = said ≡ usage index
+IsRead said (Err fault.Memory) = Unit {0}
 
 -- what a fault of the words stands for
 abbrev pub stop_of : WordFault → Stop
@@ -55,45 +57,63 @@ abbrev pub quiet : Outside → Outside → SinkView → Change
 quiet old now out = record { files = old; files_now = now; out = out; out_now = out }
 
 -- This ending is defined, and no other is.
-pub record IsTheEnding (said : Said) (files : FileMap) (ending : Ending) : Type 0 where
-  pub defined : RunOf said files ending
-  pub only : (other : Ending) → RunOf said files other → other ≡ ending
+pub record IsTheEnding (task : Task) (files : FileMap) (ending : Ending) : Type 0 where
+  pub defined : RunOf task files ending
+  pub only : (other : Ending) → RunOf task files other → other ≡ ending
 
 -- If the files are known, the ending that is defined for them is for this cause, and files and text are its own.
-abbrev pub EndsAs : Said → Change → Cause → Type 0
-EndsAs said change cause =
+abbrev pub EndsAs : Task → Change → Cause → Type 0
+EndsAs task change cause =
     (files : FileMap) → change.files.held ≡ Some files
-    → (ending : Ending) × IsTheEnding said files ending × (ending.cause ≡ cause)
+    → (ending : Ending) × IsTheEnding task files ending × (ending.cause ≡ cause)
     × (change.files_now.held ≡ Some (files_of ending files)) × (change.out_now ≡ with_more change.out ending.text)
 
 -- If the files are known, what stands is left of every ending that is defined for them.
-abbrev pub IsLeftBy : Said → Change → Type 0
-IsLeftBy said change =
-    (files : FileMap) (ending : Ending) → change.files.held ≡ Some files → RunOf said files ending
+abbrev pub IsLeftBy : Task → Change → Type 0
+IsLeftBy task change =
+    (files : FileMap) (ending : Ending) → change.files.held ≡ Some files → RunOf task files ending
     → (now : FileMap) × (change.files_now.held ≡ Some now) × IsLeft ending.outputs files now
 
 -- If the files are known, no ending without an output is defined for them.
-abbrev pub HasOutput : Said → Change → Type 0
-HasOutput said change =
-    (files : FileMap) (ending : Ending) → change.files.held ≡ Some files → RunOf said files ending
+abbrev pub HasOutput : Task → Change → Type 0
+HasOutput task change =
+    (files : FileMap) (ending : Ending) → change.files.held ≡ Some files → RunOf task files ending
     → ending.outputs ≢ []
 
--- A run of what words say ended for this cause, and for this reason. A refusal that comes when an input is opened
--- leaves the files as they were.
-abbrev pub Ends : Said → Change → Cause → Type 0
-Ends said change Done = EndsAs said change Done × IsLeftBy said change
-Ends said change Memory = IsLeftBy said change
-Ends said change (Usage index) =
-    (said ≡ usage index) × (change.files_now ≡ change.files) × EndsAs said change (Usage index)
-Ends said change (Unread name) =
-    Contains (inputs_of said) name × IsLeftBy said change
-    × ((IsMissing change.files.held name × EndsAs said change (Unread name))
-    ⊎ Rose change.files.read_faults change.files_now.read_faults)
-Ends said change Unwritten =
-    Rose change.files.write_faults change.files_now.write_faults × HasOutput said change × IsLeftBy said change
-Ends said change (Refused name refusal) =
-    Contains (inputs_of said) name × EndsAs said change (Refused name refusal) × IsLeftBy said change
-    × (ComesAtOpening refusal → change.files_now.held ≡ change.files.held)
+-- Nothing was put on standard output.
+abbrev pub IsQuiet : Change → Type 0
+IsQuiet change = change.out_now ≡ change.out
+
+-- Standard output failed. If the files are known, the work was done but for this: the ending that is defined for them
+-- has a text, of which a prefix was put, and the files are its own.
+pub record FailsToPut (task : Task) (change : Change) : Type 0 where
+  pub rose : Rose change.out.faults change.out_now.faults
+  pub known : (files : FileMap) → change.files.held ≡ Some files
+      → (ending : Ending) × IsTheEnding task files ending × (ending.cause ≡ Done) × (ending.text ≢ [])
+      × (change.files_now.held ≡ Some (files_of ending files))
+      × ((n : ℕ) × (change.out_now ≡ with_fault (with_more change.out (take n ending.text))))
+
+-- A call that writes failed, or standard output did.
+abbrev pub FailsToWrite : Task → Change → Type 0
+FailsToWrite task change =
+    (Rose change.files.write_faults change.files_now.write_faults × HasOutput task change × IsQuiet change)
+    ⊎ FailsToPut task change
+
+-- A run of a task ended for this cause, and for this reason. A refusal that comes when an input is opened leaves the
+-- files as they were.
+abbrev pub Ends : Task → Change → Cause → Type 0
+Ends task change Done = EndsAs task change Done × IsLeftBy task change
+Ends task change Memory = IsLeftBy task change × IsQuiet change
+Ends task change (Usage index) =
+    (task.said ≡ usage index) × (change.files_now ≡ change.files) × EndsAs task change (Usage index) × IsQuiet change
+Ends task change (Unread name) =
+    Contains (inputs_of task.said) name × IsLeftBy task change
+    × ((IsMissing change.files.held name × EndsAs task change (Unread name))
+    ⊎ Rose change.files.read_faults change.files_now.read_faults) × IsQuiet change
+Ends task change Unwritten = FailsToWrite task change × IsLeftBy task change
+Ends task change (Refused name refusal) =
+    Contains (inputs_of task.said) name × EndsAs task change (Refused name refusal) × IsLeftBy task change
+    × (ComesAtOpening refusal → change.files_now.held ≡ change.files.held) × IsQuiet change
 
 -- what a fault of a call on the input of this number stands for
 abbrev pub stop_by : ℕ → Fault → Stop
@@ -106,6 +126,12 @@ stop_by number file.Memory = stop.Memory
 abbrev pub stopped_by : ℕ → Result (Unit {0}) Fault → Result (Unit {0}) Stop
 stopped_by number (Ok done) = Ok done
 stopped_by number (Err fault) = Err (stop_by number fault)
+
+-- an outcome of putting a report
+abbrev pub stopped_report : Result (Unit {0}) ReportFault → Result (Unit {0}) Stop
+stopped_report (Ok done) = Ok done
+stopped_report (Err report.Failed) = Err stop.Write
+stopped_report (Err report.Memory) = Err stop.Memory
 
 -- How opening the input of this number and this name stops: memory is short; the input is known not to be held, or a
 -- read failed; or the input is refused, by its first cause.
@@ -146,3 +172,26 @@ EndsMaking Makes input old new (Err file.Read) =
 EndsMaking Makes input old new (Err file.Write) =
     Rose old.write_faults new.write_faults × LeavesOf Makes input old new
 EndsMaking Makes input old new (Err file.Memory) = LeavesOf Makes input old new
+
+-- If the files are known: of an input, an ending without outputs is made, and no other, of which P holds.
+abbrev pub MakesText : (Makes : List ℕ → Ending → Type 0) → (input : List ℕ) → Change → (P : Ending → Type 0) → Type 0
+MakesText Makes input change P = WhereKnown change.files.held input (λ file.
+    (ending : Ending) × IsOnlyEnding (Makes file) ending × (ending.outputs ≡ []) × P ending)
+
+-- What a command that puts a text, and changes no file, says of the outcome with which it made something of an accepted
+-- input.
+abbrev pub EndsPutting : (Makes : List ℕ → Ending → Type 0) → (input : List ℕ) → Change → Result (Unit {0}) Stop
+    → Type 0
+EndsPutting Makes input change (Ok _) =
+    MakesText Makes input change (λ ending. (ending.cause ≡ Done) × (change.out_now ≡ with_more change.out ending.text))
+EndsPutting Makes input change (Err stop.Memory) = IsQuiet change
+EndsPutting Makes input change (Err (stop.Usage index)) = ⊥
+EndsPutting Makes input change (Err (stop.Read number)) =
+    (number ≡ 0) × Rose change.files.read_faults change.files_now.read_faults × IsQuiet change
+EndsPutting Makes input change (Err stop.Write) =
+    Rose change.out.faults change.out_now.faults
+    × MakesText Makes input change (λ ending. (ending.cause ≡ Done) × (ending.text ≢ [])
+    × ((n : ℕ) × (change.out_now ≡ with_fault (with_more change.out (take n ending.text)))))
+EndsPutting Makes input change (Err (stop.Refused number cause)) =
+    (number ≡ 0) × (ComesAtOpening cause → ⊥) × IsQuiet change
+    × MakesText Makes input change (λ ending. (ending.cause ≡ Refused input cause) × (ending.text ≡ []))

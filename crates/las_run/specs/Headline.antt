@@ -5,17 +5,18 @@ use Rattle.las_outside.specs.Faults.{Rose}
 use Rattle.las_outside.specs.Files.{FileMap}
 use Rattle.las_outside.specs.Outside.{Outside}
 use Rattle.las_outside.specs.Sinks.{SinkView, Puts}
-use Rattle.las_words.specs.Says.{asks, laszip, says}
+use Rattle.las_words.specs.Says.{asks, laszip}
+use Rattle.las_run.specs.Runs.{Task}
 use Rattle.las_run.specs.Endings.{Cause, status_of}
 use Rattle.las_run.specs.Lines.{line_of}
 
--- The words ask `laszip` of a file that is held.
-pub record AsksLaszip (words : List (List ℕ)) (files : FileMap) (file : List ℕ) : Type 0 where
+-- The task is `laszip` of a file that is held.
+pub record AsksLaszip (task : Task) (files : FileMap) (file : List ℕ) : Type 0 where
   pub input : List ℕ
   pub output : List ℕ
   pub chunk : ℕ
   pub workers : ℕ
-  pub said : says words ≡ asks (laszip input output chunk workers)
+  pub said : task.said ≡ asks (laszip input output chunk workers)
   pub held : finmap.get files input ≡ Some file
 
 -- what is seen of a run: its status, and files and standard error before and after it

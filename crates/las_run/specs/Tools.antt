@@ -1,6 +1,7 @@
 -- What each command makes of an input that is accepted: how the run ends then.
-use Rattle.std.specs.Prelude.{◌≡◌, ℕ, Bool, true, false, if◌then◌else◌, List, [], ◌∷◌, drop, Option, Some, None}
-use Rattle.std.specs.List.{concat}
+use Rattle.std.specs.Prelude.{◌≡◌, ℕ, Bool, true, false, if◌then◌else◌, List, [], ◌∷◌, drop, find, length, Option, Some, None}
+use Rattle.std.specs.List.{concat, filter_map, flat_map}
+use Rattle.std.specs.Str.{bytes_eq}
 use Rattle.std.specs.Option.{option_map}
 use Rattle.las_filter.specs.Kept.{Steps}
 use Rattle.las_convert.specs.Converting.{ConvertsTo, converted_output}
@@ -10,7 +11,12 @@ use Rattle.las_header.specs.Fields.{head_of, is_packed, point_offset_of}
 use Rattle.laz_file.specs.Copying.{packed_output, plain_output}
 use Rattle.laz_file.specs.Outputs as points
 use Rattle.laz_file.specs.Records.{AreRecordsOf}
-use Rattle.las_run.specs.Endings.{Cause, Done, Refused, Ending, Output}
+use Rattle.las_info.specs.Report.{report_text, tally_text}
+use Rattle.las_info.specs.Summaries.{summary_of}
+use Rattle.las_info.specs.Tallies.{TapSeen, shown_all}
+use Rattle.laz_file.specs.Pieces.{ArePieces, Piece}
+use Rattle.laz_table.specs.VlrCauses.{chunk_size_of}
+use Rattle.las_run.specs.Endings.{Cause, Done, Refused, Ending, Output, ends_at_once}
 
 -- an output of point records as one of a run
 abbrev pub output_of : points.Output → (records : List ℕ) → Output
@@ -64,3 +70,34 @@ ConvertsIn size input output plan file ending =
 abbrev pub Converts : (input output : List ℕ) → Steps → (packed : Bool) → (chunk : ℕ) → (file : List ℕ) → Ending
     → Type 0
 Converts input output plan packed chunk file ending = ConvertsIn (chunk_if packed chunk) input output plan file ending
+
+-- the first tap of each of these names
+abbrev pub chosen_taps : List TapSeen → (tallies : List (List ℕ)) → List TapSeen
+chosen_taps taps tallies = filter_map (λ name. find (λ tap. bytes_eq tap.name name) taps) tallies
+
+-- what the taps print that were shown some records
+abbrev pub tallies_text : List TapSeen → (records : List (List ℕ)) → List ℕ
+tallies_text taps records = flat_map (λ tap. tally_text tap.name (shown_all tap records).tally) taps
+
+-- the chunk size and the number of chunks of a packed file
+abbrev pub chunks_line : (file : List ℕ) → List Piece → Option (ℕ × ℕ)
+chunks_line file pieces =
+    if is_packed (head_of file) then Some (chunk_size_of (head_of file), length pieces) else None
+
+-- the report of a file with these records
+abbrev pub report_of : List TapSeen → (file : List ℕ) → List Piece → (records : List (List ℕ)) → List ℕ
+report_of taps file pieces records =
+    report_text (head_of file) (chunks_line file pieces) (summary_of records) (tallies_text taps records)
+
+-- the ending of a report: nothing is put if a chunk is bad
+abbrev pub reports : (input : List ℕ) → (report : List ℕ) → (bad : Option ℕ) → Ending
+reports input report None = record { cause = Done; outputs = []; text = report }
+reports input report (Some i) = ends_at_once (Refused input (BadChunk i))
+
+-- `lasinfo` reports what is in its input, and what the chosen taps count of its records.
+abbrev pub Reports : List TapSeen → (input : List ℕ) → (tallies : List (List ℕ)) → (file : List ℕ) → Ending → Type 0
+Reports taps input tallies file ending =
+    (blocks : List (List ℕ)) × (bad : Option ℕ) × (pieces : List Piece) × AreRecordsOf file blocks bad
+    × ArePieces file pieces
+    × (ending ≡ reports input
+    (report_of (chosen_taps taps tallies) file pieces (points.records_after (head_of file) (concat blocks))) bad)

@@ -47,8 +47,8 @@ pub fn stopped(number: usize, outcome: Result<(), Fault>) -> Result<(), Stop>
     }
 }
 
-// A fault of a call on the input of this number.
-fn stop(number: usize, fault: Fault) -> Stop
+/// A fault of a call on the input of this number.
+pub fn stop(number: usize, fault: Fault) -> Stop
     ensures { result ≡ stop_by number fault }
 {
     match fault {

@@ -1,5 +1,5 @@
 //! The command `las2las`: records are filtered and changed.
-ghost use Rattle.std.specs.Prelude.{◌≡◌, ◌≢◌, ◌≤◌, ◌∷◌, [], All};
+ghost use Rattle.std.specs.Prelude.{◌≡◌, ◌≢◌, ◌≤◌, ◌∷◌, [], List, All};
 ghost use Rattle.las_filter.specs.Changes.{HasClass};
 ghost use Rattle.las_filter.specs.Kept.{steps_of};
 ghost use Rattle.las_outside.specs.Files.{WhereKnown};
@@ -7,6 +7,7 @@ ghost use Rattle.las_outside.specs.Outside.{Later};
 ghost use Rattle.las_outside.specs.Sinks.{SinkView};
 ghost use Rattle.las_words.specs.Says.{asks, las2las};
 ghost use Rattle.laz_file.specs.Reading.{AgreesWithHead, IsNewReader, StandsFor};
+ghost use Rattle.las_info.specs.Tallies.{TapSeen};
 ghost use Rattle.las_run.specs.Ends.{Ends, EndsMaking, cause_of, quiet};
 ghost use Rattle.las_run.specs.Tools.{Converts};
 
@@ -36,8 +37,10 @@ pub fn las2las<R: Threads + Sync, F: Files, G: Gate>(
     requires workers { (1 ≤ workers) × (workers ≤ 8) }
     requires classes { All HasClass plan.now.changes.items }
     requires names { output.now ≢ input.now }
-    ensures ends { (out : SinkView)
-        → Ends (asks (las2las input.now output.now (steps_of plan.now) packing.packed packing.chunk workers))
+    ensures ends { (taps : List TapSeen) (out : SinkView) → Ends (record {
+      said = asks (las2las input.now output.now (steps_of plan.now) packing.packed packing.chunk workers);
+      taps = taps;
+    })
         (quiet (F.seen files.old) (F.seen files.new) out) (cause_of (input.now ∷ []) result) }
     ensures later { Later (F.seen files.old) (F.seen files.new) }
 {

@@ -1,11 +1,12 @@
 //! The command `laszip`: a plain file is packed, and a packed one unpacked.
-ghost use Rattle.std.specs.Prelude.{◌≡◌, ◌≢◌, ◌≤◌, ◌∷◌, []};
+ghost use Rattle.std.specs.Prelude.{◌≡◌, ◌≢◌, ◌≤◌, ◌∷◌, [], List};
 ghost use Rattle.las_header.specs.Heads.{IsHead};
 ghost use Rattle.las_outside.specs.Files.{WhereKnown};
 ghost use Rattle.las_outside.specs.Outside.{Later};
 ghost use Rattle.las_outside.specs.Sinks.{SinkView};
 ghost use Rattle.las_words.specs.Says.{asks, laszip};
 ghost use Rattle.laz_file.specs.Reading.{AgreesWithHead, IsNewReader, StandsFor};
+ghost use Rattle.las_info.specs.Tallies.{TapSeen};
 ghost use Rattle.las_run.specs.Ends.{Ends, EndsMaking, cause_of, quiet};
 ghost use Rattle.las_run.specs.Tools.{Zips};
 
@@ -30,7 +31,8 @@ pub fn laszip<R: Threads + Sync, F: Files, G: Gate>(
     requires chunk { (256 ≤ chunk) × (chunk ≤ 250000) }
     requires workers { (1 ≤ workers) × (workers ≤ 8) }
     requires names { output.now ≢ input.now }
-    ensures ends { (out : SinkView) → Ends (asks (laszip input.now output.now chunk workers))
+    ensures ends { (taps : List TapSeen) (out : SinkView)
+        → Ends (record { said = asks (laszip input.now output.now chunk workers); taps = taps })
         (quiet (F.seen files.old) (F.seen files.new) out) (cause_of (input.now ∷ []) result) }
     ensures later { Later (F.seen files.old) (F.seen files.new) }
 {

@@ -3,6 +3,7 @@
 
 mod input;
 mod las2las;
+mod lasinfo;
 mod laszip;
 mod laws;
 mod report;

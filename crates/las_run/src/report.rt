@@ -49,7 +49,11 @@ fn input_name(said: &Result<Command, WordFault>, number: usize) -> &str
         return "";
     }
     match said {
-        Ok(Command::Laszip { input, .. }) | Ok(Command::Las2las { input, .. }) => input.as_str(),
+        Ok(
+            Command::Laszip { input, .. }
+            | Command::Las2las { input, .. }
+            | Command::Lasinfo { input, .. },
+        ) => input.as_str(),
         Err(_) => "",
     }
 }

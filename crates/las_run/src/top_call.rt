@@ -1,5 +1,5 @@
 //! The top call.
-ghost use Rattle.std.specs.Prelude.{◌≡◌, ◌≢◌, ◌≤◌, ◌⊎◌, ◌++◌, ℕ, List, [], Some, None, Err, Any, true, slice_index_or};
+ghost use Rattle.std.specs.Prelude.{◌≡◌, ◌∷◌, ◌≢◌, ◌≤◌, ◌^◌, ◌⊎◌, ◌++◌, ℕ, List, [], Some, None, Err, All, Any, map, take, true};
 ghost use Rattle.std.specs.FinMap as finmap;
 ghost use Rattle.std.specs.List.{concat};
 ghost use Rattle.std.specs.Result.{ForOk};
@@ -10,24 +10,27 @@ ghost use Rattle.las_header.specs.Plain.{plain_head};
 ghost use Rattle.las_outside.specs.Faults.{Rose};
 ghost use Rattle.las_outside.specs.Files.{FileMap, IsMissing};
 ghost use Rattle.las_outside.specs.Outside.{Later};
-ghost use Rattle.las_outside.specs.Sinks.{SinkView, Puts, with_more};
+ghost use Rattle.las_outside.specs.Sinks.{Puts, with_more, written_after};
+ghost use Rattle.las_info.specs.Tallies.{count_at};
 ghost use Rattle.las_words.specs.declared.command.WordFault.{WordFault};
-ghost use Rattle.las_words.specs.Says.{IsSound, asked_by, asks, says, usage};
+ghost use Rattle.las_words.specs.Says.{IsSound, asked_by, asks, usage};
 ghost use Rattle.las_words.specs.Texts.{texts};
 ghost use Rattle.laz_file.specs.Laws.{CanBePacked};
 ghost use Rattle.laz_file.specs.Packing.{packed_file};
 ghost use Rattle.laz_file.specs.Records.{AreRecordsOf};
 ghost use Rattle.laz_file.specs.Refusing.{IsAcceptedFile, IsRefusal};
 ghost use Rattle.las_run.specs.Endings.{Cause, ComesFirst, Done, Refused, Ending, status_of, files_of, IsLeft};
-ghost use Rattle.las_run.specs.Runs.{Run, inputs_of};
+ghost use Rattle.las_run.specs.Runs.{RunOf, Task, input_of, inputs_of, task_of};
 ghost use Rattle.las_run.specs.Lines.{line_of};
-ghost use Rattle.las_run.specs.Ends.{Ends, IsRead, IsTheEnding, cause_of, inputs_read, quiet, stop_of};
+ghost use Rattle.las_run.specs.Ends.{Ends, IsRead, IsTheEnding, cause_of, inputs_read, stop_of};
 ghost use Rattle.las_run.specs.Headline.{AsksLaszip, EndsUnlessCut, Seen};
 
 use crate::las2las::las2las;
+use crate::lasinfo::lasinfo;
 use crate::laszip::laszip;
 use crate::report::{report, status};
 use crate::stop::Stop;
+use las_info::Tap;
 use las_outside::{Files, Gate, Sink};
 use las_words::{Command, WordFault, read_words};
 use std::alloc::Global;
@@ -49,12 +52,14 @@ pub fn run<R: Threads + Sync, F: Files, O: Sink, E: Sink, G: Gate>(
     out: &mut O,
     err: &mut E,
     gate: &G,
+    taps: Vec<Box<dyn Tap>>,
 ) -> u8
+    requires room { All (λ tap. (bin : ℕ) → count_at (tap_seen tap).tally bin ≤ 2 ^ 63) taps.items }
     // The run ends for one cause, which has its reason in the words, the files and the counts. The status tells it, and
     // the line on `err`, of which a prefix is put if `err` fails.
-    ensures ends { (cause : Cause) × (result ≡ status_of cause)
+    ensures ends { let task = task_of (texts words.now) (map (λ tap. tap_seen tap) taps.items) in (cause : Cause) × (result ≡ status_of cause)
         × Puts (line_of cause) (E.seen err.old) (E.seen err.new)
-        × Ends (says (texts words.now)) (record {
+        × Ends task (record {
           files = F.seen files.old;
           files_now = F.seen files.new;
           out = O.seen out.old;
@@ -65,7 +70,7 @@ pub fn run<R: Threads + Sync, F: Files, O: Sink, E: Sink, G: Gate>(
     // Over known files, every accepted plain file is packed to exactly its packed form, and this form is unpacked to
     // the file; every packed file whose chunks hold records is unpacked; and every other input is refused, by its first
     // cause or by its first bad chunk. Only memory and faults that are counted can end such a run early.
-    ensures packs { (known : FileMap) (file : List ℕ) (zip : AsksLaszip (texts words.now) known file)
+    ensures packs { let task = task_of (texts words.now) (map (λ tap. tap_seen tap) taps.items) in (known : FileMap) (file : List ℕ) (zip : AsksLaszip task known file)
         → (F.seen files.old).held ≡ Some known → CanBePacked file zip.chunk
         → EndsUnlessCut (record {
           status = result;
@@ -74,8 +79,8 @@ pub fn run<R: Threads + Sync, F: Files, O: Sink, E: Sink, G: Gate>(
           err = E.seen err.old;
           err_now = E.seen err.new;
         }) Done (finmap.insert known zip.output (packed_file file zip.chunk)) }
-    ensures gives_back { (known : FileMap) (file : List ℕ) (chunk : ℕ)
-        (zip : AsksLaszip (texts words.now) known (packed_file file chunk))
+    ensures gives_back { let task = task_of (texts words.now) (map (λ tap. tap_seen tap) taps.items) in (known : FileMap) (file : List ℕ) (chunk : ℕ)
+        (zip : AsksLaszip task known (packed_file file chunk))
         → (F.seen files.old).held ≡ Some known → CanBePacked file chunk
         → EndsUnlessCut (record {
           status = result;
@@ -84,8 +89,8 @@ pub fn run<R: Threads + Sync, F: Files, O: Sink, E: Sink, G: Gate>(
           err = E.seen err.old;
           err_now = E.seen err.new;
         }) Done (finmap.insert known zip.output file) }
-    ensures unpacks { (known : FileMap) (file : List ℕ) (blocks : List (List ℕ))
-        (zip : AsksLaszip (texts words.now) known file)
+    ensures unpacks { let task = task_of (texts words.now) (map (λ tap. tap_seen tap) taps.items) in (known : FileMap) (file : List ℕ) (blocks : List (List ℕ))
+        (zip : AsksLaszip task known file)
         → (F.seen files.old).held ≡ Some known → IsAcceptedFile file → is_packed (head_of file) ≡ true
         → AreRecordsOf file blocks None
         → EndsUnlessCut (record {
@@ -95,8 +100,8 @@ pub fn run<R: Threads + Sync, F: Files, O: Sink, E: Sink, G: Gate>(
           err = E.seen err.old;
           err_now = E.seen err.new;
         }) Done (finmap.insert known zip.output (plain_head file ++ concat blocks)) }
-    ensures refuses { (known : FileMap) (file : List ℕ) (refusal : Refusal)
-        (zip : AsksLaszip (texts words.now) known file)
+    ensures refuses { let task = task_of (texts words.now) (map (λ tap. tap_seen tap) taps.items) in (known : FileMap) (file : List ℕ) (refusal : Refusal)
+        (zip : AsksLaszip task known file)
         → (F.seen files.old).held ≡ Some known → IsRefusal file (Some refusal)
         → EndsUnlessCut (record {
           status = result;
@@ -105,8 +110,8 @@ pub fn run<R: Threads + Sync, F: Files, O: Sink, E: Sink, G: Gate>(
           err = E.seen err.old;
           err_now = E.seen err.new;
         }) (Refused zip.input refusal) known }
-    ensures refuses_chunks { (known : FileMap) (file : List ℕ) (blocks : List (List ℕ)) (chunk : ℕ)
-        (zip : AsksLaszip (texts words.now) known file)
+    ensures refuses_chunks { let task = task_of (texts words.now) (map (λ tap. tap_seen tap) taps.items) in (known : FileMap) (file : List ℕ) (blocks : List (List ℕ)) (chunk : ℕ)
+        (zip : AsksLaszip task known file)
         → (F.seen files.old).held ≡ Some known → IsAcceptedFile file → is_packed (head_of file) ≡ true
         → AreRecordsOf file blocks (Some chunk)
         → EndsUnlessCut (record {
@@ -118,69 +123,81 @@ pub fn run<R: Threads + Sync, F: Files, O: Sink, E: Sink, G: Gate>(
         }) (Refused zip.input (BadChunk chunk)) (finmap.insert known zip.output (plain_head file ++ concat blocks)) }
 
     // Wrong words end the run before any file is asked for, unless memory is short.
-    ensures usage { result ≡ 2 → (index : ℕ) × (says (texts words.now) ≡ usage index) }
-    ensures wrong { (index : ℕ) → says (texts words.now) ≡ usage index → (result ≡ 2) ⊎ (result ≡ 1) }
-    ensures unasked { (index : ℕ) → says (texts words.now) ≡ usage index → F.seen files.new ≡ F.seen files.old }
+    ensures usage { let task = task_of (texts words.now) (map (λ tap. tap_seen tap) taps.items) in result ≡ 2 → (index : ℕ) × (task.said ≡ usage index) }
+    ensures wrong { let task = task_of (texts words.now) (map (λ tap. tap_seen tap) taps.items) in (index : ℕ) → task.said ≡ usage index → (result ≡ 2) ⊎ (result ≡ 1) }
+    ensures unasked { let task = task_of (texts words.now) (map (λ tap. tap_seen tap) taps.items) in (index : ℕ) → task.said ≡ usage index → F.seen files.new ≡ F.seen files.old }
 
     // Over known files: what is done is what is defined and nothing else is, and a refusal comes only if one is
     // defined.
-    ensures done { (known : FileMap) → (F.seen files.old).held ≡ Some known
+    ensures done { let task = task_of (texts words.now) (map (λ tap. tap_seen tap) taps.items) in (known : FileMap) → (F.seen files.old).held ≡ Some known
         → (result ≡ 0) ⊎ ((result ≡ 2) ⊎ (result ≡ 5))
-        → (ending : Ending) × IsTheEnding (says (texts words.now)) known ending × (status_of ending.cause ≡ result)
+        → (ending : Ending) × IsTheEnding task known ending × (status_of ending.cause ≡ result)
         × ((F.seen files.new).held ≡ Some (files_of ending known))
         × (O.seen out.new ≡ with_more (O.seen out.old) ending.text) }
 
     // Over known files: the run ends as defined, unless memory is short or a count of faults rose.
-    ensures complete { (known : FileMap) (ending : Ending) → (F.seen files.old).held ≡ Some known
-        → Run (texts words.now) known ending
+    ensures complete { let task = task_of (texts words.now) (map (λ tap. tap_seen tap) taps.items) in (known : FileMap) (ending : Ending) → (F.seen files.old).held ≡ Some known
+        → RunOf task known ending
         → ((result ≡ status_of ending.cause) × ((F.seen files.new).held ≡ Some (files_of ending known))
         × (O.seen out.new ≡ with_more (O.seen out.old) ending.text)
         × Puts (line_of ending.cause) (E.seen err.old) (E.seen err.new))
         ⊎ ((result ≡ 1) ⊎ (((result ≡ 3) × Rose (F.seen files.old).read_faults (F.seen files.new).read_faults)
-        ⊎ ((result ≡ 4) × Rose (F.seen files.old).write_faults (F.seen files.new).write_faults
-        × (ending.outputs ≢ [])))) }
+        ⊎ (((result ≡ 4) × Rose (F.seen files.old).write_faults (F.seen files.new).write_faults
+        × (ending.outputs ≢ []))
+        ⊎ ((result ≡ 4) × Rose (O.seen out.old).faults (O.seen out.new).faults × (ending.text ≢ []))))) }
 
     // Faults have their causes.
-    ensures read { result ≡ 3 → Any (IsMissing (F.seen files.old).held) (inputs_of (says (texts words.now)))
+    ensures read { let task = task_of (texts words.now) (map (λ tap. tap_seen tap) taps.items) in result ≡ 3 → Any (IsMissing (F.seen files.old).held) (inputs_of task.said)
         ⊎ Rose (F.seen files.old).read_faults (F.seen files.new).read_faults }
-    ensures write { result ≡ 4 → Rose (F.seen files.old).write_faults (F.seen files.new).write_faults }
+    ensures write { result ≡ 4 → Rose (F.seen files.old).write_faults (F.seen files.new).write_faults
+        ⊎ Rose (O.seen out.old).faults (O.seen out.new).faults }
 
     // Over known files: what is left, whatever ended the run. Nothing has changed if the words are wrong, or the input
     // is missing or refused when it is opened.
-    ensures left { (known : FileMap) (ending : Ending) → (F.seen files.old).held ≡ Some known
-        → Run (texts words.now) known ending
+    ensures left { let task = task_of (texts words.now) (map (λ tap. tap_seen tap) taps.items) in (known : FileMap) (ending : Ending) → (F.seen files.old).held ≡ Some known
+        → RunOf task known ending
         → (now : FileMap) × ((F.seen files.new).held ≡ Some now) × IsLeft ending.outputs known now }
-    ensures unchanged { (known : FileMap) (ending : Ending) → (F.seen files.old).held ≡ Some known
-        → Run (texts words.now) known ending → ComesFirst ending.cause
+    ensures unchanged { let task = task_of (texts words.now) (map (λ tap. tap_seen tap) taps.items) in (known : FileMap) (ending : Ending) → (F.seen files.old).held ≡ Some known
+        → RunOf task known ending → ComesFirst ending.cause
         → (F.seen files.new).held ≡ (F.seen files.old).held }
 
-    // No command puts a text on `out` yet. No count falls.
-    ensures out { O.seen out.new ≡ O.seen out.old }
+    // Nothing is put on `out` but a prefix of the text of the ending.
+    ensures out { (result ≡ 0) ⊎ ((result ≡ 4) ⊎ (O.seen out.new ≡ O.seen out.old)) }
+    ensures put { let task = task_of (texts words.now) (map (λ tap. tap_seen tap) taps.items) in (known : FileMap) (ending : Ending) → (F.seen files.old).held ≡ Some known
+        → RunOf task known ending → (n : ℕ) × ((O.seen out.new).written
+        ≡ written_after (O.seen out.old).written (take n ending.text)) }
     ensures later { Later (F.seen files.old) (F.seen files.new) }
 {
-    let said = read_words(alloc, words);
-    let outcome = work(rt, alloc, files, gate, &said);
+    let said = read_words(alloc, words, &taps);
+    let outcome = work(rt, alloc, files, out, gate, taps, &said);
     let _ = report(err, &said, &outcome);
     status(&outcome)
 }
 
 // Does what the words say.
-fn work<R: Threads + Sync, F: Files, G: Gate>(
+fn work<R: Threads + Sync, F: Files, O: Sink, G: Gate>(
     rt: &R,
     alloc: Global,
     files: &mut F,
+    out: &mut O,
     gate: &G,
+    taps: Vec<Box<dyn Tap>>,
     said: &Result<Command, WordFault>,
 ) -> Result<(), Stop>
-    requires sound { ForOk said.now (λ command. IsSound (asked_by command)) }
-    ensures ends { (words : List (List ℕ)) (out : SinkView) → IsRead words said.now
-        → Ends (says words) (quiet (F.seen files.old) (F.seen files.new) out) (cause_of (inputs_read said.now) result) }
+    requires sound { ForOk said.now (λ command. IsSound (map (λ tap. (tap_seen tap).name) taps.items) (asked_by command)) }
+    requires room { All (λ tap. (bin : ℕ) → count_at (tap_seen tap).tally bin ≤ 2 ^ 63) taps.items }
+    ensures ends { (task : Task) → task.taps ≡ map (λ tap. tap_seen tap) taps.items → IsRead task.said said.now → Ends task (record {
+      files = F.seen files.old;
+      files_now = F.seen files.new;
+      out = O.seen out.old;
+      out_now = O.seen out.new;
+    }) (cause_of (inputs_read said.now) result) }
     ensures unread { (fault : WordFault) → said.now ≡ Err fault
         → (result ≡ Err (stop_of fault)) × (F.seen files.new ≡ F.seen files.old) }
     ensures later { Later (F.seen files.old) (F.seen files.new) }
 {
     match said {
-        Ok(command) => obey(rt, alloc, files, gate, command),
+        Ok(command) => obey(rt, alloc, files, out, gate, taps, command),
         Err(fault) => Err(stop(*fault)),
     }
 }
@@ -196,16 +213,23 @@ fn stop(fault: WordFault) -> Stop
 }
 
 // Does what a command asks for.
-fn obey<R: Threads + Sync, F: Files, G: Gate>(
+fn obey<R: Threads + Sync, F: Files, O: Sink, G: Gate>(
     rt: &R,
     alloc: Global,
     files: &mut F,
+    out: &mut O,
     gate: &G,
+    taps: Vec<Box<dyn Tap>>,
     command: &Command,
 ) -> Result<(), Stop>
-    requires sound { IsSound (asked_by command.now) }
-    ensures ends { (out : SinkView) → Ends (asks (asked_by command.now))
-        (quiet (F.seen files.old) (F.seen files.new) out) (cause_of (inputs_of (asks (asked_by command.now))) result) }
+    requires sound { IsSound (map (λ tap. (tap_seen tap).name) taps.items) (asked_by command.now) }
+    requires room { All (λ tap. (bin : ℕ) → count_at (tap_seen tap).tally bin ≤ 2 ^ 63) taps.items }
+    ensures ends { (task : Task) → task.taps ≡ map (λ tap. tap_seen tap) taps.items → task.said ≡ asks (asked_by command.now) → Ends task (record {
+      files = F.seen files.old;
+      files_now = F.seen files.new;
+      out = O.seen out.old;
+      out_now = O.seen out.new;
+    }) (cause_of (input_of (asked_by command.now) ∷ []) result) }
     ensures later { Later (F.seen files.old) (F.seen files.new) }
 {
     match command {
@@ -224,5 +248,10 @@ fn obey<R: Threads + Sync, F: Files, G: Gate>(
         } => las2las(
             rt, alloc, files, gate, input, output, plan, *packing, *workers,
         ),
+        Command::Lasinfo {
+            input,
+            tallies,
+            workers,
+        } => lasinfo(rt, alloc, files, out, gate, taps, input, tallies, *workers),
     }
 }

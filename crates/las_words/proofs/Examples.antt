@@ -3,7 +3,7 @@ use Rattle.std.proofs.Common.{◌≡◌, ℕ, pos, negsuc, true, false, List, []
 use Rattle.las_filter.specs.declared.keep.Keep.TheVariants.{Classes, DropReturns, Intensity}
 use Rattle.las_filter.specs.declared.change.Change.TheVariants.{Translate, SetClass}
 use Rattle.las_filter.specs.Kept.{Steps}
-use Rattle.las_words.specs.Says.{asks, usage, says, laszip, las2las}
+use Rattle.las_words.specs.Says.{asks, usage, says, laszip, las2las, lasinfo}
 
 -- the words of `laszip` and of `las2las` with an input and an output, and more words
 abbrev zip : List (List ℕ) → List (List ℕ)
@@ -15,78 +15,98 @@ filter more = codes "las2las" ∷ codes "-i" ∷ codes "a" ∷ codes "-o" ∷ co
 abbrev nothing : Steps
 nothing = record { keeps = []; changes = [] }
 
-no_words : says [] ≡ usage 0
+-- the names of taps
+abbrev taps : List (List ℕ)
+taps = codes "class" ∷ codes "source" ∷ []
+
+no_words : says [] taps ≡ usage 0
 unfolding says
 no_words = refl
 
-defaults : says (zip []) ≡ asks (laszip (codes "a") (codes "b") 50000 1)
+defaults : says (zip []) taps ≡ asks (laszip (codes "a") (codes "b") 50000 1)
 unfolding says
 defaults = refl
 
-any_order : says (codes "laszip" ∷ codes "-cores" ∷ codes "08" ∷ codes "-o" ∷ codes "-i" ∷ codes "-i" ∷ codes "-o" ∷ []) ≡ asks (laszip (codes "-o") (codes "-i") 50000 8)
+any_order : says (codes "laszip" ∷ codes "-cores" ∷ codes "08" ∷ codes "-o" ∷ codes "-i" ∷ codes "-i" ∷ codes "-o" ∷ []) taps ≡ asks (laszip (codes "-o") (codes "-i") 50000 8)
 unfolding says
 any_order = refl
 
-chunk_of_no_record : says (zip (codes "-chunk_size" ∷ codes "0" ∷ [])) ≡ usage 6
+chunk_of_no_record : says (zip (codes "-chunk_size" ∷ codes "0" ∷ [])) taps ≡ usage 6
 unfolding says
 chunk_of_no_record = refl
 
-too_many_workers : says (zip (codes "-cores" ∷ codes "9" ∷ [])) ≡ usage 6
+too_many_workers : says (zip (codes "-cores" ∷ codes "9" ∷ [])) taps ≡ usage 6
 unfolding says
 too_many_workers = refl
 
-output_is_the_input : says (codes "laszip" ∷ codes "-i" ∷ codes "a" ∷ codes "-o" ∷ codes "a" ∷ []) ≡ usage 4
+output_is_the_input : says (codes "laszip" ∷ codes "-i" ∷ codes "a" ∷ codes "-o" ∷ codes "a" ∷ []) taps ≡ usage 4
 unfolding says
 output_is_the_input = refl
 
-no_output : says (codes "laszip" ∷ codes "-i" ∷ codes "a" ∷ []) ≡ usage 3
+no_output : says (codes "laszip" ∷ codes "-i" ∷ codes "a" ∷ []) taps ≡ usage 3
 unfolding says
 no_output = refl
 
-missing_value : says (zip (codes "-cores" ∷ [])) ≡ usage 6
+missing_value : says (zip (codes "-cores" ∷ [])) taps ≡ usage 6
 unfolding says
 missing_value = refl
 
-no_option_of_the_command : says (zip (codes "-keep_first" ∷ [])) ≡ usage 5
+no_option_of_the_command : says (zip (codes "-keep_first" ∷ [])) taps ≡ usage 5
 unfolding says
 no_option_of_the_command = refl
 
-no_class : says (filter (codes "-keep_class" ∷ codes "32" ∷ [])) ≡ usage 6
+no_class : says (filter (codes "-keep_class" ∷ codes "32" ∷ [])) taps ≡ usage 6
 unfolding says
 no_class = refl
 
-given_twice : says (filter (codes "-keep_class" ∷ codes "2" ∷ codes "-keep_class" ∷ codes "3" ∷ [])) ≡ usage 7
+given_twice : says (filter (codes "-keep_class" ∷ codes "2" ∷ codes "-keep_class" ∷ codes "3" ∷ [])) taps ≡ usage 7
 unfolding says
 given_twice = refl
 
-plain_and_packed : says (filter (codes "-olas" ∷ codes "-olaz" ∷ [])) ≡ usage 6
+plain_and_packed : says (filter (codes "-olas" ∷ codes "-olaz" ∷ [])) taps ≡ usage 6
 unfolding says
 plain_and_packed = refl
 
-low_above_high : says (filter (codes "-keep_intensity" ∷ codes "200" ∷ codes "199" ∷ [])) ≡ usage 7
+low_above_high : says (filter (codes "-keep_intensity" ∷ codes "200" ∷ codes "199" ∷ [])) taps ≡ usage 7
 unfolding says
 low_above_high = refl
 
-too_many_digits : says (filter (codes "-keep_class" ∷ codes "000000000000000000002" ∷ [])) ≡ usage 6
+too_many_digits : says (filter (codes "-keep_class" ∷ codes "000000000000000000002" ∷ [])) taps ≡ usage 6
 unfolding says
 too_many_digits = refl
 
 -- filters and changes in their order, and a list that ends at the next option
-filtered : says (filter (codes "-keep_class" ∷ codes "2" ∷ codes "5" ∷ codes "-translate_raw_x" ∷ codes "-5" ∷ codes "-drop_return" ∷ codes "1" ∷ codes "-translate_raw_xyz" ∷ codes "5" ∷ codes "0" ∷ codes "-0" ∷ []))
+filtered : says (filter (codes "-keep_class" ∷ codes "2" ∷ codes "5" ∷ codes "-translate_raw_x" ∷ codes "-5" ∷ codes "-drop_return" ∷ codes "1" ∷ codes "-translate_raw_xyz" ∷ codes "5" ∷ codes "0" ∷ codes "-0" ∷ [])) taps
     ≡ asks (las2las (codes "a") (codes "b") (record { keeps = Classes 36 ∷ DropReturns 2 ∷ []; changes = Translate (negsuc 4) (pos 0) (pos 0) ∷ Translate (pos 5) (pos 0) (pos 0) ∷ [] }) false 50000 1)
 unfolding says
 filtered = refl
 
-intensities : says (filter (codes "-keep_intensity" ∷ codes "100" ∷ codes "199" ∷ codes "-set_classification" ∷ codes "31" ∷ codes "-olaz" ∷ []))
+intensities : says (filter (codes "-keep_intensity" ∷ codes "100" ∷ codes "199" ∷ codes "-set_classification" ∷ codes "31" ∷ codes "-olaz" ∷ [])) taps
     ≡ asks (las2las (codes "a") (codes "b") (record { keeps = Intensity 100 199 ∷ []; changes = SetClass 31 ∷ [] }) true 50000 1)
 unfolding says
 intensities = refl
 
 -- packed by the ending of its name, unless -olas stands
-packed_by_name : says (codes "las2las" ∷ codes "-i" ∷ codes "a" ∷ codes "-o" ∷ codes "b.LAZ" ∷ []) ≡ asks (las2las (codes "a") (codes "b.LAZ") nothing true 50000 1)
+packed_by_name : says (codes "las2las" ∷ codes "-i" ∷ codes "a" ∷ codes "-o" ∷ codes "b.LAZ" ∷ []) taps ≡ asks (las2las (codes "a") (codes "b.LAZ") nothing true 50000 1)
 unfolding says
 packed_by_name = refl
 
-plain_by_option : says (codes "las2las" ∷ codes "-i" ∷ codes "a" ∷ codes "-olas" ∷ codes "-o" ∷ codes "b.laz" ∷ []) ≡ asks (las2las (codes "a") (codes "b.laz") nothing false 50000 1)
+plain_by_option : says (codes "las2las" ∷ codes "-i" ∷ codes "a" ∷ codes "-olas" ∷ codes "-o" ∷ codes "b.laz" ∷ []) taps ≡ asks (las2las (codes "a") (codes "b.laz") nothing false 50000 1)
 unfolding says
 plain_by_option = refl
+
+-- the words of `lasinfo` with an input, and more words
+abbrev info : List (List ℕ) → List (List ℕ)
+info more = codes "lasinfo" ∷ codes "-i" ∷ codes "a" ∷ more
+
+tallied : says (info (codes "-tally" ∷ codes "source" ∷ codes "-cores" ∷ codes "2" ∷ codes "-tally" ∷ codes "class" ∷ [])) taps ≡ asks (lasinfo (codes "a") (codes "source" ∷ codes "class" ∷ []) 2)
+unfolding says
+tallied = refl
+
+tallied_twice : says (info (codes "-tally" ∷ codes "class" ∷ codes "-tally" ∷ codes "class" ∷ [])) taps ≡ usage 6
+unfolding says
+tallied_twice = refl
+
+no_tap : says (info (codes "-tally" ∷ codes "none" ∷ [])) taps ≡ usage 4
+unfolding says
+no_tap = refl

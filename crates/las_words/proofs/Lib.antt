@@ -2,5 +2,6 @@ pub mod Parsing
 pub mod Cutting
 pub mod Wrong
 pub mod Ranges
+pub mod Chosen
 pub mod Saying
 pub mod Examples

@@ -2,7 +2,7 @@
 use Rattle.std.specs.Prelude.{ℕ, max, List}
 use Rattle.std.specs.List.{prefix_len}
 use Rattle.las_words.specs.declared.table.Values.{Values}
-use Rattle.las_words.specs.declared.table.Values.TheVariants.{Nothing, Name, Number, Bounds, Several, Signed}
+use Rattle.las_words.specs.declared.table.Values.TheVariants.{Nothing, Name, Number, Bounds, Several, Signed, Tap}
 use Rattle.las_words.specs.Numbers.{is_digits}
 
 -- this many words after an option are its values, or should be: a list is one word, and goes on while the next is of
@@ -14,3 +14,4 @@ count_of (Number low high) words = 1
 count_of (Bounds most) words = 2
 count_of (Several most) words = max 1 (prefix_len is_digits words)
 count_of (Signed count) words = count
+count_of Tap words = 1

@@ -5,40 +5,44 @@ use Rattle.std.specs.Option.{option_or}
 use Rattle.std.specs.List.{list_any}
 use Rattle.std.specs.Str.{bytes_eq}
 use Rattle.las_words.specs.declared.table.Values.{Values}
-use Rattle.las_words.specs.declared.table.Values.TheVariants.{Nothing, Name, Number, Bounds, Several, Signed}
+use Rattle.las_words.specs.declared.table.Values.TheVariants.{Nothing, Name, Number, Bounds, Several, Signed, Tap}
 use Rattle.las_words.specs.declared.table.Flag.{Flag}
 use Rattle.las_words.specs.declared.pieces.Piece.{Piece}
 use Rattle.las_words.specs.Texts.{word_at}
 use Rattle.las_words.specs.Numbers.{number_in, signed_in}
 use Rattle.las_words.specs.Counts.{count_of}
 use Rattle.las_words.specs.Table.{row_of, first_number, second_number}
+use Rattle.las_words.specs.Tallies.{tallies_of}
 
--- a word has the form of a value
-abbrev pub fits : Values → List ℕ → Bool
-fits Nothing word = true
-fits Name word = not (bytes_eq word [])
-fits (Number low high) word = is_some (number_in low high word)
-fits (Bounds most) word = is_some (number_in 0 most word)
-fits (Several most) word = is_some (number_in 0 most word)
-fits (Signed count) word = is_some (signed_in word)
+-- a word has the form of a value; a tap's name is one of these
+abbrev pub fits : (names : List (List ℕ)) → Values → List ℕ → Bool
+fits names Nothing word = true
+fits names Name word = not (bytes_eq word [])
+fits names (Number low high) word = is_some (number_in low high word)
+fits names (Bounds most) word = is_some (number_in 0 most word)
+fits names (Several most) word = is_some (number_in 0 most word)
+fits names (Signed count) word = is_some (signed_in word)
+fits names Tap word = list_any (bytes_eq word) names
 
 -- of this many values, in words that begin at an index, the index of the first that is missing or not of its form
-abbrev pub first_wrong : Values → (at count : ℕ) → List (List ℕ) → Option ℕ
-first_wrong values at zero words = None
-first_wrong values at (suc count) [] = Some at
-first_wrong values at (suc count) (word ∷ words) =
-    if fits values word then first_wrong values (at + 1) count words else Some at
+abbrev pub first_wrong : (names : List (List ℕ)) → Values → (at count : ℕ) → List (List ℕ) → Option ℕ
+first_wrong names values at zero words = None
+first_wrong names values at (suc count) [] = Some at
+first_wrong names values at (suc count) (word ∷ words) =
+    if fits names values word then first_wrong names values (at + 1) count words else Some at
 
--- the index of a high number that is below its low one
-abbrev pub unordered : Values → (at : ℕ) → List (List ℕ) → Option ℕ
-unordered (Bounds most) at words =
+-- the index of a high number that is below its low one, or of a tap that one of these tallies names already
+abbrev pub misplaced : (tallies : List (List ℕ)) → Values → (at : ℕ) → List (List ℕ) → Option ℕ
+misplaced tallies (Bounds most) at words =
     if nat_lt (second_number most words) (first_number most words) then Some (at + 1) else None
-unordered _ at words = None
+misplaced tallies Tap at words =
+    if list_any (bytes_eq (word_at words 0)) tallies then Some at else None
+misplaced tallies _ at words = None
 
 -- the index of the first value that is wrong, in words that begin at an index
-abbrev pub value_fault : Values → (at : ℕ) → List (List ℕ) → Option ℕ
-value_fault values at words =
-    option_or (first_wrong values at (count_of values words) words) (unordered values at words)
+abbrev pub value_fault : (names tallies : List (List ℕ)) → Values → (at : ℕ) → List (List ℕ) → Option ℕ
+value_fault names tallies values at words =
+    option_or (first_wrong names values at (count_of values words) words) (misplaced tallies values at words)
 
 -- an option stands after one that it may not follow
 abbrev pub follows_a_rival : List (List ℕ) → List Piece → Flag → Bool
@@ -46,19 +50,19 @@ follows_a_rival words earlier flag =
     list_any (λ piece. list_any (λ rival. bytes_eq (word_at words piece.at) rival) (row_of flag).rivals) earlier
 
 -- what is wrong with an option of a command, after the options before it, or with its values
-abbrev pub option_fault : List (List ℕ) → List Piece → (at : ℕ) → Option Flag → Option ℕ
-option_fault words earlier at None = Some at
-option_fault words earlier at (Some flag) =
+abbrev pub option_fault : (names : List (List ℕ)) → List (List ℕ) → List Piece → (at : ℕ) → Option Flag → Option ℕ
+option_fault names words earlier at None = Some at
+option_fault names words earlier at (Some flag) =
     if follows_a_rival words earlier flag
     then Some at
-    else value_fault (row_of flag).values (at + 1) (drop (at + 1) words)
+    else value_fault names (tallies_of words earlier) (row_of flag).values (at + 1) (drop (at + 1) words)
 
 -- what is wrong with a word that should be an option, or with its values
-abbrev pub fault_of : List (List ℕ) → List Piece → Piece → Option ℕ
-fault_of words earlier piece = option_fault words earlier piece.at piece.flag
+abbrev pub fault_of : (names : List (List ℕ)) → List (List ℕ) → List Piece → Piece → Option ℕ
+fault_of names words earlier piece = option_fault names words earlier piece.at piece.flag
 
 -- the first fault of the options that are left, after those before them
-abbrev pub first_fault : List (List ℕ) → List Piece → List Piece → Option ℕ
-first_fault words earlier [] = None
-first_fault words earlier (piece ∷ pieces) =
-    option_or (fault_of words earlier piece) (first_fault words (earlier ++ piece ∷ []) pieces)
+abbrev pub first_fault : (names : List (List ℕ)) → List (List ℕ) → List Piece → List Piece → Option ℕ
+first_fault names words earlier [] = None
+first_fault names words earlier (piece ∷ pieces) =
+    option_or (fault_of names words earlier piece) (first_fault names words (earlier ++ piece ∷ []) pieces)

@@ -3,6 +3,7 @@ pub mod Numbers
 pub mod Counts
 pub mod Table
 pub mod Pieces
+pub mod Tallies
 pub mod Faults
 pub mod Settings
 pub mod Plans

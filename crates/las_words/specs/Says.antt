@@ -1,29 +1,31 @@
 -- What the words of the command line say: a command with its options, or which word is the first that is wrong.
-use Rattle.std.specs.Prelude.{◌≡◌, ℕ, ◌+◌, ◌≤◌, Bool, false, not, ◌&&◌, ◌||◌, if◌then◌else◌, List, [], drop, length}
-use Rattle.std.specs.Prelude.{codes}
+use Rattle.std.specs.Prelude.{◌≡◌, ℕ, ◌+◌, ◌≤◌, Bool, true, false, not, ◌&&◌, ◌||◌, if◌then◌else◌, List, []}
+use Rattle.std.specs.Prelude.{codes, drop, length}
 use Rattle.std.specs.Prelude.{Option, Some, None, All, string_bytes}
 use Rattle.std.specs.Option.{option_map, option_or}
-use Rattle.std.specs.List.{list_all, list_any}
+use Rattle.std.specs.List.{AllPairs, list_all, list_any}
 use Rattle.std.specs.Str.{bytes_eq}
 use Rattle.las_filter.specs.Changes.{HasClass}
 use Rattle.las_filter.specs.Kept.{Steps, steps_of}
 use Rattle.las_words.specs.declared.command.Command.{Command}
 use Rattle.las_words.specs.declared.command.Command.TheVariants as command
 use Rattle.las_words.specs.declared.table.Tool.{Tool}
-use Rattle.las_words.specs.declared.table.Tool.TheVariants.{Laszip, Las2las}
+use Rattle.las_words.specs.declared.table.Tool.TheVariants.{Laszip, Las2las, Lasinfo}
 use Rattle.las_words.specs.declared.table.Flag.TheVariants.{ChunkSize, Cores}
 use Rattle.las_words.specs.declared.pieces.Piece.{Piece}
-use Rattle.las_words.specs.Texts.{word_at, is_packed_name}
+use Rattle.las_words.specs.Texts.{texts, word_at, is_packed_name}
 use Rattle.las_words.specs.Table.{command_row, tool_named}
 use Rattle.las_words.specs.Pieces.{cut}
 use Rattle.las_words.specs.Faults.{first_fault}
 use Rattle.las_words.specs.Settings.{place_of, is_given, text_of, number_of}
+use Rattle.las_words.specs.Tallies.{tallies_of}
 use Rattle.las_words.specs.Plans.{plan_of}
 
 -- a command with its options, names as bytes
 pub data Asked : Type 0 where
   laszip : (input output : List ℕ) (chunk workers : ℕ) → Asked
   las2las : (input output : List ℕ) (plan : Steps) (packed : Bool) (chunk workers : ℕ) → Asked
+  lasinfo : (input : List ℕ) (tallies : List (List ℕ)) (workers : ℕ) → Asked
 
 -- what words say: a command, or the index of the first word that is wrong
 pub data Said : Type 0 where
@@ -45,9 +47,10 @@ same_name words pieces =
     else None
 
 -- the index of the first word that is wrong: by the options and their values, then a missing option, then the names
-abbrev pub wrong_word : Tool → List (List ℕ) → List Piece → Option ℕ
-wrong_word tool words pieces =
-    option_or (first_fault words [] pieces) (option_or (missing_option tool words pieces) (same_name words pieces))
+abbrev pub wrong_word : (names : List (List ℕ)) → Tool → List (List ℕ) → List Piece → Option ℕ
+wrong_word names tool words pieces =
+    option_or (first_fault names words [] pieces)
+    (option_or (missing_option tool words pieces) (same_name words pieces))
 
 -- the output of `las2las` is packed with -olaz, plain with -olas, and else by its name
 abbrev pub is_packed : List (List ℕ) → List Piece → Bool
@@ -71,6 +74,8 @@ asked_of Laszip words pieces =
 asked_of Las2las words pieces =
     las2las (text_of words (codes "-i") pieces) (text_of words (codes "-o") pieces)
     (plan_of words pieces) (is_packed words pieces) (chunk_of words pieces) (workers_of words pieces)
+asked_of Lasinfo words pieces =
+    lasinfo (text_of words (codes "-i") pieces) (tallies_of words pieces) (workers_of words pieces)
 
 -- a command, unless a word is wrong
 abbrev pub said_unless : Option ℕ → Asked → Said
@@ -78,32 +83,42 @@ said_unless (Some index) asked = usage index
 said_unless None asked = asks asked
 
 -- what the words after the command say
-abbrev pub said_to : Option Tool → List (List ℕ) → Said
-said_to None words = usage 0
-said_to (Some tool) words =
+abbrev pub said_to : (names : List (List ℕ)) → Option Tool → List (List ℕ) → Said
+said_to names None words = usage 0
+said_to names (Some tool) words =
     let pieces = cut tool 1 0 (drop 1 words) in
-    said_unless (wrong_word tool words pieces) (asked_of tool words pieces)
+    said_unless (wrong_word names tool words pieces) (asked_of tool words pieces)
 
--- what words say; without any word, the first is no command
-unfoldable pub says : List (List ℕ) → Said
-says words = said_to (tool_named (word_at words 0)) words
+-- what words say, if the taps have these names; without any word, the first is no command
+unfoldable pub says : (words names : List (List ℕ)) → Said
+says words names = said_to names (tool_named (word_at words 0)) words
 
 -- a command as its parts, names as bytes and a plan as its two lists
 abbrev pub asked_by : Command → Asked
 asked_by (command.Laszip input output chunk workers) = laszip (string_bytes input) (string_bytes output) chunk workers
 asked_by (command.Las2las input output plan packing workers) =
     las2las (string_bytes input) (string_bytes output) (steps_of plan) packing.packed packing.chunk workers
+asked_by (command.Lasinfo input tallies workers) = lasinfo (string_bytes input) (texts tallies.items) workers
 
--- What holds of every command that words ask for: the names differ, and the numbers are in their ranges.
-pub record IsWithinLimits (input output : List ℕ) (chunk workers : ℕ) : Type 0 where
-  pub names : bytes_eq output input ≡ false
-  pub least : 256 ≤ chunk
-  pub most : chunk ≤ 250000
+-- the number of workers is in its range
+pub record AreWorkers (workers : ℕ) : Type 0 where
   pub some : 1 ≤ workers
   pub few : workers ≤ 8
 
--- what holds of a command that words ask for, its plan included
-abbrev pub IsSound : Asked → Type 0
-IsSound (laszip input output chunk workers) = IsWithinLimits input output chunk workers
-IsSound (las2las input output plan packed chunk workers) =
-    IsWithinLimits input output chunk workers × All HasClass plan.changes
+-- the number of records of a chunk is in its range
+pub record IsChunkSize (chunk : ℕ) : Type 0 where
+  pub least : 256 ≤ chunk
+  pub most : chunk ≤ 250000
+
+-- these are names of taps, and no name stands twice
+pub record AreChosen (names tallies : List (List ℕ)) : Type 0 where
+  pub there : All (λ tally. list_any (bytes_eq tally) names ≡ true) tallies
+  pub distinct : AllPairs (λ tally other. bytes_eq tally other ≡ false) tallies
+
+-- what holds of a command that words ask for: names that must differ do, and numbers are in their ranges
+abbrev pub IsSound : (names : List (List ℕ)) → Asked → Type 0
+IsSound names (laszip input output chunk workers) =
+    (bytes_eq output input ≡ false) × IsChunkSize chunk × AreWorkers workers
+IsSound names (las2las input output plan packed chunk workers) =
+    (bytes_eq output input ≡ false) × IsChunkSize chunk × AreWorkers workers × All HasClass plan.changes
+IsSound names (lasinfo input tallies workers) = AreChosen names tallies × AreWorkers workers

@@ -1,4 +1,4 @@
--- The commands and their options, as data (LAStools, `laszip` and `las2las`).
+-- The commands and their options, as data (LAStools, `laszip`, `las2las` and `lasinfo`).
 use Rattle.std.specs.Prelude.{ℕ, ℤ, pos, ◌^◌, bit_or, List, [], ◌∷◌, codes, fold, find, take, Option}
 use Rattle.std.specs.Prelude.{unwrap_or}
 use Rattle.std.specs.Str.{bytes_eq}
@@ -8,9 +8,9 @@ use Rattle.las_filter.specs.declared.keep.Keep.TheVariants.{Intensity, NotBelow,
 use Rattle.las_filter.specs.declared.change.Change.{Change}
 use Rattle.las_filter.specs.declared.change.Change.TheVariants.{Translate, SetClass, SetUser, SetSource}
 use Rattle.las_words.specs.declared.table.Tool.{Tool}
-use Rattle.las_words.specs.declared.table.Tool.TheVariants.{Laszip, Las2las}
+use Rattle.las_words.specs.declared.table.Tool.TheVariants.{Laszip, Las2las, Lasinfo}
 use Rattle.las_words.specs.declared.table.Values.{Values}
-use Rattle.las_words.specs.declared.table.Values.TheVariants.{Nothing, Name, Number, Bounds, Several, Signed}
+use Rattle.las_words.specs.declared.table.Values.TheVariants.{Nothing, Name, Number, Bounds, Several, Signed, Tap}
 use Rattle.las_words.specs.declared.table.Flag.{Flag}
 use Rattle.las_words.specs.declared.table.Flag.TheVariants.{Input, Output, ChunkSize, Cores, Olas, Olaz, KeepClass}
 use Rattle.las_words.specs.declared.table.Flag.TheVariants.{DropClass}
@@ -18,18 +18,21 @@ use Rattle.las_words.specs.declared.table.Flag.TheVariants.{KeepReturn, DropRetu
 use Rattle.las_words.specs.declared.table.Flag.TheVariants.{DropIntensityBelow, DropIntensityAbove, TranslateRawXyz}
 use Rattle.las_words.specs.declared.table.Flag.TheVariants.{TranslateRawX, TranslateRawY, TranslateRawZ}
 use Rattle.las_words.specs.declared.table.Flag.TheVariants.{SetClassification}
-use Rattle.las_words.specs.declared.table.Flag.TheVariants.{SetUserData, SetPointSource}
+use Rattle.las_words.specs.declared.table.Flag.TheVariants.{SetUserData, SetPointSource, Tally}
 use Rattle.las_words.specs.Texts.{word_at}
 use Rattle.las_words.specs.Numbers.{number_or_zero, signed_in}
 use Rattle.las_words.specs.Counts.{count_of}
 
--- what an option means, of the words that follow it: a setting, which is looked up, a filter, or a change
+-- what an option means, of the words that follow it: a setting, which is looked up, a filter, a change, or
+-- a tally
 pub data Meaning : Type 0 where
   Setting : Meaning
   Filters : (List (List ℕ) → Keep) → Meaning
   Changes : (List (List ℕ) → Change) → Meaning
+  TallyNames : Meaning
 
--- An option: its word, its values, and the options that it may not follow, itself among them if it is given once.
+-- An option: its word, its values, the options that it may not follow, itself among them if it is given once, and what
+-- it means.
 pub record Row : Type 0 where
   pub name : List ℕ
   pub values : Values
@@ -100,6 +103,7 @@ row_of SetClassification =
 row_of SetUserData = once (codes "-set_user_data") (Number 0 255) (Changes (λ words. SetUser (first_number 255 words)))
 row_of SetPointSource =
     once (codes "-set_point_source") (Number 0 65535) (Changes (λ words. SetSource (first_number 65535 words)))
+row_of Tally = record { name = codes "-tally"; values = Tap; rivals = []; means = TallyNames }
 
 -- A command: its word, its options, and which of them are required, each by its names, of which one has to be given.
 pub record CommandRow : Type 0 where
@@ -107,17 +111,14 @@ pub record CommandRow : Type 0 where
   pub options : List Flag
   pub required : List (List (List ℕ))
 
--- the options of every command here
-abbrev pub common : List Flag
-common = Input ∷ Output ∷ ChunkSize ∷ Cores ∷ []
-
 -- an input and an output are required
 abbrev pub input_and_output : List (List (List ℕ))
 input_and_output = (codes "-i" ∷ []) ∷ (codes "-o" ∷ []) ∷ []
 
 -- the commands
 abbrev pub command_row : Tool → CommandRow
-command_row Laszip = record { name = codes "laszip"; options = common; required = input_and_output }
+command_row Laszip =
+    record { name = codes "laszip"; options = Input ∷ Output ∷ ChunkSize ∷ Cores ∷ []; required = input_and_output }
 command_row Las2las = record {
   name = codes "las2las";
   options =
@@ -128,6 +129,8 @@ command_row Las2las = record {
       ∷ SetClassification ∷ SetUserData ∷ SetPointSource ∷ [];
   required = input_and_output;
 }
+command_row Lasinfo =
+    record { name = codes "lasinfo"; options = Input ∷ Tally ∷ Cores ∷ []; required = (codes "-i" ∷ []) ∷ [] }
 
 -- the options of a command
 abbrev pub options_of : Tool → List Flag
@@ -135,7 +138,7 @@ options_of tool = (command_row tool).options
 
 -- the command of a name
 abbrev pub tool_named : List ℕ → Option Tool
-tool_named word = find (λ tool. bytes_eq word (command_row tool).name) (Laszip ∷ Las2las ∷ [])
+tool_named word = find (λ tool. bytes_eq word (command_row tool).name) (Laszip ∷ Las2las ∷ Lasinfo ∷ [])
 
 -- the option of a command that has a name
 abbrev pub flag_named : Tool → List ℕ → Option Flag

@@ -42,6 +42,15 @@ pub enum Command {
         /// The number of workers, 1 to 8.
         workers: u32,
     },
+    /// Reports what is in a file.
+    Lasinfo {
+        /// The name of the input.
+        input: String,
+        /// The names of the taps that tally the records, each another one.
+        tallies: Vec<String>,
+        /// The number of workers, 1 to 8.
+        workers: u32,
+    },
 }
 
 /// Why words are not read.

@@ -1,23 +1,27 @@
 //! The first word that is wrong, by the options and their values.
 
-ghost use Rattle.std.specs.Prelude.{◌≡◌, ◌+◌, ◌<◌, ◌^◌, [], length, All};
+ghost use Rattle.std.specs.Prelude.{◌≡◌, ◌+◌, ◌<◌, ◌^◌, [], length, drop, All};
+ghost use Rattle.std.specs.List.{list_any};
+ghost use Rattle.std.specs.Str.{bytes_eq};
 ghost use Rattle.las_words.specs.Texts.{texts};
-ghost use Rattle.las_words.specs.Faults.{fits, first_wrong, unordered, value_fault, follows_a_rival, fault_of};
-ghost use Rattle.las_words.specs.Faults.{first_fault};
+ghost use Rattle.las_words.specs.Tallies.{tallies_of};
+ghost use Rattle.las_words.specs.Faults.{fits, first_wrong, misplaced, value_fault, follows_a_rival};
+ghost use Rattle.las_words.specs.Faults.{fault_of, first_fault};
 
 use crate::numbers::{number_in, number_or_zero, signed_in};
 use crate::pieces::{Piece, count_of, words_from};
 use crate::table::{Flag, Values};
+use crate::tallies::is_tallied;
 use crate::texts::word;
 
 /// The index of the first word that is wrong by itself or after those before it. A missing value has the number of
-/// words.
-pub fn first_fault(words: &[String], pieces: &[Piece]) -> Option<usize>
+/// words. The names are those of the taps.
+pub fn first_fault(names: &[String], words: &[String], pieces: &[Piece]) -> Option<usize>
     requires { All (λ piece. piece.at < length words.now) pieces.now }
-    ensures { result ≡ first_fault (texts words.now) [] pieces.now }
+    ensures { result ≡ first_fault (texts names.now) (texts words.now) [] pieces.now }
 {
     for (i, piece) in pieces.iter().enumerate() {
-        let fault = fault_of(words, &pieces[..i], piece);
+        let fault = fault_of(names, words, &pieces[..i], piece);
         if fault.is_some() {
             return fault;
         }
@@ -26,9 +30,10 @@ pub fn first_fault(words: &[String], pieces: &[Piece]) -> Option<usize>
 }
 
 // What is wrong with an option or its values, after the options before it.
-fn fault_of(words: &[String], earlier: &[Piece], piece: &Piece) -> Option<usize>
-    requires { piece.now.at < length words.now }
-    ensures { result ≡ fault_of (texts words.now) earlier.now piece.now }
+fn fault_of(names: &[String], words: &[String], earlier: &[Piece], piece: &Piece) -> Option<usize>
+    requires at { piece.now.at < length words.now }
+    requires earlier { All (λ piece. piece.at < length words.now) earlier.now }
+    ensures { result ≡ fault_of (texts names.now) (texts words.now) earlier.now piece.now }
 {
     let Some(flag) = piece.flag else {
         return Some(piece.at);
@@ -36,7 +41,7 @@ fn fault_of(words: &[String], earlier: &[Piece], piece: &Piece) -> Option<usize>
     if follows_a_rival(words, earlier, flag) {
         return Some(piece.at);
     }
-    value_fault(flag.values(), piece.at + 1, words_from(words, piece.at + 1))
+    value_fault(names, words, earlier, flag.values(), piece.at + 1)
 }
 
 // Whether an option stands after one that it may not follow.
@@ -51,25 +56,40 @@ fn follows_a_rival(words: &[String], earlier: &[Piece], flag: Flag) -> bool
     false
 }
 
-// The index of the first value that is wrong, of words that begin at an index.
-fn value_fault(values: Values, at: usize, after: &[String]) -> Option<usize>
-    requires { at + length after.now + 1 < 2 ^ 64 }
-    ensures { result ≡ value_fault values at (texts after.now) }
+// The index of the first value of an option that is wrong. The values begin at an index.
+fn value_fault(
+    names: &[String],
+    words: &[String],
+    earlier: &[Piece],
+    values: Values,
+    at: usize,
+) -> Option<usize>
+    requires at { at < length words.now + 1 }
+    requires earlier { All (λ piece. piece.at < length words.now) earlier.now }
+    ensures { result ≡ value_fault (texts names.now) (tallies_of (texts words.now) earlier.now) values at
+        (drop at (texts words.now)) }
 {
-    let wrong = first_wrong(values, at, count_of(values, after), after);
+    let after = words_from(words, at);
+    let wrong = first_wrong(names, values, at, count_of(values, after), after);
     if wrong.is_some() {
         return wrong;
     }
-    unordered(values, at, after)
+    misplaced(words, earlier, values, at, after)
 }
 
 // The index of the first value that is missing or not of its form.
-fn first_wrong(values: Values, at: usize, count: usize, after: &[String]) -> Option<usize>
+fn first_wrong(
+    names: &[String],
+    values: Values,
+    at: usize,
+    count: usize,
+    after: &[String],
+) -> Option<usize>
     requires { at + length after.now < 2 ^ 64 }
-    ensures { result ≡ first_wrong values at count (texts after.now) }
+    ensures { result ≡ first_wrong (texts names.now) values at count (texts after.now) }
 {
     for k in 0..count {
-        if k >= after.len() || !fits(values, word(after, k)) {
+        if k >= after.len() || !fits(names, values, word(after, k)) {
             return Some(at + k);
         }
     }
@@ -77,8 +97,8 @@ fn first_wrong(values: Values, at: usize, count: usize, after: &[String]) -> Opt
 }
 
 // Whether a word has the form of a value.
-fn fits(values: Values, word: &str) -> bool
-    ensures { result ≡ fits values word.now }
+fn fits(names: &[String], values: Values, word: &str) -> bool
+    ensures { result ≡ fits (texts names.now) values word.now }
 {
     match values {
         Values::Nothing => true,
@@ -86,18 +106,47 @@ fn fits(values: Values, word: &str) -> bool
         Values::Number(low, high) => number_in(word, low, high).is_some(),
         Values::Bounds(most) | Values::Several(most) => number_in(word, 0, most).is_some(),
         Values::Signed(_) => signed_in(word).is_some(),
+        Values::Tap => is_among(word, names),
     }
 }
 
-// The index of a high number that is below its low one.
-fn unordered(values: Values, at: usize, after: &[String]) -> Option<usize>
-    requires { at + 1 < 2 ^ 64 }
-    ensures { result ≡ unordered values at (texts after.now) }
+// Whether a word is one of some names.
+fn is_among(word: &str, names: &[String]) -> bool
+    ensures { result ≡ list_any (bytes_eq word.now) (texts names.now) }
 {
-    let Values::Bounds(most) = values else {
-        return None;
-    };
-    let low = number_or_zero(word(after, 0), most);
-    let high = number_or_zero(word(after, 1), most);
-    if high < low { Some(at + 1) } else { None }
+    for name in names {
+        if word == name.as_str() {
+            return true;
+        }
+    }
+    false
+}
+
+// The index of a high number that is below its low one, or of a tap that is named already.
+fn misplaced(
+    words: &[String],
+    earlier: &[Piece],
+    values: Values,
+    at: usize,
+    after: &[String],
+) -> Option<usize>
+    requires at { at + 1 < 2 ^ 64 }
+    requires earlier { All (λ piece. piece.at < length words.now) earlier.now }
+    ensures { result ≡ misplaced (tallies_of (texts words.now) earlier.now) values at (texts after.now) }
+{
+    match values {
+        Values::Bounds(most) => {
+            let low = number_or_zero(word(after, 0), most);
+            let high = number_or_zero(word(after, 1), most);
+            if high < low { Some(at + 1) } else { None }
+        }
+        Values::Tap => {
+            if is_tallied(words, earlier, word(after, 0)) {
+                Some(at)
+            } else {
+                None
+            }
+        }
+        _ => None,
+    }
 }

@@ -12,6 +12,7 @@ mod plan;
 mod read;
 mod settings;
 mod table;
+mod tallies;
 #[cfg(test)]
 mod tests;
 mod texts;

@@ -63,7 +63,7 @@ pub fn count_of(values: Values, after: &[String]) -> usize
 {
     match values {
         Values::Nothing => 0,
-        Values::Name | Values::Number(_, _) => 1,
+        Values::Name | Values::Number(_, _) | Values::Tap => 1,
         Values::Bounds(_) => 2,
         Values::Several(_) => digit_words(after).max(1),
         Values::Signed(count) => count as usize,

@@ -1,14 +1,15 @@
 //! Words to a command.
 
 ghost use Rattle.std.specs.Prelude.{◌≡◌, ◌<◌, ◌||◌, ◌&&◌, not, ℕ, Bool, length, All, IfOk, MatchOption, None, Some};
-ghost use Rattle.std.specs.Prelude.{Err, codes, string_bytes};
+ghost use Rattle.std.specs.Prelude.{Err, codes, map, string_bytes};
 ghost use Rattle.std.specs.Str.{bytes_eq};
 ghost use Rattle.las_filter.specs.Kept.{steps_of};
 ghost use Rattle.las_words.specs.Texts.{texts};
 ghost use Rattle.las_words.specs.Settings.{text_of};
 ghost use Rattle.las_words.specs.Plans.{plan_of};
 ghost use Rattle.las_words.specs.Says.{says, asks, usage, asked_by, asked_of, IsSound, missing_option, same_name};
-ghost use Rattle.las_words.specs.Says.{wrong_word, is_packed};
+ghost use Rattle.las_words.specs.Says.{is_packed, wrong_word};
+ghost use Rattle.las_words.specs.declared.table.Tool.TheVariants.{Laszip, Las2las, Lasinfo};
 
 use crate::command::{Command, Packing, WordFault};
 use crate::faults::first_fault;
@@ -16,33 +17,70 @@ use crate::pieces::{Piece, pieces};
 use crate::plan::{changes_of, filters_of};
 use crate::settings::{chunk_of, is_given, place_of, text_of, workers_of};
 use crate::table::Tool;
+use crate::tallies::tallies_of;
 use crate::texts::{is_packed_name, word};
 use las_filter::Plan;
+use las_info::Tap;
 use std::alloc::{AllocError, Global};
 
 /// Reads the words of a command line: the command, or the index of the first word that is wrong. Without any word that
-/// is 0; a missing value or option has the number of words.
-pub fn read_words(alloc: Global, words: &[String]) -> Result<Command, WordFault>
-    ensures command { IfOk result (λ command. says (texts words.now) ≡ asks (asked_by command)) }
-    ensures usage { (index : ℕ) → result ≡ Err (WordFault.Usage index) → says (texts words.now) ≡ usage index }
-    ensures sound { IfOk result (λ command. IsSound (asked_by command)) }
+/// is 0; a missing value or option has the number of words. The taps are those that `-tally` may name.
+pub fn read_words(
+    alloc: Global,
+    words: &[String],
+    taps: &[Box<dyn Tap>],
+) -> Result<Command, WordFault>
+    ensures command { IfOk result (λ command. says (texts words.now) (map (λ tap. (tap_seen tap).name) taps.now)
+        ≡ asks (asked_by command)) }
+    ensures usage { (index : ℕ) → result ≡ Err (WordFault.Usage index)
+        → says (texts words.now) (map (λ tap. (tap_seen tap).name) taps.now) ≡ usage index }
+    ensures sound { IfOk result (λ command. IsSound (map (λ tap. (tap_seen tap).name) taps.now) (asked_by command)) }
+{
+    let names = names_of(alloc, taps)?;
+    read(alloc, words, &names)
+}
+
+// The names of taps.
+fn names_of(alloc: Global, taps: &[Box<dyn Tap>]) -> Result<Vec<String>, AllocError>
+    ensures { IfOk result (λ names. texts names.items ≡ map (λ tap. (tap_seen tap).name) taps.now) }
+{
+    let mut names = Vec::new(alloc);
+    for tap in taps {
+        names.push(name_of(alloc, tap)?)?;
+    }
+    Ok(names)
+}
+
+// The name of a tap.
+fn name_of(alloc: Global, tap: &Box<dyn Tap>) -> Result<String, AllocError>
+    ensures { IfOk result (λ name. string_bytes name ≡ (tap_seen tap.now).name) }
+{
+    String::from_str(alloc, tap.named())
+}
+
+// Reads the words of a command line. The names are those of the taps.
+fn read(alloc: Global, words: &[String], names: &[String]) -> Result<Command, WordFault>
+    ensures command { IfOk result (λ command. says (texts words.now) (texts names.now) ≡ asks (asked_by command)) }
+    ensures usage { (index : ℕ) → result ≡ Err (WordFault.Usage index)
+        → says (texts words.now) (texts names.now) ≡ usage index }
+    ensures sound { IfOk result (λ command. IsSound (texts names.now) (asked_by command)) }
 {
     let Some(tool) = Tool::named(word(words, 0)) else {
         return Err(WordFault::Usage(0));
     };
     let pieces = pieces(alloc, tool, words)?;
-    if let Some(index) = wrong_word(tool, words, &pieces) {
+    if let Some(index) = wrong_word(names, tool, words, &pieces) {
         return Err(WordFault::Usage(index));
     }
     Ok(command_of(alloc, tool, words, &pieces)?)
 }
 
 // The index of the first word that is wrong.
-fn wrong_word(tool: Tool, words: &[String], pieces: &[Piece]) -> Option<usize>
+fn wrong_word(names: &[String], tool: Tool, words: &[String], pieces: &[Piece]) -> Option<usize>
     requires { All (λ piece. piece.at < length words.now) pieces.now }
-    ensures { result ≡ wrong_word tool (texts words.now) pieces.now }
+    ensures { result ≡ wrong_word (texts names.now) tool (texts words.now) pieces.now }
 {
-    let fault = first_fault(words, pieces);
+    let fault = first_fault(names, words, pieces);
     if fault.is_some() {
         return fault;
     }
@@ -53,20 +91,18 @@ fn wrong_word(tool: Tool, words: &[String], pieces: &[Piece]) -> Option<usize>
     same_name(words, pieces)
 }
 
-// The number of words, if a required option is missing. Both commands need an input and an output.
+// The number of words, if a required option is missing.
 fn missing_option(tool: Tool, words: &[String], pieces: &[Piece]) -> Option<usize>
     requires { All (λ piece. piece.at < length words.now) pieces.now }
     ensures { result ≡ missing_option tool (texts words.now) pieces.now }
 {
-    match tool {
+    let all = match tool {
         Tool::Laszip | Tool::Las2las => {
-            if is_given(words, "-i", pieces) && is_given(words, "-o", pieces) {
-                None
-            } else {
-                Some(words.len())
-            }
+            is_given(words, "-i", pieces) && is_given(words, "-o", pieces)
         }
-    }
+        Tool::Lasinfo => is_given(words, "-i", pieces),
+    };
+    if all { None } else { Some(words.len()) }
 }
 
 // The index of the output's name, if it is the input's.
@@ -91,28 +127,53 @@ fn command_of(
     requires { All (λ piece. piece.at < length words.now) pieces.now }
     ensures { IfOk result (λ command. asked_by command ≡ asked_of tool (texts words.now) pieces.now) }
 {
-    let input = String::from_str(alloc, text_of(words, "-i", pieces))?;
-    let output = String::from_str(alloc, text_of(words, "-o", pieces))?;
-    let chunk = chunk_of(words, pieces);
-    let workers = workers_of(words, pieces);
     match tool {
-        Tool::Laszip => Ok(Command::Laszip {
-            input,
-            output,
-            chunk,
-            workers,
-        }),
-        Tool::Las2las => Ok(Command::Las2las {
-            input,
-            output,
-            plan: plan_of(alloc, words, pieces)?,
-            packing: Packing {
-                packed: is_packed(words, pieces),
-                chunk,
-            },
-            workers,
-        }),
+        Tool::Laszip => laszip_of(alloc, words, pieces),
+        Tool::Las2las => las2las_of(alloc, words, pieces),
+        Tool::Lasinfo => lasinfo_of(alloc, words, pieces),
     }
+}
+
+// The command `laszip` with these options.
+fn laszip_of(alloc: Global, words: &[String], pieces: &[Piece]) -> Result<Command, AllocError>
+    requires { All (λ piece. piece.at < length words.now) pieces.now }
+    ensures { IfOk result (λ command. asked_by command ≡ asked_of Laszip (texts words.now) pieces.now) }
+{
+    Ok(Command::Laszip {
+        input: String::from_str(alloc, text_of(words, "-i", pieces))?,
+        output: String::from_str(alloc, text_of(words, "-o", pieces))?,
+        chunk: chunk_of(words, pieces),
+        workers: workers_of(words, pieces),
+    })
+}
+
+// The command `las2las` with these options.
+fn las2las_of(alloc: Global, words: &[String], pieces: &[Piece]) -> Result<Command, AllocError>
+    requires { All (λ piece. piece.at < length words.now) pieces.now }
+    ensures { IfOk result (λ command. asked_by command ≡ asked_of Las2las (texts words.now) pieces.now) }
+{
+    Ok(Command::Las2las {
+        input: String::from_str(alloc, text_of(words, "-i", pieces))?,
+        output: String::from_str(alloc, text_of(words, "-o", pieces))?,
+        plan: plan_of(alloc, words, pieces)?,
+        packing: Packing {
+            packed: is_packed(words, pieces),
+            chunk: chunk_of(words, pieces),
+        },
+        workers: workers_of(words, pieces),
+    })
+}
+
+// The command `lasinfo` with these options.
+fn lasinfo_of(alloc: Global, words: &[String], pieces: &[Piece]) -> Result<Command, AllocError>
+    requires { All (λ piece. piece.at < length words.now) pieces.now }
+    ensures { IfOk result (λ command. asked_by command ≡ asked_of Lasinfo (texts words.now) pieces.now) }
+{
+    Ok(Command::Lasinfo {
+        input: String::from_str(alloc, text_of(words, "-i", pieces))?,
+        tallies: tallies_of(alloc, words, pieces)?,
+        workers: workers_of(words, pieces),
+    })
 }
 
 // The filters and the changes.

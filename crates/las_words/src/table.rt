@@ -9,6 +9,7 @@ ghost use Rattle.std.specs.Str.{bytes_eq};
 pub enum Tool {
     Laszip,
     Las2las,
+    Lasinfo,
 }
 
 /// An option, named after its word.
@@ -36,6 +37,7 @@ pub enum Flag {
     SetClassification,
     SetUserData,
     SetPointSource,
+    Tally,
 }
 
 /// What values follow an option.
@@ -53,6 +55,8 @@ pub enum Values {
     Several(u32),
     /// This many signed numbers of 32 bits.
     Signed(u32),
+    /// The name of a tap, another one each time.
+    Tap,
 }
 
 const LASZIP: [Flag; 4] = [Flag::Input, Flag::Output, Flag::ChunkSize, Flag::Cores];
@@ -82,6 +86,8 @@ const LAS2LAS: [Flag; 22] = [
     Flag::SetPointSource,
 ];
 
+const LASINFO: [Flag; 3] = [Flag::Input, Flag::Tally, Flag::Cores];
+
 impl Tool {
     ghost use Rattle.las_words.specs.Table.{options_of, tool_named, flag_named};
 
@@ -92,6 +98,7 @@ impl Tool {
         match word {
             "laszip" => Some(Tool::Laszip),
             "las2las" => Some(Tool::Las2las),
+            "lasinfo" => Some(Tool::Lasinfo),
             _ => None,
         }
     }
@@ -103,6 +110,7 @@ impl Tool {
         match self {
             Tool::Laszip => &LASZIP,
             Tool::Las2las => &LAS2LAS,
+            Tool::Lasinfo => &LASINFO,
         }
     }
 
@@ -149,6 +157,7 @@ impl Flag {
             Flag::SetClassification => "-set_classification",
             Flag::SetUserData => "-set_user_data",
             Flag::SetPointSource => "-set_point_source",
+            Flag::Tally => "-tally",
         }
     }
 
@@ -170,15 +179,17 @@ impl Flag {
             Flag::SetClassification => Values::Number(0, 31),
             Flag::SetUserData => Values::Number(0, 255),
             Flag::SetPointSource => Values::Number(0, 65_535),
+            Flag::Tally => Values::Tap,
         }
     }
 
-    /// Whether this option may not stand after one of the given name. An option is given once.
+    /// Whether this option may not stand after one of the given name. Every option but `-tally` is given once.
     pub fn is_rival(self, name: &str) -> bool
         ensures { result ≡ list_any (λ rival. bytes_eq name.now rival) (row_of self).rivals }
     {
         match self {
             Flag::Olas | Flag::Olaz => name == "-olas" || name == "-olaz",
+            Flag::Tally => false,
             _ => name == self.name(),
         }
     }

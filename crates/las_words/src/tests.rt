@@ -1,6 +1,7 @@
 //! Command lines, each with what it says.
 
 use crate::{Command, WordFault, read_words};
+use las_info::{ClassTap, ReturnTap, Tap};
 use std::alloc::{AllocError, Global};
 use std::test::Fail;
 
@@ -155,6 +156,18 @@ las2las -i a -o b -set_user_data 1 -translate_raw_x 2 = las2las a b [] [SetUser(
 las2las -i a -o b -translate_raw_x 2 -set_user_data 1 = las2las a b [] [Translate(2, 0, 0), SetUser(1)] plain 50000 1
 las2las -i a -o b -keep_last -keep_class 2 -keep_first = las2las a b [Last, Classes(4), First] [] plain 50000 1
 las2las -keep_class 2 5 -i a -drop_return 1 -o b = las2las a b [Classes(36), DropReturns(2)] [] plain 50000 1
+lasinfo = usage 1
+lasinfo -i a -o b = usage 3
+lasinfo -i a -chunk_size 256 = usage 3
+lasinfo -i a -i b = usage 3
+lasinfo -i a -tally = usage 4
+lasinfo -i a -tally none = usage 4
+lasinfo -i a -tally class -tally class = usage 6
+lasinfo -i a -tally class -tally return -tally class = usage 8
+lasinfo -i a -tally Class = usage 4
+lasinfo -tally class = usage 3
+lasinfo -i a = lasinfo a [] 1
+lasinfo -tally return -i a -tally class -cores 3 = lasinfo a [return, class] 3
 ";
 
 #[test]
@@ -163,10 +176,11 @@ fn lines_are_read(rt: HostRuntime) -> Result<(), Fail> {
     for row in LINES.lines() {
         let (line, said) = row.split_once(" = ").ok_or("no answer")?;
         let words = words_of(rt.alloc(), line)?;
-        assert_eq!(rt; answer(rt.alloc(), &words)?.as_str(), said, "{line}");
+        let taps = taps(rt.alloc())?;
+        assert_eq!(rt; answer(rt.alloc(), &words, &taps)?.as_str(), said, "{line}");
         count = count.saturating_add(1);
     }
-    assert_eq!(rt; count, 149);
+    assert_eq!(rt; count, 161);
     Ok(())
 }
 
@@ -181,9 +195,17 @@ fn words_of(alloc: Global, line: &str) -> Result<Vec<String>, AllocError> {
     Ok(words)
 }
 
+// The taps that may be named.
+fn taps(alloc: Global) -> Result<Vec<Box<dyn Tap>>, AllocError> {
+    let mut taps: Vec<Box<dyn Tap>> = Vec::new(alloc);
+    taps.push(Box::new(alloc, ClassTap::new(alloc))?)?;
+    taps.push(Box::new(alloc, ReturnTap::new(alloc))?)?;
+    Ok(taps)
+}
+
 // The answer to words as one line.
-fn answer(alloc: Global, words: &[String]) -> Result<String, AllocError> {
-    match read_words(alloc, words) {
+fn answer(alloc: Global, words: &[String], taps: &[Box<dyn Tap>]) -> Result<String, AllocError> {
+    match read_words(alloc, words, taps) {
         Ok(
             Command::Laszip {
                 input,
@@ -209,7 +231,30 @@ fn answer(alloc: Global, words: &[String]) -> Result<String, AllocError> {
                 "las2las {input} {output} {keeps:?} {changes:?} {form} {chunk} {workers}"
             )
         }
+        Ok(
+            Command::Lasinfo {
+                input,
+                tallies,
+                workers,
+            },
+        ) => {
+            let names = joined(alloc, &tallies)?;
+            format!(in alloc; "lasinfo {input} {names} {workers}")
+        }
         Err(WordFault::Usage(index)) => format!(in alloc; "usage {index}"),
         Err(WordFault::Memory) => format!(in alloc; "no memory"),
     }
+}
+
+// Names in brackets.
+fn joined(alloc: Global, names: &[String]) -> Result<String, AllocError> {
+    let mut text = String::from_str(alloc, "[")?;
+    for (i, name) in names.iter().enumerate() {
+        if i > 0 {
+            text.push_str(", ")?;
+        }
+        text.push_str(name.as_str())?;
+    }
+    text.push_str("]")?;
+    Ok(text)
 }

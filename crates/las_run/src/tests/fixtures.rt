@@ -218,7 +218,16 @@ pub fn end_of<R: Threads + Sync + AllocGlobal, G: Gate>(
     for word in words.split_whitespace() {
         said.push(String::from_str(alloc, word)?)?;
     }
-    let status = run(rt, alloc, &said, files, &mut out, &mut err, gate);
+    let status = run(
+        rt,
+        alloc,
+        &said,
+        files,
+        &mut out,
+        &mut err,
+        gate,
+        Vec::new(alloc),
+    );
     let line = err.bytes().to_vec(alloc)?;
     Ok((status, line))
 }

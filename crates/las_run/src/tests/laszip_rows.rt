@@ -310,7 +310,7 @@ fn other_ends(rt: HostRuntime) -> Result<(), Fail> {
         ("laszip -i a -o b -cores 9", "usage: word 6\n"),
         ("", "usage: word 0\n"),
         ("las2las -i a -o b -keep_class 32", "usage: word 6\n"),
-        ("lasinfo -i a", "usage: word 0\n"),
+        ("lasunzip -i a", "usage: word 0\n"),
         ("laszip -i none.las -o b", "read fault: none.las\n"),
         ("las2las -i none.las -o b", "read fault: none.las\n"),
     ] {

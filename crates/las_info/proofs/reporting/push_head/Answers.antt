@@ -1,6 +1,5 @@
-use Rattle.std.proofs.Common.{◌≤◌, ◌+◌, ◌∙◌, ◌++◌, All, List, length, ap, subst, sym}
+use Rattle.std.proofs.Common.{◌≤◌, ◌+◌, ◌∙◌, ◌++◌, All, length, ap, subst, sym}
 use Rattle.std.specs.List.{flat_map}
-use Rattle.las_header.specs.declared.vlrs.VlrPlace.{VlrPlace}
 use Rattle.las_header.specs.Vlrs.{vlrs_of}
 use Rattle.las_info.specs.Report.{format_text, front_text, packed_line, returns_text, vlr_line}
 use Rattle.las_info.proofs.Places.{places_lie}

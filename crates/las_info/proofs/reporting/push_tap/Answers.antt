@@ -12,5 +12,5 @@ returns g c =
     c.in_ok-push_text.ensures c.in_ok-push_bins.ensures
     ∙ ap (λ name. start ++ (line word (name ∷ []) ++ flat_map bin_line c.deref.result.now))
     (c.as_bytes.ensures.value ∙ c.name.ensures)
-    ∙ ap (λ rows. start ++ (line word ((goal.Tap-dyn g (c.args.tap.now.vtable, c.args.tap.now.value)).name_of c.args.tap.now.value ∷ [])
+    ∙ ap (λ rows. start ++ (line word (((goal.Tap-dyn g (c.args.tap.now.vtable, c.args.tap.now.value)).tap_seen c.args.tap.now.value).name ∷ [])
     ++ flat_map bin_line rows)) (c.deref.ensures.value ∙ c.in_ok-rows.ensures)

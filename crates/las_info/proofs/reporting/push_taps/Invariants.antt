@@ -7,5 +7,5 @@ abbrev pub invariant-loop-tap : goal.invariant-loop-tap
 invariant-loop-tap g l =
     l.text.items
     ≡ l.initial.text.items
-    ++ flat_map (λ tap. tally_text ((goal.Tap-dyn g (tap.vtable, tap.value)).name_of tap.value)
-    ((goal.Tap-dyn g (tap.vtable, tap.value)).tally_of tap.value)) (take l.tap-index l.taps)
+    ++ flat_map (λ tap. tally_text (((goal.Tap-dyn g (tap.vtable, tap.value)).tap_seen tap.value).name)
+    (((goal.Tap-dyn g (tap.vtable, tap.value)).tap_seen tap.value).tally)) (take l.tap-index l.taps)

@@ -5,8 +5,8 @@ use Rattle.las_info.proofs.reporting.text_of.Goals as goal
 
 pub returns : goal.returns
 returns g c =
-    let taps = flat_map (λ tap. tally_text ((goal.Tap-dyn g (tap.vtable, tap.value)).name_of tap.value)
-    ((goal.Tap-dyn g (tap.vtable, tap.value)).tally_of tap.value)) in
+    let taps = flat_map (λ tap. tally_text (((goal.Tap-dyn g (tap.vtable, tap.value)).tap_seen tap.value).name)
+    (((goal.Tap-dyn g (tap.vtable, tap.value)).tap_seen tap.value).tally)) in
     c.in_ok-push_taps.ensures ∙ ap (λ xs. c.push_summary.new.text.items ++ taps xs) c.deref.ensures.value
     ∙ ap (λ t. t ++ taps c.args.survey.now.taps.items)
     (c.in_ok-push_summary.ensures

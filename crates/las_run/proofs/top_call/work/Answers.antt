@@ -2,9 +2,8 @@ use Rattle.las_run.proofs.Saying.{ends_read, ends_unread}
 use Rattle.las_run.proofs.top_call.work.Goals as goal
 
 pub returns-in-Ok-clause-ends : goal.returns-in-Ok-clause-ends
-returns-in-Ok-clause-ends g c =
-    λ words out read. ends_read words c.args.said.now c.in-Ok.command (g.F.Files.seen c.args.files.now) (g.F.Files.seen c.obey.new.files) out c.obey.result c.in-Ok.is read (c.obey.ensures.ends out)
+returns-in-Ok-clause-ends g c = λ task taps read. ends_read task c.args.said.now c.in-Ok.command _ c.obey.result c.in-Ok.is read (c.obey.ensures.ends task taps)
 
 pub returns-in-Err-clause-ends : goal.returns-in-Err-clause-ends
 returns-in-Err-clause-ends g c =
-    λ words out read. ends_unread words c.args.said.now c.in-Err.fault c.stop.result (g.F.Files.seen c.args.files.now) out c.in-Err.is c.stop.ensures read
+    λ task taps read. ends_unread task c.args.said.now c.in-Err.fault c.stop.result (g.F.Files.seen c.args.files.now) (g.O.Sink.seen c.args.out.now) c.in-Err.is c.stop.ensures read

@@ -1,6 +1,5 @@
 use Rattle.std.proofs.Common.{◌+◌, ◌∙◌, ap}
 use Rattle.std.specs.FinMap as map
-use Rattle.las_info.specs.Tallies.{with_one}
 use Rattle.las_info.proofs.Maps.{insert-made}
 use Rattle.las_info.proofs.tally.Counted.add.Goals as goal
 

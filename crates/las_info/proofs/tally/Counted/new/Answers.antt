@@ -1,5 +1,4 @@
-use Rattle.std.proofs.Common.{◌≡◌, ap, refl, ◌∙◌}
-use Rattle.std.specs.FinMap as map
+use Rattle.std.proofs.Common.{ap, ◌∙◌}
 use Rattle.las_info.proofs.Maps.{made, made-empty}
 use Rattle.las_info.proofs.tally.Counted.new.Goals as goal
 

@@ -1,0 +1,256 @@
+-- Taps that are chosen by their names, and what is reported of a file.
+use Rattle.std.proofs.Common.{◌≡◌, ◌≢◌, ℕ, ◌+◌, ◌^◌, ◌≤◌, ◌<◌, Bool, true, false, ◌||◌, cond, if◌then◌else◌, List, [], ◌∷◌, ◌++◌, length, take, map, get_or, Option, Some, None, find, refl, sym, ◌∙◌, ap, subst, lit<, arith}
+use Rattle.std.specs.Prelude.{All, Result, Ok, Err, IsErrOf, OnOk, IsSome, IsSomeAnd}
+use Rattle.std.specs.List.{AllPairs, AllZip, concat, cons_option, filter_map, flat_map, list_any}
+use Rattle.std.specs.FinMap as finmap
+use Rattle.std.specs.Option.{option_map}
+use Rattle.std.specs.Str.{bytes_eq}
+use Rattle.std.proofs.lemmas.List.{get_or-map, length-map}
+use Rattle.std.proofs.lemmas.List.Elements.{All-cons, All-head, All-nil, All-tail}
+use Rattle.std.proofs.lemmas.Slice.Eq.{bytes_eq-Decides}
+use Rattle.las_header.specs.declared.refusal.Refusal.{Refusal}
+use Rattle.las_header.specs.declared.refusal.Refusal.TheVariants.{BadChunk}
+use Rattle.las_header.specs.Fields.{head_of, is_packed}
+use Rattle.las_info.specs.declared.reporting.ReportFault.{ReportFault}
+use Rattle.las_info.specs.declared.reporting.ReportFault.TheVariants as report
+use Rattle.las_info.specs.Report.{report_text, tally_text}
+use Rattle.las_info.specs.Summaries.{SummarySeen, summary_of}
+use Rattle.las_info.specs.Surveys.{IsShown, SurveySeen}
+use Rattle.las_info.specs.Tallies.{TapSeen, shown_all}
+use Rattle.las_info.proofs.Shown.{all_seen}
+use Rattle.las_outside.specs.Faults.{Rose, count_after}
+use Rattle.las_outside.specs.Files.{FileMap, WhereKnown}
+use Rattle.las_outside.specs.Sinks.{SinkView, with_fault, with_more}
+use Rattle.laz_file.specs.Copying.{AreOnlyRecords}
+use Rattle.laz_file.specs.Outputs.{records_after}
+use Rattle.laz_file.specs.Pieces.{ArePieces, Piece}
+use Rattle.laz_file.specs.Reading.{ReaderSeen, StandsFor, chunks_in}
+use Rattle.laz_file.specs.Records.{AreRecordsOf}
+use Rattle.laz_file.proofs.OneAnswer.{one_pieces}
+use Rattle.laz_file.specs.declared.fault.Fault.{Fault}
+use Rattle.laz_file.specs.declared.fault.Fault.TheVariants as file
+use Rattle.laz_table.specs.VlrCauses.{chunk_size_of}
+use Rattle.las_run.specs.declared.stop.Stop.{Stop}
+use Rattle.las_run.specs.Endings.{ComesAtOpening, Done, Refused, Ending}
+use Rattle.las_run.specs.Ends.{Change, EndsPutting, IsOnlyEnding, MakesText, stop_by, stopped_report}
+use Rattle.las_run.specs.Tools.{Reports, chosen_taps, chunks_line, report_of, reports, tallies_text}
+use Rattle.las_run.proofs.Opening.{both_known, known_more}
+
+-- ---- names
+swapped : (a b : List ℕ) → bytes_eq a b ≡ false → bytes_eq b a ≡ false
+swapped a b apart = go (bytes_eq b a) refl
+  where
+    go : (answer : Bool) → bytes_eq b a ≡ answer → answer ≡ false
+    go true same =
+        let equal : bytes_eq a b ≡ true = (bytes_eq-Decides a b).1 (sym ((bytes_eq-Decides b a).0 same)) in
+        cc
+    go false other = refl
+
+some_is : {X : Type 0} (x y : X) → ◌≡◌ {A = Option X} (Some x) (Some y) → x ≡ y
+some_is x y e = cc
+
+none_is : {X : Type 0} (y : X) → ◌≡◌ {A = Option X} None (Some y) → ⊥
+none_is y e = absurd (cc)
+
+find_seen : {X Y : Type 0} (seen : X → Y) (p : Y → Bool) (xs : List X) → find p (map seen xs) ≡ option_map seen (find (λ x. p (seen x)) xs)
+find_seen seen p [] = refl
+find_seen seen p (x ∷ xs) = go (p (seen x)) (find_seen seen p xs)
+  where
+    go : (b : Bool) → find p (map seen xs) ≡ option_map seen (find (λ x. p (seen x)) xs)
+        → cond b (Some (seen x)) (find p (map seen xs)) ≡ option_map seen (cond b (Some x) (find (λ x. p (seen x)) xs))
+    go true rest = refl
+    go false rest = rest
+
+find_holds : {X : Type 0} (P : X → Type 0) (p : X → Bool) (xs : List X) (y : X) → All P xs → find p xs ≡ Some y → P y
+find_holds P p [] y all is = absurd (none_is y is)
+find_holds P p (x ∷ xs) y all is = go (p x) is (λ rest. find_holds P p xs y (All-tail P x xs all) rest)
+  where
+    go : (b : Bool) → cond b (Some x) (find p xs) ≡ Some y → (find p xs ≡ Some y → P y) → P y
+    go true found rest = subst P (some_is x y found) (All-head P x xs all)
+    go false found rest = rest found
+
+-- names of which no two are the same, as a function sees them
+pub distinct : {S : Type 0} (text : S → List ℕ) (names : List S) → AllPairs (λ name other. bytes_eq name other ≡ false) (map text names) → AllPairs (λ name other. bytes_eq (text name) (text other) ≡ false) names
+distinct text names all i j d less within =
+    let here = all i j (text d) less (omega (arith, within, length-map names text)) in
+    subst (λ (a : List ℕ). bytes_eq a (text (get_or names j d)) ≡ false) (get_or-map text names i d (text d) (omega (arith, less, within)))
+    (subst (λ (b : List ℕ). bytes_eq (get_or (map text names) i (text d)) b ≡ false) (get_or-map text names j d (text d) within) here)
+
+-- ---- taps, as a function sees them, and names, as another does
+module _ {X : Type 0} (seen : X → TapSeen) where
+  there_one : (name : List ℕ) (xs : List X) → list_any (bytes_eq name) (map (λ x. (seen x).name) xs) ≡ true → IsSome (find (λ x. bytes_eq (seen x).name name) xs)
+  there_one name [] any = absurd (let t : false ≡ true = any in cc)
+  there_one name (x ∷ xs) any = go (bytes_eq (seen x).name name) refl (λ rest. there_one name xs rest)
+    where
+      go : (b : Bool) → bytes_eq (seen x).name name ≡ b → (list_any (bytes_eq name) (map (λ x. (seen x).name) xs) ≡ true → IsSome (find (λ x. bytes_eq (seen x).name name) xs))
+          → IsSome (cond b (Some x) (find (λ x. bytes_eq (seen x).name name) xs))
+      go true same rest = refl
+      go false other rest = rest (ap (λ (b : Bool). b || list_any (bytes_eq name) (map (λ x. (seen x).name) xs)) (sym (swapped (seen x).name name other)) ∙ any)
+
+  module _ {S : Type 0} (text : S → List ℕ) where
+    pub there : (names : List S) (xs : List X) → All (λ name. list_any (bytes_eq name) (map (λ x. (seen x).name) xs) ≡ true) (map text names)
+        → All (λ name. IsSome (find (λ x. bytes_eq (seen x).name (text name)) xs)) names
+    there names xs all k d within =
+        there_one (text (get_or names k d)) xs (all_seen text (λ name. list_any (bytes_eq name) (map (λ x. (seen x).name) xs) ≡ true) names all k d within)
+
+    pub chosen : (xs : List X) (names : List S) (ys : List X) → AllZip (λ name y. find (λ x. bytes_eq (seen x).name (text name)) xs ≡ Some y) names ys
+        → map seen ys ≡ chosen_taps (map seen xs) (map text names)
+    chosen xs [] [] are = refl
+    chosen xs [] (y ∷ ys) are = absurd are
+    chosen xs (name ∷ names) [] are = absurd are
+    chosen xs (name ∷ names) (y ∷ ys) are =
+        let found : find (λ tap. bytes_eq tap.name (text name)) (map seen xs) ≡ Some (seen y) =
+        find_seen seen (λ tap. bytes_eq tap.name (text name)) xs ∙ ap (option_map seen) are.0 in
+        ap (λ (rest : List TapSeen). seen y ∷ rest) (chosen xs names ys are.1)
+        ∙ sym (ap (λ (o : Option TapSeen). cons_option o (chosen_taps (map seen xs) (map text names))) found)
+
+    pub holds_of_chosen : (P : X → Type 0) (xs : List X) (names : List S) (ys : List X) → All P xs → AllZip (λ name y. find (λ x. bytes_eq (seen x).name (text name)) xs ≡ Some y) names ys
+        → All P ys
+    holds_of_chosen P xs [] [] all are = All-nil P
+    holds_of_chosen P xs [] (y ∷ ys) all are = absurd are
+    holds_of_chosen P xs (name ∷ names) [] all are = absurd are
+    holds_of_chosen P xs (name ∷ names) (y ∷ ys) all are =
+        All-cons P y ys (find_holds P (λ x. bytes_eq (seen x).name (text name)) xs y all are.0) (holds_of_chosen P xs names ys all are.1)
+
+  -- the lines of taps
+  pub lines_seen : (xs : List X) → flat_map (λ x. tally_text (seen x).name (seen x).tally) xs ≡ flat_map (λ tap. tally_text tap.name tap.tally) (map seen xs)
+  lines_seen [] = refl
+  lines_seen (x ∷ xs) = ap (λ (rest : List ℕ). tally_text (seen x).name (seen x).tally ++ rest) (lines_seen xs)
+
+lines_shown : (taps : List TapSeen) (records : List (List ℕ)) → flat_map (λ tap. tally_text tap.name tap.tally) (map (λ tap. shown_all tap records) taps) ≡ tallies_text taps records
+lines_shown [] records = refl
+lines_shown (tap ∷ taps) records = ap (λ (rest : List ℕ). tally_text tap.name (shown_all tap records).tally ++ rest) (lines_shown taps records)
+
+-- ---- the text of a report
+pub some_text : (head : List ℕ) (chunk : Option (ℕ × ℕ)) (summary : SummarySeen) (tallies : List ℕ) → report_text head chunk summary tallies ≢ []
+some_text head chunk summary tallies empty =
+    let first : 118 ≡ 0 = ap (λ (xs : List ℕ). get_or xs 0 0) empty in
+    absurd (omega (arith, first))
+
+chunks_are : (packed : Bool) (size : ℕ) (pieces : List Piece) (chunk : Option ℕ) (chunks : ℕ) → chunk ≡ (if packed then Some size else None) → chunks ≡ chunks_in chunk pieces
+    → option_map {U = ℕ × ℕ} (λ c. (c, chunks)) chunk ≡ (if packed then Some (size, length pieces) else None)
+chunks_are true size pieces chunk chunks is are =
+    ap (option_map {U = ℕ × ℕ} (λ (c : ℕ). (c, chunks))) is ∙ (let counted : ℕ → Option (ℕ × ℕ) = λ n. Some (size, n) in ap counted) (are ∙ ap (λ (o : Option ℕ). chunks_in o pieces) is)
+chunks_are false size pieces chunk chunks is are = ap (option_map {U = ℕ × ℕ} (λ (c : ℕ). (c, chunks))) is
+
+-- ---- the ending of a report
+module _ (taps : List TapSeen) (input : List ℕ) (tallies : List (List ℕ)) (file : List ℕ) where
+  abbrev ending_of : List (List ℕ) → Option ℕ → List Piece → Ending
+  ending_of blocks bad pieces = reports input (report_of (chosen_taps taps tallies) file pieces (records_after (head_of file) (concat blocks))) bad
+
+  only_report : (blocks : List (List ℕ)) (bad : Option ℕ) (pieces : List Piece) → AreOnlyRecords file blocks bad → ArePieces file pieces
+      → IsOnlyEnding (Reports taps input tallies file) (ending_of blocks bad pieces)
+  only_report blocks bad pieces are listed = record {
+    makes = (blocks, bad, pieces, are.are, listed, refl);
+    only = λ other makes.
+        let same = are.only makes.0 makes.1 makes.3 in
+        makes.5
+        ∙ ap (λ (bs : List (List ℕ)). ending_of bs makes.1 makes.2) same.0
+        ∙ ap (λ (worse : Option ℕ). ending_of blocks worse makes.2) same.1
+        ∙ ap (ending_of blocks bad) (one_pieces file makes.2 pieces makes.4 listed);
+  }
+
+-- what is put of a file that was surveyed
+module _ (taps : List TapSeen) (tallies : List (List ℕ)) (reader : ReaderSeen) where
+  -- the text of a survey's report
+  abbrev pub survey_text : (head : List ℕ) (chunk : Option ℕ) (chunks : ℕ) → SurveySeen → List ℕ
+  survey_text head chunk chunks survey =
+      report_text head (option_map {U = ℕ × ℕ} (λ c. (c, chunks)) chunk) survey.summary (flat_map (λ tap. tally_text tap.name tap.tally) survey.taps)
+
+  survey_report : (file : List ℕ) (blocks : List (List ℕ)) (pieces : List Piece) (survey : SurveySeen) → reader.head.bytes ≡ head_of file
+      → option_map {U = ℕ × ℕ} (λ c. (c, reader.chunks)) reader.chunk ≡ chunks_line file pieces
+      → IsShown (chosen_taps taps tallies) (records_after reader.head.bytes (concat blocks)) survey
+      → survey_text reader.head.bytes reader.chunk reader.chunks survey ≡ report_of (chosen_taps taps tallies) file pieces (records_after (head_of file) (concat blocks))
+  survey_report file blocks pieces survey head line is =
+      let records = records_after reader.head.bytes (concat blocks) in
+      ap (λ (c : Option (ℕ × ℕ)). report_text reader.head.bytes c survey.summary (flat_map (λ tap. tally_text tap.name tap.tally) survey.taps)) line
+      ∙ ap (λ (s : SummarySeen). report_text reader.head.bytes (chunks_line file pieces) s (flat_map (λ tap. tally_text tap.name tap.tally) survey.taps)) is.summary
+      ∙ ap (λ (ts : List ℕ). report_text reader.head.bytes (chunks_line file pieces) (summary_of records) ts)
+      (ap (λ (ts : List TapSeen). flat_map (λ tap. tally_text tap.name tap.tally) ts) is.taps_are ∙ lines_shown (chosen_taps taps tallies) records)
+      ∙ ap (λ (h : List ℕ). report_text h (chunks_line file pieces) (summary_of (records_after h (concat blocks))) (tallies_text (chosen_taps taps tallies) (records_after h (concat blocks)))) head
+
+  -- what is known of a file that was surveyed
+  abbrev pub IsSurveyed : SurveySeen → (file : List ℕ) → Type 0
+  IsSurveyed survey file = (blocks : List (List ℕ)) × AreOnlyRecords file blocks None
+      × IsShown (chosen_taps taps tallies) (records_after (head_of file) (concat blocks)) survey
+
+  -- its ending has this text
+  abbrev HasText : (text : List ℕ) → (file : List ℕ) → Type 0
+  HasText text file = (ending : Ending) × IsOnlyEnding (Reports taps reader.name tallies file) ending × (ending.outputs ≡ []) × (ending.cause ≡ Done) × (ending.text ≡ text)
+
+  surveyed_text : (survey : SurveySeen) (file : List ℕ) → StandsFor reader file × IsSurveyed survey file → HasText (survey_text reader.head.bytes reader.chunk reader.chunks survey) file
+  surveyed_text survey file k =
+      let s = k.0 in
+      let head : reader.head.bytes ≡ head_of file = ap (λ h. h.bytes) s.head in
+      let known = k.1 in
+      let line = chunks_are (is_packed (head_of file)) (chunk_size_of (head_of file)) s.pieces reader.chunk reader.chunks s.chunk s.chunks in
+      let shown = subst (λ (h : List ℕ). IsShown (chosen_taps taps tallies) (records_after h (concat known.0)) survey) (sym head) known.2 in
+      let text = survey_report file known.0 s.pieces survey head line shown in
+      (ending_of taps reader.name tallies file known.0 None s.pieces, only_report taps reader.name tallies file known.0 None s.pieces known.1 s.are, refl, refl, sym text)
+
+  -- how the run ends then
+  module _ (change : Change) (stands : WhereKnown change.files.held reader.name (StandsFor reader)) where
+    pub ends_reporting : (survey : SurveySeen) (text : List ℕ) (outcome : Result (Unit {0}) ReportFault) → WhereKnown change.files.held reader.name (IsSurveyed survey)
+        → text ≡ survey_text reader.head.bytes reader.chunk reader.chunks survey → text ≢ []
+        → OnOk outcome (change.out_now ≡ with_more change.out text)
+        → (IsErrOf outcome report.Failed → (n : ℕ) × (change.out_now ≡ with_fault (with_more change.out (take n text))))
+        → (IsErrOf outcome report.Memory → change.out_now ≡ change.out)
+        → EndsPutting (Reports taps reader.name tallies) reader.name change (stopped_report outcome)
+    ends_reporting survey text outcome surveyed is some put failed memory = go outcome put failed memory
+      where
+        has : WhereKnown change.files.held reader.name (HasText text)
+        has = known_more change.files.held reader.name (λ file. StandsFor reader file × IsSurveyed survey file) (HasText text)
+            (λ file k. subst (λ (t : List ℕ). HasText t file) (sym is) (surveyed_text survey file k))
+            (both_known change.files.held reader.name (StandsFor reader) (IsSurveyed survey) stands surveyed)
+
+        made : (P : Ending → Type 0) → ((ending : Ending) → ending.cause ≡ Done → ending.text ≡ text → P ending) → MakesText (Reports taps reader.name tallies) reader.name change P
+        made P to = known_more change.files.held reader.name (HasText text)
+            (λ file. (ending : Ending) × IsOnlyEnding (Reports taps reader.name tallies file) ending × (ending.outputs ≡ []) × P ending)
+            (λ file h. (h.0, h.1, h.2, to h.0 h.3 h.4)) has
+
+        go : (outcome : Result (Unit {0}) ReportFault) → OnOk outcome (change.out_now ≡ with_more change.out text)
+            → (IsErrOf outcome report.Failed → (n : ℕ) × (change.out_now ≡ with_fault (with_more change.out (take n text))))
+            → (IsErrOf outcome report.Memory → change.out_now ≡ change.out)
+            → EndsPutting (Reports taps reader.name tallies) reader.name change (stopped_report outcome)
+        go (Ok done) put failed memory =
+            made (λ ending. (ending.cause ≡ Done) × (change.out_now ≡ with_more change.out ending.text))
+            (λ ending cause t. (cause, put ∙ ap (with_more change.out) (sym t)))
+        go (Err report.Failed) put failed memory =
+            let f = failed refl in (
+              subst (λ (s : SinkView). Rose change.out.faults s.faults) (sym f.1) (omega arith),
+              made (λ ending. (ending.cause ≡ Done) × (ending.text ≢ []) × ((n : ℕ) × (change.out_now ≡ with_fault (with_more change.out (take n ending.text)))))
+                  (λ ending cause t. (
+                    cause,
+                    (λ empty. some (sym t ∙ empty)),
+                    (f.0, f.1 ∙ ap (λ (x : List ℕ). with_fault (with_more change.out (take f.0 x))) (sym t)),
+                  )),
+            )
+        go (Err report.Memory) put failed memory = memory refl
+
+    -- the survey failed
+    pub ends_surveying : (fault : Fault)
+        → ((cause : Refusal) → fault ≡ file.Refused cause → WhereKnown change.files.held reader.name (λ file. (blocks : List (List ℕ)) × (i : ℕ) × (cause ≡ BadChunk i) × AreOnlyRecords file blocks (Some i)))
+        → ((cause : Refusal) → fault ≡ file.Refused cause → (i : ℕ) × (cause ≡ BadChunk i))
+        → (fault ≡ file.Read → Rose change.files.read_faults change.files_now.read_faults)
+        → (fault ≡ file.Write → ⊥)
+        → change.out_now ≡ change.out
+        → EndsPutting (Reports taps reader.name tallies) reader.name change (Err (stop_by 0 fault))
+    ends_surveying (file.Refused cause) refused bad read never quiet =
+        let b = bad cause refl in (
+          refl,
+          subst (λ (r : Refusal). ComesAtOpening r → ⊥) (sym b.1) (λ first. first),
+          quiet,
+          known_more change.files.held reader.name
+              (λ file. StandsFor reader file × ((blocks : List (List ℕ)) × (i : ℕ) × (cause ≡ BadChunk i) × AreOnlyRecords file blocks (Some i)))
+              (λ file. (ending : Ending) × IsOnlyEnding (Reports taps reader.name tallies file) ending × (ending.outputs ≡ []) × ((ending.cause ≡ Refused reader.name cause) × (ending.text ≡ [])))
+              (λ file k. let known = k.1 in (
+                ending_of taps reader.name tallies file known.0 (Some known.1) k.0.pieces,
+                only_report taps reader.name tallies file known.0 (Some known.1) k.0.pieces known.3 k.0.are,
+                refl,
+                (ap (Refused reader.name) (sym known.2), refl),
+              ))
+              (both_known change.files.held reader.name (StandsFor reader) (λ file. (blocks : List (List ℕ)) × (i : ℕ) × (cause ≡ BadChunk i) × AreOnlyRecords file blocks (Some i)) stands (refused cause refl)),
+        )
+    ends_surveying file.Read refused bad read never quiet = (refl, read refl, quiet)
+    ends_surveying file.Write refused bad read never quiet = absurd (never refl)
+    ends_surveying file.Memory refused bad read never quiet = quiet

@@ -1,0 +1,40 @@
+use Rattle.std.proofs.Common.{◌≡◌, [], ◌∷◌, List, ℕ, map, Result, subst, ◌∙◌}
+use Rattle.std.proofs.lemmas.Result.{err_from_is_err_and}
+use Rattle.las_info.specs.Tallies.{TapSeen}
+use Rattle.las_words.specs.Says.{Asked, asks, lasinfo}
+use Rattle.las_words.specs.Texts.{texts}
+use Rattle.laz_file.specs.Reading.{StandsFor}
+use Rattle.laz_file.specs.Refusing.{IsAcceptedFile}
+use Rattle.las_run.specs.declared.stop.Stop.{Stop}
+use Rattle.las_run.specs.Ends.{Change, EndsPutting, cause_of, quiet}
+use Rattle.las_run.specs.Tools.{Reports}
+use Rattle.las_run.proofs.Opening.{ends_opening, ends_putting, known_more, putting_after}
+use Rattle.las_run.proofs.lasinfo.lasinfo.Goals as goal
+
+pub returns-in_err-reader-clause-ends : goal.returns-in_err-reader-clause-ends
+returns-in_err-reader-clause-ends g c =
+    let p = err_from_is_err_and c.from_residual.result c.from_residual.ensures.1 in
+    let h = c.in_err-reader.ensures in
+    let taps = map (λ tap. (goal.Tap-dyn g (tap.vtable, tap.value)).tap_seen tap.value) c.args.taps.items in
+    let asked : Asked = lasinfo c.args.input.now (texts c.args.tallies.now) c.args.workers in
+    rw (p.1, p.2) (ends_opening taps asked (g.F.Files.seen c.args.files.now) (g.F.Files.seen c.open_input.new.files) (g.O.Sink.seen c.args.out.now) c.in_err-reader.field-0.0 h.stops h.held)
+
+pub returns-clause-ends : goal.returns-clause-ends
+returns-clause-ends g c =
+    let h = c.in_ok-reader.ensures in
+    let r = c.in_ok-reader.reader in
+    let old = g.F.Files.seen c.args.files.now in
+    let mid = g.F.Files.seen c.open_input.new.files in
+    let new = g.F.Files.seen c.inform.new.files in
+    let out = g.O.Sink.seen c.args.out.now in
+    let out_now = g.O.Sink.seen c.inform.new.out in
+    let input = c.args.input.now in
+    let tallies = texts c.args.tallies.now in
+    let taps = map (λ tap. (goal.Tap-dyn g (tap.vtable, tap.value)).tap_seen tap.value) c.args.taps.items in
+    let asked : Asked = lasinfo input tallies c.args.workers in
+    let named : r.name ≡ input = h.fresh.named in
+    let change : Change = record { files = old; files_now = new; out = out; out_now = out_now } in
+    let made = subst (λ (n : List ℕ). EndsPutting (Reports taps n tallies) n (record { files = mid; files_now = new; out = out; out_now = out_now }) c.inform.result) named c.inform.ensures.ends in
+    let ends = putting_after (Reports taps input tallies) input old mid new out out_now h.held h.faults c.inform.result made in
+    let accepted = known_more old.held input (StandsFor r) IsAcceptedFile (λ file s. s.accepted) h.stands in
+    ends_putting taps asked change accepted (c.inform.ensures.held ∙ h.held) c.inform.result ends

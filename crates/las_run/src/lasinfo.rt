@@ -1,0 +1,113 @@
+//! The command `lasinfo`: what is in a file.
+ghost use Rattle.std.specs.Prelude.{◌≡◌, ◌^◌, ◌≤◌, ◌∷◌, [], ℕ, All, map};
+ghost use Rattle.las_header.specs.Heads.{IsHead};
+ghost use Rattle.las_info.specs.Tallies.{count_at};
+ghost use Rattle.las_outside.specs.Files.{WhereKnown};
+ghost use Rattle.las_outside.specs.Outside.{Later};
+ghost use Rattle.las_words.specs.Says.{AreChosen, asks, lasinfo};
+ghost use Rattle.las_words.specs.Texts.{texts};
+ghost use Rattle.laz_file.specs.Reading.{AgreesWithHead, IsNewReader, StandsFor};
+ghost use Rattle.std.specs.Option.{option_map};
+ghost use Rattle.las_run.specs.Ends.{Ends, EndsPutting, cause_of, stopped_report};
+ghost use Rattle.las_run.specs.Tools.{Reports};
+
+use crate::input::{open_input, stop};
+use crate::stop::Stop;
+use las_info::{ReportFault, Tap, choose, report};
+use las_outside::{Files, Gate, Sink};
+use las_survey::survey;
+use laz_file::Reader;
+use std::alloc::Global;
+use std::thread::Threads;
+
+/// Reports what is in an input, with the taps of these names.
+pub fn lasinfo<R: Threads + Sync, F: Files, O: Sink, G: Gate>(
+    rt: &R,
+    alloc: Global,
+    files: &mut F,
+    out: &mut O,
+    gate: &G,
+    taps: Vec<Box<dyn Tap>>,
+    input: &str,
+    tallies: &[String],
+    workers: u32,
+) -> Result<(), Stop>
+    requires chosen { AreChosen (map (λ tap. (tap_seen tap).name) taps.items) (texts tallies.now) }
+    requires workers { (1 ≤ workers) × (workers ≤ 8) }
+    requires room { All (λ tap. (bin : ℕ) → count_at (tap_seen tap).tally bin ≤ 2 ^ 63) taps.items }
+    ensures ends { Ends (record {
+      said = asks (lasinfo input.now (texts tallies.now) workers);
+      taps = map (λ tap. tap_seen tap) taps.items;
+    }) (record {
+      files = F.seen files.old;
+      files_now = F.seen files.new;
+      out = O.seen out.old;
+      out_now = O.seen out.new;
+    }) (cause_of (input.now ∷ []) result) }
+    ensures later { Later (F.seen files.old) (F.seen files.new) }
+{
+    let reader = open_input(alloc, files, 0, input)?;
+    inform(rt, alloc, files, out, gate, reader, taps, tallies, workers)
+}
+
+// Reports what is in the file of a reader.
+fn inform<R: Threads + Sync, F: Files, O: Sink, G: Gate>(
+    rt: &R,
+    alloc: Global,
+    files: &mut F,
+    out: &mut O,
+    gate: &G,
+    reader: Reader,
+    taps: Vec<Box<dyn Tap>>,
+    tallies: &[String],
+    workers: u32,
+) -> Result<(), Stop>
+    requires new { IsNewReader reader.name reader }
+    requires whole { AgreesWithHead reader }
+    requires head { IsHead reader.head.bytes }
+    requires chosen { AreChosen (map (λ tap. (tap_seen tap).name) taps.items) (texts tallies.now) }
+    requires workers { (1 ≤ workers) × (workers ≤ 8) }
+    requires room { All (λ tap. (bin : ℕ) → count_at (tap_seen tap).tally bin ≤ 2 ^ 63) taps.items }
+    requires stands { WhereKnown (F.seen files.old).held reader.name (StandsFor reader) }
+    ensures ends { EndsPutting (Reports (map (λ tap. tap_seen tap) taps.items) reader.name (texts tallies.now))
+        reader.name (record {
+          files = F.seen files.old;
+          files_now = F.seen files.new;
+          out = O.seen out.old;
+          out_now = O.seen out.new;
+        }) result }
+    ensures held { (F.seen files.new).held ≡ (F.seen files.old).held }
+    ensures later { Later (F.seen files.old) (F.seen files.new) }
+{
+    let mut reader = reader;
+    let chunks = chunks_of(&reader);
+    let chosen = match choose(alloc, taps, tallies) {
+        Ok(chosen) => chosen,
+        Err(_) => return Err(Stop::Memory),
+    };
+    match survey(rt, alloc, files, gate, &mut reader, chosen, workers) {
+        Ok(survey) => put(report(alloc, &survey, reader.head(), chunks, out)),
+        Err(fault) => Err(stop(0, fault)),
+    }
+}
+
+// The chunk size and the number of chunks of a reader's file, if it is packed.
+fn chunks_of(reader: &Reader) -> Option<(u32, u32)>
+    ensures { result ≡ option_map (λ chunk. (chunk, reader.now.chunks)) reader.now.chunk }
+{
+    match reader.chunk() {
+        None => None,
+        Some(chunk) => Some((chunk, reader.chunks())),
+    }
+}
+
+// How a run ends whose report was put so.
+fn put(outcome: Result<(), ReportFault>) -> Result<(), Stop>
+    ensures { result ≡ stopped_report outcome }
+{
+    match outcome {
+        Ok(()) => Ok(()),
+        Err(ReportFault::Failed) => Err(Stop::Write),
+        Err(ReportFault::Memory) => Err(Stop::Memory),
+    }
+}

@@ -1,0 +1,5 @@
+pub use Rattle.las_info.specs.Summaries
+pub use Rattle.las_info.specs.Surveys
+pub use Rattle.las_info.specs.Tallies
+pub use Rattle.laz_file.specs.Copying
+pub use Rattle.laz_file.specs.Outputs

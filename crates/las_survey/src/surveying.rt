@@ -1,0 +1,112 @@
+//! The records of a file, shown to a survey.
+ghost use Rattle.std.specs.Prelude.{◌≡◌, ◌%◌, ◌/◌, ◌+◌, ◌^◌, ◌≤◌, ◌<◌, ◌++◌, ℕ, List, length, map, All, None, Some};
+ghost use Rattle.std.specs.Prelude.{IfErr, IfOk, IsErrOf, OnOk, false};
+ghost use Rattle.std.specs.List.{concat};
+ghost use Rattle.las_header.specs.declared.refusal.Refusal.{Refusal};
+ghost use Rattle.las_header.specs.declared.refusal.Refusal.TheVariants.{BadChunk};
+ghost use Rattle.las_header.specs.Fields.{head_of};
+ghost use Rattle.las_header.specs.Plain.{cut_records};
+ghost use Rattle.las_info.specs.Tallies.{TapSeen, count_at};
+ghost use Rattle.las_outside.specs.Faults.{Rose};
+ghost use Rattle.las_outside.specs.Files.{WhereKnown};
+ghost use Rattle.las_outside.specs.Outside.{Later};
+ghost use Rattle.laz_file.specs.declared.fault.Fault.TheVariants.{Read, Refused, Write};
+ghost use Rattle.laz_file.specs.Copying.{AreOnlyRecords, EndsAfter, HoldFirst};
+ghost use Rattle.laz_file.specs.Outputs.{records_after};
+ghost use Rattle.laz_file.specs.Reading.{AgreesWithHead, EndsReading, IsCrewOf, IsNewReader, StandsFor, records_in};
+ghost use Rattle.las_info.specs.Surveys.{IsShown};
+
+use las_info::{Survey, Tap};
+use las_outside::{Files, Gate};
+use laz_chunk::Workspace;
+use laz_file::{Fault, Reader};
+use laz_workers::Crew;
+use std::alloc::Global;
+use std::thread::Threads;
+
+// Shows all records that a reader has left to a survey with these taps, batch by batch.
+fn show_records<R: Threads + Sync, F: Files, G: Gate>(
+    rt: &R,
+    alloc: Global,
+    files: &mut F,
+    gate: &G,
+    reader: &mut Reader,
+    crew: &mut Crew<Workspace>,
+    taps: Vec<Box<dyn Tap>>,
+) -> Result<Survey, Fault>
+    requires open { reader.old.failed ≡ false }
+    requires crew { IsCrewOf reader.old crew.old }
+    requires few { records_in reader.old.left < 2 ^ 32 }
+    requires room { All (λ tap. (bin : ℕ) → count_at (tap_seen tap).tally bin ≤ 2 ^ 63) taps.items }
+    requires stands { WhereKnown (F.seen files.old).held reader.old.name (StandsFor reader.old) }
+    ensures shown { IfOk result (λ survey. (blocks : List (List ℕ))
+        × HoldFirst (F.seen files.old).held reader.old (length reader.old.left) blocks
+        × IsShown (map (λ tap. tap_seen tap) taps.items) (records_after reader.old.head.bytes (concat blocks)) (record {
+          summary = survey.summary;
+          taps = map (λ tap. tap_seen tap) survey.taps.items;
+        })) }
+    ensures bad { (cause : Refusal) → IsErrOf result (Refused cause)
+        → (n : ℕ) × (blocks : List (List ℕ)) × HoldFirst (F.seen files.old).held reader.old n blocks
+        × EndsAfter (F.seen files.old).held reader.old n (Some cause) }
+    ensures cause { IfErr result (EndsReading ⊥ (F.seen files.old) (F.seen files.new)) }
+    ensures head { OnOk result (reader.new.head ≡ reader.old.head) }
+    ensures held { (F.seen files.new).held ≡ (F.seen files.old).held }
+    ensures writes { (F.seen files.new).write_faults ≡ (F.seen files.old).write_faults }
+    ensures reads_calm { OnOk result ((F.seen files.new).read_faults ≡ (F.seen files.old).read_faults) }
+    ensures later { Later (F.seen files.old) (F.seen files.new) }
+{
+    let size = usize::from(reader.head().record_length());
+    let mut survey = Survey::new(taps);
+    'batches: loop {
+        let count = reader.next_batch(rt, alloc, files, gate, crew)?;
+        if count == 0 {
+            return Ok(survey);
+        }
+        for i in 0..count {
+            survey.see_all(size, reader.block(crew, i))?;
+        }
+    }
+}
+
+/// Shows all records of a new reader's file to a survey with these taps, in order. `workers`, 1 to 8, unpack side by
+/// side. No tap has counted more than 2^63 records in a bin.
+///
+/// The answer is `Refused` with `BadChunk` if a chunk holds no records of its count, and `Read` if a read failed. No
+/// file is changed.
+pub fn survey<R: Threads + Sync, F: Files, G: Gate>(
+    rt: &R,
+    alloc: Global,
+    files: &mut F,
+    gate: &G,
+    reader: &mut Reader,
+    taps: Vec<Box<dyn Tap>>,
+    workers: u32,
+) -> Result<Survey, Fault>
+    requires new { IsNewReader reader.old.name reader.old }
+    requires whole { AgreesWithHead reader.old }
+    requires workers { (1 ≤ workers) × (workers ≤ 8) }
+    requires room { All (λ tap. (bin : ℕ) → count_at (tap_seen tap).tally bin ≤ 2 ^ 63) taps.items }
+    requires stands { WhereKnown (F.seen files.old).held reader.old.name (StandsFor reader.old) }
+
+    ensures surveyed { IfOk result (λ survey. WhereKnown (F.seen files.old).held reader.old.name (λ file.
+        (blocks : List (List ℕ)) × AreOnlyRecords file blocks None
+        × IsShown (map (λ tap. tap_seen tap) taps.items) (records_after (head_of file) (concat blocks)) (record {
+          summary = survey.summary;
+          taps = map (λ tap. tap_seen tap) survey.taps.items;
+        }))) }
+    ensures refused { (cause : Refusal) → IsErrOf result (Refused cause)
+        → WhereKnown (F.seen files.old).held reader.old.name (λ file.
+        (blocks : List (List ℕ)) × (i : ℕ) × (cause ≡ BadChunk i) × AreOnlyRecords file blocks (Some i)) }
+    ensures bad { (cause : Refusal) → IsErrOf result (Refused cause) → (i : ℕ) × (cause ≡ BadChunk i) }
+    ensures read { IsErrOf result Read → Rose (F.seen files.old).read_faults (F.seen files.new).read_faults }
+    ensures never { IsErrOf result Write → ⊥ }
+    ensures head { OnOk result (reader.new.head ≡ reader.old.head) }
+    ensures held { (F.seen files.new).held ≡ (F.seen files.old).held }
+    ensures writes { (F.seen files.new).write_faults ≡ (F.seen files.old).write_faults }
+    ensures reads_calm { OnOk result ((F.seen files.new).read_faults ≡ (F.seen files.old).read_faults) }
+    ensures later { Later (F.seen files.old) (F.seen files.new) }
+{
+    let _ = reader.head().points();
+    let mut crew = reader.crew(alloc, workers)?;
+    show_records(rt, alloc, files, gate, reader, &mut crew, taps)
+}
