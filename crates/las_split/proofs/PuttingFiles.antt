@@ -38,10 +38,10 @@ with_file-swap None a b xs ys apart = refl
 with_file-swap (Some files) a b xs ys apart = ap (λ (m : FileMap). Some m) (insert_swap files a b xs ys apart)
 
 -- a name that none of the pairs has
-behind : (held : Option FileMap) (name text : List ℕ) (ps : List (List ℕ × List ℕ)) → IsAbsent name ps → with_files (with_file held name text) ps ≡ with_file (with_files held ps) name text
-behind held name text [] absent = refl
-behind held name text (p ∷ ps) absent =
-    ap (λ (h : Option FileMap). with_files h ps) (with_file-swap held p.0 name p.1 text absent.0) ∙ behind (with_file held p.0 p.1) name text ps absent.1
+put_before_others : (held : Option FileMap) (name text : List ℕ) (ps : List (List ℕ × List ℕ)) → IsAbsent name ps → with_files (with_file held name text) ps ≡ with_file (with_files held ps) name text
+put_before_others held name text [] absent = refl
+put_before_others held name text (p ∷ ps) absent =
+    ap (λ (h : Option FileMap). with_files h ps) (with_file-swap held p.0 name p.1 text absent.0) ∙ put_before_others (with_file held p.0 p.1) name text ps absent.1
 
 pub with_files-append : (held : Option FileMap) (ps qs : List (List ℕ × List ℕ)) → with_files held (ps ++ qs) ≡ with_files (with_files held ps) qs
 with_files-append held [] qs = refl
@@ -50,9 +50,9 @@ with_files-append held (p ∷ ps) qs = with_files-append (with_file held p.0 p.1
 -- other bytes under one of the names
 pub one_changes : (held : Option FileMap) (ps qs : List (List ℕ × List ℕ)) (name old new : List ℕ) → AreDistinct (ps ++ (name, old) ∷ qs) → with_file (with_files held (ps ++ (name, old) ∷ qs)) name new ≡ with_files held (ps ++ (name, new) ∷ qs)
 one_changes held [] qs name old new distinct =
-    ap (λ (h : Option FileMap). with_file h name new) (behind held name old qs distinct.0)
+    ap (λ (h : Option FileMap). with_file h name new) (put_before_others held name old qs distinct.0)
     ∙ with_file-twice (with_files held qs) name old new
-    ∙ sym (behind held name new qs distinct.0)
+    ∙ sym (put_before_others held name new qs distinct.0)
 one_changes held (p ∷ ps) qs name old new distinct = one_changes (with_file held p.0 p.1) ps qs name old new distinct.1
 
 -- the bytes that stand under one of the names

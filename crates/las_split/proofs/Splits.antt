@@ -79,7 +79,7 @@ not_too_many rule records rest all point opens is few =
     let same : length (numbers_of_parts rule ((records ++ point ∷ []) ++ rest)) ≡ length (numbers_of_parts rule all) = ap (λ (t : List (List ℕ)). length (numbers_of_parts rule t)) (append_assoc records (point ∷ []) rest ∙ sym is) in
     absurd (omega (arith, longer, same, few, opens.more))
 
--- fewer records before the one too many are not so many
+-- of two records that each open one part too many, none comes before the other
 later : (rule : Rule) (xs ys rest others : List (List ℕ)) (p q : List ℕ) → OpensTooMany rule xs p → OpensTooMany rule ys q → xs ++ p ∷ rest ≡ ys ++ q ∷ others → length xs < length ys → ⊥
 later rule xs ys rest others p q one two same less =
     let k = length (xs ++ p ∷ []) in

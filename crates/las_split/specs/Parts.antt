@@ -50,7 +50,7 @@ abbrev pub joined_parts : Rule → List (List ℕ) → (count : ℕ) → List (L
 joined_parts rule records zero = []
 joined_parts rule records (suc count) = joined_parts rule records count ++ part rule records count
 
--- Parts of so many records each, by ascending numbers, are the records again.
+-- Parts of n records each, joined by ascending number, are the records again.
 abbrev pub PartsJoin : Type 0
 PartsJoin = (n count : ℕ) (records : List (List ℕ)) → 0 < n → length records ≤ n * count
     → joined_parts (Every n) records count ≡ records

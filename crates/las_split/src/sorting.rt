@@ -42,7 +42,7 @@ impl Sorted {
         }
     }
 
-    // Forgets the block before. There are so many parts.
+    // Forgets the block before, and begins one with this number of parts.
     fn begin(&mut self, parts: usize) -> Result<(), AllocError>
         ensures numbers { OnOk result (self.new.numbers.items ≡ []) }
         ensures present { OnOk result (self.new.present.items ≡ replicate parts false) }

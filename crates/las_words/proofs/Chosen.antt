@@ -24,7 +24,7 @@ or_false : (a b : Bool) → (a || b) ≡ false → (a ≡ false) × (b ≡ false
 or_false false b is = (refl, is)
 or_false true b is = cc
 
--- no fault where a test finds one
+-- if there is no fault, the first test found none
 no_fault : (b : Bool) (at : ℕ) (rest : Option ℕ) → cond b (Some at) rest ≡ None → (b ≡ false) × (rest ≡ None)
 no_fault true at rest is = cc
 no_fault false at rest is = (refl, is)

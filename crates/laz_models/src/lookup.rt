@@ -169,7 +169,7 @@ fn start_or_guard(cells: &[u32], place: &Place, s: u32) -> u32
 }
 
 /// The last symbol whose part begins at `v` or below, and where it begins.
-// What is out of line answers in registers: a struct would be answered in memory, also where it is not called.
+// What is out of line answers in registers: a struct would be answered in memory, even if it is not called.
 #[cold]
 #[inline(never)]
 fn last_at(cells: &[u32], place: &Place, v: u32) -> (u32, u32)

@@ -55,7 +55,7 @@ fn first_entry(start: u32, shift: u32) -> u32
     (start + ((1 << shift) - 1)) >> shift
 }
 
-/// Writes each symbol to the first entry at whose place its part has begun. Where there are several, the last one stays.
+/// Writes each symbol to the first entry at whose place its part has begun. If there are several, the last one stays.
 fn mark(table: &mut [u32], starts: &[u32], shift: u32)
     requires some { 0 < length starts.now }
     requires few { length starts.now ≤ MAX_SYMBOLS }
