@@ -4,7 +4,7 @@ use Rattle.laz_range.specs.Decoding.{Decoding, Takes}
 use Rattle.laz_range.specs.Span.{IsBytes}
 use Rattle.laz_integer.specs.Events.{Event}
 use Rattle.laz_point10.specs.Points.{IsPoint}
-use Rattle.laz_point10.specs.Items.{PointStands}
+use Rattle.laz_point10.specs.Items.{PointStands, PointState}
 use Rattle.laz_gpstime.specs.Sequences as sequences
 use Rattle.laz_gpstime.specs.Items.{TimeStands}
 use Rattle.laz_gpstime.specs.Slots.{TimeState}
@@ -25,6 +25,10 @@ has (Some x) = true
 abbrev pub extra_length : Option ExtraState → ℕ
 extra_length None = 0
 extra_length (Some st) = length st.last
+
+-- The items that a loop over records was given, of which those of times and colours may be absent.
+abbrev pub items_of : PointState → Option TimeState → Option RgbState → Option ExtraState → Items
+items_of point time colour extra = record { point10 = point; gps_time = time; rgb = colour; extra = extra }
 
 -- The layout of the records that the items are for.
 abbrev pub layout_in : Items → Layout

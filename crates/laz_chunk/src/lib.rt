@@ -5,6 +5,7 @@
 //! (the extra bytes), as in M. Isenburg, "LASzip: lossless compression of LiDAR data" (PE&RS 2013).
 #![tactic(auto)]
 
+mod absent;
 mod items;
 mod laws;
 mod parts;

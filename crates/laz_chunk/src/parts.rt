@@ -4,14 +4,11 @@ ghost use Rattle.laz_range.specs.Coding.{Codes};
 ghost use Rattle.laz_range.specs.Decoding.{Refuses};
 ghost use Rattle.laz_integer.specs.Events.{Event, cuts_after};
 ghost use Rattle.laz_integer.specs.Spelled.{spelled_cuts};
-ghost use Rattle.laz_gpstime.specs.Sequences as sequences;
 ghost use Rattle.laz_gpstime.specs.Items.{point_with};
-ghost use Rattle.laz_rgb.specs.declared.colour.Colour.{Colour};
 ghost use Rattle.laz_rgb.specs.Extra.{SpellsExtra, extra_events};
 ghost use Rattle.laz_rgb.specs.Items.{latest_extra};
 ghost use Rattle.laz_chunk.specs.Layouts.{colour_length, time_length};
-ghost use Rattle.laz_chunk.specs.Records.{SpellsColourIf, SpellsTimeIf, colour_events_if, colour_in, time_events_if};
-ghost use Rattle.laz_chunk.specs.Records.{time_in};
+ghost use Rattle.laz_chunk.specs.Records.{colour_in, time_in};
 ghost use Rattle.laz_chunk.specs.Stands.{ColoursStand, ExtrasStand, ReadsPart, TimesStand, extra_length, has};
 
 use laz_gpstime::GpsTime;
@@ -41,53 +38,6 @@ pub(crate) fn start_time(item: &mut Option<GpsTime>, first: &[u8])
     }
 }
 
-// Codes a time.
-#[inline(always)]
-pub(crate) fn code_time(encoder: &mut Encoder, item: &mut Option<GpsTime>, part: &[u8])
-    requires part { length part.now ≡ time_length (has item.old) }
-    requires left { 21 ≤ encoder.old.left }
-    ensures used { encoder.old.left ≤ encoder.new.left + 21 }
-    ensures has { has item.new ≡ has item.old }
-    ensures events { (earlier : List Event) (points : List sequences.Point) → TimesStand earlier points item.old
-        → Codes encoder.old encoder.new
-        (cuts_after earlier (time_events_if (has item.old) points (time_in (has item.old) part.now))) }
-    ensures stands { (earlier : List Event) (points : List sequences.Point) → TimesStand earlier points item.old
-        → let time = time_in (has item.old) part.now in let events = time_events_if (has item.old) points time
-        in TimesStand (earlier ++ events) (point_with time events ∷ points) item.new }
-{
-    match item {
-        Some(times) => times.code(encoder, part),
-        None => {}
-    }
-}
-
-// Reads a time.
-#[inline(always)]
-pub(crate) fn read_time(
-    decoder: &mut Decoder<'_>,
-    item: &mut Option<GpsTime>,
-    part: &mut [u8],
-) -> Result<(), Bad>
-    requires part { length part.old ≡ time_length (has item.old) }
-    requires good { decoder.old.failed ≡ false }
-    ensures part { length part.new ≡ length part.old }
-    ensures has { has item.new ≡ has item.old }
-    ensures good { OnOk result (decoder.new.failed ≡ false) }
-    ensures reads { (earlier : List Event) (points : List sequences.Point) → TimesStand earlier points item.old
-        → decoder.old.taken ≤ length decoder.old.bytes
-        → let time = time_in (has item.old) part.new
-        in MatchResult result
-        (λ _. ReadsPart (λ x. SpellsTimeIf (has item.old) points x.0 x.1) earlier time decoder.old decoder.new
-        (λ events. TimesStand (earlier ++ events) (point_with time events ∷ points) item.new))
-        (λ _. Refuses {X = List Event × ℕ} (λ x. SpellsTimeIf (has item.old) points x.0 x.1)
-        (spelled_cuts earlier) decoder.old decoder.new) }
-{
-    match item {
-        Some(times) => times.read(decoder, part),
-        None => Ok(()),
-    }
-}
-
 // How long a colour's part is.
 #[inline(always)]
 pub(crate) fn colour_length(item: &Option<Rgb>) -> usize
@@ -108,53 +58,6 @@ pub(crate) fn start_colour(item: &mut Option<Rgb>, first: &[u8])
     match item {
         Some(colours) => colours.start(first),
         None => {}
-    }
-}
-
-// Codes a colour.
-#[inline(always)]
-pub(crate) fn code_colour(encoder: &mut Encoder, item: &mut Option<Rgb>, part: &[u8])
-    requires part { length part.now ≡ colour_length (has item.old) }
-    requires left { 21 ≤ encoder.old.left }
-    ensures used { encoder.old.left ≤ encoder.new.left + 21 }
-    ensures has { has item.new ≡ has item.old }
-    ensures events { (earlier : List Event) (colours : List Colour) → ColoursStand earlier colours item.old
-        → Codes encoder.old encoder.new
-        (cuts_after earlier (colour_events_if (has item.old) colours (colour_in (has item.old) part.now))) }
-    ensures stands { (earlier : List Event) (colours : List Colour) → ColoursStand earlier colours item.old
-        → let colour = colour_in (has item.old) part.now
-        in ColoursStand (earlier ++ colour_events_if (has item.old) colours colour) (colour ∷ colours) item.new }
-{
-    match item {
-        Some(colours) => colours.code(encoder, part),
-        None => {}
-    }
-}
-
-// Reads a colour.
-#[inline(always)]
-pub(crate) fn read_colour(
-    decoder: &mut Decoder<'_>,
-    item: &mut Option<Rgb>,
-    part: &mut [u8],
-) -> Result<(), Bad>
-    requires part { length part.old ≡ colour_length (has item.old) }
-    requires good { decoder.old.failed ≡ false }
-    ensures part { length part.new ≡ length part.old }
-    ensures has { has item.new ≡ has item.old }
-    ensures good { OnOk result (decoder.new.failed ≡ false) }
-    ensures reads { (earlier : List Event) (colours : List Colour) → ColoursStand earlier colours item.old
-        → decoder.old.taken ≤ length decoder.old.bytes
-        → let colour = colour_in (has item.old) part.new
-        in MatchResult result
-        (λ _. ReadsPart (λ x. SpellsColourIf (has item.old) colours x.0 x.1) earlier colour decoder.old decoder.new
-        (λ events. ColoursStand (earlier ++ events) (colour ∷ colours) item.new))
-        (λ _. Refuses {X = List Event × Colour} (λ x. SpellsColourIf (has item.old) colours x.0 x.1)
-        (spelled_cuts earlier) decoder.old decoder.new) }
-{
-    match item {
-        Some(colours) => colours.read(decoder, part),
-        None => Ok(()),
     }
 }
 

@@ -6,16 +6,18 @@ ghost use Rattle.laz_range.specs.Decoding.{Refuses, Takes};
 ghost use Rattle.laz_integer.specs.Events.{Event, cuts_after};
 ghost use Rattle.laz_chunk.specs.Layouts.{Layout, most_events, record_length};
 ghost use Rattle.laz_chunk.specs.Records.{ChunkPoint, Record, SpellsRecord, record_at, record_events, records_in};
-ghost use Rattle.laz_chunk.specs.Stands.{AreChunkPoints, ItemsStand, ReadsPart, layout_in};
+ghost use Rattle.laz_chunk.specs.Stands.{AreChunkPoints, ItemsStand, ReadsPart, items_of, layout_in};
 ghost use Rattle.laz_chunk.specs.Chunks.{History, IsSpelled, Spelling, grown, initial_history, record_cuts};
 ghost use Rattle.laz_chunk.specs.Chunks.{spelled_records, writing, written};
 
+use crate::absent::{Absent, ColourPart, TimePart};
 use crate::items::Items;
 use crate::parts::{
-    code_colour, code_extra, code_time, colour_length, read_colour, read_extra, read_time,
-    start_colour, start_extra, start_time, time_length,
+    code_extra, colour_length, read_extra, start_colour, start_extra, start_time, time_length,
 };
+use laz_point10::Point10;
 use laz_range::{Bad, Decoder, Encoder};
+use laz_rgb::Bytes;
 
 // Begins a chunk with its first record.
 pub(crate) fn start_record(items: &mut Items, first: &[u8])
@@ -35,49 +37,157 @@ pub(crate) fn start_record(items: &mut Items, first: &[u8])
 
 // Codes a record.
 #[inline(always)]
-fn code_record(encoder: &mut Encoder, items: &mut Items, bytes: &[u8])
-    requires whole { length bytes.now ≡ record_length (layout_in items.old) }
-    requires left { 3 * most_events (layout_in items.old) ≤ encoder.old.left }
-    ensures layout { layout_in items.new ≡ layout_in items.old }
-    ensures used { encoder.old.left ≤ encoder.new.left + 3 * most_events (layout_in items.old) }
-    ensures codes { (h : History) → AreChunkPoints (layout_in items.old).extra h.1 → ItemsStand h.0 h.1 items.old
+fn code_record<T: TimePart, C: ColourPart>(
+    encoder: &mut Encoder,
+    point10: &mut Point10,
+    times: &mut T,
+    colours: &mut C,
+    extra: &mut Option<Bytes>,
+    bytes: &[u8],
+)
+    requires whole { let items = items_of point10.old (T.item times.old) (C.item colours.old) extra.old
+        in length bytes.now ≡ record_length (layout_in items) }
+    requires left { let items = items_of point10.old (T.item times.old) (C.item colours.old) extra.old
+        in 3 * most_events (layout_in items) ≤ encoder.old.left }
+    ensures layout { let items = items_of point10.old (T.item times.old) (C.item colours.old) extra.old
+        in layout_in (items_of point10.new (T.item times.new) (C.item colours.new) extra.new) ≡ layout_in items }
+    ensures used { let items = items_of point10.old (T.item times.old) (C.item colours.old) extra.old
+        in encoder.old.left ≤ encoder.new.left + 3 * most_events (layout_in items) }
+    ensures codes { let items = items_of point10.old (T.item times.old) (C.item colours.old) extra.old
+        in (h : History) → AreChunkPoints (layout_in items).extra h.1 → ItemsStand h.0 h.1 items
         → Codes encoder.old encoder.new
-        (record_cuts h (writing (layout_in items.old) h (record_at (layout_in items.old) bytes.now))) }
-    ensures stands { (h : History) → AreChunkPoints (layout_in items.old).extra h.1 → ItemsStand h.0 h.1 items.old
-        → let after = grown h (writing (layout_in items.old) h (record_at (layout_in items.old) bytes.now)) in
-        ItemsStand after.0 after.1 items.new }
+        (record_cuts h (writing (layout_in items) h (record_at (layout_in items) bytes.now))) }
+    ensures stands { let items = items_of point10.old (T.item times.old) (C.item colours.old) extra.old
+        in (h : History) → AreChunkPoints (layout_in items).extra h.1 → ItemsStand h.0 h.1 items
+        → let after = grown h (writing (layout_in items) h (record_at (layout_in items) bytes.now)) in
+        ItemsStand after.0 after.1 (items_of point10.new (T.item times.new) (C.item colours.new) extra.new) }
 {
     let (point, parts) = bytes.split_at(20);
-    let (time, others) = parts.split_at(time_length(&items.gps_time));
-    let (colour, extra) = others.split_at(colour_length(&items.rgb));
-    items.point10.code(encoder, point);
-    code_time(encoder, &mut items.gps_time, time);
-    code_colour(encoder, &mut items.rgb, colour);
-    code_extra(encoder, &mut items.extra, extra);
+    let (time, others) = parts.split_at(times.time_length());
+    let (colour, own) = others.split_at(colours.colour_length());
+    point10.code(encoder, point);
+    times.put_time(encoder, time);
+    colours.put_colour(encoder, colour);
+    code_extra(encoder, extra, own);
 }
 
 // Reads a record.
 #[inline(always)]
-fn read_record(decoder: &mut Decoder<'_>, items: &mut Items, bytes: &mut [u8]) -> Result<(), Bad>
-    requires whole { length bytes.old ≡ record_length (layout_in items.old) }
+fn read_record<T: TimePart, C: ColourPart>(
+    decoder: &mut Decoder<'_>,
+    point10: &mut Point10,
+    times: &mut T,
+    colours: &mut C,
+    extra: &mut Option<Bytes>,
+    bytes: &mut [u8],
+) -> Result<(), Bad>
+    requires whole { let items = items_of point10.old (T.item times.old) (C.item colours.old) extra.old
+        in length bytes.old ≡ record_length (layout_in items) }
     requires good { decoder.old.failed ≡ false }
     ensures whole { length bytes.new ≡ length bytes.old }
-    ensures layout { layout_in items.new ≡ layout_in items.old }
+    ensures layout { let items = items_of point10.old (T.item times.old) (C.item colours.old) extra.old
+        in layout_in (items_of point10.new (T.item times.new) (C.item colours.new) extra.new) ≡ layout_in items }
     ensures good { OnOk result (decoder.new.failed ≡ false) }
-    ensures reads { (h : History) → ItemsStand h.0 h.1 items.old
-        → let l = layout_in items.old in let now = record_at l bytes.new
+    ensures reads { let items = items_of point10.old (T.item times.old) (C.item colours.old) extra.old
+        in (h : History) → ItemsStand h.0 h.1 items
+        → let l = layout_in items in let now = record_at l bytes.new
         in MatchResult result
         (λ _. ReadsPart (IsSpelled l h) h.0 now decoder.old decoder.new
-        (λ events. let after = grown h (events, now) in ItemsStand after.0 after.1 items.new))
+        (λ events. let after = grown h (events, now)
+        in ItemsStand after.0 after.1 (items_of point10.new (T.item times.new) (C.item colours.new) extra.new)))
         (λ _. Refuses (IsSpelled l h) (record_cuts h) decoder.old decoder.new) }
 {
     let (point, parts) = bytes.split_at_mut(20);
-    let (time, others) = parts.split_at_mut(time_length(&items.gps_time));
-    let (colour, extra) = others.split_at_mut(colour_length(&items.rgb));
-    items.point10.read(decoder, point)?;
-    read_time(decoder, &mut items.gps_time, time)?;
-    read_colour(decoder, &mut items.rgb, colour)?;
-    read_extra(decoder, &mut items.extra, extra)?;
+    let (time, others) = parts.split_at_mut(times.time_length());
+    let (colour, own) = others.split_at_mut(colours.colour_length());
+    point10.read(decoder, point)?;
+    times.take_time(decoder, time)?;
+    colours.take_colour(decoder, colour)?;
+    read_extra(decoder, extra, own)?;
+    Ok(())
+}
+
+// Codes records whose items have these types.
+#[inline(always)]
+fn put_all<T: TimePart, C: ColourPart>(
+    encoder: &mut Encoder,
+    point10: &mut Point10,
+    times: &mut T,
+    colours: &mut C,
+    extra: &mut Option<Bytes>,
+    records: &[u8],
+    size: usize,
+    count: usize,
+)
+    requires size { let items = items_of point10.old (T.item times.old) (C.item colours.old) extra.old
+        in size ≡ record_length (layout_in items) }
+    requires records { let items = items_of point10.old (T.item times.old) (C.item colours.old) extra.old
+        in length records.now ≡ record_length (layout_in items) * count }
+    requires left { let items = items_of point10.old (T.item times.old) (C.item colours.old) extra.old
+        in 3 * most_events (layout_in items) * count ≤ encoder.old.left }
+    ensures layout { let items = items_of point10.old (T.item times.old) (C.item colours.old) extra.old
+        in layout_in (items_of point10.new (T.item times.new) (C.item colours.new) extra.new) ≡ layout_in items }
+    ensures codes { let items = items_of point10.old (T.item times.old) (C.item colours.old) extra.old
+        in (h : History) → AreChunkPoints (layout_in items).extra h.1 → ItemsStand h.0 h.1 items
+        → let l = layout_in items in
+        Codes encoder.old encoder.new
+        (all_cuts grown record_cuts h (written l h (records_in l count records.now))) }
+{
+    for i in 0..count {
+        let at = i * size;
+        code_record(
+            encoder,
+            point10,
+            times,
+            colours,
+            extra,
+            &records[at..at + size],
+        );
+    }
+}
+
+// Reads records whose items have these types.
+#[inline(always)]
+fn take_all<T: TimePart, C: ColourPart>(
+    decoder: &mut Decoder<'_>,
+    point10: &mut Point10,
+    times: &mut T,
+    colours: &mut C,
+    extra: &mut Option<Bytes>,
+    records: &mut [u8],
+    size: usize,
+    count: usize,
+) -> Result<(), Bad>
+    requires size { let items = items_of point10.old (T.item times.old) (C.item colours.old) extra.old
+        in size ≡ record_length (layout_in items) }
+    requires records { let items = items_of point10.old (T.item times.old) (C.item colours.old) extra.old
+        in length records.old ≡ record_length (layout_in items) * count }
+    requires good { decoder.old.failed ≡ false }
+    requires within { decoder.old.taken ≤ length decoder.old.bytes }
+    ensures records { length records.new ≡ length records.old }
+    ensures layout { let items = items_of point10.old (T.item times.old) (C.item colours.old) extra.old
+        in layout_in (items_of point10.new (T.item times.new) (C.item colours.new) extra.new) ≡ layout_in items }
+    ensures good { OnOk result (decoder.new.failed ≡ false) }
+    ensures reads { let items = items_of point10.old (T.item times.old) (C.item colours.old) extra.old
+        in (h : History) → ItemsStand h.0 h.1 items
+        → let l = layout_in items
+        in MatchResult result
+        (λ _. (xs : List Spelling)
+        × Takes (AreAsked grown (IsSpelled l) h count) (all_cuts grown record_cuts h) decoder.old decoder.new xs
+        × (spelled_records xs ≡ records_in l count records.new))
+        (λ _. Refuses (AreAsked grown (IsSpelled l) h count) (all_cuts grown record_cuts h) decoder.old decoder.new) }
+{
+    for i in 0..count {
+        let at = i * size;
+        read_record(
+            decoder,
+            point10,
+            times,
+            colours,
+            extra,
+            &mut records[at..at + size],
+        )?;
+    }
     Ok(())
 }
 
@@ -99,9 +209,32 @@ pub(crate) fn put_records(
         Codes encoder.old encoder.new
         (all_cuts grown record_cuts h (written l h (records_in l count records.now))) }
 {
-    for i in 0..count {
-        let at = i * size;
-        code_record(encoder, items, &records[at..at + size]);
+    let (point10, extra) = (&mut items.point10, &mut items.extra);
+    let mut none = Absent;
+    match &mut items.gps_time {
+        Some(times) => match &mut items.rgb {
+            Some(colours) => put_all(
+                encoder, point10, times, colours, extra, records, size, count,
+            ),
+            None => put_all(
+                encoder, point10, times, &mut none, extra, records, size, count,
+            ),
+        },
+        None => match &mut items.rgb {
+            Some(colours) => put_all(
+                encoder, point10, &mut none, colours, extra, records, size, count,
+            ),
+            None => put_all(
+                encoder,
+                point10,
+                &mut none,
+                &mut Absent,
+                extra,
+                records,
+                size,
+                count,
+            ),
+        },
     }
 }
 
@@ -129,9 +262,31 @@ pub(crate) fn take_records(
         × (spelled_records xs ≡ records_in l count records.new))
         (λ _. Refuses (AreAsked grown (IsSpelled l) h count) (all_cuts grown record_cuts h) decoder.old decoder.new) }
 {
-    for i in 0..count {
-        let at = i * size;
-        read_record(decoder, items, &mut records[at..at + size])?;
+    let (point10, extra) = (&mut items.point10, &mut items.extra);
+    let mut none = Absent;
+    match &mut items.gps_time {
+        Some(times) => match &mut items.rgb {
+            Some(colours) => take_all(
+                decoder, point10, times, colours, extra, records, size, count,
+            ),
+            None => take_all(
+                decoder, point10, times, &mut none, extra, records, size, count,
+            ),
+        },
+        None => match &mut items.rgb {
+            Some(colours) => take_all(
+                decoder, point10, &mut none, colours, extra, records, size, count,
+            ),
+            None => take_all(
+                decoder,
+                point10,
+                &mut none,
+                &mut Absent,
+                extra,
+                records,
+                size,
+                count,
+            ),
+        },
     }
-    Ok(())
 }
