@@ -1,5 +1,5 @@
 -- What converting a whole file gives.
-use Rattle.std.proofs.Common.{◌≡◌, inl, inr, ℕ, zero, suc, ◌%◌, ◌<◌, ◌≤◌, Bool, true, false, List, [], ◌∷◌, ◌++◌, length, take, drop, slice_get, Option, Some, None, refl, sym, ◌∙◌, ap, subst, length-append, arith}
+use Rattle.std.proofs.Common.{◌≡◌, inl, inr, ℕ, ◌%◌, ◌<◌, ◌≤◌, Bool, true, false, List, [], ◌++◌, length, take, drop, Option, Some, None, refl, sym, ◌∙◌, ap, subst, length-append, arith}
 use Rattle.std.specs.Prelude.{All}
 use Rattle.std.specs.List.{concat}
 use Rattle.std.proofs.lemmas.Bool.{cases_lt}
@@ -16,6 +16,7 @@ use Rattle.laz_file.specs.Pieces.{ArePieces, Piece}
 use Rattle.laz_file.specs.Reading.{AreWholeBlocks, ReaderSeen, StandsFor}
 use Rattle.laz_file.specs.Records.{AreRead, HoldBlocks, HoldOnly, IsBadPiece}
 use Rattle.laz_file.proofs.Copies.{even_whole}
+use Rattle.laz_file.proofs.FirstPieces.{fewer_first, hold_length, inside, more_first, no_length}
 use Rattle.laz_file.proofs.OneAnswer.{one_pieces}
 use Rattle.laz_file.proofs.Putting.{concat-append}
 use Rattle.laz_file.proofs.Whole.{not_bad_before}
@@ -23,22 +24,7 @@ use Rattle.laz_file.proofs.WholeOutputs.{all_records, records_before}
 use Rattle.las_convert.specs.Adding.{Adds, cut_all}
 use Rattle.las_convert.specs.Converting.{ConvertsTo, Keeps, OnlyConverts, kept_in}
 use Rattle.las_convert.proofs.Adding.{adds_all, kept_from, refused_at}
-use Rattle.las_convert.proofs.Only.{HasRecords, early_refused, even_front, fewer_first, first_kept, more_first, raw_clash, same_refused, stays_in}
-
-hold_length : (file : List ℕ) (ps : List Piece) (bs : List (List ℕ)) → HoldBlocks file ps bs → length bs ≡ length ps
-hold_length file [] [] h = refl
-hold_length file [] (b ∷ bs) h = absurd h
-hold_length file (p ∷ ps) [] h = absurd h
-hold_length file (p ∷ ps) (b ∷ bs) h = ap suc (hold_length file ps bs h.1)
-
-no_length : (zs : List (List ℕ)) → length zs ≡ 0 → zs ≡ []
-no_length [] e = refl
-no_length (z ∷ zs) e = absurd (omega (arith, e))
-
-inside : (ps : List Piece) (j : ℕ) (p : Piece) → slice_get ps j ≡ Some p → j < length ps
-inside [] j p e = absurd (cc)
-inside (q ∷ ps) zero p e = omega arith
-inside (q ∷ ps) (suc j) p e = omega (arith, inside ps j p e)
+use Rattle.las_convert.proofs.Only.{HasRecords, early_refused, even_front, first_kept, raw_clash, same_refused, stays_in}
 
 module _ (plan : Steps) (first : ReaderSeen) (file : List ℕ) (st : StandsFor first file) (new : first.next ≡ 0) (some : 0 < record_length_of first.head.bytes) (n : ℕ) (xs : List (List ℕ)) (within : n ≤ length first.left) (whole : AreWholeBlocks (record_length_of first.head.bytes) (take n first.left) xs) (hold : HoldOnly file (take n first.left) xs) where
   bytes_is : first.head.bytes ≡ head_of file

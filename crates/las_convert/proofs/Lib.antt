@@ -5,3 +5,4 @@ pub mod Only
 pub mod Endings
 pub mod Converts
 pub mod Wholes
+mod Examples

@@ -1,10 +1,9 @@
 -- What converting gives is the only thing that it can give.
-use Rattle.std.proofs.Common.{◌≡◌, inl, inr, ℕ, zero, suc, ◌+◌, ◌-◌, ◌%◌, ◌<◌, ◌≤◌, Bool, true, false, cond, not, ◌||◌, List, [], ◌∷◌, ◌++◌, length, take, drop, Option, Some, None, is_some, refl, sym, ◌∙◌, ap, subst, append_assoc, arith}
+use Rattle.std.proofs.Common.{◌≡◌, inl, inr, ℕ, zero, suc, ◌+◌, ◌-◌, ◌%◌, ◌<◌, ◌≤◌, Bool, true, false, cond, not, ◌||◌, List, [], ◌∷◌, ◌++◌, length, take, Option, Some, None, is_some, refl, sym, ◌∙◌, ap, subst, append_assoc, arith}
 use Rattle.std.specs.Prelude.{All}
 use Rattle.std.specs.List.{concat}
 use Rattle.std.proofs.lemmas.Bool.{cases_lt}
-use Rattle.std.proofs.lemmas.List.{append-nil, take-append-drop}
-use Rattle.std.proofs.Math.Seq.{take-add}
+use Rattle.std.proofs.lemmas.List.{append-nil}
 use Rattle.las_header.specs.Fields.{head_of, record_length_of}
 use Rattle.las_filter.specs.Filters.{keeps_all}
 use Rattle.las_filter.specs.Changes.{changed}
@@ -12,7 +11,7 @@ use Rattle.las_filter.specs.Kept.{Kept, Steps, kept, kept_and}
 use Rattle.las_filter.proofs.Keeping.{grows}
 use Rattle.laz_file.specs.Pieces.{Piece}
 use Rattle.laz_file.specs.Records.{HoldBlocks, HoldOnly}
-use Rattle.laz_file.proofs.Joins.{hold-append}
+use Rattle.laz_file.proofs.FirstPieces.{fewer_first, more_first}
 use Rattle.laz_file.proofs.Putting.{concat-append}
 use Rattle.laz_file.proofs.Pushing.{cut-append}
 use Rattle.las_convert.specs.Adding.{Adds, cut_all}
@@ -20,32 +19,7 @@ use Rattle.las_convert.specs.Converting.{kept_in}
 use Rattle.las_convert.proofs.Adding.{adds_all, stays_all}
 use Rattle.las_convert.proofs.Going.{cut_none, even_all}
 
--- ---- blocks of some first pieces, and of others
-
-hold_split : (file : List ℕ) (ps qs : List Piece) (blocks : List (List ℕ)) → HoldBlocks file (ps ++ qs) blocks → HoldBlocks file ps (take (length ps) blocks) × HoldBlocks file qs (drop (length ps) blocks)
-hold_split file [] qs blocks h = (tt, h)
-hold_split file (p ∷ ps) qs [] h = absurd h
-hold_split file (p ∷ ps) qs (b ∷ blocks) h =
-    let rest = hold_split file ps qs blocks h.1 in
-    ((h.0, rest.0), rest.1)
-
--- all blocks of fewer pieces begin those of more
-pub fewer_first : (file : List ℕ) (pieces : List Piece) (n m : ℕ) (xs ys : List (List ℕ)) → HoldOnly file (take n pieces) xs → HoldBlocks file (take m pieces) ys → m ≤ n → (more : List (List ℕ)) × (xs ≡ ys ++ more)
-fewer_first file pieces n m xs ys only hold less =
-    let split : take n pieces ≡ take m pieces ++ take (n - m) (drop m pieces) =
-    ap (λ (k : ℕ). take k pieces) (let e : n ≡ m + (n - m) = omega (arith, less) in e) ∙ take-add m (n - m) pieces in
-    let s = hold_split file (take m pieces) (take (n - m) (drop m pieces)) xs (subst (λ (ps : List Piece). HoldBlocks file ps xs) split only.hold) in
-    let rest = drop (length (take m pieces)) xs in
-    let both = subst (λ (ps : List Piece). HoldBlocks file ps (ys ++ rest)) (sym split) (hold-append file (take m pieces) (take (n - m) (drop m pieces)) ys rest hold s.1) in
-    (rest, sym (only.only (ys ++ rest) both))
-
-pub more_first : (file : List ℕ) (pieces : List Piece) (n m : ℕ) (xs ys : List (List ℕ)) → HoldOnly file (take n pieces) xs → HoldBlocks file (take m pieces) ys → n ≤ m → (more : List (List ℕ)) × (ys ≡ xs ++ more)
-more_first file pieces n m xs ys only hold more =
-    let split : take m pieces ≡ take n pieces ++ take (m - n) (drop n pieces) =
-    ap (λ (k : ℕ). take k pieces) (let e : m ≡ n + (m - n) = omega (arith, more) in e) ∙ take-add n (m - n) pieces in
-    let s = hold_split file (take n pieces) (take (m - n) (drop n pieces)) ys (subst (λ (ps : List Piece). HoldBlocks file ps ys) split hold) in
-    let k = length (take n pieces) in
-    (drop k ys, sym (take-append-drop k ys) ∙ ap (λ (t : List (List ℕ)). t ++ drop k ys) (only.only (take k ys) s.0))
+-- ---- records in blocks, and in more blocks
 
 pub even_front : (size : ℕ) (ys more : List (List ℕ)) → All (λ block. length block % size ≡ 0) (ys ++ more) → All (λ block. length block % size ≡ 0) ys
 even_front size [] more all k d lt = absurd (omega arith)

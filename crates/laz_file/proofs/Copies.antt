@@ -23,20 +23,13 @@ use Rattle.laz_file.specs.Pieces.{Piece}
 use Rattle.laz_file.specs.Reading.{AreWholeBlocks, EndsReading, ReaderSeen, records_in}
 use Rattle.laz_file.specs.Records.{AreRead, HoldBlocks, HoldOnly, IsBadPiece}
 use Rattle.laz_file.specs.Writing.{Stands, WriterSeen}
+use Rattle.laz_file.proofs.FirstPieces.{hold_split}
 use Rattle.laz_file.proofs.Joins.{hold-append}
 use Rattle.laz_file.proofs.Knowing.{known_both, known_then}
 use Rattle.laz_file.proofs.Putting.{concat-append}
 use Rattle.laz_file.proofs.Whole.{not_bad_before}
 
 -- ---- pieces and their blocks
-
--- the blocks of the first pieces, and of the others
-hold_split : (file : List ℕ) (ps qs : List Piece) (blocks : List (List ℕ)) → HoldBlocks file (ps ++ qs) blocks → HoldBlocks file ps (take (length ps) blocks) × HoldBlocks file qs (drop (length ps) blocks)
-hold_split file [] qs blocks h = (tt, h)
-hold_split file (p ∷ ps) qs [] h = absurd h
-hold_split file (p ∷ ps) qs (b ∷ blocks) h =
-    let rest = hold_split file ps qs blocks h.1 in
-    ((h.0, rest.0), rest.1)
 
 pub hold_only_both : (file : List ℕ) (ps qs : List Piece) (xs ys : List (List ℕ)) → HoldOnly file ps xs → HoldOnly file qs ys → HoldOnly file (ps ++ qs) (xs ++ ys)
 hold_only_both file ps qs xs ys one two = record {

@@ -38,6 +38,7 @@ pub mod InputLists
 pub mod BatchAnswers
 pub mod Crews
 pub mod Taking
+pub mod FirstPieces
 pub mod Copies
 pub mod Endings
 pub mod Batches

@@ -1,0 +1,75 @@
+-- Values that compute: what plans keep of a file of three records, and the outputs that they become.
+use Rattle.std.proofs.Common.{◌≡◌, ℕ, pos, List, [], ◌∷◌, ◌++◌, codes, replicate, Some, None, refl}
+use Rattle.byteorder.specs.Endian.{little_bytes}
+use Rattle.las_filter.specs.declared.change.Change.TheVariants.{SetClass, Translate}
+use Rattle.las_filter.specs.declared.keep.Keep.TheVariants.{Classes}
+use Rattle.las_filter.specs.Coordinates.{placed}
+use Rattle.las_filter.specs.Kept.{Kept, Steps}
+use Rattle.las_header.specs.Counting.{long_bytes, short_bytes}
+use Rattle.las_header.specs.Numbers.{number_at}
+use Rattle.laz_file.specs.Outputs.{finished, stopped}
+use Rattle.las_convert.specs.Converting.{converted_output, kept_in}
+
+-- a LAS 1.2 head of 227 bytes and format 0, with this number of points, all of them first returns
+abbrev head : (points : ℕ) → List ℕ
+head points =
+    codes "LASF" ++ replicate 20 0 ++ (1 ∷ 2 ∷ []) ++ replicate 68 0 ++ little_bytes 2 227 ++ little_bytes 4 227 ++ little_bytes 4 0
+    ++ (0 ∷ 20 ∷ 0 ∷ []) ++ little_bytes 4 points ++ little_bytes 4 points ++ replicate 112 0
+
+-- a record with this coordinate x, a first return, of this class
+abbrev point : (x : List ℕ) → (class : ℕ) → List ℕ
+point x class = x ++ (6 ∷ 0 ∷ 0 ∷ 0 ∷ 7 ∷ 0 ∷ 0 ∷ 0 ∷ 0 ∷ 0 ∷ 9 ∷ class ∷ 0 ∷ 0 ∷ 1 ∷ 0 ∷ [])
+
+-- x is 5, and the greatest that there is
+abbrev five : List ℕ
+five = 5 ∷ 0 ∷ 0 ∷ 0 ∷ []
+
+abbrev most : List ℕ
+most = 255 ∷ 255 ∷ 255 ∷ 127 ∷ []
+
+-- classes 2, 1 and 2
+abbrev blocks : List (List ℕ)
+blocks = (point five 2 ++ point most 1) ∷ point most 2 ∷ []
+
+abbrev file : List ℕ
+file = head 3 ++ point five 2 ++ point most 1 ++ point most 2
+
+-- class 2 alone, and class 2 one unit to the right
+abbrev ground : Steps
+ground = record { keeps = Classes 4 ∷ []; changes = [] }
+
+abbrev ground_shifted : Steps
+ground_shifted = record { keeps = Classes 4 ∷ []; changes = Translate (pos 1) (pos 0) (pos 0) ∷ [] }
+
+-- class 1 as class 31
+abbrev renamed : Steps
+renamed = record { keeps = Classes 2 ∷ []; changes = SetClass 31 ∷ [] }
+
+-- ---- what is kept
+ground_kept : kept_in ground file blocks ≡ record { records = point five 2 ∷ point most 2 ∷ []; raw_range = None }
+unfolding number_at
+ground_kept = refl
+
+renamed_kept : kept_in renamed file blocks ≡ record { records = point most 31 ∷ []; raw_range = None }
+unfolding number_at
+renamed_kept = refl
+
+-- the second kept record leaves its range, and not the second of the file
+out_of_range : kept_in ground_shifted file blocks ≡ record { records = point (6 ∷ 0 ∷ 0 ∷ 0 ∷ []) 2 ∷ []; raw_range = Some 1 }
+unfolding number_at placed
+out_of_range = refl
+
+-- ---- the outputs
+-- of all that is kept, and of nothing: with their own counts
+ground_file : finished (converted_output [] file None) (point five 2 ++ point most 2) ≡ head 2 ++ point five 2 ++ point most 2
+unfolding number_at short_bytes long_bytes
+ground_file = refl
+
+empty_file : finished (converted_output [] file None) [] ≡ head 0
+unfolding number_at short_bytes long_bytes
+empty_file = refl
+
+-- after a refusal: with counts of zero
+stopped_file : stopped (converted_output [] file None) (point (6 ∷ 0 ∷ 0 ∷ 0 ∷ []) 2) ≡ head 0 ++ point (6 ∷ 0 ∷ 0 ∷ 0 ∷ []) 2
+unfolding number_at short_bytes long_bytes
+stopped_file = refl
