@@ -14,18 +14,18 @@ use Rattle.las_words.specs.declared.table.Values.TheVariants.{Tap}
 use Rattle.las_words.specs.declared.pieces.Piece.{Piece}
 use Rattle.las_words.specs.Texts.{word_at}
 use Rattle.las_words.specs.Tallies.{tallies_of, tally_in}
-use Rattle.las_words.specs.Faults.{fault_of, first_fault, first_wrong, follows_a_rival, misplaced, option_fault, value_fault}
+use Rattle.las_words.specs.Faults.{fault_of, first_fault, first_wrong, follows_too_many, misplaced, option_fault, value_fault}
 
 pub or_none : (a b : Option ℕ) → option_or a b ≡ None → (a ≡ None) × (b ≡ None)
 or_none None b is = (refl, is)
 or_none (Some x) b is = cc
 
-or_false : (a b : Bool) → (a || b) ≡ false → (a ≡ false) × (b ≡ false)
+pub or_false : (a b : Bool) → (a || b) ≡ false → (a ≡ false) × (b ≡ false)
 or_false false b is = (refl, is)
 or_false true b is = cc
 
 -- if there is no fault, the first test found none
-no_fault : (b : Bool) (at : ℕ) (rest : Option ℕ) → cond b (Some at) rest ≡ None → (b ≡ false) × (rest ≡ None)
+pub no_fault : (b : Bool) (at : ℕ) (rest : Option ℕ) → cond b (Some at) rest ≡ None → (b ≡ false) × (rest ≡ None)
 no_fault true at rest is = cc
 no_fault false at rest is = (refl, is)
 
@@ -59,7 +59,7 @@ tally_fresh : (names words : List (List ℕ)) (earlier : List Piece) (at : ℕ) 
 tally_fresh names words earlier at None tally sound is = cc
 tally_fresh names words earlier at (Some Tally) tally sound is =
     let after = drop (at + 1) words in
-    let values = no_fault (follows_a_rival words earlier Tally) at (value_fault names (tallies_of words earlier) Tap (at + 1) after) sound in
+    let values = no_fault (follows_too_many words earlier Tally) at (value_fault names (tallies_of words earlier) Tap (at + 1) after) sound in
     let both = or_none (first_wrong names Tap (at + 1) 1 after) (misplaced (tallies_of words earlier) Tap (at + 1) after) values.1 in
     let other = no_fault (list_any (bytes_eq (word_at after 0)) (tallies_of words earlier)) (at + 1) None both.1 in
     let same : word_at after 0 ≡ tally = cc in

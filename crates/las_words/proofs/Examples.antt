@@ -1,9 +1,12 @@
 -- Values that compute: what words say.
-use Rattle.std.proofs.Common.{◌≡◌, ℕ, pos, negsuc, true, false, List, [], ◌∷◌, codes, refl}
+use Rattle.std.proofs.Common.{◌≡◌, ℕ, zero, suc, pos, negsuc, true, false, List, [], ◌∷◌, ◌++◌, codes, refl}
+use Rattle.std.specs.Fmt.{digits}
 use Rattle.las_filter.specs.declared.keep.Keep.TheVariants.{Classes, DropReturns, Intensity}
 use Rattle.las_filter.specs.declared.change.Change.TheVariants.{Translate, SetClass}
 use Rattle.las_filter.specs.Kept.{Steps}
-use Rattle.las_words.specs.Says.{asks, usage, says, laszip, las2las, lasinfo}
+use Rattle.las_filter.specs.declared.rule.Rule.TheVariants.{Every, Source}
+use Rattle.las_words.specs.Names.{stem_of, end_of, is_part_name}
+use Rattle.las_words.specs.Says.{asks, usage, says, laszip, las2las, lasinfo, lassplit, lasmerge, make}
 
 -- the words of `laszip` and of `las2las` with an input and an output, and more words
 abbrev zip : List (List ℕ) → List (List ℕ)
@@ -110,3 +113,91 @@ tallied_twice = refl
 no_tap : says (info (codes "-tally" ∷ codes "none" ∷ [])) taps ≡ usage 4
 unfolding says
 no_tap = refl
+
+-- what parts are named after, and whether a name is a part's
+upper_ending : end_of (codes "p.las.LAS") ≡ codes ".LAS"
+upper_ending = refl
+
+stem : stem_of (codes "p.las.LAS") ≡ codes "p.las"
+stem = refl
+
+no_ending : stem_of (codes "p.Las") ≡ codes "p.Las"
+no_ending = refl
+
+first_part : is_part_name (codes "p") (codes ".las") (codes "p_0000000.las") ≡ true
+unfolding digits
+first_part = refl
+
+last_part : is_part_name (codes "p") (codes ".las") (codes "p_4294967295.las") ≡ true
+unfolding digits
+last_part = refl
+
+past_the_last_part : is_part_name (codes "p") (codes ".las") (codes "p_4294967296.las") ≡ false
+unfolding digits
+past_the_last_part = refl
+
+eight_digits : is_part_name (codes "p") [] (codes "p_00000001") ≡ false
+unfolding digits
+eight_digits = refl
+
+-- the words of `lassplit` with an input and an output, and more words
+abbrev split : (input output : List ℕ) → List (List ℕ) → List (List ℕ)
+split input output more = codes "lassplit" ∷ codes "-i" ∷ input ∷ codes "-o" ∷ output ∷ more
+
+split_by_number : says (split (codes "a") (codes "p.las") (codes "-split" ∷ codes "2" ∷ [])) taps ≡ asks (lassplit (codes "a") (codes "p") (codes ".las") (Every 2) 1)
+unfolding says digits
+split_by_number = refl
+
+split_by_line : says (split (codes "a") (codes "p") (codes "-cores" ∷ codes "8" ∷ codes "-by_flightline" ∷ [])) taps ≡ asks (lassplit (codes "a") (codes "p") [] Source 8)
+unfolding says digits
+split_by_line = refl
+
+no_way : says (split (codes "a") (codes "a") []) taps ≡ usage 5
+unfolding says digits
+no_way = refl
+
+second_way : says (split (codes "a") (codes "p") (codes "-by_return" ∷ codes "-split" ∷ codes "0" ∷ [])) taps ≡ usage 6
+unfolding says digits
+second_way = refl
+
+packed_parts : says (split (codes "a") (codes "p.laz") (codes "-by_return" ∷ [])) taps ≡ usage 4
+unfolding says digits
+packed_parts = refl
+
+part_as_input : says (split (codes "p_0000007.las") (codes "p.las") (codes "-by_return" ∷ [])) taps ≡ usage 4
+unfolding says digits
+part_as_input = refl
+
+-- a number of inputs, all of one name
+abbrev inputs : ℕ → List (List ℕ)
+inputs zero = []
+inputs (suc count) = codes "-i" ∷ codes "a" ∷ inputs count
+
+merged : says (codes "lasmerge" ∷ codes "-i" ∷ codes "b" ∷ codes "-o" ∷ codes "c.laz" ∷ codes "-i" ∷ codes "a" ∷ []) taps ≡ asks (lasmerge (codes "b" ∷ codes "a" ∷ []) (codes "c.laz") true 50000 1)
+unfolding says
+merged = refl
+
+one_input_more : says (codes "lasmerge" ∷ inputs 33 ++ codes "-o" ∷ codes "a" ∷ []) taps ≡ usage 65
+unfolding says
+one_input_more = refl
+
+output_is_an_input : says (codes "lasmerge" ∷ codes "-i" ∷ codes "b" ∷ inputs 31 ++ codes "-o" ∷ codes "a" ∷ []) taps ≡ usage 66
+unfolding says
+output_is_an_input = refl
+
+-- the words of `make` with two outputs, and more words
+abbrev making : (output packed : List ℕ) → List (List ℕ) → List (List ℕ)
+making output packed more = codes "make" ∷ codes "-o" ∷ output ∷ codes "-z" ∷ packed ∷ more
+
+made : says (making (codes "m.las") (codes "m.laz") (codes "-points" ∷ codes "200000" ∷ codes "-seed" ∷ codes "7" ∷ codes "-format" ∷ codes "3" ∷ codes "-extra" ∷ codes "2" ∷ codes "-cores" ∷ codes "4" ∷ [])) taps
+    ≡ asks (make (codes "m.las") (codes "m.laz") 200000 7 3 2 50000 4)
+unfolding says
+made = refl
+
+no_seed : says (making (codes "a") (codes "a") (codes "-points" ∷ codes "1" ∷ [])) taps ≡ usage 7
+unfolding says
+no_seed = refl
+
+one_output : says (making (codes "a") (codes "a") (codes "-points" ∷ codes "1" ∷ codes "-seed" ∷ codes "1" ∷ [])) taps ≡ usage 4
+unfolding says
+one_output = refl

@@ -3,5 +3,7 @@ pub mod Cutting
 pub mod Wrong
 pub mod Ranges
 pub mod Chosen
-pub mod Saying
+pub mod PartNames
+mod Inputs
+mod Saying
 pub mod Examples

@@ -1,5 +1,5 @@
 -- The ranges of what options say.
-use Rattle.std.proofs.Common.{◌≡◌, ℕ, ◌+◌, ◌<◌, ◌≤◌, ◌^◌, Bool, cond, List, [], ◌∷◌, Option, Some, None, unwrap_or, codes, nat_le, ◌&&◌, ◌*◌, lit≤, arith, drop}
+use Rattle.std.proofs.Common.{◌≡◌, ℕ, ◌+◌, ◌<◌, ◌≤◌, ◌^◌, Bool, true, false, cond, List, [], ◌∷◌, Option, Some, None, unwrap_or, codes, nat_le, ◌&&◌, ◌*◌, lit≤, arith, drop}
 use Rattle.std.specs.Prelude.{All, bit_or, fold}
 use Rattle.std.specs.List.{cons_option}
 use Rattle.std.specs.Str.Parse.{digits_value}
@@ -11,13 +11,14 @@ use Rattle.std.proofs.lemmas.Nat.{or_lt, pow_pos}
 use Rattle.las_filter.specs.declared.change.Change.{Change}
 use Rattle.las_filter.specs.Changes.{HasClass}
 use Rattle.las_words.specs.declared.table.Flag.{Flag}
-use Rattle.las_words.specs.declared.table.Flag.TheVariants.{SetClassification}
+use Rattle.las_words.specs.declared.table.Flag.TheVariants.{SetClassification, Split, Points, Seed}
+use Rattle.las_filter.specs.declared.rule.Rule.TheVariants.{Every, Class, Source, Return}
+use Rattle.las_filter.specs.Parts.{IsRule}
 use Rattle.las_words.specs.declared.pieces.Piece.{Piece}
 use Rattle.las_words.specs.Numbers.{is_number, number_or_zero}
 use Rattle.las_words.specs.Plans.{changes_of, change_in}
 use Rattle.las_words.specs.Texts.{word_at}
-use Rattle.las_words.specs.Settings.{text_of}
-use Rattle.las_words.specs.Says.{chunk_of, workers_of}
+use Rattle.las_words.specs.Settings.{text_of, number_of, chunk_of, workers_of, format_of, extra_of, rule_of}
 
 -- a number of a range, or a default of that range
 range : (low high number default : ℕ) (b : Bool) → low ≤ default → default ≤ high
@@ -50,6 +51,32 @@ pub workers_range : (words : List (List ℕ)) (pieces : List Piece) → (1 ≤ w
 workers_range words pieces =
     let text = text_of words (codes "-cores") pieces in
     range 1 8 (digits_value 10 text) 1 (is_number text) (lit≤ tt) (lit≤ tt)
+
+pub points_range : (words : List (List ℕ)) (pieces : List Piece) → number_of words Points 0 pieces ≤ 10000000
+points_range words pieces = number_range 10000000 (text_of words (codes "-points") pieces)
+
+pub seed_range : (words : List (List ℕ)) (pieces : List Piece) → number_of words Seed 0 pieces < 2 ^ 32
+seed_range words pieces = let h = number_range 4294967295 (text_of words (codes "-seed") pieces) in omega arith
+
+pub format_range : (words : List (List ℕ)) (pieces : List Piece) → format_of words pieces ≤ 3
+format_range words pieces = number_range 3 (text_of words (codes "-format") pieces)
+
+pub extra_range : (words : List (List ℕ)) (pieces : List Piece) → extra_of words pieces ≤ 192
+extra_range words pieces = number_range 192 (text_of words (codes "-extra") pieces)
+
+split_range : (words : List (List ℕ)) (pieces : List Piece) → 1 ≤ number_of words Split 1 pieces
+split_range words pieces =
+    let text = text_of words (codes "-split") pieces in
+    (range 1 4294967295 (digits_value 10 text) 1 (is_number text) (lit≤ tt) (lit≤ tt)).0
+
+rule_by : (class source return : Bool) (n : ℕ) → 1 ≤ n → IsRule (cond class Class (cond source Source (cond return Return (Every n))))
+rule_by true source return n some = tt
+rule_by false true return n some = tt
+rule_by false false true n some = tt
+rule_by false false false n some = some
+
+pub rule_is : (words : List (List ℕ)) (pieces : List Piece) → IsRule (rule_of words pieces)
+rule_is words pieces = rule_by _ _ _ (number_of words Split 1 pieces) (split_range words pieces)
 
 -- a change that an option means has a class, if it sets one
 abbrev HasClassIfAny : Option Change → Type 0

@@ -1,18 +1,24 @@
 -- What words say, by their first word and the first that is wrong.
-use Rattle.std.proofs.Common.{◌≡◌, ℕ, ◌+◌, Bool, true, false, cond, ◌||◌, ◌&&◌, List, [], drop, length, Option, Some, None, is_some, codes, refl, sym, ◌∙◌, ap, subst}
+use Rattle.std.proofs.Common.{◌≡◌, ◌≢◌, ℕ, ◌+◌, ◌^◌, ◌<◌, Bool, true, false, cond, ◌||◌, ◌&&◌, List, [], drop, length, Option, Some, None, is_some, codes, refl, sym, ◌∙◌, ap, subst}
+use Rattle.std.specs.Prelude.{All}
 use Rattle.std.specs.Option.{option_or, option_map}
+use Rattle.std.specs.List.{list_any}
 use Rattle.std.specs.Str.{bytes_eq}
+use Rattle.las_filter.specs.Parts.{part_name}
 use Rattle.las_words.specs.declared.table.Tool.{Tool}
-use Rattle.las_words.specs.declared.table.Tool.TheVariants.{Laszip, Las2las, Lasinfo}
+use Rattle.las_words.specs.declared.table.Tool.TheVariants.{Laszip, Las2las, Lasinfo, Lassplit, Lasmerge, Make}
 use Rattle.las_words.specs.declared.pieces.Piece.{Piece}
-use Rattle.las_words.specs.Texts.{word_at}
+use Rattle.las_words.specs.Texts.{word_at, is_packed_name}
 use Rattle.las_words.specs.Table.{tool_named}
 use Rattle.las_words.specs.Pieces.{cut}
 use Rattle.las_words.specs.Faults.{first_fault}
-use Rattle.las_words.specs.Settings.{place_of, is_given, text_of}
-use Rattle.las_words.specs.Says.{Asked, asks, usage, says, said_to, said_unless, same_name, wrong_word, missing_option, asked_of, chunk_of, workers_of, AreWorkers, IsChunkSize, IsSound}
-use Rattle.las_words.proofs.Chosen.{or_none, tallies_distinct, tallies_there}
-use Rattle.las_words.proofs.Ranges.{chunk_range, workers_range, changes_have_classes}
+use Rattle.las_words.specs.Settings.{place_of, is_given, text_of, texts_of, chunk_of, workers_of}
+use Rattle.las_words.specs.Names.{end_of, stem_of, is_part_name, same_name, unfit_parts, same_output, wrong_name}
+use Rattle.las_words.specs.Says.{Asked, asks, usage, says, said_to, said_unless, wrong_word, missing_option, asked_of, AreInputs, AreWorkers, IsChunkSize, IsSound}
+use Rattle.las_words.proofs.Chosen.{or_false, or_none, tallies_distinct, tallies_there}
+use Rattle.las_words.proofs.Inputs.{IsNamed, cut_named, few_inputs, first_text, none_is, some_text, unequal}
+use Rattle.las_words.proofs.PartNames.{no_part}
+use Rattle.las_words.proofs.Ranges.{chunk_range, workers_range, points_range, seed_range, format_range, extra_range, rule_is, changes_have_classes}
 
 pub no_tool : (names words : List (List ℕ)) → tool_named (word_at words 0) ≡ None → says words names ≡ usage 0
 unfolding says
@@ -34,33 +40,60 @@ pub accepted : (names words : List (List ℕ)) (tool : Tool) (pieces : List Piec
     → wrong_word names tool words pieces ≡ None → asked ≡ asked_of tool words pieces → says words names ≡ asks asked
 accepted names words tool pieces asked named are is same = says_of names words tool pieces None named are is ∙ ap asks (sym same)
 
--- no option is missing, so the output is given
-output_given : (input output : Bool) (count : ℕ) → cond ((input || false) && ((output || false) && true)) None (Some count) ≡ None → output ≡ true
-output_given input true count is = refl
-output_given true false count is = cc
-output_given false false count is = cc
+-- no option is missing
+not_missing : (given : Bool) (count : ℕ) → cond given None (Some count) ≡ None → given ≡ true
+not_missing true count is = refl
+not_missing false count is = cc
 
+and_true : (a b : Bool) → (a && b) ≡ true → (a ≡ true) × (b ≡ true)
+and_true true b is = (refl, is)
+and_true false b is = cc
+
+or_none_else : (a : Bool) → (a || false) ≡ true → a ≡ true
+or_none_else true is = refl
+or_none_else false is = cc
+
+-- of two options that are required, each under one name, both are given
+both_given : (first second rest : Bool) (count : ℕ) → cond ((first || false) && ((second || false) && rest)) None (Some count) ≡ None → (first ≡ true) × (second ≡ true)
+both_given first second rest count is =
+    let all = and_true (first || false) ((second || false) && rest) (not_missing _ count is) in
+    (or_none_else first all.0, or_none_else second (and_true (second || false) rest all.1).0)
+
+-- no name is wrong, so the test of names found none
 other_name : (same : Bool) (place : Option ℕ) → is_some place ≡ true → cond same (option_map (λ at. at + 1) place) None ≡ None → same ≡ false
 other_name false place given is = refl
 other_name true None given is = cc
 other_name true (Some at) given is = cc
 
--- the output has another name, if an input and an output are required
-names_differ : (words : List (List ℕ)) (pieces : List Piece) → missing_option Laszip words pieces ≡ None → same_name words pieces ≡ None → bytes_eq (text_of words (codes "-o") pieces) (text_of words (codes "-i") pieces) ≡ false
-names_differ words pieces missing name =
-    other_name (bytes_eq (text_of words (codes "-o") pieces) (text_of words (codes "-i") pieces)) (place_of words (codes "-o") pieces)
-    (output_given (is_given words (codes "-i") pieces) (is_given words (codes "-o") pieces) (length words) missing) name
+-- an input and an output are given, and the output is none of the inputs
+record AreNamed (words : List (List ℕ)) (pieces : List Piece) : Type 0 where
+  input : is_given words (codes "-i") pieces ≡ true
+  output : is_given words (codes "-o") pieces ≡ true
+  other : list_any (bytes_eq (text_of words (codes "-o") pieces)) (texts_of words (codes "-i") pieces) ≡ false
+
+are_named : (words : List (List ℕ)) (pieces : List Piece) (rest : Bool) → cond ((is_given words (codes "-i") pieces || false) && ((is_given words (codes "-o") pieces || false) && rest)) None (Some (length words)) ≡ None
+    → same_name words pieces ≡ None → AreNamed words pieces
+are_named words pieces rest missing name =
+    let both = both_given (is_given words (codes "-i") pieces) (is_given words (codes "-o") pieces) rest (length words) missing in record {
+      input = both.0;
+      output = both.1;
+      other = other_name (list_any (bytes_eq (text_of words (codes "-o") pieces)) (texts_of words (codes "-i") pieces)) (place_of words (codes "-o") pieces) both.1 name;
+    }
+
+-- the output has another name than the first input
+names_differ : (words : List (List ℕ)) (pieces : List Piece) → AreNamed words pieces → bytes_eq (text_of words (codes "-o") pieces) (text_of words (codes "-i") pieces) ≡ false
+names_differ words pieces named = first_text words (codes "-i") pieces (bytes_eq (text_of words (codes "-o") pieces)) named.input named.other
 
 -- no word is wrong
 record Right (names words : List (List ℕ)) (tool : Tool) (pieces : List Piece) : Type 0 where
   faults : first_fault names words [] pieces ≡ None
   missing : missing_option tool words pieces ≡ None
-  name : same_name words pieces ≡ None
+  name : wrong_name tool words pieces ≡ None
 
 right : (names words : List (List ℕ)) (tool : Tool) (pieces : List Piece) → wrong_word names tool words pieces ≡ None → Right names words tool pieces
 right names words tool pieces is =
-    let after = or_none (first_fault names words [] pieces) (option_or (missing_option tool words pieces) (same_name words pieces)) is in
-    let last = or_none (missing_option tool words pieces) (same_name words pieces) after.1 in
+    let after = or_none (first_fault names words [] pieces) (option_or (missing_option tool words pieces) (wrong_name tool words pieces)) is in
+    let last = or_none (missing_option tool words pieces) (wrong_name tool words pieces) after.1 in
     record { faults = after.0; missing = last.0; name = last.1 }
 
 chunk_size : (words : List (List ℕ)) (pieces : List Piece) → IsChunkSize (chunk_of words pieces)
@@ -69,11 +102,49 @@ chunk_size words pieces = let h = chunk_range words pieces in record { least = h
 workers : (words : List (List ℕ)) (pieces : List Piece) → AreWorkers (workers_of words pieces)
 workers words pieces = let h = workers_range words pieces in record { some = h.0; few = h.1 }
 
-sound_of : (names words : List (List ℕ)) (tool : Tool) (pieces : List Piece) → Right names words tool pieces → IsSound names (asked_of tool words pieces)
-sound_of names words Laszip pieces r = (names_differ words pieces r.missing r.name, chunk_size words pieces, workers words pieces)
-sound_of names words Las2las pieces r = (names_differ words pieces r.missing r.name, chunk_size words pieces, workers words pieces, changes_have_classes words pieces)
-sound_of names words Lasinfo pieces r =
-    (record { there = tallies_there names words pieces r.faults; distinct = tallies_distinct names words pieces r.faults }, workers words pieces)
+-- no part has the input's name
+no_part_is_the_input : (words : List (List ℕ)) (pieces : List Piece) → AreNamed words pieces → unfit_parts words pieces ≡ None
+    → (number : ℕ) → number < 2 ^ 32 → part_name (stem_of (text_of words (codes "-o") pieces)) (end_of (text_of words (codes "-o") pieces)) number ≢ text_of words (codes "-i") pieces
+no_part_is_the_input words pieces named fit =
+    let output = text_of words (codes "-o") pieces in
+    let input = text_of words (codes "-i") pieces in
+    let tests = other_name (is_packed_name output || is_part_name (stem_of output) (end_of output) input) (place_of words (codes "-o") pieces) named.output fit in
+    no_part (stem_of output) (end_of output) input (or_false (is_packed_name output) (is_part_name (stem_of output) (end_of output) input) tests).1
 
-pub sound : (names words : List (List ℕ)) (tool : Tool) (pieces : List Piece) (asked : Asked) → wrong_word names tool words pieces ≡ None → asked ≡ asked_of tool words pieces → IsSound names asked
-sound names words tool pieces asked is same = subst (IsSound names) (sym same) (sound_of names words tool pieces (right names words tool pieces is))
+inputs_are : (names words : List (List ℕ)) (pieces : List Piece) → All (IsNamed Lasmerge words) pieces → first_fault names words [] pieces ≡ None → AreNamed words pieces
+    → AreInputs (texts_of words (codes "-i") pieces) (text_of words (codes "-o") pieces)
+inputs_are names words pieces flags faults named = record {
+  some = some_text words (codes "-i") pieces named.input;
+  few = few_inputs names words pieces flags faults;
+  others = none_is (text_of words (codes "-o") pieces) (texts_of words (codes "-i") pieces) named.other;
+}
+
+outputs_differ : (words : List (List ℕ)) (pieces : List Piece) → missing_option Make words pieces ≡ None → same_output words pieces ≡ None → text_of words (codes "-o") pieces ≢ text_of words (codes "-z") pieces
+outputs_differ words pieces missing name =
+    let both = both_given (is_given words (codes "-o") pieces) (is_given words (codes "-z") pieces) _ (length words) missing in
+    let output = text_of words (codes "-o") pieces in
+    let packed = text_of words (codes "-z") pieces in
+    unequal packed output (other_name (bytes_eq packed output) (place_of words (codes "-z") pieces) both.1 name)
+
+sound_of : (names words : List (List ℕ)) (tool : Tool) (pieces : List Piece) → All (IsNamed tool words) pieces → Right names words tool pieces → IsSound names (asked_of tool words pieces)
+sound_of names words Laszip pieces flags r = (names_differ words pieces (are_named words pieces true r.missing r.name), chunk_size words pieces, workers words pieces)
+sound_of names words Las2las pieces flags r =
+    (names_differ words pieces (are_named words pieces true r.missing r.name), chunk_size words pieces, workers words pieces, changes_have_classes words pieces)
+sound_of names words Lasinfo pieces flags r =
+    (record { there = tallies_there names words pieces r.faults; distinct = tallies_distinct names words pieces r.faults }, workers words pieces)
+sound_of names words Lassplit pieces flags r =
+    let both = or_none (same_name words pieces) (unfit_parts words pieces) r.name in
+    (rule_is words pieces, workers words pieces, no_part_is_the_input words pieces (are_named words pieces _ r.missing both.0) both.1)
+sound_of names words Lasmerge pieces flags r =
+    (inputs_are names words pieces flags r.faults (are_named words pieces true r.missing r.name), chunk_size words pieces, workers words pieces)
+sound_of names words Make pieces flags r = (
+  outputs_differ words pieces r.missing r.name,
+  record { few = points_range words pieces; short = seed_range words pieces; known = format_range words pieces; small = extra_range words pieces },
+  chunk_size words pieces,
+  workers words pieces,
+)
+
+pub sound : (names words : List (List ℕ)) (tool : Tool) (pieces : List Piece) (asked : Asked) → pieces ≡ cut tool 1 0 (drop 1 words) → wrong_word names tool words pieces ≡ None → asked ≡ asked_of tool words pieces → IsSound names asked
+sound names words tool pieces asked are is same =
+    let flags = subst (λ (ps : List Piece). All (IsNamed tool words) ps) (sym are) (cut_named tool words 1 0 (drop 1 words) refl) in
+    subst (IsSound names) (sym same) (sound_of names words tool pieces flags (right names words tool pieces is))

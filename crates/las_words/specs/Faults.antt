@@ -2,7 +2,7 @@
 use Rattle.std.specs.Prelude.{ℕ, zero, suc, ◌+◌, Bool, true, not, nat_lt, if◌then◌else◌, List, [], ◌∷◌, ◌++◌, drop}
 use Rattle.std.specs.Prelude.{Option, Some, None, is_some}
 use Rattle.std.specs.Option.{option_or}
-use Rattle.std.specs.List.{list_any}
+use Rattle.std.specs.List.{count_by, list_any}
 use Rattle.std.specs.Str.{bytes_eq}
 use Rattle.las_words.specs.declared.table.Values.{Values}
 use Rattle.las_words.specs.declared.table.Values.TheVariants.{Nothing, Name, Number, Bounds, Several, Signed, Tap}
@@ -44,16 +44,17 @@ abbrev pub value_fault : (names tallies : List (List ℕ)) → Values → (at : 
 value_fault names tallies values at words =
     option_or (first_wrong names values at (count_of values words) words) (misplaced tallies values at words)
 
--- an option stands after one that it may not follow
-abbrev pub follows_a_rival : List (List ℕ) → List Piece → Flag → Bool
-follows_a_rival words earlier flag =
-    list_any (λ piece. list_any (λ rival. bytes_eq (word_at words piece.at) rival) (row_of flag).rivals) earlier
+-- an option stands after more of its rivals than it may
+abbrev pub follows_too_many : List (List ℕ) → List Piece → Flag → Bool
+follows_too_many words earlier flag =
+    nat_lt (row_of flag).before
+    (count_by (λ piece. list_any (bytes_eq (word_at words piece.at)) (row_of flag).rivals) earlier)
 
 -- what is wrong with an option of a command, after the options before it, or with its values
 abbrev pub option_fault : (names : List (List ℕ)) → List (List ℕ) → List Piece → (at : ℕ) → Option Flag → Option ℕ
 option_fault names words earlier at None = Some at
 option_fault names words earlier at (Some flag) =
-    if follows_a_rival words earlier flag
+    if follows_too_many words earlier flag
     then Some at
     else value_fault names (tallies_of words earlier) (row_of flag).values (at + 1) (drop (at + 1) words)
 

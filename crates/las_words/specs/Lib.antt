@@ -7,4 +7,5 @@ pub mod Tallies
 pub mod Faults
 pub mod Settings
 pub mod Plans
+pub mod Names
 pub mod Says

@@ -1,8 +1,13 @@
--- What options that are looked up by name say.
-use Rattle.std.specs.Prelude.{ℕ, ◌+◌, Bool, List, [], Option, None, find, is_some, unwrap_or}
+-- What options that are looked up by name say, and the settings that they make.
+use Rattle.std.specs.Prelude.{ℕ, ◌+◌, Bool, if◌then◌else◌, List, [], Option, Some, None}
+use Rattle.std.specs.Prelude.{find, is_some, unwrap_or, codes}
+use Rattle.std.specs.List.{filter_map}
 use Rattle.std.specs.Option.{option_map, option_map_or}
 use Rattle.std.specs.Str.{bytes_eq}
+use Rattle.las_filter.specs.declared.rule.Rule.{Rule}
+use Rattle.las_filter.specs.declared.rule.Rule.TheVariants.{Every, Class, Source, Return}
 use Rattle.las_words.specs.declared.table.Flag.{Flag}
+use Rattle.las_words.specs.declared.table.Flag.TheVariants.{ChunkSize, Cores, Split, Format, Extra}
 use Rattle.las_words.specs.declared.table.Values.{Values}
 use Rattle.las_words.specs.declared.table.Values.TheVariants.{Number}
 use Rattle.las_words.specs.declared.pieces.Piece.{Piece}
@@ -23,6 +28,15 @@ is_given words name pieces = is_some (place_of words name pieces)
 abbrev pub text_of : List (List ℕ) → List ℕ → List Piece → List ℕ
 text_of words name pieces = option_map_or (λ at. word_at words (at + 1)) (place_of words name pieces) []
 
+-- the first value of a word, if it is an option of a name
+abbrev pub value_by : List (List ℕ) → List ℕ → Piece → Option (List ℕ)
+value_by words name piece =
+    if bytes_eq (word_at words piece.at) name then Some (word_at words (piece.at + 1)) else None
+
+-- the first values of all options of a name, in their order
+abbrev pub texts_of : List (List ℕ) → List ℕ → List Piece → List (List ℕ)
+texts_of words name pieces = filter_map (value_by words name) pieces
+
 -- a number of the range that an option has
 abbrev pub number_for : Values → List ℕ → Option ℕ
 number_for (Number low high) word = number_in low high word
@@ -32,3 +46,27 @@ number_for _ word = None
 abbrev pub number_of : List (List ℕ) → Flag → ℕ → List Piece → ℕ
 number_of words flag default pieces =
     unwrap_or (number_for (row_of flag).values (text_of words (row_of flag).name pieces)) default
+
+-- the number of records of a chunk, 50,000 unless it is given
+abbrev pub chunk_of : List (List ℕ) → List Piece → ℕ
+chunk_of words pieces = number_of words ChunkSize 50000 pieces
+
+-- the number of workers, one unless it is given
+abbrev pub workers_of : List (List ℕ) → List Piece → ℕ
+workers_of words pieces = number_of words Cores 1 pieces
+
+-- the point data format, 0 unless it is given
+abbrev pub format_of : List (List ℕ) → List Piece → ℕ
+format_of words pieces = number_of words Format 0 pieces
+
+-- the number of extra bytes of a record, none unless it is given
+abbrev pub extra_of : List (List ℕ) → List Piece → ℕ
+extra_of words pieces = number_of words Extra 0 pieces
+
+-- the rule by which a file is split
+abbrev pub rule_of : List (List ℕ) → List Piece → Rule
+rule_of words pieces =
+    if is_given words (codes "-by_classification") pieces then Class
+    else if is_given words (codes "-by_flightline") pieces then Source
+    else if is_given words (codes "-by_return") pieces then Return
+    else Every (number_of words Split 1 pieces)

@@ -1,4 +1,4 @@
--- The commands and their options, as data (LAStools, `laszip`, `las2las` and `lasinfo`).
+-- The commands and their options, as data: those of LAStools, and `make`.
 use Rattle.std.specs.Prelude.{ℕ, ℤ, pos, ◌^◌, bit_or, List, [], ◌∷◌, codes, fold, find, take, Option}
 use Rattle.std.specs.Prelude.{unwrap_or}
 use Rattle.std.specs.Str.{bytes_eq}
@@ -8,17 +8,19 @@ use Rattle.las_filter.specs.declared.keep.Keep.TheVariants.{Intensity, NotBelow,
 use Rattle.las_filter.specs.declared.change.Change.{Change}
 use Rattle.las_filter.specs.declared.change.Change.TheVariants.{Translate, SetClass, SetUser, SetSource}
 use Rattle.las_words.specs.declared.table.Tool.{Tool}
-use Rattle.las_words.specs.declared.table.Tool.TheVariants.{Laszip, Las2las, Lasinfo}
+use Rattle.las_words.specs.declared.table.Tool.TheVariants.{Laszip, Las2las, Lasinfo, Lassplit, Lasmerge, Make}
 use Rattle.las_words.specs.declared.table.Values.{Values}
 use Rattle.las_words.specs.declared.table.Values.TheVariants.{Nothing, Name, Number, Bounds, Several, Signed, Tap}
 use Rattle.las_words.specs.declared.table.Flag.{Flag}
-use Rattle.las_words.specs.declared.table.Flag.TheVariants.{Input, Output, ChunkSize, Cores, Olas, Olaz, KeepClass}
-use Rattle.las_words.specs.declared.table.Flag.TheVariants.{DropClass}
+use Rattle.las_words.specs.declared.table.Flag.TheVariants.{Input, Inputs, Output, ChunkSize, Cores, Olas, Olaz}
+use Rattle.las_words.specs.declared.table.Flag.TheVariants.{KeepClass, DropClass}
 use Rattle.las_words.specs.declared.table.Flag.TheVariants.{KeepReturn, DropReturn, KeepFirst, KeepLast, KeepIntensity}
 use Rattle.las_words.specs.declared.table.Flag.TheVariants.{DropIntensityBelow, DropIntensityAbove, TranslateRawXyz}
 use Rattle.las_words.specs.declared.table.Flag.TheVariants.{TranslateRawX, TranslateRawY, TranslateRawZ}
 use Rattle.las_words.specs.declared.table.Flag.TheVariants.{SetClassification}
 use Rattle.las_words.specs.declared.table.Flag.TheVariants.{SetUserData, SetPointSource, Tally}
+use Rattle.las_words.specs.declared.table.Flag.TheVariants.{Split, ByClassification, ByFlightline, ByReturn}
+use Rattle.las_words.specs.declared.table.Flag.TheVariants.{PackedOutput, Points, Seed, Format, Extra}
 use Rattle.las_words.specs.Texts.{word_at}
 use Rattle.las_words.specs.Numbers.{number_or_zero, signed_in}
 use Rattle.las_words.specs.Counts.{count_of}
@@ -31,26 +33,30 @@ pub data Meaning : Type 0 where
   Changes : (List (List ℕ) → Change) → Meaning
   TallyNames : Meaning
 
--- An option: its word, its values, the options that it may not follow, itself among them if it is given once, and what
--- it means.
+-- An option: its word, its values, its rivals, itself mostly among them, how many of these may stand before it, and
+-- what it means.
 pub record Row : Type 0 where
   pub name : List ℕ
   pub values : Values
   pub rivals : List (List ℕ)
+  pub before : ℕ
   pub means : Meaning
 
 -- an option that is given once
 abbrev pub once : List ℕ → Values → Meaning → Row
-once name values means = record { name = name; values = values; rivals = name ∷ []; means = means }
+once name values means = record { name = name; values = values; rivals = name ∷ []; before = 0; means = means }
 
--- how the output is written: one option of the two, once
-abbrev pub output_form : List ℕ → Row
-output_form name = record {
-  name = name;
-  values = Nothing;
-  rivals = codes "-olas" ∷ codes "-olaz" ∷ [];
-  means = Setting;
-}
+-- an option of which only one is given, once: how the output is written, or how a file is split
+abbrev pub one_of : List (List ℕ) → List ℕ → Values → Row
+one_of rivals name values = record { name = name; values = values; rivals = rivals; before = 0; means = Setting }
+
+-- how the output is written
+abbrev pub forms : List (List ℕ)
+forms = codes "-olas" ∷ codes "-olaz" ∷ []
+
+-- the ways to split a file
+abbrev pub ways : List (List ℕ)
+ways = codes "-split" ∷ codes "-by_classification" ∷ codes "-by_flightline" ∷ codes "-by_return" ∷ []
 
 -- the first value, and the second, as numbers up to a bound
 abbrev pub first_number : ℕ → List (List ℕ) → ℕ
@@ -71,11 +77,13 @@ mask_of most words =
 -- the options
 abbrev pub row_of : Flag → Row
 row_of Input = once (codes "-i") Name Setting
+row_of Inputs =
+    record { name = codes "-i"; values = Name; rivals = codes "-i" ∷ []; before = 31; means = Setting }
 row_of Output = once (codes "-o") Name Setting
 row_of ChunkSize = once (codes "-chunk_size") (Number 256 250000) Setting
 row_of Cores = once (codes "-cores") (Number 1 8) Setting
-row_of Olas = output_form (codes "-olas")
-row_of Olaz = output_form (codes "-olaz")
+row_of Olas = one_of forms (codes "-olas") Nothing
+row_of Olaz = one_of forms (codes "-olaz") Nothing
 row_of KeepClass = once (codes "-keep_class") (Several 31) (Filters (λ words. Classes (mask_of 31 words)))
 row_of DropClass = once (codes "-drop_class") (Several 31) (Filters (λ words. DropClasses (mask_of 31 words)))
 row_of KeepReturn = once (codes "-keep_return") (Several 7) (Filters (λ words. Returns (mask_of 7 words)))
@@ -103,7 +111,16 @@ row_of SetClassification =
 row_of SetUserData = once (codes "-set_user_data") (Number 0 255) (Changes (λ words. SetUser (first_number 255 words)))
 row_of SetPointSource =
     once (codes "-set_point_source") (Number 0 65535) (Changes (λ words. SetSource (first_number 65535 words)))
-row_of Tally = record { name = codes "-tally"; values = Tap; rivals = []; means = TallyNames }
+row_of Tally = record { name = codes "-tally"; values = Tap; rivals = []; before = 0; means = TallyNames }
+row_of Split = one_of ways (codes "-split") (Number 1 4294967295)
+row_of ByClassification = one_of ways (codes "-by_classification") Nothing
+row_of ByFlightline = one_of ways (codes "-by_flightline") Nothing
+row_of ByReturn = one_of ways (codes "-by_return") Nothing
+row_of PackedOutput = once (codes "-z") Name Setting
+row_of Points = once (codes "-points") (Number 0 10000000) Setting
+row_of Seed = once (codes "-seed") (Number 0 4294967295) Setting
+row_of Format = once (codes "-format") (Number 0 3) Setting
+row_of Extra = once (codes "-extra") (Number 0 192) Setting
 
 -- A command: its word, its options, and which of them are required, each by its names, of which one has to be given.
 pub record CommandRow : Type 0 where
@@ -131,6 +148,21 @@ command_row Las2las = record {
 }
 command_row Lasinfo =
     record { name = codes "lasinfo"; options = Input ∷ Tally ∷ Cores ∷ []; required = (codes "-i" ∷ []) ∷ [] }
+command_row Lassplit = record {
+  name = codes "lassplit";
+  options = Input ∷ Output ∷ Split ∷ ByClassification ∷ ByFlightline ∷ ByReturn ∷ Cores ∷ [];
+  required = (codes "-i" ∷ []) ∷ (codes "-o" ∷ []) ∷ ways ∷ [];
+}
+command_row Lasmerge = record {
+  name = codes "lasmerge";
+  options = Inputs ∷ Output ∷ Olas ∷ Olaz ∷ ChunkSize ∷ Cores ∷ [];
+  required = input_and_output;
+}
+command_row Make = record {
+  name = codes "make";
+  options = Output ∷ PackedOutput ∷ Points ∷ Seed ∷ Format ∷ Extra ∷ ChunkSize ∷ Cores ∷ [];
+  required = (codes "-o" ∷ []) ∷ (codes "-z" ∷ []) ∷ (codes "-points" ∷ []) ∷ (codes "-seed" ∷ []) ∷ [];
+}
 
 -- the options of a command
 abbrev pub options_of : Tool → List Flag
@@ -138,7 +170,9 @@ options_of tool = (command_row tool).options
 
 -- the command of a name
 abbrev pub tool_named : List ℕ → Option Tool
-tool_named word = find (λ tool. bytes_eq word (command_row tool).name) (Laszip ∷ Las2las ∷ Lasinfo ∷ [])
+tool_named word =
+    find (λ tool. bytes_eq word (command_row tool).name)
+    (Laszip ∷ Las2las ∷ Lasinfo ∷ Lassplit ∷ Lasmerge ∷ Make ∷ [])
 
 -- the option of a command that has a name
 abbrev pub flag_named : Tool → List ℕ → Option Flag

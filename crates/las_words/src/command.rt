@@ -3,7 +3,7 @@
 ghost use Rattle.std.specs.Prelude.{◌≡◌};
 ghost use Rattle.las_words.specs.declared.command.WordFault.TheVariants.{Memory};
 
-use las_filter::Plan;
+use las_filter::{Plan, Rule};
 use std::alloc::AllocError;
 
 /// How an output is written.
@@ -48,6 +48,49 @@ pub enum Command {
         input: String,
         /// The names of the taps that tally the records, each another one.
         tallies: Vec<String>,
+        /// The number of workers, 1 to 8.
+        workers: u32,
+    },
+    /// Splits a file into parts.
+    Lassplit {
+        /// The name of the input. No part has it.
+        input: String,
+        /// What the parts' names have before an underscore and the part's number.
+        stem: String,
+        /// What they have after it: `.las`, `.LAS` or nothing.
+        end: String,
+        /// The rule by which the file is split. A part has 1 record or more.
+        rule: Rule,
+        /// The number of workers, 1 to 8.
+        workers: u32,
+    },
+    /// Merges files under the head of the first.
+    Lasmerge {
+        /// The names of the inputs, 1 to 32, in their order.
+        inputs: Vec<String>,
+        /// The name of the output, which no input has.
+        output: String,
+        /// How the output is written.
+        packing: Packing,
+        /// The number of workers, 1 to 8.
+        workers: u32,
+    },
+    /// Makes a plain file and a packed one of points that are drawn by a seed.
+    Make {
+        /// The name of the plain output.
+        output: String,
+        /// The name of the packed output, another one.
+        packed: String,
+        /// The number of points, 0 to 10,000,000.
+        points: u32,
+        /// The seed of the draws.
+        seed: u32,
+        /// The point data format, 0 to 3.
+        format: u8,
+        /// The number of extra bytes of a record, 0 to 192.
+        extra: u16,
+        /// The number of records of a chunk, 256 to 250,000.
+        chunk: u32,
         /// The number of workers, 1 to 8.
         workers: u32,
     },

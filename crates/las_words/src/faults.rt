@@ -5,7 +5,7 @@ ghost use Rattle.std.specs.List.{list_any};
 ghost use Rattle.std.specs.Str.{bytes_eq};
 ghost use Rattle.las_words.specs.Texts.{texts};
 ghost use Rattle.las_words.specs.Tallies.{tallies_of};
-ghost use Rattle.las_words.specs.Faults.{fits, first_wrong, misplaced, value_fault, follows_a_rival};
+ghost use Rattle.las_words.specs.Faults.{fits, first_wrong, misplaced, value_fault, follows_too_many};
 ghost use Rattle.las_words.specs.Faults.{fault_of, first_fault};
 
 use crate::numbers::{number_in, number_or_zero, signed_in};
@@ -38,22 +38,23 @@ fn fault_of(names: &[String], words: &[String], earlier: &[Piece], piece: &Piece
     let Some(flag) = piece.flag else {
         return Some(piece.at);
     };
-    if follows_a_rival(words, earlier, flag) {
+    if follows_too_many(words, earlier, flag) {
         return Some(piece.at);
     }
     value_fault(names, words, earlier, flag.values(), piece.at + 1)
 }
 
-// Whether an option stands after one that it may not follow.
-fn follows_a_rival(words: &[String], earlier: &[Piece], flag: Flag) -> bool
-    ensures { result ≡ follows_a_rival (texts words.now) earlier.now flag }
+// Whether an option stands after more of its rivals than it may.
+fn follows_too_many(words: &[String], earlier: &[Piece], flag: Flag) -> bool
+    ensures { result ≡ follows_too_many (texts words.now) earlier.now flag }
 {
+    let mut count = 0;
     for piece in earlier {
         if flag.is_rival(word(words, piece.at)) {
-            return true;
+            count += 1;
         }
     }
-    false
+    flag.before() < count
 }
 
 // The index of the first value of an option that is wrong. The values begin at an index.

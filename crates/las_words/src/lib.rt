@@ -6,6 +6,7 @@
 
 mod command;
 mod faults;
+mod names;
 mod numbers;
 mod pieces;
 mod plan;

@@ -2,21 +2,25 @@
 
 ghost use Rattle.std.specs.Prelude.{◌≡◌, ◌<◌, ◌||◌, ◌&&◌, not, ℕ, Bool, length, All, IfOk, MatchOption, None, Some};
 ghost use Rattle.std.specs.Prelude.{Err, codes, map, string_bytes};
-ghost use Rattle.std.specs.Str.{bytes_eq};
+ghost use Rattle.std.specs.List.{list_any};
 ghost use Rattle.las_filter.specs.Kept.{steps_of};
 ghost use Rattle.las_words.specs.Texts.{texts};
-ghost use Rattle.las_words.specs.Settings.{text_of};
+ghost use Rattle.las_words.specs.Settings.{is_given};
+ghost use Rattle.las_words.specs.Table.{ways};
 ghost use Rattle.las_words.specs.Plans.{plan_of};
-ghost use Rattle.las_words.specs.Says.{says, asks, usage, asked_by, asked_of, IsSound, missing_option, same_name};
+ghost use Rattle.las_words.specs.Says.{says, asks, usage, asked_by, asked_of, IsSound, missing_option};
 ghost use Rattle.las_words.specs.Says.{is_packed, wrong_word};
-ghost use Rattle.las_words.specs.declared.table.Tool.TheVariants.{Laszip, Las2las, Lasinfo};
+ghost use Rattle.las_words.specs.declared.table.Tool.TheVariants.{Laszip, Las2las, Lasinfo, Lassplit, Lasmerge, Make};
 
 use crate::command::{Command, Packing, WordFault};
 use crate::faults::first_fault;
+use crate::names::{end_of, stem_of, wrong_name};
 use crate::pieces::{Piece, pieces};
 use crate::plan::{changes_of, filters_of};
-use crate::settings::{chunk_of, is_given, place_of, text_of, workers_of};
-use crate::table::Tool;
+use crate::settings::{
+    chunk_of, extra_of, format_of, is_given, number_of, rule_of, text_of, texts_of, workers_of,
+};
+use crate::table::{Flag, Tool};
 use crate::tallies::tallies_of;
 use crate::texts::{is_packed_name, word};
 use las_filter::Plan;
@@ -69,26 +73,32 @@ fn read(alloc: Global, words: &[String], names: &[String]) -> Result<Command, Wo
         return Err(WordFault::Usage(0));
     };
     let pieces = pieces(alloc, tool, words)?;
-    if let Some(index) = wrong_word(names, tool, words, &pieces) {
+    if let Some(index) = wrong_word(alloc, names, tool, words, &pieces)? {
         return Err(WordFault::Usage(index));
     }
     Ok(command_of(alloc, tool, words, &pieces)?)
 }
 
 // The index of the first word that is wrong.
-fn wrong_word(names: &[String], tool: Tool, words: &[String], pieces: &[Piece]) -> Option<usize>
+fn wrong_word(
+    alloc: Global,
+    names: &[String],
+    tool: Tool,
+    words: &[String],
+    pieces: &[Piece],
+) -> Result<Option<usize>, AllocError>
     requires { All (λ piece. piece.at < length words.now) pieces.now }
-    ensures { result ≡ wrong_word (texts names.now) tool (texts words.now) pieces.now }
+    ensures { IfOk result (λ index. index ≡ wrong_word (texts names.now) tool (texts words.now) pieces.now) }
 {
     let fault = first_fault(names, words, pieces);
     if fault.is_some() {
-        return fault;
+        return Ok(fault);
     }
     let missing = missing_option(tool, words, pieces);
     if missing.is_some() {
-        return missing;
+        return Ok(missing);
     }
-    same_name(words, pieces)
+    wrong_name(alloc, tool, words, pieces)
 }
 
 // The number of words, if a required option is missing.
@@ -97,24 +107,34 @@ fn missing_option(tool: Tool, words: &[String], pieces: &[Piece]) -> Option<usiz
     ensures { result ≡ missing_option tool (texts words.now) pieces.now }
 {
     let all = match tool {
-        Tool::Laszip | Tool::Las2las => {
+        Tool::Laszip | Tool::Las2las | Tool::Lasmerge => {
             is_given(words, "-i", pieces) && is_given(words, "-o", pieces)
         }
         Tool::Lasinfo => is_given(words, "-i", pieces),
+        Tool::Lassplit => {
+            is_given(words, "-i", pieces)
+                && is_given(words, "-o", pieces)
+                && is_way_given(words, pieces)
+        }
+        Tool::Make => {
+            is_given(words, "-o", pieces)
+                && is_given(words, "-z", pieces)
+                && is_given(words, "-points", pieces)
+                && is_given(words, "-seed", pieces)
+        }
     };
     if all { None } else { Some(words.len()) }
 }
 
-// The index of the output's name, if it is the input's.
-fn same_name(words: &[String], pieces: &[Piece]) -> Option<usize>
+// Whether a way to split a file is given.
+fn is_way_given(words: &[String], pieces: &[Piece]) -> bool
     requires { All (λ piece. piece.at < length words.now) pieces.now }
-    ensures { result ≡ same_name (texts words.now) pieces.now }
+    ensures { result ≡ list_any (λ name. is_given (texts words.now) name pieces.now) ways }
 {
-    if text_of(words, "-o", pieces) == text_of(words, "-i", pieces) {
-        place_of(words, "-o", pieces).map(|at| at + 1)
-    } else {
-        None
-    }
+    is_given(words, "-split", pieces)
+        || is_given(words, "-by_classification", pieces)
+        || is_given(words, "-by_flightline", pieces)
+        || is_given(words, "-by_return", pieces)
 }
 
 // The command of a tool with these options.
@@ -131,6 +151,9 @@ fn command_of(
         Tool::Laszip => laszip_of(alloc, words, pieces),
         Tool::Las2las => las2las_of(alloc, words, pieces),
         Tool::Lasinfo => lasinfo_of(alloc, words, pieces),
+        Tool::Lassplit => lassplit_of(alloc, words, pieces),
+        Tool::Lasmerge => lasmerge_of(alloc, words, pieces),
+        Tool::Make => make_of(alloc, words, pieces),
     }
 }
 
@@ -176,6 +199,54 @@ fn lasinfo_of(alloc: Global, words: &[String], pieces: &[Piece]) -> Result<Comma
     })
 }
 
+// The command `lassplit` with these options.
+fn lassplit_of(alloc: Global, words: &[String], pieces: &[Piece]) -> Result<Command, AllocError>
+    requires { All (λ piece. piece.at < length words.now) pieces.now }
+    ensures { IfOk result (λ command. asked_by command ≡ asked_of Lassplit (texts words.now) pieces.now) }
+{
+    let output = text_of(words, "-o", pieces);
+    Ok(Command::Lassplit {
+        input: String::from_str(alloc, text_of(words, "-i", pieces))?,
+        stem: String::from_str(alloc, stem_of(output))?,
+        end: String::from_str(alloc, end_of(output))?,
+        rule: rule_of(words, pieces),
+        workers: workers_of(words, pieces),
+    })
+}
+
+// The command `lasmerge` with these options.
+fn lasmerge_of(alloc: Global, words: &[String], pieces: &[Piece]) -> Result<Command, AllocError>
+    requires { All (λ piece. piece.at < length words.now) pieces.now }
+    ensures { IfOk result (λ command. asked_by command ≡ asked_of Lasmerge (texts words.now) pieces.now) }
+{
+    Ok(Command::Lasmerge {
+        inputs: texts_of(alloc, words, "-i", pieces)?,
+        output: String::from_str(alloc, text_of(words, "-o", pieces))?,
+        packing: Packing {
+            packed: is_packed(words, pieces),
+            chunk: chunk_of(words, pieces),
+        },
+        workers: workers_of(words, pieces),
+    })
+}
+
+// The command `make` with these options.
+fn make_of(alloc: Global, words: &[String], pieces: &[Piece]) -> Result<Command, AllocError>
+    requires { All (λ piece. piece.at < length words.now) pieces.now }
+    ensures { IfOk result (λ command. asked_by command ≡ asked_of Make (texts words.now) pieces.now) }
+{
+    Ok(Command::Make {
+        output: String::from_str(alloc, text_of(words, "-o", pieces))?,
+        packed: String::from_str(alloc, text_of(words, "-z", pieces))?,
+        points: number_of(words, Flag::Points, 0, pieces),
+        seed: number_of(words, Flag::Seed, 0, pieces),
+        format: format_of(words, pieces),
+        extra: extra_of(words, pieces),
+        chunk: chunk_of(words, pieces),
+        workers: workers_of(words, pieces),
+    })
+}
+
 // The filters and the changes.
 fn plan_of(alloc: Global, words: &[String], pieces: &[Piece]) -> Result<Plan, AllocError>
     requires { All (λ piece. piece.at < length words.now) pieces.now }
@@ -187,7 +258,7 @@ fn plan_of(alloc: Global, words: &[String], pieces: &[Piece]) -> Result<Plan, Al
     })
 }
 
-// Whether the output of `las2las` is packed.
+// Whether the output of `las2las` or `lasmerge` is packed.
 fn is_packed(words: &[String], pieces: &[Piece]) -> bool
     requires { All (λ piece. piece.at < length words.now) pieces.now }
     ensures { result ≡ is_packed (texts words.now) pieces.now }

@@ -1,15 +1,19 @@
-//! Options that are looked up by name.
+//! Options that are looked up by name, and the settings that they make.
 
-ghost use Rattle.std.specs.Prelude.{◌≡◌, ◌<◌, ◌≤◌, length, All, IfSome, unwrap_or};
+ghost use Rattle.std.specs.Prelude.{◌≡◌, ◌<◌, ◌≤◌, length, All, IfOk, IfSome, unwrap_or};
+ghost use Rattle.std.specs.List.{list_any};
+ghost use Rattle.std.specs.Str.{bytes_eq};
 ghost use Rattle.las_words.specs.Texts.{texts};
 ghost use Rattle.las_words.specs.Table.{row_of};
-ghost use Rattle.las_words.specs.Says.{chunk_of, workers_of};
-ghost use Rattle.las_words.specs.Settings.{place_of, is_given, text_of, number_of};
+ghost use Rattle.las_words.specs.Settings.{place_of, is_given, text_of, texts_of, number_of};
+ghost use Rattle.las_words.specs.Settings.{chunk_of, workers_of, format_of, extra_of, rule_of};
 
 use crate::numbers::number_in;
 use crate::pieces::Piece;
 use crate::table::{Flag, Values};
 use crate::texts::word;
+use las_filter::Rule;
+use std::alloc::{AllocError, Global};
 
 /// The index of the first option of a name.
 pub fn place_of(words: &[String], name: &str, pieces: &[Piece]) -> Option<usize>
@@ -44,8 +48,40 @@ pub fn text_of<'a>(words: &'a [String], name: &str, pieces: &[Piece]) -> &'a str
     }
 }
 
-// The number that an option says, or a default if it is not given.
-fn number_of(words: &[String], flag: Flag, default: u32, pieces: &[Piece]) -> u32
+/// The first values of all options of a name, in the order of the words.
+pub fn texts_of(
+    alloc: Global,
+    words: &[String],
+    name: &str,
+    pieces: &[Piece],
+) -> Result<Vec<String>, AllocError>
+    requires { All (λ piece. piece.at < length words.now) pieces.now }
+    ensures { IfOk result (λ found. texts found.items ≡ texts_of (texts words.now) name.now pieces.now) }
+{
+    let mut found = Vec::new(alloc);
+    for piece in pieces {
+        if word(words, piece.at) == name {
+            found.push(String::from_str(alloc, word(words, piece.at + 1))?)?;
+        }
+    }
+    Ok(found)
+}
+
+/// Whether a text is the first value of an option of a name.
+pub fn is_value(words: &[String], name: &str, pieces: &[Piece], text: &str) -> bool
+    requires { All (λ piece. piece.at < length words.now) pieces.now }
+    ensures { result ≡ list_any (bytes_eq text.now) (texts_of (texts words.now) name.now pieces.now) }
+{
+    for piece in pieces {
+        if word(words, piece.at) == name && text == word(words, piece.at + 1) {
+            return true;
+        }
+    }
+    false
+}
+
+/// The number that an option says, or a default if it is not given.
+pub fn number_of(words: &[String], flag: Flag, default: u32, pieces: &[Piece]) -> u32
     requires { All (λ piece. piece.at < length words.now) pieces.now }
     ensures { result ≡ number_of (texts words.now) flag default pieces.now }
 {
@@ -69,4 +105,36 @@ pub fn workers_of(words: &[String], pieces: &[Piece]) -> u32
     ensures { result ≡ workers_of (texts words.now) pieces.now }
 {
     number_of(words, Flag::Cores, 1, pieces)
+}
+
+/// The point data format.
+pub fn format_of(words: &[String], pieces: &[Piece]) -> u8
+    requires { All (λ piece. piece.at < length words.now) pieces.now }
+    ensures { result ≡ format_of (texts words.now) pieces.now }
+{
+    number_of(words, Flag::Format, 0, pieces) as u8
+}
+
+/// The number of extra bytes of a record.
+pub fn extra_of(words: &[String], pieces: &[Piece]) -> u16
+    requires { All (λ piece. piece.at < length words.now) pieces.now }
+    ensures { result ≡ extra_of (texts words.now) pieces.now }
+{
+    number_of(words, Flag::Extra, 0, pieces) as u16
+}
+
+/// The rule by which a file is split.
+pub fn rule_of(words: &[String], pieces: &[Piece]) -> Rule
+    requires { All (λ piece. piece.at < length words.now) pieces.now }
+    ensures { result ≡ rule_of (texts words.now) pieces.now }
+{
+    if is_given(words, "-by_classification", pieces) {
+        Rule::Class
+    } else if is_given(words, "-by_flightline", pieces) {
+        Rule::Source
+    } else if is_given(words, "-by_return", pieces) {
+        Rule::Return
+    } else {
+        Rule::Every(number_of(words, Flag::Split, 1, pieces))
+    }
 }

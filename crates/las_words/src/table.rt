@@ -3,6 +3,7 @@
 ghost use Rattle.std.specs.Prelude.{◌≡◌};
 ghost use Rattle.std.specs.List.{list_any};
 ghost use Rattle.std.specs.Str.{bytes_eq};
+ghost use Rattle.las_words.specs.Table.{ways};
 
 /// A command.
 #[derive(Clone, Copy, Debug, PartialEq, Eq)]
@@ -10,12 +11,17 @@ pub enum Tool {
     Laszip,
     Las2las,
     Lasinfo,
+    Lassplit,
+    Lasmerge,
+    Make,
 }
 
 /// An option, named after its word.
 #[derive(Clone, Copy, Debug, PartialEq, Eq)]
 pub enum Flag {
     Input,
+    /// `-i` of a command that takes several inputs.
+    Inputs,
     Output,
     ChunkSize,
     Cores,
@@ -38,6 +44,16 @@ pub enum Flag {
     SetUserData,
     SetPointSource,
     Tally,
+    Split,
+    ByClassification,
+    ByFlightline,
+    ByReturn,
+    /// `-z`.
+    PackedOutput,
+    Points,
+    Seed,
+    Format,
+    Extra,
 }
 
 /// What values follow an option.
@@ -58,6 +74,9 @@ pub enum Values {
     /// The name of a tap, another one each time.
     Tap,
 }
+
+// How many inputs are merged at most.
+const MAX_INPUTS: usize = 32;
 
 const LASZIP: [Flag; 4] = [Flag::Input, Flag::Output, Flag::ChunkSize, Flag::Cores];
 
@@ -88,6 +107,36 @@ const LAS2LAS: [Flag; 22] = [
 
 const LASINFO: [Flag; 3] = [Flag::Input, Flag::Tally, Flag::Cores];
 
+const LASSPLIT: [Flag; 7] = [
+    Flag::Input,
+    Flag::Output,
+    Flag::Split,
+    Flag::ByClassification,
+    Flag::ByFlightline,
+    Flag::ByReturn,
+    Flag::Cores,
+];
+
+const LASMERGE: [Flag; 6] = [
+    Flag::Inputs,
+    Flag::Output,
+    Flag::Olas,
+    Flag::Olaz,
+    Flag::ChunkSize,
+    Flag::Cores,
+];
+
+const MAKE: [Flag; 8] = [
+    Flag::Output,
+    Flag::PackedOutput,
+    Flag::Points,
+    Flag::Seed,
+    Flag::Format,
+    Flag::Extra,
+    Flag::ChunkSize,
+    Flag::Cores,
+];
+
 impl Tool {
     ghost use Rattle.las_words.specs.Table.{options_of, tool_named, flag_named};
 
@@ -99,6 +148,9 @@ impl Tool {
             "laszip" => Some(Tool::Laszip),
             "las2las" => Some(Tool::Las2las),
             "lasinfo" => Some(Tool::Lasinfo),
+            "lassplit" => Some(Tool::Lassplit),
+            "lasmerge" => Some(Tool::Lasmerge),
+            "make" => Some(Tool::Make),
             _ => None,
         }
     }
@@ -111,6 +163,9 @@ impl Tool {
             Tool::Laszip => &LASZIP,
             Tool::Las2las => &LAS2LAS,
             Tool::Lasinfo => &LASINFO,
+            Tool::Lassplit => &LASSPLIT,
+            Tool::Lasmerge => &LASMERGE,
+            Tool::Make => &MAKE,
         }
     }
 
@@ -135,7 +190,7 @@ impl Flag {
         ensures { result.now ≡ (row_of self).name }
     {
         match self {
-            Flag::Input => "-i",
+            Flag::Input | Flag::Inputs => "-i",
             Flag::Output => "-o",
             Flag::ChunkSize => "-chunk_size",
             Flag::Cores => "-cores",
@@ -158,6 +213,15 @@ impl Flag {
             Flag::SetUserData => "-set_user_data",
             Flag::SetPointSource => "-set_point_source",
             Flag::Tally => "-tally",
+            Flag::Split => "-split",
+            Flag::ByClassification => "-by_classification",
+            Flag::ByFlightline => "-by_flightline",
+            Flag::ByReturn => "-by_return",
+            Flag::PackedOutput => "-z",
+            Flag::Points => "-points",
+            Flag::Seed => "-seed",
+            Flag::Format => "-format",
+            Flag::Extra => "-extra",
         }
     }
 
@@ -166,10 +230,11 @@ impl Flag {
         ensures { result ≡ (row_of self).values }
     {
         match self {
-            Flag::Input | Flag::Output => Values::Name,
+            Flag::Input | Flag::Inputs | Flag::Output | Flag::PackedOutput => Values::Name,
             Flag::ChunkSize => Values::Number(256, 250_000),
             Flag::Cores => Values::Number(1, 8),
             Flag::Olas | Flag::Olaz | Flag::KeepFirst | Flag::KeepLast => Values::Nothing,
+            Flag::ByClassification | Flag::ByFlightline | Flag::ByReturn => Values::Nothing,
             Flag::KeepClass | Flag::DropClass => Values::Several(31),
             Flag::KeepReturn | Flag::DropReturn => Values::Several(7),
             Flag::KeepIntensity => Values::Bounds(65_535),
@@ -180,17 +245,46 @@ impl Flag {
             Flag::SetUserData => Values::Number(0, 255),
             Flag::SetPointSource => Values::Number(0, 65_535),
             Flag::Tally => Values::Tap,
+            Flag::Split => Values::Number(1, u32::MAX),
+            Flag::Points => Values::Number(0, 10_000_000),
+            Flag::Seed => Values::Number(0, u32::MAX),
+            Flag::Format => Values::Number(0, 3),
+            Flag::Extra => Values::Number(0, 192),
         }
     }
 
-    /// Whether this option may not stand after one of the given name. Every option but `-tally` is given once.
+    /// Whether an option of the given name is a rival of this one. Mostly that is this option itself, which is given
+    /// once.
     pub fn is_rival(self, name: &str) -> bool
-        ensures { result ≡ list_any (λ rival. bytes_eq name.now rival) (row_of self).rivals }
+        ensures { result ≡ list_any (bytes_eq name.now) (row_of self).rivals }
     {
         match self {
             Flag::Olas | Flag::Olaz => name == "-olas" || name == "-olaz",
+            Flag::Split | Flag::ByClassification | Flag::ByFlightline | Flag::ByReturn => {
+                is_way(name)
+            }
             Flag::Tally => false,
             _ => name == self.name(),
         }
     }
+
+    /// How many of its rivals may stand before this option.
+    pub fn before(self) -> usize
+        ensures { result ≡ (row_of self).before }
+    {
+        match self {
+            Flag::Inputs => MAX_INPUTS - 1,
+            _ => 0,
+        }
+    }
+}
+
+// Whether an option of this name is a way to split a file.
+fn is_way(name: &str) -> bool
+    ensures { result ≡ list_any (bytes_eq name.now) ways }
+{
+    name == "-split"
+        || name == "-by_classification"
+        || name == "-by_flightline"
+        || name == "-by_return"
 }

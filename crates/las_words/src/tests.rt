@@ -1,13 +1,13 @@
 //! Command lines, each with what it says.
 
-use crate::{Command, WordFault, read_words};
+use crate::{Command, Packing, WordFault, read_words};
 use las_info::{ClassTap, ReturnTap, Tap};
 use std::alloc::{AllocError, Global};
 use std::test::Fail;
 
 // A line for each: words with a blank between two of them, and the command or the index of the first wrong word.
 const LINES: &str = "\
-lasmerge -i a -o b = usage 0
+lasmerges -i a -o b = usage 0
  = usage 0
 LASZIP -i a -o b = usage 0
  -i a -o b = usage 0
@@ -168,6 +168,132 @@ lasinfo -i a -tally Class = usage 4
 lasinfo -tally class = usage 3
 lasinfo -i a = lasinfo a [] 1
 lasinfo -tally return -i a -tally class -cores 3 = lasinfo a [return, class] 3
+lassplit = usage 1
+lassplit -i a -o p.las = usage 5
+lassplit -i a -split 2 = usage 5
+lassplit -o p.las -split 2 = usage 5
+lassplit -i a -o p.las -cores 2 = usage 7
+lassplit -i a -o p.las -split = usage 6
+lassplit -i a -o p.las -split 0 = usage 6
+lassplit -split 4294967296 = usage 2
+lassplit -split -1 = usage 2
+lassplit -split x = usage 2
+lassplit -split 000000000000000000001 = usage 2
+lassplit -split 2 -split 3 = usage 3
+lassplit -split 2 -by_classification = usage 3
+lassplit -by_classification -split 0 = usage 2
+lassplit -by_classification -cores 2 -by_flightline = usage 4
+lassplit -by_flightline -by_return = usage 2
+lassplit -by_return -by_return = usage 2
+lassplit -by_return 1 = usage 2
+lassplit -i a -o p.las -by_class = usage 5
+lassplit -i a -o p.las -olaz = usage 5
+lassplit -i a -chunk_size 256 = usage 3
+lassplit -i a -i b = usage 3
+lassplit -by_return -o p.laz -i a = usage 3
+lassplit -i a -o p.LAZ -split 2 = usage 4
+lassplit -i a -o .laz -split 2 = usage 4
+lassplit -i p.las -o p.las -split 2 = usage 4
+lassplit -i p_0000000.las -o p.las -split 2 = usage 4
+lassplit -o p.las -split 2 -i p_0000123.las = usage 2
+lassplit -i p_12345678.las -o p.las -by_return = usage 4
+lassplit -i p_4294967295.las -o p.las -by_return = usage 4
+lassplit -i p_0000007.LAS -o p.LAS -by_flightline = usage 4
+lassplit -i p_0000000 -o p -by_return = usage 4
+lassplit -i _0000000.las -o .las -by_return = usage 4
+lassplit -i a_0000001_0000002.las -o a_0000001.las -split 2 = usage 4
+lassplit -by_return -cores 9 -i p_0000000.las -o p.las = usage 3
+lassplit -i p_0000000.las -o p.las -split 0 = usage 6
+lassplit -i p_0000000.las -o p.las = usage 5
+lassplit -i p.laz -o p.laz = usage 5
+lassplit -i a.las -o p.las -split 2 = lassplit a.las p|.las Every(2) 1
+lassplit -split 4294967295 -i a -o p.LAS = lassplit a p|.LAS Every(4294967295) 1
+lassplit -i a -split 00000000000000000007 -o p = lassplit a p| Every(7) 1
+lassplit -by_classification -i a -o p.las = lassplit a p|.las Class 1
+lassplit -i a -o p.las -by_flightline -cores 8 = lassplit a p|.las Source 8
+lassplit -i a -o p.las -by_return = lassplit a p|.las Return 1
+lassplit -i a -o p.Las -by_return = lassplit a p.Las| Return 1
+lassplit -i a -o p.las.las -by_return = lassplit a p.las|.las Return 1
+lassplit -i a -o .las -by_return = lassplit a |.las Return 1
+lassplit -i a -o p.laz.las -by_return = lassplit a p.laz|.las Return 1
+lassplit -i p_000000.las -o p.las -by_return = lassplit p_000000.las p|.las Return 1
+lassplit -i p_00000000.las -o p.las -by_return = lassplit p_00000000.las p|.las Return 1
+lassplit -i p_4294967296.las -o p.las -by_return = lassplit p_4294967296.las p|.las Return 1
+lassplit -i p_0000000.LAS -o p.las -by_return = lassplit p_0000000.LAS p|.las Return 1
+lassplit -i p_0000000.las -o p -by_return = lassplit p_0000000.las p| Return 1
+lassplit -i p_0000000 -o p.las -by_return = lassplit p_0000000 p|.las Return 1
+lassplit -i p_000000a.las -o p.las -by_return = lassplit p_000000a.las p|.las Return 1
+lassplit -i p_+000001.las -o p.las -by_return = lassplit p_+000001.las p|.las Return 1
+lassplit -i p-0000000.las -o p.las -by_return = lassplit p-0000000.las p|.las Return 1
+lassplit -i q_0000000.las -o p.las -by_return = lassplit q_0000000.las p|.las Return 1
+lassplit -i p_é00000.las -o p.las -by_return = lassplit p_é00000.las p|.las Return 1
+lassplit -i p_ -o p.las -by_return = lassplit p_ p|.las Return 1
+lasmerge = usage 1
+lasmerge -i a = usage 3
+lasmerge -o b = usage 3
+lasmerge -i a -i b -cores 2 = usage 7
+lasmerge -i a -i = usage 4
+lasmerge -i a -i  -o b = usage 4
+lasmerge -i a -o b -o c = usage 5
+lasmerge -i a b = usage 3
+lasmerge -i a -o b -olas -olaz = usage 6
+lasmerge -olaz -olaz = usage 2
+lasmerge -i a -o b -z c = usage 5
+lasmerge -i a -o b -keep_class 2 = usage 5
+lasmerge -i a -o b -split 2 = usage 5
+lasmerge -chunk_size 255 = usage 2
+lasmerge -i a -i b -o a = usage 6
+lasmerge -i a -i b -o b = usage 6
+lasmerge -o b -i a -i b = usage 2
+lasmerge -i a -o a -cores 9 = usage 6
+lasmerge -i 1 -i 2 -i 3 -i 4 -i 5 -i 6 -i 7 -i 8 -i 9 -i 10 -i 11 -i 12 -i 13 -i 14 -i 15 -i 16 -i 17 -i 18 -i 19 \
+    -i 20 -i 21 -i 22 -i 23 -i 24 -i 25 -i 26 -i 27 -i 28 -i 29 -i 30 -i 31 -i 32 -o a -i 33 = usage 67
+lasmerge -i 1 -i 2 -i 3 -i 4 -i 5 -i 6 -i 7 -i 8 -i 9 -i 10 -i 11 -i 12 -i 13 -i 14 -i 15 -i 16 -i 17 -i 18 -i 19 \
+    -i 20 -i 21 -i 22 -i 23 -i 24 -i 25 -i 26 -i 27 -i 28 -i 29 -i 30 -i 31 -i 32 -i = usage 65
+lasmerge -i 1 -i 2 -i 3 -i 4 -i 5 -i 6 -i 7 -i 8 -i 9 -i 10 -i 11 -i 12 -i 13 -i 14 -i 15 -i 16 -i 17 -i 18 -i 19 \
+    -i 20 -i 21 -i 22 -i 23 -i 24 -i 25 -i 26 -i 27 -i 28 -i 29 -i 30 -i 31 -i 32 -o 32 = usage 66
+lasmerge -i 1 -i 2 -i 3 -i 4 -i 5 -i 6 -i 7 -i 8 -i 9 -i 10 -i 11 -i 12 -i 13 -i 14 -i 15 -i 16 -i 17 -i 18 -i 19 \
+    -i 20 -i 21 -i 22 -i 23 -i 24 -i 25 -i 26 -i 27 -i 28 -i 29 -i 30 -i 31 -i 32 -o 33 = \
+    lasmerge [1, 2, 3, 4, 5, 6, 7, 8, 9, 10, 11, 12, 13, 14, 15, 16, 17, 18, 19, 20, 21, 22, 23, 24, 25, 26, 27, 28, \
+    29, 30, 31, 32] 33 plain 50000 1
+lasmerge -i a -o b = lasmerge [a] b plain 50000 1
+lasmerge -i a -i a -o b = lasmerge [a, a] b plain 50000 1
+lasmerge -i b.laz -o c.laz -i a = lasmerge [b.laz, a] c.laz packed 50000 1
+lasmerge -i a -o c.LAZ -olas = lasmerge [a] c.LAZ plain 50000 1
+lasmerge -olaz -i b -i a -o c -chunk_size 300 -cores 3 = lasmerge [b, a] c packed 300 3
+lasmerge -i -i -i -o -o -olaz = lasmerge [-i, -o] -olaz plain 50000 1
+make = usage 1
+make -o a -z b -points 1 = usage 7
+make -o a -z b -seed 1 = usage 7
+make -o a -points 1 -seed 1 = usage 7
+make -z b -points 1 -seed 1 = usage 7
+make -i a = usage 1
+make -olaz = usage 1
+make -points = usage 2
+make -points 10000001 = usage 2
+make -points -1 = usage 2
+make -seed 4294967296 = usage 2
+make -seed 000000000000000000001 = usage 2
+make -format 4 = usage 2
+make -format = usage 2
+make -extra 193 = usage 2
+make -extra x = usage 2
+make -chunk_size 250001 = usage 2
+make -z  -o a = usage 2
+make -z a -z b = usage 3
+make -points 1 -points 1 = usage 3
+make -seed 1 -seed 2 = usage 3
+make -format 0 -format 0 = usage 3
+make -extra 0 -extra 0 = usage 3
+make -o a -z a -points 1 -seed 1 = usage 4
+make -z a -points 1 -seed 1 -o a = usage 2
+make -o a -z a -points 1 -seed 1 -cores 0 = usage 10
+make -o a -z a = usage 5
+make -o a -z b -points 0 -seed 0 = make a b 0 0 0 0 50000 1
+make -o m.las -z m.laz -points 200000 -seed 7 -format 3 -extra 2 -cores 4 = make m.las m.laz 200000 7 3 2 50000 4
+make -seed 4294967295 -points 10000000 -z b -o a -extra 192 -chunk_size 256 = make a b 10000000 4294967295 0 192 256 1
+make -o -z -z -o -points 0007 -seed 00000000000000000008 -format 02 = make -z -o 7 8 2 0 50000 1
+make -o a.laz -z b.las -points 1 -seed 1 -cores 8 = make a.laz b.las 1 1 0 0 50000 8
 ";
 
 #[test]
@@ -180,7 +306,7 @@ fn lines_are_read(rt: HostRuntime) -> Result<(), Fail> {
         assert_eq!(rt; answer(rt.alloc(), &words, &taps)?.as_str(), said, "{line}");
         count = count.saturating_add(1);
     }
-    assert_eq!(rt; count, 161);
+    assert_eq!(rt; count, 281);
     Ok(())
 }
 
@@ -206,44 +332,86 @@ fn taps(alloc: Global) -> Result<Vec<Box<dyn Tap>>, AllocError> {
 // The answer to words as one line.
 fn answer(alloc: Global, words: &[String], taps: &[Box<dyn Tap>]) -> Result<String, AllocError> {
     match read_words(alloc, words, taps) {
-        Ok(
-            Command::Laszip {
-                input,
-                output,
-                chunk,
-                workers,
-            },
-        ) => format!(in alloc; "laszip {input} {output} {chunk} {workers}"),
-        Ok(
-            Command::Las2las {
-                input,
-                output,
-                plan,
-                packing,
-                workers,
-            },
-        ) => {
-            let form = if packing.packed { "packed" } else { "plain" };
-            let chunk = packing.chunk;
-            let keeps = plan.keeps;
-            let changes = plan.changes;
-            format!(in alloc;
-                "las2las {input} {output} {keeps:?} {changes:?} {form} {chunk} {workers}"
-            )
-        }
-        Ok(
-            Command::Lasinfo {
-                input,
-                tallies,
-                workers,
-            },
-        ) => {
-            let names = joined(alloc, &tallies)?;
-            format!(in alloc; "lasinfo {input} {names} {workers}")
-        }
+        Ok(command) => line_of(alloc, command),
         Err(WordFault::Usage(index)) => format!(in alloc; "usage {index}"),
         Err(WordFault::Memory) => format!(in alloc; "no memory"),
     }
+}
+
+// A command as one line.
+fn line_of(alloc: Global, command: Command) -> Result<String, AllocError> {
+    match command {
+        Command::Laszip {
+            input,
+            output,
+            chunk,
+            workers,
+        } => format!(in alloc; "laszip {input} {output} {chunk} {workers}"),
+        Command::Las2las {
+            input,
+            output,
+            plan,
+            packing,
+            workers,
+        } => {
+            let packing = packing_in(alloc, packing)?;
+            let keeps = plan.keeps;
+            let changes = plan.changes;
+            format!(in alloc; "las2las {input} {output} {keeps:?} {changes:?} {packing} {workers}")
+        }
+        Command::Lasinfo {
+            input,
+            tallies,
+            workers,
+        } => {
+            let names = joined(alloc, &tallies)?;
+            format!(in alloc; "lasinfo {input} {names} {workers}")
+        }
+        other => line_of_other(alloc, other),
+    }
+}
+
+// A command that splits, merges or makes files as one line.
+fn line_of_other(alloc: Global, command: Command) -> Result<String, AllocError> {
+    match command {
+        Command::Lassplit {
+            input,
+            stem,
+            end,
+            rule,
+            workers,
+        } => format!(in alloc; "lassplit {input} {stem}|{end} {rule:?} {workers}"),
+        Command::Lasmerge {
+            inputs,
+            output,
+            packing,
+            workers,
+        } => {
+            let names = joined(alloc, &inputs)?;
+            let packing = packing_in(alloc, packing)?;
+            format!(in alloc; "lasmerge {names} {output} {packing} {workers}")
+        }
+        Command::Make {
+            output,
+            packed,
+            points,
+            seed,
+            format,
+            extra,
+            chunk,
+            workers,
+        } => format!(in alloc;
+            "make {output} {packed} {points} {seed} {format} {extra} {chunk} {workers}"
+        ),
+        _ => String::from_str(alloc, "another command"),
+    }
+}
+
+// How an output is written, in words.
+fn packing_in(alloc: Global, packing: Packing) -> Result<String, AllocError> {
+    let form = if packing.packed { "packed" } else { "plain" };
+    let chunk = packing.chunk;
+    format!(in alloc; "{form} {chunk}")
 }
 
 // Names in brackets.

@@ -1,0 +1,134 @@
+//! The names that a command has, and which of them it may not have.
+
+ghost use Rattle.std.specs.Prelude.{◌≡◌, ◌<◌, length, All, IfOk};
+ghost use Rattle.las_words.specs.Texts.{texts};
+ghost use Rattle.las_words.specs.Names.{end_of, stem_of, number_within, is_part_name, name_after, same_name};
+ghost use Rattle.las_words.specs.Names.{unfit_parts, same_output, wrong_name};
+
+use crate::numbers::number_or_zero;
+use crate::pieces::Piece;
+use crate::settings::{is_value, place_of, text_of};
+use crate::table::Tool;
+use crate::texts::is_packed_name;
+use las_filter::part_name;
+use std::alloc::{AllocError, Global};
+use std::str;
+
+/// The ending of the names of parts, by the name of the output.
+pub fn end_of(output: &str) -> &'static str
+    ensures { result.now ≡ end_of output.now }
+{
+    let bytes = output.as_bytes();
+    if bytes.ends_with(b".las") {
+        ".las"
+    } else if bytes.ends_with(b".LAS") {
+        ".LAS"
+    } else {
+        ""
+    }
+}
+
+/// The stem of the names of parts, by the name of the output.
+pub fn stem_of(output: &str) -> &str
+    ensures { result.now ≡ stem_of output.now }
+{
+    match output.strip_suffix(end_of(output)) {
+        Some(stem) => stem,
+        None => output,
+    }
+}
+
+// The number that a name has between a stem with an underscore and an ending, or 0.
+fn number_within(stem: &str, end: &str, name: &str) -> u32
+    ensures { result ≡ number_within stem.now end.now name.now }
+{
+    let from = stem.len() + 1;
+    if name.len() < end.len() || name.len() - end.len() < from {
+        return 0;
+    }
+    match str::from_utf8(&name.as_bytes()[from..name.len() - end.len()]) {
+        Ok(word) => number_or_zero(word, u32::MAX),
+        Err(_) => 0,
+    }
+}
+
+// Whether a part has this name.
+fn is_part_name(alloc: Global, stem: &str, end: &str, name: &str) -> Result<bool, AllocError>
+    ensures { IfOk result (λ is. is ≡ is_part_name stem.now end.now name.now) }
+{
+    let part = part_name(alloc, stem, end, number_within(stem, end, name))?;
+    Ok(name == part.as_str())
+}
+
+// The index of the name after an option.
+fn name_after(words: &[String], name: &str, pieces: &[Piece]) -> Option<usize>
+    requires { All (λ piece. piece.at < length words.now) pieces.now }
+    ensures { result ≡ name_after (texts words.now) name.now pieces.now }
+{
+    place_of(words, name, pieces).map(|at| at + 1)
+}
+
+// The index of the output's name, if it is that of an input.
+fn same_name(words: &[String], pieces: &[Piece]) -> Option<usize>
+    requires { All (λ piece. piece.at < length words.now) pieces.now }
+    ensures { result ≡ same_name (texts words.now) pieces.now }
+{
+    if is_value(words, "-i", pieces, text_of(words, "-o", pieces)) {
+        name_after(words, "-o", pieces)
+    } else {
+        None
+    }
+}
+
+// The index of the output's name, if parts cannot be named after it: packed ones, or the input.
+fn unfit_parts(
+    alloc: Global,
+    words: &[String],
+    pieces: &[Piece],
+) -> Result<Option<usize>, AllocError>
+    requires { All (λ piece. piece.at < length words.now) pieces.now }
+    ensures { IfOk result (λ index. index ≡ unfit_parts (texts words.now) pieces.now) }
+{
+    let input = text_of(words, "-i", pieces);
+    let output = text_of(words, "-o", pieces);
+    if is_packed_name(output) || is_part_name(alloc, stem_of(output), end_of(output), input)? {
+        Ok(name_after(words, "-o", pieces))
+    } else {
+        Ok(None)
+    }
+}
+
+// The index of the packed output's name, if it is that of the plain one.
+fn same_output(words: &[String], pieces: &[Piece]) -> Option<usize>
+    requires { All (λ piece. piece.at < length words.now) pieces.now }
+    ensures { result ≡ same_output (texts words.now) pieces.now }
+{
+    if text_of(words, "-z", pieces) == text_of(words, "-o", pieces) {
+        name_after(words, "-z", pieces)
+    } else {
+        None
+    }
+}
+
+/// The index of the name that a command may not have.
+pub fn wrong_name(
+    alloc: Global,
+    tool: Tool,
+    words: &[String],
+    pieces: &[Piece],
+) -> Result<Option<usize>, AllocError>
+    requires { All (λ piece. piece.at < length words.now) pieces.now }
+    ensures { IfOk result (λ index. index ≡ wrong_name tool (texts words.now) pieces.now) }
+{
+    match tool {
+        Tool::Lassplit => {
+            let same = same_name(words, pieces);
+            if same.is_some() {
+                return Ok(same);
+            }
+            unfit_parts(alloc, words, pieces)
+        }
+        Tool::Make => Ok(same_output(words, pieces)),
+        _ => Ok(same_name(words, pieces)),
+    }
+}
