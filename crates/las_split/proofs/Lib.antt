@@ -15,3 +15,5 @@ pub mod BatchesTaken
 pub mod WholeSplits
 pub mod Joining
 pub mod Examples
+pub mod SomeSplits
+pub mod SomeRecords

@@ -1,10 +1,10 @@
 -- What splitting a file gives is the only thing that it can give.
-use Rattle.std.proofs.Common.{◌≡◌, inl, inr, ℕ, zero, suc, ◌+◌, ◌-◌, ◌%◌, ◌<◌, ◌≤◌, List, [], ◌∷◌, ◌++◌, length, take, drop, slice_get, Option, Some, None, refl, sym, ◌∙◌, ap, subst, append_assoc, length-append, arith}
+use Rattle.std.proofs.Common.{◌≡◌, inl, inr, ℕ, zero, suc, ◌+◌, ◌-◌, ◌%◌, ◌<◌, ◌≤◌, List, [], ◌∷◌, ◌++◌, length, take, drop, Option, Some, None, refl, sym, ◌∙◌, ap, subst, append_assoc, length-append, arith}
 use Rattle.std.specs.Prelude.{All}
 use Rattle.std.specs.List.{concat}
 use Rattle.std.proofs.lemmas.Bool.{cases_lt}
 use Rattle.std.proofs.lemmas.List.{length-take-le, take-append-drop, take-append-le, take_all}
-use Rattle.std.proofs.Math.Seq.{take-add, take-append_seam}
+use Rattle.std.proofs.Math.Seq.{take-append_seam}
 use Rattle.las_filter.specs.declared.rule.Rule.{Rule}
 use Rattle.las_header.specs.declared.refusal.Refusal.{Refusal}
 use Rattle.las_header.specs.declared.refusal.Refusal.TheVariants.{BadChunk, TooManyParts}
@@ -15,7 +15,7 @@ use Rattle.laz_file.specs.Pieces.{ArePieces, Piece}
 use Rattle.laz_file.specs.Reading.{AreWholeBlocks, ReaderSeen, StandsFor}
 use Rattle.laz_file.specs.Records.{AreRead, HoldBlocks, HoldOnly, IsBadPiece}
 use Rattle.laz_file.proofs.Copies.{even_whole}
-use Rattle.laz_file.proofs.Joins.{hold-append}
+use Rattle.laz_file.proofs.FirstPieces.{fewer_first, hold_length, inside, more_first, no_length}
 use Rattle.laz_file.proofs.OneAnswer.{one_pieces}
 use Rattle.laz_file.proofs.Putting.{concat-append}
 use Rattle.laz_file.proofs.Pushing.{cut-append}
@@ -27,48 +27,6 @@ use Rattle.las_split.specs.Sorting.{cut_all}
 use Rattle.las_split.specs.Splitting.{EndsTooMany, HaveParts, OnlySplits, OpensTooMany, SplitsTo, records_in_blocks}
 use Rattle.las_split.proofs.Blocks.{even_all}
 use Rattle.las_split.proofs.PartLists.{parts_fewer}
-
--- ---- blocks of some first pieces, and of others
-
-hold_split : (file : List ℕ) (ps qs : List Piece) (blocks : List (List ℕ)) → HoldBlocks file (ps ++ qs) blocks → HoldBlocks file ps (take (length ps) blocks) × HoldBlocks file qs (drop (length ps) blocks)
-hold_split file [] qs blocks h = (tt, h)
-hold_split file (p ∷ ps) qs [] h = absurd h
-hold_split file (p ∷ ps) qs (b ∷ blocks) h =
-    let rest = hold_split file ps qs blocks h.1 in
-    ((h.0, rest.0), rest.1)
-
-hold_length : (file : List ℕ) (ps : List Piece) (bs : List (List ℕ)) → HoldBlocks file ps bs → length bs ≡ length ps
-hold_length file [] [] h = refl
-hold_length file [] (b ∷ bs) h = absurd h
-hold_length file (p ∷ ps) [] h = absurd h
-hold_length file (p ∷ ps) (b ∷ bs) h = ap suc (hold_length file ps bs h.1)
-
--- all blocks of fewer pieces begin those of more
-fewer_first : (file : List ℕ) (pieces : List Piece) (n m : ℕ) (xs ys : List (List ℕ)) → HoldOnly file (take n pieces) xs → HoldBlocks file (take m pieces) ys → m ≤ n → (more : List (List ℕ)) × (xs ≡ ys ++ more)
-fewer_first file pieces n m xs ys only hold less =
-    let split : take n pieces ≡ take m pieces ++ take (n - m) (drop m pieces) =
-    ap (λ (k : ℕ). take k pieces) (let e : n ≡ m + (n - m) = omega (arith, less) in e) ∙ take-add m (n - m) pieces in
-    let s = hold_split file (take m pieces) (take (n - m) (drop m pieces)) xs (subst (λ (ps : List Piece). HoldBlocks file ps xs) split only.hold) in
-    let rest = drop (length (take m pieces)) xs in
-    let both = subst (λ (ps : List Piece). HoldBlocks file ps (ys ++ rest)) (sym split) (hold-append file (take m pieces) (take (n - m) (drop m pieces)) ys rest hold s.1) in
-    (rest, sym (only.only (ys ++ rest) both))
-
-more_first : (file : List ℕ) (pieces : List Piece) (n m : ℕ) (xs ys : List (List ℕ)) → HoldOnly file (take n pieces) xs → HoldBlocks file (take m pieces) ys → n ≤ m → (more : List (List ℕ)) × (ys ≡ xs ++ more)
-more_first file pieces n m xs ys only hold more =
-    let split : take m pieces ≡ take n pieces ++ take (m - n) (drop n pieces) =
-    ap (λ (k : ℕ). take k pieces) (let e : m ≡ n + (m - n) = omega (arith, more) in e) ∙ take-add n (m - n) pieces in
-    let s = hold_split file (take n pieces) (take (m - n) (drop n pieces)) ys (subst (λ (ps : List Piece). HoldBlocks file ps ys) split hold) in
-    let k = length (take n pieces) in
-    (drop k ys, sym (take-append-drop k ys) ∙ ap (λ (t : List (List ℕ)). t ++ drop k ys) (only.only (take k ys) s.0))
-
-no_length : (zs : List (List ℕ)) → length zs ≡ 0 → zs ≡ []
-no_length [] e = refl
-no_length (z ∷ zs) e = absurd (omega (arith, e))
-
-inside : (ps : List Piece) (j : ℕ) (p : Piece) → slice_get ps j ≡ Some p → j < length ps
-inside [] j p e = absurd (cc)
-inside (q ∷ ps) zero p e = omega arith
-inside (q ∷ ps) (suc j) p e = omega (arith, inside ps j p e)
 
 -- ---- records that open one part too many
 

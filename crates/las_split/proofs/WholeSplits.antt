@@ -1,5 +1,5 @@
 -- A whole file that was split.
-use Rattle.std.proofs.Common.{◌≡◌, ◌⊎◌, inl, inr, ℕ, ◌+◌, ◌≤◌, Bool, true, false, map, List, [], ◌∷◌, ◌++◌, length, take, Option, Some, None, Result, Ok, Err, IfErr, sym, ◌∙◌, ap, subst, arith}
+use Rattle.std.proofs.Common.{◌≡◌, ◌≢◌, ◌⊎◌, inl, inr, ℕ, ◌+◌, ◌≤◌, Bool, true, false, map, List, [], ◌∷◌, ◌++◌, length, take, Option, Some, None, Result, Ok, Err, IfErr, refl, sym, ◌∙◌, ap, subst, arith}
 use Rattle.std.specs.Prelude.{OnErr}
 use Rattle.std.specs.List.{concat}
 use Rattle.std.proofs.lemmas.List.{append-nil}
@@ -8,6 +8,7 @@ use Rattle.las_header.specs.declared.refusal.Refusal.TheVariants.{BadChunk, TooM
 use Rattle.las_header.specs.Fields.{record_length_of}
 use Rattle.las_header.specs.Heads.{HeadView, IsHead}
 use Rattle.las_header.specs.Plain.{plain_of}
+use Rattle.las_filter.specs.declared.rule.Rule.{Rule}
 use Rattle.las_outside.specs.Files.{FileMap, WhereKnown}
 use Rattle.laz_file.specs.Copying.{HoldFirst}
 use Rattle.laz_file.specs.Reading.{ReaderSeen, StandsFor}
@@ -28,6 +29,11 @@ use Rattle.las_split.proofs.Splits.{splits_all, splits_bad, splits_begin, splits
 -- nothing was created
 pub leaves_nothing : (task : Task) (was now : Option FileMap) (records : List (List ℕ)) → now ≡ was → LeavesParts (outputs_under task.stem task.end task.head task.rule records) was now
 leaves_nothing task was now records same = (0, [], tt, same)
+
+-- the first of some records
+first_one : (xs : List (List ℕ)) → 1 ≤ length xs → (r : List ℕ) × (rest : List (List ℕ)) × (xs ≡ r ∷ [] ++ rest)
+first_one [] some = absurd (omega (arith, some))
+first_one (r ∷ rest) some = (r, rest, refl)
 
 module _ (task : Task) (was : Option FileMap) (first reader : ReaderSeen) (buffers : ℕ) (ready : reader ≡ record first { buffers = buffers }) (new_one : first.next ≡ 0) (is : IsHead first.head.bytes) (stands : WhereKnown was first.name (StandsFor first)) where
   same_head : reader.head ≡ first.head
@@ -93,6 +99,29 @@ module _ (task : Task) (was : Option FileMap) (first reader : ReaderSeen) (buffe
         (λ file st ho. λ records refusal to.
         let b = splits_begin task.rule first file st new_one (head_some first.head.bytes is) n blocks h.within h.whole ho l.0 l.1 split l.3.few records refusal to in
         subst (λ (rs : List (List ℕ)). LeavesParts (outputs_under task.stem task.end task.head task.rule rs) was now) (sym b.1) (leaves_parts task was now l.0 b.0 l.3)) stands h.hold
+
+    -- there is a record in what the file gives, if there is one among the blocks
+    pub splits_one : 1 ≤ length (cut_all (record_length_of reader.head.bytes) (concat blocks))
+        → WhereKnown was first.name (λ file. (records : List (List ℕ)) (refusal : Option Refusal) → SplitsTo task.rule file records refusal → records ≢ [])
+    splits_one there =
+        let h = hold_first n blocks hold in
+        let xs = cut_all (record_length_of first.head.bytes) (concat blocks) in
+        let f = first_one xs (subst (λ (v : HeadView). 1 ≤ length (cut_all (record_length_of v.bytes) (concat blocks))) same_head there) in
+        known_both was first.name (StandsFor first) (λ file. HoldOnly file (take n first.left) blocks) (λ file. (records : List (List ℕ)) (refusal : Option Refusal) → SplitsTo task.rule file records refusal → records ≢ [])
+        (λ file st ho. λ records refusal to none.
+        let few : length (numbers_of_parts task.rule (f.0 ∷ [])) ≤ MAX_PARTS = omega arith in
+        let b = splits_begin task.rule first file st new_one (head_some first.head.bytes is) n blocks h.within h.whole ho (f.0 ∷ []) f.1 f.2 few records refusal to in
+        let clash : [] ≡ f.0 ∷ b.0 = sym none ∙ b.1 in
+        absurd (cc)) stands h.hold
+
+-- the same, if only these records are given
+pub only_some : (rule : Rule) (was : Option FileMap) (name : List ℕ) (xs : List (List ℕ)) (end : Option Refusal) → WhereKnown was name (λ file. OnlySplits rule file xs end) → 1 ≤ length xs
+    → WhereKnown was name (λ file. (records : List (List ℕ)) (refusal : Option Refusal) → SplitsTo rule file records refusal → records ≢ [])
+only_some rule was name xs end known some =
+    known_then was name (λ file. OnlySplits rule file xs end) (λ file. (records : List (List ℕ)) (refusal : Option Refusal) → SplitsTo rule file records refusal → records ≢ [])
+    (λ file o. λ records refusal to none.
+    let empty : xs ≡ [] = sym (o.only records refusal to).0 ∙ none in
+    absurd (omega (arith, some, ap (λ (t : List (List ℕ)). length t) empty))) known
 
 -- only these records are given
 pub only_leaves : (task : Task) (was now : Option FileMap) (name : List ℕ) (xs : List (List ℕ)) (end : Option Refusal) → WhereKnown was name (λ file. OnlySplits task.rule file xs end) → LeavesParts (outputs_under task.stem task.end task.head task.rule xs) was now

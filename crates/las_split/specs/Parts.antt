@@ -5,13 +5,6 @@ use Rattle.las_points.specs.Record.{class_of, return_number_of, source_of}
 use Rattle.las_filter.specs.declared.rule.Rule.{Rule}
 use Rattle.las_filter.specs.declared.rule.Rule.TheVariants.{Every, Class, Source, Return}
 
--- a number of records that a part has is one at least
-abbrev pub IsRule : Rule → Type 0
-IsRule (Every n) = 1 ≤ n
-IsRule Class = Unit {0}
-IsRule Source = Unit {0}
-IsRule Return = Unit {0}
-
 -- the number of a record by a rule, at its place in the file, counted from 0
 abbrev pub number_by : Rule → (place : ℕ) → (point : List ℕ) → ℕ
 number_by (Every n) place point = place / n

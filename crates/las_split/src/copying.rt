@@ -5,13 +5,13 @@ ghost use Rattle.std.specs.List.{concat};
 ghost use Rattle.las_header.specs.Fields.{is_packed, points_of, record_length_of};
 ghost use Rattle.las_header.specs.Heads.{IsHead};
 ghost use Rattle.las_header.specs.Vlrs.{laszip_vlrs_of};
-ghost use Rattle.las_filter.specs.Parts.{part_name};
+ghost use Rattle.las_filter.specs.Parts.{IsRule, part_name};
 ghost use Rattle.las_outside.specs.Files.{FileMap, WhereKnown};
 ghost use Rattle.las_outside.specs.Outside.{Later};
+ghost use Rattle.laz_file.specs.declared.fault.Fault.TheVariants.{Write};
 ghost use Rattle.laz_file.specs.Copying.{HasCause, HoldFirst, end_of};
 ghost use Rattle.laz_file.specs.Reading.{IsCrewOf, Lends, StandsFor, records_in};
 ghost use Rattle.laz_file.specs.Writing.{SameFaults};
-ghost use Rattle.las_split.specs.Parts.{IsRule};
 ghost use Rattle.las_split.specs.Sorting.{EndsSplitting, HasRoom, InParts, IsPlainFor, LeavesBlock, TakesBlock, cut_all};
 ghost use Rattle.las_split.specs.Sorting.{task_of};
 
@@ -76,6 +76,11 @@ fn split_block<R: Threads + Sync, F: Files, G: Gate>(
         → index ≡ length records
         → OnErr result (LeavesBlock (task_of names.now head.now rule.now) was (F.seen files.new).held records
         (cut_all size block.now)) }
+    ensures some { (was : Option FileMap) (records : List (List ℕ))
+        → InParts (task_of names.now head.now rule.now) was (F.seen files.old).held parts.old.numbers
+        parts.old.writers.items records records
+        → index ≡ length records
+        → IfErr result (λ fault. fault ≡ Write → 1 ≤ length records + length (cut_all size block.now)) }
     ensures cause { IfErr result (HasCause (F.seen files.old) (F.seen files.new)) }
     ensures calm { OnOk result (SameFaults (F.seen files.old) (F.seen files.new)) }
     ensures later { Later (F.seen files.old) (F.seen files.new) }
@@ -158,6 +163,12 @@ fn split_batch<R: Threads + Sync, F: Files, G: Gate>(
         → index ≡ length records
         → OnErr result (LeavesBlock (task_of names.now (unwrap_or plain.now reader.now.head) rule.now) was
         (F.seen files.new).held records (cut_all size (concat blocks))) }
+    ensures some { (blocks : List (List ℕ)) (was : Option FileMap) (records : List (List ℕ))
+        → Lends reader.now crew.now blocks → length blocks ≡ count → All (λ block. length block % size ≡ 0) blocks
+        → InParts (task_of names.now (unwrap_or plain.now reader.now.head) rule.now) was (F.seen files.old).held
+        parts.old.numbers parts.old.writers.items records records
+        → index ≡ length records
+        → IfErr result (λ fault. fault ≡ Write → 1 ≤ length records + length (cut_all size (concat blocks))) }
     ensures cause { IfErr result (HasCause (F.seen files.old) (F.seen files.new)) }
     ensures calm { OnOk result (SameFaults (F.seen files.old) (F.seen files.new)) }
     ensures later { Later (F.seen files.old) (F.seen files.new) }
@@ -223,6 +234,9 @@ pub(crate) fn split_records<R: Threads + Sync, F: Files, G: Gate>(
         × HoldFirst (F.seen files.old).held reader.old n blocks
         × LeavesBlock (task_of names.now (unwrap_or plain.now reader.old.head) rule.now) (F.seen files.old).held
         (F.seen files.new).held [] (cut_all (record_length_of reader.old.head.bytes) (concat blocks))) }
+    ensures some { IfErr result (λ fault. fault ≡ Write → (n : ℕ) × (blocks : List (List ℕ))
+        × HoldFirst (F.seen files.old).held reader.old n blocks
+        × (1 ≤ length (cut_all (record_length_of reader.old.head.bytes) (concat blocks)))) }
     ensures cause { IfErr result (HasCause (F.seen files.old) (F.seen files.new)) }
     ensures reads_calm { OnOk result ((F.seen files.new).read_faults ≡ (F.seen files.old).read_faults) }
     ensures writes_calm { OnOk result ((F.seen files.new).write_faults ≡ (F.seen files.old).write_faults) }

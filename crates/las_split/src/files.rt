@@ -1,10 +1,10 @@
 //! Whole files into parts.
-ghost use Rattle.std.specs.Prelude.{◌≡◌, ◌≢◌, ◌⊎◌, ◌^◌, ◌≤◌, ◌<◌, ℕ, List, Option, None, Some, IfErr, IfOk, IsErrOf};
-ghost use Rattle.std.specs.Prelude.{OnErr, OnOk, string_bytes, unwrap_or};
+ghost use Rattle.std.specs.Prelude.{◌≡◌, ◌≢◌, ◌⊎◌, ◌^◌, ◌≤◌, ◌<◌, ℕ, List, [], Option, None, Some, IfErr, IfOk, IsErrOf};
+ghost use Rattle.std.specs.Prelude.{OnErr, OnOk, length, string_bytes, unwrap_or};
 ghost use Rattle.las_header.specs.declared.refusal.Refusal.{Refusal};
 ghost use Rattle.las_header.specs.declared.refusal.Refusal.TheVariants.{BadChunk, TooManyParts};
 ghost use Rattle.las_header.specs.Heads.{IsHead};
-ghost use Rattle.las_filter.specs.Parts.{part_name};
+ghost use Rattle.las_filter.specs.Parts.{IsRule, part_name};
 ghost use Rattle.las_outside.specs.Faults.{Rose};
 ghost use Rattle.las_outside.specs.Files.{FileMap, WhereKnown};
 ghost use Rattle.las_outside.specs.Outside.{Later};
@@ -14,7 +14,7 @@ ghost use Rattle.laz_file.specs.Reading.{AgreesWithHead, IsNewReader, StandsFor}
 ghost use Rattle.laz_file.specs.Writing.{SameFaults};
 ghost use Rattle.las_split.specs.Files.{with_files};
 ghost use Rattle.las_split.specs.Outputs.{LeavesParts, all_finished, all_stopped, outputs_under, part_files};
-ghost use Rattle.las_split.specs.Parts.{IsRule, numbers_of_parts};
+ghost use Rattle.las_split.specs.Parts.{numbers_of_parts};
 ghost use Rattle.las_split.specs.Sorting.{InParts, IsPlainFor, LeavesPrefixes, Task};
 ghost use Rattle.las_split.specs.Splitting.{OnlySplits, SplitsTo};
 
@@ -62,6 +62,9 @@ fn finish_all<R: Threads + Sync, F: Files, G: Gate>(
         → InParts task was (F.seen files.old).held parts.numbers parts.writers.items records records
         → OnErr result (LeavesParts (outputs_under task.stem task.end task.head task.rule records) was
         (F.seen files.new).held) }
+    ensures some { (task : Task) (was : Option FileMap) (records : List (List ℕ))
+        → InParts task was (F.seen files.old).held parts.numbers parts.writers.items records records
+        → IfErr result (λ fault. fault ≡ Write → 1 ≤ length records) }
     ensures cause { IfErr result (HasCause (F.seen files.old) (F.seen files.new)) }
     ensures calm { OnOk result (SameFaults (F.seen files.old) (F.seen files.new)) }
     ensures later { Later (F.seen files.old) (F.seen files.new) }
@@ -92,6 +95,9 @@ fn stop_all<R: Threads + Sync, F: Files, G: Gate>(
     ensures left { (task : Task) (was : Option FileMap) (records : List (List ℕ))
         → InParts task was (F.seen files.old).held parts.numbers parts.writers.items records records
         → OnErr result (LeavesPrefixes task was (F.seen files.new).held records) }
+    ensures some { (task : Task) (was : Option FileMap) (records : List (List ℕ))
+        → InParts task was (F.seen files.old).held parts.numbers parts.writers.items records records
+        → IfErr result (λ fault. fault ≡ Write → 1 ≤ length records) }
     ensures cause { IfErr result (HasCause (F.seen files.old) (F.seen files.new)) }
     ensures calm { OnOk result (SameFaults (F.seen files.old) (F.seen files.new)) }
     ensures later { Later (F.seen files.old) (F.seen files.new) }
@@ -153,6 +159,9 @@ pub fn split<R: Threads + Sync, F: Files, G: Gate>(
         (F.seen files.old).held (F.seen files.new).held)) }
     ensures read { IsErrOf result Read → Rose (F.seen files.old).read_faults (F.seen files.new).read_faults }
     ensures write { IsErrOf result Write → Rose (F.seen files.old).write_faults (F.seen files.new).write_faults }
+    ensures some { IsErrOf result Write → WhereKnown (F.seen files.old).held reader.name (λ file.
+        (records : List (List ℕ)) (refusal : Option Refusal) → SplitsTo rule.now file records refusal
+        → records ≢ []) }
     ensures reads_calm { OnOk result ((F.seen files.new).read_faults ≡ (F.seen files.old).read_faults) }
     ensures writes_calm { OnOk result ((F.seen files.new).write_faults ≡ (F.seen files.old).write_faults) }
     ensures later { Later (F.seen files.old) (F.seen files.new) }

@@ -1,6 +1,7 @@
 //! The number of a record by a rule.
 ghost use Rattle.std.specs.Prelude.{◌≡◌, ◌^◌, ◌<◌, ◌≤◌, length};
-ghost use Rattle.las_split.specs.Parts.{IsRule, number_by};
+ghost use Rattle.las_filter.specs.Parts.{IsRule};
+ghost use Rattle.las_split.specs.Parts.{number_by};
 
 use las_filter::Rule;
 use las_header::POINT_RECORD;

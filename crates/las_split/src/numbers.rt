@@ -1,14 +1,17 @@
 //! The numbers of parts, and where each of them stands.
-ghost use Rattle.std.specs.Prelude.{◌≡◌, ◌++◌, ◌∷◌, [], false, Some, length, slice_get, IfNone, IfSome, OnOk};
+ghost use Rattle.std.specs.Prelude.{◌≡◌, ◌++◌, ◌∷◌, ◌<◌, ◌^◌, [], false, Some, length, slice_get, IfNone, IfSome, OnOk};
 ghost use Rattle.las_split.specs.Sorting.{has};
 
 use std::alloc::{AllocError, Global};
 use std::marker::Model;
 
-/// Numbers of parts in the order in which they were added.
+/// Numbers of parts in the order in which they were added. A number is looked up where it was added last under its low
+/// bits: a rule gives numbers below 2^16, or the numbers of no more parts than there may be, so this is its place.
 #[derive(Drop)]
 pub(crate) struct Numbers {
     list: Vec<u32>,
+    // By the low bits of a number, the place of the number that was added last with these.
+    hints: Vec<u16>,
 }
 
 impl Model for Numbers {
@@ -19,6 +22,13 @@ impl Model for Numbers {
     ghost view = { λ n. n.list.items };
 }
 
+// The low 16 bits of a number.
+fn low_bits(number: u32) -> usize
+    ensures { result < 2 ^ 16 }
+{
+    (number % 65536) as usize
+}
+
 impl Numbers {
     /// No numbers.
     pub(crate) fn new(alloc: Global) -> Numbers
@@ -26,6 +36,7 @@ impl Numbers {
     {
         Numbers {
             list: Vec::new(alloc),
+            hints: Vec::new(alloc),
         }
     }
 
@@ -41,6 +52,21 @@ impl Numbers {
         ensures none { IfNone result (has number self.now ≡ false) }
         ensures some { IfSome result (λ place. slice_get self.now place ≡ Some number) }
     {
+        let low = low_bits(number);
+        if low < self.hints.len() {
+            let place = usize::from(self.hints[low]);
+            if place < self.list.len() && self.list[place] == number {
+                return Some(place);
+            }
+        }
+        self.search(number)
+    }
+
+    // The first place of a number, if it is there.
+    fn search(&self, number: u32) -> Option<usize>
+        ensures none { IfNone result (has number self.now ≡ false) }
+        ensures some { IfSome result (λ place. slice_get self.now place ≡ Some number) }
+    {
         for place in 0..self.list.len() {
             if self.list[place] == number {
                 return Some(place);
@@ -53,6 +79,13 @@ impl Numbers {
     pub(crate) fn add(&mut self, number: u32) -> Result<(), AllocError>
         ensures { OnOk result (self.new ≡ self.old ++ number ∷ []) }
     {
+        let low = low_bits(number);
+        if self.hints.len() <= low {
+            self.hints.resize(low + 1, 0)?;
+        }
+        if let Ok(place) = u16::try_from(self.list.len()) {
+            self.hints[low] = place;
+        }
         self.list.push(number)?;
         Ok(())
     }
@@ -61,7 +94,7 @@ impl Numbers {
     pub(crate) fn into_list(self) -> Vec<u32>
         ensures { result.items ≡ self }
     {
-        let Numbers { list } = self;
+        let Numbers { list, hints: _ } = self;
         list
     }
 }

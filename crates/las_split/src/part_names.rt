@@ -2,6 +2,7 @@
 ghost use Rattle.std.specs.Prelude.{◌≡◌, ◌^◌, ◌<◌, IfOk, string_bytes};
 ghost use Rattle.las_filter.specs.Parts.{part_name};
 
+use las_filter::part_name;
 use std::alloc::{AllocError, Global};
 
 /// What the names of parts have in common: a part is named by the stem, an underscore, its number in seven digits or as
@@ -20,8 +21,6 @@ impl PartNames {
         ensures { IfOk result (λ name. string_bytes name
             ≡ part_name (string_bytes self.now.stem) (string_bytes self.now.end) number) }
     {
-        let stem = self.stem.as_str();
-        let end = self.end.as_str();
-        format!(in alloc; "{stem}_{number:07}{end}")
+        part_name(alloc, self.stem.as_str(), self.end.as_str(), number)
     }
 }

@@ -3,6 +3,7 @@ ghost use Rattle.std.specs.Prelude.{◌≡◌, ◌*◌, ◌+◌, ◌++◌, ◌<�
 ghost use Rattle.las_header.specs.Plain.{cut_records};
 ghost use Rattle.las_outside.specs.Files.{FileMap};
 ghost use Rattle.las_outside.specs.Outside.{Later};
+ghost use Rattle.laz_file.specs.declared.fault.Fault.TheVariants.{Write};
 ghost use Rattle.laz_file.specs.Copying.{HasCause};
 ghost use Rattle.laz_file.specs.Writing.{SameFaults};
 ghost use Rattle.las_split.specs.Sorting.{AreSorted, HasRoom, InParts, LeavesPrefixes, PushedSo, Task};
@@ -102,6 +103,7 @@ pub(crate) fn push_parts<R: Threads + Sync, F: Files, G: Gate>(
         → HasRoom task size (length records) (length block.now)
         → OnErr result (LeavesPrefixes task was (F.seen files.new).held
         (records ++ cut_records size (length sorted.now.numbers.items) block.now)) }
+    ensures some { IfErr result (λ fault. fault ≡ Write → 1 ≤ length parts.old.writers.items) }
     ensures cause { IfErr result (HasCause (F.seen files.old) (F.seen files.new)) }
     ensures calm { OnOk result (SameFaults (F.seen files.old) (F.seen files.new)) }
     ensures later { Later (F.seen files.old) (F.seen files.new) }

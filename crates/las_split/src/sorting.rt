@@ -5,11 +5,13 @@ ghost use Rattle.std.specs.List.{concat};
 ghost use Rattle.las_header.specs.Fields.{is_packed};
 ghost use Rattle.las_header.specs.Plain.{cut_records};
 ghost use Rattle.las_header.specs.Vlrs.{laszip_vlrs_of};
+ghost use Rattle.las_filter.specs.Parts.{IsRule};
 ghost use Rattle.las_outside.specs.Files.{FileMap};
 ghost use Rattle.las_outside.specs.Outside.{Later};
+ghost use Rattle.laz_file.specs.declared.fault.Fault.TheVariants.{Write};
 ghost use Rattle.laz_file.specs.Copying.{HasCause};
 ghost use Rattle.laz_file.specs.Writing.{SameFaults};
-ghost use Rattle.las_split.specs.Parts.{IsRule, number_by};
+ghost use Rattle.las_split.specs.Parts.{number_by};
 ghost use Rattle.las_split.specs.Sorting.{AreSorted, HasRoom, InParts, LeavesBlock, LeavesPrefixes, SortsBlock};
 ghost use Rattle.las_split.specs.Sorting.{SortsPoint, chosen, cut_all, has, task_of};
 ghost use Rattle.las_split.specs.Splitting.{OpensTooMany};
@@ -212,6 +214,7 @@ pub(crate) fn sort_block<F: Files>(
         → index ≡ length records
         → OnErr result (LeavesBlock (task_of names.now head.now rule.now) was (F.seen files.new).held records
         (cut_all size block.now)) }
+    ensures some { IfErr result (λ fault. fault ≡ Write → 1 ≤ length (cut_all size block.now)) }
     ensures cause { IfErr result (HasCause (F.seen files.old) (F.seen files.new)) }
     ensures calm { OnOk result (SameFaults (F.seen files.old) (F.seen files.new)) }
     ensures later { Later (F.seen files.old) (F.seen files.new) }

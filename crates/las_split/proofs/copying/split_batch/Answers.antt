@@ -4,9 +4,12 @@ use Rattle.std.specs.List.{concat}
 use Rattle.std.proofs.lemmas.List.{append-nil, take_all}
 use Rattle.las_header.specs.Heads.{HeadView}
 use Rattle.laz_file.proofs.Faults.{later-trans}
+use Rattle.laz_file.specs.declared.fault.Fault.TheVariants.{Write}
+use Rattle.laz_file.proofs.Putting.{if_err}
 use Rattle.laz_file.proofs.Taking.{calm_trans, on_err}
 use Rattle.las_split.specs.Sorting.{HasRoom, InParts, LeavesBlock, TakesBlock, cut_all, task_of}
 use Rattle.las_split.proofs.Blocks.{cut_block, cut_none, cut_others, left_more_blocks, left_then, next_fits, next_place, room_next, takes_more, takes_then}
+use Rattle.las_split.proofs.SomeRecords.{some_among}
 use Rattle.las_split.proofs.copying.split_batch.Goals as goal
 
 pub loop-i-init : goal.loop-i-init
@@ -196,3 +199,22 @@ returns-clause-takes g c blocks was records lends all even parts at =
       subst (λ (bs : List (List ℕ)). InParts (task_of c.args.names.now used c.args.rule.now) was (g.F.Files.seen c.loop-i.files).held c.loop-i.parts.numbers c.loop-i.parts.writers.items (records ++ cut_all c.args.size (concat bs)) (records ++ cut_all c.args.size (concat bs))) every so.0,
       so.1 ∙ ap (λ (bs : List (List ℕ)). length records + length (cut_all c.args.size (concat bs))) every,
     )
+
+pub returns-in_err-split_block-clause-some : goal.returns-in_err-split_block-clause-some
+returns-in_err-split_block-clause-some g c blocks was records lends all even parts at =
+    let size = c.args.size in
+    let i = c.loop-i.i in
+    let hd = c.plain_of-head.result.now in
+    let used = unwrap_or c.args.plain.now c.args.reader.now.head in
+    let same : hd ≡ used = c.plain_of-head.ensures in
+    let task = λ (h : HeadView). task_of c.args.names.now h c.args.rule.now in
+    let lt : i < length blocks = omega (arith, all, c.loop-i-test.true) in
+    let is = c.block-block.ensures blocks lends lt in
+    let so = c.loop-i.invariant.takes blocks was records lends all even parts at in
+    let block = c.block-block.result.now in
+    let done = cut_all size (concat (take i blocks)) in
+    let some : 0 < size = omega (arith, c.requires.lent.4.some) in
+    let here = subst (λ (h : HeadView). InParts (task h) was (g.F.Files.seen c.loop-i.files).held c.loop-i.parts.numbers c.loop-i.parts.writers.items (records ++ done) (records ++ done)) (sym same) so.0 in
+    let place : c.loop-i.next ≡ length (records ++ done) = so.1 ∙ sym (length-append records done) in
+    if_err (λ fault. fault ≡ Write → 1 ≤ length records + length (cut_all size (concat blocks))) c.from_residual.result _ c.from_residual.ensures.1
+    (λ is_write. some_among size some blocks even i lt block is records (c.in_err-split_block.ensures.some was (records ++ done) here place is_write))

@@ -1,8 +1,11 @@
-use Rattle.std.proofs.Common.{◌*◌, ◌≤◌, length, sym, arith}
+use Rattle.std.proofs.Common.{◌≡◌, ◌+◌, ◌*◌, ◌≤◌, length, sym, arith}
 use Rattle.std.proofs.lemmas.List.{length-take-le}
+use Rattle.laz_file.specs.declared.fault.Fault.TheVariants.{Write}
+use Rattle.laz_file.proofs.Putting.{if_err}
 use Rattle.laz_file.proofs.Taking.{on_err}
-use Rattle.las_split.specs.Sorting.{task_of}
+use Rattle.las_split.specs.Sorting.{cut_all, task_of}
 use Rattle.las_split.proofs.Blocks.{left_opened, left_pushed, length_is, parts_here, room_here, sorted_here, takes_all, takes_some, taken_bytes}
+use Rattle.las_split.proofs.SomeRecords.{some_pushed}
 use Rattle.las_split.proofs.copying.split_block.Goals as goal
 
 pub overflow_mul-length : goal.overflow_mul-length
@@ -98,3 +101,18 @@ returns-clause-takes g c was records i at =
     let m = c.push_parts.new in
     takes_all task was now n.parts.numbers n.parts.writers.items n.sorted.numbers.items n.sorted.present.items records c.args.size t bytes s (g.F.Files.seen m.files).held m.parts.numbers m.parts.writers.items
     (c.in_ok-push_parts.ensures.pushed task was records parts sorted room) (omega (arith, c.if-taken-block.false))
+
+pub returns-in_err-taken-clause-some : goal.returns-in_err-taken-clause-some
+returns-in_err-taken-clause-some g c was records i at =
+    let block = cut_all c.args.size c.args.block.now in
+    if_err (λ fault. fault ≡ Write → 1 ≤ length records + length block) c.from_residual.result _ c.from_residual.ensures.1
+    (λ is. let there : 1 ≤ length block = c.in_err-taken.ensures.some is in omega (arith, there))
+
+pub returns-in_err-push_parts-clause-some : goal.returns-in_err-push_parts-clause-some
+returns-in_err-push_parts-clause-some g c was records i at =
+    let task = task_of c.args.names.now c.args.head.now c.args.rule.now in
+    let n = c.sort_block.new in
+    let block = cut_all c.args.size c.args.block.now in
+    let s = c.in_ok-taken.ensures.sorts was records i at in
+    if_err (λ fault. fault ≡ Write → 1 ≤ length records + length block) c.from_residual-in_err-push_parts.result _ c.from_residual-in_err-push_parts.ensures.1
+    (λ is. some_pushed task was (g.F.Files.seen n.files).held n.parts.numbers n.parts.writers.items n.sorted.numbers.items n.sorted.present.items records block c.in_ok-taken.taken s (c.in_err-push_parts.ensures.some is))

@@ -1,4 +1,4 @@
-use Rattle.std.proofs.Common.{◌≡◌, ◌≢◌, ◌%◌, ◌+◌, ◌<◌, ◌^◌, true, false, ℕ, List, [], ◌++◌, length, take, refl, Err, sym, ◌∙◌, ap, subst, length-append, arith}
+use Rattle.std.proofs.Common.{◌≡◌, ◌≢◌, ◌%◌, ◌+◌, ◌<◌, ◌≤◌, ◌^◌, true, false, ℕ, List, [], ◌++◌, length, take, refl, Err, sym, ◌∙◌, ap, subst, length-append, arith}
 use Rattle.std.specs.Prelude.{All, unwrap_or}
 use Rattle.std.specs.List.{concat}
 use Rattle.las_filter.specs.Parts.{part_name}
@@ -14,6 +14,7 @@ use Rattle.laz_file.proofs.Taking.{cause_since, on_err}
 use Rattle.las_split.specs.Sorting.{HasRoom, InParts, IsPlainFor, LeavesBlock, TakesBlock, cut_all, task_of}
 use Rattle.las_split.proofs.BatchesTaken.{batch_even, batch_room, cut_batch, head_some, known_parts, left_whole, none_yet, parts_held, parts_none}
 use Rattle.las_split.proofs.Blocks.{left_then, takes_then}
+use Rattle.las_split.proofs.SomeRecords.{never_write}
 use Rattle.las_split.proofs.copying.split_records.Goals as goal
 
 pub batches-init : goal.batches-init
@@ -314,3 +315,42 @@ batches-preserved g c =
       writes_calm = c.in_ok-after.ensures.calm.writes ∙ c.next_batch.ensures.writes ∙ c.batches.invariant.writes_calm;
       later = later-trans _ _ _ c.batches.invariant.later (later-trans _ _ _ c.next_batch.ensures.later c.split_batch.ensures.later);
     }
+
+pub returns-in-Err-clause-some : goal.returns-in-Err-clause-some
+returns-in-Err-clause-some g c =
+    let first = c.args.reader.now in
+    never_write c.in-Err.fault c.end_of.result _ (g.F.Files.seen c.batches.files) (g.F.Files.seen c.next_batch.new.files) c.end_of.ensures c.in-Err.ensures.ends
+
+pub returns-in_err-after-clause-some : goal.returns-in_err-after-clause-some
+returns-in_err-after-clause-some g c =
+    let old = g.F.Files.seen c.args.files.now in
+    let now = g.F.Files.seen c.batches.files in
+    let later = g.F.Files.seen c.next_batch.new.files in
+    let first = c.args.reader.now in
+    let reader = c.batches.reader in
+    let task = λ (h : HeadView). task_of c.args.names.now (unwrap_or c.args.plain.now h) c.args.rule.now in
+    let s = record_length_of first.head.bytes in
+    let ns = c.batches.parts.numbers in
+    let ws = c.batches.parts.writers.items in
+    let done = c.batches.invariant.taken in
+    let x = cut_all s (concat done.1) in
+    let apart : (n : ℕ) → n < 2 ^ 32 → part_name (task first.head).stem (task first.head).end n ≢ reader.name = λ n lt e. c.requires.names n lt (e ∙ done.2.named) in
+    let here = parts_held (task first.head) old.held now.held later.held ns ws x x c.next_batch.ensures.held done.3 in
+    let b = c.in-Ok.ensures.blocks in
+    let m = c.in-Ok.count in
+    let y = cut_all s (concat b.0) in
+    let next = c.next_batch.new.self in
+    let hold = (known_parts (task first.head) old.held now.held ns ws x x done.3 reader.name apart (λ file. HoldOnly file (take m reader.left) b.0)).1 b.4 in
+    let more : ReadsMore old.held reader next m b.0 = record { within = omega (arith, c.in-Ok.ensures.most); whole = b.3; hold = hold; moved = c.in-Ok.ensures.moved } in
+    let has = read_more old.held first reader next done.0 m done.1 b.0 done.2 more in
+    let same : c.from-size.result ≡ s = c.from-size.ensures ∙ c.record_length.ensures.field ∙ ap (λ (h : HeadView). record_length_of h.bytes) c.head.ensures in
+    let wide = batch_even old.held first reader done.0 done.1 done.2 c.requires.head m b.0 b.3 in
+    let even = subst (λ (k : ℕ). All (λ block. length block % k ≡ 0) b.0) (sym same) wide in
+    let parts = subst (λ (h : HeadView). InParts (task h) old.held later.held ns ws x x) (sym has.head) here in
+    let joined = cut_batch old.held first reader done.0 done.1 done.2 c.requires.head b.0 in
+    let e = c.in_err-after.ensures.some b.0 old.held x b.2 b.1 even parts done.4 in
+    if_err _ c.from_residual.result _ c.from_residual.ensures.1
+    (λ is.
+    let there = subst (λ (k : ℕ). 1 ≤ length x + length (cut_all k (concat b.0))) same (e is) in
+    let every : length (cut_all s (concat (done.1 ++ b.0))) ≡ length x + length y = ap (λ (l : List (List ℕ)). length l) joined ∙ length-append x y in
+    (done.0 + m, done.1 ++ b.0, has.hold, omega (arith, there, every)))

@@ -1,9 +1,10 @@
-use Rattle.std.proofs.Common.{◌≡◌, ℕ, ◌*◌, List, [], Option, Some, None, refl, sym, ◌∙◌, ap, subst}
+use Rattle.std.proofs.Common.{◌≡◌, ℕ, ◌*◌, ◌≤◌, List, [], length, Option, Some, None, refl, sym, ◌∙◌, ap, subst}
 use Rattle.std.specs.Prelude.{unwrap_or, string_bytes}
 use Rattle.las_header.specs.declared.refusal.Refusal.{Refusal}
 use Rattle.las_header.specs.Heads.{HeadView, IsHead}
 use Rattle.las_header.specs.Plain.{plain_of}
 use Rattle.las_outside.specs.Files.{FileMap, WhereKnown}
+use Rattle.laz_file.specs.declared.fault.Fault.TheVariants.{Write}
 use Rattle.laz_file.specs.Reading.{ReaderSeen, StandsFor}
 use Rattle.laz_file.proofs.Knowing.{known_both, known_then}
 use Rattle.laz_file.proofs.Putting.{if_err, if_ok_weaker}
@@ -13,7 +14,8 @@ use Rattle.las_split.specs.Outputs.{LeavesParts, PartFile, all_finished, all_sto
 use Rattle.las_split.specs.Parts.{numbers_of_parts}
 use Rattle.las_split.specs.Sorting.{EndsSplitting, task_of}
 use Rattle.las_split.specs.Splitting.{OnlySplits, SplitsTo}
-use Rattle.las_split.proofs.WholeSplits.{files_are, leaves_splits, only_leaves, prefixes_leave, splits_end, stopped_leave, err_if}
+use Rattle.las_split.proofs.WholeSplits.{files_are, leaves_splits, only_leaves, only_some, prefixes_leave, splits_end, splits_one, stopped_leave, err_if}
+use Rattle.las_split.proofs.SomeRecords.{of_fault}
 use Rattle.las_split.proofs.files.split.Goals as goal
 
 pub returns-in_err-crew-clause-left : goal.returns-in_err-crew-clause-left
@@ -245,3 +247,57 @@ returns-clause-left g c =
     let new = (g.F.Files.seen c.stop_all.new.files).held in
     let s = c.in_ok-stop_all-in-Some.ensures.stopped task old e.0 e.1 in
     turn new (only_leaves task old new first.name e.0 (Some c.in-Some.cause) e.2 (stopped_leave task old mid new ns ws e.0 e.1 s))
+
+pub returns-in_err-split_records-clause-some : goal.returns-in_err-split_records-clause-some
+returns-in_err-split_records-clause-some g c is =
+    let old = (g.F.Files.seen c.args.files.now).held in
+    let first = c.args.reader in
+    let rule = c.args.rule.now in
+    let reader = c.crew.new.self in
+    let ready = c.in_ok-crew.ensures.kept in
+    let heads : reader.head ≡ first.head = ap (λ (r : ReaderSeen). r.head) ready in
+    let plain = c.in_ok-plain.plain in
+    let task = task_of c.args.output.now (unwrap_or plain reader.head) rule in
+    let head : IsHead first.head.bytes = subst (λ (h : HeadView). IsHead h.bytes) heads c.plain_head.ensures.head in
+    let made = if_err _ c.from_residual-in_err-split_records.result _ c.from_residual-in_err-split_records.ensures.1 c.in_err-split_records.ensures.some in
+    let p = of_fault c.from_residual-in_err-split_records.result Write _ made is in
+    splits_one task old first reader (2 * c.args.workers) ready c.requires.new.first head c.requires.stands p.0 p.1 p.2 p.3
+
+pub returns-in-None-clause-some : goal.returns-in-None-clause-some
+returns-in-None-clause-some g c is =
+    let old = (g.F.Files.seen c.args.files.now).held in
+    let first = c.args.reader in
+    let rule = c.args.rule.now in
+    let reader = c.crew.new.self in
+    let ready = c.in_ok-crew.ensures.kept in
+    let heads : reader.head ≡ first.head = ap (λ (r : ReaderSeen). r.head) ready in
+    let plain = c.in_ok-plain.plain in
+    let task = task_of c.args.output.now (unwrap_or plain reader.head) rule in
+    let head : IsHead first.head.bytes = subst (λ (h : HeadView). IsHead h.bytes) heads c.plain_head.ensures.head in
+    let mid = (g.F.Files.seen c.split_records.new.files).held in
+    let ns = c.split_records.new.parts.numbers in
+    let ws = c.split_records.new.parts.writers.items in
+    let d = c.in_ok-split_records.ensures.takes in
+    let ends = subst (EndsSplitting old reader d.0 d.2) c.in-None.is d.5 in
+    let e = splits_end task old first reader (2 * c.args.workers) ready c.requires.new.first head c.requires.stands d.0 d.1 d.3 mid ns ws d.2 None d.4 ends in
+    only_some rule old first.name e.0 None e.2 (of_fault c.finish_all.result Write (1 ≤ length e.0) (c.finish_all.ensures.some task old e.0 e.1) is)
+
+pub returns-in_err-stop_all-in-Some-clause-some : goal.returns-in_err-stop_all-in-Some-clause-some
+returns-in_err-stop_all-in-Some-clause-some g c is =
+    let old = (g.F.Files.seen c.args.files.now).held in
+    let first = c.args.reader in
+    let rule = c.args.rule.now in
+    let reader = c.crew.new.self in
+    let ready = c.in_ok-crew.ensures.kept in
+    let heads : reader.head ≡ first.head = ap (λ (r : ReaderSeen). r.head) ready in
+    let plain = c.in_ok-plain.plain in
+    let task = task_of c.args.output.now (unwrap_or plain reader.head) rule in
+    let head : IsHead first.head.bytes = subst (λ (h : HeadView). IsHead h.bytes) heads c.plain_head.ensures.head in
+    let mid = (g.F.Files.seen c.split_records.new.files).held in
+    let ns = c.split_records.new.parts.numbers in
+    let ws = c.split_records.new.parts.writers.items in
+    let d = c.in_ok-split_records.ensures.takes in
+    let ends = subst (EndsSplitting old reader d.0 d.2) c.in-Some.is d.5 in
+    let e = splits_end task old first reader (2 * c.args.workers) ready c.requires.new.first head c.requires.stands d.0 d.1 d.3 mid ns ws d.2 (Some c.in-Some.cause) d.4 ends in
+    let made = if_err (λ f. f ≡ Write → 1 ≤ length e.0) c.from_residual-in_err-stop_all-in-Some.result _ c.from_residual-in_err-stop_all-in-Some.ensures.1 (c.in_err-stop_all-in-Some.ensures.some task old e.0 e.1) in
+    only_some rule old first.name e.0 (Some c.in-Some.cause) e.2 (of_fault c.from_residual-in_err-stop_all-in-Some.result Write (1 ≤ length e.0) made is)

@@ -1,15 +1,18 @@
-use Rattle.std.proofs.Common.{◌≡◌, ℕ, List, get_or, ◌++◌, length, reverse, drop, take, map, refl, sym, ◌∙◌, ap, arith}
+use Rattle.std.proofs.Common.{◌≡◌, ℕ, ◌≤◌, List, get_or, ◌++◌, length, reverse, drop, take, map, refl, sym, ◌∙◌, ap, arith}
 use Rattle.las_outside.specs.Outside.{Outside, with_bytes}
 use Rattle.laz_file.specs.Outputs.{stopped}
 use Rattle.laz_file.specs.Writing.{WriterSeen}
+use Rattle.laz_file.specs.declared.fault.Fault.TheVariants.{Write}
 use Rattle.laz_file.proofs.Faults.{later-trans}
+use Rattle.laz_file.proofs.Putting.{if_err}
 use Rattle.laz_file.proofs.Taking.{calm_trans, held_after, on_err}
 use Rattle.las_split.specs.Files.{with_files}
 use Rattle.las_split.specs.Parts.{numbers_of_parts}
 use Rattle.las_split.specs.Sorting.{bytes_at, output_at}
-use Rattle.las_split.proofs.EndingParts.{ended_first, ended_last, ended_more, ended_prefixes, emptied, next_held, next_is, put_back}
+use Rattle.las_split.proofs.EndingParts.{ended_first, ended_last, ended_more, ended_prefixes, emptied, more, next_held, next_is, put_back}
 use Rattle.las_split.proofs.Leaving.{stopped_texts}
-use Rattle.las_split.proofs.Standing.{stands_here}
+use Rattle.las_split.proofs.SomeRecords.{some_opened}
+use Rattle.las_split.proofs.Standing.{stands_here, writers_length}
 use Rattle.las_split.proofs.files.stop_all.Goals as goal
 
 pub loop-writer-init : goal.loop-writer-init
@@ -118,3 +121,15 @@ returns-clause-stopped g c task was records i =
     let e = c.loop-writer.invariant.ended task was records i in
     let all = ended_last task done was now.held ns ws records c.loop-writer.rest.items (emptied c.loop-writer.rest.items c.pop.new.self.items c.in_default.ensures.items (omega (arith, c.in_default.ensures.cases))) e in
     all ∙ ap (λ (ms : List ℕ). with_files was (map (λ n. ((output_at task n).name, done n)) ms)) i.numbers_are ∙ ap (with_files was) (sym (stopped_texts task records (numbers_of_parts task.rule records)))
+
+pub returns-in_err-stop-clause-some : goal.returns-in_err-stop-clause-some
+returns-in_err-stop-clause-some g c task was records i =
+    let now = g.F.Files.seen c.loop-writer.files in
+    let ns = c.args.parts.numbers in
+    let ws = c.args.parts.writers.items in
+    let done = λ (n : ℕ). stopped (output_at task n) (bytes_at task records n) in
+    let e = c.loop-writer.invariant.ended task was records i in
+    let past = more task done was now.held ns ws records c.loop-writer.rest.items c.pop.new.self.items c.in-Some.writer e c.in-Some.ensures.items in
+    let count : 1 ≤ length ws = omega (arith, past, writers_length task (bytes_at task records) ns ws i.writers_are) in
+    if_err (λ fault. fault ≡ Write → 1 ≤ length records) c.from_residual.result _ c.from_residual.ensures.1
+    (λ is. some_opened task was (g.F.Files.seen c.args.files.now).held ns ws records records i count)

@@ -1,8 +1,10 @@
 use Rattle.std.proofs.Common.{◌≡◌, ℕ, ◌*◌, ◌<◌, ◌≤◌, ◌/◌, true, false, length, take, drop, refl, sym, ap, subst, arith}
 use Rattle.laz_file.proofs.Faults.{later-trans}
+use Rattle.laz_file.specs.declared.fault.Fault.TheVariants.{Write}
+use Rattle.laz_file.proofs.Putting.{if_err}
 use Rattle.laz_file.proofs.Taking.{calm_trans, on_err}
 use Rattle.las_split.specs.Sorting.{SortsBlock, SortsPoint, cut_all, task_of}
-use Rattle.las_split.proofs.SortingPoints.{index_fits, left_more, left_none, place_here, rest_next, sorted_more, sorted_none, sorts_all, sorts_less}
+use Rattle.las_split.proofs.SortingPoints.{cut_length, index_fits, left_more, left_none, place_here, rest_next, sorted_more, sorted_none, sorts_all, sorts_less}
 use Rattle.las_split.proofs.sorting.sort_block.Goals as goal
 
 pub returns-in_err-begin-clause-left : goal.returns-in_err-begin-clause-left
@@ -91,3 +93,10 @@ returns-clause-sorts g c was records i at =
     let same : t ≡ count = omega (arith, end, within) in
     subst (SortsBlock task was now c.loop-turn.parts.numbers c.loop-turn.parts.writers.items c.loop-turn.sorted.numbers.items c.loop-turn.sorted.present.items records (cut_all c.args.size c.args.block.now)) same
     (sorts_all task was now c.loop-turn.parts.numbers c.loop-turn.parts.writers.items c.loop-turn.sorted.numbers.items c.loop-turn.sorted.present.items records c.args.size t c.args.block.now end within (c.loop-turn.invariant.sorts was records i at))
+
+pub returns-in_err-sort_point-clause-some : goal.returns-in_err-sort_point-clause-some
+returns-in_err-sort_point-clause-some g c =
+    let size = c.args.size in
+    let bytes = c.args.block.now in
+    let there : 1 ≤ length (cut_all size bytes) = omega (arith, c.loop-turn-test.true, cut_length size (length bytes / size) bytes) in
+    if_err (λ fault. fault ≡ Write → 1 ≤ length (cut_all size bytes)) c.from_residual-in_err-sort_point.result _ c.from_residual-in_err-sort_point.ensures.1 (λ is. there)

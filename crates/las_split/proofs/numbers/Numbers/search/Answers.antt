@@ -1,7 +1,7 @@
 use Rattle.std.proofs.Common.{◌≡◌, ◌<◌, ◌+◌, ℕ, List, false, take, length, sym, ◌∙◌, subst, arith}
 use Rattle.las_split.specs.Sorting.{has}
 use Rattle.las_split.proofs.Opening.{has_more, same_there}
-use Rattle.las_split.proofs.numbers.Numbers.find.Goals as goal
+use Rattle.las_split.proofs.numbers.Numbers.search.Goals as goal
 
 pub loop-place-preserved : goal.loop-place-preserved
 loop-place-preserved c =
