@@ -1,0 +1,126 @@
+-- How making ends.
+use Rattle.std.proofs.Common.{◌≡◌, ◌⊎◌, inl, inr, ℕ, ◌≤◌, false, List, [], ◌∷◌, length, drop, Option, Some, None, IsSomeAnd, is_some, refl, sym, ◌∙◌, ap, subst, arith}
+use Rattle.std.specs.Prelude.{IsSome}
+use Rattle.std.specs.FinMap as map
+use Rattle.std.specs.List.{concat}
+use Rattle.las_header.specs.Fields.{point_offset_of}
+use Rattle.las_header.specs.Heads.{IsHead}
+use Rattle.las_header.specs.Plain.{plain_head}
+use Rattle.las_outside.specs.Drafts.{IsPatchedInPart, Patch, with_patches}
+use Rattle.las_outside.specs.Faults.{Rose}
+use Rattle.las_outside.specs.Files.{FileMap, IsMissing, WhereKnown, with_file, with_patch}
+use Rattle.las_outside.specs.Outside.{Outside, with_bytes, with_read_fault}
+use Rattle.las_outside.proofs.ByName.{get-insert_same}
+use Rattle.laz_file.specs.declared.fault.Fault.{Fault}
+use Rattle.laz_file.specs.declared.fault.Fault.TheVariants as file
+use Rattle.laz_file.specs.Copying.{LeavesUnfinished, packed_output}
+use Rattle.laz_file.specs.Laws.{CanBePacked}
+use Rattle.laz_file.specs.Outputs.{draft_of, finished, patches_of}
+use Rattle.laz_file.specs.Packing.{pack, packed_file}
+use Rattle.laz_file.proofs.Finished.{finished_is}
+use Rattle.las_make.specs.declared.fault.MakeFault.{MakeFault}
+use Rattle.las_make.specs.declared.fault.MakeFault.TheVariants.{ReadPlain, Changed, ReadPacked, Write, Memory}
+use Rattle.las_make.specs.declared.settings.Settings.{Settings}
+use Rattle.las_make.specs.Laws.{LeavesUnfinishedOutputs}
+use Rattle.las_make.specs.Made.{IsInRange, made_file, made_records}
+use Rattle.las_make.specs.Making.{FailsMaking, FailsPacking, FailsWriting, LeavesForm, LeavesPacked, LeavesPlain, fault_of, with_made}
+use Rattle.las_make.proofs.Accepting.{made_can, made_parts, made_plain_head, made_records-is}
+
+-- ---- a file that was just written
+
+pub known_here : (held : Option FileMap) (name text : List ℕ) (P : List ℕ → Type 0) → P text → WhereKnown (with_file held name text) name P
+known_here None name text P p = tt
+known_here (Some files) name text P p = subst (λ (o : Option (List ℕ)). IsSomeAnd o P) (sym (get-insert_same files name text)) p
+
+here_known : (files : FileMap) (name text : List ℕ) (P : List ℕ → Type 0) → WhereKnown (with_file (Some files) name text) name P → P text
+here_known files name text P p = subst (λ (o : Option (List ℕ)). IsSomeAnd o P) (get-insert_same files name text) p
+
+not_missing : (held : Option FileMap) (name text : List ℕ) → IsMissing (with_file held name text) name → ⊥
+not_missing None name text missing = missing
+not_missing (Some files) name text missing = let got = get-insert_same files name text in absurd (cc)
+
+stays_none : (new : Option FileMap) → is_some new ≡ false → new ≡ None
+stays_none None e = refl
+stays_none (Some files) e = absurd (cc)
+
+-- ---- an output that is whole
+
+all_patched : (draft : List ℕ) (patches : List Patch) → IsPatchedInPart draft patches (with_patches draft patches)
+all_patched draft [] = refl
+all_patched draft (p ∷ ps) = inr (all_patched (with_patch draft p.0 p.1) ps)
+
+module _ (s : Settings) (range : IsInRange s) (plain packed : List ℕ) (chunk : ℕ) where
+  abbrev made : List ℕ
+  made = made_file s
+
+  abbrev form : List ℕ
+  form = packed_file made chunk
+
+  pub whole_form : finished (packed_output packed made chunk) (concat (made_records s)) ≡ form
+  whole_form =
+      let out = packed_output packed made chunk in
+      let records = concat (made_records s) in
+      let is_head : IsHead (plain_head made) = subst IsHead (sym (made_plain_head s range)) (made_parts s range).head_is in
+      finished_is out records is_head ∙ ap (λ (rs : List ℕ). pack (plain_head made) rs chunk) (sym (made_records-is s range))
+
+  pub both_packed : (old : Option FileMap) → LeavesPacked plain packed s chunk old (with_made plain packed s chunk old)
+  both_packed old =
+      let out = packed_output packed made chunk in
+      let records = concat (made_records s) in
+      inr (form, inr (subst (IsPatchedInPart (draft_of out records) (patches_of out records)) whole_form (all_patched (draft_of out records) (patches_of out records))), refl)
+
+  pub made_known : (held : Option FileMap) → 256 ≤ chunk → chunk ≤ 250000 → WhereKnown (with_file held plain made) plain (λ file. CanBePacked file chunk)
+  made_known held least most = known_here held plain made (λ file. CanBePacked file chunk) (made_can s range chunk least most)
+
+  -- what stands if packing ends
+  pub form_whole : (held new : Option FileMap) → is_some new ≡ is_some held → WhereKnown (with_file held plain made) plain (λ file. new ≡ with_file (with_file held plain made) packed (packed_file file chunk)) → new ≡ with_made plain packed s chunk held
+  form_whole None new same whole = stays_none new same
+  form_whole (Some files) new same whole = here_known files plain made (λ file. new ≡ with_file (with_file (Some files) plain made) packed (packed_file file chunk)) whole
+
+  form_left : (held new : Option FileMap) → is_some new ≡ is_some held → LeavesForm plain packed chunk (with_file held plain made) new → LeavesPacked plain packed s chunk held new
+  form_left None new same left = inl (stays_none new same)
+  form_left (Some files) new same left =
+      let was = with_file (Some files) plain made in
+      let P = λ (file : List ℕ). LeavesUnfinished (packed_output packed file chunk) (drop (point_offset_of file) file) was new in
+      subst (λ (records : List ℕ). LeavesUnfinished (packed_output packed made chunk) records was new) (made_records-is s range) (here_known files plain made P left)
+
+  none_before : (held : Option FileMap) → with_file held plain made ≡ None → held ≡ None
+  none_before None e = refl
+  none_before (Some files) e = absurd (cc)
+
+  pub packing_fails : (old mid new : Outside) (fault : MakeFault) → mid ≡ with_bytes old plain made → is_some new.held ≡ is_some old.held → FailsPacking plain packed chunk mid new fault → FailsMaking plain packed s chunk old new fault
+  packing_fails old mid new fault is same fails = by fault (subst (λ (o : Outside). FailsPacking plain packed chunk o new fault) is fails)
+    where
+      by : (fault : MakeFault) → FailsPacking plain packed chunk (with_bytes old plain made) new fault → FailsMaking plain packed s chunk old new fault
+      by ReadPlain f = (f.0, form_left old.held new.held same f.1)
+      by (Changed cause) f = (none_before old.held f.0, f.1)
+      by ReadPacked f = absurd f
+      by Write f = (f.0, inr (form_left old.held new.held same f.1))
+      by Memory f = inr (form_left old.held new.held same f)
+
+  -- the size
+  pub size_is : (held pre : Option FileMap) (n : ℕ) → pre ≡ with_made plain packed s chunk held → WhereKnown pre packed (λ bytes. n ≡ length bytes) → IsSome held → n ≡ length form
+  size_is None pre n is known some = absurd (cc)
+  size_is (Some files) pre n is known some =
+      let before = with_file (Some files) plain made in
+      here_known (map.insert files plain made) packed form (λ bytes. n ≡ length bytes) (subst (λ (h : Option FileMap). WhereKnown h packed (λ bytes. n ≡ length bytes)) is known)
+
+  pub size_fails : (old pre new : Outside) → pre.held ≡ with_made plain packed s chunk old.held → pre.read_faults ≡ old.read_faults → (IsMissing pre.held packed × (new ≡ pre)) ⊎ ((IsMissing pre.held packed → ⊥) × (new ≡ with_read_fault pre)) → FailsMaking plain packed s chunk old new ReadPacked
+  size_fails old pre new is calm (inl gone) = absurd (not_missing (with_file old.held plain made) packed form (subst (λ (h : Option FileMap). IsMissing h packed) is gone.0))
+  size_fails old pre new is calm (inr failed) =
+      let rose : Rose pre.read_faults new.read_faults = subst (λ (o : Outside). Rose pre.read_faults o.read_faults) (sym failed.1) (omega arith) in
+      (subst (λ (n : ℕ). Rose n new.read_faults) calm rose, ap (λ (o : Outside). o.held) failed.1 ∙ is)
+
+-- the plain output could not be written
+pub writing_fails : (s : Settings) (plain packed : List ℕ) (chunk : ℕ) (old new : Outside) (fault : Fault) → FailsWriting old new fault → LeavesPlain plain s old.held new.held → FailsMaking plain packed s chunk old new (fault_of fault)
+writing_fails s plain packed chunk old new (file.Refused cause) fails left = absurd fails
+writing_fails s plain packed chunk old new file.Read fails left = absurd fails
+writing_fails s plain packed chunk old new file.Write fails left = (fails, inl left)
+writing_fails s plain packed chunk old new file.Memory fails left = inl left
+
+pub faults_left : LeavesUnfinishedOutputs
+faults_left s plain packed chunk old new ReadPlain range f = inr f.1
+faults_left s plain packed chunk old new (Changed cause) range f = inl (inl (f.1 ∙ sym f.0))
+faults_left s plain packed chunk old new ReadPacked range f = inr (subst (LeavesPacked plain packed s chunk old.held) (sym f.1) (both_packed s range plain packed chunk old.held))
+faults_left s plain packed chunk old new Write range f = f.1
+faults_left s plain packed chunk old new Memory range f = f

@@ -1,0 +1,11 @@
+pub mod Drawn
+pub mod Examples
+pub mod Blank
+pub mod Bytes
+pub mod MadeBytes
+pub mod Accepting
+pub mod Written
+pub mod Reread
+pub mod Ended
+pub mod Placed
+pub mod Steps

@@ -1,0 +1,80 @@
+-- The plain file that is read again and packed, or not.
+use Rattle.std.proofs.Common.{◌≡◌, inl, inr, ℕ, Bool, true, false, cond, List, drop, Option, Some, None, IsSomeAnd, is_some, refl, ◌∙◌, ap, subst}
+use Rattle.std.specs.FinMap as map
+use Rattle.las_header.specs.declared.refusal.Refusal.{Refusal}
+use Rattle.las_header.specs.Fields.{head_of, point_offset_of}
+use Rattle.las_outside.specs.Faults.{Rose}
+use Rattle.las_outside.specs.Files.{FileMap, IsMissing, WhereKnown}
+use Rattle.las_outside.specs.Outside.{Outside}
+use Rattle.laz_table.specs.VlrCauses.{chunk_size_of}
+use Rattle.laz_file.specs.declared.fault.Fault.{Fault}
+use Rattle.laz_file.specs.declared.fault.Fault.TheVariants.{Refused, Read, Write, Memory}
+use Rattle.laz_file.specs.Copying.{LeavesUnfinished, packed_output}
+use Rattle.laz_file.specs.Laws.{CanBePacked}
+use Rattle.laz_file.specs.Reading.{EndsReading, ReaderSeen, StandsFor, chunk_of}
+use Rattle.laz_file.specs.Refusing.{IsRefusal}
+use Rattle.laz_file.proofs.Knowing.{known_then}
+use Rattle.laz_file.proofs.OneAnswer.{refused_once}
+use Rattle.las_make.specs.Making.{FailsPacking, LeavesForm, fault_of}
+
+no_such : (o : Option (List ℕ)) (P : List ℕ → Type 0) → o ≡ None → IsSomeAnd o P → ⊥
+no_such None P none p = p
+no_such (Some file) P none p = absurd (cc)
+
+not_missing : (held : Option FileMap) (name : List ℕ) (P : List ℕ → Type 0) → WhereKnown held name P → IsMissing held name → ⊥
+not_missing None name P known missing = missing
+not_missing (Some files) name P known missing = no_such (map.get files name) P missing known
+
+some_clash : (o : Option (List ℕ)) (P Q : List ℕ → Type 0) → ((file : List ℕ) → P file → Q file → ⊥) → IsSomeAnd o P → IsSomeAnd o Q → ⊥
+some_clash None P Q clash p q = p
+some_clash (Some file) P Q clash p q = clash file p q
+
+-- if what was read clashes with what is known, nothing is known
+unknown : (held : Option FileMap) (name : List ℕ) (P Q : List ℕ → Type 0) → ((file : List ℕ) → P file → Q file → ⊥) → WhereKnown held name P → WhereKnown held name Q → held ≡ None
+unknown None name P Q clash p q = refl
+unknown (Some files) name P Q clash p q = absurd (some_clash (map.get files name) P Q clash p q)
+
+some_none : (cause : Refusal) → ◌≡◌ {A = Option Refusal} (Some cause) None → ⊥
+some_none cause e = absurd (cc)
+
+module _ (plain packed : List ℕ) (chunk : ℕ) where
+  abbrev Can : List ℕ → Type 0
+  Can file = CanBePacked file chunk
+
+  unchanged : (old new : Option FileMap) → WhereKnown old plain Can → new ≡ old → LeavesForm plain packed chunk old new
+  unchanged old new known same = known_then old plain Can (λ file. LeavesUnfinished (packed_output packed file chunk) (drop (point_offset_of file) file) old new) (λ file can. inl same) known
+
+  module _ (old new : Outside) (known : WhereKnown old.held plain Can) (same : new.held ≡ old.held) where
+    nothing_known : (cause : Refusal) → WhereKnown old.held plain (λ file. IsRefusal file (Some cause)) → (old.held ≡ None) × (new.held ≡ None)
+    nothing_known cause refused =
+        let none = unknown old.held plain Can (λ file. IsRefusal file (Some cause)) (λ file can is. some_none cause (refused_once file (Some cause) None is can.accepted)) known refused in
+        (none, same ∙ none)
+
+    -- it could not be opened
+    pub open_fails : (fault : Fault) → EndsReading (IsMissing old.held plain) old new fault → ((cause : Refusal) → fault ≡ Refused cause → WhereKnown old.held plain (λ file. IsRefusal file (Some cause))) → FailsPacking plain packed chunk old new (fault_of fault)
+    open_fails (Refused cause) ends refused = nothing_known cause (refused cause refl)
+    open_fails Read (inl missing) refused = absurd (not_missing old.held plain Can known missing)
+    open_fails Read (inr rose) refused = (rose, unchanged old.held new.held known same)
+    open_fails Write ends refused = absurd ends
+    open_fails Memory ends refused = unchanged old.held new.held known same
+
+    -- it was opened as a packed file
+    pub packed_unknown : (reader : ReaderSeen) → is_some reader.chunk ≡ true → WhereKnown old.held plain (StandsFor reader) → (old.held ≡ None) × (new.held ≡ None)
+    packed_unknown reader some stands =
+        let none = unknown old.held plain Can (StandsFor reader)
+        (λ file can st.
+        let plain_one : chunk_of (head_of file) ≡ None = ap (λ (b : Bool). cond b (Some (chunk_size_of (head_of file))) None) can.plain in
+        let clash : is_some reader.chunk ≡ false = ap is_some (st.chunk ∙ plain_one) in absurd (cc)) known stands in
+        (none, same ∙ none)
+
+  -- it could not be packed
+  pub pack_fails : (old mid new : Outside) (fault : Fault) → mid.held ≡ old.held → mid.read_faults ≡ old.read_faults → mid.write_faults ≡ old.write_faults → ((cause : Refusal) → fault ≡ Refused cause → ⊥) → (fault ≡ Read → Rose mid.read_faults new.read_faults) → (fault ≡ Write → Rose mid.write_faults new.write_faults)
+      → LeavesForm plain packed chunk old.held new.held → FailsPacking plain packed chunk old new (fault_of fault)
+  pack_fails old mid new (Refused cause) same reads writes never read write left = absurd (never cause refl)
+  pack_fails old mid new Read same reads writes never read write left = (subst (λ (n : ℕ). Rose n new.read_faults) reads (read refl), left)
+  pack_fails old mid new Write same reads writes never read write left = (subst (λ (n : ℕ). Rose n new.write_faults) writes (write refl), left)
+  pack_fails old mid new Memory same reads writes never read write left = left
+
+pub none_if : (chunk : Option ℕ) → is_some chunk ≡ false → chunk ≡ None
+none_if None e = refl
+none_if (Some n) e = absurd (cc)

@@ -1,0 +1,49 @@
+use Rattle.std.proofs.Common.{◌≡◌, Option, sym, ◌∙◌, ap, subst}
+use Rattle.las_outside.specs.Files.{FileMap, WhereKnown, with_file}
+use Rattle.las_outside.specs.Outside.{Outside}
+use Rattle.laz_file.specs.Laws.{CanBePacked}
+use Rattle.laz_file.specs.Packing.{packed_file}
+use Rattle.laz_file.proofs.Putting.{if_err}
+use Rattle.las_make.specs.Making.{FailsMaking}
+use Rattle.las_make.proofs.Ended.{form_whole, made_known, packing_fails, size_fails, size_is}
+use Rattle.las_make.proofs.making.make.Goals as goal
+
+pub pack_plain-requires-clause-accepted : goal.pack_plain-requires-clause-accepted
+pack_plain-requires-clause-accepted g c κs within =
+    let old = g.F.Files.seen c.args.files.now in
+    subst (λ (h : Option FileMap). WhereKnown h c.args.plain.now (λ file. CanBePacked file c.args.chunk)) (sym (ap (λ (o : Outside). o.held) c.in-Ok.ensures.written))
+    (made_known c.args.settings c.requires.range c.args.plain.now c.args.packed.now c.args.chunk old.held c.requires.chunk.0 c.requires.chunk.1)
+
+pub returns-in_err-pack_plain-clause-fails : goal.returns-in_err-pack_plain-clause-fails
+returns-in_err-pack_plain-clause-fails g c =
+    let old = g.F.Files.seen c.args.files.now in
+    let mid = g.F.Files.seen c.write_plain.new.files in
+    let new = g.F.Files.seen c.pack_plain.new.files in
+    if_err (FailsMaking c.args.plain.now c.args.packed.now c.args.settings c.args.chunk old new) c.from_residual.result _ c.from_residual.ensures.1
+    (packing_fails c.args.settings c.requires.range c.args.plain.now c.args.packed.now c.args.chunk old mid new c.in_err-pack_plain.field-0.0 c.in-Ok.ensures.written (c.pack_plain.ensures.later.known ∙ c.write_plain.ensures.later.known) c.in_err-pack_plain.ensures.ends)
+
+pub returns-in-Ok-size-clause-made : goal.returns-in-Ok-size-clause-made
+returns-in-Ok-size-clause-made g c =
+    let old = g.F.Files.seen c.args.files.now in
+    let mid = g.F.Files.seen c.write_plain.new.files in
+    let pre = g.F.Files.seen c.pack_plain.new.files in
+    ap (λ (o : Outside). o.held) c.in-Ok-size.ensures.ok
+    ∙ form_whole c.args.settings c.requires.range c.args.plain.now c.args.packed.now c.args.chunk old.held pre.held (c.pack_plain.ensures.later.known ∙ c.write_plain.ensures.later.known)
+    (subst (λ (h : Option FileMap). WhereKnown h c.args.plain.now (λ file. pre.held ≡ with_file h c.args.packed.now (packed_file file c.args.chunk))) (ap (λ (o : Outside). o.held) c.in-Ok.ensures.written) c.in_ok-pack_plain.ensures.packed)
+
+pub returns-in-Ok-size-clause-packed_size : goal.returns-in-Ok-size-clause-packed_size
+returns-in-Ok-size-clause-packed_size g c some =
+    let old = g.F.Files.seen c.args.files.now in
+    let pre = g.F.Files.seen c.pack_plain.new.files in
+    let whole = form_whole c.args.settings c.requires.range c.args.plain.now c.args.packed.now c.args.chunk old.held pre.held (c.pack_plain.ensures.later.known ∙ c.write_plain.ensures.later.known)
+    (subst (λ (h : Option FileMap). WhereKnown h c.args.plain.now (λ file. pre.held ≡ with_file h c.args.packed.now (packed_file file c.args.chunk))) (ap (λ (o : Outside). o.held) c.in-Ok.ensures.written) c.in_ok-pack_plain.ensures.packed) in
+    size_is c.args.settings c.requires.range c.args.plain.now c.args.packed.now c.args.chunk old.held pre.held _ whole c.in-Ok-size.ensures.length some
+
+pub returns-in-Err-size-clause-fails : goal.returns-in-Err-size-clause-fails
+returns-in-Err-size-clause-fails g c =
+    let old = g.F.Files.seen c.args.files.now in
+    let pre = g.F.Files.seen c.pack_plain.new.files in
+    let new = g.F.Files.seen c.size.new.self in
+    let whole = form_whole c.args.settings c.requires.range c.args.plain.now c.args.packed.now c.args.chunk old.held pre.held (c.pack_plain.ensures.later.known ∙ c.write_plain.ensures.later.known)
+    (subst (λ (h : Option FileMap). WhereKnown h c.args.plain.now (λ file. pre.held ≡ with_file h c.args.packed.now (packed_file file c.args.chunk))) (ap (λ (o : Outside). o.held) c.in-Ok.ensures.written) c.in_ok-pack_plain.ensures.packed) in
+    size_fails c.args.settings c.requires.range c.args.plain.now c.args.packed.now c.args.chunk old pre new whole (c.in_ok-pack_plain.ensures.reads_calm ∙ ap (λ (o : Outside). o.read_faults) c.in-Ok.ensures.written) c.in-Err-size.ensures.err

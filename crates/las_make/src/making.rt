@@ -1,0 +1,73 @@
+//! Both files, one after the other.
+ghost use Rattle.std.specs.Prelude.{◌≡◌, ◌≢◌, ◌≤◌, IfErr, IfOk, IsSome, OnOk, length};
+ghost use Rattle.las_outside.specs.Outside.{Later};
+ghost use Rattle.laz_file.specs.Packing.{packed_file};
+ghost use Rattle.las_make.specs.Made.{IsInRange, made_file};
+ghost use Rattle.las_make.specs.Making.{FailsMaking, with_made};
+
+use crate::packing::{fault_of, pack_plain};
+use crate::plain::write_plain;
+use crate::{MakeFault, Settings};
+use las_outside::{Files, Gate};
+use std::alloc::Global;
+use std::thread::Threads;
+
+/// The sizes of both files, in bytes.
+#[derive(Clone, Copy, Debug, PartialEq, Eq)]
+pub struct Sizes {
+    /// What writing the plain file answered.
+    pub plain: u64,
+    /// What was asked of the packed file after it was written.
+    pub packed: u64,
+}
+
+/// Makes two files, under two names: the plain file that the settings determine, and its packed form in chunks of
+/// `chunk` points, 256 to 250,000. `workers`, 1 to 8, pack side by side, and what is written does not depend on them.
+///
+/// The head of the plain file has the counts of its records from the start. The file is read again and packed, and then
+/// the size of the packed file is asked. After `Write` or `Memory` the files are as before, or the plain file is a
+/// prefix of its own bytes, or it is whole and the packed one is as before, a prefix of its draft, or its draft after a
+/// part of its patch. After `ReadPlain` the plain file is whole, with the packed one as just said, and after
+/// `ReadPacked` both are. A read or a write that failed has raised its count. `Changed` comes only if it is not known
+/// what the files hold.
+pub fn make<R: Threads + Sync, F: Files, G: Gate>(
+    rt: &R,
+    alloc: Global,
+    files: &mut F,
+    gate: &G,
+    plain: &str,
+    packed: &str,
+    settings: Settings,
+    chunk: u32,
+    workers: u32,
+) -> Result<Sizes, MakeFault>
+    requires range { IsInRange settings }
+    requires chunk { (256 ≤ chunk) × (chunk ≤ 250000) }
+    requires workers { (1 ≤ workers) × (workers ≤ 8) }
+    requires names { packed.now ≢ plain.now }
+
+    ensures made { OnOk result
+        ((F.seen files.new).held ≡ with_made plain.now packed.now settings chunk (F.seen files.old).held) }
+    ensures plain_size { IfOk result (λ sizes. sizes.plain ≡ length (made_file settings)) }
+    ensures packed_size { IfOk result (λ sizes. IsSome (F.seen files.old).held
+        → sizes.packed ≡ length (packed_file (made_file settings) chunk)) }
+
+    ensures fails { IfErr result
+        (FailsMaking plain.now packed.now settings chunk (F.seen files.old) (F.seen files.new)) }
+    ensures reads_calm { OnOk result ((F.seen files.new).read_faults ≡ (F.seen files.old).read_faults) }
+    ensures writes_calm { OnOk result ((F.seen files.new).write_faults ≡ (F.seen files.old).write_faults) }
+    ensures later { Later (F.seen files.old) (F.seen files.new) }
+{
+    let plain_size = match write_plain(rt, alloc, files, gate, plain, settings) {
+        Ok(size) => size,
+        Err(fault) => return Err(fault_of(fault)),
+    };
+    pack_plain(rt, alloc, files, gate, plain, packed, chunk, workers)?;
+    match files.size(packed) {
+        Ok(packed_size) => Ok(Sizes {
+            plain: plain_size,
+            packed: packed_size,
+        }),
+        Err(_) => Err(MakeFault::ReadPacked),
+    }
+}
