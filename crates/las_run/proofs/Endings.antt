@@ -10,16 +10,17 @@ use Rattle.las_outside.specs.Sinks.{SinkView, Puts, with_fault, with_more, writt
 use Rattle.las_outside.proofs.Texts.{with_more-none}
 use Rattle.las_words.specs.Says.{usage}
 use Rattle.las_run.specs.declared.stop.Stop.{Stop}
-use Rattle.las_run.specs.Endings.{Output, Cause, Done, Memory, Usage, Unread, Unwritten, Refused, Ending, ends_at_once, status_of, at_end, with_all, files_of, AreUnfinished, named, IsLeft}
+use Rattle.las_run.specs.Endings.{Output, Cause, Done, Memory, Usage, Unread, Unwritten, Refused, Differs, HasTooManyPoints, Ending, ends_at_once, status_of, at_end, with_all, files_of, AreUnfinished, named, IsLeft}
 use Rattle.las_run.specs.Runs.{RunOf, Task, inputs_of}
 use Rattle.las_run.specs.Ends.{Change, EndsAs, FailsToWrite, IsLeftBy, IsQuiet, IsTheEnding, Ends, cause_of}
 use Rattle.las_run.specs.Lines.{line_of}
 
--- a number that is none of three
-none_of : (n a b c : ℕ) → n ≢ a → n ≢ b → n ≢ c → (n ≡ a) ⊎ ((n ≡ b) ⊎ (n ≡ c)) → ⊥
-none_of n a b c not_a not_b not_c (inl is) = not_a is
-none_of n a b c not_a not_b not_c (inr (inl is)) = not_b is
-none_of n a b c not_a not_b not_c (inr (inr is)) = not_c is
+-- a number that is none of four
+none_of : (n a b c d : ℕ) → n ≢ a → n ≢ b → n ≢ c → n ≢ d → (n ≡ a) ⊎ ((n ≡ b) ⊎ ((n ≡ c) ⊎ (n ≡ d))) → ⊥
+none_of n a b c d not_a not_b not_c not_d (inl is) = not_a is
+none_of n a b c d not_a not_b not_c not_d (inr (inl is)) = not_b is
+none_of n a b c d not_a not_b not_c not_d (inr (inr (inl is))) = not_c is
+none_of n a b c d not_a not_b not_c not_d (inr (inr (inr is))) = not_d is
 
 -- nothing was created
 pub nothing_left : (outputs : List Output) (files : FileMap) → IsLeft outputs files files
@@ -91,6 +92,8 @@ module _ (task : Task) (change : Change) where
   left (Unread name) e = e.1
   left Unwritten e = e.1
   left (Refused name r) e = e.2
+  left (Differs name field) e = e.2
+  left HasTooManyPoints e = e.1
 
   as_defined : (cause : Cause) (files : FileMap) (ending : Ending) (err err_now : SinkView) → EndsAs task change cause → Puts (line_of cause) err err_now → change.files.held ≡ Some files → RunOf task files ending
       → (status_of cause ≡ status_of ending.cause) × (change.files_now.held ≡ Some (files_of ending files)) × (change.out_now ≡ with_more change.out ending.text) × Puts (line_of ending.cause) err err_now
@@ -118,7 +121,7 @@ module _ (task : Task) (change : Change) where
   complete Memory files ending err err_now e puts known defined = inr (inl refl)
   complete (Usage i) files ending err err_now e puts known defined = inl (as_defined (Usage i) files ending err err_now e.2 puts known defined)
   complete (Unread name) files ending err err_now e puts known defined = elim e.2 [
-    | inl missing ↦ inl (as_defined (Unread name) files ending err err_now missing.1 puts known defined)
+    | inl missing ↦ inl (as_defined (Unread name) files ending err err_now missing.2 puts known defined)
     | inr failed ↦ inr (inr (inl (refl, failed)))
   ]
   complete Unwritten files ending err err_now e puts known defined = elim e.0 [
@@ -128,6 +131,8 @@ module _ (task : Task) (change : Change) where
         inr (inr (inr (inr (refl, put.rose, subst (λ (x : Ending). x.text ≢ []) (sym (h.1.only ending defined)) h.3))))
   ]
   complete (Refused name r) files ending err err_now e puts known defined = inl (as_defined (Refused name r) files ending err err_now e.1 puts known defined)
+  complete (Differs name field) files ending err err_now e puts known defined = inl (as_defined (Differs name field) files ending err err_now e.1 puts known defined)
+  complete HasTooManyPoints files ending err err_now e puts known defined = inl (as_defined HasTooManyPoints files ending err err_now e.0 puts known defined)
 
   -- what is done or refused is defined
   abbrev pub IsDefined : ℕ → FileMap → Type 0
@@ -138,13 +143,15 @@ module _ (task : Task) (change : Change) where
   defined_by : (cause : Cause) (files : FileMap) → EndsAs task change cause → change.files.held ≡ Some files → IsDefined (status_of cause) files
   defined_by cause files ends known = let h = ends files known in (h.0, h.1, ap status_of h.2, h.3, h.4)
 
-  pub done : (cause : Cause) (files : FileMap) → Ends task change cause → change.files.held ≡ Some files → (status_of cause ≡ 0) ⊎ ((status_of cause ≡ 2) ⊎ (status_of cause ≡ 5)) → IsDefined (status_of cause) files
+  pub done : (cause : Cause) (files : FileMap) → Ends task change cause → change.files.held ≡ Some files → (status_of cause ≡ 0) ⊎ ((status_of cause ≡ 2) ⊎ ((status_of cause ≡ 5) ⊎ (status_of cause ≡ 6))) → IsDefined (status_of cause) files
   done Done files e known is = defined_by Done files e.0 known
-  done Memory files e known is = absurd (none_of 1 0 2 5 (omega arith) (omega arith) (omega arith) is)
+  done Memory files e known is = absurd (none_of 1 0 2 5 6 (omega arith) (omega arith) (omega arith) (omega arith) is)
   done (Usage i) files e known is = defined_by (Usage i) files e.2 known
-  done (Unread name) files e known is = absurd (none_of 3 0 2 5 (omega arith) (omega arith) (omega arith) is)
-  done Unwritten files e known is = absurd (none_of 4 0 2 5 (omega arith) (omega arith) (omega arith) is)
+  done (Unread name) files e known is = absurd (none_of 3 0 2 5 6 (omega arith) (omega arith) (omega arith) (omega arith) is)
+  done Unwritten files e known is = absurd (none_of 4 0 2 5 6 (omega arith) (omega arith) (omega arith) (omega arith) is)
   done (Refused name r) files e known is = defined_by (Refused name r) files e.1 known
+  done (Differs name field) files e known is = defined_by (Differs name field) files e.1 known
+  done HasTooManyPoints files e known is = defined_by HasTooManyPoints files e.0 known
 
   pub wrong_words : (cause : Cause) → Ends task change cause → status_of cause ≡ 2 → (index : ℕ) × (task.said ≡ usage index)
   wrong_words Done e is = absurd (omega (arith, is))
@@ -153,17 +160,21 @@ module _ (task : Task) (change : Change) where
   wrong_words (Unread name) e is = absurd (omega (arith, is))
   wrong_words Unwritten e is = absurd (omega (arith, is))
   wrong_words (Refused name r) e is = absurd (omega (arith, is))
+  wrong_words (Differs name field) e is = absurd (omega (arith, is))
+  wrong_words HasTooManyPoints e is = absurd (omega (arith, is))
 
   pub read_cause : (cause : Cause) → Ends task change cause → status_of cause ≡ 3 → Any (IsMissing change.files.held) (inputs_of task.said) ⊎ Rose change.files.read_faults change.files_now.read_faults
   read_cause Done e is = absurd (omega (arith, is))
   read_cause Memory e is = absurd (omega (arith, is))
   read_cause (Usage i) e is = absurd (omega (arith, is))
   read_cause (Unread name) e is = elim e.2 [
-    | inl missing ↦ inl (any_of (inputs_of task.said) name (IsMissing change.files.held) e.0 missing.0)
+    | inl missing ↦ inl (any_of (inputs_of task.said) name (IsMissing change.files.held) missing.0 missing.1)
     | inr failed ↦ inr failed
   ]
   read_cause Unwritten e is = absurd (omega (arith, is))
   read_cause (Refused name r) e is = absurd (omega (arith, is))
+  read_cause (Differs name field) e is = absurd (omega (arith, is))
+  read_cause HasTooManyPoints e is = absurd (omega (arith, is))
 
   pub write_cause : (cause : Cause) → Ends task change cause → status_of cause ≡ 4 → Rose change.files.write_faults change.files_now.write_faults ⊎ Rose change.out.faults change.out_now.faults
   write_cause Done e is = absurd (omega (arith, is))
@@ -175,6 +186,8 @@ module _ (task : Task) (change : Change) where
     | inr put ↦ inr put.rose
   ]
   write_cause (Refused name r) e is = absurd (omega (arith, is))
+  write_cause (Differs name field) e is = absurd (omega (arith, is))
+  write_cause HasTooManyPoints e is = absurd (omega (arith, is))
 
   -- ---- standard output
   quiet_unless : (cause : Cause) → Ends task change cause → (status_of cause ≡ 0) ⊎ ((status_of cause ≡ 4) ⊎ IsQuiet change)
@@ -184,6 +197,8 @@ module _ (task : Task) (change : Change) where
   quiet_unless (Unread name) e = inr (inr e.3)
   quiet_unless Unwritten e = inr (inl refl)
   quiet_unless (Refused name r) e = inr (inr e.4)
+  quiet_unless (Differs name field) e = inr (inr e.4)
+  quiet_unless HasTooManyPoints e = inr (inr e.3)
 
   pub quiet_but : (cause : Cause) → Ends task change cause → (status_of cause ≡ 0) ⊎ ((status_of cause ≡ 4) ⊎ (change.out_now ≡ change.out))
   quiet_but cause e = quiet_unless cause e
@@ -218,6 +233,8 @@ module _ (task : Task) (change : Change) where
         (h.5.0, ap (λ (o : SinkView). o.written) (h.5.1 ∙ ap (λ (e : Ending). with_fault (with_more change.out (take h.5.0 e.text))) is))
   ]
   put_of (Refused name r) files ending e known defined = nothing_put ending e.4
+  put_of (Differs name field) files ending e known defined = nothing_put ending e.4
+  put_of HasTooManyPoints files ending e known defined = nothing_put ending e.3
 
 -- the text of a stop was put
 pub says : (inputs : List (List ℕ)) (stop other : Stop) (text : List ℕ) (old new : SinkView) → stop ≡ other → text ≡ line_of (cause_of inputs (Err other)) → Puts text old new → Puts (line_of (cause_of inputs (Err stop))) old new

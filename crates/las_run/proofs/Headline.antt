@@ -10,7 +10,6 @@ use Rattle.las_header.specs.Plain.{plain_head}
 use Rattle.las_outside.specs.Files.{FileMap}
 use Rattle.las_outside.specs.Outside.{Outside}
 use Rattle.las_outside.specs.Sinks.{SinkView}
-use Rattle.las_words.specs.Says.{Asked, Said, laszip}
 use Rattle.laz_file.specs.Copying.{packed_output, plain_output}
 use Rattle.laz_file.specs.Laws.{CanBePacked}
 use Rattle.laz_file.specs.Outputs.{finished}
@@ -21,24 +20,27 @@ use Rattle.laz_file.proofs.Accepted.{plain_file}
 use Rattle.laz_file.proofs.Finished.{finished_is}
 use Rattle.laz_file.proofs.Packed.{packed-is, packed_accepted, plain-is, unpacks_again}
 use Rattle.las_run.specs.Endings.{Done, Refused, Ending, ends_at_once, files_of}
-use Rattle.las_run.specs.Tools.{ZipsIf, writes}
-use Rattle.las_run.specs.Runs.{RunOf, RunsAs, Task}
+use Rattle.las_run.specs.Tools.{Zips, ZipsIf, writes}
+use Rattle.las_run.specs.Runs.{RunOf, Task}
 use Rattle.las_run.specs.Ends.{Change}
 use Rattle.las_run.specs.Headline.{AsksLaszip, EndsUnlessCut, Seen}
 use Rattle.las_run.proofs.Endings.{IsComplete}
-use Rattle.las_run.proofs.Opening.{defined, refused_ending}
+use Rattle.las_run.proofs.Commands.{laszip_reads_for}
+use Rattle.las_run.proofs.Opening.{ReadsOne, defined, refused_ending}
+
+-- `laszip` of a held file reads it
+reads_of : (task : Task) (known : FileMap) (file : List ℕ) (zip : AsksLaszip task known file) → ReadsOne task zip.input (Zips zip.input zip.output zip.chunk)
+reads_of task known file zip = laszip_reads_for task zip.input zip.output zip.chunk zip.workers zip.said
 
 -- the ending of words that ask `laszip` of a held file, by what is made of it
 zips_run : (task : Task) (known : FileMap) (file : List ℕ) (zip : AsksLaszip task known file) (packed : Bool) (ending : Ending) → IsAcceptedFile file → is_packed (head_of file) ≡ packed → ZipsIf packed zip.input zip.output zip.chunk file ending → RunOf task known ending
 zips_run task known file zip packed ending accepted is makes =
-    let asked : Asked = laszip zip.input zip.output zip.chunk zip.workers in
-    subst (λ (s : Said). RunsAs task.taps s known ending) (sym zip.said)
-    (defined task.taps asked known (Some file) ending zip.held (inr (accepted, subst (λ (b : Bool). ZipsIf b zip.input zip.output zip.chunk file ending) (sym is) makes)))
+    defined task zip.input (Zips zip.input zip.output zip.chunk) (reads_of task known file zip) known (Some file) ending zip.held
+    (inr (accepted, subst (λ (b : Bool). ZipsIf b zip.input zip.output zip.chunk file ending) (sym is) makes))
 
 refused_run : (task : Task) (known : FileMap) (file : List ℕ) (zip : AsksLaszip task known file) (cause : Refusal) → IsRefusal file (Some cause) → RunOf task known (ends_at_once (Refused zip.input cause))
 refused_run task known file zip cause is =
-    let asked : Asked = laszip zip.input zip.output zip.chunk zip.workers in
-    subst (λ (s : Said). RunsAs task.taps s known (ends_at_once (Refused zip.input cause))) (sym zip.said) (refused_ending task.taps asked known file cause zip.held is).defined
+    (refused_ending task zip.input (Zips zip.input zip.output zip.chunk) (reads_of task known file zip) known file cause zip.held is).defined
 
 -- the packed form of an accepted plain file as a finished output
 finished_form : (file output : List ℕ) (chunk : ℕ) → CanBePacked file chunk → finished (packed_output output file chunk) (drop (point_offset_of file) file) ≡ packed_file file chunk

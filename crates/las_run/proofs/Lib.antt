@@ -1,9 +1,13 @@
+pub mod Commands
 pub mod Converting
 pub mod Endings
 mod Examples
 pub mod Headline
+pub mod Made
 pub mod Making
+pub mod Merging
 pub mod Opening
 pub mod Reporting
 pub mod Running
 pub mod Saying
+pub mod Splitting

@@ -22,7 +22,7 @@ use Rattle.laz_file.specs.Reading.{ReaderSeen, StandsFor}
 use Rattle.laz_file.proofs.Finished.{finished_is}
 use Rattle.laz_file.proofs.Packed.{plain-is}
 use Rattle.las_run.specs.Endings.{ComesAtOpening, Done, Refused, Ending, IsLeft, files_of}
-use Rattle.las_run.specs.Tools.{Zips, ZipsIf, writes}
+use Rattle.las_run.specs.Tools.{Zips, ZipsIf, output_of, writes}
 use Rattle.las_run.specs.Ends.{EndsMaking, IsOnlyEnding, LeavesOf, MakesAs}
 use Rattle.las_run.proofs.Endings.{left_if_done, nothing_left}
 use Rattle.las_run.proofs.Opening.{both_known, known_more, some_outputs}
@@ -30,14 +30,15 @@ use Rattle.las_run.proofs.Opening.{both_known, known_more, some_outputs}
 -- ---- outputs that are written
 
 -- what stands of an output that was left unfinished
+pub left_of_output : (out : points.Output) (records : List ℕ) (held now : Option FileMap) (files : FileMap) → LeavesUnfinished out records held now → held ≡ Some files → (after : FileMap) × (now ≡ Some after) × IsLeft (output_of out records ∷ []) files after
+left_of_output out records held now files (inl same) known = (files, same ∙ known, nothing_left (output_of out records ∷ []) files)
+left_of_output out records held now files (inr left) known = (map.insert files out.name left.0, left.2 ∙ ap (λ (h : Option FileMap). with_file h out.name left.0) known, (1, left.0 ∷ [], (left.1, tt), refl))
+
 pub left_of_one : (out : points.Output) (records : List ℕ) (held now : Option FileMap) (files : FileMap) (input : List ℕ) (refusal : Option Refusal) (ending : Ending) → LeavesUnfinished out records held now → held ≡ Some files → ending ≡ writes input out records refusal
     → (after : FileMap) × (now ≡ Some after) × IsLeft ending.outputs files after
-left_of_one out records held now files input refusal ending (inl same) known is = (files, same ∙ known, nothing_left ending.outputs files)
-left_of_one out records held now files input refusal ending (inr left) known is = (
-  map.insert files out.name left.0,
-  left.2 ∙ ap (λ (h : Option FileMap). with_file h out.name left.0) known,
-  subst (λ (e : Ending). IsLeft e.outputs files (map.insert files out.name left.0)) (sym is) (1, left.0 ∷ [], (left.1, tt), refl),
-)
+left_of_one out records held now files input refusal ending left known is =
+    let l = left_of_output out records held now files left known in
+    (l.0, l.1, subst (λ (e : Ending). IsLeft e.outputs files l.0) (sym is) l.2)
 
 -- what stands of one that is done, or that a refusal stopped
 pub done_of_one : (out : points.Output) (records text : List ℕ) (held now : Option FileMap) (files : FileMap) (input : List ℕ) → now ≡ with_file held out.name text → text ≡ points.finished out records → held ≡ Some files → now ≡ Some (files_of (writes input out records None) files)

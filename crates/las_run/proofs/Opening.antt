@@ -8,8 +8,6 @@ use Rattle.las_outside.specs.Files.{FileMap, IsMissing, WhereKnown}
 use Rattle.las_outside.specs.Outside.{Outside}
 use Rattle.las_outside.specs.Sinks.{SinkView, with_fault, with_more}
 use Rattle.las_outside.proofs.Texts.{with_more-none}
-use Rattle.las_info.specs.Tallies.{TapSeen}
-use Rattle.las_words.specs.Says.{Asked, asks}
 use Rattle.laz_file.specs.declared.fault.Fault.{Fault}
 use Rattle.laz_file.specs.declared.fault.Fault.TheVariants as file
 use Rattle.laz_file.specs.Refusing.{IsAcceptedFile, IsRefusal}
@@ -17,7 +15,7 @@ use Rattle.laz_file.proofs.OneAnswer.{refused_once}
 use Rattle.las_run.specs.declared.stop.Stop.{Stop}
 use Rattle.las_run.specs.declared.stop.Stop.TheVariants as stop
 use Rattle.las_run.specs.Endings.{Cause, Done, Unread, Refused, Ending, IsLeft, Output, at_end, ends_at_once, files_of, with_all}
-use Rattle.las_run.specs.Runs.{Accepts, Makes, Opens, RunOf, Task, input_of, inputs_of}
+use Rattle.las_run.specs.Runs.{Accepts, Opens, OpensIn, RunOf, Task, files_read_by, inputs_of}
 use Rattle.las_run.specs.Ends.{Change, quiet, Ends, EndsAs, EndsMaking, EndsPutting, HasOutput, IsLeftBy, IsOnlyEnding, IsTheEnding, LeavesOf, MakesAs, MakesText, StopsOpening, cause_of, stopped_by}
 use Rattle.las_run.proofs.Endings.{left_before}
 
@@ -78,49 +76,54 @@ module _ (Makes : List ℕ → Ending → Type 0) (input : List ℕ) (old mid ne
   making_after (Err file.Write) ends = (subst (λ (n : ℕ). Rose n new.write_faults) writes ends.0, left_from ends.1)
   making_after (Err file.Memory) ends = left_from ends
 
--- ---- the endings of a command
-module _ (taps : List TapSeen) (asked : Asked) where
-  abbrev pub task : Task
-  task = record { said = asks asked; taps = taps }
+-- ---- the endings of a command with one input
 
-  abbrev name : List ℕ
-  name = input_of asked
+-- The task reads one input, of this name, and makes something of it.
+pub record ReadsOne (task : Task) (name : List ℕ) (Makes : List ℕ → Ending → Type 0) : Type 0 where
+  pub inputs : inputs_of task.said ≡ name ∷ []
+  pub reads : files_read_by task.said ≡ name ∷ []
+  pub runs : (files : FileMap) (ending : Ending) → OpensIn files name Makes ending → RunOf task files ending
+  pub opens : (files : FileMap) (ending : Ending) → RunOf task files ending → OpensIn files name Makes ending
 
-  pub defined : (files : FileMap) (o : Option (List ℕ)) (ending : Ending) → finmap.get files (input_of asked) ≡ o → Opens (input_of asked) o (Makes taps asked) ending → RunOf task files ending
-  defined files o ending held is = subst (λ (f : Option (List ℕ)). Opens name f (Makes taps asked) ending) (sym held) is
+module _ (task : Task) (name : List ℕ) (Makes : List ℕ → Ending → Type 0) (one : ReadsOne task name Makes) where
+  pub defined : (files : FileMap) (o : Option (List ℕ)) (ending : Ending) → finmap.get files name ≡ o → Opens name o Makes ending → RunOf task files ending
+  defined files o ending held is = one.runs files ending (subst (λ (f : Option (List ℕ)). Opens name f Makes ending) (sym held) is)
 
-  pub opened : (files : FileMap) (o : Option (List ℕ)) (ending : Ending) → finmap.get files (input_of asked) ≡ o → RunOf task files ending → Opens (input_of asked) o (Makes taps asked) ending
-  opened files o ending held is = subst (λ (f : Option (List ℕ)). Opens name f (Makes taps asked) ending) held is
+  pub opened : (files : FileMap) (o : Option (List ℕ)) (ending : Ending) → finmap.get files name ≡ o → RunOf task files ending → Opens name o Makes ending
+  opened files o ending held is = subst (λ (f : Option (List ℕ)). Opens name f Makes ending) held (one.opens files ending is)
 
   -- of a refused input, and of an accepted one
-  only_refused : (file : List ℕ) (cause : Refusal) (other : Ending) → IsRefusal file (Some cause) → Accepts name file (Makes taps asked file) other → other ≡ ends_at_once (Refused name cause)
+  only_refused : (file : List ℕ) (cause : Refusal) (other : Ending) → IsRefusal file (Some cause) → Accepts name file (Makes file) other → other ≡ ends_at_once (Refused name cause)
   only_refused file cause other is (inl r) = r.2 ∙ ap (λ (c : Refusal). ends_at_once (Refused name c)) (some_refusal r.0 cause (refused_once file (Some r.0) (Some cause) r.1 is))
   only_refused file cause other is (inr a) = absurd (none_is_some cause (refused_once file None (Some cause) a.0 is))
 
-  pub accepted_makes : (file : List ℕ) (other : Ending) → IsAcceptedFile file → Accepts (input_of asked) file (Makes taps asked file) other → Makes taps asked file other
+  pub accepted_makes : (file : List ℕ) (other : Ending) → IsAcceptedFile file → Accepts name file (Makes file) other → Makes file other
   accepted_makes file other is (inl r) = absurd (none_is_some r.0 (refused_once file None (Some r.0) is r.1))
   accepted_makes file other is (inr a) = a.1
 
-  pub missing_ending : (files : FileMap) → finmap.get files (input_of asked) ≡ None → IsTheEnding task files (ends_at_once (Unread (input_of asked)))
+  pub missing_ending : (files : FileMap) → finmap.get files name ≡ None → IsTheEnding task files (ends_at_once (Unread name))
   missing_ending files none = record {
     defined = defined files None (ends_at_once (Unread name)) none refl;
     only = λ other is. opened files None other none is;
   }
 
-  pub refused_ending : (files : FileMap) (file : List ℕ) (cause : Refusal) → finmap.get files (input_of asked) ≡ Some file → IsRefusal file (Some cause) → IsTheEnding task files (ends_at_once (Refused (input_of asked) cause))
+  pub refused_ending : (files : FileMap) (file : List ℕ) (cause : Refusal) → finmap.get files name ≡ Some file → IsRefusal file (Some cause) → IsTheEnding task files (ends_at_once (Refused name cause))
   refused_ending files file cause held is = record {
     defined = defined files (Some file) (ends_at_once (Refused name cause)) held (inl (cause, is, refl));
     only = λ other run. only_refused file cause other is (opened files (Some file) other held run);
   }
 
-  pub accepted_ending : (files : FileMap) (file : List ℕ) (ending : Ending) → finmap.get files (input_of asked) ≡ Some file → IsAcceptedFile file → IsOnlyEnding (Makes taps asked file) ending → IsTheEnding task files ending
+  pub accepted_ending : (files : FileMap) (file : List ℕ) (ending : Ending) → finmap.get files name ≡ Some file → IsAcceptedFile file → IsOnlyEnding (Makes file) ending → IsTheEnding task files ending
   accepted_ending files file ending held is only = record {
     defined = defined files (Some file) ending held (inr (is, only.makes));
     only = λ other run. only.only other (accepted_makes file other is (opened files (Some file) other held run));
   }
 
-  is_input : Contains (inputs_of (asks asked)) name
-  is_input = (0, lit< tt, refl)
+  is_input : Contains (inputs_of task.said) name
+  is_input = subst (λ (ns : List (List ℕ)). Contains ns name) (sym one.inputs) (0, lit< tt, refl)
+
+  is_read : Contains (files_read_by task.said) name
+  is_read = subst (λ (ns : List (List ℕ)). Contains ns name) (sym one.reads) (0, lit< tt, refl)
 
   -- ---- how a run of the command ends
   module _ (old new : Outside) (out : SinkView) where
@@ -137,77 +140,86 @@ module _ (taps : List TapSeen) (asked : Asked) where
     before : new.held ≡ old.held → IsLeftBy task (quiet old new out)
     before same = left_before task (quiet old new out) same
 
-    pub ends_opening : (s : Stop) → StopsOpening 0 (input_of asked) old new s → new.held ≡ old.held → Ends task (quiet old new out) (cause_of (input_of asked ∷ []) (Err s))
+    pub ends_opening : (s : Stop) → StopsOpening 0 name old new s → new.held ≡ old.held → Ends task (quiet old new out) (cause_of (name ∷ []) (Err s))
     ends_opening stop.Memory stops same = (before same, refl)
     ends_opening (stop.Usage index) stops same = absurd stops
     ends_opening (stop.Read number) stops same =
         subst (λ (n : ℕ). Ends task (quiet old new out) (cause_of (name ∷ []) (Err (stop.Read n)))) (sym stops.0) (
-          is_input,
+          is_read,
           before same,
           elim stops.1 [
-            | inl missing ↦ inl (missing, missing_ends missing same)
+            | inl missing ↦ inl (is_input, missing, missing_ends missing same)
             | inr rose ↦ inr rose
           ],
           refl,
         )
     ends_opening stop.Write stops same = absurd stops
+    ends_opening (stop.Differs number field) stops same = absurd stops
+    ends_opening stop.TooManyPoints stops same = absurd stops
     ends_opening (stop.Refused number cause) stops same =
         subst (λ (n : ℕ). Ends task (quiet old new out) (cause_of (name ∷ []) (Err (stop.Refused n cause)))) (sym stops.0)
-        (is_input, refused_ends cause stops.1 same, before same, (λ first. same), refl)
+        (is_read, refused_ends cause stops.1 same, before same, (λ first. same), refl)
 
     -- of an accepted input
     module _ (accepted : WhereKnown old.held name IsAcceptedFile) where
-      made_ends : (cause : Cause) → MakesAs (Makes taps asked) name old new cause → EndsAs task (quiet old new out) cause
+      made_ends : (cause : Cause) → MakesAs Makes name old new cause → EndsAs task (quiet old new out) cause
       made_ends cause makes files known =
-          let P : List ℕ → Type 0 = λ file. (ending : Ending) × IsOnlyEnding (Makes taps asked file) ending × (ending.cause ≡ cause) × (ending.text ≡ []) × ((fs : FileMap) → old.held ≡ Some fs → new.held ≡ Some (files_of ending fs)) in
+          let P : List ℕ → Type 0 = λ file. (ending : Ending) × IsOnlyEnding (Makes file) ending × (ending.cause ≡ cause) × (ending.text ≡ []) × ((fs : FileMap) → old.held ≡ Some fs → new.held ≡ Some (files_of ending fs)) in
           let both = both_known old.held name IsAcceptedFile P accepted makes in
           let h = got files name (λ file. IsAcceptedFile file × P file) (subst (λ (o : Option FileMap). WhereKnown o name (λ file. IsAcceptedFile file × P file)) known both) in
           let e = h.2.1 in
           (e.0, accepted_ending files h.0 e.0 h.1 h.2.0 e.1, e.2, e.4 files known, with_more-none out ∙ ap (with_more out) (sym e.3))
 
-      left_of : LeavesOf (Makes taps asked) name old new → IsLeftBy task (quiet old new out)
+      left_of : LeavesOf Makes name old new → IsLeftBy task (quiet old new out)
       left_of leaves files ending known run =
-          let P : List ℕ → Type 0 = λ file. (fs : FileMap) (e : Ending) → old.held ≡ Some fs → Makes taps asked file e → (now : FileMap) × (new.held ≡ Some now) × IsLeft e.outputs fs now in
+          let P : List ℕ → Type 0 = λ file. (fs : FileMap) (e : Ending) → old.held ≡ Some fs → Makes file e → (now : FileMap) × (new.held ≡ Some now) × IsLeft e.outputs fs now in
           let both = both_known old.held name IsAcceptedFile P accepted leaves in
           let h = got files name (λ file. IsAcceptedFile file × P file) (subst (λ (o : Option FileMap). WhereKnown o name (λ file. IsAcceptedFile file × P file)) known both) in
           h.2.1 files ending known (accepted_makes h.0 ending h.2.0 (opened files (Some h.0) ending h.1 run))
 
-      outputs : ((file : List ℕ) (ending : Ending) → Makes taps asked file ending → ending.outputs ≢ []) → HasOutput task (quiet old new out)
+      outputs : WhereKnown old.held name (λ file. (ending : Ending) → Makes file ending → ending.outputs ≢ []) → HasOutput task (quiet old new out)
       outputs some files ending known run =
-          let h = got files name IsAcceptedFile (subst (λ (o : Option FileMap). WhereKnown o name IsAcceptedFile) known accepted) in
-          some h.0 ending (accepted_makes h.0 ending h.2 (opened files (Some h.0) ending h.1 run))
+          let P : List ℕ → Type 0 = λ file. (e : Ending) → Makes file e → e.outputs ≢ [] in
+          let both = both_known old.held name IsAcceptedFile P accepted some in
+          let h = got files name (λ file. IsAcceptedFile file × P file) (subst (λ (o : Option FileMap). WhereKnown o name (λ file. IsAcceptedFile file × P file)) known both) in
+          h.2.1 ending (accepted_makes h.0 ending h.2.0 (opened files (Some h.0) ending h.1 run))
 
-      pub ends_making : ((file : List ℕ) (ending : Ending) → Makes taps asked file ending → ending.outputs ≢ []) → (outcome : Result (Unit {0}) Fault) → EndsMaking (Makes taps asked) (input_of asked) old new outcome → Ends task (quiet old new out) (cause_of (input_of asked ∷ []) (stopped_by 0 outcome))
-      ends_making some (Ok done) ends = (made_ends Done ends.0, left_of ends.1)
-      ends_making some (Err (file.Refused cause)) ends = (is_input, made_ends (Refused name cause) ends.0, left_of ends.1, (λ first. absurd (ends.2 first)), refl)
-      ends_making some (Err file.Read) ends = (is_input, left_of ends.1, inr ends.0, refl)
-      ends_making some (Err file.Write) ends = (inl (ends.0, outputs some, refl), left_of ends.1)
-      ends_making some (Err file.Memory) ends = (left_of ends, refl)
+      -- a write that failed was of an output, if there is one
+      pub ends_writing : (outcome : Result (Unit {0}) Fault) → (outcome ≡ Err file.Write → WhereKnown old.held name (λ file. (ending : Ending) → Makes file ending → ending.outputs ≢ [])) → EndsMaking Makes name old new outcome
+          → Ends task (quiet old new out) (cause_of (name ∷ []) (stopped_by 0 outcome))
+      ends_writing (Ok done) some ends = (made_ends Done ends.0, left_of ends.1)
+      ends_writing (Err (file.Refused cause)) some ends = (is_read, made_ends (Refused name cause) ends.0, left_of ends.1, (λ first. absurd (ends.2 first)), refl)
+      ends_writing (Err file.Read) some ends = (is_read, left_of ends.1, inr ends.0, refl)
+      ends_writing (Err file.Write) some ends = (inl (ends.0, outputs (some refl), refl), left_of ends.1)
+      ends_writing (Err file.Memory) some ends = (left_of ends, refl)
+
+      pub ends_making : ((file : List ℕ) (ending : Ending) → Makes file ending → ending.outputs ≢ []) → (outcome : Result (Unit {0}) Fault) → EndsMaking Makes name old new outcome → Ends task (quiet old new out) (cause_of (name ∷ []) (stopped_by 0 outcome))
+      ends_making some outcome ends = ends_writing outcome (λ is. known_more old.held name IsAcceptedFile (λ file. (ending : Ending) → Makes file ending → ending.outputs ≢ []) (λ file accepted ending makes. some file ending makes) accepted) ends
 
   -- ---- a command that puts a text, and changes no file
   module _ (change : Change) (accepted : WhereKnown change.files.held name IsAcceptedFile) (same : change.files_now.held ≡ change.files.held) where
     -- what is made of the input, if the files are known
-    text_made : (P : Ending → Type 0) → MakesText (Makes taps asked) name change P → (files : FileMap) → change.files.held ≡ Some files
+    text_made : (P : Ending → Type 0) → MakesText Makes name change P → (files : FileMap) → change.files.held ≡ Some files
         → (ending : Ending) × IsTheEnding task files ending × P ending × (change.files_now.held ≡ Some (files_of ending files))
     text_made P makes files known =
-        let Q : List ℕ → Type 0 = λ file. (ending : Ending) × IsOnlyEnding (Makes taps asked file) ending × (ending.outputs ≡ []) × P ending in
+        let Q : List ℕ → Type 0 = λ file. (ending : Ending) × IsOnlyEnding (Makes file) ending × (ending.outputs ≡ []) × P ending in
         let both = both_known change.files.held name IsAcceptedFile Q accepted makes in
         let h = got files name (λ file. IsAcceptedFile file × Q file) (subst (λ (o : Option FileMap). WhereKnown o name (λ file. IsAcceptedFile file × Q file)) known both) in
         let e = h.2.1 in
         (e.0, accepted_ending files h.0 e.0 h.1 h.2.0 e.1, e.3, same ∙ known ∙ sym (ap (λ (os : List Output). Some (with_all files (map (at_end e.0.cause) os))) e.2))
 
-    put_as : (cause : Cause) (P : Ending → Type 0) → ((ending : Ending) → P ending → (ending.cause ≡ cause) × (change.out_now ≡ with_more change.out ending.text)) → MakesText (Makes taps asked) name change P → EndsAs task change cause
+    put_as : (cause : Cause) (P : Ending → Type 0) → ((ending : Ending) → P ending → (ending.cause ≡ cause) × (change.out_now ≡ with_more change.out ending.text)) → MakesText Makes name change P → EndsAs task change cause
     put_as cause P to makes files known =
         let h = text_made P makes files known in
         let p = to h.0 h.2 in
         (h.0, h.1, p.0, h.3, p.1)
 
-    pub ends_putting : (outcome : Result (Unit {0}) Stop) → EndsPutting (Makes taps asked) (input_of asked) change outcome → Ends task change (cause_of (input_of asked ∷ []) outcome)
+    pub ends_putting : (outcome : Result (Unit {0}) Stop) → EndsPutting Makes name change outcome → Ends task change (cause_of (name ∷ []) outcome)
     ends_putting (Ok done) ends = (put_as Done (λ ending. (ending.cause ≡ Done) × (change.out_now ≡ with_more change.out ending.text)) (λ ending p. p) ends, left_before task change same)
     ends_putting (Err stop.Memory) ends = (left_before task change same, ends)
     ends_putting (Err (stop.Usage index)) ends = absurd ends
     ends_putting (Err (stop.Read number)) ends =
-        subst (λ (n : ℕ). Ends task change (cause_of (name ∷ []) (Err (stop.Read n)))) (sym ends.0) (is_input, left_before task change same, inr ends.1, ends.2)
+        subst (λ (n : ℕ). Ends task change (cause_of (name ∷ []) (Err (stop.Read n)))) (sym ends.0) (is_read, left_before task change same, inr ends.1, ends.2)
     ends_putting (Err stop.Write) ends = (
       inr (record {
         rose = ends.0;
@@ -217,12 +229,14 @@ module _ (taps : List TapSeen) (asked : Asked) where
     )
     ends_putting (Err (stop.Refused number cause)) ends =
         subst (λ (n : ℕ). Ends task change (cause_of (name ∷ []) (Err (stop.Refused n cause)))) (sym ends.0) (
-          is_input,
+          is_read,
           put_as (Refused name cause) (λ ending. (ending.cause ≡ Refused name cause) × (ending.text ≡ [])) (λ ending p. (p.0, ends.2 ∙ with_more-none change.out ∙ ap (with_more change.out) (sym p.1))) ends.3,
           left_before task change same,
           (λ first. absurd (ends.1 first)),
           ends.2,
         )
+    ends_putting (Err (stop.Differs number field)) ends = absurd ends
+    ends_putting (Err stop.TooManyPoints) ends = absurd ends
 
 -- the same after calls that have changed no file and failed nowhere
 pub putting_after : (Makes : List ℕ → Ending → Type 0) (input : List ℕ) (old mid new : Outside) (out out_now : SinkView) → mid.held ≡ old.held → mid.read_faults ≡ old.read_faults → (outcome : Result (Unit {0}) Stop)
@@ -235,3 +249,5 @@ putting_after Makes input old mid new out out_now same reads (Err stop.Write) en
     (ends.0, subst (λ (h : Option FileMap). WhereKnown h input (λ file. (ending : Ending) × IsOnlyEnding (Makes file) ending × (ending.outputs ≡ []) × ((ending.cause ≡ Done) × (ending.text ≢ []) × ((n : ℕ) × (out_now ≡ with_fault (with_more out (take n ending.text))))))) same ends.1)
 putting_after Makes input old mid new out out_now same reads (Err (stop.Refused number cause)) ends =
     (ends.0, ends.1, ends.2, subst (λ (h : Option FileMap). WhereKnown h input (λ file. (ending : Ending) × IsOnlyEnding (Makes file) ending × (ending.outputs ≡ []) × ((ending.cause ≡ Refused input cause) × (ending.text ≡ [])))) same ends.3)
+putting_after Makes input old mid new out out_now same reads (Err (stop.Differs number field)) ends = ends
+putting_after Makes input old mid new out out_now same reads (Err stop.TooManyPoints) ends = ends

@@ -5,14 +5,14 @@ use Rattle.std.specs.FinMap as finmap
 use Rattle.std.specs.List.{concat}
 use Rattle.std.specs.Option.{option_map}
 use Rattle.las_header.specs.declared.refusal.Refusal.{Refusal}
-use Rattle.las_header.specs.declared.refusal.Refusal.TheVariants.{BadChunk, RawRange}
+use Rattle.las_header.specs.declared.refusal.Refusal.TheVariants.{BadChunk, RawRange, TooManyParts}
 use Rattle.las_header.specs.Conditions.{IsFirst, conditions}
 use Rattle.las_header.specs.Fields.{head_of, is_packed, point_offset_of}
 use Rattle.las_header.specs.Refusals.{first_cause}
 use Rattle.las_header.proofs.ConditionLemmas.{IsFirst-append_none, IsFirst-append_some, IsFirst-tests}
 use Rattle.las_outside.specs.Files.{FileMap}
 use Rattle.las_info.specs.Tallies.{TapSeen}
-use Rattle.las_words.specs.Says.{Asked, Said, asks, laszip, las2las, lasinfo, usage}
+use Rattle.las_words.specs.Says.{Asked, Said, asks, laszip, las2las, lasinfo, lassplit, lasmerge, make, usage}
 use Rattle.laz_file.specs.Copying.{packed_output, plain_output}
 use Rattle.laz_file.specs.Outputs.{records_after}
 use Rattle.laz_file.specs.Packing.{packed_file}
@@ -26,11 +26,16 @@ use Rattle.laz_file.proofs.Packed.{packed_accepted, unpacks_again}
 use Rattle.las_filter.specs.Kept.{Steps}
 use Rattle.las_convert.specs.Converting.{AreFirstRecords, ConvertsTo, converted_output, kept_in}
 use Rattle.las_run.specs.Endings.{ComesAtOpening, ComesFirst, Ending, Refused, Unread, Usage, ends_at_once}
-use Rattle.las_run.specs.Tools.{Converts, Reports, ZipsIf, cause_by, chosen_taps, chunk_if, report_of, reports, writes}
-use Rattle.las_run.specs.Runs.{Accepts, Makes, Opens, RunOf, RunsAs, Task, input_of}
-use Rattle.las_run.specs.EndingLaws.{HoldsOnce, IsOneEnding, LaszipMakesOnce, MakesOnce, MissingInputsEnd, PackedFormsEnd, PlainHoldsOnce, PlainInputsEnd, WorkersDoNotMatter, WrongWordsEnd, with_one_worker}
+use Rattle.las_filter.specs.declared.rule.Rule.{Rule}
+use Rattle.las_merge.specs.Merging.{BadPlace}
+use Rattle.las_split.specs.Outputs.{part_files}
+use Rattle.las_split.specs.Splitting.{SplitsTo}
+use Rattle.las_split.proofs.SomeSplits.{splits_some}
+use Rattle.las_run.specs.Tools.{Converts, Reports, Splits, Zips, ZipsIf, cause_at, cause_by, chosen_taps, chunk_if, part_outputs, report_of, reports, writes}
+use Rattle.las_run.specs.Runs.{Accepts, Does, Opens, OpensIn, RunOf, RunsAs, Task}
+use Rattle.las_run.specs.EndingLaws.{HoldsOnce, LaszipEndsOnce, MissingInputsEnd, PackedFormsEnd, PlainHoldsOnce, PlainInputsEnd, WorkersDoNotMatter, WrongWordsEnd, input_of, with_one_worker}
+use Rattle.las_run.proofs.Commands.{laszip_reads_for}
 use Rattle.las_run.proofs.Headline.{is_packed_form}
-use Rattle.las_run.proofs.Opening.{defined, missing_ending}
 
 -- ---- one ending
 some_cause : (a b : Refusal) → ◌≡◌ {A = Option Refusal} (Some a) (Some b) → a ≡ b
@@ -48,13 +53,6 @@ one_accepted name file Makes one other once (inr a) (inr b) = once one other a.1
 one_opened : (name : List ℕ) (o : Option (List ℕ)) (Makes : List ℕ → Ending → Type 0) (one other : Ending) → ((file : List ℕ) → o ≡ Some file → (a b : Ending) → Makes file a → Makes file b → a ≡ b) → Opens name o Makes one → Opens name o Makes other → one ≡ other
 one_opened name None Makes one other once is was = is ∙ sym was
 one_opened name (Some file) Makes one other once is was = one_accepted name file (Makes file) one other (once file refl) is was
-
-one_said : (taps : List TapSeen) (said : Said) (files : FileMap) (one other : Ending) → ((asked : Asked) (file : List ℕ) → said ≡ asks asked → finmap.get files (input_of asked) ≡ Some file → MakesOnce taps asked file) → RunsAs taps said files one → RunsAs taps said files other → one ≡ other
-one_said taps (asks asked) files one other once is was = one_opened (input_of asked) (finmap.get files (input_of asked)) (Makes taps asked) one other (λ file held. once asked file refl held) is was
-one_said taps (usage index) files one other once is was = is ∙ sym was
-
-pub one_ending : IsOneEnding
-one_ending task files one other once is was = one_said task.taps task.said files one other once is was
 
 -- ---- one list of blocks
 module _ (file : List ℕ) (pieces : List Piece) (are : ArePieces file pieces) (once : HoldsOnce file) where
@@ -84,8 +82,10 @@ zips_once true input output chunk file one other once is was =
     is.3 ∙ ap (λ (bs : List (List ℕ)). ending bs is.1) same.0 ∙ ap (ending was.0) same.1 ∙ sym was.3
 zips_once false input output chunk file one other once is was = is ∙ sym was
 
-pub laszip_once : LaszipMakesOnce
-laszip_once taps input output chunk workers file once one other is was = zips_once (is_packed (head_of file)) input output chunk file one other once is was
+pub laszip_once : LaszipEndsOnce
+laszip_once task files input output chunk workers one other said once is was =
+    let reads = laszip_reads_for task input output chunk workers said in
+    one_opened input (finmap.get files input) (Zips input output chunk) one other (λ file held a b. zips_once (is_packed (head_of file)) input output chunk file a b (once file held)) (reads.opens files one is) (reads.opens files other was)
 
 plain_once : (packed : Bool) (file : List ℕ) (piece : Piece) (one other : List ℕ) → packed ≡ false → HoldsIf packed file piece one → HoldsIf packed file piece other → one ≡ other
 plain_once true file piece one other plain is was = absurd (cc)
@@ -101,10 +101,38 @@ run_of task files said ending is run = subst (λ (s : Said). RunsAs task.taps s 
 pub wrong_words_end : WrongWordsEnd
 wrong_words_end task files index is = (ends_at_once (Usage index), run_of task files (usage index) (ends_at_once (Usage index)) is refl)
 
+-- a command with one input opens it
+abbrev MakesOf : List TapSeen → Asked → (file : List ℕ) → Ending → Type 0
+MakesOf taps (laszip input output chunk workers) file ending = Zips input output chunk file ending
+MakesOf taps (las2las input output plan packed chunk workers) file ending = Converts input output plan packed chunk file ending
+MakesOf taps (lasinfo input tallies workers) file ending = Reports taps input tallies file ending
+MakesOf taps (lassplit input stem end rule workers) file ending = Splits input stem end rule file ending
+MakesOf taps (lasmerge inputs output packed chunk workers) file ending = ⊥
+MakesOf taps (make output packed points seed format extra chunk workers) file ending = ⊥
+
+none_named : {X : Type 0} (name : List ℕ) → ◌≡◌ {A = Option (List ℕ)} None (Some name) → X
+none_named name e = absurd (cc)
+
+some_named : (a b : List ℕ) → ◌≡◌ {A = Option (List ℕ)} (Some a) (Some b) → a ≡ b
+some_named a b e = cc
+
+opens_one : (taps : List TapSeen) (asked : Asked) (name : List ℕ) (files : FileMap) (ending : Ending) → input_of asked ≡ Some name → OpensIn files name (MakesOf taps asked) ending → Does taps asked files ending
+opens_one taps (laszip input output chunk workers) name files ending is opens = subst (λ (n : List ℕ). OpensIn files n (Zips input output chunk) ending) (sym (some_named input name is)) opens
+opens_one taps (las2las input output plan packed chunk workers) name files ending is opens = subst (λ (n : List ℕ). OpensIn files n (Converts input output plan packed chunk) ending) (sym (some_named input name is)) opens
+opens_one taps (lasinfo input tallies workers) name files ending is opens = subst (λ (n : List ℕ). OpensIn files n (Reports taps input tallies) ending) (sym (some_named input name is)) opens
+opens_one taps (lassplit input stem end rule workers) name files ending is opens = subst (λ (n : List ℕ). OpensIn files n (Splits input stem end rule) ending) (sym (some_named input name is)) opens
+opens_one taps (lasmerge inputs output packed chunk workers) name files ending is opens = none_named name is
+opens_one taps (make output packed points seed format extra chunk workers) name files ending is opens = none_named name is
+
+-- so what is opened is run
+opened_runs : (task : Task) (files : FileMap) (asked : Asked) (name : List ℕ) (o : Option (List ℕ)) (ending : Ending) → task.said ≡ asks asked → input_of asked ≡ Some name → finmap.get files name ≡ o
+    → Opens name o (MakesOf task.taps asked) ending → RunOf task files ending
+opened_runs task files asked name o ending said is held opens =
+    run_of task files (asks asked) ending said
+    (opens_one task.taps asked name files ending is (subst (λ (f : Option (List ℕ)). Opens name f (MakesOf task.taps asked) ending) (sym held) opens))
+
 pub missing_inputs_end : MissingInputsEnd
-missing_inputs_end task files asked is missing =
-    let ending = ends_at_once (Unread (input_of asked)) in
-    (ending, run_of task files (asks asked) ending is (missing_ending task.taps asked files missing).defined)
+missing_inputs_end task files asked name said is missing = (ends_at_once (Unread name), opened_runs task files asked name None (ends_at_once (Unread name)) said is missing refl)
 
 -- a plain file is refused or accepted
 plain_refusal : (file : List ℕ) (packed : Bool) (tests : Option Refusal) → packed ≡ false → IsFirst (conditions (tested_causes file)) tests → IsFirst (conditions (tested_causes file) ++ chunk_causes packed file) tests
@@ -139,6 +167,11 @@ las2las_ending input output plan packed chunk file blocks are =
     let h = converts_some plan file blocks are in
     (writes input (converted_output output file (chunk_if packed chunk)) h.0 h.1, (h.0, h.1, h.2, refl))
 
+lassplit_ending : (input stem end : List ℕ) (rule : Rule) (file : List ℕ) (blocks : List (List ℕ)) → AreRecordsOf file blocks None → (ending : Ending) × Splits input stem end rule file ending
+lassplit_ending input stem end rule file blocks are =
+    let h = splits_some rule file blocks are in
+    (record { cause = cause_by input h.1; outputs = part_outputs (part_files stem end rule file h.0); text = [] }, (h.0, h.1, h.2, refl))
+
 plain_records : (file : List ℕ) (packed : Bool) → packed ≡ false → ArePiecesIf packed file (plain_pieces file)
 plain_records file true plain = absurd (cc)
 plain_records file false plain = refl
@@ -147,50 +180,64 @@ reported : (taps : List TapSeen) (input : List ℕ) (tallies : List (List ℕ)) 
 reported taps input tallies file blocks pieces are hold =
     (reports input (report_of (chosen_taps taps tallies) file pieces (records_after (head_of file) (concat blocks))) None, (blocks, None, pieces, (pieces, are, hold), are, refl))
 
-some_plain : (taps : List TapSeen) (asked : Asked) (file : List ℕ) → is_packed (head_of file) ≡ false → (ending : Ending) × Makes taps asked file ending
-some_plain taps (laszip input output chunk workers) file plain =
+some_plain : (taps : List TapSeen) (asked : Asked) (name file : List ℕ) → input_of asked ≡ Some name → is_packed (head_of file) ≡ false → (ending : Ending) × MakesOf taps asked file ending
+some_plain taps (laszip input output chunk workers) name file is plain =
     let packing = writes input (packed_output output file chunk) (drop (point_offset_of file) file) None in
     (packing, zips_made false input output chunk file packing plain refl)
-some_plain taps (las2las input output plan packed chunk workers) file plain =
+some_plain taps (las2las input output plan packed chunk workers) name file is plain =
     let pieces = plain_pieces file in
     las2las_ending input output plan packed chunk file (map (piece_bytes file) pieces) (pieces, plain_records file (is_packed (head_of file)) plain, hold-plain file plain pieces)
-some_plain taps (lasinfo input tallies workers) file plain =
+some_plain taps (lasinfo input tallies workers) name file is plain =
     let pieces = plain_pieces file in
     reported taps input tallies file (map (piece_bytes file) pieces) pieces (plain_records file (is_packed (head_of file)) plain) (hold-plain file plain pieces)
+some_plain taps (lassplit input stem end rule workers) name file is plain =
+    let pieces = plain_pieces file in
+    lassplit_ending input stem end rule file (map (piece_bytes file) pieces) (pieces, plain_records file (is_packed (head_of file)) plain, hold-plain file plain pieces)
+some_plain taps (lasmerge inputs output packed chunk workers) name file is plain = none_named name is
+some_plain taps (make output packed points seed format extra chunk workers) name file is plain = none_named name is
 
-some_form : (taps : List TapSeen) (asked : Asked) (file : List ℕ) (blocks : List (List ℕ)) → is_packed (head_of file) ≡ true → AreRecordsOf file blocks None → (ending : Ending) × Makes taps asked file ending
-some_form taps (laszip input output chunk workers) file blocks packed are =
+some_form : (taps : List TapSeen) (asked : Asked) (name file : List ℕ) (blocks : List (List ℕ)) → input_of asked ≡ Some name → is_packed (head_of file) ≡ true → AreRecordsOf file blocks None → (ending : Ending) × MakesOf taps asked file ending
+some_form taps (laszip input output chunk workers) name file blocks is packed are =
     let ending = writes input (plain_output output file) (concat blocks) None in
     (ending, zips_made true input output chunk file ending packed (blocks, None, are, refl))
-some_form taps (las2las input output plan packing chunk workers) file blocks packed are = las2las_ending input output plan packing chunk file blocks are
-some_form taps (lasinfo input tallies workers) file blocks packed are = reported taps input tallies file blocks are.0 are.1 are.2
+some_form taps (las2las input output plan packing chunk workers) name file blocks is packed are = las2las_ending input output plan packing chunk file blocks are
+some_form taps (lasinfo input tallies workers) name file blocks is packed are = reported taps input tallies file blocks are.0 are.1 are.2
+some_form taps (lassplit input stem end rule workers) name file blocks is packed are = lassplit_ending input stem end rule file blocks are
+some_form taps (lasmerge inputs output packing chunk workers) name file blocks is packed are = none_named name is
+some_form taps (make output packing points seed format extra chunk workers) name file blocks is packed are = none_named name is
 
 pub plain_inputs_end : PlainInputsEnd
-plain_inputs_end task files asked file is held plain =
+plain_inputs_end task files asked name file said is held plain =
     let tests = first_cause (tested_causes file) in
     let refusal = plain_refusal file (is_packed (head_of file)) tests plain (IsFirst-tests (tested_causes file)) in
-    let made = some_plain task.taps asked file plain in
-    let h = accepts_by (input_of asked) file (Makes task.taps asked file) made.0 tests refusal made.1 in
-    (h.0, run_of task files (asks asked) h.0 is (defined task.taps asked files (Some file) h.0 held h.1))
+    let made = some_plain task.taps asked name file is plain in
+    let h = accepts_by name file (MakesOf task.taps asked file) made.0 tests refusal made.1 in
+    (h.0, opened_runs task files asked name (Some file) h.0 said is held h.1)
 
 pub packed_forms_end : PackedFormsEnd
-packed_forms_end task files asked file chunk is held can =
+packed_forms_end task files asked name file chunk said is held can =
     let form = packed_file file chunk in
     let whole = unpacks_again file chunk can in
-    let made = some_form task.taps asked form whole.0 (is_packed_form file chunk can) whole.1 in
-    (made.0, run_of task files (asks asked) made.0 is (defined task.taps asked files (Some form) made.0 held (inr (packed_accepted file chunk can, made.1))))
+    let made = some_form task.taps asked name form whole.0 is (is_packed_form file chunk can) whole.1 in
+    (made.0, opened_runs task files asked name (Some form) made.0 said is held (inr (packed_accepted file chunk can, made.1)))
 
 -- ---- the number of workers
 one_worker : (taps : List TapSeen) (said : Said) (files : FileMap) (ending : Ending) → RunsAs taps said files ending → RunsAs taps (with_one_worker said) files ending
 one_worker taps (asks (laszip input output chunk workers)) files ending run = run
 one_worker taps (asks (las2las input output plan packed chunk workers)) files ending run = run
 one_worker taps (asks (lasinfo input tallies workers)) files ending run = run
+one_worker taps (asks (lassplit input stem end rule workers)) files ending run = run
+one_worker taps (asks (lasmerge inputs output packed chunk workers)) files ending run = run
+one_worker taps (asks (make output packed points seed format extra chunk workers)) files ending run = run
 one_worker taps (usage index) files ending run = run
 
 any_workers : (taps : List TapSeen) (said : Said) (files : FileMap) (ending : Ending) → RunsAs taps (with_one_worker said) files ending → RunsAs taps said files ending
 any_workers taps (asks (laszip input output chunk workers)) files ending run = run
 any_workers taps (asks (las2las input output plan packed chunk workers)) files ending run = run
 any_workers taps (asks (lasinfo input tallies workers)) files ending run = run
+any_workers taps (asks (lassplit input stem end rule workers)) files ending run = run
+any_workers taps (asks (lasmerge inputs output packed chunk workers)) files ending run = run
+any_workers taps (asks (make output packed points seed format extra chunk workers)) files ending run = run
 any_workers taps (usage index) files ending run = run
 
 pub workers_do_not_matter : WorkersDoNotMatter
@@ -218,23 +265,53 @@ kept_late : (plan : Steps) (file records input : List ℕ) (refusal : Option Ref
 kept_late plan file records input None converts first = first
 kept_late plan file records input (Some cause) converts first = refused_late plan file records cause converts first
 
-makes_some : (taps : List TapSeen) (asked : Asked) (file : List ℕ) (ending : Ending) → Makes taps asked file ending → ComesFirst ending.cause → ending.outputs ≡ []
-makes_some taps (laszip input output chunk workers) file ending makes first = writes_some (is_packed (head_of file)) input output chunk file ending makes first
-makes_some taps (las2las input output plan packed chunk workers) file ending makes first =
-    absurd (kept_late plan file makes.0 input makes.1 makes.2 (subst ComesFirst (ap (λ (e : Ending). e.cause) makes.3) first))
-makes_some taps (lasinfo input tallies workers) file ending makes first = no_outputs makes.1 _ makes.5
+-- what is made of an accepted input is made before any output only if it has none
+abbrev ComesWithout : (Ending → Type 0) → Type 0
+ComesWithout Makes = (ending : Ending) → Makes ending → ComesFirst ending.cause → ending.outputs ≡ []
+
+opens_first : (files : FileMap) (name : List ℕ) (Makes : List ℕ → Ending → Type 0) → ((file : List ℕ) → ComesWithout (Makes file)) → ComesWithout (OpensIn files name Makes)
+opens_first files name Makes late ending opens first = go (finmap.get files name) opens
+  where
+    go : (o : Option (List ℕ)) → Opens name o Makes ending → ending.outputs ≡ []
+    go None is = ap (λ (e : Ending). e.outputs) is
+    go (Some file) (inl r) = ap (λ (e : Ending). e.outputs) r.2
+    go (Some file) (inr a) = late file ending a.1 first
+
+reports_first : (taps : List TapSeen) (input : List ℕ) (tallies : List (List ℕ)) (file : List ℕ) → ComesWithout (Reports taps input tallies file)
+reports_first taps input tallies file ending makes first = no_outputs makes.1 _ makes.5
   where
     no_outputs : (bad : Option ℕ) (report : List ℕ) → ending ≡ reports input report bad → ending.outputs ≡ []
     no_outputs None report is = ap (λ (e : Ending). e.outputs) is
     no_outputs (Some i) report is = ap (λ (e : Ending). e.outputs) is
 
-opens_first : (taps : List TapSeen) (asked : Asked) (o : Option (List ℕ)) (ending : Ending) → Opens (input_of asked) o (Makes taps asked) ending → ComesFirst ending.cause → ending.outputs ≡ []
-opens_first taps asked None ending is first = ap (λ (e : Ending). e.outputs) is
-opens_first taps asked (Some file) ending (inl r) first = ap (λ (e : Ending). e.outputs) r.2
-opens_first taps asked (Some file) ending (inr a) first = makes_some taps asked file ending a.1 first
+-- a refusal while parts are written comes after the opening
+split_late : (rule : Rule) (file : List ℕ) (records : List (List ℕ)) (input : List ℕ) (refusal : Option Refusal) → SplitsTo rule file records refusal → ComesFirst (cause_by input refusal) → ⊥
+split_late rule file records input None splits first = first
+split_late rule file records input (Some cause) splits first = refused_late_split cause splits first
+  where
+    refused_late_split : (cause : Refusal) → SplitsTo rule file records (Some cause) → ComesAtOpening cause → ⊥
+    refused_late_split (BadChunk i) splits first = first
+    refused_late_split TooManyParts splits first = first
+    refused_late_split cause splits first = splits
+
+-- a bad chunk of a merge comes after the opening
+merged_late : (inputs : List (List ℕ)) (bad : Option BadPlace) → ComesFirst (cause_at inputs bad) → ⊥
+merged_late inputs None first = first
+merged_late inputs (Some place) first = first
+
+does_first : (taps : List TapSeen) (asked : Asked) (files : FileMap) → ComesWithout (Does taps asked files)
+does_first taps (laszip input output chunk workers) files ending run first = opens_first files input (Zips input output chunk) (λ file e makes early. writes_some (is_packed (head_of file)) input output chunk file e makes early) ending run first
+does_first taps (las2las input output plan packed chunk workers) files ending run first =
+    opens_first files input (Converts input output plan packed chunk) (λ file e makes early. absurd (kept_late plan file makes.0 input makes.1 makes.2 (subst ComesFirst (ap (λ (x : Ending). x.cause) makes.3) early))) ending run first
+does_first taps (lasinfo input tallies workers) files ending run first = opens_first files input (Reports taps input tallies) (reports_first taps input tallies) ending run first
+does_first taps (lassplit input stem end rule workers) files ending run first =
+    opens_first files input (Splits input stem end rule) (λ file e makes early. absurd (split_late rule file makes.0 input makes.1 makes.2 (subst ComesFirst (ap (λ (x : Ending). x.cause) makes.3) early))) ending run first
+does_first taps (lasmerge inputs output packed chunk workers) files ending (inl kept) first = ap (λ (e : Ending). e.outputs) kept.2
+does_first taps (lasmerge inputs output packed chunk workers) files ending (inr made) first = absurd (merged_late inputs made.2 (subst ComesFirst (ap (λ (e : Ending). e.cause) made.5) first))
+does_first taps (make output packed points seed format extra chunk workers) files ending run first = absurd (subst ComesFirst (ap (λ (e : Ending). e.cause) run) first)
 
 first_said : (taps : List TapSeen) (said : Said) (files : FileMap) (ending : Ending) → RunsAs taps said files ending → ComesFirst ending.cause → ending.outputs ≡ []
-first_said taps (asks asked) files ending run first = opens_first taps asked (finmap.get files (input_of asked)) ending run first
+first_said taps (asks asked) files ending run first = does_first taps asked files ending run first
 first_said taps (usage index) files ending run first = ap (λ (e : Ending). e.outputs) run
 
 -- an ending that comes before any output has none

@@ -11,8 +11,8 @@ use Rattle.las_words.specs.declared.command.WordFault.TheVariants as fault
 use Rattle.las_words.specs.Says.{Asked, Said, asked_by, asks, says, usage}
 use Rattle.las_run.specs.declared.stop.Stop.{Stop}
 use Rattle.las_run.specs.Endings.{Usage, ends_at_once, status_of}
-use Rattle.las_run.specs.Runs.{RunsAs, Task, input_of, task_of}
-use Rattle.las_run.specs.Ends.{Change, Ends, IsRead, IsTheEnding, cause_of, inputs_read, quiet, stop_of}
+use Rattle.las_run.specs.Runs.{RunsAs, Task, files_read, task_of}
+use Rattle.las_run.specs.Ends.{Change, Ends, IsRead, IsTheEnding, cause_of, names_read, quiet, stop_of}
 use Rattle.las_run.proofs.Endings.{at_once, left_before}
 
 -- how words were read
@@ -32,10 +32,10 @@ is_read_of words names taps said same command_is index_is = subst (λ (ns : List
 
 -- a command that was read as the task says
 pub by_task : (task : Task) (asked other : Asked) (change : Change) (outcome : Result (Unit {0}) Stop) → task.said ≡ asks other → asked ≡ other
-    → Ends (record { said = asks asked; taps = task.taps }) change (cause_of (input_of asked ∷ []) outcome) → Ends task change (cause_of (input_of other ∷ []) outcome)
+    → Ends (record { said = asks asked; taps = task.taps }) change (cause_of (files_read asked) outcome) → Ends task change (cause_of (files_read other) outcome)
 by_task task asked other change outcome said same ends =
-    subst (λ (s : Said). Ends (record { said = s; taps = task.taps }) change (cause_of (input_of other ∷ []) outcome)) (sym said)
-    (subst (λ (a : Asked). Ends (record { said = asks a; taps = task.taps }) change (cause_of (input_of a ∷ []) outcome)) same ends)
+    subst (λ (s : Said). Ends (record { said = s; taps = task.taps }) change (cause_of (files_read other) outcome)) (sym said)
+    (subst (λ (a : Asked). Ends (record { said = asks a; taps = task.taps }) change (cause_of (files_read a) outcome)) same ends)
 
 -- wrong words were not read as a command
 said_apart : (asked : Asked) (index : ℕ) → asks asked ≡ usage index → ⊥
@@ -51,9 +51,9 @@ two_or_one inputs fault.Memory = inr refl
 
 -- the ending of a command that was read
 pub ends_read : (task : Task) (said : Result Command WordFault) (command : Command) (change : Change) (outcome : Result (Unit {0}) Stop) → said ≡ Ok command → IsRead task.said said
-    → (task.said ≡ asks (asked_by command) → Ends task change (cause_of (input_of (asked_by command) ∷ []) outcome)) → Ends task change (cause_of (inputs_read said) outcome)
+    → (task.said ≡ asks (asked_by command) → Ends task change (cause_of (files_read (asked_by command)) outcome)) → Ends task change (cause_of (names_read said) outcome)
 ends_read task said command change outcome is read ends =
-    subst (λ (r : Result Command WordFault). Ends task change (cause_of (inputs_read r) outcome)) (sym is) (ends (subst (IsRead task.said) is read))
+    subst (λ (r : Result Command WordFault). Ends task change (cause_of (names_read r) outcome)) (sym is) (ends (subst (IsRead task.said) is read))
 
 -- and of wrong words
 only_wrong : (task : Task) (index : ℕ) (files : FileMap) → task.said ≡ usage index → IsTheEnding task files (ends_at_once (Usage index))
@@ -67,7 +67,7 @@ ends_wrong task names (fault.Usage index) old out wrong =
     (wrong, refl, at_once task (quiet old old out) (Usage index) (λ files known. only_wrong task index files wrong) refl refl, refl)
 ends_wrong task names fault.Memory old out read = (left_before task (quiet old old out) refl, refl)
 
-pub ends_unread : (task : Task) (said : Result Command WordFault) (f : WordFault) (s : Stop) (old : Outside) (out : SinkView) → said ≡ Err f → s ≡ stop_of f → IsRead task.said said → Ends task (quiet old old out) (cause_of (inputs_read said) (Err s))
+pub ends_unread : (task : Task) (said : Result Command WordFault) (f : WordFault) (s : Stop) (old : Outside) (out : SinkView) → said ≡ Err f → s ≡ stop_of f → IsRead task.said said → Ends task (quiet old old out) (cause_of (names_read said) (Err s))
 ends_unread task said f s old out is stops read =
-    subst (λ (t : Stop). Ends task (quiet old old out) (cause_of (inputs_read said) (Err t))) (sym stops)
-    (ends_wrong task (inputs_read said) f old out (subst (IsRead task.said) is read))
+    subst (λ (t : Stop). Ends task (quiet old old out) (cause_of (names_read said) (Err t))) (sym stops)
+    (ends_wrong task (names_read said) f old out (subst (IsRead task.said) is read))

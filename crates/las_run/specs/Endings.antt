@@ -3,6 +3,7 @@ use Rattle.std.specs.Prelude.{◌≡◌, ℕ, List, [], ◌∷◌, take, map}
 use Rattle.std.specs.FinMap as finmap
 use Rattle.las_header.specs.declared.refusal.Refusal.{Refusal}
 use Rattle.las_header.specs.declared.refusal.Refusal.TheVariants as refusal
+use Rattle.las_merge.specs.declared.field.Field.{Field}
 use Rattle.las_outside.specs.Files.{FileMap}
 use Rattle.las_outside.specs.Drafts.{Patch, with_patches, IsUnfinished}
 
@@ -14,8 +15,10 @@ pub record Output : Type 0 where
   pub patches : List Patch
   pub stopped : List ℕ
 
--- Why a run ends: all is done; memory is short; the word of this index is wrong; the input of this name is not held or
--- could not be read; an output could not be written; or the input of this name is refused.
+-- Why a run ends: all is done; memory is short; the word of this index is wrong; the file of this name is not held or
+-- could not be read; an output could not be written; the input of this name is refused; or inputs can't be merged, since
+-- the one of this name is the first that differs from the first input, and this is the first field in which it does, or
+-- since they have too many points.
 pub data Cause : Type 0 where
   Done : Cause
   Memory : Cause
@@ -23,6 +26,8 @@ pub data Cause : Type 0 where
   Unread : List ℕ → Cause
   Unwritten : Cause
   Refused : List ℕ → Refusal → Cause
+  Differs : List ℕ → Field → Cause
+  HasTooManyPoints : Cause
 
 -- the exit status for each cause
 abbrev pub status_of : Cause → ℕ
@@ -32,6 +37,8 @@ status_of (Usage _) = 2
 status_of (Unread _) = 3
 status_of Unwritten = 4
 status_of (Refused _ _) = 5
+status_of (Differs _ _) = 6
+status_of HasTooManyPoints = 6
 
 -- An input is refused for this cause when it is opened, and not while its records are read.
 abbrev pub ComesAtOpening : Refusal → Type 0
@@ -40,8 +47,8 @@ ComesAtOpening (refusal.RawRange record_number) = ⊥
 ComesAtOpening refusal.TooManyParts = ⊥
 ComesAtOpening _ = Unit {0}
 
--- A run that ends for this cause has created no output: the words are wrong, or an input is missing, or is refused when
--- it is opened.
+-- A run that ends for this cause has created no output: the words are wrong, an input is missing, or is refused when it is
+-- opened, or the inputs can't be merged.
 abbrev pub ComesFirst : Cause → Type 0
 ComesFirst Done = ⊥
 ComesFirst Memory = ⊥
@@ -49,6 +56,8 @@ ComesFirst (Usage _) = Unit {0}
 ComesFirst (Unread _) = Unit {0}
 ComesFirst Unwritten = ⊥
 ComesFirst (Refused _ refusal) = ComesAtOpening refusal
+ComesFirst (Differs _ _) = Unit {0}
+ComesFirst HasTooManyPoints = Unit {0}
 
 -- An ending: its cause, the outputs in the order in which they are created, and the text on standard output.
 pub record Ending : Type 0 where
@@ -73,6 +82,8 @@ at_end (Usage _) output = (output.name, output.stopped)
 at_end (Unread _) output = (output.name, output.stopped)
 at_end Unwritten output = (output.name, output.stopped)
 at_end (Refused _ _) output = (output.name, output.stopped)
+at_end (Differs _ _) output = (output.name, output.stopped)
+at_end HasTooManyPoints output = (output.name, output.stopped)
 
 -- the files at an ending
 abbrev pub files_of : Ending → FileMap → FileMap

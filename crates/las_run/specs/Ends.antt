@@ -12,13 +12,17 @@ use Rattle.las_words.specs.Says.{Said, asked_by, asks, usage}
 use Rattle.laz_file.specs.declared.fault.Fault.{Fault}
 use Rattle.laz_file.specs.declared.fault.Fault.TheVariants as file
 use Rattle.laz_file.specs.Refusing.{IsRefusal}
+use Rattle.las_make.specs.declared.fault.MakeFault.{MakeFault}
+use Rattle.las_make.specs.declared.fault.MakeFault.TheVariants as made
+use Rattle.las_merge.specs.declared.fault.MergeFault.{MergeFault}
+use Rattle.las_merge.specs.declared.fault.MergeFault.TheVariants as merge
 use Rattle.las_info.specs.declared.reporting.ReportFault.{ReportFault}
 use Rattle.las_info.specs.declared.reporting.ReportFault.TheVariants as report
 use Rattle.las_run.specs.declared.stop.Stop.{Stop}
 use Rattle.las_run.specs.declared.stop.Stop.TheVariants as stop
-use Rattle.las_run.specs.Endings.{Cause, ComesAtOpening, Done, Memory, Usage, Unread, Unwritten, Refused, Ending}
-use Rattle.las_run.specs.Endings.{files_of, IsLeft}
-use Rattle.las_run.specs.Runs.{RunOf, Task, inputs_of}
+use Rattle.las_run.specs.Endings.{Cause, ComesAtOpening, Done, Memory, Usage, Unread, Unwritten, Refused, Differs}
+use Rattle.las_run.specs.Endings.{HasTooManyPoints, Ending, files_of, IsLeft}
+use Rattle.las_run.specs.Runs.{RunOf, Task, files_read, files_read_by, inputs_of}
 
 -- The words were read so.
 abbrev pub IsRead : Said → Result Command WordFault → Type 0
@@ -31,19 +35,21 @@ abbrev pub stop_of : WordFault → Stop
 stop_of (fault.Usage index) = stop.Usage index
 stop_of fault.Memory = stop.Memory
 
--- the names of the inputs of a command that was read
-abbrev pub inputs_read : Result Command WordFault → List (List ℕ)
-inputs_read (Ok command) = inputs_of (asks (asked_by command))
-inputs_read (Err fault) = []
+-- the names of the files that a command reads, once its words are read
+abbrev pub names_read : Result Command WordFault → List (List ℕ)
+names_read (Ok command) = files_read (asked_by command)
+names_read (Err fault) = []
 
--- the cause that an outcome of the code stands for; an input is given by its number in the names of the inputs
-abbrev pub cause_of : (inputs : List (List ℕ)) → Result (Unit {0}) Stop → Cause
-cause_of inputs (Ok _) = Done
-cause_of inputs (Err stop.Memory) = Memory
-cause_of inputs (Err (stop.Usage index)) = Usage index
-cause_of inputs (Err (stop.Read input)) = Unread (slice_index_or inputs input [])
-cause_of inputs (Err stop.Write) = Unwritten
-cause_of inputs (Err (stop.Refused input cause)) = Refused (slice_index_or inputs input []) cause
+-- the cause that an outcome of the code stands for; a file is given by its number in the names of those that are read
+abbrev pub cause_of : (names : List (List ℕ)) → Result (Unit {0}) Stop → Cause
+cause_of names (Ok _) = Done
+cause_of names (Err stop.Memory) = Memory
+cause_of names (Err (stop.Usage index)) = Usage index
+cause_of names (Err (stop.Read number)) = Unread (slice_index_or names number [])
+cause_of names (Err stop.Write) = Unwritten
+cause_of names (Err (stop.Refused number cause)) = Refused (slice_index_or names number []) cause
+cause_of names (Err (stop.Differs number field)) = Differs (slice_index_or names number []) field
+cause_of names (Err stop.TooManyPoints) = HasTooManyPoints
 
 -- the files and standard output, before and after a run
 pub record Change : Type 0 where
@@ -107,13 +113,19 @@ Ends task change Memory = IsLeftBy task change × IsQuiet change
 Ends task change (Usage index) =
     (task.said ≡ usage index) × (change.files_now ≡ change.files) × EndsAs task change (Usage index) × IsQuiet change
 Ends task change (Unread name) =
-    Contains (inputs_of task.said) name × IsLeftBy task change
-    × ((IsMissing change.files.held name × EndsAs task change (Unread name))
+    Contains (files_read_by task.said) name × IsLeftBy task change
+    × ((Contains (inputs_of task.said) name × IsMissing change.files.held name × EndsAs task change (Unread name))
     ⊎ Rose change.files.read_faults change.files_now.read_faults) × IsQuiet change
 Ends task change Unwritten = FailsToWrite task change × IsLeftBy task change
 Ends task change (Refused name refusal) =
-    Contains (inputs_of task.said) name × EndsAs task change (Refused name refusal) × IsLeftBy task change
+    Contains (files_read_by task.said) name × EndsAs task change (Refused name refusal) × IsLeftBy task change
     × (ComesAtOpening refusal → change.files_now.held ≡ change.files.held) × IsQuiet change
+Ends task change (Differs name field) =
+    Contains (inputs_of task.said) name × EndsAs task change (Differs name field) × IsLeftBy task change
+    × (change.files_now.held ≡ change.files.held) × IsQuiet change
+Ends task change HasTooManyPoints =
+    EndsAs task change HasTooManyPoints × IsLeftBy task change × (change.files_now.held ≡ change.files.held)
+    × IsQuiet change
 
 -- what a fault of a call on the input of this number stands for
 abbrev pub stop_by : ℕ → Fault → Stop
@@ -126,6 +138,23 @@ stop_by number file.Memory = stop.Memory
 abbrev pub stopped_by : ℕ → Result (Unit {0}) Fault → Result (Unit {0}) Stop
 stopped_by number (Ok done) = Ok done
 stopped_by number (Err fault) = Err (stop_by number fault)
+
+-- an outcome of a merge
+abbrev pub stopped_merge : Result (Unit {0}) MergeFault → Result (Unit {0}) Stop
+stopped_merge (Ok done) = Ok done
+stopped_merge (Err (merge.At number fault)) = Err (stop_by number fault)
+stopped_merge (Err (merge.Unequal number field)) = Err (stop.Differs number field)
+stopped_merge (Err merge.TooManyPoints) = Err stop.TooManyPoints
+stopped_merge (Err merge.Write) = Err stop.Write
+stopped_merge (Err merge.Memory) = Err stop.Memory
+
+-- a fault of making files: the plain one is the first that is read
+abbrev pub stop_making : MakeFault → Stop
+stop_making made.ReadPlain = stop.Read 0
+stop_making made.ReadPacked = stop.Read 1
+stop_making (made.Changed cause) = stop.Refused 0 cause
+stop_making made.Write = stop.Write
+stop_making made.Memory = stop.Memory
 
 -- an outcome of putting a report
 abbrev pub stopped_report : Result (Unit {0}) ReportFault → Result (Unit {0}) Stop
@@ -143,6 +172,8 @@ StopsOpening number name old new (stop.Read input) =
 StopsOpening number name old new stop.Write = ⊥
 StopsOpening number name old new (stop.Refused input cause) =
     (input ≡ number) × WhereKnown old.held name (λ file. IsRefusal file (Some cause))
+StopsOpening number name old new (stop.Differs input field) = ⊥
+StopsOpening number name old new stop.TooManyPoints = ⊥
 
 -- This ending is one that a command makes of a file, and no other is.
 pub record IsOnlyEnding (Makes : Ending → Type 0) (ending : Ending) : Type 0 where
@@ -195,3 +226,5 @@ EndsPutting Makes input change (Err stop.Write) =
 EndsPutting Makes input change (Err (stop.Refused number cause)) =
     (number ≡ 0) × (ComesAtOpening cause → ⊥) × IsQuiet change
     × MakesText Makes input change (λ ending. (ending.cause ≡ Refused input cause) × (ending.text ≡ []))
+EndsPutting Makes input change (Err (stop.Differs number field)) = ⊥
+EndsPutting Makes input change (Err stop.TooManyPoints) = ⊥

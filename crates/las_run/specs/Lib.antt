@@ -10,9 +10,9 @@ pub use Rattle.laz_file.specs.Packing
 pub use Rattle.laz_file.specs.Records
 pub use Rattle.laz_file.specs.Refusing
 pub mod Endings
+pub mod Lines
 pub mod Tools
 pub mod Runs
 pub mod Ends
-pub mod Lines
 pub mod EndingLaws
 pub mod Headline

@@ -5,7 +5,9 @@ use Rattle.std.specs.List.{concat}
 use Rattle.las_header.specs.declared.refusal.Refusal.{Refusal}
 use Rattle.las_header.specs.declared.refusal.Refusal.TheVariants as refusal
 use Rattle.las_header.specs.Causes.{cause_number, cause_name}
-use Rattle.las_run.specs.Endings.{Cause, Done, Memory, Usage, Unread, Unwritten, Refused}
+use Rattle.las_merge.specs.declared.field.Field.{Field}
+use Rattle.las_merge.specs.declared.field.Field.TheVariants.{Format, Length, Scales, Offsets, Bounds}
+use Rattle.las_run.specs.Endings.{Cause, Done, Memory, Usage, Unread, Unwritten, Refused, Differs, HasTooManyPoints}
 
 abbrev pub line_feed : List ℕ
 line_feed = 10 ∷ []
@@ -21,6 +23,14 @@ abbrev pub after_blank : Option ℕ → List ℕ
 after_blank None = []
 after_blank (Some n) = codes " " ++ decimal n
 
+-- the word for a field in which inputs differ
+abbrev pub field_name : Field → List ℕ
+field_name Format = codes "format"
+field_name Length = codes "length"
+field_name Scales = codes "scales"
+field_name Offsets = codes "offsets"
+field_name Bounds = codes "box"
+
 -- nothing if all is done, and else one line
 abbrev pub line_of : Cause → List ℕ
 line_of Done = []
@@ -31,3 +41,5 @@ line_of Unwritten = concat (codes "write fault" ∷ line_feed ∷ [])
 line_of (Refused name cause) =
     concat (codes "refused: " ∷ name ∷ codes ": " ∷ decimal (cause_number cause) ∷ codes " " ∷ cause_name cause
     ∷ after_blank (number_in cause) ∷ line_feed ∷ [])
+line_of (Differs name field) = concat (codes "unequal: " ∷ name ∷ codes ": " ∷ field_name field ∷ line_feed ∷ [])
+line_of HasTooManyPoints = concat (codes "too many points" ∷ line_feed ∷ [])

@@ -1,5 +1,7 @@
 -- What each command makes of an input that is accepted: how the run ends then.
-use Rattle.std.specs.Prelude.{◌≡◌, ℕ, Bool, true, false, if◌then◌else◌, List, [], ◌∷◌, drop, find, length, Option, Some, None}
+use Rattle.std.specs.Prelude.{◌≡◌, ◌⊎◌, ℕ, Bool, true, false, if◌then◌else◌, List, [], ◌∷◌, drop, find, length, map}
+use Rattle.std.specs.Prelude.{Option, Some, None, codes}
+use Rattle.std.specs.Fmt.{decimal}
 use Rattle.std.specs.List.{concat, filter_map, flat_map}
 use Rattle.std.specs.Str.{bytes_eq}
 use Rattle.std.specs.Option.{option_map}
@@ -10,13 +12,29 @@ use Rattle.las_header.specs.declared.refusal.Refusal.TheVariants.{BadChunk}
 use Rattle.las_header.specs.Fields.{head_of, is_packed, point_offset_of}
 use Rattle.laz_file.specs.Copying.{packed_output, plain_output}
 use Rattle.laz_file.specs.Outputs as points
+use Rattle.laz_file.specs.Packing.{packed_file}
 use Rattle.laz_file.specs.Records.{AreRecordsOf}
 use Rattle.las_info.specs.Report.{report_text, tally_text}
 use Rattle.las_info.specs.Summaries.{summary_of}
 use Rattle.las_info.specs.Tallies.{TapSeen, shown_all}
 use Rattle.laz_file.specs.Pieces.{ArePieces, Piece}
 use Rattle.laz_table.specs.VlrCauses.{chunk_size_of}
-use Rattle.las_run.specs.Endings.{Cause, Done, Refused, Ending, Output, ends_at_once}
+use Rattle.las_filter.specs.declared.rule.Rule.{Rule}
+use Rattle.las_merge.specs.declared.fault.MergeFault.{MergeFault}
+use Rattle.las_merge.specs.declared.fault.MergeFault.TheVariants.{At, Unequal, TooManyPoints, Write}
+use Rattle.las_merge.specs.declared.fault.MergeFault.TheVariants as merge
+use Rattle.las_merge.specs.Inputs.{CanMerge, IsKeptBy, item_at}
+use Rattle.las_merge.specs.Merging.{BadPlace, MergesTo, merged_output}
+use Rattle.las_make.specs.declared.settings.Settings.{Settings}
+use Rattle.las_make.specs.Made.{made_file, made_records}
+use Rattle.las_make.specs.Making.{made_output}
+use Rattle.las_outside.specs.Files.{FileMap}
+use Rattle.las_split.specs.Outputs.{PartFile, part_files}
+use Rattle.las_split.specs.Splitting.{SplitsTo}
+use Rattle.laz_file.specs.declared.fault.Fault.TheVariants as file
+use Rattle.las_run.specs.Endings.{Cause, Done, Memory, Unread, Unwritten, Refused, Differs, HasTooManyPoints}
+use Rattle.las_run.specs.Endings.{Ending, Output, ends_at_once}
+use Rattle.las_run.specs.Lines.{line_feed}
 
 -- an output of point records as one of a run
 abbrev pub output_of : points.Output → (records : List ℕ) → Output
@@ -101,3 +119,71 @@ Reports taps input tallies file ending =
     × ArePieces file pieces
     × (ending ≡ reports input
     (report_of (chosen_taps taps tallies) file pieces (points.records_after (head_of file) (concat blocks))) bad)
+
+-- the parts of a file as outputs of a run
+abbrev pub part_outputs : List PartFile → List Output
+part_outputs parts = map (λ part. output_of part.output part.records) parts
+
+-- `lassplit` writes each part that has a record, in the order of the parts' first records, up to the first refusal.
+abbrev pub Splits : (input stem end : List ℕ) → Rule → (file : List ℕ) → Ending → Type 0
+Splits input stem end rule file ending =
+    (records : List (List ℕ)) × (refusal : Option Refusal) × SplitsTo rule file records refusal
+    × (ending ≡ record {
+      cause = cause_by input refusal;
+      outputs = part_outputs (part_files stem end rule file records);
+      text = [];
+    })
+
+-- the cause for which inputs are kept from being merged
+abbrev pub cause_of_fault : (inputs : List (List ℕ)) → MergeFault → Cause
+cause_of_fault inputs (At number (file.Refused cause)) = Refused (item_at inputs number) cause
+cause_of_fault inputs (At number file.Read) = Unread (item_at inputs number)
+cause_of_fault inputs (At number file.Write) = Unwritten
+cause_of_fault inputs (At number file.Memory) = Memory
+cause_of_fault inputs (Unequal number field) = Differs (item_at inputs number) field
+cause_of_fault inputs TooManyPoints = HasTooManyPoints
+cause_of_fault inputs Write = Unwritten
+cause_of_fault inputs merge.Memory = Memory
+
+-- all is done, or a chunk of an input is bad
+abbrev pub cause_at : (inputs : List (List ℕ)) → Option BadPlace → Cause
+cause_at inputs None = Done
+cause_at inputs (Some place) = Refused (item_at inputs place.file) (BadChunk place.chunk)
+
+-- the ending of a merge of these files
+abbrev pub merges : (inputs : List (List ℕ)) → (output : List ℕ) → (size : Option ℕ) → (merged : List (List ℕ))
+    → (records : List ℕ) → Option BadPlace → Ending
+merges inputs output size merged records bad = record {
+  cause = cause_at inputs bad;
+  outputs = output_of (merged_output output merged size) records ∷ [];
+  text = [];
+}
+
+-- `lasmerge` writes the records of its inputs, up to the first bad chunk, if nothing keeps them from being merged.
+abbrev pub MergesIn : (size : Option ℕ) → (inputs : List (List ℕ)) → (output : List ℕ) → FileMap → Ending → Type 0
+MergesIn size inputs output files ending =
+    ((fault : MergeFault) × IsKeptBy files inputs fault × (ending ≡ ends_at_once (cause_of_fault inputs fault)))
+    ⊎ ((merged : List (List ℕ)) × (records : List ℕ) × (bad : Option BadPlace) × CanMerge files inputs merged
+    × MergesTo merged records bad × (ending ≡ merges inputs output size merged records bad))
+
+abbrev pub Merges : (inputs : List (List ℕ)) → (output : List ℕ) → (packed : Bool) → (chunk : ℕ) → FileMap → Ending
+    → Type 0
+Merges inputs output packed chunk files ending = MergesIn (chunk_if packed chunk) inputs output files ending
+
+-- the three lines of `make`
+abbrev pub made_text : (points plain packed : ℕ) → List ℕ
+made_text points plain packed =
+    concat (codes "points " ∷ decimal points ∷ line_feed ∷ codes "plain " ∷ decimal plain ∷ line_feed ∷ codes "packed "
+    ∷ decimal packed ∷ line_feed ∷ [])
+
+-- `make` writes a plain file and its packed form, and puts their sizes.
+abbrev pub makes : (output packed : List ℕ) → Settings → (chunk : ℕ) → Ending
+makes output packed settings chunk =
+    let records = concat (made_records settings) in
+    record {
+      cause = Done;
+      outputs = output_of (made_output output settings) records
+          ∷ output_of (packed_output packed (made_file settings) chunk) records ∷ [];
+      text = made_text settings.points (length (made_file settings))
+          (length (packed_file (made_file settings) chunk));
+    }

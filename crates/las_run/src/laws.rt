@@ -1,18 +1,17 @@
 //! Laws of the definitions that the top call's contract cites.
-ghost use Rattle.las_run.specs.EndingLaws.{IsOneEnding, LaszipMakesOnce, MissingInputsEnd, PackedFormsEnd};
-ghost use Rattle.las_run.specs.EndingLaws.{PlainHoldsOnce, PlainInputsEnd, WorkersDoNotMatter, WrongWordsEnd};
+ghost use Rattle.las_run.specs.EndingLaws.{LaszipEndsOnce, MissingInputsEnd, PackedFormsEnd, PlainHoldsOnce};
+ghost use Rattle.las_run.specs.EndingLaws.{PlainInputsEnd, WorkersDoNotMatter, WrongWordsEnd};
 
-/// At most one ending is defined for a task and files, if the command makes at most one of its input. `laszip` does if
-/// each piece of the input holds at most one block of records, as the pieces of a plain file do. Of a packed input, a
-/// run that is done or refuses a chunk shows that its ending is the only one.
+/// At most one ending is defined for `laszip` of a file, if each piece of the file holds at most one block of records, as
+/// the pieces of a plain file do. Of a packed input, a run that is done or refuses a chunk shows that its ending is the
+/// only one.
 pub fn one_ending()
-    ensures one { IsOneEnding }
-    ensures laszip { LaszipMakesOnce }
+    ensures laszip { LaszipEndsOnce }
     ensures plain { PlainHoldsOnce }
 {}
 
-/// Which tasks and files have an ending: wrong words, a missing input, every plain input, and every packed form of an
-/// accepted plain file.
+/// Which tasks and files have an ending: wrong words, and commands with one input if it is missing, plain, or the packed
+/// form of an accepted plain file.
 pub fn endings_are_defined()
     ensures wrong { WrongWordsEnd }
     ensures missing { MissingInputsEnd }

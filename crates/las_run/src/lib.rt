@@ -4,14 +4,14 @@
 mod input;
 mod las2las;
 mod lasinfo;
+mod lasmerge;
+mod lassplit;
 mod laszip;
 mod laws;
+mod make;
 mod report;
 mod stop;
 mod top_call;
 
 pub use laws::{endings_are_defined, one_ending, workers_do_not_matter};
 pub use top_call::run;
-
-#[cfg(test)]
-mod tests;

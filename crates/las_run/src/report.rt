@@ -2,20 +2,21 @@
 ghost use Rattle.std.specs.Prelude.{◌≡◌, ◌≤◌, ℕ, List};
 ghost use Rattle.las_outside.specs.Sinks.{Puts};
 ghost use Rattle.std.specs.Prelude.{[], Err, slice_index_or};
-ghost use Rattle.las_run.specs.Endings.{status_of, Refused};
-ghost use Rattle.las_run.specs.Ends.{cause_of, inputs_read};
-ghost use Rattle.las_run.specs.Lines.{line_of, number_in};
+ghost use Rattle.las_run.specs.Endings.{status_of, Differs, Refused};
+ghost use Rattle.las_run.specs.Ends.{cause_of, names_read};
+ghost use Rattle.las_run.specs.Lines.{field_name, line_of, number_in};
 
 use crate::stop::Stop;
 use itoa::Buffer;
 use las_header::Refusal;
+use las_merge::Field;
 use las_outside::{Failed, Sink, put_all};
 use las_words::{Command, WordFault};
 
 /// The exit status of a run.
 pub fn status(outcome: &Result<(), Stop>) -> u8
     ensures status { (inputs : List (List ℕ)) → result ≡ status_of (cause_of inputs outcome.now) }
-    ensures known { result ≤ 5 }
+    ensures known { result ≤ 6 }
 {
     match outcome {
         Ok(()) => 0,
@@ -24,6 +25,7 @@ pub fn status(outcome: &Result<(), Stop>) -> u8
         Err(Stop::Read(_)) => 3,
         Err(Stop::Write) => 4,
         Err(Stop::Refused(..)) => 5,
+        Err(Stop::Differs(..) | Stop::TooManyPoints) => 6,
     }
 }
 
@@ -33,7 +35,7 @@ pub fn report<E: Sink>(
     said: &Result<Command, WordFault>,
     outcome: &Result<(), Stop>,
 ) -> Result<(), Failed>
-    ensures line { Puts (line_of (cause_of (inputs_read said.now) outcome.now)) (E.seen err.old) (E.seen err.new) }
+    ensures line { Puts (line_of (cause_of (names_read said.now) outcome.now)) (E.seen err.old) (E.seen err.new) }
 {
     match outcome {
         Ok(()) => Ok(()),
@@ -41,19 +43,29 @@ pub fn report<E: Sink>(
     }
 }
 
-// The name of the input of this number, and an empty one if there is none.
-fn input_name(said: &Result<Command, WordFault>, number: usize) -> &str
-    ensures { result.now ≡ slice_index_or (inputs_read said.now) number [] }
+// The name of the file of this number among those that a command reads, and an empty one if there is none.
+fn name_read(said: &Result<Command, WordFault>, number: usize) -> &str
+    ensures { result.now ≡ slice_index_or (names_read said.now) number [] }
 {
-    if number > 0 {
-        return "";
-    }
     match said {
         Ok(
             Command::Laszip { input, .. }
             | Command::Las2las { input, .. }
-            | Command::Lasinfo { input, .. },
-        ) => input.as_str(),
+            | Command::Lasinfo { input, .. }
+            | Command::Lassplit { input, .. },
+        ) => match number {
+            0 => input.as_str(),
+            _ => "",
+        },
+        Ok(Command::Lasmerge { inputs, .. }) => match inputs.get(number) {
+            Some(input) => input.as_str(),
+            None => "",
+        },
+        Ok(Command::Make { output, packed, .. }) => match number {
+            0 => output.as_str(),
+            1 => packed.as_str(),
+            _ => "",
+        },
         Err(_) => "",
     }
 }
@@ -64,7 +76,7 @@ fn put_stop<E: Sink>(
     said: &Result<Command, WordFault>,
     stop: &Stop,
 ) -> Result<(), Failed>
-    ensures line { Puts (line_of (cause_of (inputs_read said.now) (Err stop.now))) (E.seen err.old) (E.seen err.new) }
+    ensures line { Puts (line_of (cause_of (names_read said.now) (Err stop.now))) (E.seen err.old) (E.seen err.new) }
 {
     let mut digits = Buffer::new();
     match stop {
@@ -74,12 +86,36 @@ fn put_stop<E: Sink>(
             put_all(err, &[b"usage: word ", index, b"\n"])
         }
         Stop::Read(input) => {
-            let name = input_name(said, *input).as_bytes();
+            let name = name_read(said, *input).as_bytes();
             put_all(err, &[b"read fault: ", name, b"\n"])
         }
         Stop::Write => put_all(err, &[b"write fault", b"\n"]),
-        Stop::Refused(input, cause) => put_refusal(err, input_name(said, *input), cause),
+        Stop::Refused(input, cause) => put_refusal(err, name_read(said, *input), cause),
+        Stop::Differs(input, field) => put_difference(err, name_read(said, *input), field),
+        Stop::TooManyPoints => put_all(err, &[b"too many points", b"\n"]),
     }
+}
+
+// The word for a field in which inputs differ.
+fn field_name(field: &Field) -> &str
+    ensures { result.now ≡ field_name field.now }
+{
+    match field {
+        Field::Format => "format",
+        Field::Length => "length",
+        Field::Scales => "scales",
+        Field::Offsets => "offsets",
+        Field::Bounds => "box",
+    }
+}
+
+// Puts the line of an input that differs from the first.
+fn put_difference<E: Sink>(err: &mut E, name: &str, field: &Field) -> Result<(), Failed>
+    ensures line { Puts (line_of (Differs name.now field.now)) (E.seen err.old) (E.seen err.new) }
+{
+    let name = name.as_bytes();
+    let word = field_name(field).as_bytes();
+    put_all(err, &[b"unequal: ", name, b": ", word, b"\n"])
 }
 
 // Puts the line of a refused input.
@@ -162,6 +198,15 @@ mod tests {
                 Stop::Refused(0, Refusal::RawRange(4294967296)),
                 "refused: a.laz: 22 RawRange 4294967296\n",
             ),
+            (Stop::Differs(0, Field::Format), "unequal: a.laz: format\n"),
+            (Stop::Differs(0, Field::Length), "unequal: a.laz: length\n"),
+            (Stop::Differs(0, Field::Scales), "unequal: a.laz: scales\n"),
+            (
+                Stop::Differs(0, Field::Offsets),
+                "unequal: a.laz: offsets\n",
+            ),
+            (Stop::Differs(0, Field::Bounds), "unequal: a.laz: box\n"),
+            (Stop::TooManyPoints, "too many points\n"),
         ];
         for (stop, line) in lines {
             let mut err = MemSink::with_room(rt.alloc(), 100)?;

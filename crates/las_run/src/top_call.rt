@@ -20,17 +20,21 @@ ghost use Rattle.laz_file.specs.Packing.{packed_file};
 ghost use Rattle.laz_file.specs.Records.{AreRecordsOf};
 ghost use Rattle.laz_file.specs.Refusing.{IsAcceptedFile, IsRefusal};
 ghost use Rattle.las_run.specs.Endings.{Cause, ComesFirst, Done, Refused, Ending, status_of, files_of, IsLeft};
-ghost use Rattle.las_run.specs.Runs.{RunOf, Task, input_of, inputs_of, task_of};
+ghost use Rattle.las_run.specs.Runs.{RunOf, Task, files_read, inputs_of, task_of};
 ghost use Rattle.las_run.specs.Lines.{line_of};
-ghost use Rattle.las_run.specs.Ends.{Ends, IsRead, IsTheEnding, cause_of, inputs_read, stop_of};
+ghost use Rattle.las_run.specs.Ends.{Ends, IsRead, IsTheEnding, cause_of, names_read, stop_of};
 ghost use Rattle.las_run.specs.Headline.{AsksLaszip, EndsUnlessCut, Seen};
 
 use crate::las2las::las2las;
 use crate::lasinfo::lasinfo;
+use crate::lasmerge::lasmerge;
+use crate::lassplit::lassplit;
 use crate::laszip::laszip;
+use crate::make::make;
 use crate::report::{report, status};
 use crate::stop::Stop;
 use las_info::Tap;
+use las_make::Settings;
 use las_outside::{Files, Gate, Sink};
 use las_words::{Command, WordFault, read_words};
 use std::alloc::Global;
@@ -38,10 +42,12 @@ use std::thread::Threads;
 
 /// Does all that the program does: reads the command line `words`, works on `files`, and puts one line on `err` unless
 /// all went well. It answers the exit status: 0 done, 1 out of memory, 2 wrong words, 3 a read that failed or an input
-/// that is not there, 4 a write that failed, 5 an input that is refused.
+/// that is not there, 4 a write that failed, 5 an input that is refused, 6 inputs that can't be merged.
 ///
-/// The commands are `laszip`, which packs a plain file and unpacks a packed one, and `las2las`, which filters and
-/// changes records. A name is a text, and two names of one file are not recognised.
+/// The commands are `laszip`, which packs a plain file and unpacks a packed one; `las2las`, which filters and changes
+/// records; `lasinfo`, which reports what is in a file; `lassplit`, which splits one into parts; `lasmerge`, which merges
+/// files that were written under one header; and `make`, which makes a file of drawn points and its packed form. A name is
+/// a text, and two names of one file are not recognised.
 ///
 /// The status is fixed before the line is put, and a fault of `err` changes nothing else.
 pub fn run<R: Threads + Sync, F: Files, O: Sink, E: Sink, G: Gate>(
@@ -65,7 +71,7 @@ pub fn run<R: Threads + Sync, F: Files, O: Sink, E: Sink, G: Gate>(
           out = O.seen out.old;
           out_now = O.seen out.new;
         }) cause }
-    ensures status { result ≤ 5 }
+    ensures status { result ≤ 6 }
 
     // Over known files, every accepted plain file is packed to exactly its packed form, and this form is unpacked to
     // the file; every packed file whose chunks hold records is unpacked; and every other input is refused, by its first
@@ -127,10 +133,10 @@ pub fn run<R: Threads + Sync, F: Files, O: Sink, E: Sink, G: Gate>(
     ensures wrong { let task = task_of (texts words.now) (map (λ tap. tap_seen tap) taps.items) in (index : ℕ) → task.said ≡ usage index → (result ≡ 2) ⊎ (result ≡ 1) }
     ensures unasked { let task = task_of (texts words.now) (map (λ tap. tap_seen tap) taps.items) in (index : ℕ) → task.said ≡ usage index → F.seen files.new ≡ F.seen files.old }
 
-    // Over known files: what is done is what is defined and nothing else is, and a refusal comes only if one is
-    // defined.
+    // Over known files: what is done is what is defined and nothing else is, and a refusal, or a difference of inputs,
+    // comes only if one is defined.
     ensures done { let task = task_of (texts words.now) (map (λ tap. tap_seen tap) taps.items) in (known : FileMap) → (F.seen files.old).held ≡ Some known
-        → (result ≡ 0) ⊎ ((result ≡ 2) ⊎ (result ≡ 5))
+        → (result ≡ 0) ⊎ ((result ≡ 2) ⊎ ((result ≡ 5) ⊎ (result ≡ 6)))
         → (ending : Ending) × IsTheEnding task known ending × (status_of ending.cause ≡ result)
         × ((F.seen files.new).held ≡ Some (files_of ending known))
         × (O.seen out.new ≡ with_more (O.seen out.old) ending.text) }
@@ -152,8 +158,8 @@ pub fn run<R: Threads + Sync, F: Files, O: Sink, E: Sink, G: Gate>(
     ensures write { result ≡ 4 → Rose (F.seen files.old).write_faults (F.seen files.new).write_faults
         ⊎ Rose (O.seen out.old).faults (O.seen out.new).faults }
 
-    // Over known files: what is left, whatever ended the run. Nothing has changed if the words are wrong, or the input
-    // is missing or refused when it is opened.
+    // Over known files: what is left, whatever ended the run. Nothing has changed if the words are wrong, an input is
+    // missing or refused when it is opened, or the inputs can't be merged.
     ensures left { let task = task_of (texts words.now) (map (λ tap. tap_seen tap) taps.items) in (known : FileMap) (ending : Ending) → (F.seen files.old).held ≡ Some known
         → RunOf task known ending
         → (now : FileMap) × ((F.seen files.new).held ≡ Some now) × IsLeft ending.outputs known now }
@@ -191,7 +197,7 @@ fn work<R: Threads + Sync, F: Files, O: Sink, G: Gate>(
       files_now = F.seen files.new;
       out = O.seen out.old;
       out_now = O.seen out.new;
-    }) (cause_of (inputs_read said.now) result) }
+    }) (cause_of (names_read said.now) result) }
     ensures unread { (fault : WordFault) → said.now ≡ Err fault
         → (result ≡ Err (stop_of fault)) × (F.seen files.new ≡ F.seen files.old) }
     ensures later { Later (F.seen files.old) (F.seen files.new) }
@@ -229,7 +235,7 @@ fn obey<R: Threads + Sync, F: Files, O: Sink, G: Gate>(
       files_now = F.seen files.new;
       out = O.seen out.old;
       out_now = O.seen out.new;
-    }) (cause_of (input_of (asked_by command.now) ∷ []) result) }
+    }) (cause_of (files_read (asked_by command.now)) result) }
     ensures later { Later (F.seen files.old) (F.seen files.new) }
 {
     match command {
@@ -253,5 +259,38 @@ fn obey<R: Threads + Sync, F: Files, O: Sink, G: Gate>(
             tallies,
             workers,
         } => lasinfo(rt, alloc, files, out, gate, taps, input, tallies, *workers),
+        Command::Lassplit {
+            input,
+            stem,
+            end,
+            rule,
+            workers,
+        } => lassplit(rt, alloc, files, gate, input, stem, end, rule, *workers),
+        Command::Lasmerge {
+            inputs,
+            output,
+            packing,
+            workers,
+        } => lasmerge(rt, alloc, files, gate, inputs, output, *packing, *workers),
+        Command::Make {
+            output,
+            packed,
+            points,
+            seed,
+            format,
+            extra,
+            chunk,
+            workers,
+        } => {
+            let settings = Settings {
+                points: *points,
+                seed: *seed,
+                format: *format,
+                extra: *extra,
+            };
+            make(
+                rt, alloc, files, out, gate, output, packed, settings, *chunk, *workers,
+            )
+        }
     }
 }

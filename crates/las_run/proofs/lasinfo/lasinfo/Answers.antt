@@ -8,6 +8,7 @@ use Rattle.laz_file.specs.Refusing.{IsAcceptedFile}
 use Rattle.las_run.specs.declared.stop.Stop.{Stop}
 use Rattle.las_run.specs.Ends.{Change, EndsPutting, cause_of, quiet}
 use Rattle.las_run.specs.Tools.{Reports}
+use Rattle.las_run.proofs.Commands.{lasinfo_reads, task_with}
 use Rattle.las_run.proofs.Opening.{ends_opening, ends_putting, known_more, putting_after}
 use Rattle.las_run.proofs.lasinfo.lasinfo.Goals as goal
 
@@ -17,7 +18,7 @@ returns-in_err-reader-clause-ends g c =
     let h = c.in_err-reader.ensures in
     let taps = map (λ tap. (goal.Tap-dyn g (tap.vtable, tap.value)).tap_seen tap.value) c.args.taps.items in
     let asked : Asked = lasinfo c.args.input.now (texts c.args.tallies.now) c.args.workers in
-    rw (p.1, p.2) (ends_opening taps asked (g.F.Files.seen c.args.files.now) (g.F.Files.seen c.open_input.new.files) (g.O.Sink.seen c.args.out.now) c.in_err-reader.field-0.0 h.stops h.held)
+    rw (p.1, p.2) (ends_opening (task_with taps asked) c.args.input.now (Reports taps c.args.input.now (texts c.args.tallies.now)) (lasinfo_reads taps c.args.input.now (texts c.args.tallies.now) c.args.workers) (g.F.Files.seen c.args.files.now) (g.F.Files.seen c.open_input.new.files) (g.O.Sink.seen c.args.out.now) c.in_err-reader.field-0.0 h.stops h.held)
 
 pub returns-clause-ends : goal.returns-clause-ends
 returns-clause-ends g c =
@@ -37,4 +38,4 @@ returns-clause-ends g c =
     let made = subst (λ (n : List ℕ). EndsPutting (Reports taps n tallies) n (record { files = mid; files_now = new; out = out; out_now = out_now }) c.inform.result) named c.inform.ensures.ends in
     let ends = putting_after (Reports taps input tallies) input old mid new out out_now h.held h.faults c.inform.result made in
     let accepted = known_more old.held input (StandsFor r) IsAcceptedFile (λ file s. s.accepted) h.stands in
-    ends_putting taps asked change accepted (c.inform.ensures.held ∙ h.held) c.inform.result ends
+    ends_putting (task_with taps asked) input (Reports taps input (texts c.args.tallies.now)) (lasinfo_reads taps input (texts c.args.tallies.now) c.args.workers) change accepted (c.inform.ensures.held ∙ h.held) c.inform.result ends

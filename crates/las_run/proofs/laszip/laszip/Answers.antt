@@ -8,6 +8,7 @@ use Rattle.las_run.specs.Ends.{Ends, EndsMaking, cause_of, quiet}
 use Rattle.las_run.specs.Tools.{Zips}
 use Rattle.las_header.specs.Fields.{head_of, is_packed}
 use Rattle.las_run.proofs.Making.{zips_output}
+use Rattle.las_run.proofs.Commands.{laszip_reads, task_with}
 use Rattle.las_run.proofs.Opening.{ends_making, ends_opening, known_more, making_after}
 use Rattle.las_run.proofs.laszip.laszip.Goals as goal
 
@@ -16,7 +17,7 @@ returns-in_err-reader-clause-ends g c =
     let p = err_from_is_err_and c.from_residual.result c.from_residual.ensures.1 in
     let h = c.in_err-reader.ensures in
     let asked : Asked = laszip c.args.input.now c.args.output.now c.args.chunk c.args.workers in
-    rw (p.1, p.2) (λ taps out. ends_opening taps asked (g.F.Files.seen c.args.files.now) (g.F.Files.seen c.open_input.new.files) out c.in_err-reader.field-0.0 h.stops h.held)
+    rw (p.1, p.2) (λ taps out. ends_opening (task_with taps asked) c.args.input.now (Zips c.args.input.now c.args.output.now c.args.chunk) (laszip_reads taps c.args.input.now c.args.output.now c.args.chunk c.args.workers) (g.F.Files.seen c.args.files.now) (g.F.Files.seen c.open_input.new.files) out c.in_err-reader.field-0.0 h.stops h.held)
 
 pub returns-clause-ends : goal.returns-clause-ends
 returns-clause-ends g c =
@@ -31,4 +32,4 @@ returns-clause-ends g c =
     let made = subst (λ (n : List ℕ). EndsMaking (Zips n c.args.output.now c.args.chunk) n mid new c.zip.result) named c.zip.ensures.ends in
     let ends = making_after (Zips input c.args.output.now c.args.chunk) input old mid new h.held h.faults h.writes c.zip.result made in
     let accepted = known_more old.held input (StandsFor r) IsAcceptedFile (λ file s. s.accepted) h.stands in
-    λ taps out. subst (λ (o : Result (Unit {0}) Stop). Ends (record { said = asks asked; taps = taps }) (quiet old new out) (cause_of (input ∷ []) o)) (sym c.stopped.ensures) (ends_making taps asked old new out accepted (λ file ending makes. zips_output (is_packed (head_of file)) input c.args.output.now c.args.chunk file ending makes) c.zip.result ends)
+    λ taps out. subst (λ (o : Result (Unit {0}) Stop). Ends (record { said = asks asked; taps = taps }) (quiet old new out) (cause_of (input ∷ []) o)) (sym c.stopped.ensures) (ends_making (task_with taps asked) input (Zips input c.args.output.now c.args.chunk) (laszip_reads taps input c.args.output.now c.args.chunk c.args.workers) old new out accepted (λ file ending makes. zips_output (is_packed (head_of file)) input c.args.output.now c.args.chunk file ending makes) c.zip.result ends)

@@ -1,8 +1,5 @@
-use Rattle.las_run.proofs.Running.{laszip_once, one_ending, plain_holds_once}
+use Rattle.las_run.proofs.Running.{laszip_once, plain_holds_once}
 use Rattle.las_run.proofs.laws.one_ending.Goals as goal
-
-pub returns-clause-one : goal.returns-clause-one
-returns-clause-one c = one_ending
 
 pub returns-clause-laszip : goal.returns-clause-laszip
 returns-clause-laszip c = laszip_once

@@ -1,9 +1,11 @@
-use Rattle.std.proofs.Common.{◌≡◌, [], ◌∷◌, List, ℕ, map, sym, ◌∙◌, ap, subst}
+use Rattle.std.proofs.Common.{◌≡◌, ◌≢◌, [], ◌∷◌, List, ℕ, map, sym, ◌∙◌, ap, subst}
 use Rattle.std.specs.Prelude.{string_bytes}
 use Rattle.las_filter.specs.Kept.{steps_of}
 use Rattle.las_info.specs.Tallies.{TapSeen}
-use Rattle.las_words.specs.Says.{asked_by, asks, las2las, lasinfo, laszip}
+use Rattle.las_words.specs.declared.command.Command.{Command}
+use Rattle.las_words.specs.Says.{IsSound, asked_by, asks, las2las, lasinfo, lasmerge, lassplit, laszip, make}
 use Rattle.las_words.specs.Texts.{texts}
+use Rattle.laz_file.proofs.Putting.{All-unmap}
 use Rattle.las_run.specs.Ends.{Change, Ends, cause_of}
 use Rattle.las_run.proofs.Saying.{by_task}
 use Rattle.las_run.proofs.top_call.obey.Goals as goal
@@ -43,3 +45,43 @@ returns-in-Lasinfo-clause-ends g c =
     λ task taps said. by_task task _ _ change c.lasinfo.result said asked
     (subst (λ (ts : List TapSeen). Ends (record { said = asks (lasinfo c.deref-in-Lasinfo.result.now (texts c.deref-in-Lasinfo-2.result.now) w.workers); taps = ts }) change
     (cause_of (c.deref-in-Lasinfo.result.now ∷ []) c.lasinfo.result)) (sym taps) c.lasinfo.ensures.ends)
+
+pub returns-in-Lassplit-clause-ends : goal.returns-in-Lassplit-clause-ends
+returns-in-Lassplit-clause-ends g c =
+    let w = c.in-Lassplit in
+    let stem = c.deref-in-Lassplit-2.result.now in
+    let end = c.deref-in-Lassplit-3.result.now in
+    let asked : lassplit c.deref-in-Lassplit.result.now stem end w.rule w.workers ≡ asked_by c.args.command.now =
+    ap (λ (i : List ℕ). lassplit i stem end w.rule w.workers) c.deref-in-Lassplit.ensures
+    ∙ ap (λ (s : List ℕ). lassplit (string_bytes w.input) s end w.rule w.workers) c.deref-in-Lassplit-2.ensures
+    ∙ ap (λ (e : List ℕ). lassplit (string_bytes w.input) (string_bytes w.stem) e w.rule w.workers) c.deref-in-Lassplit-3.ensures
+    ∙ sym (ap asked_by w.is) in
+    λ task taps said. by_task task _ _ _ c.lassplit.result said asked (c.lassplit.ensures.ends task.taps (g.O.Sink.seen c.args.out.now))
+
+pub returns-in-Lasmerge-clause-ends : goal.returns-in-Lasmerge-clause-ends
+returns-in-Lasmerge-clause-ends g c =
+    let w = c.in-Lasmerge in
+    let output = c.deref-in-Lasmerge-2.result.now in
+    let asked : lasmerge (texts c.deref-in-Lasmerge.result.now) output w.packing.packed w.packing.chunk w.workers ≡ asked_by c.args.command.now =
+    ap (λ ts. lasmerge (texts ts) output w.packing.packed w.packing.chunk w.workers) c.deref-in-Lasmerge.ensures.value
+    ∙ ap (λ (o : List ℕ). lasmerge (texts w.inputs.items) o w.packing.packed w.packing.chunk w.workers) c.deref-in-Lasmerge-2.ensures
+    ∙ sym (ap asked_by w.is) in
+    λ task taps said. by_task task _ _ _ c.lasmerge.result said asked (c.lasmerge.ensures.ends task.taps (g.O.Sink.seen c.args.out.now))
+
+pub returns-in-Make-clause-ends : goal.returns-in-Make-clause-ends
+returns-in-Make-clause-ends g c =
+    let w = c.in-Make in
+    let packed = c.deref-in-Make-2.result.now in
+    let asked : make c.deref-in-Make.result.now packed w.points w.seed w.format w.extra w.chunk w.workers ≡ asked_by c.args.command.now =
+    ap (λ (o : List ℕ). make o packed w.points w.seed w.format w.extra w.chunk w.workers) c.deref-in-Make.ensures
+    ∙ ap (λ (p : List ℕ). make (string_bytes w.output) p w.points w.seed w.format w.extra w.chunk w.workers) c.deref-in-Make-2.ensures
+    ∙ sym (ap asked_by w.is) in
+    λ task taps said. by_task task _ _ _ c.make.result said asked (c.make.ensures.ends task.taps)
+
+pub lasmerge-requires-clause-names : goal.lasmerge-requires-clause-names
+lasmerge-requires-clause-names g c =
+    let w = c.in-Lasmerge in
+    let names : List (List ℕ) = map (λ tap. ((goal.Tap-dyn g (tap.vtable, tap.value)).tap_seen tap.value).name) c.args.taps.items in
+    let sound = subst (λ (command : Command). IsSound names (asked_by command)) w.is c.requires.sound in
+    let others = All-unmap (λ (n : List ℕ). n ≢ string_bytes w.output) string_bytes w.inputs.items sound.0.others in
+    rw (c.deref-in-Lasmerge.ensures.value, c.deref-in-Lasmerge-2.ensures) (λ lifetimes outlive. others)

@@ -4,7 +4,7 @@ use Rattle.las_words.specs.Texts.{texts}
 use Rattle.las_run.specs.declared.stop.Stop.{Stop}
 use Rattle.las_run.specs.Runs.{task_of}
 use Rattle.las_run.specs.Endings.{status_of}
-use Rattle.las_run.specs.Ends.{Change, cause_of, inputs_read, stop_of}
+use Rattle.las_run.specs.Ends.{Change, cause_of, names_read, stop_of}
 use Rattle.las_run.proofs.Endings.{complete, done, left, left_of_none, put_of, quiet_but, read_cause, write_cause, wrong_words}
 use Rattle.las_run.proofs.Headline as headline
 use Rattle.las_run.proofs.Running.{no_outputs_first}
@@ -15,7 +15,7 @@ pub returns-clause-ends : goal.returns-clause-ends
 returns-clause-ends g c =
     let task = task_of (texts c.args.words.now) (map (λ tap. (goal.Tap-dyn g (tap.vtable, tap.value)).tap_seen tap.value) c.args.taps.items) in
     let said = c.read_words-said.result in
-    let names = inputs_read said in
+    let names = names_read said in
     let cause = cause_of names c.work-outcome.result in
     let change : Change = record {
       files = g.F.Files.seen c.args.files.now;
@@ -34,7 +34,7 @@ pub returns-clause-packs : goal.returns-clause-packs
 returns-clause-packs g c =
     let task = task_of (texts c.args.words.now) (map (λ tap. (goal.Tap-dyn g (tap.vtable, tap.value)).tap_seen tap.value) c.args.taps.items) in
     let said = c.read_words-said.result in
-    let names = inputs_read said in
+    let names = names_read said in
     let cause = cause_of names c.work-outcome.result in
     let change : Change = record {
       files = g.F.Files.seen c.args.files.now;
@@ -53,7 +53,7 @@ pub returns-clause-gives_back : goal.returns-clause-gives_back
 returns-clause-gives_back g c =
     let task = task_of (texts c.args.words.now) (map (λ tap. (goal.Tap-dyn g (tap.vtable, tap.value)).tap_seen tap.value) c.args.taps.items) in
     let said = c.read_words-said.result in
-    let names = inputs_read said in
+    let names = names_read said in
     let cause = cause_of names c.work-outcome.result in
     let change : Change = record {
       files = g.F.Files.seen c.args.files.now;
@@ -72,7 +72,7 @@ pub returns-clause-unpacks : goal.returns-clause-unpacks
 returns-clause-unpacks g c =
     let task = task_of (texts c.args.words.now) (map (λ tap. (goal.Tap-dyn g (tap.vtable, tap.value)).tap_seen tap.value) c.args.taps.items) in
     let said = c.read_words-said.result in
-    let names = inputs_read said in
+    let names = names_read said in
     let cause = cause_of names c.work-outcome.result in
     let change : Change = record {
       files = g.F.Files.seen c.args.files.now;
@@ -91,7 +91,7 @@ pub returns-clause-refuses : goal.returns-clause-refuses
 returns-clause-refuses g c =
     let task = task_of (texts c.args.words.now) (map (λ tap. (goal.Tap-dyn g (tap.vtable, tap.value)).tap_seen tap.value) c.args.taps.items) in
     let said = c.read_words-said.result in
-    let names = inputs_read said in
+    let names = names_read said in
     let cause = cause_of names c.work-outcome.result in
     let change : Change = record {
       files = g.F.Files.seen c.args.files.now;
@@ -110,7 +110,7 @@ pub returns-clause-refuses_chunks : goal.returns-clause-refuses_chunks
 returns-clause-refuses_chunks g c =
     let task = task_of (texts c.args.words.now) (map (λ tap. (goal.Tap-dyn g (tap.vtable, tap.value)).tap_seen tap.value) c.args.taps.items) in
     let said = c.read_words-said.result in
-    let names = inputs_read said in
+    let names = names_read said in
     let cause = cause_of names c.work-outcome.result in
     let change : Change = record {
       files = g.F.Files.seen c.args.files.now;
@@ -129,7 +129,7 @@ pub returns-clause-usage : goal.returns-clause-usage
 returns-clause-usage g c =
     let task = task_of (texts c.args.words.now) (map (λ tap. (goal.Tap-dyn g (tap.vtable, tap.value)).tap_seen tap.value) c.args.taps.items) in
     let said = c.read_words-said.result in
-    let names = inputs_read said in
+    let names = names_read said in
     let cause = cause_of names c.work-outcome.result in
     let change : Change = record {
       files = g.F.Files.seen c.args.files.now;
@@ -148,7 +148,7 @@ pub returns-clause-wrong : goal.returns-clause-wrong
 returns-clause-wrong g c =
     let task = task_of (texts c.args.words.now) (map (λ tap. (goal.Tap-dyn g (tap.vtable, tap.value)).tap_seen tap.value) c.args.taps.items) in
     let said = c.read_words-said.result in
-    let names = inputs_read said in
+    let names = names_read said in
     let cause = cause_of names c.work-outcome.result in
     let change : Change = record {
       files = g.F.Files.seen c.args.files.now;
@@ -171,7 +171,7 @@ pub returns-clause-unasked : goal.returns-clause-unasked
 returns-clause-unasked g c =
     let task = task_of (texts c.args.words.now) (map (λ tap. (goal.Tap-dyn g (tap.vtable, tap.value)).tap_seen tap.value) c.args.taps.items) in
     let said = c.read_words-said.result in
-    let names = inputs_read said in
+    let names = names_read said in
     let cause = cause_of names c.work-outcome.result in
     let change : Change = record {
       files = g.F.Files.seen c.args.files.now;
@@ -190,7 +190,7 @@ pub returns-clause-done : goal.returns-clause-done
 returns-clause-done g c =
     let task = task_of (texts c.args.words.now) (map (λ tap. (goal.Tap-dyn g (tap.vtable, tap.value)).tap_seen tap.value) c.args.taps.items) in
     let said = c.read_words-said.result in
-    let names = inputs_read said in
+    let names = names_read said in
     let cause = cause_of names c.work-outcome.result in
     let change : Change = record {
       files = g.F.Files.seen c.args.files.now;
@@ -209,7 +209,7 @@ pub returns-clause-complete : goal.returns-clause-complete
 returns-clause-complete g c =
     let task = task_of (texts c.args.words.now) (map (λ tap. (goal.Tap-dyn g (tap.vtable, tap.value)).tap_seen tap.value) c.args.taps.items) in
     let said = c.read_words-said.result in
-    let names = inputs_read said in
+    let names = names_read said in
     let cause = cause_of names c.work-outcome.result in
     let change : Change = record {
       files = g.F.Files.seen c.args.files.now;
@@ -228,7 +228,7 @@ pub returns-clause-read : goal.returns-clause-read
 returns-clause-read g c =
     let task = task_of (texts c.args.words.now) (map (λ tap. (goal.Tap-dyn g (tap.vtable, tap.value)).tap_seen tap.value) c.args.taps.items) in
     let said = c.read_words-said.result in
-    let names = inputs_read said in
+    let names = names_read said in
     let cause = cause_of names c.work-outcome.result in
     let change : Change = record {
       files = g.F.Files.seen c.args.files.now;
@@ -247,7 +247,7 @@ pub returns-clause-write : goal.returns-clause-write
 returns-clause-write g c =
     let task = task_of (texts c.args.words.now) (map (λ tap. (goal.Tap-dyn g (tap.vtable, tap.value)).tap_seen tap.value) c.args.taps.items) in
     let said = c.read_words-said.result in
-    let names = inputs_read said in
+    let names = names_read said in
     let cause = cause_of names c.work-outcome.result in
     let change : Change = record {
       files = g.F.Files.seen c.args.files.now;
@@ -266,7 +266,7 @@ pub returns-clause-left : goal.returns-clause-left
 returns-clause-left g c =
     let task = task_of (texts c.args.words.now) (map (λ tap. (goal.Tap-dyn g (tap.vtable, tap.value)).tap_seen tap.value) c.args.taps.items) in
     let said = c.read_words-said.result in
-    let names = inputs_read said in
+    let names = names_read said in
     let cause = cause_of names c.work-outcome.result in
     let change : Change = record {
       files = g.F.Files.seen c.args.files.now;
@@ -285,7 +285,7 @@ pub returns-clause-unchanged : goal.returns-clause-unchanged
 returns-clause-unchanged g c =
     let task = task_of (texts c.args.words.now) (map (λ tap. (goal.Tap-dyn g (tap.vtable, tap.value)).tap_seen tap.value) c.args.taps.items) in
     let said = c.read_words-said.result in
-    let names = inputs_read said in
+    let names = names_read said in
     let cause = cause_of names c.work-outcome.result in
     let change : Change = record {
       files = g.F.Files.seen c.args.files.now;
@@ -306,7 +306,7 @@ pub returns-clause-out : goal.returns-clause-out
 returns-clause-out g c =
     let task = task_of (texts c.args.words.now) (map (λ tap. (goal.Tap-dyn g (tap.vtable, tap.value)).tap_seen tap.value) c.args.taps.items) in
     let said = c.read_words-said.result in
-    let names = inputs_read said in
+    let names = names_read said in
     let cause = cause_of names c.work-outcome.result in
     let change : Change = record {
       files = g.F.Files.seen c.args.files.now;
@@ -325,7 +325,7 @@ pub returns-clause-put : goal.returns-clause-put
 returns-clause-put g c =
     let task = task_of (texts c.args.words.now) (map (λ tap. (goal.Tap-dyn g (tap.vtable, tap.value)).tap_seen tap.value) c.args.taps.items) in
     let said = c.read_words-said.result in
-    let names = inputs_read said in
+    let names = names_read said in
     let cause = cause_of names c.work-outcome.result in
     let change : Change = record {
       files = g.F.Files.seen c.args.files.now;

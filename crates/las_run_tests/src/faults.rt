@@ -1,5 +1,5 @@
 //! Each call of the files failing in turn: what ends a run, and what it leaves.
-use super::fixtures::{
+use crate::fixtures::{
     Shape, end_of, file_of, files_with, number_at, output_of, packed, part, patched,
 };
 use las_outside::{MemFiles, OpenGate};

@@ -1,5 +1,5 @@
 //! Two chunks are worked side by side.
-use super::fixtures::{PLAIN, end_of, file_of, files_with, packed};
+use crate::fixtures::{PLAIN, end_of, file_of, files_with, packed};
 use las_outside::Gate;
 use std::hint::spin_loop;
 use std::sync::atomic::{AtomicU64, Ordering};

@@ -1,9 +1,9 @@
 //! Files of the tests, and runs over them.
 ghost use Rattle.std.specs.Prelude.{◌≤◌};
 
-use crate::run;
 use las_header::{set_u16_at, set_u32_at, set_u64_at};
 use las_outside::{Gate, MemFiles, MemSink, OpenGate};
+use las_run::run;
 use std::alloc::{AllocError, Global};
 use std::thread::Threads;
 
@@ -211,8 +211,19 @@ pub fn end_of<R: Threads + Sync + AllocGlobal, G: Gate>(
     files: &mut MemFiles,
     gate: &G,
 ) -> Result<(u8, Vec<u8>), AllocError> {
+    let mut out = MemSink::with_room(rt.alloc(), 100)?;
+    end_with(rt, words, files, gate, &mut out)
+}
+
+// The status of a run without taps and its line, with this standard output.
+pub fn end_with<R: Threads + Sync + AllocGlobal, G: Gate>(
+    rt: &R,
+    words: &str,
+    files: &mut MemFiles,
+    gate: &G,
+    out: &mut MemSink,
+) -> Result<(u8, Vec<u8>), AllocError> {
     let alloc = rt.alloc();
-    let mut out = MemSink::with_room(alloc, 100)?;
     let mut err = MemSink::with_room(alloc, 100)?;
     let mut said = Vec::new(alloc);
     for word in words.split_whitespace() {
@@ -223,13 +234,35 @@ pub fn end_of<R: Threads + Sync + AllocGlobal, G: Gate>(
         alloc,
         &said,
         files,
-        &mut out,
+        out,
         &mut err,
         gate,
         Vec::new(alloc),
     );
     let line = err.bytes().to_vec(alloc)?;
     Ok((status, line))
+}
+
+// Whether a run has this status, this line and this text.
+pub fn says<R: Threads + Sync + AllocGlobal>(
+    rt: &R,
+    words: &str,
+    files: &mut MemFiles,
+    status: u8,
+    line: &str,
+    text: &str,
+) -> Result<bool, AllocError> {
+    let mut out = MemSink::with_room(rt.alloc(), 1000)?;
+    let (ended, said) = end_with(rt, words, files, &OpenGate, &mut out)?;
+    Ok(ended == status && said.as_slice() == line.as_bytes() && out.bytes() == text.as_bytes())
+}
+
+// Gives a name in memory room for an output.
+pub fn with_room(files: &mut MemFiles, names: &str) -> Result<(), AllocError> {
+    for name in names.split_whitespace() {
+        files.prepare(name, 100_000)?;
+    }
+    Ok(())
 }
 
 // What a run writes into b, if it is done.

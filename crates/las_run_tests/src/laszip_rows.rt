@@ -1,6 +1,6 @@
 //! `laszip`: files packed and unpacked, with bytes worked out by hand, and inputs that are refused.
-use super::fixtures::Edit::{Add, Cut, Set};
-use super::fixtures::{
+use crate::fixtures::Edit::{Add, Cut, Set};
+use crate::fixtures::{
     Edit, NEWEST, PLAIN, Shape, end_of, ends_so, file_of, files_with, head_of, made, number_at,
     output_of, packed, part, patched,
 };

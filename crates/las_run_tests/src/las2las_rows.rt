@@ -1,6 +1,6 @@
 //! `las2las`: records that are kept and changed, packed or plain on either side.
-use super::fixtures::Edit::{Add, Set};
-use super::fixtures::{
+use crate::fixtures::Edit::{Add, Set};
+use crate::fixtures::{
     Edit, PLAIN, Shape, end_of, ends_so, file_of, files_with, head_of, made, output_of, packed,
     part,
 };

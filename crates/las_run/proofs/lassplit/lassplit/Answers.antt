@@ -1,0 +1,62 @@
+use Rattle.std.proofs.Common.{◌≡◌, ◌≢◌, [], ◌∷◌, List, ℕ, Option, Result, Err, refl, sym, subst}
+use Rattle.std.specs.Prelude.{string_bytes}
+use Rattle.std.proofs.lemmas.Result.{err_from_is_err_and}
+use Rattle.las_outside.specs.Files.{FileMap, WhereKnown}
+use Rattle.las_words.specs.Says.{Asked, asks, lassplit}
+use Rattle.laz_file.specs.declared.fault.Fault.TheVariants.{Write}
+use Rattle.laz_file.specs.Reading.{StandsFor}
+use Rattle.laz_file.specs.Refusing.{IsAcceptedFile}
+use Rattle.las_run.specs.declared.stop.Stop.{Stop}
+use Rattle.las_run.specs.Endings.{Ending}
+use Rattle.las_run.specs.Ends.{Ends, EndsMaking, cause_of, quiet}
+use Rattle.las_run.specs.Tools.{Splits}
+use Rattle.las_run.proofs.Commands.{lassplit_reads, task_with}
+use Rattle.las_run.proofs.Endings.{left_before}
+use Rattle.las_run.proofs.Opening.{ends_opening, ends_writing, known_more, making_after}
+use Rattle.las_run.proofs.lassplit.lassplit.Goals as goal
+
+pub returns-in_err-reader-clause-ends : goal.returns-in_err-reader-clause-ends
+returns-in_err-reader-clause-ends g c =
+    let p = err_from_is_err_and c.from_residual.result c.from_residual.ensures.1 in
+    let h = c.in_err-reader.ensures in
+    let input = c.args.input.now in
+    let stem = c.args.stem.now in
+    let end = c.args.end.now in
+    let rule = c.args.rule.now in
+    let asked : Asked = lassplit input stem end rule c.args.workers in
+    rw (p.1, p.2) (λ taps out. ends_opening (task_with taps asked) input (Splits input stem end rule) (lassplit_reads taps input stem end rule c.args.workers) (g.F.Files.seen c.args.files.now) (g.F.Files.seen c.open_input.new.files) out c.in_err-reader.field-0.0 h.stops h.held)
+
+pub returns-in-Err-clause-ends : goal.returns-in-Err-clause-ends
+returns-in-Err-clause-ends g c =
+    let old = g.F.Files.seen c.args.files.now in
+    let mid = g.F.Files.seen c.open_input.new.files in
+    let asked : Asked = lassplit c.args.input.now c.args.stem.now c.args.end.now c.args.rule.now c.args.workers in
+    λ taps out. (left_before (task_with taps asked) (quiet old mid out) c.in_ok-reader.ensures.held, refl)
+
+pub returns-clause-ends : goal.returns-clause-ends
+returns-clause-ends g c =
+    let h = c.in_ok-reader.ensures in
+    let r = c.in_ok-reader.reader in
+    let old = g.F.Files.seen c.args.files.now in
+    let mid = g.F.Files.seen c.open_input.new.files in
+    let new = g.F.Files.seen c.write_parts.new.files in
+    let input = c.args.input.now in
+    let stem = c.args.stem.now in
+    let end = c.args.end.now in
+    let rule = c.args.rule.now in
+    let asked : Asked = lassplit input stem end rule c.args.workers in
+    let outcome = c.write_parts.result in
+    let names = c.in-Ok.names in
+    let made = subst (λ (e : List ℕ). EndsMaking (Splits input stem e rule) input mid new outcome) c.in-Ok.ensures.end
+    (subst (λ (s : List ℕ). EndsMaking (Splits input s (string_bytes names.end) rule) input mid new outcome) c.in-Ok.ensures.stem
+    (subst (λ (n : List ℕ). EndsMaking (Splits n (string_bytes names.stem) (string_bytes names.end) rule) n mid new outcome) h.fresh.named c.write_parts.ensures.ends)) in
+    let ends = making_after (Splits input stem end rule) input old mid new h.held h.faults h.writes outcome made in
+    let HasOutputs = λ (n s e : List ℕ) (file : List ℕ). (ending : Ending) → Splits n s e rule file ending → ending.outputs ≢ [] in
+    let some : outcome ≡ Err Write → WhereKnown old.held input (HasOutputs input stem end) = λ is.
+    subst (λ (f : Option FileMap). WhereKnown f input (HasOutputs input stem end)) h.held
+    (subst (λ (e : List ℕ). WhereKnown mid.held input (HasOutputs input stem e)) c.in-Ok.ensures.end
+    (subst (λ (s : List ℕ). WhereKnown mid.held input (HasOutputs input s (string_bytes names.end))) c.in-Ok.ensures.stem
+    (subst (λ (n : List ℕ). WhereKnown mid.held n (HasOutputs n (string_bytes names.stem) (string_bytes names.end))) h.fresh.named (c.write_parts.ensures.some is)))) in
+    let accepted = known_more old.held input (StandsFor r) IsAcceptedFile (λ file s. s.accepted) h.stands in
+    λ taps out. subst (λ (o : Result (Unit {0}) Stop). Ends (record { said = asks asked; taps = taps }) (quiet old new out) (cause_of (input ∷ []) o)) (sym c.stopped.ensures)
+    (ends_writing (task_with taps asked) input (Splits input stem end rule) (lassplit_reads taps input stem end rule c.args.workers) old new out accepted outcome some ends)

@@ -1,0 +1,97 @@
+//! The command `lassplit`: the records of a file go into numbered parts.
+ghost use Rattle.std.specs.Prelude.{◌≡◌, ◌≢◌, ◌^◌, ◌<◌, ◌≤◌, ◌∷◌, [], ℕ, IfOk, IsErrOf, List, string_bytes};
+ghost use Rattle.las_filter.specs.Parts.{IsRule, part_name};
+ghost use Rattle.las_outside.specs.Files.{WhereKnown};
+ghost use Rattle.las_outside.specs.Outside.{Later};
+ghost use Rattle.las_outside.specs.Sinks.{SinkView};
+ghost use Rattle.las_words.specs.Says.{asks, lassplit};
+ghost use Rattle.laz_file.specs.declared.fault.Fault.TheVariants.{Write};
+ghost use Rattle.laz_file.specs.Reading.{AgreesWithHead, IsNewReader, StandsFor};
+ghost use Rattle.las_info.specs.Tallies.{TapSeen};
+ghost use Rattle.las_run.specs.Endings.{Ending};
+ghost use Rattle.las_run.specs.Ends.{Ends, EndsMaking, cause_of, quiet};
+ghost use Rattle.las_run.specs.Tools.{Splits};
+
+use crate::input::{open_input, stopped};
+use crate::stop::Stop;
+use las_filter::Rule;
+use las_outside::{Files, Gate};
+use las_split::{PartNames, split};
+use laz_file::{Fault, Reader};
+use std::alloc::{AllocError, Global};
+use std::thread::Threads;
+
+/// Splits the records of an input into parts by a rule. A part is named by the stem, an underscore, its number in seven
+/// digits or as many as it has, and the end.
+pub fn lassplit<R: Threads + Sync, F: Files, G: Gate>(
+    rt: &R,
+    alloc: Global,
+    files: &mut F,
+    gate: &G,
+    input: &str,
+    stem: &str,
+    end: &str,
+    rule: &Rule,
+    workers: u32,
+) -> Result<(), Stop>
+    requires rule { IsRule rule.now }
+    requires workers { (1 ≤ workers) × (workers ≤ 8) }
+    requires names { (number : ℕ) → number < 2 ^ 32 → part_name stem.now end.now number ≢ input.now }
+    ensures ends { (taps : List TapSeen) (out : SinkView) → Ends (record {
+      said = asks (lassplit input.now stem.now end.now rule.now workers);
+      taps = taps;
+    })
+        (quiet (F.seen files.old) (F.seen files.new) out) (cause_of (input.now ∷ []) result) }
+    ensures later { Later (F.seen files.old) (F.seen files.new) }
+{
+    let reader = open_input(alloc, files, 0, input)?;
+    let names = match part_names(alloc, stem, end) {
+        Ok(names) => names,
+        Err(_) => return Err(Stop::Memory),
+    };
+    stopped(
+        0,
+        write_parts(rt, alloc, files, gate, reader, &names, rule, workers),
+    )
+}
+
+// What the names of parts have in common.
+fn part_names(alloc: Global, stem: &str, end: &str) -> Result<PartNames, AllocError>
+    ensures stem { IfOk result (λ names. string_bytes names.stem ≡ stem.now) }
+    ensures end { IfOk result (λ names. string_bytes names.end ≡ end.now) }
+{
+    let stem = String::from_str(alloc, stem)?;
+    let end = String::from_str(alloc, end)?;
+    Ok(PartNames { stem, end })
+}
+
+// Writes the records of a file into parts.
+fn write_parts<R: Threads + Sync, F: Files, G: Gate>(
+    rt: &R,
+    alloc: Global,
+    files: &mut F,
+    gate: &G,
+    reader: Reader,
+    names: &PartNames,
+    rule: &Rule,
+    workers: u32,
+) -> Result<(), Fault>
+    requires new { IsNewReader reader.name reader }
+    requires whole { AgreesWithHead reader }
+    requires rule { IsRule rule.now }
+    requires workers { (1 ≤ workers) × (workers ≤ 8) }
+    requires names { (number : ℕ) → number < 2 ^ 32
+        → part_name (string_bytes names.now.stem) (string_bytes names.now.end) number ≢ reader.name }
+    requires stands { WhereKnown (F.seen files.old).held reader.name (StandsFor reader) }
+    ensures ends { EndsMaking (Splits reader.name (string_bytes names.now.stem) (string_bytes names.now.end) rule.now)
+        reader.name (F.seen files.old) (F.seen files.new) result }
+    ensures some { IsErrOf result Write → WhereKnown (F.seen files.old).held reader.name (λ file. (ending : Ending)
+        → Splits reader.name (string_bytes names.now.stem) (string_bytes names.now.end) rule.now file ending
+        → ending.outputs ≢ []) }
+    ensures later { Later (F.seen files.old) (F.seen files.new) }
+{
+    match split(rt, alloc, files, gate, reader, names, rule, workers) {
+        Ok(_) => Ok(()),
+        Err(fault) => Err(fault),
+    }
+}

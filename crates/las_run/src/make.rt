@@ -1,0 +1,87 @@
+//! The command `make`: a plain file, and its packed form.
+ghost use Rattle.std.specs.Prelude.{◌≡◌, ◌≢◌, ◌≤◌, ◌∷◌, [], ℕ, List, OnErr, OnOk, take};
+ghost use Rattle.las_info.specs.Tallies.{TapSeen};
+ghost use Rattle.las_make.specs.Made.{IsInRange};
+ghost use Rattle.las_outside.specs.Outside.{Later};
+ghost use Rattle.las_outside.specs.Sinks.{with_fault, with_more};
+ghost use Rattle.las_words.specs.Says.{asks, make};
+ghost use Rattle.las_run.specs.Ends.{Ends, cause_of, stop_making};
+ghost use Rattle.las_run.specs.Tools.{made_text};
+
+use crate::stop::Stop;
+use itoa::Buffer;
+use las_make::{MakeFault, Settings, Sizes};
+use las_outside::{Failed, Files, Gate, Sink, put_all};
+use std::alloc::Global;
+use std::thread::Threads;
+
+/// Writes a plain file of drawn points and its packed form, in chunks of `chunk` points, and puts their sizes.
+pub fn make<R: Threads + Sync, F: Files, O: Sink, G: Gate>(
+    rt: &R,
+    alloc: Global,
+    files: &mut F,
+    out: &mut O,
+    gate: &G,
+    output: &str,
+    packed: &str,
+    settings: Settings,
+    chunk: u32,
+    workers: u32,
+) -> Result<(), Stop>
+    requires range { IsInRange settings }
+    requires chunk { (256 ≤ chunk) × (chunk ≤ 250000) }
+    requires workers { (1 ≤ workers) × (workers ≤ 8) }
+    requires names { packed.now ≢ output.now }
+    ensures ends { (taps : List TapSeen) → Ends (record {
+      said = asks (make output.now packed.now settings.points settings.seed settings.format settings.extra chunk workers);
+      taps = taps;
+    }) (record {
+      files = F.seen files.old;
+      files_now = F.seen files.new;
+      out = O.seen out.old;
+      out_now = O.seen out.new;
+    }) (cause_of (output.now ∷ packed.now ∷ []) result) }
+    ensures later { Later (F.seen files.old) (F.seen files.new) }
+{
+    match las_make::make(
+        rt, alloc, files, gate, output, packed, settings, chunk, workers,
+    ) {
+        Ok(sizes) => match put_sizes(out, settings.points, sizes) {
+            Ok(()) => Ok(()),
+            Err(_) => Err(Stop::Write),
+        },
+        Err(fault) => Err(stop_making(fault)),
+    }
+}
+
+// Puts the lines of two files with this number of points and these sizes.
+fn put_sizes<O: Sink>(out: &mut O, points: u32, sizes: Sizes) -> Result<(), Failed>
+    ensures put { OnOk result (O.seen out.new
+        ≡ with_more (O.seen out.old) (made_text points sizes.plain sizes.packed)) }
+    ensures failed { OnErr result ((n : ℕ) × (O.seen out.new
+        ≡ with_fault (with_more (O.seen out.old) (take n (made_text points sizes.plain sizes.packed))))) }
+{
+    let (mut first, mut second, mut third) = (Buffer::new(), Buffer::new(), Buffer::new());
+    let points = first.format(points).as_bytes();
+    let plain = second.format(sizes.plain).as_bytes();
+    let packed = third.format(sizes.packed).as_bytes();
+    put_all(
+        out,
+        &[
+            b"points ", points, b"\n", b"plain ", plain, b"\n", b"packed ", packed, b"\n",
+        ],
+    )
+}
+
+// Why a run ends whose files were not made: the plain file is the first that is read, and the packed one the second.
+fn stop_making(fault: MakeFault) -> Stop
+    ensures { result ≡ stop_making fault }
+{
+    match fault {
+        MakeFault::ReadPlain => Stop::Read(0),
+        MakeFault::ReadPacked => Stop::Read(1),
+        MakeFault::Changed(cause) => Stop::Refused(0, cause),
+        MakeFault::Write => Stop::Write,
+        MakeFault::Memory => Stop::Memory,
+    }
+}

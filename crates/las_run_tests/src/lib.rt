@@ -1,0 +1,17 @@
+//! Tests of the top call: whole runs over files in memory.
+#![tactic(auto)]
+
+#[cfg(test)]
+mod faults;
+#[cfg(test)]
+mod fixtures;
+#[cfg(test)]
+mod las2las_rows;
+#[cfg(test)]
+mod laszip_rows;
+#[cfg(test)]
+mod meeting;
+#[cfg(test)]
+mod tool_faults;
+#[cfg(test)]
+mod tool_rows;
