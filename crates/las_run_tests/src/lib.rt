@@ -12,6 +12,8 @@ mod laszip_rows;
 #[cfg(test)]
 mod meeting;
 #[cfg(test)]
+mod own_tap;
+#[cfg(test)]
 mod tool_faults;
 #[cfg(test)]
 mod tool_rows;

@@ -1,6 +1,7 @@
 //! Rows of `lasinfo`, `lassplit`, `lasmerge` and `make`.
-use crate::fixtures::{NEWEST, PLAIN, file_of, head_of, part, patched, says, with_room};
+use crate::fixtures::{NEWEST, PLAIN, file_of, head_of, packed, part, patched, says, with_room};
 use las_outside::MemFiles;
+use laz_table::table_of;
 use std::alloc::{AllocError, Global};
 use std::test::Fail;
 
@@ -81,6 +82,39 @@ fn too_many_parts(rt: HostRuntime) -> Result<(), Fail> {
         at = at.saturating_add(20);
     }
     assert_eq!(rt; files.get("p_0000512"), None);
+    Ok(())
+}
+
+// A packed head of 2^31 points in chunks of 250,000, whose table has a count of zero for each.
+fn empty_chunks(alloc: Global, form: &[u8]) -> Result<Vec<u8>, AllocError> {
+    let counts = vec![in alloc; 0; 8590]?;
+    let mut file = part(alloc, form, 0, 329)?;
+    file.extend_from_slice(&table_of(alloc, &counts)?)?;
+    let file = patched(alloc, &file, 107, &[0, 0, 0, 128])?;
+    let file = patched(alloc, &file, 293, &[144, 208, 3, 0])?;
+    patched(alloc, &file, 321, &[73, 1, 0, 0, 0, 0, 0, 0])
+}
+
+#[test]
+fn too_many_points(rt: HostRuntime) -> Result<(), Fail> {
+    let alloc = rt.alloc();
+    let form = packed(&rt, &file_of(alloc, PLAIN, 1)?)?;
+    let mut files = MemFiles::new(alloc);
+    files.put_file("a", &empty_chunks(alloc, &form)?)?;
+    with_room(&mut files, "b")?;
+    assert!(rt;
+        says(
+            &rt,
+            "lasmerge -i a -i a -o b",
+            &mut files,
+            6,
+            "too many points\n",
+            ""
+        )?
+    );
+    assert_eq!(rt; files.get("b"), None);
+    let line = "refused: a: 21 BadChunk 0\n";
+    assert!(rt; says(&rt, "laszip -i a -o b", &mut files, 5, line, "")?);
     Ok(())
 }
 
