@@ -1,12 +1,12 @@
 -- The models of a bank, one of which changes. Cited by crates above.
-use Rattle.std.proofs.Common.{◌≡◌, false, ◌⊎◌, ℕ, ◌+◌, ◌-◌, ◌<◌, ◌≤◌, List, [], ◌∷◌, ◌++◌, length, map, set, get_or, refl, sym, ap, ◌∙◌, arith, ⊎_elim, inl, inr}
+use Rattle.std.proofs.Common.{◌≡◌, true, false, ◌⊎◌, ℕ, ◌+◌, ◌-◌, ◌<◌, ◌≤◌, List, [], ◌∷◌, ◌++◌, length, map, set, get_or, refl, sym, ap, ◌∙◌, arith, ⊎_elim, inl, inr}
 use Rattle.std.proofs.lemmas.Bool.{cases_eq, cases_lt}
 use Rattle.std.proofs.lemmas.List.{length-map, length-set, length-take-le, length-replicate, get_or-map, get_or-set_same, get_or-set_other, get_or_default, set-get_or, map-set, same_lists}
 use Rattle.std.proofs.lemmas.List.Edits.{length-between, get_or-between}
 use Rattle.laz_models.specs.Bank.{model_at, alphabet_sizes}
 use Rattle.laz_models.specs.Counting.{Counting, AreStarts, after_symbol, new_model, new_cycle, counts_with}
 use Rattle.laz_models.specs.Dist.{alphabet_size, StandsFor}
-use Rattle.laz_models.specs.Place.{cells_of, counting_in, counting_of, IsShaped, IsModel, IsPlaced, IsBank, SamePlace, SameOutside}
+use Rattle.laz_models.specs.Place.{cells_of, counting_in, counting_of, IsShaped, IsModel, IsPlaced, AreFirst, IsBank, SamePlace, SameOutside}
 use Rattle.laz_models.specs.declared.place.Place.{Place}
 use Rattle.laz_models.proofs.Models.{new_model-starts, first-AreStarts, counting_of-first, counting_of-laid}
 use Rattle.laz_models.proofs.Parts.{after_symbol-last, after_symbol-more}
@@ -72,9 +72,9 @@ at bank places cells m p view invariant below read =
 
 pub many-at : (bank : List Counting) (places : List Place) (cells : List ℕ) (m : ℕ) → map (counting_in cells) places ≡ bank → IsBank places cells → m < length bank → 2 ≤ alphabet_size (model_at bank m)
 many-at bank places cells m view invariant below =
-    let p : Place = get_or places m (record { start = 0; end = 0; size = 0; shift = 0; total = 0; cycle = 0; indexed = false; remaining = 0 }) in
+    let p : Place = get_or places m (record { start = 0; end = 0; first = 0; size = 0; shift = 0; total = 0; cycle = 0; indexed = false; even = true; remaining = 0 }) in
     let here : m < length places = omega (arith, length-map places (counting_in cells), ap length view) in
-    let a = at bank places cells m p view invariant below (get_or_default places m (record { start = 0; end = 0; size = 0; shift = 0; total = 0; cycle = 0; indexed = false; remaining = 0 }) p here) in
+    let a = at bank places cells m p view invariant below (get_or_default places m (record { start = 0; end = 0; first = 0; size = 0; shift = 0; total = 0; cycle = 0; indexed = false; even = true; remaining = 0 }) p here) in
     omega (arith, a.size, a.placed.model.shape.many)
 
 -- ---- one model of a bank changes
@@ -103,7 +103,7 @@ place-set places m p new d k here read same =
     let old : get_or places k d ≡ p = ap (λ i. get_or places i d) e ∙ (get_or_default places m d p here ∙ sym read) in
     let now : get_or (set places m new) k d ≡ new = ap (λ i. get_or (set places m new) i d) e ∙ get_or-set_same places m new d here in
     rw (old, now) same)
-    (λ (ne : k ≡ m → ⊥). rw (get_or-set_other places m k new d ne) (record { start = refl; end = refl; size = refl; shift = refl }))
+    (λ (ne : k ≡ m → ⊥). rw (get_or-set_other places m k new d ne) (record { start = refl; end = refl; first = refl; size = refl; shift = refl }))
     (cases_eq k m)
 
 -- another model's place
@@ -167,6 +167,12 @@ view-set places old new m p q invariant here read outside =
     ∙ (sym (get_or-map (counting_in old) places k p d there)
     ∙ sym (get_or-set_other (map (counting_in old) places) m k (counting_of q (cells_of q new)) d ne)))))
     (cases_eq k m))
+
+-- each model keeps the distribution of a new one
+pub AreFirst-set : (places : List Place) (firsts : List ℕ) (m : ℕ) (p q : Place) → AreFirst places firsts → m < length places → p ≡ get_or places m p → SamePlace p q → AreFirst (set places m q) firsts
+AreFirst-set places firsts m p q are here read same = λ k d below.
+    let kept = place-set places m p q d k here read same in
+    rw (kept.size, kept.first) (are k d (omega (arith, length-set places m q)))
 
 -- ---- what the longer list gives
 pub StandsFor-push : (h : List ℕ) (s : ℕ) (m : Counting) → 2 ≤ alphabet_size m → s < alphabet_size m → StandsFor h m → StandsFor (h ++ s ∷ []) (after_symbol m s)

@@ -1,11 +1,12 @@
 -- The places of new models.
-use Rattle.std.proofs.Common.{◌≡◌, false, ℕ, ◌+◌, ◌<◌, ◌≤◌, List, [], ◌∷◌, ◌++◌, length, map, get_or, refl, sym, ap, ◌∙◌, arith, ⊎_elim}
+use Rattle.std.proofs.Common.{◌≡◌, true, false, ℕ, ◌+◌, ◌-◌, ◌<◌, ◌≤◌, List, [], ◌∷◌, ◌++◌, length, map, take, drop, get_or, refl, sym, ap, ◌∙◌, arith, ⊎_elim}
 use Rattle.std.proofs.lemmas.Bool.{cases_lt}
-use Rattle.std.proofs.lemmas.List.{length-map, length_push, get_or-map, get_or_push, get_or_append_left, get_or_default, same_lists}
+use Rattle.std.proofs.lemmas.List.{length-append, length-map, length_push, take_all, take-append-le, drop_at, get_or-map, get_or_push, get_or_append_left, get_or_default, same_lists}
+use Rattle.std.proofs.lemmas.Slice.{between_is}
 use Rattle.laz_models.specs.Bank.{alphabet_sizes}
 use Rattle.laz_models.specs.Counting.{Counting, new_model}
 use Rattle.laz_models.specs.Dist.{alphabet_size}
-use Rattle.laz_models.specs.Place.{cells_of, counting_in, as_new, IsShaped, IsPlaced, IsBank, IsLayout}
+use Rattle.laz_models.specs.Place.{cells_of, counting_in, as_new, dist_extent, first_in, AreFirst, IsEven, IsFirst, IsShaped, IsPlaced, IsBank, IsLayout}
 use Rattle.laz_models.specs.declared.place.Place.{Place}
 use Rattle.laz_models.proofs.Banks.{size-new_model, fits-place}
 use Rattle.laz_models.proofs.Models.{counting_of-first}
@@ -23,8 +24,8 @@ each_push P places p each here m d below =
     rw (get_or_push places p d m last) same)
     (cases_lt m (length places))
 
-pub layout-push : (places : List Place) (sizes : List ℕ) (end n : ℕ) (p : Place) → IsLayout places sizes end → IsShaped p → p.size ≡ n → p.remaining ≡ 0 → p.indexed ≡ false → p.start ≡ end → IsLayout (places ++ p ∷ []) (sizes ++ n ∷ []) p.end
-layout-push places sizes end n p layout shape size first unindexed start =
+pub layout-push : (places : List Place) (sizes : List ℕ) (end n : ℕ) (p : Place) → IsLayout places sizes end → IsShaped p → p.size ≡ n → p.remaining ≡ 0 → p.indexed ≡ false → p.even ≡ true → p.start ≡ end → IsLayout (places ++ p ∷ []) (sizes ++ n ∷ []) p.end
+layout-push places sizes end n p layout shape size first unindexed even start =
     let more : length (places ++ p ∷ []) ≡ length places + 1 = length_push places p in
     let grows : end ≤ p.end = omega (arith, shape.extent) in
     record {
@@ -34,6 +35,7 @@ layout-push places sizes end n p layout shape size first unindexed start =
           (λ m d below. layout.size m d below ∙ sym (get_or_append_left sizes (n ∷ []) 0 m (omega (arith, layout.count))))
           (size ∙ sym (get_or_push sizes n 0 (length places) (sym layout.count)));
       first = each_push (λ m q. q.remaining ≡ 0) places p layout.first first;
+      even = each_push (λ m q. q.even ≡ true) places p layout.even even;
       unindexed = each_push (λ m q. q.indexed ≡ false) places p layout.unindexed unindexed;
       within = each_push (λ m q. q.end ≤ p.end) places p (λ m d below. omega (arith, layout.within m d below)) (omega arith);
       apart = λ i j d order below.
@@ -45,13 +47,42 @@ layout-push places sizes end n p layout shape size first unindexed start =
           j d below order;
     }
 
+-- ---- the distributions of new models
+-- more of them after those that are there
+pub IsFirst-append : (n first : ℕ) (firsts more : List ℕ) → IsFirst n first firsts → IsFirst n first (firsts ++ more)
+IsFirst-append n first firsts more is =
+    let within : first + dist_extent n ≤ length firsts = is.within in
+    let same : first_in n first (firsts ++ more) ≡ first_in n first firsts =
+    between_is (firsts ++ more) first (first + dist_extent n) ∙ (ap (drop first) (take-append-le (first + dist_extent n) firsts more within) ∙ sym (between_is firsts first (first + dist_extent n))) in
+    record { within = omega (arith, length-append firsts more); even = rw same is.even }
+
+pub AreFirst-append : (places : List Place) (firsts more : List ℕ) → AreFirst places firsts → AreFirst places (firsts ++ more)
+AreFirst-append places firsts more are = λ m d below. IsFirst-append (get_or places m d).size (get_or places m d).first firsts more (are m d below)
+
+-- one more is the last of them
+pub IsFirst-last : (n : ℕ) (firsts dist : List ℕ) → IsEven n dist → IsFirst n (length firsts) (firsts ++ dist)
+IsFirst-last n firsts dist is =
+    let size : length dist ≡ dist_extent n = is.whole.length in
+    let fewer : length firsts + dist_extent n - length firsts ≡ length dist = omega arith in
+    let here : first_in n (length firsts) (firsts ++ dist) ≡ dist =
+    ap (λ xs. take (length firsts + dist_extent n - length firsts) xs) (drop_at firsts dist (length firsts) refl) ∙ take_all (length firsts + dist_extent n - length firsts) dist (omega arith) in
+    record { within = omega (arith, length-append firsts dist); even = rw here is }
+
+pub AreFirst-push : (places : List Place) (p : Place) (firsts : List ℕ) → AreFirst places firsts → IsFirst p.size p.first firsts → AreFirst (places ++ p ∷ []) firsts
+AreFirst-push places p firsts are is = each_push (λ _ q. IsFirst q.size q.first firsts) places p are is
+
+pub AreFirst-new : (places : List Place) (firsts : List ℕ) → AreFirst places firsts → AreFirst (map as_new places) firsts
+AreFirst-new places firsts are = λ m d below.
+    let here : m < length places = omega (arith, length-map places as_new) in
+    rw (get_or-map as_new places m d d here) (are m d here)
+
 -- ---- the bank of a layout
 pub layout-view : (places : List Place) (sizes cells : List ℕ) (end : ℕ) → IsLayout places sizes end → map (counting_in cells) places ≡ map new_model sizes
 layout-view places sizes cells end layout =
     same_lists (map (counting_in cells) places) (map new_model sizes) (length-map places (counting_in cells) ∙ (layout.count ∙ sym (length-map sizes new_model)))
     (λ k d below.
     let here : k < length places = omega (arith, length-map places (counting_in cells)) in
-    let p0 : Place = record { start = 0; end = 0; size = 0; shift = 0; total = 0; cycle = 0; indexed = false; remaining = 0 } in
+    let p0 : Place = record { start = 0; end = 0; first = 0; size = 0; shift = 0; total = 0; cycle = 0; indexed = false; even = true; remaining = 0 } in
     get_or-map (counting_in cells) places k p0 d here
     ∙ (counting_of-first (get_or places k p0) (cells_of (get_or places k p0) cells) (layout.first k p0 here)
     ∙ (ap new_model (layout.size k p0 here)
@@ -71,6 +102,7 @@ first-IsBank places cells bank =
             model = record {
               shape = record { many = shape.many; few = shape.few; shift = shape.shift; extent = shape.extent };
               length = placed.model.length;
+              even = λ _. refl;
               indexed = λ e. absurd (cc);
               laid = λ some. absurd (omega arith);
             };
@@ -89,7 +121,7 @@ first-view places cells bank =
     same_lists (map (counting_in cells) (map as_new places)) (map (λ m. new_model (alphabet_size m)) (map (counting_in cells) places)) (count ∙ sym count_old)
     (λ k d below.
     let here : k < length places = omega arith in
-    let p0 : Place = record { start = 0; end = 0; size = 0; shift = 0; total = 0; cycle = 0; indexed = false; remaining = 0 } in
+    let p0 : Place = record { start = 0; end = 0; first = 0; size = 0; shift = 0; total = 0; cycle = 0; indexed = false; even = true; remaining = 0 } in
     let p : Place = get_or places k p0 in
     let s = fits-place p (cells_of p cells) (bank.placed k p0 here).model in
     get_or-map (counting_in cells) (map as_new places) k (as_new p0) d (omega (arith, length-map places as_new))

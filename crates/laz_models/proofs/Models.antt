@@ -1,16 +1,17 @@
 -- The cells of a model, and one more symbol.
-use Rattle.std.proofs.Common.{◌≡◌, true, ℕ, zero, suc, ◌+◌, ◌-◌, ◌*◌, ◌/◌, ◌^◌, ◌<◌, ◌≤◌, min, List, [], ◌∷◌, length, take, drop, sum, replicate, get_or, refl, sym, ap, ◌∙◌, arith, ⊎_elim, lit<, ◌++◌, set}
-use Rattle.std.proofs.Math.Nat.{mul-le-mul_left, div-mul-le_self, lt-mul-div-succ, div-lt_iff_lt-mul, one-le-pow}
-use Rattle.std.proofs.lemmas.Nat.{le-div}
+use Rattle.std.proofs.Common.{◌≡◌, true, false, ℕ, zero, suc, ◌+◌, ◌-◌, ◌*◌, ◌/◌, ◌^◌, ◌<◌, ◌≤◌, min, List, [], ◌∷◌, length, take, drop, sum, replicate, get_or, refl, sym, ap, ◌∙◌, arith, ⊎_elim, lit<, ◌++◌, set}
+use Rattle.std.proofs.Math.Nat.{div-lt_iff_lt-mul, one-le-pow}
 use Rattle.std.proofs.lemmas.List.Sums.{sum_by-set, get_or-le-sum_by}
 use Rattle.std.proofs.lemmas.Bool.{cases_eq, cases_lt, cond-true, cond-false, eq-eqb, ne_eqb}
-use Rattle.std.proofs.lemmas.List.{take_at, take-append-drop, set-append_left, length-set, get_or-set_same, get_or-set_other, drop-set-lt, length-replicate, take-replicate, length-take-le, length-drop, get_or-drop, get_or-take, get_or_default, get_or_past}
-use Rattle.laz_models.specs.Counting.{AreCounts, AreStarts, counts_with, after_symbol, starts_of, part_end, new_model}
+use Rattle.std.proofs.lemmas.List.{take_at, take-append-drop, set-append_left, length-set, get_or-set_same, get_or-set_other, drop-set-lt, length-replicate, length-take-le, length-drop, get_or-drop, get_or-take, get_or_default, get_or_past}
+use Rattle.laz_models.specs.Counting.{Counting, AreCounts, AreStarts, counts_with, after_symbol, starts_of, part_end, new_model}
 use Rattle.laz_models.specs.Lookup.{IsLastAt, search_bits, start_or_guard}
-use Rattle.laz_models.specs.Place.{counts_in, starts_in, guards_in, table_in, laid_state, counting_of, extent, IsShaped, IsLaid}
+use Rattle.laz_models.specs.Place.{counts_in, dist_in, starts_in, guards_in, table_in, laid_state, counting_of, dist_extent, even_starts, extent, IsDist, IsLaid, IsModel, IsShaped, IsTable}
+use Rattle.laz_models.specs.Near.{IsNear}
+use Rattle.laz_models.specs.declared.near.Near.{Near}
 use Rattle.laz_models.specs.declared.place.Place.{Place}
-use Rattle.laz_models.proofs.Lookups.{last_at, search-few, search-whole}
-use Rattle.laz_models.proofs.Parts.{after_symbol-more, get_or-starts_of, starts_of-AreStarts, AreCounts-ones, sum-ones}
+use Rattle.laz_models.proofs.Lookups.{search-few, search-whole}
+use Rattle.laz_models.proofs.Parts.{after_symbol-more, starts_of-AreStarts, AreCounts-ones, sum-ones}
 
 -- ---- a model that is new, or laid out
 pub counting_of-first : (p : Place) (cells : List ℕ) → p.remaining ≡ 0 → counting_of p cells ≡ new_model p.size
@@ -31,28 +32,24 @@ first-AreStarts n many few =
     let good : AreStarts (length (replicate {A = ℕ} n 1)) (starts_of (replicate n 1)) = starts_of-AreStarts (replicate n 1) (AreCounts-ones n many few) (omega arith) in
     rw (length-replicate {A = ℕ} n 1) at good
 
--- the start of a part in a new model
-pub first-part : (n k : ℕ) → k < n → get_or (starts_of (replicate n 1)) k 0 ≡ 2147483648 / n * k / 65536
-first-part n k h =
-    let inside : k < length (replicate {A = ℕ} n 1) = omega (arith, length-replicate {A = ℕ} n 1) in
-    let below : take k (replicate {A = ℕ} n 1) ≡ replicate k 1 = take-replicate k n 1 (omega arith) in
-    get_or-starts_of (replicate n 1) k inside ∙ rw (sum-ones n, below, sum-ones k) refl
+-- ---- the starts of a model, in its first cycle and after it
+pub starts-even : (p : Place) (cells : List ℕ) → p.even ≡ true → (counting_of p cells).starts ≡ even_starts p.size
+starts-even p cells even =
+    ⊎_elim {C = (counting_of p cells).starts ≡ even_starts p.size}
+    (λ (first : p.remaining ≡ 0). ap (λ (m : Counting). m.starts) (counting_of-first p cells first) ∙ new_model-starts p.size)
+    (λ (laid : p.remaining ≡ 0 → ⊥). ap (λ (m : Counting). m.starts) (counting_of-laid p cells (omega (arith, laid))) ∙ cond-true _ _ _ even)
+    (cases_eq p.remaining 0)
 
--- the last symbol at v or below, before any symbol was counted
-pub first-last : (n v : ℕ) → 2 ≤ n → n ≤ 2048 → IsLastAt (starts_of (replicate n 1)) v (min (((v + 1) * 65536 - 1) / (2147483648 / n)) (n - 1))
-first-last n v many few =
-    let unit : ℕ = 2147483648 / n in
-    let some : 0 < unit = le-div 1 2147483648 n (omega arith) (omega arith) in
-    let place : ℕ = (v + 1) * 65536 - 1 in
-    let q : ℕ = place / unit in
-    let s : ℕ = min q (n - 1) in
-    let low : unit * s ≤ unit * q = mul-le-mul_left {m = s} {n = q} unit (omega arith) in
-    let down : q * unit ≤ place = div-mul-le_self place unit in
-    let up : place < unit * (q + 1) = lt-mul-div-succ place some in
-    let here : s < n = omega arith in
-    last_at n (starts_of (replicate n 1)) v s (first-AreStarts n many few) here
-    (rw (first-part n s here) (omega arith))
-    (λ next. let same : s ≡ q = omega arith in rw (first-part n (s + 1) next, same) (omega arith))
+pub starts-own : (p : Place) (cells : List ℕ) → 0 < p.remaining → p.even ≡ false → (counting_of p cells).starts ≡ starts_in p.size (dist_in p.size cells)
+starts-own p cells some own = ap (λ (m : Counting). m.starts) (counting_of-laid p cells some) ∙ cond-false _ _ _ own
+
+-- a model that is not in its first cycle has its counts laid out
+pub own-laid : (p : Place) (cells : List ℕ) → IsModel p cells → p.even ≡ false → 0 < p.remaining
+own-laid p cells model own =
+    ⊎_elim {C = 0 < p.remaining}
+    (λ (first : p.remaining ≡ 0). absurd (cc (model.even first, own)))
+    (λ (laid : p.remaining ≡ 0 → ⊥). omega (arith, laid))
+    (cases_eq p.remaining 0)
 
 -- ---- the end of a part
 pub part_end-last : (starts : List ℕ) (n s : ℕ) → length starts ≡ n → s + 1 ≡ n → part_end starts s ≡ 32768
@@ -69,9 +66,9 @@ part_end-above n starts s h below =
     (λ (inner : s + 1 ≡ n → ⊥). rw (part_end-inner starts n s h.length inner) (h.rising s (omega (arith, inner)), omega (arith, h.within (s + 1) (omega (arith, inner)))))
     (cases_eq (s + 1) n)
 
--- ---- the look-up table of a model that is laid out
-pub length-starts_in : (p : Place) (cells : List ℕ) → length cells ≡ extent p.size → length (starts_in p.size cells) ≡ p.size
-length-starts_in p cells h = length-take-le p.size (drop p.size cells) (omega (arith, length-drop p.size cells))
+-- ---- the cells of a distribution
+pub length-starts_in : (n : ℕ) (dist : List ℕ) → length dist ≡ dist_extent n → length (starts_in n dist) ≡ n
+length-starts_in n dist h = length-take-le n dist (omega arith)
 
 -- how many cells there are at most
 pub extent-few : (n : ℕ) → n ≤ 2048 → extent n ≤ 6146
@@ -83,38 +80,65 @@ guard_at (suc zero) g h = refl
 guard_at (suc (suc i)) g h = absurd (omega arith)
 
 -- the start of a part, by its place among the cells
-pub part_at : (n s : ℕ) (cells : List ℕ) → s < n → get_or (starts_in n cells) s 0 ≡ get_or cells (n + s) 0
-part_at n s cells h = get_or-take n (drop n cells) s 0 h ∙ get_or-drop n cells s 0
+pub part_at : (n s : ℕ) (dist : List ℕ) → s < n → get_or (starts_in n dist) s 0 ≡ get_or dist s 0
+part_at n s dist h = get_or-take n dist s 0 h
 
 -- the start of a part or a guard, by its place among the cells
-pub start_or_guard-at : (n k : ℕ) (cells : List ℕ) → length (starts_in n cells) ≡ n → guards_in n cells ≡ 65535 ∷ 65535 ∷ [] → k < n + 2 → start_or_guard (starts_in n cells) k ≡ get_or cells (n + k) 0
-start_or_guard-at n k cells count guards below =
+pub start_or_guard-at : (n k : ℕ) (dist : List ℕ) → IsDist n dist → k < n + 2 → start_or_guard (starts_in n dist) k ≡ get_or dist k 0
+start_or_guard-at n k dist is below =
+    let count : length (starts_in n dist) ≡ n = length-starts_in n dist is.length in
     ⊎_elim
-    (λ (inner : k < n). get_or_default (starts_in n cells) k 65535 0 (omega arith) ∙ part_at n k cells inner)
+    (λ (inner : k < n). get_or_default (starts_in n dist) k 65535 0 (omega arith) ∙ part_at n k dist inner)
     (λ (past : n ≤ k).
     let i : ℕ = k - n in
     let few : i < 2 = omega arith in
-    let whole : n + (n + i) ≡ n + k = omega arith in
-    let there : get_or (guards_in n cells) i 0 ≡ get_or cells (n + (n + i)) 0 =
-    get_or-take 2 (drop n (drop n cells)) i 0 few ∙ (get_or-drop n (drop n cells) i 0 ∙ get_or-drop n cells (n + i) 0) in
-    let guard : get_or (guards_in n cells) i 0 ≡ 65535 = rw guards (guard_at i 65535 few) in
-    get_or_past (starts_in n cells) k 65535 (omega arith) ∙ (sym guard ∙ (there ∙ ap (λ j. get_or cells j 0) whole)))
+    let whole : n + i ≡ k = omega arith in
+    let there : get_or (guards_in n dist) i 0 ≡ get_or dist (n + i) 0 = get_or-take 2 (drop n dist) i 0 few ∙ get_or-drop n dist i 0 in
+    let guard : get_or (guards_in n dist) i 0 ≡ 65535 = rw is.guards (guard_at i 65535 few) in
+    get_or_past (starts_in n dist) k 65535 (omega arith) ∙ (sym guard ∙ (there ∙ ap (λ j. get_or dist j 0) whole)))
     (cases_lt k n)
 
--- an entry of the table, by its place among the cells
-pub record AreEntries (p : Place) (cells : List ℕ) (t : ℕ) : Type 0 where
-  pub within : 2 * p.size + 2 + t < length cells
-  pub last : IsLastAt (starts_in p.size cells) (t * 2 ^ p.shift) (get_or cells (2 * p.size + 2 + t) 0)
+-- the end of a part, by its place among the cells
+pub part_end-at : (n s : ℕ) (dist : List ℕ) → IsDist n dist → s < n → part_end (starts_in n dist) s ≡ min (get_or dist (s + 1) 0) 32768
+part_end-at n s dist is below =
+    let count : length (starts_in n dist) ≡ n = length-starts_in n dist is.length in
+    let next : start_or_guard (starts_in n dist) (s + 1) ≡ get_or dist (s + 1) 0 = start_or_guard-at n (s + 1) dist is (omega arith) in
+    ⊎_elim {C = part_end (starts_in n dist) s ≡ min (get_or dist (s + 1) 0) 32768}
+    (λ (last : s + 1 ≡ n).
+    let guard : start_or_guard (starts_in n dist) (s + 1) ≡ 65535 = get_or_past (starts_in n dist) (s + 1) 65535 (omega arith) in
+    part_end-last (starts_in n dist) n s count last ∙ omega (arith, next, guard))
+    (λ (inner : s + 1 ≡ n → ⊥).
+    let same : get_or (starts_in n dist) (s + 1) 0 ≡ get_or dist (s + 1) 0 = part_at n (s + 1) dist (omega (arith, inner)) in
+    part_end-inner (starts_in n dist) n s count inner ∙ omega (arith, same, is.starts.within (s + 1) (omega (arith, inner))))
+    (cases_eq (s + 1) n)
 
-pub entry_at : (p : Place) (cells : List ℕ) (t : ℕ) → IsShaped p → length cells ≡ extent p.size → IsLaid p cells → p.indexed ≡ true → t < 2 ^ search_bits p.size → AreEntries p cells t
-entry_at p cells t shape size laid indexed below =
-    let n : ℕ = p.size in
-    let inside : t < length (table_in n cells) = omega (arith, length-drop n cells, length-drop n (drop n cells), length-drop 2 (drop n (drop n cells))) in
-    let at : get_or (table_in n cells) t 0 ≡ get_or cells (2 * n + 2 + t) 0 =
-    get_or-drop 2 (drop n (drop n cells)) t 0 ∙ (get_or-drop n (drop n cells) (2 + t) 0 ∙ (get_or-drop n cells (n + (2 + t)) 0 ∙ ap (λ i. get_or cells i 0) (omega arith))) in
+-- an entry of the table, by its place among the cells
+pub record AreEntries (n shift : ℕ) (dist : List ℕ) (t : ℕ) : Type 0 where
+  pub within : n + 2 + t < length dist
+  pub last : IsLastAt (starts_in n dist) (t * 2 ^ shift) (get_or dist (n + 2 + t) 0)
+
+pub entry_at : (n shift : ℕ) (dist : List ℕ) (t : ℕ) → IsDist n dist → IsTable n shift dist → t < 2 ^ search_bits n → AreEntries n shift dist t
+entry_at n shift dist t is table below =
+    let size : length dist ≡ dist_extent n = is.length in
+    let inside : t < length (table_in n dist) = omega (arith, length-drop n dist, length-drop 2 (drop n dist)) in
+    let at : get_or (table_in n dist) t 0 ≡ get_or dist (n + 2 + t) 0 =
+    get_or-drop 2 (drop n dist) t 0 ∙ (get_or-drop n dist (2 + t) 0 ∙ ap (λ i. get_or dist i 0) (omega arith)) in
     record {
       within = omega arith;
-      last = rw at at (laid.table indexed t inside);
+      last = rw at at (table t inside);
+    }
+
+-- a symbol and the starts that are read beside it
+pub near-is : (n v s : ℕ) (dist : List ℕ) (near : Near) → IsDist n dist → IsLastAt (starts_in n dist) v s → near.symbol ≡ s → near.start ≡ get_or dist s 0
+    → near.next ≡ get_or dist (s + 1) 0 → near.after ≡ get_or dist (s + 2) 0 → IsNear (starts_in n dist) v near
+near-is n v s dist near is last symbol start next after =
+    let count : length (starts_in n dist) ≡ n = length-starts_in n dist is.length in
+    let below : s < n = omega (arith, last.symbol) in
+    record {
+      symbol = rw symbol last;
+      start = rw symbol (start ∙ sym (part_at n s dist below));
+      next = rw symbol (next ∙ sym (start_or_guard-at n (s + 1) dist is (omega arith)));
+      after = rw symbol (after ∙ sym (start_or_guard-at n (s + 2) dist is (omega arith)));
     }
 
 -- a place below 2 ^ 15 has an entry
@@ -152,9 +176,7 @@ sum-counts_with counts s below = omega (arith, sum_by-set (λ (x : ℕ). x) coun
 -- what a symbol more leaves of the cells of a model that is laid out
 pub record Bumps (n : ℕ) (old new : List ℕ) (s : ℕ) : Type 0 where
   pub counts : counts_in n new ≡ counts_with (counts_in n old) s
-  pub starts : starts_in n new ≡ starts_in n old
-  pub guards : guards_in n new ≡ guards_in n old
-  pub table : table_in n new ≡ table_in n old
+  pub dist : dist_in n new ≡ dist_in n old
   pub good : AreCounts (counts_in n old) → AreCounts (counts_in n new)
   pub sum : sum (counts_in n new) ≡ sum (counts_in n old) + 1
 
@@ -167,16 +189,14 @@ bumps n s cells below within =
     let rest : drop n (set cells s (get_or cells s 0 + 1)) ≡ drop n cells = drop-set-lt n cells s (get_or cells s 0 + 1) below in
     record {
       counts = counts;
-      starts = ap (take n) rest;
-      guards = ap (λ xs. take 2 (drop n xs)) rest;
-      table = ap (λ xs. drop 2 (drop n xs)) rest;
+      dist = rest;
       good = λ h. rw counts (AreCounts-counts_with (take n cells) s h (omega arith));
       sum = ap sum counts ∙ sum-counts_with (take n cells) s (omega arith);
     }
 
 -- a symbol more, not the last one of the cycle
 abbrev pub one_fewer : Place → Place
-one_fewer p = record { start = p.start; end = p.end; size = p.size; shift = p.shift; total = p.total; cycle = p.cycle; indexed = p.indexed; remaining = p.remaining - 1 }
+one_fewer p = record p { remaining = p.remaining - 1 }
 
 pub record Adds (p : Place) (old new : List ℕ) (s : ℕ) : Type 0 where
   pub laid : IsLaid (one_fewer p) new
@@ -188,9 +208,10 @@ adds p cells s laid within below more =
     record {
       laid = record {
         counts = b.good laid.counts;
-        starts = rw b.starts laid.starts;
-        guards = b.guards ∙ laid.guards;
-        table = λ e. rw (b.table, b.starts) (laid.table e);
+        starts = rw b.dist laid.starts;
+        own = λ e. rw b.dist (laid.own e);
+        own_index = laid.own_index;
+        table = λ e. rw b.dist (laid.table e);
         total = laid.total;
         sum = omega (arith, laid.sum, b.sum);
         remaining = omega arith;
@@ -198,11 +219,11 @@ adds p cells s laid within below more =
         four = laid.four;
         cycle = laid.cycle;
       };
-      after_symbol = rw (b.counts, b.starts) (sym (after_symbol-more (laid_state p cells) s (λ e. omega (arith, e))));
+      after_symbol = rw (b.counts, b.dist) (sym (after_symbol-more (laid_state p cells) s (λ e. omega (arith, e))));
     }
 
 -- a count of a model that is laid out is far below 2 ^ 32
-pub count-fits : (p : Place) (cells : List ℕ) (s : ℕ) → IsLaid p cells → p.size ≤ 2048 → p.size ≤ length cells → s < p.size → get_or cells s 0 + 1 < 4294967296
+pub count-fits : (p : Place) (cells : List ℕ) (s : ℕ) → IsLaid p cells → p.size ≤ 2048 → p.size ≤ length cells → s < p.size → get_or cells s 0 + 1 < 65536
 count-fits p cells s laid few within below =
     let front : length (counts_in p.size cells) ≡ p.size = length-take-le p.size cells within in
     let part : get_or (counts_in p.size cells) s 0 ≤ sum (counts_in p.size cells) = get_or-le-sum_by (λ (x : ℕ). x) (counts_in p.size cells) s 0 (omega arith) in

@@ -35,6 +35,7 @@ adds_at p cells s x placed below more read =
         model = record {
           shape = record { many = shape.many; few = shape.few; shift = shape.shift; extent = shape.extent };
           length = ap length same ∙ (length-set (cells_of p cells) s (get_or (cells_of p cells) s 0 + 1) ∙ placed.model.length);
+          even = λ e. absurd (omega (arith, e, more));
           indexed = λ _. omega arith;
           laid = λ _. rw same a.laid;
         };
@@ -43,7 +44,7 @@ adds_at p cells s x placed below more read =
       after_symbol = rw (same, counting_of-laid p (cells_of p cells) (omega arith)) (counting_of-laid (one_fewer p) (set (cells_of p cells) s (get_or (cells_of p cells) s 0 + 1)) (omega arith) ∙ a.after_symbol);
     }
 
-pub count-fits-at : (p : Place) (cells : List ℕ) (s x : ℕ) → IsPlaced p cells → s < p.size → 0 < p.remaining → x ≡ get_or cells (p.start + s) 0 → x + 1 < 4294967296
+pub count-fits-at : (p : Place) (cells : List ℕ) (s x : ℕ) → IsPlaced p cells → s < p.size → 0 < p.remaining → x ≡ get_or cells (p.start + s) 0 → x + 1 < 65536
 count-fits-at p cells s x placed below laid read =
     let inside : s < p.end - p.start = omega (arith, placed.model.shape.extent) in
     omega (arith, read, cells_of-get p cells s inside, count-fits p (cells_of p cells) s (placed.model.laid laid) placed.model.shape.few (omega (arith, placed.model.length)) below)

@@ -1,45 +1,82 @@
 -- Where the models of a bank lie among its cells, and what the cells hold.
 use Rattle.std.specs.Prelude.{◌≡◌, true, false, ℕ, ◌+◌, ◌-◌, ◌*◌, ◌^◌, ◌<◌, ◌≤◌, ◌==◌, List, [], ◌∷◌, length, take}
-use Rattle.std.specs.Prelude.{drop, sum}
+use Rattle.std.specs.Prelude.{drop, replicate, sum}
 use Rattle.std.specs.Prelude.{if◌then◌else◌, slice_index, slice_index_or, slice_range}
-use Rattle.laz_models.specs.Counting.{Counting, AreCounts, AreStarts, new_model}
+use Rattle.laz_models.specs.Counting.{Counting, AreCounts, AreStarts, new_model, starts_of}
 use Rattle.laz_models.specs.Lookup.{IsLastAt, search_bits}
 use Rattle.laz_models.specs.declared.place.Place.{Place}
 use Rattle.laz_models.specs.declared.limits.TheConstants.{GUARD, MAX_COUNT, MAX_SYMBOLS}
 
--- The cells of a model of n symbols: its counts, its starts and two guards after them, and the look-up table of the
--- symbols from which a search begins.
+-- The cells of a model of n symbols: its counts, and those of its distribution.
 abbrev pub counts_in : ℕ → List ℕ → List ℕ
 counts_in n cells = take n cells
 
+abbrev pub dist_in : ℕ → List ℕ → List ℕ
+dist_in n cells = drop n cells
+
+-- The cells of a distribution of n symbols: their starts, two guards after them, and the look-up table of the symbols
+-- from which a search begins.
 abbrev pub starts_in : ℕ → List ℕ → List ℕ
-starts_in n cells = take n (drop n cells)
+starts_in n dist = take n dist
 
 abbrev pub guards_in : ℕ → List ℕ → List ℕ
-guards_in n cells = take 2 (drop n (drop n cells))
+guards_in n dist = take 2 (drop n dist)
 
 abbrev pub table_in : ℕ → List ℕ → List ℕ
-table_in n cells = drop 2 (drop n (drop n cells))
+table_in n dist = drop 2 (drop n dist)
 
 -- Each entry of the look-up table is the last symbol whose part begins at the entry's position or below.
 abbrev pub IsTable : ℕ → ℕ → List ℕ → Type 0
-IsTable n shift cells =
-    (t : ℕ) → t < length (table_in n cells)
-    → IsLastAt (starts_in n cells) (t * 2 ^ shift) (slice_index (table_in n cells) t)
+IsTable n shift dist =
+    (t : ℕ) → t < length (table_in n dist)
+    → IsLastAt (starts_in n dist) (t * 2 ^ shift) (slice_index (table_in n dist) t)
 
--- What a model knows if its cells are laid out.
+-- How many cells a distribution of n symbols has.
+abbrev pub dist_extent : ℕ → ℕ
+dist_extent n = n + (2 + 2 ^ search_bits n)
+
+-- Cells of a distribution of n symbols, perhaps without its look-up table.
+pub record IsDist (n : ℕ) (dist : List ℕ) : Type 0 where
+  pub length : length dist ≡ dist_extent n
+  pub starts : AreStarts n (starts_in n dist)
+  pub guards : guards_in n dist ≡ GUARD ∷ GUARD ∷ []
+
+-- The starts of a new model.
+abbrev pub even_starts : ℕ → List ℕ
+even_starts n = starts_of (replicate n 1)
+
+-- Cells of the distribution of a new model of n symbols.
+pub record IsEven (n : ℕ) (dist : List ℕ) : Type 0 where
+  pub whole : IsDist n dist
+  pub starts : starts_in n dist ≡ even_starts n
+  pub table : IsTable n (15 - search_bits n) dist
+
+-- The cells of the distribution of a new model of n symbols, from `first` on, among those of all sizes.
+abbrev pub first_in : ℕ → ℕ → List ℕ → List ℕ
+first_in n first firsts = slice_range firsts first (first + dist_extent n)
+
+-- They lie there.
+pub record IsFirst (n first : ℕ) (firsts : List ℕ) : Type 0 where
+  pub within : first + dist_extent n ≤ length firsts
+  pub even : IsEven n (first_in n first firsts)
+
+-- The starts of a model whose counts are laid out: in its first cycle they are not among its cells.
+abbrev pub starts_now : Place → List ℕ → List ℕ
+starts_now p cells = if p.even then even_starts p.size else starts_in p.size (dist_in p.size cells)
+
+-- What a model knows if its counts are laid out.
 abbrev pub laid_state : Place → List ℕ → Counting
 laid_state p cells =
     record {
       counts = counts_in p.size cells;
-      starts = starts_in p.size cells;
+      starts = starts_now p cells;
       cycle = p.cycle;
       remaining = p.remaining;
     }
 
 -- How many cells a model of n symbols has.
 abbrev pub extent : ℕ → ℕ
-extent n = n + (n + (2 + 2 ^ search_bits n))
+extent n = n + dist_extent n
 
 -- What holds of a place, whatever the cells hold.
 pub record IsShaped (p : Place) : Type 0 where
@@ -48,12 +85,13 @@ pub record IsShaped (p : Place) : Type 0 where
   pub shift : p.shift ≡ 15 - search_bits p.size
   pub extent : p.end ≡ p.start + extent p.size
 
--- What holds of a model whose cells are laid out. `total` is the sum of the counts at the beginning of the cycle.
+-- What holds of a model whose counts are laid out. `total` is the sum of the counts at the beginning of the cycle.
 pub record IsLaid (p : Place) (cells : List ℕ) : Type 0 where
   pub counts : AreCounts (counts_in p.size cells)
-  pub starts : AreStarts p.size (starts_in p.size cells)
-  pub guards : guards_in p.size cells ≡ GUARD ∷ GUARD ∷ []
-  pub table : p.indexed ≡ true → IsTable p.size p.shift cells
+  pub starts : AreStarts p.size (starts_now p cells)
+  pub own : p.even ≡ false → IsDist p.size (dist_in p.size cells)
+  pub own_index : p.indexed ≡ true → p.even ≡ false
+  pub table : p.indexed ≡ true → IsTable p.size p.shift (dist_in p.size cells)
   pub total : p.total ≤ MAX_COUNT
   pub sum : sum (counts_in p.size cells) + p.remaining ≡ p.total + p.cycle
   pub remaining : 1 ≤ p.remaining
@@ -73,6 +111,7 @@ pub record IsDue (p : Place) (cells : List ℕ) : Type 0 where
 pub record SamePlace (old new : Place) : Type 0 where
   pub start : new.start ≡ old.start
   pub end : new.end ≡ old.end
+  pub first : new.first ≡ old.first
   pub size : new.size ≡ old.size
   pub shift : new.shift ≡ old.shift
 
@@ -88,6 +127,7 @@ counting_of p cells = if p.remaining == 0 then new_model p.size else laid_state 
 pub record IsModel (p : Place) (cells : List ℕ) : Type 0 where
   pub shape : IsShaped p
   pub length : length cells ≡ extent p.size
+  pub even : p.remaining ≡ 0 → p.even ≡ true
   pub indexed : p.indexed ≡ true → 0 < p.remaining
   pub laid : 0 < p.remaining → IsLaid p cells
 
@@ -112,12 +152,19 @@ pub record IsBank (places : List Place) (cells : List ℕ) : Type 0 where
   pub apart : (i j : ℕ) (d : Place) → i < j → j < length places
       → (slice_index_or places i d).end ≤ (slice_index_or places j d).start
 
+-- For each model there is the distribution of a new one of its size.
+abbrev pub AreFirst : List Place → List ℕ → Type 0
+AreFirst places firsts =
+    (m : ℕ) (d : Place) → m < length places
+    → IsFirst (slice_index_or places m d).size (slice_index_or places m d).first firsts
+
 -- The places of new models of these alphabet sizes, the last of which ends at `end`.
 pub record IsLayout (places : List Place) (sizes : List ℕ) (end : ℕ) : Type 0 where
   pub count : length places ≡ length sizes
   pub shape : (m : ℕ) (d : Place) → m < length places → IsShaped (slice_index_or places m d)
   pub size : (m : ℕ) (d : Place) → m < length places → (slice_index_or places m d).size ≡ slice_index sizes m
   pub first : (m : ℕ) (d : Place) → m < length places → (slice_index_or places m d).remaining ≡ 0
+  pub even : (m : ℕ) (d : Place) → m < length places → (slice_index_or places m d).even ≡ true
   pub unindexed : (m : ℕ) (d : Place) → m < length places → (slice_index_or places m d).indexed ≡ false
   pub within : (m : ℕ) (d : Place) → m < length places → (slice_index_or places m d).end ≤ end
   pub apart : (i j : ℕ) (d : Place) → i < j → j < length places
@@ -125,4 +172,4 @@ pub record IsLayout (places : List Place) (sizes : List ℕ) (end : ℕ) : Type 
 
 -- A place whose model is new.
 abbrev pub as_new : Place → Place
-as_new p = record p { indexed = false; remaining = 0 }
+as_new p = record p { indexed = false; even = true; remaining = 0 }

@@ -3,6 +3,7 @@ ghost use Rattle.std.specs.Prelude.{◌≡◌, ◌≢◌, ℕ, ◌+◌, ◌-◌,
 ghost use Rattle.std.specs.Prelude.{All};
 ghost use Rattle.std.specs.Prelude.{IfOk, slice_index, slice_set};
 
+use crate::bank_cells::Layout;
 use crate::limits::{MAX_MODELS, MAX_SYMBOLS, SYMBOL_PARTS};
 use crate::near::Near;
 use crate::place::Place;
@@ -10,26 +11,28 @@ use crate::{bank_cells, lookup};
 use std::alloc::{AllocError, Global};
 use std::marker::Model;
 
-/// Models of symbols whose counts, distributions and look-up tables lie in one vector.
+/// Models of symbols whose counts, distributions and look-up tables lie in one vector. The distributions of new models
+/// lie in another one, one for each run of models of the same size, and are written when the bank is made.
 ///
 /// Each model stands for the list of symbols that it has counted since the bank was made or reset, and answers the
 /// distribution of that list. Only `new` takes memory.
 #[derive(Drop)]
 pub struct ModelBank {
-    cells: Vec<u32>,
+    cells: Vec<u16>,
+    firsts: Vec<u16>,
     places: Vec<Place>,
 }
 
 impl Model for ModelBank {
     ghost use Rattle.std.specs.Prelude.{List, map};
     ghost use Rattle.laz_models.specs.Counting.{Counting};
-    ghost use Rattle.laz_models.specs.Place.{IsBank, counting_in};
+    ghost use Rattle.laz_models.specs.Place.{AreFirst, IsBank, counting_in};
 
     ghost Value = { List Counting };
 
     ghost view = { λ b. map (counting_in b.cells.items) b.places.items };
 
-    ghost invariant = { λ b. IsBank b.places.items b.cells.items };
+    ghost invariant = { λ b. IsBank b.places.items b.cells.items × AreFirst b.places.items b.firsts.items };
 }
 
 impl ModelBank {
@@ -50,12 +53,20 @@ impl ModelBank {
         ensures sound { IfOk result (λ bank. AreSound bank) }
         ensures stands { IfOk result (λ bank. (m : ℕ) → m < length sizes.now → StandsFor [] (model_at bank m)) }
     {
-        let (places, end) = bank_cells::places_of(alloc, sizes)?;
+        let Layout {
+            places,
+            firsts,
+            end,
+        } = bank_cells::lay_out(alloc, sizes)?;
         let cells = vec![in alloc; 0; end]?;
-        Ok(ModelBank { cells, places })
+        Ok(ModelBank {
+            cells,
+            firsts,
+            places,
+        })
     }
 
-    /// Resets all models to new ones. It costs one write a model.
+    /// Resets all models to new ones. It costs a few writes a model, and not one for each of its symbols.
     pub fn reset(&mut self)
         ensures new_model { self.new ≡ map (λ m. new_model (alphabet_size m)) self.old }
         ensures sizes { alphabet_sizes self.new ≡ alphabet_sizes self.old }
@@ -79,7 +90,7 @@ impl ModelBank {
             in (result.0 ≡ slice_index starts s) × (result.1 ≡ part_end starts s) }
     {
         let place = &self.places[m as usize];
-        lookup::part(&self.cells[place.start..place.end], place, s)
+        lookup::part(&self.cells[place.start..place.end], &self.firsts, place, s)
     }
 
     /// The greatest symbol of model `m` whose part begins at `v` or below. For `v` of 32,768 or more it is the last
@@ -93,7 +104,7 @@ impl ModelBank {
             → IsLastAt (dist (alphabet_size (model_at self.now m)) h) v result }
     {
         let place = &self.places[m as usize];
-        lookup::find(&self.cells[place.start..place.end], place, v)
+        lookup::find(&self.cells[place.start..place.end], &self.firsts, place, v)
     }
 
     /// Entry `t` of the look-up table of model `m`: the greatest symbol whose part begins at `t · 2^(15 - b)` or below.
@@ -111,7 +122,7 @@ impl ModelBank {
             in IsLastAt (dist n h) (t * 2 ^ (15 - table_bits n)) result }
     {
         let place = &self.places[m as usize];
-        lookup::entry(&self.cells[place.start..place.end], place, t)
+        lookup::entry(&self.cells[place.start..place.end], &self.firsts, place, t)
     }
 
     /// Where a decoder's search for the symbol of model `m` at place `v` or above begins: at the last symbol whose part
@@ -125,7 +136,7 @@ impl ModelBank {
         ensures starts { AreStarts (alphabet_size (model_at self.now m)) (model_at self.now m).starts }
     {
         let place = &self.places[m as usize];
-        lookup::near(&self.cells[place.start..place.end], place, v)
+        lookup::near(&self.cells[place.start..place.end], &self.firsts, place, v)
     }
 
     /// The same as [`near`](Self::near) with a search step of 1, by a search of all parts: the symbol at place `v` itself.
@@ -136,7 +147,7 @@ impl ModelBank {
         ensures starts { AreStarts (alphabet_size (model_at self.now m)) (model_at self.now m).starts }
     {
         let place = &self.places[m as usize];
-        lookup::near_without_table(&self.cells[place.start..place.end], place, v)
+        lookup::near_without_table(&self.cells[place.start..place.end], &self.firsts, place, v)
     }
 
     /// Counts symbol `s` of model `m`.
@@ -152,6 +163,59 @@ impl ModelBank {
         ensures sound { AreSound self.new }
     {
         bank_cells::count_at(&mut self.cells, &mut self.places[m as usize], s, false);
+    }
+
+    /// The part of symbol `s` of model `m`, as [`part`](Self::part) answers it. The symbol is then counted.
+    // If the model is new or its cycle ends, both are done out of line. So neither tests that again.
+    #[inline(always)]
+    pub fn part_and_count(&mut self, m: u32, s: u32) -> (u32, u32)
+        requires model { m < length self.old }
+        requires symbol { s < alphabet_size (model_at self.old m) }
+        ensures start { result.0 ≡ slice_index (model_at self.old m).starts s }
+        ensures end { result.1 ≡ part_end (model_at self.old m).starts s }
+        ensures some { result.0 < result.1 }
+        ensures whole { result.1 ≤ SYMBOL_PARTS }
+        ensures dist { (h : List ℕ) → StandsFor h (model_at self.old m)
+            → let starts = dist (alphabet_size (model_at self.old m)) h
+            in (result.0 ≡ slice_index starts s) × (result.1 ≡ part_end starts s) }
+        ensures after_symbol { self.new ≡ slice_set self.old m (after_symbol (model_at self.old m) s) }
+        ensures stands { (h : List ℕ) → StandsFor h (model_at self.old m)
+            → StandsFor (h ++ s ∷ []) (model_at self.new m) }
+        ensures others { (k : ℕ) → k ≢ m → model_at self.new k ≡ model_at self.old k }
+        ensures sizes { alphabet_sizes self.new ≡ alphabet_sizes self.old }
+        ensures sound { AreSound self.new }
+    {
+        if self.places[m as usize].remaining <= 1 {
+            return self.part_and_count_at_cycle_end(m, s);
+        }
+        let part = self.part(m, s);
+        self.count(m, s);
+        part
+    }
+
+    /// The same, if the model is new or the symbol is the last of its cycle.
+    #[cold]
+    #[inline(never)]
+    fn part_and_count_at_cycle_end(&mut self, m: u32, s: u32) -> (u32, u32)
+        requires model { m < length self.old }
+        requires symbol { s < alphabet_size (model_at self.old m) }
+        ensures start { result.0 ≡ slice_index (model_at self.old m).starts s }
+        ensures end { result.1 ≡ part_end (model_at self.old m).starts s }
+        ensures some { result.0 < result.1 }
+        ensures whole { result.1 ≤ SYMBOL_PARTS }
+        ensures dist { (h : List ℕ) → StandsFor h (model_at self.old m)
+            → let starts = dist (alphabet_size (model_at self.old m)) h
+            in (result.0 ≡ slice_index starts s) × (result.1 ≡ part_end starts s) }
+        ensures after_symbol { self.new ≡ slice_set self.old m (after_symbol (model_at self.old m) s) }
+        ensures stands { (h : List ℕ) → StandsFor h (model_at self.old m)
+            → StandsFor (h ++ s ∷ []) (model_at self.new m) }
+        ensures others { (k : ℕ) → k ≢ m → model_at self.new k ≡ model_at self.old k }
+        ensures sizes { alphabet_sizes self.new ≡ alphabet_sizes self.old }
+        ensures sound { AreSound self.new }
+    {
+        let part = self.part(m, s);
+        self.count(m, s);
+        part
     }
 
     /// The same as [`count`](Self::count), for a reader: where a cycle begins, a look-up table is written, from which

@@ -1,20 +1,20 @@
 //! The cells of one model: its counts, its starts, and its look-up table.
-ghost use Rattle.std.specs.Prelude.{◌≡◌, ℕ, ◌+◌, ◌-◌, ◌*◌, ◌/◌, ◌<◌, ◌≤◌, ◌^◌, true, [], ◌∷◌, length, sum, All};
+ghost use Rattle.std.specs.Prelude.{◌≡◌, ℕ, ◌+◌, ◌-◌, ◌*◌, ◌/◌, ◌<◌, ◌≤◌, ◌^◌, true, [], ◌∷◌, length, sum, All, IfOk};
 ghost use Rattle.std.specs.Prelude.{replicate};
 ghost use Rattle.std.specs.Prelude.{slice_index};
 ghost use Rattle.laz_models.specs.Counting.{halves_of, starts_of, AreCounts, AreStarts, after_symbol, new_cycle};
 ghost use Rattle.laz_models.specs.Counting.{small_counts, new_model};
 ghost use Rattle.laz_models.specs.Lookup.{AreMarked, HaveBegun, IsLastAt, first_entry, search_bits};
-ghost use Rattle.laz_models.specs.Place.{counts_in, starts_in, guards_in, laid_state, counting_of, IsTable, IsShaped};
-ghost use Rattle.laz_models.specs.Place.{IsLaid};
-ghost use Rattle.laz_models.specs.Place.{IsDue, IsModel, SamePlace, extent};
+ghost use Rattle.laz_models.specs.Place.{counts_in, dist_in, starts_in, laid_state, counting_of, IsDist, IsTable};
+ghost use Rattle.laz_models.specs.Place.{IsDue, IsEven, IsLaid, IsModel, IsShaped, SamePlace, dist_extent, extent};
 
 use crate::limits::{GUARD, MAX_COUNT, MAX_SYMBOLS, SYMBOL_PARTS};
 use crate::place::Place;
+use std::alloc::{AllocError, Global};
 
 /// Halves each count and rounds it up.
-fn halve(counts: &mut [u32])
-    requires { All (λ c. c + 1 < 2 ^ 32) counts.old }
+fn halve(counts: &mut [u16])
+    requires { All (λ c. c + 1 < 2 ^ 16) counts.old }
     ensures { counts.new ≡ halves_of counts.old }
 {
     for count in counts.iter_mut() {
@@ -23,15 +23,19 @@ fn halve(counts: &mut [u32])
 }
 
 /// The sum of the counts.
-fn total_of(counts: &[u32]) -> u32
+fn total_of(counts: &[u16]) -> u32
     requires { sum counts.now < 2 ^ 32 }
     ensures { result ≡ sum counts.now }
 {
-    counts.iter().sum()
+    let mut total = 0;
+    for count in counts {
+        total += *count as u32;
+    }
+    total
 }
 
 /// Writes the start of each symbol's part.
-fn write_starts(starts: &mut [u32], counts: &[u32], total: u32)
+fn write_starts(starts: &mut [u16], counts: &[u16], total: u32)
     requires lengths { length starts.old ≡ length counts.now }
     requires total { total ≡ sum counts.now }
     requires some { 0 < total }
@@ -40,8 +44,8 @@ fn write_starts(starts: &mut [u32], counts: &[u32], total: u32)
     let unit = 0x8000_0000 / total;
     let mut below = 0;
     for i in 0..counts.len() {
-        starts[i] = (unit * below) >> 16;
-        below += counts[i];
+        starts[i] = ((unit * below) >> 16) as u16;
+        below += counts[i] as u32;
     }
 }
 
@@ -56,7 +60,7 @@ fn first_entry(start: u32, shift: u32) -> u32
 }
 
 /// Writes each symbol to the first entry at whose place its part has begun. If there are several, the last one stays.
-fn mark(table: &mut [u32], starts: &[u32], shift: u32)
+fn mark(table: &mut [u16], starts: &[u16], shift: u32)
     requires some { 0 < length starts.now }
     requires few { length starts.now ≤ MAX_SYMBOLS }
     requires starts { AreStarts (length starts.now) starts.now }
@@ -66,9 +70,9 @@ fn mark(table: &mut [u32], starts: &[u32], shift: u32)
     ensures marked { AreMarked (length starts.now) starts.now shift table.new }
 {
     for s in 0..starts.len() {
-        let entry = first_entry(starts[s], shift) as usize;
+        let entry = first_entry(starts[s] as u32, shift) as usize;
         if entry < table.len() {
-            table[entry] = s as u32;
+            table[entry] = s as u16;
         }
     }
 }
@@ -76,7 +80,7 @@ fn mark(table: &mut [u32], starts: &[u32], shift: u32)
 /// Writes the look-up table.
 // Symbols are marked and spread over the entries after them. A search of each entry's symbol would branch on how many
 // symbols begin at it, which nothing foresees.
-fn write_table(table: &mut [u32], starts: &[u32], shift: u32)
+fn write_table(table: &mut [u16], starts: &[u16], shift: u32)
     requires some { 0 < length starts.now }
     requires few { length starts.now ≤ MAX_SYMBOLS }
     requires starts { AreStarts (length starts.now) starts.now }
@@ -94,7 +98,7 @@ fn write_table(table: &mut [u32], starts: &[u32], shift: u32)
 }
 
 /// Writes the look-up table if `index` is set.
-fn write_table_if(table: &mut [u32], starts: &[u32], shift: u32, index: bool)
+fn write_table_if(table: &mut [u16], starts: &[u16], shift: u32, index: bool)
     requires some { 0 < length starts.now }
     requires few { length starts.now ≤ MAX_SYMBOLS }
     requires starts { AreStarts (length starts.now) starts.now }
@@ -109,25 +113,24 @@ fn write_table_if(table: &mut [u32], starts: &[u32], shift: u32, index: bool)
 }
 
 /// Writes the two guards after the starts.
-fn write_guards(guards: &mut [u32])
+fn write_guards(guards: &mut [u16])
     requires { length guards.old ≡ 2 }
     ensures { guards.new ≡ replicate 2 GUARD }
 {
-    guards.fill(GUARD);
+    guards.fill(GUARD as u16);
 }
 
 /// Writes the starts of a model, the guards after them, and its look-up table if `index` is set.
-fn write_distribution(cells: &mut [u32], size: usize, shift: u32, total: u32, index: bool)
+fn write_distribution(cells: &mut [u16], size: usize, shift: u32, total: u32, index: bool)
     requires counts { AreCounts (counts_in size cells.old) }
     requires length { length cells.old ≡ extent size }
     requires total { total ≡ sum (counts_in size cells.old) }
     requires small { total ≤ MAX_COUNT }
     requires shift { shift ≡ 15 - search_bits size }
     ensures counts { counts_in size cells.new ≡ counts_in size cells.old }
-    ensures starts { starts_in size cells.new ≡ starts_of (counts_in size cells.old) }
-    ensures good { AreStarts size (starts_in size cells.new) }
-    ensures guards { guards_in size cells.new ≡ GUARD ∷ GUARD ∷ [] }
-    ensures table { index ≡ true → IsTable size shift cells.new }
+    ensures starts { starts_in size (dist_in size cells.new) ≡ starts_of (counts_in size cells.old) }
+    ensures good { IsDist size (dist_in size cells.new) }
+    ensures table { index ≡ true → IsTable size shift (dist_in size cells.new) }
 {
     let (counts, rest) = cells.split_at_mut(size);
     let (starts, rest) = rest.split_at_mut(size);
@@ -138,7 +141,7 @@ fn write_distribution(cells: &mut [u32], size: usize, shift: u32, total: u32, in
 }
 
 /// Halves the counts of a model if their sum is above 2^15. Returns their sum.
-fn limit_counts(cells: &mut [u32], size: usize, total: u32) -> u32
+fn limit_counts(cells: &mut [u16], size: usize, total: u32) -> u32
     requires length { size ≤ length cells.old }
     requires counts { AreCounts (counts_in size cells.old) }
     requires total { sum (counts_in size cells.old) ≡ total }
@@ -157,7 +160,7 @@ fn limit_counts(cells: &mut [u32], size: usize, total: u32) -> u32
 }
 
 /// Ends the cycle of a model and begins the next one, with a look-up table if `index` is set.
-fn begin_cycle(cells: &mut [u32], place: &mut Place, index: bool)
+fn begin_cycle(cells: &mut [u16], place: &mut Place, index: bool)
     requires shape { IsShaped place.old }
     requires length { length cells.old ≡ extent place.old.size }
     requires due { IsDue place.old cells.old }
@@ -170,12 +173,13 @@ fn begin_cycle(cells: &mut [u32], place: &mut Place, index: bool)
     place.total = limit_counts(cells, size, place.total + place.cycle);
     write_distribution(cells, size, place.shift, place.total, index);
     place.indexed = index;
+    place.even = false;
     place.cycle = (8 * (place.size + 6)).min((5 * place.cycle) >> 2);
     place.remaining = place.cycle;
 }
 
 /// Writes counts of 1.
-fn fill_ones(cells: &mut [u32], size: usize)
+fn fill_ones(cells: &mut [u16], size: usize)
     requires length { size ≤ length cells.old }
     ensures { counts_in size cells.new ≡ replicate size 1 }
 {
@@ -183,37 +187,62 @@ fn fill_ones(cells: &mut [u32], size: usize)
     counts.fill(1);
 }
 
-/// Lays out a new model, with a look-up table if `index` is set.
-fn lay_out(cells: &mut [u32], place: &mut Place, index: bool)
+/// Writes the counts and the distribution of a new model of `size` symbols.
+fn write_even(cells: &mut [u16], size: u32, bits: u32)
+    requires many { 2 ≤ size }
+    requires few { size ≤ MAX_SYMBOLS }
+    requires bits { bits ≡ search_bits size }
+    requires length { length cells.old ≡ extent size }
+    ensures { IsEven size (dist_in size cells.new) }
+{
+    fill_ones(cells, size as usize);
+    write_distribution(cells, size as usize, 15 - bits, size, true);
+}
+
+/// The cells of a new model of `size` symbols with its distribution. `bits` bits of a place choose an entry.
+pub fn even_cells(alloc: Global, size: u32, bits: u32) -> Result<Vec<u16>, AllocError>
+    requires many { 2 ≤ size }
+    requires few { size ≤ MAX_SYMBOLS }
+    requires bits { bits ≡ search_bits size }
+    ensures length { IfOk result (λ cells. length cells.items ≡ extent size) }
+    ensures even { IfOk result (λ cells. IsEven size (dist_in size cells.items)) }
+{
+    let counts = size as usize;
+    let mut cells = vec![in alloc; 0; 2 * counts + 2 + (1 << bits)]?;
+    write_even(&mut cells, size, bits);
+    Ok(cells)
+}
+
+/// Lays out the counts of a new model. Its distribution is that of all new models of its size.
+fn lay_out(cells: &mut [u16], place: &mut Place)
     requires shape { IsShaped place.old }
     requires length { length cells.old ≡ extent place.old.size }
+    requires even { place.old.even ≡ true }
     ensures new_model { laid_state place.new cells.new ≡ new_model place.old.size }
     ensures good { IsLaid place.new cells.new }
     ensures place { SamePlace place.old place.new }
 {
-    let size = place.size as usize;
-    fill_ones(cells, size);
+    fill_ones(cells, place.size as usize);
     place.total = place.size;
-    write_distribution(cells, size, place.shift, place.total, index);
-    place.indexed = index;
+    place.indexed = false;
     place.cycle = (place.size + 6) >> 1;
     place.remaining = place.cycle;
 }
 
-/// Lays a model out if it is new.
-fn lay_out_if_new(cells: &mut [u32], place: &mut Place, index: bool)
+/// Lays the counts of a model out if it is new.
+fn lay_out_if_new(cells: &mut [u16], place: &mut Place)
     requires { IsModel place.old cells.old }
     ensures state { laid_state place.new cells.new ≡ counting_of place.old cells.old }
     ensures good { IsLaid place.new cells.new }
     ensures place { SamePlace place.old place.new }
 {
     if place.remaining == 0 {
-        lay_out(cells, place, index);
+        lay_out(cells, place);
     }
 }
 
 /// Counts a symbol of a model that is laid out.
-fn add(cells: &mut [u32], place: &mut Place, s: u32, index: bool)
+fn add(cells: &mut [u16], place: &mut Place, s: u32, index: bool)
     requires shape { IsShaped place.old }
     requires length { length cells.old ≡ extent place.old.size }
     requires laid { IsLaid place.old cells.old }
@@ -230,13 +259,13 @@ fn add(cells: &mut [u32], place: &mut Place, s: u32, index: bool)
 }
 
 /// Counts a symbol. `index` says whether a look-up table is written if a cycle begins.
-pub fn count(cells: &mut [u32], place: &mut Place, s: u32, index: bool)
+pub fn count(cells: &mut [u16], place: &mut Place, s: u32, index: bool)
     requires model { IsModel place.old cells.old }
     requires symbol { s < place.old.size }
     ensures after_symbol { counting_of place.new cells.new ≡ after_symbol (counting_of place.old cells.old) s }
     ensures good { IsModel place.new cells.new }
     ensures place { SamePlace place.old place.new }
 {
-    lay_out_if_new(cells, place, index);
+    lay_out_if_new(cells, place);
     add(cells, place, s, index);
 }

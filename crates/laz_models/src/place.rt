@@ -7,6 +7,8 @@ pub struct Place {
     pub start: usize,
     /// The index after its last cell.
     pub end: usize,
+    /// The index of the first cell of the distribution of a new model, among those of all sizes.
+    pub first: usize,
     /// How many symbols it has.
     pub size: u32,
     /// How many bits of a place are not used to choose an entry of the look-up table.
@@ -17,6 +19,8 @@ pub struct Place {
     pub cycle: u32,
     /// Whether the look-up table is that of the present cycle.
     pub indexed: bool,
+    /// Whether the model is in its first cycle, with the distribution of a new model.
+    pub even: bool,
     /// How many symbols of the cycle are still to come, or 0 if the model is new and its cells are not laid out.
     pub remaining: u32,
 }

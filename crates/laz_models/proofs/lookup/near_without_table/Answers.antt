@@ -1,8 +1,7 @@
-use Rattle.std.proofs.Common.{arith}
-use Rattle.laz_models.proofs.Banks.{fits-place}
+use Rattle.laz_models.proofs.Models.{near-is}
 use Rattle.laz_models.proofs.lookup.near_without_table.Goals as goal
 
-pub starts_after-next-requires-clause-symbol : goal.starts_after-next-requires-clause-symbol
-starts_after-next-requires-clause-symbol c =
-    let fits = fits-place c.args.place.now c.args.cells.now c.requires in
-    omega (arith, c.last_at-symbol.ensures.symbol.symbol, fits.starts.length, c.requires.shape.few)
+pub returns : goal.returns
+returns c =
+    rw (← c.distribution-dist.ensures.starts)
+    (near-is c.args.place.now.size c.args.v _ c.distribution-dist.result.now c.near_of.result c.distribution-dist.ensures.dist c.last_at.ensures c.near_of.ensures.symbol c.near_of.ensures.start c.near_of.ensures.next c.near_of.ensures.after)

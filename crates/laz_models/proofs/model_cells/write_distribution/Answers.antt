@@ -1,7 +1,7 @@
-use Rattle.std.proofs.Common.{◌≡◌, ◌^◌, ◌++◌, ◌∙◌, ap, take, length, arith}
-use Rattle.std.proofs.lemmas.List.{take_at, drop_at, length-take-le}
+use Rattle.std.proofs.Common.{◌≡◌, ◌^◌, ◌++◌, ◌∙◌, ap, take, drop, length, arith}
+use Rattle.std.proofs.lemmas.List.{take_at, drop_at, length-append, length-take-le}
 use Rattle.laz_models.specs.Counting.{AreStarts, starts_of}
-use Rattle.laz_models.specs.Place.{counts_in, starts_in}
+use Rattle.laz_models.specs.Place.{counts_in, dist_in}
 use Rattle.laz_models.specs.Lookup.{search_bits}
 use Rattle.laz_models.proofs.Lookups.{search_bits-bounds, search-whole}
 use Rattle.laz_models.proofs.Parts.{starts_of-AreStarts}
@@ -26,11 +26,25 @@ write_table_if-requires-clause-places c =
 
 pub returns-clause-good : goal.returns-clause-good
 returns-clause-good c =
-    let counts = counts_in c.args.size c.args.cells.now in
-    let size : length counts ≡ c.args.size = length-take-le c.args.size c.args.cells.now (omega (arith, c.requires.length)) in
-    let is : c.write_starts.new.starts ≡ starts_of counts = c.write_starts.ensures ∙ ap starts_of c.split_at_mut-counts.ensures.front in
+    let n = c.args.size in
+    let counts = counts_in n c.args.cells.now in
+    let starts = c.write_starts.new.starts in
+    let guards = c.write_guards.new.guards in
+    let table = c.write_table_if.new.table in
+    let size : length counts ≡ n = length-take-le n c.args.cells.now (omega (arith, c.requires.length)) in
+    let is : starts ≡ starts_of counts = c.write_starts.ensures ∙ ap starts_of c.split_at_mut-counts.ensures.front in
     let good : AreStarts (length counts) (starts_of counts) = starts_of-AreStarts counts c.requires.counts (omega (arith, c.requires.total)) in
-    let here : starts_in c.args.size (c.split_at_mut-counts.result.0.now ++ (c.write_starts.new.starts ++ (c.write_guards.new.guards ++ c.write_table_if.new.table))) ≡ starts_of counts =
-    ap (take c.args.size) (drop_at c.split_at_mut-counts.result.0.now (c.write_starts.new.starts ++ (c.write_guards.new.guards ++ c.write_table_if.new.table)) c.args.size c.split_at_mut-counts.ensures.front_len)
-    ∙ (take_at c.write_starts.new.starts (c.write_guards.new.guards ++ c.write_table_if.new.table) c.args.size (c.write_starts.auto.starts ∙ c.split_at_mut-starts.ensures.front_len) ∙ is) in
-    rw here (rw size at good)
+    let good_here : AreStarts n (starts_of counts) = rw size at good in
+    let count : length starts ≡ n = c.write_starts.auto.starts ∙ c.split_at_mut-starts.ensures.front_len in
+    let own : dist_in n (c.split_at_mut-counts.result.0.now ++ (starts ++ (guards ++ table))) ≡ starts ++ (guards ++ table) =
+    drop_at c.split_at_mut-counts.result.0.now (starts ++ (guards ++ table)) n c.split_at_mut-counts.ensures.front_len in
+    let front : take n (starts ++ (guards ++ table)) ≡ starts = take_at starts (guards ++ table) n count in
+    let back : drop n (starts ++ (guards ++ table)) ≡ guards ++ table = drop_at starts (guards ++ table) n count in
+    let two : take 2 (guards ++ table) ≡ guards = take_at guards table 2 (c.write_guards.auto.guards ∙ c.split_at_mut-guards.ensures.front_len) in
+    let rest : length table ≡ 2 ^ search_bits n = omega (arith, c.write_table_if.auto.table, c.split_at_mut-guards.ensures.back_len, c.split_at_mut-starts.ensures.back_len, c.split_at_mut-counts.ensures.back_len, c.requires.length) in
+    rw own
+    (record {
+      length = omega (arith, length-append starts (guards ++ table), length-append guards table, c.write_guards.auto.guards, c.split_at_mut-guards.ensures.front_len);
+      starts = rw (front, is) good_here;
+      guards = rw (back, two) c.write_guards.ensures;
+    })

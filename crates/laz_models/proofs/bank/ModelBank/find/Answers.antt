@@ -3,4 +3,4 @@ use Rattle.laz_models.proofs.bank.ModelBank.find.Goals as goal
 
 pub returns-clause-starts : goal.returns-clause-starts
 returns-clause-starts c =
-    (at c.args.self.now c.self.inside.places.items c.self.inside.cells.items c.args.m c.index-place.result.now c.self.view_is c.self.invariant c.requires c.index-place.ensures).starts
+    (at c.args.self.now c.self.inside.places.items c.self.inside.cells.items c.args.m c.index-place.result.now c.self.view_is c.self.invariant.0 c.requires c.index-place.ensures).starts

@@ -9,7 +9,7 @@ use Rattle.laz_models.proofs.Layouts.{layout-view, sizes-new_model}
 use Rattle.laz_models.proofs.bank.ModelBank.new.Goals as goal
 
 pub returns-clause-new_model : goal.returns-clause-new_model
-returns-clause-new_model c = layout-view _ c.args.sizes.now _ _ c.in_ok-places.ensures
+returns-clause-new_model c = layout-view _ c.args.sizes.now _ _ c.in_ok-places.ensures.layout
 
 pub returns-clause-stands : goal.returns-clause-stands
 returns-clause-stands c = λ m below.

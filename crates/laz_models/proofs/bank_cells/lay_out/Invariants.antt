@@ -1,10 +1,11 @@
 use Rattle.std.proofs.Common.{◌*◌, ◌≤◌, take}
-use Rattle.laz_models.specs.Place.{IsLayout}
-use Rattle.laz_models.proofs.bank_cells.places_of.Given as goal
+use Rattle.laz_models.specs.Place.{AreFirst, IsLayout}
+use Rattle.laz_models.proofs.bank_cells.lay_out.Given as goal
 
 abbrev pub invariant-loop-size : goal.invariant-loop-size
 invariant-loop-size l =
     record {
       layout : IsLayout l.places.items (take l.size-index l.sizes) l.end;
+      firsts : AreFirst l.places.items l.firsts.items;
       room : l.end ≤ 6146 * l.size-index;
     }
