@@ -95,7 +95,7 @@ fn entry(table: &[u16; 1024], top: u32) -> u32
     requires high { top < 2048 }
     ensures { result ≡ reciprocal top }
 {
-    table[(top - 1024) as usize] as u32
+    table[top as usize - 1024] as u32
 }
 
 /// The reciprocal of a length whose top 11 bits are `top`.
