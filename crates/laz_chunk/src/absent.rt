@@ -1,5 +1,5 @@
 //! The parts of a record that may be absent, as a loop over records sees them: each item by its own type.
-ghost use Rattle.std.specs.Prelude.{◌≡◌, ◌+◌, ◌*◌, ◌≤◌, ◌++◌, [], ◌∷◌, List, ℕ, length, false, MatchResult, OnOk};
+ghost use Rattle.std.specs.Prelude.{◌≡◌, ◌+◌, ◌≤◌, ◌++◌, ◌∷◌, List, ℕ, length, false, MatchResult, OnOk};
 ghost use Rattle.std.specs.Prelude.{Option, Some, None};
 ghost use Rattle.laz_range.specs.Coding.{Codes};
 ghost use Rattle.laz_range.specs.Decoding.{Refuses};

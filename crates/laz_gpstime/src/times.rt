@@ -64,5 +64,5 @@ pub(crate) fn put_word(times: &mut Times, encoder: &mut Encoder, pred: u32, real
 {
     times
         .integers
-        .code(encoder, pred.cast_signed(), real.cast_signed(), ctx);
+        .code_of(32, encoder, pred.cast_signed(), real.cast_signed(), ctx);
 }

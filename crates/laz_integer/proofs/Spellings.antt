@@ -103,6 +103,9 @@ written-spells kind bits ctx pred real k v range value h makes =
 pub difference-passed : (bits : ℕ) (pred real : ℤ) (n : ℕ) → SFits w32 pred → SFits w32 real → n ≡ difference bits (cast_signed w32 (cast_unsigned w32 pred)) (cast_signed w32 (cast_unsigned w32 real)) → n ≡ difference bits pred real
 difference-passed bits pred real n f g e = e ∙ (ap (λ p. difference bits p (cast_signed w32 (cast_unsigned w32 real))) (to_z-of_z w32 pred f) ∙ ap (λ r. difference bits pred r) (to_z-of_z w32 real g))
 
+pub both-passed : (P : ℤ → ℤ → Type 0) (pred real : ℤ) → SFits w32 pred → SFits w32 real → P (cast_signed w32 (cast_unsigned w32 pred)) (cast_signed w32 (cast_unsigned w32 real)) → P pred real
+both-passed P pred real f g h = subst (λ r. P pred r) (to_z-of_z w32 real g) (subst (λ p. P p (cast_signed w32 (cast_unsigned w32 real))) (to_z-of_z w32 pred f) h)
+
 pub corrected-passed : (bits : ℕ) (pred : ℤ) (k v : ℕ) (z : ℤ) → bits ≤ 32 → SFits w32 pred → z ≡ corrected bits (cast_signed w32 (cast_unsigned w32 pred)) k v → cast_signed w32 (cast_unsigned w32 z) ≡ corrected bits pred k v
 corrected-passed bits pred k v z few f e =
     let is : z ≡ corrected bits pred k v = e ∙ ap (λ p. corrected bits p k v) (to_z-of_z w32 pred f) in

@@ -105,6 +105,7 @@ fn binary_digits(size: u32) -> u32
 }
 
 /// Corrector `v` of width `k` as a word, up to a multiple of 2^bits.
+// Its sign is not predictable: both values are computed, and one is selected.
 #[inline(always)]
 fn corrector_word(bits: u32, k: u32, v: u32) -> u32
     requires few { bits ≤ MAX_BITS }
@@ -118,10 +119,9 @@ fn corrector_word(bits: u32, k: u32, v: u32) -> u32
     if k == MAX_BITS {
         return 0x8000_0000;
     }
-    if v >= 1 << (k - 1) {
-        return v + 1;
-    }
-    v.wrapping_sub((1 << k) - 1)
+    let up = v + 1;
+    let down = v.wrapping_sub((1 << k) - 1);
+    if v >= 1 << (k - 1) { up } else { down }
 }
 
 /// The integer that corrector `v` of width `k` makes of a prediction.

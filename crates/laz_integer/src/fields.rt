@@ -76,7 +76,7 @@ pub fn put_word(
     ensures used { encoder.old.left ≤ encoder.new.left + MAX_SHORT_INT_BYTES }
 {
     if marked {
-        model.code(encoder, pred as i32, real as i32, ctx);
+        model.code_of(16, encoder, pred as i32, real as i32, ctx);
     }
 }
 

@@ -96,8 +96,46 @@ impl IntModel {
         ensures state { IsIntState self.new }
     {
         let bits = self.models.bits;
+        self.code_of(bits, encoder, pred, real, ctx)
+    }
+
+    /// The same as [`code`](Self::code), with the number of bits that the integers have. Where the caller gives a
+    /// constant, what depends on it is computed when the program is compiled.
+    #[inline(always)]
+    pub fn code_of(
+        &mut self,
+        bits: u32,
+        encoder: &mut Encoder,
+        pred: i32,
+        real: i32,
+        ctx: u32,
+    ) -> u32
+        requires bits { bits ≡ self.old.bits }
+        requires context { ctx < self.old.contexts }
+        requires pred { HasBits self.old.bits pred }
+        requires real { HasBits self.old.bits real }
+        requires left { MAX_INT_BYTES ≤ encoder.old.left }
+        ensures width { result ≡ int_width self.old.bits pred real }
+        ensures codes { let d = difference self.old.bits pred real
+            in Codes encoder.old encoder.new (int_cuts self.old ctx result (corrector_index self.old.bits d result)) }
+        ensures next { let d = difference self.old.bits pred real
+            in self.new ≡ int_next self.old ctx result (corrector_index self.old.bits d result) }
+        ensures events { (kind : List ℕ) (earlier : List Event) → IntStands kind earlier self.old
+            → Codes encoder.old encoder.new (cuts_after earlier (IntEvents kind self.old.bits ctx pred real)) }
+        ensures stands { (kind : List ℕ) (earlier : List Event) → IntStands kind earlier self.old
+            → IntStands kind (earlier ++ IntEvents kind self.old.bits ctx pred real) self.new }
+        ensures spells { (kind : List ℕ)
+            → IntSpell kind self.old.bits ctx pred (IntEvents kind self.old.bits ctx pred real) real result }
+        ensures used { encoder.old.left ≤ encoder.new.left + MAX_INT_BYTES }
+        ensures short { self.old.bits ≤ SHORT_BITS → encoder.old.left ≤ encoder.new.left + MAX_SHORT_INT_BYTES }
+        ensures range { result ≤ self.old.bits }
+        ensures bits { self.new.bits ≡ self.old.bits }
+        ensures contexts { self.new.contexts ≡ self.old.contexts }
+        ensures state { IsIntState self.new }
+    {
+        let models = &mut self.models;
         let (k, v) = split(bits, between(bits, pred, real));
-        put(&mut self.models, encoder, ctx, k, v);
+        put(models, encoder, ctx, k, v);
         k
     }
 

@@ -103,8 +103,7 @@ pub fn put_symbol_of(encoder: &mut Encoder, bank: &mut ModelBank, m: u32, s: u32
     ensures others { (k : ℕ) → k ≢ m → model_at bank.new k ≡ model_at bank.old k }
     ensures sizes { alphabet_sizes bank.new ≡ alphabet_sizes bank.old }
 {
-    let (lo, hi) = bank.part(m, s);
-    bank.count(m, s);
+    let (lo, hi) = bank.part_and_count(m, s);
     encoder.cut15(lo, hi);
 }
 

@@ -177,7 +177,7 @@ fn put_int(encoder: &mut Encoder, model: &mut IntModel, pred: i32, real: i32, ct
     ensures ints { IsInts 32 model.old.contexts model.new }
     ensures used { encoder.old.left ≤ encoder.new.left + 12 }
 {
-    model.code(encoder, pred, real, ctx)
+    model.code_of(32, encoder, pred, real, ctx)
 }
 
 // Codes dx, dy and z.

@@ -9,8 +9,8 @@ returns-then-k-eq0 c p = rw (c.if-k-eq0.true, corrector-zero c.args.bits c.args.
 pub returns-then-k-eq-MAX_BITS : goal.returns-then-k-eq-MAX_BITS
 returns-then-k-eq-MAX_BITS c p = rw (c.if-k-eq-MAX_BITS.true, corrector-most c.args.bits c.args.v) refl
 
-pub overflow_add-result : goal.overflow_add-result
-overflow_add-result c =
+pub overflow_add-up : goal.overflow_add-up
+overflow_add-up c =
     let some : 0 < c.args.k = omega (arith, c.if-k-eq0.false) in
     let small : c.args.k < 32 = omega (arith, c.if-k-eq-MAX_BITS.false, c.requires.width, c.requires.few) in
     let most : 2 ^ c.args.k ≤ 2 ^ 31 = power-le c.args.k 31 (omega arith) in
@@ -23,8 +23,8 @@ returns-then-v-k c p =
     let high = rw (one_shl (c.args.k - 1) 32 (omega arith)) at c.if-v-k.true in
     rw (corrector-upper c.args.bits c.args.k c.args.v some small high) (up-mod p (c.args.v + 1) (2 ^ c.args.bits))
 
-pub returns : goal.returns
-returns c p =
+pub returns-else-v-k : goal.returns-else-v-k
+returns-else-v-k c p =
     let some : 0 < c.args.k = omega (arith, c.if-k-eq0.false) in
     let small : c.args.k < 32 = omega (arith, c.if-k-eq-MAX_BITS.false, c.requires.width, c.requires.few) in
     let low = rw (one_shl (c.args.k - 1) 32 (omega arith)) at c.if-v-k.false in
