@@ -1,8 +1,10 @@
 pub mod Counting
+mod Cuts
 mod Examples
 mod Finding
 mod Maps
 mod Places
+mod Summing
 mod Texts
 mod Widening
 mod Zips

@@ -1,70 +1,131 @@
--- A map of numbers as std keeps it, and as a finite map.
-use Rattle.std.proofs.Common.{◌≡◌, ℕ, Bool, true, false, ◌&&◌, cond, T, List, [], ◌∷◌, length, refl, sym, ◌∙◌, ap, subst}
-use Rattle.std.proofs.Common.{Some}
+-- Counts in a list, one for each bin, as a finite map.
+use Rattle.std.proofs.Common.{◌≡◌, ℕ, zero, suc, ◌+◌, ◌<◌, Bool, true, false, ◌&&◌, cond, T, List, [], ◌∷◌, ◌++◌, length, refl, sym, ◌∙◌, ap, subst, arith, get_or, set, replicate, Option, Some, None, unwrap_or, inl, inr}
 use Rattle.std.specs.declared.cmp.Ordering.TheVariants.{Less, Equal, Greater}
-use Rattle.std.specs.Ordering.{nat_cmp, is_lt, match_ordering}
-use Rattle.std.specs.Cmp.{nat_cmp_total}
+use Rattle.std.specs.Ordering.{nat_cmp, is_lt, is_eq, eq_by_cmp}
+use Rattle.std.specs.Cmp.{nat_cmp_total, nat_cmp_is}
 use Rattle.std.specs.FinMap as map
-use Rattle.std.specs.FinMap.{entries-from_sorted, entries-insert, get-from_sorted, same_entries_map, len-entries, empty_of_len}
-use Rattle.std.specs.FinMap.Entries.{find, put, is_sorted, by_order, below_all}
-use Rattle.std.specs.BTreeMap.{insert_entry, is_at}
-use Rattle.std.specs.Map.{lookup, keys_of}
-use Rattle.std.specs.List.{AllByRecursion}
-use Rattle.std.specs.List.Sorted.{IsStrictlySortedBy}
-use Rattle.las_info.specs.Tallies.{Tally}
+use Rattle.std.specs.FinMap.{entries-from_sorted, get-from_sorted, get-insert, same_map, nat_cmp-IsAntisymmetric, len-entries, empty_of_len}
+use Rattle.std.specs.FinMap.Entries.{find, is_sorted, below_all}
+use Rattle.std.proofs.lemmas.Bool.{cases_lt, cases_eq}
+use Rattle.las_info.specs.Cells.{bins_from}
+use Rattle.las_info.specs.Tallies.{Tally, count_at, with_one}
 
--- what a look-up finds
-pub found : (es : List (ℕ × ℕ)) (q : ℕ) → find nat_cmp q es ≡ lookup (is_at (nat_cmp q)) es
-found [] q = refl
-found (e ∷ es) q = ap (cond (is_at (nat_cmp q) e.0) (Some e.1)) (found es q)
+less : (x y : ℕ) → x < y → nat_cmp x y ≡ Less
+less x y lt = sym (nat_cmp_is x y Less lt)
 
--- an entry is put in the same place
-pub placed : (k v : ℕ) (es : List (ℕ × ℕ)) → put nat_cmp k v es ≡ insert_entry nat_cmp es k v
-placed k v [] = refl
-placed k v (e ∷ es) =
-    elim (nat_cmp k e.0) as (λ o. by_order o ((k, v) ∷ e ∷ es) ((e.0, v) ∷ es) (e ∷ put nat_cmp k v es)
-    ≡ match_ordering o ((k, v) ∷ e ∷ es) ((e.0, v) ∷ es) (e ∷ insert_entry nat_cmp es k v)) [
-      | Less ↦ refl
-      | Equal ↦ refl
-      | Greater ↦ ap (λ rest. e ∷ rest) (placed k v es)
-    ]
+equal : (x y : ℕ) → x ≡ y → nat_cmp x y ≡ Equal
+equal x y e = sym (nat_cmp_is x y Equal e)
+
+greater : (x y : ℕ) → y < x → nat_cmp x y ≡ Greater
+greater x y gt = sym (nat_cmp_is x y Greater gt)
 
 both : (a b : Bool) → T a → T b → T (a && b)
 both true b p q = q
 both false b p q = p
 
-below : (x : ℕ) (es : List (ℕ × ℕ)) → AllByRecursion (λ y. nat_cmp x y ≡ Less) (keys_of es)
-    → T (below_all nat_cmp x es)
-below x [] h = tt
-below x (e ∷ es) h = both _ _ (subst (λ o. T (is_lt o)) (sym h.0) tt) (below x es h.1)
+-- bins from a first one on are not below it
+below : (x first : ℕ) (counts : List ℕ) → x < first → T (below_all nat_cmp x (bins_from first counts))
+below x first [] lt = tt
+below x first (zero ∷ counts) lt = below x (first + 1) counts (omega (arith, lt))
+below x first (suc n ∷ counts) lt = both _ _ (subst (λ o. T (is_lt o)) (sym (less x first lt)) tt) (below x (first + 1) counts (omega (arith, lt)))
 
--- keys that ascend are in order
-pub ordered : (es : List (ℕ × ℕ)) → IsStrictlySortedBy nat_cmp (keys_of es) → T (is_sorted nat_cmp es)
-unfolding IsStrictlySortedBy
-ordered [] h = tt
-ordered (e ∷ es) h = both _ _ (below e.0 es h.0) (ordered es h.1)
+ordered : (first : ℕ) (counts : List ℕ) → T (is_sorted nat_cmp (bins_from first counts))
+ordered first [] = tt
+ordered first (zero ∷ counts) = ordered (first + 1) counts
+ordered first (suc n ∷ counts) = both _ _ (below first (first + 1) counts (omega arith)) (ordered (first + 1) counts)
 
-abbrev pub made : List (ℕ × ℕ) → Tally
-made es = map.from_sorted es
+abbrev pub made : (counts : List ℕ) → Tally
+made counts = map.from_sorted (bins_from 0 counts)
 
-pub entries-made : (es : List (ℕ × ℕ)) → IsStrictlySortedBy nat_cmp (keys_of es) → map.entries (made es) ≡ es
-entries-made es h = entries-from_sorted nat_cmp es (ordered es h)
+pub entries-made : (counts : List ℕ) → map.entries (made counts) ≡ bins_from 0 counts
+entries-made counts = entries-from_sorted nat_cmp (bins_from 0 counts) (ordered 0 counts)
 
-pub get-made : (es : List (ℕ × ℕ)) (q : ℕ) → IsStrictlySortedBy nat_cmp (keys_of es)
-    → map.get (made es) q ≡ lookup (is_at (nat_cmp q)) es
-get-made es q h = get-from_sorted nat_cmp es q (ordered es h) ∙ found es q
+-- what a look-up finds: the count of the bin, if it is above 0
+abbrev some_above : ℕ → Option ℕ
+some_above zero = None
+some_above (suc n) = Some (suc n)
 
-pub insert-made : (es new : List (ℕ × ℕ)) (k v : ℕ) → IsStrictlySortedBy nat_cmp (keys_of es)
-    → IsStrictlySortedBy nat_cmp (keys_of new) → new ≡ insert_entry nat_cmp es k v
-    → made new ≡ map.insert (made es) k v
-insert-made es new k v h n is =
-    same_entries_map (made new) (map.insert (made es) k v)
-    (entries-made new n ∙ is
-    ∙ sym (entries-insert nat_cmp_total (made es) k v ∙ ap (put nat_cmp k v) (entries-made es h) ∙ placed k v es))
+absent : (q first : ℕ) (counts : List ℕ) → q < first → find nat_cmp q (bins_from first counts) ≡ None
+absent q first [] lt = refl
+absent q first (zero ∷ counts) lt = absent q (first + 1) counts (omega (arith, lt))
+absent q first (suc n ∷ counts) lt =
+    ap (λ o. cond (is_eq o) (Some (suc n)) (find nat_cmp q (bins_from (first + 1) counts))) (less q first lt)
+    ∙ absent q (first + 1) counts (omega (arith, lt))
 
-strictly : IsStrictlySortedBy nat_cmp (keys_of {X = ℕ} [])
-unfolding IsStrictlySortedBy
-strictly = tt
+found : (q first i : ℕ) (counts : List ℕ) → q ≡ first + i → find nat_cmp q (bins_from first counts) ≡ some_above (get_or counts i 0)
+found q first i [] e = refl
+found q first zero (zero ∷ counts) e = absent q (first + 1) counts (omega (arith, e))
+found q first zero (suc n ∷ counts) e =
+    ap (λ o. cond (is_eq o) (Some (suc n)) (find nat_cmp q (bins_from (first + 1) counts))) (equal q first (omega (arith, e)))
+found q first (suc i) (zero ∷ counts) e = found q (first + 1) i counts (omega (arith, e))
+found q first (suc i) (suc n ∷ counts) e =
+    ap (λ o. cond (is_eq o) (Some (suc n)) (find nat_cmp q (bins_from (first + 1) counts))) (greater q first (omega (arith, e)))
+    ∙ found q (first + 1) i counts (omega (arith, e))
+
+get-made : (counts : List ℕ) (q : ℕ) → map.get (made counts) q ≡ some_above (get_or counts q 0)
+get-made counts q = get-from_sorted nat_cmp (bins_from 0 counts) q (ordered 0 counts) ∙ found q 0 q counts (omega arith)
+
+above : (n : ℕ) → unwrap_or (some_above n) 0 ≡ n
+above zero = refl
+above (suc n) = refl
+
+-- the count of a bin
+pub count-made : (counts : List ℕ) (bin : ℕ) → count_at (made counts) bin ≡ get_or counts bin 0
+count-made counts bin = ap (λ o. unwrap_or o 0) (get-made counts bin) ∙ above (get_or counts bin 0)
+
+-- lists in which each bin has one count are one tally
+alike : (xs ys : List ℕ) → ((q : ℕ) → get_or xs q 0 ≡ get_or ys q 0) → made xs ≡ made ys
+alike xs ys is = same_map nat_cmp_total nat_cmp-IsAntisymmetric (made xs) (made ys) (λ q. get-made xs q ∙ ap some_above (is q) ∙ sym (get-made ys q))
+
+zeros : (n q : ℕ) → get_or (replicate {A = ℕ} n 0) q 0 ≡ 0
+zeros zero q = refl
+zeros (suc n) zero = refl
+zeros (suc n) (suc q) = zeros n q
+
+padded : (xs : List ℕ) (n q : ℕ) → get_or (xs ++ replicate n 0) q 0 ≡ get_or xs q 0
+padded [] n q = zeros n q
+padded (x ∷ xs) n zero = refl
+padded (x ∷ xs) n (suc q) = padded xs n q
+
+-- counts of 0 at the end
+pub made-longer : (xs ys : List ℕ) (n : ℕ) → ys ≡ xs ++ replicate n 0 → made ys ≡ made xs
+made-longer xs ys n is = ap made is ∙ alike (xs ++ replicate n 0) xs (padded xs n)
+
+shifted : (q i : ℕ) → nat_cmp q i ≡ nat_cmp (suc q) (suc i)
+shifted q i = elim (cases_lt q i) [
+  | inl lt ↦ less q i lt ∙ sym (less (suc q) (suc i) (omega (arith, lt)))
+  | inr ge ↦ elim (cases_eq q i) [
+    | inl e ↦ equal q i e ∙ sym (equal (suc q) (suc i) (ap suc e))
+    | inr apart ↦ let gt : i < q = omega (arith, ge, apart) in greater q i gt ∙ sym (greater (suc q) (suc i) (omega (arith, gt)))
+  ]
+]
+
+some_one : (n : ℕ) → some_above (n + 1) ≡ Some (n + 1)
+some_one n = let e : n + 1 ≡ suc n = omega arith in ap some_above e ∙ ap (λ (k : ℕ). Some k) (sym e)
+
+one_set : (xs : List ℕ) (i n q : ℕ) → i < length xs → some_above (get_or (set xs i (n + 1)) q 0) ≡ cond (eq_by_cmp nat_cmp q i) (Some (n + 1)) (some_above (get_or xs q 0))
+one_set [] i n q lt = absurd (omega (arith, lt))
+one_set (x ∷ xs) zero n zero lt = some_one n
+one_set (x ∷ xs) zero n (suc q) lt = ap (λ o. cond (is_eq o) (Some (n + 1)) (some_above (get_or xs q 0))) (sym (greater (suc q) 0 (omega arith)))
+one_set (x ∷ xs) (suc i) n zero lt = ap (λ o. cond (is_eq o) (Some (n + 1)) (some_above x)) (sym (less 0 (suc i) (omega arith)))
+one_set (x ∷ xs) (suc i) n (suc q) lt =
+    one_set xs i n q (omega (arith, lt)) ∙ ap (λ o. cond (is_eq o) (Some (n + 1)) (some_above (get_or xs q 0))) (shifted q i)
+
+-- one more in a bin
+pub made-set : (xs ys : List ℕ) (bin : ℕ) → bin < length xs → ys ≡ set xs bin (get_or xs bin 0 + 1) → made ys ≡ with_one (made xs) bin
+made-set xs ys bin lt is =
+    let n = get_or xs bin 0 in
+    ap made is
+    ∙ same_map nat_cmp_total nat_cmp-IsAntisymmetric (made (set xs bin (n + 1))) (map.insert (made xs) bin (n + 1))
+    (λ q. get-made (set xs bin (n + 1)) q ∙ one_set xs bin n q lt
+    ∙ sym (get-insert nat_cmp_total (made xs) bin (n + 1) q ∙ ap (cond (eq_by_cmp nat_cmp q bin) (Some (n + 1))) (get-made xs q)))
+    ∙ ap (λ (k : ℕ). map.insert (made xs) bin (k + 1)) (sym (count-made xs bin))
 
 pub made-empty : made [] ≡ map.empty
-made-empty = empty_of_len (made []) (len-entries (made []) ∙ ap length (entries-made [] strictly))
+made-empty = empty_of_len (made []) (len-entries (made []) ∙ ap length (entries-made []))
+
+-- the rows of the first counts
+pub bins-more : (first : ℕ) (xs : List ℕ) (x : ℕ) → bins_from first (xs ++ x ∷ []) ≡ bins_from first xs ++ bins_from (first + length xs) (x ∷ [])
+bins-more first [] x = ap (λ (k : ℕ). bins_from k (x ∷ [])) (omega arith)
+bins-more first (zero ∷ xs) x = bins-more (first + 1) xs x ∙ ap (λ (k : ℕ). bins_from (first + 1) xs ++ bins_from k (x ∷ [])) (omega arith)
+bins-more first (suc n ∷ xs) x = ap (λ (t : List (ℕ × ℕ)). (first, suc n) ∷ t) (bins-more (first + 1) xs x ∙ ap (λ (k : ℕ). bins_from (first + 1) xs ++ bins_from k (x ∷ [])) (omega arith))

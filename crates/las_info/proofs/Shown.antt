@@ -1,29 +1,11 @@
--- Records that are shown to a survey one by one.
-use Rattle.std.proofs.Common.{◌≡◌, ℕ, suc, ◌+◌, ◌-◌, ◌*◌, ◌/◌, ◌%◌, ◌^◌, ◌<◌, ◌≤◌, List, [], ◌∷◌, ◌++◌, length, map, take, drop, refl, sym, ◌∙◌, ap, subst, append_assoc, length-append, arith}
+-- Records that are shown to a survey, block by block.
+use Rattle.std.proofs.Common.{◌≡◌, ℕ, ◌+◌, ◌-◌, ◌^◌, ◌<◌, ◌≤◌, List, [], ◌∷◌, ◌++◌, length, map, refl, sym, ◌∙◌, ap, subst, arith}
 use Rattle.std.specs.Prelude.{All}
-use Rattle.std.specs.List.{concat}
-use Rattle.std.proofs.lemmas.List.{append-nil, length-drop}
 use Rattle.std.proofs.lemmas.List.Elements.{All-head, All-tail, All-cons, All-nil}
-use Rattle.las_header.specs.Plain.{cut_records}
 use Rattle.las_info.specs.Summaries.{SummarySeen, summary_of}
-use Rattle.las_info.specs.Tallies.{TapSeen, count_at, shown, shown_all}
+use Rattle.las_info.specs.Tallies.{TapSeen, Tally, count_at, shown, shown_all, tally_after, with_one}
 use Rattle.las_info.proofs.Counting.{shown-few, shown-more}
 use Rattle.las_info.specs.Surveys.{IsShown, SurveySeen}
-
--- one record more
-shown_taps : (taps : List TapSeen) (records : List (List ℕ)) (point : List ℕ) → map (λ tap. shown tap point) (map (λ tap. shown_all tap records) taps) ≡ map (λ tap. shown_all tap (records ++ point ∷ [])) taps
-shown_taps [] records point = refl
-shown_taps (t ∷ taps) records point =
-    ap (λ (x : TapSeen). x ∷ map (λ tap. shown tap point) (map (λ tap. shown_all tap records) taps)) (shown-more t records point)
-    ∙ ap (λ (xs : List TapSeen). shown_all t (records ++ point ∷ []) ∷ xs) (shown_taps taps records point)
-
-pub one_shown : (taps : List TapSeen) (records : List (List ℕ)) (point : List ℕ) (old new : SurveySeen) → IsShown taps records old
-    → ((xs : List (List ℕ)) → old.summary ≡ summary_of xs → new.summary ≡ summary_of (xs ++ point ∷ []))
-    → new.taps ≡ map (λ tap. shown tap point) old.taps → IsShown taps (records ++ point ∷ []) new
-one_shown taps records point old new is counted taps_are = record {
-  summary = counted records is.summary;
-  taps_are = taps_are ∙ ap (map (λ tap. shown tap point)) is.taps_are ∙ shown_taps taps records point;
-}
 
 -- a survey that was shown nothing
 none_taps : (taps : List TapSeen) → taps ≡ map (λ tap. shown_all tap []) taps
@@ -33,67 +15,68 @@ none_taps (t ∷ taps) = ap (λ (xs : List TapSeen). t ∷ xs) (none_taps taps)
 pub none_shown : (taps : List TapSeen) (survey : SurveySeen) → survey.summary ≡ summary_of [] → survey.taps ≡ taps → IsShown taps [] survey
 none_shown taps survey none same = record { summary = none; taps_are = same ∙ none_taps taps }
 
--- there is room for one record more in each tap
-pub room_in : (taps : List TapSeen) (records : List (List ℕ)) (point : List ℕ) → All (λ tap. (bin : ℕ) → count_at tap.tally bin ≤ 2 ^ 63) taps → length records < 2 ^ 32
-    → All (λ tap. count_at tap.tally (tap.bin point) < 2 ^ 64 - 1) (map (λ tap. shown_all tap records) taps)
-room_in [] records point few less = All-nil (λ (tap : TapSeen). count_at tap.tally (tap.bin point) < 2 ^ 64 - 1)
-room_in (t ∷ taps) records point few less =
-    let here = shown-few t records (t.bin point) (2 ^ 63) (All-head (λ (tap : TapSeen). (bin : ℕ) → count_at tap.tally bin ≤ 2 ^ 63) t taps few) in
-    All-cons (λ (tap : TapSeen). count_at tap.tally (tap.bin point) < 2 ^ 64 - 1) (shown_all t records) (map (λ tap. shown_all tap records) taps) (omega (arith, here))
-    (room_in taps records point (All-tail (λ (tap : TapSeen). (bin : ℕ) → count_at tap.tally bin ≤ 2 ^ 63) t taps few) less)
-
--- taps as a function sees them, which were shown a record
-pub shown_mapped : {X : Type 0} (f : X → TapSeen) (point : List ℕ) (xs : List X) → map (λ x. shown (f x) point) xs ≡ map (λ tap. shown tap point) (map f xs)
-shown_mapped f point [] = refl
-shown_mapped f point (x ∷ xs) = ap (λ (ts : List TapSeen). shown (f x) point ∷ ts) (shown_mapped f point xs)
-
 -- what holds of all things as a function sees them
 pub all_seen : {X Y : Type 0} (f : X → Y) (P : Y → Type 0) (xs : List X) → All P (map f xs) → All (λ x. P (f x)) xs
 all_seen f P [] all = All-nil (λ x. P (f x))
 all_seen f P (x ∷ xs) all = All-cons (λ x. P (f x)) x xs (All-head P (f x) (map f xs) all) (all_seen f P xs (All-tail P (f x) (map f xs) all))
 
--- there is room for the next record in each tap of a survey
-pub room_next : {X : Type 0} (f : X → TapSeen) (xs : List X) (taps : List TapSeen) (records : List (List ℕ)) (survey : SurveySeen) (point : List ℕ) → survey.taps ≡ map f xs → IsShown taps records survey → All (λ tap. (bin : ℕ) → count_at tap.tally bin ≤ 2 ^ 63) taps → length records < 2 ^ 32
-    → All (λ x. count_at (f x).tally ((f x).bin point) < 2 ^ 64 - 1) xs
-room_next f xs taps records survey point is s few less =
-    all_seen f (λ (tap : TapSeen). count_at tap.tally (tap.bin point) < 2 ^ 64 - 1) xs
-    (subst (λ (ts : List TapSeen). All (λ tap. count_at tap.tally (tap.bin point) < 2 ^ 64 - 1) ts) (sym s.taps_are ∙ is) (room_in taps records point few less))
+-- a tap that was shown some records, and then others
+tally-both : (bin_of : List ℕ → ℕ) (tally : Tally) (some more : List (List ℕ)) → tally_after bin_of (tally_after bin_of tally some) more ≡ tally_after bin_of tally (some ++ more)
+tally-both bin_of tally [] more = refl
+tally-both bin_of tally (r ∷ some) more = tally-both bin_of (with_one tally (bin_of r)) some more
 
--- ---- the records of a block, one by one: these were shown, and the others are left
-pub record Shows (size n t : ℕ) (block rest : List ℕ) (taps : List TapSeen) (before : List (List ℕ)) (survey : SurveySeen) : Type 0 where
-  pub done : List (List ℕ)
-  pub shown : IsShown taps (before ++ done) survey
-  pub count : length done ≡ t
-  pub cut : cut_records size n block ≡ done ++ cut_records size (n - t) rest
+shown-both : (tap : TapSeen) (some more : List (List ℕ)) → shown_all (shown_all tap some) more ≡ shown_all tap (some ++ more)
+shown-both tap some more = ap (λ (t : Tally). record { name = tap.name; bin = tap.bin; tally = t }) (tally-both tap.bin tap.tally some more)
 
-pub shows_none : (size n : ℕ) (block : List ℕ) (taps : List TapSeen) (before : List (List ℕ)) (survey : SurveySeen) → IsShown taps before survey → Shows size n 0 block block taps before survey
-shows_none size n block taps before survey is = record {
-  done = [];
-  shown = subst (λ (xs : List (List ℕ)). IsShown taps xs survey) (sym (append-nil before)) is;
-  count = refl;
-  cut = let all : n ≡ n - 0 = omega arith in ap (λ (k : ℕ). cut_records size k block) all;
+taps-both : (taps : List TapSeen) (some more : List (List ℕ)) → map (λ tap. shown_all tap more) (map (λ tap. shown_all tap some) taps) ≡ map (λ tap. shown_all tap (some ++ more)) taps
+taps-both [] some more = refl
+taps-both (t ∷ taps) some more =
+    ap (λ (x : TapSeen). x ∷ map (λ tap. shown_all tap more) (map (λ tap. shown_all tap some) taps)) (shown-both t some more)
+    ∙ ap (λ (xs : List TapSeen). shown_all t (some ++ more) ∷ xs) (taps-both taps some more)
+
+-- taps as a function sees them
+mapped : {X : Type 0} (f : X → TapSeen) (records : List (List ℕ)) (xs : List X) → map (λ x. shown_all (f x) records) xs ≡ map (λ tap. shown_all tap records) (map f xs)
+mapped f records [] = refl
+mapped f records (x ∷ xs) = ap (λ (ts : List TapSeen). shown_all (f x) records ∷ ts) (mapped f records xs)
+
+-- a survey that was shown the records of a block more
+pub block_shown : {X : Type 0} (f : X → TapSeen) (xs : List X) (taps seen : List TapSeen) (before records : List (List ℕ)) (old new : SummarySeen)
+    → IsShown taps before (record { summary = old; taps = map f xs })
+    → ((rs : List (List ℕ)) → old ≡ summary_of rs → new ≡ summary_of (rs ++ records))
+    → seen ≡ map (λ x. shown_all (f x) records) xs → IsShown taps (before ++ records) (record { summary = new; taps = seen })
+block_shown f xs taps seen before records old new is counted are = record {
+  summary = counted before is.summary;
+  taps_are = are ∙ mapped f records xs ∙ ap (map (λ tap. shown_all tap records)) is.taps_are ∙ taps-both taps before records;
 }
 
-pub shows_one : (size n t : ℕ) (block rest point further : List ℕ) (taps : List TapSeen) (before : List (List ℕ)) (old new : SurveySeen) → t < n → point ≡ take size rest → further ≡ drop size rest → Shows size n t block rest taps before old
-    → ((xs : List (List ℕ)) → old.summary ≡ summary_of xs → new.summary ≡ summary_of (xs ++ point ∷ []))
-    → new.taps ≡ map (λ tap. shown tap point) old.taps → Shows size n (t + 1) block further taps before new
-shows_one size n t block rest point further taps before old new more first others s counted taps_are =
-    let k = n - (t + 1) in
-    let left : n - t ≡ suc k = omega arith in
-    let next : cut_records size (n - t) rest ≡ point ∷ cut_records size k further =
-    ap (λ (m : ℕ). cut_records size m rest) left ∙ ap (λ (x : List ℕ). x ∷ cut_records size k (drop size rest)) (sym first) ∙ ap (λ (r : List ℕ). point ∷ cut_records size k r) (sym others) in
-    record {
-      done = s.done ++ point ∷ [];
-      shown = subst (λ (xs : List (List ℕ)). IsShown taps xs new) (append_assoc before s.done (point ∷ [])) (one_shown taps (before ++ s.done) point old new s.shown counted taps_are);
-      count = omega (arith, length-append s.done (point ∷ []), s.count);
-      cut = s.cut ∙ ap (λ (t : List (List ℕ)). s.done ++ t) next ∙ sym (append_assoc s.done (point ∷ []) (cut_records size k further));
-    }
+-- there is room for some records more in each tap
+room_in : (taps : List TapSeen) (records : List (List ℕ)) (n : ℕ) → All (λ tap. (bin : ℕ) → count_at tap.tally bin ≤ 2 ^ 63) taps → length records + n < 2 ^ 32
+    → All (λ tap. (bin : ℕ) → count_at tap.tally bin + n < 2 ^ 64) (map (λ tap. shown_all tap records) taps)
+room_in [] records n few less = All-nil (λ (tap : TapSeen). (bin : ℕ) → count_at tap.tally bin + n < 2 ^ 64)
+room_in (t ∷ taps) records n few less =
+    All-cons (λ (tap : TapSeen). (bin : ℕ) → count_at tap.tally bin + n < 2 ^ 64) (shown_all t records) (map (λ tap. shown_all tap records) taps)
+    (λ bin. omega (arith, less, shown-few t records bin (2 ^ 63) (All-head (λ (tap : TapSeen). (bin : ℕ) → count_at tap.tally bin ≤ 2 ^ 63) t taps few)))
+    (room_in taps records n (All-tail (λ (tap : TapSeen). (bin : ℕ) → count_at tap.tally bin ≤ 2 ^ 63) t taps few) less)
 
-pub shows_all : (size n t : ℕ) (block rest : List ℕ) (taps : List TapSeen) (before : List (List ℕ)) (survey : SurveySeen) → n ≤ t → Shows size n t block rest taps before survey → IsShown taps (before ++ cut_records size n block) survey
-shows_all size n t block rest taps before survey end s =
-    let none : n - t ≡ 0 = omega arith in
-    let all : cut_records size n block ≡ s.done = s.cut ∙ ap (λ (k : ℕ). s.done ++ cut_records size k rest) none ∙ append-nil s.done in
-    subst (λ (xs : List (List ℕ)). IsShown taps (before ++ xs) survey) (sym all) s.shown
+pub room_block : {X : Type 0} (f : X → TapSeen) (xs : List X) (taps : List TapSeen) (records : List (List ℕ)) (summary : SummarySeen) (n : ℕ)
+    → IsShown taps records (record { summary = summary; taps = map f xs }) → All (λ tap. (bin : ℕ) → count_at tap.tally bin ≤ 2 ^ 63) taps
+    → length records + n < 2 ^ 32 → All (λ x. (bin : ℕ) → count_at (f x).tally bin + n < 2 ^ 64) xs
+room_block f xs taps records summary n s few less =
+    all_seen f (λ (tap : TapSeen). (bin : ℕ) → count_at tap.tally bin + n < 2 ^ 64) xs
+    (subst (λ (ts : List TapSeen). All (λ tap. (bin : ℕ) → count_at tap.tally bin + n < 2 ^ 64) ts) (sym s.taps_are) (room_in taps records n few less))
+
+-- there is room for the next of some records in a tap
+pub room_next : (old now : TapSeen) (done : List (List ℕ)) (n t : ℕ) (point : List ℕ) → ((bin : ℕ) → count_at old.tally bin + n < 2 ^ 64)
+    → now ≡ shown_all old done → length done ≡ t → t < n → count_at now.tally (now.bin point) < 2 ^ 64 - 1
+room_next old now done n t point room is count more =
+    let all : (bin : ℕ) → count_at (shown_all old done).tally bin < 2 ^ 64 - 1 =
+    λ bin. omega (arith, count, more, shown-few old done bin (2 ^ 64 - 1 - n) (λ b. omega (arith, room b)), room 0) in
+    subst (λ (tap : TapSeen). count_at tap.tally (tap.bin point) < 2 ^ 64 - 1) (sym is) (all (old.bin point))
+
+-- the next record is shown
+pub next_shown : (old now new : TapSeen) (done : List (List ℕ)) (point : List ℕ) → now ≡ shown_all old done → new ≡ shown now point
+    → new ≡ shown_all old (done ++ point ∷ [])
+next_shown old now new done point is next = next ∙ ap (λ (tap : TapSeen). shown tap point) is ∙ shown-more old done point
 
 -- how many were counted
 pub points_counted : (taps : List TapSeen) (records : List (List ℕ)) (survey : SurveySeen) → IsShown taps records survey → survey.summary.counts.points ≡ length records

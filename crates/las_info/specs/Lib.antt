@@ -1,5 +1,6 @@
 pub mod Tallies
 pub mod Bins
+pub mod Cells
 pub mod Extents
 pub mod Summaries
 pub mod Report

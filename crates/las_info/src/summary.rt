@@ -1,5 +1,6 @@
 //! Counts of records, and the ranges of their raw coordinates.
-ghost use Rattle.std.specs.Prelude.{◌≡◌, ◌-◌, ◌^◌, ◌<◌, ◌≤◌, ◌++◌, ◌∷◌, [], ℕ, List, length};
+ghost use Rattle.std.specs.Prelude.{◌≡◌, ◌+◌, ◌-◌, ◌/◌, ◌%◌, ◌^◌, ◌<◌, ◌≤◌, ◌++◌, ◌∷◌, [], ℕ, List, length};
+ghost use Rattle.las_header.specs.Plain.{cut_records};
 ghost use Rattle.las_info.specs.Summaries.{summary_of};
 
 use crate::extents::{Extents, extended};
@@ -48,6 +49,27 @@ impl Summary {
     {
         count_in(&mut self.counts, point);
         self.extents = Some(extended(self.extents, point));
+    }
+
+    /// Adds whole records of one size, which stand one after another.
+    pub(crate) fn add_all(&mut self, size: usize, block: &[u8])
+        requires size { POINT_RECORD ≤ size }
+        requires whole { length block.now % size ≡ 0 }
+        requires fewer { self.old.counts.points + length block.now / size < 2 ^ 32 }
+        ensures { (records : List (List ℕ)) → self.old ≡ summary_of records
+            → self.new ≡ summary_of (records ++ cut_records size (length block.now / size) block.now) }
+    {
+        let mut counts = self.counts;
+        let mut extents = self.extents;
+        let mut rest = block;
+        for _turn in 0..block.len() / size {
+            let (point, further) = rest.split_at(size);
+            count_in(&mut counts, point);
+            extents = Some(extended(extents, point));
+            rest = further;
+        }
+        self.counts = counts;
+        self.extents = extents;
     }
 
     /// The counts.

@@ -2,7 +2,7 @@
 ghost use Rattle.std.specs.Prelude.{◌≡◌, ℕ, ◌+◌, ◌-◌, ◌/◌, ◌%◌, ◌^◌, ◌<◌, ◌≤◌, ◌++◌, ◌∷◌, [], List, OnOk, length, map, All};
 ghost use Rattle.las_header.specs.declared.limits.TheConstants.{POINT_RECORD};
 ghost use Rattle.las_info.specs.Summaries.{summary_of};
-ghost use Rattle.las_info.specs.Tallies.{TapSeen, count_at, shown};
+ghost use Rattle.las_info.specs.Tallies.{TapSeen, count_at, shown, shown_all};
 ghost use Rattle.las_info.specs.Surveys.{IsShown};
 ghost use Rattle.las_header.specs.Plain.{cut_records};
 
@@ -28,6 +28,37 @@ pub(crate) fn show_all(taps: &mut [Box<dyn Tap>], point: &[u8]) -> Result<(), Al
 {
     for i in 0..taps.len() {
         show_one(&mut taps[i], point)?;
+    }
+    Ok(())
+}
+
+// Shows whole records of one size, which stand one after another, to a tap.
+fn show_through(tap: &mut Box<dyn Tap>, size: usize, block: &[u8]) -> Result<(), AllocError>
+    requires size { POINT_RECORD ≤ size }
+    requires whole { length block.now % size ≡ 0 }
+    requires room { (bin : ℕ) → count_at (tap_seen tap.old).tally bin + length block.now / size < 2 ^ 64 }
+    ensures { OnOk result (tap_seen tap.new
+        ≡ shown_all (tap_seen tap.old) (cut_records size (length block.now / size) block.now)) }
+{
+    let mut rest = block;
+    for _turn in 0..block.len() / size {
+        let (point, further) = rest.split_at(size);
+        show_one(tap, point)?;
+        rest = further;
+    }
+    Ok(())
+}
+
+// Shows whole records of one size, which stand one after another, to taps: all of them to one, then to the next.
+fn show_block(taps: &mut [Box<dyn Tap>], size: usize, block: &[u8]) -> Result<(), AllocError>
+    requires size { POINT_RECORD ≤ size }
+    requires whole { length block.now % size ≡ 0 }
+    requires room { All (λ tap. (bin : ℕ) → count_at (tap_seen tap).tally bin + length block.now / size < 2 ^ 64) taps.old }
+    ensures shown { OnOk result (map (λ tap. tap_seen tap) taps.new
+        ≡ map (λ tap. shown_all (tap_seen tap) (cut_records size (length block.now / size) block.now)) taps.old) }
+{
+    for i in 0..taps.len() {
+        show_through(&mut taps[i], size, block)?;
     }
     Ok(())
 }
@@ -89,12 +120,20 @@ impl Survey {
           taps = map (λ tap. tap_seen tap) self.new.taps.items;
         })) }
     {
-        let mut rest = block;
-        for _turn in 0..block.len() / size {
-            let (point, further) = rest.split_at(size);
-            self.see(point)?;
-            rest = further;
-        }
+        self.summary.add_all(size, block);
+        self.show_taps(size, block)?;
         Ok(())
+    }
+
+    // Shows whole records of one size, which stand one after another, to the taps.
+    fn show_taps(&mut self, size: usize, block: &[u8]) -> Result<(), AllocError>
+        requires size { POINT_RECORD ≤ size }
+        requires whole { length block.now % size ≡ 0 }
+        requires room { All (λ tap. (bin : ℕ) → count_at (tap_seen tap).tally bin + length block.now / size < 2 ^ 64) self.old.taps.items }
+        ensures summary { self.new.summary ≡ self.old.summary }
+        ensures shown { OnOk result (map (λ tap. tap_seen tap) self.new.taps.items
+            ≡ map (λ tap. shown_all (tap_seen tap) (cut_records size (length block.now / size) block.now)) self.old.taps.items) }
+    {
+        show_block(&mut self.taps, size, block)
     }
 }

@@ -1,44 +1,71 @@
 //! A tally that a tap keeps.
-ghost use Rattle.std.specs.Prelude.{◌≡◌, ◌+◌, ◌-◌, ◌^◌, ◌<◌, IfOk, OnErr, OnOk};
+ghost use Rattle.std.specs.Prelude.{◌≡◌, ◌+◌, ◌-◌, ◌^◌, ◌<◌, ◌≤◌, ◌++◌, ◌∷◌, [], length, replicate, IfOk, OnErr, OnOk};
+ghost use Rattle.std.specs.Prelude.{vec_len};
 ghost use Rattle.std.specs.FinMap as map;
+ghost use Rattle.las_info.specs.Cells.{bins_from};
 ghost use Rattle.las_info.specs.Tallies.{count_at, with_one};
 
 use std::alloc::{AllocError, Global};
-use std::collections::BTreeMap;
 use std::marker::Model;
 
-/// Bins, each with a count. Contracts see it as a finite map.
+/// Bins, each with a count. Contracts see it as a finite map of the bins with a count above 0.
+///
+/// There is a count for each bin from 0 to the greatest that was counted: 2^16 of them for 16-bit bins.
 #[derive(Drop)]
 pub(crate) struct Counted {
     alloc: Global,
-    bins: BTreeMap<u32, u64>,
+    counts: Vec<u64>,
 }
 
 impl Model for Counted {
+    ghost use Rattle.std.specs.Prelude.{◌≤◌, ◌^◌, length};
     ghost use Rattle.std.specs.FinMap as map;
     ghost use Rattle.std.specs.Coded.{coded_ℕ};
-    ghost use Rattle.std.specs.BTreeMap.{IsOrdered};
-    ghost use Rattle.std.specs.Ordering.{nat_cmp};
+    ghost use Rattle.las_info.specs.Cells.{bins_from};
     ghost use Rattle.las_info.specs.Tallies.{Tally};
 
     ghost Value = { Tally };
 
     ghost coded = { map.code coded_ℕ coded_ℕ };
 
-    ghost view = { λ t. map.from_sorted t.bins.entries };
+    ghost view = { λ t. map.from_sorted (bins_from 0 t.counts.items) };
 
-    ghost invariant = { λ t. IsOrdered nat_cmp t.bins };
+    ghost invariant = { λ t. length t.counts.items ≤ 2 ^ 32 };
 }
 
-// The entries of a map, by ascending key.
-fn entries_of(alloc: Global, bins: &BTreeMap<u32, u64>) -> Result<Vec<(u32, u64)>, AllocError>
-    ensures { IfOk result (λ rows. rows.items ≡ bins.now.entries) }
+// Adds a bin with its count, if this is above 0.
+fn push_row(rows: &mut Vec<(u32, u64)>, bin: u32, count: u64) -> Result<(), AllocError>
+    ensures { OnOk result (rows.new.items ≡ rows.old.items ++ bins_from bin (count ∷ [])) }
+{
+    if count > 0 {
+        rows.push((bin, count))?;
+    }
+    Ok(())
+}
+
+// The bins with a count above 0, by ascending bin.
+fn rows_of(alloc: Global, counts: &[u64]) -> Result<Vec<(u32, u64)>, AllocError>
+    requires { length counts.now ≤ 2 ^ 32 }
+    ensures { IfOk result (λ rows. rows.items ≡ bins_from 0 counts.now) }
 {
     let mut rows = Vec::new(alloc);
-    for (bin, count) in bins {
-        rows.push((*bin, *count))?;
+    for i in 0..counts.len() {
+        push_row(&mut rows, i as u32, counts[i])?;
     }
     Ok(rows)
+}
+
+// Makes counts for the bins up to this one, if there are none. `Err` means out of memory, and nothing has changed.
+fn reach(counts: &mut Vec<u64>, bin: usize) -> Result<(), AllocError>
+    requires { bin < 2 ^ 32 }
+    ensures ok { OnOk result (counts.new.items ≡ counts.old.items ++ replicate (bin + 1 - vec_len counts.old) 0) }
+    ensures within { OnOk result (bin < length counts.new.items) }
+    ensures err { OnErr result (counts.new.items ≡ counts.old.items) }
+{
+    if bin < counts.len() {
+        return Ok(());
+    }
+    counts.resize(bin + 1, 0)
 }
 
 impl Counted {
@@ -48,17 +75,7 @@ impl Counted {
     {
         Counted {
             alloc,
-            bins: BTreeMap::new(alloc),
-        }
-    }
-
-    // The count of a bin.
-    fn count(&self, bin: u32) -> u64
-        ensures { result ≡ count_at self.now bin }
-    {
-        match self.bins.get(&bin) {
-            Some(count) => *count,
-            None => 0,
+            counts: Vec::new(alloc),
         }
     }
 
@@ -68,8 +85,24 @@ impl Counted {
         ensures ok { OnOk result (self.new ≡ with_one self.old bin) }
         ensures err { OnErr result (self.new ≡ self.old) }
     {
-        let count = self.count(bin);
-        self.bins.insert(bin, count + 1)?;
+        let at = bin as usize;
+        if at < self.counts.len() {
+            self.counts[at] += 1;
+            return Ok(());
+        }
+        self.add_new(bin)
+    }
+
+    // Adds one to a bin that may have no count yet. It stays out of line, so that `add` keeps nothing on the stack.
+    #[cold]
+    #[inline(never)]
+    fn add_new(&mut self, bin: u32) -> Result<(), AllocError>
+        requires { count_at self.old bin < 2 ^ 64 - 1 }
+        ensures ok { OnOk result (self.new ≡ with_one self.old bin) }
+        ensures err { OnErr result (self.new ≡ self.old) }
+    {
+        reach(&mut self.counts, bin as usize)?;
+        self.counts[bin as usize] += 1;
         Ok(())
     }
 
@@ -77,7 +110,7 @@ impl Counted {
     pub(crate) fn rows(&self) -> Result<Vec<(u32, u64)>, AllocError>
         ensures { IfOk result (λ rows. rows.items ≡ map.entries self.now) }
     {
-        let rows = entries_of(self.alloc, &self.bins)?;
+        let rows = rows_of(self.alloc, self.counts.as_slice())?;
         Ok(rows)
     }
 }

@@ -1,4 +1,4 @@
-use Rattle.std.proofs.Common.{◌<◌, ◌-◌, ◌^◌, [], ap, arith}
+use Rattle.std.proofs.Common.{[], ap, arith}
 use Rattle.las_info.proofs.tests.every_tap_of_two_records.Goals as goal
 
 pub add-requires-2-clause-fewer : goal.add-requires-2-clause-fewer

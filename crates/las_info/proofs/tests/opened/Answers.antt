@@ -1,6 +1,5 @@
-use Rattle.std.proofs.Common.{◌≡◌, ℕ, ◌+◌, ◌≤◌, List, length, take, None, Ok, Result, min, refl, sym, ap, ◌∙◌, arith, subst}
+use Rattle.std.proofs.Common.{◌≡◌, ℕ, List, length, take, None, sym, ap, ◌∙◌, subst}
 use Rattle.std.proofs.lemmas.List.{take_min}
-use Rattle.las_header.specs.declared.refusal.Refusal.{Refusal}
 use Rattle.las_header.specs.Fields.{point_offset_of}
 use Rattle.las_header.specs.Refusals.{first_cause, front_causes}
 use Rattle.las_header.proofs.CauseLemmas.{CanRead, can_read}

@@ -1,4 +1,4 @@
-use Rattle.std.proofs.Common.{◌≡◌, ℕ, ◌+◌, ◌-◌, ◌^◌, ◌<◌, ◌≤◌, ap, arith, ◌∙◌, subst}
+use Rattle.std.proofs.Common.{◌≡◌, ℕ, ◌+◌, ◌-◌, ◌^◌, ◌<◌, ◌≤◌, ap, arith, ◌∙◌}
 use Rattle.std.specs.FinMap as map
 use Rattle.las_info.specs.Tallies.{Tally, count_at, with_one}
 use Rattle.las_info.proofs.Counting.{count-none, count-more}

@@ -3,4 +3,4 @@ use Rattle.las_info.proofs.Maps.{made, made-empty}
 use Rattle.las_info.proofs.tally.Counted.new.Goals as goal
 
 pub returns : goal.returns
-returns c = ap made c.new.ensures.empty ∙ made-empty
+returns c = ap made c.new.ensures.items ∙ made-empty
