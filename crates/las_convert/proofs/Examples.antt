@@ -4,7 +4,7 @@ use Rattle.byteorder.specs.Endian.{little_bytes}
 use Rattle.las_filter.specs.declared.change.Change.TheVariants.{SetClass, Translate}
 use Rattle.las_filter.specs.declared.keep.Keep.TheVariants.{Classes}
 use Rattle.las_filter.specs.Coordinates.{placed}
-use Rattle.las_filter.specs.Kept.{Kept, Steps}
+use Rattle.las_filter.specs.Kept.{Steps}
 use Rattle.las_header.specs.Counting.{long_bytes, short_bytes}
 use Rattle.las_header.specs.Numbers.{number_at}
 use Rattle.laz_file.specs.Outputs.{finished, stopped}

@@ -28,9 +28,10 @@ fn put_changed(plan: &Plan, point: &[u8], place: &mut [u8]) -> Result<(), RawRan
     plan.change(place)
 }
 
-/// Copies the records of a block that a plan keeps to the front of a buffer, changed, up to the first whose change is
-/// refused. No memory is taken.
-pub(crate) fn keep_records(plan: &Plan, size: usize, block: &[u8], buffer: &mut [u8]) -> Part
+// Copies the records of this size of a block that a plan keeps to the front of a buffer, changed, up to the first whose
+// change is refused. It is inlined for each size that is a constant, so that a record is copied by a few moves.
+#[inline(always)]
+fn keep_sized(plan: &Plan, size: usize, block: &[u8], buffer: &mut [u8]) -> Part
     requires size { POINT_RECORD ≤ size }
     requires whole { length block.now % size ≡ 0 }
     requires room { length block.now ≤ length buffer.old }
@@ -59,5 +60,25 @@ pub(crate) fn keep_records(plan: &Plan, size: usize, block: &[u8], buffer: &mut 
     Part {
         length: at,
         refused: false,
+    }
+}
+
+/// Copies the records of a block that a plan keeps to the front of a buffer, changed, up to the first whose change is
+/// refused. No memory is taken.
+pub(crate) fn keep_records(plan: &Plan, size: usize, block: &[u8], buffer: &mut [u8]) -> Part
+    requires size { POINT_RECORD ≤ size }
+    requires whole { length block.now % size ≡ 0 }
+    requires room { length block.now ≤ length buffer.old }
+    requires classes { All HasClass plan.now.changes.items }
+    ensures within { result.length ≤ length block.now }
+    ensures kept { (ones : List (List ℕ)) × (take result.length buffer.new ≡ concat ones)
+        × (result.length ≡ size * length ones) × Adds (steps_of plan.now) (cut_all size block.now) ones result.refused }
+{
+    match size {
+        20 => keep_sized(plan, 20, block, buffer),
+        26 => keep_sized(plan, 26, block, buffer),
+        28 => keep_sized(plan, 28, block, buffer),
+        34 => keep_sized(plan, 34, block, buffer),
+        _ => keep_sized(plan, size, block, buffer),
     }
 }

@@ -1,7 +1,7 @@
 use Rattle.std.proofs.Common.{◌≡◌, ◌*◌, ◌≤◌, drop}
 use Rattle.las_filter.specs.Kept.{steps_of}
 use Rattle.las_convert.proofs.Cuts.{KeptSo}
-use Rattle.las_convert.proofs.keeping.keep_records.Given as goal
+use Rattle.las_convert.proofs.keeping.keep_sized.Given as goal
 
 abbrev pub invariant-loop-turn : goal.invariant-loop-turn
 invariant-loop-turn l = record {

@@ -1,8 +1,8 @@
 use Rattle.std.proofs.Common.{◌≡◌, ◌+◌, ◌*◌, ◌-◌, ◌/◌, ◌≤◌, length, refl, sym, ◌∙◌, subst, ℕ, List, arith}
 use Rattle.las_filter.specs.Kept.{steps_of}
 use Rattle.las_convert.proofs.Cuts.{KeptSo, block_fits, kept_dropped, kept_more, kept_refused, rest_next}
-use Rattle.las_convert.proofs.keeping.keep_records.Goals as goal
-use Rattle.las_convert.proofs.keeping.keep_records.Goals.{then-keeps+in-Ok, else-keeps}
+use Rattle.las_convert.proofs.keeping.keep_sized.Goals as goal
+use Rattle.las_convert.proofs.keeping.keep_sized.Goals.{then-keeps+in-Ok, else-keeps}
 
 pub returns-in-Err-clause-kept : goal.returns-in-Err-clause-kept
 returns-in-Err-clause-kept c =
