@@ -1,23 +1,20 @@
 -- Records of blocks, one block after another.
-use Rattle.std.proofs.Common.{◌≡◌, ℕ, suc, ◌+◌, ◌*◌, ◌/◌, ◌%◌, ◌<◌, ◌≤◌, ◌^◌, Bool, true, false, List, [], ◌∷◌, ◌++◌, length, take, drop, get_or, Option, refl, sym, ◌∙◌, ap, subst, append_assoc, length-append, arith}
+use Rattle.std.proofs.Common.{◌≡◌, ℕ, zero, suc, ◌+◌, ◌*◌, ◌/◌, ◌%◌, ◌<◌, ◌≤◌, ◌^◌, Bool, true, false, List, [], ◌∷◌, ◌++◌, length, take, drop, get_or, Option, sym, ◌∙◌, ap, subst, append_assoc, length-append, arith}
 use Rattle.std.specs.Prelude.{All}
 use Rattle.std.specs.List.{concat}
-use Rattle.std.proofs.lemmas.List.{length-take-le, take-append-drop, take_all}
+use Rattle.std.proofs.lemmas.List.{length-drop, length-take-le, take-append-drop, take_all}
 use Rattle.std.proofs.lemmas.List.Elements.{All-take}
-use Rattle.std.proofs.Math.Nat.{le_of_mul-le-mul_left, mul-div-le, mul-le-mul_left, mul-mod_right, zero-div}
+use Rattle.std.proofs.Math.Nat.{le_of_mul-le-mul_left, mul-div-le, mul-mod_right, zero-div}
 use Rattle.std.proofs.Math.Seq.{drop-cons}
-use Rattle.las_filter.specs.declared.rule.Rule.{Rule}
 use Rattle.las_header.specs.Fields.{points_of}
 use Rattle.las_header.specs.Plain.{cut_records}
 use Rattle.las_outside.specs.Files.{FileMap}
 use Rattle.laz_file.specs.Writing.{WriterSeen}
 use Rattle.laz_file.proofs.Copies.{concat_more, concat_rest}
 use Rattle.laz_file.proofs.Pushing.{cut-append, whole_both}
-use Rattle.las_split.specs.Parts.{numbers_from}
-use Rattle.las_split.specs.Sorting.{AreSorted, HasRoom, InParts, LeavesBlock, LeavesPrefixes, SortsBlock, TakesBlock, Task, cut_all}
+use Rattle.las_split.specs.Sorting.{FitAfter, HasRoom, InParts, LeavesBlock, LeavesPrefixes, SortsBlock, TakesBlock, Task, cut_all}
 use Rattle.las_split.specs.Splitting.{OpensTooMany}
-use Rattle.las_split.proofs.Placing.{leaves_here}
-use Rattle.las_split.proofs.SortingPoints.{all_bytes, cut_first, cut_length}
+use Rattle.las_split.proofs.SortingPoints.{all_bytes, cut_length}
 
 -- ---- whole records
 
@@ -34,65 +31,50 @@ cut_none size some = ap (λ (n : ℕ). cut_records size n []) (zero-div size)
 
 -- ---- a block that was sorted
 
-numbers_length : (rule : Rule) (at : ℕ) (xs : List (List ℕ)) → length (numbers_from rule at xs) ≡ length xs
-numbers_length rule at [] = refl
-numbers_length rule at (x ∷ xs) = ap suc (numbers_length rule (at + 1) xs)
+-- each record of a block is whole
+cut_whole : (size n : ℕ) (bytes : List ℕ) → size * n ≤ length bytes → All (λ x. length x ≡ size) (cut_records size n bytes)
+cut_whole size zero bytes fits = λ k d lt. absurd (omega (arith, lt))
+cut_whole size (suc n) bytes fits =
+    let far : size * suc n ≡ size + size * n = omega arith in
+    by (omega (arith, fits, far)) (cut_whole size n (drop size bytes) (omega (arith, fits, far, length-drop size bytes)))
+  where
+    by : size ≤ length bytes → All (λ x. length x ≡ size) (cut_records size n (drop size bytes))
+        → (k : ℕ) (d : List ℕ) → k < length (cut_records size (suc n) bytes) → length (get_or (cut_records size (suc n) bytes) k d) ≡ size
+    by long rest zero d lt = length-take-le size bytes long
+    by long rest (suc k) d lt = rest k d (omega (arith, lt))
 
-module _ (task : Task) (was now : Option FileMap) (numbers : List ℕ) (writers : List WriterSeen) (of_records : List ℕ) (present : List Bool) (records : List (List ℕ)) (size taken : ℕ) (bytes : List ℕ) (s : SortsBlock task was now numbers writers of_records present records (cut_all size bytes) taken) where
-  pub taken_few : taken ≤ length bytes / size
-  taken_few = omega (arith, s.within, cut_length size (length bytes / size) bytes)
-
-  pub taken_bytes : size * taken ≤ length bytes
-  taken_bytes = omega (arith, mul-le-mul_left size taken_few, mul-div-le (length bytes) size)
-
-  pub count_is : length of_records ≡ taken
-  count_is = ap (λ (t : List ℕ). length t) s.sorted.numbers_are ∙ numbers_length task.rule (length records) (take taken (cut_all size bytes)) ∙ length-take-le taken (cut_all size bytes) s.within
-
-  pub block_is : cut_records size (length of_records) (take (size * taken) bytes) ≡ take taken (cut_all size bytes)
-  block_is = ap (λ (n : ℕ). cut_records size n (take (size * taken) bytes)) count_is ∙ cut_first size taken (length bytes / size) bytes taken_few
-
-  pub length_is : length (take (size * taken) bytes) ≡ size * length of_records
-  length_is = length-take-le (size * taken) bytes taken_bytes ∙ ap (λ (n : ℕ). size * n) (sym count_is)
-
-  pub parts_here : InParts task was now numbers writers (records ++ cut_records size (length of_records) (take (size * taken) bytes)) records
-  parts_here = subst (λ (b : List (List ℕ)). InParts task was now numbers writers (records ++ b) records) (sym block_is) s.parts
-
-  pub sorted_here : AreSorted task numbers of_records present records (cut_records size (length of_records) (take (size * taken) bytes))
-  sorted_here = subst (AreSorted task numbers of_records present records) (sym block_is) s.sorted
-
-  pub room_here : (index : ℕ) → index ≡ length records → HasRoom task size index (length bytes) → HasRoom task size (length records) (length (take (size * taken) bytes))
-  room_here index at room = record {
-    size_is = room.size_is;
-    some = room.some;
-    room = omega (arith, room.room, ap (λ (n : ℕ). size * n) at, length-take-le (size * taken) bytes taken_bytes, taken_bytes);
-    few = room.few;
-  }
+module _ (task : Task) (was now : Option FileMap) (numbers : List ℕ) (writers : List WriterSeen) (texts : List (List ℕ)) (records : List (List ℕ)) (size taken : ℕ) (bytes : List ℕ) (s : SortsBlock task was now numbers writers texts records (cut_all size bytes) taken) where
+  -- they fit into the parts
+  pub fit_here : (index : ℕ) → index ≡ length records → HasRoom task size index (length bytes) → FitAfter task records (take taken (cut_all size bytes))
+  fit_here index at room =
+      let count = length bytes / size in
+      let all : size * count ≤ length bytes = omega (arith, mul-div-le (length bytes) size) in
+      let few : length (take taken (cut_all size bytes)) ≤ count = omega (arith, length-take-le taken (cut_all size bytes) s.within, s.within, cut_length size count bytes) in
+      let some : 0 < size = omega (arith, room.some) in
+      let both : size * (length records + count) ≡ size * length records + size * count = omega arith in
+      let less : size * (length records + count) ≤ size * points_of task.head = omega (arith, both, all, room.room, ap (λ (n : ℕ). size * n) at) in
+      let most : length records + count ≤ points_of task.head = le_of_mul-le-mul_left less some in
+      record {
+        whole = subst (λ (n : ℕ). All (λ x. length x ≡ n) (take taken (cut_all size bytes))) room.size_is (All-take (λ (x : List ℕ). length x ≡ size) taken (cut_all size bytes) (cut_whole size count bytes all));
+        room = omega (arith, few, most);
+      }
 
   -- what is left, if a call fails
   pub left_first : (later : Option FileMap) → LeavesPrefixes task was later (records ++ take taken (cut_all size bytes)) → LeavesBlock task was later records (cut_all size bytes)
   left_first later l = (take taken (cut_all size bytes), drop taken (cut_all size bytes), sym (take-append-drop taken (cut_all size bytes)), l)
 
-  pub left_opened : LeavesBlock task was now records (cut_all size bytes)
-  left_opened = left_first now (leaves_here task was now numbers writers (records ++ take taken (cut_all size bytes)) records s.parts (take taken (cut_all size bytes)) refl now refl)
-
-  pub left_pushed : (later : Option FileMap) → LeavesPrefixes task was later (records ++ cut_records size (length of_records) (take (size * taken) bytes)) → LeavesBlock task was later records (cut_all size bytes)
-  left_pushed later l = left_first later (subst (λ (b : List (List ℕ)). LeavesPrefixes task was later (records ++ b)) block_is l)
-
-  module _ (later : Option FileMap) (ns : List ℕ) (ws : List WriterSeen) (i : InParts task was later ns ws (records ++ cut_records size (length of_records) (take (size * taken) bytes)) (records ++ cut_records size (length of_records) (take (size * taken) bytes))) where
-    pushed : InParts task was later ns ws (records ++ take taken (cut_all size bytes)) (records ++ take taken (cut_all size bytes))
-    pushed = subst (λ (b : List (List ℕ)). InParts task was later ns ws (records ++ b) (records ++ b)) block_is i
-
+  module _ (later : Option FileMap) (ns : List ℕ) (ws : List WriterSeen) (i : InParts task was later ns ws (records ++ take taken (cut_all size bytes)) (records ++ take taken (cut_all size bytes))) where
     pub takes_all : length bytes / size ≤ taken → TakesBlock task was later ns ws records (cut_all size bytes) true
     takes_all end =
         let whole : take taken (cut_all size bytes) ≡ cut_all size bytes = take_all taken (cut_all size bytes) (omega (arith, end, cut_length size (length bytes / size) bytes)) in
-        subst (λ (b : List (List ℕ)). InParts task was later ns ws (records ++ b) (records ++ b)) whole pushed
+        subst (λ (b : List (List ℕ)). InParts task was later ns ws (records ++ b) (records ++ b)) whole i
 
     pub takes_some : taken < length bytes / size → TakesBlock task was later ns ws records (cut_all size bytes) false
     takes_some less =
         let within : taken < length (cut_all size bytes) = omega (arith, less, cut_length size (length bytes / size) bytes) in
         let split : cut_all size bytes ≡ take taken (cut_all size bytes) ++ get_or (cut_all size bytes) taken [] ∷ drop (suc taken) (cut_all size bytes) =
         sym (take-append-drop taken (cut_all size bytes)) ∙ ap (λ (t : List (List ℕ)). take taken (cut_all size bytes) ++ t) (drop-cons (cut_all size bytes) taken [] within) in
-        (take taken (cut_all size bytes), get_or (cut_all size bytes) taken [], drop (suc taken) (cut_all size bytes), split, pushed, s.ends within)
+        (take taken (cut_all size bytes), get_or (cut_all size bytes) taken [], drop (suc taken) (cut_all size bytes), split, i, s.ends within)
 
 -- ---- blocks after blocks
 

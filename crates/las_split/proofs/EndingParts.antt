@@ -2,10 +2,11 @@
 use Rattle.std.proofs.Common.{◌≡◌, inl, inr, ℕ, suc, ◌+◌, ◌<◌, ◌≤◌, map, reverse, List, [], ◌∷◌, ◌++◌, length, take, drop, get_or, Option, refl, sym, ◌∙◌, ap, subst, length-append, arith}
 use Rattle.std.proofs.lemmas.List.{append-nil, drop_all, length-drop, length-reverse, reverse-append, take-append-drop, take_all}
 use Rattle.std.proofs.Math.Seq.{drop-cons}
-use Rattle.las_outside.specs.Drafts.{IsPatchedInPart, IsUnfinished, Patch, with_patches}
-use Rattle.las_outside.specs.Files.{FileMap, with_file, with_patch}
+use Rattle.las_outside.specs.Drafts.{IsUnfinished}
+use Rattle.las_outside.specs.Files.{FileMap, with_file}
 use Rattle.laz_file.specs.Outputs.{draft_of, finished, front, patches_of, stopped}
 use Rattle.laz_file.specs.Writing.{WriterSeen}
+use Rattle.laz_file.proofs.Patching.{all_patched}
 use Rattle.las_split.specs.declared.limits.TheConstants.{MAX_PARTS}
 use Rattle.las_split.specs.Files.{with_files}
 use Rattle.las_split.specs.Outputs.{AreUnfinished, LeavesParts, PartFile, named, outputs_under}
@@ -151,10 +152,6 @@ module _ (task : Task) (done : ℕ → List ℕ) (was now : Option FileMap) (ns 
             ((one.0, rest.0), ap (λ (ps : List (List ℕ × List ℕ)). pair ∷ ps) rest.1)
 
 -- ---- what finished parts and stopped ones hold is unfinished too
-
-all_patched : (draft : List ℕ) (patches : List Patch) → IsPatchedInPart draft patches (with_patches draft patches)
-all_patched draft [] = refl
-all_patched draft (p ∷ ps) = inr (all_patched (with_patch draft p.0 p.1) ps)
 
 pub finished_unfinished : (task : Task) (records : List (List ℕ)) (n : ℕ) → IsUnfinished (draft_of (output_at task n) (bytes_at task records n)) (patches_of (output_at task n) (bytes_at task records n)) (finished (output_at task n) (bytes_at task records n))
 finished_unfinished task records n = inr (all_patched (draft_of (output_at task n) (bytes_at task records n)) (patches_of (output_at task n) (bytes_at task records n)))

@@ -1,3 +1,4 @@
+pub mod Buffers
 pub mod PartNaming
 pub mod PartLists
 pub mod PuttingFiles

@@ -167,20 +167,14 @@ module _ (task : Task) (was now : Option FileMap) (ns : List ℕ) (ws : List Wri
                   ∙ sym (with_files-append was (map (standing task (bytes_at task written)) ns) (((output_at task number).name, take k (front (output_at task number))) ∷ []));
             }
 
--- ---- whether a part is present
+-- ---- one part more
 
-pub present_new : (of_records numbers : List ℕ) (number : ℕ) (present : List Bool) → has number numbers ≡ false → ((k : ℕ) → has k of_records ≡ true → has k numbers ≡ true) → present ≡ map (λ n. has n of_records) numbers
-    → present ++ false ∷ [] ≡ map (λ n. has n of_records) (numbers ++ number ∷ [])
-present_new of_records numbers number present none within is =
-    ap (λ (t : List Bool). t ++ false ∷ []) is ∙ ap (λ (b : Bool). map (λ n. has n of_records) numbers ++ b ∷ []) (sym (gone (has number of_records) refl)) ∙ sym (one numbers)
+pub text_new : (text : ℕ → List ℕ) (numbers : List ℕ) (number : ℕ) (texts : List (List ℕ)) → text number ≡ [] → texts ≡ map text numbers → texts ++ [] ∷ [] ≡ map text (numbers ++ number ∷ [])
+text_new text numbers number texts none is = ap (λ (ts : List (List ℕ)). ts ++ [] ∷ []) is ∙ ap (λ (t : List ℕ). map text numbers ++ t ∷ []) (sym none) ∙ sym (one numbers)
   where
-    gone : (b : Bool) → has number of_records ≡ b → has number of_records ≡ false
-    gone true e = let t : true ≡ false = sym (within number e) ∙ none in absurd (cc)
-    gone false e = e
-
-    one : (ms : List ℕ) → map (λ n. has n of_records) (ms ++ number ∷ []) ≡ map (λ n. has n of_records) ms ++ has number of_records ∷ []
+    one : (ms : List ℕ) → map text (ms ++ number ∷ []) ≡ map text ms ++ text number ∷ []
     one [] = refl
-    one (m ∷ ms) = ap (λ (t : List Bool). has m of_records ∷ t) (one ms)
+    one (m ∷ ms) = ap (λ (ts : List (List ℕ)). text m ∷ ts) (one ms)
 
 pub at_end : (ns : List ℕ) (k : ℕ) → slice_get (ns ++ k ∷ []) (length ns) ≡ Some k
 at_end [] k = refl

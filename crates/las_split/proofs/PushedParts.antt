@@ -1,13 +1,14 @@
 -- The records of a block go into the parts, one part after another.
 use Rattle.std.proofs.Common.{◌≡◌, ℕ, zero, suc, ◌+◌, ◌*◌, ◌%◌, ◌<◌, ◌≤◌, ◌==◌, Bool, true, false, cond, map, List, [], ◌∷◌, ◌++◌, length, take, drop, get_or, set, Option, None, refl, sym, ◌∙◌, ap, subst, length-append, arith}
+use borrow.Author.Tests.{eqb-true}
 use Rattle.std.specs.List.{concat}
-use Rattle.std.proofs.lemmas.List.{append-nil, drop_all, length-drop, length-take-le, take-append-drop, take_all}
+use Rattle.std.specs.Prelude.{All}
+use Rattle.std.proofs.lemmas.List.{append-nil, drop_all, get_or-map, length-map, take-append-drop, take_all}
 use Rattle.std.proofs.Math.ListN.{length-set}
-use Rattle.std.proofs.Math.Nat.{mul-mod_right}
+use Rattle.std.proofs.Math.Nat.{mul-le-mul_left, mul-mod_right}
 use Rattle.std.proofs.Math.Seq.{drop-cons}
 use Rattle.las_filter.specs.declared.rule.Rule.{Rule}
 use Rattle.las_header.specs.Fields.{points_of, record_length_of}
-use Rattle.las_header.specs.Plain.{cut_records}
 use Rattle.las_outside.specs.Files.{FileMap, with_file}
 use Rattle.las_outside.specs.Outside.{Outside}
 use Rattle.laz_file.specs.Outputs.{front}
@@ -16,11 +17,10 @@ use Rattle.laz_file.proofs.Putting.{concat-append}
 use Rattle.las_split.specs.declared.limits.TheConstants.{MAX_PARTS}
 use Rattle.las_split.specs.Files.{with_files}
 use Rattle.las_split.specs.Parts.{number_by, numbers_from, part, part_from}
-use Rattle.las_split.specs.Sorting.{ArePrefixes, AreSorted, AreWriters, HasRoom, InParts, IsWriter, LeavesPrefixes, PushedSo, Task, bytes_at, chosen, has, output_at, standing}
+use Rattle.las_split.specs.Sorting.{AreGathered, ArePrefixes, AreWriters, FitAfter, InParts, IsWriter, LeavesPrefixes, PushedSo, Task, bytes_at, output_at, standing, text_of}
 use Rattle.las_split.proofs.Changing.{AreOnce, firsts_once, next_done, next_part, next_stands}
-use Rattle.las_split.proofs.PartLists.{part-append, part_none}
+use Rattle.las_split.proofs.PartLists.{part-append}
 use Rattle.las_split.proofs.Placing.{all_prefixes, prefixes-append, whole_prefix}
-use Rattle.las_split.proofs.SortingPoints.{chosen_part}
 use Rattle.las_split.proofs.Standing.{stands_anywhere, text_is, writer_as, writers_after, writers_at, writers_length, writers_more}
 
 -- the records of a part are some of the records
@@ -32,17 +32,26 @@ part_within rule at (x ∷ xs) n = by (number_by rule at x == n) (part_within ru
     by true less = omega (arith, less, length-append x (concat (part_from rule (at + 1) xs n)), length-append x (concat xs))
     by false less = omega (arith, less, length-append x (concat xs))
 
--- whole records, by their number
-pub cut_size : (size n : ℕ) (bytes : List ℕ) → length bytes ≡ size * n → length (concat (cut_records size n bytes)) ≡ size * n
-cut_size size zero bytes is = omega arith
-cut_size size (suc n) bytes is =
-    let all : size * suc n ≡ size + size * n = omega arith in
-    let first : length (take size bytes) ≡ size = length-take-le size bytes (omega (arith, is, all)) in
-    omega (arith, all, length-append (take size bytes) (concat (cut_records size n (drop size bytes))), first, cut_size size n (drop size bytes) (omega (arith, is, all, length-drop size bytes)))
+-- records of one size
+pub all_size : (size : ℕ) (xs : List (List ℕ)) → All (λ x. length x ≡ size) xs → length (concat xs) ≡ size * length xs
+all_size size [] all = omega arith
+all_size size (x ∷ xs) all =
+    let rest = all_size size xs (λ k d lt. all (suc k) d (omega (arith, lt))) in
+    let first : length x ≡ size = all 0 [] (omega arith) in
+    let more : size * suc (length xs) ≡ size + size * length xs = omega arith in
+    omega (arith, length-append x (concat xs), rest, first, more)
 
-pub cut_count : (size n : ℕ) (bytes : List ℕ) → length (cut_records size n bytes) ≡ n
-cut_count size zero bytes = refl
-cut_count size (suc n) bytes = ap suc (cut_count size n (drop size bytes))
+pub part_size : (rule : Rule) (size at : ℕ) (xs : List (List ℕ)) (n : ℕ) → All (λ x. length x ≡ size) xs → length (concat (part_from rule at xs n)) ≡ size * length (part_from rule at xs n)
+part_size rule size at [] n all = omega arith
+part_size rule size at (x ∷ xs) n all = by (number_by rule at x == n) (part_size rule size (at + 1) xs n (λ k d lt. all (suc k) d (omega (arith, lt))))
+  where
+    by : (b : Bool) → length (concat (part_from rule (at + 1) xs n)) ≡ size * length (part_from rule (at + 1) xs n)
+        → length (concat (cond b (x ∷ part_from rule (at + 1) xs n) (part_from rule (at + 1) xs n))) ≡ size * length (cond b (x ∷ part_from rule (at + 1) xs n) (part_from rule (at + 1) xs n))
+    by true rest =
+        let first : length x ≡ size = all 0 [] (omega arith) in
+        let more : size * suc (length (part_from rule (at + 1) xs n)) ≡ size + size * length (part_from rule (at + 1) xs n) = omega arith in
+        omega (arith, length-append x (concat (part_from rule (at + 1) xs n)), rest, first, more)
+    by false rest = rest
 
 module _ (task : Task) (was now : Option FileMap) (ns : List ℕ) (ws : List WriterSeen) (records block : List (List ℕ)) where
   all_records : List (List ℕ)
@@ -159,50 +168,47 @@ module _ (task : Task) (was now : Option FileMap) (ns : List ℕ) (ws : List Wri
 
 -- ---- what is pushed
 
-module _ (task : Task) (ns of_records : List ℕ) (present : List Bool) (records block : List (List ℕ)) (s : AreSorted task ns of_records present records block) where
-  pub bytes_more : (n : ℕ) → bytes_at task (records ++ block) n ≡ bytes_at task records n ++ concat (chosen of_records block n)
-  bytes_more n =
-      let far : 0 + length records ≡ length records = omega arith in
-      ap concat (part-append task.rule 0 records block n) ∙ concat-append (part task.rule records n) (part_from task.rule (0 + length records) block n)
-      ∙ ap (λ (k : ℕ). bytes_at task records n ++ concat (part_from task.rule k block n)) far
-      ∙ ap (λ (t : List (List ℕ)). bytes_at task records n ++ concat t) (sym (chosen_part task.rule (length records) block n) ∙ ap (λ (ms : List ℕ). chosen ms block n) (sym s.numbers_are))
+pub no_bytes : (text : List ℕ) → (length text == 0) ≡ true → text ≡ []
+no_bytes [] e = refl
+no_bytes (b ∷ text) e = absurd (omega (arith, eqb-true (length (b ∷ text)) 0 e))
 
-  -- no record of the block is in a part that is not present
-  pub bytes_same : (place : ℕ) (d : Bool) → place < length ns → get_or present place d ≡ false → bytes_at task records (get_or ns place 0) ≡ bytes_at task (records ++ block) (get_or ns place 0)
-  bytes_same place d within none =
-      let n = get_or ns place 0 in
-      let gone : has n of_records ≡ false = sym (mark ns place within) ∙ ap (λ (t : List Bool). get_or t place d) (sym s.present_are) ∙ none in
-      let empty : chosen of_records block n ≡ [] = ap (λ (ms : List ℕ). chosen ms block n) s.numbers_are ∙ chosen_part task.rule (length records) block n ∙ part_none task.rule (length records) block n (ap (has n) (sym s.numbers_are) ∙ gone) in
-      sym (bytes_more n ∙ ap (λ (t : List (List ℕ)). bytes_at task records n ++ concat t) empty ∙ append-nil (bytes_at task records n))
-    where
-      mark : (ms : List ℕ) (j : ℕ) → j < length ms → get_or (map (λ k. has k of_records) ms) j d ≡ has (get_or ms j 0) of_records
-      mark [] j lt = absurd (omega (arith, lt))
-      mark (m ∷ ms) zero lt = refl
-      mark (m ∷ ms) (suc j) lt = mark ms j (omega (arith, lt))
+pub bytes_more : (task : Task) (records block : List (List ℕ)) (n : ℕ) → bytes_at task (records ++ block) n ≡ bytes_at task records n ++ text_of task records block n
+bytes_more task records block n =
+    let far : 0 + length records ≡ length records = omega arith in
+    ap concat (part-append task.rule 0 records block n) ∙ concat-append (part task.rule records n) (part_from task.rule (0 + length records) block n)
+    ∙ ap (λ (k : ℕ). bytes_at task records n ++ concat (part_from task.rule k block n)) far
 
-  pub marks_length : length present ≡ length ns
-  marks_length = ap (λ (t : List Bool). length t) s.present_are ∙ by ns
-    where
-      by : (ms : List ℕ) → length (map (λ k. has k of_records) ms) ≡ length ms
-      by [] = refl
-      by (m ∷ ms) = ap suc (by ms)
+-- no record of the block is in a part that gets no bytes
+pub bytes_same : (task : Task) (records block : List (List ℕ)) (n : ℕ) → text_of task records block n ≡ [] → bytes_at task records n ≡ bytes_at task (records ++ block) n
+bytes_same task records block n none = sym (bytes_more task records block n ∙ ap (λ (t : List ℕ). bytes_at task records n ++ t) none ∙ append-nil (bytes_at task records n))
+
+module _ (task : Task) (ns : List ℕ) (texts records block : List (List ℕ)) (s : AreGathered task ns texts records block) where
+  pub texts_length : length texts ≡ length ns
+  texts_length = ap (λ (t : List (List ℕ)). length t) s ∙ length-map ns (text_of task records block)
+
+  pub text_at : (place : ℕ) → place < length ns → get_or texts place [] ≡ text_of task records block (get_or ns place 0)
+  text_at place within = ap (λ (t : List (List ℕ)). get_or t place []) s ∙ get_or-map (text_of task records block) ns place 0 [] within
 
 -- there is room for it
-pub room_for : (task : Task) (n size len total : ℕ) (w : WriterSeen) (records : List (List ℕ)) → HasRoom task size (length records) total → IsWriter task n w (bytes_at task records n) → length (concat records) ≡ record_length_of task.head * length records → len ≤ total → w.taken + len ≤ w.size * w.most
-room_for task n size len total w records room is sized less =
+pub room_for : (task : Task) (n : ℕ) (w : WriterSeen) (records block : List (List ℕ)) → FitAfter task records block → IsWriter task n w (bytes_at task records n) → length (concat records) ≡ record_length_of task.head * length records
+    → w.taken + length (text_of task records block n) ≤ w.size * w.most
+room_for task n w records block fit is sized =
     let o : Outside = record { held = None; read_faults = 0; write_faults = 0; asked = 0 } in
     let s = is.stands o in
-    let wide : w.size ≡ size = s.size ∙ sym room.size_is in
+    let size = record_length_of task.head in
     let count : w.taken ≤ length (concat records) = omega (arith, s.taken, part_within task.rule 0 records n) in
-    let all : length (concat records) ≡ size * length records = sized ∙ ap (λ (k : ℕ). k * length records) (sym room.size_is) in
-    let limit : w.size * w.most ≡ size * points_of task.head = ap (λ (k : ℕ). k * w.most) wide ∙ ap (λ (k : ℕ). size * k) is.most in
-    omega (arith, count, all, limit, room.room, less)
+    let less = part_within task.rule (length records) block n in
+    let long = all_size size block fit.whole in
+    let limit : w.size * w.most ≡ size * points_of task.head = ap (λ (k : ℕ). k * w.most) s.size ∙ ap (λ (k : ℕ). size * k) is.most in
+    let both : size * (length records + length block) ≡ size * length records + size * length block = omega arith in
+    omega (arith, count, less, long, sized, limit, both, mul-le-mul_left size fit.room)
 
-pub even_for : (task : Task) (n size total len k : ℕ) (w : WriterSeen) (bytes : List ℕ) (index : ℕ) → HasRoom task size index total → IsWriter task n w bytes → len ≡ size * k → len % w.size ≡ 0
-even_for task n size total len k w bytes index room is even =
+pub even_for : (task : Task) (n : ℕ) (w : WriterSeen) (bytes : List ℕ) (records block : List (List ℕ)) → FitAfter task records block → IsWriter task n w bytes → length (text_of task records block n) % w.size ≡ 0
+even_for task n w bytes records block fit is =
     let o : Outside = record { held = None; read_faults = 0; write_faults = 0; asked = 0 } in
-    let wide : w.size ≡ size = (is.stands o).size ∙ sym room.size_is in
-    ap (λ (m : ℕ). len % m) wide ∙ ap (λ (m : ℕ). m % size) even ∙ mul-mod_right size k
+    let size = record_length_of task.head in
+    let part = part_from task.rule (length records) block n in
+    ap (λ (m : ℕ). length (text_of task records block n) % m) (is.stands o).size ∙ ap (λ (m : ℕ). m % size) (part_size task.rule size (length records) block n fit.whole) ∙ mul-mod_right size (length part)
 
 -- a writer that took more records
 pub took : (task : Task) (n : ℕ) (now new : Outside) (w : WriterSeen) (bytes more : List ℕ) → Stands now new w (output_at task n) (bytes ++ more) → w.failed ≡ false → w.most ≡ points_of task.head → (all : List ℕ) → all ≡ bytes ++ more

@@ -1,5 +1,5 @@
 -- A write that failed is of a part: there is a record.
-use Rattle.std.proofs.Common.{◌≡◌, ℕ, ◌+◌, ◌%◌, ◌<◌, ◌≤◌, Bool, List, [], ◌∷◌, ◌++◌, length, take, drop, Option, Result, Ok, Err, IfErr, get_or, sym, ap, subst, length-append, arith}
+use Rattle.std.proofs.Common.{◌≡◌, ℕ, ◌+◌, ◌%◌, ◌<◌, ◌≤◌, List, [], ◌∷◌, ◌++◌, length, take, drop, Option, Result, Ok, Err, IfErr, get_or, sym, ap, subst, length-append, arith}
 use Rattle.std.specs.Prelude.{All, IsErrOf}
 use Rattle.std.specs.List.{concat}
 use Rattle.std.proofs.lemmas.List.{length-take-le}
@@ -27,9 +27,9 @@ some_opened task was now ns ws [] written i some =
     absurd (omega (arith, some, writers_length task (bytes_at task written) ns ws i.writers_are, ap (λ (t : List ℕ). length t) none))
 some_opened task was now ns ws (r ∷ opened) written i some = omega arith
 
-pub some_pushed : (task : Task) (was now : Option FileMap) (ns : List ℕ) (ws : List WriterSeen) (of_records : List ℕ) (present : List Bool) (records block : List (List ℕ)) (taken : ℕ) → SortsBlock task was now ns ws of_records present records block taken → 1 ≤ length ws
+pub some_pushed : (task : Task) (was now : Option FileMap) (ns : List ℕ) (ws : List WriterSeen) (texts records block : List (List ℕ)) (taken : ℕ) → SortsBlock task was now ns ws texts records block taken → 1 ≤ length ws
     → 1 ≤ length records + length block
-some_pushed task was now ns ws of_records present records block taken s some =
+some_pushed task was now ns ws texts records block taken s some =
     omega (arith, some_opened task was now ns ws (records ++ take taken block) records s.parts some, length-append records (take taken block), length-take-le taken block s.within, s.within)
 
 -- there is a record among some blocks, if there is one before a block or in it

@@ -1,5 +1,5 @@
 -- How records go into parts: the writers of the parts, what they stand for, and what is left if a call fails.
-use Rattle.std.specs.Prelude.{◌≡◌, ℕ, ◌+◌, ◌*◌, ◌/◌, ◌<◌, ◌≤◌, ◌^◌, ◌==◌, ◌||◌, Bool, true, false, if◌then◌else◌, List, []}
+use Rattle.std.specs.Prelude.{◌≡◌, ℕ, ◌+◌, ◌*◌, ◌/◌, ◌<◌, ◌≤◌, ◌^◌, ◌==◌, ◌||◌, Bool, true, false, List, []}
 use Rattle.std.specs.Prelude.{◌∷◌, ◌++◌, length, map, drop, take, slice_get, slice_index_or, All, Option, Some, string_bytes}
 use Rattle.std.specs.List.{concat}
 use Rattle.las_header.specs.declared.refusal.Refusal.{Refusal}
@@ -20,7 +20,7 @@ use Rattle.las_split.specs.declared.limits.TheConstants.{MAX_PARTS}
 use Rattle.las_split.specs.declared.part_names.PartNames.{PartNames}
 use Rattle.las_split.specs.Files.{with_files}
 use Rattle.las_split.specs.Outputs.{output_under}
-use Rattle.las_split.specs.Parts.{number_by, numbers_from, numbers_of_parts, part}
+use Rattle.las_split.specs.Parts.{number_by, numbers_of_parts, part, part_from}
 use Rattle.las_split.specs.Splitting.{OpensTooMany}
 
 -- a number is among some
@@ -83,11 +83,13 @@ pub record InParts (task : Task) (was now : Option FileMap) (numbers : List ℕ)
   pub held : now ≡ with_files was (map (standing task (bytes_at task written)) numbers)
   pub sized : length (concat written) ≡ record_length_of task.head * length written
 
--- Of records after some others: their numbers, and for each part whether one of them belongs to it.
-pub record AreSorted (task : Task) (numbers : List ℕ) (of_records : List ℕ) (present : List Bool)
-    (records block : List (List ℕ)) : Type 0 where
-  pub numbers_are : of_records ≡ numbers_from task.rule (length records) block
-  pub present_are : present ≡ map (λ n. has n of_records) numbers
+-- the bytes of the records that have a number, of those of a block after some records
+abbrev pub text_of : Task → (records block : List (List ℕ)) → (number : ℕ) → List ℕ
+text_of task records block number = concat (part_from task.rule (length records) block number)
+
+-- The records of a block after some records are gathered: for each part, the bytes of those that belong to it.
+abbrev pub AreGathered : Task → (numbers : List ℕ) → (texts : List (List ℕ)) → (records block : List (List ℕ)) → Type 0
+AreGathered task numbers texts records block = texts ≡ map (text_of task records block) numbers
 
 -- The part of one record more was opened, if it was not open.
 pub record OpensPart (task : Task) (was now : Option FileMap) (numbers : List ℕ) (writers : List WriterSeen)
@@ -97,29 +99,21 @@ pub record OpensPart (task : Task) (was now : Option FileMap) (numbers : List �
 
 -- A record was sorted after others of its block, or it opens one part too many.
 abbrev pub SortsPoint : Task → (was now : Option FileMap) → (numbers : List ℕ) → List WriterSeen
-    → (of_records : List ℕ) → (present : List Bool) → (records block : List (List ℕ)) → (point : List ℕ) → (all : Bool)
-    → Type 0
-SortsPoint task was now numbers writers of_records present records block point true =
+    → (texts : List (List ℕ)) → (records block : List (List ℕ)) → (point : List ℕ) → (all : Bool) → Type 0
+SortsPoint task was now numbers writers texts records block point true =
     InParts task was now numbers writers (records ++ (block ++ point ∷ [])) records
-    × AreSorted task numbers of_records present records (block ++ point ∷ [])
-SortsPoint task was now numbers writers of_records present records block point false =
+    × AreGathered task numbers texts records (block ++ point ∷ [])
+SortsPoint task was now numbers writers texts records block point false =
     InParts task was now numbers writers (records ++ block) records
-    × AreSorted task numbers of_records present records block × OpensTooMany task.rule (records ++ block) point
+    × AreGathered task numbers texts records block × OpensTooMany task.rule (records ++ block) point
 
 -- The first of the records of a block were sorted: all of them, or those before one that opens one part too many.
 pub record SortsBlock (task : Task) (was now : Option FileMap) (numbers : List ℕ) (writers : List WriterSeen)
-    (of_records : List ℕ) (present : List Bool) (records block : List (List ℕ)) (taken : ℕ) : Type 0 where
+    (texts records block : List (List ℕ)) (taken : ℕ) : Type 0 where
   pub within : taken ≤ length block
   pub parts : InParts task was now numbers writers (records ++ take taken block) records
-  pub sorted : AreSorted task numbers of_records present records (take taken block)
+  pub gathered : AreGathered task numbers texts records (take taken block)
   pub ends : taken < length block → OpensTooMany task.rule (records ++ take taken block) (slice_index_or block taken [])
-
--- the records of one number, of records with these numbers
-abbrev pub chosen : (numbers : List ℕ) → (records : List (List ℕ)) → (number : ℕ) → List (List ℕ)
-chosen [] records number = []
-chosen (n ∷ numbers) [] number = []
-chosen (n ∷ numbers) (r ∷ records) number =
-    if n == number then r ∷ chosen numbers records number else chosen numbers records number
 
 -- There is room for some records and a block after them, in each part.
 pub record HasRoom (task : Task) (size : ℕ) (index length_of_block : ℕ) : Type 0 where
@@ -127,6 +121,11 @@ pub record HasRoom (task : Task) (size : ℕ) (index length_of_block : ℕ) : Ty
   pub some : POINT_RECORD ≤ size
   pub room : size * index + length_of_block ≤ size * points_of task.head
   pub few : points_of task.head < 2 ^ 32
+
+-- The records of a block are whole, and there is room for them after some records.
+pub record FitAfter (task : Task) (records block : List (List ℕ)) : Type 0 where
+  pub whole : All (λ point. length point ≡ record_length_of task.head) block
+  pub room : length records + length block ≤ points_of task.head
 
 -- the plain head that the parts have: that of the file without its laszip VLR, or that of the file
 pub record IsPlainFor (head plain : HeadView) : Type 0 where

@@ -1,6 +1,6 @@
 //! Records that go from a reader into the parts.
-ghost use Rattle.std.specs.Prelude.{◌≡◌, ◌≢◌, ◌%◌, ◌*◌, ◌+◌, ◌≤◌, ◌<◌, ◌^◌, ℕ, Bool, List, Option, [], length, All, false};
-ghost use Rattle.std.specs.Prelude.{IfErr, IfOk, MatchOption, OnErr, OnOk, string_bytes, true, unwrap_or, vec_len};
+ghost use Rattle.std.specs.Prelude.{◌≡◌, ◌≢◌, ◌%◌, ◌*◌, ◌+◌, ◌≤◌, ◌<◌, ◌^◌, ℕ, All, Bool, List, Option, [], length};
+ghost use Rattle.std.specs.Prelude.{IfErr, IfOk, MatchOption, false, OnErr, OnOk, string_bytes, true, unwrap_or};
 ghost use Rattle.std.specs.List.{concat};
 ghost use Rattle.las_header.specs.Fields.{is_packed, points_of, record_length_of};
 ghost use Rattle.las_header.specs.Heads.{IsHead};
@@ -12,31 +12,22 @@ ghost use Rattle.laz_file.specs.declared.fault.Fault.TheVariants.{Write};
 ghost use Rattle.laz_file.specs.Copying.{HasCause, HoldFirst, end_of};
 ghost use Rattle.laz_file.specs.Reading.{IsCrewOf, Lends, StandsFor, records_in};
 ghost use Rattle.laz_file.specs.Writing.{SameFaults};
-ghost use Rattle.las_split.specs.Sorting.{EndsSplitting, HasRoom, InParts, IsPlainFor, LeavesBlock, TakesBlock, cut_all};
-ghost use Rattle.las_split.specs.Sorting.{task_of};
+ghost use Rattle.las_split.specs.Sorting.{EndsSplitting, HasRoom, InParts, IsPlainFor, LeavesBlock, TakesBlock};
+ghost use Rattle.las_split.specs.Sorting.{cut_all, task_of};
 
+use crate::gathering::Gathered;
 use crate::part_names::PartNames;
 use crate::parts::Parts;
 use crate::pushing::push_parts;
-use crate::sorting::{Sorted, sort_block};
+use crate::sorting::sort_block;
 use las_filter::Rule;
 use las_header::{Head, Refusal};
 use las_outside::{Files, Gate};
 use laz_chunk::Workspace;
 use laz_file::{Fault, Reader};
 use laz_workers::Crew;
-use std::alloc::{AllocError, Global};
+use std::alloc::Global;
 use std::thread::Threads;
-
-// Makes a buffer at least as long as this.
-fn grow(buffer: &mut Vec<u8>, size: usize) -> Result<(), AllocError>
-    ensures { OnOk result (size ≤ vec_len buffer.new) }
-{
-    if buffer.len() < size {
-        buffer.resize(size, 0)?;
-    }
-    Ok(())
-}
 
 // Takes the records of a block into their parts. The answer is false if one of them would open one part too many; then
 // those before it were taken.
@@ -51,8 +42,7 @@ fn split_block<R: Threads + Sync, F: Files, G: Gate>(
     index: u64,
     size: usize,
     block: &[u8],
-    sorted: &mut Sorted,
-    buffer: &mut Vec<u8>,
+    gathered: &mut Gathered,
     parts: &mut Parts,
 ) -> Result<bool, Fault>
     requires plain { is_packed head.now.bytes ≡ false }
@@ -86,21 +76,9 @@ fn split_block<R: Threads + Sync, F: Files, G: Gate>(
     ensures later { Later (F.seen files.old) (F.seen files.new) }
 {
     let taken = sort_block(
-        alloc, files, names, head, rule, index, size, block, parts, sorted,
+        alloc, files, names, head, rule, index, size, block, parts, gathered,
     )?;
-    let length = size * taken;
-    grow(buffer, length)?;
-    push_parts(
-        rt,
-        alloc,
-        files,
-        gate,
-        size,
-        &block[..length],
-        sorted,
-        buffer,
-        parts,
-    )?;
+    push_parts(rt, alloc, files, gate, gathered, parts)?;
     if taken < block.len() / size {
         return Ok(false);
     }
@@ -117,8 +95,8 @@ fn plain_of<'a>(plain: &'a Option<Head>, reader: &'a Reader) -> &'a Head
     }
 }
 
-// Takes the records of a batch, which a reader and its crew lend, into their parts, in order. The answer is the place of
-// the next record, or none if a record would open one part too many; then those before it were taken.
+// Takes the records of a batch, which a reader and its crew lend, into their parts, in order. The answer is the place
+// of the next record, or none if a record would open one part too many; then those before it were taken.
 fn split_batch<R: Threads + Sync, F: Files, G: Gate>(
     rt: &R,
     alloc: Global,
@@ -132,15 +110,15 @@ fn split_batch<R: Threads + Sync, F: Files, G: Gate>(
     reader: &Reader,
     crew: &Crew<Workspace>,
     count: u32,
-    sorted: &mut Sorted,
-    buffer: &mut Vec<u8>,
+    gathered: &mut Gathered,
     parts: &mut Parts,
 ) -> Result<Option<u64>, Fault>
     requires plain { IsPlainFor reader.now.head (unwrap_or plain.now reader.now.head) }
     requires rule { IsRule rule.now }
     requires lent { (blocks : List (List ℕ)) × Lends reader.now crew.now blocks × (length blocks ≡ count)
         × All (λ block. length block % size ≡ 0) blocks
-        × HasRoom (task_of names.now (unwrap_or plain.now reader.now.head) rule.now) size index (length (concat blocks)) }
+        × HasRoom (task_of names.now (unwrap_or plain.now reader.now.head) rule.now) size index
+        (length (concat blocks)) }
     requires parts { (was : Option FileMap) × (records : List (List ℕ))
         × InParts (task_of names.now (unwrap_or plain.now reader.now.head) rule.now) was (F.seen files.old).held
         parts.old.numbers parts.old.writers.items records records
@@ -178,7 +156,7 @@ fn split_batch<R: Threads + Sync, F: Files, G: Gate>(
     for i in 0..count {
         let block = reader.block(crew, i);
         if !split_block(
-            rt, alloc, files, gate, names, head, rule, next, size, block, sorted, buffer, parts,
+            rt, alloc, files, gate, names, head, rule, next, size, block, gathered, parts,
         )? {
             return Ok(None);
         }
@@ -243,8 +221,7 @@ pub(crate) fn split_records<R: Threads + Sync, F: Files, G: Gate>(
     ensures later { Later (F.seen files.old) (F.seen files.new) }
 {
     let size = usize::from(reader.head().record_length());
-    let mut sorted = Sorted::new(alloc);
-    let mut buffer = Vec::new(alloc);
+    let mut gathered = Gathered::new(alloc);
     let mut index = 0;
     'batches: loop {
         let count = match reader.next_batch(rt, alloc, files, gate, crew) {
@@ -267,8 +244,7 @@ pub(crate) fn split_records<R: Threads + Sync, F: Files, G: Gate>(
             reader,
             crew,
             count,
-            &mut sorted,
-            &mut buffer,
+            &mut gathered,
             parts,
         )?;
         let Some(next) = after else {

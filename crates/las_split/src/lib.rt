@@ -4,6 +4,7 @@
 
 mod copying;
 mod files;
+mod gathering;
 mod laws;
 mod limits;
 mod numbering;
@@ -18,3 +19,6 @@ pub use laws::parts_join;
 pub use limits::MAX_PARTS;
 pub use numbering::part_of;
 pub use part_names::PartNames;
+
+#[cfg(test)]
+mod tests;

@@ -10,6 +10,7 @@ use las_points::{class, return_number, source};
 /// The number of the part that a record belongs to. `index` is the record's place in its file, counted from 0 and below
 /// 2^32, and the record has at least 20 bytes. For `Every(n)` it is the index divided by n, which is at least 1; else
 /// it is the class, the point source ID or the return number.
+#[inline]
 pub fn part_of(rule: &Rule, index: u64, point: &[u8]) -> u32
     requires rule { IsRule rule.now }
     requires index { index < 2 ^ 32 }

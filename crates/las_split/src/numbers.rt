@@ -23,6 +23,7 @@ impl Model for Numbers {
 }
 
 // The low 16 bits of a number.
+#[inline(always)]
 fn low_bits(number: u32) -> usize
     ensures { result < 2 ^ 16 }
 {
@@ -48,6 +49,7 @@ impl Numbers {
     }
 
     /// The place of a number, if it is there.
+    #[inline(always)]
     pub(crate) fn find(&self, number: u32) -> Option<usize>
         ensures none { IfNone result (has number self.now ≡ false) }
         ensures some { IfSome result (λ place. slice_get self.now place ≡ Some number) }
@@ -63,6 +65,8 @@ impl Numbers {
     }
 
     // The first place of a number, if it is there.
+    #[cold]
+    #[inline(never)]
     fn search(&self, number: u32) -> Option<usize>
         ensures none { IfNone result (has number self.now ≡ false) }
         ensures some { IfSome result (λ place. slice_get self.now place ≡ Some number) }

@@ -1,10 +1,5 @@
-use Rattle.std.proofs.Common.{◌≡◌, inl, inr, ℕ, ◌<◌, ◌^◌, List, ◌++◌, ◌∷◌, [], append_assoc, length, map, slice_get, refl, sym, ◌∙◌, ap, subst, arith}
-use Rattle.laz_file.specs.Writing.{WriterSeen}
-use Rattle.laz_file.proofs.Taking.{on_err}
-use Rattle.las_split.specs.declared.limits.TheConstants.{MAX_PARTS}
-use Rattle.las_split.specs.Sorting.{InParts, bytes_at, has, task_of}
-use Rattle.las_split.proofs.Placing.{at_end, in_new, in_old, leaves_here, left_new, present_new, too_many}
-use Rattle.las_split.proofs.Standing.{writers_length}
+use Rattle.las_split.specs.Sorting.{task_of}
+use Rattle.las_split.proofs.Placing.{in_old}
 use Rattle.las_split.proofs.sorting.place_of.Goals as goal
 
 pub returns-in-Some-clause-opened : goal.returns-in-Some-clause-opened
@@ -12,61 +7,3 @@ returns-in-Some-clause-opened g c was opened written more point i is whole =
     let task = task_of c.args.names.now c.args.head.now c.args.rule.now in
     let there = c.in-Some.ensures.some in
     (in_old task was (g.F.Files.seen c.args.files.now).held c.args.parts.now.numbers c.args.parts.now.writers.items opened written i more whole point c.args.number is c.in-Some.place there, there)
-
-pub returns-then-place-ge-MAX_PARTS-clause-opened : goal.returns-then-place-ge-MAX_PARTS-clause-opened
-returns-then-place-ge-MAX_PARTS-clause-opened g c was opened written more point i is whole =
-    let task = task_of c.args.names.now c.args.head.now c.args.rule.now in (
-      i,
-      too_many task was (g.F.Files.seen c.args.files.now).held c.args.parts.now.numbers c.args.parts.now.writers.items opened written i more whole point c.args.number is c.in_default.ensures.none (omega (arith, c.if-place-ge-MAX_PARTS.true, c.len-place.ensures)),
-      refl,
-      refl,
-    )
-
-pub returns-in_err-open-clause-left : goal.returns-in_err-open-clause-left
-returns-in_err-open-clause-left g c was opened written more point i is whole =
-    let task = task_of c.args.names.now c.args.head.now c.args.rule.now in
-    let old = (g.F.Files.seen c.args.files.now).held in
-    let new = (g.F.Files.seen c.open.new.files).held in
-    let small : c.args.number < 2 ^ 32 = omega (arith, c.ranges.number.fits) in
-    let room : length c.args.parts.now.writers.items < MAX_PARTS = omega (arith, c.if-place-ge-MAX_PARTS.false, c.len-place.ensures) in
-    on_err c.from_residual.result
-    (elim c.in_err-open.ensures.left [
-      | inl same ↦ inl (leaves_here task was old c.args.parts.now.numbers c.args.parts.now.writers.items opened written i more whole new same)
-      | inr part ↦ inr (left_new task was old c.args.parts.now.numbers c.args.parts.now.writers.items opened written i more whole point c.args.number is c.in_default.ensures.none room small new part.0 part.1)
-    ])
-
-pub returns-in-Ok-clause-opened : goal.returns-in-Ok-clause-opened
-returns-in-Ok-clause-opened g c was opened written more point i is whole =
-    let task = task_of c.args.names.now c.args.head.now c.args.rule.now in
-    let old = g.F.Files.seen c.args.files.now in
-    let new = g.F.Files.seen c.open.new.files in
-    let ns = c.args.parts.now.numbers in
-    let ws = c.args.parts.now.writers.items in
-    let small : c.args.number < 2 ^ 32 = omega (arith, c.ranges.number.fits) in
-    let room : length ws < MAX_PARTS = omega (arith, c.if-place-ge-MAX_PARTS.false, c.len-place.ensures) in
-    let p = c.in_ok-open.ensures.writers in
-    let both = in_new task was old.held ns ws opened written i more whole point c.args.number is c.in_default.ensures.none room small old new p.0 refl p.2 p.3 p.4 in
-    let place : c.len-place.result ≡ length ns = omega (arith, c.len-place.ensures, writers_length task (bytes_at task written) ns ws i.writers_are) in (
-      subst (λ (ms : List ℕ). InParts task was new.held ms c.open.new.self.writers.items (opened ++ point ∷ []) written) (sym c.in_ok-open.ensures.numbers)
-          (subst (λ (vs : List WriterSeen). InParts task was new.held (ns ++ c.args.number ∷ []) vs (opened ++ point ∷ []) written) (sym p.1) both),
-      ap (λ (ms : List ℕ). slice_get ms c.len-place.result) c.in_ok-open.ensures.numbers ∙ ap (slice_get (ns ++ c.args.number ∷ [])) place ∙ at_end ns c.args.number,
-    )
-
-pub returns-in-Ok-clause-present : goal.returns-in-Ok-clause-present
-returns-in-Ok-clause-present g c of_records is within =
-    c.in-Ok.ensures.items
-    ∙ present_new of_records c.args.parts.now.numbers c.args.number c.args.present.now.items c.in_default.ensures.none within is
-    ∙ ap (λ (ms : List ℕ). map (λ n. has n of_records) ms) (sym c.in_ok-open.ensures.numbers)
-
-pub returns-in-Err-clause-left : goal.returns-in-Err-clause-left
-returns-in-Err-clause-left g c was opened written more point i is whole =
-    let task = task_of c.args.names.now c.args.head.now c.args.rule.now in
-    let old = g.F.Files.seen c.args.files.now in
-    let new = g.F.Files.seen c.open.new.files in
-    let ns = c.args.parts.now.numbers in
-    let ws = c.args.parts.now.writers.items in
-    let small : c.args.number < 2 ^ 32 = omega (arith, c.ranges.number.fits) in
-    let room : length ws < MAX_PARTS = omega (arith, c.if-place-ge-MAX_PARTS.false, c.len-place.ensures) in
-    let p = c.in_ok-open.ensures.writers in
-    let both = in_new task was old.held ns ws opened written i more whole point c.args.number is c.in_default.ensures.none room small old new p.0 refl p.2 p.3 p.4 in
-    inr (leaves_here task was new.held (ns ++ c.args.number ∷ []) (ws ++ p.0 ∷ []) (opened ++ point ∷ []) written both (more ++ point ∷ []) (ap (λ (t : List (List ℕ)). t ++ point ∷ []) whole ∙ append_assoc written more (point ∷ [])) new.held refl)

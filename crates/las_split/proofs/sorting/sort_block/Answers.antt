@@ -16,7 +16,7 @@ loop-turn-init g c = record {
   rest = (let none : c.args.size * 0 ≡ 0 = omega arith in ap (λ (k : ℕ). drop k c.args.block.now) (sym none));
   sorts = λ was records i at.
       let count : c.len.result ≡ length c.args.parts.now.writers.items = omega (arith, c.len.ensures) in
-      sorted_none (task_of c.args.names.now c.args.head.now c.args.rule.now) was (g.F.Files.seen c.args.files.now).held c.args.parts.now.numbers c.args.parts.now.writers.items c.begin.new.self.numbers.items c.begin.new.self.present.items c.len.result records (cut_all c.args.size c.args.block.now) i count c.in_ok-begin.ensures.numbers c.in_ok-begin.ensures.present;
+      sorted_none (task_of c.args.names.now c.args.head.now c.args.rule.now) was (g.F.Files.seen c.args.files.now).held c.args.parts.now.numbers c.args.parts.now.writers.items c.begin.new.self c.len.result records (cut_all c.args.size c.args.block.now) i count c.in_ok-begin.ensures;
   calm = record { reads = refl; writes = refl; asked = refl };
   later = record { known = refl; reads = omega arith; writes = omega arith; asked = omega arith };
 }
@@ -36,7 +36,7 @@ sort_point-requires-clause-parts g c =
     let q = c.requires.parts in
     let more : c.loop-turn.turn < length c.args.block.now / c.args.size = omega (arith, c.loop-turn-test.true) in
     let s = c.loop-turn.invariant.sorts q.0 q.1 q.2 q.3 in
-    (q.0, q.1, take c.loop-turn.turn (cut_all c.args.size c.args.block.now), s.parts, s.sorted, place_here c.args.size c.loop-turn.turn c.args.index c.args.block.now q.1 more q.3)
+    (q.0, q.1, take c.loop-turn.turn (cut_all c.args.size c.args.block.now), s.parts, s.gathered, place_here c.args.size c.loop-turn.turn c.args.index c.args.block.now q.1 more q.3)
 
 pub returns-in_err-sort_point-clause-left : goal.returns-in_err-sort_point-clause-left
 returns-in_err-sort_point-clause-left g c was records i at =
@@ -46,7 +46,7 @@ returns-in_err-sort_point-clause-left g c was records i at =
     let here = place_here c.args.size c.loop-turn.turn c.args.index c.args.block.now records more at in
     on_err c.from_residual-in_err-sort_point.result
     (left_more task was records c.args.size c.loop-turn.turn c.args.block.now c.split_at.result.0.now c.loop-turn.rest.now more c.loop-turn.invariant.rest c.split_at.ensures.front (g.F.Files.seen c.sort_point.new.files).held
-    (c.in_err-sort_point.ensures.left was records (take c.loop-turn.turn (cut_all c.args.size c.args.block.now)) s.parts s.sorted here))
+    (c.in_err-sort_point.ensures.left was records (take c.loop-turn.turn (cut_all c.args.size c.args.block.now)) s.parts s.gathered here))
 
 pub returns-then-not-branch-clause-sorts : goal.returns-then-not-branch-clause-sorts
 returns-then-not-branch-clause-sorts g c was records i at =
@@ -58,8 +58,8 @@ returns-then-not-branch-clause-sorts g c was records i at =
     let now = (g.F.Files.seen new.files).held in
     let block = take c.loop-turn.turn (cut_all c.args.size c.args.block.now) in
     let stops : c.in_ok-sort_point.field-0 ≡ false = c.if-not-branch.true in
-    let e = subst (SortsPoint task was now new.parts.numbers new.parts.writers.items new.sorted.numbers.items new.sorted.present.items records block c.split_at.result.0.now) stops (c.in_ok-sort_point.ensures.sorts was records block s.parts s.sorted here) in
-    sorts_less task was records c.args.size c.loop-turn.turn c.args.block.now c.split_at.result.0.now c.loop-turn.rest.now more c.loop-turn.invariant.rest c.split_at.ensures.front now new.parts.numbers new.parts.writers.items new.sorted.numbers.items new.sorted.present.items e
+    let e = subst (SortsPoint task was now new.parts.numbers new.parts.writers.items new.gathered records block c.split_at.result.0.now) stops (c.in_ok-sort_point.ensures.sorts was records block s.parts s.gathered here) in
+    sorts_less task was records c.args.size c.loop-turn.turn c.args.block.now c.split_at.result.0.now c.loop-turn.rest.now more c.loop-turn.invariant.rest c.split_at.ensures.front now new.parts.numbers new.parts.writers.items new.gathered e
 
 pub loop-turn-preserved : goal.loop-turn-preserved
 loop-turn-preserved g c =
@@ -76,8 +76,8 @@ loop-turn-preserved g c =
           let after = c.sort_point.new in
           let block = take c.loop-turn.turn (cut_all c.args.size c.args.block.now) in
           let goes : c.in_ok-sort_point.field-0 ≡ true = c.if-not-branch.false in
-          let e = subst (SortsPoint task was new.held after.parts.numbers after.parts.writers.items after.sorted.numbers.items after.sorted.present.items records block c.split_at.result.0.now) goes (c.in_ok-sort_point.ensures.sorts was records block s.parts s.sorted here) in
-          sorted_more task was records c.args.size c.loop-turn.turn c.args.block.now c.split_at.result.0.now c.loop-turn.rest.now more c.loop-turn.invariant.rest c.split_at.ensures.front new.held after.parts.numbers after.parts.writers.items after.sorted.numbers.items after.sorted.present.items e;
+          let e = subst (SortsPoint task was new.held after.parts.numbers after.parts.writers.items after.gathered records block c.split_at.result.0.now) goes (c.in_ok-sort_point.ensures.sorts was records block s.parts s.gathered here) in
+          sorted_more task was records c.args.size c.loop-turn.turn c.args.block.now c.split_at.result.0.now c.loop-turn.rest.now more c.loop-turn.invariant.rest c.split_at.ensures.front new.held after.parts.numbers after.parts.writers.items after.gathered e;
       calm = calm_trans old mid new c.loop-turn.invariant.calm c.in_ok-sort_point.ensures.calm;
       later = later-trans old mid new c.loop-turn.invariant.later c.sort_point.ensures.later;
     }
@@ -91,8 +91,8 @@ returns-clause-sorts g c was records i at =
     let end : count ≤ t = omega (arith, c.loop-turn-test.false) in
     let within : t ≤ count = omega (arith, c.loop-turn.auto.turn-end) in
     let same : t ≡ count = omega (arith, end, within) in
-    subst (SortsBlock task was now c.loop-turn.parts.numbers c.loop-turn.parts.writers.items c.loop-turn.sorted.numbers.items c.loop-turn.sorted.present.items records (cut_all c.args.size c.args.block.now)) same
-    (sorts_all task was now c.loop-turn.parts.numbers c.loop-turn.parts.writers.items c.loop-turn.sorted.numbers.items c.loop-turn.sorted.present.items records c.args.size t c.args.block.now end within (c.loop-turn.invariant.sorts was records i at))
+    subst (SortsBlock task was now c.loop-turn.parts.numbers c.loop-turn.parts.writers.items c.loop-turn.gathered records (cut_all c.args.size c.args.block.now)) same
+    (sorts_all task was now c.loop-turn.parts.numbers c.loop-turn.parts.writers.items c.loop-turn.gathered records c.args.size t c.args.block.now end within (c.loop-turn.invariant.sorts was records i at))
 
 pub returns-in_err-sort_point-clause-some : goal.returns-in_err-sort_point-clause-some
 returns-in_err-sort_point-clause-some g c =

@@ -12,7 +12,7 @@ invariant-loop-turn g l = record {
   sorts : (was : Option FileMap) (records : List (List ℕ))
       → InParts (task_of l.names l.head l.rule) was (g.F.Files.seen l.fn.files).held l.fn.parts.numbers l.fn.parts.writers.items records records
       → l.index ≡ length records
-      → SortedSo (task_of l.names l.head l.rule) was (g.F.Files.seen l.files).held l.parts.numbers l.parts.writers.items l.sorted.numbers.items l.sorted.present.items records (take l.turn (cut_all l.size l.block));
+      → SortedSo (task_of l.names l.head l.rule) was (g.F.Files.seen l.files).held l.parts.numbers l.parts.writers.items l.gathered records (take l.turn (cut_all l.size l.block));
   calm : SameFaults (g.F.Files.seen l.fn.files) (g.F.Files.seen l.files);
   later : Later (g.F.Files.seen l.fn.files) (g.F.Files.seen l.files);
 }
