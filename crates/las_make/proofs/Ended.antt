@@ -6,9 +6,9 @@ use Rattle.std.specs.List.{concat}
 use Rattle.las_header.specs.Fields.{point_offset_of}
 use Rattle.las_header.specs.Heads.{IsHead}
 use Rattle.las_header.specs.Plain.{plain_head}
-use Rattle.las_outside.specs.Drafts.{IsPatchedInPart, Patch, with_patches}
+use Rattle.las_outside.specs.Drafts.{IsPatchedInPart}
 use Rattle.las_outside.specs.Faults.{Rose}
-use Rattle.las_outside.specs.Files.{FileMap, IsMissing, WhereKnown, with_file, with_patch}
+use Rattle.las_outside.specs.Files.{FileMap, IsMissing, WhereKnown, with_file}
 use Rattle.las_outside.specs.Outside.{Outside, with_bytes, with_read_fault}
 use Rattle.las_outside.proofs.ByName.{get-insert_same}
 use Rattle.laz_file.specs.declared.fault.Fault.{Fault}
@@ -18,6 +18,7 @@ use Rattle.laz_file.specs.Laws.{CanBePacked}
 use Rattle.laz_file.specs.Outputs.{draft_of, finished, patches_of}
 use Rattle.laz_file.specs.Packing.{pack, packed_file}
 use Rattle.laz_file.proofs.Finished.{finished_is}
+use Rattle.laz_file.proofs.Patching.{all_patched}
 use Rattle.las_make.specs.declared.fault.MakeFault.{MakeFault}
 use Rattle.las_make.specs.declared.fault.MakeFault.TheVariants.{ReadPlain, Changed, ReadPacked, Write, Memory}
 use Rattle.las_make.specs.declared.settings.Settings.{Settings}
@@ -44,10 +45,6 @@ stays_none None e = refl
 stays_none (Some files) e = absurd (cc)
 
 -- ---- an output that is whole
-
-all_patched : (draft : List ℕ) (patches : List Patch) → IsPatchedInPart draft patches (with_patches draft patches)
-all_patched draft [] = refl
-all_patched draft (p ∷ ps) = inr (all_patched (with_patch draft p.0 p.1) ps)
 
 module _ (s : Settings) (range : IsInRange s) (plain packed : List ℕ) (chunk : ℕ) where
   abbrev made : List ℕ

@@ -43,3 +43,8 @@ patched_none text at =
 pub unpatched : (text : List ℕ) (ps : List Patch) → IsPatchedInPart text ps text
 unpatched text [] = refl
 unpatched text (p ∷ ps) = inl (0, sym (patched_none text p.0))
+
+-- a text after all patches
+pub all_patched : (text : List ℕ) (ps : List Patch) → IsPatchedInPart text ps (with_patches text ps)
+all_patched text [] = refl
+all_patched text (p ∷ ps) = inr (all_patched (with_patch text p.0 p.1) ps)
