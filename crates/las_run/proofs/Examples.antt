@@ -1,9 +1,13 @@
 -- Worked values of the definitions.
-use Rattle.std.proofs.Common.{◌≡◌, [], ◌∷◌, ◌++◌, codes, refl}
+use Rattle.std.proofs.Common.{◌≡◌, Some, [], ◌∷◌, ◌++◌, codes, refl}
 use Rattle.std.specs.Fmt.{digits}
 use Rattle.las_header.specs.declared.refusal.Refusal.TheVariants.{BadChunk, RawRange, Trailing}
-use Rattle.las_run.specs.Endings.{Usage, Unread, Refused}
+use Rattle.las_merge.specs.declared.fault.MergeFault.TheVariants.{At, Unequal}
+use Rattle.las_merge.specs.declared.field.Field.TheVariants.{Bounds}
+use Rattle.laz_file.specs.declared.fault.Fault.TheVariants as file
+use Rattle.las_run.specs.Endings.{Usage, Unread, Refused, Differs, HasTooManyPoints}
 use Rattle.las_run.specs.Lines.{line_of}
+use Rattle.las_run.specs.Tools.{cause_at, cause_of_fault, made_text}
 
 fifth : line_of (Usage 5) ≡ codes "usage: word 5" ++ 10 ∷ []
 unfolding digits
@@ -27,3 +31,27 @@ bad_chunk = refl
 raw_range : line_of (Refused (codes "a.las") (RawRange 0)) ≡ codes "refused: a.las: 22 RawRange 0" ++ 10 ∷ []
 unfolding digits
 raw_range = refl
+
+-- the inputs of a merge are named by their numbers
+second_differs : cause_of_fault (codes "a.las" ∷ codes "b.las" ∷ []) (Unequal 1 Bounds) ≡ Differs (codes "b.las") Bounds
+second_differs = refl
+
+second_is_refused :
+    cause_of_fault (codes "a.las" ∷ codes "b.las" ∷ []) (At 1 (file.Refused Trailing)) ≡ Refused (codes "b.las") Trailing
+second_is_refused = refl
+
+chunk_of_the_second :
+    cause_at (codes "a.laz" ∷ codes "b.laz" ∷ []) (Some (record { file = 1; chunk = 2 }))
+    ≡ Refused (codes "b.laz") (BadChunk 2)
+chunk_of_the_second = refl
+
+unequal : line_of (Differs (codes "b.las") Bounds) ≡ codes "unequal: b.las: box" ++ 10 ∷ []
+unequal = refl
+
+too_many : line_of HasTooManyPoints ≡ codes "too many points" ++ 10 ∷ []
+too_many = refl
+
+three_lines :
+    made_text 3 327 180 ≡ codes "points 3" ++ 10 ∷ codes "plain 327" ++ 10 ∷ codes "packed 180" ++ 10 ∷ []
+unfolding digits
+three_lines = refl
