@@ -2,9 +2,12 @@ pub mod Counting
 mod Cuts
 mod Examples
 mod Finding
+mod Lanes
 mod Maps
+mod Parts
 mod Places
-mod Summing
+mod Running
+mod Tallying
 mod Texts
 mod Widening
 mod Zips

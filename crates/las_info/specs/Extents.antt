@@ -1,5 +1,5 @@
 -- The least and the greatest raw coordinates of records.
-use Rattle.std.specs.Prelude.{ℕ, ℤ, List, [], ◌∷◌, map, fold, Option, Some, None}
+use Rattle.std.specs.Prelude.{ℕ, ℤ, pos, List, [], ◌∷◌, map, fold, slice_index_or, Option, Some, None}
 use Rattle.std.specs.Int.{int_max, int_min}
 use Rattle.las_points.specs.Record.{x_of, y_of, z_of}
 use Rattle.las_info.specs.declared.extents.Extents.{Extents}
@@ -30,3 +30,11 @@ extents_with (Some extents) point = Some record {
   y = widened extents.y (y_of point);
   z = widened extents.z (z_of point);
 }
+
+-- a range whose ends stand in one lane of the least numbers and of the greatest
+abbrev pub range_in : (low high : List ℤ) → (lane : ℕ) → Range
+range_in low high lane = record { low = slice_index_or low lane (pos 0); high = slice_index_or high lane (pos 0) }
+
+-- extents whose ends stand in lanes: x in the first, y in the second and z in the third
+abbrev pub extents_in : (low high : List ℤ) → Extents
+extents_in low high = record { x = range_in low high 0; y = range_in low high 1; z = range_in low high 2 }

@@ -1,11 +1,13 @@
 //! What is in a file of point records: taps that tally its records, a survey that counts them, and a report.
 #![tactic(auto)]
 
+mod bounds;
 mod choosing;
 mod extents;
 mod laws;
 mod lines;
 mod reporting;
+mod returns;
 mod summary;
 mod survey;
 mod tally;

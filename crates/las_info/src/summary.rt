@@ -1,9 +1,13 @@
 //! Counts of records, and the ranges of their raw coordinates.
-ghost use Rattle.std.specs.Prelude.{◌≡◌, ◌+◌, ◌-◌, ◌/◌, ◌%◌, ◌^◌, ◌<◌, ◌≤◌, ◌++◌, ◌∷◌, [], ℕ, List, length};
+ghost use Rattle.std.specs.Prelude.{◌≡◌, ◌+◌, ◌-◌, ◌/◌, ◌%◌, ◌^◌, ◌<◌, ◌≤◌, ◌++◌, ◌∷◌, [], ℕ, List, Some, length};
 ghost use Rattle.las_header.specs.Plain.{cut_records};
+ghost use Rattle.las_points.specs.Tally.{IsWithinPoints, counts_of};
+ghost use Rattle.las_info.specs.Extents.{extents_of};
 ghost use Rattle.las_info.specs.Summaries.{summary_of};
 
+use crate::bounds::Bounds;
 use crate::extents::{Extents, extended};
+use crate::returns::Returns;
 use las_header::{Counts, POINT_RECORD};
 use las_points::count_in;
 use std::marker::Model;
@@ -24,6 +28,42 @@ impl Model for Summary {
     ghost view = { λ s. record { counts = s.counts; extents = s.extents } };
 
     ghost invariant = { λ s. IsWithinPoints s.counts };
+}
+
+// The counts and the extents of records, and of the whole records of one size after them, which stand one after another
+// in a block. It counts two records a turn, each in a part of its own.
+fn summed(counts: Counts, extents: Extents, size: usize, block: &[u8]) -> (Counts, Extents)
+    requires size { POINT_RECORD ≤ size }
+    requires whole { length block.now % size ≡ 0 }
+    requires within { IsWithinPoints counts }
+    requires fewer { counts.points + length block.now / size < 2 ^ 32 }
+    ensures within { IsWithinPoints result.0 }
+    ensures list { (records : List (List ℕ)) → counts ≡ counts_of records → Some extents ≡ extents_of records
+        → summary_of (records ++ cut_records size (length block.now / size) block.now)
+        ≡ record { counts = result.0; extents = Some result.1 } }
+{
+    let count = block.len() / size;
+    let mut returns = Returns::of(counts.returns);
+    let mut bounds = Bounds::of(extents);
+    let mut rest = block;
+    for _pair in 0..count / 2 {
+        let (point, further) = rest.split_at(size);
+        let (other, further) = further.split_at(size);
+        returns.count_first(point);
+        returns.count_second(other);
+        bounds.widen(point);
+        bounds.widen(other);
+        rest = further;
+    }
+    if count % 2 == 1 {
+        returns.count_first(rest);
+        bounds.widen(rest);
+    }
+    let counts = Counts {
+        points: counts.points + count as u32,
+        returns: returns.total(),
+    };
+    (counts, bounds.extents())
 }
 
 impl Summary {
@@ -59,17 +99,15 @@ impl Summary {
         ensures { (records : List (List ℕ)) → self.old ≡ summary_of records
             → self.new ≡ summary_of (records ++ cut_records size (length block.now / size) block.now) }
     {
-        let mut counts = self.counts;
-        let mut extents = self.extents;
-        let mut rest = block;
-        for _turn in 0..block.len() / size {
-            let (point, further) = rest.split_at(size);
-            count_in(&mut counts, point);
-            extents = Some(extended(extents, point));
-            rest = further;
+        if block.len() < size {
+            return;
         }
+        let (first, others) = block.split_at(size);
+        let mut counts = self.counts;
+        count_in(&mut counts, first);
+        let (counts, extents) = summed(counts, extended(self.extents, first), size, others);
         self.counts = counts;
-        self.extents = extents;
+        self.extents = Some(extents);
     }
 
     /// The counts.

@@ -1,40 +1,40 @@
-use Rattle.std.proofs.Common.{◌≡◌, ◌/◌, ◌∙◌, length, ap, arith}
+use Rattle.std.proofs.Common.{◌≡◌, ℕ, ◌/◌, List, [], ◌∷◌, ◌++◌, length, append_assoc, sym, ◌∙◌, ap, arith}
 use Rattle.las_header.specs.declared.counts.Counts.{Counts}
-use Rattle.las_header.proofs.Cutting.{left_first, left_next}
-use Rattle.las_info.specs.Summaries.{SummarySeen}
-use Rattle.las_info.proofs.Summing.{summed_all, summed_none, summed_one}
+use Rattle.las_header.specs.Plain.{cut_records}
+use Rattle.las_info.specs.Extents.{extents_with}
+use Rattle.las_info.specs.Summaries.{SummarySeen, summary_of}
+use Rattle.las_info.proofs.Running.{first_cut, none_cut, others_fewer, others_whole}
+use Rattle.las_info.proofs.Widening.{one_more_extends}
 use Rattle.las_info.proofs.summary.Summary.add_all.Goals as goal
 
-pub loop-turn-init : goal.loop-turn-init
-loop-turn-init c = record {
-  left = left_first c.args.size c.args.block.now c.requires.whole;
-  points = omega arith;
-  within = c.self.invariant;
-  summed = λ before are. summed_none c.args.size (length c.args.block.now / c.args.size) c.args.block.now before c.self.inside.counts c.self.inside.extents are;
-}
+pub summed-requires-clause-whole : goal.summed-requires-clause-whole
+summed-requires-clause-whole c =
+    others_whole c.args.size c.args.block.now c.split_at.result.1.now c.requires.whole (omega arith) c.split_at.ensures.back
 
-pub count_in-requires-clause-room : goal.count_in-requires-clause-room
-count_in-requires-clause-room c =
+pub summed-requires-clause-fewer : goal.summed-requires-clause-fewer
+summed-requires-clause-fewer c =
     let start : c.self.inside.counts.points ≡ c.args.self.now.counts.points = ap (λ (s : SummarySeen). s.counts.points) c.self.view_is in
-    omega (arith, start, c.loop-turn.invariant.points, c.loop-turn-test.true, c.requires.fewer)
+    omega (
+      arith,
+      start,
+      ap (λ (x : Counts). x.points) c.count_in.ensures.counts,
+      c.requires.fewer,
+      others_fewer c.args.size c.args.block.now c.split_at.result.1.now (omega arith) (omega arith) c.split_at.ensures.back,
+    )
 
-pub loop-turn-preserved : goal.loop-turn-preserved
-loop-turn-preserved c =
-    let size = c.args.size in
-    let n = length c.args.block.now / size in
-    let t = c.loop-turn._turn in
-    record {
-      left = left_next size n t c.loop-turn.rest.now c.split_at.result.1.now c.loop-turn-test.true c.split_at.ensures.back c.loop-turn.invariant.left;
-      points = omega (arith, c.loop-turn.invariant.points, ap (λ (x : Counts). x.points) c.count_in.ensures.counts);
-      within = c.count_in.ensures.within;
-      summed = λ before are. summed_one size n t c.args.block.now c.loop-turn.rest.now c.split_at.result.0.now c.split_at.result.1.now before c.loop-turn.counts c.count_in.new.counts c.loop-turn.extents _
-          c.loop-turn-test.true c.split_at.ensures.front c.split_at.ensures.back (c.loop-turn.invariant.summed before are) c.count_in.ensures.list c.extended.ensures;
-    }
+pub returns-then-block-size : goal.returns-then-block-size
+returns-then-block-size c records is =
+    is ∙ ap (λ (r : List (List ℕ)). summary_of r) (sym (none_cut c.args.size c.args.block.now records (omega (arith, c.if-block-size.true))))
 
 pub returns : goal.returns
-returns c before is =
+returns c records is =
     let size = c.args.size in
-    let n = length c.args.block.now / size in
+    let block = c.args.block.now in
+    let point = c.split_at.result.0.now in
+    let others = c.split_at.result.1.now in
     let seen = c.self.view_is ∙ is in
-    summed_all size n c.loop-turn._turn c.args.block.now c.loop-turn.rest.now before c.loop-turn.counts c.loop-turn.extents (omega (arith, c.loop-turn-test.false))
-    (c.loop-turn.invariant.summed before (record { counted = ap (λ (s : SummarySeen). s.counts) seen; extended = ap (λ (s : SummarySeen). s.extents) seen }))
+    let counted = c.count_in.ensures.list records (ap (λ (s : SummarySeen). s.counts) seen) in
+    let extended = c.extended.ensures ∙ ap (λ (s : SummarySeen). extents_with s.extents point) seen ∙ sym (one_more_extends records point) in
+    let cut = first_cut size block point others (omega arith) (omega arith) c.split_at.ensures.front c.split_at.ensures.back in
+    let joined = append_assoc records (point ∷ []) (cut_records size (length others / size) others) ∙ ap (λ (r : List (List ℕ)). records ++ r) cut in
+    sym (c.summed.ensures.list (records ++ point ∷ []) counted extended) ∙ ap (λ (r : List (List ℕ)). summary_of r) joined
