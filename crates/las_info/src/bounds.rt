@@ -13,7 +13,7 @@ use las_points::{x, y, z};
 use std::marker::Model;
 use std::simd::prelude::*;
 
-// The coordinates of a record, and the four bytes after them, which stand for nothing.
+// The coordinates of a record, and a lane without a meaning: the four bytes after them.
 fn coordinates(point: &[u8]) -> i32x4
     requires { POINT_RECORD ≤ length point.now }
     ensures lanes { result ≡ x_of point.now ∷ y_of point.now ∷ z_of point.now
@@ -48,8 +48,8 @@ fn greatest(a: i32x4, b: i32x4) -> i32x4
     a.simd_max(b)
 }
 
-/// Extents that records widen: the least and the greatest of x, y and z in the lanes 0 to 2 of two vectors. Lane 3
-/// stands for nothing.
+/// Extents that records widen: the least and the greatest of x, y and z, in the lanes 0 to 2 of two vectors. Lane 3 has
+/// no meaning.
 #[derive(Drop)]
 pub(crate) struct Bounds {
     low: i32x4,

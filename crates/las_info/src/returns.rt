@@ -8,8 +8,9 @@ use las_points::return_number;
 use std::marker::Model;
 use std::simd::prelude::*;
 
-/// How many records have each return number, 0 to 7, in two parts. A record is counted in one of them, and the next one
-/// in the other, so that no addition waits for the one before it, as a rule of the same number.
+/// How many records have each return number, 0 to 7. Each number is the sum of two parts. Records that follow one another
+/// are counted in different parts, since they often have the same return number, and an addition to a number in memory
+/// waits for the one before it.
 #[derive(Drop)]
 pub(crate) struct Returns {
     first: [u32; 8],

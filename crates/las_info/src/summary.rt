@@ -30,8 +30,8 @@ impl Model for Summary {
     ghost invariant = { λ s. IsWithinPoints s.counts };
 }
 
-// The counts and the extents of records, and of the whole records of one size after them, which stand one after another
-// in a block. It counts two records a turn, each in a part of its own.
+// The counts and the extents of some records together with those of a block: whole records of one size, which stand one
+// after another. Each turn of the loop takes two of them.
 fn summed(counts: Counts, extents: Extents, size: usize, block: &[u8]) -> (Counts, Extents)
     requires size { POINT_RECORD ≤ size }
     requires whole { length block.now % size ≡ 0 }
