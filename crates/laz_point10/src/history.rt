@@ -17,8 +17,7 @@ pub struct Predictions {
 }
 
 // What the code keeps of the earlier points: the last one, and of those after the first the last intensity and the
-// medians
-// for each number of the map of returns, and the last height for each level.
+// medians for each number of the map of returns, and the last height for each level.
 #[derive(Drop)]
 pub struct History {
     pub last: Point,

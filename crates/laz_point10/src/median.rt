@@ -43,17 +43,20 @@ impl Median {
     }
 
     // The four values that stay: all but the greatest if it is high, else all but the least.
+    // They are found by an index. A choice between two lists would be compiled to a branch, mispredicted half of the time.
     #[inline(always)]
     fn kept(&self) -> [i32; 4]
         ensures high { self.now.high ≡ true → result ≡ take 4 self.now.values }
         ensures low { self.now.high ≡ false → result ≡ drop 1 self.now.values }
     {
-        let [a, b, c, d, e] = self.values;
-        if self.high {
-            [a, b, c, d]
-        } else {
-            [b, c, d, e]
-        }
+        let first = usize::from(!self.high);
+        let values = &self.values;
+        [
+            values[first],
+            values[first + 1],
+            values[first + 2],
+            values[first + 3],
+        ]
     }
 
     // Whether it is high after a value.
