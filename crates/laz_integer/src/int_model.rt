@@ -99,8 +99,8 @@ impl IntModel {
         self.code_of(bits, encoder, pred, real, ctx)
     }
 
-    /// The same as [`code`](Self::code), with the number of bits that the integers have. Where the caller gives a
-    /// constant, what depends on it is computed when the program is compiled.
+    /// The same as [`code`](Self::code), with the number of bits that the integers have. If the caller gives a constant,
+    /// what depends on it is computed when the program is compiled.
     #[inline(always)]
     pub fn code_of(
         &mut self,

@@ -43,7 +43,7 @@ fn near_next(decoder: &Decoder<'_>, model: &SymbolModel) -> Near
     ensures near { HasPlace model.now.starts (symbol_place decoder.now) result }
     ensures starts { AreStarts (alphabet_size model.now) model.now.starts }
 {
-    let near = model.near(decoder.estimate());
+    let near = model.near(decoder.estimate(model.step_bits()));
     if decoder.is_from(near.after) {
         return model.near_at(decoder.at15());
     }
@@ -103,8 +103,8 @@ pub fn put_symbol_of(encoder: &mut Encoder, bank: &mut ModelBank, m: u32, s: u32
     ensures others { (k : ℕ) → k ≢ m → model_at bank.new k ≡ model_at bank.old k }
     ensures sizes { alphabet_sizes bank.new ≡ alphabet_sizes bank.old }
 {
-    let (lo, hi) = bank.part_and_count(m, s);
-    encoder.cut15(lo, hi);
+    let (start, next) = bank.bounds_and_count(m, s);
+    encoder.cut_to(start, next);
 }
 
 /// Where the search for the next symbol of model `m` of a bank begins: at that symbol, or at the one before it.
@@ -115,7 +115,7 @@ fn near_next_of(decoder: &Decoder<'_>, bank: &ModelBank, m: u32) -> Near
     ensures near { HasPlace (model_at bank.now m).starts (symbol_place decoder.now) result }
     ensures starts { AreStarts (alphabet_size (model_at bank.now m)) (model_at bank.now m).starts }
 {
-    let near = bank.near(m, decoder.estimate());
+    let near = bank.near(m, decoder.estimate(bank.step_bits(m)));
     if decoder.is_from(near.after) {
         return bank.near_at(m, decoder.at15());
     }

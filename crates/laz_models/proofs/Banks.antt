@@ -6,7 +6,7 @@ use Rattle.std.proofs.lemmas.List.Edits.{length-between, get_or-between}
 use Rattle.laz_models.specs.Bank.{model_at, alphabet_sizes}
 use Rattle.laz_models.specs.Counting.{Counting, AreStarts, after_symbol, new_model, new_cycle, counts_with}
 use Rattle.laz_models.specs.Dist.{alphabet_size, StandsFor}
-use Rattle.laz_models.specs.Place.{cells_of, counting_in, counting_of, IsShaped, IsModel, IsPlaced, AreFirst, IsBank, SamePlace, SameOutside}
+use Rattle.laz_models.specs.Place.{cells_of, counting_in, counting_of, dist_extent, first_in, IsShaped, IsModel, IsPlaced, AreFirst, IsBank, SamePlace, SameOutside}
 use Rattle.laz_models.specs.declared.place.Place.{Place}
 use Rattle.laz_models.proofs.Models.{new_model-starts, first-AreStarts, counting_of-first, counting_of-laid}
 use Rattle.laz_models.proofs.Parts.{after_symbol-last, after_symbol-more}
@@ -72,9 +72,9 @@ at bank places cells m p view invariant below read =
 
 pub many-at : (bank : List Counting) (places : List Place) (cells : List ℕ) (m : ℕ) → map (counting_in cells) places ≡ bank → IsBank places cells → m < length bank → 2 ≤ alphabet_size (model_at bank m)
 many-at bank places cells m view invariant below =
-    let p : Place = get_or places m (record { start = 0; end = 0; first = 0; size = 0; shift = 0; total = 0; cycle = 0; indexed = false; even = true; remaining = 0 }) in
+    let p : Place = get_or places m (record { start = 0; end = 0; first = 0; dist = 0; size = 0; shift = 0; total = 0; cycle = 0; indexed = false; even = true; remaining = 0 }) in
     let here : m < length places = omega (arith, length-map places (counting_in cells), ap length view) in
-    let a = at bank places cells m p view invariant below (get_or_default places m (record { start = 0; end = 0; first = 0; size = 0; shift = 0; total = 0; cycle = 0; indexed = false; even = true; remaining = 0 }) p here) in
+    let a = at bank places cells m p view invariant below (get_or_default places m (record { start = 0; end = 0; first = 0; dist = 0; size = 0; shift = 0; total = 0; cycle = 0; indexed = false; even = true; remaining = 0 }) p here) in
     omega (arith, a.size, a.placed.model.shape.many)
 
 -- ---- one model of a bank changes
@@ -168,11 +168,28 @@ view-set places old new m p q invariant here read outside =
     ∙ sym (get_or-set_other (map (counting_in old) places) m k (counting_of q (cells_of q new)) d ne)))))
     (cases_eq k m))
 
--- each model keeps the distribution of a new one
-pub AreFirst-set : (places : List Place) (firsts : List ℕ) (m : ℕ) (p q : Place) → AreFirst places firsts → m < length places → p ≡ get_or places m p → SamePlace p q → AreFirst (set places m q) firsts
-AreFirst-set places firsts m p q are here read same = λ k d below.
-    let kept = place-set places m p q d k here read same in
-    rw (kept.size, kept.first) (are k d (omega (arith, length-set places m q)))
+-- the distribution of a new model stays, since it lies apart from the model that changes
+first_in-apart : (p : Place) (n first : ℕ) (old new : List ℕ) → SameOutside p.start p.end old new → first + dist_extent n ≤ length old → (first + dist_extent n ≤ p.start) ⊎ (p.end ≤ first)
+    → first_in n first new ≡ first_in n first old
+first_in-apart p n first old new same within apart = cells_of-apart p (record p { start = first; end = first + dist_extent n }) old new same (omega arith) within apart
+
+pub AreFirst-set : (places : List Place) (old new : List ℕ) (m : ℕ) (p q : Place) → AreFirst places old → m < length places → p ≡ get_or places m p → SamePlace p q
+    → SameOutside p.start p.end old new → AreFirst (set places m q) new
+AreFirst-set places old new m p q are here read same outside =
+    let count : length (set places m q) ≡ length places = length-set places m q in
+    record {
+      there = λ k d below.
+          let inside : k < length places = omega arith in
+          let kept = place-set places m p q d k here read same in
+          let is = are.there k d inside in
+          let now : get_or places m d ≡ p = get_or_default places m d p here ∙ sym read in
+          let cells = first_in-apart p (get_or places k d).size (get_or places k d).first old new outside is.within (rw now at (are.apart k d inside m d here)) in
+          rw (kept.size, kept.first) (record { within = omega (arith, is.within, outside.length); even = rw cells is.even });
+      apart = λ k d below i e among.
+          let a = place-set places m p q d k here read same in
+          let b = place-set places m p q e i here read same in
+          rw (a.size, a.first, b.start, b.end) (are.apart k d (omega arith) i e (omega arith));
+    }
 
 -- ---- what the longer list gives
 pub StandsFor-push : (h : List ℕ) (s : ℕ) (m : Counting) → 2 ≤ alphabet_size m → s < alphabet_size m → StandsFor h m → StandsFor (h ++ s ∷ []) (after_symbol m s)

@@ -1,12 +1,12 @@
 -- The places of new models.
-use Rattle.std.proofs.Common.{◌≡◌, true, false, ℕ, ◌+◌, ◌-◌, ◌<◌, ◌≤◌, List, [], ◌∷◌, ◌++◌, length, map, take, drop, get_or, refl, sym, ap, ◌∙◌, arith, ⊎_elim}
+use Rattle.std.proofs.Common.{◌≡◌, true, false, ℕ, ◌+◌, ◌-◌, ◌<◌, ◌≤◌, List, [], ◌∷◌, ◌++◌, length, map, take, drop, get_or, refl, sym, ap, ◌∙◌, arith, ◌⊎◌, ⊎_elim, inl}
 use Rattle.std.proofs.lemmas.Bool.{cases_lt}
 use Rattle.std.proofs.lemmas.List.{length-append, length-map, length_push, take_all, take-append-le, drop_at, get_or-map, get_or_push, get_or_append_left, get_or_default, same_lists}
 use Rattle.std.proofs.lemmas.Slice.{between_is}
 use Rattle.laz_models.specs.Bank.{alphabet_sizes}
 use Rattle.laz_models.specs.Counting.{Counting, new_model}
 use Rattle.laz_models.specs.Dist.{alphabet_size}
-use Rattle.laz_models.specs.Place.{cells_of, counting_in, as_new, dist_extent, first_in, AreFirst, IsEven, IsFirst, IsShaped, IsPlaced, IsBank, IsLayout}
+use Rattle.laz_models.specs.Place.{cells_of, counting_in, as_new, dist_extent, first_in, AreFirst, IsApart, IsEven, IsFirst, IsShaped, IsPlaced, IsBank, IsLayout}
 use Rattle.laz_models.specs.declared.place.Place.{Place}
 use Rattle.laz_models.proofs.Banks.{size-new_model, fits-place}
 use Rattle.laz_models.proofs.Models.{counting_of-first}
@@ -24,19 +24,27 @@ each_push P places p each here m d below =
     rw (get_or_push places p d m last) same)
     (cases_lt m (length places))
 
-pub layout-push : (places : List Place) (sizes : List ℕ) (end n : ℕ) (p : Place) → IsLayout places sizes end → IsShaped p → p.size ≡ n → p.remaining ≡ 0 → p.indexed ≡ false → p.even ≡ true → p.start ≡ end → IsLayout (places ++ p ∷ []) (sizes ++ n ∷ []) p.end
-layout-push places sizes end n p layout shape size first unindexed even start =
+-- what a new model's place is
+pub record IsNew (n : ℕ) (p : Place) : Type 0 where
+  pub shape : IsShaped p
+  pub size : p.size ≡ n
+  pub first : p.remaining ≡ 0
+  pub dist : p.dist ≡ p.first
+  pub even : p.even ≡ true
+
+pub layout-push : (places : List Place) (sizes : List ℕ) (end n : ℕ) (p : Place) → IsLayout places sizes end → IsNew n p → end ≤ p.start → IsLayout (places ++ p ∷ []) (sizes ++ n ∷ []) p.end
+layout-push places sizes end n p layout new start =
     let more : length (places ++ p ∷ []) ≡ length places + 1 = length_push places p in
-    let grows : end ≤ p.end = omega (arith, shape.extent) in
+    let grows : end ≤ p.end = omega (arith, new.shape.extent) in
     record {
       count = more ∙ (ap (λ k. k + 1) layout.count ∙ sym (length_push sizes n));
-      shape = each_push (λ m q. IsShaped q) places p layout.shape shape;
+      shape = each_push (λ m q. IsShaped q) places p layout.shape new.shape;
       size = each_push (λ m q. q.size ≡ get_or (sizes ++ n ∷ []) m 0) places p
           (λ m d below. layout.size m d below ∙ sym (get_or_append_left sizes (n ∷ []) 0 m (omega (arith, layout.count))))
-          (size ∙ sym (get_or_push sizes n 0 (length places) (sym layout.count)));
-      first = each_push (λ m q. q.remaining ≡ 0) places p layout.first first;
-      even = each_push (λ m q. q.even ≡ true) places p layout.even even;
-      unindexed = each_push (λ m q. q.indexed ≡ false) places p layout.unindexed unindexed;
+          (new.size ∙ sym (get_or_push sizes n 0 (length places) (sym layout.count)));
+      first = each_push (λ m q. q.remaining ≡ 0) places p layout.first new.first;
+      even = each_push (λ m q. q.even ≡ true) places p layout.even new.even;
+      dist = each_push (λ m q. q.dist ≡ q.first) places p layout.dist new.dist;
       within = each_push (λ m q. q.end ≤ p.end) places p (λ m d below. omega (arith, layout.within m d below)) (omega arith);
       apart = λ i j d order below.
           each_push (λ k q. i < k → (get_or (places ++ p ∷ []) i d).end ≤ q.start) places p
@@ -56,8 +64,9 @@ IsFirst-append n first firsts more is =
     between_is (firsts ++ more) first (first + dist_extent n) ∙ (ap (drop first) (take-append-le (first + dist_extent n) firsts more within) ∙ sym (between_is firsts first (first + dist_extent n))) in
     record { within = omega (arith, length-append firsts more); even = rw same is.even }
 
-pub AreFirst-append : (places : List Place) (firsts more : List ℕ) → AreFirst places firsts → AreFirst places (firsts ++ more)
-AreFirst-append places firsts more are = λ m d below. IsFirst-append (get_or places m d).size (get_or places m d).first firsts more (are m d below)
+pub AreFirst-append : (places : List Place) (cells more : List ℕ) → AreFirst places cells → AreFirst places (cells ++ more)
+AreFirst-append places cells more are =
+    record { there = λ m d below. IsFirst-append (get_or places m d).size (get_or places m d).first cells more (are.there m d below); apart = are.apart }
 
 -- one more is the last of them
 pub IsFirst-last : (n : ℕ) (firsts dist : List ℕ) → IsEven n dist → IsFirst n (length firsts) (firsts ++ dist)
@@ -68,13 +77,33 @@ IsFirst-last n firsts dist is =
     ap (λ xs. take (length firsts + dist_extent n - length firsts) xs) (drop_at firsts dist (length firsts) refl) ∙ take_all (length firsts + dist_extent n - length firsts) dist (omega arith) in
     record { within = omega (arith, length-append firsts dist); even = rw here is }
 
-pub AreFirst-push : (places : List Place) (p : Place) (firsts : List ℕ) → AreFirst places firsts → IsFirst p.size p.first firsts → AreFirst (places ++ p ∷ []) firsts
-AreFirst-push places p firsts are is = each_push (λ _ q. IsFirst q.size q.first firsts) places p are is
+-- one model more, whose own cells lie after all others
+pub AreFirst-push : (places : List Place) (p : Place) (cells more : List ℕ) → AreFirst places cells → IsFirst p.size p.first cells → IsApart p.size p.first places → length cells ≤ p.start
+    → AreFirst (places ++ p ∷ []) (cells ++ more)
+AreFirst-push places p cells more are is apart after =
+    record {
+      there = each_push (λ _ q. IsFirst q.size q.first (cells ++ more)) places p
+          (λ m d below. IsFirst-append (get_or places m d).size (get_or places m d).first cells more (are.there m d below))
+          (IsFirst-append p.size p.first cells more is);
+      apart = each_push (λ _ q. IsApart q.size q.first (places ++ p ∷ [])) places p
+          (λ m d below.
+          each_push (λ _ r. ((get_or places m d).first + dist_extent (get_or places m d).size ≤ r.start) ⊎ (r.end ≤ (get_or places m d).first)) places p
+          (are.apart m d below)
+          (inl (omega (arith, (are.there m d below).within, after))))
+          (each_push (λ _ r. (p.first + dist_extent p.size ≤ r.start) ⊎ (r.end ≤ p.first)) places p apart (inl (omega (arith, is.within, after))));
+    }
 
-pub AreFirst-new : (places : List Place) (firsts : List ℕ) → AreFirst places firsts → AreFirst (map as_new places) firsts
-AreFirst-new places firsts are = λ m d below.
-    let here : m < length places = omega (arith, length-map places as_new) in
-    rw (get_or-map as_new places m d d here) (are m d here)
+pub AreFirst-new : (places : List Place) (cells : List ℕ) → AreFirst places cells → AreFirst (map as_new places) cells
+AreFirst-new places cells are =
+    record {
+      there = λ m d below.
+          let here : m < length places = omega (arith, length-map places as_new) in
+          rw (get_or-map as_new places m d d here) (are.there m d here);
+      apart = λ m d below k e among.
+          let here : m < length places = omega (arith, length-map places as_new) in
+          let there : k < length places = omega (arith, length-map places as_new) in
+          rw (get_or-map as_new places m d d here, get_or-map as_new places k e e there) (are.apart m d here k e there);
+    }
 
 -- ---- the bank of a layout
 pub layout-view : (places : List Place) (sizes cells : List ℕ) (end : ℕ) → IsLayout places sizes end → map (counting_in cells) places ≡ map new_model sizes
@@ -82,7 +111,7 @@ layout-view places sizes cells end layout =
     same_lists (map (counting_in cells) places) (map new_model sizes) (length-map places (counting_in cells) ∙ (layout.count ∙ sym (length-map sizes new_model)))
     (λ k d below.
     let here : k < length places = omega (arith, length-map places (counting_in cells)) in
-    let p0 : Place = record { start = 0; end = 0; first = 0; size = 0; shift = 0; total = 0; cycle = 0; indexed = false; even = true; remaining = 0 } in
+    let p0 : Place = record { start = 0; end = 0; first = 0; dist = 0; size = 0; shift = 0; total = 0; cycle = 0; indexed = false; even = true; remaining = 0 } in
     get_or-map (counting_in cells) places k p0 d here
     ∙ (counting_of-first (get_or places k p0) (cells_of (get_or places k p0) cells) (layout.first k p0 here)
     ∙ (ap new_model (layout.size k p0 here)
@@ -103,7 +132,7 @@ first-IsBank places cells bank =
               shape = record { many = shape.many; few = shape.few; shift = shape.shift; extent = shape.extent };
               length = placed.model.length;
               even = λ _. refl;
-              indexed = λ e. absurd (cc);
+              dist = λ _. refl;
               laid = λ some. absurd (omega arith);
             };
             within = placed.within;
@@ -121,7 +150,7 @@ first-view places cells bank =
     same_lists (map (counting_in cells) (map as_new places)) (map (λ m. new_model (alphabet_size m)) (map (counting_in cells) places)) (count ∙ sym count_old)
     (λ k d below.
     let here : k < length places = omega arith in
-    let p0 : Place = record { start = 0; end = 0; first = 0; size = 0; shift = 0; total = 0; cycle = 0; indexed = false; even = true; remaining = 0 } in
+    let p0 : Place = record { start = 0; end = 0; first = 0; dist = 0; size = 0; shift = 0; total = 0; cycle = 0; indexed = false; even = true; remaining = 0 } in
     let p : Place = get_or places k p0 in
     let s = fits-place p (cells_of p cells) (bank.placed k p0 here).model in
     get_or-map (counting_in cells) (map as_new places) k (as_new p0) d (omega (arith, length-map places as_new))

@@ -3,7 +3,7 @@ use Rattle.std.proofs.Common.{◌≡◌, ℕ, zero, suc, ◌+◌, ◌-◌, ◌*�
 use Rattle.std.proofs.Math.Nat.{pow-le-pow_right}
 use Rattle.std.proofs.lemmas.Bool.{cases_lt, cond-true, cond-false, lt-ltb, le-ltb}
 use Rattle.std.proofs.lemmas.List.Sums.{count_by-le-length}
-use Rattle.std.proofs.lemmas.Nat.{pow-add}
+use Rattle.std.proofs.lemmas.Nat.{mul-le, pow-add, pow_pos}
 use Rattle.laz_models.specs.Counting.{AreStarts}
 use Rattle.laz_models.specs.Lookup.{IsLastAt, table_bits, search_bits}
 
@@ -68,3 +68,20 @@ search-few n = pow-le-pow_right {n = 2} (lit< tt) {i = search_bits n} {j = 11} (
 
 pub search-whole : (n : ℕ) → 2 ^ search_bits n * 2 ^ (15 - search_bits n) ≡ 32768
 search-whole n = places (search_bits n) (omega (arith, search_bits-bounds n))
+
+-- ---- the steps of a search
+-- a step's place is below 2 ^ 15
+pub step-within : (n step : ℕ) → step < 2 ^ search_bits n → step * 2 ^ (15 - search_bits n) < 32768
+step-within n step below =
+    let unit : ℕ = 2 ^ (15 - search_bits n) in
+    let less : (step + 1) * unit ≤ 2 ^ search_bits n * unit = mul-le (step + 1) unit (2 ^ search_bits n) unit (omega arith) (omega arith) in
+    omega (arith, less, search-whole n, pow_pos (15 - search_bits n))
+
+-- and there is no other
+pub step-below : (n step : ℕ) → step * 2 ^ (15 - search_bits n) < 32768 → step < 2 ^ search_bits n
+step-below n step within =
+    let unit : ℕ = 2 ^ (15 - search_bits n) in
+    ⊎_elim
+    (λ (less : step < 2 ^ search_bits n). less)
+    (λ (more : 2 ^ search_bits n ≤ step). absurd (omega (arith, within, search-whole n, mul-le (2 ^ search_bits n) unit step unit more (omega arith))))
+    (cases_lt step (2 ^ search_bits n))

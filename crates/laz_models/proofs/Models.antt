@@ -1,16 +1,15 @@
 -- The cells of a model, and one more symbol.
-use Rattle.std.proofs.Common.{◌≡◌, true, false, ℕ, zero, suc, ◌+◌, ◌-◌, ◌*◌, ◌/◌, ◌^◌, ◌<◌, ◌≤◌, min, List, [], ◌∷◌, length, take, drop, sum, replicate, get_or, refl, sym, ap, ◌∙◌, arith, ⊎_elim, lit<, ◌++◌, set}
-use Rattle.std.proofs.Math.Nat.{div-lt_iff_lt-mul, one-le-pow}
+use Rattle.std.proofs.Common.{◌≡◌, true, false, ℕ, zero, suc, ◌+◌, ◌-◌, ◌*◌, ◌^◌, ◌<◌, ◌≤◌, min, List, [], ◌∷◌, length, take, drop, sum, replicate, get_or, refl, sym, ap, ◌∙◌, arith, ⊎_elim, ◌++◌, set}
 use Rattle.std.proofs.lemmas.List.Sums.{sum_by-set, get_or-le-sum_by}
 use Rattle.std.proofs.lemmas.Bool.{cases_eq, cases_lt, cond-true, cond-false, eq-eqb, ne_eqb}
 use Rattle.std.proofs.lemmas.List.{take_at, take-append-drop, set-append_left, length-set, get_or-set_same, get_or-set_other, drop-set-lt, length-replicate, length-take-le, length-drop, get_or-drop, get_or-take, get_or_default, get_or_past}
 use Rattle.laz_models.specs.Counting.{Counting, AreCounts, AreStarts, counts_with, after_symbol, starts_of, part_end, new_model}
 use Rattle.laz_models.specs.Lookup.{IsLastAt, search_bits, start_or_guard}
-use Rattle.laz_models.specs.Place.{counts_in, dist_in, starts_in, guards_in, table_in, laid_state, counting_of, dist_extent, even_starts, extent, IsDist, IsLaid, IsModel, IsShaped, IsTable}
+use Rattle.laz_models.specs.Place.{counts_in, dist_in, starts_in, guards_in, table_in, laid_state, counting_of, dist_extent, even_starts, extent, IsDist, IsLaid, IsModel, IsTable}
 use Rattle.laz_models.specs.Near.{IsNear}
 use Rattle.laz_models.specs.declared.near.Near.{Near}
 use Rattle.laz_models.specs.declared.place.Place.{Place}
-use Rattle.laz_models.proofs.Lookups.{search-few, search-whole}
+use Rattle.laz_models.proofs.Lookups.{search-few}
 use Rattle.laz_models.proofs.Parts.{after_symbol-more, starts_of-AreStarts, AreCounts-ones, sum-ones}
 
 -- ---- a model that is new, or laid out
@@ -98,20 +97,6 @@ start_or_guard-at n k dist is below =
     get_or_past (starts_in n dist) k 65535 (omega arith) ∙ (sym guard ∙ (there ∙ ap (λ j. get_or dist j 0) whole)))
     (cases_lt k n)
 
--- the end of a part, by its place among the cells
-pub part_end-at : (n s : ℕ) (dist : List ℕ) → IsDist n dist → s < n → part_end (starts_in n dist) s ≡ min (get_or dist (s + 1) 0) 32768
-part_end-at n s dist is below =
-    let count : length (starts_in n dist) ≡ n = length-starts_in n dist is.length in
-    let next : start_or_guard (starts_in n dist) (s + 1) ≡ get_or dist (s + 1) 0 = start_or_guard-at n (s + 1) dist is (omega arith) in
-    ⊎_elim {C = part_end (starts_in n dist) s ≡ min (get_or dist (s + 1) 0) 32768}
-    (λ (last : s + 1 ≡ n).
-    let guard : start_or_guard (starts_in n dist) (s + 1) ≡ 65535 = get_or_past (starts_in n dist) (s + 1) 65535 (omega arith) in
-    part_end-last (starts_in n dist) n s count last ∙ omega (arith, next, guard))
-    (λ (inner : s + 1 ≡ n → ⊥).
-    let same : get_or (starts_in n dist) (s + 1) 0 ≡ get_or dist (s + 1) 0 = part_at n (s + 1) dist (omega (arith, inner)) in
-    part_end-inner (starts_in n dist) n s count inner ∙ omega (arith, same, is.starts.within (s + 1) (omega (arith, inner))))
-    (cases_eq (s + 1) n)
-
 -- an entry of the table, by its place among the cells
 pub record AreEntries (n shift : ℕ) (dist : List ℕ) (t : ℕ) : Type 0 where
   pub within : n + 2 + t < length dist
@@ -140,12 +125,6 @@ near-is n v s dist near is last symbol start next after =
       next = rw symbol (next ∙ sym (start_or_guard-at n (s + 1) dist is (omega arith)));
       after = rw symbol (after ∙ sym (start_or_guard-at n (s + 2) dist is (omega arith)));
     }
-
--- a place below 2 ^ 15 has an entry
-pub entry-below : (p : Place) (v : ℕ) → IsShaped p → v < 32768 → v / 2 ^ p.shift < 2 ^ search_bits p.size
-entry-below p v shape below =
-    let whole : 2 ^ search_bits p.size * 2 ^ p.shift ≡ 32768 = ap (λ k. 2 ^ search_bits p.size * 2 ^ k) shape.shift ∙ search-whole p.size in
-    (div-lt_iff_lt-mul {k = 2 ^ p.shift} {x = v} {y = 2 ^ search_bits p.size} (one-le-pow p.shift 2 (lit< tt))).1 (omega arith)
 
 -- ---- one symbol more
 -- a write below n
@@ -210,8 +189,8 @@ adds p cells s laid within below more =
         counts = b.good laid.counts;
         starts = rw b.dist laid.starts;
         own = λ e. rw b.dist (laid.own e);
-        own_index = laid.own_index;
-        table = λ e. rw b.dist (laid.table e);
+        dist = laid.dist;
+        table = λ e own. rw b.dist (laid.table e own);
         total = laid.total;
         sum = omega (arith, laid.sum, b.sum);
         remaining = omega arith;
@@ -228,3 +207,45 @@ count-fits p cells s laid few within below =
     let front : length (counts_in p.size cells) ≡ p.size = length-take-le p.size cells within in
     let part : get_or (counts_in p.size cells) s 0 ≤ sum (counts_in p.size cells) = get_or-le-sum_by (λ (x : ℕ). x) (counts_in p.size cells) s 0 (omega arith) in
     omega (arith, get_or-take p.size cells s 0 below, laid.sum, laid.total, laid.cycle)
+
+-- ---- where a distribution begins
+-- a model in its first cycle has that of a new one
+pub dist-first : (p : Place) (cells : List ℕ) → IsModel p cells → p.even ≡ true → p.dist ≡ p.first
+dist-first p cells model even =
+    ⊎_elim {C = p.dist ≡ p.first}
+    (λ (first : p.remaining ≡ 0). model.dist first)
+    (λ (laid : p.remaining ≡ 0 → ⊥). (model.laid (omega (arith, laid))).dist ∙ cond-true _ _ _ even)
+    (cases_eq p.remaining 0)
+
+-- ---- the end of a part, by the start after it
+pub part_end-guard : (n s : ℕ) (starts : List ℕ) → AreStarts n starts → s < n → part_end starts s ≡ min (start_or_guard starts (s + 1)) 32768
+part_end-guard n s starts is below =
+    ⊎_elim {C = part_end starts s ≡ min (start_or_guard starts (s + 1)) 32768}
+    (λ (last : s + 1 ≡ n).
+    let guard : start_or_guard starts (s + 1) ≡ 65535 = get_or_past starts (s + 1) 65535 (omega (arith, is.length)) in
+    part_end-last starts n s is.length last ∙ omega (arith, guard))
+    (λ (inner : s + 1 ≡ n → ⊥).
+    let same : start_or_guard starts (s + 1) ≡ get_or starts (s + 1) 0 = get_or_default starts (s + 1) 65535 0 (omega (arith, is.length, inner)) in
+    part_end-inner starts n s is.length inner ∙ omega (arith, same, is.within (s + 1) (omega (arith, inner))))
+    (cases_eq (s + 1) n)
+
+-- the bounds of a part: its start, and the next start or the guard
+pub record AreBounds (starts : List ℕ) (s start next : ℕ) : Type 0 where
+  pub end : min next 32768 ≡ part_end starts s
+  pub first : start < 32768
+  pub some : start < next
+  pub guard : 32768 ≤ next → 65535 ≤ next
+
+pub bounds-of : (n s : ℕ) (starts : List ℕ) (start next : ℕ) → AreStarts n starts → s < n → start ≡ get_or starts s 0 → next ≡ start_or_guard starts (s + 1) → AreBounds starts s start next
+bounds-of n s starts start next is below at after =
+    let end : min next 32768 ≡ part_end starts s = ap (λ x. min x 32768) after ∙ sym (part_end-guard n s starts is below) in
+    let first : start < 32768 = omega (arith, at, is.within s below) in
+    ⊎_elim {C = AreBounds starts s start next}
+    (λ (last : s + 1 ≡ n).
+    let guard : start_or_guard starts (s + 1) ≡ 65535 = get_or_past starts (s + 1) 65535 (omega (arith, is.length)) in
+    record { end = end; first = first; some = omega (arith, after, guard, first); guard = λ _. omega (arith, after, guard) })
+    (λ (inner : s + 1 ≡ n → ⊥).
+    let more : s + 1 < n = omega (arith, inner) in
+    let same : start_or_guard starts (s + 1) ≡ get_or starts (s + 1) 0 = get_or_default starts (s + 1) 65535 0 (omega (arith, is.length, more)) in
+    record { end = end; first = first; some = omega (arith, at, after, same, is.rising s more); guard = λ h. absurd (omega (arith, h, after, same, is.within (s + 1) more)) })
+    (cases_eq (s + 1) n)

@@ -1,10 +1,13 @@
 -- The cells of one model among those of all.
-use Rattle.std.proofs.Common.{◌≡◌, ℕ, ◌+◌, ◌-◌, ◌<◌, ◌≤◌, List, length, take, drop, set, get_or, sym, ap, ◌∙◌, arith}
-use Rattle.std.proofs.lemmas.List.{length-drop, length-set, drop-set-add, get_or-drop, get_or-take}
+use Rattle.std.proofs.Common.{◌≡◌, true, false, ℕ, ◌+◌, ◌-◌, ◌<◌, ◌≤◌, List, length, take, drop, set, get_or, sym, ap, ◌∙◌, arith, ⊎_elim}
+use Rattle.std.specs.Prelude.{slice_range}
+use Rattle.std.proofs.lemmas.Bool.{cases_Bool, cond-false}
+use Rattle.std.proofs.lemmas.List.{length-drop, length-set, drop-drop, drop-set-add, get_or-drop, get_or-take}
+use Rattle.std.proofs.lemmas.Slice.{between_is}
 use Rattle.laz_models.specs.Counting.{after_symbol}
-use Rattle.laz_models.specs.Place.{cells_of, counting_of, IsPlaced}
+use Rattle.laz_models.specs.Place.{cells_of, counting_in, counting_of, dist_extent, dist_in, first_in, starts_in, IsDist, IsFirst, IsPlaced, IsShaped, IsTable}
 use Rattle.laz_models.specs.declared.place.Place.{Place}
-use Rattle.laz_models.proofs.Models.{adds, one_fewer, count-fits, counting_of-laid, take-set-below}
+use Rattle.laz_models.proofs.Models.{adds, one_fewer, count-fits, counting_of-laid, dist-first, own-laid, starts-even, starts-own, take-set-below}
 
 -- a write to a model's own cells
 pub cells_of-set : (p : Place) (cells : List ℕ) (s x : ℕ) → s < p.end - p.start → p.end ≤ length cells → cells_of p (set cells (p.start + s) x) ≡ set (cells_of p cells) s x
@@ -36,7 +39,7 @@ adds_at p cells s x placed below more read =
           shape = record { many = shape.many; few = shape.few; shift = shape.shift; extent = shape.extent };
           length = ap length same ∙ (length-set (cells_of p cells) s (get_or (cells_of p cells) s 0 + 1) ∙ placed.model.length);
           even = λ e. absurd (omega (arith, e, more));
-          indexed = λ _. omega arith;
+          dist = λ e. absurd (omega (arith, e, more));
           laid = λ _. rw same a.laid;
         };
         within = omega (arith, length-set cells (p.start + s) (x + 1), placed.within);
@@ -48,3 +51,45 @@ pub count-fits-at : (p : Place) (cells : List ℕ) (s x : ℕ) → IsPlaced p ce
 count-fits-at p cells s x placed below laid read =
     let inside : s < p.end - p.start = omega (arith, placed.model.shape.extent) in
     omega (arith, read, cells_of-get p cells s inside, count-fits p (cells_of p cells) s (placed.model.laid laid) placed.model.shape.few (omega (arith, placed.model.length)) below)
+
+-- ---- where a model's distribution lies
+-- after its counts, if it is not in its first cycle
+dist_in-own : (p : Place) (cells : List ℕ) → IsShaped p → p.dist ≡ p.start + p.size → slice_range cells p.dist (p.dist + dist_extent p.size) ≡ dist_in p.size (cells_of p cells)
+dist_in-own p cells shape after =
+    let end : p.dist + dist_extent p.size ≡ p.end = omega (arith, shape.extent, after) in
+    ap (λ j. slice_range cells p.dist j) end ∙ (between_is cells p.dist p.end
+    ∙ (ap (λ i. drop i (take p.end cells)) after ∙ (sym (drop-drop p.size p.start (take p.end cells)) ∙ ap (drop p.size) (sym (between_is cells p.start p.end)))))
+
+pub record HasDist (p : Place) (cells dist : List ℕ) : Type 0 where
+  pub within : p.dist + dist_extent p.size ≤ length cells
+  pub is : IsDist p.size dist
+  pub starts : starts_in p.size dist ≡ (counting_in cells p).starts
+  pub table : p.indexed ≡ true → IsTable p.size p.shift dist
+
+pub has_dist : (p : Place) (cells : List ℕ) → IsPlaced p cells → IsFirst p.size p.first cells → HasDist p cells (slice_range cells p.dist (p.dist + dist_extent p.size))
+has_dist p cells placed first =
+    let own = cells_of p cells in
+    let model = placed.model in
+    ⊎_elim {C = HasDist p cells (slice_range cells p.dist (p.dist + dist_extent p.size))}
+    (λ (even : p.even ≡ true).
+    let there : p.dist ≡ p.first = dist-first p own model even in
+    let same : slice_range cells p.dist (p.dist + dist_extent p.size) ≡ first_in p.size p.first cells = ap (λ i. slice_range cells i (i + dist_extent p.size)) there in
+    rw same
+    (record {
+      within = omega (arith, first.within, there);
+      is = first.even.whole;
+      starts = first.even.starts ∙ sym (starts-even p own even);
+      table = λ _. rw model.shape.shift first.even.table;
+    }))
+    (λ (later : p.even ≡ false).
+    let some = own-laid p own model later in
+    let laid = model.laid some in
+    let there : p.dist ≡ p.start + p.size = laid.dist ∙ cond-false _ _ _ later in
+    rw (dist_in-own p cells model.shape there)
+    (record {
+      within = omega (arith, there, model.shape.extent, placed.within);
+      is = laid.own later;
+      starts = sym (starts-own p own some later);
+      table = λ indexed. laid.table indexed later;
+    }))
+    (cases_Bool p.even)

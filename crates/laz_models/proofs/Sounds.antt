@@ -110,7 +110,7 @@ IsSound-state p cells model =
 
 pub AreSound-bank : (places : List Place) (cells : List ℕ) → IsBank places cells → AreSound (map (counting_in cells) places)
 AreSound-bank places cells bank m within =
-    let p0 : Place = record { start = 0; end = 0; first = 0; size = 0; shift = 0; total = 0; cycle = 0; indexed = false; even = true; remaining = 0 } in
+    let p0 : Place = record { start = 0; end = 0; first = 0; dist = 0; size = 0; shift = 0; total = 0; cycle = 0; indexed = false; even = true; remaining = 0 } in
     let here : m < length places = omega (arith, within, length-map places (counting_in cells)) in
     rw (get_or-map (counting_in cells) places m p0 (new_model 2) here) (IsSound-state (get_or places m p0) (cells_of (get_or places m p0) cells) (bank.placed m p0 here).model)
 

@@ -19,10 +19,6 @@ table_bits n = 3 + count_by (λ b. nat_lt (2 ^ (b + 2)) n) (3 ∷ 4 ∷ 5 ∷ 6 
 unfoldable pub search_bits : ℕ → ℕ
 search_bits n = 3 + count_by (λ b. nat_lt (2 ^ b) n) (3 ∷ 4 ∷ 5 ∷ 6 ∷ 7 ∷ 8 ∷ 9 ∷ 10 ∷ [])
 
--- The places in steps of which a decoder's search of n symbols begins.
-abbrev pub search_step : ℕ → ℕ
-search_step n = 2 ^ (15 - search_bits n)
-
 -- The first entry of a look-up table, in steps of 2 ^ shift places, at whose place a part has begun.
 abbrev pub first_entry : ℕ → ℕ → ℕ
 first_entry start shift = (start + (2 ^ shift - 1)) / 2 ^ shift

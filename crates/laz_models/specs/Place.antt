@@ -1,5 +1,5 @@
 -- Where the models of a bank lie among its cells, and what the cells hold.
-use Rattle.std.specs.Prelude.{◌≡◌, true, false, ℕ, ◌+◌, ◌-◌, ◌*◌, ◌^◌, ◌<◌, ◌≤◌, ◌==◌, List, [], ◌∷◌, length, take}
+use Rattle.std.specs.Prelude.{◌≡◌, ◌⊎◌, true, false, ℕ, ◌+◌, ◌-◌, ◌*◌, ◌^◌, ◌<◌, ◌≤◌, ◌==◌, List, [], ◌∷◌, length, take}
 use Rattle.std.specs.Prelude.{drop, replicate, sum}
 use Rattle.std.specs.Prelude.{if◌then◌else◌, slice_index, slice_index_or, slice_range}
 use Rattle.laz_models.specs.Counting.{Counting, AreCounts, AreStarts, new_model, starts_of}
@@ -51,14 +51,14 @@ pub record IsEven (n : ℕ) (dist : List ℕ) : Type 0 where
   pub starts : starts_in n dist ≡ even_starts n
   pub table : IsTable n (15 - search_bits n) dist
 
--- The cells of the distribution of a new model of n symbols, from `first` on, among those of all sizes.
+-- The cells of the distribution of a new model of n symbols, from `first` on, among those of all models.
 abbrev pub first_in : ℕ → ℕ → List ℕ → List ℕ
-first_in n first firsts = slice_range firsts first (first + dist_extent n)
+first_in n first cells = slice_range cells first (first + dist_extent n)
 
 -- They lie there.
-pub record IsFirst (n first : ℕ) (firsts : List ℕ) : Type 0 where
-  pub within : first + dist_extent n ≤ length firsts
-  pub even : IsEven n (first_in n first firsts)
+pub record IsFirst (n first : ℕ) (cells : List ℕ) : Type 0 where
+  pub within : first + dist_extent n ≤ length cells
+  pub even : IsEven n (first_in n first cells)
 
 -- The starts of a model whose counts are laid out: in its first cycle they are not among its cells.
 abbrev pub starts_now : Place → List ℕ → List ℕ
@@ -85,13 +85,17 @@ pub record IsShaped (p : Place) : Type 0 where
   pub shift : p.shift ≡ 15 - search_bits p.size
   pub extent : p.end ≡ p.start + extent p.size
 
+-- Where the distribution of a model begins: in its first cycle it is that of a new one, and then lies after the counts.
+abbrev pub dist_place : Place → ℕ
+dist_place p = if p.even then p.first else p.start + p.size
+
 -- What holds of a model whose counts are laid out. `total` is the sum of the counts at the beginning of the cycle.
 pub record IsLaid (p : Place) (cells : List ℕ) : Type 0 where
   pub counts : AreCounts (counts_in p.size cells)
   pub starts : AreStarts p.size (starts_now p cells)
+  pub dist : p.dist ≡ dist_place p
   pub own : p.even ≡ false → IsDist p.size (dist_in p.size cells)
-  pub own_index : p.indexed ≡ true → p.even ≡ false
-  pub table : p.indexed ≡ true → IsTable p.size p.shift (dist_in p.size cells)
+  pub table : p.indexed ≡ true → p.even ≡ false → IsTable p.size p.shift (dist_in p.size cells)
   pub total : p.total ≤ MAX_COUNT
   pub sum : sum (counts_in p.size cells) + p.remaining ≡ p.total + p.cycle
   pub remaining : 1 ≤ p.remaining
@@ -128,7 +132,7 @@ pub record IsModel (p : Place) (cells : List ℕ) : Type 0 where
   pub shape : IsShaped p
   pub length : length cells ≡ extent p.size
   pub even : p.remaining ≡ 0 → p.even ≡ true
-  pub indexed : p.indexed ≡ true → 0 < p.remaining
+  pub dist : p.remaining ≡ 0 → p.dist ≡ p.first
   pub laid : 0 < p.remaining → IsLaid p cells
 
 -- All cells except those from `start` up to `end` are unchanged.
@@ -152,11 +156,22 @@ pub record IsBank (places : List Place) (cells : List ℕ) : Type 0 where
   pub apart : (i j : ℕ) (d : Place) → i < j → j < length places
       → (slice_index_or places i d).end ≤ (slice_index_or places j d).start
 
--- For each model there is the distribution of a new one of its size.
-abbrev pub AreFirst : List Place → List ℕ → Type 0
-AreFirst places firsts =
-    (m : ℕ) (d : Place) → m < length places
-    → IsFirst (slice_index_or places m d).size (slice_index_or places m d).first firsts
+-- Cells of the distribution of a new model, from `first` on, are none of the models' own.
+abbrev pub IsApart : (n first : ℕ) → List Place → Type 0
+IsApart n first places =
+    (k : ℕ) (d : Place) → k < length places
+    → (first + dist_extent n ≤ (slice_index_or places k d).start) ⊎ ((slice_index_or places k d).end ≤ first)
+
+-- For each model there is the distribution of a new one of its size, and it is apart from the models' own cells.
+pub record AreFirst (places : List Place) (cells : List ℕ) : Type 0 where
+  pub there : (m : ℕ) (d : Place) → m < length places
+      → IsFirst (slice_index_or places m d).size (slice_index_or places m d).first cells
+  pub apart : (m : ℕ) (d : Place) → m < length places
+      → IsApart (slice_index_or places m d).size (slice_index_or places m d).first places
+
+-- The models end within this many cells.
+abbrev pub EndWithin : List Place → ℕ → Type 0
+EndWithin places end = (m : ℕ) (d : Place) → m < length places → (slice_index_or places m d).end ≤ end
 
 -- The places of new models of these alphabet sizes, the last of which ends at `end`.
 pub record IsLayout (places : List Place) (sizes : List ℕ) (end : ℕ) : Type 0 where
@@ -165,11 +180,11 @@ pub record IsLayout (places : List Place) (sizes : List ℕ) (end : ℕ) : Type 
   pub size : (m : ℕ) (d : Place) → m < length places → (slice_index_or places m d).size ≡ slice_index sizes m
   pub first : (m : ℕ) (d : Place) → m < length places → (slice_index_or places m d).remaining ≡ 0
   pub even : (m : ℕ) (d : Place) → m < length places → (slice_index_or places m d).even ≡ true
-  pub unindexed : (m : ℕ) (d : Place) → m < length places → (slice_index_or places m d).indexed ≡ false
-  pub within : (m : ℕ) (d : Place) → m < length places → (slice_index_or places m d).end ≤ end
+  pub dist : (m : ℕ) (d : Place) → m < length places → (slice_index_or places m d).dist ≡ (slice_index_or places m d).first
+  pub within : EndWithin places end
   pub apart : (i j : ℕ) (d : Place) → i < j → j < length places
       → (slice_index_or places i d).end ≤ (slice_index_or places j d).start
 
 -- A place whose model is new.
 abbrev pub as_new : Place → Place
-as_new p = record p { indexed = false; even = true; remaining = 0 }
+as_new p = record p { dist = p.first; indexed = true; even = true; remaining = 0 }

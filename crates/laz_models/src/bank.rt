@@ -1,6 +1,7 @@
 //! A bank of models of symbols.
-ghost use Rattle.std.specs.Prelude.{◌≡◌, ◌≢◌, ℕ, ◌+◌, ◌-◌, ◌*◌, ◌/◌, ◌^◌, ◌<◌, ◌≤◌, List, [], ◌∷◌, ◌++◌, length, map};
+ghost use Rattle.std.specs.Prelude.{◌≡◌, ◌≢◌, ℕ, ◌+◌, ◌-◌, ◌*◌, ◌/◌, ◌^◌, ◌<◌, ◌≤◌, List, [], ◌∷◌, ◌++◌, length, map, min};
 ghost use Rattle.std.specs.Prelude.{All};
+ghost use Rattle.laz_models.specs.declared.limits.TheConstants.{GUARD};
 ghost use Rattle.std.specs.Prelude.{IfOk, slice_index, slice_set};
 
 use crate::bank_cells::Layout;
@@ -11,15 +12,14 @@ use crate::{bank_cells, lookup};
 use std::alloc::{AllocError, Global};
 use std::marker::Model;
 
-/// Models of symbols whose counts, distributions and look-up tables lie in one vector. The distributions of new models
-/// lie in another one, one for each run of models of the same size, and are written when the bank is made.
+/// Models of symbols whose counts, distributions and look-up tables lie in one vector. Between them lie the
+/// distributions of new models, one for each run of models of the same size, which are written when the bank is made.
 ///
 /// Each model stands for the list of symbols that it has counted since the bank was made or reset, and answers the
 /// distribution of that list. Only `new` takes memory.
 #[derive(Drop)]
 pub struct ModelBank {
     cells: Vec<u16>,
-    firsts: Vec<u16>,
     places: Vec<Place>,
 }
 
@@ -32,13 +32,13 @@ impl Model for ModelBank {
 
     ghost view = { λ b. map (counting_in b.cells.items) b.places.items };
 
-    ghost invariant = { λ b. IsBank b.places.items b.cells.items × AreFirst b.places.items b.firsts.items };
+    ghost invariant = { λ b. IsBank b.places.items b.cells.items × AreFirst b.places.items b.cells.items };
 }
 
 impl ModelBank {
     ghost use Rattle.laz_models.specs.Counting.{after_symbol, new_model, part_end, AreStarts};
     ghost use Rattle.laz_models.specs.Dist.{dist, alphabet_size, StandsFor};
-    ghost use Rattle.laz_models.specs.Lookup.{IsLastAt, table_bits, search_step};
+    ghost use Rattle.laz_models.specs.Lookup.{IsLastAt, start_or_guard, table_bits, search_bits};
     ghost use Rattle.laz_models.specs.Near.{IsNear};
     ghost use Rattle.laz_models.specs.Bank.{model_at, alphabet_sizes};
     ghost use Rattle.laz_models.specs.Sound.{AreSound};
@@ -53,17 +53,8 @@ impl ModelBank {
         ensures sound { IfOk result (λ bank. AreSound bank) }
         ensures stands { IfOk result (λ bank. (m : ℕ) → m < length sizes.now → StandsFor [] (model_at bank m)) }
     {
-        let Layout {
-            places,
-            firsts,
-            end,
-        } = bank_cells::lay_out(alloc, sizes)?;
-        let cells = vec![in alloc; 0; end]?;
-        Ok(ModelBank {
-            cells,
-            firsts,
-            places,
-        })
+        let Layout { places, cells } = bank_cells::lay_out(alloc, sizes)?;
+        Ok(ModelBank { cells, places })
     }
 
     /// Resets all models to new ones. It costs a few writes a model, and not one for each of its symbols.
@@ -90,7 +81,7 @@ impl ModelBank {
             in (result.0 ≡ slice_index starts s) × (result.1 ≡ part_end starts s) }
     {
         let place = &self.places[m as usize];
-        lookup::part(&self.cells[place.start..place.end], &self.firsts, place, s)
+        lookup::part(&self.cells, place, s)
     }
 
     /// The greatest symbol of model `m` whose part begins at `v` or below. For `v` of 32,768 or more it is the last
@@ -104,7 +95,7 @@ impl ModelBank {
             → IsLastAt (dist (alphabet_size (model_at self.now m)) h) v result }
     {
         let place = &self.places[m as usize];
-        lookup::find(&self.cells[place.start..place.end], &self.firsts, place, v)
+        lookup::find(&self.cells, place, v)
     }
 
     /// Entry `t` of the look-up table of model `m`: the greatest symbol whose part begins at `t · 2^(15 - b)` or below.
@@ -122,24 +113,33 @@ impl ModelBank {
             in IsLastAt (dist n h) (t * 2 ^ (15 - table_bits n)) result }
     {
         let place = &self.places[m as usize];
-        lookup::entry(&self.cells[place.start..place.end], &self.firsts, place, t)
+        lookup::entry(&self.cells, place, t)
     }
 
-    /// Where a decoder's search for the symbol of model `m` at place `v` or above begins: at the last symbol whose part
-    /// begins at the multiple of the search step at `v` or below.
+    /// How many low bits of a place, at most 12, a search for a symbol of model `m` leaves out.
     #[inline(always)]
-    pub fn near(&self, m: u32, v: u32) -> Near
+    pub fn step_bits(&self, m: u32) -> u32
+        requires { m < length self.now }
+        ensures is { result ≡ 15 - search_bits (alphabet_size (model_at self.now m)) }
+        ensures few { result < 16 }
+    {
+        self.places[m as usize].shift
+    }
+
+    /// Where a decoder's search for a symbol of model `m` begins: the last symbol whose part begins at place `step · 2^b`
+    /// or below, with the starts of its part and of the next two. Here b is what [`step_bits`](Self::step_bits) answers.
+    #[inline(always)]
+    pub fn near(&self, m: u32, step: u32) -> Near
         requires model { m < length self.now }
-        requires below { v < SYMBOL_PARTS }
-        ensures near { let step = search_step (alphabet_size (model_at self.now m))
-            in IsNear (model_at self.now m).starts (v / step * step) result }
+        requires below { step < 2 ^ search_bits (alphabet_size (model_at self.now m)) }
+        ensures near { let bits = 15 - search_bits (alphabet_size (model_at self.now m))
+            in IsNear (model_at self.now m).starts (step * 2 ^ bits) result }
         ensures starts { AreStarts (alphabet_size (model_at self.now m)) (model_at self.now m).starts }
     {
-        let place = &self.places[m as usize];
-        lookup::near(&self.cells[place.start..place.end], &self.firsts, place, v)
+        lookup::near(&self.cells, &self.places[m as usize], step)
     }
 
-    /// The same as [`near`](Self::near) with a search step of 1, by a search of all parts: the symbol at place `v` itself.
+    /// The symbol of model `m` at place `v`, by a search of all parts, with the starts that [`near`](Self::near) answers.
     #[inline(always)]
     pub fn near_at(&self, m: u32, v: u32) -> Near
         requires { m < length self.now }
@@ -147,7 +147,7 @@ impl ModelBank {
         ensures starts { AreStarts (alphabet_size (model_at self.now m)) (model_at self.now m).starts }
     {
         let place = &self.places[m as usize];
-        lookup::near_without_table(&self.cells[place.start..place.end], &self.firsts, place, v)
+        lookup::near_without_table(&self.cells, place, v)
     }
 
     /// Counts symbol `s` of model `m`.
@@ -165,19 +165,40 @@ impl ModelBank {
         bank_cells::count_at(&mut self.cells, &mut self.places[m as usize], s, false);
     }
 
-    /// The part of symbol `s` of model `m`, as [`part`](Self::part) answers it. The symbol is then counted.
+    /// The start of the part of symbol `s` of model `m`, and the start of the next part. After the last one it is the
+    /// guard, 65,535.
+    #[inline(always)]
+    pub fn bounds(&self, m: u32, s: u32) -> (u32, u32)
+        requires model { m < length self.now }
+        requires symbol { s < alphabet_size (model_at self.now m) }
+        ensures start { result.0 ≡ slice_index (model_at self.now m).starts s }
+        ensures next { result.1 ≡ start_or_guard (model_at self.now m).starts (s + 1) }
+        ensures end { min result.1 SYMBOL_PARTS ≡ part_end (model_at self.now m).starts s }
+        ensures first { result.0 < SYMBOL_PARTS }
+        ensures some { result.0 < result.1 }
+        ensures guard { SYMBOL_PARTS ≤ result.1 → GUARD ≤ result.1 }
+        ensures dist { (h : List ℕ) → StandsFor h (model_at self.now m)
+            → let starts = dist (alphabet_size (model_at self.now m)) h
+            in (result.0 ≡ slice_index starts s) × (min result.1 SYMBOL_PARTS ≡ part_end starts s) }
+    {
+        lookup::bounds(&self.cells, &self.places[m as usize], s)
+    }
+
+    /// The bounds of symbol `s` of model `m`, as [`bounds`](Self::bounds) answers them. The symbol is then counted.
     // If the model is new or its cycle ends, both are done out of line. So neither tests that again.
     #[inline(always)]
-    pub fn part_and_count(&mut self, m: u32, s: u32) -> (u32, u32)
+    pub fn bounds_and_count(&mut self, m: u32, s: u32) -> (u32, u32)
         requires model { m < length self.old }
         requires symbol { s < alphabet_size (model_at self.old m) }
         ensures start { result.0 ≡ slice_index (model_at self.old m).starts s }
-        ensures end { result.1 ≡ part_end (model_at self.old m).starts s }
+        ensures next { result.1 ≡ start_or_guard (model_at self.old m).starts (s + 1) }
+        ensures end { min result.1 SYMBOL_PARTS ≡ part_end (model_at self.old m).starts s }
+        ensures first { result.0 < SYMBOL_PARTS }
         ensures some { result.0 < result.1 }
-        ensures whole { result.1 ≤ SYMBOL_PARTS }
+        ensures guard { SYMBOL_PARTS ≤ result.1 → GUARD ≤ result.1 }
         ensures dist { (h : List ℕ) → StandsFor h (model_at self.old m)
             → let starts = dist (alphabet_size (model_at self.old m)) h
-            in (result.0 ≡ slice_index starts s) × (result.1 ≡ part_end starts s) }
+            in (result.0 ≡ slice_index starts s) × (min result.1 SYMBOL_PARTS ≡ part_end starts s) }
         ensures after_symbol { self.new ≡ slice_set self.old m (after_symbol (model_at self.old m) s) }
         ensures stands { (h : List ℕ) → StandsFor h (model_at self.old m)
             → StandsFor (h ++ s ∷ []) (model_at self.new m) }
@@ -186,26 +207,28 @@ impl ModelBank {
         ensures sound { AreSound self.new }
     {
         if self.places[m as usize].remaining <= 1 {
-            return self.part_and_count_at_cycle_end(m, s);
+            return self.bounds_and_count_at_cycle_end(m, s);
         }
-        let part = self.part(m, s);
+        let bounds = self.bounds(m, s);
         self.count(m, s);
-        part
+        bounds
     }
 
     /// The same, if the model is new or the symbol is the last of its cycle.
     #[cold]
     #[inline(never)]
-    fn part_and_count_at_cycle_end(&mut self, m: u32, s: u32) -> (u32, u32)
+    fn bounds_and_count_at_cycle_end(&mut self, m: u32, s: u32) -> (u32, u32)
         requires model { m < length self.old }
         requires symbol { s < alphabet_size (model_at self.old m) }
         ensures start { result.0 ≡ slice_index (model_at self.old m).starts s }
-        ensures end { result.1 ≡ part_end (model_at self.old m).starts s }
+        ensures next { result.1 ≡ start_or_guard (model_at self.old m).starts (s + 1) }
+        ensures end { min result.1 SYMBOL_PARTS ≡ part_end (model_at self.old m).starts s }
+        ensures first { result.0 < SYMBOL_PARTS }
         ensures some { result.0 < result.1 }
-        ensures whole { result.1 ≤ SYMBOL_PARTS }
+        ensures guard { SYMBOL_PARTS ≤ result.1 → GUARD ≤ result.1 }
         ensures dist { (h : List ℕ) → StandsFor h (model_at self.old m)
             → let starts = dist (alphabet_size (model_at self.old m)) h
-            in (result.0 ≡ slice_index starts s) × (result.1 ≡ part_end starts s) }
+            in (result.0 ≡ slice_index starts s) × (min result.1 SYMBOL_PARTS ≡ part_end starts s) }
         ensures after_symbol { self.new ≡ slice_set self.old m (after_symbol (model_at self.old m) s) }
         ensures stands { (h : List ℕ) → StandsFor h (model_at self.old m)
             → StandsFor (h ++ s ∷ []) (model_at self.new m) }
@@ -213,9 +236,9 @@ impl ModelBank {
         ensures sizes { alphabet_sizes self.new ≡ alphabet_sizes self.old }
         ensures sound { AreSound self.new }
     {
-        let part = self.part(m, s);
+        let bounds = self.bounds(m, s);
         self.count(m, s);
-        part
+        bounds
     }
 
     /// The same as [`count`](Self::count), for a reader: where a cycle begins, a look-up table is written, from which

@@ -1,8 +1,9 @@
 //! The cells of all models of a bank.
-ghost use Rattle.std.specs.Prelude.{◌≡◌, true, false, ◌^◌, ◌<◌, ◌≤◌, length, map, All, IfOk};
+ghost use Rattle.std.specs.Prelude.{◌≡◌, true, ◌+◌, ◌^◌, ◌<◌, ◌≤◌, length, map, All, IfOk};
 ghost use Rattle.laz_models.specs.Counting.{after_symbol};
 ghost use Rattle.laz_models.specs.Lookup.{search_bits};
-ghost use Rattle.laz_models.specs.Place.{counting_in, as_new, AreFirst, IsFirst, IsLayout, IsPlaced, IsShaped};
+ghost use Rattle.laz_models.specs.Place.{counting_in, as_new, dist_extent, AreFirst, EndWithin, IsApart, IsFirst, IsLayout, IsPlaced};
+ghost use Rattle.laz_models.specs.Place.{IsShaped};
 ghost use Rattle.laz_models.specs.Place.{SameOutside, SamePlace};
 
 use crate::limits::{MAX_MODELS, MAX_SYMBOLS};
@@ -37,7 +38,7 @@ fn first_place(start: usize, first: usize, size: u32) -> Place
     ensures first { result.first ≡ first }
     ensures size { result.size ≡ size }
     ensures remaining { result.remaining ≡ 0 }
-    ensures unindexed { result.indexed ≡ false }
+    ensures dist { result.dist ≡ first }
     ensures even { result.even ≡ true }
     ensures shape { IsShaped result }
 {
@@ -46,72 +47,71 @@ fn first_place(start: usize, first: usize, size: u32) -> Place
         start,
         end: start + 2 * size as usize + 2 + (1 << bits),
         first,
+        dist: first,
         size,
         shift: 15 - bits,
         total: 0,
         cycle: 0,
-        indexed: false,
+        indexed: true,
         even: true,
         remaining: 0,
     }
 }
 
-/// Where the models of a bank lie.
+/// Where the models of a bank lie, and their cells.
 #[derive(Drop)]
 pub struct Layout {
     /// The places of the models, one after another.
     pub places: Vec<Place>,
-    /// The distributions of new models, one for each run of models of the same size.
-    pub firsts: Vec<u16>,
-    /// The end of the last model.
-    pub end: usize,
+    /// The cells of all models, and between them the distributions of new ones, one for each run of models of the same
+    /// size.
+    pub cells: Vec<u16>,
 }
 
 /// Where the distribution of a new model of `size` symbols lies. It is appended if the model before has another size.
 fn first_of(
     alloc: Global,
-    firsts: &mut Vec<u16>,
+    cells: &mut Vec<u16>,
     places: &[Place],
     size: u32,
 ) -> Result<usize, AllocError>
     requires many { 2 ≤ size }
     requires few { size ≤ MAX_SYMBOLS }
-    requires firsts { AreFirst places.now firsts.old.items }
-    ensures first { IfOk result (λ first. IsFirst size first firsts.new.items) }
-    ensures firsts { IfOk result (λ _. AreFirst places.now firsts.new.items) }
+    requires within { EndWithin places.now (length cells.old.items) }
+    requires firsts { AreFirst places.now cells.old.items }
+    ensures first { IfOk result (λ first. IsFirst size first cells.new.items) }
+    ensures apart { IfOk result (λ first. IsApart size first places.now) }
+    ensures firsts { IfOk result (λ _. AreFirst places.now cells.new.items) }
+    ensures more { IfOk result (λ _. length cells.old.items ≤ length cells.new.items) }
+    ensures few_more { IfOk result (λ _. length cells.new.items ≤ length cells.old.items + dist_extent size) }
 {
     if let Some(last) = places.last() {
         if last.size == size {
             return Ok(last.first);
         }
     }
-    let first = firsts.len();
-    let cells = even_cells(alloc, size, search_bits(size))?;
-    firsts.extend_from_slice(&cells[size as usize..])?;
+    let first = cells.len();
+    let even = even_cells(alloc, size, search_bits(size))?;
+    cells.extend_from_slice(&even[size as usize..])?;
     Ok(first)
 }
 
-/// The places of new models, one after another, and the distributions of new models.
+/// The places of new models, one after another, and their cells.
 pub fn lay_out(alloc: Global, sizes: &[u32]) -> Result<Layout, AllocError>
     requires few { length sizes.now ≤ MAX_MODELS }
     requires range { All (λ n. (2 ≤ n) × (n ≤ MAX_SYMBOLS)) sizes.now }
-    ensures layout { IfOk result (λ layout. IsLayout layout.places.items sizes.now layout.end) }
-    ensures firsts { IfOk result (λ layout. AreFirst layout.places.items layout.firsts.items) }
+    ensures layout { IfOk result (λ layout. IsLayout layout.places.items sizes.now (length layout.cells.items)) }
+    ensures firsts { IfOk result (λ layout. AreFirst layout.places.items layout.cells.items) }
 {
     let mut places = Vec::with_capacity(alloc, sizes.len())?;
-    let mut firsts = Vec::new(alloc);
-    let mut end = 0;
+    let mut cells = Vec::new(alloc);
     for size in sizes {
-        let first = first_of(alloc, &mut firsts, &places, *size)?;
-        let place = first_place(end, first, *size);
-        end = place.end;
+        let first = first_of(alloc, &mut cells, &places, *size)?;
+        let place = first_place(cells.len(), first, *size);
+        cells.resize(place.end, 0)?;
         places.push(place)?;
     }
-    Ok(Layout {
-        places,
-        firsts,
-        end,
-    })
+    Ok(Layout { places, cells })
 }
 
 /// Resets all models to new ones.
@@ -119,7 +119,8 @@ fn reset_places(places: &mut [Place])
     ensures { places.new ≡ map as_new places.old }
 {
     for place in places.iter_mut() {
-        place.indexed = false;
+        place.dist = place.first;
+        place.indexed = true;
         place.even = true;
         place.remaining = 0;
     }

@@ -1,52 +1,52 @@
 //! The questions that a model answers about its distribution.
-ghost use Rattle.std.specs.Prelude.{◌≡◌, ◌+◌, ◌-◌, ◌*◌, ◌/◌, ◌<◌, ◌≤◌, ◌^◌, length, slice_index};
+ghost use Rattle.std.specs.Prelude.{◌≡◌, true, ◌+◌, ◌-◌, ◌*◌, ◌/◌, ◌<◌, ◌≤◌, ◌^◌, length, slice_index};
 ghost use Rattle.laz_models.specs.Counting.{part_end, AreStarts};
-ghost use Rattle.laz_models.specs.Lookup.{IsLastAt, table_bits, search_bits, search_step};
+ghost use Rattle.laz_models.specs.Lookup.{IsLastAt, start_or_guard, table_bits, search_bits};
 ghost use Rattle.laz_models.specs.Near.{IsNear};
-ghost use Rattle.laz_models.specs.Place.{starts_in, counting_of, IsShaped, IsModel, IsDist, IsEven, IsFirst, IsTable};
+ghost use Rattle.laz_models.specs.Place.{starts_in, counting_in, IsPlaced, IsDist, IsFirst, IsTable};
 
 use crate::limits::{MAX_SYMBOLS, SYMBOL_PARTS};
 use crate::near::Near;
 use crate::place::Place;
 
-/// The cells of the distribution of a new model.
-#[inline(always)]
-fn first_distribution<'a>(firsts: &'a [u16], place: &Place) -> &'a [u16]
-    requires shape { IsShaped place.now }
-    requires first { IsFirst place.now.size place.now.first firsts.now }
-    ensures { IsEven place.now.size result.now }
-{
-    let length = place.end - place.start - place.size as usize;
-    &firsts[place.first..place.first + length]
-}
-
 /// The cells of a model's distribution.
 #[inline(always)]
-fn distribution<'a>(cells: &'a [u16], firsts: &'a [u16], place: &Place) -> &'a [u16]
-    requires model { IsModel place.now cells.now }
-    requires first { IsFirst place.now.size place.now.first firsts.now }
+fn distribution<'a>(cells: &'a [u16], place: &Place) -> &'a [u16]
+    requires placed { IsPlaced place.now cells.now }
+    requires first { IsFirst place.now.size place.now.first cells.now }
     ensures dist { IsDist place.now.size result.now }
-    ensures starts { starts_in place.now.size result.now ≡ (counting_of place.now cells.now).starts }
+    ensures starts { starts_in place.now.size result.now ≡ (counting_in cells.now place.now).starts }
+    ensures table { place.now.indexed ≡ true → IsTable place.now.size place.now.shift result.now }
 {
-    if place.even {
-        return first_distribution(firsts, place);
-    }
-    &cells[place.size as usize..]
+    let length = place.end - place.start - place.size as usize;
+    &cells[place.dist..place.dist + length]
+}
+
+/// The start of a symbol's part, and the start of the next one, or the guard after the last one.
+#[inline(always)]
+pub fn bounds(cells: &[u16], place: &Place, s: u32) -> (u32, u32)
+    requires placed { IsPlaced place.now cells.now }
+    requires first { IsFirst place.now.size place.now.first cells.now }
+    requires symbol { s < place.now.size }
+    ensures start { result.0 ≡ slice_index (counting_in cells.now place.now).starts s }
+    ensures next { result.1 ≡ start_or_guard (counting_in cells.now place.now).starts (s + 1) }
+{
+    let dist = distribution(cells, place);
+    let at = s as usize;
+    (dist[at] as u32, dist[at + 1] as u32)
 }
 
 /// The part of a symbol, of 2^15 parts.
-// After the last part stands the guard, which is above 2^15.
 #[inline]
-pub fn part(cells: &[u16], firsts: &[u16], place: &Place, s: u32) -> (u32, u32)
-    requires model { IsModel place.now cells.now }
-    requires first { IsFirst place.now.size place.now.first firsts.now }
+pub fn part(cells: &[u16], place: &Place, s: u32) -> (u32, u32)
+    requires placed { IsPlaced place.now cells.now }
+    requires first { IsFirst place.now.size place.now.first cells.now }
     requires symbol { s < place.now.size }
-    ensures start { result.0 ≡ slice_index (counting_of place.now cells.now).starts s }
-    ensures end { result.1 ≡ part_end (counting_of place.now cells.now).starts s }
+    ensures start { result.0 ≡ slice_index (counting_in cells.now place.now).starts s }
+    ensures end { result.1 ≡ part_end (counting_in cells.now place.now).starts s }
 {
-    let dist = distribution(cells, firsts, place);
-    let at = s as usize;
-    (dist[at] as u32, (dist[at + 1] as u32).min(SYMBOL_PARTS))
+    let (start, next) = bounds(cells, place, s);
+    (start, next.min(SYMBOL_PARTS))
 }
 
 /// `half` if `start` is at most `v`, else 0.
@@ -103,12 +103,12 @@ fn last_at(dist: &[u16], size: u32, v: u32) -> u32
 
 /// The last symbol whose part begins at `v` or below.
 #[inline]
-pub fn find(cells: &[u16], firsts: &[u16], place: &Place, v: u32) -> u32
-    requires model { IsModel place.now cells.now }
-    requires first { IsFirst place.now.size place.now.first firsts.now }
-    ensures { IsLastAt (counting_of place.now cells.now).starts v result }
+pub fn find(cells: &[u16], place: &Place, v: u32) -> u32
+    requires placed { IsPlaced place.now cells.now }
+    requires first { IsFirst place.now.size place.now.first cells.now }
+    ensures { IsLastAt (counting_in cells.now place.now).starts v result }
 {
-    last_at(distribution(cells, firsts, place), place.size, v)
+    last_at(distribution(cells, place), place.size, v)
 }
 
 /// How many bits of a position choose an entry of the look-up table of a reader.
@@ -129,13 +129,13 @@ fn table_bits(size: u32) -> u32
 
 /// An entry of the look-up table of a reader.
 #[inline]
-pub fn entry(cells: &[u16], firsts: &[u16], place: &Place, t: u32) -> u32
-    requires model { IsModel place.now cells.now }
-    requires first { IsFirst place.now.size place.now.first firsts.now }
+pub fn entry(cells: &[u16], place: &Place, t: u32) -> u32
+    requires placed { IsPlaced place.now cells.now }
+    requires first { IsFirst place.now.size place.now.first cells.now }
     requires entry { t ≤ 2 ^ table_bits place.now.size }
-    ensures { IsLastAt (counting_of place.now cells.now).starts (t * 2 ^ (15 - table_bits place.now.size)) result }
+    ensures { IsLastAt (counting_in cells.now place.now).starts (t * 2 ^ (15 - table_bits place.now.size)) result }
 {
-    find(cells, firsts, place, t << (15 - table_bits(place.size)))
+    find(cells, place, t << (15 - table_bits(place.size)))
 }
 
 /// A symbol with the starts of its part and of the next two.
@@ -158,12 +158,12 @@ fn near_of(dist: &[u16], symbol: u32) -> Near
 
 /// Where a search begins, by the starts alone.
 #[inline(always)]
-pub fn near_without_table(cells: &[u16], firsts: &[u16], place: &Place, v: u32) -> Near
-    requires model { IsModel place.now cells.now }
-    requires first { IsFirst place.now.size place.now.first firsts.now }
-    ensures { IsNear (counting_of place.now cells.now).starts v result }
+pub fn near_without_table(cells: &[u16], place: &Place, v: u32) -> Near
+    requires placed { IsPlaced place.now cells.now }
+    requires first { IsFirst place.now.size place.now.first cells.now }
+    ensures { IsNear (counting_in cells.now place.now).starts v result }
 {
-    let dist = distribution(cells, firsts, place);
+    let dist = distribution(cells, place);
     near_of(dist, last_at(dist, place.size, v))
 }
 
@@ -176,26 +176,21 @@ fn near_in_table(dist: &[u16], size: u32, shift: u32, entry: u32) -> Near
     requires entry { entry < 2 ^ search_bits size }
     ensures { IsNear (starts_in size dist.now) (entry * 2 ^ shift) result }
 {
-    near_of(dist, dist[size as usize + 2 + entry as usize] as u32)
+    let table = &dist[size as usize + 2..];
+    near_of(dist, table[entry as usize] as u32)
 }
 
-/// Where a search for the symbol at place `v` or above begins.
+/// Where a search begins: at the last symbol whose part begins at the place of entry `entry` or below.
 #[inline(always)]
-pub fn near(cells: &[u16], firsts: &[u16], place: &Place, v: u32) -> Near
-    requires model { IsModel place.now cells.now }
-    requires first { IsFirst place.now.size place.now.first firsts.now }
-    requires below { v < SYMBOL_PARTS }
-    ensures { let step = search_step place.now.size
-        in IsNear (counting_of place.now cells.now).starts (v / step * step) result }
+pub fn near(cells: &[u16], place: &Place, entry: u32) -> Near
+    requires placed { IsPlaced place.now cells.now }
+    requires first { IsFirst place.now.size place.now.first cells.now }
+    requires entry { entry < 2 ^ search_bits place.now.size }
+    ensures { IsNear (counting_in cells.now place.now).starts (entry * 2 ^ (15 - search_bits place.now.size)) result }
 {
-    let entry = v >> place.shift;
     if place.indexed {
-        let dist = &cells[place.size as usize..];
+        let dist = distribution(cells, place);
         return near_in_table(dist, place.size, place.shift, entry);
     }
-    if place.even {
-        let dist = first_distribution(firsts, place);
-        return near_in_table(dist, place.size, place.shift, entry);
-    }
-    near_without_table(cells, firsts, place, entry << place.shift)
+    near_without_table(cells, place, entry << place.shift)
 }

@@ -172,6 +172,7 @@ fn begin_cycle(cells: &mut [u16], place: &mut Place, index: bool)
     let size = place.size as usize;
     place.total = limit_counts(cells, size, place.total + place.cycle);
     write_distribution(cells, size, place.shift, place.total, index);
+    place.dist = place.start + size;
     place.indexed = index;
     place.even = false;
     place.cycle = (8 * (place.size + 6)).min((5 * place.cycle) >> 2);
@@ -218,13 +219,13 @@ fn lay_out(cells: &mut [u16], place: &mut Place)
     requires shape { IsShaped place.old }
     requires length { length cells.old ≡ extent place.old.size }
     requires even { place.old.even ≡ true }
+    requires dist { place.old.dist ≡ place.old.first }
     ensures new_model { laid_state place.new cells.new ≡ new_model place.old.size }
     ensures good { IsLaid place.new cells.new }
     ensures place { SamePlace place.old place.new }
 {
     fill_ones(cells, place.size as usize);
     place.total = place.size;
-    place.indexed = false;
     place.cycle = (place.size + 6) >> 1;
     place.remaining = place.cycle;
 }

@@ -7,8 +7,10 @@ pub struct Place {
     pub start: usize,
     /// The index after its last cell.
     pub end: usize,
-    /// The index of the first cell of the distribution of a new model, among those of all sizes.
+    /// The index of the first cell of the distribution of a new model of its size.
     pub first: usize,
+    /// The index of the first cell of its present distribution.
+    pub dist: usize,
     /// How many symbols it has.
     pub size: u32,
     /// How many bits of a place are not used to choose an entry of the look-up table.
@@ -17,7 +19,7 @@ pub struct Place {
     pub total: u32,
     /// How long the present cycle is.
     pub cycle: u32,
-    /// Whether the look-up table is that of the present cycle.
+    /// Whether its present distribution has a look-up table.
     pub indexed: bool,
     /// Whether the model is in its first cycle, with the distribution of a new model.
     pub even: bool,

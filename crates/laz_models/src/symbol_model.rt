@@ -1,5 +1,5 @@
 //! A model of symbols.
-ghost use Rattle.std.specs.Prelude.{◌≡◌, ℕ, ◌+◌, ◌*◌, ◌/◌, ◌<◌, ◌≤◌, List, [], ◌∷◌, ◌++◌, IfOk, slice_index};
+ghost use Rattle.std.specs.Prelude.{◌≡◌, ℕ, ◌+◌, ◌-◌, ◌*◌, ◌^◌, ◌<◌, ◌≤◌, List, [], ◌∷◌, ◌++◌, IfOk, slice_index};
 
 use crate::bank::ModelBank;
 use crate::limits::{MAX_SYMBOLS, SYMBOL_PARTS};
@@ -31,7 +31,7 @@ impl Model for SymbolModel {
 impl SymbolModel {
     ghost use Rattle.laz_models.specs.Counting.{after_symbol, new_model, part_end, AreStarts};
     ghost use Rattle.laz_models.specs.Dist.{dist, alphabet_size, StandsFor};
-    ghost use Rattle.laz_models.specs.Lookup.{IsLastAt, search_step};
+    ghost use Rattle.laz_models.specs.Lookup.{IsLastAt, search_bits};
     ghost use Rattle.laz_models.specs.Near.{IsNear};
     ghost use Rattle.laz_models.specs.Sound.{IsSound};
 
@@ -83,19 +83,27 @@ impl SymbolModel {
         self.bank.find(0, v)
     }
 
-    /// Where a decoder's search for the symbol at place `v` or above begins: at the last symbol whose part begins at
-    /// the multiple of the search step at `v` or below.
+    /// How many low bits of a place, at most 12, a search for a symbol leaves out.
     #[inline(always)]
-    pub fn near(&self, v: u32) -> Near
-        requires { v < SYMBOL_PARTS }
-        ensures near { let step = search_step (alphabet_size self.now)
-            in IsNear self.now.starts (v / step * step) result }
-        ensures starts { AreStarts (alphabet_size self.now) self.now.starts }
+    pub fn step_bits(&self) -> u32
+        ensures is { result ≡ 15 - search_bits (alphabet_size self.now) }
+        ensures few { result < 16 }
     {
-        self.bank.near(0, v)
+        self.bank.step_bits(0)
     }
 
-    /// The same as [`near`](Self::near) with a search step of 1, by a search of all parts: the symbol at place `v` itself.
+    /// Where a decoder's search for a symbol begins: the last symbol whose part begins at place `step · 2^b` or below, with
+    /// the starts of its part and of the next two. Here b is what [`step_bits`](Self::step_bits) answers.
+    #[inline(always)]
+    pub fn near(&self, step: u32) -> Near
+        requires { step < 2 ^ search_bits (alphabet_size self.now) }
+        ensures near { IsNear self.now.starts (step * 2 ^ (15 - search_bits (alphabet_size self.now))) result }
+        ensures starts { AreStarts (alphabet_size self.now) self.now.starts }
+    {
+        self.bank.near(0, step)
+    }
+
+    /// The symbol at place `v`, by a search of all parts, with the starts that [`near`](Self::near) answers.
     #[inline(always)]
     pub fn near_at(&self, v: u32) -> Near
         ensures near { IsNear self.now.starts v result }

@@ -17,7 +17,7 @@ by-product n unit value some =
     (cases_lt value (n * unit))
 
 -- how long a part is that ends at a start or at a guard
-width-part : (lo hi len : ℕ) → 16777216 ≤ len → (32768 ≤ hi → 65535 ≤ hi) → min (hi * (len / 32768)) len - lo * (len / 32768) ≡ width_in len (Part lo (min hi 32768))
+pub width-part : (lo hi len : ℕ) → 16777216 ≤ len → (32768 ≤ hi → 65535 ≤ hi) → min (hi * (len / 32768)) len - lo * (len / 32768) ≡ width_in len (Part lo (min hi 32768))
 width-part lo hi len long guard =
     let unit : ℕ = len / 32768 in
     ⊎_elim

@@ -3,7 +3,7 @@ use Rattle.std.proofs.Common.{◌≡◌, ℕ, zero, suc, ◌+◌, ◌-◌, ◌*�
 use Rattle.std.proofs.lemmas.Bool.{eqb-true, cases_lt}
 use lib.Bits.{bit_and}
 use Rattle.std.proofs.lemmas.Nat.{and_mask, leading_top, mul-le, pow-add, pow_pos, div-add-mod'}
-use Rattle.std.proofs.Math.Nat.{pow-le-pow_right, mod-eq_of_lt}
+use Rattle.std.proofs.Math.Nat.{div-div-eq-div-mul, pow-le-pow_right, mod-eq_of_lt}
 use lib.Count.{count_leading_zeros}
 use Rattle.laz_range.specs.Search.{reciprocal, AreReciprocals, top_bits}
 use Rattle.laz_range.specs.declared.reciprocal.TheConstants.{RECIPROCALS}
@@ -170,3 +170,7 @@ estimated value len lead r t below is =
     let ep : e * p ≤ value * r = omega (arith, div-add-mod' (value * r) p) in
     let le : e * len ≤ value * 32768 = estimate-le e p (2 ^ lead) len value r pq ep whole in
     record { place = place-le e len value le; within = place-lt e len value le below }
+
+-- an estimate without its low bits
+pub coarse-of : (product digits bits : ℕ) → product / 2 ^ (digits + bits) ≡ product / 2 ^ digits / 2 ^ bits
+coarse-of product digits bits = ap (λ n. product / n) (pow-add 2 digits bits) ∙ sym (div-div-eq-div-mul product (2 ^ digits) (2 ^ bits))

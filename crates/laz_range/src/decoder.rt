@@ -108,16 +108,17 @@ impl<'a> Decoder<'a> {
         self.take_part(from, width)
     }
 
-    /// A place of 2^15 parts that is at or below the one that the value lies in, and seldom far from it. It takes no
-    /// division: a search for the next symbol begins there.
+    /// A place of 2^15 parts that is at or below the one that the value lies in, and seldom far from it, without its low
+    /// `bits` bits, at most 15. It takes no division: a search for the next symbol begins there.
     #[inline(always)]
-    pub fn estimate(&self) -> u32
-        requires { self.now.failed ≡ false }
-        ensures is { result ≡ estimated_place self.now.value self.now.len }
-        ensures below { result ≤ symbol_place self.now }
-        ensures within { result < SYMBOL_PARTS }
+    pub fn estimate(&self, bits: u32) -> u32
+        requires good { self.now.failed ≡ false }
+        requires few { bits < 16 }
+        ensures is { result ≡ estimated_place self.now.value self.now.len / 2 ^ bits }
+        ensures below { result * 2 ^ bits ≤ symbol_place self.now }
+        ensures within { result * 2 ^ bits < SYMBOL_PARTS }
     {
-        estimate(self.input.value, self.input.length, self.input.top)
+        estimate(self.input.value, self.input.length, self.input.top, bits)
     }
 
     /// Whether the value lies at a place of 2^15 parts or above.

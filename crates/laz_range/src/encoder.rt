@@ -1,12 +1,13 @@
 //! The encoder.
-ghost use Rattle.std.specs.Prelude.{◌≡◌, ◌+◌, ◌<◌, ◌≤◌, ◌^◌, [], ◌∷◌, ◌++◌, length, take, slice_range};
+ghost use Rattle.std.specs.Prelude.{◌≡◌, ◌+◌, ◌<◌, ◌≤◌, ◌^◌, min, [], ◌∷◌, ◌++◌, length, take, slice_range};
 ghost use Rattle.laz_range.specs.Cut.{Part, Bit, Raw, raw_cuts};
 ghost use Rattle.laz_range.specs.Span.{initial_span, bytes_of, Fits};
 ghost use Rattle.laz_range.specs.Coding.{Codes};
+ghost use Rattle.laz_range.specs.declared.limits.TheConstants.{GUARD};
 
 use crate::limits::{BIT_PARTS, MAX_LENGTH, MAX_RAW_BITS, SYMBOL_PARTS};
 use crate::output::{Output, end, narrow};
-use crate::search::bit_part;
+use crate::search::{bit_part, part_to};
 use crate::window::last_four;
 use std::marker::Model;
 
@@ -67,6 +68,20 @@ impl Encoder {
         } else {
             hi * unit - from
         };
+        narrow(&mut self.output, from, width);
+    }
+
+    /// The same as [`cut15`](Self::cut15), with a guard as the end of the last symbol of a distribution. So nothing
+    /// asks whether a symbol is the last one.
+    #[inline(always)]
+    pub fn cut_to(&mut self, start: u32, next: u32)
+        requires start { start < SYMBOL_PARTS }
+        requires order { start < next }
+        requires guard { SYMBOL_PARTS ≤ next → GUARD ≤ next }
+        requires left { 3 ≤ self.old.left }
+        ensures { Codes self.old self.new (Part start (min next SYMBOL_PARTS) ∷ []) }
+    {
+        let (from, width) = part_to(start, next, self.output.length);
         narrow(&mut self.output, from, width);
     }
 

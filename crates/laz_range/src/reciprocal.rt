@@ -1,5 +1,5 @@
 //! Reciprocals of the interval's length, so that a place is estimated without a division.
-ghost use Rattle.std.specs.Prelude.{◌≡◌, ◌*◌, ◌/◌, ◌<◌, ◌≤◌};
+ghost use Rattle.std.specs.Prelude.{◌≡◌, ◌*◌, ◌/◌, ◌^◌, ◌<◌, ◌≤◌};
 ghost use Rattle.laz_range.specs.Search.{reciprocal, AreReciprocals, estimated_place, top_bits};
 
 use crate::limits::{MIN_LENGTH, SYMBOL_PARTS};
@@ -118,16 +118,18 @@ pub fn top_of(len: u32) -> u32
     (len << (len.leading_zeros() & 31)) >> 21
 }
 
-/// A place of 2^15 parts at or below the one that the value lies in. `top` has the top bits of the length.
+/// A place of 2^15 parts at or below the one that the value lies in, without its low `bits` bits. `top` has the top bits
+/// of the length.
 #[inline(always)]
-pub fn estimate(value: u32, len: u32, top: u32) -> u32
+pub fn estimate(value: u32, len: u32, top: u32, bits: u32) -> u32
     requires long { MIN_LENGTH ≤ len }
     requires below { value < len }
     requires top { top ≡ top_bits len }
-    ensures is { result ≡ estimated_place value len }
-    ensures place { result * (len / SYMBOL_PARTS) ≤ value }
-    ensures within { result < SYMBOL_PARTS }
+    requires few { bits < 16 }
+    ensures is { result ≡ estimated_place value len / 2 ^ bits }
+    ensures place { result * 2 ^ bits * (len / SYMBOL_PARTS) ≤ value }
+    ensures within { result * 2 ^ bits < SYMBOL_PARTS }
 {
     let product = value as u64 * reciprocal(top) as u64;
-    (product >> (32 - len.leading_zeros())) as u32
+    (product >> (32 - len.leading_zeros() + bits)) as u32
 }

@@ -1,6 +1,7 @@
 //! The symbol whose part holds the value, by products in place of a division.
-ghost use Rattle.std.specs.Prelude.{◌≡◌, ◌+◌, ◌*◌, ◌/◌, ◌<◌, ◌≤◌, nat_le, if◌then◌else◌};
-ghost use Rattle.laz_range.specs.Cut.{Bit, start_in, width_in};
+ghost use Rattle.std.specs.Prelude.{◌≡◌, ◌+◌, ◌*◌, ◌/◌, ◌<◌, ◌≤◌, min, nat_le, if◌then◌else◌};
+ghost use Rattle.laz_range.specs.Cut.{Bit, Part, start_in, width_in};
+ghost use Rattle.laz_range.specs.declared.limits.TheConstants.{GUARD};
 ghost use Rattle.laz_range.specs.Search.{AreTwo, part_of_two};
 
 use crate::limits::{BIT_PARTS, MIN_LENGTH, SYMBOL_PARTS};
@@ -39,6 +40,24 @@ pub fn bit_part(p0: u32, len: u32, bit: bool) -> (u32, u32)
     } else {
         (0, split)
     }
+}
+
+/// Where the part of a symbol begins, and how long it is. A part that ends with the interval ends at a guard.
+#[inline(always)]
+pub fn part_to(start: u32, next: u32, len: u32) -> (u32, u32)
+    requires start { start < SYMBOL_PARTS }
+    requires order { start < next }
+    requires guard { SYMBOL_PARTS ≤ next → GUARD ≤ next }
+    requires long { MIN_LENGTH ≤ len }
+    ensures from { result.0 ≡ start_in len (Part start (min next SYMBOL_PARTS)) }
+    ensures width { result.1 ≡ width_in len (Part start (min next SYMBOL_PARTS)) }
+    ensures some { 0 < result.1 }
+    ensures within { result.0 + result.1 ≤ len }
+{
+    let unit = len >> 15;
+    let from = parts(start, unit);
+    let end = parts(next, unit).min(len as u64);
+    (from as u32, (end - from) as u32)
 }
 
 /// Whether the value lies in the second of two parts, where its part begins, and how long that is.

@@ -1,14 +1,20 @@
-use Rattle.std.proofs.Common.{◌≡◌, ◌*◌, ◌/◌, ◌<◌, ◌≤◌, ℕ, true, false, arith, ⊎_elim}
-use Rattle.std.proofs.Math.Nat.{div-mul-le_self}
+use Rattle.std.proofs.Common.{◌≡◌, ◌-◌, ◌*◌, ◌^◌, ◌<◌, ◌≤◌, ℕ, true, false, arith, ⊎_elim}
 use Rattle.std.proofs.lemmas.Bool.{cases_lt}
 use Rattle.laz_range.specs.Decoding.{symbol_place}
 use Rattle.laz_range.proofs.Choosing.{place-small}
 use Rattle.laz_models.specs.Bank.{model_at}
 use Rattle.laz_models.specs.Dist.{alphabet_size}
-use Rattle.laz_models.specs.Lookup.{search_step}
+use Rattle.laz_models.specs.Lookup.{search_bits}
 use Rattle.laz_models.specs.Near.{IsNear}
+use Rattle.laz_models.proofs.Lookups.{step-below}
 use Rattle.laz_integer.proofs.Nears.{place-before}
 use Rattle.laz_integer.proofs.symbols.near_next_of.Goals as goal
+
+pub near-near-requires-clause-below : goal.near-near-requires-clause-below
+near-near-requires-clause-below c =
+    let m = model_at c.args.bank.now c.args.m in
+    let same : c.step_bits.result ≡ 15 - search_bits (alphabet_size m) = c.step_bits.ensures.is in
+    step-below (alphabet_size m) c.estimate.result (rw same at c.estimate.ensures.within)
 
 pub returns-then-is_from-clause-near : goal.returns-then-is_from-clause-near
 returns-then-is_from-clause-near c =
@@ -27,12 +33,14 @@ pub returns-clause-near : goal.returns-clause-near
 returns-clause-near c =
     let m = model_at c.args.bank.now c.args.m in
     let place = symbol_place c.args.decoder.now in
-    let step : ℕ = search_step (alphabet_size m) in
+    let bits : ℕ = 15 - search_bits (alphabet_size m) in
+    let same : c.step_bits.result ≡ bits = c.step_bits.ensures.is in
+    let low : c.estimate.result * 2 ^ bits ≤ place = rw same at c.estimate.ensures.below in
     let near = c.near-near.result in
     record {
-      from = c.estimate.result / step * step;
+      from = c.estimate.result * 2 ^ bits;
       is = c.near-near.ensures.near;
-      low = omega (arith, div-mul-le_self c.estimate.result step, c.estimate.ensures.below);
+      low = low;
       high = ⊎_elim
           (λ (less : place < near.after). less)
           (λ (more : near.after ≤ place). let no : false ≡ true = c.if-is_from.ensures.1 more in cc)

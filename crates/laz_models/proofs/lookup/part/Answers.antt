@@ -1,11 +1,12 @@
-use Rattle.std.proofs.Common.{◌∙◌, sym}
-use Rattle.laz_models.proofs.Models.{part_at, part_end-at}
+use Rattle.std.proofs.Common.{◌∙◌, ap, sym}
+use Rattle.std.specs.Prelude.{min}
+use Rattle.laz_models.specs.Place.{cells_of}
+use Rattle.laz_models.proofs.Banks.{fits-place}
+use Rattle.laz_models.proofs.Models.{part_end-guard}
 use Rattle.laz_models.proofs.lookup.part.Goals as goal
-
-pub returns-clause-start : goal.returns-clause-start
-returns-clause-start c =
-    rw (← c.distribution-dist.ensures.starts) (sym (part_at c.args.place.now.size c.args.s c.distribution-dist.result.now c.requires.symbol))
 
 pub returns-clause-end : goal.returns-clause-end
 returns-clause-end c =
-    rw (← c.distribution-dist.ensures.starts) (c.min.ensures ∙ sym (part_end-at c.args.place.now.size c.args.s c.distribution-dist.result.now c.distribution-dist.ensures.dist c.requires.symbol))
+    let p = c.args.place.now in
+    let fits = fits-place p (cells_of p c.args.cells.now) c.requires.placed.model in
+    c.min.ensures ∙ (ap (λ next. min next 32768) c.bounds-start.ensures.next ∙ sym (part_end-guard p.size c.args.s _ fits.starts c.requires.symbol))

@@ -17,7 +17,7 @@ pub invariant_of-self : goal.invariant_of-self
 invariant_of-self c =
     let here : c.args.m < length c.self.inside.places.items = omega (arith, ap length c.self.view_is, length-map c.self.inside.places.items (counting_in c.self.inside.cells.items), c.requires.model) in (
       IsBank-set c.self.inside.places.items c.self.inside.cells.items c.count_at.new.cells.items c.args.m c.index_mut.result.now c.count_at.new.place c.self.invariant.0 here c.index_mut.ensures.value c.count_at.ensures.place c.count_at.ensures.good c.count_at.ensures.others,
-      AreFirst-set c.self.inside.places.items c.self.inside.firsts.items c.args.m c.index_mut.result.now c.count_at.new.place c.self.invariant.1 here c.index_mut.ensures.value c.count_at.ensures.place,
+      AreFirst-set c.self.inside.places.items c.self.inside.cells.items c.count_at.new.cells.items c.args.m c.index_mut.result.now c.count_at.new.place c.self.invariant.1 here c.index_mut.ensures.value c.count_at.ensures.place c.count_at.ensures.others,
     )
 
 pub returns-clause-after_symbol : goal.returns-clause-after_symbol

@@ -1,11 +1,16 @@
 use Rattle.laz_models.proofs.Banks.{at}
 use Rattle.laz_models.proofs.bank.ModelBank.near.Goals as goal
 
+pub near-requires-clause-entry : goal.near-requires-clause-entry
+near-requires-clause-entry c =
+    let a = at c.args.self.now c.self.inside.places.items c.self.inside.cells.items c.args.m c.index.result.now c.self.view_is c.self.invariant.0 c.requires.model c.index.ensures in
+    rw a.size at c.requires.below
+
 pub returns-clause-near : goal.returns-clause-near
 returns-clause-near c =
-    let a = at c.args.self.now c.self.inside.places.items c.self.inside.cells.items c.args.m c.index-place.result.now c.self.view_is c.self.invariant.0 c.requires.model c.index-place.ensures in
+    let a = at c.args.self.now c.self.inside.places.items c.self.inside.cells.items c.args.m c.index.result.now c.self.view_is c.self.invariant.0 c.requires.model c.index.ensures in
     rw (a.size, a.is) (rw c.deref.ensures.value at c.near.ensures)
 
 pub returns-clause-starts : goal.returns-clause-starts
 returns-clause-starts c =
-    (at c.args.self.now c.self.inside.places.items c.self.inside.cells.items c.args.m c.index-place.result.now c.self.view_is c.self.invariant.0 c.requires.model c.index-place.ensures).starts
+    (at c.args.self.now c.self.inside.places.items c.self.inside.cells.items c.args.m c.index.result.now c.self.view_is c.self.invariant.0 c.requires.model c.index.ensures).starts

@@ -12,7 +12,7 @@ use Rattle.laz_models.proofs.bank.ModelBank.reset.Goals as goal
 pub invariant_of-self : goal.invariant_of-self
 invariant_of-self c =
     rw c.reset_all.ensures
-    (first-IsBank c.self.inside.places.items c.self.inside.cells.items c.self.invariant.0, AreFirst-new c.self.inside.places.items c.self.inside.firsts.items c.self.invariant.1)
+    (first-IsBank c.self.inside.places.items c.self.inside.cells.items c.self.invariant.0, AreFirst-new c.self.inside.places.items c.self.inside.cells.items c.self.invariant.1)
 
 pub returns-clause-new_model : goal.returns-clause-new_model
 returns-clause-new_model c =

@@ -1,0 +1,9 @@
+use Rattle.std.proofs.Common.{◌*◌, ◌/◌, ◌^◌, ◌∙◌, ap, arith}
+use Rattle.std.proofs.lemmas.Nat.{le-div}
+use Rattle.laz_range.specs.Decoding.{Decoding}
+use Rattle.laz_range.proofs.decoder.Decoder.estimate.Goals as goal
+
+pub returns-clause-below : goal.returns-clause-below
+returns-clause-below c =
+    let long = c.self.invariant.2 (ap (λ (d : Decoding). d.failed) c.self.view_is ∙ c.requires.good) in
+    rw (← c.self.view_is) (le-div (c.estimate.result * 2 ^ c.args.bits) c.self.inside.input.value (c.self.inside.input.length / 32768) (omega (arith, long)) c.estimate.ensures.place)
