@@ -84,10 +84,11 @@ fn points_worked_by_hand(rt: HostRuntime) -> Result<(), Fail> {
         let mut point = [0u8; 20];
         point[12] = intensity;
         point[14] = flags;
+        let stream = &wanted[..];
         let (room, written) = coded(rt.alloc(), &point, &point, 1)?;
-        assert!(rt; room[..written] == wanted[..], "at intensity {intensity}");
+        assert!(rt; &room[..written] == stream, "at intensity {intensity}");
         assert!(rt;
-            are_read(&mut item, &wanted, &point, &point, 1)?,
+            are_read(&mut item, stream, &point, &point, 1)?,
             "at intensity {intensity}"
         );
     }
