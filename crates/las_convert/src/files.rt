@@ -52,11 +52,12 @@ fn begin<F: Files>(
 {
     let head = reader.head();
     let most = head.points();
+    let hands = Writer::hands(chunk, most, workers);
     if head.packed() {
         let plain = head.without_vlr(alloc)?;
-        return Writer::create(alloc, files, output, &plain, chunk, true, most, workers);
+        return Writer::create(alloc, files, output, &plain, chunk, true, most, hands);
     }
-    Writer::create(alloc, files, output, head, chunk, true, most, workers)
+    Writer::create(alloc, files, output, head, chunk, true, most, hands)
 }
 
 // A buffer for the records of a block, if its chunks have one size.
@@ -178,7 +179,8 @@ pub fn convert<R: Threads + Sync, F: Files, G: Gate>(
 {
     let mut reader = reader;
     let mut buffer = room_for_blocks(alloc, &reader)?;
-    let mut crew = reader.crew(alloc, workers)?;
+    let hands = reader.hands(workers);
+    let mut crew = reader.crew(alloc, hands)?;
     let writer = begin(alloc, files, &reader, output, chunk, workers)?;
     fill(
         rt,

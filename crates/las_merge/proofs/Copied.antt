@@ -7,25 +7,20 @@ use Rattle.std.proofs.lemmas.List.Sums.{sum_by-cons}
 use Rattle.std.proofs.Math.Seq.{get_or-append_seam}
 use Rattle.las_header.specs.declared.refusal.Refusal.{Refusal}
 use Rattle.las_header.specs.Fields.{points_of, record_length_of}
-use Rattle.las_outside.specs.Faults.{Rose}
 use Rattle.las_outside.specs.Files.{FileMap, WhereKnown}
 use Rattle.las_outside.specs.Outside.{Outside}
-use Rattle.laz_file.specs.declared.fault.Fault.{Fault}
-use Rattle.laz_file.specs.declared.fault.Fault.TheVariants.{Refused, Read, Write, Memory}
-use Rattle.laz_file.specs.Copying.{CanTake, HasCause, LeavesPart, Takes, with_reads}
+use Rattle.laz_file.specs.Copying.{LeavesPart, Takes, with_reads}
 use Rattle.laz_file.specs.Outputs.{Output}
-use Rattle.laz_file.specs.Reading.{ReaderSeen, StandsFor, records_in}
 use Rattle.laz_file.specs.Writing.{Stands, WriterSeen}
 use Rattle.laz_file.proofs.Putting.{concat-append}
 use Rattle.laz_file.proofs.Taking.{known_taken, part_then, takes_none, takes_then}
-use Rattle.las_merge.specs.declared.fault.MergeFault.{MergeFault}
-use Rattle.las_merge.specs.Copying.{AreCopied, CopiesAll, CopiesInto, CopiesTo, IsFaultOf, OnlyRecords}
+use Rattle.las_merge.specs.Copying.{AreCopied, CopiesAll, CopiesInto, CopiesTo, HasRoom, OnlyRecords}
 use Rattle.las_merge.specs.Inputs.{item_at}
-use Rattle.las_merge.specs.Opening.{IsOpen, fault_of, names_read, points_read}
+use Rattle.las_merge.specs.Opening.{InputSeen, IsItsFile, IsOpen, names_read, points_read}
 
 -- The records of the first readers were copied, and these readers are left.
-pub record HasCopied (old now : Outside) (readers rest : List ReaderSeen) (number : ℕ) (w v : WriterSeen) : Type 0 where
-  pub done : List ReaderSeen
+pub record HasCopied (old now : Outside) (readers rest : List InputSeen) (number : ℕ) (w v : WriterSeen) : Type 0 where
+  pub done : List InputSeen
   pub parts : List (List ℕ)
   pub split : readers ≡ done ++ rest
   pub count : length done ≡ number
@@ -33,7 +28,7 @@ pub record HasCopied (old now : Outside) (readers rest : List ReaderSeen) (numbe
   pub copied : AreCopied old.held (names_read done) parts
   pub takes : Takes old now w v (concat parts)
 
-pub has_none : (old : Outside) (readers : List ReaderSeen) (w : WriterSeen) → HasCopied old old readers readers 0 w w
+pub has_none : (old : Outside) (readers : List InputSeen) (w : WriterSeen) → HasCopied old old readers readers 0 w w
 has_none old readers w = record { done = []; parts = []; split = refl; count = refl; few = refl; copied = tt; takes = takes_none old w }
 
 -- one input more
@@ -49,15 +44,15 @@ copied_longer held names more [] all = tt
 copied_longer held [] more (p ∷ ps) all = absurd all
 copied_longer held (n ∷ ns) more (p ∷ ps) all = (all.0, copied_longer held ns more ps all.1)
 
-names-append : (xs ys : List ReaderSeen) → names_read (xs ++ ys) ≡ names_read xs ++ names_read ys
+names-append : (xs ys : List InputSeen) → names_read (xs ++ ys) ≡ names_read xs ++ names_read ys
 names-append [] ys = refl
 names-append (x ∷ xs) ys = ap (λ (ns : List (List ℕ)). x.name ∷ ns) (names-append xs ys)
 
-names-length : (xs : List ReaderSeen) → length (names_read xs) ≡ length xs
+names-length : (xs : List InputSeen) → length (names_read xs) ≡ length xs
 names-length [] = refl
 names-length (x ∷ xs) = omega (arith, names-length xs)
 
-module _ (old now : Outside) (readers rest : List ReaderSeen) (reader : ReaderSeen) (number : ℕ) (w v : WriterSeen) (has : HasCopied old now readers (reader ∷ rest) number w v) where
+module _ (old now : Outside) (readers rest : List InputSeen) (reader : InputSeen) (number : ℕ) (w v : WriterSeen) (has : HasCopied old now readers (reader ∷ rest) number w v) where
   names_are : names_read readers ≡ names_read has.done ++ (reader.name ∷ names_read rest)
   names_are = ap names_read has.split ∙ names-append has.done (reader ∷ rest)
 
@@ -102,27 +97,27 @@ module _ (old now : Outside) (readers rest : List ReaderSeen) (reader : ReaderSe
   leaves_next later part left = part_then old now later w v (concat has.parts) part has.takes left
 
 -- all inputs were copied
-pub copies_all : (old now : Outside) (readers : List ReaderSeen) (number : ℕ) (w v : WriterSeen) (has : HasCopied old now readers [] number w v) → CopiesAll old.held (names_read readers) (concat has.parts)
+pub copies_all : (old now : Outside) (readers : List InputSeen) (number : ℕ) (w v : WriterSeen) (has : HasCopied old now readers [] number w v) → CopiesAll old.held (names_read readers) (concat has.parts)
 copies_all old now readers number w v has =
     let same : readers ≡ has.done = has.split ∙ append-nil has.done in
     record {
       parts = has.parts;
-      copied = subst (λ (rs : List ReaderSeen). AreCopied old.held (names_read rs) has.parts) (sym same) has.copied;
-      all = omega (arith, has.few, has.count, names-length readers, ap (λ (rs : List ReaderSeen). length rs) same);
+      copied = subst (λ (rs : List InputSeen). AreCopied old.held (names_read rs) has.parts) (sym same) has.copied;
+      all = omega (arith, has.few, has.count, names-length readers, ap (λ (rs : List InputSeen). length rs) same);
       records_are = refl;
     }
 
 -- ---- the next input, while the output is written
 
-all_here : (P : ReaderSeen → Type 0) (readers done rest : List ReaderSeen) (reader : ReaderSeen) → readers ≡ done ++ (reader ∷ rest) → All P readers → P reader
+all_here : (P : InputSeen → Type 0) (readers done rest : List InputSeen) (reader : InputSeen) → readers ≡ done ++ (reader ∷ rest) → All P readers → P reader
 all_here P readers done rest reader split all =
-    subst P (ap (λ (rs : List ReaderSeen). get_or rs (length done) reader) split ∙ get_or-append_seam done reader rest reader)
-    (all (length done) reader (omega (arith, ap (λ (rs : List ReaderSeen). length rs) split, length-append done (reader ∷ rest))))
+    subst P (ap (λ (rs : List InputSeen). get_or rs (length done) reader) split ∙ get_or-append_seam done reader rest reader)
+    (all (length done) reader (omega (arith, ap (λ (rs : List InputSeen). length rs) split, length-append done (reader ∷ rest))))
 
-points-cons : (reader : ReaderSeen) (rest : List ReaderSeen) → points_read (reader ∷ rest) ≡ points_of reader.head.bytes + points_read rest
-points-cons reader rest = sum_by-cons (λ (r : ReaderSeen). points_of r.head.bytes) reader rest
+points-cons : (reader : InputSeen) (rest : List InputSeen) → points_read (reader ∷ rest) ≡ points_of reader.head.bytes + points_read rest
+points-cons reader rest = sum_by-cons (λ (r : InputSeen). points_of r.head.bytes) reader rest
 
-module _ (old now : Outside) (readers rest : List ReaderSeen) (reader : ReaderSeen) (number : ℕ) (w v : WriterSeen) (has : HasCopied old now readers (reader ∷ rest) number w v) (before : Outside) (out : Output) (bytes : List ℕ) (s : Stands before old w out bytes) where
+module _ (old now : Outside) (readers rest : List InputSeen) (reader : InputSeen) (number : ℕ) (w v : WriterSeen) (has : HasCopied old now readers (reader ∷ rest) number w v) (before : Outside) (out : Output) (bytes : List ℕ) (s : Stands before old w out bytes) where
   pub next_stands : Stands (with_reads before now) now v out (bytes ++ concat has.parts)
   next_stands = has.takes before out bytes s
 
@@ -140,23 +135,19 @@ module _ (old now : Outside) (readers rest : List ReaderSeen) (reader : ReaderSe
       let o = all_here (IsOpen old.held) readers has.done rest reader has.split all in
       let ne = all_here (λ r. r.name ≢ w.name) readers has.done rest reader has.split names in
       record {
-        fresh = o.fresh;
-        whole = o.whole;
-        stands = (known_taken old now w v (concat has.parts) before out bytes s has.takes reader.name ne (StandsFor reader)).0 o.stands;
+        one = o.one;
+        none = o.none;
+        stands = (known_taken old now w v (concat has.parts) before out bytes s has.takes reader.name ne (IsItsFile reader)).0 o.stands;
       }
 
   next_size : All (λ r. record_length_of r.head.bytes ≡ w.size) readers → v.size ≡ record_length_of reader.head.bytes
   next_size all = same_size ∙ sym (all_here (λ r. record_length_of r.head.bytes ≡ w.size) readers has.done rest reader has.split all)
 
-  next_records : All (IsOpen old.held) readers → records_in reader.left ≡ points_of reader.head.bytes
-  next_records all = (all_here (IsOpen old.held) readers has.done rest reader has.split all).whole.records
-
-  pub next_room : All (IsOpen old.held) readers → All (λ r. record_length_of r.head.bytes ≡ w.size) readers → v.failed ≡ false → v.taken + v.size * points_read (reader ∷ rest) ≤ v.size * v.most → CanTake reader v
-  next_room all sizes sound room =
+  pub next_room : All (λ r. record_length_of r.head.bytes ≡ w.size) readers → v.failed ≡ false → v.taken + v.size * points_read (reader ∷ rest) ≤ v.size * v.most → HasRoom reader v
+  next_room sizes sound room =
       let size = next_size sizes in
       let here = ap (λ (n : ℕ). v.size * n) (points-cons reader rest) in
-      let same = ap (λ (n : ℕ). v.size * n) (next_records all) in
-      record { sound = sound; size = size; room = omega (arith, room, here, same) }
+      record { sound = sound; size = size; room = omega (arith, room, here) }
 
   -- what is known of its file was known before
   pub next_known : All (λ r. r.name ≢ w.name) readers → (P : List ℕ → Type 0) → WhereKnown now.held reader.name P → WhereKnown old.held reader.name P
@@ -168,27 +159,16 @@ module _ (old now : Outside) (readers rest : List ReaderSeen) (reader : ReaderSe
   next_copies names part (Some cause) k = (k.0, k.1, next_known names (λ file. OnlyRecords file part (Some k.0)) k.2)
 
   -- and there is room for those after it
-  pub rest_room : All (IsOpen old.held) readers → (later : Outside) (u : WriterSeen) (part : List ℕ) → Takes now later v u part → length part ≡ v.size * records_in reader.left → u.most ≡ v.most
+  pub rest_room : (later : Outside) (u : WriterSeen) (part : List ℕ) → Takes now later v u part → length part ≡ v.size * points_of reader.head.bytes → u.most ≡ v.most
       → v.taken + v.size * points_read (reader ∷ rest) ≤ v.size * v.most → u.taken + u.size * points_read rest ≤ u.size * u.most
-  rest_room all later u part takes long most room =
+  rest_room later u part takes long most room =
       let after = takes (with_reads before now) out (bytes ++ concat has.parts) next_stands in
       let size : u.size ≡ v.size = after.size ∙ sym next_stands.size in
       let taken : u.taken ≡ v.taken + length part = after.taken ∙ length-append (bytes ++ concat has.parts) part ∙ ap (λ (n : ℕ). n + length part) (sym next_stands.taken) in
       let here = ap (λ (n : ℕ). v.size * n) (points-cons reader rest) in
-      let same = ap (λ (n : ℕ). v.size * n) (next_records all) in
-      let some : u.taken + v.size * points_read rest ≤ v.size * v.most = omega (arith, room, here, same, taken, long) in
+      let some : u.taken + v.size * points_read rest ≤ v.size * v.most = omega (arith, room, here, taken, long) in
       subst (λ (k : ℕ). u.taken + k * points_read rest ≤ k * u.most) (sym size) (subst (λ (m : ℕ). u.taken + v.size * points_read rest ≤ v.size * m) (sym most) some)
 
-pub no_items : (items : List ReaderSeen) (n : ℕ) → length items ≡ n → n ≡ 0 → items ≡ []
+pub no_items : (items : List InputSeen) (n : ℕ) → length items ≡ n → n ≡ 0 → items ≡ []
 no_items [] n long none = refl
 no_items (x ∷ xs) n long none = absurd (omega (arith, long, none))
-
--- a fault of the call that copies an input
-pub fault_is : (old mid new : Outside) (number : ℕ) (fault : Fault) (r : MergeFault) → r ≡ fault_of number fault → HasCause mid new fault → mid.read_faults ≡ old.read_faults → mid.write_faults ≡ old.write_faults → IsFaultOf old new number r
-fault_is old mid new number fault r is has reads writes = subst (IsFaultOf old new number) (sym is) (by fault has)
-  where
-    by : (f : Fault) → HasCause mid new f → IsFaultOf old new number (fault_of number f)
-    by (Refused cause) h = h
-    by Read h = (refl, subst (λ (n : ℕ). Rose n new.read_faults) reads h)
-    by Write h = subst (λ (n : ℕ). Rose n new.write_faults) writes h
-    by Memory h = refl

@@ -11,7 +11,6 @@ use Rattle.las_outside.specs.Files.{FileMap, WhereKnown, with_file}
 use Rattle.laz_file.specs.declared.fault.Fault.TheVariants as fault
 use Rattle.laz_file.specs.Copying.{LeavesUnfinished}
 use Rattle.laz_file.specs.Outputs.{Output}
-use Rattle.laz_file.specs.Reading.{ReaderSeen, StandsFor}
 use Rattle.laz_file.specs.Refusing.{IsAcceptedFile, IsRefusal}
 use Rattle.laz_file.proofs.Taking.{known_before}
 use Rattle.las_merge.specs.declared.field.Field.{Field}
@@ -20,31 +19,31 @@ use Rattle.las_merge.specs.Copying.{AreCopied, BeginsWith, CopiesAll, CopiesInto
 use Rattle.las_merge.specs.Fields.{first_difference}
 use Rattle.las_merge.specs.Inputs.{AreFirst, CanMerge, IsKeptBy, Reaches, first_head, item_at}
 use Rattle.las_merge.specs.Merging.{LeavesMerged, OnlyMerges}
-use Rattle.las_merge.specs.Opening.{AreOpen, IsOpen, OpensTo, first_read, names_read, points_read}
+use Rattle.las_merge.specs.Opening.{AreOpen, InputSeen, IsItsFile, IsOpen, OpensTo, first_read, names_read, points_read}
 use Rattle.las_merge.proofs.Known.{file_at, file_length, file_of, files_of, first_by, held_at, name_length, only_by, read_first, read_head, read_points}
 use Rattle.las_merge.proofs.Merges.{merges_begin, only_all, only_bad}
 
 -- ---- opened inputs
 
 module _ (known : FileMap) (names : List (List ℕ)) where
-  abbrev read_files : List ReaderSeen → List (List ℕ)
+  abbrev read_files : List InputSeen → List (List ℕ)
   read_files readers = files_of known (names_read readers)
 
-  count_files : (readers : List ReaderSeen) → length (read_files readers) ≡ length readers
+  count_files : (readers : List InputSeen) → length (read_files readers) ≡ length readers
   count_files readers = file_length known (names_read readers) ∙ name_length known readers
 
-  reaches_by : (number : ℕ) (readers : List ReaderSeen) → OpensTo (Some known) names number readers → Reaches known names number (read_files readers)
+  reaches_by : (number : ℕ) (readers : List InputSeen) → OpensTo (Some known) names number readers → Reaches known names number (read_files readers)
   reaches_by number readers o = record { first = first_by known names readers o.opened; number_is = count_files readers ∙ o.number_is; within = o.within }
 
-  refused_at : (number : ℕ) (cause : Refusal) (readers : List ReaderSeen) → OpensTo (Some known) names number readers → WhereKnown (Some known) (item_at names number) (λ file. IsRefusal file (Some cause)) → IsKeptBy known names (At number (fault.Refused cause))
+  refused_at : (number : ℕ) (cause : Refusal) (readers : List InputSeen) → OpensTo (Some known) names number readers → WhereKnown (Some known) (item_at names number) (λ file. IsRefusal file (Some cause)) → IsKeptBy known names (At number (fault.Refused cause))
   refused_at number cause readers o k =
       let h = held_at known (item_at names number) (λ file. IsRefusal file (Some cause)) k in
       (read_files readers, file_of known (item_at names number), reaches_by number readers o, h.0, h.1)
 
-  unequal_at : (number : ℕ) (field : Field) (readers : List ReaderSeen) (reader : ReaderSeen) → OpensTo (Some known) names number readers → 1 ≤ number → reader.name ≡ item_at names number → IsOpen (Some known) reader → first_difference (first_read readers) reader.head.bytes ≡ Some field
+  unequal_at : (number : ℕ) (field : Field) (readers : List InputSeen) (reader : InputSeen) → OpensTo (Some known) names number readers → 1 ≤ number → reader.name ≡ item_at names number → IsOpen (Some known) reader → first_difference (first_read readers) reader.head.bytes ≡ Some field
       → IsKeptBy known names (Unequal number field)
   unequal_at number field readers reader o some named open_one differs =
-      let h = held_at known reader.name (StandsFor reader) open_one.stands in (
+      let h = held_at known reader.name (IsItsFile reader) open_one.stands in (
         read_files readers,
         file_of known reader.name,
         reaches_by number readers o,
@@ -56,35 +55,35 @@ module _ (known : FileMap) (names : List (List ℕ)) where
             ∙ differs,
       )
 
-  many_at : (readers : List ReaderSeen) → AreOpen (Some known) names readers → length readers ≡ length names → 2 ^ 32 ≤ points_read readers → IsKeptBy known names TooManyPoints
+  many_at : (readers : List InputSeen) → AreOpen (Some known) names readers → length readers ≡ length names → 2 ^ 32 ≤ points_read readers → IsKeptBy known names TooManyPoints
   many_at readers o all many = (read_files readers, first_by known names readers o, count_files readers ∙ all, omega (arith, many, read_points known readers o.opened))
 
-  can_at : (readers : List ReaderSeen) → AreOpen (Some known) names readers → length readers ≡ length names → points_read readers < 2 ^ 32 → CanMerge known names (read_files readers)
+  can_at : (readers : List InputSeen) → AreOpen (Some known) names readers → length readers ≡ length names → points_read readers < 2 ^ 32 → CanMerge known names (read_files readers)
   can_at readers o all few = record { first = first_by known names readers o; all = count_files readers ∙ all; few = omega (arith, few, read_points known readers o.opened) }
 
 -- the same of files that are known to hold this
 module _ (held : Option FileMap) (known : FileMap) (is : held ≡ Some known) (names : List (List ℕ)) where
-  pub refused_by : (number : ℕ) (cause : Refusal) (readers : List ReaderSeen) → OpensTo held names number readers → WhereKnown held (item_at names number) (λ file. IsRefusal file (Some cause)) → IsKeptBy known names (At number (fault.Refused cause))
+  pub refused_by : (number : ℕ) (cause : Refusal) (readers : List InputSeen) → OpensTo held names number readers → WhereKnown held (item_at names number) (λ file. IsRefusal file (Some cause)) → IsKeptBy known names (At number (fault.Refused cause))
   refused_by number cause readers o k =
       refused_at known names number cause readers (subst (λ (h : Option FileMap). OpensTo h names number readers) is o) (subst (λ (h : Option FileMap). WhereKnown h (item_at names number) (λ file. IsRefusal file (Some cause))) is k)
 
-  pub unequal_by : (number : ℕ) (field : Field) (readers : List ReaderSeen) (reader : ReaderSeen) → OpensTo held names number readers → 1 ≤ number → reader.name ≡ item_at names number → IsOpen held reader → first_difference (first_read readers) reader.head.bytes ≡ Some field
+  pub unequal_by : (number : ℕ) (field : Field) (readers : List InputSeen) (reader : InputSeen) → OpensTo held names number readers → 1 ≤ number → reader.name ≡ item_at names number → IsOpen held reader → first_difference (first_read readers) reader.head.bytes ≡ Some field
       → IsKeptBy known names (Unequal number field)
   unequal_by number field readers reader o some named open_one differs =
       unequal_at known names number field readers reader (subst (λ (h : Option FileMap). OpensTo h names number readers) is o) some named (subst (λ (h : Option FileMap). IsOpen h reader) is open_one) differs
 
-  pub many_by : (readers : List ReaderSeen) → AreOpen held names readers → length readers ≡ length names → 2 ^ 32 ≤ points_read readers → IsKeptBy known names TooManyPoints
+  pub many_by : (readers : List InputSeen) → AreOpen held names readers → length readers ≡ length names → 2 ^ 32 ≤ points_read readers → IsKeptBy known names TooManyPoints
   many_by readers o all many = many_at known names readers (subst (λ (h : Option FileMap). AreOpen h names readers) is o) all many
 
-  pub can_by : (readers : List ReaderSeen) → AreOpen held names readers → length readers ≡ length names → points_read readers < 2 ^ 32 → CanMerge known names (files_of known (names_read readers))
+  pub can_by : (readers : List InputSeen) → AreOpen held names readers → length readers ≡ length names → points_read readers < 2 ^ 32 → CanMerge known names (files_of known (names_read readers))
   can_by readers o all few = can_at known names readers (subst (λ (h : Option FileMap). AreOpen h names readers) is o) all few
 
-  pub before_by : (number : ℕ) (readers : List ReaderSeen) → OpensTo held names number readers → (before : List (List ℕ)) × AreFirst known names before × (length before ≡ number)
+  pub before_by : (number : ℕ) (readers : List InputSeen) → OpensTo held names number readers → (before : List (List ℕ)) × AreFirst known names before × (length before ≡ number)
   before_by number readers o =
       let here = subst (λ (h : Option FileMap). OpensTo h names number readers) is o in
       (files_of known (names_read readers), first_by known names readers here.opened, count_files known names readers ∙ o.number_is)
 
-  pub first_head_by : (readers : List ReaderSeen) → AreOpen held names readers → 1 ≤ length readers → first_read readers ≡ first_head (files_of known (names_read readers))
+  pub first_head_by : (readers : List InputSeen) → AreOpen held names readers → 1 ≤ length readers → first_read readers ≡ first_head (files_of known (names_read readers))
   first_head_by readers o some = read_first known readers (subst (λ (h : Option FileMap). AreOpen h names readers) is o).opened some
 
 -- the first of inputs that can be merged

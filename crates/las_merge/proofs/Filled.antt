@@ -55,11 +55,11 @@ module _ (old : Outside) (names : List (List ℕ)) (w : WriterSeen) (before : Ou
       within input same = subst (λ (k : ℕ). k < length names) (sym same) f.2.within
 
       by : (r : MergeFault) → IsFaultOf old new f.0 r → EndsMerging old.held before.held old new names out r
-      by (At input (fault.Refused refusal)) h = absurd h
+      by (At input (fault.Refused refusal)) h = inr (within input h.0, h.1, mid)
       by (At input fault.Read) h = (within input h.0, h.1, mid)
       by (At input fault.Write) h = absurd h
       by (At input fault.Memory) h = (within input h, mid)
-      by (Unequal input field) h = absurd h
+      by (Unequal input field) h = (within input h.0, h.1, mid)
       by TooManyPoints h = absurd h
       by Write h = (h, mid)
       by Memory h = mid

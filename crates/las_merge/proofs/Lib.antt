@@ -3,6 +3,7 @@ pub mod Kept
 pub mod Merges
 pub mod Taken
 pub mod Copied
+pub mod Again
 pub mod Opened
 pub mod Begun
 pub mod Filled

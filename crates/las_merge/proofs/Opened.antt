@@ -11,7 +11,6 @@ use Rattle.las_outside.specs.Files.{FileMap, IsMissing, WhereKnown}
 use Rattle.las_outside.specs.Outside.{Outside}
 use Rattle.laz_file.specs.declared.fault.Fault.{Fault}
 use Rattle.laz_file.specs.declared.fault.Fault.TheVariants as fault
-use Rattle.laz_file.specs.Reading.{ReaderSeen}
 use Rattle.laz_file.specs.Refusing.{IsRefusal}
 use Rattle.las_merge.specs.declared.field.Field.{Field}
 use Rattle.las_merge.specs.declared.field.Field.TheVariants.{Format, Length, Scales, Offsets, Bounds}
@@ -19,7 +18,7 @@ use Rattle.las_merge.specs.declared.fault.MergeFault.{MergeFault}
 use Rattle.las_merge.specs.declared.fault.MergeFault.TheVariants.{At, Unequal, TooManyPoints, Write, Memory}
 use Rattle.las_merge.specs.Fields.{bytes_in, first_difference, first_in, is_same}
 use Rattle.las_merge.specs.Inputs.{item_at}
-use Rattle.las_merge.specs.Opening.{AreOpen, EndsOpening, FailsNext, FailsOpening, IsNext, IsOpen, first_read, names_read}
+use Rattle.las_merge.specs.Opening.{AreOpen, EndsOpening, FailsNext, FailsOpening, InputSeen, IsNext, IsOpen, first_read, names_read}
 
 -- ---- a head does not differ from itself
 
@@ -39,12 +38,12 @@ no_difference head = none_in (Format ∷ Length ∷ Scales ∷ Offsets ∷ Bound
 
 -- ---- one input more
 
-alike_more : (readers : List ReaderSeen) (reader : ReaderSeen) → All (λ r. first_difference (first_read readers) r.head.bytes ≡ None) readers → (1 ≤ length readers → first_difference (first_read readers) reader.head.bytes ≡ None)
+alike_more : (readers : List InputSeen) (reader : InputSeen) → All (λ r. first_difference (first_read readers) r.head.bytes ≡ None) readers → (1 ≤ length readers → first_difference (first_read readers) reader.head.bytes ≡ None)
     → All (λ r. first_difference (first_read (readers ++ reader ∷ [])) r.head.bytes ≡ None) (readers ++ reader ∷ [])
-alike_more [] reader all here = All-push (λ (r : ReaderSeen). first_difference reader.head.bytes r.head.bytes ≡ None) [] reader (All-nil (λ (r : ReaderSeen). first_difference reader.head.bytes r.head.bytes ≡ None)) (no_difference reader.head.bytes)
-alike_more (x ∷ xs) reader all here = All-push (λ (r : ReaderSeen). first_difference x.head.bytes r.head.bytes ≡ None) (x ∷ xs) reader all (here (omega arith))
+alike_more [] reader all here = All-push (λ (r : InputSeen). first_difference reader.head.bytes r.head.bytes ≡ None) [] reader (All-nil (λ (r : InputSeen). first_difference reader.head.bytes r.head.bytes ≡ None)) (no_difference reader.head.bytes)
+alike_more (x ∷ xs) reader all here = All-push (λ (r : InputSeen). first_difference x.head.bytes r.head.bytes ≡ None) (x ∷ xs) reader all (here (omega arith))
 
-names_more : (readers : List ReaderSeen) (reader : ReaderSeen) → names_read (readers ++ reader ∷ []) ≡ names_read readers ++ reader.name ∷ []
+names_more : (readers : List InputSeen) (reader : InputSeen) → names_read (readers ++ reader ∷ []) ≡ names_read readers ++ reader.name ∷ []
 names_more [] reader = refl
 names_more (x ∷ xs) reader = ap (λ (ns : List (List ℕ)). x.name ∷ ns) (names_more xs reader)
 
@@ -53,10 +52,10 @@ open_none held names = record {
   within = omega arith;
   named = refl;
   opened = All-nil (IsOpen held);
-  alike = All-nil (λ (r : ReaderSeen). first_difference [] r.head.bytes ≡ None);
+  alike = All-nil (λ (r : InputSeen). first_difference [] r.head.bytes ≡ None);
 }
 
-pub open_more : (held : Option FileMap) (names : List (List ℕ)) (readers : List ReaderSeen) (reader : ReaderSeen) → AreOpen held names readers → length readers < length names → IsNext held (item_at names (length readers)) readers reader → AreOpen held names (readers ++ reader ∷ [])
+pub open_more : (held : Option FileMap) (names : List (List ℕ)) (readers : List InputSeen) (reader : InputSeen) → AreOpen held names readers → length readers < length names → IsNext held (item_at names (length readers)) readers reader → AreOpen held names (readers ++ reader ∷ [])
 open_more held names readers reader all within next =
     let long : length (readers ++ reader ∷ []) ≡ length readers + 1 = omega (arith, length-append readers (reader ∷ [])) in
     record {
@@ -80,7 +79,7 @@ fails_since name start old new held reads fault.Read (inr rose) = inr (subst (λ
 fails_since name start old new held reads fault.Write h = h
 fails_since name start old new held reads fault.Memory h = h
 
-pub next_ends : (names : List (List ℕ)) (readers : List ReaderSeen) (name : List ℕ) (start old new : Outside) → AreOpen start.held names readers → length readers < length names → name ≡ item_at names (length readers) → old.held ≡ start.held → old.read_faults ≡ start.read_faults → (f : MergeFault)
+pub next_ends : (names : List (List ℕ)) (readers : List InputSeen) (name : List ℕ) (start old new : Outside) → AreOpen start.held names readers → length readers < length names → name ≡ item_at names (length readers) → old.held ≡ start.held → old.read_faults ≡ start.read_faults → (f : MergeFault)
     → FailsNext name readers old new f → EndsOpening names start new f
 next_ends names readers name start old new all within named held reads (At number cause) h =
     let at : name ≡ item_at names number = named ∙ ap (λ (k : ℕ). item_at names k) (sym h.0) in (

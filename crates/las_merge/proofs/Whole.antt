@@ -12,7 +12,6 @@ use Rattle.laz_file.specs.declared.fault.Fault.{Fault}
 use Rattle.laz_file.specs.declared.fault.Fault.TheVariants as fault
 use Rattle.laz_file.specs.Copying.{LeavesUnfinished}
 use Rattle.laz_file.specs.Outputs.{Output, finished, stopped}
-use Rattle.laz_file.specs.Reading.{ReaderSeen, StandsFor}
 use Rattle.laz_file.specs.Writing.{Stands, WriterSeen}
 use Rattle.laz_file.proofs.Arms.{held_text}
 use Rattle.laz_file.proofs.Endings.{leaves_part}
@@ -22,7 +21,7 @@ use Rattle.las_merge.specs.declared.fault.MergeFault.TheVariants.{At, Unequal, T
 use Rattle.las_merge.specs.Copying.{CopiesAll, CopiesInto, CopiesTo, EndsMerging, FailsBeginning, LeavesMid, output_under}
 use Rattle.las_merge.specs.Inputs.{CanMerge, first_head, item_at, names_of}
 use Rattle.las_merge.specs.Merging.{LeavesMerged, OnlyMerges, merged_output}
-use Rattle.las_merge.specs.Opening.{AreOpen, IsOpen, first_read, names_read, points_read}
+use Rattle.las_merge.specs.Opening.{AreOpen, InputSeen, IsItsFile, IsOpen, first_read, names_read, points_read}
 use Rattle.las_merge.proofs.Ends.{AreOther, all_before, bad_of, can_by, first_head_by, into_before, leaves_of, merges_of, mid_before, to_before}
 use Rattle.las_merge.proofs.Filled.{into_part}
 use Rattle.las_merge.proofs.Known.{files_of}
@@ -32,14 +31,14 @@ pub other_names : (inputs : List (String Global)) (name : List ℕ) → All (λ 
 other_names [] name other = λ k d lt. absurd (omega (arith, lt))
 other_names (x ∷ xs) name other = All-cons (λ (n : List ℕ). n ≢ name) (string_bytes x) (names_of xs) (other 0 x (omega arith)) (other_names xs name (λ k d lt. other (suc k) d (omega (arith, lt))))
 
-module _ (held : Option FileMap) (names : List (List ℕ)) (readers : List ReaderSeen) (opened : AreOpen held names readers) (all : length readers ≡ length names) where
+module _ (held : Option FileMap) (names : List (List ℕ)) (readers : List InputSeen) (opened : AreOpen held names readers) (all : length readers ≡ length names) where
   pub names_are : names_read readers ≡ names
   names_are = opened.named ∙ take_all (length readers) names (omega (arith, all))
 
   module _ (name head : List ℕ) (chunk : Option ℕ) (some : 1 ≤ length names) (head_is : head ≡ first_read readers) (other : AreOther names name) where
-    reader_other : (k : ℕ) (d : ReaderSeen) → k < length readers → (get_or readers k d).name ≢ name
+    reader_other : (k : ℕ) (d : InputSeen) → k < length readers → (get_or readers k d).name ≢ name
     reader_other k d lt e =
-        let at : item_at names k ≡ (get_or readers k d).name = ap (λ (ns : List (List ℕ)). item_at ns k) (sym names_are) ∙ get_or-map (λ (r : ReaderSeen). r.name) readers k d [] lt in
+        let at : item_at names k ≡ (get_or readers k d).name = ap (λ (ns : List (List ℕ)). item_at ns k) (sym names_are) ∙ get_or-map (λ (r : InputSeen). r.name) readers k d [] lt in
         other k [] (omega (arith, lt, all)) (at ∙ e)
 
     pub readers_other : (writer : List ℕ) → writer ≡ name → All (λ r. r.name ≢ writer) readers
@@ -60,9 +59,9 @@ module _ (held : Option FileMap) (names : List (List ℕ)) (readers : List Reade
           let r = get_or readers k d in
           let o = opened.opened k d lt in
           record {
-            fresh = o.fresh;
-            whole = o.whole;
-            stands = subst (λ (h : Option FileMap). WhereKnown h r.name (StandsFor r)) (sym written) (known_after held name text r.name (StandsFor r) (reader_other k d lt) o.stands);
+            one = o.one;
+            none = o.none;
+            stands = subst (λ (h : Option FileMap). WhereKnown h r.name (IsItsFile r)) (sym written) (known_after held name text r.name (IsItsFile r) (reader_other k d lt) o.stands);
           }
 
       module _ (known : FileMap) (is : held ≡ Some known) (few : points_read readers < 2 ^ 32) where
@@ -121,9 +120,9 @@ module _ (held : Option FileMap) (names : List (List ℕ)) (readers : List Reade
 
 -- ---- faults
 
-pub head_first : (readers : List ReaderSeen) (reader : ReaderSeen) → 1 ≤ length readers → reader ≡ get_or readers 0 reader → reader.head.bytes ≡ first_read readers
+pub head_first : (readers : List InputSeen) (reader : InputSeen) → 1 ≤ length readers → reader ≡ get_or readers 0 reader → reader.head.bytes ≡ first_read readers
 head_first [] reader some is = absurd (omega (arith, some))
-head_first (r ∷ rs) reader some is = ap (λ (x : ReaderSeen). x.head.bytes) is
+head_first (r ∷ rs) reader some is = ap (λ (x : InputSeen). x.head.bytes) is
 
 pub begin_left : (old new : Outside) (out : Output) (cause : MergeFault) → FailsBeginning old new out cause → (records : List ℕ) → LeavesUnfinished out records old.held new.held
 begin_left old new out (At number cause) f = absurd f
@@ -133,13 +132,15 @@ begin_left old new out Write f = f.1
 begin_left old new out Memory f = f
 
 pub at_number : (known was : Option FileMap) (old now : Outside) (names : List (List ℕ)) (out : Output) (number : ℕ) (cause : Fault) → EndsMerging known was old now names out (At number cause) → number < length names
-at_number known was old now names out number (fault.Refused refusal) e = e.1.within
+at_number known was old now names out number (fault.Refused refusal) (inl e) = e.1.within
+at_number known was old now names out number (fault.Refused refusal) (inr e) = e.0
 at_number known was old now names out number fault.Read e = e.0
 at_number known was old now names out number fault.Write e = absurd e
 at_number known was old now names out number fault.Memory e = e.0
 
 pub ends_mid : (before old new : Outside) (names : List (List ℕ)) (w : WriterSeen) (out : Output) → Stands before old w out [] → (cause : MergeFault) → EndsMerging old.held before.held old new names out cause → LeavesMid old.held before.held new.held names out
-ends_mid before old new names w out s (At number (fault.Refused refusal)) e =
+ends_mid before old new names w out s (At number (fault.Refused refusal)) (inr e) = e.2
+ends_mid before old new names w out s (At number (fault.Refused refusal)) (inl e) =
     let text = stopped out e.0 in
     inl (
       number,
@@ -150,13 +151,13 @@ ends_mid before old new names w out s (At number (fault.Refused refusal)) e =
 ends_mid before old new names w out s (At number fault.Read) e = e.2
 ends_mid before old new names w out s (At number fault.Write) e = absurd e
 ends_mid before old new names w out s (At number fault.Memory) e = e.1
-ends_mid before old new names w out s (Unequal number field) e = absurd e
+ends_mid before old new names w out s (Unequal number field) e = e.2
 ends_mid before old new names w out s TooManyPoints e = absurd e
 ends_mid before old new names w out s Write e = e.1
 ends_mid before old new names w out s Memory e = e
 
 -- the output could not be begun
-pub left_begun : (held : Option FileMap) (names : List (List ℕ)) (readers : List ReaderSeen) (opened : AreOpen held names readers) (all : length readers ≡ length names) (name head : List ℕ) (chunk : Option ℕ) → 1 ≤ length names → head ≡ first_read readers → (known : FileMap) → held ≡ Some known → points_read readers < 2 ^ 32
+pub left_begun : (held : Option FileMap) (names : List (List ℕ)) (readers : List InputSeen) (opened : AreOpen held names readers) (all : length readers ≡ length names) (name head : List ℕ) (chunk : Option ℕ) → 1 ≤ length names → head ≡ first_read readers → (known : FileMap) → held ≡ Some known → points_read readers < 2 ^ 32
     → (before new : Outside) (cause : MergeFault) → before.held ≡ held → FailsBeginning before new (output_under name head chunk) cause → (new.held ≡ held) ⊎ ((merged : List (List ℕ)) × CanMerge known names merged × LeavesMerged (merged_output name merged chunk) merged held new.held)
 left_begun held names readers opened all name head chunk some head_is known is few before new cause same fails =
     let files = files_of known (names_read readers) in

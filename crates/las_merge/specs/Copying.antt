@@ -1,8 +1,9 @@
 -- How the records of inputs are copied into an output, one input after another.
-use Rattle.std.specs.Prelude.{◌≡◌, ◌⊎◌, ◌<◌, ℕ, true, List, [], ◌∷◌, ◌++◌, length, Option, Some, None}
+use Rattle.std.specs.Prelude.{◌≡◌, ◌⊎◌, ◌+◌, ◌*◌, ◌<◌, ◌≤◌, ℕ, true, false, List, [], ◌∷◌, ◌++◌, length, Option, Some, None}
 use Rattle.std.specs.List.{concat}
 use Rattle.las_header.specs.declared.refusal.Refusal.{Refusal}
 use Rattle.las_header.specs.declared.refusal.Refusal.TheVariants.{BadChunk}
+use Rattle.las_header.specs.Fields.{points_of, record_length_of}
 use Rattle.las_header.specs.Plain.{plain_of}
 use Rattle.las_outside.specs.Faults.{Rose}
 use Rattle.las_outside.specs.Files.{FileMap, WhereKnown, with_file}
@@ -16,6 +17,7 @@ use Rattle.las_merge.specs.declared.copying.BadInput.{BadInput}
 use Rattle.las_merge.specs.declared.fault.MergeFault.{MergeFault}
 use Rattle.las_merge.specs.declared.fault.MergeFault.TheVariants.{At, Unequal, TooManyPoints, Write, Memory}
 use Rattle.las_merge.specs.Inputs.{item_at}
+use Rattle.las_merge.specs.Opening.{InputSeen}
 
 -- These are the records of a file up to its first bad chunk, if there is one, and no others are.
 abbrev pub OnlyRecords : (file records : List ℕ) → (bad : Option ℕ) → Type 0
@@ -68,13 +70,20 @@ abbrev pub CopiesPart : Option FileMap → (names : List (List ℕ)) → (number
 CopiesPart held names number records =
     CopiesInto held names number records (λ name part. WhereKnown held name (λ file. BeginsWith file part))
 
--- A fault while inputs are copied has its cause, and is of an input that there is or of the output.
+-- A writer has not failed, and has room for the records of an input, which are as long as its own.
+pub record HasRoom (input : InputSeen) (writer : WriterSeen) : Type 0 where
+  pub sound : writer.failed ≡ false
+  pub size : writer.size ≡ record_length_of input.head.bytes
+  pub room : writer.taken + writer.size * points_of input.head.bytes ≤ writer.size * writer.most
+
+-- A fault while inputs are copied has its cause, and is of an input that there is or of the output. An input that was
+-- opened is refused when it is opened again, or differs then, only if it is not known what the files hold.
 abbrev pub IsFaultOf : (old new : Outside) → (number : ℕ) → MergeFault → Type 0
-IsFaultOf old new number (At input (fault.Refused cause)) = ⊥
+IsFaultOf old new number (At input (fault.Refused cause)) = (input ≡ number) × (old.held ≡ None)
 IsFaultOf old new number (At input fault.Read) = (input ≡ number) × Rose old.read_faults new.read_faults
 IsFaultOf old new number (At input fault.Write) = ⊥
 IsFaultOf old new number (At input fault.Memory) = input ≡ number
-IsFaultOf old new number (Unequal input field) = ⊥
+IsFaultOf old new number (Unequal input field) = (input ≡ number) × (old.held ≡ None)
 IsFaultOf old new number TooManyPoints = ⊥
 IsFaultOf old new number Write = Rose old.write_faults new.write_faults
 IsFaultOf old new number Memory = Unit {0}
@@ -98,14 +107,16 @@ LeavesMid known was now names out =
 abbrev pub EndsMerging : (known was : Option FileMap) → (old now : Outside) → (names : List (List ℕ)) → Output
     → MergeFault → Type 0
 EndsMerging known was old now names out (At number (fault.Refused cause)) =
-    (records : List ℕ) × CopiesInto known names number records (λ name part. CopiesTo known name part (Some cause))
-    × (now.held ≡ with_file was out.name (stopped out records))
+    ((records : List ℕ) × CopiesInto known names number records (λ name part. CopiesTo known name part (Some cause))
+    × (now.held ≡ with_file was out.name (stopped out records)))
+    ⊎ ((number < length names) × (known ≡ None) × LeavesMid known was now.held names out)
 EndsMerging known was old now names out (At number fault.Read) =
     (number < length names) × Rose old.read_faults now.read_faults × LeavesMid known was now.held names out
 EndsMerging known was old now names out (At number fault.Write) = ⊥
 EndsMerging known was old now names out (At number fault.Memory) =
     (number < length names) × LeavesMid known was now.held names out
-EndsMerging known was old now names out (Unequal number field) = ⊥
+EndsMerging known was old now names out (Unequal number field) =
+    (number < length names) × (known ≡ None) × LeavesMid known was now.held names out
 EndsMerging known was old now names out TooManyPoints = ⊥
 EndsMerging known was old now names out Write =
     Rose old.write_faults now.write_faults × LeavesMid known was now.held names out

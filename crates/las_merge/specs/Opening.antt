@@ -1,14 +1,16 @@
 -- How the inputs are opened, one after another.
 use Rattle.std.specs.Prelude.{◌≡◌, ◌⊎◌, ℕ, ◌^◌, ◌<◌, ◌≤◌, List, [], ◌∷◌, length, map, take, sum_by, Option, Some, None}
-use Rattle.std.specs.Prelude.{All}
-use Rattle.las_header.specs.Fields.{points_of}
+use Rattle.std.specs.Prelude.{All, true, false}
+use Rattle.las_header.specs.Fields.{head_of, is_packed, points_of, record_length_of}
+use Rattle.las_header.specs.Heads.{HeadView}
+use Rattle.las_header.specs.Vlrs.{laszip_vlrs_of}
 use Rattle.las_outside.specs.Faults.{Rose}
 use Rattle.las_outside.specs.Files.{FileMap, IsMissing, WhereKnown}
 use Rattle.las_outside.specs.Outside.{Outside}
 use Rattle.laz_file.specs.declared.fault.Fault.{Fault}
 use Rattle.laz_file.specs.declared.fault.Fault.TheVariants as fault
-use Rattle.laz_file.specs.Reading.{AgreesWithHead, IsNewReader, ReaderSeen, StandsFor}
-use Rattle.laz_file.specs.Refusing.{IsRefusal}
+use Rattle.laz_file.specs.Reading.{IsNewReader, ReaderSeen, StandsFor, records_in}
+use Rattle.laz_file.specs.Refusing.{IsAcceptedFile, IsRefusal}
 use Rattle.las_merge.specs.declared.fault.MergeFault.{MergeFault}
 use Rattle.las_merge.specs.declared.fault.MergeFault.TheVariants.{At, Unequal, TooManyPoints, Write, Memory}
 use Rattle.las_merge.specs.Fields.{first_difference}
@@ -22,31 +24,50 @@ fault_of number fault.Read = At number fault.Read
 fault_of number fault.Write = Write
 fault_of number fault.Memory = At number fault.Memory
 
--- A reader that was opened is new, agrees with its head, and stands for its file.
-pub record IsOpen (held : Option FileMap) (reader : ReaderSeen) : Type 0 where
-  pub fresh : IsNewReader reader.name reader
-  pub whole : AgreesWithHead reader
-  pub stands : WhereKnown held reader.name (StandsFor reader)
+-- What contracts see of an input that was opened: its name and its head.
+pub record InputSeen : Type 0 where
+  pub name : List ℕ
+  pub head : HeadView
 
--- the names of readers
-abbrev pub names_read : List ReaderSeen → List (List ℕ)
-names_read readers = map (λ reader. reader.name) readers
+-- The file is accepted, and its head is the input's.
+pub record IsItsFile (input : InputSeen) (file : List ℕ) : Type 0 where
+  pub accepted : IsAcceptedFile file
+  pub head : input.head ≡ record { bytes = head_of file; size = length file }
 
--- the head of the first reader
-abbrev pub first_read : List ReaderSeen → List ℕ
+-- An input that was opened: its head has one laszip VLR if the file is packed, and none if it is plain; and it is the
+-- head of its file, which is accepted.
+pub record IsOpen (held : Option FileMap) (input : InputSeen) : Type 0 where
+  pub one : is_packed input.head.bytes ≡ true → length (laszip_vlrs_of input.head.bytes) ≡ 1
+  pub none : is_packed input.head.bytes ≡ false → laszip_vlrs_of input.head.bytes ≡ []
+  pub stands : WhereKnown held input.name (IsItsFile input)
+
+-- A reader that was opened again for an input: it is new, and stands for the file of the input's name; its records are
+-- as long and as many as the input's.
+pub record IsAgain (held : Option FileMap) (input : InputSeen) (reader : ReaderSeen) : Type 0 where
+  pub fresh : IsNewReader input.name reader
+  pub stands : WhereKnown held input.name (StandsFor reader)
+  pub size : record_length_of reader.head.bytes ≡ record_length_of input.head.bytes
+  pub records : records_in reader.left ≡ points_of input.head.bytes
+
+-- the names of inputs
+abbrev pub names_read : List InputSeen → List (List ℕ)
+names_read inputs = map (λ input. input.name) inputs
+
+-- the head of the first input
+abbrev pub first_read : List InputSeen → List ℕ
 first_read [] = []
-first_read (reader ∷ readers) = reader.head.bytes
+first_read (input ∷ inputs) = input.head.bytes
 
--- how many point records readers have, by their heads
-abbrev pub points_read : List ReaderSeen → ℕ
-points_read readers = sum_by (λ reader. points_of reader.head.bytes) readers
+-- how many point records inputs have, by their heads
+abbrev pub points_read : List InputSeen → ℕ
+points_read inputs = sum_by (λ input. points_of input.head.bytes) inputs
 
--- These are the readers of the first inputs, and no head differs from the first.
-pub record AreOpen (held : Option FileMap) (names : List (List ℕ)) (readers : List ReaderSeen) : Type 0 where
-  pub within : length readers ≤ length names
-  pub named : names_read readers ≡ take (length readers) names
-  pub opened : All (IsOpen held) readers
-  pub alike : All (λ reader. first_difference (first_read readers) reader.head.bytes ≡ None) readers
+-- These are the first inputs, opened, and no head differs from the first.
+pub record AreOpen (held : Option FileMap) (names : List (List ℕ)) (inputs : List InputSeen) : Type 0 where
+  pub within : length inputs ≤ length names
+  pub named : names_read inputs ≡ take (length inputs) names
+  pub opened : All (IsOpen held) inputs
+  pub alike : All (λ input. first_difference (first_read inputs) input.head.bytes ≡ None) inputs
 
 -- How opening an input fails.
 abbrev pub FailsOpening : (name : List ℕ) → (old new : Outside) → Fault → Type 0
@@ -55,42 +76,46 @@ FailsOpening name old new fault.Read = IsMissing old.held name ⊎ Rose old.read
 FailsOpening name old new fault.Write = ⊥
 FailsOpening name old new fault.Memory = Unit {0}
 
--- The reader of the next input is opened, and its head does not differ from the first.
-pub record IsNext (held : Option FileMap) (name : List ℕ) (readers : List ReaderSeen) (reader : ReaderSeen) : Type 0
-  where
-    pub named : reader.name ≡ name
-    pub opened : IsOpen held reader
-    pub alike : 1 ≤ length readers → first_difference (first_read readers) reader.head.bytes ≡ None
+-- How one input is not opened.
+abbrev pub FailsAt : (number : ℕ) → (name : List ℕ) → (old new : Outside) → MergeFault → Type 0
+FailsAt number name old new fault =
+    (cause : Fault) × (fault ≡ At number cause) × FailsOpening name old new cause
+
+-- The next input is opened, and its head does not differ from the first.
+pub record IsNext (held : Option FileMap) (name : List ℕ) (inputs : List InputSeen) (input : InputSeen) : Type 0 where
+  pub named : input.name ≡ name
+  pub opened : IsOpen held input
+  pub alike : 1 ≤ length inputs → first_difference (first_read inputs) input.head.bytes ≡ None
 
 -- How the next input is not opened, or differs.
-abbrev pub FailsNext : (name : List ℕ) → List ReaderSeen → (old new : Outside) → MergeFault → Type 0
-FailsNext name readers old new (At number cause) = (number ≡ length readers) × FailsOpening name old new cause
-FailsNext name readers old new (Unequal number field) =
-    (number ≡ length readers) × (1 ≤ length readers)
-    × ((reader : ReaderSeen) × (reader.name ≡ name) × IsOpen old.held reader
-    × (first_difference (first_read readers) reader.head.bytes ≡ Some field))
-FailsNext name readers old new TooManyPoints = ⊥
-FailsNext name readers old new Write = ⊥
-FailsNext name readers old new Memory = ⊥
+abbrev pub FailsNext : (name : List ℕ) → List InputSeen → (old new : Outside) → MergeFault → Type 0
+FailsNext name inputs old new (At number cause) = (number ≡ length inputs) × FailsOpening name old new cause
+FailsNext name inputs old new (Unequal number field) =
+    (number ≡ length inputs) × (1 ≤ length inputs)
+    × ((input : InputSeen) × (input.name ≡ name) × IsOpen old.held input
+    × (first_difference (first_read inputs) input.head.bytes ≡ Some field))
+FailsNext name inputs old new TooManyPoints = ⊥
+FailsNext name inputs old new Write = ⊥
+FailsNext name inputs old new Memory = ⊥
 
 -- The inputs before this one were opened.
-pub record OpensTo (held : Option FileMap) (names : List (List ℕ)) (number : ℕ) (readers : List ReaderSeen) : Type 0
+pub record OpensTo (held : Option FileMap) (names : List (List ℕ)) (number : ℕ) (inputs : List InputSeen) : Type 0
   where
-    pub opened : AreOpen held names readers
-    pub number_is : length readers ≡ number
+    pub opened : AreOpen held names inputs
+    pub number_is : length inputs ≡ number
     pub within : number < length names
 
 -- How opening the inputs ends with a fault.
 abbrev pub EndsOpening : (names : List (List ℕ)) → (old new : Outside) → MergeFault → Type 0
 EndsOpening names old new (At number cause) =
-    (readers : List ReaderSeen) × OpensTo old.held names number readers
+    (inputs : List InputSeen) × OpensTo old.held names number inputs
     × FailsOpening (item_at names number) old new cause
 EndsOpening names old new (Unequal number field) =
-    (readers : List ReaderSeen) × (reader : ReaderSeen) × OpensTo old.held names number readers × (1 ≤ number)
-    × (reader.name ≡ item_at names number) × IsOpen old.held reader
-    × (first_difference (first_read readers) reader.head.bytes ≡ Some field)
+    (inputs : List InputSeen) × (input : InputSeen) × OpensTo old.held names number inputs × (1 ≤ number)
+    × (input.name ≡ item_at names number) × IsOpen old.held input
+    × (first_difference (first_read inputs) input.head.bytes ≡ Some field)
 EndsOpening names old new TooManyPoints =
-    (readers : List ReaderSeen) × AreOpen old.held names readers × (length readers ≡ length names)
-    × (2 ^ 32 ≤ points_read readers)
+    (inputs : List InputSeen) × AreOpen old.held names inputs × (length inputs ≡ length names)
+    × (2 ^ 32 ≤ points_read inputs)
 EndsOpening names old new Write = ⊥
 EndsOpening names old new Memory = Unit {0}

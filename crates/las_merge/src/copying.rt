@@ -1,18 +1,19 @@
 //! The records of the inputs, which go one input after another into the output.
 ghost use Rattle.std.specs.Prelude.{◌≡◌, ◌≢◌, ◌*◌, ◌+◌, ◌<◌, ◌≤◌, ◌^◌, ℕ, List, All, None, false, length, sum_by};
 ghost use Rattle.std.specs.Prelude.{IfErr, IfOk, OnErr, OnOk};
-ghost use Rattle.las_header.specs.Fields.{record_length_of};
+ghost use Rattle.las_header.specs.Fields.{points_of, record_length_of};
 ghost use Rattle.las_outside.specs.Files.{WhereKnown};
 ghost use Rattle.las_outside.specs.Outside.{Later, Outside};
 ghost use Rattle.laz_file.specs.Copying.{CanTake, HasCause, LeavesPart, Takes};
 ghost use Rattle.laz_file.specs.Outputs.{Output};
-ghost use Rattle.laz_file.specs.Reading.{ReaderSeen, StandsFor, records_in};
+ghost use Rattle.laz_file.specs.Reading.{IsNewReader, ReaderSeen, StandsFor, records_in};
 ghost use Rattle.laz_file.specs.Writing.{Stands};
-ghost use Rattle.las_merge.specs.Copying.{BeginsWith, CopiesTo, CopiesUpTo, FailsCopying};
-ghost use Rattle.las_merge.specs.Opening.{IsOpen, fault_of, names_read, points_read};
+ghost use Rattle.las_merge.specs.Copying.{BeginsWith, CopiesTo, CopiesUpTo, FailsCopying, HasRoom, IsFaultOf};
+ghost use Rattle.las_merge.specs.Opening.{InputSeen, IsOpen, fault_of, names_read, points_read};
 
 use crate::MergeFault;
-use crate::opening::fault_of;
+use crate::input::Input;
+use crate::opening::{fault_of, open_again};
 use las_header::Refusal;
 use las_outside::{Files, Gate};
 use laz_file::{Fault, Reader, Writer, copy_records};
@@ -26,7 +27,8 @@ pub(crate) struct BadInput {
     pub(crate) cause: Refusal,
 }
 
-// Copies the records of an input: all of them, or those before its first bad chunk, which is the answer.
+// Copies the records of an input that was opened again: all of them, or those before its first bad chunk, which is the
+// answer.
 fn copy_input<R: Threads + Sync, F: Files, G: Gate>(
     rt: &R,
     alloc: Global,
@@ -37,7 +39,8 @@ fn copy_input<R: Threads + Sync, F: Files, G: Gate>(
     writer: &mut Writer,
 ) -> Result<Option<Refusal>, Fault>
     requires workers { (1 ≤ workers) × (workers ≤ 8) }
-    requires opened { IsOpen (F.seen files.old).held reader }
+    requires fresh { IsNewReader reader.name reader }
+    requires reads { WhereKnown (F.seen files.old).held reader.name (StandsFor reader) }
     requires names { reader.name ≢ writer.old.name }
     requires room { CanTake reader writer.old }
     requires stands { (before : Outside) × (out : Output) × (bytes : List ℕ)
@@ -57,45 +60,88 @@ fn copy_input<R: Threads + Sync, F: Files, G: Gate>(
     ensures later { Later (F.seen files.old) (F.seen files.new) }
 {
     let mut reader = reader;
-    let mut crew = reader.crew(alloc, workers)?;
+    let hands = reader.hands(workers);
+    let mut crew = reader.crew(alloc, hands)?;
     copy_records(rt, alloc, files, gate, &mut reader, &mut crew, writer)
 }
 
-/// Copies the records of all inputs, up to the first bad chunk.
+// Opens an input again, and copies its records: all of them, or those before its first bad chunk, which is the answer.
+// What is known of its chunks is let go at the end.
+fn copy_next<R: Threads + Sync, F: Files, G: Gate>(
+    rt: &R,
+    alloc: Global,
+    files: &mut F,
+    gate: &G,
+    number: u32,
+    input: &Input,
+    workers: u32,
+    writer: &mut Writer,
+) -> Result<Option<Refusal>, MergeFault>
+    requires workers { (1 ≤ workers) × (workers ≤ 8) }
+    requires opened { IsOpen (F.seen files.old).held input.now }
+    requires names { input.now.name ≢ writer.old.name }
+    requires room { HasRoom input.now writer.old }
+    requires stands { (before : Outside) × (out : Output) × (bytes : List ℕ)
+        × Stands before (F.seen files.old) writer.old out bytes }
+    ensures copied { IfOk result (λ end. (records : List ℕ)
+        × CopiesTo (F.seen files.old).held input.now.name records end
+        × Takes (F.seen files.old) (F.seen files.new) writer.old writer.new records
+        × (end ≡ None → length records ≡ writer.old.size * points_of input.now.head.bytes)) }
+    ensures left { OnErr result ((records : List ℕ)
+        × WhereKnown (F.seen files.old).held input.now.name (λ file. BeginsWith file records)
+        × LeavesPart (F.seen files.old) (F.seen files.new) writer.old records) }
+    ensures open { OnOk result (writer.new.failed ≡ false) }
+    ensures most { OnOk result (writer.new.most ≡ writer.old.most) }
+    ensures cause { IfErr result (IsFaultOf (F.seen files.old) (F.seen files.new) number) }
+    ensures reads_calm { OnOk result ((F.seen files.new).read_faults ≡ (F.seen files.old).read_faults) }
+    ensures writes_calm { OnOk result ((F.seen files.new).write_faults ≡ (F.seen files.old).write_faults) }
+    ensures later { Later (F.seen files.old) (F.seen files.new) }
+{
+    let reader = match open_again(alloc, files, number, input) {
+        Ok(reader) => reader,
+        Err(fault) => return Err(fault),
+    };
+    match copy_input(rt, alloc, files, gate, reader, workers, writer) {
+        Ok(end) => Ok(end),
+        Err(fault) => Err(fault_of(number, fault)),
+    }
+}
+
+/// Copies the records of all inputs, up to the first bad chunk. Each input is opened again for its turn.
 pub(crate) fn copy_inputs<R: Threads + Sync, F: Files, G: Gate>(
     rt: &R,
     alloc: Global,
     files: &mut F,
     gate: &G,
-    readers: Vec<Reader>,
+    inputs: Vec<Input>,
     workers: u32,
     writer: &mut Writer,
 ) -> Result<Option<BadInput>, MergeFault>
-    requires few { length readers.items ≤ 32 }
+    requires few { length inputs.items ≤ 32 }
     requires workers { (1 ≤ workers) × (workers ≤ 8) }
-    requires opened { All (IsOpen (F.seen files.old).held) readers.items }
-    requires sizes { All (λ reader. record_length_of reader.head.bytes ≡ writer.old.size) readers.items }
-    requires names { All (λ reader. reader.name ≢ writer.old.name) readers.items }
-    requires room { writer.old.taken + writer.old.size * points_read readers.items
+    requires opened { All (IsOpen (F.seen files.old).held) inputs.items }
+    requires sizes { All (λ input. record_length_of input.head.bytes ≡ writer.old.size) inputs.items }
+    requires names { All (λ input. input.name ≢ writer.old.name) inputs.items }
+    requires room { writer.old.taken + writer.old.size * points_read inputs.items
         ≤ writer.old.size * writer.old.most }
     requires sound { writer.old.failed ≡ false }
     requires stands { (before : Outside) × (out : Output) × (bytes : List ℕ)
         × Stands before (F.seen files.old) writer.old out bytes }
     ensures copied { IfOk result (λ end. (records : List ℕ)
-        × CopiesUpTo (F.seen files.old).held (names_read readers.items) records end
+        × CopiesUpTo (F.seen files.old).held (names_read inputs.items) records end
         × Takes (F.seen files.old) (F.seen files.new) writer.old writer.new records) }
     ensures ends { IfErr result
-        (FailsCopying (F.seen files.old) (F.seen files.new) (names_read readers.items) writer.old) }
+        (FailsCopying (F.seen files.old) (F.seen files.new) (names_read inputs.items) writer.old) }
     ensures open { OnOk result (writer.new.failed ≡ false) }
     ensures reads_calm { OnOk result ((F.seen files.new).read_faults ≡ (F.seen files.old).read_faults) }
     ensures writes_calm { OnOk result ((F.seen files.new).write_faults ≡ (F.seen files.old).write_faults) }
     ensures later { Later (F.seen files.old) (F.seen files.new) }
 {
     let mut number = 0;
-    'inputs: for reader in readers {
-        let end = match copy_input(rt, alloc, files, gate, reader, workers, writer) {
+    'inputs: for input in inputs {
+        let end = match copy_next(rt, alloc, files, gate, number, &input, workers, writer) {
             Ok(end) => end,
-            Err(fault) => return Err(fault_of(number, fault)),
+            Err(fault) => return Err(fault),
         };
         if let Some(cause) = end {
             return Ok(Some(BadInput {

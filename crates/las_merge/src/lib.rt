@@ -5,6 +5,7 @@
 mod copying;
 mod fault;
 mod field;
+mod input;
 mod laws;
 mod merging;
 mod opening;

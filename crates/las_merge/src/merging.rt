@@ -22,10 +22,11 @@ ghost use Rattle.las_merge.specs.Merging.{LeavesMerged, OnlyMerges, merged_outpu
 
 use crate::MergeFault;
 use crate::copying::copy_inputs;
+use crate::input::Input;
 use crate::opening::{count_points, open_inputs};
 use las_header::Head;
 use las_outside::{Files, Gate};
-use laz_file::{Fault, Reader, Writer};
+use laz_file::{Fault, Writer};
 use std::alloc::Global;
 use std::thread::Threads;
 
@@ -63,7 +64,8 @@ fn create<F: Files>(
     ensures calm { OnOk result (SameFaults (F.seen files.old) (F.seen files.new)) }
     ensures later { Later (F.seen files.old) (F.seen files.new) }
 {
-    match Writer::create(alloc, files, output, head, chunk, true, most, workers) {
+    let hands = Writer::hands(chunk, most, workers);
+    match Writer::create(alloc, files, output, head, chunk, true, most, hands) {
         Ok(writer) => Ok(writer),
         Err(fault) => Err(fault_of_output(fault)),
     }
@@ -107,30 +109,30 @@ fn fill<R: Threads + Sync, F: Files, G: Gate>(
     alloc: Global,
     files: &mut F,
     gate: &G,
-    readers: Vec<Reader>,
+    inputs: Vec<Input>,
     workers: u32,
     writer: Writer,
 ) -> Result<(), MergeFault>
-    requires few { length readers.items ≤ 32 }
+    requires few { length inputs.items ≤ 32 }
     requires workers { (1 ≤ workers) × (workers ≤ 8) }
-    requires opened { All (IsOpen (F.seen files.old).held) readers.items }
-    requires sizes { All (λ reader. record_length_of reader.head.bytes ≡ writer.size) readers.items }
-    requires names { All (λ reader. reader.name ≢ writer.name) readers.items }
-    requires room { writer.size * points_read readers.items ≤ writer.size * writer.most }
+    requires opened { All (IsOpen (F.seen files.old).held) inputs.items }
+    requires sizes { All (λ input. record_length_of input.head.bytes ≡ writer.size) inputs.items }
+    requires names { All (λ input. input.name ≢ writer.name) inputs.items }
+    requires room { writer.size * points_read inputs.items ≤ writer.size * writer.most }
     requires fresh { (writer.failed ≡ false) × (writer.taken ≡ 0) }
     requires stands { (before : Outside) × (out : Output) × Stands before (F.seen files.old) writer out [] }
     ensures finished { (before : Outside) (out : Output) → Stands before (F.seen files.old) writer out []
-        → OnOk result ((records : List ℕ) × CopiesAll (F.seen files.old).held (names_read readers.items) records
+        → OnOk result ((records : List ℕ) × CopiesAll (F.seen files.old).held (names_read inputs.items) records
         × ((F.seen files.new).held ≡ with_file before.held out.name (finished out records))) }
     ensures ends { (before : Outside) (out : Output) → Stands before (F.seen files.old) writer out []
         → IfErr result (EndsMerging (F.seen files.old).held before.held (F.seen files.old) (F.seen files.new)
-        (names_read readers.items) out) }
+        (names_read inputs.items) out) }
     ensures reads_calm { OnOk result ((F.seen files.new).read_faults ≡ (F.seen files.old).read_faults) }
     ensures writes_calm { OnOk result ((F.seen files.new).write_faults ≡ (F.seen files.old).write_faults) }
     ensures later { Later (F.seen files.old) (F.seen files.new) }
 {
     let mut writer = writer;
-    match copy_inputs(rt, alloc, files, gate, readers, workers, &mut writer)? {
+    match copy_inputs(rt, alloc, files, gate, inputs, workers, &mut writer)? {
         None => match writer.finish(rt, alloc, files, gate) {
             Ok(_) => Ok(()),
             Err(fault) => Err(fault_of_output(fault)),
@@ -142,22 +144,27 @@ fn fill<R: Threads + Sync, F: Files, G: Gate>(
     }
 }
 
-/// Merges 1 to 32 files: the output, another name than any input's, has the records of all inputs, in their order, under
-/// the plain head of the first input with the counts of these records. It is packed in chunks of `chunk` points, 256 to
-/// 250,000, or plain. `workers`, 1 to 8, unpack and pack side by side, and what is written does not depend on them. An
-/// input may be given more than once.
+/// Merges 1 to 32 files: the output, another name than any input's, has the records of all inputs, in their order,
+/// under the plain head of the first input with the counts of these records. It is packed in chunks of `chunk` points,
+/// 256 to 250,000, or plain. `workers`, 1 to 8, unpack and pack side by side, and what is written does not depend on
+/// them. An input may be given more than once.
 ///
 /// The inputs are opened in order, and each is compared with the first: it has the same format (a packed and a plain
 /// input may be merged), record length, scales, offsets and box. Doubles are compared as bytes. Of later inputs nothing
-/// but their records is kept.
+/// but their records is kept. Each is closed when it was compared, and opened again for its turn, so the chunk list of
+/// one input alone is in memory at a time.
 ///
 /// The answer is `At` with a `Refused`, `Read` or `Memory` fault of the input of that number, `Unequal` for the first
-/// input that differs, or `TooManyPoints` if the inputs have 2^32 records or more. An input is opened only if all before
-/// it were opened and are like the first, and the output is created after all of this: until then no file changes. A
-/// chunk that holds no records of its count is `At` with `BadChunk`: the output then holds its head and all records
-/// before it, of a packed output in full chunks. After any other fault the files are as before, or the output is a
-/// prefix of its draft, or its draft after a part of its patches. `Write` means that the output could not be written, and
-/// a read or a write that failed has raised its count.
+/// input that differs, or `TooManyPoints` if the inputs have 2^32 records or more. An input is opened only if all
+/// before it were opened and are like the first, and the output is created after all of this: until then no file
+/// changes. A chunk that holds no records of its count is `At` with `BadChunk`: the output then holds its head and all
+/// records before it, of a packed output in full chunks. After any other fault the files are as before, or the output
+/// is a prefix of its draft, or its draft after a part of its patches. `Write` means that the output could not be
+/// written, and a read or a write that failed has raised its count.
+///
+/// If it is not known what the files hold, an input may be another file when its turn comes. It is then refused as when
+/// it is opened at first: for its own cause, with `Unequal` if its head differs from what it was in a field, or with
+/// `PointCounts` if it has another number of records. The output is then left unfinished.
 pub fn merge<R: Threads + Sync, F: Files, G: Gate>(
     rt: &R,
     alloc: Global,
@@ -221,16 +228,8 @@ pub fn merge<R: Threads + Sync, F: Files, G: Gate>(
     ensures writes_calm { OnOk result ((F.seen files.new).write_faults ≡ (F.seen files.old).write_faults) }
     ensures later { Later (F.seen files.old) (F.seen files.new) }
 {
-    let readers = open_inputs(alloc, files, inputs)?;
-    let most = count_points(&readers)?;
-    let writer = begin(
-        alloc,
-        files,
-        readers[0].head(),
-        output,
-        chunk,
-        most,
-        workers,
-    )?;
-    fill(rt, alloc, files, gate, readers, workers, writer)
+    let opened = open_inputs(alloc, files, inputs)?;
+    let most = count_points(&opened)?;
+    let writer = begin(alloc, files, opened[0].head(), output, chunk, most, workers)?;
+    fill(rt, alloc, files, gate, opened, workers, writer)
 }

@@ -1,15 +1,18 @@
-//! The inputs of a merge, which are opened one after another.
+//! The inputs of a merge, which are opened one after another, and each again for its turn.
 ghost use Rattle.std.specs.Prelude.{◌≡◌, ◌^◌, ◌<◌, ◌≤◌, ◌++◌, ◌∷◌, [], length, vec_len, None, Some, IfErr, IfOk, OnOk};
 ghost use Rattle.las_outside.specs.Outside.{Later};
-ghost use Rattle.laz_file.specs.Reading.{ReaderSeen};
 ghost use Rattle.las_merge.specs.declared.fault.MergeFault.TheVariants.{TooManyPoints};
 ghost use Rattle.las_merge.specs.declared.field.Field.{Field};
 ghost use Rattle.las_merge.specs.Fields.{first_difference};
 ghost use Rattle.las_merge.specs.Inputs.{names_of};
-ghost use Rattle.las_merge.specs.Opening.{AreOpen, EndsOpening, FailsNext, IsNext, fault_of, first_read, points_read};
+ghost use Rattle.las_merge.specs.Copying.{IsFaultOf};
+ghost use Rattle.las_merge.specs.Opening.{AreOpen, EndsOpening, FailsAt, FailsNext, InputSeen, IsAgain, IsNext, IsOpen};
+ghost use Rattle.las_merge.specs.Opening.{fault_of, first_read, points_read};
 
 use crate::field::first_difference;
+use crate::input::Input;
 use crate::{Field, MergeFault};
+use las_header::Refusal;
 use las_outside::Files;
 use laz_file::{Fault, Reader};
 use std::alloc::Global;
@@ -27,82 +30,136 @@ pub(crate) fn fault_of(number: u32, fault: Fault) -> MergeFault
 }
 
 // The first field in which the head of an input differs from that of the first, if there is a first.
-fn difference(readers: &[Reader], reader: &Reader) -> Option<Field>
-    ensures same { result ≡ None → 1 ≤ length readers.now
-        → first_difference (first_read readers.now) reader.now.head.bytes ≡ None }
-    ensures other { (field : Field) → result ≡ Some field → (1 ≤ length readers.now)
-        × (first_difference (first_read readers.now) reader.now.head.bytes ≡ Some field) }
+fn difference(inputs: &[Input], input: &Input) -> Option<Field>
+    ensures same { result ≡ None → 1 ≤ length inputs.now
+        → first_difference (first_read inputs.now) input.now.head.bytes ≡ None }
+    ensures other { (field : Field) → result ≡ Some field → (1 ≤ length inputs.now)
+        × (first_difference (first_read inputs.now) input.now.head.bytes ≡ Some field) }
 {
-    let [first, ..] = readers else {
+    let [first, ..] = inputs else {
         return None;
     };
-    first_difference(first.head(), reader.head())
+    first_difference(&first.head, &input.head)
 }
 
-// Opens the input after these readers, and compares it with the first.
-fn open_next<F: Files>(
+// Opens the input of this number, and keeps its head alone.
+fn open_input<F: Files>(
     alloc: Global,
     files: &mut F,
-    readers: &mut Vec<Reader>,
+    number: u32,
     name: &str,
-) -> Result<(), MergeFault>
-    requires few { vec_len readers.old < 32 }
-    ensures opened { OnOk result ((reader : ReaderSeen) × IsNext (F.seen files.old).held name.now readers.old.items reader
-        × (readers.new.items ≡ readers.old.items ++ reader ∷ [])) }
-    ensures ends { IfErr result
-        (FailsNext name.now readers.old.items (F.seen files.old) (F.seen files.new)) }
+) -> Result<Input, MergeFault>
+    ensures named { IfOk result (λ input. input.name ≡ name.now) }
+    ensures opened { IfOk result (IsOpen (F.seen files.old).held) }
+    ensures ends { IfErr result (FailsAt number name.now (F.seen files.old) (F.seen files.new)) }
     ensures faults { OnOk result ((F.seen files.new).read_faults ≡ (F.seen files.old).read_faults) }
     ensures held { (F.seen files.new).held ≡ (F.seen files.old).held }
     ensures writes { (F.seen files.new).write_faults ≡ (F.seen files.old).write_faults }
     ensures later { Later (F.seen files.old) (F.seen files.new) }
 {
-    let number = readers.len() as u32;
     let reader = match Reader::open(alloc, files, name) {
         Ok(reader) => reader,
         Err(fault) => return Err(fault_of(number, fault)),
     };
-    if let Some(field) = difference(readers, &reader) {
-        return Err(MergeFault::Unequal(number, field));
+    match String::from_str(alloc, name) {
+        Ok(name) => Ok(Input {
+            name,
+            head: reader.into_head(),
+        }),
+        Err(_) => Err(MergeFault::At(number, Fault::Memory)),
     }
-    match readers.push(reader) {
-        Ok(()) => {}
-        Err(_) => return Err(MergeFault::At(number, Fault::Memory)),
-    }
-    Ok(())
 }
 
-/// Opens the inputs in order. Each after the first is compared with the first at once.
-pub(crate) fn open_inputs<F: Files>(
+// Opens the input after these, and compares it with the first.
+fn open_next<F: Files>(
     alloc: Global,
     files: &mut F,
-    inputs: &[String],
-) -> Result<Vec<Reader>, MergeFault>
-    requires few { length inputs.now ≤ 32 }
-    ensures opened { IfOk result (λ readers. AreOpen (F.seen files.old).held (names_of inputs.now) readers.items) }
-    ensures all { IfOk result (λ readers. length readers.items ≡ length inputs.now) }
-    ensures ends { IfErr result (EndsOpening (names_of inputs.now) (F.seen files.old) (F.seen files.new)) }
+    inputs: &mut Vec<Input>,
+    name: &str,
+) -> Result<(), MergeFault>
+    requires few { vec_len inputs.old < 32 }
+    ensures opened { OnOk result ((input : InputSeen) × IsNext (F.seen files.old).held name.now inputs.old.items input
+        × (inputs.new.items ≡ inputs.old.items ++ input ∷ [])) }
+    ensures ends { IfErr result
+        (FailsNext name.now inputs.old.items (F.seen files.old) (F.seen files.new)) }
     ensures faults { OnOk result ((F.seen files.new).read_faults ≡ (F.seen files.old).read_faults) }
     ensures held { (F.seen files.new).held ≡ (F.seen files.old).held }
     ensures writes { (F.seen files.new).write_faults ≡ (F.seen files.old).write_faults }
     ensures later { Later (F.seen files.old) (F.seen files.new) }
 {
-    let mut readers = Vec::new(alloc);
-    'inputs: for input in inputs {
-        open_next(alloc, files, &mut readers, input)?;
+    let number = inputs.len() as u32;
+    let input = open_input(alloc, files, number, name)?;
+    if let Some(field) = difference(inputs, &input) {
+        return Err(MergeFault::Unequal(number, field));
     }
-    Ok(readers)
+    match inputs.push(input) {
+        Ok(()) => Ok(()),
+        Err(_) => Err(MergeFault::At(number, Fault::Memory)),
+    }
 }
 
-/// How many records the readers' files have in all, by their heads.
-pub(crate) fn count_points(readers: &[Reader]) -> Result<u32, MergeFault>
-    requires few { length readers.now ≤ 32 }
-    ensures points { IfOk result (λ points. points ≡ points_read readers.now) }
-    ensures small { OnOk result (points_read readers.now < 2 ^ 32) }
-    ensures many { IfErr result (λ fault. (fault ≡ TooManyPoints) × (2 ^ 32 ≤ points_read readers.now)) }
+/// Opens the inputs in order. Each after the first is compared with the first at once. Each is closed again: of all
+/// inputs the heads alone are kept.
+pub(crate) fn open_inputs<F: Files>(
+    alloc: Global,
+    files: &mut F,
+    names: &[String],
+) -> Result<Vec<Input>, MergeFault>
+    requires few { length names.now ≤ 32 }
+    ensures opened { IfOk result (λ inputs. AreOpen (F.seen files.old).held (names_of names.now) inputs.items) }
+    ensures all { IfOk result (λ inputs. length inputs.items ≡ length names.now) }
+    ensures ends { IfErr result (EndsOpening (names_of names.now) (F.seen files.old) (F.seen files.new)) }
+    ensures faults { OnOk result ((F.seen files.new).read_faults ≡ (F.seen files.old).read_faults) }
+    ensures held { (F.seen files.new).held ≡ (F.seen files.old).held }
+    ensures writes { (F.seen files.new).write_faults ≡ (F.seen files.old).write_faults }
+    ensures later { Later (F.seen files.old) (F.seen files.new) }
+{
+    let mut inputs = Vec::new(alloc);
+    'inputs: for name in names {
+        open_next(alloc, files, &mut inputs, name)?;
+    }
+    Ok(inputs)
+}
+
+/// Opens an input again for its turn. If its file is another one now, with a head that differs or another number of
+/// records, this is the answer.
+pub(crate) fn open_again<F: Files>(
+    alloc: Global,
+    files: &mut F,
+    number: u32,
+    input: &Input,
+) -> Result<Reader, MergeFault>
+    requires opened { IsOpen (F.seen files.old).held input.now }
+    ensures again { IfOk result (IsAgain (F.seen files.old).held input.now) }
+    ensures ends { IfErr result (IsFaultOf (F.seen files.old) (F.seen files.new) number) }
+    ensures faults { OnOk result ((F.seen files.new).read_faults ≡ (F.seen files.old).read_faults) }
+    ensures held { (F.seen files.new).held ≡ (F.seen files.old).held }
+    ensures writes { (F.seen files.new).write_faults ≡ (F.seen files.old).write_faults }
+    ensures later { Later (F.seen files.old) (F.seen files.new) }
+{
+    let reader = match Reader::open(alloc, files, &input.name) {
+        Ok(reader) => reader,
+        Err(fault) => return Err(fault_of(number, fault)),
+    };
+    if let Some(field) = first_difference(&input.head, reader.head()) {
+        return Err(MergeFault::Unequal(number, field));
+    }
+    if reader.head().points() != input.head.points() {
+        return Err(MergeFault::At(number, Fault::Refused(Refusal::PointCounts)));
+    }
+    Ok(reader)
+}
+
+/// How many records the inputs have in all, by their heads.
+pub(crate) fn count_points(inputs: &[Input]) -> Result<u32, MergeFault>
+    requires few { length inputs.now ≤ 32 }
+    ensures points { IfOk result (λ points. points ≡ points_read inputs.now) }
+    ensures small { OnOk result (points_read inputs.now < 2 ^ 32) }
+    ensures many { IfErr result (λ fault. (fault ≡ TooManyPoints) × (2 ^ 32 ≤ points_read inputs.now)) }
 {
     let mut points = 0;
-    for reader in readers {
-        points += u64::from(reader.head().points());
+    for input in inputs {
+        points += u64::from(input.head.points());
     }
     match u32::try_from(points) {
         Ok(points) => Ok(points),

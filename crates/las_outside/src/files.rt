@@ -5,7 +5,8 @@ ghost use Rattle.las_outside.specs.Outside.{Outside, Later, with_bytes, with_rea
 
 use crate::Failed;
 
-/// Files by name. A name is a text, and two names of one file are not recognised.
+/// Files by name. A name is a text, and to contracts two names are two files. So if a file of the system may have two
+/// names, `create` is to fail for the second, and change nothing.
 ///
 /// Clauses on content hold if the object tells what its files hold; one that tells it once goes on to. No call changes
 /// another name than its own. A call that fails raises its own count of faults by one, and a call that succeeds raises

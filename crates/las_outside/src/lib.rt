@@ -3,8 +3,11 @@
 
 mod calls;
 mod failed;
+mod file_identity;
 mod files;
 mod gate;
+mod handles;
+mod known_files;
 mod mem_files;
 mod mem_room;
 mod mem_sink;
@@ -23,5 +26,7 @@ pub use real_files::RealFiles;
 pub use real_sink::RealSink;
 pub use sink::Sink;
 
+#[cfg(test)]
+mod real_files_tests;
 #[cfg(test)]
 mod tests;

@@ -1,33 +1,25 @@
 //! The files of the system.
-ghost use Rattle.std.specs.Prelude.{◌≡◌, ◌<◌, ◌≤◌, length, vec_len, IfOk, IfSome, OnOk, OnErr, None};
+ghost use Rattle.std.specs.Prelude.{◌≡◌, ◌≤◌, OnOk, OnErr};
 ghost use Rattle.las_outside.specs.Faults.{count_after};
 
+use crate::handles::{Access, Handles};
 use crate::{Failed, Files};
-use std::alloc::Global;
-use std::fs::{self, File, OpenOptions};
+use std::fs::File;
 use std::io;
 use std::marker::Model;
-use std::os::unix::fs::FileExt;
 use std::rt::Files as System;
-
-// A file that is open.
-#[derive(Drop)]
-struct Opened {
-    name: String,
-    file: File,
-}
 
 /// The files of the system. Contracts see the counts alone, and not what the files hold.
 ///
-/// A file is opened at the first call for its name and stays open, once to read and once to write. Reads and writes are
-/// at positions, so none is opened to append: the system would append a patch too. Each error of std is a fault, also
-/// one for lack of memory, and so is a read that ends before its buffer is full, or a write that takes nothing.
+/// Reads and writes are at positions. A file that the run has opened is told by its device and its number there,
+/// whatever its name: to create it under another name, or to create an input, is a fault, and leaves it as it is. A
+/// folder, a device and a FIFO are no files: each call for one is a fault. A file that is open already is not looked at
+/// again; one that is opened again must be the one that it was. Each error of std is a fault, also one for lack of
+/// memory, and so is a read that ends before its buffer is full, or a write that takes nothing.
 #[derive(Drop)]
 pub struct RealFiles<R: System<File = File> + Drop> {
     rt: R,
-    alloc: Global,
-    read: Vec<Opened>,
-    written: Vec<Opened>,
+    handles: Handles,
     read_faults: u64,
     write_faults: u64,
     asked: u64,
@@ -54,83 +46,15 @@ impl<R: System<File = File> + AllocGlobal + Drop> RealFiles<R> {
     pub fn new(rt: R) -> RealFiles<R>
         ensures { result ≡ record { held = None; read_faults = 0; write_faults = 0; asked = 0 } }
     {
-        let alloc = rt.alloc();
+        let handles = Handles::new(rt.alloc());
         RealFiles {
             rt,
-            alloc,
-            read: Vec::new(alloc),
-            written: Vec::new(alloc),
+            handles,
             read_faults: 0,
             write_faults: 0,
             asked: 0,
         }
     }
-}
-
-// The index of the open file of a name.
-fn place_of(opened: &[Opened], name: &str) -> Option<usize>
-    ensures { IfSome result (λ i. i < length opened.now) }
-{
-    opened.iter().position(|o| o.name.as_str() == name)
-}
-
-// Keeps an open file, and gives its index.
-fn keep(alloc: Global, opened: &mut Vec<Opened>, name: &str, file: File) -> io::Result<usize>
-    ensures { IfOk result (λ i. i < vec_len opened.new) }
-{
-    let name = String::from_str(alloc, name)?;
-    opened.push(Opened { name, file })?;
-    Ok(opened.len() - 1)
-}
-
-// Opens a file to read, unless it is open. A folder and a device are no files.
-fn to_read<R: System<File = File>>(
-    rt: &R,
-    alloc: Global,
-    opened: &mut Vec<Opened>,
-    name: &str,
-) -> io::Result<usize>
-    ensures { IfOk result (λ i. i < vec_len opened.new) }
-{
-    if let Some(at) = place_of(opened, name) {
-        return Ok(at);
-    }
-    if !fs::metadata(rt, name)?.is_file() {
-        return Err(io::Error::from(io::ErrorKind::InvalidInput));
-    }
-    let file = File::open(rt, name)?;
-    keep(alloc, opened, name, file)
-}
-
-// Opens a file that is there to write, unless it is open.
-fn to_write<R: System<File = File>>(
-    rt: &R,
-    alloc: Global,
-    opened: &mut Vec<Opened>,
-    name: &str,
-) -> io::Result<usize>
-    ensures { IfOk result (λ i. i < vec_len opened.new) }
-{
-    if let Some(at) = place_of(opened, name) {
-        return Ok(at);
-    }
-    let file = OpenOptions::new().write(true).open(rt, name)?;
-    keep(alloc, opened, name, file)
-}
-
-// Makes a file hold nothing.
-fn make_empty<R: System<File = File>>(
-    rt: &R,
-    alloc: Global,
-    opened: &mut Vec<Opened>,
-    name: &str,
-) -> io::Result<()> {
-    if let Some(at) = place_of(opened, name) {
-        return opened[at].file.set_len(0);
-    }
-    let file = File::create(rt, name)?;
-    keep(alloc, opened, name, file)?;
-    Ok(())
 }
 
 // What std answered, with an error counted.
@@ -152,8 +76,8 @@ impl<R: System<File = File> + AllocGlobal + Drop> Files for RealFiles<R> {
     ghost seen = { λ f. f };
 
     fn size(&mut self, name: &str) -> Result<u64, Failed> {
-        let outcome = match to_read(&self.rt, self.alloc, &mut self.read, name) {
-            Ok(at) => self.read[at].file.metadata().map(|m| m.len()),
+        let outcome = match self.handles.get(&self.rt, Access::Read, name) {
+            Ok(handle) => handle.len(),
             Err(error) => Err(error),
         };
         count_error(outcome, &mut self.read_faults)
@@ -161,37 +85,31 @@ impl<R: System<File = File> + AllocGlobal + Drop> Files for RealFiles<R> {
 
     fn read_at(&mut self, name: &str, pos: u64, buf: &mut [u8]) -> Result<(), Failed> {
         self.asked = self.asked.saturating_add(buf.len() as u64);
-        let outcome = match to_read(&self.rt, self.alloc, &mut self.read, name) {
-            Ok(at) => self.read[at].file.read_exact_at(buf, pos),
+        let outcome = match self.handles.get(&self.rt, Access::Read, name) {
+            Ok(handle) => handle.read_at(pos, buf),
             Err(error) => Err(error),
         };
         count_error(outcome, &mut self.read_faults)
     }
 
     fn create(&mut self, name: &str) -> Result<(), Failed> {
-        let outcome = make_empty(&self.rt, self.alloc, &mut self.written, name);
+        let outcome = self.handles.create(&self.rt, name);
         count_error(outcome, &mut self.write_faults)
     }
 
     fn append(&mut self, name: &str, bytes: &[u8]) -> Result<(), Failed> {
-        let outcome = match to_write(&self.rt, self.alloc, &mut self.written, name) {
-            Ok(at) => append_to(&self.written[at].file, bytes),
+        let outcome = match self.handles.get(&self.rt, Access::Write, name) {
+            Ok(handle) => handle.append(bytes),
             Err(error) => Err(error),
         };
         count_error(outcome, &mut self.write_faults)
     }
 
     fn patch(&mut self, name: &str, pos: u64, bytes: &[u8]) -> Result<(), Failed> {
-        let outcome = match to_write(&self.rt, self.alloc, &mut self.written, name) {
-            Ok(at) => self.written[at].file.write_all_at(bytes, pos),
+        let outcome = match self.handles.get(&self.rt, Access::Write, name) {
+            Ok(handle) => handle.patch(pos, bytes),
             Err(error) => Err(error),
         };
         count_error(outcome, &mut self.write_faults)
     }
-}
-
-// Writes bytes after those that are there.
-fn append_to(file: &File, bytes: &[u8]) -> io::Result<()> {
-    let end = file.metadata()?.len();
-    file.write_all_at(bytes, end)
 }

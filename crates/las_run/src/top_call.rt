@@ -47,7 +47,7 @@ use std::thread::Threads;
 /// The commands are `laszip`, which packs a plain file and unpacks a packed one; `las2las`, which filters and changes
 /// records; `lasinfo`, which reports what is in a file; `lassplit`, which splits one into parts; `lasmerge`, which merges
 /// files that were written under one header; and `make`, which makes a file of drawn points and its packed form. A name is
-/// a text, and two names of one file are not recognised.
+/// a text: to contracts, two names are two files.
 ///
 /// The status is fixed before the line is put, and a fault of `err` changes nothing else.
 pub fn run<R: Threads + Sync, F: Files, O: Sink, E: Sink, G: Gate>(

@@ -167,7 +167,8 @@ pub fn split<R: Threads + Sync, F: Files, G: Gate>(
     ensures later { Later (F.seen files.old) (F.seen files.new) }
 {
     let mut reader = reader;
-    let mut crew = reader.crew(alloc, workers)?;
+    let hands = reader.hands(workers);
+    let mut crew = reader.crew(alloc, hands)?;
     let plain = plain_head(alloc, &reader)?;
     let mut parts = Parts::new(alloc);
     match split_records(

@@ -107,6 +107,7 @@ pub fn survey<R: Threads + Sync, F: Files, G: Gate>(
     ensures later { Later (F.seen files.old) (F.seen files.new) }
 {
     let _ = reader.head().points();
-    let mut crew = reader.crew(alloc, workers)?;
+    let hands = reader.hands(workers);
+    let mut crew = reader.crew(alloc, hands)?;
     show_records(rt, alloc, files, gate, reader, &mut crew, taps)
 }

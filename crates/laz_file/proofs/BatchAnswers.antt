@@ -3,7 +3,6 @@ use Rattle.std.proofs.Common.{◌≡◌, ℕ, zero, suc, ◌+◌, ◌*◌, ◌<�
 use Rattle.std.specs.Prelude.{All, IsSome, Some, None, unwrap_or, sum}
 use Rattle.std.proofs.lemmas.List.{get_or-take, get_or_default}
 use Rattle.std.proofs.lemmas.List.Elements.{All-take}
-use Rattle.std.proofs.lemmas.List.Sums.{sum_by-take-drop}
 use Rattle.laz_chunk.specs.Layouts.{Layout, record_length}
 use Rattle.laz_workers.specs.Numbers.{HoldsBelow, one_if}
 use Rattle.std.proofs.lemmas.Bool.Decides.{nat_tests}

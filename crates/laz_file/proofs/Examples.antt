@@ -12,6 +12,7 @@ use Rattle.las_header.specs.declared.refusal.Refusal.TheVariants as cause
 use Rattle.las_header.specs.Counting.{short_bytes, long_bytes}
 use Rattle.las_header.specs.Numbers.{number_at}
 use Rattle.las_header.specs.Refusals.{first_cause}
+use Rattle.laz_file.specs.Hands.{chunks_packed, hands_for}
 use Rattle.laz_file.specs.Outputs.{finished, stopped}
 use Rattle.laz_file.specs.Packing.{blocks_of, packed_file}
 use Rattle.laz_file.specs.Pieces.{pieces_from, plain_pieces}
@@ -137,3 +138,19 @@ without_a_pointer = refl
 no_last_pointer : first_cause (tested_causes (take 329 (one_packed (replicate 8 255)))) ≡ Some cause.TablePointer
 unfolding number_at
 no_last_pointer = refl
+
+-- ---- hands: one chunk is work for one, three for three; a plain output, or no record, is work for one
+one_chunk : hands_for (chunks_packed (Some 250000) 250000) 8 ≡ 1
+one_chunk = refl
+
+three_chunks : hands_for (chunks_packed (Some 250000) 500001) 8 ≡ 3
+three_chunks = refl
+
+many_chunks : hands_for (chunks_packed (Some 256) 1000000) 8 ≡ 8
+many_chunks = refl
+
+plain_output : hands_for (chunks_packed None 1000000) 8 ≡ 1
+plain_output = refl
+
+no_chunk : hands_for (chunks_packed (Some 50000) 0) 8 ≡ 1
+no_chunk = refl

@@ -20,3 +20,4 @@ pub mod Stopping
 pub mod Unpacking
 pub mod Reading
 pub mod Copying
+pub mod Hands

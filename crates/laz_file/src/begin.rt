@@ -9,6 +9,7 @@ ghost use Rattle.las_header.specs.Vlrs.{laszip_vlrs_of};
 ghost use Rattle.las_outside.specs.Outside.{Later, with_bytes};
 ghost use Rattle.las_points.specs.Tally.{counts_of};
 ghost use Rattle.laz_chunk.specs.Layouts.{layout, room_for};
+ghost use Rattle.laz_file.specs.declared.fault.Fault.TheVariants.{Write};
 ghost use Rattle.laz_file.specs.Writing.{CanPack, IsTally, Plan, Stops, pointer_part, written_head};
 ghost use Rattle.laz_file.specs.Packing.{format_in};
 ghost use Rattle.laz_workers.specs.Rooms.{lengths_of, rooms_of};
@@ -108,6 +109,7 @@ pub(crate) fn put_front<F: Files>(
     ensures stopped { IfErr result (λ fault. Stops fault (F.seen files.old) (F.seen files.new)
         ⊎ ((n : ℕ) × Stops fault (with_bytes (F.seen files.old) name.now
         (take n (head.now ++ pointer_part packed head.now))) (F.seen files.new))) }
+    ensures fault { IfErr result (λ fault. fault ≡ Write) }
     ensures later { Later (F.seen files.old) (F.seen files.new) }
 {
     match files.create(name) {

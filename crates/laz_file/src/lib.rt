@@ -12,6 +12,7 @@ mod copying;
 mod crewing;
 mod fault;
 mod finish;
+mod hands;
 mod inputs;
 mod joining;
 mod laws;

@@ -3,6 +3,7 @@ ghost use Rattle.std.specs.Prelude.{◌≡◌, ◌^◌, ◌*◌, ◌<◌, ◌≤
 ghost use Rattle.std.specs.Prelude.{IfErr};
 ghost use Rattle.las_outside.specs.Outside.{Later, Outside, with_bytes};
 ghost use Rattle.laz_chunk.specs.Layouts.{Format};
+ghost use Rattle.laz_file.specs.declared.fault.Fault.TheVariants.{Write};
 ghost use Rattle.laz_file.specs.Writing.{IsChunk, Stops, all_chunks, chunks};
 ghost use Rattle.laz_workers.specs.Rooms.{lengths_of, numbers_in, rooms_of};
 ghost use Rattle.laz_workers.specs.Work.{HoldsAnswer, texts};
@@ -21,6 +22,7 @@ pub(crate) fn put<F: Files>(files: &mut F, name: &str, bytes: &[u8]) -> Result<(
     ensures stopped { (before : Outside) (text : List ℕ) → F.seen files.old ≡ with_bytes before name.now text
         → IfErr result (λ fault. (n : ℕ) × Stops fault (with_bytes before name.now (text ++ take n bytes.now))
         (F.seen files.new)) }
+    ensures fault { IfErr result (λ fault. fault ≡ Write) }
     ensures later { Later (F.seen files.old) (F.seen files.new) }
 {
     match files.append(name, bytes) {

@@ -138,6 +138,13 @@ impl Reader {
         &self.head
     }
 
+    /// The head alone: what is known of the chunks is let go.
+    pub fn into_head(self) -> Head
+        ensures { result ≡ self.head }
+    {
+        self.head
+    }
+
     /// The chunk size: `None` exactly if the file is plain, and 2^32 - 1 if each chunk has a number of points of its
     /// own.
     pub fn chunk(&self) -> Option<u32>

@@ -107,16 +107,8 @@ pub fn pack<R: Threads + Sync, F: Files, G: Gate>(
     let mut crew = reader.crew(alloc, 1)?;
     let head = reader.head();
     let most = head.points();
-    let writer = Writer::create(
-        alloc,
-        files,
-        output,
-        head,
-        Some(chunk),
-        false,
-        most,
-        workers,
-    )?;
+    let hands = Writer::hands(Some(chunk), most, workers);
+    let writer = Writer::create(alloc, files, output, head, Some(chunk), false, most, hands)?;
     fill(rt, alloc, files, gate, &mut reader, &mut crew, writer)
 }
 
@@ -162,7 +154,8 @@ pub fn unpack<R: Threads + Sync, F: Files, G: Gate>(
 {
     let mut reader = reader;
     let head = reader.head().without_vlr(alloc)?;
-    let mut crew = reader.crew(alloc, workers)?;
+    let hands = reader.hands(workers);
+    let mut crew = reader.crew(alloc, hands)?;
     let most = head.points();
     let writer = Writer::create(alloc, files, output, &head, None, false, most, 1)?;
     fill(rt, alloc, files, gate, &mut reader, &mut crew, writer)

@@ -116,6 +116,8 @@ impl Writer {
             IfErr result (λ fault. Stops fault (F.seen files.old) (F.seen files.new)
             ⊎ ((n : ℕ) × Stops fault (with_bytes (F.seen files.old) name.now (take n (front out)))
             (F.seen files.new))) }
+        // Out of memory leaves all as it was: nothing is created before all memory is there.
+        ensures memory { IsErrOf result Memory → F.seen files.new ≡ F.seen files.old }
         ensures fault { IfErr result (λ fault. (fault ≡ Memory) ⊎ (fault ≡ Write)) }
         ensures write { IsErrOf result Write → Rose (F.seen files.old).write_faults (F.seen files.new).write_faults }
         ensures calm { OnOk result (SameFaults (F.seen files.old) (F.seen files.new)) }

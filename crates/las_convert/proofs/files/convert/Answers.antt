@@ -34,8 +34,8 @@ fill-requires-clause-reads g c κs within =
     let mid = g.F.Files.seen c.begin.new.files in
     let first = c.args.reader in
     let reader = c.crew.new.self in
-    known_reader old mid mid first reader (2 * c.args.workers) c.in_ok-crew.ensures.kept c.requires.new.first c.in_ok-writer.writer (output_of reader c.args.output.now c.args.chunk) c.in_ok-writer.ensures.stands (λ e. c.requires.names (sym e)) c.requires.stands (StandsFor reader)
-    (known_then old.held first.name (StandsFor first) (StandsFor reader) (λ file st. stands_ready first reader (2 * c.args.workers) file c.in_ok-crew.ensures.kept st) c.requires.stands)
+    known_reader old mid mid first reader (2 * c.hands-hands.result) c.in_ok-crew.ensures.kept c.requires.new.first c.in_ok-writer.writer (output_of reader c.args.output.now c.args.chunk) c.in_ok-writer.ensures.stands (λ e. c.requires.names (sym e)) c.requires.stands (StandsFor reader)
+    (known_then old.held first.name (StandsFor first) (StandsFor reader) (λ file st. stands_ready first reader (2 * c.hands-hands.result) file c.in_ok-crew.ensures.kept st) c.requires.stands)
 
 pub returns-clause-converted : goal.returns-clause-converted
 returns-clause-converted g c =
@@ -58,7 +58,7 @@ returns-clause-converted g c =
     (λ file. (records : List ℕ) × OnlyConverts plan file records None × (new.held ≡ with_file old.held name (finished out records)))
     (λ file. (records : List ℕ) × OnlyConverts plan file records None × (new.held ≡ with_file old.held name (finished (converted_output name file chunk) records)))
     (λ file st k. (k.0, k.1, k.2 ∙ ap (λ (o : Output). with_file old.held name (finished o k.0)) (converted_out first reader file name chunk st same))) c.requires.stands
-    (finishes old mid new plan first reader (2 * c.args.workers) ready c.requires.new.first w c.in_ok-writer.ensures.can.size out s other c.requires.stands f))
+    (finishes old mid new plan first reader (2 * c.hands-hands.result) ready c.requires.new.first w c.in_ok-writer.ensures.can.size out s other c.requires.stands f))
     (c.fill.ensures.finished old out [] s)
 
 pub returns-clause-refused : goal.returns-clause-refused
@@ -83,7 +83,7 @@ returns-clause-refused g c cause is =
     (λ file. (records : List ℕ) × OnlyConverts plan file records (Some cause) × (new.held ≡ with_file old.held name (stopped out records)))
     (λ file. (records : List ℕ) × OnlyConverts plan file records (Some cause) × (new.held ≡ with_file old.held name (stopped (converted_output name file chunk) records)))
     (λ file st k. (k.0, k.1, k.2 ∙ ap (λ (o : Output). with_file old.held name (stopped o k.0)) (converted_out first reader file name chunk st same))) c.requires.stands
-    (refuses old mid new plan first reader (2 * c.args.workers) ready c.requires.new.first w c.in_ok-writer.ensures.can.size out s other c.requires.stands cause e)
+    (refuses old mid new plan first reader (2 * c.hands-hands.result) ready c.requires.new.first w c.in_ok-writer.ensures.can.size out s other c.requires.stands cause e)
 
 pub returns-clause-bad : goal.returns-clause-bad
 returns-clause-bad g c cause is =
@@ -126,7 +126,7 @@ returns-clause-left g c =
     (λ fault e. known_both old.held first.name (StandsFor first) (λ file. (records : List ℕ) (refusal : Option Refusal) → ConvertsTo plan file records refusal → LeavesUnfinished out records old.held new.held)
     (λ file. (records : List ℕ) (refusal : Option Refusal) → ConvertsTo plan file records refusal → LeavesUnfinished (converted_output name file chunk) records old.held new.held)
     (λ file st k. λ records refusal to. subst (λ (o : Output). LeavesUnfinished o records old.held new.held) (converted_out first reader file name chunk st same) (k records refusal to)) c.requires.stands
-    (leaves old mid new plan first reader (2 * c.args.workers) ready c.requires.new.first w c.in_ok-writer.ensures.can.size out s other c.requires.stands (ends_left mid.held old mid new plan reader w out [] fault s e)))
+    (leaves old mid new plan first reader (2 * c.hands-hands.result) ready c.requires.new.first w c.in_ok-writer.ensures.can.size out s other c.requires.stands (ends_left mid.held old mid new plan reader w out [] fault s e)))
     ends
 
 pub returns-clause-read : goal.returns-clause-read

@@ -7,13 +7,13 @@ use Rattle.las_merge.proofs.copying.copy_inputs.Given as goal
 
 abbrev pub invariant-inputs : goal.invariant-inputs
 invariant-inputs g l = record {
-  can : (goal.iterator-inputs g).can_next l.reader-iterator;
-  finite : (goal.iterator-inputs g).is_finite l.reader-iterator;
-  len : length (into_iter_items l.reader-iterator) ≡ into_iter_len l.reader-iterator;
-  copied : HasCopied (g.F.Files.seen l.fn.files) (g.F.Files.seen l.files) l.fn.readers.items (into_iter_items l.reader-iterator) l.number l.fn.writer l.writer;
+  can : (goal.iterator-inputs g).can_next l.input-iterator;
+  finite : (goal.iterator-inputs g).is_finite l.input-iterator;
+  len : length (into_iter_items l.input-iterator) ≡ into_iter_len l.input-iterator;
+  copied : HasCopied (g.F.Files.seen l.fn.files) (g.F.Files.seen l.files) l.fn.inputs.items (into_iter_items l.input-iterator) l.number l.fn.writer l.writer;
   sound : l.writer.failed ≡ false;
   most : l.writer.most ≡ l.fn.writer.most;
-  room : l.writer.taken + l.writer.size * points_read (into_iter_items l.reader-iterator) ≤ l.writer.size * l.writer.most;
+  room : l.writer.taken + l.writer.size * points_read (into_iter_items l.input-iterator) ≤ l.writer.size * l.writer.most;
   reads_calm : (g.F.Files.seen l.files).read_faults ≡ (g.F.Files.seen l.fn.files).read_faults;
   writes_calm : (g.F.Files.seen l.files).write_faults ≡ (g.F.Files.seen l.fn.files).write_faults;
   later : Later (g.F.Files.seen l.fn.files) (g.F.Files.seen l.files);

@@ -1,4 +1,4 @@
-use Rattle.std.proofs.Common.{[], ◌++◌, Option, Err, ap, subst}
+use Rattle.std.proofs.Common.{inl, [], ◌++◌, Option, Err, ap, subst}
 use Rattle.las_outside.specs.Outside.{Outside}
 use Rattle.laz_file.specs.Copying.{with_reads}
 use Rattle.laz_file.proofs.Putting.{if_err}
@@ -13,7 +13,7 @@ returns-in_err-copy_inputs-clause-ends g c before out s =
     let old = g.F.Files.seen c.args.files.now in
     let new = g.F.Files.seen c.copy_inputs.new.files in
     if_err _ c.from_residual.result _ c.from_residual.ensures.1
-    (fails_merging old (names_read c.args.readers.items) c.args.writer before out s new c.in_err-copy_inputs.field-0.0 c.in_err-copy_inputs.ensures.ends)
+    (fails_merging old (names_read c.args.inputs.items) c.args.writer before out s new c.in_err-copy_inputs.field-0.0 c.in_err-copy_inputs.ensures.ends)
 
 pub finish-requires-clause-stands : goal.finish-requires-clause-stands
 finish-requires-clause-stands g c κs within =
@@ -32,7 +32,7 @@ returns-in-Ok-clause-finished g c before out s =
     let old = g.F.Files.seen c.args.files.now in
     let mid = g.F.Files.seen c.copy_inputs.new.files in
     let d = c.in_ok-copy_inputs.ensures.copied in
-    let all = subst (λ (e : Option BadInput). CopiesUpTo old.held (names_read c.args.readers.items) d.0 e) c.in-None.is d.1 in
+    let all = subst (λ (e : Option BadInput). CopiesUpTo old.held (names_read c.args.inputs.items) d.0 e) c.in-None.is d.1 in
     (d.0, all, ap (λ (o : Outside). o.held) (c.in-Ok.ensures.finished (with_reads before mid) out d.0 (d.2 before out [] s)))
 
 pub returns-in-Err-clause-ends : goal.returns-in-Err-clause-ends
@@ -40,7 +40,7 @@ returns-in-Err-clause-ends g c before out s =
     let old = g.F.Files.seen c.args.files.now in
     let mid = g.F.Files.seen c.copy_inputs.new.files in
     let new = g.F.Files.seen c.finish.new.files in
-    let names = names_read c.args.readers.items in
+    let names = names_read c.args.inputs.items in
     let d = c.in_ok-copy_inputs.ensures.copied in
     let all = subst (λ (e : Option BadInput). CopiesUpTo old.held names d.0 e) c.in-None.is d.1 in
     let p = c.in-Err.ensures.stopped (with_reads before mid) out d.0 (d.2 before out [] s) in
@@ -51,15 +51,15 @@ returns-in-Ok-stop-clause-ends g c before out s =
     let old = g.F.Files.seen c.args.files.now in
     let mid = g.F.Files.seen c.copy_inputs.new.files in
     let d = c.in_ok-copy_inputs.ensures.copied in
-    let bad = subst (λ (e : Option BadInput). CopiesUpTo old.held (names_read c.args.readers.items) d.0 e) c.in-Some.is d.1 in
-    (d.0, bad, ap (λ (o : Outside). o.held) (c.in-Ok-stop.ensures.stopped (with_reads before mid) out d.0 (d.2 before out [] s)))
+    let bad = subst (λ (e : Option BadInput). CopiesUpTo old.held (names_read c.args.inputs.items) d.0 e) c.in-Some.is d.1 in
+    inl (d.0, bad, ap (λ (o : Outside). o.held) (c.in-Ok-stop.ensures.stopped (with_reads before mid) out d.0 (d.2 before out [] s)))
 
 pub returns-in-Err-stop-clause-ends : goal.returns-in-Err-stop-clause-ends
 returns-in-Err-stop-clause-ends g c before out s =
     let old = g.F.Files.seen c.args.files.now in
     let mid = g.F.Files.seen c.copy_inputs.new.files in
     let new = g.F.Files.seen c.stop.new.files in
-    let names = names_read c.args.readers.items in
+    let names = names_read c.args.inputs.items in
     let d = c.in_ok-copy_inputs.ensures.copied in
     let bad = subst (λ (e : Option BadInput). CopiesUpTo old.held names d.0 e) c.in-Some.is d.1 in
     let p = c.in-Err-stop.ensures.broken (with_reads before mid) out d.0 (d.2 before out [] s) in

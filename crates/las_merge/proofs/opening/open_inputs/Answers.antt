@@ -3,11 +3,10 @@ use Rattle.std.specs.Prelude.{string_bytes}
 use Rattle.std.specs.declared.alloc.Global.{Global}
 use Rattle.std.proofs.lemmas.List.{get_or-map, length-map}
 use Rattle.las_outside.specs.Files.{FileMap}
-use Rattle.laz_file.specs.Reading.{ReaderSeen}
 use Rattle.laz_file.proofs.Faults.{later-trans}
 use Rattle.laz_file.proofs.Putting.{if_err}
 use Rattle.las_merge.specs.Inputs.{item_at, names_of}
-use Rattle.las_merge.specs.Opening.{AreOpen, IsNext}
+use Rattle.las_merge.specs.Opening.{AreOpen, InputSeen, IsNext}
 use Rattle.las_merge.proofs.Opened.{next_ends, open_more}
 use Rattle.las_merge.proofs.opening.open_inputs.Goals as goal
 
@@ -16,12 +15,12 @@ returns-in_err-open_next-clause-ends g c =
     let start = g.F.Files.seen c.args.files.now in
     let old = g.F.Files.seen c.inputs.files in
     let new = g.F.Files.seen c.open_next.new.files in
-    let names = names_of c.args.inputs.now in
-    let readers = c.inputs.readers.items in
-    let i = c.inputs.input-index in
-    let lt : i < length c.args.inputs.now = c.inputs-test.true in
-    let named = c.deref.ensures ∙ ap string_bytes c.input-item.is ∙ sym (get_or-map string_bytes c.args.inputs.now i c.input-item.result [] lt) ∙ ap (λ (k : ℕ). item_at names k) (sym c.inputs.invariant.count) in
-    let within : length readers < length names = omega (arith, lt, length-map c.args.inputs.now (string_bytes {Z = Global}), c.inputs.invariant.count) in
+    let names = names_of c.args.names.now in
+    let readers = c.inputs.inputs.items in
+    let i = c.inputs.name-index in
+    let lt : i < length c.args.names.now = c.inputs-test.true in
+    let named = c.deref.ensures ∙ ap string_bytes c.name-item.is ∙ sym (get_or-map string_bytes c.args.names.now i c.name-item.result [] lt) ∙ ap (λ (k : ℕ). item_at names k) (sym c.inputs.invariant.count) in
+    let within : length readers < length names = omega (arith, lt, length-map c.args.names.now (string_bytes {Z = Global}), c.inputs.invariant.count) in
     if_err _ c.from_residual.result _ c.from_residual.ensures.1
     (next_ends names readers c.deref.result.now start old new c.inputs.invariant.opened within named c.inputs.invariant.held c.inputs.invariant.faults c.in_err-open_next.field-0.0 c.in_err-open_next.ensures.ends)
 
@@ -30,18 +29,18 @@ inputs-preserved g c =
     let start = g.F.Files.seen c.args.files.now in
     let old = g.F.Files.seen c.inputs.files in
     let new = g.F.Files.seen c.open_next.new.files in
-    let names = names_of c.args.inputs.now in
-    let readers = c.inputs.readers.items in
-    let i = c.inputs.input-index in
-    let lt : i < length c.args.inputs.now = c.inputs-test.true in
-    let named = c.deref.ensures ∙ ap string_bytes c.input-item.is ∙ sym (get_or-map string_bytes c.args.inputs.now i c.input-item.result [] lt) ∙ ap (λ (k : ℕ). item_at names k) (sym c.inputs.invariant.count) in
-    let within : length readers < length names = omega (arith, lt, length-map c.args.inputs.now (string_bytes {Z = Global}), c.inputs.invariant.count) in
+    let names = names_of c.args.names.now in
+    let readers = c.inputs.inputs.items in
+    let i = c.inputs.name-index in
+    let lt : i < length c.args.names.now = c.inputs-test.true in
+    let named = c.deref.ensures ∙ ap string_bytes c.name-item.is ∙ sym (get_or-map string_bytes c.args.names.now i c.name-item.result [] lt) ∙ ap (λ (k : ℕ). item_at names k) (sym c.inputs.invariant.count) in
+    let within : length readers < length names = omega (arith, lt, length-map c.args.names.now (string_bytes {Z = Global}), c.inputs.invariant.count) in
     let more = c.in_ok-open_next.ensures.opened in
     let next = subst (λ (n : List ℕ). IsNext old.held n readers more.0) named more.1 in
     let here = subst (λ (o : Option FileMap). IsNext o (item_at names (length readers)) readers more.0) c.inputs.invariant.held next in
     record {
-      opened = subst (λ (rs : List ReaderSeen). AreOpen start.held names rs) (sym more.2) (open_more start.held names readers more.0 c.inputs.invariant.opened within here);
-      count = omega (arith, ap (λ (rs : List ReaderSeen). length rs) more.2, length-append readers (more.0 ∷ []), c.inputs.invariant.count);
+      opened = subst (λ (rs : List InputSeen). AreOpen start.held names rs) (sym more.2) (open_more start.held names readers more.0 c.inputs.invariant.opened within here);
+      count = omega (arith, ap (λ (rs : List InputSeen). length rs) more.2, length-append readers (more.0 ∷ []), c.inputs.invariant.count);
       faults = c.in_ok-open_next.ensures.faults ∙ c.inputs.invariant.faults;
       held = c.open_next.ensures.held ∙ c.inputs.invariant.held;
       writes = c.open_next.ensures.writes ∙ c.inputs.invariant.writes;

@@ -6,8 +6,8 @@ use Rattle.las_merge.proofs.opening.open_inputs.Given as goal
 
 abbrev pub invariant-inputs : goal.invariant-inputs
 invariant-inputs g l = record {
-  opened : AreOpen (g.F.Files.seen l.fn.files).held (names_of l.inputs) l.readers.items;
-  count : length l.readers.items ≡ l.input-index;
+  opened : AreOpen (g.F.Files.seen l.fn.files).held (names_of l.names) l.inputs.items;
+  count : length l.inputs.items ≡ l.name-index;
   faults : (g.F.Files.seen l.files).read_faults ≡ (g.F.Files.seen l.fn.files).read_faults;
   held : (g.F.Files.seen l.files).held ≡ (g.F.Files.seen l.fn.files).held;
   writes : (g.F.Files.seen l.files).write_faults ≡ (g.F.Files.seen l.fn.files).write_faults;

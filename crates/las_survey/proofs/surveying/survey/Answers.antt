@@ -14,15 +14,15 @@ show_records-requires-clause-stands g c κs within =
     let ready = c.crew.new.self in
     let kept = c.in_ok-crew.ensures.kept in
     subst (λ (name : List ℕ). WhereKnown old.held name (StandsFor ready)) (sym (ap (λ (r : ReaderSeen). r.name) kept))
-    (known_then old.held first.name (StandsFor first) (StandsFor ready) (λ file s. stands_ready first ready (2 * c.args.workers) file kept s) c.requires.stands)
+    (known_then old.held first.name (StandsFor first) (StandsFor ready) (λ file s. stands_ready first ready (2 * c.hands-hands.result) file kept s) c.requires.stands)
 
 pub returns-clause-surveyed : goal.returns-clause-surveyed
 returns-clause-surveyed g c =
     let old = g.F.Files.seen c.args.files.now in
-    if_ok_then _ _ c.show_records.result (λ survey h. all_shown old.held c.args.reader.now c.crew.new.self (2 * c.args.workers) h.0 _ _ c.requires.new.first c.in_ok-crew.ensures.kept c.requires.stands h.1 h.2) c.show_records.ensures.shown
+    if_ok_then _ _ c.show_records.result (λ survey h. all_shown old.held c.args.reader.now c.crew.new.self (2 * c.hands-hands.result) h.0 _ _ c.requires.new.first c.in_ok-crew.ensures.kept c.requires.stands h.1 h.2) c.show_records.ensures.shown
 
 pub returns-clause-refused : goal.returns-clause-refused
 returns-clause-refused g c = λ cause is.
     let old = g.F.Files.seen c.args.files.now in
     let h = c.show_records.ensures.bad cause is in
-    bad_shown old.held c.args.reader.now c.crew.new.self (2 * c.args.workers) h.0 h.1 cause c.requires.new.first c.in_ok-crew.ensures.kept c.requires.stands h.2 h.3
+    bad_shown old.held c.args.reader.now c.crew.new.self (2 * c.hands-hands.result) h.0 h.1 cause c.requires.new.first c.in_ok-crew.ensures.kept c.requires.stands h.2 h.3

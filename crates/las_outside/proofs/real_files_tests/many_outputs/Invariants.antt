@@ -1,0 +1,15 @@
+use Rattle.std.proofs.Common.{◌≡◌}
+use Rattle.std.specs.Prelude.{None}
+use Rattle.las_outside.proofs.real_files_tests.many_outputs.Given as goal
+
+abbrev pub invariant-loop-number : goal.invariant-loop-number
+invariant-loop-number g l = l.files.held ≡ None
+
+abbrev pub invariant-loop-number-2 : goal.invariant-loop-number-2
+invariant-loop-number-2 g l = l.files.held ≡ None
+
+abbrev pub invariant-loop-turn : goal.invariant-loop-turn
+invariant-loop-turn g l = l.files.held ≡ None
+
+abbrev pub invariant-loop-number-3 : goal.invariant-loop-number-3
+invariant-loop-number-3 g l = l.files.held ≡ None
