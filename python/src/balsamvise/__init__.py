@@ -1,0 +1,22 @@
+"""Reads and writes LAS and LAZ files as numpy arrays.
+
+    import balsamvise
+
+    points = balsamvise.read("tile.laz", threads=4)
+    ground = points[points.classification == 2]
+    balsamvise.write("ground.laz", points.head, ground)
+
+The files are those of LAS 1.0 to 1.4 with the point data formats 0 to 3 and up to 192 extra bytes a record. Chunks are
+packed and unpacked by the library liblaz, which is looked for in the environment variable `BALSAMVISE_LIBRARY`, beside
+this package, in the `lib` folder of the Python installation, in `/usr/local/lib` and in `/usr/lib`.
+"""
+from .errors import CAUSES, LibraryMissing, Refused
+from .head import Head, Vlr
+from .points import Points, dtype_of
+from .reading import LasFile, read
+from .reading import open_file as open
+from .writing import write
+
+__all__ = [
+    "CAUSES", "Head", "LasFile", "LibraryMissing", "Points", "Refused", "Vlr", "dtype_of", "open", "read", "write",
+]

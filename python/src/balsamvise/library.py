@@ -1,0 +1,189 @@
+"""The calls of las.h, each with its answer turned into a result or an error."""
+from __future__ import annotations
+
+import ctypes
+import ctypes.util
+import os
+import sys
+from dataclasses import dataclass
+
+import numpy as np
+
+from .errors import LibraryMissing, Refused
+
+VARIABLE = "BALSAMVISE_LIBRARY"
+"""The environment variable that names the shared library."""
+
+FRONT = 227
+MAX_PAYLOAD = 58
+COUNTED = 2**32 - 1
+"""The chunk size of a file whose chunk table has a number of points for each chunk."""
+
+DONE, NO_MEMORY, BAD, WRONG = range(4)
+
+
+class RawHead(ctypes.Structure):
+    """`struct laz_head`."""
+
+    _fields_ = [
+        ("refusal", ctypes.c_uint32), ("offset", ctypes.c_uint32), ("points", ctypes.c_uint32),
+        ("chunk", ctypes.c_uint32), ("vlr_count", ctypes.c_uint32), ("laszip_start", ctypes.c_uint32),
+        ("laszip_length", ctypes.c_uint16), ("header_size", ctypes.c_uint16), ("record_length", ctypes.c_uint16),
+        ("extra", ctypes.c_uint16), ("minor", ctypes.c_uint8), ("format", ctypes.c_uint8),
+    ]
+
+
+def _places() -> list[str]:
+    """Where the library may be, in the order in which it is looked for."""
+    named = os.environ.get(VARIABLE)
+    if named:
+        return [named]
+    package = os.path.dirname(os.path.abspath(__file__))
+    places = [os.path.join(package, "liblaz.so"), os.path.join(sys.prefix, "lib", "liblaz.so")]
+    places += [os.path.join(prefix, "lib", "liblaz.so") for prefix in ("/usr/local", "/usr")]
+    found = ctypes.util.find_library("laz")
+    return [place for place in places if os.path.exists(place)] + ([found] if found else [])
+
+
+def _declared(library: ctypes.CDLL) -> ctypes.CDLL:
+    u8, u16, u32, u64 = ctypes.c_uint8, ctypes.c_uint16, ctypes.c_uint32, ctypes.c_uint64
+    size, pointer = ctypes.c_size_t, ctypes.c_void_p
+    number, length = ctypes.POINTER(u32), ctypes.POINTER(size)
+    declarations = {
+        "laz_c_need": (u32, pointer, size, u64, number, number),
+        "laz_c_head": (u32, pointer, size, u64, ctypes.POINTER(RawHead)),
+        "laz_c_chunks": (u32, pointer, size, u32, u32),
+        "laz_c_table": (u32, pointer, size, u32, u32, u64, pointer, size, pointer, size, number),
+        "laz_c_room": (u64, u8, u16, u32),
+        "laz_c_unpack": (u32, u8, u16, pointer, size, u32, pointer, size),
+        "laz_c_pack": (u32, u8, u16, pointer, size, pointer, size, length),
+        "laz_c_vlr": (u32, u8, u16, u32, pointer, size, length),
+        "laz_c_table_room": (u64, u32),
+        "laz_c_table_of": (u32, pointer, size, pointer, size, pointer, size, length),
+    }
+    for name, (result, *arguments) in declarations.items():
+        call = getattr(library, name)
+        call.restype = result
+        call.argtypes = arguments
+    return library
+
+
+def _load() -> ctypes.CDLL:
+    if sys.byteorder != "little" or ctypes.sizeof(ctypes.c_size_t) != 8:
+        raise LibraryMissing("balsamvise runs on machines of 64 bits that store the lowest byte first")
+    failed = []
+    for place in _places():
+        try:
+            return _declared(ctypes.CDLL(place))
+        except (OSError, AttributeError) as error:
+            failed.append(f"{place}: {error}")
+    raise LibraryMissing(
+        "the shared library liblaz.so of balsamvise was not found: name it in the environment variable "
+        f"{VARIABLE}, or put it beside the package" + "".join(f"\n{line}" for line in failed)
+    )
+
+
+_library: ctypes.CDLL | None = None
+
+
+def _calls() -> ctypes.CDLL:
+    global _library
+    if _library is None:
+        _library = _load()
+    return _library
+
+
+def _address(array: np.ndarray) -> tuple[int, int]:
+    """The place and the length, in bytes, of an array without gaps."""
+    if not array.flags.c_contiguous:
+        raise ValueError("the array has gaps")
+    return array.ctypes.data, array.nbytes
+
+
+def _bytes(data: bytes) -> tuple[ctypes.c_char_p, int]:
+    return ctypes.cast(ctypes.c_char_p(data), ctypes.c_void_p), len(data)  # type: ignore[return-value]
+
+
+def _done(answer: int) -> bool:
+    """Whether a call is done; False if it answers that the bytes are bad."""
+    if answer == NO_MEMORY:
+        raise MemoryError("out of memory in liblaz")
+    if answer == WRONG:
+        raise ValueError("liblaz takes no such arguments")
+    return answer == DONE
+
+
+def need(name: str, front: bytes, size: int) -> int:
+    """How many bytes of a file of `size` bytes its head takes; `front` is its first 227 bytes."""
+    offset, refusal = ctypes.c_uint32(), ctypes.c_uint32()
+    answer = _calls().laz_c_need(*_bytes(front), size, ctypes.byref(offset), ctypes.byref(refusal))
+    if not _done(answer):
+        raise Refused(name, refusal.value)
+    return offset.value
+
+
+def read_head(name: str, data: bytes, size: int) -> RawHead:
+    """What the head of a file of `size` bytes says; `data` is the bytes before its point data."""
+    head = RawHead()
+    if not _done(_calls().laz_c_head(*_bytes(data), size, ctypes.byref(head))):
+        raise Refused(name, head.refusal)
+    return head
+
+
+@dataclass(frozen=True)
+class ChunkList:
+    """The chunks of a packed file, in order."""
+
+    sizes: np.ndarray
+    """The number of points of each chunk."""
+    counts: np.ndarray
+    """The number of bytes of each chunk."""
+
+
+def read_table(name: str, data: bytes, chunk: int, points: int, total: int) -> ChunkList:
+    """The chunks by the table that `data` begins with."""
+    calls = _calls()
+    count = calls.laz_c_chunks(*_bytes(data), chunk, points)
+    sizes, counts = np.zeros(count, np.uint32), np.zeros(count, np.uint32)
+    refusal = ctypes.c_uint32()
+    answer = calls.laz_c_table(*_bytes(data), chunk, points, total, sizes.ctypes.data, count, counts.ctypes.data, count,
+                               ctypes.byref(refusal))
+    if not _done(answer):
+        raise Refused(name, refusal.value)
+    return ChunkList(sizes, counts)
+
+
+def table_room(chunks: int) -> int:
+    """How many bytes are enough for a table of this many chunks."""
+    return int(_calls().laz_c_table_room(chunks))
+
+
+def unpack(format: int, extra: int, data: bytes, count: int, records: np.ndarray) -> bool:
+    """Unpacks a chunk to `records`, an array without gaps; False if the chunk holds no `count` records."""
+    return _done(_calls().laz_c_unpack(format, extra, *_bytes(data), count, *_address(records)))
+
+
+def pack(format: int, extra: int, records: np.ndarray) -> bytes:
+    """The chunk of records, an array of structs without gaps."""
+    calls = _calls()
+    room = np.empty(calls.laz_c_room(format, extra, len(records)), np.uint8)
+    written = ctypes.c_size_t()
+    _done(calls.laz_c_pack(format, extra, *_address(records), *_address(room), ctypes.byref(written)))
+    return room[: written.value].tobytes()
+
+
+def payload_of(format: int, extra: int, chunk: int) -> bytes:
+    """The payload of the laszip VLR."""
+    room = np.empty(MAX_PAYLOAD, np.uint8)
+    written = ctypes.c_size_t()
+    _done(_calls().laz_c_vlr(format, extra, chunk, *_address(room), ctypes.byref(written)))
+    return room[: written.value].tobytes()
+
+
+def table_of(counts: np.ndarray) -> bytes:
+    """The chunk table of chunks of a fixed number of points, by their numbers of bytes."""
+    calls = _calls()
+    room = np.empty(calls.laz_c_table_room(len(counts)), np.uint8)
+    written = ctypes.c_size_t()
+    _done(calls.laz_c_table_of(None, 0, counts.ctypes.data, len(counts), *_address(room), ctypes.byref(written)))
+    return room[: written.value].tobytes()
