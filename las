@@ -1,69 +1,86 @@
-#!/usr/bin/env bash
-# Starts the program `las` with the words given, in the caller's folder. Where no build is there that is as new as the
-# sources, it is proved and built first, which is said on standard error, and kept for later starts.
+#!/bin/sh
+# Starts the program `las` with the words given, in the caller's folder, and shows help.
+#
+# In a checkout it runs a build of one's own that is as new as the sources, else the released program if that was built
+# from the present sources, else it proves and builds the program first (release/choose.sh). Which program that is, is
+# kept in a stamp, which holds while no source was changed, added or removed. Installed, it runs an installed program.
 set -u
-top=$(cd "$(dirname "$(readlink -f "${BASH_SOURCE[0]}")")" && pwd)
-program=$top/crates/las/out/las
 
-# the crates of this repository that a crate stands on, and itself
-below() {
-    awk -v top="$1" '
-        /^#/ { next }
-        { name = $1; sub(/:$/, "", name); listed[name] = 1; uses[name] = ""; for (i = 2; i <= NF; i++) uses[name] = uses[name] " " $i }
-        function visit(name,    list, n, i) {
-            if (!(name in listed) || name in seen) return
-            seen[name] = 1; print name
-            n = split(uses[name], list, " ")
-            for (i = 1; i <= n; i++) visit(list[i])
-        }
-        END { visit(top) }' "$top/crates.txt"
+# a limit on file size is then a write fault of the program, and not the signal that ends it
+trap '' XFSZ
+
+self=$0
+case $self in */*) ;; *) self=$(command -v -- "$self") || self=./$0 ;; esac
+if [ -L "$self" ]; then
+    self=$(readlink -f -- "$self" && echo .)
+    self=${self%??}
+fi
+case $self in /* | ./* | ../*) ;; *) self=./$self ;; esac
+# some shells leave the script on a closed standard error
+[ ! "/proc/$$/fd/2" -ef "$self" ] || exec 2>&-
+top=${self%/*}
+help=$top/help
+[ -f "$top/crates.txt" ] || help=$top/../share/las/help
+
+# What has to stay as it is for the program $1 to be the right one: the sources, the release, the build, the program,
+# and the machine, since it is chosen by the processor. It is called in a subshell, which it replaces.
+listing() {
+    printf '%s\n%s\n' "$1" "$boot"
+    CDPATH='' cd -P -- "$top" && exec find crates.txt release/BUILT_FROM crates/las/out/las \
+        crates/las/out/las.built_from crates/las/out/las.stamp crates/*/src "$1" \
+        -printf '%p %y %s %T@ %C@ %D %i\n' 2>/dev/null
 }
 
-is_built() {
-    [ -x "$program" ] || return 1
-    local folders=() crate
-    for crate in $(below las); do
-        folders+=("$top/crates/$crate")
-    done
-    # a folder is newer where a file of it was added or taken out
-    [ -z "$(find "$top/crates.txt" "${folders[@]}" -name out -prune -o \
-        \( -type f -o -type d -path '*/src*' -o -type d -path '*/specs*' -o -type d -path '*/proofs*' \) \
-        -not -path '*/must-fail/*' -not -path '*/data/*' -newer "$program" -print -quit)" ]
+# Sets `program` as the stamp $1 names it, if that still holds.
+stamped() {
+    [ -f "$1" ] && read -r program <"$1" && [ -n "$program" ] && listing "$program" | cmp -s - "$1" || return 1
+    case $program in /*) ;; *) program=$top/$program ;; esac
 }
 
-# proves and builds, naming each crate as its check begins; what rt says is kept for the case that it fails
-build() {
-    echo "las: no build is as new as the sources; proving and building it first" >&2
-    local log line crate last=
-    log=$(mktemp) || return 1
-    (cd "$top/crates/las" && rt run </dev/null 2>&1 >/dev/null) | while IFS= read -r line; do
-        printf '%s\n' "$line" >>"$log"
-        crate=
-        if [[ $line =~ ^(checked|fn|struct|enum|impl)\ ([a-z_0-9]+):: ]]; then
-            crate=${BASH_REMATCH[2]}
-        elif [[ $line =~ ^rt:\ chose\ --jobs\ [0-9]+\ for\ ([a-z_0-9]+) ]]; then
-            crate=${BASH_REMATCH[1]}
-        fi
-        if [ -n "$crate" ] && [ "$crate" != "$last" ]; then
-            echo "las: proving $crate" >&2
-            last=$crate
-        fi
-    done
-    if grep -q '^rt: running ' "$log"; then
-        touch "$program"
-        rm -f "$log"
-        return 0
+# Sets `program`, or ends with status 1.
+find_program() {
+    if [ ! -f "$top/crates.txt" ]; then
+        . "$top/../share/las/processor.sh"
+        program=$top/../libexec/las/las-x86-64-v2
+        if [ -x "${program%2}3" ] && runs_v3; then program=${program%2}3; fi
+        [ -x "$program" ] || program=${program%2}3
+        return
     fi
-    tail -n 20 "$log" >&2
-    rm -f "$log"
-    return 1
+    kept=${XDG_CACHE_HOME:-${HOME:+$HOME/.cache}}
+    kept=${kept:-/dev/null}/las
+    boot=
+    read -r boot 2>/dev/null </proc/sys/kernel/random/boot_id
+    stamped "$top/release/out/stamp" && return
+    # (of a checkout that can't be written)
+    kept_stamp=$kept/checkouts$(CDPATH='' cd -P -- "$top" && pwd -P)/stamp
+    stamped "$kept_stamp" && return
+    program=$(. "$top/release/choose.sh" </dev/null) || exit 1
 }
 
-if ! is_built; then
-    if ! command -v rt >/dev/null; then
-        echo "las: the command rt of the Rattle toolchain is not there" >&2
-        exit 1
-    fi
-    build || { echo "las: the program could not be built" >&2; exit 1; }
+if [ $# -eq 0 ]; then
+    . "$help/help.sh"
+    show las
+fi
+case $1 in
+-h | --help | help | --version)
+    . "$help/help.sh"
+    answer "$@"
+    ;;
+laszip | las2las | lasinfo | lassplit | lasmerge | make)
+    case ${2-} in
+    -h | --help)
+        . "$help/help.sh"
+        show "$1"
+        ;;
+    esac
+    ;;
+esac
+
+find_program
+once=
+case $program in */las-once.*/*) once=${program%/*} ;; esac
+if [ -t 2 ] || [ -n "$once" ]; then
+    . "$help/hints.sh"
+    run_with_hints "$@"
 fi
 exec "$program" "$@"

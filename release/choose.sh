@@ -1,0 +1,91 @@
+# Read by the launcher `las` in a checkout if no stamp holds: prints the path of the program that was built from the
+# present sources, from the top of the checkout or absolute, and stamps it. Unpacks the released program or builds one
+# if there is none. What it says goes to standard error.
+
+true >&2 || exec 2>/dev/null
+. "$top/release/processor.sh"
+. "$top/release/build.sh"
+
+# What `find` tells of the sources alone
+source_listing() { listing crates.txt | grep ' [df] ' | grep -v -e '^crates/las/out/' -e '^release/'; }
+
+# Whether crates/las/out/las is a build from the sources with the sum $1: that is noted beside it, or `rt run` has left
+# its own stamp, which it does only if nothing was changed meanwhile, and no source was touched since.
+is_own_build() {
+    own=$top/crates/las/out/las
+    [ -f "$own" ] && [ -x "$own" ] || return 1
+    if [ "$(named "$own.built_from" sources)" = "$1" ] &&
+        [ "$(named "$own.built_from" program)" = "$(sum_of "$own")" ]; then
+        return 0
+    fi
+    [ -f "$own.stamp" ] && [ "$(tail -c 64 "$own.stamp")" = "$(sum_of "$own")" ] || return 1
+    set -- "$top/crates.txt"
+    for crate in $("$top/release/sources" --crates); do set -- "$@" "$top/crates/$crate/src"; done
+    newer=$(find "$@" -cnewer "$own.stamp" -print -quit) && [ -z "$newer" ]
+}
+
+# Prints the path of the released program $1 with the sum $2, unpacked in the folder $3, if that can be done there.
+unpacked() {
+    [ -x "$3/$1" ] && [ "$(sum_of "$3/$1")" = "$2" ] && printf '%s\n' "$3/$1" && return
+    mkdir -p -- "$3" 2>/dev/null && fresh=$(mktemp "$3/.unpacked.XXXXXX" 2>/dev/null) || return 1
+    if gzip -dc <"$top/release/$1.gz" >"$fresh" 2>/dev/null && [ "$(sum_of "$fresh")" = "$2" ] && chmod 755 "$fresh" &&
+        [ -x "$fresh" ] && mv -f -- "$fresh" "$3/$1"; then
+        printf '%s\n' "$3/$1"
+    else
+        rm -f -- "$fresh"
+        return 1
+    fi
+}
+
+# Prints the path of the released program, if the release is of the sources with the sum $1 and can run here.
+released() {
+    [ "$(named "$top/release/BUILT_FROM" sources)" = "$1" ] && runs_v2 || return 1
+    for level in v3 v2; do
+        [ $level = v2 ] || runs_v3 || continue
+        sum=$(named "$top/release/BUILT_FROM" las-x86-64-$level)
+        [ -n "$sum" ] && [ -f "$top/release/las-x86-64-$level.gz" ] || continue
+        if unpacked las-x86-64-$level "$sum" "$top/release/out"; then return; fi
+        if unpacked las-x86-64-$level "$sum" "$kept"; then return; fi
+        # neither place can be written: the launcher removes this one after the run
+        once=$(mktemp -d "${TMPDIR:-/tmp}/las-once.XXXXXX" 2>/dev/null) || continue
+        if unpacked las-x86-64-$level "$sum" "$once"; then return; fi
+        rmdir -- "$once"
+    done
+    [ -n "${once-}" ] &&
+        say "the released program could not be unpacked, or is not the one that release/BUILT_FROM names"
+    return 1
+}
+
+# Writes the stamp for the program $1 in one of the two places, if one can be written; renamed, so that it is whole.
+stamp_program() {
+    for stamp in "$top/release/out/stamp" "$kept_stamp"; do
+        folder=${stamp%/*}
+        mkdir -p -- "$folder" 2>/dev/null && fresh=$(mktemp "$folder/.stamp.XXXXXX" 2>/dev/null) || continue
+        (listing "$1") >"$fresh"
+        # (where `find` can't list, no stamp would tell a change)
+        grep -q '^crates.txt f ' "$fresh" && mv -f -- "$fresh" "$stamp" && return
+        rm -f -- "$fresh"
+    done
+}
+
+before=$(source_listing)
+sources=$("$top/release/sources") || { say "the sources can't be read"; exit 1; }
+if is_own_build "$sources"; then
+    chosen=$top/crates/las/out/las
+elif chosen=$(released "$sources"); then
+    :
+elif ! command -v rt >/dev/null; then
+    say "no released program is of these sources and this processor, and the command rt of Rattle is missing"
+    exit 1
+else
+    say "no program is as new as the sources; proving and building it, which takes up to 90 minutes of a processor"
+    build || { say "the program could not be built"; exit 1; }
+    chosen=$top/crates/las/out/las
+    note_build "$sources"
+fi
+case $chosen in
+*/las-once.*/*) ;;
+"$top"/*) if [ "$before" = "$(source_listing)" ]; then stamp_program "${chosen#"$top"/}"; fi ;;
+*) if [ "$before" = "$(source_listing)" ]; then stamp_program "$chosen"; fi ;;
+esac
+printf '%s\n' "$chosen"
