@@ -5,7 +5,18 @@ import subprocess
 
 TOP = os.path.dirname(os.path.dirname(os.path.abspath(__file__)))
 LAS = os.path.join(TOP, "las")
-PROGRAM = os.path.join(TOP, "crates", "las", "out", "las")
+
+
+def found_program():
+    """The program that is checked: the one that LAS_PROGRAM names, else the one that the launcher runs."""
+    if os.environ.get("LAS_PROGRAM"):
+        return os.path.abspath(os.environ["LAS_PROGRAM"])
+    said = subprocess.run([LAS, "--version"], stdin=subprocess.DEVNULL, stdout=subprocess.PIPE, check=False).stdout
+    words = os.fsdecode(said).rstrip("\n").split("\n")[-1].split(" ", 2)
+    return os.path.join(TOP, words[2]) if words[0] == "program" else os.path.join(TOP, "crates", "las", "out", "las")
+
+
+PROGRAM = found_program()
 
 
 def head(points, returns=(0, 0, 0, 0, 0), format_byte=0):
@@ -29,6 +40,15 @@ HEADER_SIZES = [227, 227, 227, 235, 375]
 RECORD_SIZES = [20, 28, 26, 34]
 
 
+NOBODY = 65534
+
+
+def become_nobody():
+    os.setgroups([])
+    os.setgid(NOBODY)
+    os.setuid(NOBODY)
+
+
 class Cases:
     def __init__(self):
         self.passed = 0
@@ -43,15 +63,25 @@ class Cases:
             self.passed += 1
             print(f"passed: {name}", flush=True)
 
+    def holds(self, name, good, found):
+        """Notes a case that holds, or what was found in its place."""
+        self.note(name, None if good else f"{found}")
+
     def skip(self, name, why):
         self.skipped += 1
         print(f"skipped: {name}: {why}", flush=True)
 
 
-def las(folder, *words, program=LAS, **options):
+def las(folder, *words, program=PROGRAM, **options):
+    """A run of the program, or of the launcher if that is the one named."""
     options.setdefault("stdout", subprocess.PIPE)
     options.setdefault("stderr", subprocess.PIPE)
     return subprocess.run([program, *words], cwd=folder, timeout=600, **options)
+
+
+def quiet(line, **options):
+    """A run of any command line, with both streams kept."""
+    return subprocess.run(line, stdout=subprocess.PIPE, stderr=subprocess.PIPE, check=False, **options)
 
 
 def content(path):
