@@ -146,6 +146,12 @@ def freshness(cases, folder):
 
     step("a fresh clone runs the released program", "released")
     first = content(at.path("crates", "low", "src", "lib.rt"))
+    os.makedirs(at.path("crates", "las", "out"))
+    written(at.path("crates", "las", "out", "las"), TELLER.encode())
+    os.chmod(at.path("crates", "las", "out", "las"), 0o755)
+    step("beside a build of which nothing is noted", "released")
+    cases.holds("it says nothing", not steps[-1][3] and not steps[-2][3], steps[-2][3])
+    shutil.rmtree(at.path("crates", "las", "out"))
     at.touch_source("pub fn two() {}\n")
     step("a changed source: without rt nothing runs", None)
     at.touch_source(first.decode())

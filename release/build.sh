@@ -8,7 +8,7 @@ sum_of() { sha256sum <"$1" | cut -c 1-64; }
 named() {
     while read -r name value; do
         [ "$name" = "$2" ] && printf '%s\n' "$value" && return
-    done <"$1" 2>/dev/null
+    done 2>/dev/null <"$1"
 }
 
 # Proves and builds crates/las/out/las, naming each crate as its check begins; what rt says is kept for the case that it
