@@ -1,16 +1,22 @@
-//! The handles of the files of a run: few are open at a time, and closed ones are opened again.
-ghost use Rattle.std.specs.Prelude.{◌<◌, vec_len, IfSome};
+//! The handles of the files of a run: they stay open as long as the system allows, and closed ones are opened again.
 
 use crate::file_identity::FileIdentity;
 use crate::known_files::KnownFiles;
 use std::alloc::Global;
+use std::collections::HashMap;
 use std::fs::{self, File, Metadata, OpenOptions};
 use std::io::{self, ErrorKind};
 use std::os::unix::fs::FileExt;
 use std::rt::Files as System;
 
-/// The most handles that are open at a time.
-const MOST_OPEN: usize = 16;
+/// The most handles that are open at a time: one for each part of a file that is split into 512, and some for inputs.
+/// Many systems allow a process 1,024, and the rest is left for others.
+const MOST_OPEN: usize = 528;
+
+// What Linux answers if it has no more handles: for all processes, and for this one.
+const NONE_IN_SYSTEM: i32 = 23;
+
+const NONE_IN_PROCESS: i32 = 24;
 
 /// What a handle is for. A file that a run writes and reads has two.
 #[derive(Clone, Copy, Debug, PartialEq, Eq)]
@@ -22,18 +28,14 @@ pub enum Access {
 /// An open file.
 #[derive(Drop)]
 pub struct Handle {
-    name: String,
-    access: Access,
     file: File,
     // how long the file is, if that is known
     end: Option<u64>,
+    // which of all uses of handles the last one of this was
+    used: u64,
 }
 
 impl Handle {
-    fn is_for(&self, access: Access, name: &str) -> bool {
-        self.access == access && self.name.as_str() == name
-    }
-
     /// The length of the file now.
     pub fn len(&self) -> io::Result<u64> {
         Ok(self.file.metadata()?.len())
@@ -67,8 +69,10 @@ impl Handle {
 pub struct Handles {
     alloc: Global,
     known: KnownFiles,
-    // the last used first
-    handles: Vec<Handle>,
+    readers: HashMap<String, Handle>,
+    writers: HashMap<String, Handle>,
+    // how often a handle was asked for
+    uses: u64,
 }
 
 impl Handles {
@@ -77,7 +81,9 @@ impl Handles {
         Handles {
             alloc,
             known: KnownFiles::new(alloc),
-            handles: Vec::new(alloc),
+            readers: HashMap::new(alloc),
+            writers: HashMap::new(alloc),
+            uses: 0,
         }
     }
 
@@ -90,12 +96,18 @@ impl Handles {
         access: Access,
         name: &str,
     ) -> io::Result<&mut Handle> {
-        if !self.bring_forward(access, name) {
+        if !self.of(access).contains_key(name) {
             self.open_again(rt, access, name)?;
         }
-        self.handles
-            .first_mut()
-            .ok_or(io::Error::from(ErrorKind::NotFound))
+        self.uses = self.uses.saturating_add(1);
+        let used = self.uses;
+        match self.of(access).get_mut(name) {
+            Some(handle) => {
+                handle.used = used;
+                Ok(handle)
+            }
+            None => Err(io::Error::from(ErrorKind::NotFound)),
+        }
     }
 
     /// Makes a file hold nothing, and makes it first if it is not there.
@@ -108,7 +120,7 @@ impl Handles {
             Err(error) if error.kind() == ErrorKind::NotFound => {}
             Err(error) => return Err(error),
         }
-        self.close(Access::Write, name);
+        self.writers.remove(name);
         let mut options = OpenOptions::new();
         let options = options.write(true).create(true);
         let (file, identity) = self.open_file(rt, options, name)?;
@@ -117,31 +129,25 @@ impl Handles {
         self.keep(Access::Write, name, file, Some(0))
     }
 
-    // The place of an open handle.
-    fn place_of(&self, access: Access, name: &str) -> Option<usize>
-        ensures { IfSome result (λ i. i < vec_len self.now.handles) }
-    {
-        self.handles
-            .iter()
-            .position(|handle| handle.is_for(access, name))
-    }
-
-    // Puts an open handle before the others, and says whether there is one.
-    fn bring_forward(&mut self, access: Access, name: &str) -> bool {
-        match self.place_of(access, name) {
-            Some(0) => true,
-            Some(at) => {
-                self.handles[..at + 1].rotate_right(1);
-                true
-            }
-            None => false,
+    // The open handles that are for this.
+    fn of(&mut self, access: Access) -> &mut HashMap<String, Handle> {
+        match access {
+            Access::Read => &mut self.readers,
+            Access::Write => &mut self.writers,
         }
     }
 
-    // Closes a handle, if it is open.
-    fn close(&mut self, access: Access, name: &str) {
-        if let Some(at) = self.place_of(access, name) {
-            self.handles.remove(at);
+    // How many handles are open.
+    fn open(&self) -> usize {
+        self.readers.len().saturating_add(self.writers.len())
+    }
+
+    // Closes the handle that was used least lately.
+    fn close_oldest(&mut self) {
+        let handles = self.readers.values().chain(self.writers.values());
+        if let Some(oldest) = handles.map(|handle| handle.used).min() {
+            self.readers.retain(|_name, handle| handle.used != oldest);
+            self.writers.retain(|_name, handle| handle.used != oldest);
         }
     }
 
@@ -163,34 +169,50 @@ impl Handles {
         self.keep(access, name, file, None)
     }
 
-    // Opens a file, and says which one it is. The handle that was used least lately is closed first, if many are open.
+    // Opens a file, and says which one it is. If many are open, the handle that was used least lately is closed first.
     fn open_file<R: System<File = File>>(
         &mut self,
         rt: &R,
         options: &OpenOptions,
         name: &str,
     ) -> io::Result<(File, FileIdentity)> {
-        self.handles.truncate(MOST_OPEN - 1);
-        let file = options.open(rt, name)?;
+        if self.open() >= MOST_OPEN {
+            self.close_oldest();
+        }
+        let file = self.open_closing(rt, options, name)?;
         let found = file.metadata()?;
         refuse_special(&found)?;
         Ok((file, FileIdentity::of(&found)))
     }
 
-    // Keeps an open file, before the others.
+    // Opens a file. As long as the system has no handle for it, the one that was used least lately is closed.
+    fn open_closing<R: System<File = File>>(
+        &mut self,
+        rt: &R,
+        options: &OpenOptions,
+        name: &str,
+    ) -> io::Result<File> {
+        for _closed in 0..MOST_OPEN {
+            match options.open(rt, name) {
+                Err(error) if is_none_left(&error) && self.open() > 0 => self.close_oldest(),
+                outcome => return outcome,
+            }
+        }
+        options.open(rt, name)
+    }
+
+    // Keeps an open file.
     fn keep(&mut self, access: Access, name: &str, file: File, end: Option<u64>) -> io::Result<()> {
         let name = String::from_str(self.alloc, name)?;
-        self.handles.insert(
-            0,
-            Handle {
-                name,
-                access,
-                file,
-                end,
-            },
-        )?;
+        let used = self.uses;
+        self.of(access).insert(name, Handle { file, end, used })?;
         Ok(())
     }
+}
+
+// Whether an error says that the system has no more handles.
+fn is_none_left(error: &io::Error) -> bool {
+    matches!(error.raw_os_error(), Some(NONE_IN_SYSTEM | NONE_IN_PROCESS))
 }
 
 // A folder, a device or a FIFO is no file here. To open a FIFO may take for ever, so this is asked before.

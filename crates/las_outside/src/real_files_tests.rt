@@ -77,21 +77,24 @@ fn numbered(rt: &HostRuntime, number: u32) -> Result<String, Fail> {
     Ok(format!(in rt.alloc(); "las_outside_{number}")?)
 }
 
+// More files than are open at a time.
+const MANY: u32 = 600;
+
 // More outputs than are open at a time each hold what was appended to them.
 #[test]
 fn many_outputs(rt: HostRuntime) -> Result<(), Fail> {
     let mut files = RealFiles::new(rt);
-    for number in 0..40 {
+    for number in 0..MANY {
         files.create(numbered(&rt, number)?.as_str())?;
     }
     for turn in ["ab", "cd", "ef"] {
-        for number in 0..40 {
+        for number in 0..MANY {
             let name = numbered(&rt, number)?;
             files.append(name.as_str(), turn.as_bytes())?;
             files.append(name.as_str(), name.as_bytes())?;
         }
     }
-    for number in 0..40 {
+    for number in 0..MANY {
         let name = numbered(&rt, number)?;
         let text = fs::read_to_string(&rt, name.as_str())?;
         let wanted = format!(in rt.alloc(); "ab{name}cd{name}ef{name}")?;
@@ -106,17 +109,17 @@ fn many_outputs(rt: HostRuntime) -> Result<(), Fail> {
 fn closed_meanwhile(rt: HostRuntime) -> Result<(), Fail> {
     let name = "las_outside_closed";
     let mut files = with_input(&rt, name)?;
-    for number in 100..120 {
+    for number in MANY..2 * MANY {
         files.create(numbered(&rt, number)?.as_str())?;
     }
     assert!(rt; files.create("./las_outside_closed").is_err(), "an input");
     assert_eq!(rt; files.size(name)?, 6);
-    for number in 100..120 {
+    for number in MANY..2 * MANY {
         files.append(numbered(&rt, number)?.as_str(), b"a")?;
     }
-    fs::rename(&rt, numbered(&rt, 100)?.as_str(), name)?;
+    fs::rename(&rt, numbered(&rt, MANY)?.as_str(), name)?;
     assert!(rt; files.size(name).is_err(), "another file");
-    for number in 101..120 {
+    for number in MANY + 1..2 * MANY {
         fs::remove_file(&rt, numbered(&rt, number)?.as_str())?;
     }
     fs::remove_file(&rt, name)?;
