@@ -4,7 +4,7 @@ use Rattle.laz_workers.specs.declared.held.Held.TheVariants.{Empty, Full, Refuse
 use Rattle.laz_workers.specs.declared.view.View.{View}
 use Rattle.laz_workers.specs.declared.view.Sizes.{Sizes}
 use Rattle.laz_workers.specs.Numbers.{times}
-use Rattle.laz_workers.specs.Rooms.{RoomSeen, answer_in, numbers_in}
+use Rattle.laz_workers.specs.Rooms.{RoomSeen, answer_in, lengthened, numbers_in}
 use Rattle.laz_workers.specs.Run.{under}
 use Rattle.laz_workers.specs.Claims.{opened, drew, gone, past, Claiming, splits, draws, joins, closes, made, Run}
 
@@ -107,3 +107,10 @@ answer_of_refused = refl
 -- of the joined list of three numbers, those below the total
 under_three : under 3 (0 ∷ 2 ∷ 1 ∷ 3 ∷ []) ≡ 0 ∷ 2 ∷ 1 ∷ []
 under_three = refl
+
+-- a room of three bytes of which none was written, and one that is full
+new_room : lengthened 3 [] ≡ 0 ∷ 0 ∷ 0 ∷ []
+new_room = refl
+
+full_room : lengthened 2 (7 ∷ 9 ∷ []) ≡ 7 ∷ 9 ∷ []
+full_room = refl

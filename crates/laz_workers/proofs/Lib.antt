@@ -8,4 +8,5 @@ pub mod Standing
 pub mod Texts
 pub mod Working
 pub mod Finish
+pub mod Lengths
 pub mod Spread

@@ -1,5 +1,5 @@
 -- What contracts see of a crew: the rooms of its hands, and their spaces.
-use Rattle.std.specs.Prelude.{◌≡◌, ℕ, Option, Some, None, option_to_list, List, [], ◌∷◌, length, take, map, flat_map}
+use Rattle.std.specs.Prelude.{◌≡◌, ℕ, ◌-◌, ◌++◌, replicate, Option, Some, None, option_to_list, List, [], ◌∷◌, length, take, map, flat_map}
 use Rattle.std.specs.Prelude.{Contains}
 use Rattle.laz_workers.specs.declared.held.Held.{Held}
 use Rattle.laz_workers.specs.declared.held.Held.TheVariants.{Empty, Full, Refused}
@@ -14,6 +14,10 @@ pub record HandSeen (S : Type 0) : Type 0 where
   pub space : S
   pub first : RoomSeen
   pub second : RoomSeen
+
+-- the bytes, with zeros after them until there are n
+abbrev pub lengthened : ℕ → List ℕ → List ℕ
+lengthened n bytes = bytes ++ replicate (n - length bytes) 0
 
 -- the number of the input that was worked into a room
 abbrev pub number_of : Held → Option ℕ

@@ -1,14 +1,20 @@
-ghost use Rattle.std.specs.Prelude.{◌≡◌, ◌↔◌, length, IfOk, IsTrue, option_copied};
-ghost use Rattle.laz_workers.specs.Rooms.{emptied, number_of, answer_in};
+ghost use Rattle.std.specs.Prelude.{◌≡◌, ◌≤◌, ◌↔◌, length, IfOk, IsTrue, option_copied};
+ghost use Rattle.std.specs.Prelude.{vec_len, vec_capacity};
+ghost use Rattle.laz_workers.specs.Rooms.{emptied, lengthened, number_of, answer_in};
 
 use crate::held::Held;
 use std::alloc::{AllocError, Global};
 use std::marker::Model;
 
 /// A place for the answer to one input. Its length is fixed when it is made.
+///
+/// A new room's memory is set aside, but no byte of it is written: that is done by the hand that first works into it.
+/// So rooms that are never used cost little, and several hands write theirs side by side.
 #[derive(Drop)]
 pub struct Room {
+    // Nothing yet, or as many bytes as the room has.
     pub(crate) bytes: Vec<u8>,
+    pub(crate) size: usize,
     pub(crate) held: Held,
 }
 
@@ -17,11 +23,14 @@ impl Model for Room {
 
     ghost Value = { RoomSeen };
 
-    ghost use Rattle.std.specs.Prelude.{◌≤◌, length};
+    ghost use Rattle.std.specs.Prelude.{◌≤◌, vec_capacity, vec_len};
+    ghost use Rattle.laz_workers.specs.Rooms.{lengthened};
 
-    ghost view = { λ r. record { bytes = r.bytes.items; held = r.held } };
+    // Bytes that were not written yet are seen as zeros.
+    ghost view = { λ r. record { bytes = lengthened r.size r.bytes.items; held = r.held } };
 
-    ghost invariant = { λ r. answer_length r.held ≤ length r.bytes.items };
+    ghost invariant = { λ r. (answer_length r.held ≤ vec_len r.bytes) × (vec_len r.bytes ≤ r.size)
+        × (r.size ≤ vec_capacity r.bytes) };
 }
 
 impl Room {
@@ -29,9 +38,10 @@ impl Room {
     pub(crate) fn new(alloc: Global, size: usize) -> Result<Room, AllocError>
         ensures { IfOk result (λ r. (length r.bytes ≡ size) × (r.held ≡ Held.Empty)) }
     {
-        let bytes = vec![in alloc; 0; size]?;
+        let bytes = Vec::with_capacity(alloc, size)?;
         Ok(Room {
             bytes,
+            size,
             held: Held::Empty,
         })
     }
@@ -61,5 +71,18 @@ impl Room {
         ensures { self.new ≡ emptied self.old }
     {
         self.held = Held::Empty;
+    }
+}
+
+// Writes zeros after bytes until there are this many. There is capacity for them.
+pub(crate) fn lengthen(bytes: &mut Vec<u8>, size: usize)
+    requires within { vec_len bytes.old ≤ size }
+    requires capacity { size ≤ vec_capacity bytes.old }
+    ensures items { bytes.new.items ≡ lengthened size bytes.old.items }
+    ensures len { vec_len bytes.new ≡ size }
+{
+    match bytes.resize(size, 0) {
+        Ok(()) => {}
+        Err(_) => unreachable!(),
     }
 }

@@ -16,7 +16,7 @@ use crate::hand::Hand;
 use crate::held::Held;
 use crate::job::Job;
 use crate::pass::Pass;
-use crate::room::Room;
+use crate::room::{Room, lengthen};
 use las_outside::Gate;
 use std::thread;
 use std::thread::Threads;
@@ -39,6 +39,7 @@ fn work_number<J: Job, G: Gate>(
     ensures suits { J.suits job.now space.new }
 {
     gate.enter(number);
+    lengthen(&mut room.bytes, room.size);
     let answer = job.work(&inputs[number as usize], space, &mut room.bytes);
     room.held = match answer {
         Some(length) => Held::Full { number, length },

@@ -1,4 +1,5 @@
-use Rattle.std.proofs.Common.{ℕ, List, length, sym, ap, ◌∙◌, subst}
+use Rattle.std.proofs.Common.{◌≡◌, ◌≤◌, ℕ, List, length, vec_len, sym, ap, ◌∙◌, subst, arith}
+use Rattle.laz_workers.proofs.Lengths.{length-lengthened}
 use Rattle.laz_workers.proofs.Texts.{texts_all}
 use Rattle.laz_workers.specs.Rooms.{RoomSeen}
 use Rattle.laz_workers.proofs.run.work_number.Goals as goal
@@ -11,4 +12,7 @@ work-answer-requires-clause-fits g c =
     let P : List ℕ → Type 0 = λ i. g.J.Job.fits c.args.job.now i size in
     let here : g.J.Job.fits c.args.job.now v.items size = texts_all P c.args.inputs.now number v c.requires.fits c.requires.number c.index-inputs-number.is in
     let Q : List ℕ × ℕ → Type 0 = λ x. g.J.Job.fits c.args.job.now x.0 x.1 in
-    subst Q (λ i. (sym c.deref.ensures.value i, (ap (λ (r : RoomSeen). length r.bytes) (sym c.room.view_is) ∙ sym c.room.inside.bytes.ok.0) i)) here
+    let room = c.room.inside in
+    let within : length room.bytes.items ≤ room.size = omega arith in
+    let same : size ≡ vec_len c.lengthen.new.bytes = ap (λ (r : RoomSeen). length r.bytes) (sym c.room.view_is) ∙ (length-lengthened room.size room.bytes.items within ∙ sym c.lengthen.ensures.len) in
+    subst Q (λ i. (sym c.deref.ensures.value i, same i)) here
