@@ -71,7 +71,7 @@ pub struct Handles {
     known: KnownFiles,
     readers: HashMap<String, Handle>,
     writers: HashMap<String, Handle>,
-    // how often a handle was asked for
+    // how often a handle was opened or asked for
     uses: u64,
 }
 
@@ -99,8 +99,7 @@ impl Handles {
         if !self.of(access).contains_key(name) {
             self.open_again(rt, access, name)?;
         }
-        self.uses = self.uses.saturating_add(1);
-        let used = self.uses;
+        let used = self.next_use();
         match self.of(access).get_mut(name) {
             Some(handle) => {
                 handle.used = used;
@@ -135,6 +134,12 @@ impl Handles {
             Access::Read => &mut self.readers,
             Access::Write => &mut self.writers,
         }
+    }
+
+    // Counts a use of a handle, and gives its number.
+    fn next_use(&mut self) -> u64 {
+        self.uses = self.uses.saturating_add(1);
+        self.uses
     }
 
     // How many handles are open.
@@ -204,7 +209,7 @@ impl Handles {
     // Keeps an open file.
     fn keep(&mut self, access: Access, name: &str, file: File, end: Option<u64>) -> io::Result<()> {
         let name = String::from_str(self.alloc, name)?;
-        let used = self.uses;
+        let used = self.next_use();
         self.of(access).insert(name, Handle { file, end, used })?;
         Ok(())
     }
