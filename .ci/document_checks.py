@@ -135,9 +135,30 @@ def owner_of(line):
     return found.group(1) if found else None
 
 
-def contracts(crate):
-    """Each call of a crate with the names of its clauses, '' for one without a name; a call of a type is TYPE::CALL."""
+def records_of(crate):
+    """Each record that the definitions of a crate declare, with the names of its fields."""
     found = {}
+    folder = os.path.join(TOP, "crates", crate, "specs")
+    for name in sorted(os.listdir(folder)) if os.path.isdir(folder) else []:
+        fields = set()
+        for line in text_of(os.path.join("crates", crate, "specs", name)).split("\n"):
+            record = re.match(r"pub record (\w+)", line)
+            field = re.match(r"  pub (\w+) :", line)
+            if record:
+                fields = found.setdefault(record.group(1), set())
+            elif field:
+                fields.add(field.group(1))
+            elif re.match(r"\S", line):
+                fields = set()
+    return found
+
+
+def contracts(crate):
+    """Each call of a crate with the names of its clauses, '' for one without a name; a call of a type is TYPE::CALL.
+
+    A clause without a name that is a record of the crate's definitions has the record's fields as its clauses, too.
+    """
+    found, records = {}, records_of(crate)
     folder = os.path.join(TOP, "crates", crate, "src")
     for name in sorted(os.listdir(folder)):
         owner, clauses = None, set()
@@ -147,9 +168,10 @@ def contracts(crate):
             call = re.match(r'\s*(?:pub )?(?:extern "C" )?fn (\w+)', line)
             if call:
                 clauses = found.setdefault(f"{owner}::{call.group(1)}" if owner else call.group(1), set())
-            clause = re.match(r"\s*ensures\*? (\w*) ?\{", line)
+            clause = re.match(r"\s*ensures\*? (\w*) ?\{ *(\w*)", line)
             if clause:
                 clauses.add(clause.group(1))
+                clauses |= set() if clause.group(1) else records.get(clause.group(2), set())
             elif line.strip() == "{":
                 clauses = set()
     return found

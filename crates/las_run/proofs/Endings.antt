@@ -1,5 +1,5 @@
 -- What is left at an ending, and what a run says of its cause.
-use Rattle.std.proofs.Common.{◌≡◌, ◌≢◌, ◌⊎◌, inl, inr, ℕ, zero, suc, List, [], ◌∷◌, length, take, map, Some, Result, Ok, Err, refl, sym, ◌∙◌, ap, subst, arith}
+use Rattle.std.proofs.Common.{◌≡◌, ◌⊎◌, inl, inr, ℕ, zero, suc, List, [], ◌∷◌, length, take, map, Some, Result, Ok, Err, refl, sym, ◌∙◌, ap, subst, arith}
 use Rattle.std.specs.Prelude.{Any, Contains}
 use Rattle.std.proofs.lemmas.List.{take_all}
 use Rattle.las_outside.specs.Drafts.{Patch, with_patches, IsPatchedInPart}
@@ -12,15 +12,8 @@ use Rattle.las_words.specs.Says.{usage}
 use Rattle.las_run.specs.declared.stop.Stop.{Stop}
 use Rattle.las_run.specs.Endings.{Output, Cause, Done, Memory, Usage, Unread, Unwritten, Refused, Differs, HasTooManyPoints, Ending, ends_at_once, status_of, at_end, with_all, files_of, AreUnfinished, named, IsLeft}
 use Rattle.las_run.specs.Runs.{RunOf, Task, inputs_of}
-use Rattle.las_run.specs.Ends.{Change, EndsAs, FailsToWrite, IsLeftBy, IsQuiet, IsTheEnding, Ends, cause_of}
+use Rattle.las_run.specs.Ends.{Change, EndsAs, IsLeftBy, IsQuiet, IsTheEnding, Ends, cause_of}
 use Rattle.las_run.specs.Lines.{line_of}
-
--- a number that is none of four
-none_of : (n a b c d : ℕ) → n ≢ a → n ≢ b → n ≢ c → n ≢ d → (n ≡ a) ⊎ ((n ≡ b) ⊎ ((n ≡ c) ⊎ (n ≡ d))) → ⊥
-none_of n a b c d not_a not_b not_c not_d (inl is) = not_a is
-none_of n a b c d not_a not_b not_c not_d (inr (inl is)) = not_b is
-none_of n a b c d not_a not_b not_c not_d (inr (inr (inl is))) = not_c is
-none_of n a b c d not_a not_b not_c not_d (inr (inr (inr is))) = not_d is
 
 -- nothing was created
 pub nothing_left : (outputs : List Output) (files : FileMap) → IsLeft outputs files files
@@ -94,64 +87,6 @@ module _ (task : Task) (change : Change) where
   left (Refused name r) e = e.2
   left (Differs name field) e = e.2
   left HasTooManyPoints e = e.1
-
-  as_defined : (cause : Cause) (files : FileMap) (ending : Ending) (err err_now : SinkView) → EndsAs task change cause → Puts (line_of cause) err err_now → change.files.held ≡ Some files → RunOf task files ending
-      → (status_of cause ≡ status_of ending.cause) × (change.files_now.held ≡ Some (files_of ending files)) × (change.out_now ≡ with_more change.out ending.text) × Puts (line_of ending.cause) err err_now
-  as_defined cause files ending err err_now ends puts known defined =
-      let h = ends files known in
-      let is : h.0 ≡ ending = sym (h.1.only ending defined) in
-      let cause_is : cause ≡ ending.cause = sym h.2 ∙ ap (λ (e : Ending). e.cause) is in (
-        ap status_of cause_is,
-        h.3 ∙ ap (λ (e : Ending). Some (files_of e files)) is,
-        h.4 ∙ ap (λ (e : Ending). with_more change.out e.text) is,
-        subst (λ (c : Cause). Puts (line_of c) err err_now) cause_is puts,
-      )
-
-  -- as defined, or memory is short, or a count rose
-  abbrev pub IsComplete : ℕ → FileMap → Ending → (err err_now : SinkView) → Type 0
-  IsComplete status files ending err err_now =
-      ((status ≡ status_of ending.cause) × (change.files_now.held ≡ Some (files_of ending files)) × (change.out_now ≡ with_more change.out ending.text) × Puts (line_of ending.cause) err err_now)
-      ⊎ ((status ≡ 1) ⊎ (((status ≡ 3) × Rose change.files.read_faults change.files_now.read_faults)
-      ⊎ (((status ≡ 4) × Rose change.files.write_faults change.files_now.write_faults × (ending.outputs ≢ []))
-      ⊎ ((status ≡ 4) × Rose change.out.faults change.out_now.faults × (ending.text ≢ [])))))
-
-  pub complete : (cause : Cause) (files : FileMap) (ending : Ending) (err err_now : SinkView) → Ends task change cause → Puts (line_of cause) err err_now → change.files.held ≡ Some files → RunOf task files ending
-      → IsComplete (status_of cause) files ending err err_now
-  complete Done files ending err err_now e puts known defined = inl (as_defined Done files ending err err_now e.0 puts known defined)
-  complete Memory files ending err err_now e puts known defined = inr (inl refl)
-  complete (Usage i) files ending err err_now e puts known defined = inl (as_defined (Usage i) files ending err err_now e.2 puts known defined)
-  complete (Unread name) files ending err err_now e puts known defined = elim e.2 [
-    | inl missing ↦ inl (as_defined (Unread name) files ending err err_now missing.2 puts known defined)
-    | inr failed ↦ inr (inr (inl (refl, failed)))
-  ]
-  complete Unwritten files ending err err_now e puts known defined = elim e.0 [
-    | inl write ↦ inr (inr (inr (inl (refl, write.0, write.1 files ending known defined))))
-    | inr put ↦
-        let h = put.known files known in
-        inr (inr (inr (inr (refl, put.rose, subst (λ (x : Ending). x.text ≢ []) (sym (h.1.only ending defined)) h.3))))
-  ]
-  complete (Refused name r) files ending err err_now e puts known defined = inl (as_defined (Refused name r) files ending err err_now e.1 puts known defined)
-  complete (Differs name field) files ending err err_now e puts known defined = inl (as_defined (Differs name field) files ending err err_now e.1 puts known defined)
-  complete HasTooManyPoints files ending err err_now e puts known defined = inl (as_defined HasTooManyPoints files ending err err_now e.0 puts known defined)
-
-  -- what is done or refused is defined
-  abbrev pub IsDefined : ℕ → FileMap → Type 0
-  IsDefined status files =
-      (ending : Ending) × IsTheEnding task files ending × (status_of ending.cause ≡ status)
-      × (change.files_now.held ≡ Some (files_of ending files)) × (change.out_now ≡ with_more change.out ending.text)
-
-  defined_by : (cause : Cause) (files : FileMap) → EndsAs task change cause → change.files.held ≡ Some files → IsDefined (status_of cause) files
-  defined_by cause files ends known = let h = ends files known in (h.0, h.1, ap status_of h.2, h.3, h.4)
-
-  pub done : (cause : Cause) (files : FileMap) → Ends task change cause → change.files.held ≡ Some files → (status_of cause ≡ 0) ⊎ ((status_of cause ≡ 2) ⊎ ((status_of cause ≡ 5) ⊎ (status_of cause ≡ 6))) → IsDefined (status_of cause) files
-  done Done files e known is = defined_by Done files e.0 known
-  done Memory files e known is = absurd (none_of 1 0 2 5 6 (omega arith) (omega arith) (omega arith) (omega arith) is)
-  done (Usage i) files e known is = defined_by (Usage i) files e.2 known
-  done (Unread name) files e known is = absurd (none_of 3 0 2 5 6 (omega arith) (omega arith) (omega arith) (omega arith) is)
-  done Unwritten files e known is = absurd (none_of 4 0 2 5 6 (omega arith) (omega arith) (omega arith) (omega arith) is)
-  done (Refused name r) files e known is = defined_by (Refused name r) files e.1 known
-  done (Differs name field) files e known is = defined_by (Differs name field) files e.1 known
-  done HasTooManyPoints files e known is = defined_by HasTooManyPoints files e.0 known
 
   pub wrong_words : (cause : Cause) → Ends task change cause → status_of cause ≡ 2 → (index : ℕ) × (task.said ≡ usage index)
   wrong_words Done e is = absurd (omega (arith, is))

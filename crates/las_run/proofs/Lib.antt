@@ -3,6 +3,7 @@ pub mod Converting
 pub mod Endings
 mod Examples
 pub mod Headline
+pub mod Keeping
 pub mod Made
 pub mod Making
 pub mod Merging

@@ -1,6 +1,6 @@
 -- What the call that makes files says of its outcome, as how a run of `make` ends.
-use Rattle.std.proofs.Common.{◌≡◌, ◌≢◌, ◌⊎◌, inl, inr, ℕ, ◌≤◌, List, [], ◌∷◌, take, length, lit<, Option, Some, None, Result, Ok, Err, refl, sym, ◌∙◌, ap, subst, arith}
-use Rattle.std.specs.Prelude.{Contains, IfErr, IfOk, IsSome, OnErr, OnOk}
+use Rattle.std.proofs.Common.{◌≡◌, ◌≢◌, inl, inr, ℕ, List, [], ◌∷◌, take, length, lit<, Option, Some, None, Err, refl, sym, ◌∙◌, ap, subst, arith}
+use Rattle.std.specs.Prelude.{IsSome}
 use Rattle.std.specs.FinMap as finmap
 use Rattle.std.specs.List.{concat}
 use Rattle.las_info.specs.Tallies.{TapSeen}
@@ -9,20 +9,19 @@ use Rattle.las_make.specs.declared.fault.MakeFault.TheVariants as made
 use Rattle.las_make.specs.declared.making.Sizes.{Sizes}
 use Rattle.las_make.specs.declared.settings.Settings.{Settings}
 use Rattle.las_make.specs.Made.{IsInRange, made_file, made_records}
-use Rattle.las_make.specs.Making.{FailsMaking, LeavesMade, LeavesPacked, LeavesPlain, made_output, with_made}
+use Rattle.las_make.specs.Making.{FailsMaking, LeavesMade, LeavesPacked, LeavesPlain, with_made}
 use Rattle.las_make.proofs.Ended.{faults_left, whole_form}
 use Rattle.las_outside.specs.Faults.{Rose}
 use Rattle.las_outside.specs.Files.{FileMap, with_file}
 use Rattle.las_outside.specs.Outside.{Outside}
 use Rattle.las_outside.specs.Sinks.{SinkView, with_fault, with_more}
-use Rattle.las_words.specs.Says.{asks, make}
-use Rattle.laz_file.specs.Copying.{packed_output}
+use Rattle.las_words.specs.Says.{make}
 use Rattle.laz_file.specs.Packing.{packed_file}
-use Rattle.las_run.specs.Endings.{Done, Ending, IsLeft, Output, files_of}
+use Rattle.las_run.specs.Endings.{Done, Ending, IsLeft, files_of}
 use Rattle.las_run.specs.declared.stop.Stop.TheVariants as stop
 use Rattle.las_run.specs.Runs.{Task}
-use Rattle.las_run.specs.Tools.{made_text, makes, output_of}
-use Rattle.las_run.specs.Ends.{Change, Ends, EndsAs, HasOutput, IsLeftBy, IsTheEnding, cause_of, stop_making}
+use Rattle.las_run.specs.Tools.{made_text, makes}
+use Rattle.las_run.specs.Ends.{Change, Ends, HasOutput, IsLeftBy, IsTheEnding, cause_of, stop_making}
 use Rattle.las_run.proofs.Commands.{task_with}
 use Rattle.las_run.proofs.Endings.{left_if_done, nothing_left}
 use Rattle.las_run.proofs.Opening.{some_outputs}

@@ -1,5 +1,5 @@
 -- What the call that merges files says of its outcome, as how a run of `lasmerge` ends.
-use Rattle.std.proofs.Common.{◌≡◌, ◌≢◌, ◌⊎◌, inl, inr, ℕ, ◌<◌, Bool, List, [], ◌∷◌, length, Option, Some, None, Result, Ok, Err, refl, sym, ◌∙◌, ap, subst}
+use Rattle.std.proofs.Common.{◌≡◌, ◌≢◌, ◌⊎◌, inl, inr, ℕ, ◌<◌, Bool, List, [], length, Option, Some, None, Result, Ok, Err, refl, sym, ◌∙◌, ap, subst}
 use Rattle.std.specs.Prelude.{Contains, IfErr, IsErrOf, OnOk, is_some}
 use Rattle.std.proofs.lemmas.List.{get_or_default}
 use Rattle.las_header.specs.declared.refusal.Refusal.{Refusal}

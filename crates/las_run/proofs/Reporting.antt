@@ -1,8 +1,7 @@
 -- Taps that are chosen by their names, and what is reported of a file.
-use Rattle.std.proofs.Common.{◌≡◌, ◌≢◌, ℕ, ◌+◌, ◌^◌, ◌≤◌, ◌<◌, Bool, true, false, ◌||◌, cond, if◌then◌else◌, List, [], ◌∷◌, ◌++◌, length, take, map, get_or, Option, Some, None, find, refl, sym, ◌∙◌, ap, subst, lit<, arith}
-use Rattle.std.specs.Prelude.{All, Result, Ok, Err, IsErrOf, OnOk, IsSome, IsSomeAnd}
-use Rattle.std.specs.List.{AllPairs, AllZip, concat, cons_option, filter_map, flat_map, list_any}
-use Rattle.std.specs.FinMap as finmap
+use Rattle.std.proofs.Common.{◌≡◌, ◌≢◌, ℕ, Bool, true, false, ◌||◌, cond, if◌then◌else◌, List, [], ◌∷◌, ◌++◌, length, take, map, get_or, Option, Some, None, find, refl, sym, ◌∙◌, ap, subst, arith}
+use Rattle.std.specs.Prelude.{All, Result, Ok, Err, IsErrOf, OnOk, IsSome}
+use Rattle.std.specs.List.{AllPairs, AllZip, concat, cons_option, flat_map, list_any}
 use Rattle.std.specs.Option.{option_map}
 use Rattle.std.specs.Str.{bytes_eq}
 use Rattle.std.proofs.lemmas.List.{get_or-map, length-map}
@@ -18,19 +17,17 @@ use Rattle.las_info.specs.Summaries.{SummarySeen, summary_of}
 use Rattle.las_info.specs.Surveys.{IsShown, SurveySeen}
 use Rattle.las_info.specs.Tallies.{TapSeen, shown_all}
 use Rattle.las_info.proofs.Shown.{all_seen}
-use Rattle.las_outside.specs.Faults.{Rose, count_after}
-use Rattle.las_outside.specs.Files.{FileMap, WhereKnown}
+use Rattle.las_outside.specs.Faults.{Rose}
+use Rattle.las_outside.specs.Files.{WhereKnown}
 use Rattle.las_outside.specs.Sinks.{SinkView, with_fault, with_more}
 use Rattle.laz_file.specs.Copying.{AreOnlyRecords}
 use Rattle.laz_file.specs.Outputs.{records_after}
 use Rattle.laz_file.specs.Pieces.{ArePieces, Piece}
 use Rattle.laz_file.specs.Reading.{ReaderSeen, StandsFor, chunks_in}
-use Rattle.laz_file.specs.Records.{AreRecordsOf}
 use Rattle.laz_file.proofs.OneAnswer.{one_pieces}
 use Rattle.laz_file.specs.declared.fault.Fault.{Fault}
 use Rattle.laz_file.specs.declared.fault.Fault.TheVariants as file
 use Rattle.laz_table.specs.VlrCauses.{chunk_size_of}
-use Rattle.las_run.specs.declared.stop.Stop.{Stop}
 use Rattle.las_run.specs.Endings.{ComesAtOpening, Done, Refused, Ending}
 use Rattle.las_run.specs.Ends.{Change, EndsPutting, IsOnlyEnding, MakesText, stop_by, stopped_report}
 use Rattle.las_run.specs.Tools.{Reports, chosen_taps, chunks_line, report_of, reports, tallies_text}

@@ -1,8 +1,7 @@
 -- What the call that splits a file says of its outcome, as what `lassplit` makes of its input.
-use Rattle.std.proofs.Common.{◌≡◌, ◌≢◌, ◌⊎◌, inl, inr, ℕ, zero, suc, List, [], ◌∷◌, map, take, Option, Some, None, Result, Ok, Err, refl, sym, ◌∙◌, ap, subst}
+use Rattle.std.proofs.Common.{◌≡◌, ◌≢◌, ◌⊎◌, inl, inr, ℕ, zero, suc, List, [], ◌∷◌, map, take, Option, Some, None, Ok, Err, refl, sym, ◌∙◌, ap, subst}
 use Rattle.std.specs.FinMap as finmap
 use Rattle.las_filter.specs.declared.rule.Rule.{Rule}
-use Rattle.las_filter.specs.Parts.{part_name}
 use Rattle.las_header.specs.declared.refusal.Refusal.{Refusal}
 use Rattle.las_header.specs.declared.refusal.Refusal.TheVariants.{BadChunk, TooManyParts}
 use Rattle.las_outside.specs.Faults.{Rose}
@@ -15,7 +14,7 @@ use Rattle.las_split.specs.Files.{with_files}
 use Rattle.las_split.specs.Outputs as split
 use Rattle.las_split.specs.Outputs.{LeavesParts, PartFile, all_finished, all_stopped, part_files}
 use Rattle.las_split.specs.Splitting.{OnlySplits, SplitsTo}
-use Rattle.las_run.specs.Endings.{AreUnfinished, Cause, ComesAtOpening, Done, Refused, Ending, IsLeft, Output, at_end, files_of, named, with_all}
+use Rattle.las_run.specs.Endings.{AreUnfinished, ComesAtOpening, Done, Refused, Ending, IsLeft, Output, at_end, files_of, named, with_all}
 use Rattle.las_run.specs.Tools.{Splits, cause_by, output_of, part_outputs}
 use Rattle.las_run.specs.Ends.{EndsMaking, IsOnlyEnding, LeavesOf, MakesAs}
 use Rattle.las_run.proofs.Endings.{left_if_done}

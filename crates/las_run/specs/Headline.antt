@@ -1,41 +1,59 @@
 -- The words in which the top call says what `laszip` makes of every file.
-use Rattle.std.specs.Prelude.{◌≡◌, ◌⊎◌, ℕ, List, Some}
+use Rattle.std.specs.Prelude.{◌≡◌, ◌⊎◌, ◌++◌, ℕ, true, List, [], Option, Some}
 use Rattle.std.specs.FinMap as finmap
-use Rattle.las_outside.specs.Faults.{Rose}
+use Rattle.std.specs.List.{concat}
+use Rattle.las_header.specs.declared.refusal.Refusal.{Refusal}
+use Rattle.las_header.specs.Fields.{head_of, is_packed}
+use Rattle.las_header.specs.Plain.{plain_head}
 use Rattle.las_outside.specs.Files.{FileMap}
-use Rattle.las_outside.specs.Outside.{Outside}
-use Rattle.las_outside.specs.Sinks.{SinkView, Puts}
 use Rattle.las_words.specs.Says.{asks, laszip}
-use Rattle.las_run.specs.Runs.{Task}
-use Rattle.las_run.specs.Endings.{Cause, status_of}
-use Rattle.las_run.specs.Lines.{line_of}
+use Rattle.laz_file.specs.Records.{AreRecordsOf}
+use Rattle.laz_file.specs.Refusing.{IsAcceptedFile}
+use Rattle.las_run.specs.Endings.{Cause, Refused}
+use Rattle.las_run.specs.Seen.{EndsWith, Excuse, NoMemory, FailedRead, FailedWrite, FailedOut, IsExcused, RunSeen}
 
--- The task is `laszip` of a file that is held.
-pub record AsksLaszip (task : Task) (files : FileMap) (file : List ℕ) : Type 0 where
+-- The run is `laszip` over known files, and its input is this file.
+pub record IsLaszip (run : RunSeen) : Type 0 where
   pub input : List ℕ
   pub output : List ℕ
   pub chunk : ℕ
   pub workers : ℕ
-  pub said : task.said ≡ asks (laszip input output chunk workers)
-  pub held : finmap.get files input ≡ Some file
+  pub said : run.task.said ≡ asks (laszip input output chunk workers)
+  pub known : FileMap
+  pub known_is : run.files.held ≡ Some known
+  pub file : List ℕ
+  pub held : finmap.get known input ≡ Some file
 
--- what is seen of a run: its status, and files and standard error before and after it
-pub record Seen : Type 0 where
-  pub status : ℕ
-  pub files : Outside
-  pub files_now : Outside
-  pub err : SinkView
-  pub err_now : SinkView
+-- An accepted packed file holds these blocks of records, up to its first bad chunk if there is one.
+pub record IsPackedOf (file : List ℕ) (blocks : List (List ℕ)) (bad : Option ℕ) : Type 0 where
+  pub accepted : IsAcceptedFile file
+  pub packed : is_packed (head_of file) ≡ true
+  pub records : AreRecordsOf file blocks bad
 
--- Memory was short, or a count of faults rose.
-abbrev pub IsCutShort : Seen → Type 0
-IsCutShort seen =
-    (seen.status ≡ 1) ⊎ (((seen.status ≡ 3) × Rose seen.files.read_faults seen.files_now.read_faults)
-    ⊎ ((seen.status ≡ 4) × Rose seen.files.write_faults seen.files_now.write_faults))
+-- a file unpacked: its head as a plain one, and these blocks of its records
+abbrev pub unpacked : (file : List ℕ) → (blocks : List (List ℕ)) → List ℕ
+unpacked file blocks = plain_head file ++ concat blocks
 
--- The run ended for this cause, which its status and its line tell, and left these files; or it was cut short.
-abbrev pub EndsUnlessCut : Seen → Cause → FileMap → Type 0
-EndsUnlessCut seen cause files =
-    ((seen.status ≡ status_of cause) × (seen.files_now.held ≡ Some files)
-    × Puts (line_of cause) seen.err seen.err_now)
-    ⊎ IsCutShort seen
+-- What can keep `laszip` from writing its output; it puts no text.
+abbrev pub CanMissOutput : Excuse → Type 0
+CanMissOutput NoMemory = Unit {0}
+CanMissOutput FailedRead = Unit {0}
+CanMissOutput FailedWrite = Unit {0}
+CanMissOutput FailedOut = ⊥
+
+-- What can keep it from refusing its input; it writes nothing before.
+abbrev pub CanMissRefusal : Excuse → Type 0
+CanMissRefusal NoMemory = Unit {0}
+CanMissRefusal FailedRead = Unit {0}
+CanMissRefusal FailedWrite = ⊥
+CanMissRefusal FailedOut = ⊥
+
+-- The run ended for this cause with these bytes as its output, and every other file is as before, unless it has an
+-- excuse.
+abbrev pub Writes : (run : RunSeen) → IsLaszip run → Cause → (bytes : List ℕ) → Type 0
+Writes run zip cause bytes =
+    EndsWith run cause (finmap.insert zip.known zip.output bytes) [] ⊎ IsExcused run CanMissOutput
+
+-- The run refused its input for this cause, and every file is as before, unless it has an excuse.
+abbrev pub Refuses : (run : RunSeen) → IsLaszip run → Refusal → Type 0
+Refuses run zip refusal = EndsWith run (Refused zip.input refusal) zip.known [] ⊎ IsExcused run CanMissRefusal

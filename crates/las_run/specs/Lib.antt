@@ -15,4 +15,6 @@ pub mod Tools
 pub mod Runs
 pub mod Ends
 pub mod EndingLaws
+pub mod Seen
 pub mod Headline
+pub mod Promises

@@ -1,12 +1,10 @@
-use Rattle.std.proofs.Common.{◌≡◌, [], ◌∷◌, List, ℕ, map, Result, subst, ◌∙◌}
+use Rattle.std.proofs.Common.{◌≡◌, List, ℕ, map, subst, ◌∙◌}
 use Rattle.std.proofs.lemmas.Result.{err_from_is_err_and}
-use Rattle.las_info.specs.Tallies.{TapSeen}
-use Rattle.las_words.specs.Says.{Asked, asks, lasinfo}
+use Rattle.las_words.specs.Says.{Asked, lasinfo}
 use Rattle.las_words.specs.Texts.{texts}
 use Rattle.laz_file.specs.Reading.{StandsFor}
 use Rattle.laz_file.specs.Refusing.{IsAcceptedFile}
-use Rattle.las_run.specs.declared.stop.Stop.{Stop}
-use Rattle.las_run.specs.Ends.{Change, EndsPutting, cause_of, quiet}
+use Rattle.las_run.specs.Ends.{Change, EndsPutting}
 use Rattle.las_run.specs.Tools.{Reports}
 use Rattle.las_run.proofs.Commands.{lasinfo_reads, task_with}
 use Rattle.las_run.proofs.Opening.{ends_opening, ends_putting, known_more, putting_after}

@@ -1,4 +1,4 @@
-use Rattle.std.proofs.Common.{◌≡◌, ◌≢◌, ◌∙◌, List, ℕ, Result, ap, subst, sym, Err}
+use Rattle.std.proofs.Common.{◌≡◌, ◌∙◌, Result, ap, subst, sym, Err}
 use Rattle.std.specs.Prelude.{string_bytes}
 use Rattle.laz_file.specs.declared.fault.Fault.{Fault}
 use Rattle.laz_file.specs.declared.fault.Fault.TheVariants.{Write}

@@ -1,4 +1,4 @@
-use Rattle.std.proofs.Common.{◌≡◌, [], ◌∷◌, List, ℕ, Err, refl, sym, subst}
+use Rattle.std.proofs.Common.{[], ◌∷◌, Err, refl, sym, subst}
 use Rattle.las_run.specs.declared.stop.Stop.{Stop}
 use Rattle.las_words.specs.Says.{asks, make}
 use Rattle.las_run.specs.Ends.{Ends, cause_of}
