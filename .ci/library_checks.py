@@ -18,9 +18,13 @@ PACKAGES = ["gcc", "binutils", "pkg-config", "python3-numpy", "python3-matplotli
             "python3-setuptools", "python3-wheel"]
 
 
-def run(words, folder, **options):
-    """A run that has to end with status 0: what it printed, or what is wrong."""
-    done = subprocess.run(words, cwd=folder, timeout=600, stdout=subprocess.PIPE, stderr=subprocess.PIPE, **options)
+def run(words, folder, limit=600, **options):
+    """A run that has to end with status 0 in so many seconds: what it printed, or what is wrong."""
+    try:
+        done = subprocess.run(words, cwd=folder, timeout=limit, stdout=subprocess.PIPE, stderr=subprocess.PIPE,
+                              check=False, **options)
+    except subprocess.TimeoutExpired:
+        return None, f"{os.path.basename(words[0])}: it is not done after {limit} seconds"
     if done.returncode != 0:
         said = done.stderr[-2000:].decode(errors="replace")
         return None, f"{os.path.basename(words[0])}: status {done.returncode}: {said}"
@@ -46,7 +50,8 @@ def build(cases, folder):
     """The library twice, with the same bytes, and the check program."""
     there, again = os.path.join(folder, "lib"), os.path.join(folder, "again")
     for place in (there, again):
-        _, problem = run([os.path.join(TOP, "release", "library"), place], folder)
+        # (it proves what is not proved yet)
+        _, problem = run([os.path.join(TOP, "release", "library"), place], folder, limit=5400)
         if problem:
             cases.note("the library is built", problem)
             return None

@@ -16,6 +16,8 @@ VARIABLE = "BALSAMVISE_LIBRARY"
 
 FRONT = 227
 MAX_PAYLOAD = 58
+KEPT_ROOM = 2**22
+"""More than what unpacking a chunk takes: 1.2 MB, and its bytes."""
 COUNTED = 2**32 - 1
 """The chunk size of a file whose chunk table has a number of points for each chunk."""
 
@@ -83,6 +85,14 @@ def _load() -> ctypes.CDLL:
     )
 
 
+def _keep_rooms() -> None:
+    """Has the C library keep the memory of a chunk for the next one, in place of giving it back to the system.
+
+    glibc gives memory back at once until a block has been freed that is as large. None of this one is written.
+    """
+    np.empty(KEPT_ROOM, np.uint8)
+
+
 _library: ctypes.CDLL | None = None
 
 
@@ -90,6 +100,7 @@ def _calls() -> ctypes.CDLL:
     global _library
     if _library is None:
         _library = _load()
+        _keep_rooms()
     return _library
 
 
