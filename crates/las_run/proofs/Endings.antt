@@ -82,7 +82,7 @@ module _ (task : Task) (change : Change) where
   left Done e = e.1
   left Memory e = e.0
   left (Usage i) e = left_at_once (Usage i) e.2 e.1
-  left (Unread name) e = e.1
+  left (Unread name) e = e.left
   left Unwritten e = e.1
   left (Refused name r) e = e.2
   left (Differs name field) e = e.2
@@ -102,7 +102,7 @@ module _ (task : Task) (change : Change) where
   read_cause Done e is = absurd (omega (arith, is))
   read_cause Memory e is = absurd (omega (arith, is))
   read_cause (Usage i) e is = absurd (omega (arith, is))
-  read_cause (Unread name) e is = elim e.2 [
+  read_cause (Unread name) e is = elim e.cause [
     | inl missing ↦ inl (any_of (inputs_of task.said) name (IsMissing change.files.held) missing.0 missing.1)
     | inr failed ↦ inr failed
   ]
@@ -129,7 +129,7 @@ module _ (task : Task) (change : Change) where
   quiet_unless Done e = inl refl
   quiet_unless Memory e = inr (inr e.1)
   quiet_unless (Usage i) e = inr (inr e.3)
-  quiet_unless (Unread name) e = inr (inr e.3)
+  quiet_unless (Unread name) e = inr (inr e.quiet)
   quiet_unless Unwritten e = inr (inl refl)
   quiet_unless (Refused name r) e = inr (inr e.4)
   quiet_unless (Differs name field) e = inr (inr e.4)
@@ -159,7 +159,7 @@ module _ (task : Task) (change : Change) where
   put_of Done files ending e known defined = all_put files ending Done e.0 known defined
   put_of Memory files ending e known defined = nothing_put ending e.1
   put_of (Usage i) files ending e known defined = nothing_put ending e.3
-  put_of (Unread name) files ending e known defined = nothing_put ending e.3
+  put_of (Unread name) files ending e known defined = nothing_put ending e.quiet
   put_of Unwritten files ending e known defined = elim e.0 [
     | inl write ↦ nothing_put ending write.2
     | inr put ↦

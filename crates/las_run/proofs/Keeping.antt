@@ -43,7 +43,7 @@ module _ (run : RunSeen) where
   complete Done known ending told e due = inl (as_defined Done known ending told e.0 due)
   complete Memory known ending told e due = inr (record { excuse = NoMemory; can_be = tt; shown = told.0 })
   complete (Usage i) known ending told e due = inl (as_defined (Usage i) known ending told e.2 due)
-  complete (Unread name) known ending told e due = elim e.2 [
+  complete (Unread name) known ending told e due = elim e.cause [
     | inl missing ↦ inl (as_defined (Unread name) known ending told missing.2 due)
     | inr failed ↦ inr (record { excuse = FailedRead; can_be = tt; shown = (told.0, failed) })
   ]

@@ -122,8 +122,20 @@ module _ (taps : List TapSeen) (output packed : List ℕ) (s : Settings) (range 
 
     pub ends_unmade : (fault : MakeFault) → out_now ≡ out → FailsMaking output packed s chunk old new fault
         → Ends (task_with taps (make output packed s.points s.seed s.format s.extra chunk workers)) (record { files = old; files_now = new; out = out; out_now = out_now }) (cause_of (output ∷ packed ∷ []) (Err (stop_making fault)))
-    ends_unmade made.ReadPlain quiet fails = ((0, lit< tt, refl), left_by change (faults_left s output packed chunk old new made.ReadPlain range fails), inr fails.0, quiet)
-    ends_unmade made.ReadPacked quiet fails = ((1, lit< tt, refl), left_by change (faults_left s output packed chunk old new made.ReadPacked range fails), inr fails.0, quiet)
+    ends_unmade made.ReadPlain quiet fails = record {
+      reads = (0, lit< tt, refl);
+      comes = inl (refl, fails.1);
+      left = left_by change (faults_left s output packed chunk old new made.ReadPlain range fails);
+      cause = inr fails.0;
+      quiet = quiet;
+    }
+    ends_unmade made.ReadPacked quiet fails = record {
+      reads = (1, lit< tt, refl);
+      comes = inr (refl, fails.1);
+      left = left_by change (faults_left s output packed chunk old new made.ReadPacked range fails);
+      cause = inr fails.0;
+      quiet = quiet;
+    }
     ends_unmade (made.Changed cause) quiet fails = (
       (0, lit< tt, refl),
       (λ files known. absurd (let clash : None ≡ Some files = sym fails.0 ∙ known in cc)),

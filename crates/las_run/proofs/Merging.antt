@@ -188,15 +188,18 @@ module _ (taps : List TapSeen) (inputs : List (List ℕ)) (output : List ℕ) (p
         (is_input number (s.at number (file.Refused cause) refl).0, refused_ends number cause is, left_by s.left, unchanged number cause s.later is, refl)
     ends_so (Err (merge.At number file.Read)) s =
         let a = s.at number file.Read refl in
-        let there = is_input number a.0 in (
-          there,
-          left_by s.left,
-          elim (s.read number refl) [
-            | inl missing ↦ inl (there, missing.0, missing_ends number a.0 a.1 missing.0 missing.1)
-            | inr rose ↦ inr rose
-          ],
-          refl,
-        )
+        let there = is_input number a.0 in
+        record {
+          reads = there;
+          comes = (number, refl, a.0, a.1);
+          left = left_by s.left;
+          cause =
+              elim (s.read number refl) [
+                | inl missing ↦ inl (there, missing.0, missing_ends number a.0 a.1 missing.0 missing.1)
+                | inr rose ↦ inr rose
+              ];
+          quiet = refl;
+        }
     ends_so (Err (merge.At number file.Write)) s = absurd (s.never number refl)
     ends_so (Err (merge.At number file.Memory)) s = (left_by s.left, refl)
     ends_so (Err (merge.Unequal number field)) s =

@@ -16,7 +16,7 @@ use Rattle.las_run.specs.declared.stop.Stop.{Stop}
 use Rattle.las_run.specs.declared.stop.Stop.TheVariants as stop
 use Rattle.las_run.specs.Endings.{Cause, Done, Unread, Refused, Ending, IsLeft, Output, at_end, ends_at_once, files_of, with_all}
 use Rattle.las_run.specs.Runs.{Accepts, Opens, OpensIn, RunOf, Task, files_read_by, inputs_of}
-use Rattle.las_run.specs.Ends.{Change, quiet, Ends, EndsAs, EndsMaking, EndsPutting, HasOutput, IsLeftBy, IsOnlyEnding, IsTheEnding, LeavesOf, MakesAs, MakesText, StopsOpening, cause_of, stopped_by}
+use Rattle.las_run.specs.Ends.{Change, ComesTo, quiet, Ends, EndsAs, EndsMaking, EndsPutting, HasOutput, IsLeftBy, IsOnlyEnding, IsTheEnding, LeavesOf, MakesAs, MakesText, StopsOpening, cause_of, stopped_by}
 use Rattle.las_run.proofs.Endings.{left_before}
 
 -- ---- what is known of an input
@@ -82,6 +82,7 @@ module _ (Makes : List ℕ → Ending → Type 0) (input : List ℕ) (old mid ne
 pub record ReadsOne (task : Task) (name : List ℕ) (Makes : List ℕ → Ending → Type 0) : Type 0 where
   pub inputs : inputs_of task.said ≡ name ∷ []
   pub reads : files_read_by task.said ≡ name ∷ []
+  pub comes : (change : Change) → Contains (files_read_by task.said) name → ComesTo task.said change name
   pub runs : (files : FileMap) (ending : Ending) → OpensIn files name Makes ending → RunOf task files ending
   pub opens : (files : FileMap) (ending : Ending) → RunOf task files ending → OpensIn files name Makes ending
 
@@ -144,15 +145,17 @@ module _ (task : Task) (name : List ℕ) (Makes : List ℕ → Ending → Type 0
     ends_opening stop.Memory stops same = (before same, refl)
     ends_opening (stop.Usage index) stops same = absurd stops
     ends_opening (stop.Read number) stops same =
-        subst (λ (n : ℕ). Ends task (quiet old new out) (cause_of (name ∷ []) (Err (stop.Read n)))) (sym stops.0) (
-          is_read,
-          before same,
-          elim stops.1 [
-            | inl missing ↦ inl (is_input, missing, missing_ends missing same)
-            | inr rose ↦ inr rose
-          ],
-          refl,
-        )
+        subst (λ (n : ℕ). Ends task (quiet old new out) (cause_of (name ∷ []) (Err (stop.Read n)))) (sym stops.0) (record {
+          reads = is_read;
+          comes = one.comes (quiet old new out) is_read;
+          left = before same;
+          cause =
+              elim stops.1 [
+                | inl missing ↦ inl (is_input, missing, missing_ends missing same)
+                | inr rose ↦ inr rose
+              ];
+          quiet = refl;
+        })
     ends_opening stop.Write stops same = absurd stops
     ends_opening (stop.Differs number field) stops same = absurd stops
     ends_opening stop.TooManyPoints stops same = absurd stops
@@ -189,7 +192,7 @@ module _ (task : Task) (name : List ℕ) (Makes : List ℕ → Ending → Type 0
           → Ends task (quiet old new out) (cause_of (name ∷ []) (stopped_by 0 outcome))
       ends_writing (Ok done) some ends = (made_ends Done ends.0, left_of ends.1)
       ends_writing (Err (file.Refused cause)) some ends = (is_read, made_ends (Refused name cause) ends.0, left_of ends.1, (λ first. absurd (ends.2 first)), refl)
-      ends_writing (Err file.Read) some ends = (is_read, left_of ends.1, inr ends.0, refl)
+      ends_writing (Err file.Read) some ends = record { reads = is_read; comes = one.comes (quiet old new out) is_read; left = left_of ends.1; cause = inr ends.0; quiet = refl }
       ends_writing (Err file.Write) some ends = (inl (ends.0, outputs (some refl), refl), left_of ends.1)
       ends_writing (Err file.Memory) some ends = (left_of ends, refl)
 
@@ -219,7 +222,7 @@ module _ (task : Task) (name : List ℕ) (Makes : List ℕ → Ending → Type 0
     ends_putting (Err stop.Memory) ends = (left_before task change same, ends)
     ends_putting (Err (stop.Usage index)) ends = absurd ends
     ends_putting (Err (stop.Read number)) ends =
-        subst (λ (n : ℕ). Ends task change (cause_of (name ∷ []) (Err (stop.Read n)))) (sym ends.0) (is_read, left_before task change same, inr ends.1, ends.2)
+        subst (λ (n : ℕ). Ends task change (cause_of (name ∷ []) (Err (stop.Read n)))) (sym ends.0) (record { reads = is_read; comes = one.comes change is_read; left = left_before task change same; cause = inr ends.1; quiet = ends.2 })
     ends_putting (Err stop.Write) ends = (
       inr (record {
         rose = ends.0;

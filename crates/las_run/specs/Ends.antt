@@ -1,6 +1,6 @@
 -- What a run says of the cause for which it ended. Each tool says it of its own endings, and the clauses of the top
 -- call follow from it for all tools.
-use Rattle.std.specs.Prelude.{◌≡◌, ◌≢◌, ◌⊎◌, ℕ, List, [], take, Some, Result, Ok, Err, Contains, slice_index_or}
+use Rattle.std.specs.Prelude.{◌≡◌, ◌≢◌, ◌⊎◌, ℕ, ◌<◌, List, [], length, take, Some, Result, Ok, Err, Contains, slice_index_or}
 use Rattle.las_outside.specs.Faults.{Rose}
 use Rattle.las_outside.specs.Files.{FileMap, IsMissing, WhereKnown}
 use Rattle.las_outside.specs.Outside.{Outside}
@@ -8,14 +8,17 @@ use Rattle.las_outside.specs.Sinks.{SinkView, with_fault, with_more}
 use Rattle.las_words.specs.declared.command.Command.{Command}
 use Rattle.las_words.specs.declared.command.WordFault.{WordFault}
 use Rattle.las_words.specs.declared.command.WordFault.TheVariants as fault
-use Rattle.las_words.specs.Says.{Said, asked_by, asks, usage}
+use Rattle.las_words.specs.Says.{Said, asked_by, asks, lasmerge, make, usage}
 use Rattle.laz_file.specs.declared.fault.Fault.{Fault}
 use Rattle.laz_file.specs.declared.fault.Fault.TheVariants as file
 use Rattle.laz_file.specs.Refusing.{IsRefusal}
 use Rattle.las_make.specs.declared.fault.MakeFault.{MakeFault}
 use Rattle.las_make.specs.declared.fault.MakeFault.TheVariants as made
+use Rattle.las_make.specs.declared.settings.Settings.{Settings}
+use Rattle.las_make.specs.Making.{LeavesPacked, with_made}
 use Rattle.las_merge.specs.declared.fault.MergeFault.{MergeFault}
 use Rattle.las_merge.specs.declared.fault.MergeFault.TheVariants as merge
+use Rattle.las_merge.specs.Inputs.{AreFirst, IfKnown, item_at}
 use Rattle.las_info.specs.declared.reporting.ReportFault.{ReportFault}
 use Rattle.las_info.specs.declared.reporting.ReportFault.TheVariants as report
 use Rattle.las_run.specs.declared.stop.Stop.{Stop}
@@ -105,6 +108,39 @@ FailsToWrite task change =
     (Rose change.files.write_faults change.files_now.write_faults × HasOutput task change × IsQuiet change)
     ⊎ FailsToPut task change
 
+-- A merge had come to the input of this name: if the files are known, those before it are held, accepted when they are
+-- opened, and like the first.
+abbrev pub ComesToInput : (inputs : List (List ℕ)) → Change → (name : List ℕ) → Type 0
+ComesToInput inputs change name =
+    (number : ℕ) × (name ≡ item_at inputs number) × (number < length inputs)
+    × IfKnown change.files.held (λ known. (before : List (List ℕ)) × AreFirst known inputs before
+    × (length before ≡ number))
+
+-- `make` had come to read the file of this name again: its plain file, which stands whole, with nothing but the packed
+-- one changed beside it; or the packed one, and both stand whole.
+abbrev pub ComesToMade : (output packed : List ℕ) → Settings → (chunk : ℕ) → Change → (name : List ℕ) → Type 0
+ComesToMade output packed settings chunk change name =
+    ((name ≡ output) × LeavesPacked output packed settings chunk change.files.held change.files_now.held)
+    ⊎ ((name ≡ packed) × (change.files_now.held ≡ with_made output packed settings chunk change.files.held))
+
+-- The work had come to the file of this name.
+abbrev pub ComesTo : Said → Change → (name : List ℕ) → Type 0
+ComesTo (asks (lasmerge inputs output packed chunk workers)) change name = ComesToInput inputs change name
+ComesTo (asks (make output packed points seed format extra chunk workers)) change name =
+    ComesToMade output packed (record { points = points; seed = seed; format = format; extra = extra }) chunk change
+    name
+ComesTo said change name = Contains (files_read_by said) name
+
+-- The file of this name is an input that is not held, or could not be read.
+pub record EndsUnread (task : Task) (change : Change) (name : List ℕ) : Type 0 where
+  pub reads : Contains (files_read_by task.said) name
+  pub comes : ComesTo task.said change name
+  pub left : IsLeftBy task change
+  pub cause : (Contains (inputs_of task.said) name × IsMissing change.files.held name
+      × EndsAs task change (Unread name))
+      ⊎ Rose change.files.read_faults change.files_now.read_faults
+  pub quiet : IsQuiet change
+
 -- A run of a task ended for this cause, and for this reason. A refusal that comes when an input is opened leaves the
 -- files as they were.
 abbrev pub Ends : Task → Change → Cause → Type 0
@@ -112,10 +148,7 @@ Ends task change Done = EndsAs task change Done × IsLeftBy task change
 Ends task change Memory = IsLeftBy task change × IsQuiet change
 Ends task change (Usage index) =
     (task.said ≡ usage index) × (change.files_now ≡ change.files) × EndsAs task change (Usage index) × IsQuiet change
-Ends task change (Unread name) =
-    Contains (files_read_by task.said) name × IsLeftBy task change
-    × ((Contains (inputs_of task.said) name × IsMissing change.files.held name × EndsAs task change (Unread name))
-    ⊎ Rose change.files.read_faults change.files_now.read_faults) × IsQuiet change
+Ends task change (Unread name) = EndsUnread task change name
 Ends task change Unwritten = FailsToWrite task change × IsLeftBy task change
 Ends task change (Refused name refusal) =
     Contains (files_read_by task.said) name × EndsAs task change (Refused name refusal) × IsLeftBy task change
