@@ -1,5 +1,6 @@
 -- What `laszip` makes of every file, from what a run says of every ending that is defined.
-use Rattle.std.proofs.Common.{◌≡◌, ◌⊎◌, [], inl, inr, ℕ, Bool, true, false, List, drop, Some, None, refl, sym, ◌∙◌, ap, subst}
+use Rattle.std.proofs.Common.{◌≡◌, ◌⊎◌, [], ◌∷◌, inl, inr, ℕ, zero, suc, Bool, true, false, List, drop, take, Option, Some, None, refl, sym, ◌∙◌, ap, subst}
+use Rattle.std.specs.FinMap as finmap
 use Rattle.std.specs.List.{concat}
 use Rattle.las_header.specs.declared.refusal.Refusal.{Refusal}
 use Rattle.las_header.specs.declared.refusal.Refusal.TheVariants.{BadChunk}
@@ -8,17 +9,18 @@ use Rattle.las_header.specs.Heads.{IsHead}
 use Rattle.las_outside.specs.Files.{FileMap}
 use Rattle.laz_file.specs.Copying.{packed_output, plain_output}
 use Rattle.laz_file.specs.Laws.{CanBePacked}
-use Rattle.laz_file.specs.Outputs.{finished}
+use Rattle.laz_file.specs.Outputs as points
 use Rattle.laz_file.specs.Packing.{pack, packed_file}
 use Rattle.laz_file.specs.Refusing.{IsAcceptedFile, IsRefusal}
 use Rattle.laz_file.proofs.Accepted.{plain_file}
 use Rattle.laz_file.proofs.Finished.{finished_is}
 use Rattle.laz_file.proofs.Packed.{packed-is, packed_accepted, plain-is, unpacks_again}
-use Rattle.las_run.specs.Endings.{Cause, Done, Refused, Ending, ends_at_once, files_of}
-use Rattle.las_run.specs.Tools.{Zips, ZipsIf, writes}
-use Rattle.las_run.specs.Headline.{CanMissOutput, CanMissRefusal, IsLaszip, IsPackedOf, Refuses, Writes, unpacked}
-use Rattle.las_run.specs.Seen.{CanMiss, EndsUnlessExcused, EndsWith, Excuse, NoMemory, FailedRead, FailedWrite, FailedOut, IsDue, IsExcused, RunSeen}
+use Rattle.las_run.specs.Endings.{AreUnfinished, Cause, Done, Refused, Ending, IsLeft, Output, ends_at_once, files_of, named, with_all}
+use Rattle.las_run.specs.Tools.{Zips, ZipsIf, cause_by, output_of, writes}
+use Rattle.las_run.specs.Headline.{CanMissOutput, CanMissRefusal, ChangesOutput, IsLaszip, IsPackedOf, Refuses, Writes, unpacked}
+use Rattle.las_run.specs.Seen.{CanMiss, EndsUnlessExcused, EndsWith, Excuse, NoMemory, FailedRead, FailedWrite, FailedOut, IsDue, IsExcused, Leaves, RunSeen}
 use Rattle.las_run.proofs.Commands.{laszip_reads_for}
+use Rattle.las_run.proofs.Endings.{left_of_none}
 use Rattle.las_run.proofs.Opening.{ReadsOne, defined, refused_ending}
 
 -- a run of `laszip` reads its input
@@ -41,7 +43,7 @@ refused_due run zip cause is = record {
 }
 
 -- the packed form of an accepted plain file as a finished output
-finished_form : (file output : List ℕ) (chunk : ℕ) → CanBePacked file chunk → finished (packed_output output file chunk) (drop (point_offset_of file) file) ≡ packed_file file chunk
+finished_form : (file output : List ℕ) (chunk : ℕ) → CanBePacked file chunk → points.finished (packed_output output file chunk) (drop (point_offset_of file) file) ≡ packed_file file chunk
 finished_form file output chunk can =
     finished_is (packed_output output file chunk) (drop (point_offset_of file) file) (subst IsHead (plain-is file can.plain) (plain_file file can.accepted can.plain can.bytes).head)
 
@@ -64,27 +66,60 @@ can_miss_refusal cause FailedRead can = tt
 can_miss_refusal cause FailedWrite can = can refl
 can_miss_refusal cause FailedOut can = can refl
 
--- a run that ends as every ending that is due says
-module _ (run : RunSeen) (complete : (known : FileMap) (ending : Ending) → IsDue run known ending → EndsUnlessExcused run known ending) where
-  -- with other words for its excuses
-  ends_by : (known : FileMap) (ending : Ending) (CanBe : Excuse → Type 0) → ending.text ≡ [] → ((excuse : Excuse) → CanMiss ending excuse → CanBe excuse) → EndsUnlessExcused run known ending
-      → EndsWith run ending.cause (files_of ending known) [] ⊎ IsExcused run CanBe
-  ends_by known ending CanBe none can (inl ends) = inl (subst (λ (t : List ℕ). EndsWith run ending.cause (files_of ending known) t) none ends)
-  ends_by known ending CanBe none can (inr has) = inr (record { excuse = has.excuse; can_be = can has.excuse has.can_be; shown = has.shown })
+-- what is left of one output, and of none
+left_of_one : (o : Output) (known now : FileMap) → IsLeft (o ∷ []) known now → (now ≡ known) ⊎ ((bytes : List ℕ) × (now ≡ finmap.insert known o.name bytes))
+left_of_one o known now left = go (take left.0 (o ∷ [])) left.1 (take_one left.0) left.2 left.3
+  where
+    take_none : (k : ℕ) → take k (let xs : List Output = [] in xs) ≡ []
+    take_none zero = refl
+    take_none (suc k) = refl
 
-  written : (known : FileMap) (ending : Ending) → ending.text ≡ [] → IsDue run known ending → EndsWith run ending.cause (files_of ending known) [] ⊎ IsExcused run CanMissOutput
-  written known ending none due = ends_by known ending CanMissOutput none (λ excuse can. can_miss_output ending excuse none can) (complete known ending due)
+    take_one : (k : ℕ) → (take k (o ∷ []) ≡ []) ⊎ (take k (o ∷ []) ≡ o ∷ [])
+    take_one zero = inl refl
+    take_one (suc k) = inr (ap (λ (os : List Output). o ∷ os) (take_none k))
+
+    one : (texts : List (List ℕ)) → AreUnfinished (o ∷ []) texts → now ≡ with_all known (named (o ∷ []) texts) → (now ≡ known) ⊎ ((bytes : List ℕ) × (now ≡ finmap.insert known o.name bytes))
+    one [] are is = absurd are
+    one (t ∷ texts) are is = inr (t, is)
+
+    go : (os : List Output) (texts : List (List ℕ)) → (os ≡ []) ⊎ (os ≡ o ∷ []) → AreUnfinished os texts → now ≡ with_all known (named os texts) → (now ≡ known) ⊎ ((bytes : List ℕ) × (now ≡ finmap.insert known o.name bytes))
+    go os texts (inl e) are is = inl (subst (λ (xs : List Output). now ≡ with_all known (named xs texts)) e is)
+    go os texts (inr e) are is = one texts (subst (λ (xs : List Output). AreUnfinished xs texts) e are) (subst (λ (xs : List Output). now ≡ with_all known (named xs texts)) e is)
+
+-- a run that ends as every ending that is due says, and leaves what it says
+module _ (run : RunSeen) (complete : (known : FileMap) (ending : Ending) → IsDue run known ending → EndsUnlessExcused run known ending)
+    (left : (known : FileMap) (ending : Ending) → IsDue run known ending → Leaves run known ending) where
+  -- with other words for its excuses
+  ends_by : (known : FileMap) (ending : Ending) (CanBe : Excuse → Type 0) (P : Type 0) → ending.text ≡ [] → ((excuse : Excuse) → CanMiss ending excuse → CanBe excuse) → P → EndsUnlessExcused run known ending
+      → EndsWith run ending.cause (files_of ending known) [] ⊎ (IsExcused run CanBe × P)
+  ends_by known ending CanBe P none can p (inl ends) = inl (subst (λ (t : List ℕ). EndsWith run ending.cause (files_of ending known) t) none ends)
+  ends_by known ending CanBe P none can p (inr has) = inr (record { excuse = has.excuse; can_be = can has.excuse has.can_be; shown = has.shown }, p)
+
+  -- what stands after an ending with one output, the command's
+  changes : (zip : IsLaszip run) (o : Output) → o.name ≡ zip.output → (l : (now : FileMap) × (run.files_now.held ≡ Some now) × IsLeft (o ∷ []) zip.known now) → ChangesOutput run zip
+  changes zip o name l = by (left_of_one o zip.known l.0 l.2)
+    where
+      by : (l.0 ≡ zip.known) ⊎ ((bytes : List ℕ) × (l.0 ≡ finmap.insert zip.known o.name bytes)) → ChangesOutput run zip
+      by (inl same) = inl (l.1 ∙ ap (λ (m : FileMap). Some m) same)
+      by (inr put) = inr (put.0, l.1 ∙ ap (λ (m : FileMap). Some m) put.1 ∙ ap (λ (n : List ℕ). Some (finmap.insert zip.known n put.0)) name)
+
+  written : (zip : IsLaszip run) (out : points.Output) (records : List ℕ) (refusal : Option Refusal) → out.name ≡ zip.output → IsDue run zip.known (writes zip.input out records refusal)
+      → EndsWith run (cause_by zip.input refusal) (files_of (writes zip.input out records refusal) zip.known) [] ⊎ (IsExcused run CanMissOutput × ChangesOutput run zip)
+  written zip out records refusal name due =
+      let ending = writes zip.input out records refusal in
+      ends_by zip.known ending CanMissOutput (ChangesOutput run zip) refl (λ excuse can. can_miss_output ending excuse refl can) (changes zip (output_of out records) name (left zip.known ending due)) (complete zip.known ending due)
 
   pub packs : (zip : IsLaszip run) → CanBePacked zip.file zip.chunk → Writes run zip Done (packed_file zip.file zip.chunk)
   packs zip can =
-      let ending = writes zip.input (packed_output zip.output zip.file zip.chunk) (drop (point_offset_of zip.file) zip.file) None in
+      let out = packed_output zip.output zip.file zip.chunk in
+      let records = drop (point_offset_of zip.file) zip.file in
       subst (λ (t : List ℕ). Writes run zip Done t) (finished_form zip.file zip.output zip.chunk can)
-      (written zip.known ending refl (zips_due run zip false ending can.accepted can.plain refl))
+      (written zip out records None refl (zips_due run zip false (writes zip.input out records None) can.accepted can.plain refl))
 
   pub unpacks : (zip : IsLaszip run) (blocks : List (List ℕ)) → IsPackedOf zip.file blocks None → Writes run zip Done (unpacked zip.file blocks)
   unpacks zip blocks is =
-      let ending = writes zip.input (plain_output zip.output zip.file) (concat blocks) None in
-      written zip.known ending refl (zips_due run zip true ending is.accepted is.packed (blocks, None, is.records, refl))
+      let out = plain_output zip.output zip.file in
+      written zip out (concat blocks) None refl (zips_due run zip true (writes zip.input out (concat blocks) None) is.accepted is.packed (blocks, None, is.records, refl))
 
   pub gives_back : (zip : IsLaszip run) (file : List ℕ) (chunk : ℕ) → CanBePacked file chunk → zip.file ≡ packed_file file chunk → Writes run zip Done file
   gives_back zip file chunk can is =
@@ -96,9 +131,12 @@ module _ (run : RunSeen) (complete : (known : FileMap) (ending : Ending) → IsD
   pub refuses : (zip : IsLaszip run) (cause : Refusal) → IsRefusal zip.file (Some cause) → Refuses run zip cause
   refuses zip cause is =
       let ending = ends_at_once (Refused zip.input cause) in
-      ends_by zip.known ending CanMissRefusal refl (λ excuse can. can_miss_refusal (Refused zip.input cause) excuse can) (complete zip.known ending (refused_due run zip cause is))
+      let due = refused_due run zip cause is in
+      let l = left zip.known ending due in
+      ends_by zip.known ending CanMissRefusal (run.files_now.held ≡ Some zip.known) refl (λ excuse can. can_miss_refusal (Refused zip.input cause) excuse can)
+      (l.1 ∙ ap (λ (m : FileMap). Some m) (left_of_none [] zip.known l.0 refl l.2)) (complete zip.known ending due)
 
   pub refuses_chunks : (zip : IsLaszip run) (blocks : List (List ℕ)) (chunk : ℕ) → IsPackedOf zip.file blocks (Some chunk) → Writes run zip (Refused zip.input (BadChunk chunk)) (unpacked zip.file blocks)
   refuses_chunks zip blocks chunk is =
-      let ending = writes zip.input (plain_output zip.output zip.file) (concat blocks) (Some (BadChunk chunk)) in
-      written zip.known ending refl (zips_due run zip true ending is.accepted is.packed (blocks, Some chunk, is.records, refl))
+      let out = plain_output zip.output zip.file in
+      written zip out (concat blocks) (Some (BadChunk chunk)) refl (zips_due run zip true (writes zip.input out (concat blocks) (Some (BadChunk chunk))) is.accepted is.packed (blocks, Some chunk, is.records, refl))

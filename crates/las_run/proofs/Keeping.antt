@@ -8,7 +8,7 @@ use Rattle.las_run.specs.Endings.{Cause, ComesFirst, Done, Memory, Usage, Unread
 use Rattle.las_run.specs.Ends.{Ends, EndsAs, IsTheEnding}
 use Rattle.las_run.specs.Lines.{line_of}
 use Rattle.las_run.specs.Promises.{KeepsPromises}
-use Rattle.las_run.specs.Seen.{EndsAsDefined, EndsUnlessExcused, NoMemory, FailedRead, FailedWrite, FailedOut, IsDecided, IsDue, RunSeen, change_of}
+use Rattle.las_run.specs.Seen.{EndsAsDefined, EndsUnlessExcused, NoMemory, FailedRead, FailedWrite, FailedOut, IsDecided, IsDue, Leaves, RunSeen, change_of}
 use Rattle.las_run.proofs.Endings.{left, left_of_none, put_of, quiet_but, read_cause, write_cause, wrong_words}
 use Rattle.las_run.proofs.Headline as headline
 use Rattle.las_run.proofs.Running.{no_outputs_first}
@@ -88,12 +88,13 @@ module _ (run : RunSeen) where
   pub keeps : (cause : Cause) → run.status ≡ status_of cause → Puts (line_of cause) run.err run.err_now → Ends run.task (change_of run) cause → EndsUnasked → Later run.files run.files_now → run.status ≤ 6 → KeepsPromises run
   keeps cause is line e unasked later few =
       let all : (known : FileMap) (ending : Ending) → IsDue run known ending → EndsUnlessExcused run known ending = λ known ending due. complete cause known ending (is, line) e due in
+      let all_left : (known : FileMap) (ending : Ending) → IsDue run known ending → Leaves run known ending = λ known ending due. left run.task (change_of run) cause e known ending due.known_is due.defined in
       record {
-        packs = headline.packs run all;
-        gives_back = headline.gives_back run all;
-        unpacks = headline.unpacks run all;
-        refuses = headline.refuses run all;
-        refuses_chunks = headline.refuses_chunks run all;
+        packs = headline.packs run all all_left;
+        gives_back = headline.gives_back run all all_left;
+        unpacks = headline.unpacks run all all_left;
+        refuses = headline.refuses run all all_left;
+        refuses_chunks = headline.refuses_chunks run all all_left;
         usage = λ two. wrong_words run.task (change_of run) cause e (sym is ∙ two);
         wrong = λ index wrong. (unasked index wrong).0;
         unasked = λ index wrong. (unasked index wrong).1;
@@ -101,7 +102,7 @@ module _ (run : RunSeen) where
         complete = all;
         read = λ three. read_cause run.task (change_of run) cause e (sym is ∙ three);
         write = λ four. write_cause run.task (change_of run) cause e (sym is ∙ four);
-        left = λ known ending due. left run.task (change_of run) cause e known ending due.known_is due.defined;
+        left = all_left;
         unchanged = λ known ending due first. unchanged cause known ending e due first;
         out = quiet cause is e;
         put = λ known ending due. put_of run.task (change_of run) cause known ending e due.known_is due.defined;

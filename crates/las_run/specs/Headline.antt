@@ -48,12 +48,21 @@ CanMissRefusal FailedRead = Unit {0}
 CanMissRefusal FailedWrite = ⊥
 CanMissRefusal FailedOut = ⊥
 
--- The run ended for this cause with these bytes as its output, and every other file is as before, unless it has an
--- excuse.
+-- No file but the output has changed.
+abbrev pub ChangesOutput : (run : RunSeen) → IsLaszip run → Type 0
+ChangesOutput run zip =
+    (run.files_now.held ≡ Some zip.known)
+    ⊎ ((bytes : List ℕ) × (run.files_now.held ≡ Some (finmap.insert zip.known zip.output bytes)))
+
+-- The run ended for this cause with these bytes as its output, and every other file is as before. If it has an excuse,
+-- it may have ended in another way, but every other file is as before all the same.
 abbrev pub Writes : (run : RunSeen) → IsLaszip run → Cause → (bytes : List ℕ) → Type 0
 Writes run zip cause bytes =
-    EndsWith run cause (finmap.insert zip.known zip.output bytes) [] ⊎ IsExcused run CanMissOutput
+    EndsWith run cause (finmap.insert zip.known zip.output bytes) []
+    ⊎ (IsExcused run CanMissOutput × ChangesOutput run zip)
 
--- The run refused its input for this cause, and every file is as before, unless it has an excuse.
+-- The run refused its input for this cause, or has an excuse; and every file is as before.
 abbrev pub Refuses : (run : RunSeen) → IsLaszip run → Refusal → Type 0
-Refuses run zip refusal = EndsWith run (Refused zip.input refusal) zip.known [] ⊎ IsExcused run CanMissRefusal
+Refuses run zip refusal =
+    EndsWith run (Refused zip.input refusal) zip.known []
+    ⊎ (IsExcused run CanMissRefusal × (run.files_now.held ≡ Some zip.known))
