@@ -77,13 +77,7 @@ with_all files (p ∷ ps) = with_all (finmap.insert files p.0 p.1) ps
 -- the name and the bytes of an output at the end: finished if all is done, and else as it was stopped
 abbrev pub at_end : Cause → Output → List ℕ × List ℕ
 at_end Done output = (output.name, with_patches output.draft output.patches)
-at_end Memory output = (output.name, output.stopped)
-at_end (Usage _) output = (output.name, output.stopped)
-at_end (Unread _) output = (output.name, output.stopped)
-at_end Unwritten output = (output.name, output.stopped)
-at_end (Refused _ _) output = (output.name, output.stopped)
-at_end (Differs _ _) output = (output.name, output.stopped)
-at_end HasTooManyPoints output = (output.name, output.stopped)
+at_end _ output = (output.name, output.stopped)
 
 -- the files at an ending
 abbrev pub files_of : Ending → FileMap → FileMap

@@ -78,9 +78,6 @@ abbrev pub RunsAs : List TapSeen → Said → FileMap → Ending → Type 0
 RunsAs taps (usage index) files ending = ending ≡ ends_at_once (Usage index)
 RunsAs taps (asks asked) files ending = Does taps asked files ending
 
+-- A run of this task over these files ends so, if nothing fails and memory suffices.
 abbrev pub RunOf : Task → FileMap → Ending → Type 0
 RunOf task files ending = RunsAs task.taps task.said files ending
-
--- A run of these words with these taps over these files ends so, if nothing fails and memory suffices.
-abbrev pub Run : (words : List (List ℕ)) → List TapSeen → FileMap → Ending → Type 0
-Run words taps files ending = RunOf (task_of words taps) files ending

@@ -30,6 +30,7 @@ pub fn open_input<F: Files>(
 {
     match Reader::open(alloc, files, name) {
         Ok(reader) => {
+            // (the bytes that are read here are those of a head: what `head` says)
             let _ = reader.head().bytes();
             Ok(reader)
         }
