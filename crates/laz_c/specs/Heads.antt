@@ -1,5 +1,5 @@
 -- What is read of the head of a file.
-use Rattle.std.specs.Prelude.{◌≡◌, ℕ, ◌≤◌, if◌then◌else◌, List, [], ◌∷◌, length, take, Option, Some, None}
+use Rattle.std.specs.Prelude.{◌≡◌, ℕ, ◌≤◌, if◌then◌else◌, List, [], ◌∷◌, length, take, Option, None}
 use Rattle.las_header.specs.declared.limits.TheConstants.{HEADER_BLOCK}
 use Rattle.las_header.specs.declared.refusal.Refusal.{Refusal}
 use Rattle.las_header.specs.declared.vlrs.VlrPlace.{VlrPlace}

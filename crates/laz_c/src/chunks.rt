@@ -172,7 +172,7 @@ pub extern "C" fn laz_c_pack(
     ensures answers { result ≤ WRONG }
     ensures good { result ≢ BAD }
     ensures wrong { result ≡ WRONG ↔ can_pack format extra (length records.now) (length out.old) ≡ false }
-    ensures same { result ≢ DONE → out.new ≡ out.old }
+    ensures same { result ≢ DONE → (out.new ≡ out.old) × (written.new ≡ written.old) }
     ensures bytes { result ≡ DONE → take written.new out.new ≡ chunk_bytes (layout_of format extra) records.now }
     ensures rest { result ≡ DONE → drop written.new out.new ≡ drop written.new out.old }
     ensures count { result ≡ DONE → written.new ≡ length (chunk_bytes (layout_of format extra) records.now) }

@@ -244,6 +244,7 @@ pub extern "C" fn laz_c_table(
     ensures wrong { result ≡ WRONG
         ↔ can_read_table chunk (chunks_in bytes.now chunk points) (length sizes.old) (length counts.old) ≡ false }
     ensures same { result ≢ DONE → (sizes.new ≡ sizes.old) × (counts.new ≡ counts.old) }
+    ensures cause_same { result ≢ BAD → refusal.new ≡ refusal.old }
     ensures read { result ≡ DONE → IsAccepted bytes.now (blocks_of chunk points) total sizes.new counts.new }
     ensures refused { result ≡ BAD → IsRefused bytes.now (blocks_of chunk points) total refusal.new }
 {
