@@ -8,6 +8,8 @@ pub mod Made
 pub mod Making
 pub mod Merging
 pub mod Opening
+pub mod Parting
+pub mod Rejoining
 pub mod Reporting
 pub mod Running
 pub mod Saying

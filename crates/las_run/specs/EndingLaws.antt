@@ -1,15 +1,28 @@
 -- Laws of endings.
-use Rattle.std.specs.Prelude.{◌≡◌, ℕ, false, List, Option, Some, None}
+use Rattle.std.specs.Prelude.{◌≡◌, ℕ, ◌^◌, ◌<◌, ◌≤◌, All, false, List, [], length, map, Option, Some, None}
 use Rattle.std.specs.FinMap as finmap
-use Rattle.las_header.specs.Fields.{head_of, is_packed}
+use Rattle.std.specs.List.{concat}
+use Rattle.las_filter.specs.declared.rule.Rule.{Rule}
+use Rattle.las_filter.specs.declared.rule.Rule.TheVariants.{Every}
+use Rattle.las_header.specs.declared.limits.TheConstants.{MAX_PLAIN_OFFSET}
+use Rattle.las_header.specs.Fields.{head_of, is_packed, record_length_of}
+use Rattle.las_header.specs.Heads.{IsHead}
+use Rattle.las_header.specs.Plain.{plain_head}
+use Rattle.las_header.specs.Vlrs.{laszip_vlrs_of}
 use Rattle.las_outside.specs.Files.{FileMap}
 use Rattle.las_words.specs.Says.{Asked, Said, asks, laszip, las2las, lasinfo, lassplit, lasmerge, make, usage}
+use Rattle.las_merge.specs.Copying.{output_with}
+use Rattle.las_split.specs.Outputs.{part_files}
+use Rattle.las_split.specs.Splitting.{SplitsTo}
+use Rattle.laz_range.specs.Span.{IsBytes}
 use Rattle.laz_file.specs.Laws.{CanBePacked}
+use Rattle.laz_file.specs.Outputs.{finished}
 use Rattle.laz_file.specs.Packing.{packed_file}
 use Rattle.laz_file.specs.Pieces.{ArePieces, Piece}
 use Rattle.laz_file.specs.Records.{HoldsBlock}
-use Rattle.las_run.specs.Endings.{Ending}
+use Rattle.las_run.specs.Endings.{Done, Ending, files_of}
 use Rattle.las_run.specs.Runs.{RunOf, Task}
+use Rattle.las_run.specs.Tools.{MergesIn, Splits, part_outputs}
 
 -- Each piece of a file holds at most one block of records. A call that has unpacked a chunk has shown this of it, and
 -- of a plain file it is a law.
@@ -57,6 +70,47 @@ abbrev pub PackedFormsEnd : Type 0
 PackedFormsEnd = (task : Task) (files : FileMap) (asked : Asked) (name file : List ℕ) (chunk : ℕ)
     → task.said ≡ asks asked → input_of asked ≡ Some name → finmap.get files name ≡ Some (packed_file file chunk)
     → CanBePacked file chunk → (ending : Ending) × RunOf task files ending
+
+-- the ending of `lassplit` of a file with these records, if all of them are in parts
+abbrev pub split_ending : (stem end : List ℕ) → Rule → (file : List ℕ) → (records : List (List ℕ)) → Ending
+split_ending stem end rule file records =
+    record { cause = Done; outputs = part_outputs (part_files stem end rule file records); text = [] }
+
+-- Whole records under a plain head: each has its length, and they are fewer than 2^32.
+pub record AreWhole (head : List ℕ) (records : List (List ℕ)) : Type 0 where
+  pub head_is : IsHead head
+  pub plain : is_packed head ≡ false
+  pub none : laszip_vlrs_of head ≡ []
+  pub near : length head ≤ MAX_PLAIN_OFFSET
+  pub head_bytes : IsBytes head
+  pub each : All (λ r. length r ≡ record_length_of head) records
+  pub bytes : All IsBytes records
+  pub few : length records < 2 ^ 32
+
+-- the names of the outputs of an ending, in order
+abbrev pub names_made : Ending → List (List ℕ)
+names_made ending = map (λ o. o.name) ending.outputs
+
+-- all records of some under a plain head, as the one output of a merge
+abbrev pub whole_output : (name head : List ℕ) → (size : Option ℕ) → (records : List (List ℕ)) → List ℕ
+whole_output name head size records = finished (output_with name head size) (concat records)
+
+-- After this ending of a split a merge of the parts is done, and makes the whole of them.
+abbrev pub MergesWhole : FileMap → (output file : List ℕ) → (size : Option ℕ) → (records : List (List ℕ)) → Ending
+    → Type 0
+MergesWhole known output file size records split =
+    (merge : Ending) × MergesIn size (names_made split) output (files_of split known) merge × (merge.cause ≡ Done)
+    × (files_of merge (files_of split known)
+    ≡ finmap.insert (files_of split known) output (whole_output output (plain_head file) size records))
+
+-- `lassplit` of a file into parts of n records ends with these parts. Where they stand, `lasmerge` of their names, in
+-- their order, is done: its output has all records of the file, under its plain head with their counts, plain or packed.
+abbrev pub PartsOfSplitMerge : Type 0
+PartsOfSplitMerge = (known : FileMap) (input stem end output file : List ℕ) (n : ℕ) (size : Option ℕ)
+    (records : List (List ℕ)) → 0 < n → 1 ≤ length records → AreWhole (plain_head file) records
+    → SplitsTo (Every n) file records None
+    → Splits input stem end (Every n) file (split_ending stem end (Every n) file records)
+    × MergesWhole known output file size records (split_ending stem end (Every n) file records)
 
 -- what words say, but for the number of workers
 abbrev pub with_one_worker : Said → Said

@@ -1,6 +1,6 @@
 //! Laws of the definitions that the top call's contract cites.
 ghost use Rattle.las_run.specs.EndingLaws.{LaszipEndsOnce, MissingInputsEnd, PackedFormsEnd, PlainHoldsOnce};
-ghost use Rattle.las_run.specs.EndingLaws.{PlainInputsEnd, WorkersDoNotMatter, WrongWordsEnd};
+ghost use Rattle.las_run.specs.EndingLaws.{PartsOfSplitMerge, PlainInputsEnd, WorkersDoNotMatter, WrongWordsEnd};
 
 /// At most one ending is defined for `laszip` of a file, if each piece of the file holds at most one block of records, as
 /// the pieces of a plain file do. Of a packed input, a run that is done or refuses a chunk shows that its ending is the
@@ -22,4 +22,10 @@ pub fn endings_are_defined()
 /// The number of workers does not matter: tasks that differ in it alone have one ending.
 pub fn workers_do_not_matter()
     ensures { WorkersDoNotMatter }
+{}
+
+/// The parts that `lassplit -split n` makes of a file, merged in their order, are the file's records again, under its plain
+/// head with their counts. This holds for whole records, one or more, whose plain head a merge accepts.
+pub fn parts_of_a_split_merge()
+    ensures { PartsOfSplitMerge }
 {}
