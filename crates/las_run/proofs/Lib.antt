@@ -14,3 +14,4 @@ pub mod Reporting
 pub mod Running
 pub mod Saying
 pub mod Splitting
+pub mod Wholes

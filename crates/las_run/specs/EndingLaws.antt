@@ -20,6 +20,7 @@ use Rattle.laz_file.specs.Outputs.{finished}
 use Rattle.laz_file.specs.Packing.{packed_file}
 use Rattle.laz_file.specs.Pieces.{ArePieces, Piece}
 use Rattle.laz_file.specs.Records.{HoldsBlock}
+use Rattle.laz_file.specs.Refusing.{IsAcceptedFile}
 use Rattle.las_run.specs.Endings.{Done, Ending, files_of}
 use Rattle.las_run.specs.Runs.{RunOf, Task}
 use Rattle.las_run.specs.Tools.{MergesIn, Splits, part_outputs}
@@ -111,6 +112,12 @@ PartsOfSplitMerge = (known : FileMap) (input stem end output file : List ℕ) (n
     → SplitsTo (Every n) file records None
     → Splits input stem end (Every n) file (split_ending stem end (Every n) file records)
     × MergesWhole known output file size records (split_ending stem end (Every n) file records)
+
+-- All records of an accepted plain file that go into parts are whole records under its head.
+abbrev pub PlainRecordsAreWhole : Type 0
+PlainRecordsAreWhole = (file : List ℕ) (rule : Rule) (records : List (List ℕ)) → IsAcceptedFile file
+    → is_packed (head_of file) ≡ false → IsBytes file → SplitsTo rule file records None
+    → AreWhole (plain_head file) records
 
 -- what words say, but for the number of workers
 abbrev pub with_one_worker : Said → Said

@@ -1,6 +1,7 @@
 //! Laws of the definitions that the top call's contract cites.
 ghost use Rattle.las_run.specs.EndingLaws.{LaszipEndsOnce, MissingInputsEnd, PackedFormsEnd, PlainHoldsOnce};
-ghost use Rattle.las_run.specs.EndingLaws.{PartsOfSplitMerge, PlainInputsEnd, WorkersDoNotMatter, WrongWordsEnd};
+ghost use Rattle.las_run.specs.EndingLaws.{PartsOfSplitMerge, PlainInputsEnd, PlainRecordsAreWhole};
+ghost use Rattle.las_run.specs.EndingLaws.{WorkersDoNotMatter, WrongWordsEnd};
 
 /// At most one ending is defined for `laszip` of a file, if each piece of the file holds at most one block of records, as
 /// the pieces of a plain file do. Of a packed input, a run that is done or refuses a chunk shows that its ending is the
@@ -25,7 +26,9 @@ pub fn workers_do_not_matter()
 {}
 
 /// The parts that `lassplit -split n` makes of a file, merged in their order, are the file's records again, under its plain
-/// head with their counts. This holds for whole records, one or more, whose plain head a merge accepts.
+/// head with their counts. This holds for whole records, one or more, whose plain head has an offset within its limit, and
+/// so for every accepted plain file that has a record.
 pub fn parts_of_a_split_merge()
-    ensures { PartsOfSplitMerge }
+    ensures merge { PartsOfSplitMerge }
+    ensures plain { PlainRecordsAreWhole }
 {}
