@@ -202,7 +202,7 @@ def guarantees(cases):
     named = set()
     for section in sections:
         found = re.match(r"`(\w+)`", section)
-        named |= set(re.findall(r"`(la[sz]\w*)`", section))
+        named |= set(re.findall(r"`((?:la[sz]|bench|fuzz|tests)\w*)`", section))
         if not found:
             continue
         problems, count = [], 0
