@@ -12,6 +12,7 @@ from checking import PROGRAM, RECORD_SIZES, TOP, content, las, written
 EXTRAS = (0, 1, 4, 192)
 LAYOUTS = [(format_, extra) for format_ in range(4) for extra in EXTRAS]
 HOSTILE = 700
+V3 = "glibc-hwcaps/x86-64-v3/liblaz.so"
 SANITIZED = ["-std=c11", "-O1", "-g", "-Wall", "-Wextra", "-Wpedantic", "-Wconversion", "-Werror",
              "-fsanitize=address,undefined", "-fno-sanitize-recover=all", "-Wl,--wrap=malloc,--wrap=realloc"]
 PACKAGES = ["gcc", "binutils", "pkg-config", "python3-numpy", "python3-matplotlib", "python3-venv",
@@ -55,14 +56,15 @@ def build(cases, folder):
         if problem:
             cases.note("the library is built", problem)
             return None
-    differ = [name for name in ("liblaz.a", "liblaz.so")
+    differ = [name for name in ("liblaz.a", "liblaz.so", V3)
               if content(os.path.join(there, name)) != content(os.path.join(again, name))]
     cases.note("the library is built twice alike", f"other bytes: {differ}" if differ else None)
-    names, problem = run(["nm", "-D", "--defined-only", os.path.join(there, "liblaz.so")], folder)
     header = re.findall(r"\b(laz_c_\w+)\(", content(os.path.join(TOP, "c", "las.h")).decode())
-    exported = sorted(line.split()[-1] for line in (names or "").splitlines())
-    problem = problem or (None if exported == sorted(set(header)) else f"{exported}")
-    cases.note("las.h and liblaz.so have the same calls", problem)
+    for name in ("liblaz.so", V3):
+        names, problem = run(["nm", "-D", "--defined-only", os.path.join(there, name)], folder)
+        exported = sorted(line.split()[-1] for line in (names or "").splitlines())
+        problem = problem or (None if exported == sorted(set(header)) else f"{exported}")
+        cases.note(f"las.h and {name} have the same calls", problem)
     program = os.path.join(folder, "check")
     words = ["-I" + there, os.path.join(TOP, "c", "check.c"), os.path.join(there, "liblaz.a"), "-o", program]
     _, problem = run(["gcc", *SANITIZED, *words], folder)
@@ -240,7 +242,7 @@ def c_documented(cases, place):
     problem = None if len(shown) == len(blocks("c")) == 1 else f"{len(shown)} blocks"
     cases.note("docs/library.md shows the program as it is", problem)
     script = """mkdir -p there/lib/pkgconfig there/include
-cp lib/liblaz.so there/lib; cp lib/las.h there/include
+cp -r lib/liblaz.so lib/glibc-hwcaps there/lib; cp lib/las.h there/include
 sed "s|@prefix@|$PWD/there|" lib/liblaz.pc.in >there/lib/pkgconfig/liblaz.pc
 export PKG_CONFIG_PATH="$PWD/there/lib/pkgconfig"
 cc -O2 c/heights.c $(pkg-config --cflags --libs liblaz) -o shared
@@ -252,6 +254,39 @@ LD_LIBRARY_PATH="$PWD/there/lib" ./shared m.laz"""
     cases.note("the same with a plain file", None if (plain.returncode, plain.stdout) == (5, b"") else f"{plain}")
 
 
+def runs_v3():
+    """Whether the processor runs x86-64-v3, as the launcher tells."""
+    script = ". release/processor.sh; runs_v3"
+    return subprocess.run(["sh", "-c", script], cwd=TOP, check=False).returncode == 0
+
+
+LOADED = """import balsamvise.library as library
+library._calls()
+print(library._library._name)
+"""
+
+
+def builds_chosen(cases, place, interpreter, environment):
+    """The build of the library that suits the processor is taken from a folder, and a file that is named is taken."""
+    folder = os.path.join(place, "lib")
+    best = os.path.join(folder, V3 if runs_v3() else "liblaz.so")
+    for named, wanted in ((folder, best), (os.path.join(folder, "liblaz.so"),) * 2):
+        said, problem = run([interpreter, "-c", LOADED], place, env=dict(environment, BALSAMVISE_LIBRARY=named))
+        problem = problem or (None if os.path.normpath(said.strip()) == wanted else said)
+        cases.note(f"the library that is loaded by {os.path.relpath(named, place)}", problem)
+    shell = content(os.path.join(TOP, "release", "processor.sh")).decode()
+    flags = re.search(r"runs_v3\(\) \{\n.*\n +has_flags (.*)\n", shell).group(1).split()
+    said, problem = run([interpreter, "-c", "import balsamvise.library as it; print(*sorted(it.V3_FLAGS))"], place,
+                        env=environment)
+    problem = problem or (None if said.split() == sorted(flags) else f"{said} in place of {sorted(flags)}")
+    cases.note("the launcher and the package know x86-64-v3 by the same flags", problem)
+    bare = os.path.join(place, "bare")
+    os.mkdir(bare)
+    shutil.copy(os.path.join(folder, "liblaz.so"), bare)
+    said, problem = run([interpreter, "-c", LOADED], place, env=dict(environment, BALSAMVISE_LIBRARY=bare))
+    cases.note("a folder with one build", problem or (None if said.strip().startswith(bare) else said))
+
+
 def python(cases, place, files):
     """The package by the lines of docs/library.md in a virtual environment, its tests, its program and a plot."""
     shell = [block for block in blocks("sh") if "pip install" in block]
@@ -261,14 +296,17 @@ def python(cases, place, files):
     cases.note("the Python package is installed", problem)
     if problem:
         return
-    environment["BALSAMVISE_LIBRARY"] = os.path.join(place, "lib", "liblaz.so")
     interpreter = os.path.join(place, "venv", "bin", "python")
+    builds_chosen(cases, place, interpreter, environment)
     tests = os.path.join(place, "python", "tests", "test_balsamvise.py")
-    done = subprocess.run([interpreter, tests], cwd=place, env=environment, stdout=subprocess.PIPE,
-                          stderr=subprocess.PIPE, timeout=600, check=False)
-    counted = re.search(rb"^Ran (\d+) tests", done.stderr, re.MULTILINE)
-    good = done.returncode == 0 and counted and int(counted.group(1)) >= 18
-    cases.note("the package's tests", None if good else done.stderr[-3000:].decode(errors="replace"))
+    for name in ["liblaz.so"] + ([V3] if runs_v3() else []):
+        named = dict(environment, BALSAMVISE_LIBRARY=os.path.join(place, "lib", name))
+        done = subprocess.run([interpreter, tests], cwd=place, env=named, stdout=subprocess.PIPE,
+                              stderr=subprocess.PIPE, timeout=600, check=False)
+        counted = re.search(rb"^Ran (\d+) tests", done.stderr, re.MULTILINE)
+        good = done.returncode == 0 and counted and int(counted.group(1)) >= 18
+        cases.note(f"the package's tests over {name}", None if good else done.stderr[-3000:].decode(errors="replace"))
+    environment["BALSAMVISE_LIBRARY"] = os.path.join(place, "lib")
     programs = blocks("python")
     said, problem = run([interpreter, "-c", programs[0] if programs else "exit(1)"], place, env=environment)
     good = not problem and said.startswith("200000 points") and os.path.isfile(os.path.join(place, "first.laz"))

@@ -85,7 +85,7 @@ class Checkout:
 
     def release(self, program):
         lines = ["kit kit of a check", "linker of a check", f"sources {self.sources()}"]
-        for name in ("las-x86-64-v2", "las-x86-64-v3", "liblaz.a", "liblaz.so"):
+        for name in ("las-x86-64-v2", "las-x86-64-v3", "liblaz.a", "liblaz.so", "liblaz-x86-64-v3.so"):
             written(self.path("release", name + ".gz"), gzip.compress(program))
             lines.append(f"{name} {sum_of(program)}")
         written(self.path("release", "BUILT_FROM"), "".join(line + "\n" for line in lines).encode())
@@ -442,7 +442,7 @@ def install(cases, folder):
     cases.note("install", step(prefix, part="installed below"))
     wanted = {"bin/las", "bin/las-batch", "bin/las-batch-job", "share/las/help/batch", "libexec/las/las-x86-64-v2",
               "libexec/las/las-x86-64-v3", "lib/liblaz.a", "lib/liblaz.so", "lib/pkgconfig/liblaz.pc", "include/las.h",
-              "share/man/man1/las.1",
+              "lib/glibc-hwcaps/x86-64-v3/liblaz.so", "share/man/man1/las.1",
               "share/bash-completion/completions/las", "share/las/help/options"}
     cases.note("what is installed", None if wanted <= set(tree(prefix)) else f"{sorted(tree(prefix))}")
     hidden = at.folder + ".hidden"

@@ -190,7 +190,8 @@ class Refuses(Folder):
                     file.read()
 
     def test_the_library_is_missing(self):
-        for value, line in ((self.place("none.so"), "none.so"), (os.path.join(FILES, "0_0.las"), "0_0.las")):
+        for value, line in ((self.place("none.so"), "none.so"), (os.path.join(FILES, "0_0.las"), "0_0.las"),
+                            (FILES, os.path.join(FILES, "liblaz.so"))):
             program = "import sys, balsamvise; balsamvise.read(sys.argv[1])"
             done = subprocess.run([sys.executable, "-c", program, os.path.join(FILES, "0_0.laz")], capture_output=True,
                                   check=False, env=dict(os.environ, BALSAMVISE_LIBRARY=value))

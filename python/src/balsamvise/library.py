@@ -12,7 +12,10 @@ import numpy as np
 from .errors import LibraryMissing, Refused
 
 VARIABLE = "BALSAMVISE_LIBRARY"
-"""The environment variable that names the shared library."""
+"""The environment variable that names the shared library, or the folder that has it."""
+
+V3_FLAGS = frozenset("abm avx avx2 bmi1 bmi2 cx16 f16c fma lahf_lm movbe popcnt sse4_1 sse4_2 ssse3 xsave".split())
+"""What the kernel calls the parts of x86-64-v3."""
 
 FRONT = 227
 MAX_PAYLOAD = 58
@@ -35,16 +38,32 @@ class RawHead(ctypes.Structure):
     ]
 
 
+def _runs_v3() -> bool:
+    """Whether the processor runs programs for x86-64-v3."""
+    try:
+        with open("/proc/cpuinfo", encoding="ascii", errors="replace") as file:
+            flags = next((line for line in file if line.startswith("flags")), "")
+    except OSError:
+        return False
+    return set(flags.split()) >= V3_FLAGS
+
+
+def _in_folder(folder: str) -> list[str]:
+    """The libraries in a folder, the one that suits the processor best first, as the dynamic loader looks for them."""
+    levels = [os.path.join("glibc-hwcaps", "x86-64-v3")] if _runs_v3() else []
+    places = [os.path.join(folder, level, "liblaz.so") for level in [*levels, ""]]
+    return [place for place in places if os.path.exists(place)]
+
+
 def _places() -> list[str]:
     """Where the library may be, in the order in which it is looked for."""
     named = os.environ.get(VARIABLE)
     if named:
-        return [named]
-    package = os.path.dirname(os.path.abspath(__file__))
-    places = [os.path.join(package, "liblaz.so"), os.path.join(sys.prefix, "lib", "liblaz.so")]
-    places += [os.path.join(prefix, "lib", "liblaz.so") for prefix in ("/usr/local", "/usr")]
+        return (_in_folder(named) or [os.path.join(named, "liblaz.so")]) if os.path.isdir(named) else [named]
+    folders = [os.path.dirname(os.path.abspath(__file__))]
+    folders += [os.path.join(prefix, "lib") for prefix in (sys.prefix, "/usr/local", "/usr")]
     found = ctypes.util.find_library("laz")
-    return [place for place in places if os.path.exists(place)] + ([found] if found else [])
+    return [place for folder in folders for place in _in_folder(folder)] + ([found] if found else [])
 
 
 def _declared(library: ctypes.CDLL) -> ctypes.CDLL:
