@@ -1,5 +1,5 @@
--- What converting a whole file gives.
-use Rattle.std.proofs.Common.{◌≡◌, inl, inr, ℕ, ◌%◌, ◌<◌, ◌≤◌, Bool, true, false, List, [], ◌++◌, length, take, drop, Option, Some, None, refl, sym, ◌∙◌, ap, subst, length-append, arith}
+-- What converting a range of a file gives.
+use Rattle.std.proofs.Common.{◌≡◌, inl, inr, ℕ, ◌+◌, ◌-◌, ◌%◌, ◌<◌, ◌≤◌, Bool, true, false, List, [], ◌++◌, length, take, drop, Option, Some, None, refl, sym, ◌∙◌, ap, subst, length-append, arith}
 use Rattle.std.specs.Prelude.{All}
 use Rattle.std.specs.List.{concat}
 use Rattle.std.proofs.lemmas.Bool.{cases_lt}
@@ -10,36 +10,40 @@ use Rattle.las_header.specs.Fields.{head_of, record_length_of}
 use Rattle.las_header.specs.Heads.{HeadView}
 use Rattle.las_filter.specs.Kept.{Kept, Steps}
 use Rattle.las_outside.specs.Files.{FileMap}
-use Rattle.laz_file.specs.Copying.{AreOnlyRecords, LeavesUnfinished}
+use Rattle.laz_file.specs.Copying.{LeavesUnfinished}
 use Rattle.laz_file.specs.Outputs.{Output}
 use Rattle.laz_file.specs.Pieces.{ArePieces, Piece}
 use Rattle.laz_file.specs.Reading.{AreWholeBlocks, ReaderSeen, StandsFor}
-use Rattle.laz_file.specs.Records.{AreRead, HoldBlocks, HoldOnly, IsBadPiece}
+use Rattle.laz_file.specs.Ranges.{first_of, parts_of}
+use Rattle.laz_file.specs.Records.{AreRead, AreRecordsIn, HoldBlocks, HoldOnly, IsBadPiece, moved}
 use Rattle.laz_file.proofs.Copies.{even_whole}
 use Rattle.laz_file.proofs.FirstPieces.{fewer_first, hold_length, inside, more_first, no_length}
 use Rattle.laz_file.proofs.OneAnswer.{one_pieces}
 use Rattle.laz_file.proofs.Putting.{concat-append}
 use Rattle.laz_file.proofs.Whole.{not_bad_before}
-use Rattle.laz_file.proofs.WholeOutputs.{all_records, records_before}
 use Rattle.las_convert.specs.Adding.{Adds, cut_all}
 use Rattle.las_convert.specs.Converting.{ConvertsTo, Keeps, OnlyConverts, kept_in}
 use Rattle.las_convert.proofs.Adding.{adds_all, kept_from, refused_at}
 use Rattle.las_convert.proofs.Only.{HasRecords, early_refused, even_front, first_kept, raw_clash, same_refused, stays_in}
 
-module _ (plan : Steps) (first : ReaderSeen) (file : List ℕ) (st : StandsFor first file) (new : first.next ≡ 0) (some : 0 < record_length_of first.head.bytes) (n : ℕ) (xs : List (List ℕ)) (within : n ≤ length first.left) (whole : AreWholeBlocks (record_length_of first.head.bytes) (take n first.left) xs) (hold : HoldOnly file (take n first.left) xs) where
+module _ (plan : Steps) (first : ReaderSeen) (file : List ℕ) (st : StandsFor first file) (new : first.next ≡ first.first) (some : 0 < record_length_of first.head.bytes) (n : ℕ) (xs : List (List ℕ)) (within : n ≤ length first.left) (whole : AreWholeBlocks (record_length_of first.head.bytes) (take n first.left) xs) (hold : HoldOnly file (take n first.left) xs) where
   bytes_is : first.head.bytes ≡ head_of file
   bytes_is = ap (λ (h : HeadView). h.bytes) st.head
 
-  left_is : first.left ≡ st.pieces
-  left_is = st.left ∙ ap (λ (k : ℕ). drop k st.pieces) new
+  -- the pieces that meet the range are all left
+  abbrev parts : List Piece
+  parts = parts_of file first.range st.pieces
+
+  left_is : first.left ≡ parts_of file first.range st.pieces
+  left_is = let none : first.next - first.first ≡ 0 = omega (arith, new) in st.left ∙ ap (λ (k : ℕ). drop k parts) none
 
   has : HasRecords file
   has = record { some = subst (λ (t : List ℕ). 0 < record_length_of t) bytes_is some }
 
-  mine : HoldOnly file (take n st.pieces) xs
+  mine : HoldOnly file (take n parts) xs
   mine = subst (λ (ps : List Piece). HoldOnly file (take n ps) xs) left_is hold
 
-  few : n ≤ length st.pieces
+  few : n ≤ length parts
   few = subst (λ (ps : List Piece). n ≤ length ps) left_is within
 
   even : All (λ block. length block % record_length_of (head_of file) ≡ 0) xs
@@ -50,23 +54,63 @@ module _ (plan : Steps) (first : ReaderSeen) (file : List ℕ) (st : StandsFor f
       adds_all plan (cut_all (record_length_of (head_of file)) (concat xs)) ones refused (subst (λ (t : List ℕ). Adds plan (cut_all (record_length_of t) (concat xs)) ones refused) bytes_is adds)
 
   -- blocks that are read to the end or to a bad chunk begin with those that were read
-  begins_with : (others : List (List ℕ)) (bad : Option ℕ) → AreRead file st.pieces others bad → (zs : List (List ℕ)) × (others ≡ xs ++ zs) × (n ≡ length st.pieces → zs ≡ [])
+  begins_with : (others : List (List ℕ)) (bad : Option ℕ) → AreRead file parts others bad → (zs : List (List ℕ)) × (others ≡ xs ++ zs) × (n ≡ length parts → zs ≡ [])
   begins_with others None read =
-      let p = more_first file st.pieces n (length st.pieces) xs others mine (subst (λ (ps : List Piece). HoldBlocks file ps others) (sym (take_all (length st.pieces) st.pieces (omega arith))) read) few in
-      (p.0, p.1, λ all. no_length p.0 (omega (arith, all, hold_length file st.pieces others read, hold_length file (take n st.pieces) xs mine.hold, length-take-le n st.pieces few, ap (λ (t : List (List ℕ)). length t) p.1, length-append xs p.0)))
+      let p = more_first file parts n (length parts) xs others mine (subst (λ (ps : List Piece). HoldBlocks file ps others) (sym (take_all (length parts) parts (omega arith))) read) few in
+      (p.0, p.1, λ all. no_length p.0 (omega (arith, all, hold_length file parts others read, hold_length file (take n parts) xs mine.hold, length-take-le n parts few, ap (λ (t : List (List ℕ)). length t) p.1, length-append xs p.0)))
   begins_with others (Some i) read = elim (cases_lt i n) [
-    | inl less ↦ absurd (not_bad_before file st.pieces xs i n less mine.hold read.1)
+    | inl less ↦ absurd (not_bad_before file parts xs i n less mine.hold read.1)
     | inr more ↦
-        let p = more_first file st.pieces n i xs others mine read.0 more in
-        let near = inside st.pieces i read.1.0 read.1.1 in
+        let p = more_first file parts n i xs others mine read.0 more in
+        let near = inside parts i read.1.0 read.1.1 in
         (p.0, p.1, λ all. absurd (omega (arith, all, near, more)))
   ]
 
   same_pieces : (pieces : List Piece) → ArePieces file pieces → pieces ≡ st.pieces
   same_pieces pieces are = one_pieces file pieces st.pieces are st.are
 
-  read_here : (pieces : List Piece) (others : List (List ℕ)) (bad : Option ℕ) → ArePieces file pieces → AreRead file pieces others bad → AreRead file st.pieces others bad
-  read_here pieces others bad are read = subst (λ (ps : List Piece). AreRead file ps others bad) (same_pieces pieces are) read
+  same_parts : (pieces : List Piece) → ArePieces file pieces → parts_of file first.range pieces ≡ parts
+  same_parts pieces are = ap (parts_of file first.range) (same_pieces pieces are)
+
+  -- what is read of the range is read of the same parts
+  read_here : (others : List (List ℕ)) (bad : Option ℕ) → AreRecordsIn file first.range others bad
+      → (found : Option ℕ) × AreRead file parts others found × (bad ≡ moved (first_of file first.range st.pieces) found)
+  read_here others bad are = (
+    are.1,
+    subst (λ (ps : List Piece). AreRead file ps others are.1) (same_parts are.0 are.2) are.3,
+    are.4 ∙ ap (λ (ps : List Piece). moved (first_of file first.range ps) are.1) (same_pieces are.0 are.2),
+  )
+
+  -- all parts were read, or all before a bad one: nothing else can be read of them
+  whole_parts : n ≡ length parts → take n parts ≡ parts
+  whole_parts all = take_all n parts (omega (arith, all))
+
+  all_only : n ≡ length parts → (others : List (List ℕ)) (found : Option ℕ) → AreRead file parts others found → (others ≡ xs) × (found ≡ None)
+  all_only all others None read = (mine.only others (subst (λ (ps : List Piece). HoldBlocks file ps others) (sym (whole_parts all)) read), refl)
+  all_only all others (Some i) read =
+      let near = inside parts i read.1.0 read.1.1 in
+      absurd (not_bad_before file parts xs i n (omega (arith, all, near)) mine.hold read.1)
+
+  bad_only : IsBadPiece file parts n → (others : List (List ℕ)) (found : Option ℕ) → AreRead file parts others found → (others ≡ xs) × (found ≡ Some n)
+  bad_only bad others None read =
+      let near = inside parts n bad.0 bad.1 in
+      let all = subst (λ (ps : List Piece). HoldBlocks file ps others) (sym (take_all (length parts) parts (omega arith))) read in
+      absurd (not_bad_before file parts others n (length parts) near all bad)
+  bad_only bad others (Some j) read = elim (cases_lt j n) [
+    | inl less ↦ absurd (not_bad_before file parts xs j n less mine.hold read.1)
+    | inr more ↦ elim (cases_lt n j) [
+      | inl less ↦ absurd (not_bad_before file parts others n j less read.0 bad)
+      | inr few ↦
+          let same : j ≡ n = omega (arith, more, few) in
+          (mine.only others (subst (λ (k : ℕ). HoldBlocks file (take k parts) others) same read.0), ap (λ (k : ℕ). Some k) same)
+    ]
+  ]
+
+  moved_none : (k : ℕ) (found : Option ℕ) → found ≡ None → moved k found ≡ None
+  moved_none k found none = ap (moved k) none
+
+  moved_some : (k j : ℕ) (found : Option ℕ) → found ≡ Some j → moved k found ≡ Some (k + j)
+  moved_some k j found is = ap (moved k) is
 
   raw_is : (ones : List (List ℕ)) (refused : Bool) → Adds plan (cut_all (record_length_of first.head.bytes) (concat xs)) ones refused → (kept_in plan file xs).raw_range ≡ refused_at refused ones
   raw_is ones refused adds = ap (λ (k : Kept). k.raw_range) (kept_is ones refused adds)
@@ -81,70 +125,82 @@ module _ (plan : Steps) (first : ReaderSeen) (file : List ℕ) (st : StandsFor f
   theirs_are ones refused adds ys others raw k same = sym k.records_are ∙ ap (λ (bs : List (List ℕ)). concat (kept_in plan file bs).records) same ∙ ones_are ones refused adds
 
   -- no record is refused in blocks that end before
-  never_raw : (ones : List (List ℕ)) → Adds plan (cut_all (record_length_of first.head.bytes) (concat xs)) ones false → (m : ℕ) (ys : List (List ℕ)) (k : ℕ) → HoldBlocks file (take m st.pieces) ys → m ≤ n → (kept_in plan file ys).raw_range ≡ Some k → ⊥
+  never_raw : (ones : List (List ℕ)) → Adds plan (cut_all (record_length_of first.head.bytes) (concat xs)) ones false → (m : ℕ) (ys : List (List ℕ)) (k : ℕ) → HoldBlocks file (take m parts) ys → m ≤ n → (kept_in plan file ys).raw_range ≡ Some k → ⊥
   never_raw ones adds m ys k held less raw =
-      raw_clash k (kept_in plan file xs).raw_range (early_refused plan file has st.pieces n m xs ys k mine even held less raw) (raw_is ones false adds)
+      raw_clash k (kept_in plan file xs).raw_range (early_refused plan file has parts n m xs ys k mine even held less raw) (raw_is ones false adds)
 
-  pub converts_all : (ones : List (List ℕ)) → Adds plan (cut_all (record_length_of first.head.bytes) (concat xs)) ones false → n ≡ length first.left → OnlyConverts plan file (concat ones) None
+  pub converts_all : (ones : List (List ℕ)) → Adds plan (cut_all (record_length_of first.head.bytes) (concat xs)) ones false → n ≡ length first.left → OnlyConverts plan file first.range (concat ones) None
   converts_all ones adds all =
-      let here : HoldOnly file (take (length first.left) first.left) xs = subst (λ (k : ℕ). HoldOnly file (take k first.left) xs) all hold in
-      let rs : AreOnlyRecords file xs None = all_records first file st new xs here in
-      let end : n ≡ length st.pieces = all ∙ ap (λ (ps : List Piece). length ps) left_is in
-      record { are = (xs, rs.are, keeps_here ones false adds); only = only rs end }
+      let end : n ≡ length parts = all ∙ ap (λ (ps : List Piece). length ps) left_is in
+      let read : HoldBlocks file parts xs = subst (λ (ps : List Piece). HoldBlocks file ps xs) (whole_parts end) mine.hold in
+      record { are = (xs, (st.pieces, None, st.are, read, refl), keeps_here ones false adds); only = only end }
     where
-      only : AreOnlyRecords file xs None → n ≡ length st.pieces → (others : List ℕ) (other : Option Refusal) → ConvertsTo plan file others other → (others ≡ concat ones) × (other ≡ None)
-      only rs end others None c = (theirs_are ones false adds c.0 others None c.2 (rs.only c.0 None c.1).0, refl)
-      only rs end others (Some (BadChunk i)) c = absurd (let clash : Some i ≡ None = (rs.only c.0 (Some i) c.1).1 in cc)
-      only rs end others (Some (RawRange k)) c =
+      only : n ≡ length parts → (others : List ℕ) (other : Option Refusal) → ConvertsTo plan file first.range others other → (others ≡ concat ones) × (other ≡ None)
+      only end others None c =
+          let r = read_here c.0 None c.1 in
+          (theirs_are ones false adds c.0 others None c.2 (all_only end c.0 r.0 r.1).0, refl)
+      only end others (Some (BadChunk i)) c =
+          let r = read_here c.0 (Some i) c.1 in
+          let clash : Some i ≡ None = r.2 ∙ moved_none (first_of file first.range st.pieces) r.0 (all_only end c.0 r.0 r.1).1 in
+          absurd cc
+      only end others (Some (RawRange k)) c =
           let f = c.1 in
-          let held = subst (λ (ps : List Piece). HoldBlocks file (take f.number ps) c.0) (same_pieces f.pieces f.are) f.hold in
+          let held = subst (λ (ps : List Piece). HoldBlocks file (take f.number ps) c.0) (same_parts f.pieces f.are) f.hold in
           absurd (elim (cases_lt f.number n) [
             | inl less ↦ never_raw ones adds f.number c.0 k held (omega (arith, less)) c.2.raw_range_is
             | inr more ↦
-                let every : take f.number st.pieces ≡ take n st.pieces = take_all f.number st.pieces (omega (arith, end, more)) ∙ sym (take_all n st.pieces (omega (arith, end))) in
+                let every : take f.number parts ≡ take n parts = take_all f.number parts (omega (arith, end, more)) ∙ sym (take_all n parts (omega (arith, end))) in
                 never_raw ones adds n c.0 k (subst (λ (ps : List Piece). HoldBlocks file ps c.0) every held) (omega arith) c.2.raw_range_is
           ])
-      only rs end others (Some _) c = absurd c
+      only end others (Some _) c = absurd c
 
-  pub converts_bad : (ones : List (List ℕ)) → Adds plan (cut_all (record_length_of first.head.bytes) (concat xs)) ones false → (cause : Refusal) → cause ≡ BadChunk n → IsBadPiece file first.left n → OnlyConverts plan file (concat ones) (Some cause)
+  pub converts_bad : (ones : List (List ℕ)) → Adds plan (cut_all (record_length_of first.head.bytes) (concat xs)) ones false → (cause : Refusal) → cause ≡ BadChunk (first.first + n) → IsBadPiece file first.left n → OnlyConverts plan file first.range (concat ones) (Some cause)
   converts_bad ones adds cause is bad =
-      let rs : AreOnlyRecords file xs (Some n) = records_before first file st new n xs hold bad in
-      let there : IsBadPiece file st.pieces n = subst (λ (ps : List Piece). IsBadPiece file ps n) left_is bad in
-      subst (λ (x : Refusal). OnlyConverts plan file (concat ones) (Some x)) (sym is) (record { are = (xs, rs.are, keeps_here ones false adds); only = only rs there })
+      let there : IsBadPiece file parts n = subst (λ (ps : List Piece). IsBadPiece file ps n) left_is bad in
+      let number : cause ≡ BadChunk (first_of file first.range st.pieces + n) = is ∙ ap (λ (k : ℕ). BadChunk (k + n)) st.first in
+      subst (λ (x : Refusal). OnlyConverts plan file first.range (concat ones) (Some x)) (sym number)
+      (record { are = (xs, (st.pieces, Some n, st.are, (mine.hold, there), refl), keeps_here ones false adds); only = only there })
     where
-      only : AreOnlyRecords file xs (Some n) → IsBadPiece file st.pieces n → (others : List ℕ) (other : Option Refusal) → ConvertsTo plan file others other → (others ≡ concat ones) × (other ≡ Some (BadChunk n))
-      only rs there others None c = absurd (let clash : None ≡ Some n = (rs.only c.0 None c.1).1 in cc)
-      only rs there others (Some (BadChunk i)) c =
-          let e = rs.only c.0 (Some i) c.1 in
-          let same : i ≡ n = (let eq : Some i ≡ Some n = e.1 in cc) in
+      only : IsBadPiece file parts n → (others : List ℕ) (other : Option Refusal) → ConvertsTo plan file first.range others other
+          → (others ≡ concat ones) × (other ≡ Some (BadChunk (first_of file first.range st.pieces + n)))
+      only there others None c =
+          let r = read_here c.0 None c.1 in
+          let clash : None ≡ Some (first_of file first.range st.pieces + n) = r.2 ∙ moved_some (first_of file first.range st.pieces) n r.0 (bad_only there c.0 r.0 r.1).1 in
+          absurd cc
+      only there others (Some (BadChunk i)) c =
+          let r = read_here c.0 (Some i) c.1 in
+          let e = bad_only there c.0 r.0 r.1 in
+          let eq : Some i ≡ Some (first_of file first.range st.pieces + n) = r.2 ∙ moved_some (first_of file first.range st.pieces) n r.0 e.1 in
+          let same : i ≡ first_of file first.range st.pieces + n = cc in
           (theirs_are ones false adds c.0 others None c.2 e.0, ap (λ (k : ℕ). Some (BadChunk k)) same)
-      only rs there others (Some (RawRange k)) c =
+      only there others (Some (RawRange k)) c =
           let f = c.1 in
-          let held = subst (λ (ps : List Piece). HoldBlocks file (take f.number ps) c.0) (same_pieces f.pieces f.are) f.hold in
+          let held = subst (λ (ps : List Piece). HoldBlocks file (take f.number ps) c.0) (same_parts f.pieces f.are) f.hold in
           absurd (elim (cases_lt n f.number) [
-            | inl more ↦ not_bad_before file st.pieces c.0 n f.number more held there
+            | inl more ↦ not_bad_before file parts c.0 n f.number more held there
             | inr less ↦ never_raw ones adds f.number c.0 k held less c.2.raw_range_is
           ])
-      only rs there others (Some _) c = absurd c
+      only there others (Some _) c = absurd c
 
-  pub converts_raw : (ones : List (List ℕ)) → Adds plan (cut_all (record_length_of first.head.bytes) (concat xs)) ones true → (cause : Refusal) → cause ≡ RawRange (length ones) → OnlyConverts plan file (concat ones) (Some cause)
+  pub converts_raw : (ones : List (List ℕ)) → Adds plan (cut_all (record_length_of first.head.bytes) (concat xs)) ones true → (cause : Refusal) → cause ≡ RawRange (length ones) → OnlyConverts plan file first.range (concat ones) (Some cause)
   converts_raw ones adds cause is =
-      subst (λ (x : Refusal). OnlyConverts plan file (concat ones) (Some x)) (sym is)
+      subst (λ (x : Refusal). OnlyConverts plan file first.range (concat ones) (Some x)) (sym is)
       (record { are = (xs, record { pieces = st.pieces; are = st.are; number = n; hold = mine.hold }, keeps_here ones true adds); only = only })
     where
-      never_read : (ys : List (List ℕ)) (bad : Option ℕ) → AreRead file st.pieces ys bad → (kept_in plan file ys).raw_range ≡ None → ⊥
-      never_read ys bad read none =
-          let b = begins_with ys bad read in
+      never_read : (ys : List (List ℕ)) (bad : Option ℕ) → AreRecordsIn file first.range ys bad → (kept_in plan file ys).raw_range ≡ None → ⊥
+      never_read ys bad are none =
+          let r = read_here ys bad are in
+          let b = begins_with ys r.0 r.1 in
           let raw : (kept_in plan file ys).raw_range ≡ Some (length ones) = ap (λ (k : Kept). k.raw_range) (ap (kept_in plan file) b.1 ∙ stays_in plan file has xs b.0 (length ones) even (raw_is ones true adds)) ∙ raw_is ones true adds in
           raw_clash (length ones) (kept_in plan file ys).raw_range raw none
 
-      only : (others : List ℕ) (other : Option Refusal) → ConvertsTo plan file others other → (others ≡ concat ones) × (other ≡ Some (RawRange (length ones)))
-      only others None c = absurd (never_read c.0 None (read_here c.1.0 c.0 None c.1.1 c.1.2) c.2.raw_range_is)
-      only others (Some (BadChunk i)) c = absurd (never_read c.0 (Some i) (read_here c.1.0 c.0 (Some i) c.1.1 c.1.2) c.2.raw_range_is)
+      only : (others : List ℕ) (other : Option Refusal) → ConvertsTo plan file first.range others other → (others ≡ concat ones) × (other ≡ Some (RawRange (length ones)))
+      only others None c = absurd (never_read c.0 None c.1 c.2.raw_range_is)
+      only others (Some (BadChunk i)) c = absurd (never_read c.0 (Some i) c.1 c.2.raw_range_is)
       only others (Some (RawRange k)) c =
           let f = c.1 in
-          let held = subst (λ (ps : List Piece). HoldBlocks file (take f.number ps) c.0) (same_pieces f.pieces f.are) f.hold in
-          let same = same_refused plan file has st.pieces n f.number xs c.0 (length ones) k mine even held (raw_is ones true adds) c.2.raw_range_is in
+          let held = subst (λ (ps : List Piece). HoldBlocks file (take f.number ps) c.0) (same_parts f.pieces f.are) f.hold in
+          let same = same_refused plan file has parts n f.number xs c.0 (length ones) k mine even held (raw_is ones true adds) c.2.raw_range_is in
           let number : Some k ≡ Some (length ones) = sym c.2.raw_range_is ∙ ap (λ (x : Kept). x.raw_range) same ∙ raw_is ones true adds in
           let k_is : k ≡ length ones = cc in
           (sym c.2.records_are ∙ ap (λ (x : Kept). concat x.records) same ∙ ones_are ones true adds, ap (λ (j : ℕ). Some (RawRange j)) k_is)
@@ -155,33 +211,34 @@ module _ (plan : Steps) (first : ReaderSeen) (file : List ℕ) (st : StandsFor f
     split_here : cut_all (record_length_of (head_of file)) (concat xs) ≡ ones_first ++ rest
     split_here = subst (λ (t : List ℕ). cut_all (record_length_of t) (concat xs) ≡ ones_first ++ rest) bytes_is split
 
-    from_more : (zs : List (List ℕ)) (records : List ℕ) → concat (kept_in plan file (xs ++ zs)).records ≡ records → (n ≡ length st.pieces → zs ≡ []) → LeavesUnfinished out records was now
+    from_more : (zs : List (List ℕ)) (records : List ℕ) → concat (kept_in plan file (xs ++ zs)).records ≡ records → (n ≡ length parts → zs ≡ []) → LeavesUnfinished out records was now
     from_more zs records is none =
         let f = first_kept plan file has xs zs ones_first rest ones refused even split_here adds in
         let whole_is : concat ones ++ concat f.0 ≡ records = sym (concat-append ones f.0) ∙ ap concat (sym f.1) ∙ is in
         subst (λ (t : List ℕ). LeavesUnfinished out t was now) whole_is
         (left (concat f.0) (λ all empty. ap concat (f.2 (none (all ∙ ap (λ (ps : List Piece). length ps) left_is)) empty)))
 
-    from_read : (ys : List (List ℕ)) (bad : Option ℕ) (records : List ℕ) → AreRead file st.pieces ys bad → concat (kept_in plan file ys).records ≡ records → LeavesUnfinished out records was now
-    from_read ys bad records read is =
-        let b = begins_with ys bad read in
+    from_read : (ys : List (List ℕ)) (bad : Option ℕ) (records : List ℕ) → AreRecordsIn file first.range ys bad → concat (kept_in plan file ys).records ≡ records → LeavesUnfinished out records was now
+    from_read ys bad records are is =
+        let r = read_here ys bad are in
+        let b = begins_with ys r.0 r.1 in
         from_more b.0 records (ap (λ (bs : List (List ℕ)). concat (kept_in plan file bs).records) (sym b.1) ∙ is) b.2
 
-    pub converts_left : (records : List ℕ) (refusal : Option Refusal) → ConvertsTo plan file records refusal → LeavesUnfinished out records was now
-    converts_left records None c = from_read c.0 None records (read_here c.1.0 c.0 None c.1.1 c.1.2) c.2.records_are
-    converts_left records (Some (BadChunk i)) c = from_read c.0 (Some i) records (read_here c.1.0 c.0 (Some i) c.1.1 c.1.2) c.2.records_are
+    pub converts_left : (records : List ℕ) (refusal : Option Refusal) → ConvertsTo plan file first.range records refusal → LeavesUnfinished out records was now
+    converts_left records None c = from_read c.0 None records c.1 c.2.records_are
+    converts_left records (Some (BadChunk i)) c = from_read c.0 (Some i) records c.1 c.2.records_are
     converts_left records (Some (RawRange k)) c =
         let f = c.1 in
-        let held = subst (λ (ps : List Piece). HoldBlocks file (take f.number ps) c.0) (same_pieces f.pieces f.are) f.hold in
+        let held = subst (λ (ps : List Piece). HoldBlocks file (take f.number ps) c.0) (same_parts f.pieces f.are) f.hold in
         elim (cases_lt f.number n) [
           | inl less ↦
-              let p = fewer_first file st.pieces n f.number xs c.0 mine held (omega (arith, less)) in
+              let p = fewer_first file parts n f.number xs c.0 mine held (omega (arith, less)) in
               let front = even_front (record_length_of (head_of file)) c.0 p.0 (subst (λ (bs : List (List ℕ)). All (λ block. length block % record_length_of (head_of file) ≡ 0) bs) p.1 even) in
               let same : kept_in plan file xs ≡ kept_in plan file c.0 = ap (kept_in plan file) p.1 ∙ stays_in plan file has c.0 p.0 k front c.2.raw_range_is in
               from_more [] records (ap (λ (bs : List (List ℕ)). concat (kept_in plan file bs).records) (append-nil xs) ∙ ap (λ (x : Kept). concat x.records) same ∙ c.2.records_are) (λ all. refl)
           | inr more ↦
-              let p = more_first file st.pieces n f.number xs c.0 mine held more in
-              let none : n ≡ length st.pieces → p.0 ≡ [] = λ all. no_length p.0 (omega (arith, all, more, hold_length file (take f.number st.pieces) c.0 held, length-take f.number st.pieces, hold_length file (take n st.pieces) xs mine.hold, length-take n st.pieces, ap (λ (t : List (List ℕ)). length t) p.1, length-append xs p.0)) in
+              let p = more_first file parts n f.number xs c.0 mine held more in
+              let none : n ≡ length parts → p.0 ≡ [] = λ all. no_length p.0 (omega (arith, all, more, hold_length file (take f.number parts) c.0 held, length-take f.number parts, hold_length file (take n parts) xs mine.hold, length-take n parts, ap (λ (t : List (List ℕ)). length t) p.1, length-append xs p.0)) in
               from_more p.0 records (ap (λ (bs : List (List ℕ)). concat (kept_in plan file bs).records) (sym p.1) ∙ c.2.records_are) none
         ]
     converts_left records (Some _) c = absurd c

@@ -5,4 +5,6 @@ pub mod Only
 pub mod Endings
 pub mod Converts
 pub mod Wholes
+pub mod Asked
+pub mod AllPlaces
 mod Examples

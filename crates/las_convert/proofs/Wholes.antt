@@ -1,5 +1,5 @@
--- An output that was begun, and then filled with what a plan keeps of the records of a new reader.
-use Rattle.std.proofs.Common.{◌≡◌, ◌≢◌, ◌⊎◌, inl, inr, ℕ, ◌+◌, ◌<◌, Bool, true, false, List, [], ◌++◌, length, take, Option, Some, None, ◌∙◌, ap, subst, arith}
+-- An output that was begun, and then filled with what a plan keeps of the records of a fresh reader.
+use Rattle.std.proofs.Common.{◌≡◌, ◌≢◌, ◌⊎◌, inl, inr, ℕ, ◌+◌, ◌<◌, Bool, true, false, List, [], ◌++◌, length, take, Option, Some, None, sym, ◌∙◌, ap, subst, arith}
 use Rattle.std.specs.List.{concat}
 use Rattle.las_header.specs.declared.refusal.Refusal.{Refusal}
 use Rattle.las_header.specs.declared.refusal.Refusal.TheVariants.{BadChunk, RawRange}
@@ -18,7 +18,7 @@ use Rattle.laz_file.specs.Writing.{Stands, WriterSeen}
 use Rattle.laz_file.proofs.Arms.{held_text}
 use Rattle.laz_file.proofs.Knowing.{known_both}
 use Rattle.laz_file.proofs.Pushing.{record_least}
-use Rattle.laz_file.proofs.Taking.{known_before}
+use Rattle.laz_file.proofs.Taking.{known_after, known_before}
 use Rattle.laz_file.proofs.WholeOutputs.{hold_ready}
 use Rattle.las_convert.specs.Adding.{Adds, EndsKeeping, cut_all}
 use Rattle.las_convert.specs.Converting.{ConvertsTo, FinishesKept, LeavesConverting, OnlyConverts, RefusesKept, converted_output, output_of}
@@ -38,13 +38,19 @@ refused_kind known was now plan reader out bytes cause r = by r.refused r.ends
     by true e = inr (length r.ones, some_same cause (RawRange (length r.ones)) e)
     by false e = inl (reader.next + r.n, e.0)
 
-module _ (old mid new : Outside) (plan : Steps) (first reader : ReaderSeen) (buffers : ℕ) (ready : reader ≡ record first { buffers = buffers }) (new_one : first.next ≡ 0) (w : WriterSeen) (wide : w.size ≡ record_length_of reader.head.bytes) (out : Output) (s : Stands old mid w out []) (ne : first.name ≢ out.name) (stands : WhereKnown old.held first.name (StandsFor first)) where
+module _ (old mid new : Outside) (plan : Steps) (first reader : ReaderSeen) (buffers : ℕ) (ready : reader ≡ record first { buffers = buffers }) (new_one : first.next ≡ first.first) (w : WriterSeen) (wide : w.size ≡ record_length_of reader.head.bytes) (out : Output) (s : Stands old mid w out []) (ne : first.name ≢ out.name) (stands : WhereKnown old.held first.name (StandsFor first)) where
   text : List ℕ
   text = (held_text old mid w out [] s).0
 
   written : mid.held ≡ with_file old.held out.name text
   unfolding text
   written = ap (λ (o : Outside). o.held) (held_text old mid w out [] s).1
+
+  -- what is known of the file stays known while the output is written
+  pub known_here : (P : List ℕ → Type 0) → WhereKnown old.held first.name P → WhereKnown mid.held reader.name P
+  known_here P k =
+      subst (λ (name : List ℕ). WhereKnown mid.held name P) (sym (ap (λ (r : ReaderSeen). r.name) ready))
+      (subst (λ (h : Option FileMap). WhereKnown h first.name P) (sym written) (known_after old.held out.name text first.name P ne k))
 
   same_head : reader.head ≡ first.head
   same_head = ap (λ (r : ReaderSeen). r.head) ready
@@ -61,20 +67,20 @@ module _ (old mid new : Outside) (plan : Steps) (first reader : ReaderSeen) (buf
   first_adds : (blocks ones : List (List ℕ)) (refused : Bool) → Adds plan (cut_all (record_length_of reader.head.bytes) (concat blocks)) ones refused → Adds plan (cut_all (record_length_of first.head.bytes) (concat blocks)) ones refused
   first_adds blocks ones refused adds = subst (λ (h : HeadView). Adds plan (cut_all (record_length_of h.bytes) (concat blocks)) ones refused) same_head adds
 
-  pub finishes : FinishesKept mid.held old.held new.held plan reader out [] → WhereKnown old.held first.name (λ file. (records : List ℕ) × OnlyConverts plan file records None × (new.held ≡ with_file old.held out.name (finished out records)))
+  pub finishes : FinishesKept mid.held old.held new.held plan reader out [] → WhereKnown old.held first.name (λ file. (records : List ℕ) × OnlyConverts plan file first.range records None × (new.held ≡ with_file old.held out.name (finished out records)))
   finishes f =
       let n = length reader.left in
       let h = first_hold n f.blocks f.hold in
-      known_both old.held first.name (StandsFor first) (λ file. HoldOnly file (take n first.left) f.blocks) (λ file. (records : List ℕ) × OnlyConverts plan file records None × (new.held ≡ with_file old.held out.name (finished out records)))
+      known_both old.held first.name (StandsFor first) (λ file. HoldOnly file (take n first.left) f.blocks) (λ file. (records : List ℕ) × OnlyConverts plan file first.range records None × (new.held ≡ with_file old.held out.name (finished out records)))
       (λ file st ho. (concat f.ones, converts_all plan first file st new_one some n f.blocks h.within h.whole ho f.ones (first_adds f.blocks f.ones false f.adds) (ap (λ (ps : List Piece). length ps) same_left), f.now_is)) stands h.hold
 
-  pub refuses : (cause : Refusal) → RefusesKept mid.held old.held new.held plan reader out [] cause → WhereKnown old.held first.name (λ file. (records : List ℕ) × OnlyConverts plan file records (Some cause) × (new.held ≡ with_file old.held out.name (stopped out records)))
+  pub refuses : (cause : Refusal) → RefusesKept mid.held old.held new.held plan reader out [] cause → WhereKnown old.held first.name (λ file. (records : List ℕ) × OnlyConverts plan file first.range records (Some cause) × (new.held ≡ with_file old.held out.name (stopped out records)))
   refuses cause r = by r.refused r.ends r.adds
     where
-      by : (b : Bool) → EndsKeeping mid.held reader r.n (length r.ones) b (Some cause) → Adds plan (cut_all (record_length_of reader.head.bytes) (concat r.blocks)) r.ones b → WhereKnown old.held first.name (λ file. (records : List ℕ) × OnlyConverts plan file records (Some cause) × (new.held ≡ with_file old.held out.name (stopped out records)))
+      by : (b : Bool) → EndsKeeping mid.held reader r.n (length r.ones) b (Some cause) → Adds plan (cut_all (record_length_of reader.head.bytes) (concat r.blocks)) r.ones b → WhereKnown old.held first.name (λ file. (records : List ℕ) × OnlyConverts plan file first.range records (Some cause) × (new.held ≡ with_file old.held out.name (stopped out records)))
       by true e adds =
           let h = first_hold r.n r.blocks r.hold in
-          known_both old.held first.name (StandsFor first) (λ file. HoldOnly file (take r.n first.left) r.blocks) (λ file. (records : List ℕ) × OnlyConverts plan file records (Some cause) × (new.held ≡ with_file old.held out.name (stopped out records)))
+          known_both old.held first.name (StandsFor first) (λ file. HoldOnly file (take r.n first.left) r.blocks) (λ file. (records : List ℕ) × OnlyConverts plan file first.range records (Some cause) × (new.held ≡ with_file old.held out.name (stopped out records)))
           (λ file st ho. (concat r.ones, converts_raw plan first file st new_one some r.n r.blocks h.within h.whole ho r.ones (first_adds r.blocks r.ones true adds) cause (some_same cause (RawRange (length r.ones)) e), r.now_is)) stands h.hold
       by false e adds =
           let h = first_hold r.n r.blocks r.hold in
@@ -82,14 +88,14 @@ module _ (old mid new : Outside) (plan : Steps) (first reader : ReaderSeen) (buf
           known_before old.held out.name text first.name (λ file. IsBadPiece file first.left r.n) ne
           (subst (λ (k : Option FileMap). WhereKnown k first.name (λ file. IsBadPiece file first.left r.n)) written
           (subst (λ (x : ReaderSeen). WhereKnown mid.held x.name (λ file. IsBadPiece file x.left r.n)) ready e.2)) in
-          let number : reader.next + r.n ≡ r.n = omega (arith, ap (λ (x : ReaderSeen). x.next) ready, new_one) in
-          known_both old.held first.name (λ file. StandsFor first file × HoldOnly file (take r.n first.left) r.blocks) (λ file. IsBadPiece file first.left r.n) (λ file. (records : List ℕ) × OnlyConverts plan file records (Some cause) × (new.held ≡ with_file old.held out.name (stopped out records)))
+          let number : reader.next + r.n ≡ first.first + r.n = omega (arith, ap (λ (x : ReaderSeen). x.next) ready, new_one) in
+          known_both old.held first.name (λ file. StandsFor first file × HoldOnly file (take r.n first.left) r.blocks) (λ file. IsBadPiece file first.left r.n) (λ file. (records : List ℕ) × OnlyConverts plan file first.range records (Some cause) × (new.held ≡ with_file old.held out.name (stopped out records)))
           (λ file a b. (concat r.ones, converts_bad plan first file a.0 new_one some r.n r.blocks h.within h.whole a.1 r.ones (first_adds r.blocks r.ones false adds) cause (e.0 ∙ ap BadChunk number) b, r.now_is))
           (known_both old.held first.name (StandsFor first) (λ file. HoldOnly file (take r.n first.left) r.blocks) (λ file. StandsFor first file × HoldOnly file (take r.n first.left) r.blocks) (λ file st ho. (st, ho)) stands h.hold) bad
 
-  pub leaves : LeavesConverting mid.held old.held new.held plan reader out [] → WhereKnown old.held first.name (λ file. (records : List ℕ) (refusal : Option Refusal) → ConvertsTo plan file records refusal → LeavesUnfinished out records old.held new.held)
+  pub leaves : LeavesConverting mid.held old.held new.held plan reader out [] → WhereKnown old.held first.name (λ file. (records : List ℕ) (refusal : Option Refusal) → ConvertsTo plan file first.range records refusal → LeavesUnfinished out records old.held new.held)
   leaves l =
       let h = first_hold l.n l.blocks l.hold in
       let split = subst (λ (v : HeadView). cut_all (record_length_of v.bytes) (concat l.blocks) ≡ l.first ++ l.rest) same_head l.split in
-      known_both old.held first.name (StandsFor first) (λ file. HoldOnly file (take l.n first.left) l.blocks) (λ file. (records : List ℕ) (refusal : Option Refusal) → ConvertsTo plan file records refusal → LeavesUnfinished out records old.held new.held)
+      known_both old.held first.name (StandsFor first) (λ file. HoldOnly file (take l.n first.left) l.blocks) (λ file. (records : List ℕ) (refusal : Option Refusal) → ConvertsTo plan file first.range records refusal → LeavesUnfinished out records old.held new.held)
       (λ file st ho. converts_left plan first file st new_one some l.n l.blocks h.within h.whole ho l.first l.rest l.ones l.refused split l.adds out old.held new.held (λ more none. l.left more (λ all empty. none (all ∙ ap (λ (ps : List Piece). length ps) same_left) empty))) stands h.hold

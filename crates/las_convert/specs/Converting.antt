@@ -1,4 +1,5 @@
--- What converting a file gives: the records that a plan keeps, changed, under the plain head with counts of their own.
+-- What converting a range of a file's records gives: those that a plan keeps, changed, under the plain head with counts
+-- of their own.
 use Rattle.std.specs.Prelude.{◌≡◌, ℕ, Bool, true, false, List, [], ◌++◌, length, take, Option, Some, None}
 use Rattle.std.specs.List.{concat}
 use Rattle.las_header.specs.declared.refusal.Refusal.{Refusal}
@@ -15,7 +16,8 @@ use Rattle.laz_file.specs.Copying.{HoldFirst, LeavesUnfinished}
 use Rattle.laz_file.specs.Outputs.{Output, finished, records_after, stopped}
 use Rattle.laz_file.specs.Pieces.{ArePieces, Piece}
 use Rattle.laz_file.specs.Reading.{ReaderSeen}
-use Rattle.laz_file.specs.Records.{AreRecordsOf, HoldBlocks}
+use Rattle.laz_file.specs.Ranges.{Range, parts_of}
+use Rattle.laz_file.specs.Records.{AreRecordsIn, HoldBlocks}
 use Rattle.las_convert.specs.Adding.{Adds, EndsKeeping, cut_all}
 
 -- the output: under the plain head of the file, and its records are counted
@@ -32,29 +34,30 @@ pub record Keeps (plan : Steps) (file : List ℕ) (blocks : List (List ℕ)) (re
   pub records_are : concat (kept_in plan file blocks).records ≡ records
   pub raw_range_is : (kept_in plan file blocks).raw_range ≡ raw_range
 
--- The first pieces of a file hold these blocks.
-pub record AreFirstRecords (file : List ℕ) (blocks : List (List ℕ)) : Type 0 where
+-- The first pieces that meet a range of a file hold these blocks of its records.
+pub record AreFirstRecords (file : List ℕ) (range : Range) (blocks : List (List ℕ)) : Type 0 where
   pub pieces : List Piece
   pub are : ArePieces file pieces
   pub number : ℕ
-  pub hold : HoldBlocks file (take number pieces) blocks
+  pub hold : HoldBlocks file (take number (parts_of file range pieces)) blocks
 
--- The records that a plan keeps of an accepted file, one after another, and the refusal that ends them, if there is
--- one: the first bad chunk, or the number of the first kept record with a coordinate out of range, whichever comes
--- first.
-abbrev pub ConvertsTo : Steps → (file records : List ℕ) → Option Refusal → Type 0
-ConvertsTo plan file records None =
-    (blocks : List (List ℕ)) × AreRecordsOf file blocks None × Keeps plan file blocks records None
-ConvertsTo plan file records (Some (BadChunk i)) =
-    (blocks : List (List ℕ)) × AreRecordsOf file blocks (Some i) × Keeps plan file blocks records None
-ConvertsTo plan file records (Some (RawRange k)) =
-    (blocks : List (List ℕ)) × AreFirstRecords file blocks × Keeps plan file blocks records (Some k)
-ConvertsTo plan file records (Some cause) = ⊥
+-- The records that a plan keeps of a range of an accepted file, one after another, and the refusal that ends them, if
+-- there is one: the first bad chunk that meets the range, or the number of the first kept record with a coordinate out
+-- of range, whichever comes first.
+abbrev pub ConvertsTo : Steps → (file : List ℕ) → Range → (records : List ℕ) → Option Refusal → Type 0
+ConvertsTo plan file range records None =
+    (blocks : List (List ℕ)) × AreRecordsIn file range blocks None × Keeps plan file blocks records None
+ConvertsTo plan file range records (Some (BadChunk i)) =
+    (blocks : List (List ℕ)) × AreRecordsIn file range blocks (Some i) × Keeps plan file blocks records None
+ConvertsTo plan file range records (Some (RawRange k)) =
+    (blocks : List (List ℕ)) × AreFirstRecords file range blocks × Keeps plan file blocks records (Some k)
+ConvertsTo plan file range records (Some cause) = ⊥
 
 -- These are the records and the refusal, and no others are.
-pub record OnlyConverts (plan : Steps) (file records : List ℕ) (refusal : Option Refusal) : Type 0 where
-  pub are : ConvertsTo plan file records refusal
-  pub only : (others : List ℕ) (other : Option Refusal) → ConvertsTo plan file others other
+pub record OnlyConverts (plan : Steps) (file : List ℕ) (range : Range) (records : List ℕ) (refusal : Option Refusal)
+    : Type 0 where
+  pub are : ConvertsTo plan file range records refusal
+  pub only : (others : List ℕ) (other : Option Refusal) → ConvertsTo plan file range others other
       → (others ≡ records) × (other ≡ refusal)
 
 -- ---- how converting goes

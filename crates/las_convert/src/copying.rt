@@ -7,6 +7,7 @@ ghost use Rattle.las_filter.specs.Kept.{steps_of};
 ghost use Rattle.las_outside.specs.Files.{WhereKnown};
 ghost use Rattle.las_outside.specs.Outside.{Later, Outside};
 ghost use Rattle.laz_file.specs.Copying.{CanTake, HasCause, HoldFirst, end_of};
+ghost use Rattle.laz_file.specs.Asking.{bytes_left};
 ghost use Rattle.laz_file.specs.Outputs.{Output};
 ghost use Rattle.laz_file.specs.Reading.{IsCrewOf, Lends, StandsFor};
 ghost use Rattle.laz_file.specs.Writing.{SameFaults, Stands};
@@ -69,6 +70,7 @@ fn push_kept<R: Threads + Sync, F: Files, G: Gate>(
     ensures cause { IfErr result (HasCause (F.seen files.old) (F.seen files.new)) }
     ensures calm { OnOk result (SameFaults (F.seen files.old) (F.seen files.new)) }
     ensures later { Later (F.seen files.old) (F.seen files.new) }
+    ensures asked { (F.seen files.new).asked ≡ (F.seen files.old).asked }
 {
     let part = keep_records(plan, size, block, buffer);
     writer.push(rt, alloc, files, gate, &buffer[..part.length])?;
@@ -114,6 +116,7 @@ fn push_batch<R: Threads + Sync, F: Files, G: Gate>(
     ensures cause { IfErr result (HasCause (F.seen files.old) (F.seen files.new)) }
     ensures calm { OnOk result (SameFaults (F.seen files.old) (F.seen files.new)) }
     ensures later { Later (F.seen files.old) (F.seen files.new) }
+    ensures asked { (F.seen files.new).asked ≡ (F.seen files.old).asked }
 {
     let mut kept = 0;
     for i in 0..count {
@@ -181,6 +184,7 @@ pub(crate) fn convert_records<R: Threads + Sync, F: Files, G: Gate>(
     ensures reads_calm { OnOk result ((F.seen files.new).read_faults ≡ (F.seen files.old).read_faults) }
     ensures writes_calm { OnOk result ((F.seen files.new).write_faults ≡ (F.seen files.old).write_faults) }
     ensures later { Later (F.seen files.old) (F.seen files.new) }
+    ensures asked { (F.seen files.new).asked ≤ (F.seen files.old).asked + bytes_left reader.old }
 {
     let size = usize::from(reader.head().record_length());
     let mut kept = 0;

@@ -1,5 +1,5 @@
-//! Whole files through a plan.
-ghost use Rattle.std.specs.Prelude.{◌≡◌, ◌≢◌, ◌⊎◌, ◌≤◌, ◌<◌, ◌++◌, [], ℕ, List, Option, All, false, None, Some};
+//! Ranges of records, or whole files, through a plan.
+ghost use Rattle.std.specs.Prelude.{◌≡◌, ◌≢◌, ◌⊎◌, ◌+◌, ◌≤◌, ◌<◌, ◌++◌, [], ℕ, List, Option, All, false, None, Some};
 ghost use Rattle.std.specs.Prelude.{IfErr, IfOk};
 ghost use Rattle.std.specs.Prelude.{IsErrOf, OnOk};
 ghost use Rattle.std.specs.Option.{ForSome};
@@ -13,8 +13,9 @@ ghost use Rattle.las_outside.specs.Files.{WhereKnown, with_file};
 ghost use Rattle.las_outside.specs.Outside.{Later, Outside};
 ghost use Rattle.laz_file.specs.declared.fault.Fault.TheVariants.{Read, Refused, Write};
 ghost use Rattle.laz_file.specs.Copying.{CanTake, HasCause, LeavesUnfinished};
+ghost use Rattle.laz_file.specs.Asking.{bytes_left};
 ghost use Rattle.laz_file.specs.Outputs.{Output, finished, stopped};
-ghost use Rattle.laz_file.specs.Reading.{AgreesWithHead, IsCrewOf, IsNewReader, StandsFor};
+ghost use Rattle.laz_file.specs.Reading.{AgreesWithHead, IsCrewOf, IsFreshReader, StandsFor};
 ghost use Rattle.laz_file.specs.Writing.{SameFaults, Stands};
 ghost use Rattle.las_convert.specs.Converting.{ConvertsTo, EndsConverting, FinishesKept, OnlyConverts};
 ghost use Rattle.las_convert.specs.Converting.{converted_output};
@@ -49,6 +50,7 @@ fn begin<F: Files>(
     ensures cause { IfErr result (HasCause (F.seen files.old) (F.seen files.new)) }
     ensures calm { OnOk result (SameFaults (F.seen files.old) (F.seen files.new)) }
     ensures later { Later (F.seen files.old) (F.seen files.new) }
+    ensures asked { (F.seen files.new).asked ≡ (F.seen files.old).asked }
 {
     let head = reader.head();
     let most = head.points();
@@ -104,6 +106,7 @@ fn fill<R: Threads + Sync, F: Files, G: Gate>(
     ensures reads_calm { OnOk result ((F.seen files.new).read_faults ≡ (F.seen files.old).read_faults) }
     ensures writes_calm { OnOk result ((F.seen files.new).write_faults ≡ (F.seen files.old).write_faults) }
     ensures later { Later (F.seen files.old) (F.seen files.new) }
+    ensures asked { (F.seen files.new).asked ≤ (F.seen files.old).asked + bytes_left reader.old }
 {
     let mut writer = writer;
     match convert_records(
@@ -128,15 +131,16 @@ fn fill<R: Threads + Sync, F: Files, G: Gate>(
     }
 }
 
-/// Converts a file: the output, another name than the input's, has the records that the plan keeps, changed, under the
-/// input's plain head with their own counts. It is packed in chunks of `chunk` points, 256 to 250,000, or plain.
-/// `workers`, 1 to 8, unpack and pack side by side, and what is written does not depend on them.
+/// Converts the records of a fresh reader: those of the range that it has sought, or all. The output, another name than
+/// the input's, has those that the plan keeps, changed, under the input's plain head with their own counts. It is
+/// packed in chunks of `chunk` points, 256 to 250,000, or plain. `workers`, 1 to 8, unpack and pack side by side, and
+/// what is written does not depend on them.
 ///
-/// The answer is `Refused` with `BadChunk` if a chunk holds no records of its count, or with `RawRange` if a kept
-/// record, counted from 0, has a coordinate that leaves its range: the first of these in the order of the records. The
-/// output then holds its head and all that is kept before it, of a packed output in full chunks. The answer is `Read`
-/// or `Write` if such a call failed; then the files are as before, or the output is a prefix of its draft, or its draft
-/// after a part of its patches.
+/// The answer is `Refused` with `BadChunk` if a chunk that meets the range holds no records of its count, or with
+/// `RawRange` if a record that is kept of the range, counted from 0, has a coordinate that leaves its range: the first
+/// of these in the order of the records. The output then holds its head and all that is kept before it, of a packed
+/// output in full chunks. The answer is `Read` or `Write` if such a call failed; then the files are as before, or the
+/// output is a prefix of its draft, or its draft after a part of its patches.
 pub fn convert<R: Threads + Sync, F: Files, G: Gate>(
     rt: &R,
     alloc: Global,
@@ -148,7 +152,7 @@ pub fn convert<R: Threads + Sync, F: Files, G: Gate>(
     chunk: Option<u32>,
     workers: u32,
 ) -> Result<(), Fault>
-    requires new { IsNewReader reader.name reader }
+    requires fresh { IsFreshReader reader.name reader }
     requires chunk { ForSome chunk (λ n. (256 ≤ n) × (n ≤ 250000)) }
     requires classes { All HasClass plan.now.changes.items }
     requires workers { (1 ≤ workers) × (workers ≤ 8) }
@@ -157,18 +161,18 @@ pub fn convert<R: Threads + Sync, F: Files, G: Gate>(
     requires whole { AgreesWithHead reader }
 
     ensures converted { OnOk result (WhereKnown (F.seen files.old).held reader.name (λ file.
-        (records : List ℕ) × OnlyConverts (steps_of plan.now) file records None
+        (records : List ℕ) × OnlyConverts (steps_of plan.now) file reader.range records None
         × ((F.seen files.new).held ≡ with_file (F.seen files.old).held output.now
         (finished (converted_output output.now file chunk) records)))) }
     ensures refused { (cause : Refusal) → IsErrOf result (Refused cause)
         → WhereKnown (F.seen files.old).held reader.name (λ file.
-        (records : List ℕ) × OnlyConverts (steps_of plan.now) file records (Some cause)
+        (records : List ℕ) × OnlyConverts (steps_of plan.now) file reader.range records (Some cause)
         × ((F.seen files.new).held ≡ with_file (F.seen files.old).held output.now
         (stopped (converted_output output.now file chunk) records))) }
     ensures bad { (cause : Refusal) → IsErrOf result (Refused cause)
         → ((i : ℕ) × (cause ≡ BadChunk i)) ⊎ ((k : ℕ) × (cause ≡ RawRange k)) }
     ensures left { IfErr result (λ fault. WhereKnown (F.seen files.old).held reader.name (λ file.
-        (records : List ℕ) (refusal : Option Refusal) → ConvertsTo (steps_of plan.now) file records refusal
+        (records : List ℕ) (refusal : Option Refusal) → ConvertsTo (steps_of plan.now) file reader.range records refusal
         → LeavesUnfinished (converted_output output.now file chunk) records (F.seen files.old).held
         (F.seen files.new).held)) }
     ensures read { IsErrOf result Read → Rose (F.seen files.old).read_faults (F.seen files.new).read_faults }
@@ -176,6 +180,9 @@ pub fn convert<R: Threads + Sync, F: Files, G: Gate>(
     ensures reads_calm { OnOk result ((F.seen files.new).read_faults ≡ (F.seen files.old).read_faults) }
     ensures writes_calm { OnOk result ((F.seen files.new).write_faults ≡ (F.seen files.old).write_faults) }
     ensures later { Later (F.seen files.old) (F.seen files.new) }
+
+    // No more is asked for than the reader has left, however the call ends.
+    ensures asked { (F.seen files.new).asked ≤ (F.seen files.old).asked + bytes_left reader }
 {
     let mut reader = reader;
     let mut buffer = room_for_blocks(alloc, &reader)?;

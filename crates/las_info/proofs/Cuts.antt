@@ -1,6 +1,7 @@
 -- The records of a block, one by one: these were taken, and the others are left.
 use Rattle.std.proofs.Common.{◌≡◌, ℕ, suc, ◌+◌, ◌-◌, ◌<◌, ◌≤◌, List, [], ◌∷◌, ◌++◌, length, take, drop, refl, sym, ◌∙◌, ap, append_assoc, length-append, arith}
 use Rattle.std.proofs.lemmas.List.{append-nil}
+use Rattle.std.proofs.Math.Seq.{take-append_seam}
 use Rattle.las_header.specs.Plain.{cut_records}
 
 pub record Cuts (size n t : ℕ) (block rest : List ℕ) (done : List (List ℕ)) : Type 0 where
@@ -24,6 +25,11 @@ cuts_one size n t block rest point further done more first others s =
       count = omega (arith, length-append done (point ∷ []), s.count);
       cut = s.cut ∙ ap (λ (t : List (List ℕ)). done ++ t) next ∙ sym (append_assoc done (point ∷ []) (cut_records size k further));
     }
+
+-- those that were taken are the first
+pub cuts_first : (size n t : ℕ) (block rest : List ℕ) (done : List (List ℕ)) → Cuts size n t block rest done → done ≡ take t (cut_records size n block)
+cuts_first size n t block rest done s =
+    sym (ap (take t) s.cut ∙ ap (λ (k : ℕ). take k (done ++ cut_records size (n - t) rest)) (sym s.count) ∙ take-append_seam done (cut_records size (n - t) rest))
 
 pub cuts_all : (size n t : ℕ) (block rest : List ℕ) (done : List (List ℕ)) → n ≤ t → Cuts size n t block rest done → done ≡ cut_records size n block
 cuts_all size n t block rest done end s =

@@ -1,11 +1,24 @@
 -- Records that are shown to a survey, block by block.
-use Rattle.std.proofs.Common.{◌≡◌, ℕ, ◌+◌, ◌-◌, ◌^◌, ◌<◌, ◌≤◌, List, [], ◌∷◌, ◌++◌, length, map, refl, sym, ◌∙◌, ap, subst, arith}
+use Rattle.std.proofs.Common.{◌≡◌, ℕ, ◌+◌, ◌-◌, ◌^◌, ◌<◌, ◌≤◌, List, [], ◌∷◌, ◌++◌, length, map, Result, Ok, Err, OnErr, refl, sym, ◌∙◌, ap, subst, arith}
 use Rattle.std.specs.Prelude.{All}
 use Rattle.std.proofs.lemmas.List.Elements.{All-head, All-tail, All-cons, All-nil}
 use Rattle.las_info.specs.Summaries.{SummarySeen, summary_of}
-use Rattle.las_info.specs.Tallies.{TapSeen, Tally, count_at, shown, shown_all, tally_after, with_one}
+use Rattle.std.proofs.lemmas.List.{take_all}
+use Rattle.las_info.specs.Tallies.{IsShownSome, TapSeen, Tally, count_at, shown, shown_all, tally_after, with_one}
 use Rattle.las_info.proofs.Counting.{shown-few, shown-more}
 use Rattle.las_info.specs.Surveys.{IsShown, SurveySeen}
+
+-- what a failed call leaves
+pub on_err : {T E P : Type 0} (r : Result T E) → P → OnErr r P
+on_err (Ok x) p = tt
+on_err (Err e) p = p
+
+-- a tap that was shown no record, or all of them
+pub shown_none : (records : List (List ℕ)) (tap : TapSeen) → IsShownSome records tap tap
+shown_none records tap = (0, refl)
+
+pub shown_whole : (records : List (List ℕ)) (tap : TapSeen) → IsShownSome records tap (shown_all tap records)
+shown_whole records tap = (length records, ap (shown_all tap) (sym (take_all (length records) records (omega arith))))
 
 -- a survey that was shown nothing
 none_taps : (taps : List TapSeen) → taps ≡ map (λ tap. shown_all tap []) taps

@@ -1,5 +1,5 @@
 -- Two lists that are related place by place, while one of them is changed from its front on.
-use Rattle.std.proofs.Common.{◌≡◌, ℕ, ◌+◌, ◌<◌, ◌∙◌, List, [], ◌∷◌, ◌++◌, length, take, drop, ap, sym, subst, arith}
+use Rattle.std.proofs.Common.{◌≡◌, ℕ, zero, suc, ◌+◌, ◌<◌, ◌∙◌, List, [], ◌∷◌, ◌++◌, length, take, drop, ap, sym, subst, arith}
 use Rattle.std.proofs.Common.{get_or, map, set}
 use Rattle.std.proofs.lemmas.List.{drop-drop, drop-set-lt, get_or-drop, take_more, take_more_set, map-append}
 use Rattle.std.proofs.lemmas.List.Elements.{All-get_or}
@@ -39,6 +39,30 @@ module _ {X Y : Type 0} (f : X → Y) (change : Y → Y) where
             ∙ sym (map-append (λ x. change (f x)) (take i start) (get_or start i d ∷ []))
             ∙ ap (map (λ x. change (f x))) (sym (take_more start i d within)),
       )
+
+-- related place by place, as far as a function sees them: the first ones, one that is changed, and the others to
+-- themselves
+module _ {X Y : Type 0} (f : X → Y) (R : Y → Y → Type 0) (itself : (y : Y) → R y y) where
+  all_same : (xs : List X) → AllZip R (map f xs) (map f xs)
+  all_same [] = tt
+  all_same (x ∷ xs) = (itself (f x), all_same xs)
+
+  pub related : (start now : List X) (i : ℕ) (d y : X) → i < length now → drop i now ≡ drop i start → AllZip R (map f (take i start)) (map f (take i now))
+      → R (f (get_or now i d)) (f y) → AllZip R (map f start) (map f (set now i y))
+  related start [] i d y lt left first r = absurd (omega (arith, lt))
+  related start (x ∷ now) zero d y lt left first r =
+      subst (λ (xs : List X). AllZip R (map f xs) (f y ∷ map f now)) left (r, all_same now)
+  related [] (x ∷ now) (suc i) d y lt left first r = absurd first
+  related (s ∷ start) (x ∷ now) (suc i) d y lt left first r =
+      (first.0, related start now i d y (omega (arith, lt)) left first.1 r)
+
+  -- the first ones, each changed alike
+  pub changed_alike : (change : Y → Y) → ((y : Y) → R y (change y)) → (xs : List X) (zs : List Y) → zs ≡ map (λ x. change (f x)) xs → AllZip R (map f xs) zs
+  changed_alike change all xs zs is = subst (AllZip R (map f xs)) (sym is) (by xs)
+    where
+      by : (xs : List X) → AllZip R (map f xs) (map (λ x. change (f x)) xs)
+      by [] = tt
+      by (x ∷ xs) = (all (f x), by xs)
 
 module _ {X Y : Type 0} (R : X → Y → Type 0) where
   pushed : (xs : List X) (ys : List Y) (x : X) (y : Y) → AllZip R xs ys → R x y → AllZip R (xs ++ x ∷ []) (ys ++ y ∷ [])

@@ -1,5 +1,5 @@
 -- Tallies of records: how many of them have each bin.
-use Rattle.std.specs.Prelude.{◌≡◌, ℕ, ◌+◌, ◌≤◌, List, [], ◌∷◌, ◌++◌, fold, unwrap_or}
+use Rattle.std.specs.Prelude.{◌≡◌, ℕ, ◌+◌, ◌≤◌, List, [], ◌∷◌, ◌++◌, fold, take, unwrap_or}
 use Rattle.std.specs.Ordering.{nat_cmp}
 use Rattle.std.specs.FinMap as map
 
@@ -32,6 +32,10 @@ shown tap point = record tap { tally = with_one tap.tally (tap.bin point) }
 -- a tap that was shown some records, one after another
 abbrev pub shown_all : TapSeen → (records : List (List ℕ)) → TapSeen
 shown_all tap records = record tap { tally = tally_after tap.bin tap.tally records }
+
+-- A tap was shown records from the first of these on, perhaps not all of them.
+abbrev pub IsShownSome : (records : List (List ℕ)) → (old new : TapSeen) → Type 0
+IsShownSome records old new = (n : ℕ) × (new ≡ shown_all old (take n records))
 
 -- A tally of records is said one record at a time.
 abbrev pub GrowOneByOne : Type 0

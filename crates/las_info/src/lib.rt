@@ -18,7 +18,7 @@ mod tests;
 
 pub use crate::choosing::choose;
 pub use crate::laws::tallies_grow_one_by_one;
-pub use crate::reporting::{ReportFault, report};
-pub use crate::survey::Survey;
+pub use crate::reporting::{ReportFault, report, tally_text};
+pub use crate::survey::{Survey, show_block};
 pub use crate::tap::Tap;
 pub use crate::taps::{ClassTap, IntensityTap, ReturnTap, SourceTap};

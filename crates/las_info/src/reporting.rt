@@ -1,5 +1,5 @@
 //! The report of `lasinfo`.
-ghost use Rattle.std.specs.Prelude.{◌≡◌, ◌+◌, ◌≤◌, ◌++◌, ℕ, IfOk, IsErrOf, OnOk, All, codes, length, take};
+ghost use Rattle.std.specs.Prelude.{◌≡◌, ◌+◌, ◌≤◌, ◌++◌, ℕ, IfOk, IsErrOf, IsOk, OnOk, All, codes, length, take};
 ghost use Rattle.std.specs.Fmt.{decimal};
 ghost use Rattle.las_header.specs.Fields.{minor_of};
 ghost use Rattle.std.specs.FinMap as bins;
@@ -198,10 +198,10 @@ fn push_taps(text: &mut Vec<u8>, taps: &[Box<dyn Tap>]) -> Result<(), AllocError
     Ok(())
 }
 
-/// Why a report was not put.
+/// Why a report or the lines of taps were not put.
 #[derive(Clone, Copy, Debug, PartialEq, Eq)]
 pub enum ReportFault {
-    /// The stream failed. A prefix of the report stands on it.
+    /// The stream failed. A prefix of the text stands on it.
     Failed,
     /// Out of memory. Nothing was put.
     Memory,
@@ -232,6 +232,20 @@ fn text_of(
     Ok(text)
 }
 
+// Puts a text by one call.
+fn put_text<O: Sink>(text: &[u8], out: &mut O) -> Result<(), ReportFault>
+    ensures put { OnOk result (O.seen out.new ≡ with_more (O.seen out.old) text.now) }
+    ensures failed { IsErrOf result Failed
+        → (n : ℕ) × (O.seen out.new ≡ with_fault (with_more (O.seen out.old) (take n text.now))) }
+    ensures memory { IsErrOf result Memory → ⊥ }
+    ensures later { PutLater (O.seen out.old) (O.seen out.new) }
+{
+    match out.put(text) {
+        Ok(()) => Ok(()),
+        Err(_) => Err(ReportFault::Failed),
+    }
+}
+
 /// Puts the report of a file with this head, whose records the survey was shown, by one call: the head, the counts and
 /// the ranges of the records, and each tap of the survey. `chunk` is the chunk size and the number of chunks of a
 /// packed file, and `None` of a plain one.
@@ -251,8 +265,28 @@ pub fn report<O: Sink>(
     ensures later { PutLater (O.seen out.old) (O.seen out.new) }
 {
     let text = text_of(alloc, survey, head, chunk)?;
-    match out.put(&text) {
-        Ok(()) => Ok(()),
-        Err(_) => Err(ReportFault::Failed),
+    put_text(&text, out)
+}
+
+/// Puts the lines of taps by one call: of each in order its name, and its bins with their counts, as at the end of a
+/// [`report`]. Without taps nothing is called.
+pub fn tally_text<O: Sink>(
+    alloc: Global,
+    taps: &[Box<dyn Tap>],
+    out: &mut O,
+) -> Result<(), ReportFault>
+    ensures put { OnOk result (O.seen out.new ≡ with_more (O.seen out.old)
+        (flat_map (λ tap. tally_text (tap_seen tap).name (tap_seen tap).tally) taps.now)) }
+    ensures failed { IsErrOf result Failed → (n : ℕ) × (O.seen out.new ≡ with_fault (with_more (O.seen out.old)
+        (take n (flat_map (λ tap. tally_text (tap_seen tap).name (tap_seen tap).tally) taps.now)))) }
+    ensures memory { IsErrOf result Memory → O.seen out.new ≡ O.seen out.old }
+    ensures none { length taps.now ≡ 0 → IsOk result × (O.seen out.new ≡ O.seen out.old) }
+    ensures later { PutLater (O.seen out.old) (O.seen out.new) }
+{
+    if taps.is_empty() {
+        return Ok(());
     }
+    let mut text = Vec::new(alloc);
+    push_taps(&mut text, taps)?;
+    put_text(&text, out)
 }

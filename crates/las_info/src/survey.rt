@@ -1,8 +1,10 @@
 //! What is counted of the records of a file.
-ghost use Rattle.std.specs.Prelude.{◌≡◌, ℕ, ◌+◌, ◌-◌, ◌/◌, ◌%◌, ◌^◌, ◌<◌, ◌≤◌, ◌++◌, ◌∷◌, [], List, OnOk, length, map, All};
+ghost use Rattle.std.specs.Prelude.{◌≡◌, ℕ, ◌+◌, ◌-◌, ◌/◌, ◌%◌, ◌^◌, ◌<◌, ◌≤◌, ◌++◌, ◌∷◌, [], List, OnErr, OnOk};
+ghost use Rattle.std.specs.Prelude.{length, map, All};
+ghost use Rattle.std.specs.List.{AllZip};
 ghost use Rattle.las_header.specs.declared.limits.TheConstants.{POINT_RECORD};
 ghost use Rattle.las_info.specs.Summaries.{summary_of};
-ghost use Rattle.las_info.specs.Tallies.{TapSeen, count_at, shown, shown_all};
+ghost use Rattle.las_info.specs.Tallies.{IsShownSome, TapSeen, count_at, shown, shown_all};
 ghost use Rattle.las_info.specs.Surveys.{IsShown};
 ghost use Rattle.las_header.specs.Plain.{cut_records};
 
@@ -14,7 +16,8 @@ use std::alloc::AllocError;
 fn show_one(tap: &mut Box<dyn Tap>, point: &[u8]) -> Result<(), AllocError>
     requires long { POINT_RECORD ≤ length point.now }
     requires room { count_at (tap_seen tap.old).tally ((tap_seen tap.old).bin point.now) < 2 ^ 64 - 1 }
-    ensures { OnOk result (tap_seen tap.new ≡ shown (tap_seen tap.old) point.now) }
+    ensures shown { OnOk result (tap_seen tap.new ≡ shown (tap_seen tap.old) point.now) }
+    ensures err { OnErr result (tap_seen tap.new ≡ tap_seen tap.old) }
 {
     tap.see(point)
 }
@@ -37,8 +40,10 @@ fn show_through(tap: &mut Box<dyn Tap>, size: usize, block: &[u8]) -> Result<(),
     requires size { POINT_RECORD ≤ size }
     requires whole { length block.now % size ≡ 0 }
     requires room { (bin : ℕ) → count_at (tap_seen tap.old).tally bin + length block.now / size < 2 ^ 64 }
-    ensures { OnOk result (tap_seen tap.new
+    ensures shown { OnOk result (tap_seen tap.new
         ≡ shown_all (tap_seen tap.old) (cut_records size (length block.now / size) block.now)) }
+    ensures err { OnErr result (IsShownSome (cut_records size (length block.now / size) block.now)
+        (tap_seen tap.old) (tap_seen tap.new)) }
 {
     let mut rest = block;
     for _turn in 0..block.len() / size {
@@ -49,13 +54,20 @@ fn show_through(tap: &mut Box<dyn Tap>, size: usize, block: &[u8]) -> Result<(),
     Ok(())
 }
 
-// Shows whole records of one size, which stand one after another, to taps: all of them to one, then to the next.
-fn show_block(taps: &mut [Box<dyn Tap>], size: usize, block: &[u8]) -> Result<(), AllocError>
+/// Shows whole records of one size, 20 bytes or more, which stand one after another, to taps: all of them in their
+/// order to one tap, then to the next. `Err` means out of memory. Then each tap was shown records from the first on,
+/// perhaps not all of them.
+///
+/// No tap comes to a count of 2^64 in a bin, if all of them had its bin.
+pub fn show_block(taps: &mut [Box<dyn Tap>], size: usize, block: &[u8]) -> Result<(), AllocError>
     requires size { POINT_RECORD ≤ size }
     requires whole { length block.now % size ≡ 0 }
-    requires room { All (λ tap. (bin : ℕ) → count_at (tap_seen tap).tally bin + length block.now / size < 2 ^ 64) taps.old }
+    requires room { All (λ tap. (bin : ℕ) → count_at (tap_seen tap).tally bin + length block.now / size < 2 ^ 64)
+        taps.old }
     ensures shown { OnOk result (map (λ tap. tap_seen tap) taps.new
         ≡ map (λ tap. shown_all (tap_seen tap) (cut_records size (length block.now / size) block.now)) taps.old) }
+    ensures err { OnErr result (AllZip (IsShownSome (cut_records size (length block.now / size) block.now))
+        (map (λ tap. tap_seen tap) taps.old) (map (λ tap. tap_seen tap) taps.new)) }
 {
     for i in 0..taps.len() {
         show_through(&mut taps[i], size, block)?;

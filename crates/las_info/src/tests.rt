@@ -1,11 +1,14 @@
 //! Reports of small files, and taps: those of the program, and one of the test's own.
 
-ghost use Rattle.std.specs.Prelude.{◌≡◌};
+ghost use Rattle.std.specs.Prelude.{◌≡◌, All};
 ghost use Rattle.std.specs.FinMap as map;
 
 use crate::summary::Summary;
 use crate::tally::Counted;
-use crate::{ClassTap, IntensityTap, ReportFault, ReturnTap, SourceTap, Survey, Tap, report};
+use crate::{
+    ClassTap, IntensityTap, ReportFault, ReturnTap, SourceTap, Survey, Tap, report, show_block,
+    tally_text,
+};
 use las_header::{HEADER_BLOCK, Head, need};
 use las_outside::MemSink;
 use std::alloc::{AllocError, Global};
@@ -164,6 +167,42 @@ fn every_tap_of_two_records(rt: HostRuntime) -> Result<(), Fail> {
         tally parity\n0 1\n1 1\ntally source\n9 2\ntally class\n1 1\n2 1\n\
         tally intensity\n2 1\n3 1\ntally return\n1 1\n2 1\n";
     assert_eq!(rt; out.bytes(), text.as_bytes());
+    let tallies = "tally parity\n0 1\n1 1\ntally source\n9 2\ntally class\n1 1\n2 1\n\
+        tally intensity\n2 1\n3 1\ntally return\n1 1\n2 1\n";
+    let mut out = MemSink::with_room(alloc, 1_000)?;
+    assert_eq!(rt; tally_text(alloc, &survey.taps, &mut out), Ok(()));
+    assert_eq!(rt; out.bytes(), tallies.as_bytes());
+    let mut out = MemSink::with_room(alloc, 20)?;
+    assert_eq!(rt;
+        tally_text(alloc, &survey.taps, &mut out),
+        Err(ReportFault::Failed)
+    );
+    assert_eq!(rt; out.bytes(), &tallies.as_bytes()[..20]);
+    Ok(())
+}
+
+// Both, one after the other.
+const BOTH: [u8; 40] = [
+    5, 0, 0, 0, 6, 0, 0, 0, 7, 0, 0, 0, 232, 3, 9, 2, 0, 0, 9, 0, 255, 255, 255, 255, 255, 255,
+    255, 127, 0, 0, 0, 128, 255, 2, 18, 97, 0, 0, 9, 0,
+];
+
+// Shows both records to taps that have counted nothing.
+fn show_both(taps: &mut [Box<dyn Tap>]) -> Result<(), AllocError>
+    requires { All (λ tap. (tap_seen tap).tally ≡ map.empty) taps.old }
+{
+    show_block(taps, 20, &BOTH)
+}
+
+#[test]
+fn a_block_is_shown_to_a_tap(rt: HostRuntime) -> Result<(), Fail> {
+    let alloc = rt.alloc();
+    let mut taps: Vec<Box<dyn Tap>> = Vec::new(alloc);
+    taps.push(Box::new(alloc, ReturnTap::new(alloc))?)?;
+    show_both(&mut taps)?;
+    let mut out = MemSink::with_room(alloc, 100)?;
+    assert_eq!(rt; tally_text(alloc, &taps, &mut out), Ok(()));
+    assert_eq!(rt; out.bytes(), b"tally return\n1 1\n2 1\n".as_slice());
     Ok(())
 }
 
@@ -182,5 +221,7 @@ fn no_record_and_a_stream_that_fails(rt: HostRuntime) -> Result<(), Fail> {
     let mut out = MemSink::with_room(alloc, 1_000)?;
     assert_eq!(rt; report(alloc, &survey, &head, None, &mut out), Ok(()));
     assert!(rt; out.bytes().ends_with(b"record returns 0 0 0 0 0\n"));
+    out.fail_put(2)?;
+    assert_eq!(rt; tally_text(alloc, &[], &mut out), Ok(()));
     Ok(())
 }

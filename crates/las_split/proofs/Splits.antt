@@ -12,7 +12,7 @@ use Rattle.las_header.specs.Fields.{head_of, record_length_of}
 use Rattle.las_header.specs.Heads.{HeadView}
 use Rattle.laz_file.specs.Copying.{AreOnlyRecords}
 use Rattle.laz_file.specs.Pieces.{ArePieces, Piece}
-use Rattle.laz_file.specs.Reading.{AreWholeBlocks, ReaderSeen, StandsFor}
+use Rattle.laz_file.specs.Reading.{AreWholeBlocks, ReaderSeen, ReadsAll, StandsFor}
 use Rattle.laz_file.specs.Records.{AreRead, HoldBlocks, HoldOnly, IsBadPiece}
 use Rattle.laz_file.proofs.Copies.{even_whole}
 use Rattle.laz_file.proofs.FirstPieces.{fewer_first, hold_length, inside, more_first, no_length}
@@ -20,7 +20,7 @@ use Rattle.laz_file.proofs.OneAnswer.{one_pieces}
 use Rattle.laz_file.proofs.Putting.{concat-append}
 use Rattle.laz_file.proofs.Pushing.{cut-append}
 use Rattle.laz_file.proofs.Whole.{not_bad_before}
-use Rattle.laz_file.proofs.WholeOutputs.{all_records, records_before}
+use Rattle.laz_file.proofs.WholeOutputs.{all_records, left_is as whole_left, records_before}
 use Rattle.las_split.specs.declared.limits.TheConstants.{MAX_PARTS}
 use Rattle.las_split.specs.Parts.{numbers_of_parts}
 use Rattle.las_split.specs.Sorting.{cut_all}
@@ -74,12 +74,12 @@ front_of_many rule first tail others tail2 point same fine opens = elim (cases_l
       (drop k others, sym (take-append-drop k others) ∙ ap (λ (t : List (List ℕ)). t ++ drop k others) front)
 ]
 
-module _ (rule : Rule) (first : ReaderSeen) (file : List ℕ) (st : StandsFor first file) (new : first.next ≡ 0) (some : 0 < record_length_of first.head.bytes) (n : ℕ) (xs : List (List ℕ)) (within : n ≤ length first.left) (whole : AreWholeBlocks (record_length_of first.head.bytes) (take n first.left) xs) (hold : HoldOnly file (take n first.left) xs) where
+module _ (rule : Rule) (first : ReaderSeen) (file : List ℕ) (st : StandsFor first file) (new : ReadsAll first) (some : 0 < record_length_of first.head.bytes) (n : ℕ) (xs : List (List ℕ)) (within : n ≤ length first.left) (whole : AreWholeBlocks (record_length_of first.head.bytes) (take n first.left) xs) (hold : HoldOnly file (take n first.left) xs) where
   bytes_is : first.head.bytes ≡ head_of file
   bytes_is = ap (λ (h : HeadView). h.bytes) st.head
 
   left_is : first.left ≡ st.pieces
-  left_is = st.left ∙ ap (λ (k : ℕ). drop k st.pieces) new
+  left_is = whole_left first file st new
 
   mine : HoldOnly file (take n st.pieces) xs
   mine = subst (λ (ps : List Piece). HoldOnly file (take n ps) xs) left_is hold

@@ -11,7 +11,7 @@ use Rattle.las_header.specs.Plain.{plain_of}
 use Rattle.las_filter.specs.declared.rule.Rule.{Rule}
 use Rattle.las_outside.specs.Files.{FileMap, WhereKnown}
 use Rattle.laz_file.specs.Copying.{HoldFirst}
-use Rattle.laz_file.specs.Reading.{ReaderSeen, StandsFor}
+use Rattle.laz_file.specs.Reading.{ReaderSeen, ReadsAll, StandsFor}
 use Rattle.laz_file.specs.Records.{HoldOnly, IsBadPiece}
 use Rattle.laz_file.specs.Writing.{WriterSeen}
 use Rattle.laz_file.proofs.Knowing.{known_both, known_then}
@@ -35,7 +35,7 @@ first_one : (xs : List (List ℕ)) → 1 ≤ length xs → (r : List ℕ) × (re
 first_one [] some = absurd (omega (arith, some))
 first_one (r ∷ rest) some = (r, rest, refl)
 
-module _ (task : Task) (was : Option FileMap) (first reader : ReaderSeen) (buffers : ℕ) (ready : reader ≡ record first { buffers = buffers }) (new_one : first.next ≡ 0) (is : IsHead first.head.bytes) (stands : WhereKnown was first.name (StandsFor first)) where
+module _ (task : Task) (was : Option FileMap) (first reader : ReaderSeen) (buffers : ℕ) (ready : reader ≡ record first { buffers = buffers }) (new_one : ReadsAll first) (is : IsHead first.head.bytes) (stands : WhereKnown was first.name (StandsFor first)) where
   same_head : reader.head ≡ first.head
   same_head = ap (λ (r : ReaderSeen). r.head) ready
 
@@ -67,7 +67,7 @@ module _ (task : Task) (was : Option FileMap) (first reader : ReaderSeen) (buffe
         let i = subst (λ (v : HeadView). InParts task was mid ns ws (cut_all (record_length_of v.bytes) (concat blocks)) (cut_all (record_length_of v.bytes) (concat blocks))) same_head takes in
         let fine = subst (λ (t : List ℕ). length t ≤ MAX_PARTS) i.numbers_are i.few in
         let bad = subst (λ (r : ReaderSeen). WhereKnown was r.name (λ file. IsBadPiece file r.left n)) ready ends.2 in
-        let number : reader.next + n ≡ n = omega (arith, ap (λ (r : ReaderSeen). r.next) ready, new_one) in
+        let number : reader.next + n ≡ n = omega (arith, ap (λ (r : ReaderSeen). r.next) ready, new_one.first) in
         let both = known_both was first.name (StandsFor first) (λ file. HoldOnly file (take n first.left) blocks) (λ file. StandsFor first file × HoldOnly file (take n first.left) blocks) (λ file st ho. (st, ho)) stands h.hold in (
           cut_all (record_length_of first.head.bytes) (concat blocks),
           i,

@@ -12,7 +12,7 @@ use Rattle.las_info.specs.Surveys.{IsShown, SurveySeen}
 use Rattle.las_info.specs.Tallies.{TapSeen}
 use Rattle.las_outside.specs.Files.{FileMap, WhereKnown}
 use Rattle.laz_file.specs.Pieces.{Piece}
-use Rattle.laz_file.specs.Reading.{AreWholeBlocks, ReaderSeen, StandsFor, records_in}
+use Rattle.laz_file.specs.Reading.{AreWholeBlocks, ReaderSeen, ReadsAll, StandsFor, records_in}
 use Rattle.laz_file.specs.Records.{HoldOnly, IsBadPiece}
 use Rattle.laz_file.specs.Copying.{AreOnlyRecords, EndsAfter, HoldFirst}
 use Rattle.laz_file.specs.Outputs.{records_after}
@@ -103,7 +103,13 @@ if_ok_then P Q (Ok x) to p = to x p
 if_ok_then P Q (Err e) to p = tt
 
 -- ---- the whole file
-pub all_shown : (held : Option FileMap) (first ready : ReaderSeen) (buffers : ℕ) (blocks : List (List ℕ)) (taps : List TapSeen) (survey : SurveySeen) → first.next ≡ 0 → ready ≡ record first { buffers = buffers } → WhereKnown held first.name (StandsFor first)
+-- a reader with a crew reads what it would have read without
+all_ready : (first ready : ReaderSeen) (buffers : ℕ) → ready ≡ record first { buffers = buffers } → ReadsAll first → ReadsAll ready
+all_ready first ready buffers is new =
+    let with_crew : ReadsAll (record first { buffers = buffers }) = record { all = new.all; first = new.first } in
+    subst ReadsAll (sym is) with_crew
+
+pub all_shown : (held : Option FileMap) (first ready : ReaderSeen) (buffers : ℕ) (blocks : List (List ℕ)) (taps : List TapSeen) (survey : SurveySeen) → ReadsAll first → ready ≡ record first { buffers = buffers } → WhereKnown held first.name (StandsFor first)
     → HoldFirst held ready (length ready.left) blocks → IsShown taps (records_after ready.head.bytes (concat blocks)) survey
     → WhereKnown held first.name (λ file. (bs : List (List ℕ)) × AreOnlyRecords file bs None × IsShown taps (records_after (head_of file) (concat bs)) survey)
 all_shown held first ready buffers blocks taps survey new is stands hold shown =
@@ -112,16 +118,16 @@ all_shown held first ready buffers blocks taps survey new is stands hold shown =
     (λ file s h.
     let r = stands_ready first ready buffers file is s in
     let head : ready.head.bytes ≡ head_of file = ap (λ (v : HeadView). v.bytes) r.head in
-    (blocks, all_records ready file r (ap (λ (x : ReaderSeen). x.next) is ∙ new) blocks h, subst (λ (b : List ℕ). IsShown taps (records_after b (concat blocks)) survey) head shown))
+    (blocks, all_records ready file r (all_ready first ready buffers is new) blocks h, subst (λ (b : List ℕ). IsShown taps (records_after b (concat blocks)) survey) head shown))
     stands here
 
-pub bad_shown : (held : Option FileMap) (first ready : ReaderSeen) (buffers n : ℕ) (blocks : List (List ℕ)) (cause : Refusal) → first.next ≡ 0 → ready ≡ record first { buffers = buffers } → WhereKnown held first.name (StandsFor first)
+pub bad_shown : (held : Option FileMap) (first ready : ReaderSeen) (buffers n : ℕ) (blocks : List (List ℕ)) (cause : Refusal) → ReadsAll first → ready ≡ record first { buffers = buffers } → WhereKnown held first.name (StandsFor first)
     → HoldFirst held ready n blocks → EndsAfter held ready n (Some cause)
     → WhereKnown held first.name (λ file. (bs : List (List ℕ)) × (i : ℕ) × (cause ≡ BadChunk i) × AreOnlyRecords file bs (Some i))
 bad_shown held first ready buffers n blocks cause new is stands hold ends =
     let named : ready.name ≡ first.name = ap (λ (r : ReaderSeen). r.name) is in
-    let starts : ready.next ≡ 0 = ap (λ (x : ReaderSeen). x.next) is ∙ new in
-    let number : ready.next + n ≡ n = omega arith in
+    let starts = all_ready first ready buffers is new in
+    let number : ready.next + n ≡ n = omega (arith, starts.first) in
     let here = subst (λ (m : List ℕ). WhereKnown held m (λ file. HoldOnly file (take n ready.left) blocks)) named hold.hold in
     let bad = subst (λ (m : List ℕ). WhereKnown held m (λ file. IsBadPiece file ready.left n)) named ends.2 in
     let both = known_both held first.name (λ file. HoldOnly file (take n ready.left) blocks) (λ file. IsBadPiece file ready.left n) (λ file. HoldOnly file (take n ready.left) blocks × IsBadPiece file ready.left n) (λ file h b. (h, b)) here bad in

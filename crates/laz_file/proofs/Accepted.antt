@@ -58,6 +58,26 @@ no_causes file accepted =
     let none = sym (first_is_tested (tested_causes file) None tests.0) in
     (both_none (causes_of file) (cond (is_packed (head_of file)) (vlr_causes (head_of file) ++ (has_bad_pointer file, cause.TablePointer) ∷ []) []) none).0
 
+-- the head of an accepted file goes on to its points
+pub head_long : (file : List ℕ) → IsAcceptedFile file → length (head_of file) ≡ point_offset_of file
+head_long file accepted =
+    let causes = both_none (front_causes file (length file)) (head_causes (head_of file) (length file)) (no_causes file accepted) in
+    length-take-le (point_offset_of file) file (accepted_front file (length file) causes.0).within
+
+-- it is a head
+pub accepted_is_head : (file : List ℕ) → IsAcceptedFile file → IsBytes file → IsHead (head_of file)
+accepted_is_head file accepted bytes =
+    let size = length file in
+    let offset = point_offset_of file in
+    let head = head_of file in
+    let causes = both_none (front_causes file size) (head_causes head size) (no_causes file accepted) in
+    let front = accepted_front file size causes.0 in
+    let fine = accepted_head head size causes.1 in
+    let least : 227 ≤ offset = omega (arith, front.header_size, front.after, least_any (minor_of file)) in
+    let front_none : first_cause (front_causes (take 227 file) size) ≡ None = ap first_cause (front_decides file size) ∙ causes.0 in
+    let can = can_read file offset size least front.within front_none (sym (number_at-take 4 96 227 file (omega arith))) in
+    is_head head size (points_fit head (IsBytes-take offset file bytes) fine.counts) can.accepted can.whole causes.1
+
 pub plain_file : (file : List ℕ) → IsAcceptedFile file → is_packed (head_of file) ≡ false → IsBytes file → IsPlainFile file
 plain_file file accepted plain bytes =
     let size = length file in

@@ -17,8 +17,8 @@ use Rattle.laz_table.specs.VlrCauses.{chunk_size_of, extra_of, is_counted, lacks
 use Rattle.las_header.specs.Vlrs.{laszip_vlrs_of}
 use Rattle.std.proofs.lemmas.Bool.{eqb-true}
 use Rattle.laz_table.specs.declared.chunks.Blocks.TheVariants.{Fixed, Counted}
-use Rattle.laz_file.specs.Pieces.{ArePieces, ArePiecesIf, pieces_from}
-use Rattle.laz_file.specs.Reading.{IsHeadOf, IsTablePlace, LiesIn, pieces_listed, plain_from, points_in}
+use Rattle.laz_file.specs.Pieces.{ArePieces, ArePiecesIf, pieces_from, plain_from}
+use Rattle.laz_file.specs.Reading.{IsHeadOf, IsTablePlace, LiesIn, pieces_listed, points_in}
 use Rattle.laz_file.specs.Refusing.{IsAcceptedFile, IsRefusal, blocks_in, chunk_causes, chunks_place, has_bad_pointer, table_end, table_part, table_place, tested_causes}
 use Rattle.laz_file.proofs.PieceLists.{pieces_lie, plain_lie}
 

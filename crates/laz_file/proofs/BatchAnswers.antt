@@ -15,7 +15,7 @@ use Rattle.laz_workers.specs.Rooms.{RoomSeen, StandsIn, answer_in, number_of, nu
 use Rattle.laz_workers.specs.Run.{EveryInputFits}
 use Rattle.laz_workers.specs.Work.{HoldsAnswer}
 use Rattle.laz_workers.proofs.Standing.{answer_there}
-use Rattle.laz_file.specs.Pieces.{Piece, piece_bytes, pieces_from}
+use Rattle.laz_file.specs.Pieces.{Piece, piece_bytes, pieces_from, whole_piece}
 use Rattle.laz_file.specs.Reading.{StandInRooms}
 use Rattle.laz_file.specs.Unpacking.{FitsUnpacked, HoldsNone, HoldsOnly, IsInput, UnpackAnswer, chunk_in, count_in, unpack_input}
 
@@ -105,7 +105,7 @@ pub pieces_from-take : (n at : ℕ) (counts sizes : List ℕ) → pieces_from at
 pieces_from-take zero at counts sizes = refl
 pieces_from-take (suc n) at [] sizes = refl
 pieces_from-take (suc n) at (c ∷ counts) [] = refl
-pieces_from-take (suc n) at (c ∷ counts) (s ∷ sizes) = ap (λ (t : List Piece). record { start = at; size = s; count = c } ∷ t) (pieces_from-take n (at + s) counts sizes)
+pieces_from-take (suc n) at (c ∷ counts) (s ∷ sizes) = ap (λ (t : List Piece). whole_piece at s c ∷ t) (pieces_from-take n (at + s) counts sizes)
 
 pub front_piece : (n at : ℕ) (counts sizes : List ℕ) (k : ℕ) (d : Piece) → k < n → get_or (pieces_from at (take n counts) (take n sizes)) k d ≡ get_or (pieces_from at counts sizes) k d
 front_piece n at counts sizes k d lt = ap (λ (t : List Piece). get_or t k d) (pieces_from-take n at counts sizes) ∙ get_or-take n (pieces_from at counts sizes) k d lt
@@ -114,7 +114,7 @@ front_piece n at counts sizes k d lt = ap (λ (t : List Piece). get_or t k d) (p
 pub cut_short : (l : Layout) (file : List ℕ) (at : ℕ) (counts sizes : List ℕ) (n : ℕ) → length counts ≡ length sizes → n < length counts → All (LiesIn file) (pieces_from at counts sizes) → ((bytes : List ℕ) → length bytes ≡ get_or sizes n 0 → HoldsNone l (get_or counts n 0) bytes)
     → (d : Piece) → HoldsNone l (get_or counts n 0) (piece_bytes file (get_or (pieces_from at counts sizes) n d))
 cut_short l file at counts sizes n same lt lie none d =
-    let p : Piece = record { start = at + sum (take n sizes); size = get_or sizes n 0; count = get_or counts n 0 } in
+    let p : Piece = whole_piece (at + sum (take n sizes)) (get_or sizes n 0) (get_or counts n 0) in
     subst (λ (q : Piece). HoldsNone l (get_or counts n 0) (piece_bytes file q)) (sym (piece_at at counts sizes n d same lt))
     (none (piece_bytes file p) (length_part file p.start p.size (lies_at file at counts sizes n same lt lie)))
 

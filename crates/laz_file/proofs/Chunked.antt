@@ -1,7 +1,7 @@
 -- The chunks of blocks of records: their sizes, their table, and the pieces that they are.
 use Rattle.std.proofs.Common.{◌≡◌, ℕ, ◌+◌, ◌*◌, ◌-◌, ◌<◌, ◌≤◌, ◌==◌, sum, Bool, true, false, List, [], ◌∷◌, ◌++◌, length, map, take, drop, None, inr, refl, sym, ap, subst, ◌∙◌, arith, append_assoc}
 use Rattle.std.proofs.lemmas.Bool.{cond-false, ne_eqb}
-use Rattle.std.proofs.lemmas.List.{drop-drop, drop_at, take_at}
+use Rattle.std.proofs.lemmas.List.{drop-drop, drop_at, take_all, take_at}
 use Rattle.std.proofs.lemmas.List.Concat.{concat_is, length-flat_map}
 use Rattle.std.proofs.lemmas.List.Sums.{sum-map}
 use Rattle.std.proofs.Math.Nat.{mul-le-mul}
@@ -19,8 +19,8 @@ use Rattle.laz_table.specs.VlrCauses.{chunk_count}
 use Rattle.laz_table.proofs.TableBytes.{fixed-bytes}
 use Rattle.laz_table.proofs.TableLaws.{holds-fixed, one-held}
 use Rattle.laz_file.specs.Packing.{record_layout}
-use Rattle.laz_file.specs.Pieces.{Piece, piece_bytes, pieces_from}
-use Rattle.laz_file.specs.Records.{HoldBlocks, HoldsBlock, HoldsIf}
+use Rattle.laz_file.specs.Pieces.{Piece, piece_bytes, pieces_from, whole_piece}
+use Rattle.laz_file.specs.Records.{HoldBlocks, HoldsBlock, HoldsChunk, HoldsIf, cut_block}
 use Rattle.laz_file.proofs.Blocks.{AreBlocks}
 
 -- what lists have in all
@@ -79,12 +79,19 @@ module _ (chunk points : ℕ) (sizes : List ℕ) (few : length sizes < 429496729
   }
 
 -- ---- the pieces of a file that has the chunks
+-- a whole piece takes all of its block
+pub whole_cut : (long at size count : ℕ) (block : List ℕ) → length block ≡ long * count → block ≡ cut_block long (whole_piece at size count) block
+whole_cut long at size count block same =
+    let none : long * 0 ≡ 0 = omega arith in
+    sym (take_all (long * count) block (omega (arith, same))) ∙ ap (λ (n : ℕ). take (long * count) (drop n block)) (sym none)
+
 module _ (file : List ℕ) (packed : is_packed (head_of file) ≡ true) where
   l : Layout
   l = record_layout (head_of file)
 
-  holds_block : (piece : Piece) (block : List ℕ) → HoldsIf true file piece block → HoldsBlock file piece block
-  holds_block piece block h = subst (λ (b : Bool). HoldsIf b file piece block) (sym packed) h
+  -- a whole piece holds the block that its chunk holds
+  holds_block : (at size count : ℕ) (block : List ℕ) → HoldsChunk (head_of file) count (piece_bytes file (whole_piece at size count)) block → HoldsBlock file (whole_piece at size count) block
+  holds_block at size count block h = subst (λ (b : Bool). HoldsIf b file (whole_piece at size count) block) (sym packed) (block, h, whole_cut (record_length (record_layout (head_of file))) at size count block h.are.length)
 
   pub pieces_hold : (most at : ℕ) (counts : List ℕ) (blocks : List (List ℕ)) (rest : List ℕ) → AreBlocks (record_layout (head_of file)) most counts blocks
       → drop at file ≡ concat (map (chunk_bytes (record_layout (head_of file))) blocks) ++ rest
@@ -99,7 +106,7 @@ module _ (file : List ℕ) (packed : is_packed (head_of file) ≡ true) where
       let from : drop at file ≡ bytes ++ more = there ∙ append_assoc bytes (concat (map (chunk_bytes layout) blocks)) rest in
       let part : take (length bytes) (drop at file) ≡ bytes = ap (λ (t : List ℕ). take (length bytes) t) from ∙ take_at bytes more (length bytes) refl in
       let next : drop (at + length bytes) file ≡ more = sym (drop-drop (length bytes) at file) ∙ ap (λ (t : List ℕ). drop (length bytes) t) from ∙ drop_at bytes more (length bytes) refl in (
-        holds_block (record { start = at; size = length bytes; count = n }) b (record {
+        holds_block at (length bytes) n b (record {
           are = are.2;
           holds = subst (λ (t : List ℕ). Holds layout t b) (sym part) (chunk-holds layout n b are.0 are.2);
         }),

@@ -54,10 +54,10 @@ whole_both size [] qs (x ∷ xs) ys one two = absurd one
 whole_both size (p ∷ ps) qs [] ys one two = absurd one
 whole_both size (p ∷ ps) qs (x ∷ xs) ys one two = (one.0, whole_both size ps qs xs ys one.1 two)
 
-pub records-cons : (p : Piece) (ps : List Piece) → records_in (p ∷ ps) ≡ p.count + records_in ps
+pub records-cons : (p : Piece) (ps : List Piece) → records_in (p ∷ ps) ≡ p.taken + records_in ps
 records-cons p ps =
-    let f = λ (q : Piece). q.count in
-    sum-map f (p ∷ ps) ∙ sum_by-cons f p ps ∙ ap (λ (n : ℕ). p.count + n) (sym (sum-map f ps))
+    let f = λ (q : Piece). q.taken in
+    sum-map f (p ∷ ps) ∙ sum_by-cons f p ps ∙ ap (λ (n : ℕ). p.taken + n) (sym (sum-map f ps))
 
 pub records-append : (ps qs : List Piece) → records_in (ps ++ qs) ≡ records_in ps + records_in qs
 records-append [] qs = omega arith
@@ -75,7 +75,7 @@ even_whole size [] [] w = All-nil (λ (block : List ℕ). length block % size �
 even_whole size [] (x ∷ xs) w = absurd w
 even_whole size (p ∷ ps) [] w = absurd w
 even_whole size (p ∷ ps) (x ∷ xs) w =
-    All-cons (λ (block : List ℕ). length block % size ≡ 0) x xs (ap (λ (n : ℕ). n % size) w.0 ∙ mul-mod_right size p.count) (even_whole size ps xs w.1)
+    All-cons (λ (block : List ℕ). length block % size ≡ 0) x xs (ap (λ (n : ℕ). n % size) w.0 ∙ mul-mod_right size p.taken) (even_whole size ps xs w.1)
 
 -- records that are read first, and all that are read of the file: these begin with those
 pub read_begins : (file : List ℕ) (pieces : List Piece) (n : ℕ) (blocks others : List (List ℕ)) (bad : Option ℕ) → n ≤ length pieces → HoldOnly file (take n pieces) blocks → AreRead file pieces others bad
@@ -148,7 +148,7 @@ pub record ReadsMore (held : Option FileMap) (old new : ReaderSeen) (n : ℕ) (b
   pub within : n ≤ length old.left
   pub whole : AreWholeBlocks (record_length_of old.head.bytes) (take n old.left) blocks
   pub hold : WhereKnown held old.name (λ file. HoldOnly file (take n old.left) blocks)
-  pub moved : new ≡ record old { left = drop n old.left; next = old.next + n; lent = new.lent }
+  pub moved : new ≡ record old { next = old.next + n; left = drop n old.left; bad = new.bad; cuts = new.cuts; lent = new.lent }
 
 pub read_more : (held : Option FileMap) (first old new : ReaderSeen) (n m : ℕ) (xs ys : List (List ℕ)) → HasRead held first old n xs → ReadsMore held old new m ys → HasRead held first new (n + m) (xs ++ ys)
 read_more held first old new n m xs ys r s =
@@ -176,7 +176,7 @@ read_more held first old new n m xs ys r s =
 pub end_all : (held : Option FileMap) (first reader : ReaderSeen) (n : ℕ) (blocks : List (List ℕ)) → HasRead held first reader n blocks → reader.left ≡ [] → EndsAfter held first n None
 end_all held first reader n blocks r none = omega (arith, ap (λ (ps : List Piece). length ps) (sym r.left ∙ none), length-drop n first.left, r.hold.within)
 
-slice_get-drop : (n : ℕ) (ps : List Piece) → slice_get (drop n ps) 0 ≡ slice_get ps n
+pub slice_get-drop : (n : ℕ) (ps : List Piece) → slice_get (drop n ps) 0 ≡ slice_get ps n
 slice_get-drop zero ps = refl
 slice_get-drop (suc n) [] = refl
 slice_get-drop (suc n) (p ∷ ps) = slice_get-drop n ps

@@ -15,7 +15,7 @@ use Rattle.las_header.specs.Refusals.{first_cause}
 use Rattle.laz_file.specs.Hands.{chunks_packed, hands_for}
 use Rattle.laz_file.specs.Outputs.{finished, stopped}
 use Rattle.laz_file.specs.Packing.{blocks_of, packed_file}
-use Rattle.laz_file.specs.Pieces.{pieces_from, plain_pieces}
+use Rattle.laz_file.specs.Pieces.{pieces_from, plain_pieces, whole_piece}
 use Rattle.laz_file.specs.Refusing.{chunks_place, has_bad_pointer, table_end, table_part, table_place, tested_causes}
 
 -- a LAS 1.2 head of 227 bytes and format 0, whose points are first returns
@@ -95,10 +95,10 @@ no_block : blocks_of 2 [] ≡ []
 no_block = refl
 
 three_pieces : pieces_from 10 (2 ∷ 2 ∷ 1 ∷ []) (44 ∷ 31 ∷ 24 ∷ [])
-    ≡ record { start = 10; size = 44; count = 2 } ∷ record { start = 54; size = 31; count = 2 } ∷ record { start = 85; size = 24; count = 1 } ∷ []
+    ≡ whole_piece 10 44 2 ∷ whole_piece 54 31 2 ∷ whole_piece 85 24 1 ∷ []
 three_pieces = refl
 
-one_piece : plain_pieces one ≡ record { start = 227; size = 20; count = 1 } ∷ []
+one_piece : plain_pieces one ≡ whole_piece 227 20 1 ∷ []
 unfolding number_at
 one_piece = refl
 

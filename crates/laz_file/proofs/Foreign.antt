@@ -15,7 +15,7 @@ use Rattle.las_header.specs.Numbers.{number_at}
 use Rattle.las_header.proofs.ConditionLemmas.{IsFirst-append_none, IsFirst-tests}
 use Rattle.laz_table.specs.Chunks.{IsAccepted, LacksTable}
 use Rattle.laz_chunk.proofs.Bounds.{chunk-least}
-use Rattle.laz_file.specs.Pieces.{Piece, pieces_from}
+use Rattle.laz_file.specs.Pieces.{Piece, pieces_from, whole_piece}
 use Rattle.laz_file.specs.Records.{AreRecordsOf, HoldBlocks, HoldsBlock, Unpacks}
 use Rattle.laz_file.specs.Refusing.{IsAcceptedFile, IsRefusal, blocks_in, chunk_causes, chunks_place, table_part, table_place, tested_causes}
 use Rattle.laz_file.proofs.Chunked.{pieces_hold, table_accepted}
@@ -90,11 +90,11 @@ accepted_short =
     (IsFirst-tests (tested_causes short)) table_of_short.fine
 
 abbrev piece : Piece
-piece = record { start = 329; size = 23; count = 1 }
+piece = whole_piece 329 23 1
 
 bad_chunk : (block : List ℕ) → HoldsBlock short piece block → ⊥
 unfolding number_at
-bad_chunk block holds = let long : 24 ≤ 23 = chunk-least _ (take 23 (drop 329 short)) block holds.holds in absurd (omega (arith, long))
+bad_chunk block holds = let long : 24 ≤ 23 = chunk-least _ (take 23 (drop 329 short)) holds.0 holds.1.holds in absurd (omega (arith, long))
 
 first_chunk_bad : AreRecordsOf short [] (Some 0)
 unfolding number_at

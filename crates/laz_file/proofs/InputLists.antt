@@ -10,7 +10,7 @@ use Rattle.las_header.proofs.NumberLemmas.{reads_back}
 use Rattle.las_outside.specs.Outside.{Outside, Later}
 use Rattle.laz_workers.specs.Work.{texts}
 use Rattle.laz_workers.proofs.Texts.{length-texts}
-use Rattle.laz_file.specs.Pieces.{Piece, pieces_from}
+use Rattle.laz_file.specs.Pieces.{Piece, pieces_from, whole_piece}
 use Rattle.laz_file.specs.Reading.{LiesIn}
 use Rattle.laz_file.specs.Unpacking.{IsInput}
 use Rattle.laz_file.proofs.PieceLists.{length-pieces}
@@ -39,18 +39,18 @@ at_set P inputs i v within so_far here k lt =
     ])
 
 -- the pieces one by one
-pub piece_at : (at : ℕ) (counts sizes : List ℕ) (k : ℕ) (d : Piece) → length counts ≡ length sizes → k < length counts → get_or (pieces_from at counts sizes) k d ≡ record { start = at + sum (take k sizes); size = get_or sizes k 0; count = get_or counts k 0 }
+pub piece_at : (at : ℕ) (counts sizes : List ℕ) (k : ℕ) (d : Piece) → length counts ≡ length sizes → k < length counts → get_or (pieces_from at counts sizes) k d ≡ whole_piece (at + sum (take k sizes)) (get_or sizes k 0) (get_or counts k 0)
 piece_at at [] sizes k d same lt = absurd (omega arith)
 piece_at at (n ∷ counts) [] k d same lt = absurd (omega arith)
-piece_at at (n ∷ counts) (s ∷ sizes) zero d same lt = λ i. record { start = sym (add-zero at) i; size = s; count = n }
+piece_at at (n ∷ counts) (s ∷ sizes) zero d same lt = λ i. whole_piece (sym (add-zero at) i) s n
 piece_at at (n ∷ counts) (s ∷ sizes) (suc k) d same lt =
     let e : at + s + sum (take k sizes) ≡ at + sum (s ∷ take k sizes) = omega (arith, sum-first s (take k sizes)) in
-    piece_at (at + s) counts sizes k d (omega arith) (omega arith) ∙ (λ i. record { start = e i; size = get_or sizes k 0; count = get_or counts k 0 })
+    piece_at (at + s) counts sizes k d (omega arith) (omega arith) ∙ (λ i. whole_piece (e i) (get_or sizes k 0) (get_or counts k 0))
 
 -- where a piece lies
 pub lies_at : (file : List ℕ) (at : ℕ) (counts sizes : List ℕ) (k : ℕ) → length counts ≡ length sizes → k < length counts → All (LiesIn file) (pieces_from at counts sizes) → at + sum (take k sizes) + get_or sizes k 0 ≤ length file
 lies_at file at counts sizes k same lt all =
-    let d : Piece = record { start = 0; size = 0; count = 0 } in
+    let d : Piece = whole_piece 0 0 0 in
     subst (LiesIn file) (piece_at at counts sizes k d same lt) (all k d (subst (λ (n : ℕ). k < n) (sym (length-pieces at counts sizes same)) lt))
 
 pub end_within : (sizes : List ℕ) (i : ℕ) → i < length sizes → sum (take i sizes) + get_or sizes i 0 ≤ sum sizes

@@ -32,6 +32,12 @@ pub mod Filling
 pub mod Heads
 pub mod TableFront
 pub mod PieceLists
+pub mod Kept
+pub mod Parts
+pub mod AllParts
+pub mod Opened
+pub mod Sought
+pub mod Asking
 pub mod Accepting
 pub mod Joins
 pub mod InputLists
@@ -43,3 +49,6 @@ pub mod Copies
 pub mod Endings
 pub mod Batches
 pub mod WholeOutputs
+pub mod RangeLaws
+pub mod Slices
+pub mod SliceLaw

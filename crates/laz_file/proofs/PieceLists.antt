@@ -1,16 +1,18 @@
 -- Pieces one after another, and where they lie.
-use Rattle.std.proofs.Common.{◌≡◌, ℕ, zero, suc, ◌+◌, ◌-◌, ◌*◌, ◌<◌, ◌≤◌, min, List, [], ◌∷◌, length, map, true, false, Option, Some, None, refl, sym, ◌∙◌, ap, arith}
+use Rattle.std.proofs.Common.{◌≡◌, ℕ, zero, suc, ◌+◌, ◌-◌, ◌*◌, ◌<◌, ◌≤◌, min, List, [], ◌∷◌, length, map, take, true, false, Option, Some, None, refl, sym, ◌∙◌, ap, arith}
 use Rattle.std.specs.Prelude.{sum, All}
 use Rattle.std.specs.List.{range_with_len}
 use Rattle.std.proofs.lemmas.List.Elements.{All-nil, All-cons}
-use Rattle.std.proofs.lemmas.List.{length-map}
+use Rattle.std.proofs.lemmas.List.{length-map, length-take, take_all}
 use Rattle.std.proofs.Math.Nat.{mul-le-mul}
 use Rattle.laz_table.specs.Chunks.{fixed_sizes}
 use Rattle.laz_table.specs.VlrCauses.{chunk_count}
-use Rattle.laz_file.specs.Pieces.{Piece, pieces_from}
+use Rattle.laz_file.specs.Pieces.{Piece, pieces_from, plain_from, whole_piece}
+use Rattle.laz_file.specs.Ranges.{whole_range}
+use Rattle.laz_file.proofs.Kept.{left_whole}
 use Rattle.laz_file.proofs.Sums.{sum-first, sum-sizes, sum-times}
-use Rattle.laz_file.specs.Reading.{AgreesWithHead, AreChunkLists, IsHeadOf, IsInPlace, LiesIn, ListsPieces, StandsFor, chunk_of, chunks_in, pieces_listed, plain_from, records_in}
-use Rattle.las_header.specs.Fields.{is_packed, points_of}
+use Rattle.laz_file.specs.Reading.{AgreesWithHead, IsInPlace, LiesIn, Position, chunk_of, chunks_in, pieces_left, pieces_listed, records_in}
+use Rattle.las_header.specs.Fields.{is_packed, points_of, record_length_of}
 use Rattle.las_header.specs.Heads.{HeadView}
 use Rattle.las_header.specs.Vlrs.{laszip_vlrs_of}
 
@@ -20,7 +22,7 @@ pieces_lie file at [] sizes h = All-nil (LiesIn file)
 pieces_lie file at (n ∷ counts) [] h = All-nil (LiesIn file)
 pieces_lie file at (n ∷ counts) (s ∷ sizes) h =
     let first = sum-first s sizes in
-    All-cons (LiesIn file) (record { start = at; size = s; count = n }) (pieces_from (at + s) counts sizes) (omega arith) (pieces_lie file (at + s) counts sizes (omega arith))
+    All-cons (LiesIn file) (whole_piece at s n) (pieces_from (at + s) counts sizes) (omega arith) (pieces_lie file (at + s) counts sizes (omega arith))
 
 -- one piece for each count and size
 pub length-pieces : (at : ℕ) (counts sizes : List ℕ) → length counts ≡ length sizes → length (pieces_from at counts sizes) ≡ length counts
@@ -43,7 +45,7 @@ counts_first n some =
     ∙ ap (λ (m : ℕ). min 50000 m ∷ fixed_sizes 50000 (n - 50000)) whole
 
 -- they add up
-summed : (size n : ℕ) → sum (map (λ m. size * m) (fixed_sizes 50000 n)) ≡ size * n
+pub summed : (size n : ℕ) → sum (map (λ m. size * m) (fixed_sizes 50000 n)) ≡ size * n
 summed size n = sum-times size (fixed_sizes 50000 n) ∙ ap (λ (m : ℕ). size * m) (sum-sizes 50000 n (omega arith))
 
 pub plain_lie : (file : List ℕ) (size at n : ℕ) → at + size * n ≤ length file → All (LiesIn file) (plain_from size at n)
@@ -54,34 +56,34 @@ sum_none [] e = refl
 sum_none (x ∷ xs) e = absurd (omega arith)
 
 -- the numbers of a new reader
-pub placed_plain : (size points offset total : ℕ) (counts sizes : List ℕ) → AreChunkLists counts sizes total → counts ≡ [] → size ≤ 226 → points < 4294967296 → offset < 4294967296 → IsInPlace size offset points 0 0 counts sizes
-placed_plain size points offset total counts sizes lists none small few near =
+abbrev pub start_of : (at records last : ℕ) → Position
+start_of at records last = record { at = at; blocks = 0; records = records; ends = record { first = 0; last = last; skip = 0; tail = 0 }; next = 0; batch = 0; bad = false }
+
+pub placed_plain : (size points offset : ℕ) (counts sizes : List ℕ) → length counts ≡ length sizes → counts ≡ [] → size ≤ 226 → points < 4294967296 → offset < 4294967296 → IsInPlace size (start_of offset points (length counts)) counts sizes
+placed_plain size points offset counts sizes same none small few near =
     let no_counts : length counts ≡ 0 = ap (λ (l : List ℕ). length l) none in
-    let no_sizes = sum_none sizes (omega (arith, lists.same, no_counts)) in
+    let no_sizes : sum (take (length counts - 0) sizes) ≡ 0 = sum_none (take (length counts - 0) sizes) (omega (arith, length-take (length counts - 0) sizes, no_counts)) in
     let most : size * points ≤ 226 * 4294967296 = mul-le-mul {n₁ = size} {m₁ = points} {n₂ = 226} {m₂ = 4294967296} small (omega arith) in
-    record { same = lists.same; few = lists.few; within = omega arith; near = omega (arith, no_sizes, most, near); number = omega (arith, no_counts) }
+    record { first = omega arith; batch = omega arith; next = omega arith; last = omega arith; front = omega arith; near = omega (arith, no_sizes, most, near); number = omega (arith, no_counts); bad = λ is. absurd (cc) }
 
-pub placed_packed : (size offset total : ℕ) (counts sizes : List ℕ) → AreChunkLists counts sizes total → offset + 8 + sum sizes < 18446744073709551616 → IsInPlace size (offset + 8) 0 0 0 counts sizes
-placed_packed size offset total counts sizes lists near =
-    record { same = lists.same; few = lists.few; within = omega arith; near = omega (arith, near); number = omega (arith, lists.few) }
+pub placed_packed : (size place : ℕ) (counts sizes : List ℕ) → length counts ≡ length sizes → length counts ≤ 16777216 → place + sum sizes < 18446744073709551616 → IsInPlace size (start_of place 0 (length counts)) counts sizes
+placed_packed size place counts sizes same few near =
+    let all : sum (take (length counts - 0) sizes) ≡ sum sizes = ap sum (take_all (length counts - 0) sizes (omega (arith, same))) in
+    record { first = omega arith; batch = omega arith; next = omega arith; last = omega arith; front = omega arith; near = omega (arith, near, all); number = omega (arith, few); bad = λ is. absurd (cc) }
 
-chunks_are : (chunk : Option ℕ) (head counts sizes : List ℕ) → length counts ≡ length sizes → (chunk ≡ None → counts ≡ []) → length counts ≡ chunks_in chunk (pieces_listed chunk head counts sizes)
-chunks_are None head counts sizes same none = ap (λ (l : List ℕ). length l) (none refl)
-chunks_are (Some chunk) head counts sizes same none = sym (length-pieces (length head + 8) counts sizes same)
+-- what is left for it
+pub left_first : (chunk : Option ℕ) (head counts sizes : List ℕ) (at records : ℕ) → length counts ≡ length sizes → (chunk ≡ None → (at ≡ length head) × (records ≡ points_of head)) → ((size : ℕ) → chunk ≡ Some size → at ≡ length head + 8)
+    → pieces_left chunk (record_length_of head) (start_of at records (length counts)) counts sizes ≡ pieces_listed chunk head counts sizes
+left_first None head counts sizes at records same plain packed =
+    let is = plain refl in
+    ap (λ (n : ℕ). plain_from (record_length_of head) n records) is.0 ∙ ap (plain_from (record_length_of head) (length head)) is.1
+left_first (Some c) head counts sizes at records same plain packed =
+    left_whole (record { first = 0; last = length counts; skip = 0; tail = 0 }) refl refl at counts sizes same refl
+    ∙ ap (λ (n : ℕ). pieces_from n counts sizes) (packed c refl)
 
--- a new reader stands for its file
-pub new_stands : (file name : List ℕ) (head : HeadView) (chunk : Option ℕ) (counts sizes : List ℕ) (total : ℕ) → IsHeadOf file head → chunk ≡ chunk_of head.bytes → ListsPieces file chunk head.bytes counts sizes → AreChunkLists counts sizes total → (chunk ≡ None → counts ≡ [])
-    → StandsFor (record { name = name; head = head; chunk = chunk; chunks = length counts; left = pieces_listed chunk head.bytes counts sizes; next = 0; failed = false; buffers = 0; lent = [] }) file
-new_stands file name head chunk counts sizes total h chunk_is lists same none = record {
-  accepted = lists.accepted;
-  head = λ i. record { bytes = h.bytes i; size = h.size i };
-  chunk = chunk_is ∙ ap chunk_of h.bytes;
-  pieces = pieces_listed chunk head.bytes counts sizes;
-  are = lists.are;
-  left = refl;
-  lie = lists.lie;
-  chunks = chunks_are chunk head.bytes counts sizes same.same none;
-}
+pub chunks_are : (chunk : Option ℕ) (head counts sizes : List ℕ) → (chunk ≡ None → counts ≡ []) → pieces_from (length head + 8) counts sizes ≡ chunks_in chunk (pieces_listed chunk head counts sizes)
+chunks_are None head counts sizes none = ap (λ (l : List ℕ). pieces_from (length head + 8) l sizes) (none refl)
+chunks_are (Some chunk) head counts sizes none = refl
 
 -- the pieces have the records that are counted
 pub piece_counts : (at : ℕ) (counts sizes : List ℕ) → length counts ≡ length sizes → map (λ (p : Piece). p.count) (pieces_from at counts sizes) ≡ counts
@@ -89,19 +91,32 @@ piece_counts at [] sizes e = refl
 piece_counts at (n ∷ counts) [] e = absurd (omega arith)
 piece_counts at (n ∷ counts) (s ∷ sizes) e = ap (λ (l : List ℕ). n ∷ l) (piece_counts (at + s) counts sizes (omega arith))
 
+pub piece_taken : (at : ℕ) (counts sizes : List ℕ) → length counts ≡ length sizes → map (λ (p : Piece). p.taken) (pieces_from at counts sizes) ≡ counts
+piece_taken at [] sizes e = refl
+piece_taken at (n ∷ counts) [] e = absurd (omega arith)
+piece_taken at (n ∷ counts) (s ∷ sizes) e = ap (λ (l : List ℕ). n ∷ l) (piece_taken (at + s) counts sizes (omega arith))
+
+pub piece_sizes : (at : ℕ) (counts sizes : List ℕ) → length counts ≡ length sizes → map (λ (p : Piece). p.size) (pieces_from at counts sizes) ≡ sizes
+piece_sizes at [] [] e = refl
+piece_sizes at [] (s ∷ sizes) e = absurd (omega arith)
+piece_sizes at (n ∷ counts) [] e = absurd (omega arith)
+piece_sizes at (n ∷ counts) (s ∷ sizes) e = ap (λ (l : List ℕ). s ∷ l) (piece_sizes (at + s) counts sizes (omega arith))
+
 all_listed : (chunk : Option ℕ) (head counts sizes : List ℕ) → length counts ≡ length sizes → ((size : ℕ) → chunk ≡ Some size → sum counts ≡ points_of head) → records_in (pieces_listed chunk head counts sizes) ≡ points_of head
 all_listed None head counts sizes same points =
     let blocks = fixed_sizes 50000 (points_of head) in
-    ap sum (piece_counts (length head) blocks _ (sym (length-map blocks _))) ∙ sum-sizes 50000 (points_of head) (omega arith)
-all_listed (Some chunk) head counts sizes same points = ap sum (piece_counts (length head + 8) counts sizes same) ∙ points chunk refl
+    ap sum (piece_taken (length head) blocks _ (sym (length-map blocks _))) ∙ sum-sizes 50000 (points_of head) (omega arith)
+all_listed (Some chunk) head counts sizes same points = ap sum (piece_taken (length head + 8) counts sizes same) ∙ points chunk refl
 
 -- a new reader agrees with its head
 pub new_agrees : (name : List ℕ) (head : HeadView) (chunk : Option ℕ) (counts sizes : List ℕ) → chunk ≡ chunk_of head.bytes → (is_packed head.bytes ≡ true → length (laszip_vlrs_of head.bytes) ≡ 1) → (is_packed head.bytes ≡ false → laszip_vlrs_of head.bytes ≡ [])
     → length counts ≡ length sizes → ((size : ℕ) → chunk ≡ Some size → sum counts ≡ points_of head.bytes)
-    → AgreesWithHead (record { name = name; head = head; chunk = chunk; chunks = length counts; left = pieces_listed chunk head.bytes counts sizes; next = 0; failed = false; buffers = 0; lent = [] })
+    → AgreesWithHead (record { name = name; head = head; chunk = chunk; pieces = pieces_from (length head.bytes + 8) counts sizes; range = whole_range head.bytes; first = 0; next = 0; left = pieces_listed chunk head.bytes counts sizes; bad = false; failed = false; buffers = 0; cuts = []; lent = [] })
 new_agrees name head chunk counts sizes chunk_is one none same points = record {
   chunk = chunk_is;
   one = one;
   none = none;
-  records = all_listed chunk head.bytes counts sizes same points;
+  order = omega arith;
+  within = omega arith;
+  records = all_listed chunk head.bytes counts sizes same points ∙ (let all : points_of head.bytes ≡ points_of head.bytes - 0 = omega arith in all);
 }

@@ -45,6 +45,17 @@ front_of_table file first bytes start end long most le within long_is first_is l
     (cases_lt long most))
     (cases_lt long 8)
 
+-- what is read is no more than a table takes that begins so
+pub short_front : (first bytes : List ℕ) (long most : ℕ) → length first ≡ min long 8 → length bytes ≡ min long most → take (length first) bytes ≡ first → (8 ≤ length first → most ≡ table_size first) → length bytes ≤ table_size bytes
+short_front first bytes long most first_long bytes_long front most_is = elim (cases_lt long 8) [
+  | inl short ↦ omega (arith, short, bytes_long)
+  | inr enough ↦
+      let eight : length first ≡ 8 = omega (arith, first_long, enough) in
+      let same : number_at 4 4 first ≡ number_at 4 4 bytes = ap (number_at 4 4) (sym front ∙ ap (λ (n : ℕ). take n bytes) eight) ∙ number_at-take 4 4 8 bytes (omega arith) in
+      let size : most ≡ table_size bytes = most_is (omega (arith, eight)) ∙ ap (λ (n : ℕ). 12 + 24 * min n 16777216) same in
+      omega (arith, bytes_long, size)
+]
+
 module _ (blocks : Blocks) (few : AreFewChunks blocks) (part : List ℕ) where
   at_number : (n : ℕ) → number_at 4 4 part ≡ n → n ≤ 16777216 → table_size part ≡ 12 + 24 * n
   at_number n is le = let m : min (number_at 4 4 part) 16777216 ≡ n = omega arith in ap (λ (k : ℕ). 12 + 24 * k) m
@@ -128,7 +139,7 @@ accepted_lists bytes blocks total sizes counts few a =
     }
 
 -- so are the points
-points_summed : (bytes : List ℕ) (blocks : Blocks) (total : ℕ) → IsFirst (table_causes bytes blocks total) None → HasOtherPoints bytes blocks → ⊥
+pub points_summed : (bytes : List ℕ) (blocks : Blocks) (total : ℕ) → IsFirst (table_causes bytes blocks total) None → HasOtherPoints bytes blocks → ⊥
 points_summed bytes blocks total is other = elim is [
   | inl lacks ↦ some_is_none _ lacks.1
   | inr has ↦ elim has.1 [

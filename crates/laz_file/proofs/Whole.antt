@@ -58,7 +58,7 @@ same_bad file pieces xs ys i j before bad hold worse = elim (cases_lt i j) [
   ]
 ]
 
-once : (file : List ℕ) (pieces : List Piece) (blocks : List (List ℕ)) (bad : Option ℕ) → HoldOnly file (pieces_before bad pieces) blocks → IsBadIf bad file pieces
+pub once : (file : List ℕ) (pieces : List Piece) (blocks : List (List ℕ)) (bad : Option ℕ) → HoldOnly file (pieces_before bad pieces) blocks → IsBadIf bad file pieces
     → (others : List (List ℕ)) (worse : Option ℕ) → AreRead file pieces others worse → (others ≡ blocks) × (worse ≡ bad)
 once file pieces blocks None holds bad others None read = (holds.only others read, refl)
 once file pieces blocks None holds bad others (Some j) read = absurd (not_bad file pieces j read.1 (λ piece e. holds_at file pieces blocks j piece holds.hold e))

@@ -1,5 +1,5 @@
 -- Whole files that were packed or unpacked, or not.
-use Rattle.std.proofs.Common.{◌≡◌, ◌≢◌, ◌⊎◌, inl, inr, ℕ, ◌+◌, ◌*◌, ◌≤◌, Bool, true, false, cond, List, [], ◌++◌, length, map, take, drop, Option, Some, None, Result, Ok, Err, IfErr, OnOk, refl, sym, ◌∙◌, ap, subst, arith}
+use Rattle.std.proofs.Common.{◌≡◌, ◌≢◌, ◌⊎◌, inl, inr, ℕ, ◌+◌, ◌-◌, ◌*◌, ◌≤◌, Bool, true, false, cond, List, [], ◌++◌, length, map, take, drop, Option, Some, None, Result, Ok, Err, IfErr, OnOk, refl, sym, ◌∙◌, ap, subst, arith}
 use Rattle.std.specs.Prelude.{IsSome}
 use Rattle.std.specs.List.{concat}
 use Rattle.std.proofs.lemmas.List.{take_all}
@@ -16,10 +16,12 @@ use Rattle.laz_file.specs.Copying.{AreOnlyRecords, EndsCopying, Finishes, HoldFi
 use Rattle.laz_file.specs.Outputs.{Output, finished, front, stopped}
 use Rattle.laz_file.specs.Packing.{pack, packed_file}
 use Rattle.laz_file.specs.Pieces.{Piece, piece_bytes}
-use Rattle.laz_file.specs.Reading.{ReaderSeen, StandsFor}
+use Rattle.laz_file.specs.Reading.{ReaderSeen, ReadsAll, StandsFor}
+use Rattle.laz_file.specs.Ranges.{Range, parts_of, whole_range}
 use Rattle.laz_file.specs.Records.{AreRead, AreRecordsOf, HoldOnly, IsBadPiece}
 use Rattle.laz_file.specs.Writing.{Stands, Stops, WriterSeen}
 use Rattle.laz_file.proofs.Accepted.{plain_records}
+use Rattle.laz_file.proofs.AllParts.{all_of}
 use Rattle.laz_file.proofs.Arms.{held_text}
 use Rattle.laz_file.proofs.Copies.{read_begins}
 use Rattle.laz_file.proofs.Endings.{leaves_part}
@@ -40,14 +42,22 @@ stands_ready first reader buffers file is s = subst (λ (r : ReaderSeen). Stands
   chunk = s.chunk;
   pieces = s.pieces;
   are = s.are;
+  chunks = s.chunks;
+  all_lie = s.all_lie;
+  begun = s.begun;
+  first = s.first;
   left = s.left;
   lie = s.lie;
-  chunks = s.chunks;
+  bad = s.bad;
 })
 
-module _ (first : ReaderSeen) (file : List ℕ) (s : StandsFor first file) (new : first.next ≡ 0) where
-  left_is : first.left ≡ s.pieces
-  left_is = s.left ∙ ap (λ (n : ℕ). drop n s.pieces) new
+module _ (first : ReaderSeen) (file : List ℕ) (s : StandsFor first file) (new : ReadsAll first) where
+  -- all pieces are left to a new reader
+  pub left_is : first.left ≡ s.pieces
+  left_is =
+      let none : first.next - first.first ≡ 0 = omega (arith, new.first) in
+      let range : first.range ≡ whole_range (head_of file) = new.all ∙ ap (λ (h : HeadView). whole_range h.bytes) s.head in
+      s.left ∙ ap (λ (n : ℕ). drop n (parts_of file first.range s.pieces)) none ∙ ap (λ (r : Range). parts_of file r s.pieces) range ∙ (all_of file s.pieces s.are).0
 
   -- what is read of it is all that can be read of it
   pub all_records : (blocks : List (List ℕ)) → HoldOnly file (take (length first.left) first.left) blocks → AreOnlyRecords file blocks None
@@ -122,7 +132,7 @@ no_chunk None none some = absurd (cc)
 no_chunk (Some n) none some = absurd (cc)
 
 -- ---- an output that was created, and then filled with the records of a new reader
-module _ (old mid new : Outside) (first reader : ReaderSeen) (buffers : ℕ) (ready : reader ≡ record first { buffers = buffers }) (new_one : first.next ≡ 0) (w : WriterSeen) (out : Output) (s : Stands old mid w out []) (ne : first.name ≢ out.name) (stands : WhereKnown old.held first.name (StandsFor first)) where
+module _ (old mid new : Outside) (first reader : ReaderSeen) (buffers : ℕ) (ready : reader ≡ record first { buffers = buffers }) (new_one : ReadsAll first) (w : WriterSeen) (out : Output) (s : Stands old mid w out []) (ne : first.name ≢ out.name) (stands : WhereKnown old.held first.name (StandsFor first)) where
   written : (text : List ℕ) × (mid.held ≡ with_file old.held out.name text)
   written = let h = held_text old mid w out [] s in (h.0, ap (λ (o : Outside). o.held) h.1)
 
@@ -152,7 +162,7 @@ module _ (old mid new : Outside) (first reader : ReaderSeen) (buffers : ℕ) (re
       known_before old.held out.name written.0 first.name (λ file. IsBadPiece file first.left r.0) ne
       (subst (λ (k : Option FileMap). WhereKnown k first.name (λ file. IsBadPiece file first.left r.0)) written.1
       (subst (λ (x : ReaderSeen). WhereKnown mid.held x.name (λ file. IsBadPiece file x.left r.0)) ready r.3.2)) in
-      let number : reader.next + r.0 ≡ r.0 = omega (arith, ap (λ (x : ReaderSeen). x.next) ready, new_one) in
+      let number : reader.next + r.0 ≡ r.0 = omega (arith, ap (λ (x : ReaderSeen). x.next) ready, new_one.first) in
       known_both old.held first.name (λ file. StandsFor first file × HoldOnly file (take r.0 first.left) r.1) (λ file. IsBadPiece file first.left r.0)
       (λ file. (blocks : List (List ℕ)) × (i : ℕ) × (cause ≡ BadChunk i) × AreOnlyRecords file blocks (Some i) × (new.held ≡ with_file old.held out.name (stopped out (concat blocks))))
       (λ file a b. (r.1, r.0, r.3.0 ∙ ap BadChunk number, records_before first file a.0 new_one r.0 r.1 a.1 b, r.4))

@@ -1,5 +1,5 @@
 -- Laws of files.
-use Rattle.std.specs.Prelude.{◌≡◌, ℕ, ◌*◌, ◌^◌, ◌<◌, ◌≤◌, true, false, if◌then◌else◌, List, [], ◌++◌, length}
+use Rattle.std.specs.Prelude.{◌≡◌, ℕ, ◌-◌, ◌*◌, ◌^◌, ◌<◌, ◌≤◌, ◌↔◌, true, false, if◌then◌else◌, List, [], ◌++◌, length}
 use Rattle.std.specs.Prelude.{map, take, drop, Option, Some, None}
 use Rattle.std.specs.List.{concat}
 use Rattle.las_header.specs.declared.limits.TheConstants.{MAX_PLAIN_OFFSET}
@@ -16,7 +16,8 @@ use Rattle.laz_table.specs.Chunks.{fixed_sizes}
 use Rattle.laz_file.specs.Outputs.{Output, finished, records_after}
 use Rattle.laz_file.specs.Packing.{chunk_blocks, chunks_of, pack, packed_file}
 use Rattle.laz_file.specs.Pieces.{ArePieces, Piece, piece_bytes, pieces_from}
-use Rattle.laz_file.specs.Records.{HoldOnly, AreRecordsOf, HoldBlocks, IsBadPiece, Unpacks}
+use Rattle.laz_file.specs.Ranges.{Range, first_of, parts_of, whole_range}
+use Rattle.laz_file.specs.Records.{HoldOnly, AreRecordsIn, AreRecordsOf, HoldBlocks, IsBadPiece, Unpacks, moved}
 use Rattle.laz_file.specs.Refusing.{IsAcceptedFile, IsRefusal, chunks_place}
 
 -- A file is refused for at most one cause.
@@ -104,6 +105,32 @@ IsReadOnce = (file : List ℕ) (pieces : List Piece) (blocks : List (List ℕ)) 
     → HoldOnly file (pieces_before bad pieces) blocks → IsBadIf bad file pieces
     → (others : List (List ℕ)) (worse : Option ℕ) → AreRecordsOf file others worse
     → (others ≡ blocks) × (worse ≡ bad)
+
+-- The records of the range of all places are the records of the file.
+abbrev pub IsWholeOfAll : Type 0
+IsWholeOfAll = (file : List ℕ) (blocks : List (List ℕ)) (bad : Option ℕ)
+    → AreRecordsIn file (whole_range (head_of file)) blocks bad ↔ AreRecordsOf file blocks bad
+
+-- Records of a range that are read piece by piece are its only ones, and so is the first bad piece that meets it.
+abbrev pub IsRangeReadOnce : Type 0
+IsRangeReadOnce = (file : List ℕ) (range : Range) (pieces : List Piece) (blocks : List (List ℕ)) (bad : Option ℕ)
+    → ArePieces file pieces → HoldOnly file (pieces_before bad (parts_of file range pieces)) blocks
+    → IsBadIf bad file (parts_of file range pieces)
+    → (others : List (List ℕ)) (worse : Option ℕ) → AreRecordsIn file range others worse
+    → (others ≡ blocks) × (worse ≡ moved (first_of file range pieces) bad)
+
+-- The records of a range of an accepted file, all of whose chunks hold records, are that slice of its records.
+abbrev pub IsSliceOfRecords : Type 0
+IsSliceOfRecords = (file : List ℕ) (range : Range) (blocks : List (List ℕ)) → IsAcceptedFile file → IsBytes file
+    → range.start ≤ range.stop → range.stop ≤ points_of (head_of file) → AreRecordsOf file blocks None
+    → let size = record_length_of (head_of file) in
+    (parts : List (List ℕ)) × AreRecordsIn file range parts None
+    × (concat parts ≡ take (size * (range.stop - range.start)) (drop (size * range.start) (concat blocks)))
+
+-- No chunk meets an empty range: it has no records, and no bad chunk.
+abbrev pub IsEmptyRange : Type 0
+IsEmptyRange = (file : List ℕ) (range : Range) (blocks : List (List ℕ)) (bad : Option ℕ)
+    → range.stop ≤ range.start → AreRecordsIn file range blocks bad → (blocks ≡ []) × (bad ≡ None)
 
 -- The packed form of an accepted plain file has no bad piece.
 abbrev pub HasNoBadPiece : Type 0

@@ -13,6 +13,7 @@ pub mod Packing
 pub mod Outputs
 pub mod Refusing
 pub mod Pieces
+pub mod Ranges
 pub mod Records
 pub mod Laws
 pub mod Writing
@@ -21,3 +22,4 @@ pub mod Unpacking
 pub mod Reading
 pub mod Copying
 pub mod Hands
+pub mod Asking

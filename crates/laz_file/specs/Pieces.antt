@@ -6,28 +6,39 @@ use Rattle.laz_table.specs.Chunks.{IsAccepted, fixed_sizes}
 use Rattle.laz_file.specs.declared.limits.TheConstants.{PLAIN_BLOCK}
 use Rattle.laz_file.specs.Refusing.{blocks_in, chunks_place, table_part, table_place}
 
--- a piece of a file: where it begins, its number of bytes, and its number of records
+-- A piece of a file: where it begins, its number of bytes and of records, and which of these are taken: how many are
+-- left out at its front, and how many are taken then.
 pub record Piece : Type 0 where
   pub start : ℕ
   pub size : ℕ
   pub count : ℕ
+  pub skip : ℕ
+  pub taken : ℕ
 
--- pieces one after another from a place on, with these numbers of records and of bytes
+-- a piece of which all records are taken
+abbrev pub whole_piece : (start size count : ℕ) → Piece
+whole_piece start size count = record { start = start; size = size; count = count; skip = 0; taken = count }
+
+-- pieces one after another from a place on, with these numbers of records and of bytes, all taken whole
 abbrev pub pieces_from : ℕ → (counts sizes : List ℕ) → List Piece
 pieces_from at [] sizes = []
 pieces_from at (n ∷ counts) [] = []
 pieces_from at (n ∷ counts) (s ∷ sizes) =
-    record { start = at; size = s; count = n } ∷ pieces_from (at + s) counts sizes
+    whole_piece at s n ∷ pieces_from (at + s) counts sizes
 
 -- the bytes of a piece
 abbrev pub piece_bytes : (file : List ℕ) → Piece → List ℕ
 piece_bytes file piece = take piece.size (drop piece.start file)
 
+-- the pieces of this many records of a plain file, from a place on
+abbrev pub plain_from : (size at records : ℕ) → List Piece
+plain_from size at records =
+    let counts = fixed_sizes PLAIN_BLOCK records in pieces_from at counts (map (λ n. size * n) counts)
+
 -- the pieces of a plain file
 abbrev pub plain_pieces : (file : List ℕ) → List Piece
 plain_pieces file =
-    let counts = fixed_sizes PLAIN_BLOCK (points_of (head_of file)) in
-    pieces_from (point_offset_of file) counts (map (λ n. record_length_of (head_of file) * n) counts)
+    plain_from (record_length_of (head_of file)) (point_offset_of file) (points_of (head_of file))
 
 -- the pieces of a packed file: its chunks, as its table has them
 abbrev pub ArePackedPieces : (file : List ℕ) → List Piece → Type 0

@@ -1,9 +1,9 @@
 -- What contracts see of a reader, for which file it stands, and what calls that read leave.
-use Rattle.std.specs.Prelude.{◌≡◌, ◌⊎◌, ℕ, ◌+◌, ◌*◌, ◌≤◌, ◌<◌, ◌^◌, Bool, true, false, if◌then◌else◌, List, []}
+use Rattle.std.specs.Prelude.{◌≡◌, ◌⊎◌, ℕ, ◌+◌, ◌-◌, ◌*◌, ◌≤◌, ◌<◌, ◌^◌, Bool, true, false, if◌then◌else◌, List, []}
 use Rattle.std.specs.Prelude.{◌∷◌, ◌++◌}
 use Rattle.std.specs.Prelude.{length}
 use Rattle.std.specs.Prelude.{map, drop}
-use Rattle.std.specs.Prelude.{min, sum, take, Option, Some, None, All, slice_index_or}
+use Rattle.std.specs.Prelude.{min, sum, take, Option, Some, None, IsSome, All, slice_index_or}
 use Rattle.las_header.specs.Heads.{HeadView}
 use Rattle.las_header.specs.Fields.{head_of, is_packed, points_of, record_length_of}
 use Rattle.las_header.specs.Refusals.{causes_of, first_cause}
@@ -14,17 +14,18 @@ use Rattle.las_header.specs.Numbers.{number_at}
 use Rattle.laz_table.specs.declared.chunks.Blocks.{Blocks}
 use Rattle.laz_table.specs.declared.chunks.Blocks.TheVariants.{Fixed, Counted}
 use Rattle.laz_table.specs.declared.limits.TheConstants.{MAX_CHUNK_BYTES, MAX_CHUNKS, MIN_TABLE_BYTES}
-use Rattle.laz_table.specs.Chunks.{IsChunkCount, fixed_sizes}
+use Rattle.laz_table.specs.Chunks.{IsChunkCount}
 use Rattle.laz_table.specs.VlrCauses.{chunk_size_of}
 use Rattle.laz_chunk.specs.Layouts.{Format, record_length}
 use Rattle.laz_workers.specs.Numbers.{times}
 use Rattle.laz_workers.specs.Rooms.{HandSeen, RoomSeen, answer_in, lengths_of, number_of, numbers_in, rooms_of}
 use Rattle.laz_file.specs.declared.fault.Fault.{Fault}
 use Rattle.laz_file.specs.declared.fault.Fault.TheVariants.{Refused, Read, Write, Memory}
-use Rattle.laz_file.specs.declared.limits.TheConstants.{PLAIN_BLOCK}
 use Rattle.laz_file.specs.Packing.{format_in, record_layout}
-use Rattle.laz_file.specs.Pieces.{ArePieces, Piece, pieces_from}
-use Rattle.laz_file.specs.Records.{AreRead, HoldBlocks}
+use Rattle.laz_file.specs.Pieces.{ArePieces, Piece, pieces_from, plain_from}
+use Rattle.laz_file.specs.Ranges.{Range, first_of, left_of, parts_of, whole_range}
+use Rattle.laz_file.specs.declared.seeking.Ends.{Ends}
+use Rattle.laz_file.specs.Records.{AreRead, HoldBlocks, IsBadPiece, moved}
 use Rattle.laz_file.specs.Refusing.{IsAcceptedFile, has_bad_pointer, table_end, table_place}
 
 -- What a call that only reads leaves of the outside, if it ends with this fault. A missing name is an outside as
@@ -73,73 +74,98 @@ pub record AreChunkLists (counts sizes : List ℕ) (total : ℕ) : Type 0 where
   pub few : length counts ≤ MAX_CHUNKS
   pub whole : sum sizes ≡ total
 
--- the pieces of this many records of a plain file, from a place on
-abbrev pub plain_from : (size at records : ℕ) → List Piece
-plain_from size at records =
-    let counts = fixed_sizes PLAIN_BLOCK records in pieces_from at counts (map (λ n. size * n) counts)
-
 -- the chunk size of a packed file, and none of a plain one
 abbrev pub chunk_of : (head : List ℕ) → Option ℕ
 chunk_of head = if is_packed head then Some (chunk_size_of head) else None
 
--- the pieces that are left to read: of a packed file as many as are listed, of a plain one those of this many records
-abbrev pub pieces_left : (chunk : Option ℕ) → (size at records : ℕ) → (counts sizes : List ℕ) → List Piece
-pieces_left None size at records counts sizes = plain_from size at records
-pieces_left (Some chunk) size at records counts sizes = pieces_from at counts sizes
-
--- where the pieces of a file begin whose head ends here: those of a packed file after the pointer
-abbrev pub pieces_place : (chunk : Option ℕ) → (offset : ℕ) → ℕ
-pieces_place None offset = offset
-pieces_place (Some chunk) offset = offset + 8
-
--- the pieces of a file with this head, in which a packed file lists its chunks so
+-- the pieces of a file with this head, in which a packed file lists its chunks so, after the eight bytes of the pointer
 abbrev pub pieces_listed : (chunk : Option ℕ) → (head : List ℕ) → (counts sizes : List ℕ) → List Piece
-pieces_listed chunk head counts sizes =
-    pieces_left chunk (record_length_of head) (pieces_place chunk (length head)) (points_of head) counts sizes
+pieces_listed None head counts sizes = plain_from (record_length_of head) (length head) (points_of head)
+pieces_listed (Some chunk) head counts sizes = pieces_from (length head + 8) counts sizes
 
--- how many chunks a file with these pieces has: none, if it is plain
-abbrev pub chunks_in : (chunk : Option ℕ) → (pieces : List Piece) → ℕ
-chunks_in None pieces = 0
-chunks_in (Some chunk) pieces = length pieces
+-- Where a reader stands: where the next piece begins; how many blocks of a plain file were read, and how many of its
+-- records are left; of a packed file which chunks are read, the number of the next one, that of the first one of the
+-- last batch, and whether the next one is known to be bad.
+pub record Position : Type 0 where
+  pub at : ℕ
+  pub blocks : ℕ
+  pub records : ℕ
+  pub ends : Ends
+  pub next : ℕ
+  pub batch : ℕ
+  pub bad : Bool
 
--- What contracts see of a reader: the file's name, its head, its chunk size and its number of chunks; the pieces that
--- are left to read, and the number of the first of them; whether it has failed; for how many inputs it has buffers; and
--- the block of a plain file that it lends.
+-- the pieces that are left to read: of a packed file of those that are listed, of a plain one those of its records
+abbrev pub pieces_left : (chunk : Option ℕ) → (size : ℕ) → Position → (counts sizes : List ℕ) → List Piece
+pieces_left None size position counts sizes = plain_from size position.at position.records
+pieces_left (Some chunk) size position counts sizes = left_of position.ends position.next position.at counts sizes
+
+-- the chunks of a file with these pieces: none, if it is plain
+abbrev pub chunks_in : (chunk : Option ℕ) → (pieces : List Piece) → List Piece
+chunks_in None pieces = []
+chunks_in (Some chunk) pieces = pieces
+
+-- What contracts see of a reader: the file's name, its head and its chunk size; all chunks of a packed file, and none of
+-- a plain one; the places of the records that it reads, and the number of the first piece that has some of them; the
+-- number of the next piece, and the pieces that are left to read; whether the next one is known to be bad, and whether
+-- the reader has failed; for how many inputs it has buffers; of each chunk of the last batch how many records are left
+-- out at its front, and how many are lent; and the block of a plain file that it lends.
 pub record ReaderSeen : Type 0 where
   pub name : List ℕ
   pub head : HeadView
   pub chunk : Option ℕ
-  pub chunks : ℕ
-  pub left : List Piece
+  pub pieces : List Piece
+  pub range : Range
+  pub first : ℕ
   pub next : ℕ
+  pub left : List Piece
+  pub bad : Bool
   pub failed : Bool
   pub buffers : ℕ
+  pub cuts : List (ℕ × ℕ)
   pub lent : List ℕ
 
--- How the numbers of a reader belong together: the lists of its chunks, of which the first `next` were read, where the
--- next piece begins, how many blocks of a plain file were read, and how many of its records are left.
-pub record IsInPlace (size at records blocks next : ℕ) (counts sizes : List ℕ) : Type 0 where
+-- The chunks of a reader: their lists, after a head that ends at `offset`. A packed file has as many points in them as
+-- its head counts, and a plain file has none.
+pub record AreListed (chunk : Option ℕ) (offset points : ℕ) (counts sizes : List ℕ) : Type 0 where
   pub same : length counts ≡ length sizes
   pub few : length counts ≤ MAX_CHUNKS
-  pub within : next ≤ length counts
-  pub near : at + sum (drop next sizes) + size * records < 2 ^ 64
-  pub number : length counts + blocks + records < 2 ^ 32
+  pub near : (size : ℕ) → chunk ≡ Some size → offset + 8 + sum sizes < 2 ^ 64
+  pub some : All (λ n. 0 < n) counts
+  pub all : (size : ℕ) → chunk ≡ Some size → sum counts ≡ points
+  pub plain : chunk ≡ None → counts ≡ []
+
+-- How the numbers of a reader belong together.
+pub record IsInPlace (size : ℕ) (position : Position) (counts sizes : List ℕ) : Type 0 where
+  pub first : position.ends.first ≤ position.batch
+  pub batch : position.batch ≤ position.next
+  pub next : position.next ≤ position.ends.last
+  pub last : position.ends.last ≤ length counts
+  pub front : position.ends.skip ≤ slice_index_or counts position.ends.first 0
+  pub near : position.at + sum (take (position.ends.last - position.next) (drop position.next sizes))
+      + size * position.records < 2 ^ 64
+  pub number : length counts + position.blocks + position.records < 2 ^ 32
+  pub bad : position.bad ≡ true → (position.ends.first < position.next) × (position.next < position.ends.last)
 
 -- a piece lies in the file
 abbrev pub LiesIn : (file : List ℕ) → Piece → Type 0
 LiesIn file piece = piece.start + piece.size ≤ length file
 
 -- The reader stands for the file: this is accepted, its head is the reader's, and the pieces that are left to read are
--- the file's from the next one on.
+-- those of the range from the next one on. A chunk that is known to be bad holds no records of its count.
 pub record StandsFor (reader : ReaderSeen) (file : List ℕ) : Type 0 where
   pub accepted : IsAcceptedFile file
   pub head : reader.head ≡ record { bytes = head_of file; size = length file }
   pub chunk : reader.chunk ≡ chunk_of (head_of file)
   pub pieces : List Piece
   pub are : ArePieces file pieces
-  pub left : reader.left ≡ drop reader.next pieces
+  pub chunks : reader.pieces ≡ chunks_in reader.chunk pieces
+  pub all_lie : All (LiesIn file) pieces
+  pub begun : reader.first ≤ reader.next
+  pub first : reader.first ≡ first_of file reader.range pieces
+  pub left : reader.left ≡ drop (reader.next - reader.first) (parts_of file reader.range pieces)
   pub lie : All (LiesIn file) reader.left
-  pub chunks : reader.chunks ≡ chunks_in reader.chunk pieces
+  pub bad : reader.bad ≡ true → IsBadPiece file reader.left 0
 
 -- The file is accepted, its pieces are these, and each lies in it.
 pub record ListsPieces (file : List ℕ) (chunk : Option ℕ) (head counts sizes : List ℕ) : Type 0 where
@@ -147,47 +173,61 @@ pub record ListsPieces (file : List ℕ) (chunk : Option ℕ) (head counts sizes
   pub are : ArePieces file (pieces_listed chunk head counts sizes)
   pub lie : All (LiesIn file) (pieces_listed chunk head counts sizes)
 
--- A new reader has read nothing, has not failed, and has no buffers yet.
-pub record IsNewReader (name : List ℕ) (reader : ReaderSeen) : Type 0 where
+-- A fresh reader has read nothing, has not failed, and has no buffers yet: it may have sought a range.
+pub record IsFreshReader (name : List ℕ) (reader : ReaderSeen) : Type 0 where
   pub named : reader.name ≡ name
-  pub first : reader.next ≡ 0
+  pub unread : reader.next ≡ reader.first
   pub sound : reader.failed ≡ false
   pub unprepared : reader.buffers ≡ 0
   pub empty : reader.lent ≡ []
 
--- how many records pieces have, in all
-abbrev pub records_in : List Piece → ℕ
-records_in pieces = sum (map (λ piece. piece.count) pieces)
+-- A reader is to read all records of its file, and has read none of them.
+pub record ReadsAll (reader : ReaderSeen) : Type 0 where
+  pub all : reader.range ≡ whole_range reader.head.bytes
+  pub first : reader.next ≡ 0
 
--- A new reader agrees with its head, whether the files are known or not: it has the chunk size of the head; there is
--- one laszip VLR if the file is packed, and none if it is plain; and the pieces have as many records as the head
--- counts.
+-- A new reader is fresh, and is to read all records of its file.
+pub record IsNewReader (name : List ℕ) (reader : ReaderSeen) : Type 0 where
+  pub named : reader.name ≡ name
+  pub unread : reader.next ≡ reader.first
+  pub sound : reader.failed ≡ false
+  pub unprepared : reader.buffers ≡ 0
+  pub empty : reader.lent ≡ []
+  pub whole : ReadsAll reader
+
+-- how many records are taken of pieces, in all
+abbrev pub records_in : List Piece → ℕ
+records_in pieces = sum (map (λ piece. piece.taken) pieces)
+
+-- A fresh reader agrees with its head, whether the files are known or not: it has the chunk size of the head; there is
+-- one laszip VLR if the file is packed, and none if it is plain; the range is one of records that the head counts, and
+-- the pieces have as many records as the range.
 pub record AgreesWithHead (reader : ReaderSeen) : Type 0 where
   pub chunk : reader.chunk ≡ chunk_of reader.head.bytes
   pub one : is_packed reader.head.bytes ≡ true → length (laszip_vlrs_of reader.head.bytes) ≡ 1
   pub none : is_packed reader.head.bytes ≡ false → laszip_vlrs_of reader.head.bytes ≡ []
-  pub records : records_in reader.left ≡ points_of reader.head.bytes
+  pub order : reader.range.start ≤ reader.range.stop
+  pub within : reader.range.stop ≤ points_of reader.head.bytes
+  pub records : records_in reader.left ≡ reader.range.stop - reader.range.start
 
--- Blocks are whole records of one length, each as many as its piece has.
+-- Blocks are whole records of one length, each as many as its piece takes.
 abbrev pub AreWholeBlocks : (size : ℕ) → List Piece → (blocks : List (List ℕ)) → Type 0
 AreWholeBlocks size [] [] = Unit {0}
 AreWholeBlocks size [] (b ∷ blocks) = ⊥
 AreWholeBlocks size (p ∷ pieces) [] = ⊥
-AreWholeBlocks size (p ∷ pieces) (b ∷ blocks) = (length b ≡ size * p.count) × AreWholeBlocks size pieces blocks
+AreWholeBlocks size (p ∷ pieces) (b ∷ blocks) = (length b ≡ size * p.taken) × AreWholeBlocks size pieces blocks
 
--- If the file is packed: rooms of these lengths are enough for the block of each piece.
-abbrev pub HaveRoom : (chunk : Option ℕ) → (size : ℕ) → List Piece → (lengths : List ℕ) → Type 0
-HaveRoom None size pieces lengths = Unit {0}
-HaveRoom (Some chunk) size pieces lengths = All (λ n. All (λ piece. size * piece.count ≤ n) pieces) lengths
+-- Rooms of these lengths are enough for the records of each piece.
+abbrev pub HaveRoom : (size : ℕ) → List Piece → (lengths : List ℕ) → Type 0
+HaveRoom size pieces lengths = All (λ n. All (λ piece. size * piece.count ≤ n) pieces) lengths
 
 -- A crew of this reader: it has at least one hand, as many as the reader has buffers for, two each; spaces of the
--- reader's format; and rooms for each chunk that is left to read.
+-- reader's format; and rooms for each chunk of the file.
 pub record IsCrewOf (reader : ReaderSeen) (crew : List (HandSeen Format)) : Type 0 where
   pub hands : 0 < length crew
   pub buffers : reader.buffers ≡ 2 * length crew
   pub spaces : All (λ hand. hand.space ≡ format_in reader.head.bytes) crew
-  pub rooms : HaveRoom reader.chunk (record_length (record_layout reader.head.bytes)) reader.left
-      (lengths_of (rooms_of crew))
+  pub rooms : HaveRoom (record_length (record_layout reader.head.bytes)) reader.pieces (lengths_of (rooms_of crew))
 
 -- Blocks stand in rooms as answers, each under its number: the number of each of them stands in exactly one room.
 pub record StandInRooms (rooms : List RoomSeen) (blocks : List (List ℕ)) : Type 0 where
@@ -195,23 +235,30 @@ pub record StandInRooms (rooms : List RoomSeen) (blocks : List (List ℕ)) : Typ
   pub answers : (k : ℕ) → k < length blocks → All (λ room. number_of room.held ≡ Some k
       → answer_in room.bytes room.held ≡ Some (slice_index_or blocks k [])) rooms
 
--- The reader and the crew lend these blocks: chunks stand in the crew's rooms, and a plain file's block in the reader.
-abbrev pub LendsIf : (chunk : Option ℕ) → (lent : List ℕ) → List RoomSeen → (blocks : List (List ℕ)) → Type 0
-LendsIf None lent rooms blocks = (k : ℕ) → k < length blocks → slice_index_or blocks k [] ≡ lent
-LendsIf (Some chunk) lent rooms blocks = StandInRooms rooms blocks
+-- Blocks are parts of others: of each some records, of this many bytes, are left out at its front, and some are taken.
+pub record AreCutFrom (size : ℕ) (cuts : List (ℕ × ℕ)) (wholes blocks : List (List ℕ)) : Type 0 where
+  pub same : length wholes ≡ length blocks
+  pub cut : length cuts ≡ length blocks
+  pub within : (k : ℕ) (d : ℕ × ℕ) → k < length blocks → let cut = slice_index_or cuts k d in
+      size * (cut.0 + cut.1) ≤ length (slice_index_or wholes k [])
+  pub parts : (k : ℕ) (d : ℕ × ℕ) → k < length blocks → let cut = slice_index_or cuts k d in
+      slice_index_or blocks k [] ≡ take (size * cut.1) (drop (size * cut.0) (slice_index_or wholes k []))
+
+-- The reader and the crew lend these blocks: they are parts of answers in the crew's rooms, and a plain file's block
+-- stands in the reader.
+abbrev pub LendsIf : (chunk : Option ℕ) → ReaderSeen → List RoomSeen → (blocks : List (List ℕ)) → Type 0
+LendsIf None reader rooms blocks = (k : ℕ) → k < length blocks → slice_index_or blocks k [] ≡ reader.lent
+LendsIf (Some chunk) reader rooms blocks =
+    (wholes : List (List ℕ)) × StandInRooms rooms wholes
+    × AreCutFrom (record_length_of reader.head.bytes) reader.cuts wholes blocks
 
 abbrev pub Lends : ReaderSeen → List (HandSeen Format) → (blocks : List (List ℕ)) → Type 0
-Lends reader crew blocks = LendsIf reader.chunk reader.lent (rooms_of crew) blocks
+Lends reader crew blocks = LendsIf reader.chunk reader (rooms_of crew) blocks
 
 -- how many pieces are read at once: two for each hand, and one of a plain file
 abbrev pub batch_size : (chunk : Option ℕ) → (hands : ℕ) → ℕ
 batch_size None hands = 1
 batch_size (Some chunk) hands = 2 * hands
-
--- a number of a piece in all pieces, by its number in those from the n-th on
-abbrev pub moved : (n : ℕ) → Option ℕ → Option ℕ
-moved n None = None
-moved n (Some i) = Some (n + i)
 
 -- Batches, one after another, are what is read up to the first piece that holds no records of its count: if the first
 -- n pieces hold some blocks, and of the others more are read, then of all pieces both are read.

@@ -1,5 +1,5 @@
 //! A batch of chunks: read, and unpacked by a crew.
-ghost use Rattle.std.specs.Prelude.{◌≡◌, ℕ, ◌+◌, ◌*◌, ◌^◌, ◌<◌, ◌≤◌, [], List, length, min, sum, All, slice_index};
+ghost use Rattle.std.specs.Prelude.{◌≡◌, ℕ, ◌+◌, ◌*◌, ◌^◌, ◌<◌, ◌≤◌, [], List, length, min, sum, take, All, slice_index};
 ghost use Rattle.std.specs.Prelude.{slice_index_or, IfErr, IfOk, IsErrOf, OnOk};
 ghost use Rattle.las_header.specs.declared.refusal.Refusal.{Refusal};
 ghost use Rattle.las_header.specs.declared.refusal.Refusal.TheVariants.{BadChunk};
@@ -7,6 +7,7 @@ ghost use Rattle.las_outside.specs.Files.{WhereKnown};
 ghost use Rattle.las_outside.specs.Outside.{Later};
 ghost use Rattle.laz_chunk.specs.Layouts.{layout, record_length};
 ghost use Rattle.laz_workers.specs.Rooms.{lengths_of, rooms_of};
+ghost use Rattle.laz_file.specs.Asking.{AsksAtMost};
 ghost use Rattle.laz_file.specs.declared.fault.Fault.TheVariants.{Refused};
 ghost use Rattle.laz_file.specs.Pieces.{Piece, piece_bytes, pieces_from};
 ghost use Rattle.laz_file.specs.Reading.{EndsReading, FailsReading, LiesIn, StandInRooms};
@@ -76,6 +77,8 @@ pub(crate) fn next_chunks<R: Threads + Sync, F: Files, G: Gate>(
     ensures ends { IfErr result (EndsReading ⊥ (F.seen files.old) (F.seen files.new)) }
     ensures held { (F.seen files.new).held ≡ (F.seen files.old).held }
     ensures writes { (F.seen files.new).write_faults ≡ (F.seen files.old).write_faults }
+    ensures asked { AsksAtMost (sum (take (min (2 * length crew.old) (length counts.now)) sizes.now))
+        (F.seen files.old) (F.seen files.new) }
     ensures later { Later (F.seen files.old) (F.seen files.new) }
 {
     let batch = batch_of(job, counts, sizes, inputs.len());
@@ -140,6 +143,7 @@ fn work_chunks<R: Threads + Sync, F: Files, G: Gate>(
     ensures ends { IfErr result (FailsReading (F.seen files.old) (F.seen files.new)) }
     ensures held { (F.seen files.new).held ≡ (F.seen files.old).held }
     ensures writes { (F.seen files.new).write_faults ≡ (F.seen files.old).write_faults }
+    ensures asked { AsksAtMost (sum sizes.now) (F.seen files.old) (F.seen files.new) }
     ensures later { Later (F.seen files.old) (F.seen files.new) }
 {
     read_inputs(files, name, place, counts, sizes, inputs)?;

@@ -1,5 +1,5 @@
 //! How many hands a crew is asked for: no more than there are chunks to come.
-ghost use Rattle.std.specs.Prelude.{◌≡◌, ◌<◌, ◌≤◌};
+ghost use Rattle.std.specs.Prelude.{◌≡◌, ◌<◌, ◌≤◌, length};
 ghost use Rattle.std.specs.Option.{ForSome};
 ghost use Rattle.laz_file.specs.Hands.{chunks_packed, hands_for};
 
@@ -22,7 +22,7 @@ impl Reader {
     /// chunk, and more hands than chunks would have nothing to do.
     pub fn hands(&self, workers: u32) -> u32
         requires { 1 ≤ workers }
-        ensures hands { result ≡ hands_for self.now.chunks workers }
+        ensures hands { result ≡ hands_for (length self.now.pieces) workers }
         ensures within { (1 ≤ result) × (result ≤ workers) }
     {
         hands_for(self.chunks(), workers)

@@ -6,6 +6,7 @@ ghost use Rattle.las_outside.specs.Files.{WhereKnown};
 ghost use Rattle.las_outside.specs.Outside.{Later};
 ghost use Rattle.laz_chunk.specs.Layouts.{layout};
 ghost use Rattle.laz_workers.specs.Work.{texts};
+ghost use Rattle.laz_file.specs.Asking.{AsksAtMost};
 ghost use Rattle.laz_file.specs.Pieces.{Piece, piece_bytes, pieces_from};
 ghost use Rattle.laz_file.specs.Reading.{FailsReading, LiesIn};
 ghost use Rattle.laz_file.specs.Unpacking.{HoldsNone, IsInput, unpack_input};
@@ -58,6 +59,7 @@ pub(crate) fn read_inputs<F: Files>(
     ensures ends { IfErr result (FailsReading (F.seen files.old) (F.seen files.new)) }
     ensures held { (F.seen files.new).held ≡ (F.seen files.old).held }
     ensures writes { (F.seen files.new).write_faults ≡ (F.seen files.old).write_faults }
+    ensures asked { AsksAtMost (sum sizes.now) (F.seen files.old) (F.seen files.new) }
     ensures later { Later (F.seen files.old) (F.seen files.new) }
 {
     let mut at = place;
@@ -85,6 +87,7 @@ fn read_input<F: Files>(
     ensures ends { IfErr result (FailsReading (F.seen files.old) (F.seen files.new)) }
     ensures held { (F.seen files.new).held ≡ (F.seen files.old).held }
     ensures writes { (F.seen files.new).write_faults ≡ (F.seen files.old).write_faults }
+    ensures asked { AsksAtMost size (F.seen files.old) (F.seen files.new) }
     ensures later { Later (F.seen files.old) (F.seen files.new) }
 {
     input.resize(4 + size as usize, 0)?;
@@ -109,6 +112,7 @@ fn fill_input<F: Files>(
     ensures ends { IfErr result (FailsReading (F.seen files.old) (F.seen files.new)) }
     ensures held { (F.seen files.new).held ≡ (F.seen files.old).held }
     ensures writes { (F.seen files.new).write_faults ≡ (F.seen files.old).write_faults }
+    ensures asked { AsksAtMost size (F.seen files.old) (F.seen files.new) }
     ensures later { Later (F.seen files.old) (F.seen files.new) }
 {
     let (front, chunk) = input.split_at_mut(4);

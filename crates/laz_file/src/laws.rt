@@ -2,6 +2,7 @@
 
 ghost use Rattle.laz_file.specs.Laws.{AreCounted, ArePackedChunks, HasNoBadPiece, HasOnePieces, IsAcceptedPack};
 ghost use Rattle.laz_file.specs.Laws.{IsAcceptedPlain, IsCountedFile, IsFinished, IsItsPlainForm, IsPackedAccepted};
+ghost use Rattle.laz_file.specs.Laws.{IsEmptyRange, IsRangeReadOnce, IsSliceOfRecords, IsWholeOfAll};
 ghost use Rattle.laz_file.specs.Laws.{IsReadOnce, IsRefusedOnce, ReadsBack, ReadsPlain, UnpacksAgain};
 
 /// A file is refused for at most one cause, and has at most one list of pieces. Records that are read of it piece by
@@ -10,6 +11,16 @@ pub fn files_have_one_answer()
     ensures refusal { IsRefusedOnce }
     ensures pieces { HasOnePieces }
     ensures records { IsReadOnce }
+{}
+
+/// The records of the range of all places are those of the file. Records of a range that are read piece by piece, if each
+/// piece holds one block alone, are its only ones, and so is the first bad piece that meets it. An empty range meets no
+/// chunk. Of a file whose chunks all hold records, the records of a range are that slice of all records.
+pub fn ranges_have_one_answer()
+    ensures whole { IsWholeOfAll }
+    ensures records { IsRangeReadOnce }
+    ensures none { IsEmptyRange }
+    ensures slice { IsSliceOfRecords }
 {}
 
 /// A finished output is its head and its records, packed or plain. Its head has the counts of its records, if they are

@@ -28,8 +28,11 @@ mod packed_end;
 mod packing;
 mod patch;
 mod put;
+mod ranges;
 mod reader;
 mod reading;
+mod seeking;
+mod spans;
 mod tally;
 mod unfinished;
 mod unpack_job;
@@ -41,7 +44,7 @@ pub use fault::Fault;
 pub use joining::batches_join;
 pub use laws::{
     files_are_packed_without_loss, files_are_read_whole, files_have_one_answer,
-    heads_and_records_are_accepted, outputs_are_finished,
+    heads_and_records_are_accepted, outputs_are_finished, ranges_have_one_answer,
 };
 pub use limits::PLAIN_BLOCK;
 pub use reader::Reader;

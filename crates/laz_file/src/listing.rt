@@ -1,6 +1,6 @@
 //! The chunks of a file, as a reader lists them.
 ghost use Rattle.std.specs.Prelude.{◌≡◌, ℕ, ◌+◌, ◌-◌, ◌^◌, ◌<◌, ◌≤◌, true, false, [], None, Some, length, sum};
-ghost use Rattle.std.specs.Prelude.{if◌then◌else◌};
+ghost use Rattle.std.specs.Prelude.{All, if◌then◌else◌};
 ghost use Rattle.std.specs.Prelude.{IfErr, IfOk, IsErrOf, OnOk};
 ghost use Rattle.las_header.specs.declared.refusal.Refusal.{Refusal};
 ghost use Rattle.las_header.specs.Fields.{is_packed, points_of};
@@ -10,6 +10,7 @@ ghost use Rattle.las_outside.specs.Files.{WhereKnown};
 ghost use Rattle.las_outside.specs.Outside.{Later};
 ghost use Rattle.laz_table.specs.declared.chunks.Blocks.TheVariants.{Fixed, Counted};
 ghost use Rattle.laz_table.specs.VlrCauses.{chunk_size_of, is_counted, vlr_causes};
+ghost use Rattle.laz_file.specs.Asking.{AsksAtMost, asked_for_chunks, asked_for_list};
 ghost use Rattle.laz_file.specs.declared.fault.Fault.TheVariants.{Refused};
 ghost use Rattle.laz_file.specs.Reading.{AreChunkLists, EndsReading, IsHeadOf, ListsPieces, chunk_of};
 ghost use Rattle.laz_file.specs.Refusing.{IsRefusal};
@@ -45,6 +46,7 @@ pub(crate) fn read_list<F: Files>(
     ensures points { IfOk result
         (λ list. (chunk : ℕ) → list.chunk ≡ Some chunk → sum list.counts.items ≡ points_of head.now.bytes) }
     ensures lists { IfOk result (λ list. AreChunkLists list.counts.items list.sizes.items (sum list.sizes.items)) }
+    ensures some { IfOk result (λ list. All (λ n. 0 < n) list.counts.items) }
     ensures near { IfOk result
         (λ list. (chunk : ℕ) → list.chunk ≡ Some chunk → length head.now.bytes + 8 + sum list.sizes.items < 2 ^ 64) }
     ensures plain { IfOk result (λ list. list.chunk ≡ None → list.counts.items ≡ []) }
@@ -56,6 +58,8 @@ pub(crate) fn read_list<F: Files>(
     ensures ends { IfErr result (EndsReading ⊥ (F.seen files.old) (F.seen files.new)) }
     ensures held { (F.seen files.new).held ≡ (F.seen files.old).held }
     ensures writes { (F.seen files.new).write_faults ≡ (F.seen files.old).write_faults }
+    ensures asked { IfOk result (λ list. AsksAtMost (asked_for_list list.chunk (length list.counts.items))
+        (F.seen files.old) (F.seen files.new)) }
     ensures later { Later (F.seen files.old) (F.seen files.new) }
 {
     if !head.packed() {
@@ -87,6 +91,7 @@ fn read_packed<F: Files>(
     requires head { WhereKnown (F.seen files.old).held name.now (λ file. IsHeadOf file head.now) }
     ensures chunk { IfOk result (λ list. list.chunk ≡ chunk_of head.now.bytes) }
     ensures points { IfOk result (λ list. sum list.counts.items ≡ points_of head.now.bytes) }
+    ensures some { IfOk result (λ list. All (λ n. 0 < n) list.counts.items) }
     ensures lists { IfOk result (λ list. AreChunkLists list.counts.items list.sizes.items (sum list.sizes.items)) }
     ensures near { IfOk result
         (λ list. (chunk : ℕ) → list.chunk ≡ Some chunk → length head.now.bytes + 8 + sum list.sizes.items < 2 ^ 64) }
@@ -98,6 +103,8 @@ fn read_packed<F: Files>(
     ensures ends { IfErr result (EndsReading ⊥ (F.seen files.old) (F.seen files.new)) }
     ensures held { (F.seen files.new).held ≡ (F.seen files.old).held }
     ensures writes { (F.seen files.new).write_faults ≡ (F.seen files.old).write_faults }
+    ensures asked { IfOk result (λ list. AsksAtMost (asked_for_chunks (length list.counts.items))
+        (F.seen files.old) (F.seen files.new)) }
     ensures later { Later (F.seen files.old) (F.seen files.new) }
 {
     let offset = u64::from(head.offset());

@@ -6,6 +6,7 @@ ghost use Rattle.las_header.specs.declared.refusal.Refusal.TheVariants.{BadChunk
 ghost use Rattle.las_header.specs.Fields.{record_length_of};
 ghost use Rattle.las_outside.specs.Files.{WhereKnown};
 ghost use Rattle.las_outside.specs.Outside.{Later};
+ghost use Rattle.laz_file.specs.Asking.{bytes_left};
 ghost use Rattle.laz_file.specs.declared.fault.Fault.TheVariants.{Refused};
 ghost use Rattle.laz_file.specs.Reading.{AreWholeBlocks, EndsReading, IsCrewOf, Lends, StandsFor, batch_size};
 ghost use Rattle.laz_file.specs.Records.{HoldOnly, IsBadPiece};
@@ -24,7 +25,9 @@ impl Reader {
     ///
     /// Of a packed file these are the next chunks, two for each hand or as many as are left, which the crew unpacks
     /// together. A chunk that holds no records of its count ends the batch before it, and is `BadChunk` with its number
-    /// if the batch would begin with it. Of a plain file it is one block of 50,000 records, or of all that are left.
+    /// in the file if the batch would begin with it; a chunk that has ended a batch is not read again. Of a plain file it
+    /// is one block of 50,000 records, or of all that are left. If a range was sought, these are its records alone: the
+    /// blocks of its first and its last chunk are cut.
     ///
     /// The answer is `Read` if a read failed, and never `Write`. After any `Err` the reader has failed.
     pub fn next_batch<R: Threads + Sync, F: Files, G: Gate>(
@@ -52,8 +55,10 @@ impl Reader {
         ensures cut { IfOk result (λ n. n < min (batch_size self.old.chunk (length crew.old)) (length self.old.left)
             → WhereKnown (F.seen files.old).held self.old.name (λ file. IsBadPiece file self.old.left n)) }
         ensures moved { IfOk result (λ n. self.new ≡ record self.old {
-          left = drop n self.old.left;
           next = self.old.next + n;
+          left = drop n self.old.left;
+          bad = self.new.bad;
+          cuts = self.new.cuts;
           lent = self.new.lent;
         }) }
         ensures stands { OnOk result (WhereKnown (F.seen files.old).held self.old.name (StandsFor self.new)) }
@@ -72,6 +77,10 @@ impl Reader {
         ensures ends { IfErr result (EndsReading ⊥ (F.seen files.old) (F.seen files.new)) }
         ensures held { (F.seen files.new).held ≡ (F.seen files.old).held }
         ensures writes { (F.seen files.new).write_faults ≡ (F.seen files.old).write_faults }
+        // No more bytes are asked for than those of the pieces that are read, and of one that ends the batch.
+        ensures asked { OnOk result ((F.seen files.new).asked + bytes_left self.new
+            ≤ (F.seen files.old).asked + bytes_left self.old) }
+        ensures asked_more { OnErr result ((F.seen files.new).asked ≤ (F.seen files.old).asked + bytes_left self.old) }
         ensures later { Later (F.seen files.old) (F.seen files.new) }
     {
         match self.chunk {

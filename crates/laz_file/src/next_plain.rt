@@ -1,9 +1,10 @@
 //! The next block of a plain file.
-ghost use Rattle.std.specs.Prelude.{◌≡◌, ℕ, ◌+◌, ◌<◌, [], List, None, length, min, take, drop, IfErr, IfOk, OnOk};
+ghost use Rattle.std.specs.Prelude.{◌≡◌, ℕ, ◌+◌, ◌<◌, ◌≤◌, [], List, None, false, length, min, take, drop, IfErr, IfOk, OnErr, OnOk};
 ghost use Rattle.std.specs.Prelude.{slice_index_or};
 ghost use Rattle.las_header.specs.Fields.{record_length_of};
 ghost use Rattle.las_outside.specs.Files.{WhereKnown};
 ghost use Rattle.las_outside.specs.Outside.{Later};
+ghost use Rattle.laz_file.specs.Asking.{bytes_left};
 ghost use Rattle.laz_file.specs.Reading.{AreWholeBlocks, FailsReading, StandsFor};
 ghost use Rattle.laz_file.specs.Records.{HoldOnly};
 
@@ -26,14 +27,18 @@ impl Reader {
             (λ file. HoldOnly file (take n self.old.left) blocks)) }
         ensures whole { IfOk result (λ n. n ≡ min 1 (length self.old.left)) }
         ensures moved { IfOk result (λ n. self.new ≡ record self.old {
-          left = drop n self.old.left;
           next = self.old.next + n;
+          left = drop n self.old.left;
           lent = self.new.lent;
         }) }
+        ensures fine { self.new.bad ≡ false }
         ensures faults { OnOk result ((F.seen files.new).read_faults ≡ (F.seen files.old).read_faults) }
         ensures ends { IfErr result (FailsReading (F.seen files.old) (F.seen files.new)) }
         ensures held { (F.seen files.new).held ≡ (F.seen files.old).held }
         ensures writes { (F.seen files.new).write_faults ≡ (F.seen files.old).write_faults }
+        ensures asked { OnOk result ((F.seen files.new).asked + bytes_left self.new
+            ≤ (F.seen files.old).asked + bytes_left self.old) }
+        ensures asked_more { OnErr result ((F.seen files.new).asked ≤ (F.seen files.old).asked + bytes_left self.old) }
         ensures later { Later (F.seen files.old) (F.seen files.new) }
     {
         if self.records == 0 {

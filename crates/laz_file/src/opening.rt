@@ -1,6 +1,6 @@
 //! What is read of a file when it is opened: its head and its chunk table.
 ghost use Rattle.std.specs.Prelude.{◌≡◌, ◌⊎◌, ℕ, List, ◌+◌, ◌-◌, ◌*◌, ◌^◌, ◌<◌, ◌≤◌, ◌||◌, nat_lt, min, true, false};
-ghost use Rattle.std.specs.Prelude.{[], Some, None};
+ghost use Rattle.std.specs.Prelude.{[], All, Some, None};
 ghost use Rattle.std.specs.Prelude.{length, take, drop, sum, vec_len, if◌then◌else◌, IfErr, IfOk, IsErrOf, OnOk, Ok};
 ghost use Rattle.std.specs.Prelude.{Err};
 ghost use Rattle.las_header.specs.declared.refusal.Refusal.{Refusal};
@@ -15,6 +15,7 @@ ghost use Rattle.las_outside.specs.Outside.{Later};
 ghost use Rattle.laz_table.specs.declared.chunks.Blocks.{Blocks};
 ghost use Rattle.laz_table.specs.Chunks.{HasChunkSize, IsAccepted, IsFirstFault, table_causes};
 ghost use Rattle.laz_table.specs.declared.limits.TheConstants.{MAX_CHUNKS, MAX_CHUNK_BYTES, MIN_TABLE_BYTES};
+ghost use Rattle.laz_file.specs.Asking.{AsksAtMost};
 ghost use Rattle.laz_file.specs.Refusing.{has_bad_pointer};
 ghost use Rattle.laz_file.specs.Reading.{AreChunkLists, AreFewChunks, EndsReading, FailsReading, IsHeadOf};
 ghost use Rattle.laz_file.specs.Reading.{IsTablePlace, points_in, table_size};
@@ -54,6 +55,7 @@ pub(crate) fn read_head<F: Files>(
         (EndsReading (IsMissing (F.seen files.old).held name.now) (F.seen files.old) (F.seen files.new)) }
     ensures held { (F.seen files.new).held ≡ (F.seen files.old).held }
     ensures writes { (F.seen files.new).write_faults ≡ (F.seen files.old).write_faults }
+    ensures asked { IfOk result (λ r. AsksAtMost (length r.0.bytes) (F.seen files.old) (F.seen files.new)) }
     ensures later { Later (F.seen files.old) (F.seen files.new) }
 {
     let Ok(size) = files.size(name) else {
@@ -89,6 +91,7 @@ fn read_front<F: Files>(
     ensures ends { IfErr result (EndsReading ⊥ (F.seen files.old) (F.seen files.new)) }
     ensures held { (F.seen files.new).held ≡ (F.seen files.old).held }
     ensures writes { (F.seen files.new).write_faults ≡ (F.seen files.old).write_faults }
+    ensures asked { AsksAtMost 227 (F.seen files.old) (F.seen files.new) }
     ensures later { Later (F.seen files.old) (F.seen files.new) }
 {
     let most = size.min(HEADER_BLOCK as u64) as usize;
@@ -119,6 +122,7 @@ pub(crate) fn find_table<F: Files>(
     ensures ends { IfErr result (EndsReading ⊥ (F.seen files.old) (F.seen files.new)) }
     ensures held { (F.seen files.new).held ≡ (F.seen files.old).held }
     ensures writes { (F.seen files.new).write_faults ≡ (F.seen files.old).write_faults }
+    ensures asked { AsksAtMost 16 (F.seen files.old) (F.seen files.new) }
     ensures later { Later (F.seen files.old) (F.seen files.new) }
 {
     if size < offset + 8 {
@@ -162,6 +166,7 @@ pub(crate) fn read_chunks<F: Files>(
     requires within { WhereKnown (F.seen files.old).held name.now (λ file. place.end ≤ length file) }
     ensures lists { IfOk result (λ list. AreChunkLists list.sizes.items list.counts.items total) }
     ensures points { IfOk result (λ list. sum list.sizes.items ≡ points_in blocks) }
+    ensures some { IfOk result (λ list. All (λ n. 0 < n) list.sizes.items) }
     ensures accepted { IfOk result (λ list. WhereKnown (F.seen files.old).held name.now
         (λ file. IsAccepted (drop place.start (take place.end file)) blocks total list.sizes.items
         list.counts.items)) }
@@ -172,6 +177,8 @@ pub(crate) fn read_chunks<F: Files>(
     ensures ends { IfErr result (EndsReading ⊥ (F.seen files.old) (F.seen files.new)) }
     ensures held { (F.seen files.new).held ≡ (F.seen files.old).held }
     ensures writes { (F.seen files.new).write_faults ≡ (F.seen files.old).write_faults }
+    ensures asked { IfOk result (λ list. AsksAtMost (MIN_TABLE_BYTES + MAX_CHUNK_BYTES * length list.sizes.items)
+        (F.seen files.old) (F.seen files.new)) }
     ensures later { Later (F.seen files.old) (F.seen files.new) }
 {
     let bytes = read_table_front(alloc, files, name, place)?;
@@ -196,6 +203,8 @@ fn read_table_front<F: Files>(
     ensures ends { IfErr result (FailsReading (F.seen files.old) (F.seen files.new)) }
     ensures held { (F.seen files.new).held ≡ (F.seen files.old).held }
     ensures writes { (F.seen files.new).write_faults ≡ (F.seen files.old).write_faults }
+    ensures asked { IfOk result (λ bytes. AsksAtMost (length bytes.items) (F.seen files.old) (F.seen files.new)) }
+    ensures short { IfOk result (λ bytes. length bytes.items ≤ table_size bytes.items) }
     ensures later { Later (F.seen files.old) (F.seen files.new) }
 {
     let long = place.end - place.start;

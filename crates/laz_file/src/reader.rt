@@ -1,11 +1,14 @@
 //! A reader of a file, plain or packed, block by block.
-ghost use Rattle.std.specs.Prelude.{◌≡◌, ℕ, ◌+◌, ◌*◌, ◌^◌, ◌<◌, ◌≤◌, [], false, None, Some, length, sum, string_bytes};
+ghost use Rattle.std.specs.Prelude.{◌≡◌, ℕ, ◌+◌, ◌*◌, ◌^◌, ◌<◌, ◌≤◌, [], false, All, None, Some, length, sum, string_bytes};
 ghost use Rattle.std.specs.Prelude.{IfErr, IfOk, IsErrOf, OnOk};
 ghost use Rattle.las_header.specs.declared.refusal.Refusal.{Refusal};
 ghost use Rattle.las_header.specs.Fields.{points_of, record_length_of};
 ghost use Rattle.las_outside.specs.Files.{IsMissing, WhereKnown};
 ghost use Rattle.las_outside.specs.Outside.{Later};
+ghost use Rattle.laz_file.specs.Asking.{AsksAtMost, asked_for_list};
 ghost use Rattle.laz_file.specs.declared.fault.Fault.TheVariants.{Refused};
+ghost use Rattle.laz_file.specs.Pieces.{pieces_from};
+ghost use Rattle.laz_file.specs.Ranges.{whole_range};
 ghost use Rattle.laz_file.specs.Reading.{AgreesWithHead, AreChunkLists, EndsReading, IsNewReader, StandsFor};
 ghost use Rattle.laz_file.specs.Reading.{pieces_listed};
 ghost use Rattle.laz_file.specs.Refusing.{IsRefusal};
@@ -13,6 +16,7 @@ ghost use Rattle.laz_file.specs.Refusing.{IsRefusal};
 use crate::Fault;
 use crate::listing::{Listing, read_list};
 use crate::opening::read_head;
+use crate::seeking::Ends;
 use las_header::Head;
 use las_outside::Files;
 use std::alloc::Global;
@@ -20,16 +24,24 @@ use std::marker::Model;
 
 /// A file that is read block by block: a packed one chunk by chunk, and a plain one 50,000 records at a time.
 ///
-/// Contracts see it as its head, the pieces of the file that are left to read, and the number of the first of them.
+/// Contracts see it as its head, the chunks of a packed file, the pieces of the file that are left to read, and the
+/// number of the first of them.
 #[derive(Drop)]
 pub struct Reader {
     pub(crate) name: String,
     pub(crate) head: Head,
     pub(crate) chunk: Option<u32>,
-    // Of a packed file: the numbers of records and of bytes of its chunks, and how many of them were read.
+    // The places of the records that are read.
+    pub(crate) start: u32,
+    pub(crate) stop: u32,
+    // Of a packed file: the numbers of records and of bytes of its chunks; which of them are read; the number of the
+    // next one, of the first one of the last batch, and whether the next one is known to be bad.
     pub(crate) counts: Vec<u32>,
     pub(crate) sizes: Vec<u32>,
+    pub(crate) ends: Ends,
     pub(crate) next: u32,
+    pub(crate) batch: u32,
+    pub(crate) bad: bool,
     // Of a plain file: how many blocks were read, and how many records are left.
     pub(crate) blocks: u32,
     pub(crate) records: u32,
@@ -43,9 +55,11 @@ pub struct Reader {
 }
 
 impl Model for Reader {
-    ghost use Rattle.std.specs.Prelude.{◌+◌, drop, length, string_bytes};
-    ghost use Rattle.las_header.specs.Fields.{record_length_of};
-    ghost use Rattle.laz_file.specs.Reading.{IsInPlace, ReaderSeen, pieces_left};
+    ghost use Rattle.std.specs.Prelude.{◌+◌, ◌-◌, drop, length, string_bytes, take};
+    ghost use Rattle.las_header.specs.Fields.{points_of, record_length_of};
+    ghost use Rattle.laz_file.specs.Pieces.{pieces_from};
+    ghost use Rattle.laz_file.specs.Ranges.{cuts_from};
+    ghost use Rattle.laz_file.specs.Reading.{AreListed, IsInPlace, ReaderSeen, pieces_left};
 
     ghost Value = { ReaderSeen };
 
@@ -53,17 +67,36 @@ impl Model for Reader {
       name = string_bytes r.name;
       head = r.head;
       chunk = r.chunk;
-      chunks = length r.counts.items;
-      left = pieces_left r.chunk (record_length_of r.head.bytes) r.place r.records (drop r.next r.counts.items)
-          (drop r.next r.sizes.items);
+      pieces = pieces_from (length r.head.bytes + 8) r.counts.items r.sizes.items;
+      range = record { start = r.start; stop = r.stop };
+      first = r.ends.first;
       next = r.next + r.blocks;
+      left = pieces_left r.chunk (record_length_of r.head.bytes) (record {
+        at = r.place;
+        blocks = r.blocks;
+        records = r.records;
+        ends = r.ends;
+        next = r.next;
+        batch = r.batch;
+        bad = r.bad;
+      }) r.counts.items r.sizes.items;
+      bad = r.bad;
       failed = r.failed;
       buffers = length r.inputs.items;
+      cuts = cuts_from r.ends r.batch (take (r.next - r.batch) (drop r.batch r.counts.items));
       lent = r.block.items;
     } };
 
-    ghost invariant = { λ r. IsInPlace (record_length_of r.head.bytes) r.place r.records r.blocks r.next r.counts.items
-        r.sizes.items };
+    ghost invariant = { λ r. AreListed r.chunk (length r.head.bytes) (points_of r.head.bytes) r.counts.items r.sizes.items
+        × IsInPlace (record_length_of r.head.bytes) (record {
+          at = r.place;
+          blocks = r.blocks;
+          records = r.records;
+          ends = r.ends;
+          next = r.next;
+          batch = r.batch;
+          bad = r.bad;
+        }) r.counts.items r.sizes.items };
 }
 
 impl Reader {
@@ -85,6 +118,9 @@ impl Reader {
             (EndsReading (IsMissing (F.seen files.old).held name.now) (F.seen files.old) (F.seen files.new)) }
         ensures held { (F.seen files.new).held ≡ (F.seen files.old).held }
         ensures writes { (F.seen files.new).write_faults ≡ (F.seen files.old).write_faults }
+        // At most this many bytes are asked for: the head, and of a packed file two pointers and the table.
+        ensures asked { IfOk result (λ reader. AsksAtMost
+            (length reader.head.bytes + asked_for_list reader.chunk (length reader.pieces)) (F.seen files.old) (F.seen files.new)) }
         ensures later { Later (F.seen files.old) (F.seen files.new) }
     {
         let own = String::from_str(alloc, name)?;
@@ -97,31 +133,44 @@ impl Reader {
     fn of(alloc: Global, name: String, head: Head, list: Listing) -> Reader
         requires lists { AreChunkLists list.counts.items list.sizes.items (sum list.sizes.items) }
         requires near { (chunk : ℕ) → list.chunk ≡ Some chunk → length head.bytes + 8 + sum list.sizes.items < 2 ^ 64 }
+        requires some { All (λ n. 0 < n) list.counts.items }
+        requires points { (chunk : ℕ) → list.chunk ≡ Some chunk → sum list.counts.items ≡ points_of head.bytes }
         requires plain { list.chunk ≡ None → list.counts.items ≡ [] }
         ensures { result ≡ record {
           name = string_bytes name;
           head = head;
           chunk = list.chunk;
-          chunks = length list.counts.items;
-          left = pieces_listed list.chunk head.bytes list.counts.items list.sizes.items;
+          pieces = pieces_from (length head.bytes + 8) list.counts.items list.sizes.items;
+          range = whole_range head.bytes;
+          first = 0;
           next = 0;
+          left = pieces_listed list.chunk head.bytes list.counts.items list.sizes.items;
+          bad = false;
           failed = false;
           buffers = 0;
+          cuts = [];
           lent = [];
         } }
     {
         let offset = head.bytes().len() as u64;
+        let points = head.points();
         let (place, records) = match list.chunk {
-            None => (offset, head.points()),
+            None => (offset, points),
             Some(_) => (offset + 8, 0),
         };
+        let ends = Ends::all(&list.counts);
         Reader {
             name,
             head,
             chunk: list.chunk,
+            start: 0,
+            stop: points,
             counts: list.counts,
             sizes: list.sizes,
+            ends,
             next: 0,
+            batch: 0,
+            bad: false,
             blocks: 0,
             records,
             place,
@@ -155,7 +204,7 @@ impl Reader {
 
     /// How many chunks the file has: 0 if it is plain.
     pub fn chunks(&self) -> u32
-        ensures { result ≡ self.now.chunks }
+        ensures { result ≡ length self.now.pieces }
     {
         self.counts.len() as u32
     }

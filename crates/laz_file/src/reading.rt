@@ -3,6 +3,7 @@ ghost use Rattle.std.specs.Prelude.{◌≡◌, ◌+◌, ◌-◌, ◌^◌, ◌<�
 ghost use Rattle.las_header.specs.Numbers.{number_at};
 ghost use Rattle.las_outside.specs.Files.{WhereKnown};
 ghost use Rattle.las_outside.specs.Outside.{Later};
+ghost use Rattle.laz_file.specs.Asking.{AsksAtMost};
 ghost use Rattle.laz_file.specs.Reading.{FailsReading};
 
 use crate::Fault;
@@ -28,6 +29,7 @@ pub(crate) fn read_on<F: Files>(
     ensures ends { IfErr result (FailsReading (F.seen files.old) (F.seen files.new)) }
     ensures held { (F.seen files.new).held ≡ (F.seen files.old).held }
     ensures writes { (F.seen files.new).write_faults ≡ (F.seen files.old).write_faults }
+    ensures asked { AsksAtMost (total - vec_len bytes.old) (F.seen files.old) (F.seen files.new) }
     ensures later { Later (F.seen files.old) (F.seen files.new) }
 {
     let start = bytes.len();
@@ -53,6 +55,7 @@ fn fill_from<F: Files>(
     ensures ends { IfErr result (FailsReading (F.seen files.old) (F.seen files.new)) }
     ensures held { (F.seen files.new).held ≡ (F.seen files.old).held }
     ensures writes { (F.seen files.new).write_faults ≡ (F.seen files.old).write_faults }
+    ensures asked { AsksAtMost (length bytes.old - start) (F.seen files.old) (F.seen files.new) }
     ensures later { Later (F.seen files.old) (F.seen files.new) }
 {
     let (_, rest) = bytes.split_at_mut(start);
@@ -73,6 +76,7 @@ pub(crate) fn read_exactly<F: Files>(
     ensures ends { IfErr result (FailsReading (F.seen files.old) (F.seen files.new)) }
     ensures held { (F.seen files.new).held ≡ (F.seen files.old).held }
     ensures writes { (F.seen files.new).write_faults ≡ (F.seen files.old).write_faults }
+    ensures asked { AsksAtMost (length bytes.old) (F.seen files.old) (F.seen files.new) }
     ensures later { Later (F.seen files.old) (F.seen files.new) }
 {
     match files.read_at(name, at, bytes) {
@@ -98,6 +102,7 @@ pub(crate) fn read_part<F: Files>(
     ensures ends { IfErr result (FailsReading (F.seen files.old) (F.seen files.new)) }
     ensures held { (F.seen files.new).held ≡ (F.seen files.old).held }
     ensures writes { (F.seen files.new).write_faults ≡ (F.seen files.old).write_faults }
+    ensures asked { AsksAtMost size (F.seen files.old) (F.seen files.new) }
     ensures later { Later (F.seen files.old) (F.seen files.new) }
 {
     buffer.resize(size, 0)?;
@@ -113,6 +118,7 @@ pub(crate) fn read_number<F: Files>(files: &mut F, name: &str, at: u64) -> Resul
     ensures ends { IfErr result (FailsReading (F.seen files.old) (F.seen files.new)) }
     ensures held { (F.seen files.new).held ≡ (F.seen files.old).held }
     ensures writes { (F.seen files.new).write_faults ≡ (F.seen files.old).write_faults }
+    ensures asked { AsksAtMost 8 (F.seen files.old) (F.seen files.new) }
     ensures later { Later (F.seen files.old) (F.seen files.new) }
 {
     let mut bytes = [0; 8];

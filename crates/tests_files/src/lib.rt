@@ -6,6 +6,8 @@ mod faults;
 #[cfg(test)]
 mod opening;
 #[cfg(test)]
+mod ranges;
+#[cfg(test)]
 mod samples;
 #[cfg(test)]
 mod streams;

@@ -91,8 +91,8 @@ fn the_last_chunk_has_the_rest(rt: HostRuntime) -> Result<(), Fail> {
     Ok(())
 }
 
-// The lengths of the chunks of a packed file whose points begin at byte 321; none if its table is not read.
-fn chunk_sizes(
+/// The lengths of the chunks of a packed file whose points begin at byte 321; none if its table is not read.
+pub(crate) fn chunk_sizes(
     alloc: Global,
     file: &[u8],
     chunk: u32,

@@ -70,6 +70,24 @@ pub(crate) fn read_file<R: Threads + Sync, F: Files>(
     read_on(rt, alloc, files, &OpenGate, &mut reader, &mut crew, records)
 }
 
+/// Reads the records of a range of a file, with 1 to 8 workers: places past the end are cut. If a fault ends it, the
+/// records before it stand in `records`.
+pub(crate) fn read_range<R: Threads + Sync, F: Files>(
+    rt: &R,
+    alloc: Global,
+    files: &mut F,
+    name: &str,
+    workers: u32,
+    range: (u32, u32),
+    records: &mut Vec<u8>,
+) -> Result<(), Fault> {
+    let mut reader = Reader::open(alloc, files, name)?;
+    let stop = range.1.min(reader.head().points());
+    reader.seek_record(range.0.min(stop), stop);
+    let mut crew = reader.crew(alloc, workers.min(8).max(1))?;
+    read_on(rt, alloc, files, &OpenGate, &mut reader, &mut crew, records)
+}
+
 /// How a file is written: the chunk size, 256 to 250,000, or 0 for a plain file; whether its records are counted; how
 /// many workers there are, 1 to 8; and how many records each push has but the last, which has the rest.
 #[derive(Clone, Copy)]
@@ -201,6 +219,22 @@ pub(crate) fn reading_of<R: Threads + Sync>(
     let mut records = Vec::new(alloc);
     let ended = read_file(rt, alloc, &mut files, "a.las", workers, &mut records);
     Ok((records, ended))
+}
+
+/// What is read of a range of a file: its records, up to the fault that ends the reading, if one does; and how many bytes
+/// were asked for.
+pub(crate) fn range_of<R: Threads + Sync>(
+    rt: &R,
+    alloc: Global,
+    file: &[u8],
+    workers: u32,
+    range: (u32, u32),
+) -> Result<(Vec<u8>, Result<(), Fault>, u64), AllocError> {
+    let mut files = MemFiles::new(alloc);
+    files.put_file("a.las", file)?;
+    let mut records = Vec::new(alloc);
+    let ended = read_range(rt, alloc, &mut files, "a.las", workers, range, &mut records);
+    Ok((records, ended, files.asked()))
 }
 
 /// A file written in another form, or no bytes if a fault ended that.

@@ -33,6 +33,7 @@ batches-init g c =
       reads_calm = refl;
       writes_calm = refl;
       later = record { known = refl; reads = omega arith; writes = omega arith; asked = omega arith };
+      asked = omega arith;
     }
 
 pub returns-in-Err-clause-converted : goal.returns-in-Err-clause-converted
@@ -286,4 +287,17 @@ batches-preserved g c =
       reads_calm = c.in_ok-taken.ensures.calm.reads ∙ c.in-Ok.ensures.faults ∙ c.batches.invariant.reads_calm;
       writes_calm = c.in_ok-taken.ensures.calm.writes ∙ c.next_batch.ensures.writes ∙ c.batches.invariant.writes_calm;
       later = later-trans _ _ _ c.batches.invariant.later (later-trans _ _ _ c.next_batch.ensures.later c.push_batch.ensures.later);
+      asked = omega (arith, c.batches.invariant.asked, c.in-Ok.ensures.asked, c.push_batch.ensures.asked);
     }
+
+pub returns-in-Err-clause-asked : goal.returns-in-Err-clause-asked
+returns-in-Err-clause-asked g c = omega (arith, c.batches.invariant.asked, c.in-Err.ensures.asked_more)
+
+pub returns-then-count-eq0-clause-asked : goal.returns-then-count-eq0-clause-asked
+returns-then-count-eq0-clause-asked g c = omega (arith, c.batches.invariant.asked, c.in-Ok.ensures.asked)
+
+pub returns-in_err-taken-clause-asked : goal.returns-in_err-taken-clause-asked
+returns-in_err-taken-clause-asked g c = omega (arith, c.batches.invariant.asked, c.in-Ok.ensures.asked, c.push_batch.ensures.asked)
+
+pub returns-then-taken-clause-asked : goal.returns-then-taken-clause-asked
+returns-then-taken-clause-asked g c = omega (arith, c.batches.invariant.asked, c.in-Ok.ensures.asked, c.push_batch.ensures.asked)

@@ -130,3 +130,15 @@ pub returns-clause-goes : goal.returns-clause-goes
 returns-clause-goes g c blocks lends all even =
     let end : length blocks ≤ c.loop-i.i = omega (arith, all, c.loop-i-test.false) in
     subst (λ (bs : List (List ℕ)). Goes (steps_of c.args.plan.now) c.args.size (concat bs) (g.F.Files.seen c.args.files.now) (g.F.Files.seen c.loop-i.files) c.args.writer.now c.loop-i.writer c.loop-i.kept false) (take_all c.loop-i.i blocks end) (c.loop-i.invariant.goes blocks lends all even)
+
+pub returns-in_err-taken-clause-asked : goal.returns-in_err-taken-clause-asked
+returns-in_err-taken-clause-asked g c = c.push_kept.ensures.asked ∙ c.loop-i.invariant.calm.asked
+
+pub returns-then-taken-clause-asked : goal.returns-then-taken-clause-asked
+returns-then-taken-clause-asked g c = c.push_kept.ensures.asked ∙ c.loop-i.invariant.calm.asked
+
+pub returns-in_err-grow-clause-asked : goal.returns-in_err-grow-clause-asked
+returns-in_err-grow-clause-asked g c = c.loop-i.invariant.calm.asked
+
+pub returns-clause-asked : goal.returns-clause-asked
+returns-clause-asked g c = c.loop-i.invariant.calm.asked

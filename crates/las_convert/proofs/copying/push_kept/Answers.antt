@@ -1,10 +1,11 @@
-use Rattle.std.proofs.Common.{◌≤◌, [], length, take, Err, refl, sym, ap, subst, arith}
+use Rattle.std.proofs.Common.{◌≤◌, ◌∙◌, [], length, take, Err, refl, sym, ap, subst, arith}
 use Rattle.std.proofs.lemmas.List.{append-nil}
 use Rattle.las_filter.specs.Kept.{steps_of}
 use Rattle.laz_file.specs.Copying.{LeavesPart}
 use Rattle.laz_file.proofs.Putting.{if_err}
 use Rattle.laz_file.proofs.Taking.{cause_push, on_err, part_push, takes_push}
 use Rattle.las_convert.specs.Adding.{cut_all}
+use Rattle.las_convert.proofs.Asked.{stands_asked, stops_asked}
 use Rattle.las_convert.proofs.Going.{kept_even, kept_goes}
 use Rattle.las_convert.proofs.copying.push_kept.Goals as goal
 
@@ -46,3 +47,10 @@ returns-in_err-push-clause-cause g c =
     let old = g.F.Files.seen c.args.files.now in
     if_err _ c.from_residual.result _ c.from_residual.ensures.1
     (cause_push old old (g.F.Files.seen c.push.new.files) c.in_err-push.field-0.0 c.in_err-push.ensures.fault (λ e. c.in_err-push.ensures.write (ap Err e)) refl)
+
+pub returns-in_err-push-clause-asked : goal.returns-in_err-push-clause-asked
+returns-in_err-push-clause-asked g c =
+    let old = g.F.Files.seen c.args.files.now in
+    let s = c.requires.stands in
+    let stops = c.in_err-push.ensures.stopped s.0 s.1 s.2 s.3 in
+    stops_asked c.in_err-push.field-0.0 _ (g.F.Files.seen c.push.new.files) stops.1 ∙ sym (stands_asked s.0 old c.args.writer.now s.1 s.2 s.3)

@@ -1,18 +1,19 @@
-use Rattle.std.proofs.Common.{◌≡◌, ℕ, ◌*◌, List, [], Option, Some, None, sym, ◌∙◌, ap, subst}
+use Rattle.std.proofs.Common.{◌≡◌, ℕ, ◌*◌, List, [], Option, Some, None, sym, ◌∙◌, ap, subst, arith}
 use Rattle.las_header.specs.declared.refusal.Refusal.{Refusal}
 use Rattle.las_filter.specs.Kept.{steps_of}
 use Rattle.las_outside.specs.Faults.{Rose}
 use Rattle.las_outside.specs.Files.{WhereKnown, with_file}
 use Rattle.laz_file.specs.declared.fault.Fault.TheVariants.{Refused, Read, Write}
+use Rattle.laz_file.specs.Asking.{bytes_left}
 use Rattle.laz_file.specs.Copying.{LeavesUnfinished}
 use Rattle.laz_file.specs.Outputs.{Output, finished, stopped}
 use Rattle.laz_file.specs.Reading.{ReaderSeen, StandsFor}
 use Rattle.laz_file.proofs.Knowing.{known_both, known_then}
 use Rattle.laz_file.proofs.Putting.{if_err}
-use Rattle.laz_file.proofs.WholeOutputs.{err_at, err_then, known_reader, ok_then, stands_ready}
+use Rattle.laz_file.proofs.WholeOutputs.{err_at, err_then, ok_then, stands_ready}
 use Rattle.las_convert.specs.Converting.{ConvertsTo, EndsConverting, OnlyConverts, converted_output, output_of}
 use Rattle.las_convert.proofs.Endings.{ends_left}
-use Rattle.las_convert.proofs.Wholes.{converted_out, finishes, leaves, refused_kind, refuses}
+use Rattle.las_convert.proofs.Wholes.{converted_out, finishes, known_here, leaves, refused_kind, refuses}
 use Rattle.las_convert.proofs.files.convert.Goals as goal
 
 pub returns-in_err-writer-clause-left : goal.returns-in_err-writer-clause-left
@@ -25,7 +26,7 @@ returns-in_err-writer-clause-left g c =
     let chunk = c.args.chunk in
     let same = ap (λ (r : ReaderSeen). r.head) c.in_ok-crew.ensures.kept in
     if_err _ c.from_residual-in_err-writer.result _ c.from_residual-in_err-writer.ensures.1
-    (known_then old.held first.name (StandsFor first) (λ file. (records : List ℕ) (refusal : Option Refusal) → ConvertsTo (steps_of c.args.plan.now) file records refusal → LeavesUnfinished (converted_output name file chunk) records old.held new.held)
+    (known_then old.held first.name (StandsFor first) (λ file. (records : List ℕ) (refusal : Option Refusal) → ConvertsTo (steps_of c.args.plan.now) file first.range records refusal → LeavesUnfinished (converted_output name file chunk) records old.held new.held)
     (λ file st. λ records refusal to. subst (λ (o : Output). LeavesUnfinished o records old.held new.held) (converted_out first reader file name chunk st same) (c.in_err-writer.ensures.left records)) c.requires.stands)
 
 pub fill-requires-clause-reads : goal.fill-requires-clause-reads
@@ -34,7 +35,8 @@ fill-requires-clause-reads g c κs within =
     let mid = g.F.Files.seen c.begin.new.files in
     let first = c.args.reader in
     let reader = c.crew.new.self in
-    known_reader old mid mid first reader (2 * c.hands-hands.result) c.in_ok-crew.ensures.kept c.requires.new.first c.in_ok-writer.writer (output_of reader c.args.output.now c.args.chunk) c.in_ok-writer.ensures.stands (λ e. c.requires.names (sym e)) c.requires.stands (StandsFor reader)
+    known_here old mid mid (steps_of c.args.plan.now) first reader (2 * c.hands-hands.result) c.in_ok-crew.ensures.kept c.requires.fresh.unread c.in_ok-writer.writer c.in_ok-writer.ensures.can.size
+    (output_of reader c.args.output.now c.args.chunk) c.in_ok-writer.ensures.stands (λ e. c.requires.names (sym e)) c.requires.stands (StandsFor reader)
     (known_then old.held first.name (StandsFor first) (StandsFor reader) (λ file st. stands_ready first reader (2 * c.hands-hands.result) file c.in_ok-crew.ensures.kept st) c.requires.stands)
 
 pub returns-clause-converted : goal.returns-clause-converted
@@ -55,10 +57,10 @@ returns-clause-converted g c =
     let ends = c.fill.ensures.ends old out [] s in
     let other = λ (e : first.name ≡ name). c.requires.names (sym e) in
     ok_then c.fill.result (λ f. known_both old.held first.name (StandsFor first)
-    (λ file. (records : List ℕ) × OnlyConverts plan file records None × (new.held ≡ with_file old.held name (finished out records)))
-    (λ file. (records : List ℕ) × OnlyConverts plan file records None × (new.held ≡ with_file old.held name (finished (converted_output name file chunk) records)))
+    (λ file. (records : List ℕ) × OnlyConverts plan file first.range records None × (new.held ≡ with_file old.held name (finished out records)))
+    (λ file. (records : List ℕ) × OnlyConverts plan file first.range records None × (new.held ≡ with_file old.held name (finished (converted_output name file chunk) records)))
     (λ file st k. (k.0, k.1, k.2 ∙ ap (λ (o : Output). with_file old.held name (finished o k.0)) (converted_out first reader file name chunk st same))) c.requires.stands
-    (finishes old mid new plan first reader (2 * c.hands-hands.result) ready c.requires.new.first w c.in_ok-writer.ensures.can.size out s other c.requires.stands f))
+    (finishes old mid new plan first reader (2 * c.hands-hands.result) ready c.requires.fresh.unread w c.in_ok-writer.ensures.can.size out s other c.requires.stands f))
     (c.fill.ensures.finished old out [] s)
 
 pub returns-clause-refused : goal.returns-clause-refused
@@ -80,10 +82,10 @@ returns-clause-refused g c cause is =
     let other = λ (e : first.name ≡ name). c.requires.names (sym e) in
     let e = err_at (EndsConverting mid.held old.held mid new plan reader out []) c.fill.result (Refused cause) ends is in
     known_both old.held first.name (StandsFor first)
-    (λ file. (records : List ℕ) × OnlyConverts plan file records (Some cause) × (new.held ≡ with_file old.held name (stopped out records)))
-    (λ file. (records : List ℕ) × OnlyConverts plan file records (Some cause) × (new.held ≡ with_file old.held name (stopped (converted_output name file chunk) records)))
+    (λ file. (records : List ℕ) × OnlyConverts plan file first.range records (Some cause) × (new.held ≡ with_file old.held name (stopped out records)))
+    (λ file. (records : List ℕ) × OnlyConverts plan file first.range records (Some cause) × (new.held ≡ with_file old.held name (stopped (converted_output name file chunk) records)))
     (λ file st k. (k.0, k.1, k.2 ∙ ap (λ (o : Output). with_file old.held name (stopped o k.0)) (converted_out first reader file name chunk st same))) c.requires.stands
-    (refuses old mid new plan first reader (2 * c.hands-hands.result) ready c.requires.new.first w c.in_ok-writer.ensures.can.size out s other c.requires.stands cause e)
+    (refuses old mid new plan first reader (2 * c.hands-hands.result) ready c.requires.fresh.unread w c.in_ok-writer.ensures.can.size out s other c.requires.stands cause e)
 
 pub returns-clause-bad : goal.returns-clause-bad
 returns-clause-bad g c cause is =
@@ -122,11 +124,11 @@ returns-clause-left g c =
     let ends = c.fill.ensures.ends old out [] s in
     let other = λ (e : first.name ≡ name). c.requires.names (sym e) in
     err_then (EndsConverting mid.held old.held mid new plan reader out [])
-    (λ fault. WhereKnown old.held first.name (λ file. (records : List ℕ) (refusal : Option Refusal) → ConvertsTo plan file records refusal → LeavesUnfinished (converted_output name file chunk) records old.held new.held)) c.fill.result
-    (λ fault e. known_both old.held first.name (StandsFor first) (λ file. (records : List ℕ) (refusal : Option Refusal) → ConvertsTo plan file records refusal → LeavesUnfinished out records old.held new.held)
-    (λ file. (records : List ℕ) (refusal : Option Refusal) → ConvertsTo plan file records refusal → LeavesUnfinished (converted_output name file chunk) records old.held new.held)
+    (λ fault. WhereKnown old.held first.name (λ file. (records : List ℕ) (refusal : Option Refusal) → ConvertsTo plan file first.range records refusal → LeavesUnfinished (converted_output name file chunk) records old.held new.held)) c.fill.result
+    (λ fault e. known_both old.held first.name (StandsFor first) (λ file. (records : List ℕ) (refusal : Option Refusal) → ConvertsTo plan file first.range records refusal → LeavesUnfinished out records old.held new.held)
+    (λ file. (records : List ℕ) (refusal : Option Refusal) → ConvertsTo plan file first.range records refusal → LeavesUnfinished (converted_output name file chunk) records old.held new.held)
     (λ file st k. λ records refusal to. subst (λ (o : Output). LeavesUnfinished o records old.held new.held) (converted_out first reader file name chunk st same) (k records refusal to)) c.requires.stands
-    (leaves old mid new plan first reader (2 * c.hands-hands.result) ready c.requires.new.first w c.in_ok-writer.ensures.can.size out s other c.requires.stands (ends_left mid.held old mid new plan reader w out [] fault s e)))
+    (leaves old mid new plan first reader (2 * c.hands-hands.result) ready c.requires.fresh.unread w c.in_ok-writer.ensures.can.size out s other c.requires.stands (ends_left mid.held old mid new plan reader w out [] fault s e)))
     ends
 
 pub returns-clause-read : goal.returns-clause-read
@@ -168,3 +170,11 @@ returns-clause-write g c is =
     let other = λ (e : first.name ≡ name). c.requires.names (sym e) in
     let e = err_at (EndsConverting mid.held old.held mid new plan reader out []) c.fill.result Write ends is in
     subst (λ (n : ℕ). Rose n new.write_faults) c.in_ok-writer.ensures.calm.writes e.0
+
+pub returns-in_err-writer-clause-asked : goal.returns-in_err-writer-clause-asked
+returns-in_err-writer-clause-asked g c = omega (arith, c.begin.ensures.asked)
+
+pub returns-clause-asked : goal.returns-clause-asked
+returns-clause-asked g c =
+    let same : bytes_left c.crew.new.self ≡ bytes_left c.args.reader = ap bytes_left c.in_ok-crew.ensures.kept in
+    omega (arith, same, c.begin.ensures.asked, c.fill.ensures.asked)

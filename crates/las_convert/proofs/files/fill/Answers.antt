@@ -1,4 +1,4 @@
-use Rattle.std.proofs.Common.{◌++◌, Err, ap, subst}
+use Rattle.std.proofs.Common.{◌++◌, Err, ap, subst, arith}
 use Rattle.std.specs.List.{concat}
 use Rattle.las_filter.specs.Kept.{steps_of}
 use Rattle.las_outside.specs.Outside.{Outside}
@@ -6,6 +6,7 @@ use Rattle.laz_file.specs.Copying.{with_reads}
 use Rattle.laz_file.proofs.Putting.{if_err}
 use Rattle.laz_file.proofs.Taking.{cause_push}
 use Rattle.las_convert.specs.Adding.{EndsKeeping}
+use Rattle.las_convert.proofs.Asked.{stops_asked}
 use Rattle.las_convert.proofs.Endings.{ends_all, ends_with, finished_all, left_finish, left_part, left_stop, refused_here}
 use Rattle.las_convert.proofs.files.fill.Goals as goal
 
@@ -84,3 +85,27 @@ returns-in_ok-stop-in-Some-clause-ends g c before out bytes s =
     let end = subst (EndsKeeping old.held reader d.0 d.2 d.3) c.in-Some.is d.6 in
     refused_here old (steps_of c.args.plan.now) reader c.args.writer c.requires.room.size d.0 d.1 d.4 before out bytes s mid c.convert_records.new.writer d.2 d.3 d.5 c.in-Some.cause new.held end
     (ap (λ (o : Outside). o.held) (c.in_ok-stop-in-Some.ensures.stopped (with_reads before mid) out (bytes ++ concat d.5.ones) (d.5.takes before out bytes s)))
+
+pub returns-in_err-finish-in-None-clause-asked : goal.returns-in_err-finish-in-None-clause-asked
+returns-in_err-finish-in-None-clause-asked g c =
+    let s = c.requires.stands in
+    let mid = g.F.Files.seen c.convert_records.new.files in
+    let d = c.in_ok-convert_records.ensures.converted in
+    let p = c.in_err-finish-in-None.ensures.stopped (with_reads s.0 mid) s.1 (s.2 ++ concat d.5.ones) (d.5.takes s.0 s.1 s.2 s.3) in
+    let same = stops_asked c.in_err-finish-in-None.field-0.0 _ (g.F.Files.seen c.finish.new.files) p.2 in
+    omega (arith, same, c.convert_records.ensures.asked)
+
+pub returns-in_err-stop-in-Some-clause-asked : goal.returns-in_err-stop-in-Some-clause-asked
+returns-in_err-stop-in-Some-clause-asked g c =
+    let s = c.requires.stands in
+    let mid = g.F.Files.seen c.convert_records.new.files in
+    let d = c.in_ok-convert_records.ensures.converted in
+    let p = c.in_err-stop-in-Some.ensures.broken (with_reads s.0 mid) s.1 (s.2 ++ concat d.5.ones) (d.5.takes s.0 s.1 s.2 s.3) in
+    let same = stops_asked c.in_err-stop-in-Some.field-0.0 _ (g.F.Files.seen c.stop.new.files) p.1 in
+    omega (arith, same, c.convert_records.ensures.asked)
+
+pub returns-in_ok-finish-in-None-clause-asked : goal.returns-in_ok-finish-in-None-clause-asked
+returns-in_ok-finish-in-None-clause-asked g c = omega (arith, c.in_ok-finish-in-None.ensures.calm.asked, c.convert_records.ensures.asked)
+
+pub returns-in_ok-stop-in-Some-clause-asked : goal.returns-in_ok-stop-in-Some-clause-asked
+returns-in_ok-stop-in-Some-clause-asked g c = omega (arith, c.in_ok-stop-in-Some.ensures.calm.asked, c.convert_records.ensures.asked)

@@ -13,4 +13,4 @@ pub loop-i-preserved : goal.loop-i-preserved
 loop-i-preserved g c =
     one_mapped (λ tap. (goal.Tap-dyn g (tap.vtable, tap.value)).tap_seen tap.value) (λ tap. shown tap c.args.point.now) _ _ _
     c.index-taps-i.result _ (subst (λ n. c.loop-i.i < n) (sym c.loop-i.auto.taps) c.loop-i-test.true) c.loop-i.auto.taps
-    c.loop-i.invariant.0 c.loop-i.invariant.1 c.in_ok-show_one.ensures
+    c.loop-i.invariant.0 c.loop-i.invariant.1 c.in_ok-show_one.ensures.shown

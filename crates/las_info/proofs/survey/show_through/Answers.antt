@@ -1,8 +1,8 @@
 use Rattle.std.proofs.Common.{◌/◌, ◌∷◌, ◌++◌, ◌∙◌, [], length, ap, arith, refl}
 use Rattle.las_header.proofs.Cutting.{left_first, left_next}
 use Rattle.las_info.specs.Tallies.{shown_all}
-use Rattle.las_info.proofs.Cuts.{cuts_all, cuts_none, cuts_one}
-use Rattle.las_info.proofs.Shown.{next_shown, room_next}
+use Rattle.las_info.proofs.Cuts.{cuts_all, cuts_first, cuts_none, cuts_one}
+use Rattle.las_info.proofs.Shown.{next_shown, on_err, room_next}
 use Rattle.las_info.proofs.survey.show_through.Goals as goal
 
 pub loop-turn-init : goal.loop-turn-init
@@ -28,12 +28,20 @@ loop-turn-preserved g c =
       shows = (
         s.0 ++ point ∷ [],
         cuts_one size n t c.args.block.now c.loop-turn.rest.now point c.split_at.result.1.now s.0 c.loop-turn-test.true c.split_at.ensures.front c.split_at.ensures.back s.1,
-        next_shown _ _ _ s.0 point s.2 c.in_ok-show_one.ensures,
+        next_shown _ _ _ s.0 point s.2 c.in_ok-show_one.ensures.shown,
       );
     }
 
-pub returns : goal.returns
-returns g c =
+pub returns-in_err-show_one-clause-err : goal.returns-in_err-show_one-clause-err
+returns-in_err-show_one-clause-err g c =
+    let size = c.args.size in
+    let n = length c.args.block.now / size in
+    let s = c.loop-turn.invariant.shows in
+    let done = s.2 ∙ ap (shown_all _) (cuts_first size n c.loop-turn._turn c.args.block.now c.loop-turn.rest.now s.0 s.1) in
+    on_err c.from_residual.result (c.loop-turn._turn, c.in_err-show_one.ensures.err ∙ done)
+
+pub returns-clause-shown : goal.returns-clause-shown
+returns-clause-shown g c =
     let size = c.args.size in
     let n = length c.args.block.now / size in
     let s = c.loop-turn.invariant.shows in

@@ -75,7 +75,7 @@ returns-in_err-split_records-clause-left g c =
     (λ file st l. λ records refusal to. subst (λ (ps : List PartFile). LeavesParts ps old now) (files_are task first file records same st) (l records refusal to)) c.requires.stands k in
     let p = c.in_err-split_records.ensures.left in
     if_err _ c.from_residual-in_err-split_records.result _ c.from_residual-in_err-split_records.ensures.1
-    (turn mid (leaves_splits task old first reader (2 * c.hands-hands.result) ready c.requires.new.first head c.requires.stands p.0 p.1 p.2 mid p.3))
+    (turn mid (leaves_splits task old first reader (2 * c.hands-hands.result) ready c.requires.new.whole head c.requires.stands p.0 p.1 p.2 mid p.3))
 
 pub finish_all-requires-clause-parts : goal.finish_all-requires-clause-parts
 finish_all-requires-clause-parts g c κs lives =
@@ -96,7 +96,7 @@ finish_all-requires-clause-parts g c κs lives =
     let ws = c.split_records.new.parts.writers.items in
     let d = c.in_ok-split_records.ensures.takes in
     let ends = subst (EndsSplitting old reader d.0 d.2) c.in-None.is d.5 in
-    let e = splits_end task old first reader (2 * c.hands-hands.result) ready c.requires.new.first head c.requires.stands d.0 d.1 d.3 mid ns ws d.2 None d.4 ends in
+    let e = splits_end task old first reader (2 * c.hands-hands.result) ready c.requires.new.whole head c.requires.stands d.0 d.1 d.3 mid ns ws d.2 None d.4 ends in
     (task, old, e.0, e.1)
 
 pub returns-in-None-clause-split : goal.returns-in-None-clause-split
@@ -118,7 +118,7 @@ returns-in-None-clause-split g c =
     let ws = c.split_records.new.parts.writers.items in
     let d = c.in_ok-split_records.ensures.takes in
     let ends = subst (EndsSplitting old reader d.0 d.2) c.in-None.is d.5 in
-    let e = splits_end task old first reader (2 * c.hands-hands.result) ready c.requires.new.first head c.requires.stands d.0 d.1 d.3 mid ns ws d.2 None d.4 ends in
+    let e = splits_end task old first reader (2 * c.hands-hands.result) ready c.requires.new.whole head c.requires.stands d.0 d.1 d.3 mid ns ws d.2 None d.4 ends in
     let new = (g.F.Files.seen c.finish_all.new.files).held in
     if_ok_weaker _ _ c.finish_all.result
     (λ numbers x.
@@ -150,7 +150,7 @@ returns-in-None-clause-left g c =
     (λ file st l. λ records refusal to. subst (λ (ps : List PartFile). LeavesParts ps old now) (files_are task first file records same st) (l records refusal to)) c.requires.stands k in
     let d = c.in_ok-split_records.ensures.takes in
     let ends = subst (EndsSplitting old reader d.0 d.2) c.in-None.is d.5 in
-    let e = splits_end task old first reader (2 * c.hands-hands.result) ready c.requires.new.first head c.requires.stands d.0 d.1 d.3 mid ns ws d.2 None d.4 ends in
+    let e = splits_end task old first reader (2 * c.hands-hands.result) ready c.requires.new.whole head c.requires.stands d.0 d.1 d.3 mid ns ws d.2 None d.4 ends in
     let new = (g.F.Files.seen c.finish_all.new.files).held in
     err_if _ c.finish_all.result (λ fault l. turn new (only_leaves task old new first.name e.0 None e.2 l)) (c.finish_all.ensures.left task old e.0 e.1)
 
@@ -173,7 +173,7 @@ stop_all-requires-clause-parts g c κs lives =
     let ws = c.split_records.new.parts.writers.items in
     let d = c.in_ok-split_records.ensures.takes in
     let ends = subst (EndsSplitting old reader d.0 d.2) c.in-Some.is d.5 in
-    let e = splits_end task old first reader (2 * c.hands-hands.result) ready c.requires.new.first head c.requires.stands d.0 d.1 d.3 mid ns ws d.2 (Some c.in-Some.cause) d.4 ends in
+    let e = splits_end task old first reader (2 * c.hands-hands.result) ready c.requires.new.whole head c.requires.stands d.0 d.1 d.3 mid ns ws d.2 (Some c.in-Some.cause) d.4 ends in
     (task, old, e.0, e.1)
 
 pub returns-in_err-stop_all-in-Some-clause-left : goal.returns-in_err-stop_all-in-Some-clause-left
@@ -199,7 +199,7 @@ returns-in_err-stop_all-in-Some-clause-left g c =
     (λ file st l. λ records refusal to. subst (λ (ps : List PartFile). LeavesParts ps old now) (files_are task first file records same st) (l records refusal to)) c.requires.stands k in
     let d = c.in_ok-split_records.ensures.takes in
     let ends = subst (EndsSplitting old reader d.0 d.2) c.in-Some.is d.5 in
-    let e = splits_end task old first reader (2 * c.hands-hands.result) ready c.requires.new.first head c.requires.stands d.0 d.1 d.3 mid ns ws d.2 (Some c.in-Some.cause) d.4 ends in
+    let e = splits_end task old first reader (2 * c.hands-hands.result) ready c.requires.new.whole head c.requires.stands d.0 d.1 d.3 mid ns ws d.2 (Some c.in-Some.cause) d.4 ends in
     let new = (g.F.Files.seen c.stop_all.new.files).held in
     let l = prefixes_leave task old new e.0 (c.in_err-stop_all-in-Some.ensures.left task old e.0 e.1) in
     if_err _ c.from_residual-in_err-stop_all-in-Some.result _ c.from_residual-in_err-stop_all-in-Some.ensures.1 (turn new (only_leaves task old new first.name e.0 (Some c.in-Some.cause) e.2 l))
@@ -223,7 +223,7 @@ returns-clause-refused g c cause is =
     let ws = c.split_records.new.parts.writers.items in
     let d = c.in_ok-split_records.ensures.takes in
     let ends = subst (EndsSplitting old reader d.0 d.2) c.in-Some.is d.5 in
-    let e = splits_end task old first reader (2 * c.hands-hands.result) ready c.requires.new.first head c.requires.stands d.0 d.1 d.3 mid ns ws d.2 (Some c.in-Some.cause) d.4 ends in
+    let e = splits_end task old first reader (2 * c.hands-hands.result) ready c.requires.new.whole head c.requires.stands d.0 d.1 d.3 mid ns ws d.2 (Some c.in-Some.cause) d.4 ends in
     let new = (g.F.Files.seen c.stop_all.new.files).held in
     let is_cause : c.in-Some.cause ≡ cause = cc in
     let s = c.in_ok-stop_all-in-Some.ensures.stopped task old e.0 e.1 in
@@ -254,7 +254,7 @@ returns-clause-left g c =
     (λ file st l. λ records refusal to. subst (λ (ps : List PartFile). LeavesParts ps old now) (files_are task first file records same st) (l records refusal to)) c.requires.stands k in
     let d = c.in_ok-split_records.ensures.takes in
     let ends = subst (EndsSplitting old reader d.0 d.2) c.in-Some.is d.5 in
-    let e = splits_end task old first reader (2 * c.hands-hands.result) ready c.requires.new.first head c.requires.stands d.0 d.1 d.3 mid ns ws d.2 (Some c.in-Some.cause) d.4 ends in
+    let e = splits_end task old first reader (2 * c.hands-hands.result) ready c.requires.new.whole head c.requires.stands d.0 d.1 d.3 mid ns ws d.2 (Some c.in-Some.cause) d.4 ends in
     let new = (g.F.Files.seen c.stop_all.new.files).held in
     let s = c.in_ok-stop_all-in-Some.ensures.stopped task old e.0 e.1 in
     turn new (only_leaves task old new first.name e.0 (Some c.in-Some.cause) e.2 (stopped_leave task old mid new ns ws e.0 e.1 s))
@@ -272,7 +272,7 @@ returns-in_err-split_records-clause-some g c is =
     let head : IsHead first.head.bytes = subst (λ (h : HeadView). IsHead h.bytes) heads c.plain_head.ensures.head in
     let made = if_err _ c.from_residual-in_err-split_records.result _ c.from_residual-in_err-split_records.ensures.1 c.in_err-split_records.ensures.some in
     let p = of_fault c.from_residual-in_err-split_records.result Write _ made is in
-    splits_one task old first reader (2 * c.hands-hands.result) ready c.requires.new.first head c.requires.stands p.0 p.1 p.2 p.3
+    splits_one task old first reader (2 * c.hands-hands.result) ready c.requires.new.whole head c.requires.stands p.0 p.1 p.2 p.3
 
 pub returns-in-None-clause-some : goal.returns-in-None-clause-some
 returns-in-None-clause-some g c is =
@@ -290,7 +290,7 @@ returns-in-None-clause-some g c is =
     let ws = c.split_records.new.parts.writers.items in
     let d = c.in_ok-split_records.ensures.takes in
     let ends = subst (EndsSplitting old reader d.0 d.2) c.in-None.is d.5 in
-    let e = splits_end task old first reader (2 * c.hands-hands.result) ready c.requires.new.first head c.requires.stands d.0 d.1 d.3 mid ns ws d.2 None d.4 ends in
+    let e = splits_end task old first reader (2 * c.hands-hands.result) ready c.requires.new.whole head c.requires.stands d.0 d.1 d.3 mid ns ws d.2 None d.4 ends in
     only_some rule old first.name e.0 None e.2 (of_fault c.finish_all.result Write (1 ≤ length e.0) (c.finish_all.ensures.some task old e.0 e.1) is)
 
 pub returns-in_err-stop_all-in-Some-clause-some : goal.returns-in_err-stop_all-in-Some-clause-some
@@ -309,6 +309,6 @@ returns-in_err-stop_all-in-Some-clause-some g c is =
     let ws = c.split_records.new.parts.writers.items in
     let d = c.in_ok-split_records.ensures.takes in
     let ends = subst (EndsSplitting old reader d.0 d.2) c.in-Some.is d.5 in
-    let e = splits_end task old first reader (2 * c.hands-hands.result) ready c.requires.new.first head c.requires.stands d.0 d.1 d.3 mid ns ws d.2 (Some c.in-Some.cause) d.4 ends in
+    let e = splits_end task old first reader (2 * c.hands-hands.result) ready c.requires.new.whole head c.requires.stands d.0 d.1 d.3 mid ns ws d.2 (Some c.in-Some.cause) d.4 ends in
     let made = if_err (λ f. f ≡ Write → 1 ≤ length e.0) c.from_residual-in_err-stop_all-in-Some.result _ c.from_residual-in_err-stop_all-in-Some.ensures.1 (c.in_err-stop_all-in-Some.ensures.some task old e.0 e.1) in
     only_some rule old first.name e.0 (Some c.in-Some.cause) e.2 (of_fault c.from_residual-in_err-stop_all-in-Some.result Write (1 ≤ length e.0) made is)

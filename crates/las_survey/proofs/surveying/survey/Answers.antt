@@ -19,10 +19,10 @@ show_records-requires-clause-stands g c κs within =
 pub returns-clause-surveyed : goal.returns-clause-surveyed
 returns-clause-surveyed g c =
     let old = g.F.Files.seen c.args.files.now in
-    if_ok_then _ _ c.show_records.result (λ survey h. all_shown old.held c.args.reader.now c.crew.new.self (2 * c.hands-hands.result) h.0 _ _ c.requires.new.first c.in_ok-crew.ensures.kept c.requires.stands h.1 h.2) c.show_records.ensures.shown
+    if_ok_then _ _ c.show_records.result (λ survey h. all_shown old.held c.args.reader.now c.crew.new.self (2 * c.hands-hands.result) h.0 _ _ c.requires.new.whole c.in_ok-crew.ensures.kept c.requires.stands h.1 h.2) c.show_records.ensures.shown
 
 pub returns-clause-refused : goal.returns-clause-refused
 returns-clause-refused g c = λ cause is.
     let old = g.F.Files.seen c.args.files.now in
     let h = c.show_records.ensures.bad cause is in
-    bad_shown old.held c.args.reader.now c.crew.new.self (2 * c.hands-hands.result) h.0 h.1 cause c.requires.new.first c.in_ok-crew.ensures.kept c.requires.stands h.2 h.3
+    bad_shown old.held c.args.reader.now c.crew.new.self (2 * c.hands-hands.result) h.0 h.1 cause c.requires.new.whole c.in_ok-crew.ensures.kept c.requires.stands h.2 h.3

@@ -7,6 +7,7 @@ use Rattle.laz_chunk.specs.Layouts.{layout, record_length}
 use Rattle.laz_file.specs.Unpacking.{HoldsNone}
 use Rattle.laz_file.proofs.Knowing.{known_then}
 use Rattle.laz_file.proofs.Heads.{same_cause}
+use Rattle.laz_file.proofs.Asking.{sum_take}
 use Rattle.laz_file.proofs.BatchAnswers.{cut_short, front_lies, front_none, front_only}
 use Rattle.laz_file.proofs.chunks.next_chunks.Goals as goal
 
@@ -74,3 +75,21 @@ returns-clause-cut g c = λ lt.
     let cut = subst (λ (n : ℕ). n < min (length c.args.inputs.now) (length counts) → (bytes : List ℕ) → length bytes ≡ get_or sizes n 0 → HoldsNone l (get_or counts n 0) bytes) same c.batch_of-batch.ensures.cut (omega (arith, lt, c.requires.inputs)) in
     known_then _ _ _ _ (λ file lie. cut_short l file c.args.place counts sizes good c.requires.same (omega (arith, lt)) lie cut) c.requires.lie)
     (cases_lt good batch)
+
+pub returns-in_err-good-clause-asked : goal.returns-in_err-good-clause-asked
+returns-in_err-good-clause-asked g c =
+    let most = min (2 * length c.args.crew.now) (length c.args.counts.now) in
+    let fits : c.batch_of-batch.result ≤ most = omega (arith, c.batch_of-batch.ensures.within, c.requires.inputs) in
+    omega (arith, c.work_chunks.ensures.asked, sum_take c.batch_of-batch.result most c.args.sizes.now fits)
+
+pub returns-then-good-eq0-clause-asked : goal.returns-then-good-eq0-clause-asked
+returns-then-good-eq0-clause-asked g c =
+    let most = min (2 * length c.args.crew.now) (length c.args.counts.now) in
+    let fits : c.batch_of-batch.result ≤ most = omega (arith, c.batch_of-batch.ensures.within, c.requires.inputs) in
+    omega (arith, c.work_chunks.ensures.asked, sum_take c.batch_of-batch.result most c.args.sizes.now fits)
+
+pub returns-clause-asked : goal.returns-clause-asked
+returns-clause-asked g c =
+    let most = min (2 * length c.args.crew.now) (length c.args.counts.now) in
+    let fits : c.batch_of-batch.result ≤ most = omega (arith, c.batch_of-batch.ensures.within, c.requires.inputs) in
+    omega (arith, c.work_chunks.ensures.asked, sum_take c.batch_of-batch.result most c.args.sizes.now fits)

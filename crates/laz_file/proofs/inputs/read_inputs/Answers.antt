@@ -33,5 +33,10 @@ loop-i-preserved g c =
       faults = one.faults ∙ inv.faults;
       held = one.held ∙ inv.held;
       writes = one.writes ∙ inv.writes;
+      asked = omega (arith, inv.asked, one.asked, next_place sizes i (omega (arith, c.requires.same.0, lt)));
       later = later_then _ _ _ inv.later one.later;
     }
+
+pub returns-in_err-read_input-clause-asked : goal.returns-in_err-read_input-clause-asked
+returns-in_err-read_input-clause-asked g c =
+    omega (arith, c.loop-i.invariant.asked, c.in_err-read_input.ensures.asked, end_within c.args.sizes.now c.loop-i.i (omega (arith, c.requires.same.0, c.loop-i-test.true)))

@@ -3,6 +3,7 @@ use Rattle.std.specs.Prelude.{sum}
 use Rattle.las_outside.specs.Files.{WhereKnown}
 use Rattle.las_outside.specs.Outside.{Later}
 use Rattle.laz_workers.specs.Work.{texts}
+use Rattle.laz_file.specs.Asking.{AsksAtMost}
 use Rattle.laz_file.specs.Pieces.{Piece, piece_bytes, pieces_from}
 use Rattle.laz_file.specs.Unpacking.{IsInput, unpack_input}
 use Rattle.laz_file.proofs.inputs.read_inputs.Given as goal
@@ -15,5 +16,6 @@ invariant-loop-i g l = record {
   faults : (g.F.Files.seen l.files).read_faults ≡ (g.F.Files.seen l.fn.files).read_faults;
   held : (g.F.Files.seen l.files).held ≡ (g.F.Files.seen l.fn.files).held;
   writes : (g.F.Files.seen l.files).write_faults ≡ (g.F.Files.seen l.fn.files).write_faults;
+  asked : AsksAtMost (sum (take l.i l.sizes)) (g.F.Files.seen l.fn.files) (g.F.Files.seen l.files);
   later : Later (g.F.Files.seen l.fn.files) (g.F.Files.seen l.files);
 }

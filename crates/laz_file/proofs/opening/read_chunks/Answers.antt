@@ -1,8 +1,10 @@
-use Rattle.std.proofs.Common.{◌≡◌, ◌∙◌, subst, List, ℕ, take, drop}
+use Rattle.std.proofs.Common.{◌≡◌, sym, ◌∙◌, ap, subst, List, ℕ, length, take, drop, arith}
 use Rattle.std.specs.Prelude.{Some}
+use Rattle.las_header.specs.Numbers.{number_at}
 use Rattle.laz_table.specs.Chunks.{IsAccepted, IsFirstFault}
 use Rattle.laz_file.specs.declared.fault.Fault.TheVariants.{Refused}
 use Rattle.laz_file.specs.Reading.{table_size}
+use Rattle.laz_file.proofs.AllParts.{accepted_some}
 use Rattle.laz_file.proofs.Knowing.{known_then}
 use Rattle.laz_file.proofs.Heads.{never_refused}
 use Rattle.laz_file.proofs.TableFront.{accepted_from_front, accepted_lists, accepted_points, first_from_front}
@@ -30,3 +32,14 @@ returns-clause-refused g c = λ cause is.
     known_then _ _ _ _ (λ file front. let part = drop c.args.place.start (take c.args.place.end file) in
     first_from_front c.args.blocks c.requires.few part c.args.total (Some cause)
     (c.fault_of.ensures.first (take (table_size part) part) c.args.blocks c.args.total cause same (subst (λ (b : List ℕ). IsFirstFault b c.args.blocks c.args.total c.in-Err.fault) (c.deref.ensures.value ∙ front) c.in-Err.ensures))) c.in_ok-bytes.ensures.bytes
+
+pub returns-in-Ok-clause-some : goal.returns-in-Ok-clause-some
+returns-in-Ok-clause-some g c = accepted_some c.deref.result.now c.args.blocks c.args.total c.in-Ok.list.sizes.items c.in-Ok.list.counts.items c.requires.size c.in-Ok.ensures
+
+pub returns-in-Ok-clause-asked : goal.returns-in-Ok-clause-asked
+returns-in-Ok-clause-asked g c =
+    let sizes = c.in-Ok.list.sizes.items in
+    let counts = c.in-Ok.list.counts.items in
+    let lists = accepted_lists c.deref.result.now c.args.blocks c.args.total sizes counts c.requires.few c.in-Ok.ensures in
+    let number : number_at 4 4 c.in_ok-bytes.bytes.items ≡ length counts = ap (number_at 4 4) (sym c.deref.ensures.value) ∙ c.in-Ok.ensures.table.holds.number in
+    omega (arith, c.in_ok-bytes.ensures.asked, c.in_ok-bytes.ensures.short, number, lists.same)

@@ -46,3 +46,11 @@ returns-in-Err-clause-refused g c = λ cause is.
 
 pub returns-in-Ok-read-clause-plain : goal.returns-in-Ok-read-clause-plain
 returns-in-Ok-read-clause-plain g c = no_stray_read _ _ c.read.result c.in-Ok-read.head c.read.ensures.head c.read.ensures.refused c.in-Ok-read.is
+
+pub returns-in-Ok-read-clause-asked : goal.returns-in-Ok-read-clause-asked
+returns-in-Ok-read-clause-asked g c =
+    let same = ap (λ (h : HeadView). length h.bytes) (head_given _ _ c.read.result c.in-Ok-read.head c.read.ensures.head c.read.ensures.refused c.in-Ok-read.is) in
+    let before = ap (λ (o : Outside). o.asked) c.in-Ok.ensures.ok in
+    let front = c.in_ok-offset.ensures in
+    let rest = c.in_ok-read_on.ensures in
+    omega (arith, same, before, front.asked, front.len, front.bounds, rest.asked, rest.len, c.read_on.new.bytes.ok.0)

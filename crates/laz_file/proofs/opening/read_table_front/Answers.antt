@@ -1,7 +1,7 @@
 use Rattle.std.proofs.Common.{◌-◌, refl, drop, sym, ◌∙◌, ap, List, ℕ, length, take, arith}
 use Rattle.laz_file.specs.Reading.{table_size}
 use Rattle.laz_file.proofs.Knowing.{known_at, known_three}
-use Rattle.laz_file.proofs.TableFront.{front_of_table}
+use Rattle.laz_file.proofs.TableFront.{front_of_table, short_front}
 use Rattle.laz_file.proofs.opening.read_table_front.Goals as goal
 
 pub returns-clause-bytes : goal.returns-clause-bytes
@@ -18,3 +18,15 @@ returns-clause-bytes g c =
     front_of_table file first bytes start end (end - start) most c.requires.order within refl first_is c.table_size-most.ensures.bounds.0
     (λ long. c.table_size-most.ensures.size (omega (arith, long, ap (λ (l : List ℕ). length l) c.deref.ensures.value)) ∙ ap (λ (l : List ℕ). table_size l) c.deref.ensures.value)
     (two first_known ∙ ap (λ (n : ℕ). take n (drop start file)) c.min-2.ensures)) c.requires.within c.in_ok-read_on.ensures.bytes (known_at _ _ _ _ held1 c.in_ok-read_on-2.ensures.bytes)
+
+pub returns-clause-short : goal.returns-clause-short
+returns-clause-short g c =
+    let first = c.read_on.new.bytes.items in
+    let bytes = c.read_on-2.new.bytes.items in
+    let one = c.in_ok-read_on.ensures in
+    let two = c.in_ok-read_on-2.ensures in
+    short_front first bytes (c.args.place.end - c.args.place.start) c.table_size-most.result
+    (omega (arith, c.read_on.new.bytes.ok.0, one.len, c.min.ensures))
+    (omega (arith, c.read_on-2.new.bytes.ok.0, two.len, c.min-2.ensures))
+    (ap (λ (n : ℕ). take n bytes) (sym c.read_on.new.bytes.ok.0) ∙ two.front)
+    (λ long. c.table_size-most.ensures.size (omega (arith, long, ap (λ (l : List ℕ). length l) c.deref.ensures.value)) ∙ ap (λ (l : List ℕ). table_size l) c.deref.ensures.value)

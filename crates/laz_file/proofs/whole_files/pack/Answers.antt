@@ -34,7 +34,7 @@ fill-requires-clause-reads g c κs within =
     let mid = g.F.Files.seen c.create.new.files in
     let first = c.args.reader in
     let out : Output = record { name = c.args.output.now; head = c.head-head.result.now.bytes; chunk = Some c.args.chunk; counted = false } in
-    known_reader old mid mid first c.crew.new.self 2 c.in_ok-crew.ensures.kept c.requires.new.first c.in_ok-writer.writer out c.in_ok-writer.ensures.stands (λ e. c.requires.names (sym e)) c.requires.stands (StandsFor c.crew.new.self)
+    known_reader old mid mid first c.crew.new.self 2 c.in_ok-crew.ensures.kept c.requires.new.whole c.in_ok-writer.writer out c.in_ok-writer.ensures.stands (λ e. c.requires.names (sym e)) c.requires.stands (StandsFor c.crew.new.self)
     (known_then old.held first.name (StandsFor first) (StandsFor c.crew.new.self) (λ file s. stands_ready first c.crew.new.self 2 file c.in_ok-crew.ensures.kept s) c.requires.stands)
 
 pub returns-clause-packed : goal.returns-clause-packed
@@ -54,7 +54,7 @@ returns-clause-packed g c =
     (λ file. (blocks : List (List ℕ)) × AreOnlyRecords file blocks None × (new.held ≡ with_file old.held name (finished out (concat blocks))))
     (λ file. new.held ≡ with_file old.held name (packed_file file c.args.chunk))
     (λ file st k. k.2 ∙ ap (with_file old.held name) (packs first file st plain is_head name head c.args.chunk k.0 same k.1.are)) c.requires.stands
-    (finishes old mid new first c.crew.new.self 2 c.in_ok-crew.ensures.kept c.requires.new.first c.in_ok-writer.writer out s (λ e. c.requires.names (sym e)) c.requires.stands f))
+    (finishes old mid new first c.crew.new.self 2 c.in_ok-crew.ensures.kept c.requires.new.whole c.in_ok-writer.writer out s (λ e. c.requires.names (sym e)) c.requires.stands f))
     (c.fill.ensures.finished old out [] s)
 
 pub returns-clause-left : goal.returns-clause-left
@@ -73,7 +73,7 @@ returns-clause-left g c =
     err_then (EndsCopying mid.held old.held mid new c.crew.new.self out []) (λ fault. WhereKnown old.held first.name (λ file. LeavesUnfinished (packed_output name file c.args.chunk) (drop (point_offset_of file) file) old.held new.held)) c.fill.result
     (λ fault e. known_both old.held first.name (StandsFor first) (λ file. LeavesRecords out file old.held new.held) (λ file. LeavesUnfinished (packed_output name file c.args.chunk) (drop (point_offset_of file) file) old.held new.held)
     (λ file st k. subst (λ (o : Output). LeavesUnfinished o (drop (point_offset_of file) file) old.held new.held) (packed_out first file name head c.args.chunk st plain same) (leaves_plain first file st plain is_head out old.held new.held k)) c.requires.stands
-    (leaves old mid new first c.crew.new.self 2 c.in_ok-crew.ensures.kept c.requires.new.first c.in_ok-writer.writer out s (λ e. c.requires.names (sym e)) c.requires.stands (ends_left mid.held old mid new c.crew.new.self c.in_ok-writer.writer out [] fault s e)))
+    (leaves old mid new first c.crew.new.self 2 c.in_ok-crew.ensures.kept c.requires.new.whole c.in_ok-writer.writer out s (λ e. c.requires.names (sym e)) c.requires.stands (ends_left mid.held old mid new c.crew.new.self c.in_ok-writer.writer out [] fault s e)))
     (c.fill.ensures.ends old out [] s)
 
 pub returns-clause-never : goal.returns-clause-never

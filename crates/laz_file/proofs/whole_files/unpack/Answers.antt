@@ -34,7 +34,7 @@ fill-requires-clause-reads g c κs within =
     let first = c.args.reader in
     let head = c.in_ok-head.head.bytes in
     let out : Output = record { name = c.args.output.now; head = head; chunk = None; counted = false } in
-    known_reader old mid mid first c.crew.new.self (2 * c.hands-hands.result) c.in_ok-crew.ensures.kept c.requires.new.first c.in_ok-writer.writer out c.in_ok-writer.ensures.stands (λ e. c.requires.names (sym e)) c.requires.stands (StandsFor c.crew.new.self)
+    known_reader old mid mid first c.crew.new.self (2 * c.hands-hands.result) c.in_ok-crew.ensures.kept c.requires.new.whole c.in_ok-writer.writer out c.in_ok-writer.ensures.stands (λ e. c.requires.names (sym e)) c.requires.stands (StandsFor c.crew.new.self)
     (known_then old.held first.name (StandsFor first) (StandsFor c.crew.new.self) (λ file s. stands_ready first c.crew.new.self (2 * c.hands-hands.result) file c.in_ok-crew.ensures.kept s) c.requires.stands)
 
 pub returns-clause-unpacked : goal.returns-clause-unpacked
@@ -52,7 +52,7 @@ returns-clause-unpacked g c =
     (λ file. (blocks : List (List ℕ)) × AreOnlyRecords file blocks None × (new.held ≡ with_file old.held name (finished out (concat blocks))))
     (λ file. (blocks : List (List ℕ)) × AreOnlyRecords file blocks None × (new.held ≡ with_file old.held name (plain_head file ++ concat blocks)))
     (λ file st k. (k.0, k.1, k.2 ∙ ap (λ (o : Output). with_file old.held name (finished o (concat k.0))) (plain_out first file name head st plain))) c.requires.stands
-    (finishes old mid new first c.crew.new.self (2 * c.hands-hands.result) c.in_ok-crew.ensures.kept c.requires.new.first c.in_ok-writer.writer out s (λ e. c.requires.names (sym e)) c.requires.stands f))
+    (finishes old mid new first c.crew.new.self (2 * c.hands-hands.result) c.in_ok-crew.ensures.kept c.requires.new.whole c.in_ok-writer.writer out s (λ e. c.requires.names (sym e)) c.requires.stands f))
     (c.fill.ensures.finished old out [] s)
 
 pub returns-clause-refused : goal.returns-clause-refused
@@ -71,7 +71,7 @@ returns-clause-refused g c cause is =
     (λ file. (blocks : List (List ℕ)) × (i : ℕ) × (cause ≡ BadChunk i) × AreOnlyRecords file blocks (Some i) × (new.held ≡ with_file old.held name (stopped out (concat blocks))))
     (λ file. (blocks : List (List ℕ)) × (i : ℕ) × (cause ≡ BadChunk i) × AreOnlyRecords file blocks (Some i) × (new.held ≡ with_file old.held name (stopped (plain_output name file) (concat blocks))))
     (λ file st k. (k.0, k.1, k.2, k.3, k.4 ∙ ap (λ (o : Output). with_file old.held name (stopped o (concat k.0))) (plain_out first file name head st plain))) c.requires.stands
-    (refuses old mid new first c.crew.new.self (2 * c.hands-hands.result) c.in_ok-crew.ensures.kept c.requires.new.first c.in_ok-writer.writer out s (λ e. c.requires.names (sym e)) c.requires.stands cause e)
+    (refuses old mid new first c.crew.new.self (2 * c.hands-hands.result) c.in_ok-crew.ensures.kept c.requires.new.whole c.in_ok-writer.writer out s (λ e. c.requires.names (sym e)) c.requires.stands cause e)
 
 pub returns-clause-bad : goal.returns-clause-bad
 returns-clause-bad g c cause is =
@@ -96,7 +96,7 @@ returns-clause-left g c =
     err_then (EndsCopying mid.held old.held mid new c.crew.new.self out []) (λ fault. WhereKnown old.held first.name (λ file. LeavesRecords (plain_output name file) file old.held new.held)) c.fill.result
     (λ fault e. known_both old.held first.name (StandsFor first) (λ file. LeavesRecords out file old.held new.held) (λ file. LeavesRecords (plain_output name file) file old.held new.held)
     (λ file st k. subst (λ (o : Output). LeavesRecords o file old.held new.held) (plain_out first file name head st plain) k) c.requires.stands
-    (leaves old mid new first c.crew.new.self (2 * c.hands-hands.result) c.in_ok-crew.ensures.kept c.requires.new.first c.in_ok-writer.writer out s (λ e. c.requires.names (sym e)) c.requires.stands (ends_left mid.held old mid new c.crew.new.self c.in_ok-writer.writer out [] fault s e)))
+    (leaves old mid new first c.crew.new.self (2 * c.hands-hands.result) c.in_ok-crew.ensures.kept c.requires.new.whole c.in_ok-writer.writer out s (λ e. c.requires.names (sym e)) c.requires.stands (ends_left mid.held old mid new c.crew.new.self c.in_ok-writer.writer out [] fault s e)))
     (c.fill.ensures.ends old out [] s)
 
 pub returns-clause-read : goal.returns-clause-read

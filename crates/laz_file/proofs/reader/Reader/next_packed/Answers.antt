@@ -1,19 +1,23 @@
-use Rattle.std.proofs.Common.{◌≡◌, ◌≤◌, ◌*◌, ◌+◌, ◌-◌, ◌∙◌, sym, ap, subst, ℕ, List, length, take, drop, Option, Err, arith}
-use Rattle.std.specs.Prelude.{All, IsSome, sum}
-use Rattle.std.proofs.lemmas.List.{length-drop}
+use Rattle.std.proofs.Common.{◌≡◌, ◌<◌, ◌≤◌, ◌*◌, ◌+◌, ◌-◌, ◌∙◌, min, true, false, refl, sym, ap, subst, ℕ, List, [], length, take, drop, get_or, Option, Err, arith}
+use Rattle.std.specs.Prelude.{All, IsSome, nat_lt, sum}
+use Rattle.std.proofs.lemmas.Bool.{ltb-true}
+use Rattle.std.proofs.lemmas.List.{length-take}
 use Rattle.las_header.specs.declared.refusal.Refusal.TheVariants.{BadChunk}
 use Rattle.las_header.specs.Fields.{record_length_of}
 use Rattle.las_header.specs.Heads.{IsHead}
-use Rattle.laz_chunk.specs.Layouts.{Format}
+use Rattle.laz_chunk.specs.Layouts.{Format, layout, record_length}
 use Rattle.laz_workers.specs.Rooms.{lengths_of, rooms_of}
 use Rattle.laz_file.specs.declared.fault.Fault.{Fault}
-use Rattle.laz_file.specs.Packing.{format_in}
+use Rattle.laz_file.specs.Packing.{format_in, record_layout}
 use Rattle.laz_file.specs.Pieces.{Piece}
-use Rattle.laz_file.specs.Reading.{AreWholeBlocks, LiesIn, ReaderSeen, pieces_left}
-use Rattle.laz_file.specs.Records.{HoldOnly}
+use Rattle.laz_file.specs.Ranges.{cuts_from}
+use Rattle.laz_file.specs.Reading.{AreCutFrom, AreWholeBlocks, HaveRoom, Position, ReaderSeen, StandsFor, pieces_left}
+use Rattle.laz_file.specs.Records.{HoldOnly, IsBadPiece}
+use Rattle.laz_file.proofs.Asking.{asked_all, asked_batch}
+use Rattle.laz_file.proofs.Taking.{on_err}
 use Rattle.laz_file.proofs.Knowing.{known_as, known_both, known_then}
-use Rattle.laz_file.proofs.Heads.{residual_is}
-use Rattle.laz_file.proofs.Batches.{as_many, batch_bad, batch_end, batch_few, batch_hold, batch_length, batch_most, batch_rooms, batch_whole, crew_later, listed, packed_step, placed_later, slice_rest}
+use Rattle.laz_file.proofs.Heads.{residual_is, same_cause}
+use Rattle.laz_file.proofs.Batches.{as_many, bad_left, batch_bad, batch_blocks, batch_count, batch_cuts, batch_end, batch_few, batch_hold, batch_length, batch_lie, batch_most, batch_rooms, batch_whole, crew_later, front_cuts, length_slice, listed, packed_step, placed_later, positive, slice_part}
 use Rattle.laz_file.proofs.reader.Reader.next_packed.Goals as goal
 
 pub next_chunks-requires-clause-lie : goal.next_chunks-requires-clause-lie
@@ -21,42 +25,78 @@ next_chunks-requires-clause-lie g c κs within =
     let r = c.self.inside in
     let now = c.args.self.now in
     let v = c.self.view_is in
+    let m = r.ends.last - r.next in
+    let p : Position = record { at = r.place; blocks = r.blocks; records = r.records; ends = r.ends; next = r.next; batch = r.batch; bad = r.bad } in
     let format : ◌≡◌ {A = Format} (record { format = c.format.result; extra = c.extra.result }) (format_in r.head.bytes) = λ i. record { format = c.format.ensures.field i; extra = c.extra.ensures.field i } in
     let f = c.new-job.result in
-    let cs = take (length c.deref.result.now - r.next) (drop r.next c.deref.result.now) in
-    let ss = take (length c.deref-2.result.now - r.next) (drop r.next c.deref-2.result.now) in
-    let h = listed now f r.chunk (record_length_of r.head.bytes) r.place r.records r.next r.counts.items r.sizes.items c.deref.result.now c.deref-2.result.now (ap (λ (s : ReaderSeen). s.left) v) (ap (λ (s : ReaderSeen). s.chunk) v) c.requires.packed c.self.invariant.same c.deref.ensures.value c.deref-2.ensures.value (c.new-job.ensures ∙ format ∙ ap (λ (s : ReaderSeen). format_in s.head.bytes) v) in
+    let cs = take m (drop r.next c.deref.result.now) in
+    let ss = take m (drop r.next c.deref-2.result.now) in
+    let h = listed now f r.chunk (record_length_of r.head.bytes) p r.counts.items r.sizes.items c.deref.result.now c.deref-2.result.now (ap (λ (s : ReaderSeen). s.left) v) (ap (λ (s : ReaderSeen). s.chunk) v) c.requires.packed c.self.invariant.0.same c.self.invariant.1 c.deref.ensures.value c.deref-2.ensures.value (c.new-job.ensures ∙ format ∙ ap (λ (s : ReaderSeen). format_in s.head.bytes) v) in
     let name = c.deref-3.ensures ∙ ap (λ (s : ReaderSeen). s.name) v in
-    known_as _ _ _ _ (sym name) (known_then _ _ _ _ (λ file s. subst (λ (l : List Piece). All (LiesIn file) l) h.left s.lie) c.requires.stands)
+    known_as _ _ _ _ (sym name) (known_then _ _ _ _ (λ file s. batch_lie now f r.ends r.next r.place cs ss h file s.lie) c.requires.stands)
 
 pub next_chunks-requires-clause-rooms : goal.next_chunks-requires-clause-rooms
 next_chunks-requires-clause-rooms g c κs within =
     let r = c.self.inside in
     let now = c.args.self.now in
     let v = c.self.view_is in
+    let m = r.ends.last - r.next in
+    let p : Position = record { at = r.place; blocks = r.blocks; records = r.records; ends = r.ends; next = r.next; batch = r.batch; bad = r.bad } in
     let format : ◌≡◌ {A = Format} (record { format = c.format.result; extra = c.extra.result }) (format_in r.head.bytes) = λ i. record { format = c.format.ensures.field i; extra = c.extra.ensures.field i } in
     let f = c.new-job.result in
-    let cs = take (length c.deref.result.now - r.next) (drop r.next c.deref.result.now) in
-    let ss = take (length c.deref-2.result.now - r.next) (drop r.next c.deref-2.result.now) in
-    let h = listed now f r.chunk (record_length_of r.head.bytes) r.place r.records r.next r.counts.items r.sizes.items c.deref.result.now c.deref-2.result.now (ap (λ (s : ReaderSeen). s.left) v) (ap (λ (s : ReaderSeen). s.chunk) v) c.requires.packed c.self.invariant.same c.deref.ensures.value c.deref-2.ensures.value (c.new-job.ensures ∙ format ∙ ap (λ (s : ReaderSeen). format_in s.head.bytes) v) in
-    batch_rooms now f r.place cs ss h (lengths_of (rooms_of c.args.crew.now)) c.requires.crew.rooms
+    let cs = take m (drop r.next c.deref.result.now) in
+    let ss = take m (drop r.next c.deref-2.result.now) in
+    let h = listed now f r.chunk (record_length_of r.head.bytes) p r.counts.items r.sizes.items c.deref.result.now c.deref-2.result.now (ap (λ (s : ReaderSeen). s.left) v) (ap (λ (s : ReaderSeen). s.chunk) v) c.requires.packed c.self.invariant.0.same c.self.invariant.1 c.deref.ensures.value c.deref-2.ensures.value (c.new-job.ensures ∙ format ∙ ap (λ (s : ReaderSeen). format_in s.head.bytes) v) in
+    batch_rooms now f r.ends r.next r.place cs ss h (length r.head.bytes + 8) m r.next r.counts.items r.sizes.items (lengths_of (rooms_of c.args.crew.now)) c.self.invariant.0.same (slice_part c.deref.result.now r.counts.items r.next r.ends.last c.deref.ensures.value)
+    (subst (λ (ps : List Piece). HaveRoom (record_length (record_layout now.head.bytes)) ps (lengths_of (rooms_of c.args.crew.now))) (sym (ap (λ (s : ReaderSeen). s.pieces) v)) c.requires.crew.rooms)
+
+pub returns-then-self-clause-bad : goal.returns-then-self-clause-bad
+returns-then-self-clause-bad g c = λ cause is.
+    let r = c.self.inside in
+    let now = c.args.self.now in
+    let v = c.self.view_is in
+    let p : Position = record { at = r.place; blocks = r.blocks; records = r.records; ends = r.ends; next = r.next; batch = r.batch; bad = r.bad } in
+    let some = subst (λ (o : Option ℕ). IsSome o) (sym (ap (λ (s : ReaderSeen). s.chunk) v)) c.requires.packed in
+    let left = bad_left r.chunk (record_length_of r.head.bytes) p r.counts.items r.sizes.items some c.self.invariant.0.same c.self.invariant.1 c.if-self.true in (
+      sym (same_cause (BadChunk (r.next + r.blocks)) cause is) ∙ ap (λ (s : ReaderSeen). BadChunk s.next) v,
+      omega (arith, left, ap (λ (s : ReaderSeen). length s.left) v),
+      known_then (g.F.Files.seen c.args.files.now).held now.name (StandsFor now) (λ file. IsBadPiece file now.left 0) (λ file s. s.bad (sym (ap (λ (x : ReaderSeen). x.bad) v) ∙ c.if-self.true)) c.requires.stands,
+    )
+
+pub returns-clause-bad_next : goal.returns-clause-bad_next
+returns-clause-bad_next g c = λ is.
+    let r = c.self.inside in
+    let now = c.args.self.now in
+    let v = c.self.view_is in
+    let m = r.ends.last - r.next in
+    let p : Position = record { at = r.place; blocks = r.blocks; records = r.records; ends = r.ends; next = r.next; batch = r.batch; bad = r.bad } in
+    let format : ◌≡◌ {A = Format} (record { format = c.format.result; extra = c.extra.result }) (format_in r.head.bytes) = λ i. record { format = c.format.ensures.field i; extra = c.extra.ensures.field i } in
+    let f = c.new-job.result in
+    let cs = take m (drop r.next c.deref.result.now) in
+    let ss = take m (drop r.next c.deref-2.result.now) in
+    let h = listed now f r.chunk (record_length_of r.head.bytes) p r.counts.items r.sizes.items c.deref.result.now c.deref-2.result.now (ap (λ (s : ReaderSeen). s.left) v) (ap (λ (s : ReaderSeen). s.chunk) v) c.requires.packed c.self.invariant.0.same c.self.invariant.1 c.deref.ensures.value c.deref-2.ensures.value (c.new-job.ensures ∙ format ∙ ap (λ (s : ReaderSeen). format_in s.head.bytes) v) in
+    let few : c.in_ok-good.good < c.min-most.result = ltb-true c.in_ok-good.good c.min-most.result is in
+    let buffers : length r.inputs.items ≡ 2 * length c.args.crew.now = ap (λ (s : ReaderSeen). s.buffers) v ∙ c.requires.crew.buffers in
+    omega (arith, few, c.min-most.ensures, c.len.ensures, r.inputs.ok.0, buffers, batch_length now f r.ends r.next r.place cs ss h)
 
 pub returns-in_err-good-clause-bad : goal.returns-in_err-good-clause-bad
 returns-in_err-good-clause-bad g c = λ cause is.
     let r = c.self.inside in
     let now = c.args.self.now in
     let v = c.self.view_is in
+    let m = r.ends.last - r.next in
+    let p : Position = record { at = r.place; blocks = r.blocks; records = r.records; ends = r.ends; next = r.next; batch = r.batch; bad = r.bad } in
     let format : ◌≡◌ {A = Format} (record { format = c.format.result; extra = c.extra.result }) (format_in r.head.bytes) = λ i. record { format = c.format.ensures.field i; extra = c.extra.ensures.field i } in
     let f = c.new-job.result in
-    let cs = take (length c.deref.result.now - r.next) (drop r.next c.deref.result.now) in
-    let ss = take (length c.deref-2.result.now - r.next) (drop r.next c.deref-2.result.now) in
-    let h = listed now f r.chunk (record_length_of r.head.bytes) r.place r.records r.next r.counts.items r.sizes.items c.deref.result.now c.deref-2.result.now (ap (λ (s : ReaderSeen). s.left) v) (ap (λ (s : ReaderSeen). s.chunk) v) c.requires.packed c.self.invariant.same c.deref.ensures.value c.deref-2.ensures.value (c.new-job.ensures ∙ format ∙ ap (λ (s : ReaderSeen). format_in s.head.bytes) v) in
+    let cs = take m (drop r.next c.deref.result.now) in
+    let ss = take m (drop r.next c.deref-2.result.now) in
+    let h = listed now f r.chunk (record_length_of r.head.bytes) p r.counts.items r.sizes.items c.deref.result.now c.deref-2.result.now (ap (λ (s : ReaderSeen). s.left) v) (ap (λ (s : ReaderSeen). s.chunk) v) c.requires.packed c.self.invariant.0.same c.self.invariant.1 c.deref.ensures.value c.deref-2.ensures.value (c.new-job.ensures ∙ format ∙ ap (λ (s : ReaderSeen). format_in s.head.bytes) v) in
     let name = c.deref-3.ensures ∙ ap (λ (s : ReaderSeen). s.name) v in
     let same = residual_is c.from_residual.result c.in_err-good.field-0.0 cause c.from_residual.ensures.1 is in
     let b = c.in_err-good.ensures.bad cause (ap (λ (x : Fault). Err x) same) in (
       b.0 ∙ ap (λ (s : ReaderSeen). BadChunk s.next) v,
-      omega (arith, b.1, batch_length now f r.place cs ss h),
-      known_both _ _ _ _ _ (λ file s none. batch_bad now f r.place cs ss h file s 0 b.1 none) c.requires.stands (known_as _ _ _ _ name b.2),
+      omega (arith, b.1, batch_length now f r.ends r.next r.place cs ss h),
+      known_both _ _ _ _ _ (λ file s none. batch_bad now f r.ends r.next r.place cs ss h file s 0 b.1 none) c.requires.stands (known_as _ _ _ _ name b.2),
     )
 
 pub invariant_of-self-2 : goal.invariant_of-self-2
@@ -64,40 +104,52 @@ invariant_of-self-2 g c =
     let r = c.self.inside in
     let now = c.args.self.now in
     let v = c.self.view_is in
+    let m = r.ends.last - r.next in
+    let p : Position = record { at = r.place; blocks = r.blocks; records = r.records; ends = r.ends; next = r.next; batch = r.batch; bad = r.bad } in
     let format : ◌≡◌ {A = Format} (record { format = c.format.result; extra = c.extra.result }) (format_in r.head.bytes) = λ i. record { format = c.format.ensures.field i; extra = c.extra.ensures.field i } in
     let f = c.new-job.result in
-    let cs = take (length c.deref.result.now - r.next) (drop r.next c.deref.result.now) in
-    let ss = take (length c.deref-2.result.now - r.next) (drop r.next c.deref-2.result.now) in
-    let h = listed now f r.chunk (record_length_of r.head.bytes) r.place r.records r.next r.counts.items r.sizes.items c.deref.result.now c.deref-2.result.now (ap (λ (s : ReaderSeen). s.left) v) (ap (λ (s : ReaderSeen). s.chunk) v) c.requires.packed c.self.invariant.same c.deref.ensures.value c.deref-2.ensures.value (c.new-job.ensures ∙ format ∙ ap (λ (s : ReaderSeen). format_in s.head.bytes) v) in
+    let cs = take m (drop r.next c.deref.result.now) in
+    let ss = take m (drop r.next c.deref-2.result.now) in
+    let h = listed now f r.chunk (record_length_of r.head.bytes) p r.counts.items r.sizes.items c.deref.result.now c.deref-2.result.now (ap (λ (s : ReaderSeen). s.left) v) (ap (λ (s : ReaderSeen). s.chunk) v) c.requires.packed c.self.invariant.0.same c.self.invariant.1 c.deref.ensures.value c.deref-2.ensures.value (c.new-job.ensures ∙ format ∙ ap (λ (s : ReaderSeen). format_in s.head.bytes) v) in
     let n = c.in_ok-good.good in
     let within : n ≤ length cs = omega (arith, c.in_ok-good.ensures.within) in
-    let total = c.total.ensures ∙ ap (λ (m : ℕ). sum (take m ss)) (omega arith) ∙ ap (λ (l : List ℕ). sum (take n l)) (slice_rest c.deref-2.result.now r.sizes.items r.next c.deref-2.ensures.value) in
-    let counts_are = slice_rest c.deref.result.now r.counts.items r.next c.deref.ensures.value in
-    let below : n ≤ length (drop r.next r.counts.items) = omega (arith, within, ap (λ (l : List ℕ). length l) counts_are) in
-    placed_later (record_length_of r.head.bytes) r.place r.records r.blocks r.next n c.total.result r.counts.items r.sizes.items c.self.invariant below total
+    let place = c.self.invariant.1 in
+    let long : length cs ≡ m = omega (arith, ap (λ (l : List ℕ). length l) (slice_part c.deref.result.now r.counts.items r.next r.ends.last c.deref.ensures.value), length_slice m r.next r.counts.items (omega (arith, place.next, place.last))) in
+    let total = c.total.ensures ∙ ap (λ (l : List ℕ). sum (take n l)) (slice_part c.deref-2.result.now r.sizes.items r.next r.ends.last c.deref-2.ensures.value) in (
+      c.self.invariant.0,
+      placed_later (record_length_of r.head.bytes) n c.total.result _ p r.counts.items r.sizes.items c.self.invariant.0.same place (omega (arith, within, long, place.next)) total
+          (λ is.
+          let few : n < c.min-most.result = ltb-true n c.min-most.result is in
+          let below : n < length cs = omega (arith, few, c.min-most.ensures) in
+          let some : 0 < n = positive n (λ none. omega (arith, c.in_ok-good.ensures.end none, below)) in
+          (some, omega (arith, below, long))),
+    )
 
 pub returns-clause-blocks : goal.returns-clause-blocks
 returns-clause-blocks g c =
     let r = c.self.inside in
     let now = c.args.self.now in
     let v = c.self.view_is in
+    let m = r.ends.last - r.next in
+    let p : Position = record { at = r.place; blocks = r.blocks; records = r.records; ends = r.ends; next = r.next; batch = r.batch; bad = r.bad } in
     let format : ◌≡◌ {A = Format} (record { format = c.format.result; extra = c.extra.result }) (format_in r.head.bytes) = λ i. record { format = c.format.ensures.field i; extra = c.extra.ensures.field i } in
     let f = c.new-job.result in
-    let cs = take (length c.deref.result.now - r.next) (drop r.next c.deref.result.now) in
-    let ss = take (length c.deref-2.result.now - r.next) (drop r.next c.deref-2.result.now) in
-    let h = listed now f r.chunk (record_length_of r.head.bytes) r.place r.records r.next r.counts.items r.sizes.items c.deref.result.now c.deref-2.result.now (ap (λ (s : ReaderSeen). s.left) v) (ap (λ (s : ReaderSeen). s.chunk) v) c.requires.packed c.self.invariant.same c.deref.ensures.value c.deref-2.ensures.value (c.new-job.ensures ∙ format ∙ ap (λ (s : ReaderSeen). format_in s.head.bytes) v) in
+    let cs = take m (drop r.next c.deref.result.now) in
+    let ss = take m (drop r.next c.deref-2.result.now) in
+    let h = listed now f r.chunk (record_length_of r.head.bytes) p r.counts.items r.sizes.items c.deref.result.now c.deref-2.result.now (ap (λ (s : ReaderSeen). s.left) v) (ap (λ (s : ReaderSeen). s.chunk) v) c.requires.packed c.self.invariant.0.same c.self.invariant.1 c.deref.ensures.value c.deref-2.ensures.value (c.new-job.ensures ∙ format ∙ ap (λ (s : ReaderSeen). format_in s.head.bytes) v) in
     let name = c.deref-3.ensures ∙ ap (λ (s : ReaderSeen). s.name) v in
     let n = c.in_ok-good.good in
     let within : n ≤ length cs = omega (arith, c.in_ok-good.ensures.within) in
     let b = c.in_ok-good.ensures.blocks in
-    let few : length b.0 ≤ length cs = omega (arith, within, b.1) in (
-      b.0,
-      b.1,
-      b.2,
-      subst (λ (k : ℕ). AreWholeBlocks (record_length_of now.head.bytes) (take k now.left) b.0) b.1
-          (batch_whole now f r.place cs ss h b.0 few (subst (λ (s : ReaderSeen). IsHead s.head.bytes) v c.bytes.ensures.head) (λ k lt. b.3 k (omega (arith, lt, b.1)))),
-      known_both _ _ _ _ _ (λ file s each. subst (λ (k : ℕ). HoldOnly file (take k now.left) b.0) b.1
-          (batch_hold now f r.place cs ss h file s b.0 few (λ k d lt. each k d (omega (arith, lt, b.1))))) c.requires.stands (known_as _ _ _ _ name b.4),
+    let few : length b.0 ≤ length cs = omega (arith, within, b.1) in
+    let head = subst (λ (s : ReaderSeen). IsHead s.head.bytes) v c.bytes.ensures.head in
+    let long : (k : ℕ) → k < length b.0 → length (get_or b.0 k []) ≡ record_length (layout f) * get_or cs k 0 = λ k lt. b.3 k (omega (arith, lt, b.1)) in (
+      batch_blocks now f r.ends r.next r.place cs ss h b.0,
+      batch_count now f r.ends r.next r.place cs ss h b.0 few ∙ b.1,
+      (b.0, b.2, subst (λ (l : List (ℕ × ℕ)). AreCutFrom (record_length_of now.head.bytes) l b.0 (batch_blocks now f r.ends r.next r.place cs ss h b.0)) (front_cuts r.ends r.next m n c.deref.result.now r.counts.items (length b.0) c.deref.ensures.value b.1 (omega (arith, within, length-take m (drop r.next c.deref.result.now)))) (batch_cuts now f r.ends r.next r.place cs ss h b.0 few head long)),
+      subst (λ (k : ℕ). AreWholeBlocks (record_length_of now.head.bytes) (take k now.left) (batch_blocks now f r.ends r.next r.place cs ss h b.0)) b.1 (batch_whole now f r.ends r.next r.place cs ss h b.0 few head long),
+      known_both _ _ _ _ _ (λ file s each. subst (λ (k : ℕ). HoldOnly file (take k now.left) (batch_blocks now f r.ends r.next r.place cs ss h b.0)) b.1
+          (batch_hold now f r.ends r.next r.place cs ss h file s b.0 few (λ k d lt. each k d (omega (arith, lt, b.1))))) c.requires.stands (known_as _ _ _ _ name b.4),
     )
 
 pub returns-clause-end : goal.returns-clause-end
@@ -105,66 +157,71 @@ returns-clause-end g c =
     let r = c.self.inside in
     let now = c.args.self.now in
     let v = c.self.view_is in
+    let m = r.ends.last - r.next in
+    let p : Position = record { at = r.place; blocks = r.blocks; records = r.records; ends = r.ends; next = r.next; batch = r.batch; bad = r.bad } in
     let format : ◌≡◌ {A = Format} (record { format = c.format.result; extra = c.extra.result }) (format_in r.head.bytes) = λ i. record { format = c.format.ensures.field i; extra = c.extra.ensures.field i } in
     let f = c.new-job.result in
-    let cs = take (length c.deref.result.now - r.next) (drop r.next c.deref.result.now) in
-    let ss = take (length c.deref-2.result.now - r.next) (drop r.next c.deref-2.result.now) in
-    let h = listed now f r.chunk (record_length_of r.head.bytes) r.place r.records r.next r.counts.items r.sizes.items c.deref.result.now c.deref-2.result.now (ap (λ (s : ReaderSeen). s.left) v) (ap (λ (s : ReaderSeen). s.chunk) v) c.requires.packed c.self.invariant.same c.deref.ensures.value c.deref-2.ensures.value (c.new-job.ensures ∙ format ∙ ap (λ (s : ReaderSeen). format_in s.head.bytes) v) in
-    batch_end now f r.place cs ss h c.in_ok-good.good c.in_ok-good.ensures.end
+    let cs = take m (drop r.next c.deref.result.now) in
+    let ss = take m (drop r.next c.deref-2.result.now) in
+    let h = listed now f r.chunk (record_length_of r.head.bytes) p r.counts.items r.sizes.items c.deref.result.now c.deref-2.result.now (ap (λ (s : ReaderSeen). s.left) v) (ap (λ (s : ReaderSeen). s.chunk) v) c.requires.packed c.self.invariant.0.same c.self.invariant.1 c.deref.ensures.value c.deref-2.ensures.value (c.new-job.ensures ∙ format ∙ ap (λ (s : ReaderSeen). format_in s.head.bytes) v) in
+    batch_end now f r.ends r.next r.place cs ss h c.in_ok-good.good c.in_ok-good.ensures.end
 
 pub returns-clause-most : goal.returns-clause-most
 returns-clause-most g c =
     let r = c.self.inside in
     let now = c.args.self.now in
     let v = c.self.view_is in
+    let m = r.ends.last - r.next in
+    let p : Position = record { at = r.place; blocks = r.blocks; records = r.records; ends = r.ends; next = r.next; batch = r.batch; bad = r.bad } in
     let format : ◌≡◌ {A = Format} (record { format = c.format.result; extra = c.extra.result }) (format_in r.head.bytes) = λ i. record { format = c.format.ensures.field i; extra = c.extra.ensures.field i } in
     let f = c.new-job.result in
-    let cs = take (length c.deref.result.now - r.next) (drop r.next c.deref.result.now) in
-    let ss = take (length c.deref-2.result.now - r.next) (drop r.next c.deref-2.result.now) in
-    let h = listed now f r.chunk (record_length_of r.head.bytes) r.place r.records r.next r.counts.items r.sizes.items c.deref.result.now c.deref-2.result.now (ap (λ (s : ReaderSeen). s.left) v) (ap (λ (s : ReaderSeen). s.chunk) v) c.requires.packed c.self.invariant.same c.deref.ensures.value c.deref-2.ensures.value (c.new-job.ensures ∙ format ∙ ap (λ (s : ReaderSeen). format_in s.head.bytes) v) in
-    batch_most now f r.place cs ss h c.in_ok-good.good (2 * length c.args.crew.now) c.in_ok-good.ensures.within
+    let cs = take m (drop r.next c.deref.result.now) in
+    let ss = take m (drop r.next c.deref-2.result.now) in
+    let h = listed now f r.chunk (record_length_of r.head.bytes) p r.counts.items r.sizes.items c.deref.result.now c.deref-2.result.now (ap (λ (s : ReaderSeen). s.left) v) (ap (λ (s : ReaderSeen). s.chunk) v) c.requires.packed c.self.invariant.0.same c.self.invariant.1 c.deref.ensures.value c.deref-2.ensures.value (c.new-job.ensures ∙ format ∙ ap (λ (s : ReaderSeen). format_in s.head.bytes) v) in
+    batch_most now f r.ends r.next r.place cs ss h c.in_ok-good.good (2 * length c.args.crew.now) c.in_ok-good.ensures.within
 
 pub returns-clause-cut : goal.returns-clause-cut
 returns-clause-cut g c = λ lt.
     let r = c.self.inside in
     let now = c.args.self.now in
     let v = c.self.view_is in
+    let m = r.ends.last - r.next in
+    let p : Position = record { at = r.place; blocks = r.blocks; records = r.records; ends = r.ends; next = r.next; batch = r.batch; bad = r.bad } in
     let format : ◌≡◌ {A = Format} (record { format = c.format.result; extra = c.extra.result }) (format_in r.head.bytes) = λ i. record { format = c.format.ensures.field i; extra = c.extra.ensures.field i } in
     let f = c.new-job.result in
-    let cs = take (length c.deref.result.now - r.next) (drop r.next c.deref.result.now) in
-    let ss = take (length c.deref-2.result.now - r.next) (drop r.next c.deref-2.result.now) in
-    let h = listed now f r.chunk (record_length_of r.head.bytes) r.place r.records r.next r.counts.items r.sizes.items c.deref.result.now c.deref-2.result.now (ap (λ (s : ReaderSeen). s.left) v) (ap (λ (s : ReaderSeen). s.chunk) v) c.requires.packed c.self.invariant.same c.deref.ensures.value c.deref-2.ensures.value (c.new-job.ensures ∙ format ∙ ap (λ (s : ReaderSeen). format_in s.head.bytes) v) in
+    let cs = take m (drop r.next c.deref.result.now) in
+    let ss = take m (drop r.next c.deref-2.result.now) in
+    let h = listed now f r.chunk (record_length_of r.head.bytes) p r.counts.items r.sizes.items c.deref.result.now c.deref-2.result.now (ap (λ (s : ReaderSeen). s.left) v) (ap (λ (s : ReaderSeen). s.chunk) v) c.requires.packed c.self.invariant.0.same c.self.invariant.1 c.deref.ensures.value c.deref-2.ensures.value (c.new-job.ensures ∙ format ∙ ap (λ (s : ReaderSeen). format_in s.head.bytes) v) in
     let name = c.deref-3.ensures ∙ ap (λ (s : ReaderSeen). s.name) v in
     let n = c.in_ok-good.good in
-    let few = batch_few now f r.place cs ss h n (2 * length c.args.crew.now) lt in
-    known_both _ _ _ _ _ (λ file s none. batch_bad now f r.place cs ss h file s n (omega (arith, few)) none) c.requires.stands (known_as _ _ _ _ name (c.in_ok-good.ensures.cut few))
+    let few = batch_few now f r.ends r.next r.place cs ss h n (2 * length c.args.crew.now) lt in
+    known_both _ _ _ _ _ (λ file s none. batch_bad now f r.ends r.next r.place cs ss h file s n (omega (arith, few)) none) c.requires.stands (known_as _ _ _ _ name (c.in_ok-good.ensures.cut few))
 
 pub returns-clause-moved : goal.returns-clause-moved
 returns-clause-moved g c =
     let r = c.self.inside in
     let now = c.args.self.now in
     let v = c.self.view_is in
+    let m = r.ends.last - r.next in
+    let p : Position = record { at = r.place; blocks = r.blocks; records = r.records; ends = r.ends; next = r.next; batch = r.batch; bad = r.bad } in
     let format : ◌≡◌ {A = Format} (record { format = c.format.result; extra = c.extra.result }) (format_in r.head.bytes) = λ i. record { format = c.format.ensures.field i; extra = c.extra.ensures.field i } in
     let f = c.new-job.result in
-    let cs = take (length c.deref.result.now - r.next) (drop r.next c.deref.result.now) in
-    let ss = take (length c.deref-2.result.now - r.next) (drop r.next c.deref-2.result.now) in
-    let h = listed now f r.chunk (record_length_of r.head.bytes) r.place r.records r.next r.counts.items r.sizes.items c.deref.result.now c.deref-2.result.now (ap (λ (s : ReaderSeen). s.left) v) (ap (λ (s : ReaderSeen). s.chunk) v) c.requires.packed c.self.invariant.same c.deref.ensures.value c.deref-2.ensures.value (c.new-job.ensures ∙ format ∙ ap (λ (s : ReaderSeen). format_in s.head.bytes) v) in
+    let cs = take m (drop r.next c.deref.result.now) in
+    let ss = take m (drop r.next c.deref-2.result.now) in
+    let h = listed now f r.chunk (record_length_of r.head.bytes) p r.counts.items r.sizes.items c.deref.result.now c.deref-2.result.now (ap (λ (s : ReaderSeen). s.left) v) (ap (λ (s : ReaderSeen). s.chunk) v) c.requires.packed c.self.invariant.0.same c.self.invariant.1 c.deref.ensures.value c.deref-2.ensures.value (c.new-job.ensures ∙ format ∙ ap (λ (s : ReaderSeen). format_in s.head.bytes) v) in
     let n = c.in_ok-good.good in
     let within : n ≤ length cs = omega (arith, c.in_ok-good.ensures.within) in
-    let total = c.total.ensures ∙ ap (λ (m : ℕ). sum (take m ss)) (omega arith) ∙ ap (λ (l : List ℕ). sum (take n l)) (slice_rest c.deref-2.result.now r.sizes.items r.next c.deref-2.ensures.value) in
-    let counts_are = slice_rest c.deref.result.now r.counts.items r.next c.deref.ensures.value in
-    let below : n ≤ length (drop r.next r.counts.items) = omega (arith, within, ap (λ (l : List ℕ). length l) counts_are) in
-    let size = record_length_of r.head.bytes in
+    let place = c.self.invariant.1 in
+    let long : length cs ≡ m = omega (arith, ap (λ (l : List ℕ). length l) (slice_part c.deref.result.now r.counts.items r.next r.ends.last c.deref.ensures.value), length_slice m r.next r.counts.items (omega (arith, place.next, place.last))) in
+    let total = c.total.ensures ∙ ap (λ (l : List ℕ). sum (take n l)) (slice_part c.deref-2.result.now r.sizes.items r.next r.ends.last c.deref-2.ensures.value) in
     let some = subst (λ (o : Option ℕ). IsSome o) (sym (ap (λ (s : ReaderSeen). s.chunk) v)) c.requires.packed in
-    let longs : length (drop r.next r.counts.items) ≡ length (drop r.next r.sizes.items) = omega (arith, length-drop r.next r.counts.items, length-drop r.next r.sizes.items, c.self.invariant.same) in
-    let left = ap (λ (t : ℕ). pieces_left r.chunk size (r.place + t) r.records (drop (r.next + n) r.counts.items) (drop (r.next + n) r.sizes.items)) total
-    ∙ packed_step r.chunk size r.place r.records r.next n r.counts.items r.sizes.items some longs below
-    ∙ ap (λ (s : ReaderSeen). drop n s.left) v in
+    let q : Position = record p { at = r.place + c.total.result; next = r.next + n; batch = r.next; bad = nat_lt n c.min-most.result } in
+    let left = packed_step r.chunk (record_length_of r.head.bytes) n c.total.result p q r.counts.items r.sizes.items some c.self.invariant.0.same place (omega (arith, within, long, place.next)) total refl refl refl ∙ ap (λ (s : ReaderSeen). drop n s.left) v in
     let number = ap (λ (s : ReaderSeen). s.next) v in
     let next : r.next + n + r.blocks ≡ now.next + n = omega (arith, number) in
     let kept = c.next_chunks.auto.inputs ∙ ap (λ l. length l) c.deref_mut.ensures.value in
     let buffers = as_many r.inputs.len c.next_chunks.new.inputs r.inputs.items r.inputs.ok.0 kept ∙ ap (λ (s : ReaderSeen). s.buffers) v in
-    λ i. record (v i) { left = left i; next = next i; buffers = buffers i }
+    λ i. record (v i) { next = next i; left = left i; bad = nat_lt n c.min-most.result; buffers = buffers i; cuts = cuts_from r.ends r.next (take (r.next + n - r.next) (drop r.next r.counts.items)) }
 
 pub returns-clause-crew : goal.returns-clause-crew
 returns-clause-crew g c =
@@ -173,4 +230,44 @@ returns-clause-crew g c =
     let e = c.in_ok-good.ensures in
     let format : ◌≡◌ {A = Format} (record { format = c.format.result; extra = c.extra.result }) (format_in c.self.inside.head.bytes) = λ i. record { format = c.format.ensures.field i; extra = c.extra.ensures.field i } in
     let same = c.new-job.ensures ∙ format ∙ ap (λ (s : ReaderSeen). format_in s.head.bytes) v in
-    crew_later now _ c.in_ok-good.good now.lent c.args.crew.now c.next_chunks.new.crew (returns-clause-moved g c) c.requires.crew e.hands (λ k d lt. e.spaces k d lt ∙ same) e.rooms
+    crew_later now _ c.in_ok-good.good _ _ now.lent c.args.crew.now c.next_chunks.new.crew (returns-clause-moved g c) c.requires.crew e.hands (λ k d lt. e.spaces k d lt ∙ same) e.rooms
+
+pub returns-in_err-good-clause-asked_more : goal.returns-in_err-good-clause-asked_more
+returns-in_err-good-clause-asked_more g c =
+    let r = c.self.inside in
+    let now = c.args.self.now in
+    let v = c.self.view_is in
+    let m = r.ends.last - r.next in
+    let p : Position = record { at = r.place; blocks = r.blocks; records = r.records; ends = r.ends; next = r.next; batch = r.batch; bad = r.bad } in
+    let format : ◌≡◌ {A = Format} (record { format = c.format.result; extra = c.extra.result }) (format_in r.head.bytes) = λ i. record { format = c.format.ensures.field i; extra = c.extra.ensures.field i } in
+    let f = c.new-job.result in
+    let cs = take m (drop r.next c.deref.result.now) in
+    let ss = take m (drop r.next c.deref-2.result.now) in
+    let h = listed now f r.chunk (record_length_of r.head.bytes) p r.counts.items r.sizes.items c.deref.result.now c.deref-2.result.now (ap (λ (s : ReaderSeen). s.left) v) (ap (λ (s : ReaderSeen). s.chunk) v) c.requires.packed c.self.invariant.0.same c.self.invariant.1 c.deref.ensures.value c.deref-2.ensures.value (c.new-job.ensures ∙ format ∙ ap (λ (s : ReaderSeen). format_in s.head.bytes) v) in
+    let fine : now.bad ≡ false = sym (ap (λ (s : ReaderSeen). s.bad) v) ∙ c.if-self.false in
+    let old = (g.F.Files.seen c.args.files.now).asked in
+    let later = (g.F.Files.seen c.next_chunks.new.files).asked in
+    on_err c.from_residual.result (asked_all now r.ends r.next r.place cs ss 0 (min (2 * length c.args.crew.now) (length cs)) h.same h.left fine old later c.next_chunks.ensures.asked)
+
+pub returns-clause-asked : goal.returns-clause-asked
+returns-clause-asked g c =
+    let r = c.self.inside in
+    let now = c.args.self.now in
+    let v = c.self.view_is in
+    let m = r.ends.last - r.next in
+    let p : Position = record { at = r.place; blocks = r.blocks; records = r.records; ends = r.ends; next = r.next; batch = r.batch; bad = r.bad } in
+    let format : ◌≡◌ {A = Format} (record { format = c.format.result; extra = c.extra.result }) (format_in r.head.bytes) = λ i. record { format = c.format.ensures.field i; extra = c.extra.ensures.field i } in
+    let f = c.new-job.result in
+    let cs = take m (drop r.next c.deref.result.now) in
+    let ss = take m (drop r.next c.deref-2.result.now) in
+    let h = listed now f r.chunk (record_length_of r.head.bytes) p r.counts.items r.sizes.items c.deref.result.now c.deref-2.result.now (ap (λ (s : ReaderSeen). s.left) v) (ap (λ (s : ReaderSeen). s.chunk) v) c.requires.packed c.self.invariant.0.same c.self.invariant.1 c.deref.ensures.value c.deref-2.ensures.value (c.new-job.ensures ∙ format ∙ ap (λ (s : ReaderSeen). format_in s.head.bytes) v) in
+    let fine : now.bad ≡ false = sym (ap (λ (s : ReaderSeen). s.bad) v) ∙ c.if-self.false in
+    let old = (g.F.Files.seen c.args.files.now).asked in
+    let later = (g.F.Files.seen c.next_chunks.new.files).asked in
+    let moved = returns-clause-moved g c in
+    let n = c.in_ok-good.good in
+    let buffers : length r.inputs.items ≡ 2 * length c.args.crew.now = ap (λ (s : ReaderSeen). s.buffers) v ∙ c.requires.crew.buffers in
+    let most : min (2 * length c.args.crew.now) (length cs) ≡ c.min-most.result = omega (arith, c.min-most.ensures, c.len.ensures, r.inputs.ok.0, buffers) in
+    let asked : later ≤ old + sum (take c.min-most.result ss) = omega (arith, c.next_chunks.ensures.asked, ap (λ (k : ℕ). sum (take k ss)) most) in
+    let q : Position = record p { at = r.place + c.total.result; next = r.next + n; batch = r.next; bad = nat_lt n c.min-most.result } in
+    asked_batch now r.ends r.next r.place cs ss n c.min-most.result h.same h.left fine (pieces_left r.chunk (record_length_of r.head.bytes) q r.counts.items r.sizes.items) old later asked (ap (λ (s : ReaderSeen). s.left) moved) (omega (arith, c.in_ok-good.ensures.within, most))

@@ -1,7 +1,9 @@
-use Rattle.std.proofs.Common.{sym, ap, subst, Err}
+use Rattle.std.proofs.Common.{◌+◌, ◌≤◌, ℕ, sym, ap, subst, length, Err, arith}
 use Rattle.laz_file.specs.declared.fault.Fault.{Fault}
 use Rattle.laz_file.specs.Reading.{AgreesWithHead, ReaderSeen, StandsFor}
-use Rattle.laz_file.proofs.PieceLists.{new_agrees, new_stands}
+use Rattle.laz_file.proofs.Opened.{new_stands}
+use Rattle.laz_file.specs.Asking.{asked_for_list}
+use Rattle.laz_file.proofs.PieceLists.{length-pieces, new_agrees}
 use Rattle.laz_file.proofs.Knowing.{known_at, known_both, known_then}
 use Rattle.laz_file.proofs.Heads.{residual_is}
 use Rattle.laz_file.proofs.Accepting.{refused_head}
@@ -17,10 +19,22 @@ returns-clause-stands g c =
     let head = c.in_ok-head.head in
     let list = c.in_ok-list.list in
     known_both _ _ _ _ _ (λ file h lists. subst (λ (r : ReaderSeen). StandsFor r file) (sym c.of.ensures)
-    (new_stands file _ head list.chunk list.counts.items list.sizes.items _ h c.in_ok-list.ensures.chunk lists c.in_ok-list.ensures.lists c.in_ok-list.ensures.plain)) c.in_ok-head.ensures.head (known_at _ _ _ _ c.in_ok-head.ensures.held c.in_ok-list.ensures.stands)
+    (new_stands file _ head list.chunk list.counts.items list.sizes.items h c.in_ok-list.ensures.chunk lists c.in_ok-list.ensures.plain)) c.in_ok-head.ensures.head (known_at _ _ _ _ c.in_ok-head.ensures.held c.in_ok-list.ensures.stands)
 
 pub returns-clause-whole : goal.returns-clause-whole
 returns-clause-whole g c =
     let list = c.in_ok-list.list in
     let e = c.in_ok-list.ensures in
     subst AgreesWithHead (sym c.of.ensures) (new_agrees _ c.in_ok-head.head list.chunk list.counts.items list.sizes.items e.chunk e.vlr c.in_ok-head.ensures.plain e.lists.same e.points)
+
+pub returns-clause-asked : goal.returns-clause-asked
+returns-clause-asked g c =
+    let head = c.in_ok-head.head in
+    let list = c.in_ok-list.list in
+    let e = c.in_ok-list.ensures in
+    let old = (g.F.Files.seen c.args.files.now).asked in
+    let new = (g.F.Files.seen c.read_list.new.files).asked in
+    let asked : new ≤ old + (length head.bytes + asked_for_list list.chunk (length list.counts.items)) = omega (arith, c.in_ok-head.ensures.asked, e.asked) in
+    let chunks = length-pieces (length head.bytes + 8) list.counts.items list.sizes.items e.lists.same in
+    subst (λ (r : ReaderSeen). new ≤ old + (length r.head.bytes + asked_for_list r.chunk (length r.pieces))) (sym c.of.ensures)
+    (subst (λ (n : ℕ). new ≤ old + (length head.bytes + asked_for_list list.chunk n)) (sym chunks) asked)

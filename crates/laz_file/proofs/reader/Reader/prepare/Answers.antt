@@ -1,6 +1,5 @@
-use Rattle.std.proofs.Common.{◌≡◌, ◌≤◌, ◌*◌, ◌∙◌, ap, subst, ℕ, List, arith}
+use Rattle.std.proofs.Common.{◌≡◌, ◌≤◌, ◌*◌, ◌∙◌, ap, subst, ℕ, ◌+◌, List, length, arith}
 use Rattle.std.specs.Prelude.{All}
-use Rattle.las_header.specs.Fields.{record_length_of}
 use Rattle.laz_chunk.specs.Layouts.{Format, layout, record_length}
 use Rattle.laz_workers.specs.Rooms.{lengths_of, rooms_of}
 use Rattle.laz_file.specs.Packing.{record_layout}
@@ -23,5 +22,5 @@ returns-clause-crew c =
       hands = omega (arith, c.in_ok-crew.ensures.hands, c.requires.workers.0);
       buffers = omega (arith, c.in_ok-self-inside.ensures, c.in_ok-crew.ensures.hands);
       spaces = λ k d lt. c.in_ok-crew.ensures.spaces k d lt ∙ format;
-      rooms = have_room r.chunk long (record_length_of head) r.place r.records r.next most (c.record_length.result * most) counts r.sizes.items (lengths_of (rooms_of crew)) within (ap (λ (n : ℕ). n * most) size) c.in_ok-crew.ensures.rooms;
+      rooms = have_room long (length head + 8) most (c.record_length.result * most) counts r.sizes.items (lengths_of (rooms_of crew)) within (ap (λ (n : ℕ). n * most) size) c.in_ok-crew.ensures.rooms;
     }

@@ -1,0 +1,15 @@
+use Rattle.std.proofs.Common.{◌≡◌, ◌+◌, ◌∙◌, ap, sym, length, map}
+use Rattle.laz_file.specs.Pieces.{Piece}
+use Rattle.laz_file.specs.Reading.{ReaderSeen}
+use Rattle.laz_file.proofs.PieceLists.{piece_counts, piece_sizes}
+use Rattle.laz_file.proofs.reader.Reader.into_chunks.Goals as goal
+
+pub returns-clause-counts : goal.returns-clause-counts
+returns-clause-counts c =
+    let r = c.self.inside in
+    sym (piece_counts (length r.head.bytes + 8) r.counts.items r.sizes.items c.self.invariant.0.same) ∙ ap (λ (s : ReaderSeen). map (λ (p : Piece). p.count) s.pieces) c.self.view_is
+
+pub returns-clause-sizes : goal.returns-clause-sizes
+returns-clause-sizes c =
+    let r = c.self.inside in
+    sym (piece_sizes (length r.head.bytes + 8) r.counts.items r.sizes.items c.self.invariant.0.same) ∙ ap (λ (s : ReaderSeen). map (λ (p : Piece). p.size) s.pieces) c.self.view_is

@@ -1,0 +1,23 @@
+-- How many bytes of a file calls ask for.
+use Rattle.std.specs.Prelude.{ℕ, ◌+◌, ◌*◌, ◌≤◌, if◌then◌else◌, List, map, sum, Option, Some, None}
+use Rattle.las_outside.specs.Outside.{Outside}
+use Rattle.laz_table.specs.declared.limits.TheConstants.{MAX_CHUNK_BYTES, MIN_TABLE_BYTES}
+use Rattle.laz_file.specs.Reading.{ReaderSeen}
+
+-- A call asks for at most this many bytes.
+abbrev pub AsksAtMost : (most : ℕ) → (old new : Outside) → Type 0
+AsksAtMost most old new = new.asked ≤ old.asked + most
+
+-- at most, of a packed file with this many chunks when it is opened, beside its head: the pointer, the pointer at the
+-- end, and the chunk table
+abbrev pub asked_for_chunks : (chunks : ℕ) → ℕ
+asked_for_chunks chunks = 16 + (MIN_TABLE_BYTES + MAX_CHUNK_BYTES * chunks)
+
+abbrev pub asked_for_list : (chunk : Option ℕ) → (chunks : ℕ) → ℕ
+asked_for_list None chunks = 0
+asked_for_list (Some chunk) chunks = asked_for_chunks chunks
+
+-- how many bytes a reader may still ask for: those of the pieces that are left, and none if the next one is known to be
+-- bad
+abbrev pub bytes_left : ReaderSeen → ℕ
+bytes_left reader = if reader.bad then 0 else sum (map (λ piece. piece.size) reader.left)
