@@ -1,10 +1,10 @@
 -- An input that is opened again for its turn.
-use Rattle.std.proofs.Common.{◌≡◌, inl, inr, ℕ, ◌+◌, ◌*◌, ◌==◌, ◌≤◌, Bool, true, false, cond, is_some, List, [], ◌∷◌, ◌++◌, Option, Some, None, IsSomeAnd, Result, Err, IfErr, refl, sym, ◌∙◌, ap, subst}
+use Rattle.std.proofs.Common.{◌≡◌, inl, inr, ℕ, ◌+◌, ◌*◌, ◌≤◌, Bool, true, false, cond, is_some, List, [], ◌∷◌, Option, Some, None, IsSomeAnd, refl, sym, ◌∙◌, ap, subst}
 use Rattle.std.proofs.lemmas.Bool.{eqb-true}
 use Rattle.std.specs.FinMap as finmap
 use Rattle.std.specs.List.{concat}
 use Rattle.las_header.specs.declared.refusal.Refusal.{Refusal}
-use Rattle.las_header.specs.Fields.{format_of, head_of, points_of, record_length_of}
+use Rattle.las_header.specs.Fields.{points_of, record_length_of}
 use Rattle.las_header.specs.Heads.{HeadView}
 use Rattle.las_outside.specs.Faults.{Rose}
 use Rattle.las_outside.specs.Files.{FileMap, IsMissing, WhereKnown}
@@ -12,14 +12,15 @@ use Rattle.las_outside.specs.Outside.{Outside}
 use Rattle.laz_file.specs.declared.fault.Fault.{Fault}
 use Rattle.laz_file.specs.declared.fault.Fault.TheVariants as fault
 use Rattle.laz_file.specs.Copying.{CanTake, HasCause, LeavesPart, Takes}
-use Rattle.laz_file.specs.Reading.{AgreesWithHead, EndsReading, IsNewReader, ReaderSeen, StandsFor, records_in}
+use Rattle.laz_file.specs.Reading.{AgreesWithHead, EndsReading, IsNewReader, ReaderSeen, StandsFor}
 use Rattle.laz_file.specs.Refusing.{IsRefusal}
 use Rattle.laz_file.specs.Writing.{WriterSeen}
 use Rattle.laz_file.proofs.Knowing.{known_then}
 use Rattle.laz_file.proofs.OneAnswer.{refused_once}
+use Rattle.laz_file.proofs.Opened.{all_points}
 use Rattle.laz_file.proofs.Taking.{part_stands, part_then, takes_none, takes_read, takes_then}
 use Rattle.las_merge.specs.declared.fault.MergeFault.{MergeFault}
-use Rattle.las_merge.specs.declared.fault.MergeFault.TheVariants.{At, Unequal, TooManyPoints, Write, Memory}
+use Rattle.las_merge.specs.declared.fault.MergeFault.TheVariants.{At, Unequal, TooManyPoints, TooManyChunks, Write, Memory}
 use Rattle.las_merge.specs.Copying.{BeginsWith, HasRoom, IsFaultOf}
 use Rattle.las_merge.specs.declared.field.Field.{Field}
 use Rattle.las_merge.specs.declared.field.Field.TheVariants.{Format, Length, Scales, Offsets, Bounds}
@@ -60,6 +61,7 @@ fault_since old mid new number (At input fault.Write) known reads writes h = abs
 fault_since old mid new number (At input fault.Memory) known reads writes h = h
 fault_since old mid new number (Unequal input field) known reads writes h = (h.0, none_before mid.held old.held known h.1)
 fault_since old mid new number TooManyPoints known reads writes h = absurd h
+fault_since old mid new number TooManyChunks known reads writes h = absurd h
 fault_since old mid new number Write known reads writes h = subst (λ (n : ℕ). Rose n new.write_faults) writes h
 fault_since old mid new number Memory known reads writes h = h
 
@@ -129,7 +131,7 @@ second_same true false x f g e = absurd (some_none f e)
 second_same false b x f g e = absurd (some_none g e)
 
 -- heads that do not differ have records of one length
-same_length : (head other : List ℕ) → first_difference head other ≡ None → record_length_of other ≡ record_length_of head
+pub same_length : (head other : List ℕ) → first_difference head other ≡ None → record_length_of other ≡ record_length_of head
 same_length head other e =
     sym (eqb-true (record_length_of head) (record_length_of other)
     (second_same (is_same Format head other) (is_same Length head other) (first_in (Scales ∷ Offsets ∷ Bounds ∷ []) head other) Length Format e))
@@ -139,7 +141,7 @@ again_by held input reader fresh agrees stands same points = record {
   fresh = fresh;
   stands = stands;
   size = same_length input.head.bytes reader.head.bytes same;
-  records = agrees.records ∙ points;
+  records = all_points reader fresh.whole agrees ∙ points;
 }
 
 -- ---- what is copied after that
@@ -152,7 +154,7 @@ room_for held input reader w again has = record {
 }
 
 pub new_again : (name : List ℕ) (reader : ReaderSeen) → IsNewReader name reader → IsNewReader reader.name reader
-new_again name reader new = record { named = refl; first = new.first; sound = new.sound; unprepared = new.unprepared; empty = new.empty }
+new_again name reader new = record { named = refl; unread = new.unread; sound = new.sound; unprepared = new.unprepared; empty = new.empty; whole = new.whole }
 
 -- the files and the name are the same
 pub there : (P : Option FileMap → List ℕ → Type 0) (old mid : Option FileMap) (name other : List ℕ) → mid ≡ old → other ≡ name → P old name → P mid other

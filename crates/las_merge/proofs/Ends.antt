@@ -17,7 +17,8 @@ use Rattle.las_merge.specs.declared.field.Field.{Field}
 use Rattle.las_merge.specs.declared.fault.MergeFault.TheVariants.{At, Unequal, TooManyPoints}
 use Rattle.las_merge.specs.Copying.{AreCopied, BeginsWith, CopiesAll, CopiesInto, CopiesTo, LeavesMid, OnlyRecords}
 use Rattle.las_merge.specs.Fields.{first_difference}
-use Rattle.las_merge.specs.Inputs.{AreFirst, CanMerge, IsKeptBy, Reaches, first_head, item_at}
+use Rattle.laz_copied.specs.Copied.{first_head}
+use Rattle.las_merge.specs.Inputs.{AreFirst, CanMerge, IsKeptBy, Reaches, item_at}
 use Rattle.las_merge.specs.Merging.{LeavesMerged, OnlyMerges}
 use Rattle.las_merge.specs.Opening.{AreOpen, InputSeen, IsItsFile, IsOpen, OpensTo, first_read, names_read, points_read}
 use Rattle.las_merge.proofs.Known.{file_at, file_length, file_of, files_of, first_by, held_at, name_length, only_by, read_first, read_head, read_points}
@@ -87,12 +88,12 @@ module _ (held : Option FileMap) (known : FileMap) (is : held ≡ Some known) (n
   first_head_by readers o some = read_first known readers (subst (λ (h : Option FileMap). AreOpen h names readers) is o).opened some
 
 -- the first of inputs that can be merged
-take_length : (n : ℕ) (xs : List (List ℕ)) → n ≤ length xs → length (take n xs) ≡ n
+pub take_length : (n : ℕ) (xs : List (List ℕ)) → n ≤ length xs → length (take n xs) ≡ n
 take_length zero xs few = refl
 take_length (suc n) [] few = absurd (omega (arith, few))
 take_length (suc n) (x ∷ xs) few = omega (arith, take_length n xs (omega (arith, few)))
 
-first_take : (known : FileMap) (names : List (List ℕ)) (n : ℕ) (files : List (List ℕ)) → n ≤ length files → AreFirst known names files → AreFirst known names (take n files)
+pub first_take : (known : FileMap) (names : List (List ℕ)) (n : ℕ) (files : List (List ℕ)) → n ≤ length files → AreFirst known names files → AreFirst known names (take n files)
 first_take known names zero files few f = record { within = omega arith; held = λ k lt. absurd (omega (arith, lt)); accepted = λ k d lt. absurd (omega (arith, lt)); alike = λ k d lt. absurd (omega (arith, lt)) }
 first_take known names (suc n) [] few f = absurd (omega (arith, few))
 first_take known names (suc n) (x ∷ xs) few f =

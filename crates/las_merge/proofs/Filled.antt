@@ -16,7 +16,7 @@ use Rattle.laz_file.proofs.Endings.{leaves_part}
 use Rattle.laz_file.proofs.Knowing.{known_then}
 use Rattle.laz_file.proofs.Taking.{held_after}
 use Rattle.las_merge.specs.declared.fault.MergeFault.{MergeFault}
-use Rattle.las_merge.specs.declared.fault.MergeFault.TheVariants.{At, Unequal, TooManyPoints, Write, Memory}
+use Rattle.las_merge.specs.declared.fault.MergeFault.TheVariants.{At, Unequal, TooManyPoints, TooManyChunks, Write, Memory}
 use Rattle.las_merge.specs.Inputs.{item_at}
 use Rattle.las_merge.specs.Copying.{BeginsWith, CopiesAll, CopiesInto, CopiesPart, CopiesTo, EndsMerging, FailsCopying, IsFaultOf, LeavesMid, OnlyRecords}
 
@@ -61,6 +61,7 @@ module _ (old : Outside) (names : List (List ℕ)) (w : WriterSeen) (before : Ou
       by (At input fault.Memory) h = (within input h, mid)
       by (Unequal input field) h = (within input h.0, h.1, mid)
       by TooManyPoints h = absurd h
+      by TooManyChunks h = absurd h
       by Write h = (h, mid)
       by Memory h = mid
 

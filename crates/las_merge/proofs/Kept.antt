@@ -11,15 +11,16 @@ use Rattle.laz_file.specs.Refusing.{IsRefusal}
 use Rattle.laz_file.proofs.OneAnswer.{refused_once}
 use Rattle.las_merge.specs.declared.field.Field.{Field}
 use Rattle.las_merge.specs.declared.fault.MergeFault.{MergeFault}
-use Rattle.las_merge.specs.declared.fault.MergeFault.TheVariants.{At, Unequal, TooManyPoints, Write, Memory}
+use Rattle.las_merge.specs.declared.fault.MergeFault.TheVariants.{At, Unequal, TooManyPoints, TooManyChunks, Write, Memory}
 use Rattle.las_merge.specs.Fields.{first_difference}
-use Rattle.las_merge.specs.Inputs.{AreFirst, CanMerge, IsKeptBy, first_head, item_at, points_in}
+use Rattle.laz_copied.specs.Copied.{first_head, points_in}
+use Rattle.las_merge.specs.Inputs.{AreFirst, CanMerge, IsKeptBy, item_at}
 use Rattle.las_merge.specs.Laws.{AreMergedOnce, IsKeptByOne, IsKeptOrMerged}
 
-some_same : {X : Type 0} (x y : X) → Some x ≡ Some y → x ≡ y
+pub some_same : {X : Type 0} (x y : X) → Some x ≡ Some y → x ≡ y
 some_same x y e = cc
 
-none_some : {X : Type 0} (x : X) → None ≡ Some x → ⊥
+pub none_some : {X : Type 0} (x : X) → None ≡ Some x → ⊥
 none_some x e = absurd (cc)
 
 module _ (known : FileMap) (names : List (List ℕ)) where
@@ -27,10 +28,10 @@ module _ (known : FileMap) (names : List (List ℕ)) where
   same_at : (one other : List (List ℕ)) → AreFirst known names one → AreFirst known names other → (k : ℕ) → k < length one → k < length other → item_at one k ≡ item_at other k
   same_at one other f s k l m = some_same (item_at one k) (item_at other k) (sym (f.held k l) ∙ s.held k m)
 
-  same_files : (one other : List (List ℕ)) → AreFirst known names one → AreFirst known names other → length one ≡ length other → one ≡ other
+  pub same_files : (one other : List (List ℕ)) → AreFirst known names one → AreFirst known names other → length one ≡ length other → one ≡ other
   same_files one other f s same = ext_get_or [] one other same (λ k l. same_at one other f s k l (omega (arith, same, l)))
 
-  same_head : (one other : List (List ℕ)) → AreFirst known names one → AreFirst known names other → 0 < length one → 0 < length other → first_head one ≡ first_head other
+  pub same_head : (one other : List (List ℕ)) → AreFirst known names one → AreFirst known names other → 0 < length one → 0 < length other → first_head one ≡ first_head other
   same_head one other f s l m = ap head_of (same_at one other f s 0 l m)
 
   -- The input of this number keeps the inputs from being merged: no list of first inputs reaches past it.
@@ -44,10 +45,11 @@ module _ (known : FileMap) (names : List (List ℕ)) where
   number_of (At number cause) = number
   number_of (Unequal number field) = number
   number_of TooManyPoints = length names
+  number_of TooManyChunks = 0
   number_of Write = 0
   number_of Memory = 0
 
-  not_refused : (file : List ℕ) (cause : Refusal) → IsRefusal file (Some cause) → IsRefusal file None → ⊥
+  pub not_refused : (file : List ℕ) (cause : Refusal) → IsRefusal file (Some cause) → IsRefusal file None → ⊥
   not_refused file cause is none = none_some cause (refused_once file None (Some cause) none is)
 
   halts : (cause : MergeFault) → IsKeptBy known names cause → Halts (number_of cause)
@@ -83,6 +85,7 @@ module _ (known : FileMap) (names : List (List ℕ)) where
     number_is = k.2;
     past = λ other s below. absurd (omega (arith, below, s.within));
   }
+  halts TooManyChunks k = absurd k
   halts Write k = absurd k
   halts Memory k = absurd k
 
@@ -100,7 +103,7 @@ module _ (known : FileMap) (names : List (List ℕ)) where
 
   -- ---- two causes of one number
 
-  file_same : (number : ℕ) (file text : List ℕ) → finmap.get known (item_at names number) ≡ Some file → finmap.get known (item_at names number) ≡ Some text → text ≡ file
+  pub file_same : (number : ℕ) (file text : List ℕ) → finmap.get known (item_at names number) ≡ Some file → finmap.get known (item_at names number) ≡ Some text → text ≡ file
   file_same number file text f s = some_same text file (sym s ∙ f)
 
   both_refused : (number : ℕ) (cause worse : Refusal) → IsKeptBy known names (At number (fault.Refused cause)) → IsKeptBy known names (At number (fault.Refused worse)) → worse ≡ cause
@@ -136,6 +139,7 @@ module _ (known : FileMap) (names : List (List ℕ)) where
   to_refused number cause (At n fault.Memory) k l same = absurd l
   to_refused number cause (Unequal n field) k l same = absurd (refused_unequal number cause field k (subst (λ (i : ℕ). IsKeptBy known names (Unequal i field)) same l))
   to_refused number cause TooManyPoints k l same = absurd (omega (arith, same, k.2.within))
+  to_refused number cause TooManyChunks k l same = absurd l
   to_refused number cause Write k l same = absurd l
   to_refused number cause Memory k l same = absurd l
 
@@ -147,6 +151,7 @@ module _ (known : FileMap) (names : List (List ℕ)) where
   to_missing number (At n fault.Memory) k l same = absurd l
   to_missing number (Unequal n field) k l same = absurd (missing_unequal number field k (subst (λ (i : ℕ). IsKeptBy known names (Unequal i field)) same l))
   to_missing number TooManyPoints k l same = absurd (omega (arith, same, k.1.within))
+  to_missing number TooManyChunks k l same = absurd l
   to_missing number Write k l same = absurd l
   to_missing number Memory k l same = absurd l
 
@@ -159,6 +164,7 @@ module _ (known : FileMap) (names : List (List ℕ)) where
   to_unequal number field (Unequal n worse) k l same =
       ap (λ (i : ℕ). Unequal i worse) same ∙ ap (λ (f : Field). Unequal number f) (both_unequal number field worse k (subst (λ (i : ℕ). IsKeptBy known names (Unequal i worse)) same l))
   to_unequal number field TooManyPoints k l same = absurd (omega (arith, same, k.2.within))
+  to_unequal number field TooManyChunks k l same = absurd l
   to_unequal number field Write k l same = absurd l
   to_unequal number field Memory k l same = absurd l
 
@@ -170,6 +176,7 @@ module _ (known : FileMap) (names : List (List ℕ)) where
   to_many (At n fault.Memory) l same = absurd l
   to_many (Unequal n worse) l same = absurd (omega (arith, same, l.2.within))
   to_many TooManyPoints l same = refl
+  to_many TooManyChunks l same = absurd l
   to_many Write l same = absurd l
   to_many Memory l same = absurd l
 
@@ -181,6 +188,7 @@ module _ (known : FileMap) (names : List (List ℕ)) where
   one_cause (At n fault.Memory) other k l same = absurd k
   one_cause (Unequal n field) other k l same = to_unequal n field other k l same
   one_cause TooManyPoints other k l same = to_many other l same
+  one_cause TooManyChunks other k l same = absurd k
   one_cause Write other k l same = absurd k
   one_cause Memory other k l same = absurd k
 
@@ -193,6 +201,7 @@ module _ (known : FileMap) (names : List (List ℕ)) where
   not_both files TooManyPoints k can =
       let same = same_files files k.0 can.first k.1 (omega (arith, k.2, can.all)) in
       absurd (omega (arith, ap points_in same, can.few, k.3))
+  not_both files TooManyChunks k can = k
   not_both files Write k can = k
   not_both files Memory k can = k
 

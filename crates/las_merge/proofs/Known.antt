@@ -10,7 +10,8 @@ use Rattle.las_outside.specs.Files.{FileMap, WhereKnown, bytes_of}
 use Rattle.laz_file.specs.Refusing.{IsAcceptedFile}
 use Rattle.las_merge.specs.Copying.{AreCopied, OnlyRecords}
 use Rattle.las_merge.specs.Fields.{first_difference}
-use Rattle.las_merge.specs.Inputs.{AreFirst, first_head, item_at, points_in}
+use Rattle.laz_copied.specs.Copied.{first_head, points_in}
+use Rattle.las_merge.specs.Inputs.{AreFirst, item_at}
 use Rattle.las_merge.specs.Opening.{AreOpen, InputSeen, IsItsFile, IsOpen, first_read, names_read, points_read}
 use Rattle.las_merge.proofs.Merges.{AllOnly}
 

@@ -11,3 +11,9 @@ pub mod Known
 pub mod Ends
 pub mod Whole
 pub mod Parts
+pub mod Appended
+pub mod Listed
+pub mod KeptPacked
+pub mod CopiedOnce
+pub mod CopiedLaws
+pub mod CopiedWhole

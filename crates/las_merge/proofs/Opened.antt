@@ -15,7 +15,7 @@ use Rattle.laz_file.specs.Refusing.{IsRefusal}
 use Rattle.las_merge.specs.declared.field.Field.{Field}
 use Rattle.las_merge.specs.declared.field.Field.TheVariants.{Format, Length, Scales, Offsets, Bounds}
 use Rattle.las_merge.specs.declared.fault.MergeFault.{MergeFault}
-use Rattle.las_merge.specs.declared.fault.MergeFault.TheVariants.{At, Unequal, TooManyPoints, Write, Memory}
+use Rattle.las_merge.specs.declared.fault.MergeFault.TheVariants.{At, Unequal, TooManyPoints, TooManyChunks, Write, Memory}
 use Rattle.las_merge.specs.Fields.{bytes_in, first_difference, first_in, is_same}
 use Rattle.las_merge.specs.Inputs.{item_at}
 use Rattle.las_merge.specs.Opening.{AreOpen, EndsOpening, FailsNext, FailsOpening, InputSeen, IsNext, IsOpen, first_read, names_read}
@@ -98,5 +98,6 @@ next_ends names readers name start old new all within named held reads (Unequal 
       h.2.3,
     )
 next_ends names readers name start old new all within named held reads TooManyPoints h = absurd h
+next_ends names readers name start old new all within named held reads TooManyChunks h = absurd h
 next_ends names readers name start old new all within named held reads Write h = absurd h
 next_ends names readers name start old new all within named held reads Memory h = absurd h

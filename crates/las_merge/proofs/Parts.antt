@@ -33,7 +33,8 @@ use Rattle.las_merge.specs.Copying.{output_with}
 use Rattle.las_merge.specs.declared.field.Field.{Field}
 use Rattle.las_merge.specs.declared.field.Field.TheVariants.{Format, Length, Scales, Offsets, Bounds}
 use Rattle.las_merge.specs.Fields.{bytes_in, first_difference, first_in, is_same}
-use Rattle.las_merge.specs.Inputs.{CanMerge, first_head, points_in}
+use Rattle.laz_copied.specs.Copied.{first_head, points_in}
+use Rattle.las_merge.specs.Inputs.{CanMerge}
 use Rattle.las_merge.specs.Merging.{HasRecords, HaveRecords, merged_output}
 use Rattle.las_merge.specs.Parts.{IsPart, PartsMerge, StandUnder, part_file, part_files}
 use Rattle.las_merge.proofs.Begun.{plain_itself}

@@ -1,5 +1,5 @@
 -- What is copied of one input, by what its reader has read.
-use Rattle.std.proofs.Common.{◌≡◌, ℕ, ◌+◌, ◌*◌, ◌≤◌, List, [], length, take, drop, Option, Some, None, Result, IfOk, refl, sym, ◌∙◌, ap, subst, arith}
+use Rattle.std.proofs.Common.{◌≡◌, ℕ, ◌+◌, ◌*◌, ◌≤◌, List, [], length, take, Option, Some, None, Result, IfOk, refl, sym, ◌∙◌, ap, subst, arith}
 use Rattle.std.specs.List.{concat}
 use Rattle.std.specs.Prelude.{OnErr}
 use Rattle.std.proofs.lemmas.List.{take_all}
@@ -11,7 +11,7 @@ use Rattle.las_outside.specs.Outside.{Outside}
 use Rattle.laz_file.specs.declared.fault.Fault.{Fault}
 use Rattle.laz_file.specs.Copying.{EndsAfter, HoldFirst, LeavesPart, Takes}
 use Rattle.laz_file.specs.Pieces.{Piece}
-use Rattle.laz_file.specs.Reading.{ReaderSeen, StandsFor, records_in}
+use Rattle.laz_file.specs.Reading.{ReaderSeen, ReadsAll, StandsFor, records_in}
 use Rattle.laz_file.specs.Records.{AreRead, HoldOnly, IsBadPiece}
 use Rattle.laz_file.specs.Writing.{WriterSeen}
 use Rattle.laz_file.proofs.Copies.{length_whole, read_begins}
@@ -19,10 +19,10 @@ use Rattle.laz_file.proofs.Knowing.{known_as, known_both, known_then, known_thre
 use Rattle.laz_file.proofs.OneAnswer.{one_pieces}
 use Rattle.laz_file.proofs.Putting.{if_err_weaker, if_ok_weaker}
 use Rattle.laz_file.proofs.Taking.{part_stands, takes_none}
-use Rattle.laz_file.proofs.WholeOutputs.{all_records, records_before, stands_ready}
+use Rattle.laz_file.proofs.WholeOutputs.{all_records, left_is as whole_left, records_before, stands_ready}
 use Rattle.las_merge.specs.Copying.{BeginsWith, CopiesTo, OnlyRecords}
 
-module _ (held : Option FileMap) (first : ReaderSeen) (buffers : ℕ) (new : first.next ≡ 0) (stands : WhereKnown held first.name (StandsFor first)) (n : ℕ) (blocks : List (List ℕ)) (hold : HoldFirst held (record first { buffers = buffers }) n blocks) where
+module _ (held : Option FileMap) (first : ReaderSeen) (buffers : ℕ) (new : ReadsAll first) (stands : WhereKnown held first.name (StandsFor first)) (n : ℕ) (blocks : List (List ℕ)) (hold : HoldFirst held (record first { buffers = buffers }) n blocks) where
   known_hold : WhereKnown held first.name (λ file. HoldOnly file (take n first.left) blocks)
   known_hold = hold.hold
 
@@ -38,7 +38,7 @@ module _ (held : Option FileMap) (first : ReaderSeen) (buffers : ℕ) (new : fir
 
   begins_at : (file : List ℕ) → StandsFor first file → HoldOnly file (take n first.left) blocks → BeginsWith file (concat blocks)
   begins_at file st ho others bad are =
-      let left_is : first.left ≡ st.pieces = st.left ∙ ap (λ (k : ℕ). drop k st.pieces) new in
+      let left_is : first.left ≡ st.pieces = whole_left first file st new in
       let same : are.0 ≡ st.pieces = one_pieces file are.0 st.pieces are.1 st.are in
       let read = subst (λ (ps : List Piece). AreRead file ps others bad) same are.2 in
       let few = subst (λ (ps : List Piece). n ≤ length ps) left_is hold.within in
@@ -53,7 +53,7 @@ module _ (held : Option FileMap) (first : ReaderSeen) (buffers : ℕ) (new : fir
   -- these are all of its records, or those before its first bad chunk
   pub copies_taken : (end : Option Refusal) → EndsAfter held (record first { buffers = buffers }) n end → CopiesTo held first.name (concat blocks) end
   copies_taken None all = all_taken all
-  copies_taken (Some cause) ends = (n, ends.0 ∙ ap BadChunk (let e : first.next + n ≡ n = omega (arith, new) in e), bad_taken ends.2)
+  copies_taken (Some cause) ends = (n, ends.0 ∙ ap BadChunk (let e : first.next + n ≡ n = omega (arith, new.first) in e), bad_taken ends.2)
 
   -- and how long they are, if they are all
   pub length_taken : (end : Option Refusal) → EndsAfter held (record first { buffers = buffers }) n end → end ≡ None → length (concat blocks) ≡ record_length_of first.head.bytes * records_in first.left
@@ -64,7 +64,7 @@ module _ (held : Option FileMap) (first : ReaderSeen) (buffers : ℕ) (new : fir
 
 -- ---- a call that copies an input
 
-module _ (old new : Outside) (first reader : ReaderSeen) (buffers : ℕ) (ready : reader ≡ record first { buffers = buffers }) (new_one : first.next ≡ 0) (stands : WhereKnown old.held first.name (StandsFor first)) (w v : WriterSeen) where
+module _ (old new : Outside) (first reader : ReaderSeen) (buffers : ℕ) (ready : reader ≡ record first { buffers = buffers }) (new_one : ReadsAll first) (stands : WhereKnown old.held first.name (StandsFor first)) (w v : WriterSeen) where
   pub reads_ready : WhereKnown old.held reader.name (StandsFor reader)
   reads_ready =
       known_as old.held first.name reader.name (StandsFor reader) (sym (ap (λ (r : ReaderSeen). r.name) ready))

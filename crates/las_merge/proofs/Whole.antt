@@ -17,9 +17,10 @@ use Rattle.laz_file.proofs.Arms.{held_text}
 use Rattle.laz_file.proofs.Endings.{leaves_part}
 use Rattle.laz_file.proofs.Taking.{known_after}
 use Rattle.las_merge.specs.declared.fault.MergeFault.{MergeFault}
-use Rattle.las_merge.specs.declared.fault.MergeFault.TheVariants.{At, Unequal, TooManyPoints, Write, Memory}
+use Rattle.las_merge.specs.declared.fault.MergeFault.TheVariants.{At, Unequal, TooManyPoints, TooManyChunks, Write, Memory}
 use Rattle.las_merge.specs.Copying.{CopiesAll, CopiesInto, CopiesTo, EndsMerging, FailsBeginning, LeavesMid, output_under}
-use Rattle.las_merge.specs.Inputs.{CanMerge, first_head, item_at, names_of}
+use Rattle.laz_copied.specs.Copied.{first_head}
+use Rattle.las_merge.specs.Inputs.{CanMerge, item_at, names_of}
 use Rattle.las_merge.specs.Merging.{LeavesMerged, OnlyMerges, merged_output}
 use Rattle.las_merge.specs.Opening.{AreOpen, InputSeen, IsItsFile, IsOpen, first_read, names_read, points_read}
 use Rattle.las_merge.proofs.Ends.{AreOther, all_before, bad_of, can_by, first_head_by, into_before, leaves_of, merges_of, mid_before, to_before}
@@ -128,6 +129,7 @@ pub begin_left : (old new : Outside) (out : Output) (cause : MergeFault) → Fai
 begin_left old new out (At number cause) f = absurd f
 begin_left old new out (Unequal number field) f = absurd f
 begin_left old new out TooManyPoints f = absurd f
+begin_left old new out TooManyChunks f = absurd f
 begin_left old new out Write f = f.1
 begin_left old new out Memory f = f
 
@@ -153,6 +155,7 @@ ends_mid before old new names w out s (At number fault.Write) e = absurd e
 ends_mid before old new names w out s (At number fault.Memory) e = e.1
 ends_mid before old new names w out s (Unequal number field) e = e.2
 ends_mid before old new names w out s TooManyPoints e = absurd e
+ends_mid before old new names w out s TooManyChunks e = absurd e
 ends_mid before old new names w out s Write e = e.1
 ends_mid before old new names w out s Memory e = e
 

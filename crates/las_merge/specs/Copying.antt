@@ -15,7 +15,7 @@ use Rattle.laz_file.specs.Records.{AreRecordsOf}
 use Rattle.laz_file.specs.Writing.{WriterSeen}
 use Rattle.las_merge.specs.declared.copying.BadInput.{BadInput}
 use Rattle.las_merge.specs.declared.fault.MergeFault.{MergeFault}
-use Rattle.las_merge.specs.declared.fault.MergeFault.TheVariants.{At, Unequal, TooManyPoints, Write, Memory}
+use Rattle.las_merge.specs.declared.fault.MergeFault.TheVariants.{At, Unequal, TooManyPoints, TooManyChunks, Write, Memory}
 use Rattle.las_merge.specs.Inputs.{item_at}
 use Rattle.las_merge.specs.Opening.{InputSeen}
 
@@ -85,6 +85,7 @@ IsFaultOf old new number (At input fault.Write) = ⊥
 IsFaultOf old new number (At input fault.Memory) = input ≡ number
 IsFaultOf old new number (Unequal input field) = (input ≡ number) × (old.held ≡ None)
 IsFaultOf old new number TooManyPoints = ⊥
+IsFaultOf old new number TooManyChunks = ⊥
 IsFaultOf old new number Write = Rose old.write_faults new.write_faults
 IsFaultOf old new number Memory = Unit {0}
 
@@ -118,6 +119,7 @@ EndsMerging known was old now names out (At number fault.Memory) =
 EndsMerging known was old now names out (Unequal number field) =
     (number < length names) × (known ≡ None) × LeavesMid known was now.held names out
 EndsMerging known was old now names out TooManyPoints = ⊥
+EndsMerging known was old now names out TooManyChunks = ⊥
 EndsMerging known was old now names out Write =
     Rose old.write_faults now.write_faults × LeavesMid known was now.held names out
 EndsMerging known was old now names out Memory = LeavesMid known was now.held names out
@@ -136,6 +138,7 @@ abbrev pub FailsBeginning : (old new : Outside) → Output → MergeFault → Ty
 FailsBeginning old new out (At number cause) = ⊥
 FailsBeginning old new out (Unequal number field) = ⊥
 FailsBeginning old new out TooManyPoints = ⊥
+FailsBeginning old new out TooManyChunks = ⊥
 FailsBeginning old new out Write =
     Rose old.write_faults new.write_faults × ((records : List ℕ) → LeavesUnfinished out records old.held new.held)
 FailsBeginning old new out Memory = (records : List ℕ) → LeavesUnfinished out records old.held new.held

@@ -1,14 +1,15 @@
 -- The inputs of a merge, and what keeps them from being merged.
-use Rattle.std.specs.Prelude.{◌≡◌, ℕ, ◌^◌, ◌<◌, ◌≤◌, List, [], length, map, sum_by, slice_index_or, Option, Some, None}
+use Rattle.std.specs.Prelude.{◌≡◌, ℕ, ◌^◌, ◌<◌, ◌≤◌, List, [], length, map, slice_index_or, Option, Some, None}
 use Rattle.std.specs.Prelude.{All, String, string_bytes}
 use Rattle.std.specs.FinMap as finmap
 use Rattle.std.specs.declared.alloc.Global.{Global}
-use Rattle.las_header.specs.Fields.{head_of, points_of}
+use Rattle.las_header.specs.Fields.{head_of}
 use Rattle.las_outside.specs.Files.{FileMap}
 use Rattle.laz_file.specs.declared.fault.Fault.TheVariants as fault
 use Rattle.laz_file.specs.Refusing.{IsAcceptedFile, IsRefusal}
+use Rattle.laz_copied.specs.Copied.{first_head, points_in}
 use Rattle.las_merge.specs.declared.fault.MergeFault.{MergeFault}
-use Rattle.las_merge.specs.declared.fault.MergeFault.TheVariants.{At, Unequal, TooManyPoints, Write, Memory}
+use Rattle.las_merge.specs.declared.fault.MergeFault.TheVariants.{At, Unequal, TooManyPoints, TooManyChunks, Write, Memory}
 use Rattle.las_merge.specs.Fields.{first_difference}
 
 -- names as their bytes
@@ -18,14 +19,6 @@ names_of names = map string_bytes names
 -- the name, and the file, of a number
 abbrev pub item_at : List (List ℕ) → ℕ → List ℕ
 item_at items number = slice_index_or items number []
-
--- the head with which all others are compared
-abbrev pub first_head : (files : List (List ℕ)) → List ℕ
-first_head files = head_of (item_at files 0)
-
--- how many point records files have, by their heads
-abbrev pub points_in : (files : List (List ℕ)) → ℕ
-points_in files = sum_by (λ file. points_of (head_of file)) files
 
 -- The first inputs are these files: they are held, each is accepted when it is opened, and none differs from the first.
 pub record AreFirst (known : FileMap) (names files : List (List ℕ)) : Type 0 where
@@ -62,6 +55,7 @@ IsKeptBy known names (Unequal number field) =
     × (first_difference (first_head files) (head_of file) ≡ Some field)
 IsKeptBy known names TooManyPoints =
     (files : List (List ℕ)) × AreFirst known names files × (length files ≡ length names) × (2 ^ 32 ≤ points_in files)
+IsKeptBy known names TooManyChunks = ⊥
 IsKeptBy known names Write = ⊥
 IsKeptBy known names Memory = ⊥
 

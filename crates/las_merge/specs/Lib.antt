@@ -3,5 +3,10 @@ pub mod Inputs
 pub mod Merging
 pub mod Opening
 pub mod Copying
+pub mod Packed
+pub mod Appending
+pub mod Listing
+pub mod Summing
 pub mod Laws
 pub mod Parts
+pub mod CopiedLaws

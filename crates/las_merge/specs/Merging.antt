@@ -7,7 +7,8 @@ use Rattle.las_outside.specs.Files.{FileMap}
 use Rattle.laz_file.specs.Copying.{LeavesUnfinished}
 use Rattle.laz_file.specs.Outputs.{Output}
 use Rattle.laz_file.specs.Records.{AreRecordsOf}
-use Rattle.las_merge.specs.Inputs.{first_head, item_at}
+use Rattle.laz_copied.specs.Copied.{first_head}
+use Rattle.las_merge.specs.Inputs.{item_at}
 
 -- the output: under the plain head of the first file, and its records are counted
 abbrev pub merged_output : (name : List ℕ) → (files : List (List ℕ)) → (chunk : Option ℕ) → Output

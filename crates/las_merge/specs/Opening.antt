@@ -12,7 +12,7 @@ use Rattle.laz_file.specs.declared.fault.Fault.TheVariants as fault
 use Rattle.laz_file.specs.Reading.{IsNewReader, ReaderSeen, StandsFor, records_in}
 use Rattle.laz_file.specs.Refusing.{IsAcceptedFile, IsRefusal}
 use Rattle.las_merge.specs.declared.fault.MergeFault.{MergeFault}
-use Rattle.las_merge.specs.declared.fault.MergeFault.TheVariants.{At, Unequal, TooManyPoints, Write, Memory}
+use Rattle.las_merge.specs.declared.fault.MergeFault.TheVariants.{At, Unequal, TooManyPoints, TooManyChunks, Write, Memory}
 use Rattle.las_merge.specs.Fields.{first_difference}
 use Rattle.las_merge.specs.Inputs.{item_at}
 
@@ -95,6 +95,7 @@ FailsNext name inputs old new (Unequal number field) =
     × ((input : InputSeen) × (input.name ≡ name) × IsOpen old.held input
     × (first_difference (first_read inputs) input.head.bytes ≡ Some field))
 FailsNext name inputs old new TooManyPoints = ⊥
+FailsNext name inputs old new TooManyChunks = ⊥
 FailsNext name inputs old new Write = ⊥
 FailsNext name inputs old new Memory = ⊥
 
@@ -117,5 +118,6 @@ EndsOpening names old new (Unequal number field) =
 EndsOpening names old new TooManyPoints =
     (inputs : List InputSeen) × AreOpen old.held names inputs × (length inputs ≡ length names)
     × (2 ^ 32 ≤ points_read inputs)
+EndsOpening names old new TooManyChunks = ⊥
 EndsOpening names old new Write = ⊥
 EndsOpening names old new Memory = Unit {0}

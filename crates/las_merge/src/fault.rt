@@ -15,6 +15,9 @@ pub enum MergeFault {
     /// The inputs have 2^32 point records or more.
     #[error("the inputs have too many points")]
     TooManyPoints,
+    /// The inputs have more than 2^24 chunks, and these were to be copied.
+    #[error("the inputs have too many chunks")]
+    TooManyChunks,
     /// The output could not be written.
     #[error("the output could not be written")]
     Write,

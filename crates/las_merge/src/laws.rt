@@ -1,4 +1,6 @@
-//! Laws of the definitions that the contract of `merge` cites.
+//! Laws of the definitions that the contracts of `merge` and `merge_copied` cite.
+ghost use Rattle.las_merge.specs.CopiedLaws.{AreAcceptedAsOne, AreCopiedOnce, HaveMergedRecords, IsKeptFromCopyingByOne};
+ghost use Rattle.las_merge.specs.CopiedLaws.{IsKeptOrCopied, UnpackToMerged};
 ghost use Rattle.las_merge.specs.Laws.{AreMergedOnce, IsKeptByOne, IsKeptOrMerged};
 ghost use Rattle.las_merge.specs.Parts.{PartsMerge};
 
@@ -14,4 +16,20 @@ pub fn merging_ends_in_one_way()
 /// counts, plain or packed.
 pub fn parts_merge_to_the_whole()
     ensures { PartsMerge }
+{}
+
+/// Packed inputs are kept from being copied by one cause, or by none, and then they are one list of files and chunks.
+pub fn copying_ends_in_one_way()
+    ensures kept { IsKeptFromCopyingByOne }
+    ensures copied { IsKeptOrCopied }
+    ensures once { AreCopiedOnce }
+{}
+
+/// Inputs whose chunks are copied are accepted as one file, whether or not the chunks hold records. If no chunk is bad,
+/// it has the records that merging gives. If moreover each head has the right numbers by return, in each set that it
+/// has, and each has the second set if the first one does, it unpacks to the merged file.
+pub fn copied_inputs_are_merged()
+    ensures accepted { AreAcceptedAsOne }
+    ensures records { HaveMergedRecords }
+    ensures merged { UnpackToMerged }
 {}

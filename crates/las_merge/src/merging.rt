@@ -13,7 +13,8 @@ ghost use Rattle.laz_file.specs.declared.fault.Fault.{Fault};
 ghost use Rattle.laz_file.specs.declared.fault.Fault.TheVariants as file;
 ghost use Rattle.laz_file.specs.Outputs.{Output, finished, stopped};
 ghost use Rattle.laz_file.specs.Writing.{SameFaults, Stands};
-ghost use Rattle.las_merge.specs.declared.fault.MergeFault.TheVariants.{At, Memory, TooManyPoints, Unequal, Write};
+ghost use Rattle.las_merge.specs.declared.fault.MergeFault.TheVariants.{At, Memory, TooManyChunks, TooManyPoints};
+ghost use Rattle.las_merge.specs.declared.fault.MergeFault.TheVariants.{Unequal, Write};
 ghost use Rattle.las_merge.specs.declared.field.Field.{Field};
 ghost use Rattle.las_merge.specs.Copying.{CopiesAll, EndsMerging, FailsBeginning, output_under, output_with};
 ghost use Rattle.las_merge.specs.Inputs.{AreFirst, CanMerge, IfKnown, IsKeptBy, item_at, names_of};
@@ -217,6 +218,7 @@ pub fn merge<R: Threads + Sync, F: Files, G: Gate>(
         × IfKnown (F.seen files.old).held (λ known.
         (merged : List (List ℕ)) × CanMerge known (names_of inputs.now) merged) }
     ensures never { (number : ℕ) → IsErrOf result (At number file.Write) → ⊥ }
+    ensures few_chunks { IsErrOf result TooManyChunks → ⊥ }
 
     // The output is begun only if the inputs can be merged, and then it is left unfinished.
     ensures left { IfErr result (λ cause. IfKnown (F.seen files.old).held (λ known.

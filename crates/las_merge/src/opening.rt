@@ -12,7 +12,7 @@ ghost use Rattle.las_merge.specs.Opening.{fault_of, first_read, points_read};
 use crate::field::first_difference;
 use crate::input::Input;
 use crate::{Field, MergeFault};
-use las_header::Refusal;
+use las_header::{Head, Refusal};
 use las_outside::Files;
 use laz_file::{Fault, Reader};
 use std::alloc::Global;
@@ -29,17 +29,17 @@ pub(crate) fn fault_of(number: u32, fault: Fault) -> MergeFault
     }
 }
 
-// The first field in which the head of an input differs from that of the first, if there is a first.
-fn difference(inputs: &[Input], input: &Input) -> Option<Field>
+/// The first field in which the head of an input differs from that of the first, if there is a first.
+pub(crate) fn difference(inputs: &[Input], head: &Head) -> Option<Field>
     ensures same { result ≡ None → 1 ≤ length inputs.now
-        → first_difference (first_read inputs.now) input.now.head.bytes ≡ None }
+        → first_difference (first_read inputs.now) head.now.bytes ≡ None }
     ensures other { (field : Field) → result ≡ Some field → (1 ≤ length inputs.now)
-        × (first_difference (first_read inputs.now) input.now.head.bytes ≡ Some field) }
+        × (first_difference (first_read inputs.now) head.now.bytes ≡ Some field) }
 {
     let [first, ..] = inputs else {
         return None;
     };
-    first_difference(&first.head, &input.head)
+    first_difference(&first.head, head)
 }
 
 // Opens the input of this number, and keeps its head alone.
@@ -89,7 +89,7 @@ fn open_next<F: Files>(
 {
     let number = inputs.len() as u32;
     let input = open_input(alloc, files, number, name)?;
-    if let Some(field) = difference(inputs, &input) {
+    if let Some(field) = difference(inputs, input.head()) {
         return Err(MergeFault::Unequal(number, field));
     }
     match inputs.push(input) {

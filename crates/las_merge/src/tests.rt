@@ -49,14 +49,19 @@ fn add_records(file: &mut Vec<u8>, from: u32, to: u32) -> Result<(), AllocError>
 }
 
 // A file of the records with these numbers.
-fn file_of(alloc: Global, minor: u8, from: u32, to: u32) -> Result<Vec<u8>, AllocError> {
+pub(crate) fn file_of(alloc: Global, minor: u8, from: u32, to: u32) -> Result<Vec<u8>, AllocError> {
     let mut file = head_of(alloc, minor, to.saturating_sub(from))?;
     add_records(&mut file, from, to)?;
     Ok(file)
 }
 
 // The bytes with others from a place on.
-fn patched(alloc: Global, file: &[u8], at: usize, bytes: &[u8]) -> Result<Vec<u8>, AllocError> {
+pub(crate) fn patched(
+    alloc: Global,
+    file: &[u8],
+    at: usize,
+    bytes: &[u8],
+) -> Result<Vec<u8>, AllocError> {
     let mut new = Vec::new(alloc);
     for (i, byte) in file.iter().enumerate() {
         let other = if i < at { None } else { bytes.get(i - at) };
@@ -73,7 +78,7 @@ fn is_other(name: &str, output: &str) -> bool
 }
 
 // The names in a text, but for the output's.
-fn names_in(alloc: Global, text: &str, output: &str) -> Result<Vec<String>, AllocError>
+pub(crate) fn names_in(alloc: Global, text: &str, output: &str) -> Result<Vec<String>, AllocError>
     ensures { IfOk result (λ names. All (λ name. string_bytes name ≢ output.now) names.items) }
 {
     let mut names = Vec::new(alloc);
@@ -104,7 +109,7 @@ fn merged<R: Threads + Sync + AllocGlobal>(
 }
 
 // Files in memory with inputs a, b and c, and with room for the output.
-fn files_with(alloc: Global, inputs: &[&[u8]]) -> Result<MemFiles, AllocError> {
+pub(crate) fn files_with(alloc: Global, inputs: &[&[u8]]) -> Result<MemFiles, AllocError> {
     let mut files = MemFiles::new(alloc);
     for (input, name) in inputs.iter().zip(["a", "b", "c"]) {
         files.put_file(name, input)?;
@@ -114,7 +119,7 @@ fn files_with(alloc: Global, inputs: &[&[u8]]) -> Result<MemFiles, AllocError> {
 }
 
 // What merging the inputs a and b gives.
-fn output_of<R: Threads + Sync + AllocGlobal>(
+pub(crate) fn output_of<R: Threads + Sync + AllocGlobal>(
     rt: &R,
     inputs: &[&[u8]],
     names: &str,
@@ -133,7 +138,10 @@ fn output_of<R: Threads + Sync + AllocGlobal>(
 }
 
 // The packed form of a file, in chunks of 256 points.
-fn packed<R: Threads + Sync + AllocGlobal>(rt: &R, file: &[u8]) -> Result<Vec<u8>, AllocError> {
+pub(crate) fn packed<R: Threads + Sync + AllocGlobal>(
+    rt: &R,
+    file: &[u8],
+) -> Result<Vec<u8>, AllocError> {
     match output_of(rt, &[file], "a", Some(256))? {
         Some(form) => Ok(form),
         None => Ok(Vec::new(rt.alloc())),
@@ -289,7 +297,7 @@ fn records_before_a_bad_chunk_stand(rt: HostRuntime) -> Result<(), Fail> {
 }
 
 // The number of four bytes at a place.
-fn number_at(file: &[u8], at: usize) -> usize {
+pub(crate) fn number_at(file: &[u8], at: usize) -> usize {
     let mut bytes = [0; 4];
     for (place, byte) in bytes.iter_mut().zip(file.iter().skip(at)) {
         *place = *byte;

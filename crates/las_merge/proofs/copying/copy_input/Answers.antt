@@ -11,12 +11,12 @@ pub copy_records-requires-clause-reads : goal.copy_records-requires-clause-reads
 copy_records-requires-clause-reads g c κs within =
     let old = g.F.Files.seen c.args.files.now in
     let w = c.args.writer.now in
-    reads_ready old old c.args.reader c.crew.new.self (2 * c.hands-hands.result) c.in_ok-crew.ensures.kept c.requires.fresh.first c.requires.reads w w
+    reads_ready old old c.args.reader c.crew.new.self (2 * c.hands-hands.result) c.in_ok-crew.ensures.kept c.requires.fresh.whole c.requires.reads w w
 
 pub returns-clause-copied : goal.returns-clause-copied
 returns-clause-copied g c =
-    copied_input (g.F.Files.seen c.args.files.now) (g.F.Files.seen c.copy_records.new.files) c.args.reader c.crew.new.self (2 * c.hands-hands.result) c.in_ok-crew.ensures.kept c.requires.fresh.first c.requires.reads c.args.writer.now c.copy_records.new.writer c.requires.room.size c.copy_records.result c.copy_records.ensures.copied
+    copied_input (g.F.Files.seen c.args.files.now) (g.F.Files.seen c.copy_records.new.files) c.args.reader c.crew.new.self (2 * c.hands-hands.result) c.in_ok-crew.ensures.kept c.requires.fresh.whole c.requires.reads c.args.writer.now c.copy_records.new.writer c.requires.room.size c.copy_records.result c.copy_records.ensures.copied
 
 pub returns-clause-left : goal.returns-clause-left
 returns-clause-left g c =
-    failed_input (g.F.Files.seen c.args.files.now) (g.F.Files.seen c.copy_records.new.files) c.args.reader c.crew.new.self (2 * c.hands-hands.result) c.in_ok-crew.ensures.kept c.requires.fresh.first c.requires.reads c.args.writer.now c.copy_records.new.writer c.copy_records.result c.copy_records.ensures.part
+    failed_input (g.F.Files.seen c.args.files.now) (g.F.Files.seen c.copy_records.new.files) c.args.reader c.crew.new.self (2 * c.hands-hands.result) c.in_ok-crew.ensures.kept c.requires.fresh.whole c.requires.reads c.args.writer.now c.copy_records.new.writer c.copy_records.result c.copy_records.ensures.part

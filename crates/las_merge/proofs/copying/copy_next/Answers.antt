@@ -1,10 +1,8 @@
-use Rattle.std.proofs.Common.{◌≢◌, ◌*◌, ℕ, List, [], Option, sym, ◌∙◌, ap, subst}
-use Rattle.las_header.specs.declared.refusal.Refusal.{Refusal}
-use Rattle.las_outside.specs.Files.{FileMap, WhereKnown}
+use Rattle.std.proofs.Common.{◌*◌, ℕ, sym, ◌∙◌, ap, subst}
+use Rattle.las_outside.specs.Files.{WhereKnown}
 use Rattle.laz_file.specs.Copying.{with_reads}
 use Rattle.laz_file.specs.Reading.{StandsFor}
 use Rattle.laz_file.proofs.Taking.{stands_read}
-use Rattle.las_merge.specs.declared.fault.MergeFault.{MergeFault}
 use Rattle.las_merge.specs.Copying.{BeginsWith, CopiesTo, IsFaultOf}
 use Rattle.las_merge.proofs.Again.{back, fault_by, fault_since, leaves_after, new_again, none_begun, room_for, takes_after, there}
 use Rattle.las_merge.proofs.copying.copy_next.Goals as goal

@@ -1,7 +1,6 @@
-use Rattle.std.proofs.Common.{◌≡◌, ℕ, List, Err, None, refl, sym, ◌∙◌, ap, subst}
+use Rattle.std.proofs.Common.{◌≡◌, ℕ, List, Err, refl, sym, ◌∙◌, ap, subst}
 use Rattle.las_header.specs.Fields.{points_of}
 use Rattle.las_header.specs.Heads.{HeadView}
-use Rattle.las_header.specs.declared.refusal.Refusal.{Refusal}
 use Rattle.las_outside.specs.Files.{IsMissing, WhereKnown}
 use Rattle.laz_file.specs.Reading.{EndsReading, IsNewReader, ReaderSeen, StandsFor}
 use Rattle.laz_file.specs.Refusing.{IsRefusal}

@@ -1,0 +1,101 @@
+use Rattle.std.proofs.Common.{◌≡◌, ◌≢◌, ◌<◌, ◌+◌, ◌≤◌, ◌++◌, ℕ, List, length, map, take, get_or, sym, ◌∙◌, ap, subst, append_assoc, arith}
+use Rattle.std.specs.List.{concat}
+use Rattle.las_outside.specs.Files.{WhereKnown, with_file}
+use Rattle.las_outside.specs.Outside.{Outside, with_bytes}
+use Rattle.las_outside.proofs.Rooms.{on_err}
+use Rattle.las_merge.specs.Appending.{LiesIn, SourceSeen, part_in, part_of, with_reads}
+use Rattle.laz_file.proofs.Faults.{later-trans}
+use Rattle.laz_file.proofs.Knowing.{known_then}
+use Rattle.laz_file.proofs.Putting.{if_err}
+use Rattle.las_merge.proofs.Appended.{copy_fault_since, in_part, joined_more, still_known, still_part, sum_more, sum_within}
+use Rattle.las_merge.proofs.appending.copy_all.Goals as goal
+
+pub copy_part-requires-clause-lies : goal.copy_part-requires-clause-lies
+copy_part-requires-clause-lies g c =
+    let h = c.requires.held in
+    let old = g.F.Files.seen c.args.files.now in
+    let cur = g.F.Files.seen c.sources.files in
+    let output = c.args.output.now in
+    let s : SourceSeen = c.index-sources-i.result in
+    let there = c.sources.invariant.copied h.0 h.1 h.2 in
+    let other : s.name ≢ output = subst (λ (x : SourceSeen). x.name ≢ output) (sym c.index-sources-i.is) (c.requires.names c.sources.i s c.sources-test.true) in
+    let lies : LiesIn old.held s = subst (λ (x : SourceSeen). LiesIn old.held x) (sym c.index-sources-i.is) (c.requires.lie c.sources.i s c.sources-test.true) in
+    let place = c.span-place.ensures.place in
+    let size = c.span-place.ensures.size in
+    let P : List ℕ → Type 0 = λ file. c.span-place.result.0 + c.span-place.result.1 ≤ length file in
+    subst (λ (n : List ℕ). WhereKnown cur.held n P) (sym c.name.ensures)
+    (still_known h.0.held old.held cur.held output s.name h.1 _ P other (ap (λ (o : Outside). o.held) h.2) (ap (λ (o : Outside). o.held) there)
+    (known_then old.held s.name _ P (λ file le. omega (arith, le, place, size)) lies))
+
+pub copy_part-requires-clause-held : goal.copy_part-requires-clause-held
+copy_part-requires-clause-held g c =
+    let h = c.requires.held in
+    (with_reads h.0 (g.F.Files.seen c.sources.files), _, c.sources.invariant.copied h.0 h.1 h.2)
+
+pub returns-in_err-copy_part-clause-left : goal.returns-in_err-copy_part-clause-left
+returns-in_err-copy_part-clause-left g c before text was =
+    let old = g.F.Files.seen c.args.files.now in
+    let cur = g.F.Files.seen c.sources.files in
+    let output = c.args.output.now in
+    let f : SourceSeen → List ℕ = part_of old.held in
+    let s : SourceSeen = c.index-sources-i.result in
+    let sources = c.args.sources.now in
+    let i = c.sources.i in
+    let there = c.sources.invariant.copied before text was in
+    let done = concat (map f (take i sources)) in
+    let other : s.name ≢ output = subst (λ (x : SourceSeen). x.name ≢ output) (sym c.index-sources-i.is) (c.requires.names i s c.sources-test.true) in
+    let l = c.in_err-copy_part.ensures.left (with_reads before cur) (text ++ done) there in
+    let part : part_in cur.held c.name.result.now c.span-place.result.0 c.span-place.result.1 ≡ f (get_or sources i s) =
+    ap (λ (n : List ℕ). part_in cur.held n c.span-place.result.0 c.span-place.result.1) c.name.ensures
+    ∙ still_part before.held old.held cur.held output s.name text (text ++ done) c.span-place.result.0 c.span-place.result.1 other (ap (λ (o : Outside). o.held) was) (ap (λ (o : Outside). o.held) there)
+    ∙ ap (λ (n : ℕ). part_in old.held s.name n c.span-place.result.1) c.span-place.ensures.place
+    ∙ ap (λ (n : ℕ). part_in old.held s.name s.place n) c.span-place.ensures.size ∙ ap f c.index-sources-i.is in
+    let p = in_part f sources i l.0 s c.sources-test.true in
+    on_err c.from_residual.result (p.0, l.1 ∙ ap (λ (t : List ℕ). with_file before.held output t) (append_assoc text done _ ∙ ap (λ (t : List ℕ). text ++ (done ++ take l.0 t)) part ∙ ap (λ (t : List ℕ). text ++ t) p.1))
+
+pub sources-preserved : goal.sources-preserved
+sources-preserved g c =
+    let old = g.F.Files.seen c.args.files.now in
+    let cur = g.F.Files.seen c.sources.files in
+    let now = g.F.Files.seen c.copy_part.new.files in
+    let output = c.args.output.now in
+    let f : SourceSeen → List ℕ = part_of old.held in
+    let s : SourceSeen = c.index-sources-i.result in
+    let sources = c.args.sources.now in
+    let i = c.sources.i in
+    let done = concat (map f (take i sources)) in
+    let other : s.name ≢ output = subst (λ (x : SourceSeen). x.name ≢ output) (sym c.index-sources-i.is) (c.requires.names i s c.sources-test.true) in
+    record {
+      room = c.copy_part.ensures.room ∙ c.sources.invariant.room;
+      copied = λ before text was.
+          let there = c.sources.invariant.copied before text was in
+          let part : part_in cur.held c.name.result.now c.span-place.result.0 c.span-place.result.1 ≡ f (get_or sources i s) =
+          ap (λ (n : List ℕ). part_in cur.held n c.span-place.result.0 c.span-place.result.1) c.name.ensures
+          ∙ still_part before.held old.held cur.held output s.name text (text ++ done) c.span-place.result.0 c.span-place.result.1 other (ap (λ (o : Outside). o.held) was) (ap (λ (o : Outside). o.held) there)
+          ∙ ap (λ (n : ℕ). part_in old.held s.name n c.span-place.result.1) c.span-place.ensures.place
+          ∙ ap (λ (n : ℕ). part_in old.held s.name s.place n) c.span-place.ensures.size ∙ ap f c.index-sources-i.is in
+          c.in_ok-copy_part.ensures.copied (with_reads before cur) (text ++ done) there
+          ∙ ap (λ (t : List ℕ). with_bytes (with_reads before now) output t)
+          (append_assoc text done _ ∙ ap (λ (t : List ℕ). text ++ (done ++ t)) part ∙ ap (λ (t : List ℕ). text ++ t) (sym (joined_more f sources i s c.sources-test.true)));
+      calm = c.in_ok-copy_part.ensures.reads_calm ∙ c.sources.invariant.calm;
+      asked = omega (arith, c.copy_part.ensures.asked, c.sources.invariant.asked, c.span-place.ensures.size, ap (λ (x : SourceSeen). x.size) c.index-sources-i.is, sum_more (λ (x : SourceSeen). x.size) sources i s c.sources-test.true);
+      later = later-trans _ _ _ c.sources.invariant.later c.in_ok-copy_part.ensures.later;
+    }
+
+pub returns-in_err-copy_part-clause-asked : goal.returns-in_err-copy_part-clause-asked
+returns-in_err-copy_part-clause-asked g c =
+    let sources = c.args.sources.now in
+    let i = c.sources.i in
+    let s : SourceSeen = c.index-sources-i.result in
+    omega (arith, c.copy_part.ensures.asked, c.sources.invariant.asked, c.span-place.ensures.size, ap (λ (x : SourceSeen). x.size) c.index-sources-i.is, sum_more (λ (x : SourceSeen). x.size) sources i s c.sources-test.true, sum_within (λ (x : SourceSeen). x.size) sources (i + 1))
+
+pub returns-in_err-copy_part-clause-cause : goal.returns-in_err-copy_part-clause-cause
+returns-in_err-copy_part-clause-cause g c =
+    let old = g.F.Files.seen c.args.files.now in
+    let cur = g.F.Files.seen c.sources.files in
+    let now = g.F.Files.seen c.copy_part.new.files in
+    let h = c.requires.held in
+    let there = c.sources.invariant.copied h.0 h.1 h.2 in
+    let writes : cur.write_faults ≡ old.write_faults = ap (λ (o : Outside). o.write_faults) there ∙ sym (ap (λ (o : Outside). o.write_faults) h.2) in
+    if_err _ c.from_residual.result _ c.from_residual.ensures.1
+    (copy_fault_since (λ n. n ≡ c.sources.i) (λ n. n < length c.args.sources.now) old cur now c.sources.invariant.calm writes (λ n e. omega (arith, e, c.sources-test.true)) c.in_err-copy_part.field-0.0 c.in_err-copy_part.ensures.cause)

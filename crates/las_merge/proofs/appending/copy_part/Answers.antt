@@ -1,0 +1,78 @@
+use Rattle.std.proofs.Common.{◌≡◌, ◌+◌, ◌-◌, ◌≤◌, ◌++◌, ℕ, List, length, length-append, take, ◌∙◌, ap, append_assoc, arith}
+use Rattle.las_outside.specs.Files.{with_file}
+use Rattle.las_outside.specs.Outside.{Outside, with_bytes}
+use Rattle.las_outside.proofs.Rooms.{on_err}
+use Rattle.las_merge.specs.Appending.{part_in, with_reads}
+use Rattle.laz_file.proofs.Faults.{later-trans}
+use Rattle.laz_file.proofs.Knowing.{known_then}
+use Rattle.las_merge.proofs.Appended.{part_more, part_prefix, still_known, still_part}
+use Rattle.las_merge.proofs.appending.copy_part.Goals as goal
+
+pub copy_piece-requires-clause-lies : goal.copy_piece-requires-clause-lies
+copy_piece-requires-clause-lies g c =
+    let h = c.requires.held in
+    let before = h.0 in
+    let there = c.pieces.invariant.copied h.0 h.1 h.2 in
+    let size : length c.split_at_mut-part.result.0.now ≤ c.args.size - c.pieces.done = omega (arith, c.split_at_mut-part.ensures.front_len, c.min-piece.ensures) in
+    still_known before.held (g.F.Files.seen c.args.files.now).held (g.F.Files.seen c.pieces.files).held c.args.output.now c.args.input.now h.1 _
+    (λ file. c.args.place + c.pieces.done + length c.split_at_mut-part.result.0.now ≤ length file) c.requires.names
+    (ap (λ (o : Outside). o.held) h.2) (ap (λ (o : Outside). o.held) there)
+    (known_then _ _ _ _ (λ file le. omega (arith, le, size, c.pieces.invariant.within)) c.requires.lies)
+
+pub copy_piece-requires-clause-held : goal.copy_piece-requires-clause-held
+copy_piece-requires-clause-held g c =
+    let h = c.requires.held in
+    (with_reads h.0 (g.F.Files.seen c.pieces.files), _, c.pieces.invariant.copied h.0 h.1 h.2)
+
+pub returns-in_err-copy_piece-clause-left : goal.returns-in_err-copy_piece-clause-left
+returns-in_err-copy_piece-clause-left g c before text was =
+    let old = g.F.Files.seen c.args.files.now in
+    let cur = g.F.Files.seen c.pieces.files in
+    let input = c.args.input.now in
+    let output = c.args.output.now in
+    let place = c.args.place in
+    let done = c.pieces.done in
+    let n = length c.split_at_mut-part.result.0.now in
+    let there = c.pieces.invariant.copied before text was in
+    let one = part_in old.held input place done in
+    let l = c.in_err-copy_piece.ensures.left (with_reads before cur) (text ++ one) there in
+    let fits : done + n ≤ c.args.size = omega (arith, c.split_at_mut-part.ensures.front_len, c.min-piece.ensures, c.pieces.invariant.within) in
+    let p = part_prefix old.held input place done n c.args.size l.0 fits in
+    let same = still_part before.held old.held cur.held output input text (text ++ one) (place + done) n c.requires.names (ap (λ (o : Outside). o.held) was) (ap (λ (o : Outside). o.held) there) in
+    on_err c.from_residual.result (
+      p.0,
+      l.1
+          ∙ ap (λ (t : List ℕ). with_file before.held output t)
+          (append_assoc text one (take l.0 (part_in cur.held input (place + done) n))
+          ∙ ap (λ (t : List ℕ). text ++ (one ++ take l.0 t)) same ∙ ap (λ (t : List ℕ). text ++ t) p.1),
+    )
+
+pub pieces-preserved : goal.pieces-preserved
+pieces-preserved g c =
+    let old = g.F.Files.seen c.args.files.now in
+    let cur = g.F.Files.seen c.pieces.files in
+    let now = g.F.Files.seen c.copy_piece.new.files in
+    let input = c.args.input.now in
+    let output = c.args.output.now in
+    let place = c.args.place in
+    let done = c.pieces.done in
+    let n = length c.split_at_mut-part.result.0.now in
+    let one = part_in old.held input place done in
+    let ok = c.in_ok-copy_piece.ensures in
+    let inv = c.pieces.invariant in
+    let long : n ≡ c.min-piece.result = c.split_at_mut-part.ensures.front_len in
+    record {
+      within = omega (arith, c.min-piece.ensures, inv.within);
+      room = omega (arith, length-append c.copy_piece.new.buffer c.split_at_mut-part.result.1.now, ok.room, c.split_at_mut-part.ensures.front_len, c.split_at_mut-part.ensures.back_len, inv.room, c.min-piece.ensures);
+      copied = λ before text was.
+          let there = inv.copied before text was in
+          let same = still_part before.held old.held cur.held output input text (text ++ one) (place + done) n c.requires.names (ap (λ (o : Outside). o.held) was) (ap (λ (o : Outside). o.held) there) in
+          ok.copied (with_reads before cur) (text ++ one) there
+          ∙ ap (λ (t : List ℕ). with_bytes (with_reads before now) output t)
+          (append_assoc text one (part_in cur.held input (place + done) n)
+          ∙ ap (λ (t : List ℕ). text ++ (one ++ t)) same ∙ ap (λ (t : List ℕ). text ++ t) (part_more old.held input place done n)
+          ∙ ap (λ (m : ℕ). text ++ part_in old.held input place (done + m)) long);
+      calm = ok.reads_calm ∙ inv.calm;
+      asked = omega (arith, ok.asked, inv.asked, long);
+      later = later-trans _ _ _ inv.later ok.later;
+    }

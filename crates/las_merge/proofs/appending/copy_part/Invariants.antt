@@ -1,0 +1,18 @@
+use Rattle.std.proofs.Common.{◌≡◌, ◌+◌, ◌-◌, ◌≤◌, ◌++◌, List, ℕ, length}
+use Rattle.las_outside.specs.Outside.{Later, Outside, with_bytes}
+use Rattle.las_merge.specs.Appending.{part_in, with_reads}
+use Rattle.las_merge.proofs.appending.copy_part.Given as goal
+
+abbrev pub invariant-pieces : goal.invariant-pieces
+invariant-pieces g l = record {
+  within : l.done ≤ l.size;
+  room : length l.buffer ≡ length l.fn.buffer;
+  copied : (before : Outside) (text : List ℕ) → g.F.Files.seen l.fn.files ≡ with_bytes before l.output text
+      → g.F.Files.seen l.files ≡ with_bytes (with_reads before (g.F.Files.seen l.files)) l.output (text ++ part_in (g.F.Files.seen l.fn.files).held l.input l.place l.done);
+  calm : (g.F.Files.seen l.files).read_faults ≡ (g.F.Files.seen l.fn.files).read_faults;
+  asked : (g.F.Files.seen l.files).asked ≤ (g.F.Files.seen l.fn.files).asked + l.done;
+  later : Later (g.F.Files.seen l.fn.files) (g.F.Files.seen l.files);
+}
+
+abbrev pub decreases-pieces : goal.decreases-pieces
+decreases-pieces g l = l.size - l.done

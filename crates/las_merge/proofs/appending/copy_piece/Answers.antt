@@ -1,0 +1,19 @@
+use Rattle.std.proofs.Common.{◌∙◌, ap}
+use Rattle.las_outside.specs.Outside.{Outside}
+use Rattle.las_outside.proofs.FileLaws.{known_after}
+use Rattle.las_merge.proofs.Appended.{piece_copied, piece_left}
+use Rattle.las_merge.proofs.appending.copy_piece.Goals as goal
+
+pub append-requires : goal.append-requires
+append-requires g c =
+    let h = c.requires.held in
+    known_after h.0.held c.args.output.now h.1 (λ _. Unit {0}) _ (ap (λ (o : Outside). o.held) c.in-Ok.ensures.ok ∙ ap (λ (o : Outside). o.held) h.2) tt
+
+pub returns-in-Ok-append-clause-copied : goal.returns-in-Ok-append-clause-copied
+returns-in-Ok-append-clause-copied g c before text was =
+    piece_copied before _ _ c.args.input.now c.args.output.now text _ c.args.place _ was c.in-Ok.ensures.ok c.in-Ok.ensures.bytes _ c.in-Ok-append.ensures.ok
+
+pub returns-in-Err-append-clause-left : goal.returns-in-Err-append-clause-left
+returns-in-Err-append-clause-left g c before text was =
+    let e = c.in-Err-append.ensures.err in
+    (e.0, piece_left before _ _ c.args.input.now c.args.output.now text _ c.args.place _ was c.in-Ok.ensures.ok c.in-Ok.ensures.bytes _ e.0 e.1)

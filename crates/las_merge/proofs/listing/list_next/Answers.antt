@@ -1,0 +1,102 @@
+use Rattle.std.proofs.Common.{rules, arith, ◌≡◌, ◌≤◌, ◌++◌, ◌∷◌, ℕ, List, [], length, true, false, Err, inl, refl, sym, ◌∙◌, ap, subst}
+use Rattle.las_header.specs.declared.refusal.Refusal.TheVariants.{NotPacked}
+use Rattle.las_header.specs.Fields.{is_packed}
+use Rattle.las_header.specs.Heads.{HeadView}
+use Rattle.laz_table.specs.declared.limits.TheConstants.{MAX_CHUNKS}
+use Rattle.laz_table.specs.VlrCauses.{chunk_size_of}
+use Rattle.laz_file.specs.Asking.{asked_for_chunks, asked_for_list}
+use Rattle.std.proofs.Common.{◌+◌, ◌-◌, Bool, cond, Option, Some, None}
+use Rattle.laz_file.specs.Reading.{ReaderSeen, StandsFor}
+use Rattle.laz_file.proofs.Knowing.{known_then}
+use Rattle.las_merge.specs.Appending.{SourceSeen}
+use Rattle.las_merge.specs.Fields.{first_difference}
+use Rattle.las_merge.specs.Listing.{FailsNextPacked, ListedInput, ListsChunks}
+use Rattle.las_merge.specs.Opening.{InputSeen, first_read}
+use Rattle.las_merge.specs.Packed.{IsRefusedToCopy}
+use Rattle.las_merge.proofs.Again.{open_by}
+use Rattle.las_merge.proofs.KeptPacked.{fails_open}
+use Rattle.las_merge.proofs.Listed.{list_more, listed_by}
+use Rattle.las_merge.proofs.listing.list_next.Goals as goal
+
+pub returns-in-Err-clause-ends : goal.returns-in-Err-clause-ends
+returns-in-Err-clause-ends g c =
+    let old = g.F.Files.seen c.args.files.now in
+    let new = g.F.Files.seen c.open.new.files in
+    let name = c.args.name.now in
+    let inputs = c.args.listed.now.inputs.items in
+    let number : c.len-number.result ≡ length inputs = search rules in
+    subst (FailsNextPacked name inputs old new) (sym c.fault_of.ensures)
+    (fails_open old new name c.len-number.result inputs number c.in-Err.fault (λ cause is. c.in-Err.ensures.refused cause (ap Err is)) c.in-Err.ensures.ends)
+
+pub returns-then-not-packed-clause-ends : goal.returns-then-not-packed-clause-ends
+returns-then-not-packed-clause-ends g c =
+    let held = (g.F.Files.seen c.args.files.now).held in
+    let reader = c.in-Ok.reader in
+    let number : c.len-number.result ≡ length c.args.listed.now.inputs.items = search rules in
+    let head : c.head.result.now.bytes ≡ reader.head.bytes = cc (ap (λ (h : HeadView). h.bytes) c.head.ensures, ap (λ (r : ReaderSeen). r.head.bytes) c.reader.view_is) in
+    let plain : is_packed reader.head.bytes ≡ false = ap is_packed (sym head) ∙ sym c.packed.ensures ∙ c.if-not-packed.true in (
+      number,
+      known_then held c.args.name.now (StandsFor reader) (λ file. IsRefusedToCopy file NotPacked)
+          (λ file s. inl (refl, s.accepted, ap (λ (h : HeadView). is_packed h.bytes) (sym s.head) ∙ plain)) c.in-Ok.ensures.stands,
+    )
+
+pub returns-in-Some-clause-ends : goal.returns-in-Some-clause-ends
+returns-in-Some-clause-ends g c =
+    let held = (g.F.Files.seen c.args.files.now).held in
+    let reader = c.in-Ok.reader in
+    let name = c.args.name.now in
+    let inputs = c.args.listed.now.inputs.items in
+    let number : c.len-number.result ≡ length inputs = search rules in
+    let head : c.head.result.now.bytes ≡ reader.head.bytes = cc (ap (λ (h : HeadView). h.bytes) c.head.ensures, ap (λ (r : ReaderSeen). r.head.bytes) c.reader.view_is) in
+    let other : c.head-2.result.now.bytes ≡ reader.head.bytes = cc (ap (λ (h : HeadView). h.bytes) c.head-2.ensures, ap (λ (r : ReaderSeen). r.head.bytes) c.reader.view_is) in
+    let packed : is_packed reader.head.bytes ≡ true = ap is_packed (sym head) ∙ sym c.packed.ensures ∙ c.if-not-packed.false in
+    let d = c.in-Some.ensures.other c.in-Some.field refl in
+    let first = ap first_read c.deref.ensures.value in (
+      number,
+      omega (arith, d.0, ap (λ (is : List InputSeen). length is) c.deref.ensures.value),
+      (
+        record { name = name; head = reader.head },
+        refl,
+        open_by held name reader c.in-Ok.ensures.whole c.in-Ok.ensures.stands,
+        packed,
+        ap (λ (h : List ℕ). first_difference h reader.head.bytes) (sym first) ∙ ap (λ (h : List ℕ). first_difference (first_read c.deref.result.now) h) (sym other) ∙ d.1,
+      ),
+    )
+
+pub returns-in-Ok-add-clause-next : goal.returns-in-Ok-add-clause-next
+returns-in-Ok-add-clause-next g c =
+    let held = (g.F.Files.seen c.args.files.now).held in
+    let reader = c.in-Ok.reader in
+    let name = c.args.name.now in
+    let inputs = c.args.listed.now.inputs.items in
+    let other : c.head-2.result.now.bytes ≡ reader.head.bytes = cc (ap (λ (h : HeadView). h.bytes) c.head-2.ensures, ap (λ (r : ReaderSeen). r.head.bytes) c.reader.view_is) in
+    let first = ap first_read c.deref.ensures.value in (
+      record { name = name; head = reader.head },
+      record {
+        named = refl;
+        opened = open_by held name reader c.in-Ok.ensures.whole c.in-Ok.ensures.stands;
+        alike = λ some. ap (λ (h : List ℕ). first_difference h reader.head.bytes) (sym first) ∙ ap (λ (h : List ℕ). first_difference (first_read c.deref.result.now) h) (sym other)
+            ∙ c.in_default.ensures.same refl (omega (arith, some, ap (λ (is : List InputSeen). length is) c.deref.ensures.value));
+      },
+      c.in-Ok-add.ensures.inputs,
+    )
+
+pub returns-in-Ok-add-clause-lists : goal.returns-in-Ok-add-clause-lists
+returns-in-Ok-add-clause-lists g c asked lists =
+    let held = (g.F.Files.seen c.args.files.now).held in
+    let reader = c.in-Ok.reader in
+    let was = c.args.listed.now in
+    let now = c.add.new.self in
+    let l : ListedInput = record { input = record { name = c.args.name.now; head = reader.head }; pieces = reader.pieces } in
+    let head : c.head.result.now.bytes ≡ reader.head.bytes = cc (ap (λ (h : HeadView). h.bytes) c.head.ensures, ap (λ (r : ReaderSeen). r.head.bytes) c.reader.view_is) in
+    let packed : is_packed reader.head.bytes ≡ true = ap is_packed (sym head) ∙ sym c.packed.ensures ∙ c.if-not-packed.false in
+    let old = g.F.Files.seen c.args.files.now in
+    let new = g.F.Files.seen c.open.new.files in
+    let spent = new.asked - old.asked in
+    let chunk : reader.chunk ≡ Some (chunk_size_of reader.head.bytes) = c.in-Ok.ensures.whole.chunk ∙ ap (λ (b : Bool). cond b (Some (chunk_size_of reader.head.bytes)) None) packed in
+    let bound : spent ≤ length reader.head.bytes + asked_for_chunks (length reader.pieces) = omega (arith, c.in-Ok.ensures.asked, ap (λ (o : Option ℕ). asked_for_list o (length reader.pieces)) chunk) in
+    let few : length now.lists.counts.items ≤ MAX_CHUNKS = search rules in
+    let more = list_more held was.inputs.items was.sources.items was.lists.counts.items was.lists.sizes.items now.lists.counts.items now.lists.sizes.items asked spent l was.lists.many now.lists.many lists
+    (listed_by held c.args.name.now reader c.in-Ok.ensures.whole c.in-Ok.ensures.stands packed) bound c.in-Ok-add.ensures.added few in
+    subst (λ (is : List InputSeen). ListsChunks held is now.sources.items now.lists.many now.lists.counts.items now.lists.sizes.items (asked + spent)) (sym c.in-Ok-add.ensures.inputs)
+    (subst (λ (ss : List SourceSeen). ListsChunks held (was.inputs.items ++ l.input ∷ []) ss now.lists.many now.lists.counts.items now.lists.sizes.items (asked + spent)) (sym c.in-Ok-add.ensures.sources) more)

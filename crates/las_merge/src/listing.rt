@@ -1,0 +1,195 @@
+//! Packed inputs whose chunks are copied: opened one after another, with what their tables say of their chunks.
+ghost use Rattle.std.specs.Prelude.{◌≡◌, ◌+◌, ◌-◌, ◌*◌, ◌^◌, ◌<◌, ◌≤◌, ◌++◌, ◌∷◌, ℕ, List, [], length, sum, map, vec_len};
+ghost use Rattle.std.specs.Prelude.{true, false, IfErr, IfOk, OnOk, string_bytes};
+ghost use Rattle.las_header.specs.Fields.{is_packed};
+ghost use Rattle.las_outside.specs.Outside.{Later};
+ghost use Rattle.laz_table.specs.declared.limits.TheConstants.{MAX_CHUNKS};
+ghost use Rattle.laz_file.specs.Reading.{IsNewReader};
+ghost use Rattle.las_merge.specs.Inputs.{names_of};
+ghost use Rattle.las_merge.specs.Listing.{AddsChunks, EndsListing, FailsNextPacked, ListedInput, ListsChunks};
+ghost use Rattle.las_merge.specs.Listing.{source_of};
+ghost use Rattle.las_merge.specs.Opening.{AreOpen, InputSeen, IsNext};
+
+use crate::MergeFault;
+use crate::input::Input;
+use crate::opening::{difference, fault_of};
+use crate::source::Source;
+use las_header::{Head, Refusal, u32_at};
+use las_outside::Files;
+use laz_file::{Fault, Reader};
+use laz_table::MAX_CHUNKS;
+use std::alloc::{AllocError, Global};
+
+/// The numbers of points and of bytes of the chunks of all inputs, unless there are more than 2^24 chunks.
+#[derive(Drop)]
+pub(crate) struct ChunkLists {
+    pub(crate) counts: Vec<u32>,
+    pub(crate) sizes: Vec<u32>,
+    // Whether there are more. The lists are then those of some of the inputs.
+    pub(crate) many: bool,
+}
+
+/// Packed inputs that were opened and closed again: of all of them the heads, where their chunks stand, and the numbers
+/// of points and of bytes of these.
+#[derive(Drop)]
+pub(crate) struct Listed {
+    pub(crate) inputs: Vec<Input>,
+    pub(crate) sources: Vec<Source>,
+    pub(crate) lists: ChunkLists,
+}
+
+/// The sum of some numbers of bytes.
+pub(crate) fn total(sizes: &[u32]) -> u64
+    requires few { length sizes.now < 2 ^ 32 }
+    ensures sum { result ≡ sum sizes.now }
+    ensures small { result ≤ (2 ^ 32 - 1) * length sizes.now }
+{
+    let mut bytes = 0;
+    for size in sizes {
+        bytes += u64::from(*size);
+    }
+    bytes
+}
+
+impl ChunkLists {
+    /// Adds the chunks of an input, as long as there are not too many.
+    pub(crate) fn add(
+        &mut self,
+        chunks: u32,
+        counts: &[u32],
+        sizes: &[u32],
+    ) -> Result<(), AllocError>
+        requires chunks { chunks ≡ length counts.now }
+        requires few { vec_len self.old.counts ≤ MAX_CHUNKS }
+        ensures added { OnOk result (AddsChunks self.old.many self.new.many self.old.counts.items
+            self.new.counts.items self.old.sizes.items self.new.sizes.items counts.now sizes.now) }
+        ensures few { OnOk result (vec_len self.new.counts ≤ MAX_CHUNKS) }
+    {
+        if self.many || chunks > MAX_CHUNKS - self.counts.len() as u32 {
+            self.many = true;
+            return Ok(());
+        }
+        self.counts.extend_from_slice(counts)?;
+        self.sizes.extend_from_slice(sizes)
+    }
+}
+
+// Where the chunks of an input stand, one after another: after its head, and the eight bytes of its pointer.
+fn source_of(alloc: Global, name: &str, head: &Head, sizes: &[u32]) -> Result<Source, AllocError>
+    requires few { length sizes.now < 2 ^ 32 }
+    ensures { IfOk result (λ source. source
+        ≡ record { name = name.now; place = length head.now.bytes + 8; size = sum sizes.now }) }
+{
+    let name = String::from_str(alloc, name)?;
+    let offset = u32_at(head.bytes(), 96);
+    Ok(Source {
+        name,
+        place: u64::from(offset) + 8,
+        size: total(sizes),
+    })
+}
+
+impl Listed {
+    // Adds an input that was opened.
+    fn add(&mut self, alloc: Global, name: &str, reader: Reader) -> Result<(), AllocError>
+        requires few { vec_len self.old.lists.counts ≤ MAX_CHUNKS }
+        ensures inputs { OnOk result (self.new.inputs.items
+            ≡ self.old.inputs.items ++ record { name = name.now; head = reader.head } ∷ []) }
+        ensures sources { OnOk result (self.new.sources.items ≡ self.old.sources.items
+            ++ source_of (record { input = record { name = name.now; head = reader.head }; pieces = reader.pieces }) ∷ []) }
+        ensures added { OnOk result (AddsChunks self.old.lists.many self.new.lists.many
+            self.old.lists.counts.items self.new.lists.counts.items self.old.lists.sizes.items self.new.lists.sizes.items
+            (map (λ piece. piece.count) reader.pieces) (map (λ piece. piece.size) reader.pieces)) }
+        ensures few { OnOk result (vec_len self.new.lists.counts ≤ MAX_CHUNKS) }
+    {
+        let chunks = reader.chunks();
+        let (head, counts, sizes) = reader.into_chunks();
+        let source = source_of(alloc, name, &head, &sizes)?;
+        self.lists.add(chunks, &counts, &sizes)?;
+        let name = String::from_str(alloc, name)?;
+        match self.inputs.push(Input { name, head }) {
+            Ok(()) => {}
+            Err(_) => return Err(AllocError),
+        }
+        match self.sources.push(source) {
+            Ok(()) => Ok(()),
+            Err(_) => Err(AllocError),
+        }
+    }
+}
+
+// Opens the input after these, which is to be packed, and compares it with the first.
+fn list_next<F: Files>(
+    alloc: Global,
+    files: &mut F,
+    listed: &mut Listed,
+    name: &str,
+) -> Result<(), MergeFault>
+    requires few { vec_len listed.old.inputs < 32 }
+    requires lists { (asked : ℕ) × ListsChunks (F.seen files.old).held listed.old.inputs.items
+        listed.old.sources.items listed.old.lists.many listed.old.lists.counts.items listed.old.lists.sizes.items asked }
+    ensures next { OnOk result ((input : InputSeen)
+        × IsNext (F.seen files.old).held name.now listed.old.inputs.items input
+        × (listed.new.inputs.items ≡ listed.old.inputs.items ++ input ∷ [])) }
+    ensures lists { (asked : ℕ) → ListsChunks (F.seen files.old).held listed.old.inputs.items listed.old.sources.items
+        listed.old.lists.many listed.old.lists.counts.items listed.old.lists.sizes.items asked
+        → OnOk result (ListsChunks (F.seen files.old).held listed.new.inputs.items listed.new.sources.items
+        listed.new.lists.many listed.new.lists.counts.items listed.new.lists.sizes.items
+        (asked + ((F.seen files.new).asked - (F.seen files.old).asked))) }
+    ensures ends { IfErr result
+        (FailsNextPacked name.now listed.old.inputs.items (F.seen files.old) (F.seen files.new)) }
+    ensures faults { OnOk result ((F.seen files.new).read_faults ≡ (F.seen files.old).read_faults) }
+    ensures held { (F.seen files.new).held ≡ (F.seen files.old).held }
+    ensures writes { (F.seen files.new).write_faults ≡ (F.seen files.old).write_faults }
+    ensures later { Later (F.seen files.old) (F.seen files.new) }
+{
+    let number = listed.inputs.len() as u32;
+    let reader = match Reader::open(alloc, files, name) {
+        Ok(reader) => reader,
+        Err(fault) => return Err(fault_of(number, fault)),
+    };
+    if !reader.head().packed() {
+        return Err(MergeFault::At(number, Fault::Refused(Refusal::NotPacked)));
+    }
+    if let Some(field) = difference(&listed.inputs, reader.head()) {
+        return Err(MergeFault::Unequal(number, field));
+    }
+    match listed.add(alloc, name, reader) {
+        Ok(()) => Ok(()),
+        Err(_) => Err(MergeFault::At(number, Fault::Memory)),
+    }
+}
+
+/// Opens the inputs in order. Each is to be packed, and each after the first is compared with the first at once. Each is
+/// closed again: the chunk lists of one input alone are in memory, beside those of all inputs together.
+pub(crate) fn list_inputs<F: Files>(
+    alloc: Global,
+    files: &mut F,
+    names: &[String],
+) -> Result<Listed, MergeFault>
+    requires few { length names.now ≤ 32 }
+    ensures opened { IfOk result (λ listed. AreOpen (F.seen files.old).held (names_of names.now) listed.inputs.items) }
+    ensures lists { IfOk result (λ listed. ListsChunks (F.seen files.old).held listed.inputs.items listed.sources.items
+        listed.lists.many listed.lists.counts.items listed.lists.sizes.items
+        ((F.seen files.new).asked - (F.seen files.old).asked)) }
+    ensures all { IfOk result (λ listed. length listed.inputs.items ≡ length names.now) }
+    ensures ends { IfErr result (EndsListing (names_of names.now) (F.seen files.old) (F.seen files.new)) }
+    ensures faults { OnOk result ((F.seen files.new).read_faults ≡ (F.seen files.old).read_faults) }
+    ensures held { (F.seen files.new).held ≡ (F.seen files.old).held }
+    ensures writes { (F.seen files.new).write_faults ≡ (F.seen files.old).write_faults }
+    ensures later { Later (F.seen files.old) (F.seen files.new) }
+{
+    let mut listed = Listed {
+        inputs: Vec::new(alloc),
+        sources: Vec::new(alloc),
+        lists: ChunkLists {
+            counts: Vec::new(alloc),
+            sizes: Vec::new(alloc),
+            many: false,
+        },
+    };
+    'inputs: for name in names {
+        list_next(alloc, files, &mut listed, name)?;
+    }
+    Ok(listed)
+}
