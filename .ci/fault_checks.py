@@ -19,9 +19,13 @@ COMMANDS = [
     ("laszip, packing", ["laszip", "-i", "in.las", "-o", "o.laz", *PACK], ["o.laz"]),
     ("laszip, unpacking", ["laszip", "-i", "in.laz", "-o", "o.las"], ["o.las"]),
     ("las2las", ["las2las", "-i", "in.laz", "-o", "o.laz", "-keep_class", "1", "2", *PACK], ["o.laz"]),
+    ("las2las of a range", ["las2las", "-i", "in.laz", "-o", "o.las", "-start_at_point", "200", "-stop_at_point", "550"],
+     ["o.las"]),
     ("lasinfo", ["lasinfo", "-i", "in.laz", "-tally", "class"], []),
     ("lassplit", ["lassplit", "-i", "in.laz", "-o", "p.las", "-by_return"], [f"p_000000{i}.las" for i in (1, 2, 3)]),
     ("lasmerge", ["lasmerge", "-i", "in.las", "-i", "in.laz", "-o", "o.laz", *PACK], ["o.laz"]),
+    ("lasmerge of copied chunks", ["lasmerge", "-i", "in.laz", "-i", "in.laz", "-o", "o.laz", "-copy_chunks"],
+     ["o.laz"]),
     ("make", ["make", "-o", "m.las", "-z", "m.laz", "-points", "600", "-seed", "1", *PACK], ["m.las", "m.laz"]),
 ]
 
@@ -166,16 +170,37 @@ def checked_command(cases, library, folder, name, words, outputs):
                problem or (f"no calls of {missing[0]}" if missing else None))
 
 
-def fails_in_turn(cases, folder):
+def built_library(cases, folder):
+    """The library that makes calls fail and logs them, None if it can't be built."""
     compiler = shutil.which("gcc") or shutil.which("cc")
     if not compiler:
         cases.skip("failing calls", "there is no C compiler")
-        return
+        return None
     library = os.path.join(folder, "failing_calls.so")
     built = subprocess.run([compiler, "-shared", "-fPIC", "-O1", "-o", library, SOURCE, "-ldl"], check=False,
                            capture_output=True)
     if built.returncode != 0:
         cases.note("failing calls", built.stderr.decode(errors="replace"))
+        return None
+    return library
+
+
+def bytes_read(library, place, name, words):
+    """A run of the program in a folder, and how many bytes it read of the file of this name there."""
+    log = os.path.join(place, "reads")
+    run = subprocess.run([PROGRAM, *words], cwd=place, timeout=600, check=False, capture_output=True,
+                         env={**os.environ, "LD_PRELOAD": library, "FAULT_READS": log})
+    found = os.stat(os.path.join(place, name))
+    calls = struct.iter_unpack("<4Q", content(log)) if os.path.exists(log) else []
+    count = sum(length for device, inode, _, length in calls if (device, inode) == (found.st_dev, found.st_ino))
+    if os.path.exists(log):
+        os.remove(log)
+    return run, count
+
+
+def fails_in_turn(cases, folder):
+    library = built_library(cases, folder)
+    if not library:
         return
     for name, words, outputs in COMMANDS:
         checked_command(cases, library, folder, name, words, outputs)

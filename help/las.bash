@@ -10,11 +10,12 @@ _las() {
             words='-i -o -chunk_size -cores --help'
             ;;
         las2las)
-            words='-i -o -keep_class -drop_class -keep_return -drop_return -keep_first -keep_last
-                -keep_intensity -drop_intensity_below -drop_intensity_above
-                -translate_raw_xyz -translate_raw_x -translate_raw_y
-                -translate_raw_z -set_classification -set_user_data
-                -set_point_source -olas -olaz -chunk_size -cores --help'
+            words='-i -o -start_at_point -stop_at_point -keep_class -drop_class -keep_return
+                -drop_return -keep_first -keep_last -keep_intensity
+                -drop_intensity_below -drop_intensity_above -translate_raw_xyz
+                -translate_raw_x -translate_raw_y -translate_raw_z
+                -set_classification -set_user_data -set_point_source -olas
+                -olaz -chunk_size -cores --help'
             ;;
         lasinfo)
             words='-i -tally -cores --help'
@@ -23,7 +24,7 @@ _las() {
             words='-i -o -split -by_classification -by_flightline -by_return -cores --help'
             ;;
         lasmerge)
-            words='-i -o -olas -olaz -chunk_size -cores --help'
+            words='-i -o -olas -olaz -copy_chunks -chunk_size -cores --help'
             ;;
         make)
             words='-o -z -points -seed -format -extra -chunk_size -cores --help'

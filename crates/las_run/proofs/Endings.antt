@@ -10,7 +10,7 @@ use Rattle.las_outside.specs.Sinks.{SinkView, Puts, with_fault, with_more, writt
 use Rattle.las_outside.proofs.Texts.{with_more-none}
 use Rattle.las_words.specs.Says.{usage}
 use Rattle.las_run.specs.declared.stop.Stop.{Stop}
-use Rattle.las_run.specs.Endings.{Output, Cause, Done, Memory, Usage, Unread, Unwritten, Refused, Differs, HasTooManyPoints, Ending, ends_at_once, status_of, at_end, with_all, files_of, AreUnfinished, named, IsLeft}
+use Rattle.las_run.specs.Endings.{Output, Cause, Done, Memory, Usage, Unread, Unwritten, Refused, Differs, HasTooMany, Ending, ends_at_once, status_of, at_end, with_all, files_of, AreUnfinished, named, IsLeft}
 use Rattle.las_run.specs.Runs.{RunOf, Task, inputs_of}
 use Rattle.las_run.specs.Ends.{Change, EndsAs, IsLeftBy, IsQuiet, IsTheEnding, Ends, cause_of}
 use Rattle.las_run.specs.Lines.{line_of}
@@ -86,7 +86,7 @@ module _ (task : Task) (change : Change) where
   left Unwritten e = e.1
   left (Refused name r) e = e.2
   left (Differs name field) e = e.2
-  left HasTooManyPoints e = e.1
+  left (HasTooMany surplus) e = e.1
 
   pub wrong_words : (cause : Cause) → Ends task change cause → status_of cause ≡ 2 → (index : ℕ) × (task.said ≡ usage index)
   wrong_words Done e is = absurd (omega (arith, is))
@@ -96,7 +96,7 @@ module _ (task : Task) (change : Change) where
   wrong_words Unwritten e is = absurd (omega (arith, is))
   wrong_words (Refused name r) e is = absurd (omega (arith, is))
   wrong_words (Differs name field) e is = absurd (omega (arith, is))
-  wrong_words HasTooManyPoints e is = absurd (omega (arith, is))
+  wrong_words (HasTooMany surplus) e is = absurd (omega (arith, is))
 
   pub read_cause : (cause : Cause) → Ends task change cause → status_of cause ≡ 3 → Any (IsMissing change.files.held) (inputs_of task.said) ⊎ Rose change.files.read_faults change.files_now.read_faults
   read_cause Done e is = absurd (omega (arith, is))
@@ -109,7 +109,7 @@ module _ (task : Task) (change : Change) where
   read_cause Unwritten e is = absurd (omega (arith, is))
   read_cause (Refused name r) e is = absurd (omega (arith, is))
   read_cause (Differs name field) e is = absurd (omega (arith, is))
-  read_cause HasTooManyPoints e is = absurd (omega (arith, is))
+  read_cause (HasTooMany surplus) e is = absurd (omega (arith, is))
 
   pub write_cause : (cause : Cause) → Ends task change cause → status_of cause ≡ 4 → Rose change.files.write_faults change.files_now.write_faults ⊎ Rose change.out.faults change.out_now.faults
   write_cause Done e is = absurd (omega (arith, is))
@@ -122,7 +122,7 @@ module _ (task : Task) (change : Change) where
   ]
   write_cause (Refused name r) e is = absurd (omega (arith, is))
   write_cause (Differs name field) e is = absurd (omega (arith, is))
-  write_cause HasTooManyPoints e is = absurd (omega (arith, is))
+  write_cause (HasTooMany surplus) e is = absurd (omega (arith, is))
 
   -- ---- standard output
   quiet_unless : (cause : Cause) → Ends task change cause → (status_of cause ≡ 0) ⊎ ((status_of cause ≡ 4) ⊎ IsQuiet change)
@@ -133,7 +133,7 @@ module _ (task : Task) (change : Change) where
   quiet_unless Unwritten e = inr (inl refl)
   quiet_unless (Refused name r) e = inr (inr e.4)
   quiet_unless (Differs name field) e = inr (inr e.4)
-  quiet_unless HasTooManyPoints e = inr (inr e.3)
+  quiet_unless (HasTooMany surplus) e = inr (inr e.3)
 
   pub quiet_but : (cause : Cause) → Ends task change cause → (status_of cause ≡ 0) ⊎ ((status_of cause ≡ 4) ⊎ (change.out_now ≡ change.out))
   quiet_but cause e = quiet_unless cause e
@@ -169,7 +169,7 @@ module _ (task : Task) (change : Change) where
   ]
   put_of (Refused name r) files ending e known defined = nothing_put ending e.4
   put_of (Differs name field) files ending e known defined = nothing_put ending e.4
-  put_of HasTooManyPoints files ending e known defined = nothing_put ending e.3
+  put_of (HasTooMany surplus) files ending e known defined = nothing_put ending e.3
 
 -- the text of a stop was put
 pub says : (inputs : List (List ℕ)) (stop other : Stop) (text : List ℕ) (old new : SinkView) → stop ≡ other → text ≡ line_of (cause_of inputs (Err other)) → Puts text old new → Puts (line_of (cause_of inputs (Err stop))) old new

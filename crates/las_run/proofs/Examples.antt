@@ -1,11 +1,12 @@
 -- Worked values of the definitions.
 use Rattle.std.proofs.Common.{◌≡◌, Some, [], ◌∷◌, ◌++◌, codes, refl}
 use Rattle.std.specs.Fmt.{digits}
-use Rattle.las_header.specs.declared.refusal.Refusal.TheVariants.{BadChunk, RawRange, Trailing}
+use Rattle.las_header.specs.declared.refusal.Refusal.TheVariants.{BadChunk, NotPacked, RawRange, Trailing}
 use Rattle.las_merge.specs.declared.fault.MergeFault.TheVariants.{At, Unequal}
 use Rattle.las_merge.specs.declared.field.Field.TheVariants.{Bounds}
 use Rattle.laz_file.specs.declared.fault.Fault.TheVariants as file
-use Rattle.las_run.specs.Endings.{Usage, Unread, Refused, Differs, HasTooManyPoints}
+use Rattle.las_run.specs.declared.stop.Surplus.TheVariants.{Chunks, Points}
+use Rattle.las_run.specs.Endings.{Usage, Unread, Refused, Differs, HasTooMany}
 use Rattle.las_run.specs.Lines.{line_of}
 use Rattle.las_run.specs.Tools.{cause_at, cause_of_fault, made_text}
 
@@ -48,8 +49,16 @@ chunk_of_the_second = refl
 unequal : line_of (Differs (codes "b.las") Bounds) ≡ codes "unequal: b.las: box" ++ 10 ∷ []
 unequal = refl
 
-too_many : line_of HasTooManyPoints ≡ codes "too many points" ++ 10 ∷ []
+too_many : line_of (HasTooMany Points) ≡ codes "too many points" ++ 10 ∷ []
 too_many = refl
+
+too_many_chunks : line_of (HasTooMany Chunks) ≡ codes "too many chunks" ++ 10 ∷ []
+too_many_chunks = refl
+
+-- a plain input whose chunks are to be copied
+not_packed : line_of (cause_of_fault (codes "a.laz" ∷ codes "a.las" ∷ []) (At 1 (file.Refused NotPacked))) ≡ codes "refused: a.las: 27 NotPacked" ++ 10 ∷ []
+unfolding digits
+not_packed = refl
 
 three_lines :
     made_text 3 327 180 ≡ codes "points 3" ++ 10 ∷ codes "plain 327" ++ 10 ∷ codes "packed 180" ++ 10 ∷ []

@@ -19,13 +19,14 @@ use Rattle.las_run.specs.Endings.{AreUnfinished, Cause, Done, Refused, Ending, I
 use Rattle.las_run.specs.Tools.{Zips, ZipsIf, cause_by, output_of, writes}
 use Rattle.las_run.specs.Headline.{CanMissOutput, CanMissRefusal, ChangesOutput, IsLaszip, IsPackedOf, Refuses, Writes, unpacked}
 use Rattle.las_run.specs.Seen.{CanMiss, EndsUnlessExcused, EndsWith, Excuse, NoMemory, FailedRead, FailedWrite, FailedOut, IsDue, IsExcused, Leaves, RunSeen}
-use Rattle.las_run.proofs.Commands.{laszip_reads_for}
+use Rattle.las_words.specs.Asked.{laszip}
+use Rattle.las_run.proofs.Commands.{reads_one_for}
 use Rattle.las_run.proofs.Endings.{left_of_none}
 use Rattle.las_run.proofs.Opening.{ReadsOne, defined, refused_ending}
 
 -- a run of `laszip` reads its input
 reads_of : (run : RunSeen) (zip : IsLaszip run) → ReadsOne run.task zip.input (Zips zip.input zip.output zip.chunk)
-reads_of run zip = laszip_reads_for run.task zip.input zip.output zip.chunk zip.workers zip.said
+reads_of run zip = reads_one_for run.task zip.input (laszip (record { output = zip.output; chunk = zip.chunk })) zip.workers zip.said
 
 -- its ending, by what is made of its input, and that of a refused input
 zips_due : (run : RunSeen) (zip : IsLaszip run) (packed : Bool) (ending : Ending) → IsAcceptedFile zip.file → is_packed (head_of zip.file) ≡ packed → ZipsIf packed zip.input zip.output zip.chunk zip.file ending → IsDue run zip.known ending

@@ -1,10 +1,12 @@
 -- What a run promises, from the cause for which it ended.
-use Rattle.std.proofs.Common.{◌≡◌, ◌≢◌, ◌≤◌, ◌⊎◌, inl, inr, ℕ, [], Some, sym, ◌∙◌, ap, subst}
+use Rattle.std.proofs.Common.{◌≡◌, ◌≢◌, ◌≤◌, ◌⊎◌, inl, inr, ℕ, List, [], Some, sym, ◌∙◌, ap, subst}
 use Rattle.las_outside.specs.Files.{FileMap}
 use Rattle.las_outside.specs.Outside.{Later}
 use Rattle.las_outside.specs.Sinks.{Puts}
+use Rattle.las_words.specs.Asked.{Las2lasOptions, las2las, reads}
 use Rattle.las_words.specs.Says as words
-use Rattle.las_run.specs.Endings.{Cause, ComesFirst, Done, Memory, Usage, Unread, Unwritten, Refused, Differs, HasTooManyPoints, Ending, status_of}
+use Rattle.las_run.specs.Asking.{AsksFor}
+use Rattle.las_run.specs.Endings.{Cause, ComesFirst, Done, Memory, Usage, Unread, Unwritten, Refused, Differs, HasTooMany, Ending, status_of}
 use Rattle.las_run.specs.Ends.{Ends, EndsAs, IsTheEnding}
 use Rattle.las_run.specs.Lines.{line_of}
 use Rattle.las_run.specs.Promises.{KeepsPromises}
@@ -59,7 +61,7 @@ module _ (run : RunSeen) where
   ]
   complete (Refused name r) known ending told e due = inl (as_defined (Refused name r) known ending told e.1 due)
   complete (Differs name field) known ending told e due = inl (as_defined (Differs name field) known ending told e.1 due)
-  complete HasTooManyPoints known ending told e due = inl (as_defined HasTooManyPoints known ending told e.0 due)
+  complete (HasTooMany surplus) known ending told e due = inl (as_defined (HasTooMany surplus) known ending told e.0 due)
 
   -- a status that memory or a failure gives is not decided
   done : (cause : Cause) (known : FileMap) → IsTold cause → Ends run.task (change_of run) cause → run.files.held ≡ Some known → IsDecided run.status
@@ -71,7 +73,7 @@ module _ (run : RunSeen) where
   done Unwritten known told e held decided = absurd (decided.2 told.0)
   done (Refused name r) known told e held decided = as_the_one (Refused name r) known told e.1 held
   done (Differs name field) known told e held decided = as_the_one (Differs name field) known told e.1 held
-  done HasTooManyPoints known told e held decided = as_the_one HasTooManyPoints known told e.0 held
+  done (HasTooMany surplus) known told e held decided = as_the_one (HasTooMany surplus) known told e.0 held
 
   unchanged : (cause : Cause) (known : FileMap) (ending : Ending) → Ends run.task (change_of run) cause → IsDue run known ending → ComesFirst ending.cause → run.files_now.held ≡ run.files.held
   unchanged cause known ending e due first =
@@ -85,8 +87,13 @@ module _ (run : RunSeen) where
   abbrev pub EndsUnasked : Type 0
   EndsUnasked = (index : ℕ) → run.task.said ≡ words.usage index → ((run.status ≡ 2) ⊎ (run.status ≡ 1)) × (run.files_now ≡ run.files)
 
-  pub keeps : (cause : Cause) → run.status ≡ status_of cause → Puts (line_of cause) run.err run.err_now → Ends run.task (change_of run) cause → EndsUnasked → Later run.files run.files_now → run.status ≤ 6 → KeepsPromises run
-  keeps cause is line e unasked later few =
+  -- how much `las2las` asks for
+  abbrev pub Asks : Type 0
+  Asks = (input : List ℕ) (options : Las2lasOptions) (workers : ℕ) → run.task.said ≡ words.asks (record { work = reads input (las2las options); workers = workers })
+      → AsksFor input options.start options.stop run.files run.files_now run.status
+
+  pub keeps : (cause : Cause) → run.status ≡ status_of cause → Puts (line_of cause) run.err run.err_now → Ends run.task (change_of run) cause → EndsUnasked → Asks → Later run.files run.files_now → run.status ≤ 6 → KeepsPromises run
+  keeps cause is line e unasked asks later few =
       let all : (known : FileMap) (ending : Ending) → IsDue run known ending → EndsUnlessExcused run known ending = λ known ending due. complete cause known ending (is, line) e due in
       let all_left : (known : FileMap) (ending : Ending) → IsDue run known ending → Leaves run known ending = λ known ending due. left run.task (change_of run) cause e known ending due.known_is due.defined in
       record {
@@ -100,6 +107,7 @@ module _ (run : RunSeen) where
         unasked = λ index wrong. (unasked index wrong).1;
         done = λ known held decided. done cause known (is, line) e held decided;
         complete = all;
+        asks = asks;
         read = λ three. read_cause run.task (change_of run) cause e (sym is ∙ three);
         write = λ four. write_cause run.task (change_of run) cause e (sym is ∙ four);
         left = all_left;

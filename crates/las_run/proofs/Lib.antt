@@ -1,3 +1,4 @@
+pub mod Asking
 pub mod Commands
 pub mod Converting
 pub mod Endings
@@ -7,6 +8,7 @@ pub mod Keeping
 pub mod Made
 pub mod Making
 pub mod Merging
+pub mod Copying
 pub mod Opening
 pub mod Parting
 pub mod Rejoining

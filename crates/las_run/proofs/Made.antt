@@ -15,20 +15,22 @@ use Rattle.las_outside.specs.Faults.{Rose}
 use Rattle.las_outside.specs.Files.{FileMap, with_file}
 use Rattle.las_outside.specs.Outside.{Outside}
 use Rattle.las_outside.specs.Sinks.{SinkView, with_fault, with_more}
-use Rattle.las_words.specs.Says.{make}
+use Rattle.las_words.specs.Asked.{Asked, make}
 use Rattle.laz_file.specs.Packing.{packed_file}
 use Rattle.las_run.specs.Endings.{Done, Ending, IsLeft, files_of}
 use Rattle.las_run.specs.declared.stop.Stop.TheVariants as stop
-use Rattle.las_run.specs.Runs.{Task}
-use Rattle.las_run.specs.Tools.{made_text, makes}
+use Rattle.las_run.specs.Runs.{Task, task_with}
+use Rattle.las_run.specs.Tools.{made_text, makes, options_with}
 use Rattle.las_run.specs.Ends.{Change, Ends, HasOutput, IsLeftBy, IsTheEnding, cause_of, stop_making}
-use Rattle.las_run.proofs.Commands.{task_with}
 use Rattle.las_run.proofs.Endings.{left_if_done, nothing_left}
 use Rattle.las_run.proofs.Opening.{some_outputs}
 
 module _ (taps : List TapSeen) (output packed : List ℕ) (s : Settings) (range : IsInRange s) (chunk workers : ℕ) where
+  abbrev asked : Asked
+  asked = record { work = make (options_with output packed s chunk); workers = workers }
+
   abbrev task : Task
-  task = task_with taps (make output packed s.points s.seed s.format s.extra chunk workers)
+  task = task_with taps asked
 
   abbrev ending : Ending
   ending = makes output packed s chunk
@@ -95,13 +97,13 @@ module _ (taps : List TapSeen) (output packed : List ℕ) (s : Settings) (range 
 
     pub ends_made : (sizes : Sizes) → new.held ≡ with_made output packed s chunk old.held → sizes.plain ≡ length (made_file s) → (IsSome old.held → sizes.packed ≡ length (packed_file (made_file s) chunk))
         → out_now ≡ with_more out (made_text s.points sizes.plain sizes.packed)
-        → Ends (task_with taps (make output packed s.points s.seed s.format s.extra chunk workers)) (record { files = old; files_now = new; out = out; out_now = out_now }) Done
+        → Ends (task_with taps (record { work = make (options_with output packed s chunk); workers = workers })) (record { files = old; files_now = new; out = out; out_now = out_now }) Done
     ends_made sizes now plain size put =
         (λ files known. (ending, the_ending files, refl, made_now change now files known, put ∙ ap (with_more out) (text_is sizes plain size files known)), done_left change now)
 
     pub ends_unput : (sizes : Sizes) → new.held ≡ with_made output packed s chunk old.held → sizes.plain ≡ length (made_file s) → (IsSome old.held → sizes.packed ≡ length (packed_file (made_file s) chunk))
         → ((n : ℕ) × (out_now ≡ with_fault (with_more out (take n (made_text s.points sizes.plain sizes.packed)))))
-        → Ends (task_with taps (make output packed s.points s.seed s.format s.extra chunk workers)) (record { files = old; files_now = new; out = out; out_now = out_now }) (cause_of (output ∷ packed ∷ []) (Err stop.Write))
+        → Ends (task_with taps (record { work = make (options_with output packed s chunk); workers = workers })) (record { files = old; files_now = new; out = out; out_now = out_now }) (cause_of (output ∷ packed ∷ []) (Err stop.Write))
     ends_unput sizes now plain size put = (
       inr (record {
         rose = subst (λ (o : SinkView). Rose out.faults o.faults) (sym put.1) (omega arith);
@@ -121,7 +123,7 @@ module _ (taps : List TapSeen) (output packed : List ℕ) (s : Settings) (range 
         some_text e = absurd (cc)
 
     pub ends_unmade : (fault : MakeFault) → out_now ≡ out → FailsMaking output packed s chunk old new fault
-        → Ends (task_with taps (make output packed s.points s.seed s.format s.extra chunk workers)) (record { files = old; files_now = new; out = out; out_now = out_now }) (cause_of (output ∷ packed ∷ []) (Err (stop_making fault)))
+        → Ends (task_with taps (record { work = make (options_with output packed s chunk); workers = workers })) (record { files = old; files_now = new; out = out; out_now = out_now }) (cause_of (output ∷ packed ∷ []) (Err (stop_making fault)))
     ends_unmade made.ReadPlain quiet fails = record {
       reads = (0, lit< tt, refl);
       comes = inl (refl, fails.1);

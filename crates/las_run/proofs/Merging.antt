@@ -1,5 +1,5 @@
 -- What the call that merges files says of its outcome, as how a run of `lasmerge` ends.
-use Rattle.std.proofs.Common.{◌≡◌, ◌≢◌, ◌⊎◌, inl, inr, ℕ, ◌<◌, Bool, List, [], length, Option, Some, None, Result, Ok, Err, refl, sym, ◌∙◌, ap, subst}
+use Rattle.std.proofs.Common.{◌≡◌, ◌≢◌, ◌⊎◌, inl, inr, ℕ, ◌<◌, false, List, [], length, Option, Some, None, Result, Ok, Err, refl, sym, ◌∙◌, ap, subst}
 use Rattle.std.specs.Prelude.{Contains, IfErr, IsErrOf, OnOk, is_some}
 use Rattle.std.proofs.lemmas.List.{get_or_default}
 use Rattle.las_header.specs.declared.refusal.Refusal.{Refusal}
@@ -16,15 +16,14 @@ use Rattle.las_outside.specs.Files.{FileMap, IsMissing, with_file}
 use Rattle.las_outside.specs.Outside.{Later, Outside}
 use Rattle.las_outside.specs.Sinks.{SinkView, with_more}
 use Rattle.las_outside.proofs.Texts.{with_more-none}
-use Rattle.las_words.specs.Says.{lasmerge}
+use Rattle.las_words.specs.Asked.{LasmergeOptions, lasmerge}
 use Rattle.laz_file.specs.declared.fault.Fault.{Fault}
 use Rattle.laz_file.specs.declared.fault.Fault.TheVariants as file
 use Rattle.laz_file.specs.Outputs as points
 use Rattle.las_run.specs.Endings.{ComesAtOpening, Done, Refused, Unread, Ending, IsLeft, ends_at_once, files_of}
 use Rattle.las_run.specs.Tools.{MergesIn, cause_of_fault, chunk_if, merges}
-use Rattle.las_run.specs.Runs.{Task}
+use Rattle.las_run.specs.Runs.{Task, task_with}
 use Rattle.las_run.specs.Ends.{Ends, EndsAs, HasOutput, IsLeftBy, IsTheEnding, cause_of, quiet, stopped_merge}
-use Rattle.las_run.proofs.Commands.{task_with}
 use Rattle.las_run.proofs.Endings.{left_if_done, nothing_left}
 use Rattle.las_run.proofs.Making.{left_of_output}
 use Rattle.las_run.proofs.Opening.{some_outputs}
@@ -56,6 +55,7 @@ module _ (inputs : List (List ℕ)) (output : List ℕ) (size : Option ℕ) (old
     pub refused : (number : ℕ) (cause : Refusal) → IsErrOf outcome (merge.At number (file.Refused cause)) → IfKnown old.held (IsRefused number cause)
     pub unequal : (number : ℕ) (field : Field) → IsErrOf outcome (merge.Unequal number field)
         → (number < length inputs) × (new.held ≡ old.held) × IfKnown old.held (λ known. IsKeptBy known inputs (merge.Unequal number field))
+    pub few_chunks : IsErrOf outcome merge.TooManyChunks → ⊥
     pub too_many : IsErrOf outcome merge.TooManyPoints → (new.held ≡ old.held) × IfKnown old.held (λ known. IsKeptBy known inputs merge.TooManyPoints)
     pub at : (number : ℕ) (cause : Fault) → IsErrOf outcome (merge.At number cause)
         → (number < length inputs) × IfKnown old.held (λ known. (before : List (List ℕ)) × AreFirst known inputs before × (length before ≡ number))
@@ -68,15 +68,21 @@ module _ (inputs : List (List ℕ)) (output : List ℕ) (size : Option ℕ) (old
     pub later : Later old new
 
 -- ---- the endings of a merge
-module _ (taps : List TapSeen) (inputs : List (List ℕ)) (output : List ℕ) (packed : Bool) (chunk workers : ℕ) where
+module _ (taps : List TapSeen) (options : LasmergeOptions) (workers : ℕ) where
   abbrev task : Task
-  task = task_with taps (lasmerge inputs output packed chunk workers)
+  task = task_with taps (record { work = lasmerge (record options { copy = false }); workers = workers })
+
+  abbrev inputs : List (List ℕ)
+  inputs = options.inputs
+
+  abbrev output : List ℕ
+  output = options.output
 
   abbrev size : Option ℕ
-  size = chunk_if packed chunk
+  size = chunk_if options.packed options.chunk
 
   abbrev Runs : FileMap → Ending → Type 0
-  Runs known ending = MergesIn (chunk_if packed chunk) inputs output known ending
+  Runs known ending = MergesIn (chunk_if options.packed options.chunk) inputs output known ending
 
   is_input : (number : ℕ) → number < length inputs → Contains inputs (item_at inputs number)
   is_input number within = (number, within, get_or_default inputs number (item_at inputs number) [] within)
@@ -99,9 +105,9 @@ module _ (taps : List TapSeen) (inputs : List (List ℕ)) (output : List ℕ) (p
           let one = merged_once known inputs merged m.0 can m.3 in
           let same = are.only m.1 m.2 (subst (λ (fs : List (List ℕ)). MergesTo fs m.1 m.2) one m.4) in
           m.5
-          ∙ ap (λ (fs : List (List ℕ)). merges inputs output (chunk_if packed chunk) fs m.1 m.2) one
-          ∙ ap (λ (rs : List ℕ). merges inputs output (chunk_if packed chunk) merged rs m.2) same.0
-          ∙ ap (merges inputs output (chunk_if packed chunk) merged records) same.1
+          ∙ ap (λ (fs : List (List ℕ)). merges inputs output (chunk_if options.packed options.chunk) fs m.1 m.2) one
+          ∙ ap (λ (rs : List ℕ). merges inputs output (chunk_if options.packed options.chunk) merged rs m.2) same.0
+          ∙ ap (merges inputs output (chunk_if options.packed options.chunk) merged records) same.1
 
   has_output : (known : FileMap) (merged : List (List ℕ)) (ending : Ending) → CanMerge known inputs merged → Runs known ending → ending.outputs ≢ []
   has_output known merged ending can (inl k) = absurd (kept_or_merged known inputs merged k.0 k.1 can)
@@ -117,8 +123,8 @@ module _ (taps : List TapSeen) (inputs : List (List ℕ)) (output : List ℕ) (p
     left_one files ending known (inr l) (inl k) = absurd (kept_or_merged files inputs l.0 k.0 k.1 l.1)
     left_one files ending known (inr l) (inr m) =
         let one = merged_once files inputs m.0 l.0 m.3 l.1 in
-        let leaves = subst (λ (fs : List (List ℕ)). LeavesMerged (merged_output output fs (chunk_if packed chunk)) fs old.held new.held) one l.2 in
-        let left = left_of_output (merged_output output m.0 (chunk_if packed chunk)) m.1 old.held new.held files (leaves m.1 m.2 m.4) known in
+        let leaves = subst (λ (fs : List (List ℕ)). LeavesMerged (merged_output output fs (chunk_if options.packed options.chunk)) fs old.held new.held) one l.2 in
+        let left = left_of_output (merged_output output m.0 (chunk_if options.packed options.chunk)) m.1 old.held new.held files (leaves m.1 m.2 m.4) known in
         (left.0, left.1, subst (λ (e : Ending). IsLeft e.outputs files left.0) (sym m.5) left.2)
 
     left_by : IfKnown old.held (Leaves inputs output size old new) → IsLeftBy task (quiet old new out)
@@ -127,8 +133,8 @@ module _ (taps : List TapSeen) (inputs : List (List ℕ)) (output : List ℕ) (p
     done_ends : IfKnown old.held (IsMerged inputs output size old new) → EndsAs task (quiet old new out) Done
     done_ends made files known =
         let m = made files known in
-        let text = points.finished (merged_output output m.0 (chunk_if packed chunk)) m.1 in (
-          merges inputs output (chunk_if packed chunk) m.0 m.1 None,
+        let text = points.finished (merged_output output m.0 (chunk_if options.packed options.chunk)) m.1 in (
+          merges inputs output (chunk_if options.packed options.chunk) m.0 m.1 None,
           merged_ending files m.0 m.1 None m.2 m.3,
           refl,
           m.4 ∙ ap (λ (h : Option FileMap). with_file h output text) known,
@@ -150,8 +156,8 @@ module _ (taps : List TapSeen) (inputs : List (List ℕ)) (output : List ℕ) (p
         one (inl k) = let fault = merge.At number (file.Refused cause) in (ends_at_once (cause_of_fault inputs fault), kept_ending files fault k.0, refl, k.1 ∙ known, with_more-none out)
         one (inr m) =
             let place : BadPlace = record { file = number; chunk = m.2 } in
-            let text = points.stopped (merged_output output m.0 (chunk_if packed chunk)) m.1 in (
-              merges inputs output (chunk_if packed chunk) m.0 m.1 (Some place),
+            let text = points.stopped (merged_output output m.0 (chunk_if options.packed options.chunk)) m.1 in (
+              merges inputs output (chunk_if options.packed options.chunk) m.0 m.1 (Some place),
               merged_ending files m.0 m.1 (Some place) m.4 m.5,
               ap (Refused (item_at inputs number)) (sym m.3),
               m.6 ∙ ap (λ (h : Option FileMap). with_file h output text) known,
@@ -208,11 +214,12 @@ module _ (taps : List TapSeen) (inputs : List (List ℕ)) (output : List ℕ) (p
     ends_so (Err merge.TooManyPoints) s =
         let m = s.too_many refl in
         (kept_ends merge.TooManyPoints m.1 m.0, left_by s.left, m.0, refl)
+    ends_so (Err merge.TooManyChunks) s = absurd (s.few_chunks refl)
     ends_so (Err merge.Write) s =
         let w = s.write refl in
         (inl (w.0, outputs w.1, refl), left_by s.left)
     ends_so (Err merge.Memory) s = (left_by s.left, refl)
 
-    pub ends_merging : (size : Option ℕ) (outcome : Result (Unit {0}) MergeFault) → size ≡ chunk_if packed chunk → SaysMerging inputs output size old new outcome
-        → Ends (task_with taps (lasmerge inputs output packed chunk workers)) (quiet old new out) (cause_of inputs (stopped_merge outcome))
+    pub ends_merging : (size : Option ℕ) (outcome : Result (Unit {0}) MergeFault) → size ≡ chunk_if options.packed options.chunk → SaysMerging inputs output size old new outcome
+        → Ends (task_with taps (record { work = lasmerge (record options { copy = false }); workers = workers })) (quiet old new out) (cause_of options.inputs (stopped_merge outcome))
     ends_merging size outcome is s = ends_so outcome (subst (λ (c : Option ℕ). SaysMerging inputs output c old new outcome) is s)

@@ -158,7 +158,7 @@ module _ (task : Task) (name : List ℕ) (Makes : List ℕ → Ending → Type 0
         })
     ends_opening stop.Write stops same = absurd stops
     ends_opening (stop.Differs number field) stops same = absurd stops
-    ends_opening stop.TooManyPoints stops same = absurd stops
+    ends_opening (stop.TooMany surplus) stops same = absurd stops
     ends_opening (stop.Refused number cause) stops same =
         subst (λ (n : ℕ). Ends task (quiet old new out) (cause_of (name ∷ []) (Err (stop.Refused n cause)))) (sym stops.0)
         (is_read, refused_ends cause stops.1 same, before same, (λ first. same), refl)
@@ -239,7 +239,7 @@ module _ (task : Task) (name : List ℕ) (Makes : List ℕ → Ending → Type 0
           ends.2,
         )
     ends_putting (Err (stop.Differs number field)) ends = absurd ends
-    ends_putting (Err stop.TooManyPoints) ends = absurd ends
+    ends_putting (Err (stop.TooMany surplus)) ends = absurd ends
 
 -- the same after calls that have changed no file and failed nowhere
 pub putting_after : (Makes : List ℕ → Ending → Type 0) (input : List ℕ) (old mid new : Outside) (out out_now : SinkView) → mid.held ≡ old.held → mid.read_faults ≡ old.read_faults → (outcome : Result (Unit {0}) Stop)
@@ -253,4 +253,4 @@ putting_after Makes input old mid new out out_now same reads (Err stop.Write) en
 putting_after Makes input old mid new out out_now same reads (Err (stop.Refused number cause)) ends =
     (ends.0, ends.1, ends.2, subst (λ (h : Option FileMap). WhereKnown h input (λ file. (ending : Ending) × IsOnlyEnding (Makes file) ending × (ending.outputs ≡ []) × ((ending.cause ≡ Refused input cause) × (ending.text ≡ [])))) same ends.3)
 putting_after Makes input old mid new out out_now same reads (Err (stop.Differs number field)) ends = ends
-putting_after Makes input old mid new out out_now same reads (Err stop.TooManyPoints) ends = ends
+putting_after Makes input old mid new out out_now same reads (Err (stop.TooMany surplus)) ends = ends

@@ -124,11 +124,11 @@ some_text head chunk summary tallies empty =
     let first : 118 ≡ 0 = ap (λ (xs : List ℕ). get_or xs 0 0) empty in
     absurd (omega (arith, first))
 
-chunks_are : (packed : Bool) (size : ℕ) (pieces : List Piece) (chunk : Option ℕ) (chunks : ℕ) → chunk ≡ (if packed then Some size else None) → chunks ≡ chunks_in chunk pieces
-    → option_map {U = ℕ × ℕ} (λ c. (c, chunks)) chunk ≡ (if packed then Some (size, length pieces) else None)
-chunks_are true size pieces chunk chunks is are =
-    ap (option_map {U = ℕ × ℕ} (λ (c : ℕ). (c, chunks))) is ∙ (let counted : ℕ → Option (ℕ × ℕ) = λ n. Some (size, n) in ap counted) (are ∙ ap (λ (o : Option ℕ). chunks_in o pieces) is)
-chunks_are false size pieces chunk chunks is are = ap (option_map {U = ℕ × ℕ} (λ (c : ℕ). (c, chunks))) is
+chunks_are : (packed : Bool) (size : ℕ) (pieces : List Piece) (chunk : Option ℕ) (own : List Piece) → chunk ≡ (if packed then Some size else None) → own ≡ chunks_in chunk pieces
+    → option_map {U = ℕ × ℕ} (λ c. (c, length own)) chunk ≡ (if packed then Some (size, length pieces) else None)
+chunks_are true size pieces chunk own is are =
+    ap (option_map {U = ℕ × ℕ} (λ (c : ℕ). (c, length own))) is ∙ (let counted : List Piece → Option (ℕ × ℕ) = λ ps. Some (size, length ps) in ap counted) (are ∙ ap (λ (o : Option ℕ). chunks_in o pieces) is)
+chunks_are false size pieces chunk own is are = ap (option_map {U = ℕ × ℕ} (λ (c : ℕ). (c, length own))) is
 
 -- ---- the ending of a report
 module _ (taps : List TapSeen) (input : List ℕ) (tallies : List (List ℕ)) (file : List ℕ) where
@@ -155,9 +155,9 @@ module _ (taps : List TapSeen) (tallies : List (List ℕ)) (reader : ReaderSeen)
       report_text head (option_map {U = ℕ × ℕ} (λ c. (c, chunks)) chunk) survey.summary (flat_map (λ tap. tally_text tap.name tap.tally) survey.taps)
 
   survey_report : (file : List ℕ) (blocks : List (List ℕ)) (pieces : List Piece) (survey : SurveySeen) → reader.head.bytes ≡ head_of file
-      → option_map {U = ℕ × ℕ} (λ c. (c, reader.chunks)) reader.chunk ≡ chunks_line file pieces
+      → option_map {U = ℕ × ℕ} (λ c. (c, length reader.pieces)) reader.chunk ≡ chunks_line file pieces
       → IsShown (chosen_taps taps tallies) (records_after reader.head.bytes (concat blocks)) survey
-      → survey_text reader.head.bytes reader.chunk reader.chunks survey ≡ report_of (chosen_taps taps tallies) file pieces (records_after (head_of file) (concat blocks))
+      → survey_text reader.head.bytes reader.chunk (length reader.pieces) survey ≡ report_of (chosen_taps taps tallies) file pieces (records_after (head_of file) (concat blocks))
   survey_report file blocks pieces survey head line is =
       let records = records_after reader.head.bytes (concat blocks) in
       ap (λ (c : Option (ℕ × ℕ)). report_text reader.head.bytes c survey.summary (flat_map (λ tap. tally_text tap.name tap.tally) survey.taps)) line
@@ -175,12 +175,12 @@ module _ (taps : List TapSeen) (tallies : List (List ℕ)) (reader : ReaderSeen)
   abbrev HasText : (text : List ℕ) → (file : List ℕ) → Type 0
   HasText text file = (ending : Ending) × IsOnlyEnding (Reports taps reader.name tallies file) ending × (ending.outputs ≡ []) × (ending.cause ≡ Done) × (ending.text ≡ text)
 
-  surveyed_text : (survey : SurveySeen) (file : List ℕ) → StandsFor reader file × IsSurveyed survey file → HasText (survey_text reader.head.bytes reader.chunk reader.chunks survey) file
+  surveyed_text : (survey : SurveySeen) (file : List ℕ) → StandsFor reader file × IsSurveyed survey file → HasText (survey_text reader.head.bytes reader.chunk (length reader.pieces) survey) file
   surveyed_text survey file k =
       let s = k.0 in
       let head : reader.head.bytes ≡ head_of file = ap (λ h. h.bytes) s.head in
       let known = k.1 in
-      let line = chunks_are (is_packed (head_of file)) (chunk_size_of (head_of file)) s.pieces reader.chunk reader.chunks s.chunk s.chunks in
+      let line = chunks_are (is_packed (head_of file)) (chunk_size_of (head_of file)) s.pieces reader.chunk reader.pieces s.chunk s.chunks in
       let shown = subst (λ (h : List ℕ). IsShown (chosen_taps taps tallies) (records_after h (concat known.0)) survey) (sym head) known.2 in
       let text = survey_report file known.0 s.pieces survey head line shown in
       (ending_of taps reader.name tallies file known.0 None s.pieces, only_report taps reader.name tallies file known.0 None s.pieces known.1 s.are, refl, refl, sym text)
@@ -188,7 +188,7 @@ module _ (taps : List TapSeen) (tallies : List (List ℕ)) (reader : ReaderSeen)
   -- how the run ends then
   module _ (change : Change) (stands : WhereKnown change.files.held reader.name (StandsFor reader)) where
     pub ends_reporting : (survey : SurveySeen) (text : List ℕ) (outcome : Result (Unit {0}) ReportFault) → WhereKnown change.files.held reader.name (IsSurveyed survey)
-        → text ≡ survey_text reader.head.bytes reader.chunk reader.chunks survey → text ≢ []
+        → text ≡ survey_text reader.head.bytes reader.chunk (length reader.pieces) survey → text ≢ []
         → OnOk outcome (change.out_now ≡ with_more change.out text)
         → (IsErrOf outcome report.Failed → (n : ℕ) × (change.out_now ≡ with_fault (with_more change.out (take n text))))
         → (IsErrOf outcome report.Memory → change.out_now ≡ change.out)

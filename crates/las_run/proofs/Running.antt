@@ -1,5 +1,5 @@
 -- Which words and files have an ending, and that they have one alone.
-use Rattle.std.proofs.Common.{◌≡◌, inl, inr, ℕ, Bool, true, false, List, [], ◌∷◌, ◌++◌, drop, length, map, take, Option, Some, None, refl, sym, ◌∙◌, ap, subst, arith}
+use Rattle.std.proofs.Common.{◌≡◌, inl, inr, ℕ, ◌+◌, Bool, true, false, if◌then◌else◌, nat_lt, List, [], ◌∷◌, ◌++◌, drop, length, map, take, Option, Some, None, refl, sym, ◌∙◌, ap, subst, arith}
 use Rattle.std.proofs.lemmas.List.{take_all}
 use Rattle.std.specs.FinMap as finmap
 use Rattle.std.specs.List.{concat}
@@ -12,13 +12,17 @@ use Rattle.las_header.specs.Refusals.{first_cause}
 use Rattle.las_header.proofs.ConditionLemmas.{IsFirst-append_none, IsFirst-append_some, IsFirst-tests}
 use Rattle.las_outside.specs.Files.{FileMap}
 use Rattle.las_info.specs.Tallies.{TapSeen}
-use Rattle.las_words.specs.Says.{Asked, Said, asks, laszip, las2las, lasinfo, lassplit, lasmerge, make, usage}
+use Rattle.las_words.specs.Asked.{Asked, Las2lasOptions, LasmergeOptions, LaszipOptions, OneInput, Work, laszip, las2las, lasinfo, lassplit, lasmerge, make, reads}
+use Rattle.las_words.specs.Says.{Said, asks, usage}
 use Rattle.laz_file.specs.Copying.{packed_output, plain_output}
 use Rattle.laz_file.specs.Outputs.{records_after}
 use Rattle.laz_file.specs.Packing.{packed_file}
 use Rattle.laz_file.specs.Pieces.{ArePieces, ArePiecesIf, Piece, piece_bytes, plain_pieces}
 use Rattle.laz_file.specs.Laws.{IsBadIf, pieces_before}
-use Rattle.laz_file.specs.Records.{AreRead, AreRecordsOf, HoldBlocks, HoldOnly, HoldsIf}
+use Rattle.laz_chunk.specs.Layouts.{record_length}
+use Rattle.laz_file.specs.Packing.{record_layout}
+use Rattle.laz_file.specs.Ranges.{Range, first_of, part_in, parts_if, parts_in, parts_of, taken_of}
+use Rattle.laz_file.specs.Records.{AreRead, AreRecordsIn, AreRecordsOf, HoldBlocks, HoldOnly, HoldsBlock, HoldsIf, cut_block, moved}
 use Rattle.laz_file.specs.Refusing.{IsRefusal, chunk_causes, tested_causes}
 use Rattle.laz_file.proofs.OneAnswer.{refused_once}
 use Rattle.laz_file.proofs.Whole.{hold-plain, read_once}
@@ -31,10 +35,10 @@ use Rattle.las_merge.specs.Merging.{BadPlace}
 use Rattle.las_split.specs.Outputs.{part_files}
 use Rattle.las_split.specs.Splitting.{SplitsTo}
 use Rattle.las_split.proofs.SomeSplits.{splits_some}
-use Rattle.las_run.specs.Tools.{Converts, Reports, Splits, Zips, ZipsIf, cause_at, cause_by, chosen_taps, chunk_if, part_outputs, report_of, reports, writes}
-use Rattle.las_run.specs.Runs.{Accepts, Does, Opens, OpensIn, RunOf, RunsAs, Task}
+use Rattle.las_run.specs.Tools.{Converts, range_in, MergesIf, Reports, Splits, Zips, ZipsIf, cause_at, cause_by, chosen_taps, chunk_if, part_outputs, report_of, reports, writes}
+use Rattle.las_run.specs.Runs.{Accepts, Does, Makes, Opens, OpensIn, RunOf, RunsAs, Task}
 use Rattle.las_run.specs.EndingLaws.{HoldsOnce, LaszipEndsOnce, MissingInputsEnd, PackedFormsEnd, PlainHoldsOnce, PlainInputsEnd, WorkersDoNotMatter, WrongWordsEnd, input_of, with_one_worker}
-use Rattle.las_run.proofs.Commands.{laszip_reads_for}
+use Rattle.las_run.proofs.Commands.{reads_one_for}
 use Rattle.las_run.proofs.Headline.{is_packed_form}
 
 -- ---- one ending
@@ -83,9 +87,9 @@ zips_once true input output chunk file one other once is was =
 zips_once false input output chunk file one other once is was = is ∙ sym was
 
 pub laszip_once : LaszipEndsOnce
-laszip_once task files input output chunk workers one other said once is was =
-    let reads = laszip_reads_for task input output chunk workers said in
-    one_opened input (finmap.get files input) (Zips input output chunk) one other (λ file held a b. zips_once (is_packed (head_of file)) input output chunk file a b (once file held)) (reads.opens files one is) (reads.opens files other was)
+laszip_once task files input options workers one other said once is was =
+    let opened = reads_one_for task input (laszip options) workers said in
+    one_opened input (finmap.get files input) (Zips input options.output options.chunk) one other (λ file held a b. zips_once (is_packed (head_of file)) input options.output options.chunk file a b (once file held)) (opened.opens files one is) (opened.opens files other was)
 
 plain_once : (packed : Bool) (file : List ℕ) (piece : Piece) (one other : List ℕ) → packed ≡ false → HoldsIf packed file piece one → HoldsIf packed file piece other → one ≡ other
 plain_once true file piece one other plain is was = absurd (cc)
@@ -102,13 +106,10 @@ pub wrong_words_end : WrongWordsEnd
 wrong_words_end task files index is = (ends_at_once (Usage index), run_of task files (usage index) (ends_at_once (Usage index)) is refl)
 
 -- a command with one input opens it
-abbrev MakesOf : List TapSeen → Asked → (file : List ℕ) → Ending → Type 0
-MakesOf taps (laszip input output chunk workers) file ending = Zips input output chunk file ending
-MakesOf taps (las2las input output plan packed chunk workers) file ending = Converts input output plan packed chunk file ending
-MakesOf taps (lasinfo input tallies workers) file ending = Reports taps input tallies file ending
-MakesOf taps (lassplit input stem end rule workers) file ending = Splits input stem end rule file ending
-MakesOf taps (lasmerge inputs output packed chunk workers) file ending = ⊥
-MakesOf taps (make output packed points seed format extra chunk workers) file ending = ⊥
+abbrev MakesOf : List TapSeen → Work → (file : List ℕ) → Ending → Type 0
+MakesOf taps (reads input own) file ending = Makes taps input own file ending
+MakesOf taps (lasmerge options) file ending = ⊥
+MakesOf taps (make options) file ending = ⊥
 
 none_named : {X : Type 0} (name : List ℕ) → ◌≡◌ {A = Option (List ℕ)} None (Some name) → X
 none_named name e = absurd (cc)
@@ -116,20 +117,17 @@ none_named name e = absurd (cc)
 some_named : (a b : List ℕ) → ◌≡◌ {A = Option (List ℕ)} (Some a) (Some b) → a ≡ b
 some_named a b e = cc
 
-opens_one : (taps : List TapSeen) (asked : Asked) (name : List ℕ) (files : FileMap) (ending : Ending) → input_of asked ≡ Some name → OpensIn files name (MakesOf taps asked) ending → Does taps asked files ending
-opens_one taps (laszip input output chunk workers) name files ending is opens = subst (λ (n : List ℕ). OpensIn files n (Zips input output chunk) ending) (sym (some_named input name is)) opens
-opens_one taps (las2las input output plan packed chunk workers) name files ending is opens = subst (λ (n : List ℕ). OpensIn files n (Converts input output plan packed chunk) ending) (sym (some_named input name is)) opens
-opens_one taps (lasinfo input tallies workers) name files ending is opens = subst (λ (n : List ℕ). OpensIn files n (Reports taps input tallies) ending) (sym (some_named input name is)) opens
-opens_one taps (lassplit input stem end rule workers) name files ending is opens = subst (λ (n : List ℕ). OpensIn files n (Splits input stem end rule) ending) (sym (some_named input name is)) opens
-opens_one taps (lasmerge inputs output packed chunk workers) name files ending is opens = none_named name is
-opens_one taps (make output packed points seed format extra chunk workers) name files ending is opens = none_named name is
+opens_one : (taps : List TapSeen) (work : Work) (name : List ℕ) (files : FileMap) (ending : Ending) → input_of work ≡ Some name → OpensIn files name (MakesOf taps work) ending → Does taps work files ending
+opens_one taps (reads input own) name files ending is opens = subst (λ (n : List ℕ). OpensIn files n (Makes taps input own) ending) (sym (some_named input name is)) opens
+opens_one taps (lasmerge options) name files ending is opens = none_named name is
+opens_one taps (make options) name files ending is opens = none_named name is
 
 -- so what is opened is run
-opened_runs : (task : Task) (files : FileMap) (asked : Asked) (name : List ℕ) (o : Option (List ℕ)) (ending : Ending) → task.said ≡ asks asked → input_of asked ≡ Some name → finmap.get files name ≡ o
-    → Opens name o (MakesOf task.taps asked) ending → RunOf task files ending
+opened_runs : (task : Task) (files : FileMap) (asked : Asked) (name : List ℕ) (o : Option (List ℕ)) (ending : Ending) → task.said ≡ asks asked → input_of asked.work ≡ Some name → finmap.get files name ≡ o
+    → Opens name o (MakesOf task.taps asked.work) ending → RunOf task files ending
 opened_runs task files asked name o ending said is held opens =
     run_of task files (asks asked) ending said
-    (opens_one task.taps asked name files ending is (subst (λ (f : Option (List ℕ)). Opens name f (MakesOf task.taps asked) ending) (sym held) opens))
+    (opens_one task.taps asked.work name files ending is (subst (λ (f : Option (List ℕ)). Opens name f (MakesOf task.taps asked.work) ending) (sym held) opens))
 
 pub missing_inputs_end : MissingInputsEnd
 missing_inputs_end task files asked name said is missing = (ends_at_once (Unread name), opened_runs task files asked name None (ends_at_once (Unread name)) said is missing refl)
@@ -147,25 +145,55 @@ accepts_by name file Makes ending (Some cause) is makes = (ends_at_once (Refused
 zips_made : (packed : Bool) (input output : List ℕ) (chunk : ℕ) (file : List ℕ) (ending : Ending) → is_packed (head_of file) ≡ packed → ZipsIf packed input output chunk file ending → ZipsIf (is_packed (head_of file)) input output chunk file ending
 zips_made packed input output chunk file ending is makes = subst (λ (b : Bool). ZipsIf b input output chunk file ending) (sym is) makes
 
--- of all records of a file something is kept
-converts_some : (plan : Steps) (file : List ℕ) (blocks : List (List ℕ)) → AreRecordsOf file blocks None → (records : List ℕ) × (refusal : Option Refusal) × ConvertsTo plan file records refusal
-converts_some plan file blocks are = by_range (kept_in plan file blocks).raw_range refl
+-- all records of a range are held, if its last chunk is not found to be bad
+read_whole : (file : List ℕ) (parts : List Piece) (blocks : List (List ℕ)) (first : ℕ) (found : Option ℕ) → None ≡ moved first found → AreRead file parts blocks found → HoldBlocks file parts blocks
+read_whole file parts blocks first None whole read = read
+read_whole file parts blocks first (Some i) whole read = absurd (cc)
+
+-- of the records of a range something is kept
+converts_some : (plan : Steps) (file : List ℕ) (range : Range) (blocks : List (List ℕ)) → AreRecordsIn file range blocks None → (records : List ℕ) × (refusal : Option Refusal) × ConvertsTo plan file range records refusal
+converts_some plan file range blocks are = by_range (kept_in plan file blocks).raw_range refl
   where
-    by_range : (raw_range : Option ℕ) → (kept_in plan file blocks).raw_range ≡ raw_range → (records : List ℕ) × (refusal : Option Refusal) × ConvertsTo plan file records refusal
+    by_range : (raw_range : Option ℕ) → (kept_in plan file blocks).raw_range ≡ raw_range → (records : List ℕ) × (refusal : Option Refusal) × ConvertsTo plan file range records refusal
     by_range None is = (concat (kept_in plan file blocks).records, None, (blocks, are, record { records_are = refl; raw_range_is = is }))
     by_range (Some k) is =
-        let first : AreFirstRecords file blocks = record {
+        let parts = parts_of file range are.0 in
+        let hold = read_whole file parts blocks (first_of file range are.0) are.1 are.4 are.3 in
+        let first : AreFirstRecords file range blocks = record {
           pieces = are.0;
-          are = are.1;
-          number = length are.0;
-          hold = subst (λ (ps : List Piece). HoldBlocks file ps blocks) (sym (take_all (length are.0) are.0 (omega arith))) are.2;
+          are = are.2;
+          number = length parts;
+          hold = subst (λ (ps : List Piece). HoldBlocks file ps blocks) (sym (take_all (length parts) parts (omega arith))) hold;
         } in
         (concat (kept_in plan file blocks).records, Some (RawRange k), (blocks, first, record { records_are = refl; raw_range_is = is }))
 
-las2las_ending : (input output : List ℕ) (plan : Steps) (packed : Bool) (chunk : ℕ) (file : List ℕ) (blocks : List (List ℕ)) → AreRecordsOf file blocks None → (ending : Ending) × Converts input output plan packed chunk file ending
-las2las_ending input output plan packed chunk file blocks are =
-    let h = converts_some plan file blocks are in
-    (writes input (converted_output output file (chunk_if packed chunk)) h.0 h.1, (h.0, h.1, h.2, refl))
+las2las_ending : (input : List ℕ) (options : Las2lasOptions) (file : List ℕ) (blocks : List (List ℕ)) → AreRecordsIn file (range_in options.start options.stop file) blocks None → (ending : Ending) × Converts input options file ending
+las2las_ending input options file blocks are =
+    let h = converts_some options.plan file (range_in options.start options.stop file) blocks are in
+    (writes input (converted_output options.output file (chunk_if options.packed options.chunk)) h.0 h.1, (h.0, h.1, h.2, refl))
+
+-- chunks that hold blocks hold the parts of them that are in a range
+held_parts : (file : List ℕ) → is_packed (head_of file) ≡ true → (range : Range) (at : ℕ) (pieces : List Piece) (blocks : List (List ℕ)) → HoldBlocks file pieces blocks → (parts : List (List ℕ)) × HoldBlocks file (parts_in range at pieces) parts
+held_parts file packed range at [] blocks hold = ([], tt)
+held_parts file packed range at (p ∷ pieces) [] hold = absurd hold
+held_parts file packed range at (p ∷ pieces) (b ∷ blocks) hold = by (nat_lt 0 (taken_of range at p.count)) (held_parts file packed range (at + p.count) pieces blocks hold.1)
+  where
+    part : (block : List ℕ) × HoldsBlock file (part_in range at p) block
+    part =
+        let whole = subst (λ (packed : Bool). HoldsIf packed file p b) packed hold.0 in
+        let block = cut_block (record_length (record_layout (head_of file))) (part_in range at p) whole.0 in
+        (block, subst (λ (packed : Bool). HoldsIf packed file (part_in range at p) block) (sym packed) (whole.0, whole.1, refl))
+
+    by : (meets : Bool) → ((parts : List (List ℕ)) × HoldBlocks file (parts_in range (at + p.count) pieces) parts)
+        → (parts : List (List ℕ)) × HoldBlocks file (if meets then part_in range at p ∷ parts_in range (at + p.count) pieces else parts_in range (at + p.count) pieces) parts
+    by true rest = let first = part in (first.0 ∷ rest.0, (first.1, rest.1))
+    by false rest = rest
+
+range_of_form : (file : List ℕ) (range : Range) (blocks : List (List ℕ)) → is_packed (head_of file) ≡ true → AreRecordsOf file blocks None → (parts : List (List ℕ)) × AreRecordsIn file range parts None
+range_of_form file range blocks packed are =
+    let h = held_parts file packed range 0 are.0 blocks are.2 in
+    let hold = subst (λ (b : Bool). HoldBlocks file (parts_if b (head_of file) (point_offset_of file) range are.0) h.0) (sym packed) h.1 in
+    (h.0, (are.0, None, are.1, hold, refl))
 
 lassplit_ending : (input stem end : List ℕ) (rule : Rule) (file : List ℕ) (blocks : List (List ℕ)) → AreRecordsOf file blocks None → (ending : Ending) × Splits input stem end rule file ending
 lassplit_ending input stem end rule file blocks are =
@@ -180,64 +208,59 @@ reported : (taps : List TapSeen) (input : List ℕ) (tallies : List (List ℕ)) 
 reported taps input tallies file blocks pieces are hold =
     (reports input (report_of (chosen_taps taps tallies) file pieces (records_after (head_of file) (concat blocks))) None, (blocks, None, pieces, (pieces, are, hold), are, refl))
 
-some_plain : (taps : List TapSeen) (asked : Asked) (name file : List ℕ) → input_of asked ≡ Some name → is_packed (head_of file) ≡ false → (ending : Ending) × MakesOf taps asked file ending
-some_plain taps (laszip input output chunk workers) name file is plain =
-    let packing = writes input (packed_output output file chunk) (drop (point_offset_of file) file) None in
-    (packing, zips_made false input output chunk file packing plain refl)
-some_plain taps (las2las input output plan packed chunk workers) name file is plain =
+some_plain : (taps : List TapSeen) (input : List ℕ) (own : OneInput) (file : List ℕ) → is_packed (head_of file) ≡ false → (ending : Ending) × Makes taps input own file ending
+some_plain taps input (laszip options) file plain =
+    let packing = writes input (packed_output options.output file options.chunk) (drop (point_offset_of file) file) None in
+    (packing, zips_made false input options.output options.chunk file packing plain refl)
+some_plain taps input (las2las options) file plain =
     let pieces = plain_pieces file in
-    las2las_ending input output plan packed chunk file (map (piece_bytes file) pieces) (pieces, plain_records file (is_packed (head_of file)) plain, hold-plain file plain pieces)
-some_plain taps (lasinfo input tallies workers) name file is plain =
+    let parts = parts_of file (range_in options.start options.stop file) pieces in
+    las2las_ending input options file (map (piece_bytes file) parts) (pieces, None, plain_records file (is_packed (head_of file)) plain, hold-plain file plain parts, refl)
+some_plain taps input (lasinfo options) file plain =
     let pieces = plain_pieces file in
-    reported taps input tallies file (map (piece_bytes file) pieces) pieces (plain_records file (is_packed (head_of file)) plain) (hold-plain file plain pieces)
-some_plain taps (lassplit input stem end rule workers) name file is plain =
+    reported taps input options.tallies file (map (piece_bytes file) pieces) pieces (plain_records file (is_packed (head_of file)) plain) (hold-plain file plain pieces)
+some_plain taps input (lassplit options) file plain =
     let pieces = plain_pieces file in
-    lassplit_ending input stem end rule file (map (piece_bytes file) pieces) (pieces, plain_records file (is_packed (head_of file)) plain, hold-plain file plain pieces)
-some_plain taps (lasmerge inputs output packed chunk workers) name file is plain = none_named name is
-some_plain taps (make output packed points seed format extra chunk workers) name file is plain = none_named name is
+    lassplit_ending input options.stem options.end options.rule file (map (piece_bytes file) pieces) (pieces, plain_records file (is_packed (head_of file)) plain, hold-plain file plain pieces)
 
-some_form : (taps : List TapSeen) (asked : Asked) (name file : List ℕ) (blocks : List (List ℕ)) → input_of asked ≡ Some name → is_packed (head_of file) ≡ true → AreRecordsOf file blocks None → (ending : Ending) × MakesOf taps asked file ending
-some_form taps (laszip input output chunk workers) name file blocks is packed are =
-    let ending = writes input (plain_output output file) (concat blocks) None in
-    (ending, zips_made true input output chunk file ending packed (blocks, None, are, refl))
-some_form taps (las2las input output plan packing chunk workers) name file blocks is packed are = las2las_ending input output plan packing chunk file blocks are
-some_form taps (lasinfo input tallies workers) name file blocks is packed are = reported taps input tallies file blocks are.0 are.1 are.2
-some_form taps (lassplit input stem end rule workers) name file blocks is packed are = lassplit_ending input stem end rule file blocks are
-some_form taps (lasmerge inputs output packing chunk workers) name file blocks is packed are = none_named name is
-some_form taps (make output packing points seed format extra chunk workers) name file blocks is packed are = none_named name is
+some_form : (taps : List TapSeen) (input : List ℕ) (own : OneInput) (file : List ℕ) (blocks : List (List ℕ)) → is_packed (head_of file) ≡ true → AreRecordsOf file blocks None → (ending : Ending) × Makes taps input own file ending
+some_form taps input (laszip options) file blocks packed are =
+    let ending = writes input (plain_output options.output file) (concat blocks) None in
+    (ending, zips_made true input options.output options.chunk file ending packed (blocks, None, are, refl))
+some_form taps input (las2las options) file blocks packed are =
+    let h = range_of_form file (range_in options.start options.stop file) blocks packed are in
+    las2las_ending input options file h.0 h.1
+some_form taps input (lasinfo options) file blocks packed are = reported taps input options.tallies file blocks are.0 are.1 are.2
+some_form taps input (lassplit options) file blocks packed are = lassplit_ending input options.stem options.end options.rule file blocks are
+
+-- the one input of a command is such a file
+made_of : (taps : List TapSeen) (work : Work) (name file : List ℕ) → ((input : List ℕ) (own : OneInput) → (ending : Ending) × Makes taps input own file ending) → input_of work ≡ Some name → (ending : Ending) × MakesOf taps work file ending
+made_of taps (reads input own) name file some is = some input own
+made_of taps (lasmerge options) name file some is = none_named name is
+made_of taps (make options) name file some is = none_named name is
 
 pub plain_inputs_end : PlainInputsEnd
 plain_inputs_end task files asked name file said is held plain =
     let tests = first_cause (tested_causes file) in
     let refusal = plain_refusal file (is_packed (head_of file)) tests plain (IsFirst-tests (tested_causes file)) in
-    let made = some_plain task.taps asked name file is plain in
-    let h = accepts_by name file (MakesOf task.taps asked file) made.0 tests refusal made.1 in
+    let made = made_of task.taps asked.work name file (λ input own. some_plain task.taps input own file plain) is in
+    let h = accepts_by name file (MakesOf task.taps asked.work file) made.0 tests refusal made.1 in
     (h.0, opened_runs task files asked name (Some file) h.0 said is held h.1)
 
 pub packed_forms_end : PackedFormsEnd
 packed_forms_end task files asked name file chunk said is held can =
     let form = packed_file file chunk in
     let whole = unpacks_again file chunk can in
-    let made = some_form task.taps asked name form whole.0 is (is_packed_form file chunk can) whole.1 in
+    let made = made_of task.taps asked.work name form (λ input own. some_form task.taps input own form whole.0 (is_packed_form file chunk can) whole.1) is in
     (made.0, opened_runs task files asked name (Some form) made.0 said is held (inr (packed_accepted file chunk can, made.1)))
 
 -- ---- the number of workers
 one_worker : (taps : List TapSeen) (said : Said) (files : FileMap) (ending : Ending) → RunsAs taps said files ending → RunsAs taps (with_one_worker said) files ending
-one_worker taps (asks (laszip input output chunk workers)) files ending run = run
-one_worker taps (asks (las2las input output plan packed chunk workers)) files ending run = run
-one_worker taps (asks (lasinfo input tallies workers)) files ending run = run
-one_worker taps (asks (lassplit input stem end rule workers)) files ending run = run
-one_worker taps (asks (lasmerge inputs output packed chunk workers)) files ending run = run
-one_worker taps (asks (make output packed points seed format extra chunk workers)) files ending run = run
+one_worker taps (asks asked) files ending run = run
 one_worker taps (usage index) files ending run = run
 
 any_workers : (taps : List TapSeen) (said : Said) (files : FileMap) (ending : Ending) → RunsAs taps (with_one_worker said) files ending → RunsAs taps said files ending
-any_workers taps (asks (laszip input output chunk workers)) files ending run = run
-any_workers taps (asks (las2las input output plan packed chunk workers)) files ending run = run
-any_workers taps (asks (lasinfo input tallies workers)) files ending run = run
-any_workers taps (asks (lassplit input stem end rule workers)) files ending run = run
-any_workers taps (asks (lasmerge inputs output packed chunk workers)) files ending run = run
-any_workers taps (asks (make output packed points seed format extra chunk workers)) files ending run = run
+any_workers taps (asks asked) files ending run = run
 any_workers taps (usage index) files ending run = run
 
 pub workers_do_not_matter : WorkersDoNotMatter
@@ -256,14 +279,14 @@ writes_some true input output chunk file ending makes first = absurd (bad_chunks
 writes_some false input output chunk file ending makes first = absurd (subst ComesFirst (ap (λ (e : Ending). e.cause) makes) first)
 
 -- a refusal of records comes after the opening
-refused_late : (plan : Steps) (file records : List ℕ) (cause : Refusal) → ConvertsTo plan file records (Some cause) → ComesAtOpening cause → ⊥
-refused_late plan file records (BadChunk i) converts first = first
-refused_late plan file records (RawRange k) converts first = first
-refused_late plan file records cause converts first = converts
+refused_late : (plan : Steps) (file : List ℕ) (range : Range) (records : List ℕ) (cause : Refusal) → ConvertsTo plan file range records (Some cause) → ComesAtOpening cause → ⊥
+refused_late plan file range records (BadChunk i) converts first = first
+refused_late plan file range records (RawRange k) converts first = first
+refused_late plan file range records cause converts first = converts
 
-kept_late : (plan : Steps) (file records input : List ℕ) (refusal : Option Refusal) → ConvertsTo plan file records refusal → ComesFirst (cause_by input refusal) → ⊥
-kept_late plan file records input None converts first = first
-kept_late plan file records input (Some cause) converts first = refused_late plan file records cause converts first
+kept_late : (plan : Steps) (file : List ℕ) (range : Range) (records input : List ℕ) (refusal : Option Refusal) → ConvertsTo plan file range records refusal → ComesFirst (cause_by input refusal) → ⊥
+kept_late plan file range records input None converts first = first
+kept_late plan file range records input (Some cause) converts first = refused_late plan file range records cause converts first
 
 -- what is made of an accepted input is made before any output only if it has none
 abbrev ComesWithout : (Ending → Type 0) → Type 0
@@ -299,19 +322,27 @@ merged_late : (inputs : List (List ℕ)) (bad : Option BadPlace) → ComesFirst 
 merged_late inputs None first = first
 merged_late inputs (Some place) first = first
 
-does_first : (taps : List TapSeen) (asked : Asked) (files : FileMap) → ComesWithout (Does taps asked files)
-does_first taps (laszip input output chunk workers) files ending run first = opens_first files input (Zips input output chunk) (λ file e makes early. writes_some (is_packed (head_of file)) input output chunk file e makes early) ending run first
-does_first taps (las2las input output plan packed chunk workers) files ending run first =
-    opens_first files input (Converts input output plan packed chunk) (λ file e makes early. absurd (kept_late plan file makes.0 input makes.1 makes.2 (subst ComesFirst (ap (λ (x : Ending). x.cause) makes.3) early))) ending run first
-does_first taps (lasinfo input tallies workers) files ending run first = opens_first files input (Reports taps input tallies) (reports_first taps input tallies) ending run first
-does_first taps (lassplit input stem end rule workers) files ending run first =
-    opens_first files input (Splits input stem end rule) (λ file e makes early. absurd (split_late rule file makes.0 input makes.1 makes.2 (subst ComesFirst (ap (λ (x : Ending). x.cause) makes.3) early))) ending run first
-does_first taps (lasmerge inputs output packed chunk workers) files ending (inl kept) first = ap (λ (e : Ending). e.outputs) kept.2
-does_first taps (lasmerge inputs output packed chunk workers) files ending (inr made) first = absurd (merged_late inputs made.2 (subst ComesFirst (ap (λ (e : Ending). e.cause) made.5) first))
-does_first taps (make output packed points seed format extra chunk workers) files ending run first = absurd (subst ComesFirst (ap (λ (e : Ending). e.cause) run) first)
+makes_first : (taps : List TapSeen) (input : List ℕ) (own : OneInput) (file : List ℕ) → ComesWithout (Makes taps input own file)
+makes_first taps input (laszip options) file ending makes first = writes_some (is_packed (head_of file)) input options.output options.chunk file ending makes first
+makes_first taps input (las2las options) file ending makes first =
+    absurd (kept_late options.plan file (range_in options.start options.stop file) makes.0 input makes.1 makes.2 (subst ComesFirst (ap (λ (x : Ending). x.cause) makes.3) first))
+makes_first taps input (lasinfo options) file ending makes first = reports_first taps input options.tallies file ending makes first
+makes_first taps input (lassplit options) file ending makes first =
+    absurd (split_late options.rule file makes.0 input makes.1 makes.2 (subst ComesFirst (ap (λ (x : Ending). x.cause) makes.3) first))
+
+merges_first : (copy : Bool) (options : LasmergeOptions) (files : FileMap) → ComesWithout (MergesIf copy options files)
+merges_first true options files ending (inl kept) first = ap (λ (e : Ending). e.outputs) kept.2
+merges_first true options files ending (inr made) first = absurd (subst ComesFirst (ap (λ (e : Ending). e.cause) made.3) first)
+merges_first false options files ending (inl kept) first = ap (λ (e : Ending). e.outputs) kept.2
+merges_first false options files ending (inr made) first = absurd (merged_late options.inputs made.2 (subst ComesFirst (ap (λ (e : Ending). e.cause) made.5) first))
+
+does_first : (taps : List TapSeen) (work : Work) (files : FileMap) → ComesWithout (Does taps work files)
+does_first taps (reads input own) files ending run first = opens_first files input (Makes taps input own) (makes_first taps input own) ending run first
+does_first taps (lasmerge options) files ending run first = merges_first options.copy options files ending run first
+does_first taps (make options) files ending run first = absurd (subst ComesFirst (ap (λ (e : Ending). e.cause) run) first)
 
 first_said : (taps : List TapSeen) (said : Said) (files : FileMap) (ending : Ending) → RunsAs taps said files ending → ComesFirst ending.cause → ending.outputs ≡ []
-first_said taps (asks asked) files ending run first = does_first taps asked files ending run first
+first_said taps (asks asked) files ending run first = does_first taps asked.work files ending run first
 first_said taps (usage index) files ending run first = ap (λ (e : Ending). e.outputs) run
 
 -- an ending that comes before any output has none

@@ -8,7 +8,8 @@ use Rattle.las_outside.specs.Sinks.{SinkView}
 use Rattle.las_words.specs.declared.command.Command.{Command}
 use Rattle.las_words.specs.declared.command.WordFault.{WordFault}
 use Rattle.las_words.specs.declared.command.WordFault.TheVariants as fault
-use Rattle.las_words.specs.Says.{Asked, Said, asked_by, asks, says, usage}
+use Rattle.las_words.specs.Asked.{Asked, asked_by, work_by}
+use Rattle.las_words.specs.Says.{Said, asks, says, usage}
 use Rattle.las_run.specs.declared.stop.Stop.{Stop}
 use Rattle.las_run.specs.Endings.{Usage, ends_at_once, status_of}
 use Rattle.las_run.specs.Runs.{RunsAs, Task, files_read, task_of}
@@ -32,10 +33,10 @@ is_read_of words names taps said same command_is index_is = subst (λ (ns : List
 
 -- a command that was read as the task says
 pub by_task : (task : Task) (asked other : Asked) (change : Change) (outcome : Result (Unit {0}) Stop) → task.said ≡ asks other → asked ≡ other
-    → Ends (record { said = asks asked; taps = task.taps }) change (cause_of (files_read asked) outcome) → Ends task change (cause_of (files_read other) outcome)
+    → Ends (record { said = asks asked; taps = task.taps }) change (cause_of (files_read asked.work) outcome) → Ends task change (cause_of (files_read other.work) outcome)
 by_task task asked other change outcome said same ends =
-    subst (λ (s : Said). Ends (record { said = s; taps = task.taps }) change (cause_of (files_read other) outcome)) (sym said)
-    (subst (λ (a : Asked). Ends (record { said = asks a; taps = task.taps }) change (cause_of (files_read a) outcome)) same ends)
+    subst (λ (s : Said). Ends (record { said = s; taps = task.taps }) change (cause_of (files_read other.work) outcome)) (sym said)
+    (subst (λ (a : Asked). Ends (record { said = asks a; taps = task.taps }) change (cause_of (files_read a.work) outcome)) same ends)
 
 -- wrong words were not read as a command
 said_apart : (asked : Asked) (index : ℕ) → asks asked ≡ usage index → ⊥
@@ -51,7 +52,7 @@ two_or_one inputs fault.Memory = inr refl
 
 -- the ending of a command that was read
 pub ends_read : (task : Task) (said : Result Command WordFault) (command : Command) (change : Change) (outcome : Result (Unit {0}) Stop) → said ≡ Ok command → IsRead task.said said
-    → (task.said ≡ asks (asked_by command) → Ends task change (cause_of (files_read (asked_by command)) outcome)) → Ends task change (cause_of (names_read said) outcome)
+    → (task.said ≡ asks (asked_by command) → Ends task change (cause_of (files_read (work_by command)) outcome)) → Ends task change (cause_of (names_read said) outcome)
 ends_read task said command change outcome is read ends =
     subst (λ (r : Result Command WordFault). Ends task change (cause_of (names_read r) outcome)) (sym is) (ends (subst (IsRead task.said) is read))
 

@@ -10,7 +10,8 @@ use Rattle.las_header.specs.Heads.{IsHead}
 use Rattle.las_header.specs.Plain.{plain_head}
 use Rattle.las_header.specs.Vlrs.{laszip_vlrs_of}
 use Rattle.las_outside.specs.Files.{FileMap}
-use Rattle.las_words.specs.Says.{Asked, Said, asks, laszip, las2las, lasinfo, lassplit, lasmerge, make, usage}
+use Rattle.las_words.specs.Asked.{Asked, LaszipOptions, Work, lasmerge, laszip, make, reads}
+use Rattle.las_words.specs.Says.{Said, asks, usage}
 use Rattle.las_merge.specs.Copying.{output_with}
 use Rattle.las_split.specs.Outputs.{part_files}
 use Rattle.las_split.specs.Splitting.{SplitsTo}
@@ -34,8 +35,8 @@ HoldsOnce file =
 
 -- At most one ending is defined for `laszip` of a file whose pieces hold at most one block each.
 abbrev pub LaszipEndsOnce : Type 0
-LaszipEndsOnce = (task : Task) (files : FileMap) (input output : List ℕ) (chunk workers : ℕ) (one other : Ending)
-    → task.said ≡ asks (laszip input output chunk workers)
+LaszipEndsOnce = (task : Task) (files : FileMap) (input : List ℕ) (options : LaszipOptions) (workers : ℕ)
+    (one other : Ending) → task.said ≡ asks (record { work = reads input (laszip options); workers = workers })
     → ((file : List ℕ) → finmap.get files input ≡ Some file → HoldsOnce file)
     → RunOf task files one → RunOf task files other → one ≡ other
 
@@ -44,13 +45,10 @@ abbrev pub PlainHoldsOnce : Type 0
 PlainHoldsOnce = (file : List ℕ) → is_packed (head_of file) ≡ false → HoldsOnce file
 
 -- the name of the input of a command that has one
-abbrev pub input_of : Asked → Option (List ℕ)
-input_of (laszip input output chunk workers) = Some input
-input_of (las2las input output plan packed chunk workers) = Some input
-input_of (lasinfo input tallies workers) = Some input
-input_of (lassplit input stem end rule workers) = Some input
-input_of (lasmerge inputs output packed chunk workers) = None
-input_of (make output packed points seed format extra chunk workers) = None
+abbrev pub input_of : Work → Option (List ℕ)
+input_of (reads input own) = Some input
+input_of (lasmerge options) = None
+input_of (make options) = None
 
 -- An ending is defined for wrong words, and for those of a command whose one input is not held.
 abbrev pub WrongWordsEnd : Type 0
@@ -59,17 +57,17 @@ WrongWordsEnd = (task : Task) (files : FileMap) (index : ℕ) → task.said ≡ 
 
 abbrev pub MissingInputsEnd : Type 0
 MissingInputsEnd = (task : Task) (files : FileMap) (asked : Asked) (name : List ℕ) → task.said ≡ asks asked
-    → input_of asked ≡ Some name → finmap.get files name ≡ None → (ending : Ending) × RunOf task files ending
+    → input_of asked.work ≡ Some name → finmap.get files name ≡ None → (ending : Ending) × RunOf task files ending
 
 -- One is defined for one input whose head says that it is plain, and for the packed form of an accepted plain file.
 abbrev pub PlainInputsEnd : Type 0
 PlainInputsEnd = (task : Task) (files : FileMap) (asked : Asked) (name file : List ℕ) → task.said ≡ asks asked
-    → input_of asked ≡ Some name → finmap.get files name ≡ Some file → is_packed (head_of file) ≡ false
+    → input_of asked.work ≡ Some name → finmap.get files name ≡ Some file → is_packed (head_of file) ≡ false
     → (ending : Ending) × RunOf task files ending
 
 abbrev pub PackedFormsEnd : Type 0
 PackedFormsEnd = (task : Task) (files : FileMap) (asked : Asked) (name file : List ℕ) (chunk : ℕ)
-    → task.said ≡ asks asked → input_of asked ≡ Some name → finmap.get files name ≡ Some (packed_file file chunk)
+    → task.said ≡ asks asked → input_of asked.work ≡ Some name → finmap.get files name ≡ Some (packed_file file chunk)
     → CanBePacked file chunk → (ending : Ending) × RunOf task files ending
 
 -- the ending of `lassplit` of a file with these records, if all of them are in parts
@@ -121,14 +119,7 @@ PlainRecordsAreWhole = (file : List ℕ) (rule : Rule) (records : List (List ℕ
 
 -- what words say, but for the number of workers
 abbrev pub with_one_worker : Said → Said
-with_one_worker (asks (laszip input output chunk workers)) = asks (laszip input output chunk 1)
-with_one_worker (asks (las2las input output plan packed chunk workers)) =
-    asks (las2las input output plan packed chunk 1)
-with_one_worker (asks (lasinfo input tallies workers)) = asks (lasinfo input tallies 1)
-with_one_worker (asks (lassplit input stem end rule workers)) = asks (lassplit input stem end rule 1)
-with_one_worker (asks (lasmerge inputs output packed chunk workers)) = asks (lasmerge inputs output packed chunk 1)
-with_one_worker (asks (make output packed points seed format extra chunk workers)) =
-    asks (make output packed points seed format extra chunk 1)
+with_one_worker (asks asked) = asks (record asked { workers = 1 })
 with_one_worker (usage index) = usage index
 
 -- Tasks that differ in the number of workers alone have one ending.

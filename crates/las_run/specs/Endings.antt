@@ -6,6 +6,7 @@ use Rattle.las_header.specs.declared.refusal.Refusal.TheVariants as refusal
 use Rattle.las_merge.specs.declared.field.Field.{Field}
 use Rattle.las_outside.specs.Files.{FileMap}
 use Rattle.las_outside.specs.Drafts.{Patch, with_patches, IsUnfinished}
+use Rattle.las_run.specs.declared.stop.Surplus.{Surplus}
 
 -- An output of a run: its name, its draft, the patches of the draft in order, and what stands of it after a refusal
 -- ended the run.
@@ -18,7 +19,7 @@ pub record Output : Type 0 where
 -- Why a run ends: all is done; memory is short; the word of this index is wrong; the file of this name is not held or
 -- could not be read; an output could not be written; the input of this name is refused; or inputs can't be merged, since
 -- the one of this name is the first that differs from the first input, and this is the first field in which it does, or
--- since they have too many points.
+-- since they have too many points, or chunks that were to be copied.
 pub data Cause : Type 0 where
   Done : Cause
   Memory : Cause
@@ -27,7 +28,7 @@ pub data Cause : Type 0 where
   Unwritten : Cause
   Refused : List ℕ → Refusal → Cause
   Differs : List ℕ → Field → Cause
-  HasTooManyPoints : Cause
+  HasTooMany : Surplus → Cause
 
 -- the exit status for each cause
 abbrev pub status_of : Cause → ℕ
@@ -38,7 +39,7 @@ status_of (Unread _) = 3
 status_of Unwritten = 4
 status_of (Refused _ _) = 5
 status_of (Differs _ _) = 6
-status_of HasTooManyPoints = 6
+status_of (HasTooMany _) = 6
 
 -- An input is refused for this cause when it is opened, and not while its records are read.
 abbrev pub ComesAtOpening : Refusal → Type 0
@@ -57,7 +58,7 @@ ComesFirst (Unread _) = Unit {0}
 ComesFirst Unwritten = ⊥
 ComesFirst (Refused _ refusal) = ComesAtOpening refusal
 ComesFirst (Differs _ _) = Unit {0}
-ComesFirst HasTooManyPoints = Unit {0}
+ComesFirst (HasTooMany _) = Unit {0}
 
 -- An ending: its cause, the outputs in the order in which they are created, and the text on standard output.
 pub record Ending : Type 0 where

@@ -1,6 +1,7 @@
 -- What a run says of the cause for which it ended. Each tool says it of its own endings, and the clauses of the top
 -- call follow from it for all tools.
-use Rattle.std.specs.Prelude.{◌≡◌, ◌≢◌, ◌⊎◌, ℕ, ◌<◌, List, [], length, take, Some, Result, Ok, Err, Contains, slice_index_or}
+use Rattle.std.specs.Prelude.{◌≡◌, ◌≢◌, ◌⊎◌, ℕ, ◌<◌, List, [], ◌∷◌, length, take, Some, Result, Ok, Err, Contains}
+use Rattle.std.specs.Prelude.{slice_index_or}
 use Rattle.las_outside.specs.Faults.{Rose}
 use Rattle.las_outside.specs.Files.{FileMap, IsMissing, WhereKnown}
 use Rattle.las_outside.specs.Outside.{Outside}
@@ -8,7 +9,8 @@ use Rattle.las_outside.specs.Sinks.{SinkView, with_fault, with_more}
 use Rattle.las_words.specs.declared.command.Command.{Command}
 use Rattle.las_words.specs.declared.command.WordFault.{WordFault}
 use Rattle.las_words.specs.declared.command.WordFault.TheVariants as fault
-use Rattle.las_words.specs.Says.{Said, asked_by, asks, lasmerge, make, usage}
+use Rattle.las_words.specs.Asked.{Work, asked_by, lasmerge, make, reads, work_by}
+use Rattle.las_words.specs.Says.{Said, asks, usage}
 use Rattle.laz_file.specs.declared.fault.Fault.{Fault}
 use Rattle.laz_file.specs.declared.fault.Fault.TheVariants as file
 use Rattle.laz_file.specs.Refusing.{IsRefusal}
@@ -23,9 +25,11 @@ use Rattle.las_info.specs.declared.reporting.ReportFault.{ReportFault}
 use Rattle.las_info.specs.declared.reporting.ReportFault.TheVariants as report
 use Rattle.las_run.specs.declared.stop.Stop.{Stop}
 use Rattle.las_run.specs.declared.stop.Stop.TheVariants as stop
+use Rattle.las_run.specs.declared.stop.Surplus.TheVariants.{Chunks, Points}
 use Rattle.las_run.specs.Endings.{Cause, ComesAtOpening, Done, Memory, Usage, Unread, Unwritten, Refused, Differs}
-use Rattle.las_run.specs.Endings.{HasTooManyPoints, Ending, files_of, IsLeft}
+use Rattle.las_run.specs.Endings.{HasTooMany, Ending, files_of, IsLeft}
 use Rattle.las_run.specs.Runs.{RunOf, Task, files_read, files_read_by, inputs_of}
+use Rattle.las_run.specs.Tools.{settings_of}
 
 -- The words were read so.
 abbrev pub IsRead : Said → Result Command WordFault → Type 0
@@ -40,7 +44,7 @@ stop_of fault.Memory = stop.Memory
 
 -- the names of the files that a command reads, once its words are read
 abbrev pub names_read : Result Command WordFault → List (List ℕ)
-names_read (Ok command) = files_read (asked_by command)
+names_read (Ok command) = files_read (work_by command)
 names_read (Err fault) = []
 
 -- the cause that an outcome of the code stands for; a file is given by its number in the names of those that are read
@@ -52,7 +56,7 @@ cause_of names (Err (stop.Read number)) = Unread (slice_index_or names number []
 cause_of names (Err stop.Write) = Unwritten
 cause_of names (Err (stop.Refused number cause)) = Refused (slice_index_or names number []) cause
 cause_of names (Err (stop.Differs number field)) = Differs (slice_index_or names number []) field
-cause_of names (Err stop.TooManyPoints) = HasTooManyPoints
+cause_of names (Err (stop.TooMany surplus)) = HasTooMany surplus
 
 -- the files and standard output, before and after a run
 pub record Change : Type 0 where
@@ -124,12 +128,15 @@ ComesToMade output packed settings chunk change name =
     ⊎ ((name ≡ packed) × (change.files_now.held ≡ with_made output packed settings chunk change.files.held))
 
 -- The work had come to the file of this name.
+abbrev pub WorkComesTo : Work → Change → (name : List ℕ) → Type 0
+WorkComesTo (reads input own) change name = Contains (input ∷ []) name
+WorkComesTo (lasmerge options) change name = ComesToInput options.inputs change name
+WorkComesTo (make options) change name =
+    ComesToMade options.output options.packed (settings_of options) options.chunk change name
+
 abbrev pub ComesTo : Said → Change → (name : List ℕ) → Type 0
-ComesTo (asks (lasmerge inputs output packed chunk workers)) change name = ComesToInput inputs change name
-ComesTo (asks (make output packed points seed format extra chunk workers)) change name =
-    ComesToMade output packed (record { points = points; seed = seed; format = format; extra = extra }) chunk change
-    name
-ComesTo said change name = Contains (files_read_by said) name
+ComesTo (asks asked) change name = WorkComesTo asked.work change name
+ComesTo (usage index) change name = ⊥
 
 -- The file of this name is an input that is not held, or could not be read.
 pub record EndsUnread (task : Task) (change : Change) (name : List ℕ) : Type 0 where
@@ -156,8 +163,8 @@ Ends task change (Refused name refusal) =
 Ends task change (Differs name field) =
     Contains (inputs_of task.said) name × EndsAs task change (Differs name field) × IsLeftBy task change
     × (change.files_now.held ≡ change.files.held) × IsQuiet change
-Ends task change HasTooManyPoints =
-    EndsAs task change HasTooManyPoints × IsLeftBy task change × (change.files_now.held ≡ change.files.held)
+Ends task change (HasTooMany surplus) =
+    EndsAs task change (HasTooMany surplus) × IsLeftBy task change × (change.files_now.held ≡ change.files.held)
     × IsQuiet change
 
 -- what a fault of a call on the input of this number stands for
@@ -177,7 +184,8 @@ abbrev pub stopped_merge : Result (Unit {0}) MergeFault → Result (Unit {0}) St
 stopped_merge (Ok done) = Ok done
 stopped_merge (Err (merge.At number fault)) = Err (stop_by number fault)
 stopped_merge (Err (merge.Unequal number field)) = Err (stop.Differs number field)
-stopped_merge (Err merge.TooManyPoints) = Err stop.TooManyPoints
+stopped_merge (Err merge.TooManyPoints) = Err (stop.TooMany Points)
+stopped_merge (Err merge.TooManyChunks) = Err (stop.TooMany Chunks)
 stopped_merge (Err merge.Write) = Err stop.Write
 stopped_merge (Err merge.Memory) = Err stop.Memory
 
@@ -206,7 +214,7 @@ StopsOpening number name old new stop.Write = ⊥
 StopsOpening number name old new (stop.Refused input cause) =
     (input ≡ number) × WhereKnown old.held name (λ file. IsRefusal file (Some cause))
 StopsOpening number name old new (stop.Differs input field) = ⊥
-StopsOpening number name old new stop.TooManyPoints = ⊥
+StopsOpening number name old new (stop.TooMany surplus) = ⊥
 
 -- This ending is one that a command makes of a file, and no other is.
 pub record IsOnlyEnding (Makes : Ending → Type 0) (ending : Ending) : Type 0 where
@@ -260,4 +268,4 @@ EndsPutting Makes input change (Err (stop.Refused number cause)) =
     (number ≡ 0) × (ComesAtOpening cause → ⊥) × IsQuiet change
     × MakesText Makes input change (λ ending. (ending.cause ≡ Refused input cause) × (ending.text ≡ []))
 EndsPutting Makes input change (Err (stop.Differs number field)) = ⊥
-EndsPutting Makes input change (Err stop.TooManyPoints) = ⊥
+EndsPutting Makes input change (Err (stop.TooMany surplus)) = ⊥

@@ -6,7 +6,8 @@ use Rattle.las_header.specs.declared.refusal.Refusal.{Refusal}
 use Rattle.las_header.specs.Fields.{head_of, is_packed}
 use Rattle.las_header.specs.Plain.{plain_head}
 use Rattle.las_outside.specs.Files.{FileMap}
-use Rattle.las_words.specs.Says.{asks, laszip}
+use Rattle.las_words.specs.Asked.{laszip, reads}
+use Rattle.las_words.specs.Says.{asks}
 use Rattle.laz_file.specs.Records.{AreRecordsOf}
 use Rattle.laz_file.specs.Refusing.{IsAcceptedFile}
 use Rattle.las_run.specs.Endings.{Cause, Refused}
@@ -18,7 +19,10 @@ pub record IsLaszip (run : RunSeen) : Type 0 where
   pub output : List ℕ
   pub chunk : ℕ
   pub workers : ℕ
-  pub said : run.task.said ≡ asks (laszip input output chunk workers)
+  pub said : run.task.said ≡ asks (record {
+    work = reads input (laszip (record { output = output; chunk = chunk }));
+    workers = workers;
+  })
   pub known : FileMap
   pub known_is : run.files.held ≡ Some known
   pub file : List ℕ

@@ -14,6 +14,7 @@ pub mod Lines
 pub mod Tools
 pub mod Runs
 pub mod Ends
+pub mod Asking
 pub mod EndingLaws
 pub mod Seen
 pub mod Headline

@@ -7,7 +7,9 @@ use Rattle.las_header.specs.declared.refusal.Refusal.TheVariants as refusal
 use Rattle.las_header.specs.Causes.{cause_number, cause_name}
 use Rattle.las_merge.specs.declared.field.Field.{Field}
 use Rattle.las_merge.specs.declared.field.Field.TheVariants.{Format, Length, Scales, Offsets, Bounds}
-use Rattle.las_run.specs.Endings.{Cause, Done, Memory, Usage, Unread, Unwritten, Refused, Differs, HasTooManyPoints}
+use Rattle.las_run.specs.declared.stop.Surplus.{Surplus}
+use Rattle.las_run.specs.declared.stop.Surplus.TheVariants.{Chunks, Points}
+use Rattle.las_run.specs.Endings.{Cause, Done, Memory, Usage, Unread, Unwritten, Refused, Differs, HasTooMany}
 
 abbrev pub line_feed : List ℕ
 line_feed = 10 ∷ []
@@ -31,6 +33,11 @@ field_name Scales = codes "scales"
 field_name Offsets = codes "offsets"
 field_name Bounds = codes "box"
 
+-- the word for what inputs have too many of
+abbrev pub surplus_name : Surplus → List ℕ
+surplus_name Points = codes "points"
+surplus_name Chunks = codes "chunks"
+
 -- nothing if all is done, and else one line
 abbrev pub line_of : Cause → List ℕ
 line_of Done = []
@@ -42,4 +49,4 @@ line_of (Refused name cause) =
     concat (codes "refused: " ∷ name ∷ codes ": " ∷ decimal (cause_number cause) ∷ codes " " ∷ cause_name cause
     ∷ after_blank (number_in cause) ∷ line_feed ∷ [])
 line_of (Differs name field) = concat (codes "unequal: " ∷ name ∷ codes ": " ∷ field_name field ∷ line_feed ∷ [])
-line_of HasTooManyPoints = concat (codes "too many points" ∷ line_feed ∷ [])
+line_of (HasTooMany surplus) = concat (codes "too many " ∷ surplus_name surplus ∷ line_feed ∷ [])

@@ -6,10 +6,12 @@ use Rattle.las_outside.specs.Faults.{Rose}
 use Rattle.las_outside.specs.Files.{FileMap, IsMissing}
 use Rattle.las_outside.specs.Outside.{Later}
 use Rattle.las_outside.specs.Sinks.{Puts, written_after}
+use Rattle.las_words.specs.Asked.{Las2lasOptions, las2las, reads}
 use Rattle.las_words.specs.Says as words
 use Rattle.laz_file.specs.Laws.{CanBePacked}
 use Rattle.laz_file.specs.Packing.{packed_file}
 use Rattle.laz_file.specs.Refusing.{IsRefusal}
+use Rattle.las_run.specs.Asking.{AsksFor}
 use Rattle.las_run.specs.Endings.{Cause, ComesFirst, Done, Refused, Ending, status_of}
 use Rattle.las_run.specs.Ends.{Ends, IsTheEnding}
 use Rattle.las_run.specs.Headline.{IsLaszip, IsPackedOf, Refuses, Writes, unpacked}
@@ -46,6 +48,11 @@ pub record KeepsPromises (run : RunSeen) : Type 0 where
       → (ending : Ending) × IsTheEnding run.task known ending × EndsAsDefined run known ending
   -- Over known files, a run ends as defined, unless memory is short or a count of faults rose.
   pub complete : (known : FileMap) (ending : Ending) → IsDue run known ending → EndsUnlessExcused run known ending
+  -- Of a known input that is accepted, `las2las` asks for no more than opening it takes, and the bytes of those of its
+  -- pieces that meet the range, unless memory is short or a read failed.
+  pub asks : (input : List ℕ) (options : Las2lasOptions) (workers : ℕ)
+      → run.task.said ≡ words.asks (record { work = reads input (las2las options); workers = workers })
+      → AsksFor input options.start options.stop run.files run.files_now run.status
   -- ---- faults, and what is left
   -- Status 3 comes only from an input that is known to be missing, or from a read that failed,
   pub read : run.status ≡ 3 → Any (IsMissing run.files.held) (inputs_of run.task.said)

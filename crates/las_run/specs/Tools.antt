@@ -1,6 +1,6 @@
 -- What each command makes of an input that is accepted: how the run ends then.
 use Rattle.std.specs.Prelude.{◌≡◌, ◌⊎◌, ℕ, Bool, true, false, if◌then◌else◌, List, [], ◌∷◌, drop, find, length, map}
-use Rattle.std.specs.Prelude.{Option, Some, None, codes}
+use Rattle.std.specs.Prelude.{Option, Some, None, codes, min}
 use Rattle.std.specs.Fmt.{decimal}
 use Rattle.std.specs.List.{concat, filter_map, flat_map}
 use Rattle.std.specs.Str.{bytes_eq}
@@ -9,10 +9,11 @@ use Rattle.las_filter.specs.Kept.{Steps}
 use Rattle.las_convert.specs.Converting.{ConvertsTo, converted_output}
 use Rattle.las_header.specs.declared.refusal.Refusal.{Refusal}
 use Rattle.las_header.specs.declared.refusal.Refusal.TheVariants.{BadChunk}
-use Rattle.las_header.specs.Fields.{head_of, is_packed, point_offset_of}
+use Rattle.las_header.specs.Fields.{head_of, is_packed, point_offset_of, points_of}
 use Rattle.laz_file.specs.Copying.{packed_output, plain_output}
 use Rattle.laz_file.specs.Outputs as points
 use Rattle.laz_file.specs.Packing.{packed_file}
+use Rattle.laz_file.specs.Ranges.{Range}
 use Rattle.laz_file.specs.Records.{AreRecordsOf}
 use Rattle.las_info.specs.Report.{report_text, tally_text}
 use Rattle.las_info.specs.Summaries.{summary_of}
@@ -21,10 +22,12 @@ use Rattle.laz_file.specs.Pieces.{ArePieces, Piece}
 use Rattle.laz_table.specs.VlrCauses.{chunk_size_of}
 use Rattle.las_filter.specs.declared.rule.Rule.{Rule}
 use Rattle.las_merge.specs.declared.fault.MergeFault.{MergeFault}
-use Rattle.las_merge.specs.declared.fault.MergeFault.TheVariants.{At, Unequal, TooManyPoints, Write}
+use Rattle.las_merge.specs.declared.fault.MergeFault.TheVariants.{At, Unequal, TooManyPoints, TooManyChunks, Write}
 use Rattle.las_merge.specs.declared.fault.MergeFault.TheVariants as merge
 use Rattle.las_merge.specs.Inputs.{CanMerge, IsKeptBy, item_at}
 use Rattle.las_merge.specs.Merging.{BadPlace, MergesTo, merged_output}
+use Rattle.las_merge.specs.Packed.{CanCopyFrom, IsKeptFromCopying}
+use Rattle.laz_copied.specs.Copied.{Chunk, all_of, copied_file}
 use Rattle.las_make.specs.declared.settings.Settings.{Settings}
 use Rattle.las_make.specs.Made.{made_file, made_records}
 use Rattle.las_make.specs.Making.{made_output}
@@ -32,7 +35,9 @@ use Rattle.las_outside.specs.Files.{FileMap}
 use Rattle.las_split.specs.Outputs.{PartFile, part_files}
 use Rattle.las_split.specs.Splitting.{SplitsTo}
 use Rattle.laz_file.specs.declared.fault.Fault.TheVariants as file
-use Rattle.las_run.specs.Endings.{Cause, Done, Memory, Unread, Unwritten, Refused, Differs, HasTooManyPoints}
+use Rattle.las_words.specs.Asked.{Las2lasOptions, LasmergeOptions, MakeOptions}
+use Rattle.las_run.specs.declared.stop.Surplus.TheVariants.{Chunks, Points}
+use Rattle.las_run.specs.Endings.{Cause, Done, Memory, Unread, Unwritten, Refused, Differs, HasTooMany}
 use Rattle.las_run.specs.Endings.{Ending, Output, ends_at_once}
 use Rattle.las_run.specs.Lines.{line_feed}
 
@@ -78,16 +83,23 @@ Zips input output chunk file ending = ZipsIf (is_packed (head_of file)) input ou
 abbrev pub chunk_if : (packed : Bool) → (chunk : ℕ) → Option ℕ
 chunk_if packed chunk = if packed then Some chunk else None
 
--- `las2las` writes what its plan keeps of the records, up to the first refusal: in chunks of this size, if there is
--- one.
-abbrev pub ConvertsIn : (size : Option ℕ) → (input output : List ℕ) → Steps → (file : List ℕ) → Ending → Type 0
-ConvertsIn size input output plan file ending =
-    (records : List ℕ) × (refusal : Option Refusal) × ConvertsTo plan file records refusal
+-- places from `start` on and before `stop`, cut to those of a file's records
+abbrev pub range_in : (start stop : ℕ) → (file : List ℕ) → Range
+range_in start stop file =
+    record { start = min start (points_of (head_of file)); stop = min stop (points_of (head_of file)) }
+
+-- `las2las` writes what its plan keeps of the records of a range, up to the first refusal: in chunks of this size, if
+-- there is one.
+abbrev pub ConvertsIn : (size : Option ℕ) → (range : List ℕ → Range) → (input output : List ℕ) → Steps
+    → (file : List ℕ) → Ending → Type 0
+ConvertsIn size range input output plan file ending =
+    (records : List ℕ) × (refusal : Option Refusal) × ConvertsTo plan file (range file) records refusal
     × (ending ≡ writes input (converted_output output file size) records refusal)
 
-abbrev pub Converts : (input output : List ℕ) → Steps → (packed : Bool) → (chunk : ℕ) → (file : List ℕ) → Ending
-    → Type 0
-Converts input output plan packed chunk file ending = ConvertsIn (chunk_if packed chunk) input output plan file ending
+abbrev pub Converts : (input : List ℕ) → Las2lasOptions → (file : List ℕ) → Ending → Type 0
+Converts input options file ending =
+    ConvertsIn (chunk_if options.packed options.chunk) (range_in options.start options.stop) input options.output
+    options.plan file ending
 
 -- the first tap of each of these names
 abbrev pub chosen_taps : List TapSeen → (tallies : List (List ℕ)) → List TapSeen
@@ -141,7 +153,8 @@ cause_of_fault inputs (At number file.Read) = Unread (item_at inputs number)
 cause_of_fault inputs (At number file.Write) = Unwritten
 cause_of_fault inputs (At number file.Memory) = Memory
 cause_of_fault inputs (Unequal number field) = Differs (item_at inputs number) field
-cause_of_fault inputs TooManyPoints = HasTooManyPoints
+cause_of_fault inputs TooManyPoints = HasTooMany Points
+cause_of_fault inputs TooManyChunks = HasTooMany Chunks
 cause_of_fault inputs Write = Unwritten
 cause_of_fault inputs merge.Memory = Memory
 
@@ -166,9 +179,46 @@ MergesIn size inputs output files ending =
     ⊎ ((merged : List (List ℕ)) × (records : List ℕ) × (bad : Option BadPlace) × CanMerge files inputs merged
     × MergesTo merged records bad × (ending ≡ merges inputs output size merged records bad))
 
-abbrev pub Merges : (inputs : List (List ℕ)) → (output : List ℕ) → (packed : Bool) → (chunk : ℕ) → FileMap → Ending
-    → Type 0
-Merges inputs output packed chunk files ending = MergesIn (chunk_if packed chunk) inputs output files ending
+-- the ending of a merge by copied chunks, with this output: nothing in it is patched
+abbrev pub copies : (output : List ℕ) → (text : List ℕ) → Ending
+copies output text = record {
+  cause = Done;
+  outputs = record { name = output; draft = text; patches = []; stopped = text } ∷ [];
+  text = [];
+}
+
+-- With -copy_chunks it copies the chunks of its inputs, bad ones too, if nothing keeps them from being copied.
+abbrev pub CopiesIn : (inputs : List (List ℕ)) → (output : List ℕ) → FileMap → Ending → Type 0
+CopiesIn inputs output files ending =
+    ((fault : MergeFault) × IsKeptFromCopying files inputs fault
+    × (ending ≡ ends_at_once (cause_of_fault inputs fault)))
+    ⊎ ((merged : List (List ℕ)) × (parts : List (List Chunk)) × CanCopyFrom files inputs merged parts
+    × (ending ≡ copies output (copied_file merged (all_of parts))))
+
+abbrev pub MergesIf : (copy : Bool) → LasmergeOptions → FileMap → Ending → Type 0
+MergesIf true options files ending = CopiesIn options.inputs options.output files ending
+MergesIf false options files ending =
+    MergesIn (chunk_if options.packed options.chunk) options.inputs options.output files ending
+
+abbrev pub Merges : LasmergeOptions → FileMap → Ending → Type 0
+Merges options files ending = MergesIf options.copy options files ending
+
+-- what `make` is to make files of
+abbrev pub settings_of : MakeOptions → Settings
+settings_of options =
+    record { points = options.points; seed = options.seed; format = options.format; extra = options.extra }
+
+-- the options of `make` with these settings
+abbrev pub options_with : (output packed : List ℕ) → Settings → (chunk : ℕ) → MakeOptions
+options_with output packed settings chunk = record {
+  output = output;
+  packed = packed;
+  points = settings.points;
+  seed = settings.seed;
+  format = settings.format;
+  extra = settings.extra;
+  chunk = chunk;
+}
 
 -- the three lines of `make`
 abbrev pub made_text : (points plain packed : ℕ) → List ℕ

@@ -1,8 +1,9 @@
 //! The inputs of a run.
-ghost use Rattle.std.specs.Prelude.{◌≡◌, IfErr, IfOk, OnOk};
+ghost use Rattle.std.specs.Prelude.{◌≡◌, ◌+◌, IfErr, IfOk, OnOk, length};
 ghost use Rattle.las_header.specs.Heads.{IsHead};
 ghost use Rattle.las_outside.specs.Files.{WhereKnown};
 ghost use Rattle.las_outside.specs.Outside.{Later};
+ghost use Rattle.laz_file.specs.Asking.{AsksAtMost, asked_for_list};
 ghost use Rattle.laz_file.specs.Reading.{AgreesWithHead, IsNewReader, StandsFor};
 ghost use Rattle.las_run.specs.Ends.{StopsOpening, stop_by, stopped_by};
 
@@ -26,6 +27,9 @@ pub fn open_input<F: Files>(
     ensures stops { IfErr result (StopsOpening number name.now (F.seen files.old) (F.seen files.new)) }
     ensures held { (F.seen files.new).held ≡ (F.seen files.old).held }
     ensures writes { (F.seen files.new).write_faults ≡ (F.seen files.old).write_faults }
+    ensures asked { IfOk result (λ reader. AsksAtMost
+        (length reader.head.bytes + asked_for_list reader.chunk (length reader.pieces))
+        (F.seen files.old) (F.seen files.new)) }
     ensures later { Later (F.seen files.old) (F.seen files.new) }
 {
     match Reader::open(alloc, files, name) {

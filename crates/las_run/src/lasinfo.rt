@@ -1,14 +1,15 @@
 //! The command `lasinfo`: what is in a file.
-ghost use Rattle.std.specs.Prelude.{◌≡◌, ◌^◌, ◌≤◌, ◌∷◌, [], ℕ, All, map};
+ghost use Rattle.std.specs.Prelude.{◌≡◌, ◌^◌, ◌≤◌, ◌∷◌, [], ℕ, All, length, map};
 ghost use Rattle.las_header.specs.Heads.{IsHead};
 ghost use Rattle.las_info.specs.Tallies.{count_at};
 ghost use Rattle.las_outside.specs.Files.{WhereKnown};
 ghost use Rattle.las_outside.specs.Outside.{Later};
-ghost use Rattle.las_words.specs.Says.{AreChosen, asks, lasinfo};
+ghost use Rattle.las_words.specs.Asked.{AreChosen, lasinfo, reads};
 ghost use Rattle.las_words.specs.Texts.{texts};
 ghost use Rattle.laz_file.specs.Reading.{AgreesWithHead, IsNewReader, StandsFor};
 ghost use Rattle.std.specs.Option.{option_map};
 ghost use Rattle.las_run.specs.Ends.{Ends, EndsPutting, cause_of, stopped_report};
+ghost use Rattle.las_run.specs.Runs.{task_with};
 ghost use Rattle.las_run.specs.Tools.{Reports};
 
 use crate::input::{open_input, stop};
@@ -35,10 +36,10 @@ pub fn lasinfo<R: Threads + Sync, F: Files, O: Sink, G: Gate>(
     requires chosen { AreChosen (map (λ tap. (tap_seen tap).name) taps.items) (texts tallies.now) }
     requires workers { (1 ≤ workers) × (workers ≤ 8) }
     requires room { All (λ tap. (bin : ℕ) → count_at (tap_seen tap).tally bin ≤ 2 ^ 63) taps.items }
-    ensures ends { Ends (record {
-      said = asks (lasinfo input.now (texts tallies.now) workers);
-      taps = map (λ tap. tap_seen tap) taps.items;
-    }) (record {
+    ensures ends { Ends (task_with (map (λ tap. tap_seen tap) taps.items) (record {
+      work = reads input.now (lasinfo (record { tallies = texts tallies.now }));
+      workers = workers;
+    })) (record {
       files = F.seen files.old;
       files_now = F.seen files.new;
       out = O.seen out.old;
@@ -93,7 +94,7 @@ fn inform<R: Threads + Sync, F: Files, O: Sink, G: Gate>(
 
 // The chunk size and the number of chunks of a reader's file, if it is packed.
 fn chunks_of(reader: &Reader) -> Option<(u32, u32)>
-    ensures { result ≡ option_map (λ chunk. (chunk, reader.now.chunks)) reader.now.chunk }
+    ensures { result ≡ option_map (λ chunk. (chunk, length reader.now.pieces)) reader.now.chunk }
 {
     match reader.chunk() {
         None => None,

@@ -4,12 +4,13 @@ ghost use Rattle.las_filter.specs.Parts.{IsRule, part_name};
 ghost use Rattle.las_outside.specs.Files.{WhereKnown};
 ghost use Rattle.las_outside.specs.Outside.{Later};
 ghost use Rattle.las_outside.specs.Sinks.{SinkView};
-ghost use Rattle.las_words.specs.Says.{asks, lassplit};
+ghost use Rattle.las_words.specs.Asked.{lassplit, reads};
 ghost use Rattle.laz_file.specs.declared.fault.Fault.TheVariants.{Write};
 ghost use Rattle.laz_file.specs.Reading.{AgreesWithHead, IsNewReader, StandsFor};
 ghost use Rattle.las_info.specs.Tallies.{TapSeen};
 ghost use Rattle.las_run.specs.Endings.{Ending};
 ghost use Rattle.las_run.specs.Ends.{Ends, EndsMaking, cause_of, quiet};
+ghost use Rattle.las_run.specs.Runs.{task_with};
 ghost use Rattle.las_run.specs.Tools.{Splits};
 
 use crate::input::{open_input, stopped};
@@ -37,10 +38,10 @@ pub fn lassplit<R: Threads + Sync, F: Files, G: Gate>(
     requires rule { IsRule rule.now }
     requires workers { (1 ≤ workers) × (workers ≤ 8) }
     requires names { (number : ℕ) → number < 2 ^ 32 → part_name stem.now end.now number ≢ input.now }
-    ensures ends { (taps : List TapSeen) (out : SinkView) → Ends (record {
-      said = asks (lassplit input.now stem.now end.now rule.now workers);
-      taps = taps;
-    })
+    ensures ends { (taps : List TapSeen) (out : SinkView) → Ends (task_with taps (record {
+      work = reads input.now (lassplit (record { stem = stem.now; end = end.now; rule = rule.now }));
+      workers = workers;
+    }))
         (quiet (F.seen files.old) (F.seen files.new) out) (cause_of (input.now ∷ []) result) }
     ensures later { Later (F.seen files.old) (F.seen files.new) }
 {

@@ -4,10 +4,11 @@ ghost use Rattle.las_header.specs.Heads.{IsHead};
 ghost use Rattle.las_outside.specs.Files.{WhereKnown};
 ghost use Rattle.las_outside.specs.Outside.{Later};
 ghost use Rattle.las_outside.specs.Sinks.{SinkView};
-ghost use Rattle.las_words.specs.Says.{asks, laszip};
+ghost use Rattle.las_words.specs.Asked.{laszip, reads};
 ghost use Rattle.laz_file.specs.Reading.{AgreesWithHead, IsNewReader, StandsFor};
 ghost use Rattle.las_info.specs.Tallies.{TapSeen};
 ghost use Rattle.las_run.specs.Ends.{Ends, EndsMaking, cause_of, quiet};
+ghost use Rattle.las_run.specs.Runs.{task_with};
 ghost use Rattle.las_run.specs.Tools.{Zips};
 
 use crate::input::{open_input, stopped};
@@ -31,8 +32,10 @@ pub fn laszip<R: Threads + Sync, F: Files, G: Gate>(
     requires chunk { (256 ≤ chunk) × (chunk ≤ 250000) }
     requires workers { (1 ≤ workers) × (workers ≤ 8) }
     requires names { output.now ≢ input.now }
-    ensures ends { (taps : List TapSeen) (out : SinkView)
-        → Ends (record { said = asks (laszip input.now output.now chunk workers); taps = taps })
+    ensures ends { (taps : List TapSeen) (out : SinkView) → Ends (task_with taps (record {
+      work = reads input.now (laszip (record { output = output.now; chunk = chunk }));
+      workers = workers;
+    }))
         (quiet (F.seen files.old) (F.seen files.new) out) (cause_of (input.now ∷ []) result) }
     ensures later { Later (F.seen files.old) (F.seen files.new) }
 {

@@ -4,9 +4,10 @@ ghost use Rattle.las_info.specs.Tallies.{TapSeen};
 ghost use Rattle.las_make.specs.Made.{IsInRange};
 ghost use Rattle.las_outside.specs.Outside.{Later};
 ghost use Rattle.las_outside.specs.Sinks.{with_fault, with_more};
-ghost use Rattle.las_words.specs.Says.{asks, make};
+ghost use Rattle.las_words.specs.Asked.{make};
 ghost use Rattle.las_run.specs.Ends.{Ends, cause_of, stop_making};
-ghost use Rattle.las_run.specs.Tools.{made_text};
+ghost use Rattle.las_run.specs.Runs.{task_with};
+ghost use Rattle.las_run.specs.Tools.{made_text, options_with};
 
 use crate::stop::Stop;
 use itoa::Buffer;
@@ -32,10 +33,10 @@ pub fn make<R: Threads + Sync, F: Files, O: Sink, G: Gate>(
     requires chunk { (256 ≤ chunk) × (chunk ≤ 250000) }
     requires workers { (1 ≤ workers) × (workers ≤ 8) }
     requires names { packed.now ≢ output.now }
-    ensures ends { (taps : List TapSeen) → Ends (record {
-      said = asks (make output.now packed.now settings.points settings.seed settings.format settings.extra chunk workers);
-      taps = taps;
-    }) (record {
+    ensures ends { (taps : List TapSeen) → Ends (task_with taps (record {
+      work = make (options_with output.now packed.now settings chunk);
+      workers = workers;
+    })) (record {
       files = F.seen files.old;
       files_now = F.seen files.new;
       out = O.seen out.old;

@@ -4,9 +4,9 @@ ghost use Rattle.las_outside.specs.Sinks.{Puts};
 ghost use Rattle.std.specs.Prelude.{[], Err, slice_index_or};
 ghost use Rattle.las_run.specs.Endings.{status_of, Differs, Refused};
 ghost use Rattle.las_run.specs.Ends.{cause_of, names_read};
-ghost use Rattle.las_run.specs.Lines.{field_name, line_of, number_in};
+ghost use Rattle.las_run.specs.Lines.{field_name, line_of, number_in, surplus_name};
 
-use crate::stop::Stop;
+use crate::stop::{Stop, Surplus};
 use itoa::Buffer;
 use las_header::Refusal;
 use las_merge::Field;
@@ -25,7 +25,7 @@ pub fn status(outcome: &Result<(), Stop>) -> u8
         Err(Stop::Read(_)) => 3,
         Err(Stop::Write) => 4,
         Err(Stop::Refused(..)) => 5,
-        Err(Stop::Differs(..) | Stop::TooManyPoints) => 6,
+        Err(Stop::Differs(..) | Stop::TooMany(_)) => 6,
     }
 }
 
@@ -92,7 +92,10 @@ fn put_stop<E: Sink>(
         Stop::Write => put_all(err, &[b"write fault", b"\n"]),
         Stop::Refused(input, cause) => put_refusal(err, name_read(said, *input), cause),
         Stop::Differs(input, field) => put_difference(err, name_read(said, *input), field),
-        Stop::TooManyPoints => put_all(err, &[b"too many points", b"\n"]),
+        Stop::TooMany(surplus) => {
+            let name = surplus_name(surplus).as_bytes();
+            put_all(err, &[b"too many ", name, b"\n"])
+        }
     }
 }
 
@@ -106,6 +109,16 @@ fn field_name(field: &Field) -> &str
         Field::Scales => "scales",
         Field::Offsets => "offsets",
         Field::Bounds => "box",
+    }
+}
+
+// The word for what inputs have too many of.
+fn surplus_name(surplus: &Surplus) -> &str
+    ensures { result.now ≡ surplus_name surplus.now }
+{
+    match surplus {
+        Surplus::Points => "points",
+        Surplus::Chunks => "chunks",
     }
 }
 
@@ -206,7 +219,12 @@ mod tests {
                 "unequal: a.laz: offsets\n",
             ),
             (Stop::Differs(0, Field::Bounds), "unequal: a.laz: box\n"),
-            (Stop::TooManyPoints, "too many points\n"),
+            (Stop::TooMany(Surplus::Points), "too many points\n"),
+            (Stop::TooMany(Surplus::Chunks), "too many chunks\n"),
+            (
+                Stop::Refused(0, Refusal::NotPacked),
+                "refused: a.laz: 27 NotPacked\n",
+            ),
         ];
         for (stop, line) in lines {
             let mut err = MemSink::with_room(rt.alloc(), 100)?;

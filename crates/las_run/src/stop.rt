@@ -17,6 +17,15 @@ pub enum Stop {
     Refused(usize, Refusal),
     /// The input is the first that differs from the first input, and this is the first field in which it does.
     Differs(usize, Field),
-    /// The inputs have 2^32 point records or more.
-    TooManyPoints,
+    /// The inputs have too many of these.
+    TooMany(Surplus),
+}
+
+/// What inputs can have too many of to be merged.
+#[derive(Clone, Copy, Debug, PartialEq, Eq)]
+pub enum Surplus {
+    /// 2^32 point records or more.
+    Points,
+    /// More than 2^24 chunks, which were to be copied.
+    Chunks,
 }

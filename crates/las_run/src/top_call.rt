@@ -1,16 +1,20 @@
 //! The top call.
-ghost use Rattle.std.specs.Prelude.{◌≡◌, ◌≤◌, ◌^◌, ℕ, Err, All, map};
+ghost use Rattle.std.specs.Prelude.{◌≡◌, ◌≤◌, ◌^◌, ℕ, Err, Ok, All, map};
 ghost use Rattle.std.specs.Result.{ForOk};
 ghost use Rattle.las_outside.specs.Outside.{Later};
 ghost use Rattle.las_info.specs.Tallies.{count_at};
 ghost use Rattle.las_words.specs.declared.command.WordFault.{WordFault};
-ghost use Rattle.las_words.specs.Says.{IsSound, asked_by, asks};
+ghost use Rattle.las_words.specs.Asked.{IsSound, asked_by, work_by};
+ghost use Rattle.las_words.specs.Says.{asks};
 ghost use Rattle.las_words.specs.Texts.{texts};
+ghost use Rattle.las_words.specs.declared.command.Command.{Command};
+ghost use Rattle.las_run.specs.Asking.{WorkAsks};
+ghost use Rattle.las_run.specs.Endings.{status_of};
 ghost use Rattle.las_run.specs.Runs.{Task, files_read, task_of};
 ghost use Rattle.las_run.specs.Ends.{Ends, IsRead, cause_of, names_read, stop_of};
 ghost use Rattle.las_run.specs.Promises.{KeepsPromises};
 
-use crate::las2las::las2las;
+use crate::las2las::{Places, las2las};
 use crate::lasinfo::lasinfo;
 use crate::lasmerge::lasmerge;
 use crate::lassplit::lassplit;
@@ -83,6 +87,9 @@ fn work<R: Threads + Sync, F: Files, O: Sink, G: Gate>(
       out = O.seen out.old;
       out_now = O.seen out.new;
     }) (cause_of (names_read said.now) result) }
+    ensures asks { (command : Command) → said.now ≡ Ok command
+        → WorkAsks (work_by command) (F.seen files.old) (F.seen files.new)
+        (status_of (cause_of (names_read said.now) result)) }
     ensures unread { (fault : WordFault) → said.now ≡ Err fault
         → (result ≡ Err (stop_of fault)) × (F.seen files.new ≡ F.seen files.old) }
     ensures later { Later (F.seen files.old) (F.seen files.new) }
@@ -120,7 +127,9 @@ fn obey<R: Threads + Sync, F: Files, O: Sink, G: Gate>(
       files_now = F.seen files.new;
       out = O.seen out.old;
       out_now = O.seen out.new;
-    }) (cause_of (files_read (asked_by command.now)) result) }
+    }) (cause_of (files_read (work_by command.now)) result) }
+    ensures asks { WorkAsks (work_by command.now) (F.seen files.old) (F.seen files.new)
+        (status_of (cause_of (files_read (work_by command.now)) result)) }
     ensures later { Later (F.seen files.old) (F.seen files.new) }
 {
     match command {
@@ -136,9 +145,17 @@ fn obey<R: Threads + Sync, F: Files, O: Sink, G: Gate>(
             plan,
             packing,
             workers,
-        } => las2las(
-            rt, alloc, files, gate, input, output, plan, *packing, *workers,
-        ),
+            start,
+            stop,
+        } => {
+            let places = Places {
+                start: *start,
+                stop: *stop,
+            };
+            las2las(
+                rt, alloc, files, gate, input, output, plan, *packing, *workers, places,
+            )
+        }
         Command::Lasinfo {
             input,
             tallies,
@@ -156,7 +173,10 @@ fn obey<R: Threads + Sync, F: Files, O: Sink, G: Gate>(
             output,
             packing,
             workers,
-        } => lasmerge(rt, alloc, files, gate, inputs, output, *packing, *workers),
+            copy,
+        } => lasmerge(
+            rt, alloc, files, gate, inputs, output, *packing, *workers, *copy,
+        ),
         Command::Make {
             output,
             packed,

@@ -59,8 +59,9 @@ tally_fresh : (names words : List (List ℕ)) (earlier : List Piece) (at : ℕ) 
 tally_fresh names words earlier at None tally sound is = cc
 tally_fresh names words earlier at (Some Tally) tally sound is =
     let after = drop (at + 1) words in
-    let values = no_fault (follows_too_many words earlier Tally) at (value_fault names (tallies_of words earlier) Tap (at + 1) after) sound in
-    let both = or_none (first_wrong names Tap (at + 1) 1 after) (misplaced (tallies_of words earlier) Tap (at + 1) after) values.1 in
+    let values = no_fault (follows_too_many words earlier Tally) at (option_or (value_fault names (tallies_of words earlier) Tap (at + 1) after) None) sound in
+    let value = or_none (value_fault names (tallies_of words earlier) Tap (at + 1) after) None values.1 in
+    let both = or_none (first_wrong names Tap (at + 1) 1 after) (misplaced (tallies_of words earlier) Tap (at + 1) after) value.0 in
     let other = no_fault (list_any (bytes_eq (word_at after 0)) (tallies_of words earlier)) (at + 1) None both.1 in
     let same : word_at after 0 ≡ tally = cc in
     subst (Fresh names (tallies_of words earlier)) same (record { there = one_value names (at + 1) after both.0; fresh = other.0 })

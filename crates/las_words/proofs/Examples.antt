@@ -1,12 +1,62 @@
 -- Values that compute: what words say.
-use Rattle.std.proofs.Common.{◌≡◌, ℕ, zero, suc, pos, negsuc, true, false, List, [], ◌∷◌, ◌++◌, codes, refl}
+use Rattle.std.proofs.Common.{◌≡◌, ℕ, Bool, zero, suc, pos, negsuc, true, false, List, [], ◌∷◌, ◌++◌, codes, refl}
 use Rattle.std.specs.Fmt.{digits}
 use Rattle.las_filter.specs.declared.keep.Keep.TheVariants.{Classes, DropReturns, Intensity}
 use Rattle.las_filter.specs.declared.change.Change.TheVariants.{Translate, SetClass}
 use Rattle.las_filter.specs.Kept.{Steps}
 use Rattle.las_filter.specs.declared.rule.Rule.TheVariants.{Every, Source}
 use Rattle.las_words.specs.Names.{stem_of, end_of, is_part_name}
-use Rattle.las_words.specs.Says.{asks, usage, says, laszip, las2las, lasinfo, lassplit, lasmerge, make}
+use Rattle.las_filter.specs.declared.rule.Rule.{Rule}
+use Rattle.las_words.specs.Asked.{Asked, laszip, las2las, lasinfo, lassplit, lasmerge, make, reads}
+use Rattle.las_words.specs.Says.{asks, usage, says}
+
+-- the commands by their options
+abbrev zips : (input output : List ℕ) (chunk workers : ℕ) → Asked
+zips input output chunk workers =
+    record { work = reads input (laszip (record { output = output; chunk = chunk })); workers = workers }
+
+abbrev converts_range : (input output : List ℕ) (plan : Steps) (packed : Bool) (chunk workers start stop : ℕ) → Asked
+converts_range input output plan packed chunk workers start stop = record {
+  work = reads input (las2las (record {
+    output = output;
+    plan = plan;
+    packed = packed;
+    chunk = chunk;
+    start = start;
+    stop = stop;
+  }));
+  workers = workers;
+}
+
+abbrev converts : (input output : List ℕ) (plan : Steps) (packed : Bool) (chunk workers : ℕ) → Asked
+converts input output plan packed chunk workers = converts_range input output plan packed chunk workers 0 4294967295
+
+abbrev informs : (input : List ℕ) (tallies : List (List ℕ)) (workers : ℕ) → Asked
+informs input tallies workers = record { work = reads input (lasinfo (record { tallies = tallies })); workers = workers }
+
+abbrev splits : (input stem end : List ℕ) (rule : Rule) (workers : ℕ) → Asked
+splits input stem end rule workers =
+    record { work = reads input (lassplit (record { stem = stem; end = end; rule = rule })); workers = workers }
+
+abbrev merges : (inputs : List (List ℕ)) (output : List ℕ) (packed : Bool) (chunk : ℕ) (copy : Bool) (workers : ℕ) → Asked
+merges inputs output packed chunk copy workers = record {
+  work = lasmerge (record { inputs = inputs; output = output; packed = packed; chunk = chunk; copy = copy });
+  workers = workers;
+}
+
+abbrev makes : (output packed : List ℕ) (points seed format extra chunk workers : ℕ) → Asked
+makes output packed points seed format extra chunk workers = record {
+  work = make (record {
+    output = output;
+    packed = packed;
+    points = points;
+    seed = seed;
+    format = format;
+    extra = extra;
+    chunk = chunk;
+  });
+  workers = workers;
+}
 
 -- the words of `laszip` and of `las2las` with an input and an output, and more words
 abbrev zip : List (List ℕ) → List (List ℕ)
@@ -26,11 +76,11 @@ no_words : says [] taps ≡ usage 0
 unfolding says
 no_words = refl
 
-defaults : says (zip []) taps ≡ asks (laszip (codes "a") (codes "b") 50000 1)
+defaults : says (zip []) taps ≡ asks (zips (codes "a") (codes "b") 50000 1)
 unfolding says
 defaults = refl
 
-any_order : says (codes "laszip" ∷ codes "-cores" ∷ codes "08" ∷ codes "-o" ∷ codes "-i" ∷ codes "-i" ∷ codes "-o" ∷ []) taps ≡ asks (laszip (codes "-o") (codes "-i") 50000 8)
+any_order : says (codes "laszip" ∷ codes "-cores" ∷ codes "08" ∷ codes "-o" ∷ codes "-i" ∷ codes "-i" ∷ codes "-o" ∷ []) taps ≡ asks (zips (codes "-o") (codes "-i") 50000 8)
 unfolding says
 any_order = refl
 
@@ -80,29 +130,46 @@ too_many_digits = refl
 
 -- filters and changes in their order, and a list that ends at the next option
 filtered : says (filter (codes "-keep_class" ∷ codes "2" ∷ codes "5" ∷ codes "-translate_raw_x" ∷ codes "-5" ∷ codes "-drop_return" ∷ codes "1" ∷ codes "-translate_raw_xyz" ∷ codes "5" ∷ codes "0" ∷ codes "-0" ∷ [])) taps
-    ≡ asks (las2las (codes "a") (codes "b") (record { keeps = Classes 36 ∷ DropReturns 2 ∷ []; changes = Translate (negsuc 4) (pos 0) (pos 0) ∷ Translate (pos 5) (pos 0) (pos 0) ∷ [] }) false 50000 1)
+    ≡ asks (converts (codes "a") (codes "b") (record { keeps = Classes 36 ∷ DropReturns 2 ∷ []; changes = Translate (negsuc 4) (pos 0) (pos 0) ∷ Translate (pos 5) (pos 0) (pos 0) ∷ [] }) false 50000 1)
 unfolding says
 filtered = refl
 
 intensities : says (filter (codes "-keep_intensity" ∷ codes "100" ∷ codes "199" ∷ codes "-set_classification" ∷ codes "31" ∷ codes "-olaz" ∷ [])) taps
-    ≡ asks (las2las (codes "a") (codes "b") (record { keeps = Intensity 100 199 ∷ []; changes = SetClass 31 ∷ [] }) true 50000 1)
+    ≡ asks (converts (codes "a") (codes "b") (record { keeps = Intensity 100 199 ∷ []; changes = SetClass 31 ∷ [] }) true 50000 1)
 unfolding says
 intensities = refl
 
 -- packed by the ending of its name, unless -olas stands
-packed_by_name : says (codes "las2las" ∷ codes "-i" ∷ codes "a" ∷ codes "-o" ∷ codes "b.LAZ" ∷ []) taps ≡ asks (las2las (codes "a") (codes "b.LAZ") nothing true 50000 1)
+packed_by_name : says (codes "las2las" ∷ codes "-i" ∷ codes "a" ∷ codes "-o" ∷ codes "b.LAZ" ∷ []) taps ≡ asks (converts (codes "a") (codes "b.LAZ") nothing true 50000 1)
 unfolding says
 packed_by_name = refl
 
-plain_by_option : says (codes "las2las" ∷ codes "-i" ∷ codes "a" ∷ codes "-olas" ∷ codes "-o" ∷ codes "b.laz" ∷ []) taps ≡ asks (las2las (codes "a") (codes "b.laz") nothing false 50000 1)
+plain_by_option : says (codes "las2las" ∷ codes "-i" ∷ codes "a" ∷ codes "-olas" ∷ codes "-o" ∷ codes "b.laz" ∷ []) taps ≡ asks (converts (codes "a") (codes "b.laz") nothing false 50000 1)
 unfolding says
 plain_by_option = refl
+
+-- a range of records
+ranged : says (filter (codes "-stop_at_point" ∷ codes "600" ∷ codes "-start_at_point" ∷ codes "0300" ∷ [])) taps ≡ asks (converts_range (codes "a") (codes "b") nothing false 50000 1 300 600)
+unfolding says
+ranged = refl
+
+empty_range : says (filter (codes "-start_at_point" ∷ codes "600" ∷ codes "-stop_at_point" ∷ codes "600" ∷ [])) taps ≡ asks (converts_range (codes "a") (codes "b") nothing false 50000 1 600 600)
+unfolding says
+empty_range = refl
+
+start_above_the_stop : says (filter (codes "-start_at_point" ∷ codes "5" ∷ codes "-stop_at_point" ∷ codes "4" ∷ [])) taps ≡ usage 8
+unfolding says
+start_above_the_stop = refl
+
+stop_below_the_start : says (filter (codes "-stop_at_point" ∷ codes "4" ∷ codes "-keep_first" ∷ codes "-start_at_point" ∷ codes "5" ∷ [])) taps ≡ usage 9
+unfolding says
+stop_below_the_start = refl
 
 -- the words of `lasinfo` with an input, and more words
 abbrev info : List (List ℕ) → List (List ℕ)
 info more = codes "lasinfo" ∷ codes "-i" ∷ codes "a" ∷ more
 
-tallied : says (info (codes "-tally" ∷ codes "source" ∷ codes "-cores" ∷ codes "2" ∷ codes "-tally" ∷ codes "class" ∷ [])) taps ≡ asks (lasinfo (codes "a") (codes "source" ∷ codes "class" ∷ []) 2)
+tallied : says (info (codes "-tally" ∷ codes "source" ∷ codes "-cores" ∷ codes "2" ∷ codes "-tally" ∷ codes "class" ∷ [])) taps ≡ asks (informs (codes "a") (codes "source" ∷ codes "class" ∷ []) 2)
 unfolding says
 tallied = refl
 
@@ -144,11 +211,11 @@ eight_digits = refl
 abbrev split : (input output : List ℕ) → List (List ℕ) → List (List ℕ)
 split input output more = codes "lassplit" ∷ codes "-i" ∷ input ∷ codes "-o" ∷ output ∷ more
 
-split_by_number : says (split (codes "a") (codes "p.las") (codes "-split" ∷ codes "2" ∷ [])) taps ≡ asks (lassplit (codes "a") (codes "p") (codes ".las") (Every 2) 1)
+split_by_number : says (split (codes "a") (codes "p.las") (codes "-split" ∷ codes "2" ∷ [])) taps ≡ asks (splits (codes "a") (codes "p") (codes ".las") (Every 2) 1)
 unfolding says digits
 split_by_number = refl
 
-split_by_line : says (split (codes "a") (codes "p") (codes "-cores" ∷ codes "8" ∷ codes "-by_flightline" ∷ [])) taps ≡ asks (lassplit (codes "a") (codes "p") [] Source 8)
+split_by_line : says (split (codes "a") (codes "p") (codes "-cores" ∷ codes "8" ∷ codes "-by_flightline" ∷ [])) taps ≡ asks (splits (codes "a") (codes "p") [] Source 8)
 unfolding says digits
 split_by_line = refl
 
@@ -173,9 +240,34 @@ abbrev inputs : ℕ → List (List ℕ)
 inputs zero = []
 inputs (suc count) = codes "-i" ∷ codes "a" ∷ inputs count
 
-merged : says (codes "lasmerge" ∷ codes "-i" ∷ codes "b" ∷ codes "-o" ∷ codes "c.laz" ∷ codes "-i" ∷ codes "a" ∷ []) taps ≡ asks (lasmerge (codes "b" ∷ codes "a" ∷ []) (codes "c.laz") true 50000 1)
+merged : says (codes "lasmerge" ∷ codes "-i" ∷ codes "b" ∷ codes "-o" ∷ codes "c.laz" ∷ codes "-i" ∷ codes "a" ∷ []) taps ≡ asks (merges (codes "b" ∷ codes "a" ∷ []) (codes "c.laz") true 50000 false 1)
 unfolding says
 merged = refl
+
+-- the words of `lasmerge` with an input and an output, and more words
+abbrev copy : (output : List ℕ) → List (List ℕ) → List (List ℕ)
+copy output more = codes "lasmerge" ∷ codes "-i" ∷ codes "a.laz" ∷ codes "-o" ∷ output ∷ more
+
+copied : says (copy (codes "c.laz") (codes "-copy_chunks" ∷ [])) taps ≡ asks (merges (codes "a.laz" ∷ []) (codes "c.laz") true 50000 true 1)
+unfolding says
+copied = refl
+
+copied_with_olaz : says (copy (codes "c.las") (codes "-olaz" ∷ codes "-copy_chunks" ∷ codes "-cores" ∷ codes "8" ∷ [])) taps
+    ≡ asks (merges (codes "a.laz" ∷ []) (codes "c.las") true 50000 true 8)
+unfolding says
+copied_with_olaz = refl
+
+plain_output : says (copy (codes "c.las") (codes "-copy_chunks" ∷ [])) taps ≡ usage 4
+unfolding says
+plain_output = refl
+
+copied_beside_olas : says (copy (codes "c.laz") (codes "-copy_chunks" ∷ codes "-olas" ∷ [])) taps ≡ usage 6
+unfolding says
+copied_beside_olas = refl
+
+copied_after_a_chunk_size : says (copy (codes "c.laz") (codes "-chunk_size" ∷ codes "256" ∷ codes "-copy_chunks" ∷ [])) taps ≡ usage 7
+unfolding says
+copied_after_a_chunk_size = refl
 
 one_input_more : says (codes "lasmerge" ∷ inputs 33 ++ codes "-o" ∷ codes "a" ∷ []) taps ≡ usage 65
 unfolding says
@@ -190,7 +282,7 @@ abbrev making : (output packed : List ℕ) → List (List ℕ) → List (List �
 making output packed more = codes "make" ∷ codes "-o" ∷ output ∷ codes "-z" ∷ packed ∷ more
 
 made : says (making (codes "m.las") (codes "m.laz") (codes "-points" ∷ codes "200000" ∷ codes "-seed" ∷ codes "7" ∷ codes "-format" ∷ codes "3" ∷ codes "-extra" ∷ codes "2" ∷ codes "-cores" ∷ codes "4" ∷ [])) taps
-    ≡ asks (make (codes "m.las") (codes "m.laz") 200000 7 3 2 50000 4)
+    ≡ asks (makes (codes "m.las") (codes "m.laz") 200000 7 3 2 50000 4)
 unfolding says
 made = refl
 

@@ -5,5 +5,6 @@ pub mod Ranges
 pub mod Chosen
 pub mod PartNames
 mod Inputs
+mod Places
 mod Saying
 pub mod Examples

@@ -13,11 +13,13 @@ use Rattle.las_words.specs.Table.{tool_named}
 use Rattle.las_words.specs.Pieces.{cut}
 use Rattle.las_words.specs.Faults.{first_fault}
 use Rattle.las_words.specs.Settings.{place_of, is_given, text_of, texts_of, chunk_of, workers_of}
-use Rattle.las_words.specs.Names.{end_of, stem_of, is_part_name, same_name, unfit_parts, same_output, wrong_name}
-use Rattle.las_words.specs.Says.{Asked, asks, usage, says, said_to, said_unless, wrong_word, missing_option, asked_of, AreInputs, AreWorkers, IsChunkSize, IsSound}
+use Rattle.las_words.specs.Names.{end_of, stem_of, is_part_name, plain_copy, same_name, unfit_parts, same_output, wrong_name}
+use Rattle.las_words.specs.Asked.{AreInputs, AreWorkers, Asked, IsChunkSize, IsSound, IsSoundWork}
+use Rattle.las_words.specs.Says.{asks, usage, says, said_to, said_unless, wrong_word, missing_option, asked_of, work_of}
 use Rattle.las_words.proofs.Chosen.{or_false, or_none, tallies_distinct, tallies_there}
 use Rattle.las_words.proofs.Inputs.{IsNamed, cut_named, few_inputs, first_text, none_is, some_text, unequal}
 use Rattle.las_words.proofs.PartNames.{no_part}
+use Rattle.las_words.proofs.Places.{in_order}
 use Rattle.las_words.proofs.Ranges.{chunk_range, workers_range, points_range, seed_range, format_range, extra_range, rule_is, changes_have_classes}
 
 pub no_tool : (names words : List (List ℕ)) → tool_named (word_at words 0) ≡ None → says words names ≡ usage 0
@@ -126,25 +128,25 @@ outputs_differ words pieces missing name =
     let packed = text_of words (codes "-z") pieces in
     unequal packed output (other_name (bytes_eq packed output) (place_of words (codes "-z") pieces) both.1 name)
 
-sound_of : (names words : List (List ℕ)) (tool : Tool) (pieces : List Piece) → All (IsNamed tool words) pieces → Right names words tool pieces → IsSound names (asked_of tool words pieces)
-sound_of names words Laszip pieces flags r = (names_differ words pieces (are_named words pieces true r.missing r.name), chunk_size words pieces, workers words pieces)
+sound_of : (names words : List (List ℕ)) (tool : Tool) (pieces : List Piece) → All (IsNamed tool words) pieces → Right names words tool pieces → IsSoundWork names (work_of tool words pieces)
+sound_of names words Laszip pieces flags r = (names_differ words pieces (are_named words pieces true r.missing r.name), chunk_size words pieces)
 sound_of names words Las2las pieces flags r =
-    (names_differ words pieces (are_named words pieces true r.missing r.name), chunk_size words pieces, workers words pieces, changes_have_classes words pieces)
+    (names_differ words pieces (are_named words pieces true r.missing r.name), chunk_size words pieces, changes_have_classes words pieces, in_order names words pieces flags r.faults)
 sound_of names words Lasinfo pieces flags r =
-    (record { there = tallies_there names words pieces r.faults; distinct = tallies_distinct names words pieces r.faults }, workers words pieces)
+    record { there = tallies_there names words pieces r.faults; distinct = tallies_distinct names words pieces r.faults }
 sound_of names words Lassplit pieces flags r =
     let both = or_none (same_name words pieces) (unfit_parts words pieces) r.name in
-    (rule_is words pieces, workers words pieces, no_part_is_the_input words pieces (are_named words pieces _ r.missing both.0) both.1)
+    (rule_is words pieces, no_part_is_the_input words pieces (are_named words pieces _ r.missing both.0) both.1)
 sound_of names words Lasmerge pieces flags r =
-    (inputs_are names words pieces flags r.faults (are_named words pieces true r.missing r.name), chunk_size words pieces, workers words pieces)
+    let both = or_none (same_name words pieces) (plain_copy words pieces) r.name in
+    (inputs_are names words pieces flags r.faults (are_named words pieces true r.missing both.0), chunk_size words pieces)
 sound_of names words Make pieces flags r = (
   outputs_differ words pieces r.missing r.name,
   record { few = points_range words pieces; short = seed_range words pieces; known = format_range words pieces; small = extra_range words pieces },
   chunk_size words pieces,
-  workers words pieces,
 )
 
 pub sound : (names words : List (List ℕ)) (tool : Tool) (pieces : List Piece) (asked : Asked) → pieces ≡ cut tool 1 0 (drop 1 words) → wrong_word names tool words pieces ≡ None → asked ≡ asked_of tool words pieces → IsSound names asked
 sound names words tool pieces asked are is same =
     let flags = subst (λ (ps : List Piece). All (IsNamed tool words) ps) (sym are) (cut_named tool words 1 0 (drop 1 words) refl) in
-    subst (IsSound names) (sym same) (sound_of names words tool pieces flags (right names words tool pieces is))
+    subst (IsSound names) (sym same) (sound_of names words tool pieces flags (right names words tool pieces is), workers words pieces)

@@ -7,11 +7,13 @@ use Rattle.std.specs.Str.{bytes_eq}
 use Rattle.las_words.specs.declared.table.Values.{Values}
 use Rattle.las_words.specs.declared.table.Values.TheVariants.{Nothing, Name, Number, Bounds, Several, Signed, Tap}
 use Rattle.las_words.specs.declared.table.Flag.{Flag}
+use Rattle.las_words.specs.declared.table.Flag.TheVariants.{StartAtPoint, StopAtPoint}
 use Rattle.las_words.specs.declared.pieces.Piece.{Piece}
 use Rattle.las_words.specs.Texts.{word_at}
 use Rattle.las_words.specs.Numbers.{number_in, signed_in}
 use Rattle.las_words.specs.Counts.{count_of}
 use Rattle.las_words.specs.Table.{row_of, first_number, second_number}
+use Rattle.las_words.specs.Settings.{number_said, start_of, stop_of}
 use Rattle.las_words.specs.Tallies.{tallies_of}
 
 -- a word has the form of a value; a tap's name is one of these
@@ -50,13 +52,23 @@ follows_too_many words earlier flag =
     nat_lt (row_of flag).before
     (count_by (λ piece. list_any (bytes_eq (word_at words piece.at)) (row_of flag).rivals) earlier)
 
+-- the index of a place, of a range of records, that cannot stand beside the one before it: the start is above the stop
+abbrev pub crossed : List (List ℕ) → List Piece → Flag → (at : ℕ) → Option ℕ
+crossed words earlier StartAtPoint at =
+    if nat_lt (stop_of words earlier) (number_said StartAtPoint 0 (word_at words at)) then Some at else None
+crossed words earlier StopAtPoint at =
+    if nat_lt (number_said StopAtPoint 4294967295 (word_at words at)) (start_of words earlier) then Some at else None
+crossed words earlier _ at = None
+
 -- what is wrong with an option of a command, after the options before it, or with its values
 abbrev pub option_fault : (names : List (List ℕ)) → List (List ℕ) → List Piece → (at : ℕ) → Option Flag → Option ℕ
 option_fault names words earlier at None = Some at
 option_fault names words earlier at (Some flag) =
     if follows_too_many words earlier flag
     then Some at
-    else value_fault names (tallies_of words earlier) (row_of flag).values (at + 1) (drop (at + 1) words)
+    else
+    option_or (value_fault names (tallies_of words earlier) (row_of flag).values (at + 1) (drop (at + 1) words))
+    (crossed words earlier flag (at + 1))
 
 -- what is wrong with a word that should be an option, or with its values
 abbrev pub fault_of : (names : List (List ℕ)) → List (List ℕ) → List Piece → Piece → Option ℕ

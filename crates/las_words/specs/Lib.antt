@@ -8,4 +8,5 @@ pub mod Faults
 pub mod Settings
 pub mod Plans
 pub mod Names
+pub mod Asked
 pub mod Says

@@ -1,16 +1,16 @@
 -- The names that a command has, and which of them it may not have.
-use Rattle.std.specs.Prelude.{ℕ, ◌+◌, ◌-◌, Bool, ◌||◌, nat_eq, if◌then◌else◌, List, [], length, take, drop, codes}
-use Rattle.std.specs.Prelude.{Option, None}
+use Rattle.std.specs.Prelude.{ℕ, ◌+◌, ◌-◌, Bool, not, ◌&&◌, ◌||◌, nat_eq, if◌then◌else◌, List, [], length, take}
+use Rattle.std.specs.Prelude.{Option, None, codes, drop}
 use Rattle.std.specs.Option.{option_map, option_or}
 use Rattle.std.specs.List.{ends_with, list_any}
 use Rattle.std.specs.Str.{bytes_eq}
 use Rattle.las_filter.specs.Parts.{part_name}
 use Rattle.las_words.specs.declared.table.Tool.{Tool}
-use Rattle.las_words.specs.declared.table.Tool.TheVariants.{Lassplit, Make}
+use Rattle.las_words.specs.declared.table.Tool.TheVariants.{Lasmerge, Lassplit, Make}
 use Rattle.las_words.specs.declared.pieces.Piece.{Piece}
 use Rattle.las_words.specs.Texts.{is_packed_name}
 use Rattle.las_words.specs.Numbers.{number_or_zero}
-use Rattle.las_words.specs.Settings.{place_of, text_of, texts_of}
+use Rattle.las_words.specs.Settings.{is_given, place_of, text_of, texts_of}
 
 -- the ending that parts have by the name of the output
 abbrev pub end_of : List ℕ → List ℕ
@@ -58,8 +58,17 @@ same_output words pieces =
     then name_after words (codes "-z") pieces
     else None
 
+-- the index of the output's name, if chunks are copied into it and it is that of a plain file
+abbrev pub plain_copy : List (List ℕ) → List Piece → Option ℕ
+plain_copy words pieces =
+    if is_given words (codes "-copy_chunks") pieces
+    && (not (is_given words (codes "-olaz") pieces) && not (is_packed_name (text_of words (codes "-o") pieces)))
+    then name_after words (codes "-o") pieces
+    else None
+
 -- the index of the name that a command may not have
 abbrev pub wrong_name : Tool → List (List ℕ) → List Piece → Option ℕ
 wrong_name Lassplit words pieces = option_or (same_name words pieces) (unfit_parts words pieces)
+wrong_name Lasmerge words pieces = option_or (same_name words pieces) (plain_copy words pieces)
 wrong_name Make words pieces = same_output words pieces
 wrong_name _ words pieces = same_name words pieces

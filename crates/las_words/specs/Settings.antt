@@ -8,6 +8,7 @@ use Rattle.las_filter.specs.declared.rule.Rule.{Rule}
 use Rattle.las_filter.specs.declared.rule.Rule.TheVariants.{Every, Class, Source, Return}
 use Rattle.las_words.specs.declared.table.Flag.{Flag}
 use Rattle.las_words.specs.declared.table.Flag.TheVariants.{ChunkSize, Cores, Split, Format, Extra}
+use Rattle.las_words.specs.declared.table.Flag.TheVariants.{StartAtPoint, StopAtPoint}
 use Rattle.las_words.specs.declared.table.Values.{Values}
 use Rattle.las_words.specs.declared.table.Values.TheVariants.{Number}
 use Rattle.las_words.specs.declared.pieces.Piece.{Piece}
@@ -42,10 +43,13 @@ abbrev pub number_for : Values → List ℕ → Option ℕ
 number_for (Number low high) word = number_in low high word
 number_for _ word = None
 
+-- the number that a value of an option is, or the one that stands for it if it is none
+abbrev pub number_said : Flag → ℕ → List ℕ → ℕ
+number_said flag default word = unwrap_or (number_for (row_of flag).values word) default
+
 -- the number that an option says, or the one that stands for it if it is not given
 abbrev pub number_of : List (List ℕ) → Flag → ℕ → List Piece → ℕ
-number_of words flag default pieces =
-    unwrap_or (number_for (row_of flag).values (text_of words (row_of flag).name pieces)) default
+number_of words flag default pieces = number_said flag default (text_of words (row_of flag).name pieces)
 
 -- the number of records of a chunk, 50,000 unless it is given
 abbrev pub chunk_of : List (List ℕ) → List Piece → ℕ
@@ -54,6 +58,14 @@ chunk_of words pieces = number_of words ChunkSize 50000 pieces
 -- the number of workers, one unless it is given
 abbrev pub workers_of : List (List ℕ) → List Piece → ℕ
 workers_of words pieces = number_of words Cores 1 pieces
+
+-- the place of the first record that is taken, 0 unless it is given
+abbrev pub start_of : List (List ℕ) → List Piece → ℕ
+start_of words pieces = number_of words StartAtPoint 0 pieces
+
+-- the place of the first one after it that is not taken, the greatest unless it is given
+abbrev pub stop_of : List (List ℕ) → List Piece → ℕ
+stop_of words pieces = number_of words StopAtPoint 4294967295 pieces
 
 -- the point data format, 0 unless it is given
 abbrev pub format_of : List (List ℕ) → List Piece → ℕ

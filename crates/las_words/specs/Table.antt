@@ -1,5 +1,5 @@
 -- The commands and their options, as data: those of LAStools, and `make`.
-use Rattle.std.specs.Prelude.{ℕ, ℤ, pos, ◌^◌, bit_or, List, [], ◌∷◌, codes, fold, find, take, Option}
+use Rattle.std.specs.Prelude.{ℕ, ℤ, pos, ◌^◌, bit_or, List, [], ◌∷◌, ◌++◌, codes, fold, find, take, Option}
 use Rattle.std.specs.Prelude.{unwrap_or}
 use Rattle.std.specs.Str.{bytes_eq}
 use Rattle.las_filter.specs.declared.keep.Keep.{Keep}
@@ -13,7 +13,7 @@ use Rattle.las_words.specs.declared.table.Values.{Values}
 use Rattle.las_words.specs.declared.table.Values.TheVariants.{Nothing, Name, Number, Bounds, Several, Signed, Tap}
 use Rattle.las_words.specs.declared.table.Flag.{Flag}
 use Rattle.las_words.specs.declared.table.Flag.TheVariants.{Input, Inputs, Output, ChunkSize, Cores, Olas, Olaz}
-use Rattle.las_words.specs.declared.table.Flag.TheVariants.{KeepClass, DropClass}
+use Rattle.las_words.specs.declared.table.Flag.TheVariants.{CopyChunks, StartAtPoint, StopAtPoint, KeepClass, DropClass}
 use Rattle.las_words.specs.declared.table.Flag.TheVariants.{KeepReturn, DropReturn, KeepFirst, KeepLast, KeepIntensity}
 use Rattle.las_words.specs.declared.table.Flag.TheVariants.{DropIntensityBelow, DropIntensityAbove, TranslateRawXyz}
 use Rattle.las_words.specs.declared.table.Flag.TheVariants.{TranslateRawX, TranslateRawY, TranslateRawZ}
@@ -46,13 +46,17 @@ pub record Row : Type 0 where
 abbrev pub once : List ℕ → Values → Meaning → Row
 once name values means = record { name = name; values = values; rivals = name ∷ []; before = 0; means = means }
 
--- an option of which only one is given, once: how the output is written, or how a file is split
+-- an option that is given once, and none of its rivals beside it: how the output is written, or how a file is split
 abbrev pub one_of : List (List ℕ) → List ℕ → Values → Row
 one_of rivals name values = record { name = name; values = values; rivals = rivals; before = 0; means = Setting }
 
 -- how the output is written
 abbrev pub forms : List (List ℕ)
 forms = codes "-olas" ∷ codes "-olaz" ∷ []
+
+-- that chunks are copied
+abbrev pub copying : List (List ℕ)
+copying = codes "-copy_chunks" ∷ []
 
 -- the ways to split a file
 abbrev pub ways : List (List ℕ)
@@ -80,10 +84,13 @@ row_of Input = once (codes "-i") Name Setting
 row_of Inputs =
     record { name = codes "-i"; values = Name; rivals = codes "-i" ∷ []; before = 31; means = Setting }
 row_of Output = once (codes "-o") Name Setting
-row_of ChunkSize = once (codes "-chunk_size") (Number 256 250000) Setting
+row_of ChunkSize = one_of (codes "-chunk_size" ∷ copying) (codes "-chunk_size") (Number 256 250000)
 row_of Cores = once (codes "-cores") (Number 1 8) Setting
-row_of Olas = one_of forms (codes "-olas") Nothing
+row_of Olas = one_of (forms ++ copying) (codes "-olas") Nothing
 row_of Olaz = one_of forms (codes "-olaz") Nothing
+row_of CopyChunks = one_of (copying ++ codes "-olas" ∷ codes "-chunk_size" ∷ []) (codes "-copy_chunks") Nothing
+row_of StartAtPoint = once (codes "-start_at_point") (Number 0 4294967295) Setting
+row_of StopAtPoint = once (codes "-stop_at_point") (Number 0 4294967295) Setting
 row_of KeepClass = once (codes "-keep_class") (Several 31) (Filters (λ words. Classes (mask_of 31 words)))
 row_of DropClass = once (codes "-drop_class") (Several 31) (Filters (λ words. DropClasses (mask_of 31 words)))
 row_of KeepReturn = once (codes "-keep_return") (Several 7) (Filters (λ words. Returns (mask_of 7 words)))
@@ -139,7 +146,7 @@ command_row Laszip =
 command_row Las2las = record {
   name = codes "las2las";
   options =
-      Input ∷ Output ∷ ChunkSize ∷ Cores ∷ Olas ∷ Olaz
+      Input ∷ Output ∷ ChunkSize ∷ Cores ∷ Olas ∷ Olaz ∷ StartAtPoint ∷ StopAtPoint
       ∷ KeepClass ∷ DropClass ∷ KeepReturn ∷ DropReturn ∷ KeepFirst ∷ KeepLast
       ∷ KeepIntensity ∷ DropIntensityBelow ∷ DropIntensityAbove
       ∷ TranslateRawXyz ∷ TranslateRawX ∷ TranslateRawY ∷ TranslateRawZ
@@ -155,7 +162,7 @@ command_row Lassplit = record {
 }
 command_row Lasmerge = record {
   name = codes "lasmerge";
-  options = Inputs ∷ Output ∷ Olas ∷ Olaz ∷ ChunkSize ∷ Cores ∷ [];
+  options = Inputs ∷ Output ∷ Olas ∷ Olaz ∷ CopyChunks ∷ ChunkSize ∷ Cores ∷ [];
   required = input_and_output;
 }
 command_row Make = record {

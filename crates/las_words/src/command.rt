@@ -41,6 +41,10 @@ pub enum Command {
         packing: Packing,
         /// The number of workers, 1 to 8.
         workers: u32,
+        /// The place of the first record that is taken, from 0. It may be past the end.
+        start: u32,
+        /// The place of the first record after it that is not taken, `start` or above. It may be past the end.
+        stop: u32,
     },
     /// Reports what is in a file.
     Lasinfo {
@@ -74,6 +78,9 @@ pub enum Command {
         packing: Packing,
         /// The number of workers, 1 to 8.
         workers: u32,
+        /// Whether the chunks of packed inputs are copied as they stand. The output is packed then, in the chunks that
+        /// the inputs have, and the chunk size and the number of workers have no effect.
+        copy: bool,
     },
     /// Makes a plain file and a packed one of points that are drawn by a seed.
     Make {

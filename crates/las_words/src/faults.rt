@@ -6,10 +6,11 @@ ghost use Rattle.std.specs.Str.{bytes_eq};
 ghost use Rattle.las_words.specs.Texts.{texts};
 ghost use Rattle.las_words.specs.Tallies.{tallies_of};
 ghost use Rattle.las_words.specs.Faults.{fits, first_wrong, misplaced, value_fault, follows_too_many};
-ghost use Rattle.las_words.specs.Faults.{fault_of, first_fault};
+ghost use Rattle.las_words.specs.Faults.{crossed, fault_of, first_fault};
 
 use crate::numbers::{number_in, number_or_zero, signed_in};
 use crate::pieces::{Piece, count_of, words_from};
+use crate::settings::{number_said, start_of, stop_of};
 use crate::table::{Flag, Values};
 use crate::tallies::is_tallied;
 use crate::texts::word;
@@ -41,7 +42,30 @@ fn fault_of(names: &[String], words: &[String], earlier: &[Piece], piece: &Piece
     if follows_too_many(words, earlier, flag) {
         return Some(piece.at);
     }
-    value_fault(names, words, earlier, flag.values(), piece.at + 1)
+    let wrong = value_fault(names, words, earlier, flag.values(), piece.at + 1);
+    if wrong.is_some() {
+        return wrong;
+    }
+    crossed(words, earlier, flag, piece.at + 1)
+}
+
+// The index of a place of a range of records that cannot stand beside the one before it: the start is above the stop.
+fn crossed(words: &[String], earlier: &[Piece], flag: Flag, at: usize) -> Option<usize>
+    requires { All (λ piece. piece.at < length words.now) earlier.now }
+    ensures { result ≡ crossed (texts words.now) earlier.now flag at }
+{
+    let (start, stop) = match flag {
+        Flag::StartAtPoint => (
+            number_said(flag, 0, word(words, at)),
+            stop_of(words, earlier),
+        ),
+        Flag::StopAtPoint => (
+            start_of(words, earlier),
+            number_said(flag, u32::MAX, word(words, at)),
+        ),
+        _ => return None,
+    };
+    if stop < start { Some(at) } else { None }
 }
 
 // Whether an option stands after more of its rivals than it may.

@@ -3,11 +3,11 @@
 ghost use Rattle.std.specs.Prelude.{◌≡◌, ◌<◌, length, All, IfOk};
 ghost use Rattle.las_words.specs.Texts.{texts};
 ghost use Rattle.las_words.specs.Names.{end_of, stem_of, number_within, is_part_name, name_after, same_name};
-ghost use Rattle.las_words.specs.Names.{unfit_parts, same_output, wrong_name};
+ghost use Rattle.las_words.specs.Names.{plain_copy, unfit_parts, same_output, wrong_name};
 
 use crate::numbers::number_or_zero;
 use crate::pieces::Piece;
-use crate::settings::{is_value, place_of, text_of};
+use crate::settings::{is_given, is_value, place_of, text_of};
 use crate::table::Tool;
 use crate::texts::is_packed_name;
 use las_filter::part_name;
@@ -110,6 +110,21 @@ fn same_output(words: &[String], pieces: &[Piece]) -> Option<usize>
     }
 }
 
+// The index of the output's name, if chunks are copied into it and it is that of a plain file.
+fn plain_copy(words: &[String], pieces: &[Piece]) -> Option<usize>
+    requires { All (λ piece. piece.at < length words.now) pieces.now }
+    ensures { result ≡ plain_copy (texts words.now) pieces.now }
+{
+    if is_given(words, "-copy_chunks", pieces)
+        && !is_given(words, "-olaz", pieces)
+        && !is_packed_name(text_of(words, "-o", pieces))
+    {
+        name_after(words, "-o", pieces)
+    } else {
+        None
+    }
+}
+
 /// The index of the name that a command may not have.
 pub fn wrong_name(
     alloc: Global,
@@ -127,6 +142,13 @@ pub fn wrong_name(
                 return Ok(same);
             }
             unfit_parts(alloc, words, pieces)
+        }
+        Tool::Lasmerge => {
+            let same = same_name(words, pieces);
+            if same.is_some() {
+                return Ok(same);
+            }
+            Ok(plain_copy(words, pieces))
         }
         Tool::Make => Ok(same_output(words, pieces)),
         _ => Ok(same_name(words, pieces)),

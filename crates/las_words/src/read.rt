@@ -8,7 +8,8 @@ ghost use Rattle.las_words.specs.Texts.{texts};
 ghost use Rattle.las_words.specs.Settings.{is_given};
 ghost use Rattle.las_words.specs.Table.{ways};
 ghost use Rattle.las_words.specs.Plans.{plan_of};
-ghost use Rattle.las_words.specs.Says.{says, asks, usage, asked_by, asked_of, IsSound, missing_option};
+ghost use Rattle.las_words.specs.Asked.{asked_by, IsSound};
+ghost use Rattle.las_words.specs.Says.{says, asks, usage, asked_of, missing_option};
 ghost use Rattle.las_words.specs.Says.{is_packed, wrong_word};
 ghost use Rattle.las_words.specs.declared.table.Tool.TheVariants.{Laszip, Las2las, Lasinfo, Lassplit, Lasmerge, Make};
 
@@ -18,7 +19,8 @@ use crate::names::{end_of, stem_of, wrong_name};
 use crate::pieces::{Piece, pieces};
 use crate::plan::{changes_of, filters_of};
 use crate::settings::{
-    chunk_of, extra_of, format_of, is_given, number_of, rule_of, text_of, texts_of, workers_of,
+    chunk_of, extra_of, format_of, is_given, number_of, rule_of, start_of, stop_of, text_of,
+    texts_of, workers_of,
 };
 use crate::table::{Flag, Tool};
 use crate::tallies::tallies_of;
@@ -184,6 +186,8 @@ fn las2las_of(alloc: Global, words: &[String], pieces: &[Piece]) -> Result<Comma
             chunk: chunk_of(words, pieces),
         },
         workers: workers_of(words, pieces),
+        start: start_of(words, pieces),
+        stop: stop_of(words, pieces),
     })
 }
 
@@ -227,6 +231,7 @@ fn lasmerge_of(alloc: Global, words: &[String], pieces: &[Piece]) -> Result<Comm
             chunk: chunk_of(words, pieces),
         },
         workers: workers_of(words, pieces),
+        copy: is_given(words, "-copy_chunks", pieces),
     })
 }
 

@@ -5,8 +5,8 @@ ghost use Rattle.std.specs.List.{list_any};
 ghost use Rattle.std.specs.Str.{bytes_eq};
 ghost use Rattle.las_words.specs.Texts.{texts};
 ghost use Rattle.las_words.specs.Table.{row_of};
-ghost use Rattle.las_words.specs.Settings.{place_of, is_given, text_of, texts_of, number_of};
-ghost use Rattle.las_words.specs.Settings.{chunk_of, workers_of, format_of, extra_of, rule_of};
+ghost use Rattle.las_words.specs.Settings.{place_of, is_given, text_of, texts_of, number_of, number_said};
+ghost use Rattle.las_words.specs.Settings.{chunk_of, workers_of, start_of, stop_of, format_of, extra_of, rule_of};
 
 use crate::numbers::number_in;
 use crate::pieces::Piece;
@@ -85,10 +85,33 @@ pub fn number_of(words: &[String], flag: Flag, default: u32, pieces: &[Piece]) -
     requires { All (λ piece. piece.at < length words.now) pieces.now }
     ensures { result ≡ number_of (texts words.now) flag default pieces.now }
 {
+    number_said(flag, default, text_of(words, flag.name(), pieces))
+}
+
+/// The number that a value of an option is, or a default if it is none.
+pub fn number_said(flag: Flag, default: u32, word: &str) -> u32
+    ensures { result ≡ number_said flag default word.now }
+{
     let Values::Number(low, high) = flag.values() else {
         return default;
     };
-    number_in(text_of(words, flag.name(), pieces), low, high).unwrap_or(default)
+    number_in(word, low, high).unwrap_or(default)
+}
+
+/// The place of the first record that is taken.
+pub fn start_of(words: &[String], pieces: &[Piece]) -> u32
+    requires { All (λ piece. piece.at < length words.now) pieces.now }
+    ensures { result ≡ start_of (texts words.now) pieces.now }
+{
+    number_of(words, Flag::StartAtPoint, 0, pieces)
+}
+
+/// The place of the first record after it that is not taken.
+pub fn stop_of(words: &[String], pieces: &[Piece]) -> u32
+    requires { All (λ piece. piece.at < length words.now) pieces.now }
+    ensures { result ≡ stop_of (texts words.now) pieces.now }
+{
+    number_of(words, Flag::StopAtPoint, u32::MAX, pieces)
 }
 
 /// The number of records of a chunk.

@@ -27,6 +27,9 @@ pub enum Flag {
     Cores,
     Olas,
     Olaz,
+    CopyChunks,
+    StartAtPoint,
+    StopAtPoint,
     KeepClass,
     DropClass,
     KeepReturn,
@@ -80,13 +83,15 @@ const MAX_INPUTS: usize = 32;
 
 const LASZIP: [Flag; 4] = [Flag::Input, Flag::Output, Flag::ChunkSize, Flag::Cores];
 
-const LAS2LAS: [Flag; 22] = [
+const LAS2LAS: [Flag; 24] = [
     Flag::Input,
     Flag::Output,
     Flag::ChunkSize,
     Flag::Cores,
     Flag::Olas,
     Flag::Olaz,
+    Flag::StartAtPoint,
+    Flag::StopAtPoint,
     Flag::KeepClass,
     Flag::DropClass,
     Flag::KeepReturn,
@@ -117,11 +122,12 @@ const LASSPLIT: [Flag; 7] = [
     Flag::Cores,
 ];
 
-const LASMERGE: [Flag; 6] = [
+const LASMERGE: [Flag; 7] = [
     Flag::Inputs,
     Flag::Output,
     Flag::Olas,
     Flag::Olaz,
+    Flag::CopyChunks,
     Flag::ChunkSize,
     Flag::Cores,
 ];
@@ -196,6 +202,9 @@ impl Flag {
             Flag::Cores => "-cores",
             Flag::Olas => "-olas",
             Flag::Olaz => "-olaz",
+            Flag::CopyChunks => "-copy_chunks",
+            Flag::StartAtPoint => "-start_at_point",
+            Flag::StopAtPoint => "-stop_at_point",
             Flag::KeepClass => "-keep_class",
             Flag::DropClass => "-drop_class",
             Flag::KeepReturn => "-keep_return",
@@ -233,7 +242,9 @@ impl Flag {
             Flag::Input | Flag::Inputs | Flag::Output | Flag::PackedOutput => Values::Name,
             Flag::ChunkSize => Values::Number(256, 250_000),
             Flag::Cores => Values::Number(1, 8),
-            Flag::Olas | Flag::Olaz | Flag::KeepFirst | Flag::KeepLast => Values::Nothing,
+            Flag::Olas | Flag::Olaz | Flag::CopyChunks => Values::Nothing,
+            Flag::KeepFirst | Flag::KeepLast => Values::Nothing,
+            Flag::StartAtPoint | Flag::StopAtPoint => Values::Number(0, u32::MAX),
             Flag::ByClassification | Flag::ByFlightline | Flag::ByReturn => Values::Nothing,
             Flag::KeepClass | Flag::DropClass => Values::Several(31),
             Flag::KeepReturn | Flag::DropReturn => Values::Several(7),
@@ -259,7 +270,12 @@ impl Flag {
         ensures { result ≡ list_any (bytes_eq name.now) (row_of self).rivals }
     {
         match self {
-            Flag::Olas | Flag::Olaz => name == "-olas" || name == "-olaz",
+            Flag::ChunkSize => name == "-chunk_size" || name == "-copy_chunks",
+            Flag::Olas => name == "-olas" || name == "-olaz" || name == "-copy_chunks",
+            Flag::Olaz => name == "-olas" || name == "-olaz",
+            Flag::CopyChunks => {
+                name == "-copy_chunks" || name == "-olas" || name == "-chunk_size"
+            }
             Flag::Split | Flag::ByClassification | Flag::ByFlightline | Flag::ByReturn => {
                 is_way(name)
             }

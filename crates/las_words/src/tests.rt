@@ -156,6 +156,22 @@ las2las -i a -o b -set_user_data 1 -translate_raw_x 2 = las2las a b [] [SetUser(
 las2las -i a -o b -translate_raw_x 2 -set_user_data 1 = las2las a b [] [Translate(2, 0, 0), SetUser(1)] plain 50000 1
 las2las -i a -o b -keep_last -keep_class 2 -keep_first = las2las a b [Last, Classes(4), First] [] plain 50000 1
 las2las -keep_class 2 5 -i a -drop_return 1 -o b = las2las a b [Classes(36), DropReturns(2)] [] plain 50000 1
+las2las -i a -o b -start_at_point 5 -stop_at_point 4 = usage 8
+las2las -i a -o b -stop_at_point 4 -start_at_point 5 = usage 8
+las2las -stop_at_point 4 -keep_first -start_at_point 5 = usage 5
+las2las -start_at_point 4294967296 = usage 2
+las2las -stop_at_point -1 = usage 2
+las2las -start_at_point = usage 2
+las2las -start_at_point 1 -start_at_point 0 = usage 3
+las2las -start_at_point 5 -stop_at_point x = usage 4
+las2las -start_at_point 5 -stop_at_point 4 -keep_class 32 = usage 4
+las2las -i a -o b -start_at_point 5 = las2las a b [] [] plain 50000 1 5 4294967295
+las2las -i a -o b -start_at_point 5 -stop_at_point 5 = las2las a b [] [] plain 50000 1 5 5
+las2las -start_at_point 4294967295 -i a -o b = las2las a b [] [] plain 50000 1 4294967295 4294967295
+las2las -i a -stop_at_point 0 -o b -start_at_point 0 = las2las a b [] [] plain 50000 1 0 0
+las2las -i a -o b.laz -stop_at_point 07 -keep_last -cores 2 = las2las a b.laz [Last] [] packed 50000 2 0 7
+laszip -i a -o b -stop_at_point 1 = usage 5
+lasinfo -i a -start_at_point 1 = usage 3
 lasinfo = usage 1
 lasinfo -i a -o b = usage 3
 lasinfo -i a -chunk_size 256 = usage 3
@@ -262,6 +278,19 @@ lasmerge -i b.laz -o c.laz -i a = lasmerge [b.laz, a] c.laz packed 50000 1
 lasmerge -i a -o c.LAZ -olas = lasmerge [a] c.LAZ plain 50000 1
 lasmerge -olaz -i b -i a -o c -chunk_size 300 -cores 3 = lasmerge [b, a] c packed 300 3
 lasmerge -i -i -i -o -o -olaz = lasmerge [-i, -o] -olaz plain 50000 1
+lasmerge -i a.laz -o c.laz -copy_chunks = lasmerge [a.laz] c.laz packed 50000 copied 1
+lasmerge -copy_chunks -olaz -i a -o c.las -cores 8 = lasmerge [a] c.las packed 50000 copied 8
+lasmerge -i a.laz -o c.las -copy_chunks = usage 4
+lasmerge -o c -i a -copy_chunks = usage 2
+lasmerge -i c.las -o c.las -copy_chunks = usage 4
+lasmerge -copy_chunks -i a -o c.laz -copy_chunks = usage 6
+lasmerge -copy_chunks -olas -i a -o c.laz = usage 2
+lasmerge -olas -i a -o c.laz -copy_chunks = usage 6
+lasmerge -copy_chunks -chunk_size 256 = usage 2
+lasmerge -chunk_size 256 -copy_chunks = usage 3
+lasmerge -copy_chunks 1 = usage 2
+lasmerge -o c.las -copy_chunks = usage 4
+las2las -copy_chunks = usage 1
 make = usage 1
 make -o a -z b -points 1 = usage 7
 make -o a -z b -seed 1 = usage 7
@@ -306,7 +335,7 @@ fn lines_are_read(rt: HostRuntime) -> Result<(), Fail> {
         assert_eq!(rt; answer(rt.alloc(), &words, &taps)?.as_str(), said, "{line}");
         count = count.saturating_add(1);
     }
-    assert_eq!(rt; count, 281);
+    assert_eq!(rt; count, 310);
     Ok(())
 }
 
@@ -353,11 +382,16 @@ fn line_of(alloc: Global, command: Command) -> Result<String, AllocError> {
             plan,
             packing,
             workers,
+            start,
+            stop,
         } => {
             let packing = packing_in(alloc, packing)?;
+            let range = range_in(alloc, start, stop)?;
             let keeps = plan.keeps;
             let changes = plan.changes;
-            format!(in alloc; "las2las {input} {output} {keeps:?} {changes:?} {packing} {workers}")
+            format!(in alloc;
+                "las2las {input} {output} {keeps:?} {changes:?} {packing} {workers}{range}"
+            )
         }
         Command::Lasinfo {
             input,
@@ -386,10 +420,12 @@ fn line_of_other(alloc: Global, command: Command) -> Result<String, AllocError> 
             output,
             packing,
             workers,
+            copy,
         } => {
             let names = joined(alloc, &inputs)?;
             let packing = packing_in(alloc, packing)?;
-            format!(in alloc; "lasmerge {names} {output} {packing} {workers}")
+            let copied = if copy { " copied" } else { "" };
+            format!(in alloc; "lasmerge {names} {output} {packing}{copied} {workers}")
         }
         Command::Make {
             output,
@@ -412,6 +448,14 @@ fn packing_in(alloc: Global, packing: Packing) -> Result<String, AllocError> {
     let form = if packing.packed { "packed" } else { "plain" };
     let chunk = packing.chunk;
     format!(in alloc; "{form} {chunk}")
+}
+
+// The places of a range of records after blanks, unless it is the whole.
+fn range_in(alloc: Global, start: u32, stop: u32) -> Result<String, AllocError> {
+    if start == 0 && stop == u32::MAX {
+        return Ok(String::new(alloc));
+    }
+    format!(in alloc; " {start} {stop}")
 }
 
 // Names in brackets.

@@ -2,6 +2,8 @@
 #![tactic(auto)]
 
 #[cfg(test)]
+mod copied_rows;
+#[cfg(test)]
 mod faults;
 #[cfg(test)]
 mod fixtures;
@@ -13,6 +15,8 @@ mod laszip_rows;
 mod meeting;
 #[cfg(test)]
 mod own_tap;
+#[cfg(test)]
+mod range_rows;
 #[cfg(test)]
 mod tool_faults;
 #[cfg(test)]

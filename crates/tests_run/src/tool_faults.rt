@@ -208,6 +208,18 @@ fn calls_of_merging_fail(rt: HostRuntime) -> Result<(), Fail> {
     Ok(())
 }
 
+// The output is created, and gets a head, a pointer, the chunks of each input in one piece, and a table.
+#[test]
+fn calls_of_copying_fail(rt: HostRuntime) -> Result<(), Fail> {
+    let words = "lasmerge -i c -i c -o b.laz -copy_chunks";
+    let trial = Trial::new(&rt, words, ["b.laz", "d"], "b.laz d", false)?;
+    assert_eq!(rt; trial.outputs.len(), 1);
+    let reads = trial.calls(&rt, Failing::Read, "read fault: c\n", "read fault: c\n")?;
+    assert!(rt; reads > 8, "{reads}");
+    assert_eq!(rt; writes(&rt, &trial)?, 6);
+    Ok(())
+}
+
 // Standard output fails: the files are complete.
 #[test]
 fn standard_output_fails(rt: HostRuntime) -> Result<(), Fail> {

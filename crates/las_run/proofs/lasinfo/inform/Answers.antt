@@ -1,4 +1,4 @@
-use Rattle.std.proofs.Common.{◌≡◌, ◌^◌, ◌≤◌, ℕ, List, Option, None, Err, map, refl, subst, sym, ap, ◌∙◌}
+use Rattle.std.proofs.Common.{◌≡◌, ◌^◌, ◌≤◌, ℕ, List, length, Option, None, Err, map, refl, subst, sym, ap, ◌∙◌}
 use Rattle.std.specs.Prelude.{string_bytes}
 use Rattle.std.specs.List.{concat, flat_map}
 use Rattle.std.specs.Option.{option_map}
@@ -51,10 +51,10 @@ returns-in-Ok-survey-clause-ends g c =
     let chunks = c.chunks_of-chunks.result in
     let head : c.head.result.now.bytes ≡ reader.head.bytes = ap (λ h. h.bytes) (c.head.ensures ∙ h.head) in
     let text = report_text c.head.result.now.bytes chunks survey.summary lines in
-    let is : text ≡ survey_text taps tallies reader reader.head.bytes reader.chunk reader.chunks survey =
+    let is : text ≡ survey_text taps tallies reader reader.head.bytes reader.chunk (length reader.pieces) survey =
     ap (λ (b : List ℕ). report_text b chunks survey.summary lines) head
     ∙ ap (λ (n : Option (ℕ × ℕ)). report_text reader.head.bytes n survey.summary lines) c.chunks_of-chunks.ensures
-    ∙ ap (report_text reader.head.bytes (option_map {U = ℕ × ℕ} (λ (n : ℕ). (n, reader.chunks)) reader.chunk) survey.summary)
+    ∙ ap (report_text reader.head.bytes (option_map {U = ℕ × ℕ} (λ (n : ℕ). (n, length reader.pieces)) reader.chunk) survey.summary)
     (lines_seen (λ tap. (goal.Tap-dyn g (tap.vtable, tap.value)).tap_seen tap.value) items) in
     let surveyed = subst (λ (ts : List TapSeen). WhereKnown change.files.held reader.name (λ file. (blocks : List (List ℕ)) × AreOnlyRecords file blocks None
     × IsShown ts (records_after (head_of file) (concat blocks)) survey))

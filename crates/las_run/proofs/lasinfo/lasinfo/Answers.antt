@@ -1,12 +1,13 @@
 use Rattle.std.proofs.Common.{◌≡◌, List, ℕ, map, subst, ◌∙◌}
 use Rattle.std.proofs.lemmas.Result.{err_from_is_err_and}
-use Rattle.las_words.specs.Says.{Asked, lasinfo}
+use Rattle.las_words.specs.Asked.{Asked, lasinfo, reads}
 use Rattle.las_words.specs.Texts.{texts}
 use Rattle.laz_file.specs.Reading.{StandsFor}
 use Rattle.laz_file.specs.Refusing.{IsAcceptedFile}
 use Rattle.las_run.specs.Ends.{Change, EndsPutting}
+use Rattle.las_run.specs.Runs.{task_with}
 use Rattle.las_run.specs.Tools.{Reports}
-use Rattle.las_run.proofs.Commands.{lasinfo_reads, task_with}
+use Rattle.las_run.proofs.Commands.{reads_one}
 use Rattle.las_run.proofs.Opening.{ends_opening, ends_putting, known_more, putting_after}
 use Rattle.las_run.proofs.lasinfo.lasinfo.Goals as goal
 
@@ -15,8 +16,8 @@ returns-in_err-reader-clause-ends g c =
     let p = err_from_is_err_and c.from_residual.result c.from_residual.ensures.1 in
     let h = c.in_err-reader.ensures in
     let taps = map (λ tap. (goal.Tap-dyn g (tap.vtable, tap.value)).tap_seen tap.value) c.args.taps.items in
-    let asked : Asked = lasinfo c.args.input.now (texts c.args.tallies.now) c.args.workers in
-    rw (p.1, p.2) (ends_opening (task_with taps asked) c.args.input.now (Reports taps c.args.input.now (texts c.args.tallies.now)) (lasinfo_reads taps c.args.input.now (texts c.args.tallies.now) c.args.workers) (g.F.Files.seen c.args.files.now) (g.F.Files.seen c.open_input.new.files) (g.O.Sink.seen c.args.out.now) c.in_err-reader.field-0.0 h.stops h.held)
+    let asked : Asked = record { work = reads c.args.input.now (lasinfo (record { tallies = texts c.args.tallies.now })); workers = c.args.workers } in
+    rw (p.1, p.2) (ends_opening (task_with taps asked) c.args.input.now (Reports taps c.args.input.now (texts c.args.tallies.now)) (reads_one taps c.args.input.now (lasinfo (record { tallies = texts c.args.tallies.now })) c.args.workers) (g.F.Files.seen c.args.files.now) (g.F.Files.seen c.open_input.new.files) (g.O.Sink.seen c.args.out.now) c.in_err-reader.field-0.0 h.stops h.held)
 
 pub returns-clause-ends : goal.returns-clause-ends
 returns-clause-ends g c =
@@ -30,10 +31,10 @@ returns-clause-ends g c =
     let input = c.args.input.now in
     let tallies = texts c.args.tallies.now in
     let taps = map (λ tap. (goal.Tap-dyn g (tap.vtable, tap.value)).tap_seen tap.value) c.args.taps.items in
-    let asked : Asked = lasinfo input tallies c.args.workers in
+    let asked : Asked = record { work = reads input (lasinfo (record { tallies = tallies })); workers = c.args.workers } in
     let named : r.name ≡ input = h.fresh.named in
     let change : Change = record { files = old; files_now = new; out = out; out_now = out_now } in
     let made = subst (λ (n : List ℕ). EndsPutting (Reports taps n tallies) n (record { files = mid; files_now = new; out = out; out_now = out_now }) c.inform.result) named c.inform.ensures.ends in
     let ends = putting_after (Reports taps input tallies) input old mid new out out_now h.held h.faults c.inform.result made in
     let accepted = known_more old.held input (StandsFor r) IsAcceptedFile (λ file s. s.accepted) h.stands in
-    ends_putting (task_with taps asked) input (Reports taps input (texts c.args.tallies.now)) (lasinfo_reads taps input (texts c.args.tallies.now) c.args.workers) change accepted (c.inform.ensures.held ∙ h.held) c.inform.result ends
+    ends_putting (task_with taps asked) input (Reports taps input (texts c.args.tallies.now)) (reads_one taps input (lasinfo (record { tallies = texts c.args.tallies.now })) c.args.workers) change accepted (c.inform.ensures.held ∙ h.held) c.inform.result ends

@@ -1,37 +1,20 @@
-use Rattle.std.proofs.Common.{◌≡◌, ℕ, ◌<◌, Bool, Result, string_bytes, sym, ◌∙◌, ap, subst}
-use Rattle.std.proofs.lemmas.List.{length-map}
-use Rattle.las_words.specs.Says.{asks, lasmerge}
+use Rattle.std.proofs.Common.{Bool, sym, subst}
+use Rattle.las_words.specs.Asked.{Asked, lasmerge}
 use Rattle.las_words.specs.Texts.{texts}
-use Rattle.las_run.specs.declared.stop.Stop.{Stop}
 use Rattle.las_run.specs.Ends.{Ends, cause_of, quiet}
-use Rattle.las_run.specs.Tools.{chunk_if}
-use Rattle.las_run.proofs.Merging.{SaysMerging, ends_merging}
+use Rattle.las_run.specs.Runs.{task_with}
 use Rattle.las_run.proofs.lasmerge.lasmerge.Goals as goal
-use Rattle.las_run.proofs.lasmerge.lasmerge.Goals.{then-packing, else-packing}
 
-pub returns-clause-ends : goal.returns-clause-ends
-returns-clause-ends g c =
-    let h = c.merge.ensures in
-    let packing = c.args.packing in
+pub returns-then-copy-clause-ends : goal.returns-then-copy-clause-ends
+returns-then-copy-clause-ends g c =
     let inputs = texts c.args.inputs.now in
-    let output = c.args.output.now in
-    let old = g.F.Files.seen c.args.files.now in
-    let new = g.F.Files.seen c.merge.new.files in
-    let size_is : c.if-packing.chunk ≡ chunk_if packing.packed packing.chunk = elim c.if-packing.branch [
-      | then-packing w ↦ w.chunk-is ∙ ap (λ (b : Bool). chunk_if b packing.chunk) (sym w.if-packing.true)
-      | else-packing w ↦ w.chunk-is ∙ ap (λ (b : Bool). chunk_if b packing.chunk) (sym w.if-packing.false)
-    ] in
-    let says : SaysMerging inputs output c.if-packing.chunk old new c.merge.result = record {
-      merged = h.merged;
-      refused = h.refused;
-      unequal = λ number field is. let u = h.unequal number field is in (subst (λ (n : ℕ). number < n) (sym (length-map c.args.inputs.now string_bytes)) u.0, u.1, u.2);
-      too_many = h.too_many;
-      at = λ number cause is. let u = h.at number cause is in (subst (λ (n : ℕ). number < n) (sym (length-map c.args.inputs.now string_bytes)) u.0, u.1);
-      read = h.read;
-      write = h.write;
-      never = h.never;
-      left = h.left;
-      later = h.later;
-    } in
-    λ taps out. subst (λ (o : Result (Unit {0}) Stop). Ends (record { said = asks (lasmerge inputs output packing.packed packing.chunk c.args.workers); taps = taps }) (quiet old new out) (cause_of inputs o)) (sym c.stopped_merge.ensures)
-    (ends_merging taps inputs output packing.packed packing.chunk c.args.workers old new out c.if-packing.chunk c.merge.result size_is says)
+    let packing = c.args.packing in
+    let asks_for : Bool → Asked = λ copy. record { work = lasmerge (record { inputs = inputs; output = c.args.output.now; packed = packing.packed; chunk = packing.chunk; copy = copy }); workers = c.args.workers } in
+    λ taps out. subst (λ (copy : Bool). Ends (task_with taps (asks_for copy)) (quiet (g.F.Files.seen c.args.files.now) (g.F.Files.seen c.copy_inputs.new.files) out) (cause_of inputs c.copy_inputs.result)) (sym c.if-copy.true) (c.copy_inputs.ensures.ends taps out)
+
+pub returns-else-copy-clause-ends : goal.returns-else-copy-clause-ends
+returns-else-copy-clause-ends g c =
+    let inputs = texts c.args.inputs.now in
+    let packing = c.args.packing in
+    let asks_for : Bool → Asked = λ copy. record { work = lasmerge (record { inputs = inputs; output = c.args.output.now; packed = packing.packed; chunk = packing.chunk; copy = copy }); workers = c.args.workers } in
+    λ taps out. subst (λ (copy : Bool). Ends (task_with taps (asks_for copy)) (quiet (g.F.Files.seen c.args.files.now) (g.F.Files.seen c.join_inputs.new.files) out) (cause_of inputs c.join_inputs.result)) (sym c.if-copy.false) (c.join_inputs.ensures.ends taps out)

@@ -2,15 +2,16 @@ use Rattle.std.proofs.Common.{◌≡◌, ◌≢◌, [], ◌∷◌, List, ℕ, Op
 use Rattle.std.specs.Prelude.{string_bytes}
 use Rattle.std.proofs.lemmas.Result.{err_from_is_err_and}
 use Rattle.las_outside.specs.Files.{FileMap, WhereKnown}
-use Rattle.las_words.specs.Says.{Asked, asks, lassplit}
+use Rattle.las_words.specs.Asked.{Asked, LassplitOptions, lassplit, reads}
 use Rattle.laz_file.specs.declared.fault.Fault.TheVariants.{Write}
 use Rattle.laz_file.specs.Reading.{StandsFor}
 use Rattle.laz_file.specs.Refusing.{IsAcceptedFile}
 use Rattle.las_run.specs.declared.stop.Stop.{Stop}
 use Rattle.las_run.specs.Endings.{Ending}
 use Rattle.las_run.specs.Ends.{Ends, EndsMaking, cause_of, quiet}
+use Rattle.las_run.specs.Runs.{task_with}
 use Rattle.las_run.specs.Tools.{Splits}
-use Rattle.las_run.proofs.Commands.{lassplit_reads, task_with}
+use Rattle.las_run.proofs.Commands.{reads_one}
 use Rattle.las_run.proofs.Endings.{left_before}
 use Rattle.las_run.proofs.Opening.{ends_opening, ends_writing, known_more, making_after}
 use Rattle.las_run.proofs.lassplit.lassplit.Goals as goal
@@ -23,14 +24,16 @@ returns-in_err-reader-clause-ends g c =
     let stem = c.args.stem.now in
     let end = c.args.end.now in
     let rule = c.args.rule.now in
-    let asked : Asked = lassplit input stem end rule c.args.workers in
-    rw (p.1, p.2) (λ taps out. ends_opening (task_with taps asked) input (Splits input stem end rule) (lassplit_reads taps input stem end rule c.args.workers) (g.F.Files.seen c.args.files.now) (g.F.Files.seen c.open_input.new.files) out c.in_err-reader.field-0.0 h.stops h.held)
+    let options : LassplitOptions = record { stem = stem; end = end; rule = rule } in
+    let asked : Asked = record { work = reads input (lassplit options); workers = c.args.workers } in
+    rw (p.1, p.2) (λ taps out. ends_opening (task_with taps asked) input (Splits input stem end rule) (reads_one taps input (lassplit options) c.args.workers) (g.F.Files.seen c.args.files.now) (g.F.Files.seen c.open_input.new.files) out c.in_err-reader.field-0.0 h.stops h.held)
 
 pub returns-in-Err-clause-ends : goal.returns-in-Err-clause-ends
 returns-in-Err-clause-ends g c =
     let old = g.F.Files.seen c.args.files.now in
     let mid = g.F.Files.seen c.open_input.new.files in
-    let asked : Asked = lassplit c.args.input.now c.args.stem.now c.args.end.now c.args.rule.now c.args.workers in
+    let options : LassplitOptions = record { stem = c.args.stem.now; end = c.args.end.now; rule = c.args.rule.now } in
+    let asked : Asked = record { work = reads c.args.input.now (lassplit options); workers = c.args.workers } in
     λ taps out. (left_before (task_with taps asked) (quiet old mid out) c.in_ok-reader.ensures.held, refl)
 
 pub returns-clause-ends : goal.returns-clause-ends
@@ -44,7 +47,8 @@ returns-clause-ends g c =
     let stem = c.args.stem.now in
     let end = c.args.end.now in
     let rule = c.args.rule.now in
-    let asked : Asked = lassplit input stem end rule c.args.workers in
+    let options : LassplitOptions = record { stem = stem; end = end; rule = rule } in
+    let asked : Asked = record { work = reads input (lassplit options); workers = c.args.workers } in
     let outcome = c.write_parts.result in
     let names = c.in-Ok.names in
     let made = subst (λ (e : List ℕ). EndsMaking (Splits input stem e rule) input mid new outcome) c.in-Ok.ensures.end
@@ -58,5 +62,5 @@ returns-clause-ends g c =
     (subst (λ (s : List ℕ). WhereKnown mid.held input (HasOutputs input s (string_bytes names.end))) c.in-Ok.ensures.stem
     (subst (λ (n : List ℕ). WhereKnown mid.held n (HasOutputs n (string_bytes names.stem) (string_bytes names.end))) h.fresh.named (c.write_parts.ensures.some is)))) in
     let accepted = known_more old.held input (StandsFor r) IsAcceptedFile (λ file s. s.accepted) h.stands in
-    λ taps out. subst (λ (o : Result (Unit {0}) Stop). Ends (record { said = asks asked; taps = taps }) (quiet old new out) (cause_of (input ∷ []) o)) (sym c.stopped.ensures)
-    (ends_writing (task_with taps asked) input (Splits input stem end rule) (lassplit_reads taps input stem end rule c.args.workers) old new out accepted outcome some ends)
+    λ taps out. subst (λ (o : Result (Unit {0}) Stop). Ends (task_with taps asked) (quiet old new out) (cause_of (input ∷ []) o)) (sym c.stopped.ensures)
+    (ends_writing (task_with taps asked) input (Splits input stem end rule) (reads_one taps input (lassplit options) c.args.workers) old new out accepted outcome some ends)

@@ -1,14 +1,15 @@
 use Rattle.std.proofs.Common.{◌≡◌, [], ◌∷◌, List, ℕ, Result, subst, sym}
 use Rattle.std.proofs.lemmas.Result.{err_from_is_err_and}
-use Rattle.las_words.specs.Says.{Asked, asks, laszip}
+use Rattle.las_words.specs.Asked.{Asked, LaszipOptions, laszip, reads}
 use Rattle.laz_file.specs.Reading.{StandsFor}
 use Rattle.laz_file.specs.Refusing.{IsAcceptedFile}
 use Rattle.las_run.specs.declared.stop.Stop.{Stop}
 use Rattle.las_run.specs.Ends.{Ends, EndsMaking, cause_of, quiet}
+use Rattle.las_run.specs.Runs.{task_with}
 use Rattle.las_run.specs.Tools.{Zips}
 use Rattle.las_header.specs.Fields.{head_of, is_packed}
 use Rattle.las_run.proofs.Making.{zips_output}
-use Rattle.las_run.proofs.Commands.{laszip_reads, task_with}
+use Rattle.las_run.proofs.Commands.{reads_one}
 use Rattle.las_run.proofs.Opening.{ends_making, ends_opening, known_more, making_after}
 use Rattle.las_run.proofs.laszip.laszip.Goals as goal
 
@@ -16,8 +17,10 @@ pub returns-in_err-reader-clause-ends : goal.returns-in_err-reader-clause-ends
 returns-in_err-reader-clause-ends g c =
     let p = err_from_is_err_and c.from_residual.result c.from_residual.ensures.1 in
     let h = c.in_err-reader.ensures in
-    let asked : Asked = laszip c.args.input.now c.args.output.now c.args.chunk c.args.workers in
-    rw (p.1, p.2) (λ taps out. ends_opening (task_with taps asked) c.args.input.now (Zips c.args.input.now c.args.output.now c.args.chunk) (laszip_reads taps c.args.input.now c.args.output.now c.args.chunk c.args.workers) (g.F.Files.seen c.args.files.now) (g.F.Files.seen c.open_input.new.files) out c.in_err-reader.field-0.0 h.stops h.held)
+    let input = c.args.input.now in
+    let options : LaszipOptions = record { output = c.args.output.now; chunk = c.args.chunk } in
+    let asked : Asked = record { work = reads input (laszip options); workers = c.args.workers } in
+    rw (p.1, p.2) (λ taps out. ends_opening (task_with taps asked) input (Zips input options.output options.chunk) (reads_one taps input (laszip options) c.args.workers) (g.F.Files.seen c.args.files.now) (g.F.Files.seen c.open_input.new.files) out c.in_err-reader.field-0.0 h.stops h.held)
 
 pub returns-clause-ends : goal.returns-clause-ends
 returns-clause-ends g c =
@@ -27,9 +30,13 @@ returns-clause-ends g c =
     let mid = g.F.Files.seen c.open_input.new.files in
     let new = g.F.Files.seen c.zip.new.files in
     let input = c.args.input.now in
-    let asked : Asked = laszip input c.args.output.now c.args.chunk c.args.workers in
+    let output = c.args.output.now in
+    let chunk = c.args.chunk in
+    let options : LaszipOptions = record { output = output; chunk = chunk } in
+    let asked : Asked = record { work = reads input (laszip options); workers = c.args.workers } in
     let named : r.name ≡ input = h.fresh.named in
-    let made = subst (λ (n : List ℕ). EndsMaking (Zips n c.args.output.now c.args.chunk) n mid new c.zip.result) named c.zip.ensures.ends in
-    let ends = making_after (Zips input c.args.output.now c.args.chunk) input old mid new h.held h.faults h.writes c.zip.result made in
+    let made = subst (λ (n : List ℕ). EndsMaking (Zips n output chunk) n mid new c.zip.result) named c.zip.ensures.ends in
+    let ends = making_after (Zips input output chunk) input old mid new h.held h.faults h.writes c.zip.result made in
     let accepted = known_more old.held input (StandsFor r) IsAcceptedFile (λ file s. s.accepted) h.stands in
-    λ taps out. subst (λ (o : Result (Unit {0}) Stop). Ends (record { said = asks asked; taps = taps }) (quiet old new out) (cause_of (input ∷ []) o)) (sym c.stopped.ensures) (ends_making (task_with taps asked) input (Zips input c.args.output.now c.args.chunk) (laszip_reads taps input c.args.output.now c.args.chunk c.args.workers) old new out accepted (λ file ending makes. zips_output (is_packed (head_of file)) input c.args.output.now c.args.chunk file ending makes) c.zip.result ends)
+    λ taps out. subst (λ (o : Result (Unit {0}) Stop). Ends (task_with taps asked) (quiet old new out) (cause_of (input ∷ []) o)) (sym c.stopped.ensures)
+    (ends_making (task_with taps asked) input (Zips input output chunk) (reads_one taps input (laszip options) c.args.workers) old new out accepted (λ file ending makes. zips_output (is_packed (head_of file)) input output chunk file ending makes) c.zip.result ends)

@@ -1,7 +1,9 @@
 use Rattle.std.proofs.Common.{[], ◌∷◌, Err, refl, sym, subst}
 use Rattle.las_run.specs.declared.stop.Stop.{Stop}
-use Rattle.las_words.specs.Says.{asks, make}
+use Rattle.las_words.specs.Asked.{make}
 use Rattle.las_run.specs.Ends.{Ends, cause_of}
+use Rattle.las_run.specs.Runs.{task_with}
+use Rattle.las_run.specs.Tools.{options_with}
 use Rattle.las_run.proofs.Made.{ends_made, ends_unmade, ends_unput}
 use Rattle.las_run.proofs.make.make.Goals as goal
 
@@ -30,5 +32,5 @@ returns-in-Err-clause-ends g c =
     let new = g.F.Files.seen c.make.new.files in
     let out = g.O.Sink.seen c.args.out.now in
     let names = c.args.output.now ∷ c.args.packed.now ∷ [] in
-    λ taps. subst (λ (stop : Stop). Ends (record { said = asks (make c.args.output.now c.args.packed.now s.points s.seed s.format s.extra c.args.chunk c.args.workers); taps = taps }) (record { files = old; files_now = new; out = out; out_now = out }) (cause_of names (Err stop))) (sym c.stop_making.ensures)
+    λ taps. subst (λ (stop : Stop). Ends (task_with taps (record { work = make (options_with c.args.output.now c.args.packed.now s c.args.chunk); workers = c.args.workers })) (record { files = old; files_now = new; out = out; out_now = out }) (cause_of names (Err stop))) (sym c.stop_making.ensures)
     (ends_unmade taps c.args.output.now c.args.packed.now s c.requires.range c.args.chunk c.args.workers old new out out c.in-Err.fault refl c.in-Err.ensures.fails)

@@ -19,5 +19,6 @@ returns-in-Read g c =
 pub returns-in-Write : goal.returns-in-Write
 returns-in-Write g c = record { line = says (names_read c.args.said.now) c.args.stop.now _ _ _ _ c.in-Write.is refl c.put_all-in-Write.ensures.puts }
 
-pub returns-in-TooManyPoints : goal.returns-in-TooManyPoints
-returns-in-TooManyPoints g c = record { line = says (names_read c.args.said.now) c.args.stop.now _ _ _ _ c.in-TooManyPoints.is refl c.put_all-in-TooManyPoints.ensures.puts }
+pub returns-in-TooMany : goal.returns-in-TooMany
+returns-in-TooMany g c =
+    record { line = says (names_read c.args.said.now) c.args.stop.now _ _ _ _ c.in-TooMany.is (ap (λ (n : List ℕ). concat (codes "too many " ∷ n ∷ line_feed ∷ [])) (c.as_bytes-name-in-TooMany.ensures.value ∙ c.surplus_name.ensures)) c.put_all-in-TooMany.ensures.puts }

@@ -5,7 +5,8 @@ use Rattle.las_run.specs.Runs.{task_of}
 use Rattle.las_run.specs.Endings.{status_of}
 use Rattle.las_run.specs.Ends.{cause_of, names_read, stop_of}
 use Rattle.las_run.specs.Seen.{RunSeen}
-use Rattle.las_run.proofs.Keeping.{EndsUnasked, keeps}
+use Rattle.las_run.proofs.Asking.{asks_read}
+use Rattle.las_run.proofs.Keeping.{Asks, EndsUnasked, keeps}
 use Rattle.las_run.proofs.Saying.{is_read_of, names_of_taps, not_read, two_or_one}
 use Rattle.las_run.proofs.top_call.run.Goals as goal
 
@@ -31,4 +32,7 @@ returns g c =
     let unread = c.work-outcome.ensures.unread f.0 f.1 in
     let status_is : c.status.result ≡ status_of (cause_of names (Err (stop_of f.0))) = is ∙ ap (λ (o : Result (Unit {0}) Stop). status_of (cause_of names o)) unread.0 in
     (rw status_is (two_or_one names f.0), unread.1) in
-    keeps run (cause_of names c.work-outcome.result) is c.report.ensures.line (c.work-outcome.ensures.ends task refl read) unasked c.work-outcome.ensures.later c.status.ensures.known
+    let asks : Asks run = λ input options workers asked.
+    asks_read task.said said input options workers c.work-outcome.result run.files run.files_now c.status.result read asked is
+    (λ f unread. (c.work-outcome.ensures.unread f unread).0) c.work-outcome.ensures.asks in
+    keeps run (cause_of names c.work-outcome.result) is c.report.ensures.line (c.work-outcome.ensures.ends task refl read) unasked asks c.work-outcome.ensures.later c.status.ensures.known

@@ -1,0 +1,14 @@
+use Rattle.std.proofs.Common.{refl, sym, subst}
+use Rattle.laz_file.specs.Reading.{IsFreshReader, ReaderSeen}
+use Rattle.las_run.proofs.las2las.seek.Goals as goal
+
+pub returns-clause-fresh : goal.returns-clause-fresh
+returns-clause-fresh c =
+    let new = c.requires.new in
+    subst (λ (r : ReaderSeen). IsFreshReader r.name r) (sym c.seek_record.ensures.sought) (record {
+      named = refl;
+      unread = refl;
+      sound = new.sound;
+      unprepared = new.unprepared;
+      empty = new.empty;
+    })
