@@ -13,8 +13,6 @@ mod laws;
 mod parts;
 mod plan;
 mod rule;
-#[cfg(test)]
-mod tests;
 
 pub use crate::change::{Change, RawRange};
 pub use crate::keep::Keep;

@@ -16,8 +16,6 @@ mod laws;
 mod limits;
 mod numbers;
 mod refusal;
-#[cfg(test)]
-mod tests;
 mod vlrs;
 
 pub use crate::counts::Counts;

@@ -13,8 +13,6 @@ mod survey;
 mod tally;
 mod tap;
 mod taps;
-#[cfg(test)]
-mod tests;
 
 pub use crate::choosing::choose;
 pub use crate::laws::tallies_grow_one_by_one;

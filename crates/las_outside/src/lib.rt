@@ -25,8 +25,3 @@ pub use pieces::put_all;
 pub use real_files::RealFiles;
 pub use real_sink::RealSink;
 pub use sink::Sink;
-
-#[cfg(test)]
-mod real_files_tests;
-#[cfg(test)]
-mod tests;

@@ -67,35 +67,3 @@ fn write_now<W: Write>(stream: &mut W, bytes: &[u8]) -> std::io::Result<()> {
     stream.write_all(bytes)?;
     stream.flush()
 }
-
-#[cfg(test)]
-mod tests {
-    use super::*;
-    use std::fs::{self, File};
-    use std::io::Read;
-    use std::test::Fail;
-
-    // What is put reaches the stream at once, and nothing else does.
-    #[test]
-    fn what_is_put(rt: HostRuntime) -> Result<(), Fail> {
-        let name = "las_outside_stream";
-        let mut sink = RealSink::on(File::create(&rt, name)?);
-        sink.put(b"one ")?;
-        sink.put(b"")?;
-        sink.put(b"two")?;
-        let mut text = [0; 9];
-        let length = File::open(&rt, name)?.read(&mut text)?;
-        assert_eq!(rt; length, 7);
-        assert_eq!(rt; &text[..7], b"one two".as_slice());
-        fs::remove_file(&rt, name)?;
-        Ok(())
-    }
-
-    // The standard streams are there and take bytes.
-    #[test]
-    fn standard_streams(rt: HostRuntime) -> Result<(), Fail> {
-        RealSink::out(&rt).put(b"")?;
-        RealSink::err(&rt).put(b"")?;
-        Ok(())
-    }
-}

@@ -7,8 +7,6 @@
 
 mod count;
 mod read;
-#[cfg(test)]
-mod tests;
 mod write;
 
 pub use crate::count::count_in;

@@ -11,8 +11,6 @@ mod laws;
 mod pick;
 mod sieve;
 mod stored;
-#[cfg(test)]
-mod tests;
 mod winner;
 
 pub use crate::cell::cell_of;

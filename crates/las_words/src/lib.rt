@@ -14,8 +14,6 @@ mod read;
 mod settings;
 mod table;
 mod tallies;
-#[cfg(test)]
-mod tests;
 mod texts;
 
 pub use crate::command::{Command, Packing, WordFault};

@@ -10,8 +10,6 @@ mod law;
 mod pass;
 mod room;
 mod run;
-#[cfg(test)]
-mod tests;
 mod view;
 
 pub use claims::Claims;

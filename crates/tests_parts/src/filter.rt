@@ -1,0 +1,70 @@
+//! Plans over two records.
+
+use las_filter::{Change, Keep, Plan, RawRange};
+use std::test::Fail;
+
+// Class 2 and intensity 100, return 1 of 2.
+const FIRST: [u8; 20] = [
+    9, 0, 0, 0, 0, 0, 0, 0, 0, 0, 0, 0, 100, 0, 17, 2, 0, 0, 0, 0,
+];
+
+// Class 5 with two class flags, intensity 200, return 2 of 2, X at the end of its range.
+const SECOND: [u8; 20] = [
+    255, 255, 255, 127, 0, 0, 0, 0, 0, 0, 0, 0, 200, 0, 18, 101, 0, 0, 0, 0,
+];
+
+#[test]
+fn filters_keep_records(rt: HostRuntime) -> Result<(), Fail> {
+    let table = [
+        (Keep::Classes(1 << 2), true, false),
+        (Keep::DropClasses(1 << 5), true, false),
+        (Keep::Returns(1 << 2), false, true),
+        (Keep::DropReturns(1 << 1), false, true),
+        (Keep::First, true, false),
+        (Keep::Last, false, true),
+        (Keep::Intensity(100, 199), true, false),
+        (Keep::NotBelow(200), false, true),
+        (Keep::NotAbove(100), true, false),
+    ];
+    for (keep, first, second) in table {
+        let plan = Plan {
+            keeps: vec![in rt.alloc(); keep, Keep::NotBelow(0)]?,
+            changes: Vec::new(rt.alloc()),
+        };
+        assert_eq!(rt;
+            (plan.keeps(&FIRST), plan.keeps(&SECOND)),
+            (first, second),
+            "{keep:?}"
+        );
+    }
+    Ok(())
+}
+
+#[test]
+fn changes_are_made_in_order(rt: HostRuntime) -> Result<(), Fail> {
+    let plan = Plan {
+        keeps: Vec::new(rt.alloc()),
+        changes: vec![in rt.alloc();
+            Change::SetClass(31),
+            Change::Translate(1, -1, 0),
+            Change::SetSource(513),
+        ]?,
+    };
+    let mut point = FIRST;
+    assert_eq!(rt; plan.change(&mut point), Ok(()));
+    assert_eq!(rt;
+        point,
+        [
+            10, 0, 0, 0, 255, 255, 255, 255, 0, 0, 0, 0, 100, 0, 17, 31, 0, 0, 1, 2
+        ]
+    );
+    let mut point = SECOND;
+    assert_eq!(rt; plan.change(&mut point), Err(RawRange));
+    assert_eq!(rt;
+        point,
+        [
+            255, 255, 255, 127, 0, 0, 0, 0, 0, 0, 0, 0, 200, 0, 18, 127, 0, 0, 0, 0
+        ]
+    );
+    Ok(())
+}

@@ -1,0 +1,118 @@
+//! Reports of small files, whole.
+
+ghost use Rattle.std.specs.Prelude.{◌≡◌, ◌%◌, ◌≤◌, All, IfOk, length};
+ghost use Rattle.std.specs.FinMap as map;
+
+use crate::samples::{file_with, opened};
+use las_info::{
+    ClassTap, IntensityTap, ReturnTap, SourceTap, Survey, Tap, report, show_block, tally_text,
+};
+use las_outside::MemSink;
+use std::alloc::{AllocError, Global};
+use std::test::Fail;
+
+// Two records. Class 2, intensity 1000, return 1 of 1, source 9, at 5, 6, 7; class 1, intensity 767, return 2 of 2,
+// source 9, at -1, 2^31 - 1, -2^31.
+const BOTH: [u8; 40] = [
+    5, 0, 0, 0, 6, 0, 0, 0, 7, 0, 0, 0, 232, 3, 9, 2, 0, 0, 9, 0, 255, 255, 255, 255, 255, 255,
+    255, 127, 0, 0, 0, 128, 255, 2, 18, 97, 0, 0, 9, 0,
+];
+
+// A packed file of one record, of LAS 1.2.
+const PACKED: [(usize, &[u8]); 7] = [
+    (24, &[1, 2]),
+    (94, &[227, 0, 65, 1, 0, 0, 1]),
+    (104, &[128, 20, 0, 1, 0, 0, 0, 1]),
+    (229, b"laszip encoded"),
+    (245, &[188, 86, 40, 0]),
+    (249, b"laszip version 2 items"),
+    (281, &[2]),
+];
+
+const PACKED_TEXT: &str = "version 1.2\nheader 227\noffset 321\nvlrs 1\n\
+    vlr 6c61737a697020656e636f6465640000 22204 40\nformat 0\nlength 20\npoints 1\npacked 50000 1\n\
+    header returns 1 0 0 0 0\nrecord returns 1 0 0 0 0\nraw x 5 5\nraw y 6 6\nraw z 7 7\n";
+
+// A plain file of two records, of LAS 1.4, with a VLR of two bytes of the user "somebody".
+const PLAIN: [(usize, &[u8]); 7] = [
+    (24, &[1, 4]),
+    (94, &[119, 1, 175, 1, 0, 0, 1]),
+    (104, &[0, 20, 0]),
+    (247, &[2]),
+    (255, &[1, 0, 0, 0, 0, 0, 0, 0, 1]),
+    (377, b"somebody"),
+    (393, &[7, 0, 2, 0]),
+];
+
+const PLAIN_TEXT: &str = "version 1.4\nheader 375\noffset 431\nvlrs 1\n\
+    vlr 736f6d65626f64790000000000000000 7 2\nformat 0\nlength 20\npoints 2\npacked no\n\
+    header returns 0 0 0 0 0\nlong returns 1 1 0 0 0 0 0 0 0 0 0 0 0 0 0\nrecord returns 1 1 0 0 0\n\
+    raw x -1 5\nraw y 6 2147483647\nraw z -2147483648 7\n";
+
+// What a report says of a file that has this front and these records.
+fn reported(
+    alloc: Global,
+    file: &[u8],
+    records: &[u8],
+    chunk: Option<(u32, u32)>,
+) -> Result<MemSink, Fail>
+    requires whole { length records.now % 20 ≡ 0 }
+    requires few { length records.now ≤ 40 }
+{
+    let head = opened(alloc, file)?.map_err(|_| "refused")?;
+    let mut survey = Survey::new(Vec::new(alloc));
+    survey.see_all(20, records)?;
+    let mut out = MemSink::with_room(alloc, 1_000)?;
+    report(alloc, &survey, &head, chunk, &mut out)?;
+    Ok(out)
+}
+
+#[test]
+fn a_packed_file_of_one_record(rt: HostRuntime) -> Result<(), Fail> {
+    let alloc = rt.alloc();
+    let file = file_with(alloc, 366, &PACKED)?;
+    let out = reported(alloc, &file, &BOTH[..20], Some((50_000, 1)))?;
+    assert_eq!(rt; out.bytes(), PACKED_TEXT.as_bytes());
+    Ok(())
+}
+
+#[test]
+fn a_plain_file_of_two_records(rt: HostRuntime) -> Result<(), Fail> {
+    let alloc = rt.alloc();
+    let file = file_with(alloc, 471, &PLAIN)?;
+    let out = reported(alloc, &file, &BOTH, None)?;
+    assert_eq!(rt; out.bytes(), PLAIN_TEXT.as_bytes());
+    Ok(())
+}
+
+// The program's taps, which have counted nothing.
+fn all_taps(alloc: Global) -> Result<Vec<Box<dyn Tap>>, AllocError>
+    ensures { IfOk result (λ taps. All (λ tap. (tap_seen tap).tally ≡ map.empty) taps.items) }
+{
+    let mut taps: Vec<Box<dyn Tap>> = Vec::new(alloc);
+    taps.push(Box::new(alloc, SourceTap::new(alloc))?)?;
+    taps.push(Box::new(alloc, ClassTap::new(alloc))?)?;
+    taps.push(Box::new(alloc, IntensityTap::new(alloc))?)?;
+    taps.push(Box::new(alloc, ReturnTap::new(alloc))?)?;
+    Ok(taps)
+}
+
+// Shows both records to taps that have counted nothing.
+fn show_both(taps: &mut [Box<dyn Tap>]) -> Result<(), AllocError>
+    requires { All (λ tap. (tap_seen tap).tally ≡ map.empty) taps.old }
+{
+    show_block(taps, 20, &BOTH)
+}
+
+#[test]
+fn every_tap_of_two_records(rt: HostRuntime) -> Result<(), Fail> {
+    let alloc = rt.alloc();
+    let mut taps = all_taps(alloc)?;
+    show_both(&mut taps)?;
+    let mut out = MemSink::with_room(alloc, 1_000)?;
+    tally_text(alloc, &taps, &mut out)?;
+    let text =
+        "tally source\n9 2\ntally class\n1 1\n2 1\ntally intensity\n2 1\n3 1\ntally return\n1 1\n2 1\n";
+    assert_eq!(rt; out.bytes(), text.as_bytes());
+    Ok(())
+}

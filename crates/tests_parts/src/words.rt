@@ -1,0 +1,472 @@
+//! Command lines, each with what it says.
+
+use las_info::{ClassTap, ReturnTap, Tap};
+use las_words::{Command, Packing, WordFault, read_words};
+use std::alloc::{AllocError, Global};
+use std::test::Fail;
+
+// A line for each: words with a blank between two of them, and the command or the index of the first wrong word.
+const LINES: &str = "\
+lasmerges -i a -o b = usage 0
+ = usage 0
+LASZIP -i a -o b = usage 0
+ -i a -o b = usage 0
+laszip2 = usage 0
+-i a = usage 0
+laszip a = usage 1
+laszip -i a b = usage 3
+laszip -i a -o b -keep_class 2 = usage 5
+laszip -i a -o b -olaz = usage 5
+las2las -i a -o b -z c = usage 5
+las2las -i a -o b -tally class = usage 5
+las2las -i a -o b 2 = usage 5
+las2las -i a -o b  = usage 5
+las2las -i a -o b -Keep_first = usage 5
+las2las -i a -o b -keep_first 1 = usage 6
+las2las -I a = usage 1
+las2las -set_user_data 3 4 = usage 3
+laszip -i a -i b -o c = usage 3
+laszip -i a -o b -o c = usage 5
+laszip -cores 1 -cores 1 = usage 3
+laszip -chunk_size 256 -chunk_size 256 -i a -o b = usage 3
+las2las -i a -o b -keep_class 2 -keep_class 3 = usage 7
+las2las -i a -o b -drop_class 2 3 -drop_class 4 = usage 8
+las2las -keep_first -keep_first = usage 2
+las2las -olaz -olaz = usage 2
+las2las -olas -olas = usage 2
+las2las -olas -olaz = usage 2
+las2las -olaz -i a -olas = usage 4
+las2las -translate_raw_x 1 -translate_raw_x 1 = usage 3
+las2las -translate_raw_xyz 1 2 3 -translate_raw_xyz 1 2 3 = usage 5
+las2las -set_point_source 1 -set_user_data 1 -set_point_source 1 = usage 5
+laszip -i = usage 2
+laszip -i a -o = usage 4
+laszip -cores = usage 2
+laszip -chunk_size = usage 2
+las2las -keep_class = usage 2
+las2las -drop_return = usage 2
+las2las -keep_intensity = usage 2
+las2las -keep_intensity 1 = usage 3
+las2las -translate_raw_xyz 1 2 = usage 4
+las2las -translate_raw_z = usage 2
+las2las -i a -o b -set_classification = usage 6
+las2las -drop_intensity_above = usage 2
+laszip -i  -o b = usage 2
+laszip -i a -o  = usage 4
+laszip -chunk_size 255 = usage 2
+laszip -chunk_size 250001 = usage 2
+laszip -chunk_size -256 = usage 2
+laszip -chunk_size 0x100 = usage 2
+laszip -cores 0 = usage 2
+laszip -cores +1 = usage 2
+laszip -cores 1. = usage 2
+laszip -i a -o b -chunk_size 0 = usage 6
+laszip -i a -o b -cores 9 = usage 6
+laszip -cores 000000000000000000001 = usage 2
+laszip -cores 99999999999999999999 = usage 2
+laszip -cores 18446744073709551617 = usage 2
+laszip -cores 4294967297 = usage 2
+las2las -i a -o b -keep_class 32 = usage 6
+las2las -keep_class 2 32 = usage 3
+las2las -keep_class 2 -3 = usage 3
+las2las -keep_class -i a = usage 2
+las2las -keep_class a = usage 2
+las2las -keep_class 1 2 000000000000000000003 = usage 4
+las2las -keep_class 1  = usage 3
+las2las -drop_class 1 31 32 = usage 4
+las2las -keep_return 8 = usage 2
+las2las -drop_return 7 8 = usage 3
+las2las -keep_intensity 2 1 = usage 3
+las2las -keep_intensity 65536 65536 = usage 2
+las2las -keep_intensity 1 65536 = usage 3
+las2las -keep_intensity x = usage 2
+las2las -keep_intensity x y = usage 2
+las2las -keep_intensity 1 -o = usage 3
+las2las -drop_intensity_below 65536 = usage 2
+las2las -drop_intensity_above -1 = usage 2
+las2las -translate_raw_x 2147483648 = usage 2
+las2las -translate_raw_y -2147483649 = usage 2
+las2las -translate_raw_z --1 = usage 2
+las2las -translate_raw_z - = usage 2
+las2las -translate_raw_z 1- = usage 2
+las2las -translate_raw_z -+1 = usage 2
+las2las -translate_raw_z +1 = usage 2
+las2las -translate_raw_z -000000000000000000001 = usage 2
+las2las -translate_raw_xyz 1 x = usage 3
+las2las -translate_raw_xyz 1 2 -i = usage 4
+las2las -set_classification 32 = usage 2
+las2las -set_user_data 256 = usage 2
+las2las -set_point_source 65536 = usage 2
+laszip -cores 0 -zz = usage 2
+laszip -zz -cores 0 = usage 1
+las2las -i a -o a -keep_class 32 = usage 6
+laszip -i a -i = usage 3
+laszip -i a -o a -o = usage 5
+las2las -keep_class 32 -olas -olaz = usage 2
+laszip = usage 1
+las2las = usage 1
+laszip -i a = usage 3
+laszip -o b = usage 3
+las2las -o b -keep_class 2 = usage 5
+laszip -cores 2 = usage 3
+las2las -olaz = usage 2
+laszip -i a -o a = usage 4
+laszip -o a -i a = usage 2
+las2las -cores 2 -o a -olaz -i a = usage 4
+las2las -i a.laz -o a.laz -olas = usage 4
+laszip -i a -o b = laszip a b 50000 1
+laszip -o b -i a = laszip a b 50000 1
+laszip -i -o -o -i = laszip -o -i 50000 1
+laszip -i a -o b -chunk_size 256 = laszip a b 256 1
+laszip -chunk_size 250000 -i a -o b = laszip a b 250000 1
+laszip -i a -o b -cores 8 = laszip a b 50000 8
+laszip -cores 00000000000000000008 -i a -o b = laszip a b 50000 8
+laszip -i a -o A = laszip a A 50000 1
+laszip -i a.laz -o b.laz -cores 2 -chunk_size 01000 = laszip a.laz b.laz 1000 2
+las2las -i a -o b = las2las a b [] [] plain 50000 1
+las2las -i a -o b.laz = las2las a b.laz [] [] packed 50000 1
+las2las -i a -o b.LAZ = las2las a b.LAZ [] [] packed 50000 1
+las2las -i a -o b.Laz = las2las a b.Laz [] [] plain 50000 1
+las2las -i a -o .laz = las2las a .laz [] [] packed 50000 1
+las2las -i a -o b.laz.las = las2las a b.laz.las [] [] plain 50000 1
+las2las -olas -i a -o b.laz = las2las a b.laz [] [] plain 50000 1
+las2las -i a -o b.las -olaz = las2las a b.las [] [] packed 50000 1
+las2las -i a -o b -chunk_size 300 -cores 3 -olaz = las2las a b [] [] packed 300 3
+las2las -i a -o b -keep_class 0 = las2las a b [Classes(1)] [] plain 50000 1
+las2las -i a -o b -keep_class 31 0 = las2las a b [Classes(2147483649)] [] plain 50000 1
+las2las -i a -o b -keep_class 2 2 02 = las2las a b [Classes(4)] [] plain 50000 1
+las2las -i a -o b -drop_class 5 6 = las2las a b [DropClasses(96)] [] plain 50000 1
+las2las -i a -o b -keep_return 0 7 = las2las a b [Returns(129)] [] plain 50000 1
+las2las -i a -o b -drop_return 1 = las2las a b [DropReturns(2)] [] plain 50000 1
+las2las -i a -o b -keep_first = las2las a b [First] [] plain 50000 1
+las2las -i a -o b -keep_last = las2las a b [Last] [] plain 50000 1
+las2las -i a -o b -keep_intensity 0 65535 = las2las a b [Intensity(0, 65535)] [] plain 50000 1
+las2las -i a -o b -keep_intensity 7 7 = las2las a b [Intensity(7, 7)] [] plain 50000 1
+las2las -i a -o b -drop_intensity_below 5 = las2las a b [NotBelow(5)] [] plain 50000 1
+las2las -i a -o b -drop_intensity_above 65535 = las2las a b [NotAbove(65535)] [] plain 50000 1
+las2las -i a -o b -translate_raw_x -5 = las2las a b [] [Translate(-5, 0, 0)] plain 50000 1
+las2las -i a -o b -translate_raw_y 6 = las2las a b [] [Translate(0, 6, 0)] plain 50000 1
+las2las -i a -o b -translate_raw_z -00000000000000000007 = las2las a b [] [Translate(0, 0, -7)] plain 50000 1
+las2las -i a -o b -translate_raw_xyz -2147483648 7 -0 = las2las a b [] [Translate(-2147483648, 7, 0)] plain 50000 1
+las2las -i a -o b -translate_raw_x 2147483647 = las2las a b [] [Translate(2147483647, 0, 0)] plain 50000 1
+las2las -i a -o b -set_classification 31 = las2las a b [] [SetClass(31)] plain 50000 1
+las2las -i a -o b -set_user_data 255 = las2las a b [] [SetUser(255)] plain 50000 1
+las2las -i a -o b -set_point_source 65535 = las2las a b [] [SetSource(65535)] plain 50000 1
+las2las -i a -o b -set_user_data 1 -translate_raw_x 2 = las2las a b [] [SetUser(1), Translate(2, 0, 0)] plain 50000 1
+las2las -i a -o b -translate_raw_x 2 -set_user_data 1 = las2las a b [] [Translate(2, 0, 0), SetUser(1)] plain 50000 1
+las2las -i a -o b -keep_last -keep_class 2 -keep_first = las2las a b [Last, Classes(4), First] [] plain 50000 1
+las2las -keep_class 2 5 -i a -drop_return 1 -o b = las2las a b [Classes(36), DropReturns(2)] [] plain 50000 1
+las2las -i a -o b -start_at_point 5 -stop_at_point 4 = usage 8
+las2las -i a -o b -stop_at_point 4 -start_at_point 5 = usage 8
+las2las -stop_at_point 4 -keep_first -start_at_point 5 = usage 5
+las2las -start_at_point 4294967296 = usage 2
+las2las -stop_at_point -1 = usage 2
+las2las -start_at_point = usage 2
+las2las -start_at_point 1 -start_at_point 0 = usage 3
+las2las -start_at_point 5 -stop_at_point x = usage 4
+las2las -start_at_point 5 -stop_at_point 4 -keep_class 32 = usage 4
+las2las -i a -o b -start_at_point 5 = las2las a b [] [] plain 50000 1 5 4294967295
+las2las -i a -o b -start_at_point 5 -stop_at_point 5 = las2las a b [] [] plain 50000 1 5 5
+las2las -start_at_point 4294967295 -i a -o b = las2las a b [] [] plain 50000 1 4294967295 4294967295
+las2las -i a -stop_at_point 0 -o b -start_at_point 0 = las2las a b [] [] plain 50000 1 0 0
+las2las -i a -o b.laz -stop_at_point 07 -keep_last -cores 2 = las2las a b.laz [Last] [] packed 50000 2 0 7
+laszip -i a -o b -stop_at_point 1 = usage 5
+lasinfo -i a -start_at_point 1 = usage 3
+lasinfo = usage 1
+lasinfo -i a -o b = usage 3
+lasinfo -i a -chunk_size 256 = usage 3
+lasinfo -i a -i b = usage 3
+lasinfo -i a -tally = usage 4
+lasinfo -i a -tally none = usage 4
+lasinfo -i a -tally class -tally class = usage 6
+lasinfo -i a -tally class -tally return -tally class = usage 8
+lasinfo -i a -tally Class = usage 4
+lasinfo -tally class = usage 3
+lasinfo -i a = lasinfo a [] 1
+lasinfo -tally return -i a -tally class -cores 3 = lasinfo a [return, class] 3
+lassplit = usage 1
+lassplit -i a -o p.las = usage 5
+lassplit -i a -split 2 = usage 5
+lassplit -o p.las -split 2 = usage 5
+lassplit -i a -o p.las -cores 2 = usage 7
+lassplit -i a -o p.las -split = usage 6
+lassplit -i a -o p.las -split 0 = usage 6
+lassplit -split 4294967296 = usage 2
+lassplit -split -1 = usage 2
+lassplit -split x = usage 2
+lassplit -split 000000000000000000001 = usage 2
+lassplit -split 2 -split 3 = usage 3
+lassplit -split 2 -by_classification = usage 3
+lassplit -by_classification -split 0 = usage 2
+lassplit -by_classification -cores 2 -by_flightline = usage 4
+lassplit -by_flightline -by_return = usage 2
+lassplit -by_return -by_return = usage 2
+lassplit -by_return 1 = usage 2
+lassplit -i a -o p.las -by_class = usage 5
+lassplit -i a -o p.las -olaz = usage 5
+lassplit -i a -chunk_size 256 = usage 3
+lassplit -i a -i b = usage 3
+lassplit -by_return -o p.laz -i a = usage 3
+lassplit -i a -o p.LAZ -split 2 = usage 4
+lassplit -i a -o .laz -split 2 = usage 4
+lassplit -i p.las -o p.las -split 2 = usage 4
+lassplit -i p_0000000.las -o p.las -split 2 = usage 4
+lassplit -o p.las -split 2 -i p_0000123.las = usage 2
+lassplit -i p_12345678.las -o p.las -by_return = usage 4
+lassplit -i p_4294967295.las -o p.las -by_return = usage 4
+lassplit -i p_0000007.LAS -o p.LAS -by_flightline = usage 4
+lassplit -i p_0000000 -o p -by_return = usage 4
+lassplit -i _0000000.las -o .las -by_return = usage 4
+lassplit -i a_0000001_0000002.las -o a_0000001.las -split 2 = usage 4
+lassplit -by_return -cores 9 -i p_0000000.las -o p.las = usage 3
+lassplit -i p_0000000.las -o p.las -split 0 = usage 6
+lassplit -i p_0000000.las -o p.las = usage 5
+lassplit -i p.laz -o p.laz = usage 5
+lassplit -i a.las -o p.las -split 2 = lassplit a.las p|.las Every(2) 1
+lassplit -split 4294967295 -i a -o p.LAS = lassplit a p|.LAS Every(4294967295) 1
+lassplit -i a -split 00000000000000000007 -o p = lassplit a p| Every(7) 1
+lassplit -by_classification -i a -o p.las = lassplit a p|.las Class 1
+lassplit -i a -o p.las -by_flightline -cores 8 = lassplit a p|.las Source 8
+lassplit -i a -o p.las -by_return = lassplit a p|.las Return 1
+lassplit -i a -o p.Las -by_return = lassplit a p.Las| Return 1
+lassplit -i a -o p.las.las -by_return = lassplit a p.las|.las Return 1
+lassplit -i a -o .las -by_return = lassplit a |.las Return 1
+lassplit -i a -o p.laz.las -by_return = lassplit a p.laz|.las Return 1
+lassplit -i p_000000.las -o p.las -by_return = lassplit p_000000.las p|.las Return 1
+lassplit -i p_00000000.las -o p.las -by_return = lassplit p_00000000.las p|.las Return 1
+lassplit -i p_4294967296.las -o p.las -by_return = lassplit p_4294967296.las p|.las Return 1
+lassplit -i p_0000000.LAS -o p.las -by_return = lassplit p_0000000.LAS p|.las Return 1
+lassplit -i p_0000000.las -o p -by_return = lassplit p_0000000.las p| Return 1
+lassplit -i p_0000000 -o p.las -by_return = lassplit p_0000000 p|.las Return 1
+lassplit -i p_000000a.las -o p.las -by_return = lassplit p_000000a.las p|.las Return 1
+lassplit -i p_+000001.las -o p.las -by_return = lassplit p_+000001.las p|.las Return 1
+lassplit -i p-0000000.las -o p.las -by_return = lassplit p-0000000.las p|.las Return 1
+lassplit -i q_0000000.las -o p.las -by_return = lassplit q_0000000.las p|.las Return 1
+lassplit -i p_é00000.las -o p.las -by_return = lassplit p_é00000.las p|.las Return 1
+lassplit -i p_ -o p.las -by_return = lassplit p_ p|.las Return 1
+lasmerge = usage 1
+lasmerge -i a = usage 3
+lasmerge -o b = usage 3
+lasmerge -i a -i b -cores 2 = usage 7
+lasmerge -i a -i = usage 4
+lasmerge -i a -i  -o b = usage 4
+lasmerge -i a -o b -o c = usage 5
+lasmerge -i a b = usage 3
+lasmerge -i a -o b -olas -olaz = usage 6
+lasmerge -olaz -olaz = usage 2
+lasmerge -i a -o b -z c = usage 5
+lasmerge -i a -o b -keep_class 2 = usage 5
+lasmerge -i a -o b -split 2 = usage 5
+lasmerge -chunk_size 255 = usage 2
+lasmerge -i a -i b -o a = usage 6
+lasmerge -i a -i b -o b = usage 6
+lasmerge -o b -i a -i b = usage 2
+lasmerge -i a -o a -cores 9 = usage 6
+lasmerge -i 1 -i 2 -i 3 -i 4 -i 5 -i 6 -i 7 -i 8 -i 9 -i 10 -i 11 -i 12 -i 13 -i 14 -i 15 -i 16 -i 17 -i 18 -i 19 \
+    -i 20 -i 21 -i 22 -i 23 -i 24 -i 25 -i 26 -i 27 -i 28 -i 29 -i 30 -i 31 -i 32 -o a -i 33 = usage 67
+lasmerge -i 1 -i 2 -i 3 -i 4 -i 5 -i 6 -i 7 -i 8 -i 9 -i 10 -i 11 -i 12 -i 13 -i 14 -i 15 -i 16 -i 17 -i 18 -i 19 \
+    -i 20 -i 21 -i 22 -i 23 -i 24 -i 25 -i 26 -i 27 -i 28 -i 29 -i 30 -i 31 -i 32 -i = usage 65
+lasmerge -i 1 -i 2 -i 3 -i 4 -i 5 -i 6 -i 7 -i 8 -i 9 -i 10 -i 11 -i 12 -i 13 -i 14 -i 15 -i 16 -i 17 -i 18 -i 19 \
+    -i 20 -i 21 -i 22 -i 23 -i 24 -i 25 -i 26 -i 27 -i 28 -i 29 -i 30 -i 31 -i 32 -o 32 = usage 66
+lasmerge -i 1 -i 2 -i 3 -i 4 -i 5 -i 6 -i 7 -i 8 -i 9 -i 10 -i 11 -i 12 -i 13 -i 14 -i 15 -i 16 -i 17 -i 18 -i 19 \
+    -i 20 -i 21 -i 22 -i 23 -i 24 -i 25 -i 26 -i 27 -i 28 -i 29 -i 30 -i 31 -i 32 -o 33 = \
+    lasmerge [1, 2, 3, 4, 5, 6, 7, 8, 9, 10, 11, 12, 13, 14, 15, 16, 17, 18, 19, 20, 21, 22, 23, 24, 25, 26, 27, 28, \
+    29, 30, 31, 32] 33 plain 50000 1
+lasmerge -i a -o b = lasmerge [a] b plain 50000 1
+lasmerge -i a -i a -o b = lasmerge [a, a] b plain 50000 1
+lasmerge -i b.laz -o c.laz -i a = lasmerge [b.laz, a] c.laz packed 50000 1
+lasmerge -i a -o c.LAZ -olas = lasmerge [a] c.LAZ plain 50000 1
+lasmerge -olaz -i b -i a -o c -chunk_size 300 -cores 3 = lasmerge [b, a] c packed 300 3
+lasmerge -i -i -i -o -o -olaz = lasmerge [-i, -o] -olaz plain 50000 1
+lasmerge -i a.laz -o c.laz -copy_chunks = lasmerge [a.laz] c.laz packed 50000 copied 1
+lasmerge -copy_chunks -olaz -i a -o c.las -cores 8 = lasmerge [a] c.las packed 50000 copied 8
+lasmerge -i a.laz -o c.las -copy_chunks = usage 4
+lasmerge -o c -i a -copy_chunks = usage 2
+lasmerge -i c.las -o c.las -copy_chunks = usage 4
+lasmerge -copy_chunks -i a -o c.laz -copy_chunks = usage 6
+lasmerge -copy_chunks -olas -i a -o c.laz = usage 2
+lasmerge -olas -i a -o c.laz -copy_chunks = usage 6
+lasmerge -copy_chunks -chunk_size 256 = usage 2
+lasmerge -chunk_size 256 -copy_chunks = usage 3
+lasmerge -copy_chunks 1 = usage 2
+lasmerge -o c.las -copy_chunks = usage 4
+las2las -copy_chunks = usage 1
+make = usage 1
+make -o a -z b -points 1 = usage 7
+make -o a -z b -seed 1 = usage 7
+make -o a -points 1 -seed 1 = usage 7
+make -z b -points 1 -seed 1 = usage 7
+make -i a = usage 1
+make -olaz = usage 1
+make -points = usage 2
+make -points 10000001 = usage 2
+make -points -1 = usage 2
+make -seed 4294967296 = usage 2
+make -seed 000000000000000000001 = usage 2
+make -format 4 = usage 2
+make -format = usage 2
+make -extra 193 = usage 2
+make -extra x = usage 2
+make -chunk_size 250001 = usage 2
+make -z  -o a = usage 2
+make -z a -z b = usage 3
+make -points 1 -points 1 = usage 3
+make -seed 1 -seed 2 = usage 3
+make -format 0 -format 0 = usage 3
+make -extra 0 -extra 0 = usage 3
+make -o a -z a -points 1 -seed 1 = usage 4
+make -z a -points 1 -seed 1 -o a = usage 2
+make -o a -z a -points 1 -seed 1 -cores 0 = usage 10
+make -o a -z a = usage 5
+make -o a -z b -points 0 -seed 0 = make a b 0 0 0 0 50000 1
+make -o m.las -z m.laz -points 200000 -seed 7 -format 3 -extra 2 -cores 4 = make m.las m.laz 200000 7 3 2 50000 4
+make -seed 4294967295 -points 10000000 -z b -o a -extra 192 -chunk_size 256 = make a b 10000000 4294967295 0 192 256 1
+make -o -z -z -o -points 0007 -seed 00000000000000000008 -format 02 = make -z -o 7 8 2 0 50000 1
+make -o a.laz -z b.las -points 1 -seed 1 -cores 8 = make a.laz b.las 1 1 0 0 50000 8
+";
+
+#[test]
+fn lines_are_read(rt: HostRuntime) -> Result<(), Fail> {
+    let mut count = 0u32;
+    for row in LINES.lines() {
+        let (line, said) = row.split_once(" = ").ok_or("no answer")?;
+        let words = words_of(rt.alloc(), line)?;
+        let taps = taps(rt.alloc())?;
+        assert_eq!(rt; answer(rt.alloc(), &words, &taps)?.as_str(), said, "{line}");
+        count = count.saturating_add(1);
+    }
+    assert_eq!(rt; count, 310);
+    Ok(())
+}
+
+// The words of a line. The empty line has none.
+fn words_of(alloc: Global, line: &str) -> Result<Vec<String>, AllocError> {
+    let mut words = Vec::new(alloc);
+    if !line.is_empty() {
+        for word in line.split(' ') {
+            words.push(String::from_str(alloc, word)?)?;
+        }
+    }
+    Ok(words)
+}
+
+// The taps that may be named.
+fn taps(alloc: Global) -> Result<Vec<Box<dyn Tap>>, AllocError> {
+    let mut taps: Vec<Box<dyn Tap>> = Vec::new(alloc);
+    taps.push(Box::new(alloc, ClassTap::new(alloc))?)?;
+    taps.push(Box::new(alloc, ReturnTap::new(alloc))?)?;
+    Ok(taps)
+}
+
+// The answer to words as one line.
+fn answer(alloc: Global, words: &[String], taps: &[Box<dyn Tap>]) -> Result<String, AllocError> {
+    match read_words(alloc, words, taps) {
+        Ok(command) => line_of(alloc, command),
+        Err(WordFault::Usage(index)) => format!(in alloc; "usage {index}"),
+        Err(WordFault::Memory) => format!(in alloc; "no memory"),
+    }
+}
+
+// A command as one line.
+fn line_of(alloc: Global, command: Command) -> Result<String, AllocError> {
+    match command {
+        Command::Laszip {
+            input,
+            output,
+            chunk,
+            workers,
+        } => format!(in alloc; "laszip {input} {output} {chunk} {workers}"),
+        Command::Las2las {
+            input,
+            output,
+            plan,
+            packing,
+            workers,
+            start,
+            stop,
+        } => {
+            let packing = packing_in(alloc, packing)?;
+            let range = range_in(alloc, start, stop)?;
+            let keeps = plan.keeps;
+            let changes = plan.changes;
+            format!(in alloc;
+                "las2las {input} {output} {keeps:?} {changes:?} {packing} {workers}{range}"
+            )
+        }
+        Command::Lasinfo {
+            input,
+            tallies,
+            workers,
+        } => {
+            let names = joined(alloc, &tallies)?;
+            format!(in alloc; "lasinfo {input} {names} {workers}")
+        }
+        other => line_of_other(alloc, other),
+    }
+}
+
+// A command that splits, merges or makes files as one line.
+fn line_of_other(alloc: Global, command: Command) -> Result<String, AllocError> {
+    match command {
+        Command::Lassplit {
+            input,
+            stem,
+            end,
+            rule,
+            workers,
+        } => format!(in alloc; "lassplit {input} {stem}|{end} {rule:?} {workers}"),
+        Command::Lasmerge {
+            inputs,
+            output,
+            packing,
+            workers,
+            copy,
+        } => {
+            let names = joined(alloc, &inputs)?;
+            let packing = packing_in(alloc, packing)?;
+            let copied = if copy { " copied" } else { "" };
+            format!(in alloc; "lasmerge {names} {output} {packing}{copied} {workers}")
+        }
+        Command::Make {
+            output,
+            packed,
+            points,
+            seed,
+            format,
+            extra,
+            chunk,
+            workers,
+        } => format!(in alloc;
+            "make {output} {packed} {points} {seed} {format} {extra} {chunk} {workers}"
+        ),
+        _ => String::from_str(alloc, "another command"),
+    }
+}
+
+// How an output is written, in words.
+fn packing_in(alloc: Global, packing: Packing) -> Result<String, AllocError> {
+    let form = if packing.packed { "packed" } else { "plain" };
+    let chunk = packing.chunk;
+    format!(in alloc; "{form} {chunk}")
+}
+
+// The places of a range of records after blanks, unless it is the whole.
+fn range_in(alloc: Global, start: u32, stop: u32) -> Result<String, AllocError> {
+    if start == 0 && stop == u32::MAX {
+        return Ok(String::new(alloc));
+    }
+    format!(in alloc; " {start} {stop}")
+}
+
+// Names in brackets.
+fn joined(alloc: Global, names: &[String]) -> Result<String, AllocError> {
+    let mut text = String::from_str(alloc, "[")?;
+    for (i, name) in names.iter().enumerate() {
+        if i > 0 {
+            text.push_str(", ")?;
+        }
+        text.push_str(name.as_str())?;
+    }
+    text.push_str("]")?;
+    Ok(text)
+}

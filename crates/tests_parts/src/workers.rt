@@ -1,0 +1,343 @@
+//! Claims in turn, and crews that work a few inputs while a gate watches them and holds some of them.
+
+ghost use Rattle.std.specs.Prelude.{◌≡◌, ℕ, ◌*◌, ◌<◌, ◌≤◌, IfOk, length, vec_len, Contains};
+ghost use Rattle.laz_workers.specs.Rooms.{rooms_of, numbers_in};
+
+use las_outside::Gate;
+use laz_workers::{Claims, Crew, Job, Pass, run_all};
+use std::alloc::{AllocError, Global};
+use std::hint::spin_loop;
+use std::sync::atomic::{AtomicU64, Ordering};
+use std::test::Fail;
+use std::thread::Threads;
+
+// A claim, or `None` of a pass that is spent.
+fn draw(claims: &Claims, pass: &mut Pass) -> Option<u32>
+    requires { pass.old.claims ≡ claims.now }
+    ensures { (pass.new.claims ≡ pass.old.claims) × (pass.new.opens ≡ pass.old.opens) × (pass.new.out ≡ pass.old.out) }
+{
+    if pass.is_spent() {
+        return None;
+    }
+    claims.claim(pass)
+}
+
+#[test]
+fn two_passes_draw_in_turn(rt: HostRuntime) -> Result<(), Fail> {
+    let (claims, mut first) = Claims::new(rt.alloc(), 3, 2)?;
+    let mut second = claims.split(&mut first);
+    let drawn = [
+        draw(&claims, &mut first),
+        draw(&claims, &mut second),
+        draw(&claims, &mut first),
+        draw(&claims, &mut second),
+    ];
+    claims.join(&mut first, second);
+    assert_eq!(rt; claims.close(first), 4);
+    assert!(rt; drawn == [Some(0), Some(1), Some(2), None]);
+    Ok(())
+}
+
+#[test]
+fn no_number_is_left_of_none(rt: HostRuntime) -> Result<(), Fail> {
+    let (claims, mut pass) = Claims::new(rt.alloc(), 0, 1)?;
+    assert!(rt; draw(&claims, &mut pass).is_none() && pass.is_spent());
+    assert_eq!(rt; claims.close(pass), 1);
+    Ok(())
+}
+
+// Which numbers a gate holds: those below `below`, each until so many have entered and so many have left, for so many
+// turns at most.
+#[derive(Clone, Copy)]
+struct Hold {
+    below: u32,
+    entered: u64,
+    left: u64,
+    turns: u32,
+}
+
+const OPEN: Hold = Hold {
+    below: 0,
+    entered: 0,
+    left: 0,
+    turns: 200_000_000,
+};
+
+// A gate that holds some numbers, and counts the steps of each: it enters, is worked and leaves.
+#[derive(Drop)]
+struct Watch {
+    hold: Hold,
+    steps: Vec<AtomicU64>,
+    entered: AtomicU64,
+    left: AtomicU64,
+    // Steps out of order.
+    wrong: AtomicU64,
+    // Numbers that were held to the last turn.
+    missed: AtomicU64,
+}
+
+fn watch_of(alloc: Global, numbers: usize, hold: Hold) -> Result<Watch, AllocError> {
+    let mut steps = Vec::new(alloc);
+    for _ in 0..numbers {
+        steps.push(AtomicU64::new(0))?;
+    }
+    Ok(Watch {
+        hold,
+        steps,
+        entered: AtomicU64::new(0),
+        left: AtomicU64::new(0),
+        wrong: AtomicU64::new(0),
+        missed: AtomicU64::new(0),
+    })
+}
+
+impl Watch {
+    // Counts a step of a number, before which it had made so many.
+    fn step(&self, number: u32, before: u64) {
+        match self.steps.get(number as usize) {
+            Some(steps) if steps.fetch_add(1, Ordering::SeqCst) == before => {}
+            _ => {
+                self.wrong.fetch_add(1, Ordering::SeqCst);
+            }
+        }
+    }
+
+    fn wait(&self) {
+        for _ in 0..self.hold.turns {
+            if self.entered.load(Ordering::SeqCst) >= self.hold.entered
+                && self.left.load(Ordering::SeqCst) >= self.hold.left
+            {
+                return;
+            }
+            spin_loop();
+        }
+        self.missed.fetch_add(1, Ordering::SeqCst);
+    }
+
+    // Whether each number entered once, was worked once and then left once.
+    fn saw_each_once(&self) -> bool {
+        for steps in &self.steps {
+            if steps.load(Ordering::SeqCst) != 3 {
+                return false;
+            }
+        }
+        self.wrong.load(Ordering::SeqCst) == 0
+    }
+}
+
+impl Gate for Watch {
+    fn enter(&self, number: u32) {
+        self.step(number, 0);
+        self.entered.fetch_add(1, Ordering::SeqCst);
+        if number < self.hold.below {
+            self.wait();
+        }
+    }
+
+    fn leave(&self, number: u32) {
+        self.step(number, 2);
+        self.left.fetch_add(1, Ordering::SeqCst);
+    }
+}
+
+// An input is its number and a byte. A byte below 200 is answered with the next byte, and others are refused.
+#[derive(Drop)]
+struct Next<'a> {
+    watch: &'a Watch,
+}
+
+impl<'a> Job for Next<'a> {
+    type Space = ();
+
+    ghost answer = { λ _ _ _. Unit {0} };
+
+    ghost fits = { λ _ _ _. Unit {0} };
+
+    ghost suits = { λ _ _. Unit {0} };
+
+    fn work(&self, input: &[u8], _space: &mut (), room: &mut Vec<u8>) -> Option<usize> {
+        let [number, byte] = input else {
+            return None;
+        };
+        self.watch.step(u32::from(*number), 1);
+        if *byte >= 200 || room.is_empty() {
+            return None;
+        }
+        room[0] = byte.wrapping_add(1);
+        Some(1)
+    }
+}
+
+// A crew of `hands` hands, each room of one byte.
+fn crew_of(alloc: Global, hands: u32) -> Result<Crew<()>, AllocError>
+    requires { hands ≤ 8 }
+    ensures { IfOk result (λ c. length c ≡ hands) }
+{
+    let mut crew = Crew::new(alloc);
+    for _hand in 0..hands {
+        if crew.add((), 1).is_err() {
+            return Err(AllocError);
+        }
+    }
+    Ok(crew)
+}
+
+fn inputs_of(alloc: Global, bytes: &[u8]) -> Result<Vec<Vec<u8>>, AllocError>
+    ensures { IfOk result (λ v. vec_len v ≡ length bytes.now) }
+{
+    let mut inputs = Vec::new(alloc);
+    let mut number = 0u8;
+    for byte in bytes {
+        inputs.push(vec![in alloc; number, *byte]?)?;
+        number = number.wrapping_add(1);
+    }
+    Ok(inputs)
+}
+
+// Works inputs by a crew of `hands` hands. Gives the crew and the word at the end.
+fn worked<R: Threads + Sync>(
+    rt: &R,
+    alloc: Global,
+    watch: &Watch,
+    hands: u32,
+    inputs: &[Vec<u8>],
+) -> Result<(Crew<()>, u64), AllocError>
+    requires hands { (0 < hands) × (hands ≤ 8) }
+    requires inputs { length inputs.now ≤ 2 * hands }
+    ensures { IfOk result (λ r. (n : ℕ) → n < length inputs.now → Contains (numbers_in (rooms_of r.0)) n) }
+{
+    let mut crew = crew_of(alloc, hands)?;
+    let (claims, first) = Claims::new(alloc, inputs.len() as u32, hands)?;
+    let mut passes = Vec::new(alloc);
+    claims.deal(first, &mut passes)?;
+    let job = Next { watch };
+    run_all(rt, &job, watch, inputs, &mut crew, &claims, &mut passes);
+    let Some(joined) = passes.pop() else {
+        return Err(AllocError);
+    };
+    Ok((crew, claims.close(joined)))
+}
+
+// Whether each input's answer stands under its number.
+fn stands_by_number(crew: &Crew<()>, bytes: &[u8]) -> bool
+    requires stands { (n : ℕ) → n < length bytes.now → Contains (numbers_in (rooms_of crew.now)) n }
+    requires few { length bytes.now ≤ 16 }
+{
+    for i in 0..bytes.len() {
+        let right = match crew.result(i as u32) {
+            Some(answer) => bytes[i] < 200 && answer == [bytes[i].wrapping_add(1)].as_slice(),
+            None => bytes[i] >= 200,
+        };
+        if !right {
+            return false;
+        }
+    }
+    true
+}
+
+// Works bytes by a crew of 1 to 8 hands, at most two bytes for each. Whether each is worked once inside the gate, its
+// answer stands under its number, and no more is drawn than a number past the total by each hand; and how many numbers
+// were held to the last turn.
+fn crew_works<R: Threads + Sync>(
+    rt: &R,
+    alloc: Global,
+    hands: u32,
+    bytes: &[u8],
+    hold: Hold,
+) -> Result<(bool, u64), Fail> {
+    if hands == 0 || hands > 8 || bytes.len() > 2 * hands as usize {
+        return Ok((false, 0));
+    }
+    let watch = watch_of(alloc, bytes.len(), hold)?;
+    let inputs = inputs_of(alloc, bytes)?;
+    let (crew, word) = worked(rt, alloc, &watch, hands, &inputs)?;
+    let right = crew.hands() == hands as usize
+        && stands_by_number(&crew, bytes)
+        && watch.saw_each_once()
+        && word >= bytes.len() as u64
+        && word <= bytes.len() as u64 + u64::from(hands);
+    Ok((right, watch.missed.load(Ordering::SeqCst)))
+}
+
+// Number 0 is held until number 1 has entered.
+#[test]
+fn two_hands_meet(rt: HostRuntime) -> Result<(), Fail> {
+    let hold = Hold {
+        below: 1,
+        entered: 2,
+        ..OPEN
+    };
+    assert_eq!(rt; crew_works(&rt, rt.alloc(), 2, &[10, 20], hold)?, (true, 0));
+    Ok(())
+}
+
+// Number 0 is held for a thousand turns, since no input leaves twice. Some inputs are refused.
+#[test]
+fn sixteen_inputs_stand_by_number(rt: HostRuntime) -> Result<(), Fail> {
+    let hold = Hold {
+        below: 1,
+        left: 17,
+        turns: 1000,
+        ..OPEN
+    };
+    let bytes = [3, 250, 5, 199, 200, 0, 1, 2, 77, 255, 100, 9, 8, 7, 6, 5];
+    assert_eq!(rt; crew_works(&rt, rt.alloc(), 8, &bytes, hold)?, (true, 1));
+    Ok(())
+}
+
+#[test]
+fn one_hand_works_two_inputs(rt: HostRuntime) -> Result<(), Fail> {
+    assert_eq!(rt;
+        crew_works(&rt, rt.alloc(), 1, &[201, 41], OPEN)?,
+        (true, 0)
+    );
+    Ok(())
+}
+
+#[test]
+fn some_hands_have_no_input(rt: HostRuntime) -> Result<(), Fail> {
+    let bytes = [1, 2, 3, 204, 5, 6, 7];
+    for hands in 1u32..9 {
+        let some = &bytes[..hands as usize - 1];
+        assert_eq!(rt;
+            crew_works(&rt, rt.alloc(), hands, some, OPEN)?,
+            (true, 0),
+            "at {hands}"
+        );
+    }
+    Ok(())
+}
+
+// While one hand is held at number 0, the other works both other inputs: numbers that were dealt to hands before the
+// fan-out would leave one of them with the held hand.
+#[test]
+fn a_free_hand_goes_on(rt: HostRuntime) -> Result<(), Fail> {
+    let hold = Hold {
+        below: 1,
+        left: 2,
+        ..OPEN
+    };
+    assert_eq!(rt;
+        crew_works(&rt, rt.alloc(), 2, &[10, 20, 30], hold)?,
+        (true, 0)
+    );
+    Ok(())
+}
+
+// Four inputs meet, by four hands and by eight.
+#[test]
+fn four_hands_meet(rt: HostRuntime) -> Result<(), Fail> {
+    let hold = Hold {
+        below: 4,
+        entered: 4,
+        ..OPEN
+    };
+    for hands in [4u32, 8] {
+        assert_eq!(rt;
+            crew_works(&rt, rt.alloc(), hands, &[1, 2, 3, 4], hold)?,
+            (true, 0),
+            "at {hands}"
+        );
+    }
+    Ok(())
+}
