@@ -17,6 +17,3 @@ pub use fault::MakeFault;
 pub use laws::{faults_leave_unfinished_outputs, made_files_are_packed};
 pub use making::{Sizes, make};
 pub use settings::{MAX_POINTS, Settings};
-
-#[cfg(test)]
-mod tests;

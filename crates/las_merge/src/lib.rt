@@ -23,8 +23,3 @@ pub use laws::{
     parts_merge_to_the_whole,
 };
 pub use merging::merge;
-
-#[cfg(test)]
-mod copied_tests;
-#[cfg(test)]
-mod tests;

@@ -3,12 +3,18 @@ use Rattle.std.proofs.Common.{◌≡◌, Some, [], ◌∷◌, ◌++◌, codes, r
 use Rattle.std.specs.Fmt.{digits}
 use Rattle.las_header.specs.declared.refusal.Refusal.TheVariants.{BadChunk, NotPacked, RawRange, Trailing}
 use Rattle.las_merge.specs.declared.fault.MergeFault.TheVariants.{At, Unequal}
-use Rattle.las_merge.specs.declared.field.Field.TheVariants.{Bounds}
+use Rattle.las_merge.specs.declared.field.Field.TheVariants.{Format, Length, Scales, Offsets, Bounds}
 use Rattle.laz_file.specs.declared.fault.Fault.TheVariants as file
 use Rattle.las_run.specs.declared.stop.Surplus.TheVariants.{Chunks, Points}
-use Rattle.las_run.specs.Endings.{Usage, Unread, Refused, Differs, HasTooMany}
-use Rattle.las_run.specs.Lines.{line_of}
+use Rattle.las_run.specs.Endings.{Memory, Usage, Unread, Unwritten, Refused, Differs, HasTooMany}
+use Rattle.las_run.specs.Lines.{field_name, line_of}
 use Rattle.las_run.specs.Tools.{cause_at, cause_of_fault, made_text}
+
+no_memory : line_of Memory ≡ codes "no memory" ++ 10 ∷ []
+no_memory = refl
+
+write_fault : line_of Unwritten ≡ codes "write fault" ++ 10 ∷ []
+write_fault = refl
 
 fifth : line_of (Usage 5) ≡ codes "usage: word 5" ++ 10 ∷ []
 unfolding digits
@@ -48,6 +54,13 @@ chunk_of_the_second = refl
 
 unequal : line_of (Differs (codes "b.las") Bounds) ≡ codes "unequal: b.las: box" ++ 10 ∷ []
 unequal = refl
+
+formats : line_of (Differs (codes "b.las") Format) ≡ codes "unequal: b.las: format" ++ 10 ∷ []
+formats = refl
+
+-- the other fields have their words too
+fields : (field_name Length ≡ codes "length") × (field_name Scales ≡ codes "scales") × (field_name Offsets ≡ codes "offsets")
+fields = (refl, refl, refl)
 
 too_many : line_of (HasTooMany Points) ≡ codes "too many points" ++ 10 ∷ []
 too_many = refl

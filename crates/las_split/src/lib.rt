@@ -19,6 +19,3 @@ pub use laws::parts_join;
 pub use limits::MAX_PARTS;
 pub use numbering::part_of;
 pub use part_names::PartNames;
-
-#[cfg(test)]
-mod tests;
