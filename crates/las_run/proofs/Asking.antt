@@ -1,43 +1,71 @@
 -- How many bytes `las2las` asks for, by what its calls say of a reader.
-use Rattle.std.proofs.Common.{◌≡◌, ℕ, ◌+◌, ◌-◌, ◌≤◌, Bool, true, false, cond, min, List, [], ◌∷◌, length, drop, map, sum, Option, Some, None, Result, Ok, Err, refl, sym, ◌∙◌, ap, subst, arith}
+use Rattle.std.proofs.Common.{◌≡◌, ℕ, ◌+◌, ◌-◌, ◌≤◌, Bool, true, false, cond, min, List, [], ◌∷◌, length, drop, map, sum, Option, Some, None, IsSomeAnd, Result, Ok, Err, refl, sym, ◌∙◌, ap, subst, arith}
+use Rattle.std.specs.FinMap as finmap
 use Rattle.las_header.specs.declared.refusal.Refusal.{Refusal}
 use Rattle.las_header.specs.Fields.{head_of, points_of}
 use Rattle.las_header.specs.Heads.{HeadView}
-use Rattle.las_outside.specs.Files.{WhereKnown}
+use Rattle.las_outside.specs.Files.{FileMap, IsMissing, WhereKnown}
 use Rattle.las_outside.specs.Outside.{Outside}
 use Rattle.las_words.specs.declared.command.Command.{Command}
 use Rattle.las_words.specs.declared.command.WordFault.{WordFault}
 use Rattle.las_words.specs.declared.command.WordFault.TheVariants as fault
 use Rattle.las_words.specs.Asked.{Asked, Las2lasOptions, Work, asked_by, las2las, reads, work_by}
 use Rattle.las_words.specs.Says.{Said, asks, usage}
-use Rattle.laz_file.specs.Asking.{AsksAtMost, asked_for_list, bytes_left}
+use Rattle.laz_file.specs.Asking.{AsksAtMost, asked_to_open, bytes_left}
 use Rattle.laz_file.specs.Pieces.{ArePieces, Piece}
 use Rattle.laz_file.specs.Ranges.{Range, parts_of}
-use Rattle.laz_file.specs.Reading.{ReaderSeen, StandsFor, chunk_of, chunks_in}
-use Rattle.laz_file.specs.Refusing.{IsAcceptedFile, IsRefusal}
+use Rattle.laz_file.specs.Reading.{ReaderSeen, StandsFor}
+use Rattle.laz_file.specs.Refusing.{IsRefusal}
+use Rattle.laz_file.proofs.Knowing.{known_three}
 use Rattle.laz_file.proofs.OneAnswer.{one_pieces, refused_once}
-use Rattle.las_run.specs.declared.stop.Stop.{Stop}
-use Rattle.las_run.specs.declared.stop.Stop.TheVariants as halt
-use Rattle.las_run.specs.Asking.{AsksFor, WorkAsks, asked_for, bytes_in}
-use Rattle.las_run.specs.Endings.{status_of}
-use Rattle.las_run.specs.Ends.{IsRead, StopsOpening, cause_of, names_read, stop_of}
-use Rattle.las_run.specs.Runs.{files_read}
+use Rattle.las_run.specs.Asking.{AsksFor, AsksOf, WorkAsks, bytes_in}
+use Rattle.las_run.specs.Ends.{IsRead}
 use Rattle.las_run.specs.Tools.{range_in}
-use Rattle.las_run.proofs.Opening.{both_known, known_more}
+use Rattle.las_run.proofs.Opening.{known_more}
 
 none_is_some : (c : Refusal) → ◌≡◌ {A = Option Refusal} None (Some c) → ⊥
 none_is_some c e = absurd (cc)
 
--- an input that could not be opened is not accepted, or the status tells the reason
-pub asks_opening : (name : List ℕ) (start stops_at : ℕ) (old new : Outside) (s : Stop) → StopsOpening 0 name old new s → AsksFor name start stops_at old new (status_of (cause_of (name ∷ []) (Err s)))
-asks_opening name start stops_at old new halt.Memory stops one three = absurd (one refl)
-asks_opening name start stops_at old new (halt.Usage index) stops one three = absurd stops
-asks_opening name start stops_at old new (halt.Read number) stops one three = absurd (three refl)
-asks_opening name start stops_at old new halt.Write stops one three = absurd stops
-asks_opening name start stops_at old new (halt.Refused number cause) stops one three =
-    known_more old.held name (λ file. IsRefusal file (Some cause)) _ (λ file is accepted pieces are. absurd (none_is_some cause (refused_once file None (Some cause) accepted is))) stops.1
-asks_opening name start stops_at old new (halt.Differs number field) stops one three = absurd stops
-asks_opening name start stops_at old new (halt.TooMany surplus) stops one three = absurd stops
+-- a name that is not missing
+where_there : (held : Option FileMap) (name : List ℕ) (P : List ℕ → Type 0) → ((file : List ℕ) → P file) → (IsMissing held name → ⊥) → WhereKnown held name P
+where_there None name P all there = tt
+where_there (Some files) name P all there = by (finmap.get files name) refl
+  where
+    by : (o : Option (List ℕ)) → finmap.get files name ≡ o → IsSomeAnd o P
+    by None is = absurd (there is)
+    by (Some file) is = all file
+
+not_missing : {X : Type 0} (held : Option FileMap) (name : List ℕ) (P : List ℕ → Type 0) → WhereKnown held name P → IsMissing held name → X
+not_missing None name P known missing = absurd missing
+not_missing (Some files) name P known missing = absurd (subst (λ (o : Option (List ℕ)). IsSomeAnd o P) missing known)
+
+-- from what is known of the input, or of none
+by_input : (input : List ℕ) (start stop : ℕ) (old new : Outside) → (IsMissing old.held input → new.asked ≡ old.asked)
+    → ((IsMissing old.held input → ⊥) → WhereKnown old.held input (λ file. AsksOf (Some file) start stop old new)) → AsksFor input start stop old new
+by_input input start stop old new missing there known held = by (finmap.get known input) refl
+  where
+    none_some : (o : Option (List ℕ)) (file : List ℕ) → o ≡ Some file → o ≡ None → ⊥
+    none_some o file is none = absurd (cc)
+    of_some : (o : Option (List ℕ)) (file : List ℕ) → o ≡ Some file → IsSomeAnd o (λ file. AsksOf (Some file) start stop old new) → AsksOf (Some file) start stop old new
+    of_some None file is p = absurd p
+    of_some (Some other) file is p = let same : other ≡ file = cc in subst (λ (f : List ℕ). AsksOf (Some f) start stop old new) same p
+    by : (o : Option (List ℕ)) → finmap.get known input ≡ o → AsksOf o start stop old new
+    by None is = missing (subst (λ (h : Option FileMap). IsMissing h input) (sym held) is)
+    by (Some file) is =
+        let here : IsMissing old.held input → ⊥ = λ gone. none_some (finmap.get known input) file is (subst (λ (h : Option FileMap). IsMissing h input) held gone) in
+        of_some (finmap.get known input) file is (subst (λ (h : Option FileMap). WhereKnown h input (λ file. AsksOf (Some file) start stop old new)) held (there here))
+
+-- an input that could not be opened
+pub asks_opening : (input : List ℕ) (start stop : ℕ) (old new : Outside) → (IsMissing old.held input → new.asked ≡ old.asked)
+    → ((IsMissing old.held input → ⊥) → WhereKnown old.held input (λ file. AsksAtMost (asked_to_open file) old new)) → AsksFor input start stop old new
+asks_opening input start stop old new missing opened =
+    by_input input start stop old new missing (λ there. known_more old.held input (λ file. AsksAtMost (asked_to_open file) old new) (λ file. AsksOf (Some file) start stop old new) (λ file most. (λ cause is. most, λ pieces are. omega (arith, most))) (opened there))
+
+-- no file that was asked for anything
+asks_nothing : (input : List ℕ) (start stop : ℕ) (old new : Outside) → new ≡ old → AsksFor input start stop old new
+asks_nothing input start stop old new same =
+    let none : new.asked ≡ old.asked = ap (λ (o : Outside). o.asked) same in
+    by_input input start stop old new (λ missing. none) (where_there old.held input (λ file. AsksOf (Some file) start stop old new) (λ file. (λ cause is. omega (arith, none), λ pieces are. omega (arith, none))))
 
 if_less : (b : Bool) (n : ℕ) → cond b 0 n ≤ n
 if_less true n = omega arith
@@ -61,55 +89,41 @@ left_bytes reader file pieces start stop s unread range are =
     let less = if_less reader.bad (bytes_in reader.left) in
     omega (arith, whole, less)
 
--- what opening a reader asks for, in the words of its file
-pub open_bytes : (reader : ReaderSeen) (file : List ℕ) (pieces : List Piece) → StandsFor reader file → ArePieces file pieces
-    → length reader.head.bytes + asked_for_list reader.chunk (length reader.pieces)
-    ≡ length (head_of file) + asked_for_list (chunk_of (head_of file)) (length (chunks_in (chunk_of (head_of file)) pieces))
-open_bytes reader file pieces s are =
-    let head : reader.head.bytes ≡ head_of file = ap (λ (v : HeadView). v.bytes) s.head in
-    ap (λ (b : List ℕ). length b + asked_for_list reader.chunk (length reader.pieces)) head
-    ∙ ap (λ (ps : List Piece). length (head_of file) + asked_for_list reader.chunk (length ps)) (s.chunks ∙ ap (chunks_in reader.chunk) (one_pieces file s.pieces pieces s.are are))
-    ∙ ap (λ (c : Option ℕ). length (head_of file) + asked_for_list c (length (chunks_in c pieces))) s.chunk
-
--- both together
-pub asks_both : (reader : ReaderSeen) (input : List ℕ) (start stop status : ℕ) (old mid new : Outside) → WhereKnown old.held input (StandsFor reader)
-    → AsksAtMost (length reader.head.bytes + asked_for_list reader.chunk (length reader.pieces)) old mid
+-- an input that was opened
+pub asks_both : (reader : ReaderSeen) (input : List ℕ) (start stop : ℕ) (old mid new : Outside) → WhereKnown old.held input (StandsFor reader)
+    → ((IsMissing old.held input → ⊥) → WhereKnown old.held input (λ file. AsksAtMost (asked_to_open file) old mid))
     → WhereKnown old.held input (λ file. (pieces : List Piece) → ArePieces file pieces → AsksAtMost (bytes_in (parts_of file (range_in start stop file) pieces)) mid new)
-    → AsksFor input start stop old new status
-asks_both reader input start stop status old mid new stands opened rest one three =
+    → AsksFor input start stop old new
+asks_both reader input start stop old mid new stands opened rest =
+    let Opened : List ℕ → Type 0 = λ file. AsksAtMost (asked_to_open file) old mid in
     let Rest : List ℕ → Type 0 = λ file. (pieces : List Piece) → ArePieces file pieces → AsksAtMost (bytes_in (parts_of file (range_in start stop file) pieces)) mid new in
-    known_more old.held input (λ file. StandsFor reader file × Rest file) _
-    (λ file h accepted pieces are. let more = h.1 pieces are in let front = open_bytes reader file pieces h.0 are in omega (arith, opened, more, front))
-    (both_known old.held input (StandsFor reader) Rest stands rest)
+    by_input input start stop old new (not_missing old.held input (StandsFor reader) stands) (λ there.
+    known_three old.held input (StandsFor reader) Opened Rest (λ file. AsksOf (Some file) start stop old new)
+    (λ file s front more. (λ cause is. absurd (none_is_some cause (refused_once file None (Some cause) s.accepted is)), λ pieces are. let last = more pieces are in omega (arith, front, last)))
+    stands (opened there) rest)
 
 -- of words that were read
-pub asks_read : (said : Said) (read : Result Command WordFault) (input : List ℕ) (options : Las2lasOptions) (workers : ℕ) (outcome : Result (Unit {0}) Stop) (old new : Outside) (status : ℕ)
-    → IsRead said read → said ≡ asks (record { work = reads input (las2las options); workers = workers }) → status ≡ status_of (cause_of (names_read read) outcome)
-    → ((f : WordFault) → read ≡ Err f → outcome ≡ Err (stop_of f))
-    → ((command : Command) → read ≡ Ok command → WorkAsks (work_by command) old new (status_of (cause_of (names_read read) outcome)))
-    → AsksFor input options.start options.stop old new status
-asks_read said (Ok command) input options workers outcome old new status is asked status_is unread work =
+pub asks_read : (said : Said) (read : Result Command WordFault) (input : List ℕ) (options : Las2lasOptions) (workers : ℕ) (old new : Outside)
+    → IsRead said read → said ≡ asks (record { work = reads input (las2las options); workers = workers })
+    → ((f : WordFault) → read ≡ Err f → new ≡ old)
+    → ((command : Command) → read ≡ Ok command → WorkAsks (work_by command) old new)
+    → AsksFor input options.start options.stop old new
+asks_read said (Ok command) input options workers old new is asked unread work =
     let same : asks (asked_by command) ≡ asks (record { work = reads input (las2las options); workers = workers }) = sym is ∙ asked in
     let by : work_by command ≡ reads input (las2las options) = work_same (asked_by command) (record { work = reads input (las2las options); workers = workers }) same in
-    subst (λ (n : ℕ). AsksFor input options.start options.stop old new n) (sym status_is)
-    (subst (λ (w : Work). WorkAsks w old new (status_of (cause_of (names_read (Ok command)) outcome))) by (work command refl))
+    subst (λ (w : Work). WorkAsks w old new) by (work command refl)
   where
     work_same : (a b : Asked) → asks a ≡ asks b → a.work ≡ b.work
     work_same a b e = let inner : a ≡ b = cc in ap (λ (x : Asked). x.work) inner
-asks_read said (Err (fault.Usage index)) input options workers outcome old new status is asked status_is unread work = absurd (apart (record { work = reads input (las2las options); workers = workers }) index (sym asked ∙ is))
+asks_read said (Err (fault.Usage index)) input options workers old new is asked unread work = absurd (apart (record { work = reads input (las2las options); workers = workers }) index (sym asked ∙ is))
   where
     apart : (asked : Asked) (index : ℕ) → asks asked ≡ usage index → ⊥
     apart asked index e = absurd (cc)
-asks_read said (Err fault.Memory) input options workers outcome old new status is asked status_is unread work = λ one three.
-    absurd (one (status_is ∙ ap (λ (o : Result (Unit {0}) Stop). status_of (cause_of [] o)) (unread fault.Memory refl)))
+asks_read said (Err fault.Memory) input options workers old new is asked unread work = asks_nothing input options.start options.stop old new (unread fault.Memory refl)
 
 -- of a command that was obeyed
-pub asks_obeyed : (said : Result Command WordFault) (own command : Command) (outcome : Result (Unit {0}) Stop) (old new : Outside) → said ≡ Ok own → said ≡ Ok command
-    → WorkAsks (work_by own) old new (status_of (cause_of (files_read (work_by own)) outcome)) → WorkAsks (work_by command) old new (status_of (cause_of (names_read said) outcome))
-asks_obeyed said own command outcome old new is are work =
-    let same : own ≡ command = ok_same own command (sym is ∙ are) in
-    subst (λ (r : Result Command WordFault). WorkAsks (work_by command) old new (status_of (cause_of (names_read r) outcome))) (sym are)
-    (subst (λ (x : Command). WorkAsks (work_by x) old new (status_of (cause_of (files_read (work_by x)) outcome))) same work)
+pub asks_obeyed : (said : Result Command WordFault) (own command : Command) (old new : Outside) → said ≡ Ok own → said ≡ Ok command → WorkAsks (work_by own) old new → WorkAsks (work_by command) old new
+asks_obeyed said own command old new is are work = subst (λ (x : Command). WorkAsks (work_by x) old new) (ok_same own command (sym is ∙ are)) work
   where
     ok_same : (a b : Command) → ◌≡◌ {A = Result Command WordFault} (Ok a) (Ok b) → a ≡ b
     ok_same a b e = cc

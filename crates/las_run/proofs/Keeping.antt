@@ -90,7 +90,7 @@ module _ (run : RunSeen) where
   -- how much `las2las` asks for
   abbrev pub Asks : Type 0
   Asks = (input : List ℕ) (options : Las2lasOptions) (workers : ℕ) → run.task.said ≡ words.asks (record { work = reads input (las2las options); workers = workers })
-      → AsksFor input options.start options.stop run.files run.files_now run.status
+      → AsksFor input options.start options.stop run.files run.files_now
 
   pub keeps : (cause : Cause) → run.status ≡ status_of cause → Puts (line_of cause) run.err run.err_now → Ends run.task (change_of run) cause → EndsUnasked → Asks → Later run.files run.files_now → run.status ≤ 6 → KeepsPromises run
   keeps cause is line e unasked asks later few =

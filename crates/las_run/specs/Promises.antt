@@ -48,11 +48,12 @@ pub record KeepsPromises (run : RunSeen) : Type 0 where
       → (ending : Ending) × IsTheEnding run.task known ending × EndsAsDefined run known ending
   -- Over known files, a run ends as defined, unless memory is short or a count of faults rose.
   pub complete : (known : FileMap) (ending : Ending) → IsDue run known ending → EndsUnlessExcused run known ending
-  -- Of a known input that is accepted, `las2las` asks for no more than opening it takes, and the bytes of those of its
-  -- pieces that meet the range, unless memory is short or a read failed.
+  -- Over known files, and whatever ends the run, `las2las` asks for no more of its input than opening it takes, and the
+  -- bytes of those of its pieces that meet the range: no piece if it is refused when it is opened, and nothing at all if
+  -- it is missing.
   pub asks : (input : List ℕ) (options : Las2lasOptions) (workers : ℕ)
       → run.task.said ≡ words.asks (record { work = reads input (las2las options); workers = workers })
-      → AsksFor input options.start options.stop run.files run.files_now run.status
+      → AsksFor input options.start options.stop run.files run.files_now
   -- ---- faults, and what is left
   -- Status 3 comes only from an input that is known to be missing, or from a read that failed,
   pub read : run.status ≡ 3 → Any (IsMissing run.files.held) (inputs_of run.task.said)

@@ -1,9 +1,9 @@
 //! The inputs of a run.
-ghost use Rattle.std.specs.Prelude.{◌≡◌, ◌+◌, IfErr, IfOk, OnOk, length};
+ghost use Rattle.std.specs.Prelude.{◌≡◌, IfErr, IfOk, OnOk};
 ghost use Rattle.las_header.specs.Heads.{IsHead};
-ghost use Rattle.las_outside.specs.Files.{WhereKnown};
+ghost use Rattle.las_outside.specs.Files.{IsMissing, WhereKnown};
 ghost use Rattle.las_outside.specs.Outside.{Later};
-ghost use Rattle.laz_file.specs.Asking.{AsksAtMost, asked_for_list};
+ghost use Rattle.laz_file.specs.Asking.{AsksAtMost, asked_to_open};
 ghost use Rattle.laz_file.specs.Reading.{AgreesWithHead, IsNewReader, StandsFor};
 ghost use Rattle.las_run.specs.Ends.{StopsOpening, stop_by, stopped_by};
 
@@ -27,9 +27,10 @@ pub fn open_input<F: Files>(
     ensures stops { IfErr result (StopsOpening number name.now (F.seen files.old) (F.seen files.new)) }
     ensures held { (F.seen files.new).held ≡ (F.seen files.old).held }
     ensures writes { (F.seen files.new).write_faults ≡ (F.seen files.old).write_faults }
-    ensures asked { IfOk result (λ reader. AsksAtMost
-        (length reader.head.bytes + asked_for_list reader.chunk (length reader.pieces))
-        (F.seen files.old) (F.seen files.new)) }
+    ensures asked_of { (IsMissing (F.seen files.old).held name.now → ⊥) → WhereKnown (F.seen files.old).held name.now
+        (λ file. AsksAtMost (asked_to_open file) (F.seen files.old) (F.seen files.new)) }
+    ensures missing { IsMissing (F.seen files.old).held name.now
+        → (F.seen files.new).asked ≡ (F.seen files.old).asked }
     ensures later { Later (F.seen files.old) (F.seen files.new) }
 {
     match Reader::open(alloc, files, name) {

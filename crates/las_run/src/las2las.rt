@@ -13,7 +13,6 @@ ghost use Rattle.laz_file.specs.Asking.{AsksAtMost};
 ghost use Rattle.laz_file.specs.Pieces.{ArePieces, Piece};
 ghost use Rattle.laz_file.specs.Ranges.{parts_of};
 ghost use Rattle.las_run.specs.Asking.{AsksFor, bytes_in};
-ghost use Rattle.las_run.specs.Endings.{status_of};
 ghost use Rattle.las_run.specs.Ends.{Ends, EndsMaking, cause_of, quiet};
 ghost use Rattle.las_run.specs.Runs.{task_with};
 ghost use Rattle.las_run.specs.Tools.{Converts, range_in};
@@ -66,8 +65,7 @@ pub fn las2las<R: Threads + Sync, F: Files, G: Gate>(
       workers = workers;
     }))
         (quiet (F.seen files.old) (F.seen files.new) out) (cause_of (input.now ∷ []) result) }
-    ensures asks { AsksFor input.now places.start places.stop (F.seen files.old) (F.seen files.new)
-        (status_of (cause_of (input.now ∷ []) result)) }
+    ensures asks { AsksFor input.now places.start places.stop (F.seen files.old) (F.seen files.new) }
     ensures later { Later (F.seen files.old) (F.seen files.new) }
 {
     let reader = open_input(alloc, files, 0, input)?;

@@ -9,7 +9,6 @@ ghost use Rattle.las_words.specs.Says.{asks};
 ghost use Rattle.las_words.specs.Texts.{texts};
 ghost use Rattle.las_words.specs.declared.command.Command.{Command};
 ghost use Rattle.las_run.specs.Asking.{WorkAsks};
-ghost use Rattle.las_run.specs.Endings.{status_of};
 ghost use Rattle.las_run.specs.Runs.{Task, files_read, task_of};
 ghost use Rattle.las_run.specs.Ends.{Ends, IsRead, cause_of, names_read, stop_of};
 ghost use Rattle.las_run.specs.Promises.{KeepsPromises};
@@ -88,8 +87,7 @@ fn work<R: Threads + Sync, F: Files, O: Sink, G: Gate>(
       out_now = O.seen out.new;
     }) (cause_of (names_read said.now) result) }
     ensures asks { (command : Command) → said.now ≡ Ok command
-        → WorkAsks (work_by command) (F.seen files.old) (F.seen files.new)
-        (status_of (cause_of (names_read said.now) result)) }
+        → WorkAsks (work_by command) (F.seen files.old) (F.seen files.new) }
     ensures unread { (fault : WordFault) → said.now ≡ Err fault
         → (result ≡ Err (stop_of fault)) × (F.seen files.new ≡ F.seen files.old) }
     ensures later { Later (F.seen files.old) (F.seen files.new) }
@@ -128,8 +126,7 @@ fn obey<R: Threads + Sync, F: Files, O: Sink, G: Gate>(
       out = O.seen out.old;
       out_now = O.seen out.new;
     }) (cause_of (files_read (work_by command.now)) result) }
-    ensures asks { WorkAsks (work_by command.now) (F.seen files.old) (F.seen files.new)
-        (status_of (cause_of (files_read (work_by command.now)) result)) }
+    ensures asks { WorkAsks (work_by command.now) (F.seen files.old) (F.seen files.new) }
     ensures later { Later (F.seen files.old) (F.seen files.new) }
 {
     match command {

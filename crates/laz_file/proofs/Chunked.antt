@@ -19,7 +19,7 @@ use Rattle.laz_table.specs.VlrCauses.{chunk_count}
 use Rattle.laz_table.proofs.TableBytes.{fixed-bytes}
 use Rattle.laz_table.proofs.TableLaws.{holds-fixed, one-held}
 use Rattle.laz_file.specs.Packing.{record_layout}
-use Rattle.laz_file.specs.Pieces.{Piece, piece_bytes, pieces_from, whole_piece}
+use Rattle.laz_file.specs.Pieces.{piece_bytes, pieces_from, whole_piece}
 use Rattle.laz_file.specs.Records.{HoldBlocks, HoldsBlock, HoldsChunk, HoldsIf, cut_block}
 use Rattle.laz_file.proofs.Blocks.{AreBlocks}
 

@@ -12,6 +12,7 @@ use Rattle.las_header.specs.declared.refusal.Refusal.TheVariants as cause
 use Rattle.las_header.specs.Counting.{short_bytes, long_bytes}
 use Rattle.las_header.specs.Numbers.{number_at}
 use Rattle.las_header.specs.Refusals.{first_cause}
+use Rattle.laz_file.specs.Asking.{asked_to_open}
 use Rattle.laz_file.specs.Hands.{chunks_packed, hands_for}
 use Rattle.laz_file.specs.Outputs.{finished, stopped}
 use Rattle.laz_file.specs.Packing.{blocks_of, packed_file}
@@ -116,6 +117,16 @@ named_at_the_end : (length last_pointer ≡ 374) × (table_place last_pointer �
     × (has_bad_pointer last_pointer ≡ false)
 unfolding number_at
 named_at_the_end = (refl, refl, refl, refl, refl)
+
+-- ---- what opening asks for: a head of 227 or 321 bytes, 16 bytes of pointers, and 12 and 24 for each chunk that the table
+-- begins with, up to 2^24; of a file that is refused by its first 227 bytes, those
+to_open : (asked_to_open one ≡ 227) × (asked_to_open (one_packed pointer) ≡ 373) × (asked_to_open last_pointer ≡ 373) × (asked_to_open (replicate 10 0) ≡ 227)
+unfolding number_at
+to_open = (refl, refl, refl, refl)
+
+many_to_open : asked_to_open (head 321 1 128 1 ++ vlr ++ pointer ++ chunk ++ replicate 8 255) ≡ 402653533
+unfolding number_at
+many_to_open = refl
 
 -- ---- what tests refuse
 no_cause : (first_cause (tested_causes one) ≡ None) × (first_cause (tested_causes (one_packed pointer)) ≡ None) × (first_cause (tested_causes last_pointer) ≡ None)

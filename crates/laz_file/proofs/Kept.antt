@@ -1,10 +1,10 @@
 -- The pieces that a reader keeps of the chunks of a packed file.
-use Rattle.std.proofs.Common.{◌≡◌, inl, inr, ℕ, zero, suc, ◌+◌, ◌-◌, ◌*◌, ◌<◌, ◌≤◌, ◌==◌, Bool, cond, List, [], ◌∷◌, length, take, drop, get_or, refl, sym, ◌∙◌, ap, subst, add-zero, arith, eq-eqb}
+use Rattle.std.proofs.Common.{◌≡◌, inl, inr, ℕ, zero, suc, ◌+◌, ◌-◌, ◌<◌, ◌≤◌, Bool, cond, List, [], ◌∷◌, length, take, drop, get_or, refl, sym, ◌∙◌, ap, arith, eq-eqb}
 use Rattle.std.specs.Prelude.{sum}
 use Rattle.std.proofs.lemmas.Bool.{cases_eq, ne_eqb}
 use Rattle.std.proofs.lemmas.List.{drop-drop, drop-take, length-drop, length-take, take_all}
 use Rattle.laz_file.specs.declared.seeking.Ends.{Ends}
-use Rattle.laz_file.specs.Pieces.{Piece, pieces_from, whole_piece}
+use Rattle.laz_file.specs.Pieces.{Piece, pieces_from}
 use Rattle.laz_file.specs.Ranges.{cuts_from, left_of, pieces_kept, skip_at, tail_at, taken_at}
 use Rattle.laz_file.proofs.Sums.{sum-first}
 

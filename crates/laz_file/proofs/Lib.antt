@@ -31,6 +31,7 @@ pub mod Knowing
 pub mod Filling
 pub mod Heads
 pub mod TableFront
+pub mod OpeningAsks
 pub mod PieceLists
 pub mod Kept
 pub mod Parts

@@ -1,8 +1,8 @@
 -- A new reader stands for its file.
-use Rattle.std.proofs.Common.{◌≡◌, ℕ, ◌+◌, ◌-◌, ◌≤◌, List, [], length, drop, true, false, Option, Some, None, refl, sym, ◌∙◌, ap, arith}
+use Rattle.std.proofs.Common.{◌≡◌, ℕ, ◌+◌, ◌-◌, List, [], length, false, Option, None, sym, ◌∙◌, ap, arith}
 use Rattle.las_header.specs.Fields.{points_of}
 use Rattle.las_header.specs.Heads.{HeadView}
-use Rattle.laz_file.specs.Pieces.{Piece, pieces_from}
+use Rattle.laz_file.specs.Pieces.{pieces_from}
 use Rattle.laz_file.specs.Ranges.{Range, first_of, parts_of, whole_range}
 use Rattle.laz_file.specs.Reading.{AgreesWithHead, IsHeadOf, ListsPieces, ReaderSeen, ReadsAll, StandsFor, chunk_of, pieces_listed, records_in}
 use Rattle.laz_file.proofs.AllParts.{all_of}

@@ -1,5 +1,5 @@
 -- Pieces that meet a range, piece by piece.
-use Rattle.std.proofs.Common.{◌≡◌, inl, inr, ℕ, zero, suc, ◌+◌, ◌-◌, ◌<◌, ◌≤◌, ◌==◌, nat_lt, min, Bool, true, false, cond, List, [], ◌∷◌, length, map, take, drop, get_or, refl, sym, ◌∙◌, ap, subst, arith, eq-eqb}
+use Rattle.std.proofs.Common.{◌≡◌, inl, inr, ℕ, zero, suc, ◌+◌, ◌-◌, ◌<◌, ◌≤◌, Bool, cond, List, [], ◌∷◌, length, map, take, drop, get_or, refl, sym, ◌∙◌, ap, subst, arith, eq-eqb}
 use Rattle.std.specs.Prelude.{All, max, sum}
 use Rattle.std.proofs.lemmas.List.Elements.{All-cons, All-head, All-nil, All-tail, recursion_from_All}
 use Rattle.std.specs.List.{AllByRecursion}
@@ -9,7 +9,7 @@ use Rattle.std.proofs.lemmas.List.Sums.{sum_by-append, sum_by-take-drop}
 use Rattle.std.proofs.Math.Seq.{drop-cons, take-add}
 use Rattle.laz_file.specs.declared.seeking.Ends.{Ends}
 use Rattle.laz_file.specs.Pieces.{Piece, pieces_from, whole_piece}
-use Rattle.laz_file.specs.Ranges.{IsSought, Range, first_in, left_of, part_in, parts_in, pieces_kept, skip_at, tail_at, taken_of}
+use Rattle.laz_file.specs.Ranges.{IsSought, Range, first_in, part_in, parts_in, pieces_kept, skip_at, tail_at, taken_of}
 use Rattle.laz_file.proofs.Sums.{sum-first}
 
 module _ (range : Range) where

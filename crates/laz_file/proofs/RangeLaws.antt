@@ -1,15 +1,12 @@
 -- The records of ranges: one answer, all records, no records, and a slice of all records.
-use Rattle.std.proofs.Common.{◌≡◌, inl, inr, ℕ, zero, suc, ◌+◌, ◌-◌, ◌*◌, ◌<◌, ◌≤◌, Bool, true, false, List, [], ◌∷◌, ◌++◌, length, map, take, drop, slice_get, Option, Some, None, refl, sym, ◌∙◌, ap, subst, arith}
-use Rattle.std.specs.Prelude.{sum}
-use Rattle.std.specs.List.{concat}
-use Rattle.std.proofs.lemmas.Bool.{cases_lt, lt-leb}
-use Rattle.las_header.specs.Fields.{head_of, is_packed, point_offset_of, points_of, record_length_of}
+use Rattle.std.proofs.Common.{◌≡◌, ℕ, ◌+◌, ◌-◌, ◌*◌, ◌≤◌, Bool, true, false, List, [], ◌∷◌, length, take, drop, Option, Some, None, refl, sym, ◌∙◌, ap, subst, arith}
+use Rattle.las_header.specs.Fields.{head_of, is_packed, point_offset_of, record_length_of}
 use Rattle.laz_file.specs.Copying.{AreOnlyRecordsIn}
-use Rattle.laz_file.specs.Laws.{IsEmptyRange, IsRangeReadOnce, IsWholeOfAll, pieces_before, IsBadIf}
-use Rattle.laz_file.specs.Pieces.{ArePieces, Piece, pieces_from, plain_from}
-use Rattle.laz_file.specs.Ranges.{Range, first_of, parts_if, parts_in, parts_of, taken_of, whole_range}
+use Rattle.laz_file.specs.Laws.{IsEmptyRange, IsRangeReadOnce, IsWholeOfAll}
+use Rattle.laz_file.specs.Pieces.{Piece, plain_from}
+use Rattle.laz_file.specs.Ranges.{Range, first_of, parts_if, parts_of, whole_range}
 use Rattle.laz_file.specs.Reading.{ReaderSeen, StandsFor}
-use Rattle.laz_file.specs.Records.{AreRead, AreRecordsIn, AreRecordsOf, HoldBlocks, HoldOnly, IsBadPiece, moved}
+use Rattle.laz_file.specs.Records.{AreRead, AreRecordsIn, AreRecordsOf, HoldOnly, IsBadPiece, moved}
 use Rattle.laz_file.proofs.AllParts.{all_of}
 use Rattle.laz_file.proofs.FirstPieces.{inside}
 use Rattle.laz_file.proofs.OneAnswer.{one_pieces}

@@ -1,8 +1,6 @@
 -- The records of a range of a file are a slice of its records.
-use Rattle.std.proofs.Common.{◌≡◌, inl, inr, ℕ, ◌+◌, ◌-◌, ◌*◌, ◌<◌, ◌≤◌, nat_lt, min, Bool, true, false, cond, List, [], ◌∷◌, ◌++◌, length, map, take, drop, None, refl, sym, ◌∙◌, ap, subst, arith}
-use Rattle.std.specs.Prelude.{sum}
+use Rattle.std.proofs.Common.{◌≡◌, ℕ, ◌+◌, ◌-◌, ◌*◌, ◌≤◌, nat_lt, Bool, true, false, cond, List, [], ◌∷◌, map, take, drop, None, refl, sym, ◌∙◌, ap, subst, arith}
 use Rattle.std.specs.List.{concat}
-use Rattle.std.proofs.lemmas.Bool.{cases_lt, le-leb, lt-leb}
 use Rattle.std.proofs.lemmas.List.{drop-drop, drop-take, take-take}
 use Rattle.std.proofs.Math.Nat.{mul-le-mul_left}
 use Rattle.las_header.specs.Fields.{head_of, is_packed, point_offset_of, points_of, record_length_of}
@@ -12,7 +10,7 @@ use Rattle.laz_file.specs.Laws.{IsSliceOfRecords}
 use Rattle.laz_file.specs.Packing.{record_layout}
 use Rattle.laz_file.specs.Pieces.{ArePiecesIf, Piece, piece_bytes, pieces_from, plain_from, whole_piece}
 use Rattle.laz_file.specs.Ranges.{Range, part_in, parts_if, parts_in, taken_of}
-use Rattle.laz_file.specs.Records.{AreRead, HoldBlocks, HoldsBlock, HoldsChunk, HoldsIf, cut_block}
+use Rattle.laz_file.specs.Records.{HoldBlocks, HoldsBlock, HoldsChunk, HoldsIf, cut_block}
 use Rattle.laz_file.specs.Refusing.{chunks_place}
 use Rattle.laz_table.specs.Chunks.{fixed_sizes}
 use Rattle.laz_file.proofs.Accepted.{accepted_is_head}

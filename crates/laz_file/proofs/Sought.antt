@@ -1,6 +1,6 @@
 -- A reader that has sought a range of records.
-use Rattle.std.proofs.Common.{◌≡◌, inl, inr, ℕ, zero, suc, ◌+◌, ◌*◌, ◌-◌, ◌<◌, ◌≤◌, min, Bool, true, false, List, [], ◌∷◌, length, map, take, drop, Option, Some, None, refl, sym, ◌∙◌, ap, subst, if◌then◌else◌, arith}
-use Rattle.std.specs.Prelude.{All, IsSome, max, sum}
+use Rattle.std.proofs.Common.{◌≡◌, ℕ, zero, suc, ◌+◌, ◌*◌, ◌-◌, ◌<◌, ◌≤◌, Bool, true, false, List, [], ◌∷◌, length, take, drop, Option, Some, None, refl, sym, ◌∙◌, ap, subst, if◌then◌else◌, arith}
+use Rattle.std.specs.Prelude.{All, sum}
 use Rattle.std.specs.Option.{is_some}
 use Rattle.std.proofs.Math.Nat.{mul-le-mul, mul-le-mul_left}
 use Rattle.std.proofs.lemmas.List.{length-drop, length-map}

@@ -20,6 +20,28 @@ use Rattle.laz_file.proofs.Sums.{sum-sizes}
 part_is : (file : List ℕ) (start end : ℕ) → start ≤ end → drop start (take end file) ≡ take (end - start) (drop start file)
 part_is file start end le = let e : end ≡ start + (end - start) = omega arith in ap (λ (n : ℕ). drop start (take n file)) e ∙ drop-take start (end - start) file
 
+-- what its first eight bytes say of its size
+pub most_of_table : (file first : List ℕ) (start end long most : ℕ) → start ≤ end → end ≤ length file → long ≡ end - start → first ≡ take (min long 8) (drop start file) → (8 ≤ length first → most ≡ table_size first) → 8 ≤ long
+    → most ≡ table_size (drop start (take end file))
+most_of_table file first start end long most le within long_is first_is most_is enough8 =
+    let rest = drop start file in
+    let part = drop start (take end file) in
+    let part_at : part ≡ take long rest = part_is file start end le ∙ ap (λ (n : ℕ). take n rest) (sym long_is) in
+    let enough : long ≤ length rest = omega (arith, length-drop start file) in
+    let eight : min long 8 ≡ 8 = omega arith in
+    let first8 : first ≡ take 8 rest = first_is ∙ ap (λ (n : ℕ). take n rest) eight in
+    let first_long : length first ≡ 8 = ap length first8 ∙ length-take-le 8 rest (omega arith) in
+    let number : number_at 4 4 first ≡ number_at 4 4 part = ap (number_at 4 4) first8 ∙ number_at-take 4 4 8 rest (omega arith) ∙ sym (number_at-take 4 4 long rest (omega arith)) ∙ ap (number_at 4 4) (sym part_at) in
+    most_is (omega (arith, first_long)) ∙ ap (λ (n : ℕ). 12 + 24 * min n 16777216) number
+
+-- so no more is asked for than this size
+pub table_asks : (file first : List ℕ) (start end long most : ℕ) → start ≤ end → end ≤ length file → long ≡ end - start → first ≡ take (min long 8) (drop start file) → (8 ≤ length first → most ≡ table_size first)
+    → min long most ≤ table_size (drop start (take end file))
+table_asks file first start end long most le within long_is first_is most_is = elim (cases_lt long 8) [
+  | inl short ↦ omega (arith, short)
+  | inr enough8 ↦ let size = most_of_table file first start end long most le within long_is first_is most_is enough8 in omega (arith, size)
+]
+
 -- what is read of the table's part of a file, in two steps
 pub front_of_table : (file first bytes : List ℕ) (start end long most : ℕ) → start ≤ end → end ≤ length file → long ≡ end - start → first ≡ take (min long 8) (drop start file) → 12 ≤ most → (8 ≤ length first → most ≡ table_size first) → bytes ≡ take (min long most) (drop start file)
     → bytes ≡ take (table_size (drop start (take end file))) (drop start (take end file))
@@ -34,11 +56,7 @@ front_of_table file first bytes start end long most le within long_is first_is l
     let a : min long most ≡ long = omega arith in
     ap (λ (n : ℕ). take n rest) a ∙ sym part_at ∙ sym (take_all (table_size part) part (omega (arith, part_long))))
     (λ (enough8 : 8 ≤ long).
-    let eight : min long 8 ≡ 8 = omega arith in
-    let first8 : first ≡ take 8 rest = first_is ∙ ap (λ (n : ℕ). take n rest) eight in
-    let first_long : length first ≡ 8 = ap length first8 ∙ length-take-le 8 rest (omega arith) in
-    let number : number_at 4 4 first ≡ number_at 4 4 part = ap (number_at 4 4) first8 ∙ number_at-take 4 4 8 rest (omega arith) ∙ sym (number_at-take 4 4 long rest (omega arith)) ∙ ap (number_at 4 4) (sym part_at) in
-    let most_at : most ≡ table_size part = most_is (omega (arith, first_long)) ∙ ap (λ (n : ℕ). 12 + 24 * min n 16777216) number in
+    let most_at : most ≡ table_size part = most_of_table file first start end long most le within long_is first_is most_is enough8 in
     ⊎_elim
     (λ (lt : long < most). let b : min long most ≡ long = omega arith in ap (λ (n : ℕ). take n rest) b ∙ sym part_at ∙ sym (take_all (table_size part) part (omega (arith, part_long, most_at))))
     (λ (ge : most ≤ long). let b : min long most ≡ most = omega arith in ap (λ (n : ℕ). take n rest) b ∙ sym (take-take most long rest ge) ∙ ap (take most) (sym part_at) ∙ ap (λ (n : ℕ). take n part) most_at)

@@ -1,8 +1,10 @@
 -- How many bytes of a file calls ask for.
-use Rattle.std.specs.Prelude.{ℕ, ◌+◌, ◌*◌, ◌≤◌, if◌then◌else◌, List, map, sum, Option, Some, None}
+use Rattle.std.specs.Prelude.{ℕ, ◌+◌, ◌*◌, ◌≤◌, max, if◌then◌else◌, List, map, sum, Option, Some, None}
+use Rattle.las_header.specs.Fields.{head_of, is_packed, point_offset_of}
 use Rattle.las_outside.specs.Outside.{Outside}
 use Rattle.laz_table.specs.declared.limits.TheConstants.{MAX_CHUNK_BYTES, MIN_TABLE_BYTES}
-use Rattle.laz_file.specs.Reading.{ReaderSeen}
+use Rattle.laz_file.specs.Reading.{ReaderSeen, table_size}
+use Rattle.laz_file.specs.Refusing.{table_part}
 
 -- A call asks for at most this many bytes.
 abbrev pub AsksAtMost : (most : ℕ) → (old new : Outside) → Type 0
@@ -16,6 +18,19 @@ asked_for_chunks chunks = 16 + (MIN_TABLE_BYTES + MAX_CHUNK_BYTES * chunks)
 abbrev pub asked_for_list : (chunk : Option ℕ) → (chunks : ℕ) → ℕ
 asked_for_list None chunks = 0
 asked_for_list (Some chunk) chunks = asked_for_chunks chunks
+
+-- at most, for the head of a file: its first 227 bytes, and then those up to the point data
+abbrev pub asked_for_head : (file : List ℕ) → ℕ
+asked_for_head file = max 227 (point_offset_of file)
+
+-- at most, for the list of its chunks: of a packed file the pointer, the pointer at the end, and the table of as many
+-- chunks as it begins with
+abbrev pub asked_for_table : (file : List ℕ) → ℕ
+asked_for_table file = if is_packed (head_of file) then 16 + table_size (table_part file) else 0
+
+-- at most, when a file is opened, also if it is refused
+abbrev pub asked_to_open : (file : List ℕ) → ℕ
+asked_to_open file = asked_for_head file + asked_for_table file
 
 -- how many bytes a reader may still ask for: those of the pieces that are left, and none if the next one is known to be
 -- bad

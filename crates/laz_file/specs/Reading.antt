@@ -3,7 +3,7 @@ use Rattle.std.specs.Prelude.{◌≡◌, ◌⊎◌, ℕ, ◌+◌, ◌-◌, ◌*�
 use Rattle.std.specs.Prelude.{◌∷◌, ◌++◌}
 use Rattle.std.specs.Prelude.{length}
 use Rattle.std.specs.Prelude.{map, drop}
-use Rattle.std.specs.Prelude.{min, sum, take, Option, Some, None, IsSome, All, slice_index_or}
+use Rattle.std.specs.Prelude.{min, sum, take, Option, Some, None, All, slice_index_or}
 use Rattle.las_header.specs.Heads.{HeadView}
 use Rattle.las_header.specs.Fields.{head_of, is_packed, points_of, record_length_of}
 use Rattle.las_header.specs.Refusals.{causes_of, first_cause}

@@ -10,7 +10,7 @@ ghost use Rattle.las_outside.specs.Files.{WhereKnown};
 ghost use Rattle.las_outside.specs.Outside.{Later};
 ghost use Rattle.laz_table.specs.declared.chunks.Blocks.TheVariants.{Fixed, Counted};
 ghost use Rattle.laz_table.specs.VlrCauses.{chunk_size_of, is_counted, vlr_causes};
-ghost use Rattle.laz_file.specs.Asking.{AsksAtMost, asked_for_chunks, asked_for_list};
+ghost use Rattle.laz_file.specs.Asking.{AsksAtMost, asked_for_chunks, asked_for_list, asked_for_table};
 ghost use Rattle.laz_file.specs.declared.fault.Fault.TheVariants.{Refused};
 ghost use Rattle.laz_file.specs.Reading.{AreChunkLists, EndsReading, IsHeadOf, ListsPieces, chunk_of};
 ghost use Rattle.laz_file.specs.Refusing.{IsRefusal};
@@ -60,6 +60,8 @@ pub(crate) fn read_list<F: Files>(
     ensures writes { (F.seen files.new).write_faults ≡ (F.seen files.old).write_faults }
     ensures asked { IfOk result (λ list. AsksAtMost (asked_for_list list.chunk (length list.counts.items))
         (F.seen files.old) (F.seen files.new)) }
+    ensures asked_of { WhereKnown (F.seen files.old).held name.now
+        (λ file. AsksAtMost (asked_for_table file) (F.seen files.old) (F.seen files.new)) }
     ensures later { Later (F.seen files.old) (F.seen files.new) }
 {
     if !head.packed() {
@@ -105,6 +107,8 @@ fn read_packed<F: Files>(
     ensures writes { (F.seen files.new).write_faults ≡ (F.seen files.old).write_faults }
     ensures asked { IfOk result (λ list. AsksAtMost (asked_for_chunks (length list.counts.items))
         (F.seen files.old) (F.seen files.new)) }
+    ensures asked_of { WhereKnown (F.seen files.old).held name.now
+        (λ file. AsksAtMost (asked_for_table file) (F.seen files.old) (F.seen files.new)) }
     ensures later { Later (F.seen files.old) (F.seen files.new) }
 {
     let offset = u64::from(head.offset());

@@ -15,7 +15,7 @@ ghost use Rattle.las_outside.specs.Outside.{Later};
 ghost use Rattle.laz_table.specs.declared.chunks.Blocks.{Blocks};
 ghost use Rattle.laz_table.specs.Chunks.{HasChunkSize, IsAccepted, IsFirstFault, table_causes};
 ghost use Rattle.laz_table.specs.declared.limits.TheConstants.{MAX_CHUNKS, MAX_CHUNK_BYTES, MIN_TABLE_BYTES};
-ghost use Rattle.laz_file.specs.Asking.{AsksAtMost};
+ghost use Rattle.laz_file.specs.Asking.{AsksAtMost, asked_for_head};
 ghost use Rattle.laz_file.specs.Refusing.{has_bad_pointer};
 ghost use Rattle.laz_file.specs.Reading.{AreChunkLists, AreFewChunks, EndsReading, FailsReading, IsHeadOf};
 ghost use Rattle.laz_file.specs.Reading.{IsTablePlace, points_in, table_size};
@@ -56,6 +56,10 @@ pub(crate) fn read_head<F: Files>(
     ensures held { (F.seen files.new).held ≡ (F.seen files.old).held }
     ensures writes { (F.seen files.new).write_faults ≡ (F.seen files.old).write_faults }
     ensures asked { IfOk result (λ r. AsksAtMost (length r.0.bytes) (F.seen files.old) (F.seen files.new)) }
+    ensures asked_of { (IsMissing (F.seen files.old).held name.now → ⊥) → WhereKnown (F.seen files.old).held name.now
+        (λ file. AsksAtMost (asked_for_head file) (F.seen files.old) (F.seen files.new)) }
+    ensures missing { IsMissing (F.seen files.old).held name.now
+        → (F.seen files.new).asked ≡ (F.seen files.old).asked }
     ensures later { Later (F.seen files.old) (F.seen files.new) }
 {
     let Ok(size) = files.size(name) else {
@@ -179,6 +183,8 @@ pub(crate) fn read_chunks<F: Files>(
     ensures writes { (F.seen files.new).write_faults ≡ (F.seen files.old).write_faults }
     ensures asked { IfOk result (λ list. AsksAtMost (MIN_TABLE_BYTES + MAX_CHUNK_BYTES * length list.sizes.items)
         (F.seen files.old) (F.seen files.new)) }
+    ensures asked_of { WhereKnown (F.seen files.old).held name.now (λ file.
+        AsksAtMost (table_size (drop place.start (take place.end file))) (F.seen files.old) (F.seen files.new)) }
     ensures later { Later (F.seen files.old) (F.seen files.new) }
 {
     let bytes = read_table_front(alloc, files, name, place)?;
@@ -204,6 +210,8 @@ fn read_table_front<F: Files>(
     ensures held { (F.seen files.new).held ≡ (F.seen files.old).held }
     ensures writes { (F.seen files.new).write_faults ≡ (F.seen files.old).write_faults }
     ensures asked { IfOk result (λ bytes. AsksAtMost (length bytes.items) (F.seen files.old) (F.seen files.new)) }
+    ensures asked_of { WhereKnown (F.seen files.old).held name.now (λ file.
+        AsksAtMost (table_size (drop place.start (take place.end file))) (F.seen files.old) (F.seen files.new)) }
     ensures short { IfOk result (λ bytes. length bytes.items ≤ table_size bytes.items) }
     ensures later { Later (F.seen files.old) (F.seen files.new) }
 {

@@ -5,7 +5,7 @@ ghost use Rattle.las_header.specs.declared.refusal.Refusal.{Refusal};
 ghost use Rattle.las_header.specs.Fields.{points_of, record_length_of};
 ghost use Rattle.las_outside.specs.Files.{IsMissing, WhereKnown};
 ghost use Rattle.las_outside.specs.Outside.{Later};
-ghost use Rattle.laz_file.specs.Asking.{AsksAtMost, asked_for_list};
+ghost use Rattle.laz_file.specs.Asking.{AsksAtMost, asked_for_list, asked_to_open};
 ghost use Rattle.laz_file.specs.declared.fault.Fault.TheVariants.{Refused};
 ghost use Rattle.laz_file.specs.Pieces.{pieces_from};
 ghost use Rattle.laz_file.specs.Ranges.{whole_range};
@@ -121,6 +121,11 @@ impl Reader {
         // At most this many bytes are asked for: the head, and of a packed file two pointers and the table.
         ensures asked { IfOk result (λ reader. AsksAtMost
             (length reader.head.bytes + asked_for_list reader.chunk (length reader.pieces)) (F.seen files.old) (F.seen files.new)) }
+        // If the files are known, and however the call ends: at most this much of the file, and nothing if there is none.
+        ensures asked_of { (IsMissing (F.seen files.old).held name.now → ⊥) → WhereKnown (F.seen files.old).held name.now
+            (λ file. AsksAtMost (asked_to_open file) (F.seen files.old) (F.seen files.new)) }
+        ensures missing { IsMissing (F.seen files.old).held name.now
+            → (F.seen files.new).asked ≡ (F.seen files.old).asked }
         ensures later { Later (F.seen files.old) (F.seen files.new) }
     {
         let own = String::from_str(alloc, name)?;

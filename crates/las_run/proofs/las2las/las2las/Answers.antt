@@ -16,7 +16,6 @@ use Rattle.laz_file.specs.Asking.{AsksAtMost}
 use Rattle.laz_file.specs.Pieces.{ArePieces, Piece}
 use Rattle.laz_file.specs.Ranges.{parts_of}
 use Rattle.las_run.specs.Asking.{bytes_in}
-use Rattle.las_run.specs.Endings.{status_of}
 use Rattle.las_run.specs.Tools.{range_in}
 use Rattle.las_run.proofs.Asking.{asks_both, asks_opening}
 use Rattle.las_run.proofs.las2las.las2las.Goals as goal
@@ -49,8 +48,7 @@ returns-clause-ends g c =
 
 pub returns-in_err-reader-clause-asks : goal.returns-in_err-reader-clause-asks
 returns-in_err-reader-clause-asks g c =
-    let p = err_from_is_err_and c.from_residual.result c.from_residual.ensures.1 in
-    rw (p.1, p.2) (asks_opening c.args.input.now c.args.places.start c.args.places.stop (g.F.Files.seen c.args.files.now) (g.F.Files.seen c.open_input.new.files) c.in_err-reader.field-0.0 c.in_err-reader.ensures.stops)
+    asks_opening c.args.input.now c.args.places.start c.args.places.stop (g.F.Files.seen c.args.files.now) (g.F.Files.seen c.open_input.new.files) c.in_err-reader.ensures.missing c.in_err-reader.ensures.asked_of
 
 pub returns-clause-asks : goal.returns-clause-asks
 returns-clause-asks g c =
@@ -63,4 +61,4 @@ returns-clause-asks g c =
     let places = c.args.places in
     let Rest : List ℕ → Type 0 = λ file. (pieces : List Piece) → ArePieces file pieces → AsksAtMost (bytes_in (parts_of file (range_in places.start places.stop file) pieces)) mid new in
     let rest = subst (λ (f : Option FileMap). WhereKnown f input Rest) h.held (subst (λ (n : List ℕ). WhereKnown mid.held n Rest) h.fresh.named c.write_kept.ensures.asked) in
-    asks_both r input places.start places.stop (status_of (cause_of (input ∷ []) c.stopped.result)) old mid new h.stands h.asked rest
+    asks_both r input places.start places.stop old mid new h.stands h.asked_of rest

@@ -9,8 +9,7 @@ use Rattle.laz_file.proofs.Putting.{All-unmap}
 use Rattle.las_make.specs.declared.settings.Settings.{Settings}
 use Rattle.las_run.specs.Ends.{Change, Ends, cause_of}
 use Rattle.las_run.specs.Asking.{WorkAsks}
-use Rattle.las_run.specs.Endings.{status_of}
-use Rattle.las_run.specs.Runs.{files_read, task_with}
+use Rattle.las_run.specs.Runs.{task_with}
 use Rattle.las_run.specs.Tools.{options_with}
 use Rattle.las_run.proofs.Saying.{by_task}
 use Rattle.las_run.proofs.top_call.obey.Goals as goal
@@ -88,22 +87,22 @@ returns-in-Las2las-clause-asks g c =
     let asks_for : (input output : List ℕ) → Asked = λ input output. record { work = reads input (las2las (record { output = output; plan = steps_of w.plan; packed = w.packing.packed; chunk = w.packing.chunk; start = w.start; stop = w.stop })); workers = w.workers } in
     let asked : asks_for c.deref-in-Las2las.result.now c.deref-in-Las2las-2.result.now ≡ asked_by c.args.command.now =
     ap (λ (i : List ℕ). asks_for i c.deref-in-Las2las-2.result.now) c.deref-in-Las2las.ensures ∙ ap (asks_for (string_bytes w.input)) c.deref-in-Las2las-2.ensures ∙ sym (ap asked_by w.is) in
-    subst (λ (a : Asked). WorkAsks a.work (g.F.Files.seen c.args.files.now) (g.F.Files.seen c.las2las.new.files) (status_of (cause_of (files_read a.work) c.las2las.result))) asked c.las2las.ensures.asks
+    subst (λ (a : Asked). WorkAsks a.work (g.F.Files.seen c.args.files.now) (g.F.Files.seen c.las2las.new.files)) asked c.las2las.ensures.asks
 
 pub returns-in-Laszip-clause-asks : goal.returns-in-Laszip-clause-asks
-returns-in-Laszip-clause-asks g c = subst (λ (command : Command). WorkAsks (work_by command) (g.F.Files.seen c.args.files.now) (g.F.Files.seen c.laszip.new.files) (status_of (cause_of (files_read (work_by command)) c.laszip.result))) (sym c.in-Laszip.is) tt
+returns-in-Laszip-clause-asks g c = subst (λ (command : Command). WorkAsks (work_by command) (g.F.Files.seen c.args.files.now) (g.F.Files.seen c.laszip.new.files)) (sym c.in-Laszip.is) tt
 
 pub returns-in-Lasinfo-clause-asks : goal.returns-in-Lasinfo-clause-asks
-returns-in-Lasinfo-clause-asks g c = subst (λ (command : Command). WorkAsks (work_by command) (g.F.Files.seen c.args.files.now) (g.F.Files.seen c.lasinfo.new.files) (status_of (cause_of (files_read (work_by command)) c.lasinfo.result))) (sym c.in-Lasinfo.is) tt
+returns-in-Lasinfo-clause-asks g c = subst (λ (command : Command). WorkAsks (work_by command) (g.F.Files.seen c.args.files.now) (g.F.Files.seen c.lasinfo.new.files)) (sym c.in-Lasinfo.is) tt
 
 pub returns-in-Lassplit-clause-asks : goal.returns-in-Lassplit-clause-asks
-returns-in-Lassplit-clause-asks g c = subst (λ (command : Command). WorkAsks (work_by command) (g.F.Files.seen c.args.files.now) (g.F.Files.seen c.lassplit.new.files) (status_of (cause_of (files_read (work_by command)) c.lassplit.result))) (sym c.in-Lassplit.is) tt
+returns-in-Lassplit-clause-asks g c = subst (λ (command : Command). WorkAsks (work_by command) (g.F.Files.seen c.args.files.now) (g.F.Files.seen c.lassplit.new.files)) (sym c.in-Lassplit.is) tt
 
 pub returns-in-Lasmerge-clause-asks : goal.returns-in-Lasmerge-clause-asks
-returns-in-Lasmerge-clause-asks g c = subst (λ (command : Command). WorkAsks (work_by command) (g.F.Files.seen c.args.files.now) (g.F.Files.seen c.lasmerge.new.files) (status_of (cause_of (files_read (work_by command)) c.lasmerge.result))) (sym c.in-Lasmerge.is) tt
+returns-in-Lasmerge-clause-asks g c = subst (λ (command : Command). WorkAsks (work_by command) (g.F.Files.seen c.args.files.now) (g.F.Files.seen c.lasmerge.new.files)) (sym c.in-Lasmerge.is) tt
 
 pub returns-in-Make-clause-asks : goal.returns-in-Make-clause-asks
-returns-in-Make-clause-asks g c = subst (λ (command : Command). WorkAsks (work_by command) (g.F.Files.seen c.args.files.now) (g.F.Files.seen c.make.new.files) (status_of (cause_of (files_read (work_by command)) c.make.result))) (sym c.in-Make.is) tt
+returns-in-Make-clause-asks g c = subst (λ (command : Command). WorkAsks (work_by command) (g.F.Files.seen c.args.files.now) (g.F.Files.seen c.make.new.files)) (sym c.in-Make.is) tt
 
 pub lasmerge-requires-clause-names : goal.lasmerge-requires-clause-names
 lasmerge-requires-clause-names g c =

@@ -33,6 +33,5 @@ returns g c =
     let status_is : c.status.result ≡ status_of (cause_of names (Err (stop_of f.0))) = is ∙ ap (λ (o : Result (Unit {0}) Stop). status_of (cause_of names o)) unread.0 in
     (rw status_is (two_or_one names f.0), unread.1) in
     let asks : Asks run = λ input options workers asked.
-    asks_read task.said said input options workers c.work-outcome.result run.files run.files_now c.status.result read asked is
-    (λ f unread. (c.work-outcome.ensures.unread f unread).0) c.work-outcome.ensures.asks in
+    asks_read task.said said input options workers run.files run.files_now read asked (λ f unread. (c.work-outcome.ensures.unread f unread).1) c.work-outcome.ensures.asks in
     keeps run (cause_of names c.work-outcome.result) is c.report.ensures.line (c.work-outcome.ensures.ends task refl read) unasked asks c.work-outcome.ensures.later c.status.ensures.known

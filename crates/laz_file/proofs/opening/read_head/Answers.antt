@@ -3,6 +3,7 @@ use Rattle.las_header.specs.Heads.{HeadView}
 use Rattle.las_outside.specs.Outside.{Outside}
 use Rattle.laz_file.specs.declared.fault.Fault.{Fault}
 use Rattle.laz_file.proofs.Knowing.{known_at, known_both, known_then}
+use Rattle.laz_file.proofs.OpeningAsks.{head_asks}
 use Rattle.laz_file.proofs.Heads.{head_known, head_accepted, head_given, head_refused, never_refused, no_stray_read, refused_by_front, residual_is, same_cause}
 use Rattle.laz_file.proofs.opening.read_head.Goals as goal
 
@@ -54,3 +55,30 @@ returns-in-Ok-read-clause-asked g c =
     let front = c.in_ok-offset.ensures in
     let rest = c.in_ok-read_on.ensures in
     omega (arith, same, before, front.asked, front.len, front.bounds, rest.asked, rest.len, c.read_on.new.bytes.ok.0)
+
+pub returns-in_err-read_on-clause-asked_of : goal.returns-in_err-read_on-clause-asked_of
+returns-in_err-read_on-clause-asked_of g c = λ there.
+    let held = ap (λ (o : Outside). o.held) c.in-Ok.ensures.ok in
+    let before = ap (λ (o : Outside). o.asked) c.in-Ok.ensures.ok in
+    let front = c.in_ok-offset.ensures in
+    let rest = c.in_err-read_on.ensures in
+    head_asks (g.F.Files.seen c.args.files.now).held c.args.name.now c.read_front.new.bytes.items c.in_ok-offset.offset (g.F.Files.seen c.args.files.now).asked (g.F.Files.seen c.read_on.new.files).asked (known_at _ _ _ _ held front.bytes) front.offset
+    (omega (arith, before, front.asked, front.len, rest.asked))
+
+pub returns-in-Ok-read-clause-asked_of : goal.returns-in-Ok-read-clause-asked_of
+returns-in-Ok-read-clause-asked_of g c = λ there.
+    let held = ap (λ (o : Outside). o.held) c.in-Ok.ensures.ok in
+    let before = ap (λ (o : Outside). o.asked) c.in-Ok.ensures.ok in
+    let front = c.in_ok-offset.ensures in
+    let rest = c.in_ok-read_on.ensures in
+    head_asks (g.F.Files.seen c.args.files.now).held c.args.name.now c.read_front.new.bytes.items c.in_ok-offset.offset (g.F.Files.seen c.args.files.now).asked (g.F.Files.seen c.read_on.new.files).asked (known_at _ _ _ _ held front.bytes) front.offset
+    (omega (arith, before, front.asked, front.len, rest.asked))
+
+pub returns-in-Err-clause-asked_of : goal.returns-in-Err-clause-asked_of
+returns-in-Err-clause-asked_of g c = λ there.
+    let held = ap (λ (o : Outside). o.held) c.in-Ok.ensures.ok in
+    let before = ap (λ (o : Outside). o.asked) c.in-Ok.ensures.ok in
+    let front = c.in_ok-offset.ensures in
+    let rest = c.in_ok-read_on.ensures in
+    head_asks (g.F.Files.seen c.args.files.now).held c.args.name.now c.read_front.new.bytes.items c.in_ok-offset.offset (g.F.Files.seen c.args.files.now).asked (g.F.Files.seen c.read_on.new.files).asked (known_at _ _ _ _ held front.bytes) front.offset
+    (omega (arith, before, front.asked, front.len, rest.asked))

@@ -1,6 +1,7 @@
 use Rattle.std.proofs.Common.{◌-◌, refl, drop, sym, ◌∙◌, ap, List, ℕ, length, take, arith}
 use Rattle.laz_file.specs.Reading.{table_size}
 use Rattle.laz_file.proofs.Knowing.{known_at, known_three}
+use Rattle.laz_file.proofs.OpeningAsks.{part_asks}
 use Rattle.laz_file.proofs.TableFront.{front_of_table, short_front}
 use Rattle.laz_file.proofs.opening.read_table_front.Goals as goal
 
@@ -30,3 +31,23 @@ returns-clause-short g c =
     (omega (arith, c.read_on-2.new.bytes.ok.0, two.len, c.min-2.ensures))
     (ap (λ (n : ℕ). take n bytes) (sym c.read_on.new.bytes.ok.0) ∙ two.front)
     (λ long. c.table_size-most.ensures.size (omega (arith, long, ap (λ (l : List ℕ). length l) c.deref.ensures.value)) ∙ ap (λ (l : List ℕ). table_size l) c.deref.ensures.value)
+
+pub returns-in_err-read_on-2-clause-asked_of : goal.returns-in_err-read_on-2-clause-asked_of
+returns-in_err-read_on-2-clause-asked_of g c =
+    let first = c.read_on.new.bytes.items in
+    let one = c.in_ok-read_on.ensures in
+    let two = c.in_err-read_on-2.ensures in
+    part_asks (g.F.Files.seen c.args.files.now).held c.args.name.now _ first c.args.place.start c.args.place.end _ _ c.table_size-most.result (g.F.Files.seen c.args.files.now).asked (g.F.Files.seen c.read_on-2.new.files).asked
+    c.requires.order c.requires.within c.new-bytes.ensures.items c.new-bytes.ensures.len c.min.ensures one.bytes
+    (λ long. c.table_size-most.ensures.size (omega (arith, long, ap (λ (l : List ℕ). length l) c.deref.ensures.value)) ∙ ap (λ (l : List ℕ). table_size l) c.deref.ensures.value)
+    (omega (arith, one.asked, two.asked, one.len, c.min.ensures, c.min-2.ensures, c.new-bytes.ensures.len, c.table_size-most.ensures.bounds))
+
+pub returns-clause-asked_of : goal.returns-clause-asked_of
+returns-clause-asked_of g c =
+    let first = c.read_on.new.bytes.items in
+    let one = c.in_ok-read_on.ensures in
+    let two = c.in_ok-read_on-2.ensures in
+    part_asks (g.F.Files.seen c.args.files.now).held c.args.name.now _ first c.args.place.start c.args.place.end _ _ c.table_size-most.result (g.F.Files.seen c.args.files.now).asked (g.F.Files.seen c.read_on-2.new.files).asked
+    c.requires.order c.requires.within c.new-bytes.ensures.items c.new-bytes.ensures.len c.min.ensures one.bytes
+    (λ long. c.table_size-most.ensures.size (omega (arith, long, ap (λ (l : List ℕ). length l) c.deref.ensures.value)) ∙ ap (λ (l : List ℕ). table_size l) c.deref.ensures.value)
+    (omega (arith, one.asked, two.asked, one.len, c.min.ensures, c.min-2.ensures, c.new-bytes.ensures.len, c.table_size-most.ensures.bounds))

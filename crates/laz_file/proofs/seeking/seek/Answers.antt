@@ -1,4 +1,4 @@
-use Rattle.std.proofs.Common.{◌≡◌, ◌+◌, ◌-◌, ◌<◌, ℕ, length, sum, take, refl, sym, subst, arith}
+use Rattle.std.proofs.Common.{◌-◌, ◌<◌, ℕ, length, refl, sym, subst, arith}
 use Rattle.std.proofs.lemmas.List.Elements.{recursion_from_All}
 use Rattle.laz_file.specs.declared.seeking.Ends.{Ends}
 use Rattle.laz_file.specs.Ranges.{IsSought, Range}

@@ -1,4 +1,4 @@
-use Rattle.std.proofs.Common.{◌≡◌, ◌+◌, ap, length, arith}
+use Rattle.std.proofs.Common.{◌+◌, ap, length, arith}
 use Rattle.laz_file.specs.Reading.{ReaderSeen}
 use Rattle.laz_file.proofs.PieceLists.{length-pieces}
 use Rattle.laz_file.proofs.reader.Reader.chunks.Goals as goal

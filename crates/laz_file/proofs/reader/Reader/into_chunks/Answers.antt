@@ -1,4 +1,4 @@
-use Rattle.std.proofs.Common.{◌≡◌, ◌+◌, ◌∙◌, ap, sym, length, map}
+use Rattle.std.proofs.Common.{◌+◌, ◌∙◌, ap, sym, length, map}
 use Rattle.laz_file.specs.Pieces.{Piece}
 use Rattle.laz_file.specs.Reading.{ReaderSeen}
 use Rattle.laz_file.proofs.PieceLists.{piece_counts, piece_sizes}

@@ -1,5 +1,5 @@
-use Rattle.std.proofs.Common.{◌≡◌, ◌<◌, ◌≤◌, ◌*◌, ◌+◌, ◌-◌, ◌∙◌, min, true, false, refl, sym, ap, subst, ℕ, List, [], length, take, drop, get_or, Option, Err, arith}
-use Rattle.std.specs.Prelude.{All, IsSome, nat_lt, sum}
+use Rattle.std.proofs.Common.{◌≡◌, ◌<◌, ◌≤◌, ◌*◌, ◌+◌, ◌-◌, ◌∙◌, min, false, refl, sym, ap, subst, ℕ, List, [], length, take, drop, get_or, Option, Err, arith}
+use Rattle.std.specs.Prelude.{IsSome, nat_lt, sum}
 use Rattle.std.proofs.lemmas.Bool.{ltb-true}
 use Rattle.std.proofs.lemmas.List.{length-take}
 use Rattle.las_header.specs.declared.refusal.Refusal.TheVariants.{BadChunk}

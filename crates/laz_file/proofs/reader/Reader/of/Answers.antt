@@ -1,4 +1,4 @@
-use Rattle.std.proofs.Common.{◌≡◌, ◌≤◌, ◌+◌, ◌∙◌, false, sym, ap, subst, List, [], ℕ, length, Some, None, arith}
+use Rattle.std.proofs.Common.{◌≡◌, ◌≤◌, ◌+◌, ◌∙◌, false, sym, ap, subst, List, [], ℕ, length, arith}
 use Rattle.std.specs.Prelude.{string_bytes}
 use Rattle.las_header.specs.Fields.{points_of, record_length_of}
 use Rattle.laz_file.specs.declared.seeking.Ends.{Ends}

@@ -2,7 +2,7 @@ use Rattle.std.proofs.Common.{◌+◌, ◌≤◌, ℕ, sym, ap, subst, length, E
 use Rattle.laz_file.specs.declared.fault.Fault.{Fault}
 use Rattle.laz_file.specs.Reading.{AgreesWithHead, ReaderSeen, StandsFor}
 use Rattle.laz_file.proofs.Opened.{new_stands}
-use Rattle.laz_file.specs.Asking.{asked_for_list}
+use Rattle.laz_file.specs.Asking.{AsksAtMost, asked_for_head, asked_for_list, asked_for_table, asked_to_open}
 use Rattle.laz_file.proofs.PieceLists.{length-pieces, new_agrees}
 use Rattle.laz_file.proofs.Knowing.{known_at, known_both, known_then}
 use Rattle.laz_file.proofs.Heads.{residual_is}
@@ -38,3 +38,11 @@ returns-clause-asked g c =
     let chunks = length-pieces (length head.bytes + 8) list.counts.items list.sizes.items e.lists.same in
     subst (λ (r : ReaderSeen). new ≤ old + (length r.head.bytes + asked_for_list r.chunk (length r.pieces))) (sym c.of.ensures)
     (subst (λ (n : ℕ). new ≤ old + (length head.bytes + asked_for_list list.chunk n)) (sym chunks) asked)
+
+pub returns-clause-asked_of : goal.returns-clause-asked_of
+returns-clause-asked_of g c = λ there.
+    let old = g.F.Files.seen c.args.files.now in
+    let mid = g.F.Files.seen c.read_head.new.files in
+    let new = g.F.Files.seen c.read_list.new.files in
+    known_both old.held c.args.name.now (λ file. AsksAtMost (asked_for_head file) old mid) (λ file. AsksAtMost (asked_for_table file) mid new) (λ file. AsksAtMost (asked_to_open file) old new)
+    (λ file head table. omega (arith, head, table)) (c.in_ok-head.ensures.asked_of there) (known_at _ _ _ _ c.in_ok-head.ensures.held c.in_ok-list.ensures.asked_of)

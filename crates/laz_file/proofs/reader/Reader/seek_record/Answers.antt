@@ -1,9 +1,7 @@
-use Rattle.std.proofs.Common.{◌≡◌, ◌≤◌, ◌+◌, ◌-◌, ◌*◌, ◌∙◌, false, refl, ℕ, List, length, sum, take, drop, sym, ap, subst, Some, arith}
+use Rattle.std.proofs.Common.{◌≡◌, ◌+◌, ◌-◌, ◌*◌, ◌∙◌, false, refl, ℕ, List, length, take, drop, sym, ap, subst, arith}
 use Rattle.std.specs.Option.{is_some}
 use Rattle.las_header.specs.Fields.{points_of, record_length_of}
 use Rattle.las_header.specs.Heads.{IsHead}
-use Rattle.laz_workers.specs.Rooms.{HandSeen}
-use Rattle.laz_chunk.specs.Layouts.{Format}
 use Rattle.laz_file.specs.Pieces.{pieces_from}
 use Rattle.laz_file.specs.Ranges.{IsSought, Range, cuts_from, first_if, parts_if}
 use Rattle.laz_file.specs.Reading.{AgreesWithHead, IsCrewOf, Position, ReaderSeen, StandsFor}
