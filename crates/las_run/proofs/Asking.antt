@@ -46,9 +46,11 @@ by_input input start stop old new missing there known held = by (finmap.get know
   where
     none_some : (o : Option (List ℕ)) (file : List ℕ) → o ≡ Some file → o ≡ None → ⊥
     none_some o file is none = absurd (cc)
+
     of_some : (o : Option (List ℕ)) (file : List ℕ) → o ≡ Some file → IsSomeAnd o (λ file. AsksOf (Some file) start stop old new) → AsksOf (Some file) start stop old new
     of_some None file is p = absurd p
     of_some (Some other) file is p = let same : other ≡ file = cc in subst (λ (f : List ℕ). AsksOf (Some f) start stop old new) same p
+
     by : (o : Option (List ℕ)) → finmap.get known input ≡ o → AsksOf o start stop old new
     by None is = missing (subst (λ (h : Option FileMap). IsMissing h input) (sym held) is)
     by (Some file) is =
