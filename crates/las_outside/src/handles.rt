@@ -124,7 +124,10 @@ impl Handles {
         let options = options.write(true).create(true);
         let (file, identity) = self.open_file(rt, options, name)?;
         self.known.note_output(name, identity)?;
-        file.set_len(0)?;
+        // A new file is empty as it stands. Some systems write a file that was cut to the disk when it is closed.
+        if file.metadata()?.len() > 0 {
+            file.set_len(0)?;
+        }
         self.keep(Access::Write, name, file, Some(0))
     }
 
