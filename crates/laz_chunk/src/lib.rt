@@ -10,8 +10,6 @@ mod items;
 mod laws;
 mod parts;
 mod records;
-#[cfg(test)]
-mod tests;
 mod workspace;
 
 pub use laws::{

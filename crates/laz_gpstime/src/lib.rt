@@ -11,6 +11,3 @@ mod times;
 
 pub use gps_time::GpsTime;
 pub use laws::{times_are_lawful, times_are_spelled};
-
-#[cfg(test)]
-mod tests;

@@ -29,6 +29,3 @@ pub use limits::{
 };
 pub use marks::has_bit;
 pub use symbols::{put_bit, put_symbol, put_symbol_of, take_bit, take_symbol, take_symbol_of};
-
-#[cfg(test)]
-mod tests;

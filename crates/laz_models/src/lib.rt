@@ -23,6 +23,3 @@ pub use limits::{
 };
 pub use near::Near;
 pub use symbol_model::SymbolModel;
-
-#[cfg(test)]
-mod tests;

@@ -17,6 +17,3 @@ mod writing;
 pub use laws::{parts_are_of_points, points_are_lawful, points_are_spelled};
 pub use point::Point;
 pub use point10::Point10;
-
-#[cfg(test)]
-mod tests;

@@ -29,6 +29,3 @@ pub use laws::{
     shifts_are_few, shifts_grow, spans_lie,
 };
 pub use limits::{BIT_PARTS, GUARD, MAX_LENGTH, MAX_RAW_BITS, MIN_LENGTH, SYMBOL_PARTS};
-
-#[cfg(test)]
-mod tests;

@@ -6,8 +6,6 @@ mod colour;
 mod laws;
 mod reading;
 mod rgb;
-#[cfg(test)]
-mod tests;
 mod writing;
 
 pub use bytes::Bytes;

@@ -11,8 +11,6 @@ mod laws;
 mod limits;
 mod reading;
 mod table;
-#[cfg(test)]
-mod tests;
 mod vlr;
 mod writing;
 
