@@ -11,4 +11,5 @@ pub mod Steps
 pub mod Chunk
 pub mod Bounds
 pub mod Lengths
+mod Parting
 mod Examples

@@ -13,6 +13,7 @@ mod records;
 mod workspace;
 
 pub use laws::{
-    chunks_are_bounded, chunks_hold, one_is_held, records_have_the_length_of_their_format,
+    chunks_are_bounded, chunks_hold, one_is_held, records_have_few_events,
+    records_have_the_length_of_their_format,
 };
 pub use workspace::{Workspace, room_for};

@@ -12,3 +12,5 @@ pub mod Lawful
 pub mod Spelled
 pub mod Spellings
 pub mod SpelledRests
+mod Extremes
+pub mod Parting

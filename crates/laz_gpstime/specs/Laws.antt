@@ -1,10 +1,11 @@
 -- The laws of the item that a chunk needs.
-use Rattle.std.specs.Prelude.{◌≡◌, ℕ, ◌<◌, ◌≤◌, All, false, List, ◌∷◌, ◌++◌, length}
+use Rattle.std.specs.Prelude.{◌≡◌, ℕ, ◌<◌, ◌≤◌, ◌==◌, ◌||◌, not, All, Bool, false, List, [], ◌∷◌, ◌++◌, length}
+use Rattle.std.specs.Prelude.{count_by, filter, take_while}
 use Rattle.laz_integer.specs.Events.{Event, Name, same_text}
 use Rattle.laz_integer.specs.Ranged.{AreRanged}
 use Rattle.laz_integer.specs.Uses.{Silent}
-use Rattle.laz_gpstime.specs.Meanings.{time_kind}
-use Rattle.laz_gpstime.specs.Sequences.{Point}
+use Rattle.laz_gpstime.specs.Meanings.{is_extreme, is_new, is_one, sets, time_kind}
+use Rattle.laz_gpstime.specs.Sequences.{Point, extremes, point_meaning, sequence}
 use Rattle.laz_gpstime.specs.Slots.{TimeState}
 use Rattle.laz_gpstime.specs.Items.{HasTimeSizes, TimeStands, point_with}
 use Rattle.laz_gpstime.specs.Spelling.{SpellsTime}
@@ -39,3 +40,22 @@ PointsHoldRecords =
     → Silent time_kind before → Silent time_kind after
     → TimeStands earlier (point_with time events ∷ points) st
     → TimeStands earlier (point_with time (before ++ (events ++ after)) ∷ points) st
+
+-- The points of a chunk, the latest one first, each with those before it.
+abbrev pub with_earlier : List Point → List (Point × List Point)
+with_earlier [] = []
+with_earlier (p ∷ earlier) = (p, earlier) ∷ with_earlier earlier
+
+-- Those of a sequence.
+abbrev pub points_in : ℕ → List Point → List (Point × List Point)
+points_in s points = filter (λ x. sequence (x.0 ∷ x.1) == s) (with_earlier points)
+
+-- A point of a sequence opens it, sets its difference, or has symbol 1.
+abbrev pub begins_anew : ℕ → Point × List Point → Bool
+begins_anew s x =
+    let m = point_meaning x.0 in is_new m || (sets m (extremes x.1 s) || is_one m)
+
+-- The count of extreme differences of a sequence is that of its points after the latest one that begins it anew.
+abbrev pub ExtremesAreCounted : Type 0
+ExtremesAreCounted = (points : List Point) (s : ℕ) → extremes points s
+    ≡ count_by (λ x. is_extreme (point_meaning x.0)) (take_while (λ x. not (begins_anew s x)) (points_in s points))

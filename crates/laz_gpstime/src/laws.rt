@@ -1,5 +1,5 @@
 //! Laws of the item, as contracts of functions that do nothing.
-ghost use Rattle.laz_gpstime.specs.Laws.{OthersLeaveTimes, PointsHoldRecords, TimesAreLawful, TimesAreSpelled};
+ghost use Rattle.laz_gpstime.specs.Laws.{ExtremesAreCounted, OthersLeaveTimes, PointsHoldRecords, TimesAreLawful, TimesAreSpelled};
 
 /// The events that a writer makes of a time spell it.
 pub fn times_are_spelled()
@@ -12,4 +12,10 @@ pub fn times_are_lawful()
     ensures lawful { TimesAreLawful }
     ensures others { OthersLeaveTimes }
     ensures records { PointsHoldRecords }
+{}
+
+/// The extreme differences of a sequence are counted since its latest opening, the latest point that set its difference,
+/// or the latest symbol 1.
+pub fn extremes_are_counted()
+    ensures { ExtremesAreCounted }
 {}

@@ -10,4 +10,4 @@ mod symbols;
 mod times;
 
 pub use gps_time::GpsTime;
-pub use laws::{times_are_lawful, times_are_spelled};
+pub use laws::{extremes_are_counted, times_are_lawful, times_are_spelled};

@@ -20,3 +20,4 @@ pub mod Lists
 pub mod Products
 pub mod BankModels
 pub mod Joins
+pub mod Parting

@@ -10,3 +10,4 @@ pub mod Lawful
 pub mod Standing
 pub mod Written
 pub mod Examples
+pub mod Parting

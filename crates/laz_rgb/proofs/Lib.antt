@@ -7,3 +7,4 @@ pub mod Spelled
 pub mod Extras
 pub mod Written
 pub mod Proved
+pub mod Parting
