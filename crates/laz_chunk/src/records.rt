@@ -65,7 +65,7 @@ fn code_record<T: TimePart, C: ColourPart>(
     let (point, parts) = bytes.split_at(20);
     let (time, others) = parts.split_at(times.time_length());
     let (colour, own) = others.split_at(colours.colour_length());
-    point10.code(encoder, point);
+    point10.code_for::<(T, C)>(encoder, point);
     times.put_time(encoder, time);
     colours.put_colour(encoder, colour);
     code_extra(encoder, extra, own);
