@@ -32,8 +32,8 @@ pub trait TimePart: Drop {
     fn time_length(&self) -> usize
         ensures { result ≡ time_length (has (item self.now)) };
 
-    // Codes its part of a record.
-    fn put_time(&mut self, encoder: &mut Encoder, part: &[u8])
+    // Codes its part of a record. Each `M` has a copy of the code of its own.
+    fn put_time<M>(&mut self, encoder: &mut Encoder, part: &[u8])
         requires part { length part.now ≡ time_length (has (item self.old)) }
         requires left { 21 ≤ encoder.old.left }
         ensures used { encoder.old.left ≤ encoder.new.left + 21 }
@@ -46,8 +46,8 @@ pub trait TimePart: Drop {
             in let events = time_events_if (has (item self.old)) points time
             in TimesStand (earlier ++ events) (point_with time events ∷ points) (item self.new) };
 
-    // Reads its part of a record.
-    fn take_time(&mut self, decoder: &mut Decoder<'_>, part: &mut [u8]) -> Result<(), Bad>
+    // Reads its part of a record. Each `M` has a copy of the code of its own.
+    fn take_time<M>(&mut self, decoder: &mut Decoder<'_>, part: &mut [u8]) -> Result<(), Bad>
         requires part { length part.old ≡ time_length (has (item self.old)) }
         requires good { decoder.old.failed ≡ false }
         ensures part { length part.new ≡ length part.old }
@@ -73,13 +73,13 @@ impl TimePart for GpsTime {
     }
 
     #[inline(always)]
-    fn put_time(&mut self, encoder: &mut Encoder, part: &[u8]) {
-        self.code(encoder, part);
+    fn put_time<M>(&mut self, encoder: &mut Encoder, part: &[u8]) {
+        self.code_for::<M>(encoder, part);
     }
 
     #[inline(always)]
-    fn take_time(&mut self, decoder: &mut Decoder<'_>, part: &mut [u8]) -> Result<(), Bad> {
-        self.read(decoder, part)
+    fn take_time<M>(&mut self, decoder: &mut Decoder<'_>, part: &mut [u8]) -> Result<(), Bad> {
+        self.read_for::<M>(decoder, part)
     }
 }
 
@@ -92,10 +92,10 @@ impl TimePart for Absent {
     }
 
     #[inline(always)]
-    fn put_time(&mut self, _encoder: &mut Encoder, _part: &[u8]) {}
+    fn put_time<M>(&mut self, _encoder: &mut Encoder, _part: &[u8]) {}
 
     #[inline(always)]
-    fn take_time(&mut self, _decoder: &mut Decoder<'_>, _part: &mut [u8]) -> Result<(), Bad> {
+    fn take_time<M>(&mut self, _decoder: &mut Decoder<'_>, _part: &mut [u8]) -> Result<(), Bad> {
         Ok(())
     }
 }
@@ -123,8 +123,8 @@ pub trait ColourPart: Drop {
             in let events = colour_events_if (has (item self.old)) colours colour
             in ColoursStand (earlier ++ events) (colour ∷ colours) (item self.new) };
 
-    // Reads its part of a record.
-    fn take_colour(&mut self, decoder: &mut Decoder<'_>, part: &mut [u8]) -> Result<(), Bad>
+    // Reads its part of a record. Each `M` has a copy of the code of its own.
+    fn take_colour<M>(&mut self, decoder: &mut Decoder<'_>, part: &mut [u8]) -> Result<(), Bad>
         requires part { length part.old ≡ colour_length (has (item self.old)) }
         requires good { decoder.old.failed ≡ false }
         ensures part { length part.new ≡ length part.old }
@@ -155,8 +155,8 @@ impl ColourPart for Rgb {
     }
 
     #[inline(always)]
-    fn take_colour(&mut self, decoder: &mut Decoder<'_>, part: &mut [u8]) -> Result<(), Bad> {
-        self.read(decoder, part)
+    fn take_colour<M>(&mut self, decoder: &mut Decoder<'_>, part: &mut [u8]) -> Result<(), Bad> {
+        self.read_for::<M>(decoder, part)
     }
 }
 
@@ -172,7 +172,7 @@ impl ColourPart for Absent {
     fn put_colour(&mut self, _encoder: &mut Encoder, _part: &[u8]) {}
 
     #[inline(always)]
-    fn take_colour(&mut self, _decoder: &mut Decoder<'_>, _part: &mut [u8]) -> Result<(), Bad> {
+    fn take_colour<M>(&mut self, _decoder: &mut Decoder<'_>, _part: &mut [u8]) -> Result<(), Bad> {
         Ok(())
     }
 }

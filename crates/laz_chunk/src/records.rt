@@ -65,8 +65,8 @@ fn code_record<T: TimePart, C: ColourPart>(
     let (point, parts) = bytes.split_at(20);
     let (time, others) = parts.split_at(times.time_length());
     let (colour, own) = others.split_at(colours.colour_length());
-    point10.code(encoder, point);
-    times.put_time(encoder, time);
+    point10.code_for::<(T, C)>(encoder, point);
+    times.put_time::<C>(encoder, time);
     colours.put_colour(encoder, colour);
     code_extra(encoder, extra, own);
 }
@@ -101,8 +101,8 @@ fn read_record<T: TimePart, C: ColourPart>(
     let (time, others) = parts.split_at_mut(times.time_length());
     let (colour, own) = others.split_at_mut(colours.colour_length());
     point10.read(decoder, point)?;
-    times.take_time(decoder, time)?;
-    colours.take_colour(decoder, colour)?;
+    times.take_time::<C>(decoder, time)?;
+    colours.take_colour::<T>(decoder, colour)?;
     read_extra(decoder, extra, own)?;
     Ok(())
 }

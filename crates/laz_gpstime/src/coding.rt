@@ -136,7 +136,7 @@ fn nearest(sequences: &Sequences, time: u64) -> Option<usize>
 
 // Codes a time.
 #[inline(always)]
-pub(crate) fn put_time(times: &mut Times, encoder: &mut Encoder, time: u64)
+pub(crate) fn put_time<M>(times: &mut Times, encoder: &mut Encoder, time: u64)
     requires state { IsTimeState (state_of times.old) }
     requires left { 21 ≤ encoder.old.left }
     ensures sequences { times.new.sequences

@@ -121,7 +121,23 @@ impl GpsTime {
             let events = time_events points time in
             TimeStands (earlier ++ events) (point_with time events ∷ points) self.new }
     {
-        put_time(&mut self.times, encoder, time_of(part));
+        self.code_for::<()>(encoder, part);
+    }
+
+    /// The same as [`code`](Self::code), once in the program for each `M`: what a single loop calls is inlined into it.
+    #[inline(always)]
+    pub fn code_for<M>(&mut self, encoder: &mut Encoder, part: &[u8])
+        requires part { length part.now ≡ 8 }
+        requires left { 21 ≤ encoder.old.left }
+        ensures used { encoder.old.left ≤ encoder.new.left + 21 }
+        ensures events { (earlier : List Event) (points : List Point) → TimeStands earlier points self.old
+            → Codes encoder.old encoder.new (cuts_after earlier (time_events points (time_at part.now))) }
+        ensures stands { (earlier : List Event) (points : List Point) → TimeStands earlier points self.old
+            → let time = time_at part.now in
+            let events = time_events points time in
+            TimeStands (earlier ++ events) (point_with time events ∷ points) self.new }
+    {
+        put_time::<M>(&mut self.times, encoder, time_of(part));
     }
 
     /// Reads a time. `Bad` means that no spelling of a time begins the rest of the bytes; the part is then unspecified,
@@ -142,7 +158,27 @@ impl GpsTime {
             → (sizes : Name → ℕ) → HasTimeSizes sizes → AreRanged sizes earlier
             → OnErr result (NoneBegins (IsSpelledTime points) (spelled_cuts earlier) decoder.old) }
     {
-        let time = take_time(&mut self.times, decoder)?;
+        self.read_for::<()>(decoder, part)
+    }
+
+    /// The same as [`read`](Self::read), once in the program for each `M`: what a single loop calls is inlined into it.
+    #[inline(always)]
+    pub fn read_for<M>(&mut self, decoder: &mut Decoder<'_>, part: &mut [u8]) -> Result<(), Bad>
+        requires good { decoder.old.failed ≡ false }
+        requires part { length part.old ≡ 8 }
+        ensures part { length part.new ≡ 8 }
+        ensures good { OnOk result (decoder.new.failed ≡ false) }
+        ensures reads { (earlier : List Event) (points : List Point) → TimeStands earlier points self.old
+            → MatchResult result (λ _. ReadsTime earlier points (time_at part.new) decoder.old decoder.new self.new)
+            (λ _. Refuses (IsSpelledTime points) (spelled_cuts earlier) decoder.old decoder.new) }
+        ensures only { (earlier : List Event) (points : List Point) → TimeStands earlier points self.old
+            → (sizes : Name → ℕ) → HasTimeSizes sizes → AreRanged sizes earlier
+            → OnOk result (OneBegins (IsSpelledTime points) earlier decoder.old (time_at part.new)) }
+        ensures none { (earlier : List Event) (points : List Point) → TimeStands earlier points self.old
+            → (sizes : Name → ℕ) → HasTimeSizes sizes → AreRanged sizes earlier
+            → OnErr result (NoneBegins (IsSpelledTime points) (spelled_cuts earlier) decoder.old) }
+    {
+        let time = take_time::<M>(&mut self.times, decoder)?;
         set_time(part, time);
         Ok(())
     }

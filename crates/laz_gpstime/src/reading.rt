@@ -150,7 +150,7 @@ fn take_new(times: &mut Times, decoder: &mut Decoder<'_>) -> Result<u64, Bad>
 
 // Takes what follows a symbol that is no switch.
 #[inline(always)]
-fn take_rest(times: &mut Times, decoder: &mut Decoder<'_>, symbol: u32) -> Result<u64, Bad>
+fn take_rest<M>(times: &mut Times, decoder: &mut Decoder<'_>, symbol: u32) -> Result<u64, Bad>
     requires good { decoder.old.failed ≡ false }
     requires within { decoder.old.taken ≤ length decoder.old.bytes }
     requires state { IsTimeState (state_of times.old) }
@@ -175,7 +175,7 @@ fn take_rest(times: &mut Times, decoder: &mut Decoder<'_>, symbol: u32) -> Resul
 
 // Takes a time.
 #[inline(always)]
-pub(crate) fn take_time(times: &mut Times, decoder: &mut Decoder<'_>) -> Result<u64, Bad>
+pub(crate) fn take_time<M>(times: &mut Times, decoder: &mut Decoder<'_>) -> Result<u64, Bad>
     requires good { decoder.old.failed ≡ false }
     requires state { IsTimeState (state_of times.old) }
     ensures reads { let st = state_of times.old in MatchResult result (λ time. (x : Choice) × Takes (IsChoice st)
@@ -186,5 +186,5 @@ pub(crate) fn take_time(times: &mut Times, decoder: &mut Decoder<'_>) -> Result<
     ensures state { IsTimeState (state_of times.new) }
 {
     let symbol = take_symbols(times, decoder)?;
-    take_rest(times, decoder, symbol)
+    take_rest::<M>(times, decoder, symbol)
 }

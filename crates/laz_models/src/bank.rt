@@ -129,7 +129,7 @@ impl ModelBank {
     /// Where a decoder's search for a symbol of model `m` begins: the last symbol whose part begins at place `step · 2^b`
     /// or below, with the starts of its part and of the next two. Here b is what [`step_bits`](Self::step_bits) answers.
     #[inline(always)]
-    pub fn near(&self, m: u32, step: u32) -> Near
+    pub fn near(&self, m: u32, step: u64) -> Near
         requires model { m < length self.now }
         requires below { step < 2 ^ search_bits (alphabet_size (model_at self.now m)) }
         ensures near { let bits = 15 - search_bits (alphabet_size (model_at self.now m))
@@ -151,7 +151,7 @@ impl ModelBank {
     }
 
     /// Counts symbol `s` of model `m`.
-    #[inline]
+    #[inline(always)]
     pub fn count(&mut self, m: u32, s: u32)
         requires model { m < length self.old }
         requires symbol { s < alphabet_size (model_at self.old m) }
@@ -243,7 +243,7 @@ impl ModelBank {
 
     /// The same as [`count`](Self::count), for a reader: where a cycle begins, a look-up table is written, from which
     /// [`near`](Self::near) answers.
-    #[inline]
+    #[inline(always)]
     pub fn count_read(&mut self, m: u32, s: u32)
         requires model { m < length self.old }
         requires symbol { s < alphabet_size (model_at self.old m) }

@@ -151,7 +151,7 @@ fn count_at_cycle_end(cells: &mut Vec<u16>, place: &mut Place, s: u32, index: bo
 }
 
 /// Counts a symbol of the model at a place. `index` says whether a look-up table is written if a cycle begins.
-#[inline]
+#[inline(always)]
 pub fn count_at(cells: &mut Vec<u16>, place: &mut Place, s: u32, index: bool)
     requires placed { IsPlaced place.old cells.old.items }
     requires symbol { s < place.old.size }

@@ -79,7 +79,7 @@ impl BitModel {
     }
 
     /// Counts a bit.
-    #[inline]
+    #[inline(always)]
     pub fn count(&mut self, bit: bool)
         ensures after_symbol { self.new ≡ after_bit self.old bit }
         ensures stands { (h : List Bool) → BitStandsFor h self.old → BitStandsFor (h ++ bit ∷ []) self.new }

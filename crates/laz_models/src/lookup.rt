@@ -169,7 +169,7 @@ pub fn near_without_table(cells: &[u16], place: &Place, v: u32) -> Near
 
 /// Where a search begins, by an entry of the look-up table of a distribution.
 #[inline(always)]
-fn near_in_table(dist: &[u16], size: u32, shift: u32, entry: u32) -> Near
+fn near_in_table(dist: &[u16], size: u32, shift: u32, entry: u64) -> Near
     requires few { size ≤ MAX_SYMBOLS }
     requires dist { IsDist size dist.now }
     requires table { IsTable size shift dist.now }
@@ -182,7 +182,7 @@ fn near_in_table(dist: &[u16], size: u32, shift: u32, entry: u32) -> Near
 
 /// Where a search begins: at the last symbol whose part begins at the place of entry `entry` or below.
 #[inline(always)]
-pub fn near(cells: &[u16], place: &Place, entry: u32) -> Near
+pub fn near(cells: &[u16], place: &Place, entry: u64) -> Near
     requires placed { IsPlaced place.now cells.now }
     requires first { IsFirst place.now.size place.now.first cells.now }
     requires entry { entry < 2 ^ search_bits place.now.size }
@@ -192,5 +192,5 @@ pub fn near(cells: &[u16], place: &Place, entry: u32) -> Near
         let dist = distribution(cells, place);
         return near_in_table(dist, place.size, place.shift, entry);
     }
-    near_without_table(cells, place, entry << place.shift)
+    near_without_table(cells, place, (entry as u32) << place.shift)
 }

@@ -95,7 +95,7 @@ impl SymbolModel {
     /// Where a decoder's search for a symbol begins: the last symbol whose part begins at place `step · 2^b` or below, with
     /// the starts of its part and of the next two. Here b is what [`step_bits`](Self::step_bits) answers.
     #[inline(always)]
-    pub fn near(&self, step: u32) -> Near
+    pub fn near(&self, step: u64) -> Near
         requires { step < 2 ^ search_bits (alphabet_size self.now) }
         ensures near { IsNear self.now.starts (step * 2 ^ (15 - search_bits (alphabet_size self.now))) result }
         ensures starts { AreStarts (alphabet_size self.now) self.now.starts }

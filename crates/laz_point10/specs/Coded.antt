@@ -26,6 +26,7 @@ use Rattle.laz_integer.specs.Bytes.{byte_plus, has_bit}
 use Rattle.laz_point10.specs.PointEvents.{intensity_kind, point_source_kind, scan_angle_kind, user_data_kind, x_kind}
 use Rattle.laz_point10.specs.PointEvents.{y_context, y_kind, z_context, z_kind}
 use Rattle.laz_point10.specs.Groups.{AreHeadModels, ArePlaceModels, AreScanModels, AreSurfaceModels, HeadChoice, IsHead}
+use Rattle.laz_point10.specs.Groups.{angle_in, classification_in, dx_in, dy_in, intensity_in, source_in, user_in, z_in}
 use Rattle.laz_point10.specs.Groups.{IsPlace, IsScan, IsSurface, PlaceChoice, ScanChoice, SurfaceChoice, head_cuts}
 use Rattle.laz_point10.specs.Groups.{head_next, head_written, place_cuts, place_next, place_written, scan_cuts}
 use Rattle.laz_point10.specs.Groups.{scan_next, scan_written, surface_cuts, surface_next, surface_written}
@@ -112,68 +113,90 @@ head_events previous x = (Symbol (own_name changes_kind 0) 64 x.0 ∷ [])
 
 abbrev pub surface_events : Predictions → ℕ → ℕ → SurfaceChoice → List Event
 surface_events e changes flags x =
-    if_marked (has_bit 16 changes) (corrector_events intensity_kind 16 (intensity_context flags) x.0.0 x.0.1)
-    ++ if_marked (has_bit 8 changes) (byte_events classification_kind e.previous.classification x.1)
+    if_marked (has_bit 16 changes)
+    (corrector_events intensity_kind 16 (intensity_context flags) (intensity_in x).0 (intensity_in x).1)
+    ++ if_marked (has_bit 8 changes) (byte_events classification_kind e.previous.classification (classification_in x))
 
 abbrev pub scan_events : Predictions → ℕ → ℕ → ScanChoice → List Event
 scan_events e changes flags x =
-    if_marked (has_bit 4 changes) (byte_events scan_angle_kind (direction_bit flags) x.0)
-    ++ (if_marked (has_bit 2 changes) (byte_events user_data_kind e.previous.user_data x.1.0)
-    ++ if_marked (has_bit 1 changes) (corrector_events point_source_kind 16 0 x.1.1.0 x.1.1.1))
+    if_marked (has_bit 4 changes) (byte_events scan_angle_kind (direction_bit flags) (angle_in x))
+    ++ (if_marked (has_bit 2 changes) (byte_events user_data_kind e.previous.user_data (user_in x))
+    ++ if_marked (has_bit 1 changes) (corrector_events point_source_kind 16 0 (source_in x).0 (source_in x).1))
 
 abbrev pub place_events : ℕ → PlaceChoice → List Event
 place_events flags x =
-    corrector_events x_kind 32 (one_return flags) x.0.0 x.0.1
-    ++ (corrector_events y_kind 32 (y_context flags x.0.0) x.1.0.0 x.1.0.1
-    ++ corrector_events z_kind 32 (z_context flags x.0.0 x.1.0.0) x.1.1.0 x.1.1.1)
+    corrector_events x_kind 32 (one_return flags) (dx_in x).0 (dx_in x).1
+    ++ (corrector_events y_kind 32 (y_context flags (dx_in x).0) (dy_in x).0 (dy_in x).1
+    ++ corrector_events z_kind 32 (z_context flags (dx_in x).0 (dy_in x).0) (z_in x).0 (z_in x).1)
 
 -- ---- all that is read of a point
 abbrev pub PointChoice : Type 0
 PointChoice = HeadChoice × (SurfaceChoice × (ScanChoice × PlaceChoice))
 
+-- The parts of a choice: the symbol of changes and the flag byte, and what is read of each group.
+abbrev pub head_in : PointChoice → HeadChoice
+head_in x = x.0
+
+abbrev pub changes_in : PointChoice → ℕ
+changes_in x = x.0.0
+
+abbrev pub flags_in : PointChoice → ℕ
+flags_in x = x.0.1
+
+abbrev pub surface_in : PointChoice → SurfaceChoice
+surface_in x = x.1.0
+
+abbrev pub scan_in : PointChoice → ScanChoice
+scan_in x = x.1.1.0
+
+abbrev pub place_in : PointChoice → PlaceChoice
+place_in x = x.1.1.1
+
 abbrev pub IsPointChoice : History → PointChoice → Type 0
 IsPointChoice h x =
-    let e = predicted h x.0.1 in
-    IsHead h.last x.0 × (IsSurface e x.0.0 x.1.0 × (IsScan e x.0.0 x.1.1.0 × IsPlace x.1.1.1))
+    let e = predicted h (flags_in x) in
+    IsHead h.last (head_in x)
+    × (IsSurface e (changes_in x) (surface_in x) × (IsScan e (changes_in x) (scan_in x) × IsPlace (place_in x)))
 
 abbrev pub choice_cuts : Models → History → PointChoice → List Cut
 choice_cuts ms h x =
-    let e = predicted h x.0.1 in
-    head_cuts ms.head h.last x.0
-    ++ (surface_cuts ms.surface e x.0.0 x.0.1 x.1.0
-    ++ (scan_cuts ms.scan e x.0.0 x.0.1 x.1.1.0 ++ place_cuts ms.place x.0.1 x.1.1.1))
+    let e = predicted h (flags_in x) in
+    head_cuts ms.head h.last (head_in x)
+    ++ (surface_cuts ms.surface e (changes_in x) (flags_in x) (surface_in x)
+    ++ (scan_cuts ms.scan e (changes_in x) (flags_in x) (scan_in x)
+    ++ place_cuts ms.place (flags_in x) (place_in x)))
 
 abbrev pub choice_events : History → PointChoice → List Event
 choice_events h x =
-    let e = predicted h x.0.1 in
-    head_events h.last x.0
-    ++ (surface_events e x.0.0 x.0.1 x.1.0
-    ++ (scan_events e x.0.0 x.0.1 x.1.1.0 ++ place_events x.0.1 x.1.1.1))
+    let e = predicted h (flags_in x) in
+    head_events h.last (head_in x)
+    ++ (surface_events e (changes_in x) (flags_in x) (surface_in x)
+    ++ (scan_events e (changes_in x) (flags_in x) (scan_in x) ++ place_events (flags_in x) (place_in x)))
 
 abbrev pub choice_next : Models → History → PointChoice → Models
 choice_next ms h x =
-    let e = predicted h x.0.1 in
+    let e = predicted h (flags_in x) in
     record {
-      head = head_next ms.head h.last x.0;
-      surface = surface_next ms.surface e x.0.0 x.0.1 x.1.0;
-      scan = scan_next ms.scan e x.0.0 x.0.1 x.1.1.0;
-      place = place_next ms.place x.0.1 x.1.1.1;
+      head = head_next ms.head h.last (head_in x);
+      surface = surface_next ms.surface e (changes_in x) (flags_in x) (surface_in x);
+      scan = scan_next ms.scan e (changes_in x) (flags_in x) (scan_in x);
+      place = place_next ms.place (flags_in x) (place_in x);
     }
 
 -- The point that it makes.
 abbrev pub point_made : History → PointChoice → Point
 point_made h x =
-    let e = predicted h x.0.1 in
+    let e = predicted h (flags_in x) in
     record {
-      x = int_wrapping_add w32 h.last.x (corrected 32 e.dx x.1.1.1.0.0 x.1.1.1.0.1);
-      y = int_wrapping_add w32 h.last.y (corrected 32 e.dy x.1.1.1.1.0.0 x.1.1.1.1.0.1);
-      z = corrected 32 e.z x.1.1.1.1.1.0 x.1.1.1.1.1.1;
-      intensity = word_value (has_bit 16 x.0.0) e.intensity x.1.0.0;
-      flags = x.0.1;
-      classification = x.1.0.1;
-      scan_angle = byte_plus h.last.scan_angle x.1.1.0.0;
-      user_data = x.1.1.0.1.0;
-      point_source = word_value (has_bit 1 x.0.0) h.last.point_source x.1.1.0.1.1;
+      x = int_wrapping_add w32 h.last.x (corrected 32 e.dx (dx_in (place_in x)).0 (dx_in (place_in x)).1);
+      y = int_wrapping_add w32 h.last.y (corrected 32 e.dy (dy_in (place_in x)).0 (dy_in (place_in x)).1);
+      z = corrected 32 e.z (z_in (place_in x)).0 (z_in (place_in x)).1;
+      intensity = word_value (has_bit 16 (changes_in x)) e.intensity (intensity_in (surface_in x));
+      flags = flags_in x;
+      classification = classification_in (surface_in x);
+      scan_angle = byte_plus h.last.scan_angle (angle_in (scan_in x));
+      user_data = user_in (scan_in x);
+      point_source = word_value (has_bit 1 (changes_in x)) h.last.point_source (source_in (scan_in x));
     }
 
 -- What a writer takes.

@@ -49,19 +49,27 @@ pub record AreSurfaceModels (ms : SurfaceModels) : Type 0 where
 abbrev pub SurfaceChoice : Type 0
 SurfaceChoice = (ℕ × ℕ) × ℕ
 
+-- The corrector of the intensity, and the classification byte.
+abbrev pub intensity_in : SurfaceChoice → ℕ × ℕ
+intensity_in x = x.0
+
+abbrev pub classification_in : SurfaceChoice → ℕ
+classification_in x = x.1
+
 abbrev pub IsSurface : Predictions → ℕ → SurfaceChoice → Type 0
-IsSurface e changes x = IsWord (has_bit 16 changes) x.0 × IsByte (has_bit 8 changes) e.previous.classification x.1
+IsSurface e changes x = IsWord (has_bit 16 changes) (intensity_in x)
+    × IsByte (has_bit 8 changes) e.previous.classification (classification_in x)
 
 abbrev pub surface_cuts : SurfaceModels → Predictions → ℕ → ℕ → SurfaceChoice → List Cut
 surface_cuts ms e changes flags x =
-    word_cuts (has_bit 16 changes) ms.intensity (intensity_context flags) x.0
-    ++ byte_cuts (has_bit 8 changes) ms.classifications e.previous.classification x.1
+    word_cuts (has_bit 16 changes) ms.intensity (intensity_context flags) (intensity_in x)
+    ++ byte_cuts (has_bit 8 changes) ms.classifications e.previous.classification (classification_in x)
 
 abbrev pub surface_next : SurfaceModels → Predictions → ℕ → ℕ → SurfaceChoice → SurfaceModels
 surface_next ms e changes flags x =
     record {
-      intensity = word_next (has_bit 16 changes) ms.intensity (intensity_context flags) x.0;
-      classifications = byte_next (has_bit 8 changes) ms.classifications e.previous.classification x.1;
+      intensity = word_next (has_bit 16 changes) ms.intensity (intensity_context flags) (intensity_in x);
+      classifications = byte_next (has_bit 8 changes) ms.classifications e.previous.classification (classification_in x);
     }
 
 -- ---- scan angle, user data and point source
@@ -73,22 +81,32 @@ pub record AreScanModels (ms : ScanModels) : Type 0 where
 abbrev pub ScanChoice : Type 0
 ScanChoice = ℕ × (ℕ × (ℕ × ℕ))
 
+-- The difference of the scan angle, the user data, and the corrector of the point source.
+abbrev pub angle_in : ScanChoice → ℕ
+angle_in x = x.0
+
+abbrev pub user_in : ScanChoice → ℕ
+user_in x = x.1.0
+
+abbrev pub source_in : ScanChoice → ℕ × ℕ
+source_in x = x.1.1
+
 abbrev pub IsScan : Predictions → ℕ → ScanChoice → Type 0
-IsScan e changes x = IsByte (has_bit 4 changes) 0 x.0
-    × (IsByte (has_bit 2 changes) e.previous.user_data x.1.0 × IsWord (has_bit 1 changes) x.1.1)
+IsScan e changes x = IsByte (has_bit 4 changes) 0 (angle_in x)
+    × (IsByte (has_bit 2 changes) e.previous.user_data (user_in x) × IsWord (has_bit 1 changes) (source_in x))
 
 abbrev pub scan_cuts : ScanModels → Predictions → ℕ → ℕ → ScanChoice → List Cut
 scan_cuts ms e changes flags x =
-    byte_cuts (has_bit 4 changes) ms.angles (direction_bit flags) x.0
-    ++ (byte_cuts (has_bit 2 changes) ms.users e.previous.user_data x.1.0
-    ++ word_cuts (has_bit 1 changes) ms.source 0 x.1.1)
+    byte_cuts (has_bit 4 changes) ms.angles (direction_bit flags) (angle_in x)
+    ++ (byte_cuts (has_bit 2 changes) ms.users e.previous.user_data (user_in x)
+    ++ word_cuts (has_bit 1 changes) ms.source 0 (source_in x))
 
 abbrev pub scan_next : ScanModels → Predictions → ℕ → ℕ → ScanChoice → ScanModels
 scan_next ms e changes flags x =
     record {
-      angles = byte_next (has_bit 4 changes) ms.angles (direction_bit flags) x.0;
-      users = byte_next (has_bit 2 changes) ms.users e.previous.user_data x.1.0;
-      source = word_next (has_bit 1 changes) ms.source 0 x.1.1;
+      angles = byte_next (has_bit 4 changes) ms.angles (direction_bit flags) (angle_in x);
+      users = byte_next (has_bit 2 changes) ms.users e.previous.user_data (user_in x);
+      source = word_next (has_bit 1 changes) ms.source 0 (source_in x);
     }
 
 -- ---- dx, dy and z
@@ -100,21 +118,31 @@ pub record ArePlaceModels (ms : PlaceModels) : Type 0 where
 abbrev pub PlaceChoice : Type 0
 PlaceChoice = (ℕ × ℕ) × ((ℕ × ℕ) × (ℕ × ℕ))
 
+-- The correctors of dx, dy and z: each a width, and an index in that width.
+abbrev pub dx_in : PlaceChoice → ℕ × ℕ
+dx_in x = x.0
+
+abbrev pub dy_in : PlaceChoice → ℕ × ℕ
+dy_in x = x.1.0
+
+abbrev pub z_in : PlaceChoice → ℕ × ℕ
+z_in x = x.1.1
+
 abbrev pub IsPlace : PlaceChoice → Type 0
-IsPlace x = IsCorrector 32 x.0 × (IsCorrector 32 x.1.0 × IsCorrector 32 x.1.1)
+IsPlace x = IsCorrector 32 (dx_in x) × (IsCorrector 32 (dy_in x) × IsCorrector 32 (z_in x))
 
 abbrev pub place_cuts : PlaceModels → ℕ → PlaceChoice → List Cut
 place_cuts ms flags x =
-    int_cuts ms.dx (one_return flags) x.0.0 x.0.1
-    ++ (int_cuts ms.dy (y_context flags x.0.0) x.1.0.0 x.1.0.1
-    ++ int_cuts ms.z (z_context flags x.0.0 x.1.0.0) x.1.1.0 x.1.1.1)
+    int_cuts ms.dx (one_return flags) (dx_in x).0 (dx_in x).1
+    ++ (int_cuts ms.dy (y_context flags (dx_in x).0) (dy_in x).0 (dy_in x).1
+    ++ int_cuts ms.z (z_context flags (dx_in x).0 (dy_in x).0) (z_in x).0 (z_in x).1)
 
 abbrev pub place_next : PlaceModels → ℕ → PlaceChoice → PlaceModels
 place_next ms flags x =
     record {
-      dx = int_next ms.dx (one_return flags) x.0.0 x.0.1;
-      dy = int_next ms.dy (y_context flags x.0.0) x.1.0.0 x.1.0.1;
-      z = int_next ms.z (z_context flags x.0.0 x.1.0.0) x.1.1.0 x.1.1.1;
+      dx = int_next ms.dx (one_return flags) (dx_in x).0 (dx_in x).1;
+      dy = int_next ms.dy (y_context flags (dx_in x).0) (dy_in x).0 (dy_in x).1;
+      z = int_next ms.z (z_context flags (dx_in x).0 (dy_in x).0) (z_in x).0 (z_in x).1;
     }
 
 -- ---- which of them a writer takes

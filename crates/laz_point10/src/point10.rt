@@ -68,8 +68,23 @@ impl Point10 {
             → let point = point_at part.now in
             PointStands (earlier ++ point_events points point) (point ∷ points) self.new }
     {
+        self.code_for::<()>(encoder, part);
+    }
+
+    /// The same as [`code`](Self::code), once in the program for each `M`: what a single loop calls is inlined into it.
+    #[inline(always)]
+    pub fn code_for<M>(&mut self, encoder: &mut Encoder, part: &[u8])
+        requires part { length part.now ≡ 20 }
+        requires left { 69 ≤ encoder.old.left }
+        ensures used { encoder.old.left ≤ encoder.new.left + 69 }
+        ensures events { (earlier : List Event) (points : List Point) → PointStands earlier points self.old
+            → Codes encoder.old encoder.new (cuts_after earlier (point_events points (point_at part.now))) }
+        ensures stands { (earlier : List Event) (points : List Point) → PointStands earlier points self.old
+            → let point = point_at part.now in
+            PointStands (earlier ++ point_events points point) (point ∷ points) self.new }
+    {
         let point = Point::of(part);
-        put_point(encoder, &mut self.models, &self.history, &point);
+        put_point::<M>(encoder, &mut self.models, &self.history, &point);
         self.history.add(&point);
     }
 

@@ -157,7 +157,8 @@ fn take_place(
 }
 
 // Takes a point after others.
-#[inline(always)]
+// It is out of line, so that each part of a point is taken at one place of the program, and is inlined there.
+#[inline(never)]
 pub fn take_point(
     decoder: &mut Decoder<'_>,
     models: &mut Models,

@@ -182,7 +182,7 @@ fn put_int(encoder: &mut Encoder, model: &mut IntModel, pred: i32, real: i32, ct
 
 // Codes dx, dy and z.
 #[inline(always)]
-fn put_place(encoder: &mut Encoder, models: &mut PlaceModels, e: &Predictions, p: &Point)
+fn put_place<M>(encoder: &mut Encoder, models: &mut PlaceModels, e: &Predictions, p: &Point)
     requires left { 36 ≤ encoder.old.left }
     requires models { ArePlaceModels models.old }
     ensures codes { Codes encoder.old encoder.new (place_cuts models.old p.now.flags (place_written e.now p.now)) }
@@ -206,7 +206,7 @@ fn put_place(encoder: &mut Encoder, models: &mut PlaceModels, e: &Predictions, p
 
 // Codes a point after others.
 #[inline(always)]
-pub fn put_point(encoder: &mut Encoder, models: &mut Models, history: &History, p: &Point)
+pub fn put_point<M>(encoder: &mut Encoder, models: &mut Models, history: &History, p: &Point)
     requires left { 69 ≤ encoder.old.left }
     requires models { AreModels models.old }
     ensures codes { Codes encoder.old encoder.new
@@ -221,5 +221,5 @@ pub fn put_point(encoder: &mut Encoder, models: &mut Models, history: &History, 
     put_head(encoder, &mut models.head, &e.previous, changes, p.flags);
     put_surface(encoder, &mut models.surface, &e, changes, p);
     put_scan(encoder, &mut models.scan, &e, changes, p);
-    put_place(encoder, &mut models.place, &e, p);
+    put_place::<M>(encoder, &mut models.place, &e, p);
 }

@@ -111,7 +111,7 @@ impl<'a> Decoder<'a> {
     /// A place of 2^15 parts that is at or below the one that the value lies in, and seldom far from it, without its low
     /// `bits` bits, at most 15. It takes no division: a search for the next symbol begins there.
     #[inline(always)]
-    pub fn estimate(&self, bits: u32) -> u32
+    pub fn estimate(&self, bits: u32) -> u64
         requires good { self.now.failed ≡ false }
         requires few { bits < 16 }
         ensures is { result ≡ estimated_place self.now.value self.now.len / 2 ^ bits }

@@ -48,19 +48,6 @@ fn four_at(bytes: &[u8], at: usize) -> u32
     u32::from_be_bytes([bytes[at], bytes[at + 1], bytes[at + 2], bytes[at + 3]])
 }
 
-/// A word whose first bytes are those from `at` on, as far as there are any.
-#[inline(always)]
-fn word_at(bytes: &[u8], at: usize) -> u32
-    requires { at ≤ length bytes.now }
-    ensures { (n : ℕ) → n ≤ 4 → at + n ≤ length bytes.now
-        → result / 256 ^ (4 - n) ≡ number (take n (drop at bytes.now)) }
-{
-    if bytes.len() - at < 4 {
-        return last_word(bytes, at);
-    }
-    four_at(bytes, at)
-}
-
 /// A value with the first `more` bytes of a word after it.
 #[inline(always)]
 fn with_bytes_of(word: u32, value: u32, more: u32) -> u32
@@ -88,10 +75,14 @@ pub fn advance(input: &mut Input<'_>, from: u32, width: u32) -> Result<(), Bad>
 {
     let more = bytes_lacking(width);
     let left = input.bytes.len() - input.taken;
-    if left < 4 && left < more as usize {
-        return Err(Bad);
-    }
-    let ahead = word_at(input.bytes, input.taken);
+    let ahead = if left < 4 {
+        if left < more as usize {
+            return Err(Bad);
+        }
+        last_word(input.bytes, input.taken)
+    } else {
+        four_at(input.bytes, input.taken)
+    };
     input.value = with_bytes_of(ahead, input.value - from, more);
     input.taken += more as usize;
     input.length = width << (8 * more);

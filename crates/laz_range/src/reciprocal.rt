@@ -121,7 +121,7 @@ pub fn top_of(len: u32) -> u32
 /// A place of 2^15 parts at or below the one that the value lies in, without its low `bits` bits. `top` has the top bits
 /// of the length.
 #[inline(always)]
-pub fn estimate(value: u32, len: u32, top: u32, bits: u32) -> u32
+pub fn estimate(value: u32, len: u32, top: u32, bits: u32) -> u64
     requires long { MIN_LENGTH ≤ len }
     requires below { value < len }
     requires top { top ≡ top_bits len }
@@ -131,5 +131,5 @@ pub fn estimate(value: u32, len: u32, top: u32, bits: u32) -> u32
     ensures within { result * 2 ^ bits < SYMBOL_PARTS }
 {
     let product = value as u64 * reciprocal(top) as u64;
-    (product >> (32 - len.leading_zeros() + bits)) as u32
+    product >> (32 - len.leading_zeros() + bits)
 }

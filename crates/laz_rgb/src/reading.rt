@@ -124,7 +124,7 @@ fn colour_with(symbol: u32, red: (u8, u8), low: (u8, u8), high: (u8, u8)) -> Col
 
 // Takes a colour after another.
 #[inline(always)]
-pub(crate) fn take_colour(
+pub(crate) fn take_colour<M>(
     decoder: &mut Decoder<'_>,
     bank: &mut ModelBank,
     last: &Colour,

@@ -100,7 +100,28 @@ impl Rgb {
             → (sizes : Name → ℕ) → HasRgbSizes sizes → AreRanged sizes earlier
             → OnErr result (NoneBegins (IsSpelledColour colours) (spelled_cuts earlier) decoder.old) }
     {
-        let colour = take_colour(decoder, &mut self.bank, &self.last)?;
+        self.read_for::<()>(decoder, part)
+    }
+
+    /// The same as [`read`](Self::read), once in the program for each `M`: what a single loop calls is inlined into it.
+    #[inline(always)]
+    pub fn read_for<M>(&mut self, decoder: &mut Decoder<'_>, part: &mut [u8]) -> Result<(), Bad>
+        requires good { decoder.old.failed ≡ false }
+        requires part { length part.old ≡ 6 }
+        ensures part { length part.new ≡ 6 }
+        ensures good { OnOk result (decoder.new.failed ≡ false) }
+        ensures reads { (earlier : List Event) (colours : List Colour) → RgbStands earlier colours self.old
+            → MatchResult result (λ _. ReadsColour earlier colours
+            (colour_at part.new) decoder.old decoder.new self.new)
+            (λ _. Refuses (IsSpelledColour colours) (spelled_cuts earlier) decoder.old decoder.new) }
+        ensures only { (earlier : List Event) (colours : List Colour) → RgbStands earlier colours self.old
+            → (sizes : Name → ℕ) → HasRgbSizes sizes → AreRanged sizes earlier
+            → OnOk result (OneBegins (IsSpelledColour colours) earlier decoder.old (colour_at part.new)) }
+        ensures none { (earlier : List Event) (colours : List Colour) → RgbStands earlier colours self.old
+            → (sizes : Name → ℕ) → HasRgbSizes sizes → AreRanged sizes earlier
+            → OnErr result (NoneBegins (IsSpelledColour colours) (spelled_cuts earlier) decoder.old) }
+    {
+        let colour = take_colour::<M>(decoder, &mut self.bank, &self.last)?;
         self.last = colour;
         colour.put(part);
         Ok(())

@@ -8,7 +8,7 @@ use Rattle.laz_gpstime.proofs.Coded.{two-codes, two-stand}
 use Rattle.laz_gpstime.proofs.coding.put_time.Goals as goal
 
 pub returns-in-Some-clause-codes : goal.returns-in-Some-clause-codes
-returns-in-Some-clause-codes c earlier h =
+returns-in-Some-clause-codes g c earlier h =
     let st = state_of c.args.times.now in
     let first = switch_events (difference_of st) c.in-Some.i in
     let slot = slot_at (after_switch st.sequences c.in-Some.i) (after_switch st.sequences c.in-Some.i).last in
@@ -17,7 +17,7 @@ returns-in-Some-clause-codes c earlier h =
     (rw c.put_switch.ensures.sequences at (c.put_near.ensures.codes (earlier ++ first) (c.put_switch.ensures.stands earlier h))))
 
 pub returns-in-Some-clause-stands : goal.returns-in-Some-clause-stands
-returns-in-Some-clause-stands c earlier h =
+returns-in-Some-clause-stands g c earlier h =
     let st = state_of c.args.times.now in
     let first = switch_events (difference_of st) c.in-Some.i in
     let slot = slot_at (after_switch st.sequences c.in-Some.i) (after_switch st.sequences c.in-Some.i).last in
@@ -26,5 +26,5 @@ returns-in-Some-clause-stands c earlier h =
     (rw c.put_switch.ensures.sequences at (c.put_near.ensures.stands (earlier ++ first) (c.put_switch.ensures.stands earlier h))))
 
 pub returns-in-None-clause-codes : goal.returns-in-None-clause-codes
-returns-in-None-clause-codes c earlier h =
+returns-in-None-clause-codes g c earlier h =
     subst (λ (o : Option ℕ). Codes c.args.encoder.now c.put_new.new.encoder (cuts_after earlier (state_events (state_of c.args.times.now) c.args.time o))) c.in-None.ensures.nearest (c.put_new.ensures.codes earlier h)

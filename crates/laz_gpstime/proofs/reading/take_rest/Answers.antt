@@ -8,7 +8,7 @@ use Rattle.laz_gpstime.proofs.Rests.{same-next, same-takes, same-time}
 use Rattle.laz_gpstime.proofs.reading.take_rest.Goals as goal
 
 pub returns-clause-reads : goal.returns-clause-reads
-returns-clause-reads c =
+returns-clause-reads g c =
     let st = state_of c.args.times.now in
     let new = state_of (record { sequences = c.add_point.new.sequences; symbols = c.args.times.now.symbols; integers = c.args.times.now.integers }) in
     let same : c.args.symbol ≡ same_symbol (difference_of st) = c.if-symbol-same_symbol.false ∙ (rw c.current-slot.ensures at c.same_symbol.ensures) in

@@ -2,8 +2,11 @@ use Rattle.std.proofs.Common.{◌≡◌, ℕ, ◌*◌, ◌%◌, ◌^◌, subst, 
 use Rattle.std.proofs.Math.Nat.{mod-eq_of_lt}
 use Rattle.laz_models.specs.Place.{counting_in}
 use Rattle.laz_models.specs.Near.{IsNear}
-use Rattle.laz_models.proofs.Lookups.{step-within}
+use Rattle.laz_models.proofs.Lookups.{search-few, step-within}
 use Rattle.laz_models.proofs.lookup.near.Goals as goal
+
+pub overflow_cast-entry : goal.overflow_cast-entry
+overflow_cast-entry c = omega (arith, c.requires.entry, search-few c.args.place.now.size)
 
 pub returns-then-place : goal.returns-then-place
 returns-then-place c =

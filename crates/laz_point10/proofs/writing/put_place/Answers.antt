@@ -7,7 +7,7 @@ use Rattle.laz_point10.proofs.Takings.{int-put, int-next, same-place, width-is, 
 use Rattle.laz_point10.proofs.writing.put_place.Goals as goal
 
 pub returns-clause-codes : goal.returns-clause-codes
-returns-clause-codes c =
+returns-clause-codes g c =
     let ms = c.args.models.now in
     let e = c.args.e.now in
     let p = c.args.p.now in
@@ -25,7 +25,7 @@ returns-clause-codes c =
     (int-put ms.z _ _ _ e.z _ p.z _ _ (z-context-is _ _ _ _ _ _ _ one c.even_below-2.ensures.even kx ky) (to_z-of_z w32 e.z fz) (to_z-of_z w32 p.z gz) c.put_int.ensures.codes))
 
 pub returns-clause-next : goal.returns-clause-next
-returns-clause-next c =
+returns-clause-next g c =
     let ms = c.args.models.now in
     let e = c.args.e.now in
     let p = c.args.p.now in

@@ -1,6 +1,6 @@
 use Rattle.std.proofs.Common.{ℕ, ◌-◌, ◌*◌, ◌/◌, ◌^◌, ◌≤◌, ◌∙◌, ap, arith}
 use Rattle.std.proofs.Math.Nat.{div-mul-le_self}
-use Rattle.std.proofs.lemmas.Nat.{mul-le, pow_pos}
+use Rattle.std.proofs.lemmas.Nat.{mul-le}
 use lib.Count.{count_leading_zeros}
 use Rattle.laz_range.specs.Search.{reciprocal}
 use Rattle.laz_range.proofs.Reciprocals.{coarse-of, top-of, top-bounds, estimated}
@@ -10,13 +10,6 @@ pub reciprocal-requires : goal.reciprocal-requires
 reciprocal-requires c =
     let bounds = top-bounds c.args.len _ (top-of c.args.len c.requires.long (omega arith)) in
     rw c.requires.top (record { low = bounds.0; high = bounds.1 })
-
-pub overflow_cast-result-2 : goal.overflow_cast-result-2
-overflow_cast-result-2 c =
-    let e = estimated c.args.value c.args.len _ c.reciprocal.result (top-of c.args.len c.requires.long (omega arith)) c.requires.below (c.reciprocal.ensures ∙ ap reciprocal c.requires.top) in
-    let place : ℕ = c.args.value * c.reciprocal.result / 2 ^ (32 - count_leading_zeros 32 c.args.len) in
-    let least : place / 2 ^ c.args.bits * 1 ≤ place / 2 ^ c.args.bits * 2 ^ c.args.bits = mul-le (place / 2 ^ c.args.bits) 1 (place / 2 ^ c.args.bits) (2 ^ c.args.bits) (omega arith) (pow_pos c.args.bits) in
-    rw (coarse-of (c.args.value * c.reciprocal.result) (32 - count_leading_zeros 32 c.args.len) c.args.bits) (omega (arith, e.within, least, div-mul-le_self place (2 ^ c.args.bits)))
 
 pub returns-clause-is : goal.returns-clause-is
 returns-clause-is c =

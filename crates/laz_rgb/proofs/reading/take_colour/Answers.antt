@@ -10,13 +10,13 @@ use Rattle.laz_integer.proofs.BankModels.{first-model}
 use Rattle.laz_rgb.proofs.reading.take_colour.Goals as goal
 
 pub returns-in_err-symbol-clause-reads : goal.returns-in_err-symbol-clause-reads
-returns-in_err-symbol-clause-reads c =
+returns-in_err-symbol-clause-reads g c =
     let p = err_from_is_err_and c.from_residual.result c.from_residual.ensures.1 in
     let size = (first-model c.args.bank.now 128 (replicate 6 256) c.requires.sizes).1 in
     rw p.1 (none-changes c.args.bank.now c.args.decoder.now c.take_symbol_of.new.decoder (sized-none (model_at c.args.bank.now 0) 128 _ _ size c.in_err-symbol.ensures.reads))
 
 pub returns-in_err-red-clause-reads : goal.returns-in_err-red-clause-reads
-returns-in_err-red-clause-reads c =
+returns-in_err-red-clause-reads g c =
     let p = err_from_is_err_and c.from_residual-in_err-red.result c.from_residual-in_err-red.ensures.1 in
     let size = (first-model c.args.bank.now 128 (replicate 6 256) c.requires.sizes).1 in
     let s = c.in_ok-symbol.symbol in
@@ -25,15 +25,15 @@ returns-in_err-red-clause-reads c =
     rw p.1 (none-red c.args.bank.now s c.take_symbol_of.new.bank c.args.decoder.now c.take_symbol_of.new.decoder f c.in_ok-symbol.ensures.after_symbol c.take_red.new.decoder red)
 
 pub take_green_blue-requires-clause-models : goal.take_green_blue-requires-clause-models
-take_green_blue-requires-clause-models c j lt =
+take_green_blue-requires-clause-models g c j lt =
     sized-rows 4 3 c.take_red.new.bank (128 ∷ 256 ∷ 256 ∷ []) (c.in_ok-red.ensures.sizes ∙ (c.in_ok-symbol.ensures.sizes ∙ c.requires.sizes)) refl j (omega (arith, lt))
 
 pub take_green_blue-requires-2-clause-models : goal.take_green_blue-requires-2-clause-models
-take_green_blue-requires-2-clause-models c j lt =
+take_green_blue-requires-2-clause-models g c j lt =
     sized-rows 2 5 c.take_green_blue.new.bank (128 ∷ 256 ∷ 256 ∷ 256 ∷ 256 ∷ []) (c.in_ok-low.ensures.sizes ∙ (c.in_ok-red.ensures.sizes ∙ (c.in_ok-symbol.ensures.sizes ∙ c.requires.sizes))) refl j lt
 
 pub returns-in_err-low-clause-reads : goal.returns-in_err-low-clause-reads
-returns-in_err-low-clause-reads c =
+returns-in_err-low-clause-reads g c =
     let p = err_from_is_err_and c.from_residual-in_err-low.result c.from_residual-in_err-low.ensures.1 in
     let size = (first-model c.args.bank.now 128 (replicate 6 256) c.requires.sizes).1 in
     let s = c.in_ok-symbol.symbol in
@@ -43,7 +43,7 @@ returns-in_err-low-clause-reads c =
     rw p.1 (none-low c.args.bank.now s c.take_symbol_of.new.bank c.args.decoder.now c.take_symbol_of.new.decoder f c.in_ok-symbol.ensures.after_symbol red.0 c.take_red.new.bank c.take_red.new.decoder red.1 red.4 c.take_green_blue.new.decoder low)
 
 pub returns-in_err-high-clause-reads : goal.returns-in_err-high-clause-reads
-returns-in_err-high-clause-reads c =
+returns-in_err-high-clause-reads g c =
     let p = err_from_is_err_and c.from_residual-in_err-high.result c.from_residual-in_err-high.ensures.1 in
     let size = (first-model c.args.bank.now 128 (replicate 6 256) c.requires.sizes).1 in
     let s = c.in_ok-symbol.symbol in
@@ -54,7 +54,7 @@ returns-in_err-high-clause-reads c =
     rw p.1 (none-high c.args.bank.now s c.take_symbol_of.new.bank c.args.decoder.now c.take_symbol_of.new.decoder f c.in_ok-symbol.ensures.after_symbol red.0 c.take_red.new.bank c.take_red.new.decoder red.1 red.4 low.0 c.take_green_blue.new.bank c.take_green_blue.new.decoder low.1 low.4 c.take_green_blue-2.new.decoder high)
 
 pub returns-clause-reads : goal.returns-clause-reads
-returns-clause-reads c =
+returns-clause-reads g c =
     let size = (first-model c.args.bank.now 128 (replicate 6 256) c.requires.sizes).1 in
     let s = c.in_ok-symbol.symbol in
     let f = sized-takes (model_at c.args.bank.now 0) s 128 _ _ size c.in_ok-symbol.ensures.reads in

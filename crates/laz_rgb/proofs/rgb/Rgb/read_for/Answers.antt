@@ -5,30 +5,30 @@ use Rattle.laz_rgb.specs.Colours.{colour_at, colour_made}
 use Rattle.laz_rgb.specs.Coded.{choice_symbols}
 use Rattle.laz_rgb.specs.Items.{ReadsColour, RgbState}
 use Rattle.laz_rgb.proofs.Spelled.{none-colour, one-colour, reads-colour, refuses-colour}
-use Rattle.laz_rgb.proofs.rgb.Rgb.read.Goals as goal
+use Rattle.laz_rgb.proofs.rgb.Rgb.read_for.Goals as goal
 
 pub invariant_of-self : goal.invariant_of-self
-invariant_of-self c = c.take_colour.ensures.sizes ∙ c.self.invariant
+invariant_of-self g c = c.take_colour.ensures.sizes ∙ c.self.invariant
 
 pub invariant_of-self-2 : goal.invariant_of-self-2
-invariant_of-self-2 c = c.take_colour.ensures.sizes ∙ c.self.invariant
+invariant_of-self-2 g c = c.take_colour.ensures.sizes ∙ c.self.invariant
 
 pub returns-in_err-colour-clause-reads : goal.returns-in_err-colour-clause-reads
-returns-in_err-colour-clause-reads c earlier colours h =
+returns-in_err-colour-clause-reads g c earlier colours h =
     let st : RgbState = record { bank = c.self.inside.bank; last = c.self.inside.last } in
     let stood = rw (← c.self.view_is) at h in
     let p = err_from_is_err_and c.from_residual.result c.from_residual.ensures.1 in
     rw p.1 (refuses-colour earlier colours st c.self.invariant stood _ _ c.in_err-colour.ensures.reads)
 
 pub returns-in_err-colour-clause-none : goal.returns-in_err-colour-clause-none
-returns-in_err-colour-clause-none c earlier colours h sizes has before =
+returns-in_err-colour-clause-none g c earlier colours h sizes has before =
     let st : RgbState = record { bank = c.self.inside.bank; last = c.self.inside.last } in
     let stood = rw (← c.self.view_is) at h in
     let p = err_from_is_err_and c.from_residual.result c.from_residual.ensures.1 in
     rw p.1 (none-colour sizes has earlier before colours _ _ (refuses-colour earlier colours st c.self.invariant stood _ _ c.in_err-colour.ensures.reads))
 
 pub returns-clause-reads : goal.returns-clause-reads
-returns-clause-reads c earlier colours h =
+returns-clause-reads g c earlier colours h =
     let st : RgbState = record { bank = c.self.inside.bank; last = c.self.inside.last } in
     let stood = rw (← c.self.view_is) at h in
     let r = c.in_ok-colour.ensures.reads in
@@ -40,8 +40,8 @@ returns-clause-reads c earlier colours h =
     subst (λ (n : Colour). ReadsColour earlier colours n c.args.decoder.now c.take_colour.new.decoder new) same read
 
 pub returns-clause-only : goal.returns-clause-only
-returns-clause-only c earlier colours h sizes has before =
+returns-clause-only g c earlier colours h sizes has before =
     let st : RgbState = record { bank = c.self.inside.bank; last = c.self.inside.last } in
     let stood = rw (← c.self.view_is) at h in
-    let r = returns-clause-reads c earlier colours h in
+    let r = returns-clause-reads g c earlier colours h in
     one-colour sizes has earlier before colours c.args.decoder.now c.take_colour.new.decoder (r.events, colour_at c.put.new.part) r.takes

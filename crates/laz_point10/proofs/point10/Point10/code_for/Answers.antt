@@ -5,10 +5,10 @@ use Rattle.laz_point10.specs.declared.point.Point.{Point}
 use Rattle.laz_point10.specs.PointEvents.{point_events}
 use Rattle.laz_point10.specs.Items.{PointStands, PointState}
 use Rattle.laz_point10.proofs.Standing.{codes-point, stands-point}
-use Rattle.laz_point10.proofs.point10.Point10.code.Goals as goal
+use Rattle.laz_point10.proofs.point10.Point10.code_for.Goals as goal
 
 pub returns-clause-events : goal.returns-clause-events
-returns-clause-events c earlier points h =
+returns-clause-events g c earlier points h =
     let st : PointState = record { models = c.self.inside.models; history = c.self.inside.history } in
     let stood = rw (← c.self.view_is) at h in
     let point = c.of-point.result in
@@ -16,7 +16,7 @@ returns-clause-events c earlier points h =
     (codes-point earlier points st c.self.invariant c.put_point.ensures.bytes stood point c.of-point.ensures.fits c.args.encoder.now c.put_point.new.encoder c.put_point.ensures.codes)
 
 pub returns-clause-stands : goal.returns-clause-stands
-returns-clause-stands c earlier points h =
+returns-clause-stands g c earlier points h =
     let st : PointState = record { models = c.self.inside.models; history = c.self.inside.history } in
     let stood = rw (← c.self.view_is) at h in
     let point = c.of-point.result in
