@@ -25,6 +25,7 @@ pub mod Tallying
 pub mod Patching
 pub mod Finishing
 pub mod Arms
+pub mod Unasked
 pub mod Stopping
 pub mod Unpacking
 pub mod Knowing
