@@ -40,6 +40,7 @@ pub mod AllParts
 pub mod Opened
 pub mod Sought
 pub mod Asking
+pub mod LeftSizes
 pub mod Accepting
 pub mod Joins
 pub mod InputLists
