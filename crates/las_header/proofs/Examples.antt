@@ -1,8 +1,9 @@
 -- Values that compute: heads of each version, what they are refused for when some bytes are others, and heads that are
 -- changed.
-use Rattle.std.proofs.Common.{◌≡◌, ℕ, ◌+◌, List, [], ◌∷◌, ◌++◌, replicate, codes, length, Option, Some, None, refl}
+use Rattle.std.proofs.Common.{◌≡◌, ℕ, ◌+◌, ◌^◌, List, [], ◌∷◌, ◌++◌, replicate, codes, length, Option, Some, None, refl}
 use Rattle.std.specs.List.{splice}
 use Rattle.byteorder.specs.Endian.{little_bytes}
+use Rattle.las_header.specs.declared.limits.TheConstants.{LASZIP_DESCRIPTION, LAST_MINOR, MAX_EXTRA, MAX_PLAIN_OFFSET}
 use Rattle.las_header.specs.declared.refusal.Refusal.{Refusal}
 use Rattle.las_header.specs.declared.refusal.Refusal.TheVariants as cause
 use Rattle.las_header.specs.Numbers.{number_at, with_number_at}
@@ -163,3 +164,17 @@ packed_again = refl
 long_vlr : first_of (with_number_at 2 304 43 packed_head) ≡ Some cause.Vlrs
 unfolding number_at
 long_vlr = refl
+
+-- ---- limits, as the standard and this program have them
+last_minor : LAST_MINOR ≡ 4
+last_minor = refl
+
+most_extra_bytes : MAX_EXTRA ≡ 192
+most_extra_bytes = refl
+
+-- a laszip VLR of the greatest length fits after the head of a plain file
+greatest_plain_offset : (MAX_PLAIN_OFFSET ≡ 16777104) × (MAX_PLAIN_OFFSET + (54 + 58) ≡ 2 ^ 24)
+greatest_plain_offset = (refl, refl)
+
+laszip_description : LASZIP_DESCRIPTION ≡ codes "laszip version 2 items" ++ replicate 10 0
+laszip_description = refl

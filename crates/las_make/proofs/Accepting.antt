@@ -1,12 +1,12 @@
 -- A made file is accepted, and so is its packed form.
-use Rattle.std.proofs.Common.{◌≡◌, ℕ, ◌*◌, ◌/◌, ◌<◌, ◌≤◌, cond, List, [], ◌∷◌, ◌++◌, length, take, drop, None, sym, ◌∙◌, ap, subst, arith, lit<}
+use Rattle.std.proofs.Common.{◌≡◌, ℕ, ◌+◌, ◌*◌, ◌/◌, ◌<◌, ◌≤◌, cond, List, [], ◌∷◌, ◌++◌, length, take, drop, None, sym, ◌∙◌, ap, subst, length-append, false, arith, lit<}
 use Rattle.std.specs.List.{concat}
 use Rattle.std.proofs.Math.Nat.{mul-div_cancel_left}
 use Rattle.std.proofs.lemmas.List.{append-nil, take_all}
 use Rattle.las_header.specs.declared.refusal.Refusal.TheVariants as cause
 use Rattle.las_header.specs.Conditions.{conditions}
-use Rattle.las_header.specs.Counting.{with_counts}
-use Rattle.las_header.specs.Fields.{head_of, is_packed, point_offset_of, record_length_of}
+use Rattle.las_header.specs.Counting.{counts_bytes, long_counts_bytes, with_counts}
+use Rattle.las_header.specs.Fields.{head_of, is_packed, point_offset_of, points_of, record_length_of}
 use Rattle.las_header.specs.Plain.{cut_records, plain_head}
 use Rattle.las_header.specs.Refusals.{causes_of, first_cause, front_causes, head_causes}
 use Rattle.las_header.proofs.ConditionLemmas.{first_is_tested}
@@ -17,9 +17,11 @@ use Rattle.laz_file.specs.Laws.{AreHeadAndRecords, CanBePacked}
 use Rattle.laz_file.specs.Outputs.{records_after}
 use Rattle.laz_file.specs.Refusing.{IsAcceptedFile, chunk_causes, has_bad_pointer, tested_causes}
 use Rattle.laz_file.proofs.Accepted.{IsFirst-none, both_none}
+use Rattle.laz_file.proofs.Counted.{length-counted}
+use Rattle.laz_file.proofs.Finished.{long-size, short-size}
 use Rattle.laz_file.proofs.CountedForms.{are_counted}
 use Rattle.laz_file.proofs.Packed.{packed_accepted, plain-is, unpacks_again}
-use Rattle.laz_file.proofs.PlainForms.{accepted_plain, head-is, plain-kept, records-is}
+use Rattle.laz_file.proofs.PlainForms.{accepted_plain, head-is, offset-is, plain-kept, records-is}
 use Rattle.las_make.specs.declared.settings.Settings.{Settings}
 use Rattle.las_make.specs.Laws.{CanPackMade, UnpacksMade}
 use Rattle.las_make.specs.Made.{IsInRange, blank_head, made_file, made_head, made_length, made_records}
@@ -109,6 +111,23 @@ module _ (s : Settings) (range : IsInRange s) where
 
   pub made_records-is : drop (point_offset_of (made_file s)) (made_file s) ≡ records
   made_records-is = records-is (made_head s) records made_parts
+
+  -- where the records stand in a made file, and how many bytes they take
+  pub made_offset : point_offset_of (made_file s) ≡ 227
+  made_offset =
+      offset-is (made_head s) records made_parts
+      ∙ length-counted blank (counts_bytes (counts_of (made_records s))) (long_counts_bytes (counts_of (made_records s))) (omega (arith, blank-length s range)) (blank-is_head s range).long_block (short-size (made_records s)) (long-size (made_records s))
+      ∙ blank-length s range
+
+  pub made_whole : length (made_file s) ≡ 227 + record_length_of (head_of (made_file s)) * points_of (head_of (made_file s))
+  made_whole =
+      let head : head_of (made_file s) ≡ made_head s = head-is (made_head s) records made_parts in
+      let front : length (made_head s) ≡ 227 = sym (offset-is (made_head s) records made_parts) ∙ made_offset in
+      let rest : length records ≡ record_length_of (head_of (made_file s)) * points_of (head_of (made_file s)) = made_parts.whole ∙ ap (λ (h : List ℕ). record_length_of h * points_of h) (sym head) in
+      length-append (made_head s) records ∙ ap (λ (n : ℕ). n + length records) front ∙ ap (λ (n : ℕ). 227 + n) rest
+
+  pub made_plain : is_packed (head_of (made_file s)) ≡ false
+  made_plain = plain-kept (made_head s) records made_parts
 
   pub made_plain_head : plain_head (made_file s) ≡ made_head s
   made_plain_head = sym (plain-is (made_file s) (plain-kept (made_head s) records made_parts)) ∙ head-is (made_head s) records made_parts

@@ -1,9 +1,9 @@
 -- How making ends.
-use Rattle.std.proofs.Common.{◌≡◌, ◌⊎◌, inl, inr, ℕ, ◌≤◌, false, List, [], ◌∷◌, length, drop, Option, Some, None, IsSomeAnd, is_some, refl, sym, ◌∙◌, ap, subst, arith}
+use Rattle.std.proofs.Common.{◌≡◌, ◌⊎◌, inl, inr, Bool, ℕ, ◌+◌, ◌-◌, ◌*◌, ◌≤◌, cond, max, false, List, length, drop, Option, Some, None, IsSomeAnd, is_some, refl, sym, ◌∙◌, ap, subst, arith}
 use Rattle.std.specs.Prelude.{IsSome}
 use Rattle.std.specs.FinMap as map
 use Rattle.std.specs.List.{concat}
-use Rattle.las_header.specs.Fields.{point_offset_of}
+use Rattle.las_header.specs.Fields.{head_of, point_offset_of, points_of, record_length_of}
 use Rattle.las_header.specs.Heads.{IsHead}
 use Rattle.las_header.specs.Plain.{plain_head}
 use Rattle.las_outside.specs.Drafts.{IsPatchedInPart}
@@ -11,12 +11,15 @@ use Rattle.las_outside.specs.Faults.{Rose}
 use Rattle.las_outside.specs.Files.{FileMap, IsMissing, WhereKnown, with_file}
 use Rattle.las_outside.specs.Outside.{Outside, with_bytes, with_read_fault}
 use Rattle.las_outside.proofs.ByName.{get-insert_same}
-use Rattle.laz_file.specs.declared.fault.Fault.{Fault}
-use Rattle.laz_file.specs.declared.fault.Fault.TheVariants as file
-use Rattle.laz_file.specs.Copying.{LeavesUnfinished, packed_output}
+use Rattle.laz_file.specs.Asking.{AsksAtMost, asked_to_open}
+use Rattle.laz_file.specs.Reading.{table_size}
+use Rattle.laz_file.specs.Refusing.{chunks_place, table_part, table_place}
+use Rattle.laz_file.specs.Sizes.{points_size}
+use Rattle.laz_file.specs.Copying.{LeavesInPart, LeavesUnfinished, packed_output}
 use Rattle.laz_file.specs.Laws.{CanBePacked}
 use Rattle.laz_file.specs.Outputs.{draft_of, finished, patches_of}
 use Rattle.laz_file.specs.Packing.{pack, packed_file}
+use Rattle.laz_file.proofs.Endings.{part_unfinished}
 use Rattle.laz_file.proofs.Finished.{finished_is}
 use Rattle.laz_file.proofs.Patching.{all_patched}
 use Rattle.las_make.specs.declared.fault.MakeFault.{MakeFault}
@@ -24,8 +27,8 @@ use Rattle.las_make.specs.declared.fault.MakeFault.TheVariants.{ReadPlain, Chang
 use Rattle.las_make.specs.declared.settings.Settings.{Settings}
 use Rattle.las_make.specs.Laws.{LeavesUnfinishedOutputs}
 use Rattle.las_make.specs.Made.{IsInRange, made_file, made_records}
-use Rattle.las_make.specs.Making.{FailsMaking, FailsPacking, FailsWriting, LeavesForm, LeavesPacked, LeavesPlain, fault_of, with_made}
-use Rattle.las_make.proofs.Accepting.{made_can, made_parts, made_plain_head, made_records-is}
+use Rattle.las_make.specs.Making.{FailsMaking, FailsPacking, LeavesForm, LeavesFormInPart, LeavesPacked, LeavesPackedInPart, with_made}
+use Rattle.las_make.proofs.Accepting.{made_can, made_offset, made_parts, made_plain_head, made_plain, made_records-is, made_whole}
 
 -- ---- a file that was just written
 
@@ -81,6 +84,13 @@ module _ (s : Settings) (range : IsInRange s) (plain packed : List ℕ) (chunk :
       let P = λ (file : List ℕ). LeavesUnfinished (packed_output packed file chunk) (drop (point_offset_of file) file) was new in
       subst (λ (records : List ℕ). LeavesUnfinished (packed_output packed made chunk) records was new) (made_records-is s range) (here_known files plain made P left)
 
+  form_part : (held new : Option FileMap) → is_some new ≡ is_some held → LeavesFormInPart plain packed chunk (with_file held plain made) new → LeavesPackedInPart plain packed s chunk held new
+  form_part None new same left = inl (stays_none new same)
+  form_part (Some files) new same left =
+      let was = with_file (Some files) plain made in
+      let P = λ (file : List ℕ). LeavesInPart (packed_output packed file chunk) (drop (point_offset_of file) file) was new in
+      subst (λ (records : List ℕ). LeavesInPart (packed_output packed made chunk) records was new) (made_records-is s range) (here_known files plain made P left)
+
   none_before : (held : Option FileMap) → with_file held plain made ≡ None → held ≡ None
   none_before None e = refl
   none_before (Some files) e = absurd (cc)
@@ -89,7 +99,7 @@ module _ (s : Settings) (range : IsInRange s) (plain packed : List ℕ) (chunk :
   packing_fails old mid new fault is same fails = by fault (subst (λ (o : Outside). FailsPacking plain packed chunk o new fault) is fails)
     where
       by : (fault : MakeFault) → FailsPacking plain packed chunk (with_bytes old plain made) new fault → FailsMaking plain packed s chunk old new fault
-      by ReadPlain f = (f.0, form_left old.held new.held same f.1)
+      by ReadPlain f = (f.0, form_part old.held new.held same f.1)
       by (Changed cause) f = (none_before old.held f.0, f.1)
       by ReadPacked f = absurd f
       by Write f = (f.0, inr (form_left old.held new.held same f.1))
@@ -108,16 +118,29 @@ module _ (s : Settings) (range : IsInRange s) (plain packed : List ℕ) (chunk :
       let rose : Rose pre.read_faults new.read_faults = subst (λ (o : Outside). Rose pre.read_faults o.read_faults) (sym failed.1) (omega arith) in
       (subst (λ (n : ℕ). Rose n new.read_faults) calm rose, ap (λ (o : Outside). o.held) failed.1 ∙ is)
 
--- the plain output could not be written
-pub writing_fails : (s : Settings) (plain packed : List ℕ) (chunk : ℕ) (old new : Outside) (fault : Fault) → FailsWriting old new fault → LeavesPlain plain s old.held new.held → FailsMaking plain packed s chunk old new (fault_of fault)
-writing_fails s plain packed chunk old new (file.Refused cause) fails left = absurd fails
-writing_fails s plain packed chunk old new file.Read fails left = absurd fails
-writing_fails s plain packed chunk old new file.Write fails left = (fails, inl left)
-writing_fails s plain packed chunk old new file.Memory fails left = inl left
-
 pub faults_left : LeavesUnfinishedOutputs
-faults_left s plain packed chunk old new ReadPlain range f = inr f.1
+faults_left s plain packed chunk old new ReadPlain range f =
+    inr (part_unfinished (packed_output packed (made_file s) chunk) (concat (made_records s)) (with_file old.held plain (made_file s)) new.held f.1)
 faults_left s plain packed chunk old new (Changed cause) range f = inl (inl (f.1 ∙ sym f.0))
 faults_left s plain packed chunk old new ReadPacked range f = inr (subst (LeavesPacked plain packed s chunk old.held) (sym f.1) (both_packed s range plain packed chunk old.held))
 faults_left s plain packed chunk old new Write range f = f.1
 faults_left s plain packed chunk old new Memory range f = f
+
+-- ---- how much is asked for
+
+-- of the plain file, which stands as it was made: no more than its length
+pub made_asked : (s : Settings) (range : IsInRange s) (plain : List ℕ) (held : Option FileMap) (old new : Outside) → WhereKnown (with_file held plain (made_file s)) plain (λ file. AsksAtMost (asked_to_open file + points_size file) old new) → IsSome held
+    → AsksAtMost (length (made_file s)) old new
+made_asked s range plain None old new asked some = absurd (cc)
+made_asked s range plain (Some files) old new asked some =
+    let made = made_file s in
+    let most = here_known files plain made (λ file. AsksAtMost (asked_to_open file + points_size file) old new) asked in
+    let head = head_of made in
+    let opened : asked_to_open made ≡ 227 = ap (λ (b : Bool). max 227 (point_offset_of made) + cond b (16 + table_size (table_part made)) 0) (made_plain s range) ∙ ap (λ (n : ℕ). max 227 n + 0) (made_offset s range) ∙ omega arith in
+    let points : points_size made ≡ record_length_of head * points_of head = ap (λ (b : Bool). cond b (table_place made - chunks_place made) (record_length_of head * points_of head)) (made_plain s range) in
+    omega (arith, most, opened, points, made_whole s range)
+
+-- and nothing of a size
+pub size_asked : (pre new : Outside) (name : List ℕ) → (IsMissing pre.held name × (new ≡ pre)) ⊎ ((IsMissing pre.held name → ⊥) × (new ≡ with_read_fault pre)) → new.asked ≡ pre.asked
+size_asked pre new name (inl gone) = ap (λ (o : Outside). o.asked) gone.1
+size_asked pre new name (inr failed) = ap (λ (o : Outside). o.asked) failed.1

@@ -1,5 +1,5 @@
 -- The plain file that is read again and packed, or not.
-use Rattle.std.proofs.Common.{◌≡◌, inl, inr, ℕ, Bool, true, false, cond, List, drop, Option, Some, None, IsSomeAnd, is_some, refl, ◌∙◌, ap, subst}
+use Rattle.std.proofs.Common.{◌≡◌, inl, inr, ℕ, ◌+◌, Bool, true, false, cond, List, drop, Option, Some, None, IsSomeAnd, is_some, refl, ◌∙◌, ap, subst, arith}
 use Rattle.std.specs.FinMap as map
 use Rattle.las_header.specs.declared.refusal.Refusal.{Refusal}
 use Rattle.las_header.specs.Fields.{head_of, point_offset_of}
@@ -9,13 +9,16 @@ use Rattle.las_outside.specs.Outside.{Outside}
 use Rattle.laz_table.specs.VlrCauses.{chunk_size_of}
 use Rattle.laz_file.specs.declared.fault.Fault.{Fault}
 use Rattle.laz_file.specs.declared.fault.Fault.TheVariants.{Refused, Read, Write, Memory}
-use Rattle.laz_file.specs.Copying.{LeavesUnfinished, packed_output}
+use Rattle.laz_file.specs.Asking.{AsksAtMost, asked_to_open, bytes_left}
+use Rattle.laz_file.specs.Copying.{LeavesInPart, LeavesUnfinished, packed_output}
 use Rattle.laz_file.specs.Laws.{CanBePacked}
-use Rattle.laz_file.specs.Reading.{EndsReading, ReaderSeen, StandsFor, chunk_of}
+use Rattle.laz_file.specs.Reading.{EndsReading, ReaderSeen, ReadsAll, StandsFor, chunk_of}
+use Rattle.laz_file.specs.Sizes.{points_size}
 use Rattle.laz_file.specs.Refusing.{IsRefusal}
-use Rattle.laz_file.proofs.Knowing.{known_then}
+use Rattle.laz_file.proofs.Knowing.{known_both, known_then}
+use Rattle.laz_file.proofs.LeftSizes.{left_size}
 use Rattle.laz_file.proofs.OneAnswer.{refused_once}
-use Rattle.las_make.specs.Making.{FailsPacking, LeavesForm, fault_of}
+use Rattle.las_make.specs.Making.{FailsPacking, LeavesForm, LeavesFormInPart, fault_of}
 
 no_such : (o : Option (List ℕ)) (P : List ℕ → Type 0) → o ≡ None → IsSomeAnd o P → ⊥
 no_such None P none p = p
@@ -44,6 +47,9 @@ module _ (plain packed : List ℕ) (chunk : ℕ) where
   unchanged : (old new : Option FileMap) → WhereKnown old plain Can → new ≡ old → LeavesForm plain packed chunk old new
   unchanged old new known same = known_then old plain Can (λ file. LeavesUnfinished (packed_output packed file chunk) (drop (point_offset_of file) file) old new) (λ file can. inl same) known
 
+  unread : (old new : Option FileMap) → WhereKnown old plain Can → new ≡ old → LeavesFormInPart plain packed chunk old new
+  unread old new known same = known_then old plain Can (λ file. LeavesInPart (packed_output packed file chunk) (drop (point_offset_of file) file) old new) (λ file can. inl same) known
+
   module _ (old new : Outside) (known : WhereKnown old.held plain Can) (same : new.held ≡ old.held) where
     nothing_known : (cause : Refusal) → WhereKnown old.held plain (λ file. IsRefusal file (Some cause)) → (old.held ≡ None) × (new.held ≡ None)
     nothing_known cause refused =
@@ -54,7 +60,7 @@ module _ (plain packed : List ℕ) (chunk : ℕ) where
     pub open_fails : (fault : Fault) → EndsReading (IsMissing old.held plain) old new fault → ((cause : Refusal) → fault ≡ Refused cause → WhereKnown old.held plain (λ file. IsRefusal file (Some cause))) → FailsPacking plain packed chunk old new (fault_of fault)
     open_fails (Refused cause) ends refused = nothing_known cause (refused cause refl)
     open_fails Read (inl missing) refused = absurd (not_missing old.held plain Can known missing)
-    open_fails Read (inr rose) refused = (rose, unchanged old.held new.held known same)
+    open_fails Read (inr rose) refused = (rose, unread old.held new.held known same)
     open_fails Write ends refused = absurd ends
     open_fails Memory ends refused = unchanged old.held new.held known same
 
@@ -69,12 +75,28 @@ module _ (plain packed : List ℕ) (chunk : ℕ) where
 
   -- it could not be packed
   pub pack_fails : (old mid new : Outside) (fault : Fault) → mid.held ≡ old.held → mid.read_faults ≡ old.read_faults → mid.write_faults ≡ old.write_faults → ((cause : Refusal) → fault ≡ Refused cause → ⊥) → (fault ≡ Read → Rose mid.read_faults new.read_faults) → (fault ≡ Write → Rose mid.write_faults new.write_faults)
-      → LeavesForm plain packed chunk old.held new.held → FailsPacking plain packed chunk old new (fault_of fault)
-  pack_fails old mid new (Refused cause) same reads writes never read write left = absurd (never cause refl)
-  pack_fails old mid new Read same reads writes never read write left = (subst (λ (n : ℕ). Rose n new.read_faults) reads (read refl), left)
-  pack_fails old mid new Write same reads writes never read write left = (subst (λ (n : ℕ). Rose n new.write_faults) writes (write refl), left)
-  pack_fails old mid new Memory same reads writes never read write left = left
+      → LeavesForm plain packed chunk old.held new.held → (fault ≡ Read → LeavesFormInPart plain packed chunk old.held new.held) → FailsPacking plain packed chunk old new (fault_of fault)
+  pack_fails old mid new (Refused cause) same reads writes never read write left part = absurd (never cause refl)
+  pack_fails old mid new Read same reads writes never read write left part = (subst (λ (n : ℕ). Rose n new.read_faults) reads (read refl), part refl)
+  pack_fails old mid new Write same reads writes never read write left part = (subst (λ (n : ℕ). Rose n new.write_faults) writes (write refl), left)
+  pack_fails old mid new Memory same reads writes never read write left part = left
 
 pub none_if : (chunk : Option ℕ) → is_some chunk ≡ false → chunk ≡ None
 none_if None e = refl
 none_if (Some n) e = absurd (cc)
+
+-- ---- how much is asked for
+module _ (plain : List ℕ) (chunk : ℕ) (old : Outside) (known : WhereKnown old.held plain (λ file. CanBePacked file chunk)) where
+  -- the plain file is opened
+  pub asks_opening : (new : Outside) → ((IsMissing old.held plain → ⊥) → WhereKnown old.held plain (λ file. AsksAtMost (asked_to_open file) old new)) → WhereKnown old.held plain (λ file. AsksAtMost (asked_to_open file + points_size file) old new)
+  asks_opening new opened =
+      known_then old.held plain (λ file. AsksAtMost (asked_to_open file) old new) (λ file. AsksAtMost (asked_to_open file + points_size file) old new) (λ file most. omega (arith, most))
+      (opened (λ missing. not_missing old.held plain (λ file. CanBePacked file chunk) known missing))
+
+  -- and read
+  pub asks_reading : (reader : ReaderSeen) (mid new : Outside) → ReadsAll reader → WhereKnown old.held plain (StandsFor reader) → ((IsMissing old.held plain → ⊥) → WhereKnown old.held plain (λ file. AsksAtMost (asked_to_open file) old mid)) → AsksAtMost (bytes_left reader) mid new
+      → WhereKnown old.held plain (λ file. AsksAtMost (asked_to_open file + points_size file) old new)
+  asks_reading reader mid new all stands opened rest =
+      known_both old.held plain (StandsFor reader) (λ file. AsksAtMost (asked_to_open file) old mid) (λ file. AsksAtMost (asked_to_open file + points_size file) old new)
+      (λ file s most. omega (arith, most, rest, left_size reader file all s)) stands
+      (opened (λ missing. not_missing old.held plain (λ file. CanBePacked file chunk) known missing))

@@ -1,5 +1,5 @@
 -- Records that are pushed block by block, and the plain file that they give.
-use Rattle.std.proofs.Common.{◌≡◌, ◌⊎◌, inl, inr, ℕ, zero, suc, ◌+◌, ◌*◌, ◌-◌, ◌%◌, ◌≤◌, min, false, List, [], ◌∷◌, ◌++◌, length, take, drop, Result, Ok, Err, IfOk, sym, ◌∙◌, ap, subst, arith, length-append, append_assoc}
+use Rattle.std.proofs.Common.{◌≡◌, inr, ℕ, zero, suc, ◌+◌, ◌*◌, ◌-◌, ◌%◌, ◌≤◌, min, false, List, [], ◌∷◌, ◌++◌, length, take, drop, Result, Ok, Err, IfErr, IfOk, OnOk, sym, ◌∙◌, ap, subst, arith, length-append, append_assoc}
 use Rattle.std.specs.List.{concat}
 use Rattle.std.proofs.Math.Nat.{mul-le-mul_left, mul-mod_right}
 use Rattle.std.proofs.lemmas.List.{length-take-le, take_at}
@@ -17,9 +17,10 @@ use Rattle.laz_file.specs.declared.fault.Fault.{Fault}
 use Rattle.laz_file.specs.declared.fault.Fault.TheVariants.{Refused, Read, Write, Memory}
 use Rattle.laz_file.specs.Copying.{LeavesUnfinished}
 use Rattle.laz_file.specs.Outputs.{Output, draft_of, patches_of, stopped}
-use Rattle.laz_file.specs.Writing.{Stands, Stops, WriterSeen}
+use Rattle.laz_file.specs.Writing.{SameFaults, Stands, Stops, WriterSeen}
 use Rattle.laz_file.proofs.Endings.{leaves_part}
 use Rattle.laz_file.proofs.Taking.{held_after}
+use Rattle.laz_file.proofs.Unasked.{stops_asked}
 use Rattle.las_make.specs.declared.settings.Settings.{Settings}
 use Rattle.las_make.specs.Made.{IsInRange, blank_head, made_head, made_length, made_record, made_records, records_from}
 use Rattle.las_make.specs.Making.{FailsWriting}
@@ -66,10 +67,6 @@ module _ (s : Settings) (from count : ℕ) (within : from + count ≤ s.points) 
 
 pub end_left : (before new : Outside) (out : Output) (records : List ℕ) (fault : Fault) → (left : List ℕ) × IsUnfinished (draft_of out records) (patches_of out records) left × Stops fault (with_bytes before out.name left) new → LeavesUnfinished out records before.held new.held
 end_left before new out records fault l = inr (l.0, l.1, held_after fault (with_bytes before out.name l.0) new l.2)
-
-pub fails_by : (old new : Outside) (fault : Fault) → (fault ≡ Memory) ⊎ (fault ≡ Write) → (fault ≡ Write → Rose old.write_faults new.write_faults) → FailsWriting old new fault
-fails_by old new fault (inl memory) rose = subst (FailsWriting old new) (sym memory) tt
-fails_by old new fault (inr write) rose = subst (FailsWriting old new) (sym write) (rose write)
 
 -- a call after others that moved no count
 pub fails_since : (old mid new : Outside) (fault : Fault) → mid.write_faults ≡ old.write_faults → FailsWriting mid new fault → FailsWriting old new fault
@@ -147,3 +144,9 @@ module _ (s : Settings) (range : IsInRange s) where
 pub ok_with : {T E : Type 0} (P Q : T → Type 0) (r : Result T E) → ((x : T) → P x → Q x) → IfOk r P → IfOk r Q
 ok_with P Q (Ok x) to p = to x p
 ok_with P Q (Err e) to p = tt
+
+-- no bytes are asked for while an output is finished
+pub ended_asked : {T : Type 0} (r : Result T Fault) (old mid new : Outside) (name : List ℕ) (P : List ℕ → Type 0) → mid.asked ≡ old.asked → OnOk r (SameFaults mid new)
+    → IfErr r (λ fault. (left : List ℕ) × P left × Stops fault (with_bytes old name left) new) → new.asked ≡ old.asked
+ended_asked (Ok x) old mid new name P same calm stops = calm.asked ∙ same
+ended_asked (Err fault) old mid new name P same calm stops = stops_asked fault (with_bytes old name stops.0) new stops.2

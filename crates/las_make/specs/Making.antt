@@ -7,7 +7,7 @@ use Rattle.las_outside.specs.Files.{FileMap, WhereKnown, with_file}
 use Rattle.las_outside.specs.Outside.{Outside}
 use Rattle.laz_file.specs.declared.fault.Fault.{Fault}
 use Rattle.laz_file.specs.declared.fault.Fault.TheVariants as file
-use Rattle.laz_file.specs.Copying.{LeavesUnfinished, packed_output}
+use Rattle.laz_file.specs.Copying.{LeavesInPart, LeavesUnfinished, packed_output}
 use Rattle.laz_file.specs.Outputs.{Output}
 use Rattle.laz_file.specs.Packing.{packed_file}
 use Rattle.las_make.specs.declared.fault.MakeFault.{MakeFault}
@@ -35,7 +35,13 @@ LeavesPacked plain packed settings chunk old new =
     LeavesUnfinished (packed_output packed (made_file settings) chunk) (concat (made_records settings))
     (with_file old plain (made_file settings)) new
 
--- One of both.
+-- The same, but of the packed one not all of its draft stands: it was not begun to be finished.
+abbrev pub LeavesPackedInPart : (plain packed : List ℕ) → Settings → (chunk : ℕ) → (old new : Option FileMap) → Type 0
+LeavesPackedInPart plain packed settings chunk old new =
+    LeavesInPart (packed_output packed (made_file settings) chunk) (concat (made_records settings))
+    (with_file old plain (made_file settings)) new
+
+-- The plain output is unfinished, or it stands whole and the packed one is unfinished.
 abbrev pub LeavesMade : (plain packed : List ℕ) → Settings → (chunk : ℕ) → (old new : Option FileMap) → Type 0
 LeavesMade plain packed settings chunk old new =
     LeavesPlain plain settings old new ⊎ LeavesPacked plain packed settings chunk old new
@@ -62,10 +68,16 @@ LeavesForm plain packed chunk old new =
     WhereKnown old plain (λ file. LeavesUnfinished (packed_output packed file chunk) (drop (point_offset_of file) file)
     old new)
 
+-- The same if it fails because it could not read.
+abbrev pub LeavesFormInPart : (plain packed : List ℕ) → (chunk : ℕ) → (old new : Option FileMap) → Type 0
+LeavesFormInPart plain packed chunk old new =
+    WhereKnown old plain (λ file. LeavesInPart (packed_output packed file chunk) (drop (point_offset_of file) file)
+    old new)
+
 -- How packing a plain file, which can be packed, fails.
 abbrev pub FailsPacking : (plain packed : List ℕ) → (chunk : ℕ) → (old new : Outside) → MakeFault → Type 0
 FailsPacking plain packed chunk old new ReadPlain =
-    Rose old.read_faults new.read_faults × LeavesForm plain packed chunk old.held new.held
+    Rose old.read_faults new.read_faults × LeavesFormInPart plain packed chunk old.held new.held
 FailsPacking plain packed chunk old new (Changed cause) = (old.held ≡ None) × (new.held ≡ None)
 FailsPacking plain packed chunk old new ReadPacked = ⊥
 FailsPacking plain packed chunk old new Write =
@@ -75,7 +87,7 @@ FailsPacking plain packed chunk old new Memory = LeavesForm plain packed chunk o
 -- How making ends with a fault.
 abbrev pub FailsMaking : (plain packed : List ℕ) → Settings → (chunk : ℕ) → (old new : Outside) → MakeFault → Type 0
 FailsMaking plain packed settings chunk old new ReadPlain =
-    Rose old.read_faults new.read_faults × LeavesPacked plain packed settings chunk old.held new.held
+    Rose old.read_faults new.read_faults × LeavesPackedInPart plain packed settings chunk old.held new.held
 FailsMaking plain packed settings chunk old new (Changed cause) = (old.held ≡ None) × (new.held ≡ None)
 FailsMaking plain packed settings chunk old new ReadPacked =
     Rose old.read_faults new.read_faults × (new.held ≡ with_made plain packed settings chunk old.held)

@@ -1,6 +1,7 @@
 //! Both files, one after the other.
 ghost use Rattle.std.specs.Prelude.{◌≡◌, ◌≢◌, ◌≤◌, IfErr, IfOk, IsSome, OnOk, length};
 ghost use Rattle.las_outside.specs.Outside.{Later};
+ghost use Rattle.laz_file.specs.Asking.{AsksAtMost};
 ghost use Rattle.laz_file.specs.Packing.{packed_file};
 ghost use Rattle.las_make.specs.Made.{IsInRange, made_file};
 ghost use Rattle.las_make.specs.Making.{FailsMaking, with_made};
@@ -27,8 +28,8 @@ pub struct Sizes {
 /// The head of the plain file has the counts of its records from the start. The file is read again and packed, and then
 /// the size of the packed file is asked. After `Write` or `Memory` the files are as before, or the plain file is a
 /// prefix of its own bytes, or it is whole and the packed one is as before, a prefix of its draft, or its draft after a
-/// part of its patch. After `ReadPlain` the plain file is whole, with the packed one as just said, and after
-/// `ReadPacked` both are. A read or a write that failed has raised its count. `Changed` comes only if it is not known
+/// part of its patch. After `ReadPlain` the plain file is whole, and the packed one is as before or a prefix of its
+/// draft, and not all of it. After `ReadPacked` both are whole. A read or a write that failed has raised its count. `Changed` comes only if it is not known
 /// what the files hold.
 pub fn make<R: Threads + Sync, F: Files, G: Gate>(
     rt: &R,
@@ -56,6 +57,9 @@ pub fn make<R: Threads + Sync, F: Files, G: Gate>(
         (FailsMaking plain.now packed.now settings chunk (F.seen files.old) (F.seen files.new)) }
     ensures reads_calm { OnOk result ((F.seen files.new).read_faults ≡ (F.seen files.old).read_faults) }
     ensures writes_calm { OnOk result ((F.seen files.new).write_faults ≡ (F.seen files.old).write_faults) }
+    // Over known files the plain file is read once, however the call ends.
+    ensures asked { IsSome (F.seen files.old).held
+        → AsksAtMost (length (made_file settings)) (F.seen files.old) (F.seen files.new) }
     ensures later { Later (F.seen files.old) (F.seen files.new) }
 {
     let plain_size = match write_plain(rt, alloc, files, gate, plain, settings) {

@@ -1,7 +1,9 @@
 //! The packed file, from the plain file that is read again.
-ghost use Rattle.std.specs.Prelude.{◌≡◌, ◌≢◌, ◌≤◌, IfErr, OnOk};
+ghost use Rattle.std.specs.Prelude.{◌≡◌, ◌≢◌, ◌+◌, ◌≤◌, IfErr, OnOk};
 ghost use Rattle.las_outside.specs.Files.{WhereKnown, with_file};
 ghost use Rattle.las_outside.specs.Outside.{Later};
+ghost use Rattle.laz_file.specs.Asking.{AsksAtMost, asked_to_open};
+ghost use Rattle.laz_file.specs.Sizes.{points_size};
 ghost use Rattle.laz_file.specs.Laws.{CanBePacked};
 ghost use Rattle.laz_file.specs.Packing.{packed_file};
 ghost use Rattle.las_make.specs.Making.{FailsPacking, fault_of};
@@ -46,6 +48,8 @@ pub(crate) fn pack_plain<R: Threads + Sync, F: Files, G: Gate>(
         (FailsPacking plain.now packed.now chunk (F.seen files.old) (F.seen files.new)) }
     ensures reads_calm { OnOk result ((F.seen files.new).read_faults ≡ (F.seen files.old).read_faults) }
     ensures writes_calm { OnOk result ((F.seen files.new).write_faults ≡ (F.seen files.old).write_faults) }
+    ensures asked { WhereKnown (F.seen files.old).held plain.now (λ file.
+        AsksAtMost (asked_to_open file + points_size file) (F.seen files.old) (F.seen files.new)) }
     ensures later { Later (F.seen files.old) (F.seen files.new) }
 {
     let reader = match Reader::open(alloc, files, plain) {

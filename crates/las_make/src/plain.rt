@@ -62,6 +62,7 @@ fn push_block<R: Threads + Sync, F: Files, G: Gate>(
         → IfErr result (λ fault. LeavesUnfinished out (concat (made_records settings)) before.held
         (F.seen files.new).held) }
     ensures cause { IfErr result (FailsWriting (F.seen files.old) (F.seen files.new)) }
+    ensures asked { (F.seen files.new).asked ≡ (F.seen files.old).asked }
     ensures later { Later (F.seen files.old) (F.seen files.new) }
 {
     let count = PLAIN_BLOCK.min(settings.points - from);
@@ -94,6 +95,7 @@ fn push_records<R: Threads + Sync, F: Files, G: Gate>(
         → IfErr result (λ fault. LeavesUnfinished out (concat (made_records settings)) before.held
         (F.seen files.new).held) }
     ensures cause { IfErr result (FailsWriting (F.seen files.old) (F.seen files.new)) }
+    ensures asked { (F.seen files.new).asked ≡ (F.seen files.old).asked }
     ensures later { Later (F.seen files.old) (F.seen files.new) }
 {
     let mut generator = Generator::new(settings.seed);
@@ -129,6 +131,7 @@ pub(crate) fn write_plain<R: Threads + Sync, F: Files, G: Gate>(
     ensures left { IfErr result (λ fault.
         LeavesPlain output.now settings (F.seen files.old).held (F.seen files.new).held) }
     ensures cause { IfErr result (FailsWriting (F.seen files.old) (F.seen files.new)) }
+    ensures asked { (F.seen files.new).asked ≡ (F.seen files.old).asked }
     ensures later { Later (F.seen files.old) (F.seen files.new) }
 {
     let head = blank_head(alloc, settings)?.with_counts(count_records(settings));

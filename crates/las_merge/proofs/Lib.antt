@@ -4,6 +4,7 @@ pub mod Merges
 pub mod Taken
 pub mod Copied
 pub mod Again
+pub mod Asked
 pub mod Opened
 pub mod Begun
 pub mod Filled

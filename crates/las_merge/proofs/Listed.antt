@@ -3,7 +3,7 @@ use Rattle.std.proofs.Common.{◌≡◌, ℕ, zero, suc, ◌+◌, ◌-◌, ◌^�
 use Rattle.std.specs.Prelude.{All, sum_by}
 use Rattle.std.specs.List.{AllByRecursion, concat, range_with_len}
 use Rattle.std.proofs.lemmas.List.{append-nil, length-map, map-append}
-use Rattle.std.proofs.lemmas.List.Elements.{All-nil, All-push}
+use Rattle.std.proofs.lemmas.List.Elements.{All-push}
 use Rattle.std.proofs.lemmas.List.Sums.{sum_by-cons}
 use Rattle.byteorder.specs.Endian.{little_bytes}
 use Rattle.las_header.specs.Counting.{with_sums}
@@ -195,19 +195,6 @@ module _ (held : Option FileMap) where
         stands = known_then held name (StandsFor reader) (λ file. ArePieces file reader.pieces)
             (λ file s. subst (λ (ps : List Piece). ArePieces file ps) (sym (s.chunks ∙ ap (λ (o : Option ℕ). chunks_in o s.pieces) chunk)) s.are) stands;
       }
-
-  pub list_none : ListsChunks held [] [] false [] [] 0
-  list_none = record {
-    listed = [];
-    inputs_are = refl;
-    sources_are = refl;
-    each = All-nil (IsListed held);
-    few = omega arith;
-    once = omega arith;
-    many_are = λ e. absurd (cc);
-    counts_are = λ e. refl;
-    sizes_are = λ e. refl;
-  }
 
   packed-map : (listed : List ListedInput) → All (IsListed held) listed → All IsPackedInput (map (λ l. l.input) listed)
   packed-map [] each k d lt = absurd (omega (arith, lt))

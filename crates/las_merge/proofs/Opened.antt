@@ -47,14 +47,6 @@ names_more : (readers : List InputSeen) (reader : InputSeen) → names_read (rea
 names_more [] reader = refl
 names_more (x ∷ xs) reader = ap (λ (ns : List (List ℕ)). x.name ∷ ns) (names_more xs reader)
 
-pub open_none : (held : Option FileMap) (names : List (List ℕ)) → AreOpen held names []
-open_none held names = record {
-  within = omega arith;
-  named = refl;
-  opened = All-nil (IsOpen held);
-  alike = All-nil (λ (r : InputSeen). first_difference [] r.head.bytes ≡ None);
-}
-
 pub open_more : (held : Option FileMap) (names : List (List ℕ)) (readers : List InputSeen) (reader : InputSeen) → AreOpen held names readers → length readers < length names → IsNext held (item_at names (length readers)) readers reader → AreOpen held names (readers ++ reader ∷ [])
 open_more held names readers reader all within next =
     let long : length (readers ++ reader ∷ []) ≡ length readers + 1 = omega (arith, length-append readers (reader ∷ [])) in

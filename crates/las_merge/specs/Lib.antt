@@ -2,6 +2,7 @@ pub mod Fields
 pub mod Inputs
 pub mod Merging
 pub mod Opening
+pub mod Asking
 pub mod Copying
 pub mod Packed
 pub mod Appending

@@ -1,13 +1,16 @@
 //! The records of the inputs, which go one input after another into the output.
-ghost use Rattle.std.specs.Prelude.{◌≡◌, ◌≢◌, ◌*◌, ◌+◌, ◌<◌, ◌≤◌, ◌^◌, ℕ, List, All, None, false, length, sum_by};
+ghost use Rattle.std.specs.Prelude.{◌≡◌, ◌≢◌, ◌*◌, ◌+◌, ◌<◌, ◌≤◌, ◌^◌, ℕ, List, All, None, Some, false, length, sum_by};
 ghost use Rattle.std.specs.Prelude.{IfErr, IfOk, OnErr, OnOk};
 ghost use Rattle.las_header.specs.Fields.{points_of, record_length_of};
 ghost use Rattle.las_outside.specs.Files.{WhereKnown};
 ghost use Rattle.las_outside.specs.Outside.{Later, Outside};
+ghost use Rattle.laz_file.specs.Asking.{AsksAtMost, bytes_left};
 ghost use Rattle.laz_file.specs.Copying.{CanTake, HasCause, LeavesPart, Takes};
 ghost use Rattle.laz_file.specs.Outputs.{Output};
 ghost use Rattle.laz_file.specs.Reading.{IsNewReader, ReaderSeen, StandsFor, records_in};
 ghost use Rattle.laz_file.specs.Writing.{Stands};
+ghost use Rattle.las_merge.specs.Asking.{asked_of_all, asked_to_read};
+ghost use Rattle.las_merge.specs.Inputs.{IfKnown};
 ghost use Rattle.las_merge.specs.Copying.{BeginsWith, CopiesTo, CopiesUpTo, FailsCopying, HasRoom, IsFaultOf};
 ghost use Rattle.las_merge.specs.Opening.{InputSeen, IsOpen, fault_of, names_read, points_read};
 
@@ -57,6 +60,7 @@ fn copy_input<R: Threads + Sync, F: Files, G: Gate>(
     ensures cause { IfErr result (HasCause (F.seen files.old) (F.seen files.new)) }
     ensures reads_calm { OnOk result ((F.seen files.new).read_faults ≡ (F.seen files.old).read_faults) }
     ensures writes_calm { OnOk result ((F.seen files.new).write_faults ≡ (F.seen files.old).write_faults) }
+    ensures asked { AsksAtMost (bytes_left reader) (F.seen files.old) (F.seen files.new) }
     ensures later { Later (F.seen files.old) (F.seen files.new) }
 {
     let mut reader = reader;
@@ -95,6 +99,8 @@ fn copy_next<R: Threads + Sync, F: Files, G: Gate>(
     ensures cause { IfErr result (IsFaultOf (F.seen files.old) (F.seen files.new) number) }
     ensures reads_calm { OnOk result ((F.seen files.new).read_faults ≡ (F.seen files.old).read_faults) }
     ensures writes_calm { OnOk result ((F.seen files.new).write_faults ≡ (F.seen files.old).write_faults) }
+    ensures asked { WhereKnown (F.seen files.old).held input.now.name (λ file.
+        AsksAtMost (asked_to_read (Some file)) (F.seen files.old) (F.seen files.new)) }
     ensures later { Later (F.seen files.old) (F.seen files.new) }
 {
     let reader = match open_again(alloc, files, number, input) {
@@ -135,6 +141,8 @@ pub(crate) fn copy_inputs<R: Threads + Sync, F: Files, G: Gate>(
     ensures open { OnOk result (writer.new.failed ≡ false) }
     ensures reads_calm { OnOk result ((F.seen files.new).read_faults ≡ (F.seen files.old).read_faults) }
     ensures writes_calm { OnOk result ((F.seen files.new).write_faults ≡ (F.seen files.old).write_faults) }
+    ensures asked { IfKnown (F.seen files.old).held (λ known. AsksAtMost
+        (asked_of_all asked_to_read known (names_read inputs.items)) (F.seen files.old) (F.seen files.new)) }
     ensures later { Later (F.seen files.old) (F.seen files.new) }
 {
     let mut number = 0;

@@ -11,11 +11,13 @@ ghost use Rattle.las_outside.specs.Files.{IsMissing, with_file};
 ghost use Rattle.las_outside.specs.Outside.{Later, Outside};
 ghost use Rattle.laz_file.specs.declared.fault.Fault.{Fault};
 ghost use Rattle.laz_file.specs.declared.fault.Fault.TheVariants as file;
+ghost use Rattle.laz_file.specs.Asking.{AsksAtMost};
 ghost use Rattle.laz_file.specs.Outputs.{Output, finished, stopped};
 ghost use Rattle.laz_file.specs.Writing.{SameFaults, Stands};
 ghost use Rattle.las_merge.specs.declared.fault.MergeFault.TheVariants.{At, Memory, TooManyChunks, TooManyPoints};
 ghost use Rattle.las_merge.specs.declared.fault.MergeFault.TheVariants.{Unequal, Write};
 ghost use Rattle.las_merge.specs.declared.field.Field.{Field};
+ghost use Rattle.las_merge.specs.Asking.{asked_of_all, asked_to_merge, asked_to_read};
 ghost use Rattle.las_merge.specs.Copying.{CopiesAll, EndsMerging, FailsBeginning, output_under, output_with};
 ghost use Rattle.las_merge.specs.Inputs.{AreFirst, CanMerge, IfKnown, IsKeptBy, item_at, names_of};
 ghost use Rattle.las_merge.specs.Opening.{IsOpen, names_read, points_read};
@@ -63,6 +65,7 @@ fn create<F: Files>(
     ensures ends { IfErr result (FailsBeginning (F.seen files.old) (F.seen files.new)
         (output_with output.now head.now.bytes chunk)) }
     ensures calm { OnOk result (SameFaults (F.seen files.old) (F.seen files.new)) }
+    ensures asked { (F.seen files.new).asked ≡ (F.seen files.old).asked }
     ensures later { Later (F.seen files.old) (F.seen files.new) }
 {
     let hands = Writer::hands(chunk, most, workers);
@@ -93,6 +96,7 @@ fn begin<F: Files>(
     ensures ends { IfErr result (FailsBeginning (F.seen files.old) (F.seen files.new)
         (output_under output.now head.now.bytes chunk)) }
     ensures calm { OnOk result (SameFaults (F.seen files.old) (F.seen files.new)) }
+    ensures asked { (F.seen files.new).asked ≡ (F.seen files.old).asked }
     ensures later { Later (F.seen files.old) (F.seen files.new) }
 {
     if !head.packed() {
@@ -130,6 +134,8 @@ fn fill<R: Threads + Sync, F: Files, G: Gate>(
         (names_read inputs.items) out) }
     ensures reads_calm { OnOk result ((F.seen files.new).read_faults ≡ (F.seen files.old).read_faults) }
     ensures writes_calm { OnOk result ((F.seen files.new).write_faults ≡ (F.seen files.old).write_faults) }
+    ensures asked { IfKnown (F.seen files.old).held (λ known. AsksAtMost
+        (asked_of_all asked_to_read known (names_read inputs.items)) (F.seen files.old) (F.seen files.new)) }
     ensures later { Later (F.seen files.old) (F.seen files.new) }
 {
     let mut writer = writer;
@@ -226,6 +232,9 @@ pub fn merge<R: Threads + Sync, F: Files, G: Gate>(
         ⊎ ((merged : List (List ℕ)) × CanMerge known (names_of inputs.now) merged
         × LeavesMerged (merged_output output.now merged chunk) merged (F.seen files.old).held
         (F.seen files.new).held))) }
+    // However the call ends, no more is asked for than what opening each input twice and reading it once takes.
+    ensures asked { IfKnown (F.seen files.old).held (λ known.
+        AsksAtMost (asked_to_merge known (names_of inputs.now)) (F.seen files.old) (F.seen files.new)) }
     ensures reads_calm { OnOk result ((F.seen files.new).read_faults ≡ (F.seen files.old).read_faults) }
     ensures writes_calm { OnOk result ((F.seen files.new).write_faults ≡ (F.seen files.old).write_faults) }
     ensures later { Later (F.seen files.old) (F.seen files.new) }

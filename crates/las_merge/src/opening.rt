@@ -1,10 +1,14 @@
 //! The inputs of a merge, which are opened one after another, and each again for its turn.
 ghost use Rattle.std.specs.Prelude.{◌≡◌, ◌^◌, ◌<◌, ◌≤◌, ◌++◌, ◌∷◌, [], length, vec_len, None, Some, IfErr, IfOk, OnOk};
+ghost use Rattle.std.specs.FinMap as finmap;
+ghost use Rattle.las_outside.specs.Files.{WhereKnown};
 ghost use Rattle.las_outside.specs.Outside.{Later};
+ghost use Rattle.laz_file.specs.Asking.{AsksAtMost, asked_to_open};
 ghost use Rattle.las_merge.specs.declared.fault.MergeFault.TheVariants.{TooManyPoints};
 ghost use Rattle.las_merge.specs.declared.field.Field.{Field};
 ghost use Rattle.las_merge.specs.Fields.{first_difference};
-ghost use Rattle.las_merge.specs.Inputs.{names_of};
+ghost use Rattle.las_merge.specs.Asking.{asked_of_all, asked_to_compare};
+ghost use Rattle.las_merge.specs.Inputs.{IfKnown, names_of};
 ghost use Rattle.las_merge.specs.Copying.{IsFaultOf};
 ghost use Rattle.las_merge.specs.Opening.{AreOpen, EndsOpening, FailsAt, FailsNext, InputSeen, IsAgain, IsNext, IsOpen};
 ghost use Rattle.las_merge.specs.Opening.{fault_of, first_read, points_read};
@@ -55,6 +59,8 @@ fn open_input<F: Files>(
     ensures faults { OnOk result ((F.seen files.new).read_faults ≡ (F.seen files.old).read_faults) }
     ensures held { (F.seen files.new).held ≡ (F.seen files.old).held }
     ensures writes { (F.seen files.new).write_faults ≡ (F.seen files.old).write_faults }
+    ensures asked { IfKnown (F.seen files.old).held (λ known.
+        AsksAtMost (asked_to_compare (finmap.get known name.now)) (F.seen files.old) (F.seen files.new)) }
     ensures later { Later (F.seen files.old) (F.seen files.new) }
 {
     let reader = match Reader::open(alloc, files, name) {
@@ -85,6 +91,8 @@ fn open_next<F: Files>(
     ensures faults { OnOk result ((F.seen files.new).read_faults ≡ (F.seen files.old).read_faults) }
     ensures held { (F.seen files.new).held ≡ (F.seen files.old).held }
     ensures writes { (F.seen files.new).write_faults ≡ (F.seen files.old).write_faults }
+    ensures asked { IfKnown (F.seen files.old).held (λ known.
+        AsksAtMost (asked_to_compare (finmap.get known name.now)) (F.seen files.old) (F.seen files.new)) }
     ensures later { Later (F.seen files.old) (F.seen files.new) }
 {
     let number = inputs.len() as u32;
@@ -112,6 +120,8 @@ pub(crate) fn open_inputs<F: Files>(
     ensures faults { OnOk result ((F.seen files.new).read_faults ≡ (F.seen files.old).read_faults) }
     ensures held { (F.seen files.new).held ≡ (F.seen files.old).held }
     ensures writes { (F.seen files.new).write_faults ≡ (F.seen files.old).write_faults }
+    ensures asked { IfKnown (F.seen files.old).held (λ known.
+        AsksAtMost (asked_of_all asked_to_compare known (names_of names.now)) (F.seen files.old) (F.seen files.new)) }
     ensures later { Later (F.seen files.old) (F.seen files.new) }
 {
     let mut inputs = Vec::new(alloc);
@@ -135,6 +145,8 @@ pub(crate) fn open_again<F: Files>(
     ensures faults { OnOk result ((F.seen files.new).read_faults ≡ (F.seen files.old).read_faults) }
     ensures held { (F.seen files.new).held ≡ (F.seen files.old).held }
     ensures writes { (F.seen files.new).write_faults ≡ (F.seen files.old).write_faults }
+    ensures asked { WhereKnown (F.seen files.old).held input.now.name
+        (λ file. AsksAtMost (asked_to_open file) (F.seen files.old) (F.seen files.new)) }
     ensures later { Later (F.seen files.old) (F.seen files.new) }
 {
     let reader = match Reader::open(alloc, files, &input.name) {

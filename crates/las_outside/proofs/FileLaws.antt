@@ -40,10 +40,6 @@ known_after held name bytes P so_far was holds = subst (λ (h : Option FileMap).
 
 -- What is seen of files after calls that write one output.
 module _ (old : Outside) (name : List ℕ) where
-  -- bytes put under the name one after another
-  pub with_bytes-twice : (xs ys : List ℕ) → with_bytes (with_bytes old name xs) name ys ≡ with_bytes old name ys
-  with_bytes-twice xs ys = ap (λ (h : Option FileMap). let o : Outside = record old { held = h } in o) (with_file-twice old.held name xs ys)
-
   -- a change of what was put under the name
   pub changed_after : (bytes : List ℕ) (change : List ℕ → List ℕ) (so_far now : Outside) → so_far ≡ with_bytes old name bytes → now ≡ with_bytes so_far name (change (bytes_of so_far.held name)) → now ≡ with_bytes old name (change bytes)
   changed_after bytes change so_far now was is =

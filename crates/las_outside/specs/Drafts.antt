@@ -2,7 +2,6 @@
 -- draft; then come its patches, in order, such as the counts that are known only at the end.
 use Rattle.std.specs.Prelude.{◌≡◌, ◌⊎◌, ℕ, List, [], ◌∷◌, take}
 use Rattle.las_outside.specs.Files.{with_patch}
-use Rattle.las_outside.specs.Outside.{Outside, with_bytes, with_write_fault}
 
 -- a position, and the bytes that replace what stands from there on
 abbrev pub Patch : Type 0
@@ -23,9 +22,3 @@ IsPatchedInPart draft (patch ∷ patches) bytes =
 -- a prefix of the draft, or the whole draft after some of its patches, in order, the last of them perhaps in part
 abbrev pub IsUnfinished : List ℕ → List Patch → List ℕ → Type 0
 IsUnfinished draft patches bytes = ((n : ℕ) × (bytes ≡ take n draft)) ⊎ IsPatchedInPart draft patches bytes
-
--- A write failed, and nothing else changed but the output under this name, which is as before or unfinished.
-abbrev pub StopsUnfinished : List ℕ → List ℕ → List Patch → Outside → Outside → Type 0
-StopsUnfinished name draft patches old new =
-    (new ≡ with_write_fault old)
-    ⊎ ((bytes : List ℕ) × IsUnfinished draft patches bytes × (new ≡ with_write_fault (with_bytes old name bytes)))

@@ -114,9 +114,6 @@ left_more_blocks task was now records xs ys l = (l.0, l.1 ++ ys, ap (λ (b : Lis
 
 -- the records of a batch
 module _ (size : ℕ) (some : 0 < size) (blocks : List (List ℕ)) (all : All (λ block. length block % size ≡ 0) blocks) (i : ℕ) (within : i < length blocks) where
-  pub block_even : length (get_or blocks i []) % size ≡ 0
-  block_even = all i [] within
-
   pub cut_block : cut_all size (concat (take (i + 1) blocks)) ≡ cut_all size (concat (take i blocks)) ++ cut_all size (get_or blocks i [])
   cut_block = ap (cut_all size) (concat_more blocks i within) ∙ cut-append size (concat (take i blocks)) (get_or blocks i []) some (even_first size i blocks all)
 

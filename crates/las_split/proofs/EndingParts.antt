@@ -6,10 +6,9 @@ use Rattle.las_outside.specs.Drafts.{IsUnfinished}
 use Rattle.las_outside.specs.Files.{FileMap, with_file}
 use Rattle.laz_file.specs.Outputs.{draft_of, finished, front, patches_of, stopped}
 use Rattle.laz_file.specs.Writing.{WriterSeen}
-use Rattle.laz_file.proofs.Patching.{all_patched}
 use Rattle.las_split.specs.declared.limits.TheConstants.{MAX_PARTS}
 use Rattle.las_split.specs.Files.{with_files}
-use Rattle.las_split.specs.Outputs.{AreUnfinished, LeavesParts, PartFile, named, outputs_under}
+use Rattle.las_split.specs.Outputs.{AreDrafts, AreEnding, LeavesParts, PartFile, named, outputs_under}
 use Rattle.las_split.specs.Parts.{numbers_from, numbers_of_parts}
 use Rattle.las_split.specs.Sorting.{ArePrefixes, AreWriters, InParts, IsWriter, LeavesPrefixes, Task, bytes_at, output_at, standing}
 use Rattle.las_split.proofs.Changing.{AreOnce, firsts_once, next_done, next_part, next_stands, texts}
@@ -101,60 +100,54 @@ module _ (task : Task) (done : ℕ → List ℕ) (was now : Option FileMap) (ns 
         → new ≡ with_files was (texts task done (take e.place ns) ++ ((output_at task (get_or ns e.place 0)).name, text) ∷ texts task (λ n. front (output_at task n) ++ bytes_at task records n) (drop (suc e.place) ns))
     ended_part new text to = next_part task done (λ n. front (output_at task n) ++ bytes_at task records n) ns e.began.small once e.place more was now e.held new text to
 
-    -- a call failed: every part is unfinished
-    pub ended_left : ((n : ℕ) → IsUnfinished (draft_of (output_at task n) (bytes_at task records n)) (patches_of (output_at task n) (bytes_at task records n)) (done n)) → (new : Option FileMap) (text : List ℕ) → new ≡ with_file now (output_at task (get_or ns e.place 0)).name text
+    -- a call failed: the parts before this one are finished, and those after it are not begun to be
+    pub ended_left : ((n : ℕ) → done n ≡ finished (output_at task n) (bytes_at task records n)) → (new : Option FileMap) (text : List ℕ) → new ≡ with_file now (output_at task (get_or ns e.place 0)).name text
         → IsUnfinished (draft_of (output_at task (get_or ns e.place 0)) (bytes_at task records (get_or ns e.place 0))) (patches_of (output_at task (get_or ns e.place 0)) (bytes_at task records (get_or ns e.place 0))) text
         → LeavesParts (outputs_under task.stem task.end task.head task.rule records) was new
     ended_left whole new text to half =
         let left = λ (n : ℕ). front (output_at task n) ++ bytes_at task records n in
         let f = file_at task records in
         let n = get_or ns e.place 0 in
-        let all = texts_all (take e.place ns) done whole in
-        let past = texts_all (drop (suc e.place) ns) left standing_unfinished in
         let ts = map done (take e.place ns) ++ text ∷ map left (drop (suc e.place) ns) in
         let parts : ns ≡ take e.place ns ++ n ∷ drop (suc e.place) ns = sym (take-append-drop e.place ns) ∙ ap (λ (t : List ℕ). take e.place ns ++ t) (drop-cons ns e.place 0 more) in
-        let joined = join (take e.place ns) (n ∷ drop (suc e.place) ns) (map done (take e.place ns)) (text ∷ map left (drop (suc e.place) ns)) all.0 (half, past.0) in
         let every : take (length ns) (map f (numbers_of_parts task.rule records)) ≡ map f (take e.place ns ++ n ∷ drop (suc e.place) ns) =
         ap (λ (ms : List ℕ). take (length ns) (map f ms)) (sym e.began.numbers_are) ∙ take_all (length ns) (map f ns) (omega (arith, length-map f ns)) ∙ ap (map f) parts in
-        let pair : List ℕ × List ℕ = ((output_at task n).name, text) in (
+        let count : length (map f (numbers_of_parts task.rule records)) ≡ length ns = length-map f (numbers_of_parts task.rule records) ∙ ap (λ (ms : List ℕ). length ms) (sym e.began.numbers_are) in (
           length ns,
           ts,
-          subst (λ (ps : List PartFile). AreUnfinished ps ts) (sym every) joined.0,
-          ended_part new text to
-              ∙ ap (λ (ps : List (List ℕ × List ℕ)). with_files was (ps ++ pair ∷ texts task left (drop (suc e.place) ns))) (sym all.1)
-              ∙ ap (λ (ps : List (List ℕ × List ℕ)). with_files was (named (map f (take e.place ns)) (map done (take e.place ns)) ++ pair ∷ ps)) (sym past.1)
-              ∙ ap (with_files was) (sym joined.1) ∙ ap (λ (ps : List PartFile). with_files was (named ps ts)) (sym every),
+          inr (omega (arith, count), subst (λ (ps : List PartFile). AreEnding ps ts) (sym every) (ending (take e.place ns) n (drop (suc e.place) ns) text half)),
+          ended_part new text to ∙ ap (with_files was) (sym (names (take e.place ns) n (drop (suc e.place) ns) text)) ∙ ap (λ (ps : List PartFile). with_files was (named ps ts)) (sym every),
         )
       where
-        standing_unfinished : (n : ℕ) → IsUnfinished (draft_of (output_at task n) (bytes_at task records n)) (patches_of (output_at task n) (bytes_at task records n)) (front (output_at task n) ++ bytes_at task records n)
-        standing_unfinished n = let text = front (output_at task n) ++ bytes_at task records n in inl (length text, sym (take_all (length text) text (omega arith)))
-
         length-map : (f : ℕ → PartFile) (ms : List ℕ) → length (map f ms) ≡ length ms
         length-map f [] = refl
         length-map f (m ∷ ms) = ap suc (length-map f ms)
 
-        texts_all : (ms : List ℕ) (t : ℕ → List ℕ) → ((n : ℕ) → IsUnfinished (draft_of (output_at task n) (bytes_at task records n)) (patches_of (output_at task n) (bytes_at task records n)) (t n))
-            → AreUnfinished (map (file_at task records) ms) (map t ms) × (named (map (file_at task records) ms) (map t ms) ≡ texts task t ms)
-        texts_all [] t un = (tt, refl)
-        texts_all (m ∷ ms) t un =
-            let rest = texts_all ms t un in
-            let pair : List ℕ × List ℕ = ((output_at task m).name, t m) in
-            ((un m, rest.0), ap (λ (ps : List (List ℕ × List ℕ)). pair ∷ ps) rest.1)
+        drafts : (ms : List ℕ) → AreDrafts (map (file_at task records) ms) (map (λ n. front (output_at task n) ++ bytes_at task records n) ms)
+        drafts [] = tt
+        drafts (m ∷ ms) = (refl, drafts ms)
 
-        join : (ms ks : List ℕ) (ts us : List (List ℕ)) → AreUnfinished (map (file_at task records) ms) ts → AreUnfinished (map (file_at task records) ks) us
-            → AreUnfinished (map (file_at task records) (ms ++ ks)) (ts ++ us) × (named (map (file_at task records) (ms ++ ks)) (ts ++ us) ≡ named (map (file_at task records) ms) ts ++ named (map (file_at task records) ks) us)
-        join [] ks [] us one two = (two, refl)
-        join [] ks (t ∷ ts) us one two = absurd one
-        join (m ∷ ms) ks [] us one two = absurd one
-        join (m ∷ ms) ks (t ∷ ts) us one two =
-            let rest = join ms ks ts us one.1 two in
-            let pair : List ℕ × List ℕ = ((output_at task m).name, t) in
-            ((one.0, rest.0), ap (λ (ps : List (List ℕ × List ℕ)). pair ∷ ps) rest.1)
+        ending : (ms : List ℕ) (n : ℕ) (ks : List ℕ) (t : List ℕ) → IsUnfinished (draft_of (output_at task n) (bytes_at task records n)) (patches_of (output_at task n) (bytes_at task records n)) t
+            → AreEnding (map (file_at task records) (ms ++ n ∷ ks)) (map done ms ++ t ∷ map (λ n. front (output_at task n) ++ bytes_at task records n) ks)
+        ending [] n ks t part = inr (part, drafts ks)
+        ending (m ∷ ms) n ks t part = inl (whole m, ending ms n ks t part)
 
--- ---- what finished parts and stopped ones hold is unfinished too
+        standing_names : (ks : List ℕ) → named (map (file_at task records) ks) (map (λ n. front (output_at task n) ++ bytes_at task records n) ks) ≡ texts task (λ n. front (output_at task n) ++ bytes_at task records n) ks
+        standing_names [] = refl
+        standing_names (k ∷ ks) =
+            let pair : List ℕ × List ℕ = ((output_at task k).name, front (output_at task k) ++ bytes_at task records k) in
+            ap (λ (ps : List (List ℕ × List ℕ)). pair ∷ ps) (standing_names ks)
 
-pub finished_unfinished : (task : Task) (records : List (List ℕ)) (n : ℕ) → IsUnfinished (draft_of (output_at task n) (bytes_at task records n)) (patches_of (output_at task n) (bytes_at task records n)) (finished (output_at task n) (bytes_at task records n))
-finished_unfinished task records n = inr (all_patched (draft_of (output_at task n) (bytes_at task records n)) (patches_of (output_at task n) (bytes_at task records n)))
+        names : (ms : List ℕ) (n : ℕ) (ks : List ℕ) (t : List ℕ) → named (map (file_at task records) (ms ++ n ∷ ks)) (map done ms ++ t ∷ map (λ n. front (output_at task n) ++ bytes_at task records n) ks)
+            ≡ texts task done ms ++ ((output_at task n).name, t) ∷ texts task (λ n. front (output_at task n) ++ bytes_at task records n) ks
+        names [] n ks t =
+            let pair : List ℕ × List ℕ = ((output_at task n).name, t) in
+            ap (λ (ps : List (List ℕ × List ℕ)). pair ∷ ps) (standing_names ks)
+        names (m ∷ ms) n ks t =
+            let pair : List ℕ × List ℕ = ((output_at task m).name, done m) in
+            ap (λ (ps : List (List ℕ × List ℕ)). pair ∷ ps) (names ms n ks t)
+
+-- ---- parts that are stopped
 
 -- stopping a part failed: all parts hold prefixes of what they would
 pub ended_prefixes : (task : Task) (was now : Option FileMap) (ns : List ℕ) (ws : List WriterSeen) (records : List (List ℕ)) (rest others : List WriterSeen) (w : WriterSeen) (e : EndedSo task (λ n. stopped (output_at task n) (bytes_at task records n)) was now ns ws rest records) (popped : rest ≡ others ++ w ∷ []) (new : Option FileMap) (k : ℕ)

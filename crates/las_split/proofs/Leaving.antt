@@ -4,7 +4,7 @@ use Rattle.std.specs.List.{concat}
 use Rattle.las_outside.specs.Files.{FileMap}
 use Rattle.laz_file.specs.Outputs.{finished, stopped}
 use Rattle.las_split.specs.Files.{with_files}
-use Rattle.las_split.specs.Outputs.{AreUnfinished, LeavesParts, PartFile, all_finished, all_stopped, named, output_under, outputs_under}
+use Rattle.las_split.specs.Outputs.{AreBegun, LeavesParts, PartFile, all_finished, all_stopped, named, output_under, outputs_under}
 use Rattle.las_split.specs.Parts.{numbers_of_parts, part}
 use Rattle.las_split.specs.Sorting.{ArePrefixes, LeavesPrefixes, Task, bytes_at, output_at}
 use Rattle.las_split.proofs.PartLists.{parts_begin}
@@ -21,18 +21,18 @@ take_map f (n ∷ ns) ms = ap (λ (t : List PartFile). f n ∷ t) (take_map f ns
 texts_of : List (List ℕ × List ℕ) → List (List ℕ)
 texts_of ps = map (λ p. p.1) ps
 
--- prefixes of what parts hold are unfinished, whatever records come after
-unfinished : (task : Task) (xs more : List (List ℕ)) (ns : List ℕ) (ps : List (List ℕ × List ℕ)) → ArePrefixes task (bytes_at task xs) ns ps
-    → AreUnfinished (map (file_at task (xs ++ more)) ns) (texts_of ps) × (named (map (file_at task (xs ++ more)) ns) (texts_of ps) ≡ ps)
+-- prefixes of what parts hold are prefixes of their drafts, whatever records come after
+begun : (task : Task) (xs more : List (List ℕ)) (ns : List ℕ) (ps : List (List ℕ × List ℕ)) → ArePrefixes task (bytes_at task xs) ns ps
+    → AreBegun (map (file_at task (xs ++ more)) ns) (texts_of ps) × (named (map (file_at task (xs ++ more)) ns) (texts_of ps) ≡ ps)
 unfolding texts_of
-unfinished task xs more [] [] are = (tt, refl)
-unfinished task xs more [] (p ∷ ps) are = absurd are
-unfinished task xs more (n ∷ ns) [] are = absurd are
-unfinished task xs more (n ∷ ns) (p ∷ ps) are =
-    let rest = unfinished task xs more ns ps are.1 in
+begun task xs more [] [] are = (tt, refl)
+begun task xs more [] (p ∷ ps) are = absurd are
+begun task xs more (n ∷ ns) [] are = absurd are
+begun task xs more (n ∷ ns) (p ∷ ps) are =
+    let rest = begun task xs more ns ps are.1 in
     let m = prefix_more task xs more n are.0.1.0 in
     let pair : List ℕ × List ℕ = ((output_at task n).name, p.1) in (
-      (inl (m.0, are.0.1.1 ∙ m.1), rest.0),
+      ((m.0, are.0.1.1 ∙ m.1), rest.0),
       ap (λ (t : List (List ℕ × List ℕ)). pair ∷ t) rest.1 ∙ ap (λ (name : List ℕ). let q : List ℕ × List ℕ = (name, p.1) in q ∷ ps) (sym are.0.0),
     )
 
@@ -42,10 +42,10 @@ leaves_parts task was now xs more l =
     let all : numbers_of_parts task.rule (xs ++ more) ≡ l.numbers ++ (l.others ++ b.0) = b.1 ∙ ap (λ (t : List ℕ). t ++ b.0) l.split ∙ append_assoc l.numbers l.others b.0 in
     let f = file_at task (xs ++ more) in
     let first : take (length l.numbers) (map f (numbers_of_parts task.rule (xs ++ more))) ≡ map f l.numbers = ap (λ (t : List ℕ). take (length l.numbers) (map f t)) all ∙ take_map f l.numbers (l.others ++ b.0) in
-    let u = unfinished task xs more l.numbers l.texts l.are in (
+    let u = begun task xs more l.numbers l.texts l.are in (
       length l.numbers,
       texts_of l.texts,
-      subst (λ (ps : List PartFile). AreUnfinished ps (texts_of l.texts)) (sym first) u.0,
+      inl (subst (λ (ps : List PartFile). AreBegun ps (texts_of l.texts)) (sym first) u.0),
       l.held ∙ ap (with_files was) (sym u.1) ∙ ap (λ (ps : List PartFile). with_files was (named ps (texts_of l.texts))) (sym first),
     )
 

@@ -1,7 +1,6 @@
 -- Records that are sorted one after another.
-use Rattle.std.proofs.Common.{◌≡◌, ◌≢◌, ◌⊎◌, inl, inr, ℕ, zero, suc, ◌+◌, ◌*◌, ◌/◌, ◌%◌, ◌<◌, ◌≤◌, ◌^◌, ◌==◌, ◌||◌, Bool, true, false, cond, map, List, [], ◌∷◌, ◌++◌, length, take, drop, get_or, set, slice_get, replicate, Option, Some, None, refl, sym, ◌∙◌, ap, subst, append_assoc, length-append, eq-eqb, arith}
-use Rattle.std.specs.Prelude.{MatchOption}
-use Rattle.std.proofs.lemmas.List.{append-nil, drop-drop, length-drop, length-take-le, take-append-drop, take_more}
+use Rattle.std.proofs.Common.{◌≡◌, ◌≢◌, ◌⊎◌, inl, inr, ℕ, zero, suc, ◌+◌, ◌*◌, ◌/◌, ◌%◌, ◌<◌, ◌≤◌, ◌^◌, ◌==◌, ◌||◌, Bool, true, false, cond, map, List, [], ◌∷◌, ◌++◌, length, take, drop, get_or, set, slice_get, replicate, Option, Some, refl, sym, ◌∙◌, ap, subst, append_assoc, length-append, eq-eqb, arith}
+use Rattle.std.proofs.lemmas.List.{append-nil, drop-drop, length-take-le, take-append-drop, take_more}
 use Rattle.std.proofs.Math.Nat.{div-add-mod, le_of_mul-le-mul_left, mul-le-mul_left}
 use Rattle.std.specs.List.{concat}
 use Rattle.laz_file.proofs.Putting.{concat-append}
@@ -18,14 +17,6 @@ use Rattle.las_split.proofs.Changing.{AreOnce, firsts_once}
 use Rattle.las_split.proofs.Opening.{not_there}
 use Rattle.las_split.proofs.PartLists.{no_part, part-append}
 use Rattle.las_split.proofs.Placing.{has_at, leaves_here}
-
-pub match_some : {A : Type 0} (o : Option A) (P : Type 0) (Q : A → Type 0) (x : A) → MatchOption o P Q → o ≡ Some x → Q x
-match_some None P Q x m e = absurd (cc)
-match_some (Some y) P Q x m e = let same : y ≡ x = cc in subst Q same m
-
-pub match_none : {A : Type 0} (o : Option A) (P : Type 0) (Q : A → Type 0) → MatchOption o P Q → o ≡ None → P
-match_none None P Q m e = m
-match_none (Some y) P Q m e = absurd (cc)
 
 -- ---- the texts of parts
 
@@ -142,9 +133,6 @@ pub block_fits : (size t : ℕ) (block : List ℕ) → length block % size ≡ 0
 block_fits size t block whole more =
     let next : t + 1 ≤ length block / size = omega (arith, more) in
     omega (arith, all_bytes size block whole, mul-le-mul_left size next)
-
-pub rest_fits : (size t : ℕ) (block rest : List ℕ) → length block % size ≡ 0 → t < length block / size → rest ≡ drop (size * t) block → size ≤ length rest
-rest_fits size t block rest whole more left = omega (arith, ap (λ (x : List ℕ). length x) left, length-drop (size * t) block, block_fits size t block whole more)
 
 pub rest_next : (size t : ℕ) (block rest further : List ℕ) → rest ≡ drop (size * t) block → further ≡ drop size rest → further ≡ drop (size * (t + 1)) block
 rest_next size t block rest further left back =

@@ -1,6 +1,5 @@
 -- The writers of parts, and what they stand for.
-use Rattle.std.proofs.Common.{◌≡◌, ℕ, zero, suc, ◌+◌, ◌<◌, ◌≤◌, Bool, true, false, cond, List, [], ◌∷◌, ◌++◌, length, take, drop, get_or, set, Option, Some, None, refl, sym, ap, subst, length-append, arith}
-use Rattle.std.specs.List.{concat}
+use Rattle.std.proofs.Common.{◌≡◌, ℕ, zero, suc, ◌+◌, ◌<◌, List, [], ◌∷◌, ◌++◌, length, take, drop, get_or, set, Option, Some, None, refl, sym, ap, subst, arith}
 use Rattle.las_outside.specs.Files.{FileMap, with_file}
 use Rattle.las_outside.specs.Outside.{Outside, with_bytes}
 use Rattle.laz_file.specs.Outputs.{front}
@@ -97,7 +96,3 @@ writers_as task f g (n ∷ ns) [] same are = absurd are
 writers_as task f g (n ∷ ns) (w ∷ ws) same are = (writer_as task n w (f n) (g n) (same n) are.0, writers_as task f g ns ws same are.1)
 
 -- ---- how long the records of a part are
-
-part_shorter : (b : Bool) (x : List ℕ) (ps xs : List (List ℕ)) → length (concat ps) ≤ length (concat xs) → length (concat (cond b (x ∷ ps) ps)) ≤ length (concat (x ∷ xs))
-part_shorter true x ps xs less = omega (arith, less, length-append x (concat ps), length-append x (concat xs))
-part_shorter false x ps xs less = omega (arith, less, length-append x (concat xs))

@@ -26,10 +26,6 @@ use Rattle.las_split.proofs.Leaving.{leaves_parts, stopped_texts}
 use Rattle.las_split.proofs.Placing.{leaves_here}
 use Rattle.las_split.proofs.Splits.{splits_all, splits_bad, splits_begin, splits_many}
 
--- nothing was created
-pub leaves_nothing : (task : Task) (was now : Option FileMap) (records : List (List ℕ)) → now ≡ was → LeavesParts (outputs_under task.stem task.end task.head task.rule records) was now
-leaves_nothing task was now records same = (0, [], tt, same)
-
 -- the first of some records
 first_one : (xs : List (List ℕ)) → 1 ≤ length xs → (r : List ℕ) × (rest : List (List ℕ)) × (xs ≡ r ∷ [] ++ rest)
 first_one [] some = absurd (omega (arith, some))

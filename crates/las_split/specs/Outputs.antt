@@ -1,5 +1,5 @@
 -- The outputs of parts, in the order in which they are created, and what is left of them.
-use Rattle.std.specs.Prelude.{◌≡◌, ℕ, true, List, [], ◌∷◌, map, take, Option, None}
+use Rattle.std.specs.Prelude.{◌≡◌, ◌⊎◌, ◌≤◌, ℕ, true, List, [], ◌∷◌, length, map, take, Option, None}
 use Rattle.std.specs.List.{concat}
 use Rattle.las_header.specs.Plain.{plain_head}
 use Rattle.las_filter.specs.declared.rule.Rule.{Rule}
@@ -37,13 +37,28 @@ all_finished parts = map (λ p. (p.output.name, finished p.output p.records)) pa
 abbrev pub all_stopped : List PartFile → List (List ℕ × List ℕ)
 all_stopped parts = map (λ p. (p.output.name, stopped p.output p.records)) parts
 
--- these texts are the parts', each of them unfinished
-abbrev pub AreUnfinished : List PartFile → (texts : List (List ℕ)) → Type 0
-AreUnfinished [] [] = Unit {0}
-AreUnfinished [] (t ∷ ts) = ⊥
-AreUnfinished (p ∷ ps) [] = ⊥
-AreUnfinished (p ∷ ps) (t ∷ ts) =
-    IsUnfinished (draft_of p.output p.records) (patches_of p.output p.records) t × AreUnfinished ps ts
+-- these texts are the parts', each of them a prefix of its draft
+abbrev pub AreBegun : List PartFile → (texts : List (List ℕ)) → Type 0
+AreBegun [] [] = Unit {0}
+AreBegun [] (t ∷ ts) = ⊥
+AreBegun (p ∷ ps) [] = ⊥
+AreBegun (p ∷ ps) (t ∷ ts) = ((n : ℕ) × (t ≡ take n (draft_of p.output p.records))) × AreBegun ps ts
+
+-- these texts are the parts', each of them its draft
+abbrev pub AreDrafts : List PartFile → (texts : List (List ℕ)) → Type 0
+AreDrafts [] [] = Unit {0}
+AreDrafts [] (t ∷ ts) = ⊥
+AreDrafts (p ∷ ps) [] = ⊥
+AreDrafts (p ∷ ps) (t ∷ ts) = (t ≡ draft_of p.output p.records) × AreDrafts ps ts
+
+-- these texts are the parts' while one after another is finished: the first are, the next is unfinished, and of each other
+-- part the draft stands
+abbrev pub AreEnding : List PartFile → (texts : List (List ℕ)) → Type 0
+AreEnding [] ts = ⊥
+AreEnding (p ∷ ps) [] = ⊥
+AreEnding (p ∷ ps) (t ∷ ts) =
+    ((t ≡ finished p.output p.records) × AreEnding ps ts)
+    ⊎ (IsUnfinished (draft_of p.output p.records) (patches_of p.output p.records) t × AreDrafts ps ts)
 
 -- the names of parts with texts
 abbrev pub named : List PartFile → (texts : List (List ℕ)) → List (List ℕ × List ℕ)
@@ -51,8 +66,10 @@ named [] ts = []
 named (p ∷ ps) [] = []
 named (p ∷ ps) (t ∷ ts) = (p.output.name, t) ∷ named ps ts
 
--- The first of the parts were created, each of them is unfinished, and every other file is as before.
+-- The first of the parts were created, and each of them is a prefix of its draft; or all were created, and they were being
+-- finished in their order. Every other file is as before.
 abbrev pub LeavesParts : List PartFile → (old new : Option FileMap) → Type 0
 LeavesParts parts old new =
-    (k : ℕ) × (texts : List (List ℕ)) × AreUnfinished (take k parts) texts
+    (k : ℕ) × (texts : List (List ℕ))
+    × (AreBegun (take k parts) texts ⊎ ((length parts ≤ k) × AreEnding (take k parts) texts))
     × (new ≡ with_files old (named (take k parts) texts))

@@ -1,6 +1,6 @@
 -- How records go into parts: the writers of the parts, what they stand for, and what is left if a call fails.
 use Rattle.std.specs.Prelude.{◌≡◌, ℕ, ◌+◌, ◌*◌, ◌/◌, ◌<◌, ◌≤◌, ◌^◌, ◌==◌, ◌||◌, Bool, true, false, List, []}
-use Rattle.std.specs.Prelude.{◌∷◌, ◌++◌, length, map, drop, take, slice_get, slice_index_or, All, Option, Some, string_bytes}
+use Rattle.std.specs.Prelude.{◌∷◌, ◌++◌, length, map, drop, take, slice_index_or, All, Option, Some, string_bytes}
 use Rattle.std.specs.List.{concat}
 use Rattle.las_header.specs.declared.refusal.Refusal.{Refusal}
 use Rattle.las_header.specs.declared.refusal.Refusal.TheVariants.{TooManyParts}
@@ -20,7 +20,7 @@ use Rattle.las_split.specs.declared.limits.TheConstants.{MAX_PARTS}
 use Rattle.las_split.specs.declared.part_names.PartNames.{PartNames}
 use Rattle.las_split.specs.Files.{with_files}
 use Rattle.las_split.specs.Outputs.{output_under}
-use Rattle.las_split.specs.Parts.{number_by, numbers_of_parts, part, part_from}
+use Rattle.las_split.specs.Parts.{numbers_of_parts, part, part_from}
 use Rattle.las_split.specs.Splitting.{OpensTooMany}
 
 -- a number is among some
@@ -90,12 +90,6 @@ text_of task records block number = concat (part_from task.rule (length records)
 -- The records of a block after some records are gathered: for each part, the bytes of those that belong to it.
 abbrev pub AreGathered : Task → (numbers : List ℕ) → (texts : List (List ℕ)) → (records block : List (List ℕ)) → Type 0
 AreGathered task numbers texts records block = texts ≡ map (text_of task records block) numbers
-
--- The part of one record more was opened, if it was not open.
-pub record OpensPart (task : Task) (was now : Option FileMap) (numbers : List ℕ) (writers : List WriterSeen)
-    (opened written : List (List ℕ)) (point : List ℕ) (place : ℕ) : Type 0 where
-  pub parts : InParts task was now numbers writers (opened ++ point ∷ []) written
-  pub place_is : slice_get numbers place ≡ Some (number_by task.rule (length opened) point)
 
 -- A record was sorted after others of its block, or it opens one part too many.
 abbrev pub SortsPoint : Task → (was now : Option FileMap) → (numbers : List ℕ) → List WriterSeen

@@ -9,6 +9,7 @@ ghost use Rattle.las_filter.specs.Parts.{IsRule, part_name};
 ghost use Rattle.las_outside.specs.Files.{FileMap, WhereKnown};
 ghost use Rattle.las_outside.specs.Outside.{Later};
 ghost use Rattle.laz_file.specs.declared.fault.Fault.TheVariants.{Write};
+ghost use Rattle.laz_file.specs.Asking.{AsksAtMost, bytes_left};
 ghost use Rattle.laz_file.specs.Copying.{HasCause, HoldFirst, end_of};
 ghost use Rattle.laz_file.specs.Reading.{IsCrewOf, Lends, StandsFor, records_in};
 ghost use Rattle.laz_file.specs.Writing.{SameFaults};
@@ -73,6 +74,7 @@ fn split_block<R: Threads + Sync, F: Files, G: Gate>(
         → IfErr result (λ fault. fault ≡ Write → 1 ≤ length records + length (cut_all size block.now)) }
     ensures cause { IfErr result (HasCause (F.seen files.old) (F.seen files.new)) }
     ensures calm { OnOk result (SameFaults (F.seen files.old) (F.seen files.new)) }
+    ensures asked { (F.seen files.new).asked ≡ (F.seen files.old).asked }
     ensures later { Later (F.seen files.old) (F.seen files.new) }
 {
     let taken = sort_block(
@@ -149,6 +151,7 @@ fn split_batch<R: Threads + Sync, F: Files, G: Gate>(
         → IfErr result (λ fault. fault ≡ Write → 1 ≤ length records + length (cut_all size (concat blocks))) }
     ensures cause { IfErr result (HasCause (F.seen files.old) (F.seen files.new)) }
     ensures calm { OnOk result (SameFaults (F.seen files.old) (F.seen files.new)) }
+    ensures asked { (F.seen files.new).asked ≡ (F.seen files.old).asked }
     ensures later { Later (F.seen files.old) (F.seen files.new) }
 {
     let head = plain_of(plain, reader);
@@ -218,6 +221,7 @@ pub(crate) fn split_records<R: Threads + Sync, F: Files, G: Gate>(
     ensures cause { IfErr result (HasCause (F.seen files.old) (F.seen files.new)) }
     ensures reads_calm { OnOk result ((F.seen files.new).read_faults ≡ (F.seen files.old).read_faults) }
     ensures writes_calm { OnOk result ((F.seen files.new).write_faults ≡ (F.seen files.old).write_faults) }
+    ensures asked { AsksAtMost (bytes_left reader.old) (F.seen files.old) (F.seen files.new) }
     ensures later { Later (F.seen files.old) (F.seen files.new) }
 {
     let size = usize::from(reader.head().record_length());

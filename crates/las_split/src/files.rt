@@ -9,6 +9,7 @@ ghost use Rattle.las_outside.specs.Faults.{Rose};
 ghost use Rattle.las_outside.specs.Files.{FileMap, WhereKnown};
 ghost use Rattle.las_outside.specs.Outside.{Later};
 ghost use Rattle.laz_file.specs.declared.fault.Fault.TheVariants.{Read, Refused, Write};
+ghost use Rattle.laz_file.specs.Asking.{AsksAtMost, bytes_left};
 ghost use Rattle.laz_file.specs.Copying.{HasCause};
 ghost use Rattle.laz_file.specs.Reading.{AgreesWithHead, IsNewReader, StandsFor};
 ghost use Rattle.laz_file.specs.Writing.{SameFaults};
@@ -67,6 +68,7 @@ fn finish_all<R: Threads + Sync, F: Files, G: Gate>(
         → IfErr result (λ fault. fault ≡ Write → 1 ≤ length records) }
     ensures cause { IfErr result (HasCause (F.seen files.old) (F.seen files.new)) }
     ensures calm { OnOk result (SameFaults (F.seen files.old) (F.seen files.new)) }
+    ensures asked { (F.seen files.new).asked ≡ (F.seen files.old).asked }
     ensures later { Later (F.seen files.old) (F.seen files.new) }
 {
     let Parts { numbers, writers } = parts;
@@ -100,6 +102,7 @@ fn stop_all<R: Threads + Sync, F: Files, G: Gate>(
         → IfErr result (λ fault. fault ≡ Write → 1 ≤ length records) }
     ensures cause { IfErr result (HasCause (F.seen files.old) (F.seen files.new)) }
     ensures calm { OnOk result (SameFaults (F.seen files.old) (F.seen files.new)) }
+    ensures asked { (F.seen files.new).asked ≡ (F.seen files.old).asked }
     ensures later { Later (F.seen files.old) (F.seen files.new) }
 {
     let Parts {
@@ -122,7 +125,8 @@ fn stop_all<R: Threads + Sync, F: Files, G: Gate>(
 /// The answer is `Refused` with `BadChunk` if a chunk holds no records of its count, or with `TooManyParts` if a record
 /// would open a 513th part: the first of these in the order of the records. Each part then holds its head, with counts
 /// of zero, and its records before that. The answer is `Read` or `Write` if such a call failed; then the first of the
-/// parts, or none, were created, and each of them is a prefix of its draft, or its draft after a part of its patches.
+/// parts, or none, were created, and each of them is a prefix of its draft. Or all were created: the first of them are
+/// finished, the next is its draft after a part of its patches, and the others are their drafts.
 pub fn split<R: Threads + Sync, F: Files, G: Gate>(
     rt: &R,
     alloc: Global,
@@ -165,6 +169,9 @@ pub fn split<R: Threads + Sync, F: Files, G: Gate>(
     ensures reads_calm { OnOk result ((F.seen files.new).read_faults ≡ (F.seen files.old).read_faults) }
     ensures writes_calm { OnOk result ((F.seen files.new).write_faults ≡ (F.seen files.old).write_faults) }
     ensures later { Later (F.seen files.old) (F.seen files.new) }
+
+    // No more is asked for than the reader has left, however the call ends.
+    ensures asked { AsksAtMost (bytes_left reader) (F.seen files.old) (F.seen files.new) }
 {
     let mut reader = reader;
     let hands = reader.hands(workers);

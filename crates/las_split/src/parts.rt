@@ -59,6 +59,7 @@ impl Parts {
             number)))))) }
         ensures cause { IfErr result (HasCause (F.seen files.old) (F.seen files.new)) }
         ensures calm { OnOk result (SameFaults (F.seen files.old) (F.seen files.new)) }
+        ensures asked { (F.seen files.new).asked ≡ (F.seen files.old).asked }
         ensures later { Later (F.seen files.old) (F.seen files.new) }
     {
         let name = names.name_of(alloc, number)?;

@@ -40,6 +40,7 @@ fn push_place<R: Threads + Sync, F: Files, G: Gate>(
     ensures numbers { parts.new.numbers ≡ parts.old.numbers }
     ensures cause { IfErr result (HasCause (F.seen files.old) (F.seen files.new)) }
     ensures calm { OnOk result (SameFaults (F.seen files.old) (F.seen files.new)) }
+    ensures asked { (F.seen files.new).asked ≡ (F.seen files.old).asked }
     ensures later { Later (F.seen files.old) (F.seen files.new) }
 {
     let text = gathered.text(place);
@@ -75,6 +76,7 @@ pub(crate) fn push_parts<R: Threads + Sync, F: Files, G: Gate>(
     ensures some { IfErr result (λ fault. fault ≡ Write → 1 ≤ length parts.old.writers.items) }
     ensures cause { IfErr result (HasCause (F.seen files.old) (F.seen files.new)) }
     ensures calm { OnOk result (SameFaults (F.seen files.old) (F.seen files.new)) }
+    ensures asked { (F.seen files.new).asked ≡ (F.seen files.old).asked }
     ensures later { Later (F.seen files.old) (F.seen files.new) }
 {
     for place in 0..parts.writers.len() {

@@ -66,6 +66,7 @@ fn open_place<F: Files>(
         ⊎ LeavesPrefixes (task_of names.now head.now rule.now) was (F.seen files.new).held (opened ++ point ∷ [])) }
     ensures cause { IfErr result (HasCause (F.seen files.old) (F.seen files.new)) }
     ensures calm { OnOk result (SameFaults (F.seen files.old) (F.seen files.new)) }
+    ensures asked { (F.seen files.new).asked ≡ (F.seen files.old).asked }
     ensures later { Later (F.seen files.old) (F.seen files.new) }
 {
     let place = parts.writers.len();
@@ -116,6 +117,7 @@ fn place_of<F: Files>(
         ⊎ LeavesPrefixes (task_of names.now head.now rule.now) was (F.seen files.new).held (opened ++ point ∷ [])) }
     ensures cause { IfErr result (HasCause (F.seen files.old) (F.seen files.new)) }
     ensures calm { OnOk result (SameFaults (F.seen files.old) (F.seen files.new)) }
+    ensures asked { (F.seen files.new).asked ≡ (F.seen files.old).asked }
     ensures later { Later (F.seen files.old) (F.seen files.new) }
 {
     if let Some(place) = parts.numbers.find(number) {
@@ -166,6 +168,7 @@ fn sort_point<F: Files>(
         ((records ++ block) ++ point.now ∷ [])) }
     ensures cause { IfErr result (HasCause (F.seen files.old) (F.seen files.new)) }
     ensures calm { OnOk result (SameFaults (F.seen files.old) (F.seen files.new)) }
+    ensures asked { (F.seen files.new).asked ≡ (F.seen files.old).asked }
     ensures later { Later (F.seen files.old) (F.seen files.new) }
 {
     let number = part_of(rule, index, point);
@@ -217,6 +220,7 @@ pub(crate) fn sort_block<F: Files>(
     ensures some { IfErr result (λ fault. fault ≡ Write → 1 ≤ length (cut_all size block.now)) }
     ensures cause { IfErr result (HasCause (F.seen files.old) (F.seen files.new)) }
     ensures calm { OnOk result (SameFaults (F.seen files.old) (F.seen files.new)) }
+    ensures asked { (F.seen files.new).asked ≡ (F.seen files.old).asked }
     ensures later { Later (F.seen files.old) (F.seen files.new) }
 {
     gathered.begin(alloc, parts.writers.len())?;

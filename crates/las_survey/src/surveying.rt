@@ -11,6 +11,7 @@ ghost use Rattle.las_outside.specs.Faults.{Rose};
 ghost use Rattle.las_outside.specs.Files.{WhereKnown};
 ghost use Rattle.las_outside.specs.Outside.{Later};
 ghost use Rattle.laz_file.specs.declared.fault.Fault.TheVariants.{Read, Refused, Write};
+ghost use Rattle.laz_file.specs.Asking.{AsksAtMost, bytes_left};
 ghost use Rattle.laz_file.specs.Copying.{AreOnlyRecords, EndsAfter, HoldFirst};
 ghost use Rattle.laz_file.specs.Outputs.{records_after};
 ghost use Rattle.laz_file.specs.Reading.{AgreesWithHead, EndsReading, IsCrewOf, IsNewReader, StandsFor, records_in};
@@ -53,6 +54,7 @@ fn show_records<R: Threads + Sync, F: Files, G: Gate>(
     ensures held { (F.seen files.new).held ≡ (F.seen files.old).held }
     ensures writes { (F.seen files.new).write_faults ≡ (F.seen files.old).write_faults }
     ensures reads_calm { OnOk result ((F.seen files.new).read_faults ≡ (F.seen files.old).read_faults) }
+    ensures asked { AsksAtMost (bytes_left reader.old) (F.seen files.old) (F.seen files.new) }
     ensures later { Later (F.seen files.old) (F.seen files.new) }
 {
     let size = usize::from(reader.head().record_length());
@@ -105,6 +107,9 @@ pub fn survey<R: Threads + Sync, F: Files, G: Gate>(
     ensures writes { (F.seen files.new).write_faults ≡ (F.seen files.old).write_faults }
     ensures reads_calm { OnOk result ((F.seen files.new).read_faults ≡ (F.seen files.old).read_faults) }
     ensures later { Later (F.seen files.old) (F.seen files.new) }
+
+    // No more is asked for than the reader has left, however the call ends.
+    ensures asked { AsksAtMost (bytes_left reader.old) (F.seen files.old) (F.seen files.new) }
 {
     let _ = reader.head().points();
     let hands = reader.hands(workers);

@@ -55,10 +55,6 @@ module _ (head ys : List ℕ) (i j : ℕ) (p : IsCountsPart head ys i j) where
   unfolding new
   lengths_same = number_at-splice 2 105 i j head ys (omega (arith, p.after)) starts
 
-  long_same : has_long_counts new ≡ has_long_counts head
-  unfolding new
-  long_same = ap (λ (m : ℕ). m == 4) (slice_index-splice 25 i j head ys (omega (arith, p.after)) starts)
-
   size_same : length new ≡ length head
   unfolding new
   size_same = length-splice head i j ys p.fits inside

@@ -1,5 +1,5 @@
 -- How an output ends that records are copied into.
-use Rattle.std.proofs.Common.{◌≡◌, inr, ℕ, ◌<◌, List, [], ◌++◌, length, take, Option, Some, None, sym, ◌∙◌, ap, subst, append_assoc, arith}
+use Rattle.std.proofs.Common.{◌≡◌, ◌⊎◌, inl, inr, ℕ, ◌<◌, List, [], ◌++◌, length, take, Option, Some, None, refl, sym, ◌∙◌, ap, subst, append_assoc, arith}
 use Rattle.std.specs.Option.{ForSome}
 use Rattle.std.specs.List.{concat}
 use Rattle.std.proofs.lemmas.List.{append-nil}
@@ -8,11 +8,11 @@ use Rattle.las_outside.specs.Files.{FileMap, with_file}
 use Rattle.las_outside.specs.Outside.{Outside, with_bytes}
 use Rattle.laz_file.specs.declared.fault.Fault.{Fault}
 use Rattle.laz_file.specs.declared.fault.Fault.TheVariants.{Refused, Read, Write, Memory}
-use Rattle.laz_file.specs.Copying.{EndsCopying, HasCause, HoldFirst, LeavesFirst, LeavesPart, LeavesUnfinished, with_reads}
+use Rattle.laz_file.specs.Copying.{EndsCopying, HasCause, HoldFirst, LeavesFirst, LeavesInPart, LeavesPart, LeavesUnfinished, with_reads}
 use Rattle.laz_file.specs.Outputs.{Output, draft_of, patches_of, stopped}
 use Rattle.laz_file.specs.Reading.{ReaderSeen}
 use Rattle.laz_file.specs.Writing.{PackingSeen, PointsStand, Stands, Stops, WriterSeen}
-use Rattle.laz_file.proofs.Stopping.{stopped_unfinished}
+use Rattle.laz_file.proofs.Stopping.{stopped_short, stopped_unfinished}
 use Rattle.laz_file.proofs.Taking.{held_after}
 
 -- a packed output has chunks of some points
@@ -42,19 +42,43 @@ pub leaves_end : (before : Outside) (out : Output) (bytes records more : List �
 leaves_end before out bytes records more held left none is to =
     subst (λ (t : List ℕ). LeavesUnfinished out (bytes ++ t) before.held held) (sym (append-nil records) ∙ ap (λ (t : List ℕ). records ++ t) (sym none)) (inr (left, is, to))
 
--- a fault with its cause, and what it leaves
-pub ends_with : (known was : Option FileMap) (old now : Outside) (reader : ReaderSeen) (out : Output) (bytes : List ℕ) (fault : Fault) → HasCause old now fault → LeavesFirst known was now.held reader out bytes → EndsCopying known was old now reader out bytes fault
-ends_with known was old now reader out bytes (Refused cause) has left = absurd has
-ends_with known was old now reader out bytes Read has left = (has, left)
-ends_with known was old now reader out bytes Write has left = (has, left)
-ends_with known was old now reader out bytes Memory has left = left
+no_read : {P : Type 0} → (Read ≡ Memory) ⊎ (Read ≡ Write) → P
+no_read (inl e) = absurd (let clash : Read ≡ Memory = e in cc)
+no_read (inr e) = absurd (let clash : Read ≡ Write = e in cc)
 
--- copying failed
-pub first_part : (old new : Outside) (reader : ReaderSeen) (w : WriterSeen) (n : ℕ) (blocks : List (List ℕ)) (before : Outside) (out : Output) (bytes : List ℕ) → HoldFirst old.held reader n blocks → LeavesPart old new w (concat blocks) → Stands before old w out bytes
+-- a fault of a call that writes, with its cause, and what it leaves
+pub ends_with : (known was : Option FileMap) (old now : Outside) (reader : ReaderSeen) (out : Output) (bytes : List ℕ) (fault : Fault) → (fault ≡ Memory) ⊎ (fault ≡ Write) → HasCause old now fault → LeavesFirst known was now.held reader out bytes
+    → EndsCopying known was old now reader out bytes fault
+ends_with known was old now reader out bytes (Refused cause) kind has left = absurd has
+ends_with known was old now reader out bytes Read kind has left = no_read kind
+ends_with known was old now reader out bytes Write kind has left = (has, left)
+ends_with known was old now reader out bytes Memory kind has left = left
+
+-- part of a draft that has more after it
+pub short_part : (before old : Outside) (w : WriterSeen) (out : Output) (bytes : List ℕ) → Stands before old w out bytes → (chunk : ℕ) → out.chunk ≡ Some chunk → (records more : List ℕ) (held : Option FileMap) (n : ℕ) → held ≡ with_file before.held out.name (take n (stopped out records))
+    → LeavesInPart out (records ++ more) before.held held
+short_part before old w out bytes s chunk packed records more held n is =
+    let p = stopped_short out chunk records more n s.head (some_chunk before old w out bytes s chunk packed) packed in
+    inr (p.0, p.1, is ∙ ap (with_file before.held out.name) p.2)
+
+pub part_unfinished : (out : Output) (records : List ℕ) (old new : Option FileMap) → LeavesInPart out records old new → LeavesUnfinished out records old new
+part_unfinished out records old new (inl same) = inl same
+part_unfinished out records old new (inr left) = inr (take left.0 (draft_of out records), inl (left.0, refl), left.2)
+
+-- copying failed, for all records that may come after
+first_part : (old new : Outside) (reader : ReaderSeen) (w : WriterSeen) (n : ℕ) (blocks : List (List ℕ)) (before : Outside) (out : Output) (bytes : List ℕ) → HoldFirst old.held reader n blocks → LeavesPart old new w (concat blocks) → Stands before old w out bytes
     → LeavesFirst old.held before.held new.held reader out bytes
 first_part old new reader w n blocks before out bytes hold part s =
     let p = part before out bytes s in
     (n, blocks, hold, λ more none. leaves_part before old w out bytes s (concat blocks) more new.held p.0 p.1)
+
+-- copying failed: its fault and what it leaves
+pub ends_part : (old new : Outside) (reader : ReaderSeen) (w : WriterSeen) (n : ℕ) (blocks : List (List ℕ)) (before : Outside) (out : Output) (bytes : List ℕ) (fault : Fault) → HasCause old new fault → HoldFirst old.held reader n blocks → LeavesPart old new w (concat blocks) → Stands before old w out bytes
+    → EndsCopying old.held before.held old new reader out bytes fault
+ends_part old new reader w n blocks before out bytes (Refused cause) has hold part s = absurd has
+ends_part old new reader w n blocks before out bytes Read has hold part s = (has, (n, blocks, hold, part before out bytes s))
+ends_part old new reader w n blocks before out bytes Write has hold part s = (has, first_part old new reader w n blocks before out bytes hold part s)
+ends_part old new reader w n blocks before out bytes Memory has hold part s = first_part old new reader w n blocks before out bytes hold part s
 
 -- finishing failed
 pub first_finish : (old new : Outside) (reader : ReaderSeen) (n : ℕ) (blocks : List (List ℕ)) (before : Outside) (out : Output) (bytes : List ℕ) (fault : Fault) (left : List ℕ) → HoldFirst old.held reader n blocks → n ≡ length reader.left

@@ -12,6 +12,7 @@ use Rattle.las_header.specs.declared.refusal.Refusal.TheVariants as cause
 use Rattle.las_header.specs.Counting.{short_bytes, long_bytes}
 use Rattle.las_header.specs.Numbers.{number_at}
 use Rattle.las_header.specs.Refusals.{first_cause}
+use Rattle.laz_file.specs.declared.limits.TheConstants.{PLAIN_BLOCK}
 use Rattle.laz_file.specs.Asking.{asked_to_open}
 use Rattle.laz_file.specs.Hands.{chunks_packed, hands_for}
 use Rattle.laz_file.specs.Outputs.{finished, stopped}
@@ -165,3 +166,7 @@ plain_output = refl
 
 no_chunk : hands_for (chunks_packed (Some 50000) 0) 8 ≡ 1
 no_chunk = refl
+
+-- ---- a plain file is read in blocks of 50,000 records
+plain_block : PLAIN_BLOCK ≡ 50000
+plain_block = refl

@@ -25,6 +25,7 @@ pub mod Tallying
 pub mod Patching
 pub mod Finishing
 pub mod Arms
+pub mod Unasked
 pub mod Stopping
 pub mod Unpacking
 pub mod Knowing
@@ -39,6 +40,7 @@ pub mod AllParts
 pub mod Opened
 pub mod Sought
 pub mod Asking
+pub mod LeftSizes
 pub mod Accepting
 pub mod Joins
 pub mod InputLists

@@ -70,23 +70,6 @@ module _ (chunk : Option ℕ) (offset points size : ℕ) (position : Position) (
             none (suc n) = refl
         none_of (x ∷ xs) e = absurd (omega (arith, e))
 
-  -- of a packed one
-  pub packed_placed : (range : Range) (after : Position) → IsSought range (offset + 8) counts sizes after.ends after.at → offset + 8 + sum sizes < 18446744073709551616 → after.next ≡ after.ends.first → after.batch ≡ after.ends.first → after.records ≡ 0 → after.blocks ≡ position.blocks → after.bad ≡ position.bad
-      → IsInPlace size after counts sizes
-  packed_placed range after s near next batch records blocks bad =
-      let rest = ap (λ (k : ℕ). sum (take (after.ends.last - k) (drop k sizes))) next in
-      let none : size * after.records ≡ 0 = ap (λ (k : ℕ). size * k) records ∙ omega arith in
-      record {
-        first = omega (arith, batch);
-        batch = omega (arith, batch, next);
-        next = omega (arith, next, s.order);
-        last = s.within;
-        front = s.front;
-        near = omega (arith, s.near, near, rest, none);
-        number = omega (arith, p.number, blocks, records);
-        bad = λ is. absurd (let never : true ≡ false = sym is ∙ bad ∙ not_bad in cc);
-      }
-
 -- ---- what is left to it
 pub packed_sought : (chunk : Option ℕ) (head : List ℕ) (size offset : ℕ) (range : Range) (after : Position) (counts sizes : List ℕ) (pieces : List Piece) (c : ℕ) → chunk ≡ Some c → IsSought range (offset + 8) counts sizes after.ends after.at → after.next ≡ after.ends.first → pieces ≡ pieces_from (offset + 8) counts sizes
     → (pieces_left chunk size after counts sizes ≡ parts_if (is_some chunk) head offset range pieces) × (after.ends.first ≡ first_if (is_some chunk) range pieces)

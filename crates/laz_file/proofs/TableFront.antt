@@ -144,16 +144,19 @@ same_length : (blocks : Blocks) (coded counts sizes bytes : List ℕ) → IsChun
 same_length (Fixed chunk points) coded counts sizes bytes count holds is = ap length is ∙ length-map-range_with_len (λ i. min chunk (points - chunk * i)) 0 _ ∙ sym count
 same_length (Counted points) coded counts sizes bytes count holds is = ap length is ∙ holds.point_counts
 
+pub accepted_bytes : (bytes : List ℕ) (blocks : Blocks) (total : ℕ) (sizes counts : List ℕ) → IsAccepted bytes blocks total sizes counts → sum counts ≡ total
+accepted_bytes bytes blocks total sizes counts a = elim (cases_eq (sum counts) total) [
+  | inl right ↦ right
+  | inr wrong ↦ absurd (summed bytes blocks total a.fine (a.coded, counts, a.table, wrong))
+]
+
 pub accepted_lists : (bytes : List ℕ) (blocks : Blocks) (total : ℕ) (sizes counts : List ℕ) → AreFewChunks blocks → IsAccepted bytes blocks total sizes counts → AreChunkLists sizes counts total
 accepted_lists bytes blocks total sizes counts few a =
     let same = same_length blocks a.coded counts sizes bytes a.table.count a.table.holds a.sizes_are in
     record {
       same = same;
       few = omega (arith, same, few (length counts) a.table.count);
-      whole = elim (cases_eq (sum counts) total) [
-        | inl right ↦ right
-        | inr wrong ↦ absurd (summed bytes blocks total a.fine (a.coded, counts, a.table, wrong))
-      ];
+      whole = accepted_bytes bytes blocks total sizes counts a;
     }
 
 -- so are the points

@@ -12,7 +12,7 @@ use Rattle.las_outside.specs.Files.{FileMap, WhereKnown, with_file}
 use Rattle.las_outside.specs.Outside.{Outside, with_bytes}
 use Rattle.laz_file.specs.declared.fault.Fault.{Fault}
 use Rattle.laz_file.specs.declared.fault.Fault.TheVariants.{Refused, Read, Write, Memory}
-use Rattle.laz_file.specs.Copying.{AreOnlyRecords, EndsCopying, Finishes, HoldFirst, LeavesFirst, LeavesRecords, LeavesUnfinished, Refuses, packed_output, plain_output}
+use Rattle.laz_file.specs.Copying.{AreOnlyRecords, EndsCopying, Finishes, HoldFirst, LeavesFirst, LeavesInPart, LeavesRecords, LeavesStopped, LeavesUnfinished, Refuses, packed_output, plain_output}
 use Rattle.laz_file.specs.Outputs.{Output, finished, front, stopped}
 use Rattle.laz_file.specs.Packing.{pack, packed_file}
 use Rattle.laz_file.specs.Pieces.{Piece, piece_bytes}
@@ -24,7 +24,7 @@ use Rattle.laz_file.proofs.Accepted.{plain_records}
 use Rattle.laz_file.proofs.AllParts.{all_of}
 use Rattle.laz_file.proofs.Arms.{held_text}
 use Rattle.laz_file.proofs.Copies.{read_begins}
-use Rattle.laz_file.proofs.Endings.{leaves_part}
+use Rattle.laz_file.proofs.Endings.{leaves_part, short_part}
 use Rattle.laz_file.proofs.Finished.{finished_is}
 use Rattle.laz_file.proofs.Knowing.{known_both}
 use Rattle.laz_file.proofs.OneAnswer.{one_pieces}
@@ -71,14 +71,15 @@ module _ (first : ReaderSeen) (file : List ℕ) (s : StandsFor first file) (new 
       let there : IsBadPiece file s.pieces n = subst (λ (ps : List Piece). IsBadPiece file ps n) left_is bad in
       record { are = (s.pieces, s.are, (here.hold, there)); only = read_once file s.pieces blocks (Some n) s.are here there }
 
-  pub left_at : (out : Output) (was now : Option FileMap) (n : ℕ) (blocks : List (List ℕ)) → n ≤ length first.left → HoldOnly file (take n first.left) blocks → ((more : List ℕ) → (n ≡ length first.left → more ≡ []) → LeavesUnfinished out (concat blocks ++ more) was now)
-      → LeavesRecords out file was now
-  left_at out was now n blocks within hold to others bad are =
+  -- what holds of the first records and any that may come after them holds of all
+  pub left_at : (P : List ℕ → Type 0) (n : ℕ) (blocks : List (List ℕ)) → n ≤ length first.left → HoldOnly file (take n first.left) blocks → ((more : List ℕ) → (n ≡ length first.left → more ≡ []) → P (concat blocks ++ more))
+      → (others : List (List ℕ)) (bad : Option ℕ) → AreRecordsOf file others bad → P (concat others)
+  left_at P n blocks within hold to others bad are =
       let same : are.0 ≡ s.pieces = one_pieces file are.0 s.pieces are.1 s.are in
       let read = subst (λ (ps : List Piece). AreRead file ps others bad) same are.2 in
       let few = subst (λ (ps : List Piece). n ≤ length ps) left_is within in
       let b = read_begins file s.pieces n blocks others bad few (subst (λ (ps : List Piece). HoldOnly file (take n ps) blocks) left_is hold) read in
-      subst (λ (t : List ℕ). LeavesUnfinished out t was now) (sym b.1) (to b.0 (λ all. b.2 (subst (λ (ps : List Piece). n ≡ length ps) left_is all)))
+      subst P (sym b.1) (to b.0 (λ all. b.2 (subst (λ (ps : List Piece). n ≡ length ps) left_is all)))
 
 -- ---- what is known of the file while the output is written
 
@@ -117,7 +118,9 @@ pub ends_left : (known : Option FileMap) (before old new : Outside) (reader : Re
 ends_left known before old new reader w out bytes (Refused cause) s e =
     let text = stopped out (bytes ++ concat e.1) in
     (e.0, e.1, e.2, λ more none. leaves_part before old w out bytes s (concat e.1) more new.held (length text) (e.4 ∙ ap (with_file before.held out.name) (sym (take_all (length text) text (omega arith)))))
-ends_left known before old new reader w out bytes Read s e = e.1
+ends_left known before old new reader w out bytes Read s e =
+    let l = e.1 in
+    (l.0, l.1, l.2, λ more none. leaves_part before old w out bytes s (concat l.1) more new.held l.3.0 l.3.1)
 ends_left known before old new reader w out bytes Write s e = e.1
 ends_left known before old new reader w out bytes Memory s e = e
 
@@ -172,7 +175,15 @@ module _ (old mid new : Outside) (first reader : ReaderSeen) (buffers : ℕ) (re
   leaves l =
       let h = held_first l.0 l.1 l.2 in
       known_both old.held first.name (StandsFor first) (λ file. HoldOnly file (take l.0 first.left) l.1) (λ file. LeavesRecords out file old.held new.held)
-      (λ file st ho. left_at first file st new_one out old.held new.held l.0 l.1 h.within ho (λ more none. l.3 more (λ all. none (all ∙ ap (λ (ps : List Piece). length ps) same_left)))) stands h.hold
+      (λ file st ho. left_at first file st new_one (λ t. LeavesUnfinished out t old.held new.held) l.0 l.1 h.within ho (λ more none. l.3 more (λ all. none (all ∙ ap (λ (ps : List Piece). length ps) same_left)))) stands h.hold
+
+  -- after a read that failed a packed output stands in part
+  pub leaves_short : (chunk : ℕ) → out.chunk ≡ Some chunk → LeavesStopped mid.held old.held new.held reader out []
+      → WhereKnown old.held first.name (λ file. (blocks : List (List ℕ)) (bad : Option ℕ) → AreRecordsOf file blocks bad → LeavesInPart out (concat blocks) old.held new.held)
+  leaves_short chunk packed l =
+      let h = held_first l.0 l.1 l.2 in
+      known_both old.held first.name (StandsFor first) (λ file. HoldOnly file (take l.0 first.left) l.1) (λ file. (blocks : List (List ℕ)) (bad : Option ℕ) → AreRecordsOf file blocks bad → LeavesInPart out (concat blocks) old.held new.held)
+      (λ file st ho. left_at first file st new_one (λ t. LeavesInPart out t old.held new.held) l.0 l.1 h.within ho (λ more none. short_part old mid w out [] s chunk packed (concat l.1) more new.held l.3.0 l.3.1)) stands h.hold
 
 -- ---- the head of an output
 
@@ -210,8 +221,8 @@ module _ (first : ReaderSeen) (file : List ℕ) (s : StandsFor first file) (plai
       ∙ ap (λ (h : List ℕ). pack h (concat blocks) chunk) (bytes_is ∙ plain-is file is_plain)
       ∙ ap (λ (rs : List ℕ). pack (plain_head file) rs chunk) (records_joined blocks are)
 
-  pub leaves_plain : (out : Output) (was now : Option FileMap) → LeavesRecords out file was now → LeavesUnfinished out (drop (point_offset_of file) file) was now
-  leaves_plain out was now to =
+  pub leaves_plain : (P : List ℕ → Type 0) → ((blocks : List (List ℕ)) (bad : Option ℕ) → AreRecordsOf file blocks bad → P (concat blocks)) → P (drop (point_offset_of file) file)
+  leaves_plain P to =
       let blocks = map (piece_bytes file) s.pieces in
       let are : AreRecordsOf file blocks None = (s.pieces, s.are, hold-plain file is_plain s.pieces) in
-      subst (λ (t : List ℕ). LeavesUnfinished out t was now) (records_joined blocks are) (to blocks None are)
+      subst P (records_joined blocks are) (to blocks None are)

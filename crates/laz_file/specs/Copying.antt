@@ -1,6 +1,6 @@
 -- Whole files: records that go from a reader to a writer, what packs a plain file and what unpacks a packed one, and
 -- what such calls leave.
-use Rattle.std.specs.Prelude.{◌≡◌, ◌⊎◌, ℕ, ◌+◌, ◌*◌, ◌≤◌, false, List, [], ◌++◌, length, take}
+use Rattle.std.specs.Prelude.{◌≡◌, ◌⊎◌, ℕ, ◌+◌, ◌*◌, ◌≤◌, ◌<◌, false, List, [], ◌++◌, length, take}
 use Rattle.std.specs.Prelude.{Option, Some, None, IsSome, Result, Ok, Err}
 use Rattle.std.specs.List.{concat}
 use Rattle.las_header.specs.declared.refusal.Refusal.{Refusal}
@@ -15,8 +15,7 @@ use Rattle.laz_file.specs.declared.fault.Fault.{Fault}
 use Rattle.laz_file.specs.declared.fault.Fault.TheVariants.{Refused, Read, Write, Memory}
 use Rattle.laz_file.specs.Outputs.{Output, draft_of, finished, patches_of, stopped}
 use Rattle.laz_file.specs.Reading.{AreWholeBlocks, ReaderSeen, records_in}
-use Rattle.laz_file.specs.Ranges.{Range}
-use Rattle.laz_file.specs.Records.{AreRecordsIn, AreRecordsOf, HoldOnly, IsBadPiece}
+use Rattle.laz_file.specs.Records.{AreRecordsOf, HoldOnly, IsBadPiece}
 use Rattle.laz_file.specs.Writing.{Stands, WriterSeen}
 
 -- the packed form of a plain file as an output, and the plain form of a packed one: the records are not counted, since
@@ -34,6 +33,12 @@ LeavesUnfinished out records old new =
     ⊎ ((left : List ℕ) × IsUnfinished (draft_of out records) (patches_of out records) left
     × (new ≡ with_file old out.name left))
 
+-- The files are as before, or of the output a part of its draft stands, and not all of it; every other file is as before.
+abbrev pub LeavesInPart : Output → (records : List ℕ) → (old new : Option FileMap) → Type 0
+LeavesInPart out records old new =
+    (new ≡ old)
+    ⊎ ((n : ℕ) × (n < length (draft_of out records)) × (new ≡ with_file old out.name (take n (draft_of out records))))
+
 -- The same of the output of a file, for its records up to the first bad chunk, if there is one.
 abbrev pub LeavesRecords : Output → (file : List ℕ) → (old new : Option FileMap) → Type 0
 LeavesRecords out file old new =
@@ -44,12 +49,6 @@ LeavesRecords out file old new =
 pub record AreOnlyRecords (file : List ℕ) (blocks : List (List ℕ)) (bad : Option ℕ) : Type 0 where
   pub are : AreRecordsOf file blocks bad
   pub only : (others : List (List ℕ)) (worse : Option ℕ) → AreRecordsOf file others worse
-      → (others ≡ blocks) × (worse ≡ bad)
-
--- The same of a range: no other list of records is that of the range, up to the first bad chunk that meets it.
-pub record AreOnlyRecordsIn (file : List ℕ) (range : Range) (blocks : List (List ℕ)) (bad : Option ℕ) : Type 0 where
-  pub are : AreRecordsIn file range blocks bad
-  pub only : (others : List (List ℕ)) (worse : Option ℕ) → AreRecordsIn file range others worse
       → (others ≡ blocks) × (worse ≡ bad)
 
 -- ---- records that go from a reader to a writer
@@ -122,12 +121,18 @@ LeavesFirst known was now reader out bytes =
     × ((more : List ℕ) → (n ≡ length reader.left → more ≡ [])
     → LeavesUnfinished out (bytes ++ (concat blocks ++ more)) was now)
 
--- How copying ends with a fault.
+-- The output was left while these records were copied into it: a prefix is left of what stands if it is stopped then.
+abbrev pub LeavesStopped : (known was now : Option FileMap) → ReaderSeen → Output → (bytes : List ℕ) → Type 0
+LeavesStopped known was now reader out bytes =
+    (n : ℕ) × (blocks : List (List ℕ)) × HoldFirst known reader n blocks
+    × ((k : ℕ) × (now ≡ with_file was out.name (take k (stopped out (bytes ++ concat blocks)))))
+
+-- How copying ends with a fault. After a read that failed nothing has been done to finish the output.
 abbrev pub EndsCopying : (known was : Option FileMap) → (old now : Outside) → ReaderSeen → Output → (bytes : List ℕ)
     → Fault → Type 0
 EndsCopying known was old now reader out bytes (Refused cause) = Refuses known was now.held reader out bytes cause
 EndsCopying known was old now reader out bytes Read =
-    Rose old.read_faults now.read_faults × LeavesFirst known was now.held reader out bytes
+    Rose old.read_faults now.read_faults × LeavesStopped known was now.held reader out bytes
 EndsCopying known was old now reader out bytes Write =
     Rose old.write_faults now.write_faults × LeavesFirst known was now.held reader out bytes
 EndsCopying known was old now reader out bytes Memory = LeavesFirst known was now.held reader out bytes

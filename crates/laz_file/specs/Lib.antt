@@ -23,3 +23,4 @@ pub mod Reading
 pub mod Copying
 pub mod Hands
 pub mod Asking
+pub mod Sizes

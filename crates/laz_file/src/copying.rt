@@ -7,6 +7,7 @@ ghost use Rattle.las_outside.specs.Faults.{Rose};
 ghost use Rattle.las_outside.specs.Files.{WhereKnown};
 ghost use Rattle.las_outside.specs.Outside.{Later, Outside};
 ghost use Rattle.laz_file.specs.declared.fault.Fault.TheVariants.{Memory, Write};
+ghost use Rattle.laz_file.specs.Asking.{AsksAtMost, bytes_left};
 ghost use Rattle.laz_file.specs.Copying.{CanTake, EndsAfter, HasCause, HoldFirst, LeavesPart, Takes, end_of};
 ghost use Rattle.laz_file.specs.Outputs.{Output};
 ghost use Rattle.laz_file.specs.Reading.{IsCrewOf, Lends, StandsFor};
@@ -47,6 +48,7 @@ fn push_lent<R: Threads + Sync, F: Files, G: Gate>(
     ensures open { OnOk result (writer.new.failed ≡ false) }
     ensures cause { IfErr result (HasCause (F.seen files.old) (F.seen files.new)) }
     ensures calm { OnOk result (SameFaults (F.seen files.old) (F.seen files.new)) }
+    ensures asked { (F.seen files.new).asked ≡ (F.seen files.old).asked }
     ensures later { Later (F.seen files.old) (F.seen files.new) }
 {
     for i in 0..count {
@@ -100,6 +102,8 @@ pub fn copy_records<R: Threads + Sync, F: Files, G: Gate>(
     ensures cause { IfErr result (HasCause (F.seen files.old) (F.seen files.new)) }
     ensures reads_calm { OnOk result ((F.seen files.new).read_faults ≡ (F.seen files.old).read_faults) }
     ensures writes_calm { OnOk result ((F.seen files.new).write_faults ≡ (F.seen files.old).write_faults) }
+    // No more is asked for than the reader has left, however the call ends.
+    ensures asked { AsksAtMost (bytes_left reader.old) (F.seen files.old) (F.seen files.new) }
     ensures later { Later (F.seen files.old) (F.seen files.new) }
 {
     'batches: loop {

@@ -10,7 +10,8 @@ ghost use Rattle.las_outside.specs.Faults.{Rose};
 ghost use Rattle.las_outside.specs.Files.{WhereKnown, with_file};
 ghost use Rattle.las_outside.specs.Outside.{Later, Outside};
 ghost use Rattle.laz_file.specs.declared.fault.Fault.TheVariants.{Read, Refused, Write};
-ghost use Rattle.laz_file.specs.Copying.{AreOnlyRecords, CanTake, EndsCopying, Finishes, LeavesRecords};
+ghost use Rattle.laz_file.specs.Asking.{AsksAtMost, bytes_left};
+ghost use Rattle.laz_file.specs.Copying.{AreOnlyRecords, CanTake, EndsCopying, Finishes, LeavesInPart, LeavesRecords};
 ghost use Rattle.laz_file.specs.Copying.{LeavesUnfinished, packed_output, plain_output};
 ghost use Rattle.laz_file.specs.Outputs.{Output, stopped};
 ghost use Rattle.laz_file.specs.Packing.{packed_file};
@@ -53,6 +54,7 @@ fn fill<R: Threads + Sync, F: Files, G: Gate>(
         out bytes) }
     ensures reads_calm { OnOk result ((F.seen files.new).read_faults ≡ (F.seen files.old).read_faults) }
     ensures writes_calm { OnOk result ((F.seen files.new).write_faults ≡ (F.seen files.old).write_faults) }
+    ensures asked { AsksAtMost (bytes_left reader.old) (F.seen files.old) (F.seen files.new) }
     ensures later { Later (F.seen files.old) (F.seen files.new) }
 {
     let mut writer = writer;
@@ -72,7 +74,8 @@ fn fill<R: Threads + Sync, F: Files, G: Gate>(
 /// to 250,000. `workers`, 1 to 8, pack side by side, and what is written does not depend on them.
 ///
 /// The answer is `Read` or `Write` if such a call failed, and never `Refused`. Then the files are as before, or the
-/// output is unfinished: a prefix of its draft, or its draft after a part of its patches.
+/// output is unfinished: a prefix of its draft, or its draft after a part of its patches. After `Read` it is a prefix
+/// of its draft, and not all of it.
 pub fn pack<R: Threads + Sync, F: Files, G: Gate>(
     rt: &R,
     alloc: Global,
@@ -96,12 +99,19 @@ pub fn pack<R: Threads + Sync, F: Files, G: Gate>(
     ensures left { IfErr result (λ fault. WhereKnown (F.seen files.old).held reader.name (λ file.
         LeavesUnfinished (packed_output output.now file chunk) (drop (point_offset_of file) file)
         (F.seen files.old).held (F.seen files.new).held)) }
+    // After a read that failed the output does not stand whole.
+    ensures in_part { IsErrOf result Read → WhereKnown (F.seen files.old).held reader.name (λ file.
+        LeavesInPart (packed_output output.now file chunk) (drop (point_offset_of file) file)
+        (F.seen files.old).held (F.seen files.new).held) }
     ensures never { (cause : Refusal) → IsErrOf result (Refused cause) → ⊥ }
     ensures read { IsErrOf result Read → Rose (F.seen files.old).read_faults (F.seen files.new).read_faults }
     ensures write { IsErrOf result Write → Rose (F.seen files.old).write_faults (F.seen files.new).write_faults }
     ensures reads_calm { OnOk result ((F.seen files.new).read_faults ≡ (F.seen files.old).read_faults) }
     ensures writes_calm { OnOk result ((F.seen files.new).write_faults ≡ (F.seen files.old).write_faults) }
     ensures later { Later (F.seen files.old) (F.seen files.new) }
+
+    // No more is asked for than the reader has left, however the call ends.
+    ensures asked { AsksAtMost (bytes_left reader) (F.seen files.old) (F.seen files.new) }
 {
     let mut reader = reader;
     let mut crew = reader.crew(alloc, 1)?;
@@ -151,6 +161,9 @@ pub fn unpack<R: Threads + Sync, F: Files, G: Gate>(
     ensures reads_calm { OnOk result ((F.seen files.new).read_faults ≡ (F.seen files.old).read_faults) }
     ensures writes_calm { OnOk result ((F.seen files.new).write_faults ≡ (F.seen files.old).write_faults) }
     ensures later { Later (F.seen files.old) (F.seen files.new) }
+
+    // No more is asked for than the reader has left, however the call ends.
+    ensures asked { AsksAtMost (bytes_left reader) (F.seen files.old) (F.seen files.new) }
 {
     let mut reader = reader;
     let head = reader.head().without_vlr(alloc)?;

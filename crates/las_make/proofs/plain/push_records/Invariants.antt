@@ -15,6 +15,7 @@ invariant-loop-from g l = record {
   stands : (before : Outside) (out : Output) → Stands before (g.F.Files.seen l.fn.files) l.fn.writer out []
       → Stands before (g.F.Files.seen l.files) l.writer out (concat (records_from l.settings 0 l.from));
   calm : (g.F.Files.seen l.files).write_faults ≡ (g.F.Files.seen l.fn.files).write_faults;
+  asked : (g.F.Files.seen l.files).asked ≡ (g.F.Files.seen l.fn.files).asked;
   later : Later (g.F.Files.seen l.fn.files) (g.F.Files.seen l.files);
 }
 

@@ -7,9 +7,10 @@ use Rattle.laz_file.specs.Outputs.{Output, draft_of, finished, patches_of}
 use Rattle.laz_file.specs.Writing.{Stops}
 use Rattle.laz_file.proofs.Putting.{if_err}
 use Rattle.laz_file.proofs.WholeOutputs.{create_left, err_then, ok_then}
+use Rattle.laz_file.proofs.Unasked.{created_asked}
 use Rattle.las_make.specs.Made.{made_file, made_records}
 use Rattle.las_make.specs.Making.{LeavesPlain}
-use Rattle.las_make.proofs.Written.{counted_none, counted_plain, counted_size, end_left, head_made, ok_with}
+use Rattle.las_make.proofs.Written.{ended_asked, counted_none, counted_plain, counted_size, end_left, head_made, ok_with}
 use Rattle.las_make.proofs.plain.write_plain.Goals as goal
 
 pub create-requires-clause-plain : goal.create-requires-clause-plain
@@ -89,3 +90,20 @@ returns-clause-left g c =
     err_then (λ fault. (left : List ℕ) × IsUnfinished (draft_of out records) (patches_of out records) left × Stops fault (with_bytes old name left) new) (λ fault. LeavesPlain name s old.held new.held) c.finish.result
     (λ fault l. subst (λ (h : List ℕ). let o : Output = record { name = name; head = h; chunk = None; counted = false } in LeavesUnfinished o records old.held new.held) is (end_left old new out records fault l))
     (c.finish.ensures.stopped old out records stands)
+
+pub returns-in_err-writer-clause-asked : goal.returns-in_err-writer-clause-asked
+returns-in_err-writer-clause-asked g c =
+    created_asked c.create.result (g.F.Files.seen c.args.files.now) (g.F.Files.seen c.create.new.files) c.args.output.now _ c.create.ensures.calm c.create.ensures.stopped
+
+pub returns-in_err-push_records-clause-asked : goal.returns-in_err-push_records-clause-asked
+returns-in_err-push_records-clause-asked g c = c.push_records.ensures.asked ∙ c.in_ok-writer.ensures.calm.asked
+
+pub returns-clause-asked : goal.returns-clause-asked
+returns-clause-asked g c =
+    let old = g.F.Files.seen c.args.files.now in
+    let mid = g.F.Files.seen c.push_records.new.files in
+    let new = g.F.Files.seen c.finish.new.files in
+    let records = concat (made_records c.args.settings) in
+    let out : Output = record { name = c.args.output.now; head = c.with_counts-head.result.bytes; chunk = None; counted = false } in
+    let stands = c.in_ok-push_records.ensures.stands old out c.in_ok-writer.ensures.stands in
+    ended_asked c.finish.result old mid new c.args.output.now (IsUnfinished (draft_of out records) (patches_of out records)) (c.push_records.ensures.asked ∙ c.in_ok-writer.ensures.calm.asked) c.finish.ensures.calm (c.finish.ensures.stopped old out records stands)

@@ -1,12 +1,17 @@
-use Rattle.std.proofs.Common.{◌≤◌, ◌+◌, ◌*◌, List, ◌++◌, length, Option, Some, refl, sym, ◌∙◌, ap, subst, arith}
+use Rattle.std.proofs.Common.{◌≤◌, ◌+◌, ◌*◌, List, ◌++◌, length, Option, Some, refl, sym, ◌∙◌, ap, subst, arith, map}
 use Rattle.std.specs.List.{concat}
 use Rattle.std.specs.Vec.Iter.{into_iter_items}
 use Rattle.las_header.specs.declared.refusal.Refusal.{Refusal}
 use Rattle.las_outside.specs.Files.{WhereKnown}
 use Rattle.laz_file.specs.Copying.{with_reads}
+use Rattle.std.specs.FinMap as finmap
+use Rattle.laz_file.specs.Asking.{AsksAtMost}
+use Rattle.laz_file.proofs.Sums.{sum-first}
 use Rattle.laz_file.proofs.Faults.{later-trans}
+use Rattle.las_merge.specs.Asking.{asked_of_all, asked_to_read}
 use Rattle.las_merge.specs.Copying.{BeginsWith, CopiesTo}
-use Rattle.las_merge.specs.Opening.{InputSeen, points_read}
+use Rattle.las_merge.specs.Opening.{InputSeen, names_read, points_read}
+use Rattle.las_merge.proofs.Asked.{asked_there}
 use Rattle.las_merge.proofs.Again.{fault_since}
 use Rattle.las_merge.proofs.Copied.{HasCopied, copies_all, has_more, has_none, into_next, leaves_next, next_copies, next_known, next_name, next_open, next_room, next_stands, no_items, rest_room, takes_next}
 use Rattle.las_merge.proofs.copying.copy_inputs.Goals as goal
@@ -28,6 +33,7 @@ inputs-init g c =
       reads_calm = refl;
       writes_calm = refl;
       later = record { known = refl; reads = omega arith; writes = omega arith; asked = omega arith };
+      asked = λ known is. omega (arith, ap (λ (rs : List InputSeen). asked_of_all asked_to_read known (names_read rs)) gives.0);
     }
 
 pub copy_next-requires-clause-opened : goal.copy_next-requires-clause-opened
@@ -113,6 +119,13 @@ inputs-preserved g c =
       reads_calm = c.in-Ok.ensures.reads_calm ∙ c.inputs.invariant.reads_calm;
       writes_calm = c.in-Ok.ensures.writes_calm ∙ c.inputs.invariant.writes_calm;
       later = later-trans old now new c.inputs.invariant.later c.copy_next.ensures.later;
+      asked = λ known is.
+          let most_asked = next_known old now readers rest reader number w v has s.0 s.1 s.2 s.3 c.requires.names (λ file. AsksAtMost (asked_to_read (Some file)) now new) c.copy_next.ensures.asked in
+          let here_asked = asked_there old.held reader.name asked_to_read now new most_asked known is in
+          let first = sum-first (asked_to_read (finmap.get known reader.name)) (map (λ name. asked_to_read (finmap.get known name)) (names_read rest)) in
+          let items = ap (λ (rs : List InputSeen). asked_of_all asked_to_read known (names_read rs)) c.in-Some.ensures.steps.0 in
+          let before = c.inputs.invariant.asked known is in
+          omega (arith, here_asked, first, items, before);
     }
 
 pub returns-in-Some-end-clause-copied : goal.returns-in-Some-end-clause-copied
@@ -169,3 +182,46 @@ returns-clause-copied g c =
     let none = no_items (into_iter_items c.inputs.input-iterator) _ c.inputs.invariant.len c.in-None.ensures.steps.0 in
     let has = subst (λ (rs : List InputSeen). HasCopied old now readers rs c.inputs.number w v) none c.inputs.invariant.copied in
     (concat has.parts, copies_all old now readers c.inputs.number w v has, has.takes)
+
+pub returns-in-Some-end-clause-asked : goal.returns-in-Some-end-clause-asked
+returns-in-Some-end-clause-asked g c known is =
+    let old = g.F.Files.seen c.args.files.now in
+    let now = g.F.Files.seen c.inputs.files in
+    let readers = c.args.inputs.items in
+    let rest = into_iter_items c.next.new.self in
+    let reader = c.in-Some.input in
+    let number = c.inputs.number in
+    let w = c.args.writer.now in
+    let v = c.inputs.writer in
+    let s = c.requires.stands in
+    let has = subst (λ (rs : List InputSeen). HasCopied old now readers rs number w v) c.in-Some.ensures.steps.0 c.inputs.invariant.copied in
+    let new = g.F.Files.seen c.copy_next.new.files in
+    let most = next_known old now readers rest reader number w v has s.0 s.1 s.2 s.3 c.requires.names (λ file. AsksAtMost (asked_to_read (Some file)) now new) c.copy_next.ensures.asked in
+    let here = asked_there old.held reader.name asked_to_read now new most known is in
+    let first = sum-first (asked_to_read (finmap.get known reader.name)) (map (λ name. asked_to_read (finmap.get known name)) (names_read rest)) in
+    let items = ap (λ (rs : List InputSeen). asked_of_all asked_to_read known (names_read rs)) c.in-Some.ensures.steps.0 in
+    let before = c.inputs.invariant.asked known is in
+    omega (arith, here, first, items, before)
+
+pub returns-in-Err-clause-asked : goal.returns-in-Err-clause-asked
+returns-in-Err-clause-asked g c known is =
+    let old = g.F.Files.seen c.args.files.now in
+    let now = g.F.Files.seen c.inputs.files in
+    let readers = c.args.inputs.items in
+    let rest = into_iter_items c.next.new.self in
+    let reader = c.in-Some.input in
+    let number = c.inputs.number in
+    let w = c.args.writer.now in
+    let v = c.inputs.writer in
+    let s = c.requires.stands in
+    let has = subst (λ (rs : List InputSeen). HasCopied old now readers rs number w v) c.in-Some.ensures.steps.0 c.inputs.invariant.copied in
+    let new = g.F.Files.seen c.copy_next.new.files in
+    let most = next_known old now readers rest reader number w v has s.0 s.1 s.2 s.3 c.requires.names (λ file. AsksAtMost (asked_to_read (Some file)) now new) c.copy_next.ensures.asked in
+    let here = asked_there old.held reader.name asked_to_read now new most known is in
+    let first = sum-first (asked_to_read (finmap.get known reader.name)) (map (λ name. asked_to_read (finmap.get known name)) (names_read rest)) in
+    let items = ap (λ (rs : List InputSeen). asked_of_all asked_to_read known (names_read rs)) c.in-Some.ensures.steps.0 in
+    let before = c.inputs.invariant.asked known is in
+    omega (arith, here, first, items, before)
+
+pub returns-clause-asked : goal.returns-clause-asked
+returns-clause-asked g c known is = omega (arith, c.inputs.invariant.asked known is)

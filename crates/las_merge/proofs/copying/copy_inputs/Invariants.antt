@@ -1,7 +1,9 @@
 use Rattle.std.proofs.Common.{◌≡◌, ◌*◌, ◌+◌, ◌≤◌, false, length}
 use Rattle.std.specs.Vec.Iter.{into_iter_items, into_iter_len}
 use Rattle.las_outside.specs.Outside.{Later}
-use Rattle.las_merge.specs.Opening.{points_read}
+use Rattle.las_merge.specs.Asking.{asked_of_all, asked_to_read}
+use Rattle.las_merge.specs.Inputs.{IfKnown}
+use Rattle.las_merge.specs.Opening.{names_read, points_read}
 use Rattle.las_merge.proofs.Copied.{HasCopied}
 use Rattle.las_merge.proofs.copying.copy_inputs.Given as goal
 
@@ -17,4 +19,5 @@ invariant-inputs g l = record {
   reads_calm : (g.F.Files.seen l.files).read_faults ≡ (g.F.Files.seen l.fn.files).read_faults;
   writes_calm : (g.F.Files.seen l.files).write_faults ≡ (g.F.Files.seen l.fn.files).write_faults;
   later : Later (g.F.Files.seen l.fn.files) (g.F.Files.seen l.files);
+  asked : IfKnown (g.F.Files.seen l.fn.files).held (λ known. (g.F.Files.seen l.files).asked + asked_of_all asked_to_read known (names_read (into_iter_items l.input-iterator)) ≤ (g.F.Files.seen l.fn.files).asked + asked_of_all asked_to_read known (names_read l.fn.inputs.items));
 }

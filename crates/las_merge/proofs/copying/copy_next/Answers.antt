@@ -1,9 +1,13 @@
-use Rattle.std.proofs.Common.{◌*◌, ℕ, sym, ◌∙◌, ap, subst}
+use Rattle.std.proofs.Common.{◌+◌, ◌*◌, ℕ, sym, ◌∙◌, ap, subst, arith}
 use Rattle.las_outside.specs.Files.{WhereKnown}
+use Rattle.laz_file.specs.Asking.{AsksAtMost, asked_to_open}
 use Rattle.laz_file.specs.Copying.{with_reads}
 use Rattle.laz_file.specs.Reading.{StandsFor}
+use Rattle.laz_file.specs.Sizes.{points_size}
+use Rattle.laz_file.proofs.Knowing.{known_then}
 use Rattle.laz_file.proofs.Taking.{stands_read}
 use Rattle.las_merge.specs.Copying.{BeginsWith, CopiesTo, IsFaultOf}
+use Rattle.las_merge.proofs.Asked.{asked_again}
 use Rattle.las_merge.proofs.Again.{back, fault_by, fault_since, leaves_after, new_again, none_begun, room_for, takes_after, there}
 use Rattle.las_merge.proofs.copying.copy_next.Goals as goal
 
@@ -66,3 +70,17 @@ returns-in-Err-copy_input-clause-cause g c =
     let new = g.F.Files.seen c.copy_input.new.files in
     subst (IsFaultOf old new c.args.number) (sym c.fault_of.ensures)
     (fault_since old mid new c.args.number _ c.open_again.ensures.later.known c.in-Ok.ensures.faults c.open_again.ensures.writes (fault_by mid new c.args.number c.in-Err-copy_input.fault c.in-Err-copy_input.ensures.cause))
+
+pub returns-in-Err-clause-asked : goal.returns-in-Err-clause-asked
+returns-in-Err-clause-asked g c =
+    let old = g.F.Files.seen c.args.files.now in
+    let mid = g.F.Files.seen c.open_again.new.files in
+    known_then old.held c.args.input.now.name (λ file. AsksAtMost (asked_to_open file) old mid) (λ file. AsksAtMost (asked_to_open file + points_size file) old mid) (λ file most. omega (arith, most)) c.open_again.ensures.asked
+
+pub returns-in-Ok-copy_input-clause-asked : goal.returns-in-Ok-copy_input-clause-asked
+returns-in-Ok-copy_input-clause-asked g c =
+    asked_again (g.F.Files.seen c.args.files.now).held c.args.input.now.name c.in-Ok.reader (g.F.Files.seen c.args.files.now) (g.F.Files.seen c.open_again.new.files) (g.F.Files.seen c.copy_input.new.files) c.in-Ok.ensures.again.fresh.whole c.in-Ok.ensures.again.stands c.open_again.ensures.asked c.copy_input.ensures.asked
+
+pub returns-in-Err-copy_input-clause-asked : goal.returns-in-Err-copy_input-clause-asked
+returns-in-Err-copy_input-clause-asked g c =
+    asked_again (g.F.Files.seen c.args.files.now).held c.args.input.now.name c.in-Ok.reader (g.F.Files.seen c.args.files.now) (g.F.Files.seen c.open_again.new.files) (g.F.Files.seen c.copy_input.new.files) c.in-Ok.ensures.again.fresh.whole c.in-Ok.ensures.again.stands c.open_again.ensures.asked c.copy_input.ensures.asked

@@ -1,7 +1,8 @@
-use Rattle.std.proofs.Common.{inl, [], ◌++◌, Option, Err, ap, subst}
+use Rattle.std.proofs.Common.{inl, [], ◌++◌, Option, Err, ap, subst, arith}
 use Rattle.las_outside.specs.Outside.{Outside}
 use Rattle.laz_file.specs.Copying.{with_reads}
 use Rattle.laz_file.proofs.Putting.{if_err}
+use Rattle.laz_file.proofs.Unasked.{stops_asked}
 use Rattle.las_merge.specs.declared.copying.BadInput.{BadInput}
 use Rattle.las_merge.specs.Copying.{CopiesUpTo}
 use Rattle.las_merge.specs.Opening.{names_read}
@@ -64,3 +65,30 @@ returns-in-Err-stop-clause-ends g c before out s =
     let bad = subst (λ (e : Option BadInput). CopiesUpTo old.held names d.0 e) c.in-Some.is d.1 in
     let p = c.in-Err-stop.ensures.broken (with_reads before mid) out d.0 (d.2 before out [] s) in
     stop_fails old names c.args.writer before out s mid new c.in-Some.bad.input d.0 c.in-Some.bad.cause c.in_ok-copy_inputs.ensures.writes_calm bad c.in-Err-stop.fault c.fault_of_output-in-Err-stop.result c.fault_of_output-in-Err-stop.ensures.memory c.fault_of_output-in-Err-stop.ensures.write c.in-Err-stop.ensures.fault (λ e. c.in-Err-stop.ensures.write (ap Err e)) p.0 p.1
+
+pub returns-in_err-copy_inputs-clause-asked : goal.returns-in_err-copy_inputs-clause-asked
+returns-in_err-copy_inputs-clause-asked g c known is = c.copy_inputs.ensures.asked known is
+
+pub returns-in-Ok-clause-asked : goal.returns-in-Ok-clause-asked
+returns-in-Ok-clause-asked g c known is = omega (arith, c.copy_inputs.ensures.asked known is, c.in-Ok.ensures.calm.asked)
+
+pub returns-in-Err-clause-asked : goal.returns-in-Err-clause-asked
+returns-in-Err-clause-asked g c known is =
+    let s = c.requires.stands in
+    let mid = g.F.Files.seen c.copy_inputs.new.files in
+    let d = c.in_ok-copy_inputs.ensures.copied in
+    let p = c.in-Err.ensures.stopped (with_reads s.0 mid) s.1 ([] ++ d.0) (d.2 s.0 s.1 [] s.2) in
+    let same = stops_asked c.in-Err.fault _ (g.F.Files.seen c.finish.new.files) p.2 in
+    omega (arith, same, c.copy_inputs.ensures.asked known is)
+
+pub returns-in-Ok-stop-clause-asked : goal.returns-in-Ok-stop-clause-asked
+returns-in-Ok-stop-clause-asked g c known is = omega (arith, c.copy_inputs.ensures.asked known is, c.in-Ok-stop.ensures.calm.asked)
+
+pub returns-in-Err-stop-clause-asked : goal.returns-in-Err-stop-clause-asked
+returns-in-Err-stop-clause-asked g c known is =
+    let s = c.requires.stands in
+    let mid = g.F.Files.seen c.copy_inputs.new.files in
+    let d = c.in_ok-copy_inputs.ensures.copied in
+    let p = c.in-Err-stop.ensures.broken (with_reads s.0 mid) s.1 ([] ++ d.0) (d.2 s.0 s.1 [] s.2) in
+    let same = stops_asked c.in-Err-stop.fault _ (g.F.Files.seen c.stop.new.files) p.1 in
+    omega (arith, same, c.copy_inputs.ensures.asked known is)

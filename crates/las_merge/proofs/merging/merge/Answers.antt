@@ -1,18 +1,24 @@
-use Rattle.std.proofs.Common.{◌≡◌, ◌⊎◌, inl, inr, is_some, ℕ, ◌<◌, ◌≤◌, ◌^◌, List, length, ◌∙◌, ap, subst, arith}
+use Rattle.std.proofs.Common.{◌≡◌, ◌⊎◌, inl, inr, is_some, ℕ, ◌<◌, ◌≤◌, ◌^◌, List, [], Option, Some, length, ◌∙◌, ap, subst, arith}
 use Rattle.std.specs.Prelude.{string_bytes}
 use Rattle.std.specs.declared.alloc.Global.{Global}
 use Rattle.std.proofs.lemmas.List.{length-map}
 use Rattle.las_header.specs.Heads.{HeadView}
+use Rattle.std.specs.FinMap as finmap
 use Rattle.las_outside.specs.Faults.{Rose}
+use Rattle.las_outside.specs.Files.{FileMap, with_file}
+use Rattle.las_outside.specs.Outside.{Outside}
 use Rattle.laz_file.specs.declared.fault.Fault.TheVariants as fault
+use Rattle.laz_file.proofs.Arms.{held_text}
 use Rattle.laz_file.proofs.Faults.{err_of}
 use Rattle.laz_file.proofs.Putting.{if_err}
 use Rattle.laz_file.proofs.WholeOutputs.{err_at, err_then, ok_then}
 use Rattle.las_merge.specs.declared.fault.MergeFault.TheVariants.{At, Unequal, TooManyPoints, Write}
+use Rattle.las_merge.specs.Asking.{asked_of_all, asked_to_read}
 use Rattle.las_merge.specs.Copying.{EndsMerging, FailsBeginning, output_under}
 use Rattle.las_merge.specs.Inputs.{CanMerge, IfKnown, names_of}
 use Rattle.las_merge.specs.Merging.{LeavesMerged, merged_output}
 use Rattle.las_merge.specs.Opening.{EndsOpening, InputSeen, names_read, points_read}
+use Rattle.las_merge.proofs.Asked.{other_asked}
 use Rattle.las_merge.proofs.Again.{never_known, none_after, none_before}
 use Rattle.las_merge.proofs.Ends.{before_by, can_by, first_before, many_by, refused_by, unequal_by}
 use Rattle.las_merge.proofs.Known.{files_of}
@@ -301,3 +307,30 @@ returns-clause-left g c =
     err_then (EndsMerging now.held mid.held now new (names_read readers) out)
     (λ cause. IfKnown old.held (λ known. (new.held ≡ old.held) ⊎ ((merged : List (List ℕ)) × CanMerge known names merged × LeavesMerged (merged_output name merged chunk) merged old.held new.held))) c.fill.result
     (λ cause e known holds. merged_left old.held names readers opened all name head chunk some head_is other mid now w same s known holds few new.held (ends_mid mid now new (names_read readers) w out s cause e)) ends
+
+pub returns-in_err-opened-clause-asked : goal.returns-in_err-opened-clause-asked
+returns-in_err-opened-clause-asked g c known is = omega (arith, c.open_inputs.ensures.asked known is)
+
+pub returns-in_err-most-clause-asked : goal.returns-in_err-most-clause-asked
+returns-in_err-most-clause-asked g c known is = omega (arith, c.open_inputs.ensures.asked known is)
+
+pub returns-in_err-writer-clause-asked : goal.returns-in_err-writer-clause-asked
+returns-in_err-writer-clause-asked g c known is = omega (arith, c.open_inputs.ensures.asked known is, c.begin.ensures.asked)
+
+pub returns-clause-asked : goal.returns-clause-asked
+returns-clause-asked g c known is =
+    let old = g.F.Files.seen c.args.files.now in
+    let mid = g.F.Files.seen c.open_inputs.new.files in
+    let now = g.F.Files.seen c.begin.new.files in
+    let names = names_of c.args.inputs.now in
+    let readers = c.in_ok-opened.opened.items in
+    let all : length readers ≡ length names = omega (arith, c.in_ok-opened.ensures.all, length-map c.args.inputs.now (string_bytes {Z = Global})) in
+    let name = c.args.output.now in
+    let written = held_text mid now c.in_ok-writer.writer _ [] c.in_ok-writer.ensures.stands in
+    let held : now.held ≡ Some (finmap.insert known name written.0) =
+    ap (λ (o : Outside). o.held) written.1 ∙ ap (λ (h : Option FileMap). with_file h name written.0) (c.open_inputs.ensures.held ∙ is) in
+    let filled = c.fill.ensures.asked (finmap.insert known name written.0) held in
+    let same : asked_of_all asked_to_read (finmap.insert known name written.0) (names_read readers) ≡ asked_of_all asked_to_read known names =
+    ap (asked_of_all asked_to_read (finmap.insert known name written.0)) (names_are old.held names readers c.in_ok-opened.ensures.opened all)
+    ∙ other_asked asked_to_read known name written.0 names (other_names c.args.inputs.now name c.requires.names) in
+    omega (arith, c.open_inputs.ensures.asked known is, c.begin.ensures.asked, filled, same)

@@ -2,12 +2,14 @@ use Rattle.std.proofs.Common.{◌≡◌, ℕ, List, Err, refl, sym, ◌∙◌, a
 use Rattle.las_header.specs.Fields.{points_of}
 use Rattle.las_header.specs.Heads.{HeadView}
 use Rattle.las_outside.specs.Files.{IsMissing, WhereKnown}
+use Rattle.laz_file.specs.Asking.{AsksAtMost, asked_to_open}
 use Rattle.laz_file.specs.Reading.{EndsReading, IsNewReader, ReaderSeen, StandsFor}
 use Rattle.laz_file.specs.Refusing.{IsRefusal}
 use Rattle.std.specs.Prelude.{Some}
 use Rattle.las_merge.specs.Copying.{IsFaultOf}
 use Rattle.las_merge.specs.Fields.{first_difference}
-use Rattle.las_merge.specs.Opening.{InputSeen}
+use Rattle.las_merge.specs.Opening.{InputSeen, IsItsFile}
+use Rattle.las_merge.proofs.Asked.{not_missing}
 use Rattle.las_merge.proofs.Again.{again_by, fails_again, no_other, no_others, some_none}
 use Rattle.las_merge.proofs.opening.open_again.Goals as goal
 
@@ -71,3 +73,39 @@ returns-clause-again g c =
     let there : c.points-2.result ≡ points_of input.head.bytes = c.points-2.ensures ∙ ap points_of mine in
     again_by held input reader (subst (λ (n : List ℕ). IsNewReader n reader) named c.in-Ok.ensures.fresh) c.in-Ok.ensures.whole
     (subst (λ (n : List ℕ). WhereKnown held n (StandsFor reader)) named c.in-Ok.ensures.stands) (sym answer ∙ c.in_default.is) (sym here ∙ c.if-points.false ∙ there)
+
+pub returns-in-Err-clause-asked : goal.returns-in-Err-clause-asked
+returns-in-Err-clause-asked g c =
+    let held = (g.F.Files.seen c.args.files.now).held in
+    let input = c.args.input.now in
+    let new = g.F.Files.seen c.open.new.files in
+    let named : c.deref.result.now ≡ input.name = cc (c.deref.ensures, ap (λ (i : InputSeen). i.name) c.input.view_is) in
+    subst (λ (n : List ℕ). WhereKnown held n (λ file. AsksAtMost (asked_to_open file) (g.F.Files.seen c.args.files.now) new)) named
+    (c.open.ensures.asked_of (λ gone. not_missing held input.name (IsItsFile input) c.requires.opened.stands (subst (IsMissing held) named gone)))
+
+pub returns-in-Some-clause-asked : goal.returns-in-Some-clause-asked
+returns-in-Some-clause-asked g c =
+    let held = (g.F.Files.seen c.args.files.now).held in
+    let input = c.args.input.now in
+    let new = g.F.Files.seen c.open.new.files in
+    let named : c.deref.result.now ≡ input.name = cc (c.deref.ensures, ap (λ (i : InputSeen). i.name) c.input.view_is) in
+    subst (λ (n : List ℕ). WhereKnown held n (λ file. AsksAtMost (asked_to_open file) (g.F.Files.seen c.args.files.now) new)) named
+    (c.open.ensures.asked_of (λ gone. not_missing held input.name (IsItsFile input) c.requires.opened.stands (subst (IsMissing held) named gone)))
+
+pub returns-then-points-clause-asked : goal.returns-then-points-clause-asked
+returns-then-points-clause-asked g c =
+    let held = (g.F.Files.seen c.args.files.now).held in
+    let input = c.args.input.now in
+    let new = g.F.Files.seen c.open.new.files in
+    let named : c.deref.result.now ≡ input.name = cc (c.deref.ensures, ap (λ (i : InputSeen). i.name) c.input.view_is) in
+    subst (λ (n : List ℕ). WhereKnown held n (λ file. AsksAtMost (asked_to_open file) (g.F.Files.seen c.args.files.now) new)) named
+    (c.open.ensures.asked_of (λ gone. not_missing held input.name (IsItsFile input) c.requires.opened.stands (subst (IsMissing held) named gone)))
+
+pub returns-clause-asked : goal.returns-clause-asked
+returns-clause-asked g c =
+    let held = (g.F.Files.seen c.args.files.now).held in
+    let input = c.args.input.now in
+    let new = g.F.Files.seen c.open.new.files in
+    let named : c.deref.result.now ≡ input.name = cc (c.deref.ensures, ap (λ (i : InputSeen). i.name) c.input.view_is) in
+    subst (λ (n : List ℕ). WhereKnown held n (λ file. AsksAtMost (asked_to_open file) (g.F.Files.seen c.args.files.now) new)) named
+    (c.open.ensures.asked_of (λ gone. not_missing held input.name (IsItsFile input) c.requires.opened.stands (subst (IsMissing held) named gone)))

@@ -1,12 +1,15 @@
-use Rattle.std.proofs.Common.{◌<◌, ◌∷◌, ℕ, List, [], Option, length, sym, ◌∙◌, ap, subst, length-append, arith}
+use Rattle.std.proofs.Common.{◌≡◌, ◌+◌, ◌<◌, ◌∷◌, ℕ, suc, List, [], Option, length, take, sym, ◌∙◌, ap, subst, length-append, arith}
 use Rattle.std.specs.Prelude.{string_bytes}
 use Rattle.std.specs.declared.alloc.Global.{Global}
 use Rattle.std.proofs.lemmas.List.{get_or-map, length-map}
 use Rattle.las_outside.specs.Files.{FileMap}
 use Rattle.laz_file.proofs.Faults.{later-trans}
 use Rattle.laz_file.proofs.Putting.{if_err}
+use Rattle.std.specs.FinMap as finmap
+use Rattle.las_merge.specs.Asking.{asked_of_all, asked_to_compare}
 use Rattle.las_merge.specs.Inputs.{item_at, names_of}
 use Rattle.las_merge.specs.Opening.{AreOpen, InputSeen, IsNext}
+use Rattle.las_merge.proofs.Asked.{sum_next, sum_some}
 use Rattle.las_merge.proofs.Opened.{next_ends, open_more}
 use Rattle.las_merge.proofs.opening.open_inputs.Goals as goal
 
@@ -45,4 +48,27 @@ inputs-preserved g c =
       held = c.open_next.ensures.held ∙ c.inputs.invariant.held;
       writes = c.open_next.ensures.writes ∙ c.inputs.invariant.writes;
       later = later-trans start old new c.inputs.invariant.later c.open_next.ensures.later;
+      asked = λ known is.
+          let named_at = c.deref.ensures ∙ ap string_bytes c.name-item.is ∙ sym (get_or-map string_bytes c.args.names.now i c.name-item.result [] lt) in
+          let cost = λ (name : List ℕ). asked_to_compare (finmap.get known name) in
+          let in_names : i < length names = omega (arith, lt, length-map c.args.names.now (string_bytes {Z = Global})) in
+          let here_asked = c.open_next.ensures.asked known (c.inputs.invariant.held ∙ is) in
+          let one : i + 1 ≡ suc i = omega arith in
+          omega (arith, c.inputs.invariant.asked known is, here_asked, ap cost named_at, sum_next cost names i in_names, ap (λ (k : ℕ). asked_of_all asked_to_compare known (take k names)) one);
     }
+
+pub returns-in_err-open_next-clause-asked : goal.returns-in_err-open_next-clause-asked
+returns-in_err-open_next-clause-asked g c known is =
+    let old = g.F.Files.seen c.inputs.files in
+    let names = names_of c.args.names.now in
+    let i = c.inputs.name-index in
+    let lt : i < length c.args.names.now = c.inputs-test.true in
+    let named = c.deref.ensures ∙ ap string_bytes c.name-item.is ∙ sym (get_or-map string_bytes c.args.names.now i c.name-item.result [] lt) in
+    let within : i < length names = omega (arith, lt, length-map c.args.names.now (string_bytes {Z = Global})) in
+    let cost = λ (name : List ℕ). asked_to_compare (finmap.get known name) in
+    let here = c.open_next.ensures.asked known (c.inputs.invariant.held ∙ is) in
+    omega (arith, c.inputs.invariant.asked known is, here, ap cost named, sum_next cost names i within, sum_some cost names (suc i))
+
+pub returns-clause-asked : goal.returns-clause-asked
+returns-clause-asked g c known is =
+    omega (arith, c.inputs.invariant.asked known is, sum_some (λ (name : List ℕ). asked_to_compare (finmap.get known name)) (names_of c.args.names.now) c.inputs.name-index)

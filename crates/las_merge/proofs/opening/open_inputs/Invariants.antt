@@ -1,6 +1,8 @@
-use Rattle.std.proofs.Common.{◌≡◌, length}
+use Rattle.std.proofs.Common.{◌≡◌, length, take}
 use Rattle.las_outside.specs.Outside.{Later}
-use Rattle.las_merge.specs.Inputs.{names_of}
+use Rattle.laz_file.specs.Asking.{AsksAtMost}
+use Rattle.las_merge.specs.Asking.{asked_of_all, asked_to_compare}
+use Rattle.las_merge.specs.Inputs.{IfKnown, names_of}
 use Rattle.las_merge.specs.Opening.{AreOpen}
 use Rattle.las_merge.proofs.opening.open_inputs.Given as goal
 
@@ -12,4 +14,5 @@ invariant-inputs g l = record {
   held : (g.F.Files.seen l.files).held ≡ (g.F.Files.seen l.fn.files).held;
   writes : (g.F.Files.seen l.files).write_faults ≡ (g.F.Files.seen l.fn.files).write_faults;
   later : Later (g.F.Files.seen l.fn.files) (g.F.Files.seen l.files);
+  asked : IfKnown (g.F.Files.seen l.fn.files).held (λ known. AsksAtMost (asked_of_all asked_to_compare known (take l.name-index (names_of l.names))) (g.F.Files.seen l.fn.files) (g.F.Files.seen l.files));
 }

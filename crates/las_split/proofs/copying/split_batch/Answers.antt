@@ -218,3 +218,12 @@ returns-in_err-split_block-clause-some g c blocks was records lends all even par
     let place : c.loop-i.next ≡ length (records ++ done) = so.1 ∙ sym (length-append records done) in
     if_err (λ fault. fault ≡ Write → 1 ≤ length records + length (cut_all size (concat blocks))) c.from_residual.result _ c.from_residual.ensures.1
     (λ is_write. some_among size some blocks even i lt block is records (c.in_err-split_block.ensures.some was (records ++ done) here place is_write))
+
+pub returns-in_err-split_block-clause-asked : goal.returns-in_err-split_block-clause-asked
+returns-in_err-split_block-clause-asked g c = c.split_block.ensures.asked ∙ c.loop-i.invariant.calm.asked
+
+pub returns-then-not-branch-clause-asked : goal.returns-then-not-branch-clause-asked
+returns-then-not-branch-clause-asked g c = c.split_block.ensures.asked ∙ c.loop-i.invariant.calm.asked
+
+pub returns-clause-asked : goal.returns-clause-asked
+returns-clause-asked g c = c.loop-i.invariant.calm.asked

@@ -32,6 +32,7 @@ batches-init g c =
       reads_calm = refl;
       writes_calm = refl;
       later = record { known = refl; reads = omega arith; writes = omega arith; asked = omega arith };
+      asked = omega arith;
     }
 
 pub returns-in-Err-clause-takes : goal.returns-in-Err-clause-takes
@@ -314,6 +315,7 @@ batches-preserved g c =
       reads_calm = c.in_ok-after.ensures.calm.reads ∙ c.in-Ok.ensures.faults ∙ c.batches.invariant.reads_calm;
       writes_calm = c.in_ok-after.ensures.calm.writes ∙ c.next_batch.ensures.writes ∙ c.batches.invariant.writes_calm;
       later = later-trans _ _ _ c.batches.invariant.later (later-trans _ _ _ c.next_batch.ensures.later c.split_batch.ensures.later);
+      asked = omega (arith, c.batches.invariant.asked, c.in-Ok.ensures.asked, c.split_batch.ensures.asked);
     }
 
 pub returns-in-Err-clause-some : goal.returns-in-Err-clause-some
@@ -354,3 +356,15 @@ returns-in_err-after-clause-some g c =
     let there = subst (λ (k : ℕ). 1 ≤ length x + length (cut_all k (concat b.0))) same (e is) in
     let every : length (cut_all s (concat (done.1 ++ b.0))) ≡ length x + length y = ap (λ (l : List (List ℕ)). length l) joined ∙ length-append x y in
     (done.0 + m, done.1 ++ b.0, has.hold, omega (arith, there, every)))
+
+pub returns-in-Err-clause-asked : goal.returns-in-Err-clause-asked
+returns-in-Err-clause-asked g c = omega (arith, c.batches.invariant.asked, c.in-Err.ensures.asked_more)
+
+pub returns-then-count-eq0-clause-asked : goal.returns-then-count-eq0-clause-asked
+returns-then-count-eq0-clause-asked g c = omega (arith, c.batches.invariant.asked, c.in-Ok.ensures.asked)
+
+pub returns-in_err-after-clause-asked : goal.returns-in_err-after-clause-asked
+returns-in_err-after-clause-asked g c = omega (arith, c.batches.invariant.asked, c.in-Ok.ensures.asked, c.split_batch.ensures.asked)
+
+pub returns-in_default-clause-asked : goal.returns-in_default-clause-asked
+returns-in_default-clause-asked g c = omega (arith, c.batches.invariant.asked, c.in-Ok.ensures.asked, c.split_batch.ensures.asked)

@@ -6,10 +6,11 @@ use Rattle.laz_file.specs.declared.fault.Fault.TheVariants.{Write}
 use Rattle.laz_file.proofs.Faults.{later-trans}
 use Rattle.laz_file.proofs.Putting.{if_err}
 use Rattle.laz_file.proofs.Taking.{calm_trans, held_after, on_err}
+use Rattle.laz_file.proofs.Unasked.{stops_asked}
 use Rattle.las_split.specs.Files.{with_files}
 use Rattle.las_split.specs.Parts.{numbers_of_parts}
 use Rattle.las_split.specs.Sorting.{bytes_at, output_at}
-use Rattle.las_split.proofs.EndingParts.{ended_first, ended_last, ended_left, ended_more, finished_unfinished, emptied, more, next_held, next_is, put_back}
+use Rattle.las_split.proofs.EndingParts.{ended_first, ended_last, ended_left, ended_more, emptied, more, next_held, next_is, put_back}
 use Rattle.las_split.proofs.Leaving.{finished_texts}
 use Rattle.las_split.proofs.SomeRecords.{some_opened}
 use Rattle.las_split.proofs.Standing.{stands_here, writers_length}
@@ -110,7 +111,7 @@ returns-in_err-finish-clause-left g c task was records i =
     let new = g.F.Files.seen c.finish.new.files in
     let p = c.in_err-finish.ensures.stopped now (output_at task n) (bytes_at task records n) here in
     let to = held_after c.in_err-finish.field-0.0 (with_bytes now (output_at task n).name p.0) new p.2 in
-    on_err c.from_residual.result (ended_left task done was now.held ns ws records rest others w e popped (finished_unfinished task records) new.held p.0 to p.1)
+    on_err c.from_residual.result (ended_left task done was now.held ns ws records rest others w e popped (λ n. refl) new.held p.0 to p.1)
 
 pub returns-clause-finished : goal.returns-clause-finished
 returns-clause-finished g c task was records i =
@@ -136,3 +137,27 @@ returns-in_err-finish-clause-some g c task was records i =
     let count : 1 ≤ length ws = omega (arith, past, writers_length task (bytes_at task records) ns ws i.writers_are) in
     if_err (λ fault. fault ≡ Write → 1 ≤ length records) c.from_residual.result _ c.from_residual.ensures.1
     (λ is. some_opened task was (g.F.Files.seen c.args.files.now).held ns ws records records i count)
+
+pub returns-in_err-finish-clause-asked : goal.returns-in_err-finish-clause-asked
+returns-in_err-finish-clause-asked g c =
+    let now = g.F.Files.seen c.loop-writer.files in
+    let ns = c.args.parts.numbers in
+    let ws = c.args.parts.writers.items in
+    let w = c.in-Some.writer in
+    let q = c.requires.parts in
+    let task = q.0 in
+    let was = q.1 in
+    let records = q.2 in
+    let done = λ (n : ℕ). finished (output_at task n) (bytes_at task records n) in
+    let e = c.loop-writer.invariant.ended task was records q.3 in
+    let rest = c.loop-writer.rest.items in
+    let others = c.pop.new.self.items in
+    let popped = c.in-Some.ensures.items in
+    let n = get_or ns e.place 0 in
+    let is = next_is task done was now.held ns ws records rest others w e popped in
+    let here = stands_here task n w (bytes_at task records n) now is (next_held task done was now.held ns ws records rest others w e popped) in
+    let p = c.in_err-finish.ensures.stopped now (output_at task n) (bytes_at task records n) here in
+    stops_asked c.in_err-finish.field-0.0 _ (g.F.Files.seen c.finish.new.files) p.2 ∙ c.loop-writer.invariant.calm.asked
+
+pub returns-clause-asked : goal.returns-clause-asked
+returns-clause-asked g c = c.loop-writer.invariant.calm.asked

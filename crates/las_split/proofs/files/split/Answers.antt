@@ -1,10 +1,11 @@
-use Rattle.std.proofs.Common.{◌≡◌, ℕ, ◌*◌, ◌≤◌, List, [], length, Option, Some, None, refl, sym, ◌∙◌, ap, subst}
+use Rattle.std.proofs.Common.{◌≡◌, ℕ, ◌*◌, ◌≤◌, inl, List, [], length, Option, Some, None, refl, sym, ◌∙◌, ap, subst, arith}
 use Rattle.std.specs.Prelude.{unwrap_or, string_bytes}
 use Rattle.las_header.specs.declared.refusal.Refusal.{Refusal}
 use Rattle.las_header.specs.Heads.{HeadView, IsHead}
 use Rattle.las_header.specs.Plain.{plain_of}
 use Rattle.las_outside.specs.Files.{FileMap, WhereKnown}
 use Rattle.laz_file.specs.declared.fault.Fault.TheVariants.{Write}
+use Rattle.laz_file.specs.Asking.{bytes_left}
 use Rattle.laz_file.specs.Reading.{ReaderSeen, StandsFor}
 use Rattle.laz_file.proofs.Knowing.{known_both, known_then}
 use Rattle.laz_file.proofs.Putting.{if_err, if_ok_weaker}
@@ -27,7 +28,7 @@ returns-in_err-crew-clause-left g c =
     let end = string_bytes c.args.output.now.end in
     if_err _ c.from_residual.result _ c.from_residual.ensures.1
     (known_then old first.name (StandsFor first) (λ file. (records : List (List ℕ)) (refusal : Option Refusal) → SplitsTo rule file records refusal → LeavesParts (part_files stem end rule file records) old old)
-    (λ file st. λ records refusal to. (0, [], tt, refl)) c.requires.stands)
+    (λ file st. λ records refusal to. (0, [], inl tt, refl)) c.requires.stands)
 
 pub returns-in_err-plain-clause-left : goal.returns-in_err-plain-clause-left
 returns-in_err-plain-clause-left g c =
@@ -38,7 +39,7 @@ returns-in_err-plain-clause-left g c =
     let end = string_bytes c.args.output.now.end in
     if_err _ c.from_residual-in_err-plain.result _ c.from_residual-in_err-plain.ensures.1
     (known_then old first.name (StandsFor first) (λ file. (records : List (List ℕ)) (refusal : Option Refusal) → SplitsTo rule file records refusal → LeavesParts (part_files stem end rule file records) old old)
-    (λ file st. λ records refusal to. (0, [], tt, refl)) c.requires.stands)
+    (λ file st. λ records refusal to. (0, [], inl tt, refl)) c.requires.stands)
 
 pub split_records-requires-clause-reads : goal.split_records-requires-clause-reads
 split_records-requires-clause-reads g c κs lives =
@@ -312,3 +313,23 @@ returns-in_err-stop_all-in-Some-clause-some g c is =
     let e = splits_end task old first reader (2 * c.hands-hands.result) ready c.requires.new.whole head c.requires.stands d.0 d.1 d.3 mid ns ws d.2 (Some c.in-Some.cause) d.4 ends in
     let made = if_err (λ f. f ≡ Write → 1 ≤ length e.0) c.from_residual-in_err-stop_all-in-Some.result _ c.from_residual-in_err-stop_all-in-Some.ensures.1 (c.in_err-stop_all-in-Some.ensures.some task old e.0 e.1) in
     only_some rule old first.name e.0 (Some c.in-Some.cause) e.2 (of_fault c.from_residual-in_err-stop_all-in-Some.result Write (1 ≤ length e.0) made is)
+
+pub returns-in_err-split_records-clause-asked : goal.returns-in_err-split_records-clause-asked
+returns-in_err-split_records-clause-asked g c =
+    let same : bytes_left c.crew.new.self ≡ bytes_left c.args.reader = ap bytes_left c.in_ok-crew.ensures.kept in
+    omega (arith, same, c.split_records.ensures.asked)
+
+pub returns-in-None-clause-asked : goal.returns-in-None-clause-asked
+returns-in-None-clause-asked g c =
+    let same : bytes_left c.crew.new.self ≡ bytes_left c.args.reader = ap bytes_left c.in_ok-crew.ensures.kept in
+    omega (arith, same, c.split_records.ensures.asked, c.finish_all.ensures.asked)
+
+pub returns-in_err-stop_all-in-Some-clause-asked : goal.returns-in_err-stop_all-in-Some-clause-asked
+returns-in_err-stop_all-in-Some-clause-asked g c =
+    let same : bytes_left c.crew.new.self ≡ bytes_left c.args.reader = ap bytes_left c.in_ok-crew.ensures.kept in
+    omega (arith, same, c.split_records.ensures.asked, c.stop_all.ensures.asked)
+
+pub returns-clause-asked : goal.returns-clause-asked
+returns-clause-asked g c =
+    let same : bytes_left c.crew.new.self ≡ bytes_left c.args.reader = ap bytes_left c.in_ok-crew.ensures.kept in
+    omega (arith, same, c.split_records.ensures.asked, c.stop_all.ensures.asked)

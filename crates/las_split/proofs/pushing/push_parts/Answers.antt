@@ -48,3 +48,9 @@ returns-clause-pushed g c task was records block i s fit =
     let first = pushed_first task was (g.F.Files.seen c.args.files.now).held c.args.parts.now.numbers c.args.parts.now.writers.items records block i in
     let end : length c.loop-place.parts.numbers ≤ c.loop-place.place = omega (arith, c.loop-place-test.false, c.len-place-end.ensures, first.same, ap (λ (t : List ℕ). length t) c.loop-place.invariant.numbers) in
     pushed_last task was (g.F.Files.seen c.loop-place.files).held c.loop-place.parts.numbers c.loop-place.parts.writers.items records block c.loop-place.place end (all_size (record_length_of task.head) block fit.whole) p
+
+pub returns-in_err-push_place-clause-asked : goal.returns-in_err-push_place-clause-asked
+returns-in_err-push_place-clause-asked g c = c.push_place.ensures.asked ∙ c.loop-place.invariant.calm.asked
+
+pub returns-clause-asked : goal.returns-clause-asked
+returns-clause-asked g c = c.loop-place.invariant.calm.asked

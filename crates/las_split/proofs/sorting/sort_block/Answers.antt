@@ -1,4 +1,4 @@
-use Rattle.std.proofs.Common.{◌≡◌, ℕ, ◌*◌, ◌<◌, ◌≤◌, ◌/◌, true, false, length, take, drop, refl, sym, ap, subst, arith}
+use Rattle.std.proofs.Common.{◌≡◌, ℕ, ◌*◌, ◌<◌, ◌≤◌, ◌/◌, true, false, length, take, drop, refl, sym, ap, subst, ◌∙◌, arith}
 use Rattle.laz_file.proofs.Faults.{later-trans}
 use Rattle.laz_file.specs.declared.fault.Fault.TheVariants.{Write}
 use Rattle.laz_file.proofs.Putting.{if_err}
@@ -100,3 +100,12 @@ returns-in_err-sort_point-clause-some g c =
     let bytes = c.args.block.now in
     let there : 1 ≤ length (cut_all size bytes) = omega (arith, c.loop-turn-test.true, cut_length size (length bytes / size) bytes) in
     if_err (λ fault. fault ≡ Write → 1 ≤ length (cut_all size bytes)) c.from_residual-in_err-sort_point.result _ c.from_residual-in_err-sort_point.ensures.1 (λ is. there)
+
+pub returns-in_err-sort_point-clause-asked : goal.returns-in_err-sort_point-clause-asked
+returns-in_err-sort_point-clause-asked g c = c.sort_point.ensures.asked ∙ c.loop-turn.invariant.calm.asked
+
+pub returns-then-not-branch-clause-asked : goal.returns-then-not-branch-clause-asked
+returns-then-not-branch-clause-asked g c = c.sort_point.ensures.asked ∙ c.loop-turn.invariant.calm.asked
+
+pub returns-clause-asked : goal.returns-clause-asked
+returns-clause-asked g c = c.loop-turn.invariant.calm.asked

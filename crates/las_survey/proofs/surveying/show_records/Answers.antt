@@ -1,4 +1,4 @@
-use Rattle.std.proofs.Common.{◌≡◌, ◌+◌, ◌%◌, ◌^◌, ◌<◌, ◌≤◌, ◌++◌, ◌/◌, ℕ, Option, Err, List, [], length, map, take, get_or, refl, false, sym, ◌∙◌, ap, subst, arith}
+use Rattle.std.proofs.Common.{◌≡◌, ◌+◌, ◌%◌, ◌^◌, ◌<◌, ◌≤◌, ◌++◌, ◌/◌, ℕ, Option, Err, List, [], length, map, take, refl, sym, ◌∙◌, ap, subst, arith}
 use Rattle.std.specs.Prelude.{All}
 use Rattle.std.specs.List.{concat}
 use Rattle.std.proofs.lemmas.List.{take_all}
@@ -6,7 +6,7 @@ use Rattle.std.proofs.lemmas.List.Elements.{All-map}
 use Rattle.std.proofs.lemmas.Result.{err_from_is_err_and}
 use Rattle.las_header.specs.Fields.{record_length_of}
 use Rattle.las_header.specs.Heads.{HeadView}
-use Rattle.las_info.specs.Surveys.{IsShown, SurveySeen}
+use Rattle.las_info.specs.Surveys.{IsShown}
 use Rattle.las_info.specs.Tallies.{TapSeen, count_at}
 use Rattle.las_outside.specs.Files.{FileMap, WhereKnown}
 use Rattle.laz_file.specs.declared.fault.Fault.TheVariants.{Refused}
@@ -33,6 +33,7 @@ batches-init g c =
       reads_calm = refl;
       writes_calm = refl;
       later = record { known = refl; reads = omega arith; writes = omega arith; asked = omega arith };
+      asked = omega arith;
     }
 
 pub returns-in_err-count-clause-bad : goal.returns-in_err-count-clause-bad
@@ -103,6 +104,7 @@ batches-preserved g c =
       reads_calm = h.faults ∙ c.batches.invariant.reads_calm;
       writes_calm = c.next_batch.ensures.writes ∙ c.batches.invariant.writes_calm;
       later = later-trans _ _ _ c.batches.invariant.later c.next_batch.ensures.later;
+      asked = omega (arith, c.batches.invariant.asked, h.asked);
     }
 
 pub see_all-requires-clause-whole : goal.see_all-requires-clause-whole
@@ -157,3 +159,12 @@ loop-i-preserved g c =
     let seen = c.in_ok-see_all.ensures taps (before ++ cut s (concat (take c.loop-i.i blocks))) (c.loop-i.invariant blocks lends all even taps before is) in
     block_shown s blocks c.loop-i.i taps before (record { summary = c.see_all.new.self.summary; taps = map (λ tap. (goal.Tap-dyn g (tap.vtable, tap.value)).tap_seen tap.value) c.see_all.new.self.taps.items }) some lt even
     (subst (λ (block : List ℕ). IsShown taps ((before ++ cut s (concat (take c.loop-i.i blocks))) ++ cut s block) (record { summary = c.see_all.new.self.summary; taps = map (λ tap. (goal.Tap-dyn g (tap.vtable, tap.value)).tap_seen tap.value) c.see_all.new.self.taps.items })) (c.block.ensures blocks lends lt) seen)
+
+pub returns-in_err-count-clause-asked : goal.returns-in_err-count-clause-asked
+returns-in_err-count-clause-asked g c = omega (arith, c.batches.invariant.asked, c.in_err-count.ensures.asked_more)
+
+pub returns-then-count-eq0-clause-asked : goal.returns-then-count-eq0-clause-asked
+returns-then-count-eq0-clause-asked g c = omega (arith, c.batches.invariant.asked, c.in_ok-count.ensures.asked)
+
+pub returns-in_err-see_all-clause-asked : goal.returns-in_err-see_all-clause-asked
+returns-in_err-see_all-clause-asked g c = omega (arith, c.batches.invariant.asked, c.in_ok-count.ensures.asked)

@@ -1,5 +1,6 @@
-use Rattle.std.proofs.Common.{◌*◌, sym, ap, subst}
+use Rattle.std.proofs.Common.{◌≡◌, ◌*◌, sym, ap, subst, arith}
 use Rattle.las_outside.specs.Files.{WhereKnown}
+use Rattle.laz_file.specs.Asking.{bytes_left}
 use Rattle.laz_file.specs.Reading.{ReaderSeen, StandsFor}
 use Rattle.laz_file.proofs.Knowing.{known_then}
 use Rattle.laz_file.proofs.WholeOutputs.{stands_ready}
@@ -26,3 +27,8 @@ returns-clause-refused g c = λ cause is.
     let old = g.F.Files.seen c.args.files.now in
     let h = c.show_records.ensures.bad cause is in
     bad_shown old.held c.args.reader.now c.crew.new.self (2 * c.hands-hands.result) h.0 h.1 cause c.requires.new.whole c.in_ok-crew.ensures.kept c.requires.stands h.2 h.3
+
+pub returns-clause-asked : goal.returns-clause-asked
+returns-clause-asked g c =
+    let same : bytes_left c.crew.new.self ≡ bytes_left c.args.reader.now = ap bytes_left c.in_ok-crew.ensures.kept in
+    omega (arith, same, c.show_records.ensures.asked)

@@ -24,6 +24,7 @@ batches-init g c =
       reads_calm = refl;
       writes_calm = refl;
       later = record { known = refl; reads = omega arith; writes = omega arith; asked = omega arith };
+      asked = omega arith;
     }
 
 pub returns-in-Err-clause-copied : goal.returns-in-Err-clause-copied
@@ -134,6 +135,7 @@ batches-preserved g c =
       reads_calm = c.in_ok-push_lent.ensures.calm.reads ∙ c.in-Ok.ensures.faults ∙ c.batches.invariant.reads_calm;
       writes_calm = c.in_ok-push_lent.ensures.calm.writes ∙ c.next_batch.ensures.writes ∙ c.batches.invariant.writes_calm;
       later = later-trans _ _ _ c.batches.invariant.later (later-trans _ _ _ c.next_batch.ensures.later c.push_lent.ensures.later);
+      asked = omega (arith, c.batches.invariant.asked, c.in-Ok.ensures.asked, c.push_lent.ensures.asked);
     }
 
 pub returns-in_err-push_lent-clause-part : goal.returns-in_err-push_lent-clause-part
@@ -170,3 +172,12 @@ returns-in_err-push_lent-clause-cause g c =
     let new = g.F.Files.seen c.push_lent.new.files in
     if_err _ c.from_residual.result _ c.from_residual.ensures.1
     (cause_since old later new c.in_err-push_lent.field-0.0 (c.in-Ok.ensures.faults ∙ c.batches.invariant.reads_calm) (c.next_batch.ensures.writes ∙ c.batches.invariant.writes_calm) c.in_err-push_lent.ensures.cause)
+
+pub returns-in-Err-clause-asked : goal.returns-in-Err-clause-asked
+returns-in-Err-clause-asked g c = omega (arith, c.batches.invariant.asked, c.in-Err.ensures.asked_more)
+
+pub returns-then-count-eq0-clause-asked : goal.returns-then-count-eq0-clause-asked
+returns-then-count-eq0-clause-asked g c = omega (arith, c.batches.invariant.asked, c.in-Ok.ensures.asked)
+
+pub returns-in_err-push_lent-clause-asked : goal.returns-in_err-push_lent-clause-asked
+returns-in_err-push_lent-clause-asked g c = omega (arith, c.batches.invariant.asked, c.in-Ok.ensures.asked, c.push_lent.ensures.asked)

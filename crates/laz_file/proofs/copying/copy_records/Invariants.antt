@@ -1,7 +1,8 @@
-use Rattle.std.proofs.Common.{◌≡◌, false, ℕ, List, length}
+use Rattle.std.proofs.Common.{◌≡◌, ◌+◌, ◌≤◌, false, ℕ, List, length}
 use Rattle.std.specs.List.{concat}
 use Rattle.las_outside.specs.Files.{WhereKnown}
 use Rattle.las_outside.specs.Outside.{Later}
+use Rattle.laz_file.specs.Asking.{bytes_left}
 use Rattle.laz_file.specs.Copying.{CanTake, Takes}
 use Rattle.laz_file.specs.Reading.{IsCrewOf, StandsFor}
 use Rattle.laz_file.proofs.Copies.{HasRead}
@@ -19,6 +20,7 @@ invariant-batches g l = record {
   reads_calm : (g.F.Files.seen l.files).read_faults ≡ (g.F.Files.seen l.fn.files).read_faults;
   writes_calm : (g.F.Files.seen l.files).write_faults ≡ (g.F.Files.seen l.fn.files).write_faults;
   later : Later (g.F.Files.seen l.fn.files) (g.F.Files.seen l.files);
+  asked : (g.F.Files.seen l.files).asked + bytes_left l.reader ≤ (g.F.Files.seen l.fn.files).asked + bytes_left l.fn.reader;
 }
 
 abbrev pub decreases-batches : goal.decreases-batches

@@ -6,6 +6,7 @@ use Rattle.laz_file.proofs.Copies.{concat_more, concat_rest, even_block, room_bl
 use Rattle.laz_file.proofs.Faults.{later-trans}
 use Rattle.laz_file.proofs.Putting.{if_err}
 use Rattle.laz_file.proofs.Taking.{calm_trans, cause_push, on_err, part_more, part_push, part_then, takes_none, takes_push, takes_then}
+use Rattle.laz_file.proofs.Unasked.{stops_asked}
 use Rattle.laz_file.proofs.copying.push_lent.Goals as goal
 
 pub loop-i-init : goal.loop-i-init
@@ -100,3 +101,15 @@ returns-clause-takes g c blocks lends all =
     let i = c.loop-i.i in
     let end : length blocks ≤ i = omega (arith, all, c.loop-i-test.false) in
     subst (λ (t : List (List ℕ)). Takes old now c.args.writer.now c.loop-i.writer (concat t)) (take_all i blocks end) (c.loop-i.invariant.takes blocks lends all)
+
+pub returns-in_err-push-clause-asked : goal.returns-in_err-push-clause-asked
+returns-in_err-push-clause-asked g c =
+    let mid = g.F.Files.seen c.loop-i.files in
+    let h = c.requires.lent in
+    let s = c.requires.stands in
+    let t = c.loop-i.invariant.takes h.0 h.1 h.2 s.0 s.1 s.2 s.3 in
+    let stops = c.in_err-push.ensures.stopped (with_reads s.0 mid) s.1 (s.2 ++ concat (take c.loop-i.i h.0)) t in
+    stops_asked c.in_err-push.field-0.0 _ (g.F.Files.seen c.push.new.files) stops.1 ∙ c.loop-i.invariant.calm.asked
+
+pub returns-clause-asked : goal.returns-clause-asked
+returns-clause-asked g c = c.loop-i.invariant.calm.asked

@@ -1,4 +1,4 @@
-use Rattle.std.proofs.Common.{◌≡◌, ℕ, ◌*◌, false, List, [], ◌++◌, Some, None, sym, ◌∙◌, ap, subst}
+use Rattle.std.proofs.Common.{◌≡◌, ℕ, ◌*◌, false, List, [], ◌++◌, Some, None, sym, ◌∙◌, ap, subst, arith}
 use Rattle.std.specs.List.{concat}
 use Rattle.las_header.specs.declared.refusal.Refusal.TheVariants.{BadChunk}
 use Rattle.las_header.specs.Heads.{HeadView}
@@ -6,11 +6,13 @@ use Rattle.las_header.specs.Plain.{plain_head, plain_of}
 use Rattle.las_outside.specs.Faults.{Rose}
 use Rattle.las_outside.specs.Files.{WhereKnown, with_file}
 use Rattle.laz_file.specs.declared.fault.Fault.TheVariants.{Refused, Read, Write}
+use Rattle.laz_file.specs.Asking.{bytes_left}
 use Rattle.laz_file.specs.Copying.{AreOnlyRecords, EndsCopying, LeavesRecords, LeavesUnfinished, plain_output}
 use Rattle.laz_file.specs.Outputs.{Output, finished, stopped}
 use Rattle.laz_file.specs.Reading.{StandsFor}
 use Rattle.laz_file.proofs.Knowing.{known_both, known_then}
 use Rattle.laz_file.proofs.Putting.{if_err}
+use Rattle.laz_file.proofs.Unasked.{created_asked}
 use Rattle.laz_file.proofs.WholeOutputs.{create_left, ends_left, err_at, err_then, finishes, known_reader, leaves, ok_then, plain_out, refuses, stands_ready}
 use Rattle.laz_file.proofs.whole_files.unpack.Goals as goal
 
@@ -116,3 +118,14 @@ returns-clause-write g c is =
     let out : Output = record { name = c.args.output.now; head = c.in_ok-head.head.bytes; chunk = None; counted = false } in
     let e = err_at (EndsCopying mid.held old.held mid new c.crew.new.self out []) c.fill.result Write (c.fill.ensures.ends old out [] c.in_ok-writer.ensures.stands) is in
     subst (λ (n : ℕ). Rose n new.write_faults) c.in_ok-writer.ensures.calm.writes e.0
+
+pub returns-in_err-writer-clause-asked : goal.returns-in_err-writer-clause-asked
+returns-in_err-writer-clause-asked g c =
+    let old = g.F.Files.seen c.args.files.now in
+    let same = created_asked c.create.result old (g.F.Files.seen c.create.new.files) c.args.output.now _ c.create.ensures.calm c.create.ensures.stopped in
+    omega (arith, same)
+
+pub returns-clause-asked : goal.returns-clause-asked
+returns-clause-asked g c =
+    let same : bytes_left c.crew.new.self ≡ bytes_left c.args.reader = ap bytes_left c.in_ok-crew.ensures.kept in
+    omega (arith, same, c.in_ok-writer.ensures.calm.asked, c.fill.ensures.asked)
