@@ -55,3 +55,4 @@ pub mod WholeOutputs
 pub mod RangeLaws
 pub mod Slices
 pub mod SliceLaw
+mod OneBlock

@@ -17,7 +17,8 @@ use Rattle.laz_file.specs.Outputs.{Output, finished, records_after}
 use Rattle.laz_file.specs.Packing.{chunk_blocks, chunks_of, pack, packed_file}
 use Rattle.laz_file.specs.Pieces.{ArePieces, Piece, piece_bytes, pieces_from}
 use Rattle.laz_file.specs.Ranges.{Range, first_of, parts_of, whole_range}
-use Rattle.laz_file.specs.Records.{HoldOnly, AreRecordsIn, AreRecordsOf, HoldBlocks, IsBadPiece, Unpacks, moved}
+use Rattle.laz_file.specs.Records.{HoldOnly, AreRecordsIn, AreRecordsOf, HoldBlocks, HoldsBlock, IsBadPiece, Unpacks}
+use Rattle.laz_file.specs.Records.{moved}
 use Rattle.laz_file.specs.Refusing.{IsAcceptedFile, IsRefusal, chunks_place}
 
 -- A file is refused for at most one cause.
@@ -105,6 +106,21 @@ IsReadOnce = (file : List ℕ) (pieces : List Piece) (blocks : List (List ℕ)) 
     → HoldOnly file (pieces_before bad pieces) blocks → IsBadIf bad file pieces
     → (others : List (List ℕ)) (worse : Option ℕ) → AreRecordsOf file others worse
     → (others ≡ blocks) × (worse ≡ bad)
+
+-- Whatever the bytes of a file are, each piece of it holds at most one block of records.
+abbrev pub HasOneBlock : Type 0
+HasOneBlock = (file : List ℕ) (piece : Piece) (one other : List ℕ) → IsBytes file
+    → HoldsBlock file piece one → HoldsBlock file piece other → one ≡ other
+
+-- So a file has at most one list of records, and one first bad piece,
+abbrev pub HasOneRecords : Type 0
+HasOneRecords = (file : List ℕ) (blocks others : List (List ℕ)) (bad worse : Option ℕ) → IsBytes file
+    → AreRecordsOf file blocks bad → AreRecordsOf file others worse → (others ≡ blocks) × (worse ≡ bad)
+
+-- and so has each range of it.
+abbrev pub HasOneInRange : Type 0
+HasOneInRange = (file : List ℕ) (range : Range) (blocks others : List (List ℕ)) (bad worse : Option ℕ) → IsBytes file
+    → AreRecordsIn file range blocks bad → AreRecordsIn file range others worse → (others ≡ blocks) × (worse ≡ bad)
 
 -- The records of the range of all places are the records of the file.
 abbrev pub IsWholeOfAll : Type 0

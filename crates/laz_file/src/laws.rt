@@ -1,9 +1,12 @@
 //! Laws of files, as contracts of functions that do nothing.
 
-ghost use Rattle.laz_file.specs.Laws.{AreCounted, ArePackedChunks, HasNoBadPiece, HasOnePieces, IsAcceptedPack};
+ghost use Rattle.laz_file.specs.Laws.{AreCounted, ArePackedChunks, HasNoBadPiece, HasOneBlock, HasOneInRange};
+ghost use Rattle.laz_file.specs.Laws.{HasOnePieces, HasOneRecords, IsAcceptedPack};
 ghost use Rattle.laz_file.specs.Laws.{IsAcceptedPlain, IsCountedFile, IsFinished, IsItsPlainForm, IsPackedAccepted};
 ghost use Rattle.laz_file.specs.Laws.{IsEmptyRange, IsRangeReadOnce, IsSliceOfRecords, IsWholeOfAll};
 ghost use Rattle.laz_file.specs.Laws.{IsReadOnce, IsRefusedOnce, ReadsBack, ReadsPlain, UnpacksAgain};
+
+use laz_chunk::one_is_held;
 
 /// A file is refused for at most one cause, and has at most one list of pieces. Records that are read of it piece by
 /// piece, if each piece holds one block alone, are its only ones, and so is the first bad piece.
@@ -12,6 +15,16 @@ pub fn files_have_one_answer()
     ensures pieces { HasOnePieces }
     ensures records { IsReadOnce }
 {}
+
+/// Whatever the bytes of a file are, each piece of it holds at most one block of records. So the file has at most one list
+/// of records and one first bad piece, and so has each range of it.
+pub fn records_have_one_answer()
+    ensures blocks { HasOneBlock }
+    ensures records { HasOneRecords }
+    ensures range { HasOneInRange }
+{
+    one_is_held();
+}
 
 /// The records of the range of all places are those of the file. Records of a range that are read piece by piece, if each
 /// piece holds one block alone, are its only ones, and so is the first bad piece that meets it. An empty range meets no
