@@ -177,7 +177,7 @@ fn put_either(times: &mut Times, encoder: &mut Encoder, own: bool, symbol: u32, 
     ensures used { encoder.old.left ≤ encoder.new.left + 21 }
 {
     if own {
-        put_time(times, encoder, time);
+        put_time::<()>(times, encoder, time);
         return;
     }
     put_by(times, encoder, symbol, time);
