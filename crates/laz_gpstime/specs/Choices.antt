@@ -16,6 +16,13 @@ use Rattle.laz_gpstime.specs.Times.{context, model_of, new_symbol, predicted, sa
 abbrev pub Front : Type 0
 Front = ℕ × ℕ
 
+-- The switch of a front, and its symbol.
+abbrev pub switch_of : Front → ℕ
+switch_of x = x.0
+
+abbrev pub symbol_of : Front → ℕ
+symbol_of x = x.1
+
 abbrev pub time_symbol_cuts : TimeState → ℕ → List Cut
 time_symbol_cuts st s = symbol_cut (model_at st.symbols (model_of (difference_of st))) s ∷ []
 
@@ -37,26 +44,34 @@ abbrev pub switch_cuts : TimeState → ℕ → List Cut
 switch_cuts st i = if i == 0 then [] else time_symbol_cuts st (new_symbol (difference_of st) + i)
 
 abbrev pub IsFront : TimeState → Front → Type 0
-IsFront st x = (x.0 < 4) × (x.1 ≤ new_symbol (difference_of (state_on st x.0)))
+IsFront st x = (switch_of x < 4) × (symbol_of x ≤ new_symbol (difference_of (state_on st (switch_of x))))
 
 abbrev pub front_cuts : TimeState → Front → List Cut
-front_cuts st x = switch_cuts st x.0 ++ time_symbol_cuts (state_on st x.0) x.1
+front_cuts st x = switch_cuts st (switch_of x) ++ time_symbol_cuts (state_on st (switch_of x)) (symbol_of x)
 
 abbrev pub front_next : TimeState → Front → TimeState
-front_next st x = symbol_next (state_on st x.0) x.1
+front_next st x = symbol_next (state_on st (switch_of x)) (symbol_of x)
 
 -- ---- what follows symbol s: the width and place of a corrector, and the low word of a new time
 
 abbrev pub Rest : Type 0
 Rest = (ℕ × ℕ) × ℕ
 
+-- The corrector of a rest, and its low word.
+abbrev pub corrector_of : Rest → ℕ × ℕ
+corrector_of y = y.0
+
+abbrev pub low_of : Rest → ℕ
+low_of y = y.1
+
+-- Nothing follows.
 abbrev pub no_rest : Rest
 no_rest = ((0, 0), 0)
 
 abbrev pub IsRest : ℕ → ℕ → Rest → Type 0
 IsRest d s y =
     MatchBool (s == same_symbol d) (y ≡ no_rest)
-    (IsCorrector 32 y.0 × MatchBool (s == new_symbol d) (y.1 < 4294967296) (y.1 ≡ 0))
+    (IsCorrector 32 (corrector_of y) × MatchBool (s == new_symbol d) (low_of y < 4294967296) (low_of y ≡ 0))
 
 abbrev pub word_context : ℕ → ℕ → ℕ
 word_context d s = if s == new_symbol d then 8 else context d s
@@ -68,16 +83,19 @@ abbrev pub rest_cuts : TimeState → ℕ → Rest → List Cut
 rest_cuts st s y =
     let d = difference_of st in
     if s == same_symbol d then []
-    else int_cuts st.integers (word_context d s) y.0.0 y.0.1 ++ (if s == new_symbol d then raw_cuts 32 y.1 else [])
+    else int_cuts st.integers (word_context d s) (corrector_of y).0 (corrector_of y).1
+    ++ (if s == new_symbol d then raw_cuts 32 (low_of y) else [])
 
 abbrev pub word_read : ℕ → ℕ → ℕ → Rest → ℕ
-word_read d from s y = cast_unsigned w32 (corrected 32 (cast_signed w32 (word_predicted d from s)) y.0.0 y.0.1)
+word_read d from s y =
+    let expected = cast_signed w32 (word_predicted d from s)
+    in cast_unsigned w32 (corrected 32 expected (corrector_of y).0 (corrector_of y).1)
 
 -- The time that is read.
 abbrev pub rest_time : ℕ → ℕ → ℕ → Rest → ℕ
 rest_time d from s y =
     if s == same_symbol d then from
-    else if s == new_symbol d then word_read d from s y * 4294967296 + y.1
+    else if s == new_symbol d then word_read d from s y * 4294967296 + low_of y
     else time_plus from (word_read d from s y)
 
 abbrev pub rest_next : TimeState → ℕ → Rest → TimeState
@@ -86,7 +104,9 @@ rest_next st s y =
     record {
       sequences = after_point st.sequences (meaning (model_of d) s) (rest_time d (slot_of st).time s y);
       symbols = st.symbols;
-      integers = if s == same_symbol d then st.integers else int_next st.integers (word_context d s) y.0.0 y.0.1;
+      integers =
+          if s == same_symbol d then st.integers
+          else int_next st.integers (word_context d s) (corrector_of y).0 (corrector_of y).1;
     }
 
 -- ---- all that is read of a time
@@ -94,14 +114,26 @@ rest_next st s y =
 abbrev pub Choice : Type 0
 Choice = Front × Rest
 
+-- What comes first, and what follows it.
+abbrev pub front_of : Choice → Front
+front_of x = x.0
+
+abbrev pub rest_of : Choice → Rest
+rest_of x = x.1
+
 abbrev pub IsChoice : TimeState → Choice → Type 0
-IsChoice st x = IsFront st x.0 × IsRest (difference_of (front_next st x.0)) x.0.1 x.1
+IsChoice st x =
+    let after = front_next st (front_of x)
+    in IsFront st (front_of x) × IsRest (difference_of after) (symbol_of (front_of x)) (rest_of x)
 
 abbrev pub choice_cuts : TimeState → Choice → List Cut
-choice_cuts st x = front_cuts st x.0 ++ rest_cuts (front_next st x.0) x.0.1 x.1
+choice_cuts st x =
+    front_cuts st (front_of x) ++ rest_cuts (front_next st (front_of x)) (symbol_of (front_of x)) (rest_of x)
 
 abbrev pub choice_next : TimeState → Choice → TimeState
-choice_next st x = rest_next (front_next st x.0) x.0.1 x.1
+choice_next st x = rest_next (front_next st (front_of x)) (symbol_of (front_of x)) (rest_of x)
 
 abbrev pub choice_time : TimeState → Choice → ℕ
-choice_time st x = let after = front_next st x.0 in rest_time (difference_of after) (slot_of after).time x.0.1 x.1
+choice_time st x =
+    let after = front_next st (front_of x)
+    in rest_time (difference_of after) (slot_of after).time (symbol_of (front_of x)) (rest_of x)

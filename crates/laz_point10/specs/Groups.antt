@@ -69,7 +69,8 @@ abbrev pub surface_next : SurfaceModels → Predictions → ℕ → ℕ → Surf
 surface_next ms e changes flags x =
     record {
       intensity = word_next (has_bit 16 changes) ms.intensity (intensity_context flags) (intensity_in x);
-      classifications = byte_next (has_bit 8 changes) ms.classifications e.previous.classification (classification_in x);
+      classifications =
+          byte_next (has_bit 8 changes) ms.classifications e.previous.classification (classification_in x);
     }
 
 -- ---- scan angle, user data and point source

@@ -40,32 +40,47 @@ two_next s t bank m x = byte_next t (byte_next s bank m x.0) (m + 1) x.1
 abbrev pub ColourChoice : Type 0
 ColourChoice = ℕ × ((ℕ × ℕ) × ((ℕ × ℕ) × (ℕ × ℕ)))
 
+-- The parts of a choice.
+abbrev pub changes_in : ColourChoice → ℕ
+changes_in x = x.0
+
+abbrev pub red_in : ColourChoice → ℕ × ℕ
+red_in x = x.1.0
+
+abbrev pub low_in : ColourChoice → ℕ × ℕ
+low_in x = x.1.1.0
+
+abbrev pub high_in : ColourChoice → ℕ × ℕ
+high_in x = x.1.1.1
+
 abbrev pub mark_at : ℕ → ℕ → Bool
 mark_at s i = slice_index_or (colour_marks s) i false
 
 abbrev pub IsColourChoice : ColourChoice → Type 0
-IsColourChoice x = (x.0 < 128)
-    × (IsTwo (mark_at x.0 0) (mark_at x.0 1) x.1.0
-    × (IsTwo (mark_at x.0 2) (mark_at x.0 3) x.1.1.0 × IsTwo (mark_at x.0 4) (mark_at x.0 5) x.1.1.1))
+IsColourChoice x = (changes_in x < 128)
+    × (IsTwo (mark_at (changes_in x) 0) (mark_at (changes_in x) 1) (red_in x)
+    × (IsTwo (mark_at (changes_in x) 2) (mark_at (changes_in x) 3) (low_in x)
+    × IsTwo (mark_at (changes_in x) 4) (mark_at (changes_in x) 5) (high_in x)))
 
 abbrev pub after_red : List Counting → ColourChoice → List Counting
-after_red bank x = two_next (mark_at x.0 0) (mark_at x.0 1) (after_changes bank x.0) 1 x.1.0
+after_red bank x =
+    two_next (mark_at (changes_in x) 0) (mark_at (changes_in x) 1) (after_changes bank (changes_in x)) 1 (red_in x)
 
 abbrev pub after_low : List Counting → ColourChoice → List Counting
-after_low bank x = two_next (mark_at x.0 2) (mark_at x.0 3) (after_red bank x) 3 x.1.1.0
+after_low bank x = two_next (mark_at (changes_in x) 2) (mark_at (changes_in x) 3) (after_red bank x) 3 (low_in x)
 
 abbrev pub choice_cuts : List Counting → ColourChoice → List Cut
 choice_cuts bank x =
-    (symbol_cut (model_at bank 0) x.0 ∷ [])
-    ++ (two_cuts (mark_at x.0 0) (mark_at x.0 1) (after_changes bank x.0) 1 x.1.0
-    ++ (two_cuts (mark_at x.0 2) (mark_at x.0 3) (after_red bank x) 3 x.1.1.0
-    ++ two_cuts (mark_at x.0 4) (mark_at x.0 5) (after_low bank x) 5 x.1.1.1))
+    (symbol_cut (model_at bank 0) (changes_in x) ∷ [])
+    ++ (two_cuts (mark_at (changes_in x) 0) (mark_at (changes_in x) 1) (after_changes bank (changes_in x)) 1 (red_in x)
+    ++ (two_cuts (mark_at (changes_in x) 2) (mark_at (changes_in x) 3) (after_red bank x) 3 (low_in x)
+    ++ two_cuts (mark_at (changes_in x) 4) (mark_at (changes_in x) 5) (after_low bank x) 5 (high_in x)))
 
 abbrev pub choice_next : List Counting → ColourChoice → List Counting
-choice_next bank x = two_next (mark_at x.0 4) (mark_at x.0 5) (after_low bank x) 5 x.1.1.1
+choice_next bank x = two_next (mark_at (changes_in x) 4) (mark_at (changes_in x) 5) (after_low bank x) 5 (high_in x)
 
 abbrev pub choice_symbols : ColourChoice → List ℕ
-choice_symbols x = x.1.0.0 ∷ x.1.0.1 ∷ x.1.1.0.0 ∷ x.1.1.0.1 ∷ x.1.1.1.0 ∷ x.1.1.1.1 ∷ []
+choice_symbols x = (red_in x).0 ∷ (red_in x).1 ∷ (low_in x).0 ∷ (low_in x).1 ∷ (high_in x).0 ∷ (high_in x).1 ∷ []
 
 -- the colour of these bytes
 abbrev pub colour_with : ℕ → ℕ × ℕ → ℕ × ℕ → ℕ × ℕ → Colour
