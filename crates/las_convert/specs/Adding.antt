@@ -1,6 +1,6 @@
 -- Records that are kept, some after others, and that a writer takes and taps see.
-use Rattle.std.specs.Prelude.{◌≡◌, ℕ, ◌+◌, ◌*◌, ◌/◌, ◌%◌, ◌^◌, ◌≤◌, Bool, true, false, if◌then◌else◌, List, ◌++◌, length}
-use Rattle.std.specs.Prelude.{map, All, Option, Some, None}
+use Rattle.std.specs.Prelude.{◌≡◌, ℕ, ◌+◌, ◌*◌, ◌/◌, ◌%◌, ◌^◌, ◌≤◌, Bool, true, false, if◌then◌else◌, List, []}
+use Rattle.std.specs.Prelude.{◌++◌, length, map, All, Option, Some, None}
 use Rattle.std.specs.List.{concat}
 use Rattle.las_header.specs.declared.refusal.Refusal.{Refusal}
 use Rattle.las_header.specs.declared.refusal.Refusal.TheVariants.{RawRange}
@@ -53,6 +53,15 @@ pub record IsAfter (plan : Steps) (looked : List Placed) (before : List (List �
     : Type 0 where
   pub read_is : length before ≡ read
   pub stands : (sieving.settings ≡ all_pass → ⊥) → sieve.StandsFor looked (passing plan before) sieving
+
+-- What is kept by the sieve after any records that may have passed by it, and after none, is such.
+abbrev pub AfterAny : Steps → Sieving → (read : ℕ) → (Keeping → (before : List (List ℕ)) → Type 0) → Type 0
+AfterAny plan sieving read Is = (looked : List Placed) (before : List (List ℕ))
+    → IsAfter plan looked before sieving read → Is (kept_by sieving.settings looked plan) before
+
+abbrev pub AfterNone : Steps → Sieving → (read : ℕ) → (Keeping → Type 0) → Type 0
+AfterNone plan sieving read Is = (looked : List Placed)
+    → IsAfter plan looked [] sieving read → Is (kept_by sieving.settings looked plan)
 
 -- A reader and its crew lend these blocks, so many, each of whole records.
 pub record IsLent (reader : ReaderSeen) (crew : List (HandSeen Format)) (size count : ℕ) (blocks : List (List ℕ))

@@ -78,8 +78,8 @@ ConvertsBy First = ConvertsOnce
 ConvertsBy Lowest = ConvertsTwice
 ConvertsBy Highest = ConvertsTwice
 
--- The records that a plan keeps, behind a sieve, of a range of an accepted file, one after another, and the refusal that
--- ends them, if there is one.
+-- The records that a plan keeps, behind a sieve, of a range of an accepted file, one after another, and the refusal
+-- that ends them, if there is one.
 abbrev pub ConvertsTo : Steps → Settings → (file : List ℕ) → Range → (records : List ℕ) → Option Refusal → Type 0
 ConvertsTo plan settings = ConvertsBy settings.pick (kept_behind plan settings)
 

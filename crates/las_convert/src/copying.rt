@@ -1,6 +1,6 @@
 //! Records that go from a reader through a plan, a sieve and taps into a writer.
-ghost use Rattle.std.specs.Prelude.{◌≡◌, ◌≢◌, ◌%◌, ◌*◌, ◌+◌, ◌/◌, ◌^◌, ◌≤◌, ◌<◌, ◌++◌, [], ℕ, Bool, List, length, All, false};
-ghost use Rattle.std.specs.Prelude.{IfErr, IfOk, OnErr, OnOk, map, true, vec_len};
+ghost use Rattle.std.specs.Prelude.{◌≡◌, ◌≢◌, ◌%◌, ◌*◌, ◌+◌, ◌/◌, ◌^◌, ◌≤◌, ◌<◌, ◌++◌, [], ℕ, Bool, List};
+ghost use Rattle.std.specs.Prelude.{All, IfErr, IfOk, OnErr, OnOk, false, length, map};
 ghost use Rattle.std.specs.List.{concat};
 ghost use Rattle.las_filter.specs.Changes.{HasClass};
 ghost use Rattle.las_filter.specs.Kept.{steps_of};
@@ -12,8 +12,8 @@ ghost use Rattle.laz_file.specs.Asking.{bytes_left};
 ghost use Rattle.laz_file.specs.Outputs.{Output};
 ghost use Rattle.laz_file.specs.Reading.{IsCrewOf, Lends, StandsFor};
 ghost use Rattle.laz_file.specs.Writing.{SameFaults, Stands};
-ghost use Rattle.las_convert.specs.Adding.{EndsKeeping, Goes, HaveCounted, IsAfter, IsLent, LeavesKept};
-ghost use Rattle.las_convert.specs.Adding.{cut_all, kept_by};
+ghost use Rattle.las_convert.specs.Adding.{AfterAny, AfterNone, EndsKeeping, Goes, HaveCounted, IsAfter, IsLent};
+ghost use Rattle.las_convert.specs.Adding.{LeavesKept, cut_all};
 
 use crate::passage::Passage;
 use las_filter::Plan;
@@ -56,19 +56,16 @@ fn push_kept<R: Threads + Sync, F: Files, G: Gate>(
     requires room { writer.old.taken + length block.now ≤ writer.old.size * writer.old.most }
     requires stands { (before : Outside) × (out : Output) × (bytes : List ℕ)
         × Stands before (F.seen files.old) writer.old out bytes }
-    ensures goes { (looked : List Placed) (before : List (List ℕ))
-        → IsAfter (steps_of plan.now) looked before passage.old.sieve passage.old.read
-        → IfOk result (λ taken. Goes (kept_by passage.old.sieve.settings looked (steps_of plan.now)) before size block.now
-        (F.seen files.old) (F.seen files.new) writer.old writer.new (map (λ tap. tap_seen tap) passage.old.taps.items)
-        (map (λ tap. tap_seen tap) passage.new.taps.items) taken.kept taken.refused) }
+    ensures goes { AfterAny (steps_of plan.now) passage.old.sieve passage.old.read (λ keeping before.
+        IfOk result (λ taken. Goes keeping before size block.now (F.seen files.old) (F.seen files.new) writer.old
+        writer.new (map (λ tap. tap_seen tap) passage.old.taps.items)
+        (map (λ tap. tap_seen tap) passage.new.taps.items) taken.kept taken.refused)) }
     ensures after { (looked : List Placed) (before : List (List ℕ))
         → IsAfter (steps_of plan.now) looked before passage.old.sieve passage.old.read
         → IfOk result (λ taken. taken.refused ≡ false → IsAfter (steps_of plan.now) looked
         (before ++ cut_all size block.now) passage.new.sieve passage.new.read) }
-    ensures left { (looked : List Placed) (before : List (List ℕ))
-        → IsAfter (steps_of plan.now) looked before passage.old.sieve passage.old.read → OnErr result
-        (LeavesKept (kept_by passage.old.sieve.settings looked (steps_of plan.now)) before size block.now
-        (F.seen files.old) (F.seen files.new) writer.old) }
+    ensures left { AfterAny (steps_of plan.now) passage.old.sieve passage.old.read (λ keeping before. OnErr result
+        (LeavesKept keeping before size block.now (F.seen files.old) (F.seen files.new) writer.old)) }
     ensures settings { passage.new.sieve.settings ≡ passage.old.sieve.settings }
     ensures read { OnOk result (passage.new.read ≡ passage.old.read + length block.now / size) }
     ensures most { writer.new.most ≡ writer.old.most }
@@ -87,8 +84,8 @@ fn push_kept<R: Threads + Sync, F: Files, G: Gate>(
     })
 }
 
-// Filters, sifts, changes, pushes and shows the records of a batch, which a reader and its crew lend, in order, up to the
-// first whose change is refused.
+// Filters, sifts, changes, pushes and shows the records of a batch, which a reader and its crew lend, in order, up to
+// the first whose change is refused.
 fn push_batch<R: Threads + Sync, F: Files, G: Gate>(
     rt: &R,
     alloc: Global,
@@ -114,23 +111,18 @@ fn push_batch<R: Threads + Sync, F: Files, G: Gate>(
     requires same { writer.old.size ≡ size }
     requires stands { (before : Outside) × (out : Output) × (bytes : List ℕ)
         × Stands before (F.seen files.old) writer.old out bytes }
-    ensures goes { (looked : List Placed) (before blocks : List (List ℕ))
-        → IsAfter (steps_of plan.now) looked before passage.old.sieve passage.old.read
-        → IsLent reader.now crew.now size count blocks
-        → IfOk result (λ taken. Goes (kept_by passage.old.sieve.settings looked (steps_of plan.now)) before size
-        (concat blocks) (F.seen files.old) (F.seen files.new) writer.old writer.new
-        (map (λ tap. tap_seen tap) passage.old.taps.items) (map (λ tap. tap_seen tap) passage.new.taps.items) taken.kept
-        taken.refused) }
+    ensures goes { AfterAny (steps_of plan.now) passage.old.sieve passage.old.read (λ keeping before.
+        (blocks : List (List ℕ)) → IsLent reader.now crew.now size count blocks → IfOk result (λ taken. Goes keeping
+        before size (concat blocks) (F.seen files.old) (F.seen files.new) writer.old writer.new
+        (map (λ tap. tap_seen tap) passage.old.taps.items) (map (λ tap. tap_seen tap) passage.new.taps.items)
+        taken.kept taken.refused)) }
     ensures after { (looked : List Placed) (before blocks : List (List ℕ))
         → IsAfter (steps_of plan.now) looked before passage.old.sieve passage.old.read
-        → IsLent reader.now crew.now size count blocks
-        → IfOk result (λ taken. taken.refused ≡ false → IsAfter (steps_of plan.now) looked
-        (before ++ cut_all size (concat blocks)) passage.new.sieve passage.new.read) }
-    ensures left { (looked : List Placed) (before blocks : List (List ℕ))
-        → IsAfter (steps_of plan.now) looked before passage.old.sieve passage.old.read
-        → IsLent reader.now crew.now size count blocks → OnErr result
-        (LeavesKept (kept_by passage.old.sieve.settings looked (steps_of plan.now)) before size (concat blocks)
-        (F.seen files.old) (F.seen files.new) writer.old) }
+        → IsLent reader.now crew.now size count blocks → IfOk result (λ taken. taken.refused ≡ false → IsAfter
+        (steps_of plan.now) looked (before ++ cut_all size (concat blocks)) passage.new.sieve passage.new.read) }
+    ensures left { AfterAny (steps_of plan.now) passage.old.sieve passage.old.read (λ keeping before.
+        (blocks : List (List ℕ)) → IsLent reader.now crew.now size count blocks → OnErr result
+        (LeavesKept keeping before size (concat blocks) (F.seen files.old) (F.seen files.new) writer.old)) }
     ensures settings { passage.new.sieve.settings ≡ passage.old.sieve.settings }
     ensures most { writer.new.most ≡ writer.old.most }
     ensures open { OnOk result (writer.new.failed ≡ false) }
@@ -193,19 +185,15 @@ pub(crate) fn convert_records<R: Threads + Sync, F: Files, G: Gate>(
     requires room { CanTake reader.old writer.old }
     requires stands { (before : Outside) × (out : Output) × (bytes : List ℕ)
         × Stands before (F.seen files.old) writer.old out bytes }
-    ensures converted { (looked : List Placed)
-        → IsAfter (steps_of plan.now) looked [] passage.old.sieve passage.old.read → IfOk result (λ end. (n : ℕ)
-        × (blocks : List (List ℕ)) × (count : ℕ) × (refused : Bool)
+    ensures converted { AfterNone (steps_of plan.now) passage.old.sieve passage.old.read (λ keeping.
+        IfOk result (λ end. (n : ℕ) × (blocks : List (List ℕ)) × (count : ℕ) × (refused : Bool)
         × HoldFirst (F.seen files.old).held reader.old n blocks
-        × Goes (kept_by passage.old.sieve.settings looked (steps_of plan.now)) [] writer.old.size (concat blocks)
-        (F.seen files.old) (F.seen files.new) writer.old writer.new (map (λ tap. tap_seen tap) passage.old.taps.items)
-        (map (λ tap. tap_seen tap) passage.new.taps.items) count refused
-        × EndsKeeping (F.seen files.old).held reader.old n count refused end) }
-    ensures left { (looked : List Placed)
-        → IsAfter (steps_of plan.now) looked [] passage.old.sieve passage.old.read → OnErr result ((n : ℕ)
+        × Goes keeping [] writer.old.size (concat blocks) (F.seen files.old) (F.seen files.new) writer.old writer.new
+        (map (λ tap. tap_seen tap) passage.old.taps.items) (map (λ tap. tap_seen tap) passage.new.taps.items) count
+        refused × EndsKeeping (F.seen files.old).held reader.old n count refused end)) }
+    ensures left { AfterNone (steps_of plan.now) passage.old.sieve passage.old.read (λ keeping. OnErr result ((n : ℕ)
         × (blocks : List (List ℕ)) × HoldFirst (F.seen files.old).held reader.old n blocks
-        × LeavesKept (kept_by passage.old.sieve.settings looked (steps_of plan.now)) [] writer.old.size (concat blocks)
-        (F.seen files.old) (F.seen files.new) writer.old) }
+        × LeavesKept keeping [] writer.old.size (concat blocks) (F.seen files.old) (F.seen files.new) writer.old)) }
     ensures open { OnOk result (writer.new.failed ≡ false) }
     ensures cause { IfErr result (HasCause (F.seen files.old) (F.seen files.new)) }
     ensures reads_calm { OnOk result ((F.seen files.new).read_faults ≡ (F.seen files.old).read_faults) }

@@ -1,6 +1,6 @@
 //! Ranges of records, or whole files, through a plan, a sieve and taps.
-ghost use Rattle.std.specs.Prelude.{◌≡◌, ◌≢◌, ◌⊎◌, ◌+◌, ◌^◌, ◌≤◌, ◌<◌, ◌++◌, [], ℕ, List, Option, All, false, None, Some, map};
-ghost use Rattle.std.specs.Prelude.{IfErr, IfOk};
+ghost use Rattle.std.specs.Prelude.{◌≡◌, ◌≢◌, ◌⊎◌, ◌+◌, ◌^◌, ◌≤◌, ◌<◌, [], ℕ, List, Option};
+ghost use Rattle.std.specs.Prelude.{All, IfErr, IfOk, None, Some, false, map};
 ghost use Rattle.std.specs.Prelude.{IsErrOf, OnOk};
 ghost use Rattle.std.specs.Option.{ForSome};
 ghost use Rattle.las_header.specs.declared.refusal.Refusal.{Refusal};
@@ -20,7 +20,7 @@ ghost use Rattle.laz_file.specs.Asking.{bytes_left};
 ghost use Rattle.laz_file.specs.Outputs.{Output, finished, records_after, stopped};
 ghost use Rattle.laz_file.specs.Reading.{AgreesWithHead, IsCrewOf, IsFreshReader, StandsFor};
 ghost use Rattle.laz_file.specs.Writing.{SameFaults, Stands};
-ghost use Rattle.las_convert.specs.Adding.{HaveCounted, IsAfter, kept_by};
+ghost use Rattle.las_convert.specs.Adding.{AfterNone, HaveCounted, IsAfter};
 ghost use Rattle.las_convert.specs.Converting.{ConvertsTo, EndsConverting, FinishesKept, IsReady, OnlyConverts};
 ghost use Rattle.las_convert.specs.Converting.{converted_output};
 ghost use Rattle.las_convert.specs.Converting.{output_of};
@@ -99,17 +99,14 @@ fn fill<R: Threads + Sync, F: Files, G: Gate>(
     requires room { CanTake reader.old writer }
     requires stands { (before : Outside) × (out : Output) × (bytes : List ℕ)
         × Stands before (F.seen files.old) writer out bytes }
-    ensures finished { (looked : List Placed) (before : Outside) (out : Output) (bytes : List ℕ)
-        → IsAfter (steps_of plan.now) looked [] passage.old.sieve passage.old.read
-        → Stands before (F.seen files.old) writer out bytes
-        → OnOk result (FinishesKept (F.seen files.old).held before.held (F.seen files.new).held
-        (kept_by passage.old.sieve.settings looked (steps_of plan.now)) reader.old out bytes
-        (map (λ tap. tap_seen tap) passage.old.taps.items) (map (λ tap. tap_seen tap) passage.new.taps.items)) }
-    ensures ends { (looked : List Placed) (before : Outside) (out : Output) (bytes : List ℕ)
-        → IsAfter (steps_of plan.now) looked [] passage.old.sieve passage.old.read
-        → Stands before (F.seen files.old) writer out bytes
+    ensures finished { AfterNone (steps_of plan.now) passage.old.sieve passage.old.read (λ keeping. (before : Outside)
+        (out : Output) (bytes : List ℕ) → Stands before (F.seen files.old) writer out bytes
+        → OnOk result (FinishesKept (F.seen files.old).held before.held (F.seen files.new).held keeping reader.old out
+        bytes (map (λ tap. tap_seen tap) passage.old.taps.items) (map (λ tap. tap_seen tap) passage.new.taps.items))) }
+    ensures ends { AfterNone (steps_of plan.now) passage.old.sieve passage.old.read (λ keeping. (before : Outside)
+        (out : Output) (bytes : List ℕ) → Stands before (F.seen files.old) writer out bytes
         → IfErr result (EndsConverting (F.seen files.old).held before.held (F.seen files.old) (F.seen files.new)
-        (kept_by passage.old.sieve.settings looked (steps_of plan.now)) reader.old out bytes) }
+        keeping reader.old out bytes)) }
     ensures reads_calm { OnOk result ((F.seen files.new).read_faults ≡ (F.seen files.old).read_faults) }
     ensures writes_calm { OnOk result ((F.seen files.new).write_faults ≡ (F.seen files.old).write_faults) }
     ensures later { Later (F.seen files.old) (F.seen files.new) }

@@ -1,13 +1,13 @@
 //! The records of one block that are kept.
-ghost use Rattle.std.specs.Prelude.{◌≡◌, ◌↔◌, ◌+◌, ◌*◌, ◌/◌, ◌%◌, ◌^◌, ◌≤◌, ◌<◌, ◌++◌, ◌∷◌, [], ℕ, List, length, take};
-ghost use Rattle.std.specs.Prelude.{All, IfOk, IsErr, OnOk, None, Some, false};
+ghost use Rattle.std.specs.Prelude.{◌≡◌, ◌↔◌, ◌+◌, ◌*◌, ◌/◌, ◌%◌, ◌^◌, ◌≤◌, ◌<◌, ◌++◌, ◌∷◌, [], ℕ, List};
+ghost use Rattle.std.specs.Prelude.{All, IfOk, IsErr, OnOk, None, Some, false, length, take};
 ghost use Rattle.std.specs.List.{concat};
 ghost use Rattle.las_filter.specs.Changes.{HasClass, changed};
 ghost use Rattle.las_filter.specs.Kept.{steps_of};
 ghost use Rattle.las_thin.specs.Kept.{passing};
 ghost use Rattle.las_thin.specs.Placed.{Placed};
 ghost use Rattle.las_thin.specs.Sieving.{StandsFor};
-ghost use Rattle.las_convert.specs.Adding.{Adds, AddsAlways, IsAfter, cut_all, kept_by};
+ghost use Rattle.las_convert.specs.Adding.{Adds, AddsAlways, AfterAny, IsAfter, cut_all, kept_by};
 ghost use Rattle.las_convert.specs.Passing.{passes_after};
 
 use las_filter::{Plan, RawRange};
@@ -91,8 +91,8 @@ fn keep_plain(plan: &Plan, size: usize, block: &[u8], buffer: &mut [u8]) -> Part
     }
 }
 
-// Whether a record passes the filters of a plan, and then a sieve, which is not asked otherwise. Its place is its number
-// among the records, those included that the filters drop. `Err` means out of memory.
+// Whether a record passes the filters of a plan, and then a sieve, which is not asked otherwise. Its place is its
+// number among the records, those included that the filters drop. `Err` means out of memory.
 fn passes(plan: &Plan, sieve: &mut Sieve, place: u64, point: &[u8]) -> Result<bool, AllocError>
     requires long { POINT_RECORD ≤ length point.now }
     requires asked { (looked : List Placed) × (before : List (List ℕ)) × (length before ≡ place)
@@ -134,7 +134,8 @@ fn keep_sifted(
         → StandsFor looked (passing (steps_of plan.now) before) sieve.old
         → IfOk result (λ part. (ones : List (List ℕ)) × (take part.length buffer.new ≡ concat ones)
         × (part.length ≡ size * length ones)
-        × Adds (kept_by sieve.old.settings looked (steps_of plan.now)) before (cut_all size block.now) ones part.refused) }
+        × Adds (kept_by sieve.old.settings looked (steps_of plan.now)) before (cut_all size block.now) ones
+        part.refused) }
     ensures stands { (looked : List Placed) (before : List (List ℕ)) → length before ≡ read
         → StandsFor looked (passing (steps_of plan.now) before) sieve.old
         → IfOk result (λ part. part.refused ≡ false
@@ -185,11 +186,9 @@ pub(crate) fn keep_records(
         × IsAfter (steps_of plan.now) looked before sieve.old read }
     ensures settings { sieve.new.settings ≡ sieve.old.settings }
     ensures within { IfOk result (λ part. part.length ≤ length block.now) }
-    ensures kept { (looked : List Placed) (before : List (List ℕ))
-        → IsAfter (steps_of plan.now) looked before sieve.old read
-        → IfOk result (λ part. (ones : List (List ℕ)) × (take part.length buffer.new ≡ concat ones)
-        × (part.length ≡ size * length ones)
-        × Adds (kept_by sieve.old.settings looked (steps_of plan.now)) before (cut_all size block.now) ones part.refused) }
+    ensures kept { AfterAny (steps_of plan.now) sieve.old read (λ keeping before. IfOk result (λ part.
+        (ones : List (List ℕ)) × (take part.length buffer.new ≡ concat ones) × (part.length ≡ size * length ones)
+        × Adds keeping before (cut_all size block.now) ones part.refused)) }
     ensures after { (looked : List Placed) (before : List (List ℕ))
         → IsAfter (steps_of plan.now) looked before sieve.old read
         → IfOk result (λ part. part.refused ≡ false → IsAfter (steps_of plan.now) looked

@@ -1,6 +1,6 @@
 //! The first of two readings: a sieve looks at the records of a range.
-ghost use Rattle.std.specs.Prelude.{◌≡◌, ◌%◌, ◌+◌, ◌/◌, ◌^◌, ◌≤◌, ◌<◌, ◌++◌, ◌∷◌, [], ℕ, List, length, All, Some, None, false};
-ghost use Rattle.std.specs.Prelude.{IfErr, IfOk, IsErrOf, OnOk};
+ghost use Rattle.std.specs.Prelude.{◌≡◌, ◌%◌, ◌+◌, ◌/◌, ◌^◌, ◌≤◌, ◌<◌, ◌++◌, ◌∷◌, [], ℕ, List, length};
+ghost use Rattle.std.specs.Prelude.{IfErr, IfOk, IsErrOf, OnOk, Some, false};
 ghost use Rattle.std.specs.List.{concat};
 ghost use Rattle.las_header.specs.declared.refusal.Refusal.{Refusal};
 ghost use Rattle.las_header.specs.declared.refusal.Refusal.TheVariants.{BadChunk};
@@ -15,7 +15,8 @@ ghost use Rattle.laz_file.specs.declared.fault.Fault.TheVariants.{Read, Refused,
 ghost use Rattle.laz_file.specs.Asking.{bytes_left};
 ghost use Rattle.laz_file.specs.Copying.{EndsAfter, HoldFirst};
 ghost use Rattle.laz_file.specs.Outputs.{records_after};
-ghost use Rattle.laz_file.specs.Reading.{AgreesWithHead, EndsReading, IsCrewOf, IsFreshReader, Lends, StandsFor, records_in};
+ghost use Rattle.laz_file.specs.Reading.{AgreesWithHead, EndsReading, IsCrewOf, IsFreshReader, StandsFor};
+ghost use Rattle.laz_file.specs.Reading.{records_in};
 ghost use Rattle.las_convert.specs.Adding.{IsLent, cut_all};
 ghost use Rattle.las_convert.specs.Converting.{IsReady, OnlyConverts};
 
@@ -65,7 +66,8 @@ fn look_block(
     ensures settings { sieve.new.settings ≡ sieve.old.settings }
     ensures stands { (before : List (List ℕ)) → length before ≡ read
         → sifting.StandsFor (passing (steps_of plan.now) before) [] sieve.old
-        → OnOk result (sifting.StandsFor (passing (steps_of plan.now) (before ++ cut_all size block.now)) [] sieve.new) }
+        → OnOk result
+        (sifting.StandsFor (passing (steps_of plan.now) (before ++ cut_all size block.now)) [] sieve.new) }
 {
     let mut rest = block;
     let mut place = read;

@@ -1,12 +1,12 @@
 //! What records pass on their way to an output.
-ghost use Rattle.std.specs.Prelude.{◌≡◌, ◌+◌, ◌*◌, ◌/◌, ◌%◌, ◌^◌, ◌≤◌, ◌<◌, ◌++◌, [], ℕ, List, length, take, map, vec_len};
-ghost use Rattle.std.specs.Prelude.{All, IfOk, OnErr, OnOk, false};
+ghost use Rattle.std.specs.Prelude.{◌≡◌, ◌+◌, ◌*◌, ◌/◌, ◌%◌, ◌^◌, ◌≤◌, ◌<◌, ◌++◌, ℕ, List, length, take, map};
+ghost use Rattle.std.specs.Prelude.{All, IfOk, OnOk, false, vec_len};
 ghost use Rattle.std.specs.List.{concat};
 ghost use Rattle.las_filter.specs.Changes.{HasClass};
 ghost use Rattle.las_filter.specs.Kept.{steps_of};
 ghost use Rattle.las_info.specs.Tallies.{count_at, shown_all};
 ghost use Rattle.las_thin.specs.Placed.{Placed};
-ghost use Rattle.las_convert.specs.Adding.{Adds, IsAfter, cut_all, kept_by};
+ghost use Rattle.las_convert.specs.Adding.{Adds, AfterAny, IsAfter, cut_all};
 
 use crate::keeping::{Part, keep_records};
 use las_filter::Plan;
@@ -81,12 +81,10 @@ impl Passage {
         ensures within { IfOk result (λ part. part.length ≤ length block.now) }
         ensures long { IfOk result (λ part. part.length ≤ vec_len self.new.buffer) }
         ensures read { OnOk result (self.new.read ≡ self.old.read + length block.now / size) }
-        ensures kept { (looked : List Placed) (before : List (List ℕ))
-            → IsAfter (steps_of plan.now) looked before self.old.sieve self.old.read
-            → IfOk result (λ part. (ones : List (List ℕ)) × (take part.length self.new.buffer.items ≡ concat ones)
+        ensures kept { AfterAny (steps_of plan.now) self.old.sieve self.old.read (λ keeping before.
+            IfOk result (λ part. (ones : List (List ℕ)) × (take part.length self.new.buffer.items ≡ concat ones)
             × (part.length ≡ size * length ones)
-            × Adds (kept_by self.old.sieve.settings looked (steps_of plan.now)) before (cut_all size block.now) ones
-            part.refused) }
+            × Adds keeping before (cut_all size block.now) ones part.refused)) }
         ensures after { (looked : List Placed) (before : List (List ℕ))
             → IsAfter (steps_of plan.now) looked before self.old.sieve self.old.read
             → IfOk result (λ part. part.refused ≡ false → IsAfter (steps_of plan.now) looked
@@ -126,7 +124,8 @@ impl Passage {
 fn show_taps(taps: &mut Vec<Box<dyn Tap>>, size: usize, block: &[u8]) -> Result<(), AllocError>
     requires size { POINT_RECORD ≤ size }
     requires whole { length block.now % size ≡ 0 }
-    requires room { All (λ tap. (bin : ℕ) → count_at (tap_seen tap).tally bin + length block.now / size < 2 ^ 64) taps.old.items }
+    requires room { All (λ tap. (bin : ℕ) → count_at (tap_seen tap).tally bin + length block.now / size < 2 ^ 64)
+        taps.old.items }
     ensures shown { OnOk result (map (λ tap. tap_seen tap) taps.new.items
         ≡ map (λ tap. shown_all (tap_seen tap) (cut_all size block.now)) taps.old.items) }
 {

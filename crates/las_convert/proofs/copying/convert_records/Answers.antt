@@ -197,7 +197,7 @@ returns-in_err-taken-clause-left g c looked is =
     let has = read_more old.held first reader next done.0 n done.1 b.0 done.2 more in
     let past = cut_all w.size (concat done.1) in
     let new = g.F.Files.seen c.push_batch.new.files in
-    let one = subst (λ (t : Settings). LeavesKept (kept_by t looked plan) past c.from-size.result (concat b.0) later new v) c.batches.invariant.settings (c.in_err-taken.ensures.left looked past b.0 done.4 lent) in
+    let one = subst (λ (t : Settings). LeavesKept (kept_by t looked plan) past c.from-size.result (concat b.0) later new v) c.batches.invariant.settings (c.in_err-taken.ensures.left looked past done.4 b.0 lent) in
     let part = subst (λ (size : ℕ). LeavesKept keeping past size (concat b.0) later new v) same one in
     on_err c.from_residual.result (
       done.0 + n,
@@ -248,7 +248,7 @@ overflow_add-kept g c =
     let k = c.in_ok-taken.taken.kept in
     let r = c.in_ok-taken.taken.refused in
     let one = subst (λ (t : Settings). Goes (kept_by t c.requires.after.0 plan) past c.from-size.result (concat b.0) later new v u (map (λ tap. (goal.Tap-dyn g (tap.vtable, tap.value)).tap_seen tap.value) c.batches.passage.taps.items) (map (λ tap. (goal.Tap-dyn g (tap.vtable, tap.value)).tap_seen tap.value) c.push_batch.new.passage.taps.items) k r) c.batches.invariant.settings
-    (c.in_ok-taken.ensures.goes c.requires.after.0 past b.0 done.4 lent) in
+    (c.in_ok-taken.ensures.goes c.requires.after.0 past done.4 b.0 lent) in
     let here = subst (λ (size : ℕ). Goes keeping past size (concat b.0) later new v u (map (λ tap. (goal.Tap-dyn g (tap.vtable, tap.value)).tap_seen tap.value) c.batches.passage.taps.items) (map (λ tap. (goal.Tap-dyn g (tap.vtable, tap.value)).tap_seen tap.value) c.push_batch.new.passage.taps.items) k r) same one in
     let all = subst (λ (t : List ℕ). Goes keeping [] w.size t old new w u (map (λ tap. (goal.Tap-dyn g (tap.vtable, tap.value)).tap_seen tap.value) c.args.passage.now.taps.items) (map (λ tap. (goal.Tap-dyn g (tap.vtable, tap.value)).tap_seen tap.value) c.push_batch.new.passage.taps.items) (c.batches.kept + k) r) (sym (concat-append done.1 b.0))
     (goes_then keeping [] w.size some (concat done.1) (concat b.0) old later new w v u c.batches.kept k r before read here) in
@@ -288,7 +288,7 @@ returns-then-taken-clause-converted g c looked is =
     let k = c.in_ok-taken.taken.kept in
     let r = c.in_ok-taken.taken.refused in
     let one = subst (λ (t : Settings). Goes (kept_by t looked plan) past c.from-size.result (concat b.0) later new v u (map (λ tap. (goal.Tap-dyn g (tap.vtable, tap.value)).tap_seen tap.value) c.batches.passage.taps.items) (map (λ tap. (goal.Tap-dyn g (tap.vtable, tap.value)).tap_seen tap.value) c.push_batch.new.passage.taps.items) k r) c.batches.invariant.settings
-    (c.in_ok-taken.ensures.goes looked past b.0 done.4 lent) in
+    (c.in_ok-taken.ensures.goes looked past done.4 b.0 lent) in
     let here = subst (λ (size : ℕ). Goes keeping past size (concat b.0) later new v u (map (λ tap. (goal.Tap-dyn g (tap.vtable, tap.value)).tap_seen tap.value) c.batches.passage.taps.items) (map (λ tap. (goal.Tap-dyn g (tap.vtable, tap.value)).tap_seen tap.value) c.push_batch.new.passage.taps.items) k r) same one in
     let all = subst (λ (t : List ℕ). Goes keeping [] w.size t old new w u (map (λ tap. (goal.Tap-dyn g (tap.vtable, tap.value)).tap_seen tap.value) c.args.passage.now.taps.items) (map (λ tap. (goal.Tap-dyn g (tap.vtable, tap.value)).tap_seen tap.value) c.push_batch.new.passage.taps.items) (c.batches.kept + k) r) (sym (concat-append done.1 b.0))
     (goes_then keeping [] w.size some (concat done.1) (concat b.0) old later new w v u c.batches.kept k r before read here) in (
@@ -335,7 +335,7 @@ batches-preserved g c =
     let k = c.in_ok-taken.taken.kept in
     let r = c.in_ok-taken.taken.refused in
     let one = subst (λ (t : Settings). Goes (kept_by t c.requires.after.0 plan) past c.from-size.result (concat b.0) later new v u (map (λ tap. (goal.Tap-dyn g (tap.vtable, tap.value)).tap_seen tap.value) c.batches.passage.taps.items) (map (λ tap. (goal.Tap-dyn g (tap.vtable, tap.value)).tap_seen tap.value) c.push_batch.new.passage.taps.items) k r) c.batches.invariant.settings
-    (c.in_ok-taken.ensures.goes c.requires.after.0 past b.0 done.4 lent) in
+    (c.in_ok-taken.ensures.goes c.requires.after.0 past done.4 b.0 lent) in
     let here = subst (λ (size : ℕ). Goes keeping past size (concat b.0) later new v u (map (λ tap. (goal.Tap-dyn g (tap.vtable, tap.value)).tap_seen tap.value) c.batches.passage.taps.items) (map (λ tap. (goal.Tap-dyn g (tap.vtable, tap.value)).tap_seen tap.value) c.push_batch.new.passage.taps.items) k r) same one in
     let all = subst (λ (t : List ℕ). Goes keeping [] w.size t old new w u (map (λ tap. (goal.Tap-dyn g (tap.vtable, tap.value)).tap_seen tap.value) c.args.passage.now.taps.items) (map (λ tap. (goal.Tap-dyn g (tap.vtable, tap.value)).tap_seen tap.value) c.push_batch.new.passage.taps.items) (c.batches.kept + k) r) (sym (concat-append done.1 b.0))
     (goes_then keeping [] w.size some (concat done.1) (concat b.0) old later new w v u c.batches.kept k r before read here) in
@@ -346,7 +346,7 @@ batches-preserved g c =
     let last = c.in_ok-taken.ensures.after c.requires.after.0 past b.0 done.4 lent c.if-taken.false in
     let reached : c.batches.passage.read + length (concat b.0) / c.from-size.result ≤ c.push_batch.new.passage.read = omega (arith, last.read_is, done.4.read_is, length-append past (cut_all c.from-size.result (concat b.0)), count_is c.from-size.result (concat b.0)) in
     let counted_here = goes_counted (kept_by c.batches.passage.sieve.settings c.requires.after.0 plan) past c.from-size.result (concat b.0) later new v u k r c.batches.passage.read c.push_batch.new.passage.read (subst (λ (z : ℕ). 0 < z) (sym same) some) reached
-    (c.in_ok-taken.ensures.goes c.requires.after.0 past b.0 done.4 lent) c.batches.invariant.counted in
+    (c.in_ok-taken.ensures.goes c.requires.after.0 past done.4 b.0 lent) c.batches.invariant.counted in
     record {
       sound = ap (λ (x : ReaderSeen). x.failed) more.moved ∙ c.batches.invariant.sound;
       crew = c.in-Ok.ensures.crew;
@@ -389,7 +389,7 @@ batches-preserved g c =
           let k = c.in_ok-taken.taken.kept in
           let r = c.in_ok-taken.taken.refused in
           let one = subst (λ (t : Settings). Goes (kept_by t looked plan) past c.from-size.result (concat b.0) later new v u (map (λ tap. (goal.Tap-dyn g (tap.vtable, tap.value)).tap_seen tap.value) c.batches.passage.taps.items) (map (λ tap. (goal.Tap-dyn g (tap.vtable, tap.value)).tap_seen tap.value) c.push_batch.new.passage.taps.items) k r) c.batches.invariant.settings
-          (c.in_ok-taken.ensures.goes looked past b.0 done.4 lent) in
+          (c.in_ok-taken.ensures.goes looked past done.4 b.0 lent) in
           let here = subst (λ (size : ℕ). Goes keeping past size (concat b.0) later new v u (map (λ tap. (goal.Tap-dyn g (tap.vtable, tap.value)).tap_seen tap.value) c.batches.passage.taps.items) (map (λ tap. (goal.Tap-dyn g (tap.vtable, tap.value)).tap_seen tap.value) c.push_batch.new.passage.taps.items) k r) same one in
           let all = subst (λ (t : List ℕ). Goes keeping [] w.size t old new w u (map (λ tap. (goal.Tap-dyn g (tap.vtable, tap.value)).tap_seen tap.value) c.args.passage.now.taps.items) (map (λ tap. (goal.Tap-dyn g (tap.vtable, tap.value)).tap_seen tap.value) c.push_batch.new.passage.taps.items) (c.batches.kept + k) r) (sym (concat-append done.1 b.0))
           (goes_then keeping [] w.size some (concat done.1) (concat b.0) old later new w v u c.batches.kept k r before read here) in (

@@ -120,7 +120,7 @@ push_kept-requires-clause-stands g c κs within =
     (with_reads s.0 (g.F.Files.seen c.loop-i.files), s.1, _, goes.takes s.0 s.1 s.2 s.3)
 
 pub returns-in_err-taken-clause-left : goal.returns-in_err-taken-clause-left
-returns-in_err-taken-clause-left g c looked before blocks after lent =
+returns-in_err-taken-clause-left g c looked before after blocks lent =
     let plan = steps_of c.args.plan.now in
     let size = c.args.size in
     let old = g.F.Files.seen c.args.files.now in
@@ -162,7 +162,7 @@ overflow_add-kept g c =
     omega (arith, few)
 
 pub returns-then-taken-clause-goes : goal.returns-then-taken-clause-goes
-returns-then-taken-clause-goes g c looked before blocks after lent =
+returns-then-taken-clause-goes g c looked before after blocks lent =
     let plan = steps_of c.args.plan.now in
     let size = c.args.size in
     let keeping = kept_by c.args.passage.now.sieve.settings looked plan in
@@ -229,7 +229,7 @@ loop-i-preserved g c =
     }
 
 pub returns-clause-goes : goal.returns-clause-goes
-returns-clause-goes g c looked before blocks after lent =
+returns-clause-goes g c looked before after blocks lent =
     let end : length blocks ≤ c.loop-i.i = omega (arith, lent.count_is, c.loop-i-test.false) in
     subst (λ (bs : List (List ℕ)). Goes (kept_by c.args.passage.now.sieve.settings looked (steps_of c.args.plan.now)) before c.args.size (concat bs) (g.F.Files.seen c.args.files.now) (g.F.Files.seen c.loop-i.files) c.args.writer.now c.loop-i.writer
     (map (λ tap. (goal.Tap-dyn g (tap.vtable, tap.value)).tap_seen tap.value) c.args.passage.now.taps.items) (map (λ tap. (goal.Tap-dyn g (tap.vtable, tap.value)).tap_seen tap.value) c.loop-i.passage.taps.items) c.loop-i.kept false) (take_all c.loop-i.i blocks end) (c.loop-i.invariant.goes looked before blocks after lent)

@@ -82,7 +82,7 @@ returns-clause-converted g c =
     let taps : List TapSeen = map (λ tap. (goal.Tap-dyn g (tap.vtable, tap.value)).tap_seen tap.value) c.args.passage.now.taps.items in
     let seen : List TapSeen = map (λ tap. (goal.Tap-dyn g (tap.vtable, tap.value)).tap_seen tap.value) c.fill.new.passage.taps.items in
     let done = subst (λ xs. OnOk c.fill.result (FinishesKept mid.held old.held new.held (kept_by settings looked plan) reader out [] (map (λ tap. (goal.Tap-dyn g (tap.vtable, tap.value)).tap_seen tap.value) xs) seen)) c.grow.ensures.taps
-    (subst (λ (x : Sieving). OnOk c.fill.result (FinishesKept mid.held old.held new.held (kept_by x.settings looked plan) reader out [] (map (λ tap. (goal.Tap-dyn g (tap.vtable, tap.value)).tap_seen tap.value) grown.taps.items) seen)) c.grow.ensures.sieve (c.fill.ensures.finished looked old out [] after s)) in
+    (subst (λ (x : Sieving). OnOk c.fill.result (FinishesKept mid.held old.held new.held (kept_by x.settings looked plan) reader out [] (map (λ tap. (goal.Tap-dyn g (tap.vtable, tap.value)).tap_seen tap.value) grown.taps.items) seen)) c.grow.ensures.sieve (c.fill.ensures.finished looked after old out [] s)) in
     ok_then c.fill.result (λ f. known_both old.held first.name (StandsFor first)
     (λ file. (records : List ℕ) × OnlyConverts plan settings file first.range records None × (new.held ≡ with_file old.held name (finished out records)) × (seen ≡ map (λ tap. shown_all tap (records_after (head_of file) records)) taps))
     (λ file. (records : List ℕ) × OnlyConverts plan settings file first.range records None × (new.held ≡ with_file old.held name (finished (converted_output name file chunk) records)))
@@ -114,7 +114,7 @@ returns-clause-tallied g c =
     let taps : List TapSeen = map (λ tap. (goal.Tap-dyn g (tap.vtable, tap.value)).tap_seen tap.value) c.args.passage.now.taps.items in
     let seen : List TapSeen = map (λ tap. (goal.Tap-dyn g (tap.vtable, tap.value)).tap_seen tap.value) c.fill.new.passage.taps.items in
     let done = subst (λ xs. OnOk c.fill.result (FinishesKept mid.held old.held new.held (kept_by settings looked plan) reader out [] (map (λ tap. (goal.Tap-dyn g (tap.vtable, tap.value)).tap_seen tap.value) xs) seen)) c.grow.ensures.taps
-    (subst (λ (x : Sieving). OnOk c.fill.result (FinishesKept mid.held old.held new.held (kept_by x.settings looked plan) reader out [] (map (λ tap. (goal.Tap-dyn g (tap.vtable, tap.value)).tap_seen tap.value) grown.taps.items) seen)) c.grow.ensures.sieve (c.fill.ensures.finished looked old out [] after s)) in
+    (subst (λ (x : Sieving). OnOk c.fill.result (FinishesKept mid.held old.held new.held (kept_by x.settings looked plan) reader out [] (map (λ tap. (goal.Tap-dyn g (tap.vtable, tap.value)).tap_seen tap.value) grown.taps.items) seen)) c.grow.ensures.sieve (c.fill.ensures.finished looked after old out [] s)) in
     ok_then c.fill.result (λ f. known_then old.held first.name
     (λ file. (records : List ℕ) × OnlyConverts plan settings file first.range records None × (new.held ≡ with_file old.held name (finished out records)) × (seen ≡ map (λ tap. shown_all tap (records_after (head_of file) records)) taps))
     (λ file. (records : List ℕ) → ConvertsTo plan settings file first.range records None → seen ≡ map (λ tap. shown_all ((goal.Tap-dyn g (tap.vtable, tap.value)).tap_seen tap.value) (records_after (head_of file) records)) c.args.passage.now.taps.items)
@@ -148,7 +148,7 @@ returns-clause-refused g c cause is =
     let other = λ (e : first.name ≡ name). c.requires.names (sym e) in
     let grown = c.grow.new.self in
     let after : IsAfter plan looked [] grown.sieve grown.read = after_start plan looked c.args.passage.now.sieve grown.sieve c.args.passage.now.read grown.read c.grow.ensures.sieve c.grow.ensures.read c.requires.unread c.requires.ready.1 in
-    let ends = subst (λ (x : Sieving). IfErr c.fill.result (EndsConverting mid.held old.held mid new (kept_by x.settings looked plan) reader out [])) c.grow.ensures.sieve (c.fill.ensures.ends looked old out [] after s) in
+    let ends = subst (λ (x : Sieving). IfErr c.fill.result (EndsConverting mid.held old.held mid new (kept_by x.settings looked plan) reader out [])) c.grow.ensures.sieve (c.fill.ensures.ends looked after old out [] s) in
     let keeping = kept_by settings looked plan in
     let e = err_at (EndsConverting mid.held old.held mid new keeping reader out []) c.fill.result (Refused cause) ends is in
     known_both old.held first.name (StandsFor first)
@@ -178,7 +178,7 @@ returns-clause-bad g c cause is =
     let other = λ (e : first.name ≡ name). c.requires.names (sym e) in
     let grown = c.grow.new.self in
     let after : IsAfter plan looked [] grown.sieve grown.read = after_start plan looked c.args.passage.now.sieve grown.sieve c.args.passage.now.read grown.read c.grow.ensures.sieve c.grow.ensures.read c.requires.unread c.requires.ready.1 in
-    let ends = subst (λ (x : Sieving). IfErr c.fill.result (EndsConverting mid.held old.held mid new (kept_by x.settings looked plan) reader out [])) c.grow.ensures.sieve (c.fill.ensures.ends looked old out [] after s) in
+    let ends = subst (λ (x : Sieving). IfErr c.fill.result (EndsConverting mid.held old.held mid new (kept_by x.settings looked plan) reader out [])) c.grow.ensures.sieve (c.fill.ensures.ends looked after old out [] s) in
     let keeping = kept_by settings looked plan in
     refused_kind mid.held old.held new.held keeping reader out [] cause (err_at (EndsConverting mid.held old.held mid new keeping reader out []) c.fill.result (Refused cause) ends is)
 
@@ -203,7 +203,7 @@ returns-clause-looked g c i is =
     let other = λ (e : first.name ≡ name). c.requires.names (sym e) in
     let grown = c.grow.new.self in
     let after : IsAfter plan looked [] grown.sieve grown.read = after_start plan looked c.args.passage.now.sieve grown.sieve c.args.passage.now.read grown.read c.grow.ensures.sieve c.grow.ensures.read c.requires.unread c.requires.ready.1 in
-    let ends = subst (λ (x : Sieving). IfErr c.fill.result (EndsConverting mid.held old.held mid new (kept_by x.settings looked plan) reader out [])) c.grow.ensures.sieve (c.fill.ensures.ends looked old out [] after s) in
+    let ends = subst (λ (x : Sieving). IfErr c.fill.result (EndsConverting mid.held old.held mid new (kept_by x.settings looked plan) reader out [])) c.grow.ensures.sieve (c.fill.ensures.ends looked after old out [] s) in
     let keeping = kept_by settings looked plan in
     once old mid new plan settings looked first reader (2 * c.hands-hands.result) ready c.requires.fresh.unread w c.in_ok-writer.ensures.can.size out s other c.requires.stands known i (err_at (EndsConverting mid.held old.held mid new keeping reader out []) c.fill.result (Refused (BadChunk i)) ends is)
 
@@ -228,7 +228,7 @@ returns-clause-left g c =
     let other = λ (e : first.name ≡ name). c.requires.names (sym e) in
     let grown = c.grow.new.self in
     let after : IsAfter plan looked [] grown.sieve grown.read = after_start plan looked c.args.passage.now.sieve grown.sieve c.args.passage.now.read grown.read c.grow.ensures.sieve c.grow.ensures.read c.requires.unread c.requires.ready.1 in
-    let ends = subst (λ (x : Sieving). IfErr c.fill.result (EndsConverting mid.held old.held mid new (kept_by x.settings looked plan) reader out [])) c.grow.ensures.sieve (c.fill.ensures.ends looked old out [] after s) in
+    let ends = subst (λ (x : Sieving). IfErr c.fill.result (EndsConverting mid.held old.held mid new (kept_by x.settings looked plan) reader out [])) c.grow.ensures.sieve (c.fill.ensures.ends looked after old out [] s) in
     let keeping = kept_by settings looked plan in
     err_then (EndsConverting mid.held old.held mid new keeping reader out [])
     (λ fault. WhereKnown old.held first.name (λ file. (records : List ℕ) (refusal : Option Refusal) → ConvertsTo plan settings file first.range records refusal → LeavesUnfinished (converted_output name file chunk) records old.held new.held)) c.fill.result
@@ -259,7 +259,7 @@ returns-clause-read g c is =
     let other = λ (e : first.name ≡ name). c.requires.names (sym e) in
     let grown = c.grow.new.self in
     let after : IsAfter plan looked [] grown.sieve grown.read = after_start plan looked c.args.passage.now.sieve grown.sieve c.args.passage.now.read grown.read c.grow.ensures.sieve c.grow.ensures.read c.requires.unread c.requires.ready.1 in
-    let ends = subst (λ (x : Sieving). IfErr c.fill.result (EndsConverting mid.held old.held mid new (kept_by x.settings looked plan) reader out [])) c.grow.ensures.sieve (c.fill.ensures.ends looked old out [] after s) in
+    let ends = subst (λ (x : Sieving). IfErr c.fill.result (EndsConverting mid.held old.held mid new (kept_by x.settings looked plan) reader out [])) c.grow.ensures.sieve (c.fill.ensures.ends looked after old out [] s) in
     let keeping = kept_by settings looked plan in
     let e = err_at (EndsConverting mid.held old.held mid new keeping reader out []) c.fill.result Read ends is in
     subst (λ (n : ℕ). Rose n new.read_faults) c.in_ok-writer.ensures.calm.reads e.0
@@ -285,7 +285,7 @@ returns-clause-write g c is =
     let other = λ (e : first.name ≡ name). c.requires.names (sym e) in
     let grown = c.grow.new.self in
     let after : IsAfter plan looked [] grown.sieve grown.read = after_start plan looked c.args.passage.now.sieve grown.sieve c.args.passage.now.read grown.read c.grow.ensures.sieve c.grow.ensures.read c.requires.unread c.requires.ready.1 in
-    let ends = subst (λ (x : Sieving). IfErr c.fill.result (EndsConverting mid.held old.held mid new (kept_by x.settings looked plan) reader out [])) c.grow.ensures.sieve (c.fill.ensures.ends looked old out [] after s) in
+    let ends = subst (λ (x : Sieving). IfErr c.fill.result (EndsConverting mid.held old.held mid new (kept_by x.settings looked plan) reader out [])) c.grow.ensures.sieve (c.fill.ensures.ends looked after old out [] s) in
     let keeping = kept_by settings looked plan in
     let e = err_at (EndsConverting mid.held old.held mid new keeping reader out []) c.fill.result Write ends is in
     subst (λ (n : ℕ). Rose n new.write_faults) c.in_ok-writer.ensures.calm.writes e.0

@@ -12,7 +12,7 @@ use Rattle.las_convert.proofs.Endings.{ends_all, ends_with, finished_all, left_f
 use Rattle.las_convert.proofs.files.fill.Goals as goal
 
 pub returns-in_err-convert_records-clause-ends : goal.returns-in_err-convert_records-clause-ends
-returns-in_err-convert_records-clause-ends g c looked before out bytes is s =
+returns-in_err-convert_records-clause-ends g c looked is before out bytes s =
     let old = g.F.Files.seen c.args.files.now in
     let new = g.F.Files.seen c.convert_records.new.files in
     let keeping = kept_by c.args.passage.now.sieve.settings looked (steps_of c.args.plan.now) in
@@ -34,7 +34,7 @@ stop-requires-clause-stands g c κs within =
     (with_reads s.0 (g.F.Files.seen c.convert_records.new.files), s.1, s.2 ++ concat d.5.ones, d.5.takes s.0 s.1 s.2 s.3)
 
 pub returns-in_err-finish-in-None-clause-ends : goal.returns-in_err-finish-in-None-clause-ends
-returns-in_err-finish-in-None-clause-ends g c looked before out bytes is s =
+returns-in_err-finish-in-None-clause-ends g c looked is before out bytes s =
     let old = g.F.Files.seen c.args.files.now in
     let mid = g.F.Files.seen c.convert_records.new.files in
     let new = g.F.Files.seen c.finish.new.files in
@@ -53,7 +53,7 @@ returns-in_err-finish-in-None-clause-ends g c looked before out bytes is s =
     (ends_with old.held before.held old new keeping reader out bytes fault cause (left_finish old keeping reader w c.requires.room.size d.0 d.1 d.4 before out bytes s mid c.convert_records.new.writer old_taps new_taps d.2 d.3 d.5 new fault p.0 all p.1 p.2))
 
 pub returns-in_err-stop-in-Some-clause-ends : goal.returns-in_err-stop-in-Some-clause-ends
-returns-in_err-stop-in-Some-clause-ends g c looked before out bytes is s =
+returns-in_err-stop-in-Some-clause-ends g c looked is before out bytes s =
     let old = g.F.Files.seen c.args.files.now in
     let mid = g.F.Files.seen c.convert_records.new.files in
     let new = g.F.Files.seen c.stop.new.files in
@@ -70,7 +70,7 @@ returns-in_err-stop-in-Some-clause-ends g c looked before out bytes is s =
     (ends_with old.held before.held old new keeping reader out bytes fault cause (left_stop old keeping reader w c.requires.room.size d.0 d.1 d.4 before out bytes s mid c.convert_records.new.writer old_taps new_taps d.2 d.3 d.5 new fault p.0 p.1))
 
 pub returns-in_ok-finish-in-None-clause-finished : goal.returns-in_ok-finish-in-None-clause-finished
-returns-in_ok-finish-in-None-clause-finished g c looked before out bytes is s =
+returns-in_ok-finish-in-None-clause-finished g c looked is before out bytes s =
     let old = g.F.Files.seen c.args.files.now in
     let mid = g.F.Files.seen c.convert_records.new.files in
     let new = g.F.Files.seen c.finish.new.files in
@@ -84,7 +84,7 @@ returns-in_ok-finish-in-None-clause-finished g c looked before out bytes is s =
     (ap (λ (o : Outside). o.held) (c.in_ok-finish-in-None.ensures.finished (with_reads before mid) out (bytes ++ concat d.5.ones) (d.5.takes before out bytes s)))
 
 pub returns-in_ok-stop-in-Some-clause-ends : goal.returns-in_ok-stop-in-Some-clause-ends
-returns-in_ok-stop-in-Some-clause-ends g c looked before out bytes is s =
+returns-in_ok-stop-in-Some-clause-ends g c looked is before out bytes s =
     let old = g.F.Files.seen c.args.files.now in
     let mid = g.F.Files.seen c.convert_records.new.files in
     let new = g.F.Files.seen c.stop.new.files in
