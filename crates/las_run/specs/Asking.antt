@@ -29,8 +29,8 @@ in_first_reading First size = 0
 in_first_reading Lowest size = size
 in_first_reading Highest size = size
 
--- What is asked of an input: nothing if it is missing; if it is refused when it is opened, at most what opening it takes;
--- and else, in each reading, at most that, and the bytes of those of its pieces that meet the range.
+-- What is asked of an input: nothing if it is missing; if it is refused when it is opened, at most what opening it
+-- takes; and else, in each reading, at most that, and the bytes of those of its pieces that meet the range.
 abbrev pub AsksOf : (input : Option (List ℕ)) → Las2lasOptions → (old new : Outside) → Type 0
 AsksOf None options old new = new.asked ≡ old.asked
 AsksOf (Some file) options old new =

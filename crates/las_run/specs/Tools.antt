@@ -104,8 +104,8 @@ abbrev pub kept_text : List TapSeen → (file records : List ℕ) → Option Ref
 kept_text taps file records None = tallies_text taps (points.records_after (head_of file) records)
 kept_text taps file records (Some cause) = []
 
--- the ending of `las2las` with these kept records, up to this refusal: without an output if a bad chunk was met before it
--- was created
+-- the ending of `las2las` with these kept records, up to this refusal: without an output if a bad chunk was met before
+-- it was created
 abbrev pub converted : (size : Option ℕ) → (chosen : List TapSeen) → (input output : List ℕ) → Pick
     → (file records : List ℕ) → Option Refusal → Ending
 converted size chosen input output pick file records refusal = record {
@@ -115,8 +115,8 @@ converted size chosen input output pick file records refusal = record {
   text = kept_text chosen file records refusal;
 }
 
--- `las2las` writes what its plan keeps, behind a sieve, of the records of a range, up to the first refusal: in chunks of
--- this size, if there is one. It puts what the chosen taps count of the kept records.
+-- `las2las` writes what its plan keeps, behind a sieve, of the records of a range, up to the first refusal: in chunks
+-- of this size, if there is one. It puts what the chosen taps count of the kept records.
 abbrev pub ConvertsIn : (size : Option ℕ) → (range : List ℕ → Range) → (chosen : List TapSeen)
     → (input output : List ℕ) → Steps → sieve.Settings → (file : List ℕ) → Ending → Type 0
 ConvertsIn size range chosen input output plan settings file ending =

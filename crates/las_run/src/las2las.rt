@@ -36,8 +36,8 @@ use laz_file::Reader;
 use std::alloc::Global;
 use std::thread::Threads;
 
-/// Writes those of the selected records of the input that a plan keeps, each with the changes of the plan, and puts what
-/// the taps of these names count of them. Places past the end are those of the end.
+/// Writes those records of the input that are kept, each with the changes of the plan, and puts what the taps of these
+/// names count of them. Places past the end are those of the end.
 pub fn las2las<R: Threads + Sync, F: Files, O: Sink, G: Gate>(
     rt: &R,
     alloc: Global,
@@ -83,7 +83,7 @@ pub fn las2las<R: Threads + Sync, F: Files, O: Sink, G: Gate>(
     )
 }
 
-// Writes what is kept of the selected records of a file, and puts what the taps count of them.
+// Writes what is kept of the records of a file, and puts what the taps count of it.
 fn select<R: Threads + Sync, F: Files, O: Sink, G: Gate>(
     rt: &R,
     alloc: Global,
@@ -152,8 +152,8 @@ fn seek(reader: &mut Reader, conversion: Conversion)
     reader.seek_record(conversion.start.min(points), conversion.stop.min(points));
 }
 
-// Makes a sieve ready for the records of a range. If the lowest or the highest of a cell stays, it looks at all of them,
-// and the input is opened again.
+// Makes a sieve ready for the records of a range. If the lowest or the highest of a cell stays, it looks at all of
+// them, and the input is opened again.
 fn prepare<R: Threads + Sync, F: Files, G: Gate>(
     rt: &R,
     alloc: Global,
@@ -270,8 +270,8 @@ fn write_kept<R: Threads + Sync, F: Files, O: Sink, G: Gate>(
     requires stands { WhereKnown (F.seen files.old).held reader.name (StandsFor reader) }
     requires ready { IsReady (F.seen files.old).held reader.name (steps_of plan.now) reader.range sieve }
     requires room { All (λ tap. (bin : ℕ) → count_at (tap_seen tap).tally bin ≤ 2 ^ 63) chosen.items }
-    ensures ends { EndsMaking (ConvertsIn (chunk_if conversion.packing.packed conversion.packing.chunk) (λ file. reader.range)
-        (map (λ tap. tap_seen tap) chosen.items) reader.name output.now (steps_of plan.now)
+    ensures ends { EndsMaking (ConvertsIn (chunk_if conversion.packing.packed conversion.packing.chunk)
+        (λ file. reader.range) (map (λ tap. tap_seen tap) chosen.items) reader.name output.now (steps_of plan.now)
         sieve.settings) reader.name (record {
           files = F.seen files.old;
           files_now = F.seen files.new;

@@ -152,8 +152,8 @@ fn tallies_of_what_is_kept(rt: HostRuntime) -> Result<(), Fail> {
     Ok(())
 }
 
-// A bad chunk ends a run of two readings before its output is created; a coordinate that leaves its range has the number
-// that it has in the list that stays.
+// A bad chunk ends a run of two readings before its output is created. A coordinate that leaves its range has the
+// number that it has in the list that stays.
 #[test]
 fn refusals_of_two_readings(rt: HostRuntime) -> Result<(), Fail> {
     let alloc = rt.alloc();

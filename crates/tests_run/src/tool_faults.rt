@@ -220,7 +220,7 @@ fn calls_of_copying_fail(rt: HostRuntime) -> Result<(), Fail> {
     Ok(())
 }
 
-// The input is read twice, and only then the output is created, and gets a head, the records in one block, and its counts.
+// The input is read twice. The output is created between, and gets a head, the records in one block, and its counts.
 #[test]
 fn calls_of_thinning_fail(rt: HostRuntime) -> Result<(), Fail> {
     let words = "las2las -i c -o b -thin_raw 5 -lowest -tally class -cores 2";
