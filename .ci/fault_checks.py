@@ -24,6 +24,8 @@ COMMANDS = [
     ("las2las", ["las2las", "-i", "in.laz", "-o", "o.laz", "-keep_class", "1", "2", *PACK], ["o.laz"]),
     ("las2las of a range", ["las2las", "-i", "in.laz", "-o", "o.las", "-start_at_point", "200", "-stop_at_point", "550"],
      ["o.las"]),
+    ("las2las in two readings", ["las2las", "-i", "in.laz", "-o", "o.las", "-thin_raw", "50", "-lowest", "-tally", "class"],
+     ["o.las"]),
     ("lasinfo", ["lasinfo", "-i", "in.laz", "-tally", "class"], []),
     ("lassplit", ["lassplit", "-i", "in.laz", "-o", "p.las", "-by_return"], [f"p_000000{i}.las" for i in (1, 2, 3)]),
     ("lasmerge", ["lasmerge", "-i", "in.las", "-i", "in.laz", "-o", "o.laz", *PACK], ["o.laz"]),

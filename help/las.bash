@@ -10,9 +10,10 @@ _las() {
             words='-i -o -chunk_size -cores --help'
             ;;
         las2las)
-            words='-i -o -start_at_point -stop_at_point -keep_class -drop_class -keep_return
-                -drop_return -keep_first -keep_last -keep_intensity
-                -drop_intensity_below -drop_intensity_above -translate_raw_xyz
+            words='-i -o -tally -start_at_point -stop_at_point -keep_class -drop_class
+                -keep_return -drop_return -keep_first -keep_last
+                -keep_intensity -drop_intensity_below -drop_intensity_above
+                -drop_repeated -thin_raw -lowest -highest -translate_raw_xyz
                 -translate_raw_x -translate_raw_y -translate_raw_z
                 -set_classification -set_user_data -set_point_source -olas
                 -olaz -chunk_size -cores --help'

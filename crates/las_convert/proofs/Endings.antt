@@ -8,7 +8,7 @@ use Rattle.las_header.specs.declared.refusal.Refusal.TheVariants.{RawRange}
 use Rattle.las_header.specs.Fields.{is_packed, record_length_of}
 use Rattle.las_header.specs.Plain.{plain_of, without_first}
 use Rattle.las_header.specs.Vlrs.{laszip_vlrs_of}
-use Rattle.las_filter.specs.Kept.{Steps}
+use Rattle.las_info.specs.Tallies.{TapSeen}
 use Rattle.las_outside.specs.Drafts.{IsUnfinished}
 use Rattle.las_outside.specs.Files.{FileMap, with_file}
 use Rattle.las_outside.specs.Outside.{Outside, with_bytes}
@@ -21,8 +21,9 @@ use Rattle.laz_file.specs.Writing.{Stands, Stops, WriterSeen}
 use Rattle.laz_file.proofs.Endings.{leaves_end, leaves_part}
 use Rattle.laz_file.proofs.Taking.{held_after}
 use Rattle.laz_file.proofs.WholeOutputs.{create_left, err_then}
-use Rattle.las_convert.specs.Adding.{Adds, EndsKeeping, Goes, LeavesKept, cut_all}
+use Rattle.las_convert.specs.Adding.{Adds, EndsKeeping, Goes, Keeping, LeavesKept, cut_all}
 use Rattle.las_convert.specs.Converting.{EndsConverting, FinishesKept, LeavesConverting, RefusesKept, output_of}
+use Rattle.las_convert.proofs.Shown.{seen_by}
 
 -- an output that could not be created
 pub begin_left : {T : Type 0} (r : Result T Fault) (old new : Outside) (reader : ReaderSeen) (name head : List ℕ) (chunk : Option ℕ) → head ≡ plain_of reader.head.bytes
@@ -42,19 +43,19 @@ plain_itself head is = sym (by (is_packed head) is)
     by false e = refl
 
 -- the length of a record, by the reader and by the writer
-pub adds_wide : (plan : Steps) (reader : ReaderSeen) (w : WriterSeen) (blocks ones : List (List ℕ)) (refused : Bool) → w.size ≡ record_length_of reader.head.bytes → Adds plan (cut_all w.size (concat blocks)) ones refused → Adds plan (cut_all (record_length_of reader.head.bytes) (concat blocks)) ones refused
-adds_wide plan reader w blocks ones refused same adds = subst (λ (n : ℕ). Adds plan (cut_all n (concat blocks)) ones refused) same adds
+pub adds_wide : (keeping : Keeping) (reader : ReaderSeen) (w : WriterSeen) (blocks ones : List (List ℕ)) (refused : Bool) → w.size ≡ record_length_of reader.head.bytes → Adds keeping [] (cut_all w.size (concat blocks)) ones refused → Adds keeping [] (cut_all (record_length_of reader.head.bytes) (concat blocks)) ones refused
+adds_wide keeping reader w blocks ones refused same adds = subst (λ (n : ℕ). Adds keeping [] (cut_all n (concat blocks)) ones refused) same adds
 
 -- a fault with its cause, and what it leaves
-pub ends_with : (known was : Option FileMap) (old now : Outside) (plan : Steps) (reader : ReaderSeen) (out : Output) (bytes : List ℕ) (fault : Fault) → HasCause old now fault → LeavesConverting known was now.held plan reader out bytes → EndsConverting known was old now plan reader out bytes fault
-ends_with known was old now plan reader out bytes (Refused cause) has left = absurd has
-ends_with known was old now plan reader out bytes Read has left = (has, left)
-ends_with known was old now plan reader out bytes Write has left = (has, left)
-ends_with known was old now plan reader out bytes Memory has left = left
+pub ends_with : (known was : Option FileMap) (old now : Outside) (keeping : Keeping) (reader : ReaderSeen) (out : Output) (bytes : List ℕ) (fault : Fault) → HasCause old now fault → LeavesConverting known was now.held keeping reader out bytes → EndsConverting known was old now keeping reader out bytes fault
+ends_with known was old now keeping reader out bytes (Refused cause) has left = absurd has
+ends_with known was old now keeping reader out bytes Read has left = (has, left)
+ends_with known was old now keeping reader out bytes Write has left = (has, left)
+ends_with known was old now keeping reader out bytes Memory has left = left
 
-module _ (old : Outside) (plan : Steps) (reader : ReaderSeen) (w : WriterSeen) (wide : w.size ≡ record_length_of reader.head.bytes) (n : ℕ) (blocks : List (List ℕ)) (hold : HoldFirst old.held reader n blocks) (before : Outside) (out : Output) (bytes : List ℕ) (s : Stands before old w out bytes) where
+module _ (old : Outside) (keeping : Keeping) (reader : ReaderSeen) (w : WriterSeen) (wide : w.size ≡ record_length_of reader.head.bytes) (n : ℕ) (blocks : List (List ℕ)) (hold : HoldFirst old.held reader n blocks) (before : Outside) (out : Output) (bytes : List ℕ) (s : Stands before old w out bytes) where
   -- converting failed
-  pub left_part : (new : Outside) → LeavesKept plan w.size (concat blocks) old new w → LeavesConverting old.held before.held new.held plan reader out bytes
+  pub left_part : (new : Outside) → LeavesKept keeping [] w.size (concat blocks) old new w → LeavesConverting old.held before.held new.held keeping reader out bytes
   left_part new l =
       let p = l.part before out bytes s in
       record {
@@ -70,13 +71,13 @@ module _ (old : Outside) (plan : Steps) (reader : ReaderSeen) (w : WriterSeen) (
         left = λ more none. leaves_part before old w out bytes s (concat l.ones) more new.held p.0 p.1;
       }
 
-  module _ (mid : Outside) (v : WriterSeen) (count : ℕ) (refused : Bool) (g : Goes plan w.size (concat blocks) old mid w v count refused) where
-    adds_here : Adds plan (cut_all (record_length_of reader.head.bytes) (concat blocks)) g.ones refused
-    adds_here = adds_wide plan reader w blocks g.ones refused wide g.adds
+  module _ (mid : Outside) (v : WriterSeen) (taps seen : List TapSeen) (count : ℕ) (refused : Bool) (g : Goes keeping [] w.size (concat blocks) old mid w v taps seen count refused) where
+    adds_here : Adds keeping [] (cut_all (record_length_of reader.head.bytes) (concat blocks)) g.ones refused
+    adds_here = adds_wide keeping reader w blocks g.ones refused wide g.adds
 
     -- finishing failed
     pub left_finish : (new : Outside) (fault : Fault) (left : List ℕ) → n ≡ length reader.left → IsUnfinished (draft_of out (bytes ++ concat g.ones)) (patches_of out (bytes ++ concat g.ones)) left → Stops fault (with_bytes (with_reads before mid) out.name left) new
-        → LeavesConverting old.held before.held new.held plan reader out bytes
+        → LeavesConverting old.held before.held new.held keeping reader out bytes
     left_finish new fault left all is stops = record {
       n = n;
       blocks = blocks;
@@ -91,7 +92,7 @@ module _ (old : Outside) (plan : Steps) (reader : ReaderSeen) (w : WriterSeen) (
     }
 
     -- stopping failed
-    pub left_stop : (new : Outside) (fault : Fault) (k : ℕ) → Stops fault (with_bytes (with_reads before mid) out.name (take k (stopped out (bytes ++ concat g.ones)))) new → LeavesConverting old.held before.held new.held plan reader out bytes
+    pub left_stop : (new : Outside) (fault : Fault) (k : ℕ) → Stops fault (with_bytes (with_reads before mid) out.name (take k (stopped out (bytes ++ concat g.ones)))) new → LeavesConverting old.held before.held new.held keeping reader out bytes
     left_stop new fault k stops = record {
       n = n;
       blocks = blocks;
@@ -105,12 +106,19 @@ module _ (old : Outside) (plan : Steps) (reader : ReaderSeen) (w : WriterSeen) (
       left = λ more none. leaves_part before old w out bytes s (concat g.ones) more new.held k (held_after fault (with_bytes (with_reads before mid) out.name (take k (stopped out (bytes ++ concat g.ones)))) new stops);
     }
 
-    pub finished_all : (now : Option FileMap) → EndsKeeping old.held reader n count refused None → now ≡ with_file before.held out.name (finished out (bytes ++ concat g.ones)) → FinishesKept old.held before.held now plan reader out bytes
+    pub finished_all : (now : Option FileMap) → EndsKeeping old.held reader n count refused None → now ≡ with_file before.held out.name (finished out (bytes ++ concat g.ones)) → FinishesKept old.held before.held now keeping reader out bytes taps seen
     finished_all now ends is = by refused ends adds_here
       where
-        by : (r : Bool) → EndsKeeping old.held reader n count r None → Adds plan (cut_all (record_length_of reader.head.bytes) (concat blocks)) g.ones r → FinishesKept old.held before.held now plan reader out bytes
+        by : (r : Bool) → EndsKeeping old.held reader n count r None → Adds keeping [] (cut_all (record_length_of reader.head.bytes) (concat blocks)) g.ones r → FinishesKept old.held before.held now keeping reader out bytes taps seen
         by true e adds = absurd (let clash : None ≡ Some (RawRange count) = e in cc)
-        by false e adds = record { blocks = blocks; ones = g.ones; hold = subst (λ (k : ℕ). HoldFirst old.held reader k blocks) e hold; adds = adds; now_is = is }
+        by false e adds = record {
+          blocks = blocks;
+          ones = g.ones;
+          hold = subst (λ (k : ℕ). HoldFirst old.held reader k blocks) e hold;
+          adds = adds;
+          now_is = is;
+          shown = subst (λ (n : ℕ). seen ≡ seen_by n (concat g.ones) taps) wide g.shown;
+        }
 
     pub ends_all : EndsKeeping old.held reader n count refused None → n ≡ length reader.left
     ends_all ends = by refused ends
@@ -119,7 +127,7 @@ module _ (old : Outside) (plan : Steps) (reader : ReaderSeen) (w : WriterSeen) (
         by true e = absurd (let clash : None ≡ Some (RawRange count) = e in cc)
         by false e = e
 
-    pub refused_here : (cause : Refusal) (now : Option FileMap) → EndsKeeping old.held reader n count refused (Some cause) → now ≡ with_file before.held out.name (stopped out (bytes ++ concat g.ones)) → RefusesKept old.held before.held now plan reader out bytes cause
+    pub refused_here : (cause : Refusal) (now : Option FileMap) → EndsKeeping old.held reader n count refused (Some cause) → now ≡ with_file before.held out.name (stopped out (bytes ++ concat g.ones)) → RefusesKept old.held before.held now keeping reader out bytes cause
     refused_here cause now ends is = record {
       n = n;
       blocks = blocks;
@@ -132,9 +140,9 @@ module _ (old : Outside) (plan : Steps) (reader : ReaderSeen) (w : WriterSeen) (
     }
 
 -- what a fault leaves, a refusal too
-pub ends_left : (known : Option FileMap) (before old new : Outside) (plan : Steps) (reader : ReaderSeen) (w : WriterSeen) (out : Output) (bytes : List ℕ) (fault : Fault) → Stands before old w out bytes → EndsConverting known before.held old new plan reader out bytes fault
-    → LeavesConverting known before.held new.held plan reader out bytes
-ends_left known before old new plan reader w out bytes (Refused cause) s e =
+pub ends_left : (known : Option FileMap) (before old new : Outside) (keeping : Keeping) (reader : ReaderSeen) (w : WriterSeen) (out : Output) (bytes : List ℕ) (fault : Fault) → Stands before old w out bytes → EndsConverting known before.held old new keeping reader out bytes fault
+    → LeavesConverting known before.held new.held keeping reader out bytes
+ends_left known before old new keeping reader w out bytes (Refused cause) s e =
     let text = stopped out (bytes ++ concat e.ones) in
     record {
       n = e.n;
@@ -148,6 +156,6 @@ ends_left known before old new plan reader w out bytes (Refused cause) s e =
       adds = e.adds;
       left = λ more none. leaves_part before old w out bytes s (concat e.ones) more new.held (length text) (e.now_is ∙ ap (with_file before.held out.name) (sym (take_all (length text) text (omega arith))));
     }
-ends_left known before old new plan reader w out bytes Read s e = e.1
-ends_left known before old new plan reader w out bytes Write s e = e.1
-ends_left known before old new plan reader w out bytes Memory s e = e
+ends_left known before old new keeping reader w out bytes Read s e = e.1
+ends_left known before old new keeping reader w out bytes Write s e = e.1
+ends_left known before old new keeping reader w out bytes Memory s e = e

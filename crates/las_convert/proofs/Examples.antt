@@ -1,14 +1,19 @@
--- Values that compute: what plans keep of a file of three records, and the outputs that they become.
-use Rattle.std.proofs.Common.{◌≡◌, ℕ, pos, List, [], ◌∷◌, ◌++◌, codes, replicate, Some, None, refl}
+-- Values that compute: what plans keep of a file of three records, also behind sieves, and the outputs that they become.
+use Rattle.std.proofs.Common.{◌≡◌, ℕ, true, false, pos, List, [], ◌∷◌, ◌++◌, codes, replicate, Some, None, refl}
 use Rattle.byteorder.specs.Endian.{little_bytes}
 use Rattle.las_filter.specs.declared.change.Change.TheVariants.{SetClass, Translate}
 use Rattle.las_filter.specs.declared.keep.Keep.TheVariants.{Classes}
 use Rattle.las_filter.specs.Coordinates.{placed}
-use Rattle.las_filter.specs.Kept.{Steps}
+use Rattle.las_filter.specs.Kept.{Steps, kept}
 use Rattle.las_header.specs.Counting.{long_bytes, short_bytes}
 use Rattle.las_header.specs.Numbers.{number_at}
+use Rattle.las_thin.specs.declared.pick.Pick.{Pick}
+use Rattle.las_thin.specs.declared.pick.Pick.TheVariants.{First, Lowest, Highest}
+use Rattle.las_thin.specs.Kept.{kept_behind}
+use Rattle.las_thin.specs.Sieving.{Settings}
+use Rattle.las_header.specs.declared.refusal.Refusal.TheVariants.{BadChunk, RawRange}
 use Rattle.laz_file.specs.Outputs.{finished, stopped}
-use Rattle.las_convert.specs.Converting.{converted_output, kept_in}
+use Rattle.las_convert.specs.Converting.{converted_output, has_output, kept_in}
 
 -- a LAS 1.2 head of 227 bytes and format 0, with this number of points, all of them first returns
 abbrev head : (points : ℕ) → List ℕ
@@ -46,18 +51,53 @@ abbrev renamed : Steps
 renamed = record { keeps = Classes 2 ∷ []; changes = SetClass 31 ∷ [] }
 
 -- ---- what is kept
-ground_kept : kept_in ground file blocks ≡ record { records = point five 2 ∷ point most 2 ∷ []; raw_range = None }
+ground_kept : kept_in (kept ground) file blocks ≡ record { records = point five 2 ∷ point most 2 ∷ []; raw_range = None }
 unfolding number_at
 ground_kept = refl
 
-renamed_kept : kept_in renamed file blocks ≡ record { records = point most 31 ∷ []; raw_range = None }
+renamed_kept : kept_in (kept renamed) file blocks ≡ record { records = point most 31 ∷ []; raw_range = None }
 unfolding number_at
 renamed_kept = refl
 
 -- the second kept record leaves its range, and not the second of the file
-out_of_range : kept_in ground_shifted file blocks ≡ record { records = point (6 ∷ 0 ∷ 0 ∷ 0 ∷ []) 2 ∷ []; raw_range = Some 1 }
+out_of_range : kept_in (kept ground_shifted) file blocks ≡ record { records = point (6 ∷ 0 ∷ 0 ∷ 0 ∷ []) 2 ∷ []; raw_range = Some 1 }
 unfolding number_at placed
 out_of_range = refl
+
+-- ---- behind a sieve with a step of 10: the first lies in a cell, and the two others in another
+
+abbrev thinned : Pick → Settings
+thinned pick = record { step = Some 10; pick = pick; unique = false }
+
+abbrev all : Steps
+all = record { keeps = []; changes = [] }
+
+abbrev all_shifted : Steps
+all_shifted = record { keeps = []; changes = Translate (pos 1) (pos 0) (pos 0) ∷ [] }
+
+first_kept : kept_in (kept_behind all (thinned First)) file blocks ≡ record { records = point five 2 ∷ point most 1 ∷ []; raw_range = None }
+unfolding number_at
+first_kept = refl
+
+-- the filters come first
+class_kept : kept_in (kept_behind ground (thinned First)) file blocks ≡ record { records = point five 2 ∷ point most 2 ∷ []; raw_range = None }
+unfolding number_at
+class_kept = refl
+
+-- the record of the second cell is refused, as it is the second that stays
+thinned_range : kept_in (kept_behind all_shifted (thinned Lowest)) file blocks ≡ record { records = point (6 ∷ 0 ∷ 0 ∷ 0 ∷ []) 2 ∷ []; raw_range = Some 1 }
+unfolding number_at placed
+thinned_range = refl
+
+-- a bad chunk leaves an output if the records are read once alone
+outputs : has_output First (Some (BadChunk 1)) ≡ true
+outputs = refl
+
+no_output : has_output Lowest (Some (BadChunk 1)) ≡ false
+no_output = refl
+
+refused_output : has_output Highest (Some (RawRange 1)) ≡ true
+refused_output = refl
 
 -- ---- the outputs
 -- of all that is kept, and of nothing: with their own counts

@@ -1,13 +1,16 @@
--- Records that are kept and taken, some after others.
-use Rattle.std.proofs.Common.{◌≡◌, ℕ, suc, ◌+◌, ◌*◌, ◌/◌, ◌%◌, ◌<◌, ◌≤◌, ◌^◌, Bool, true, false, List, [], ◌∷◌, ◌++◌, length, take, drop, get_or, Option, refl, sym, ◌∙◌, ap, subst, append_assoc, length-append, arith}
+-- Records that are kept, taken and seen, some after others.
+use Rattle.std.proofs.Common.{◌≡◌, inl, inr, ℕ, suc, ◌+◌, ◌*◌, ◌/◌, ◌%◌, ◌<◌, ◌≤◌, ◌^◌, Bool, true, false, List, [], ◌∷◌, ◌++◌, length, take, drop, get_or, Option, refl, sym, ◌∙◌, ap, subst, append_assoc, length-append, arith}
 use Rattle.std.specs.Prelude.{All}
 use Rattle.std.specs.List.{concat}
 use Rattle.std.proofs.lemmas.List.{append-nil, length-take-le, take-append-drop}
 use Rattle.std.proofs.lemmas.List.Elements.{All-take}
-use Rattle.std.proofs.Math.Nat.{le_of_mul-le-mul_left, mul-div_right, mul-mod_right, zero-div}
+use Rattle.std.proofs.Math.Nat.{div-add-mod, le_of_mul-le-mul_left, mod-lt, mul-div_right, mul-le-mul_left, mul-mod_right}
+use Rattle.std.proofs.lemmas.Bool.{cases_lt}
 use Rattle.las_header.specs.Fields.{record_length_of}
-use Rattle.las_header.specs.Plain.{cut_records}
 use Rattle.las_filter.specs.Kept.{Steps}
+use Rattle.las_info.specs.Tallies.{TapSeen}
+use Rattle.las_thin.specs.Placed.{Placed}
+use Rattle.las_thin.specs.Sieving.{Sieving}
 use Rattle.las_outside.specs.Outside.{Outside}
 use Rattle.las_outside.specs.Files.{FileMap}
 use Rattle.laz_file.specs.Copying.{CanTake, HoldFirst, LeavesPart, Takes}
@@ -15,12 +18,14 @@ use Rattle.laz_file.specs.Outputs.{Output}
 use Rattle.laz_file.specs.Pieces.{Piece}
 use Rattle.laz_file.specs.Reading.{ReaderSeen, records_in}
 use Rattle.laz_file.specs.Writing.{Stands, WriterSeen}
-use Rattle.laz_file.proofs.Copies.{ReadsMore, concat_more, concat_rest, even_for, length_whole, records-append}
+use Rattle.laz_file.proofs.Copies.{HasRead, ReadsMore, concat_more, concat_rest, even_for, even_whole, length_whole, read_more, records-append}
 use Rattle.laz_file.proofs.Putting.{concat-append}
 use Rattle.laz_file.proofs.Pushing.{cut-append, whole_both}
 use Rattle.laz_file.proofs.Taking.{part_stands, part_then, takes_none, takes_read, takes_then}
-use Rattle.las_convert.specs.Adding.{Adds, Goes, LeavesKept, cut_all}
-use Rattle.las_convert.proofs.Adding.{adds_more, adds_none, adds_then}
+use Rattle.las_convert.specs.Adding.{Adds, Goes, HaveCounted, IsAfter, Keeping, LeavesKept, cut_all}
+use Rattle.las_convert.proofs.Cuts.{length_cut}
+use Rattle.las_convert.proofs.Shown.{counted_more, cut_none, seen_by, shown_none, shown_then}
+use Rattle.las_convert.proofs.Adding.{IsKeeping, adds_more, adds_none, adds_then}
 
 -- ---- whole records
 
@@ -32,65 +37,67 @@ even_all size (b ∷ blocks) all =
 pub even_first : (size n : ℕ) (blocks : List (List ℕ)) → All (λ block. length block % size ≡ 0) blocks → length (concat (take n blocks)) % size ≡ 0
 even_first size n blocks all = even_all size (take n blocks) (All-take (λ (block : List ℕ). length block % size ≡ 0) n blocks all)
 
-pub cut_none : (size : ℕ) → 0 < size → cut_all size [] ≡ []
-cut_none size some = ap (λ (n : ℕ). cut_records size n []) (zero-div size)
-
 -- ---- what goes into a writer, some after others
 
-module _ (plan : Steps) (size : ℕ) (some : 0 < size) where
-  pub goes_none : (now : Outside) (w : WriterSeen) → Goes plan size [] now now w w 0 false
-  goes_none now w = record {
+module _ (keeping : Keeping) (past : List (List ℕ)) (size : ℕ) (some : 0 < size) where
+  pub goes_none : (now : Outside) (w : WriterSeen) (taps : List TapSeen) → Goes keeping past size [] now now w w taps taps 0 false
+  goes_none now w taps = record {
     ones = [];
-    adds = subst (λ (rs : List (List ℕ)). Adds plan rs [] false) (sym (cut_none size some)) (adds_none plan);
+    adds = subst (λ (rs : List (List ℕ)). Adds keeping past rs [] false) (sym (cut_none size some)) (adds_none keeping past);
     count_is = refl;
     bytes = omega arith;
     less = omega arith;
     takes = takes_none now w;
+    shown = shown_none size taps some;
   }
 
-  pub goes_read : (records : List ℕ) (old now later : Outside) (w v : WriterSeen) (count : ℕ) (refused : Bool) → later.held ≡ now.held → later.write_faults ≡ now.write_faults → Goes plan size records old now w v count refused → Goes plan size records old later w v count refused
+  pub goes_read : {taps seen : List TapSeen} (records : List ℕ) (old now later : Outside) (w v : WriterSeen) (count : ℕ) (refused : Bool) → later.held ≡ now.held → later.write_faults ≡ now.write_faults → Goes keeping past size records old now w v taps seen count refused → Goes keeping past size records old later w v taps seen count refused
   goes_read records old now later w v count refused held writes g =
-      record { ones = g.ones; adds = g.adds; count_is = g.count_is; bytes = g.bytes; less = g.less; takes = takes_read old now later w v (concat g.ones) held writes g.takes }
+      record { ones = g.ones; adds = g.adds; count_is = g.count_is; bytes = g.bytes; less = g.less; takes = takes_read old now later w v (concat g.ones) held writes g.takes; shown = g.shown }
 
-  pub goes_then : (xs ys : List ℕ) (old mid new : Outside) (w v u : WriterSeen) (m n : ℕ) (refused : Bool) → length xs % size ≡ 0 → Goes plan size xs old mid w v m false → Goes plan size ys mid new v u n refused → Goes plan size (xs ++ ys) old new w u (m + n) refused
-  goes_then xs ys old mid new w v u m n refused even one two =
+  pub goes_then : {taps seen last : List TapSeen} (xs ys : List ℕ) (old mid new : Outside) (w v u : WriterSeen) (m n : ℕ) (refused : Bool) → length xs % size ≡ 0 → Goes keeping past size xs old mid w v taps seen m false → Goes keeping (past ++ cut_all size xs) size ys mid new v u seen last n refused
+      → Goes keeping past size (xs ++ ys) old new w u taps last (m + n) refused
+  goes_then {taps} {seen} {last} xs ys old mid new w v u m n refused even one two =
       let both = concat-append one.ones two.ones in
       let count = length-append one.ones two.ones in
       let long = ap (λ (t : List ℕ). length t) both ∙ length-append (concat one.ones) (concat two.ones) in
       let double : size * length (one.ones ++ two.ones) ≡ size * length one.ones + size * length two.ones = ap (λ (k : ℕ). size * k) count ∙ (let e : size * (length one.ones + length two.ones) ≡ size * length one.ones + size * length two.ones = omega arith in e) in
+      let whole : length (concat one.ones) % size ≡ 0 = ap (λ (k : ℕ). k % size) one.bytes ∙ mul-mod_right size (length one.ones) in
       record {
         ones = one.ones ++ two.ones;
-        adds = subst (λ (rs : List (List ℕ)). Adds plan rs (one.ones ++ two.ones) refused) (sym (cut-append size xs ys some even)) (adds_then plan (cut_all size xs) (cut_all size ys) one.ones two.ones refused one.adds two.adds);
+        adds = subst (λ (rs : List (List ℕ)). Adds keeping past rs (one.ones ++ two.ones) refused) (sym (cut-append size xs ys some even)) (adds_then keeping past (cut_all size xs) (cut_all size ys) one.ones two.ones refused one.adds two.adds);
         count_is = omega (arith, count, one.count_is, two.count_is);
         bytes = omega (arith, long, double, one.bytes, two.bytes);
         less = omega (arith, long, one.less, two.less, length-append xs ys);
         takes = subst (Takes old new w u) (sym both) (takes_then old mid new w v u (concat one.ones) (concat two.ones) one.takes two.takes);
+        shown = subst (λ (t : List ℕ). last ≡ seen_by size t taps) (sym both) (shown_then size (concat one.ones) (concat two.ones) taps seen last some whole one.shown two.shown);
       }
 
   -- after a record that is refused no other is kept
-  pub goes_more : (xs ys : List ℕ) (old new : Outside) (w v : WriterSeen) (n : ℕ) → length xs % size ≡ 0 → Goes plan size xs old new w v n true → Goes plan size (xs ++ ys) old new w v n true
-  goes_more xs ys old new w v n even g = record {
+  pub goes_more : {taps seen : List TapSeen} → IsKeeping keeping → (xs ys : List ℕ) (old new : Outside) (w v : WriterSeen) (n : ℕ) → length xs % size ≡ 0 → Goes keeping past size xs old new w v taps seen n true → Goes keeping past size (xs ++ ys) old new w v taps seen n true
+  goes_more keeps xs ys old new w v n even g = record {
     ones = g.ones;
-    adds = subst (λ (rs : List (List ℕ)). Adds plan rs g.ones true) (sym (cut-append size xs ys some even)) (adds_more plan (cut_all size xs) (cut_all size ys) g.ones g.adds);
+    adds = subst (λ (rs : List (List ℕ)). Adds keeping past rs g.ones true) (sym (cut-append size xs ys some even)) (adds_more keeping keeps past (cut_all size xs) (cut_all size ys) g.ones g.adds);
     count_is = g.count_is;
     bytes = g.bytes;
     less = omega (arith, g.less, length-append xs ys);
     takes = g.takes;
+    shown = g.shown;
   }
 
   -- what a failed call leaves
-  pub leaves_then : (xs ys : List ℕ) (old mid new : Outside) (w v : WriterSeen) (m : ℕ) → length xs % size ≡ 0 → Goes plan size xs old mid w v m false → LeavesKept plan size ys mid new v → LeavesKept plan size (xs ++ ys) old new w
+  pub leaves_then : {taps seen : List TapSeen} (xs ys : List ℕ) (old mid new : Outside) (w v : WriterSeen) (m : ℕ) → length xs % size ≡ 0 → Goes keeping past size xs old mid w v taps seen m false → LeavesKept keeping (past ++ cut_all size xs) size ys mid new v → LeavesKept keeping past size (xs ++ ys) old new w
   leaves_then xs ys old mid new w v m even one two = record {
     first = cut_all size xs ++ two.first;
     rest = two.rest;
     ones = one.ones ++ two.ones;
     refused = two.refused;
     split = cut-append size xs ys some even ∙ ap (λ (rs : List (List ℕ)). cut_all size xs ++ rs) two.split ∙ sym (append_assoc (cut_all size xs) two.first two.rest);
-    adds = adds_then plan (cut_all size xs) two.first one.ones two.ones two.refused one.adds two.adds;
+    adds = adds_then keeping past (cut_all size xs) two.first one.ones two.ones two.refused one.adds two.adds;
     part = subst (LeavesPart old new w) (sym (concat-append one.ones two.ones)) (part_then old mid new w v (concat one.ones) (concat two.ones) one.takes two.part);
   }
 
-  pub leaves_goes : (xs ys : List ℕ) (old now later : Outside) (w v : WriterSeen) (m : ℕ) → length xs % size ≡ 0 → later.held ≡ now.held → Goes plan size xs old now w v m false → LeavesKept plan size (xs ++ ys) old later w
+  pub leaves_goes : {taps seen : List TapSeen} (xs ys : List ℕ) (old now later : Outside) (w v : WriterSeen) (m : ℕ) → length xs % size ≡ 0 → later.held ≡ now.held → Goes keeping past size xs old now w v taps seen m false → LeavesKept keeping past size (xs ++ ys) old later w
   leaves_goes xs ys old now later w v m even held g = record {
     first = cut_all size xs;
     rest = cut_all size ys;
@@ -101,11 +108,11 @@ module _ (plan : Steps) (size : ℕ) (some : 0 < size) where
     part = part_stands old now later w v (concat g.ones) held g.takes;
   }
 
-  pub leaves_now : (xs : List ℕ) (old now later : Outside) (w v : WriterSeen) (m : ℕ) → length xs % size ≡ 0 → later.held ≡ now.held → Goes plan size xs old now w v m false → LeavesKept plan size xs old later w
+  pub leaves_now : {taps seen : List TapSeen} (xs : List ℕ) (old now later : Outside) (w v : WriterSeen) (m : ℕ) → length xs % size ≡ 0 → later.held ≡ now.held → Goes keeping past size xs old now w v taps seen m false → LeavesKept keeping past size xs old later w
   leaves_now xs old now later w v m even held g =
-      subst (λ (t : List ℕ). LeavesKept plan size t old later w) (append-nil xs) (leaves_goes xs [] old now later w v m even held g)
+      subst (λ (t : List ℕ). LeavesKept keeping past size t old later w) (append-nil xs) (leaves_goes xs [] old now later w v m even held g)
 
-  pub leaves_more : (xs ys : List ℕ) (old new : Outside) (w : WriterSeen) → length xs % size ≡ 0 → LeavesKept plan size xs old new w → LeavesKept plan size (xs ++ ys) old new w
+  pub leaves_more : (xs ys : List ℕ) (old new : Outside) (w : WriterSeen) → length xs % size ≡ 0 → LeavesKept keeping past size xs old new w → LeavesKept keeping past size (xs ++ ys) old new w
   leaves_more xs ys old new w even l = record {
     first = l.first;
     rest = l.rest ++ cut_all size ys;
@@ -116,15 +123,43 @@ module _ (plan : Steps) (size : ℕ) (some : 0 < size) where
     part = l.part;
   }
 
+-- how many records bytes are
+pub count_is : (size : ℕ) (bytes : List ℕ) → length (cut_all size bytes) ≡ length bytes / size
+count_is size bytes = length_cut size (length bytes / size) bytes
+
+-- whole records that take no more bytes
+pub few_ones : (size len bytes k : ℕ) → 0 < size → len ≡ size * k → len ≤ bytes → (len / size ≡ k) × (k ≤ bytes / size)
+few_ones size len bytes k some is less = (
+  ap (λ (n : ℕ). n / size) is ∙ mul-div_right k some,
+  elim (cases_lt (bytes / size) k) [
+    | inr fine ↦ fine
+    | inl past ↦
+        let more : bytes / size + 1 ≤ k = omega (arith, past) in
+        absurd (omega (arith, mul-le-mul_left size more, div-add-mod bytes size, mod-lt bytes some, is, less))
+  ],
+)
+
+-- how many records were counted by the taps
+pub goes_counted : {taps seen : List TapSeen} (keeping : Keeping) (past : List (List ℕ)) (size : ℕ) (records : List ℕ) (old now : Outside) (w v : WriterSeen) (count : ℕ) (refused : Bool) (n m : ℕ) → 0 < size → n + length records / size ≤ m
+    → Goes keeping past size records old now w v taps seen count refused → HaveCounted n taps → HaveCounted m seen
+goes_counted {taps} {seen} keeping past size records old now w v count refused n m some less g few =
+    let fits = few_ones size (length (concat g.ones)) (length records) (length g.ones) some g.bytes g.less in
+    counted_more n m size (concat g.ones) taps seen (omega (arith, less, fits.0, fits.1)) g.shown few
+
+-- a sieve that no records came to
+pub after_none : (plan : Steps) (looked : List Placed) (past : List (List ℕ)) (sieving : Sieving) (read size : ℕ) → 0 < size → IsAfter plan looked past sieving read → IsAfter plan looked (past ++ cut_all size []) sieving read
+after_none plan looked past sieving read size some is =
+    subst (λ (rs : List (List ℕ)). IsAfter plan looked rs sieving read) (sym (ap (λ (rs : List (List ℕ)). past ++ rs) (cut_none size some) ∙ append-nil past)) is
+
 -- ---- one block
 
 pub kept_even : (size len wide : ℕ) (buffer : List ℕ) (ones : List (List ℕ)) → len ≤ length buffer → len ≡ size * length ones → wide ≡ size → length (take len buffer) % wide ≡ 0
 kept_even size len wide buffer ones within is same =
     ap (λ (n : ℕ). length (take len buffer) % n) same ∙ ap (λ (n : ℕ). n % size) (length-take-le len buffer within ∙ is) ∙ mul-mod_right size (length ones)
 
-pub kept_goes : (plan : Steps) (size len : ℕ) (block buffer : List ℕ) (ones : List (List ℕ)) (old new : Outside) (w v : WriterSeen) (refused : Bool) → 0 < size → len ≤ length block → len ≤ length buffer → take len buffer ≡ concat ones → len ≡ size * length ones
-    → Adds plan (cut_all size block) ones refused → Takes old new w v (take len buffer) → Goes plan size block old new w v (len / size) refused
-kept_goes plan size len block buffer ones old new w v refused some less within bytes is adds takes =
+pub kept_goes : {taps seen : List TapSeen} (keeping : Keeping) (past : List (List ℕ)) (size len : ℕ) (block buffer : List ℕ) (ones : List (List ℕ)) (old new : Outside) (w v : WriterSeen) (refused : Bool) → 0 < size → len ≤ length block → len ≤ length buffer → take len buffer ≡ concat ones → len ≡ size * length ones
+    → Adds keeping past (cut_all size block) ones refused → Takes old new w v (take len buffer) → seen ≡ seen_by size (take len buffer) taps → Goes keeping past size block old new w v taps seen (len / size) refused
+kept_goes {taps} {seen} keeping past size len block buffer ones old new w v refused some less within bytes is adds takes shown =
     let long : length (concat ones) ≡ len = ap (λ (t : List ℕ). length t) (sym bytes) ∙ length-take-le len buffer within in
     record {
       ones = ones;
@@ -133,7 +168,33 @@ kept_goes plan size len block buffer ones old new w v refused some less within b
       bytes = long ∙ is;
       less = omega (arith, long, less);
       takes = subst (Takes old new w v) bytes takes;
+      shown = subst (λ (t : List ℕ). seen ≡ seen_by size t taps) bytes shown;
     }
+
+-- what is left if the taps fail
+pub leaves_taken : (keeping : Keeping) (past : List (List ℕ)) (size len : ℕ) (block buffer : List ℕ) (ones : List (List ℕ)) (old new : Outside) (w v : WriterSeen) (refused : Bool) → take len buffer ≡ concat ones
+    → Adds keeping past (cut_all size block) ones refused → Takes old new w v (take len buffer) → LeavesKept keeping past size block old new w
+leaves_taken keeping past size len block buffer ones old new w v refused bytes adds takes = record {
+  first = cut_all size block;
+  rest = [];
+  ones = ones;
+  refused = refused;
+  split = sym (append-nil (cut_all size block));
+  adds = adds;
+  part = part_stands old new new w v (concat ones) refl (subst (Takes old new w v) bytes takes);
+}
+
+-- what is left if nothing of a block was kept yet
+pub leaves_none : (keeping : Keeping) (past : List (List ℕ)) (size : ℕ) (block : List ℕ) (now : Outside) (w : WriterSeen) → LeavesKept keeping past size block now now w
+leaves_none keeping past size block now w = record {
+  first = [];
+  rest = cut_all size block;
+  ones = [];
+  refused = false;
+  split = refl;
+  adds = adds_none keeping past;
+  part = part_stands now now now w w [] refl (takes_none now w);
+}
 
 -- ---- the blocks of a batch
 
@@ -144,33 +205,50 @@ module _ (size : ℕ) (some : 0 < size) (blocks : List (List ℕ)) (all : All (�
   pub even_here : length (get_or blocks i []) % size ≡ 0
   even_here = all i [] within
 
-  pub goes_block : (plan : Steps) (old mid new : Outside) (w v u : WriterSeen) (m n : ℕ) (refused : Bool) (block : List ℕ) → block ≡ get_or blocks i [] → Goes plan size (concat (take i blocks)) old mid w v m false → Goes plan size block mid new v u n refused
-      → Goes plan size (concat (take (i + 1) blocks)) old new w u (m + n) refused
-  goes_block plan old mid new w v u m n refused block is one two =
-      subst (λ (t : List ℕ). Goes plan size t old new w u (m + n) refused) (ap (λ (b : List ℕ). concat (take i blocks) ++ b) is ∙ sym (concat_more blocks i within))
-      (goes_then plan size some (concat (take i blocks)) block old mid new w v u m n refused even_so_far one two)
+  pub goes_block : {taps seen last : List TapSeen} (keeping : Keeping) (past : List (List ℕ)) (old mid new : Outside) (w v u : WriterSeen) (m n : ℕ) (refused : Bool) (block : List ℕ) → block ≡ get_or blocks i [] → Goes keeping past size (concat (take i blocks)) old mid w v taps seen m false → Goes keeping (past ++ cut_all size (concat (take i blocks))) size block mid new v u seen last n refused
+      → Goes keeping past size (concat (take (i + 1) blocks)) old new w u taps last (m + n) refused
+  goes_block {taps} {seen} {last} keeping past old mid new w v u m n refused block is one two =
+      subst (λ (t : List ℕ). Goes keeping past size t old new w u taps last (m + n) refused) (ap (λ (b : List ℕ). concat (take i blocks) ++ b) is ∙ sym (concat_more blocks i within))
+      (goes_then keeping past size some (concat (take i blocks)) block old mid new w v u m n refused even_so_far one two)
 
-  pub goes_end : (plan : Steps) (old new : Outside) (w u : WriterSeen) (n : ℕ) → Goes plan size (concat (take (i + 1) blocks)) old new w u n true → Goes plan size (concat blocks) old new w u n true
-  goes_end plan old new w u n g =
-      subst (λ (t : List ℕ). Goes plan size t old new w u n true) (sym (concat_rest blocks (i + 1)))
-      (goes_more plan size some (concat (take (i + 1) blocks)) (concat (drop (i + 1) blocks)) old new w u n (even_first size (i + 1) blocks all) g)
+  pub goes_end : {taps seen : List TapSeen} (keeping : Keeping) → IsKeeping keeping → (past : List (List ℕ)) (old new : Outside) (w u : WriterSeen) (n : ℕ) → Goes keeping past size (concat (take (i + 1) blocks)) old new w u taps seen n true → Goes keeping past size (concat blocks) old new w u taps seen n true
+  goes_end {taps} {seen} keeping keeps past old new w u n g =
+      subst (λ (t : List ℕ). Goes keeping past size t old new w u taps seen n true) (sym (concat_rest blocks (i + 1)))
+      (goes_more keeping past size some keeps (concat (take (i + 1) blocks)) (concat (drop (i + 1) blocks)) old new w u n (even_first size (i + 1) blocks all) g)
 
-  pub leaves_block : (plan : Steps) (old mid new : Outside) (w v : WriterSeen) (m : ℕ) (block : List ℕ) → block ≡ get_or blocks i [] → Goes plan size (concat (take i blocks)) old mid w v m false → LeavesKept plan size block mid new v → LeavesKept plan size (concat blocks) old new w
-  leaves_block plan old mid new w v m block is one two =
-      subst (λ (t : List ℕ). LeavesKept plan size t old new w) (sym (concat_rest blocks (i + 1)))
-      (leaves_more plan size some (concat (take (i + 1) blocks)) (concat (drop (i + 1) blocks)) old new w (even_first size (i + 1) blocks all)
-      (subst (λ (t : List ℕ). LeavesKept plan size t old new w) (ap (λ (b : List ℕ). concat (take i blocks) ++ b) is ∙ sym (concat_more blocks i within))
-      (leaves_then plan size some (concat (take i blocks)) block old mid new w v m even_so_far one two)))
+  pub leaves_block : {taps seen : List TapSeen} (keeping : Keeping) (past : List (List ℕ)) (old mid new : Outside) (w v : WriterSeen) (m : ℕ) (block : List ℕ) → block ≡ get_or blocks i [] → Goes keeping past size (concat (take i blocks)) old mid w v taps seen m false → LeavesKept keeping (past ++ cut_all size (concat (take i blocks))) size block mid new v → LeavesKept keeping past size (concat blocks) old new w
+  leaves_block keeping past old mid new w v m block is one two =
+      subst (λ (t : List ℕ). LeavesKept keeping past size t old new w) (sym (concat_rest blocks (i + 1)))
+      (leaves_more keeping past size some (concat (take (i + 1) blocks)) (concat (drop (i + 1) blocks)) old new w (even_first size (i + 1) blocks all)
+      (subst (λ (t : List ℕ). LeavesKept keeping past size t old new w) (ap (λ (b : List ℕ). concat (take i blocks) ++ b) is ∙ sym (concat_more blocks i within))
+      (leaves_then keeping past size some (concat (take i blocks)) block old mid new w v m even_so_far one two)))
 
-  pub leaves_before : (plan : Steps) (old mid : Outside) (w v : WriterSeen) (m : ℕ) → Goes plan size (concat (take i blocks)) old mid w v m false → LeavesKept plan size (concat blocks) old mid w
-  leaves_before plan old mid w v m g =
-      subst (λ (t : List ℕ). LeavesKept plan size t old mid w) (sym (concat_rest blocks i))
-      (leaves_goes plan size some (concat (take i blocks)) (concat (drop i blocks)) old mid mid w v m even_so_far refl g)
+  pub leaves_before : {taps seen : List TapSeen} (keeping : Keeping) (past : List (List ℕ)) (old mid : Outside) (w v : WriterSeen) (m : ℕ) → Goes keeping past size (concat (take i blocks)) old mid w v taps seen m false → LeavesKept keeping past size (concat blocks) old mid w
+  leaves_before keeping past old mid w v m g =
+      subst (λ (t : List ℕ). LeavesKept keeping past size t old mid w) (sym (concat_rest blocks i))
+      (leaves_goes keeping past size some (concat (take i blocks)) (concat (drop i blocks)) old mid mid w v m even_so_far refl g)
+
+  -- the records of the batch up to the block, and with it
+  pub records_block : (past : List (List ℕ)) (block : List ℕ) → block ≡ get_or blocks i [] → (past ++ cut_all size (concat (take i blocks))) ++ cut_all size block ≡ past ++ cut_all size (concat (take (i + 1) blocks))
+  records_block past block is =
+      append_assoc past (cut_all size (concat (take i blocks))) (cut_all size block)
+      ∙ ap (λ (rs : List (List ℕ)). past ++ rs)
+      (sym (cut-append size (concat (take i blocks)) block some even_so_far)
+      ∙ ap (cut_all size) (ap (λ (b : List ℕ). concat (take i blocks) ++ b) is ∙ sym (concat_more blocks i within)))
+
+  pub count_block : (block : List ℕ) → block ≡ get_or blocks i [] → length (concat (take i blocks)) / size + length block / size ≤ length (concat blocks) / size
+  count_block block is =
+      let one = ap (λ (rs : List (List ℕ)). length rs) (records_block [] block is) in
+      let here = length-append (cut_all size (concat (take i blocks))) (cut_all size block) in
+      let rest = ap (λ (b : List ℕ). length (cut_all size b)) (concat_rest blocks (i + 1))
+      ∙ ap (λ (rs : List (List ℕ)). length rs) (cut-append size (concat (take (i + 1) blocks)) (concat (drop (i + 1) blocks)) some (even_first size (i + 1) blocks all))
+      ∙ length-append (cut_all size (concat (take (i + 1) blocks))) (cut_all size (concat (drop (i + 1) blocks))) in
+      omega (arith, one, here, rest, count_is size (concat (take i blocks)), count_is size block, count_is size (concat blocks))
 
   -- there is room for the block
-  pub room_kept : (plan : Steps) (old mid : Outside) (w v : WriterSeen) (m : ℕ) (before : Outside) (out : Output) (bytes : List ℕ) → Stands before old w out bytes → Goes plan size (concat (take i blocks)) old mid w v m false → w.taken + length (concat blocks) ≤ w.size * w.most → v.most ≡ w.most
+  pub room_kept : {taps seen : List TapSeen} (keeping : Keeping) (past : List (List ℕ)) (old mid : Outside) (w v : WriterSeen) (m : ℕ) (before : Outside) (out : Output) (bytes : List ℕ) → Stands before old w out bytes → Goes keeping past size (concat (take i blocks)) old mid w v taps seen m false → w.taken + length (concat blocks) ≤ w.size * w.most → v.most ≡ w.most
       → (v.size ≡ w.size) × (v.taken + length (get_or blocks i []) ≤ v.size * v.most)
-  room_kept plan old mid w v m before out bytes s g room most =
+  room_kept keeping past old mid w v m before out bytes s g room most =
       let t = g.takes before out bytes s in
       let size_is : v.size ≡ w.size = t.size ∙ sym s.size in
       let taken : v.taken ≡ w.taken + length (concat g.ones) = t.taken ∙ length-append bytes (concat g.ones) ∙ ap (λ (n : ℕ). n + length (concat g.ones)) (sym s.taken) in
@@ -180,8 +258,8 @@ module _ (size : ℕ) (some : 0 < size) (blocks : List (List ℕ)) (all : All (�
       (size_is, omega (arith, taken, whole, one, limit, room, g.less))
 
 -- fewer records are kept than a number of 32 bits has values
-pub few_kept : (plan : Steps) (size : ℕ) (records : List ℕ) (old now : Outside) (w v : WriterSeen) (n : ℕ) (refused : Bool) (before : Outside) (out : Output) (bytes : List ℕ) → 0 < size → w.size ≡ size → Stands before old w out bytes → Goes plan size records old now w v n refused → n < 2 ^ 32
-few_kept plan size records old now w v n refused before out bytes some same s g =
+pub few_kept : {taps seen : List TapSeen} (keeping : Keeping) (past : List (List ℕ)) (size : ℕ) (records : List ℕ) (old now : Outside) (w v : WriterSeen) (n : ℕ) (refused : Bool) (before : Outside) (out : Output) (bytes : List ℕ) → 0 < size → w.size ≡ size → Stands before old w out bytes → Goes keeping past size records old now w v taps seen n refused → n < 2 ^ 32
+few_kept keeping past size records old now w v n refused before out bytes some same s g =
     let t = g.takes before out bytes s in
     let wide : v.size ≡ size = t.size ∙ sym s.size ∙ same in
     let total : length (bytes ++ concat g.ones) ≤ size * v.most = subst (λ (k : ℕ). length (bytes ++ concat g.ones) ≤ k * v.most) (sym t.size ∙ wide) t.within in
@@ -191,9 +269,9 @@ few_kept plan size records old now w v n refused before out bytes some same s g 
 -- ---- batches of a reader
 
 -- there is room for what comes after a batch
-pub room_going : (plan : Steps) (old new : Outside) (reader next : ReaderSeen) (held : Option FileMap) (v u : WriterSeen) (m count : ℕ) (refused : Bool) (ys : List (List ℕ)) (before : Outside) (out : Output) (bytes : List ℕ) → Stands before old v out bytes → CanTake reader v
-    → ReadsMore held reader next m ys → Goes plan v.size (concat ys) old new v u count refused → u.most ≡ v.most → u.failed ≡ false → CanTake next u
-room_going plan old new reader next held v u m count refused ys before out bytes s can more g most sound =
+pub room_going : {taps seen : List TapSeen} (keeping : Keeping) (past : List (List ℕ)) (old new : Outside) (reader next : ReaderSeen) (held : Option FileMap) (v u : WriterSeen) (m count : ℕ) (refused : Bool) (ys : List (List ℕ)) (before : Outside) (out : Output) (bytes : List ℕ) → Stands before old v out bytes → CanTake reader v
+    → ReadsMore held reader next m ys → Goes keeping past v.size (concat ys) old new v u taps seen count refused → u.most ≡ v.most → u.failed ≡ false → CanTake next u
+room_going keeping past old new reader next held v u m count refused ys before out bytes s can more g most sound =
     let after = g.takes before out bytes s in
     let size : u.size ≡ v.size = after.size ∙ sym s.size in
     let all : records_in reader.left ≡ records_in (take m reader.left) + records_in next.left =
@@ -210,3 +288,27 @@ room_going plan old new reader next held v u m count refused ys before out bytes
 -- the blocks that were read are whole records
 pub even_read : (held : Option FileMap) (first : ReaderSeen) (w : WriterSeen) (n : ℕ) (blocks : List (List ℕ)) → CanTake first w → HoldFirst held first n blocks → length (concat blocks) % w.size ≡ 0
 even_read held first w n blocks can hold = even_all w.size blocks (even_for first w n blocks can hold.whole)
+
+-- ---- how many records a reader has
+
+pub few_left : (first : ReaderSeen) (w : WriterSeen) → 0 < w.size → CanTake first w → w.most < 2 ^ 32 → records_in first.left < 2 ^ 32
+few_left first w some can few =
+    let less : w.size * records_in first.left ≤ w.size * w.most = omega (arith, can.room) in
+    omega (arith, le_of_mul-le-mul_left less some, few)
+
+-- how many were read with a batch
+pub few_batch : (held : Option FileMap) (first reader next : ReaderSeen) (size n m : ℕ) (xs ys : List (List ℕ)) → 0 < size → size ≡ record_length_of first.head.bytes → HasRead held first reader n xs → ReadsMore held reader next m ys → records_in first.left < 2 ^ 32
+    → length (cut_all size (concat xs)) + length (concat ys) / size < 2 ^ 32
+few_batch held first reader next size n m xs ys some is r s less =
+    let both = read_more held first reader next n m xs ys r s in
+    let k = records_in (take (n + m) first.left) in
+    let whole : length (concat (xs ++ ys)) ≡ size * k = length_whole (record_length_of first.head.bytes) (take (n + m) first.left) (xs ++ ys) both.hold.whole ∙ ap (λ (z : ℕ). z * k) (sym is) in
+    let few : k ≤ records_in first.left = omega (arith, ap records_in (take-append-drop (n + m) first.left), records-append (take (n + m) first.left) (drop (n + m) first.left)) in
+    let even = subst (λ (z : ℕ). All (λ block. length block % z ≡ 0) xs) (sym is) (even_whole (record_length_of first.head.bytes) (take n first.left) xs r.hold.whole) in
+    let cut = ap (λ (b : List ℕ). length (cut_all size b)) (concat-append xs ys) ∙ ap (λ (rs : List (List ℕ)). length rs) (cut-append size (concat xs) (concat ys) some (even_all size xs even)) ∙ length-append (cut_all size (concat xs)) (cut_all size (concat ys)) in
+    let total : length (concat (xs ++ ys)) / size ≡ k = ap (λ (z : ℕ). z / size) whole ∙ mul-div_right k some in
+    omega (arith, cut, total, few, less, count_is size (concat (xs ++ ys)), count_is size (concat ys))
+
+-- the records of the blocks that were read before and of those of a batch
+pub records_batch : (size : ℕ) (xs ys : List (List ℕ)) → 0 < size → length (concat xs) % size ≡ 0 → cut_all size (concat xs) ++ cut_all size (concat ys) ≡ cut_all size (concat (xs ++ ys))
+records_batch size xs ys some even = sym (ap (cut_all size) (concat-append xs ys) ∙ cut-append size (concat xs) (concat ys) some even)

@@ -1,9 +1,13 @@
 pub mod Adding
+pub mod Passing
 pub mod Cuts
+pub mod Shown
 pub mod Going
 pub mod Only
 pub mod Endings
 pub mod Converts
+pub mod Readings
+pub mod Looks
 pub mod Wholes
 pub mod Asked
 pub mod AllPlaces

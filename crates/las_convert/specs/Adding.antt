@@ -1,48 +1,100 @@
--- Records that a plan keeps, some after others, and that a writer takes.
-use Rattle.std.specs.Prelude.{◌≡◌, ℕ, ◌*◌, ◌/◌, ◌≤◌, Bool, true, false, if◌then◌else◌, List, ◌++◌, length, Option, Some}
-use Rattle.std.specs.Prelude.{None}
+-- Records that are kept, some after others, and that a writer takes and taps see.
+use Rattle.std.specs.Prelude.{◌≡◌, ℕ, ◌+◌, ◌*◌, ◌/◌, ◌%◌, ◌^◌, ◌≤◌, Bool, true, false, if◌then◌else◌, List, []}
+use Rattle.std.specs.Prelude.{◌++◌, length, map, All, Option, Some, None}
 use Rattle.std.specs.List.{concat}
 use Rattle.las_header.specs.declared.refusal.Refusal.{Refusal}
 use Rattle.las_header.specs.declared.refusal.Refusal.TheVariants.{RawRange}
 use Rattle.las_header.specs.Plain.{cut_records}
-use Rattle.las_filter.specs.Kept.{Steps, kept}
+use Rattle.las_filter.specs.Kept.{Kept, Steps, kept}
+use Rattle.las_info.specs.Tallies.{TapSeen, count_at, shown_all}
 use Rattle.las_outside.specs.Files.{FileMap}
 use Rattle.las_outside.specs.Outside.{Outside}
+use Rattle.las_thin.specs.Kept.{kept_behind, kept_where, passing}
+use Rattle.las_thin.specs.Placed.{Placed}
+use Rattle.las_thin.specs.Sieving.{Settings, Sieving, all_pass, picks_first, stays}
+use Rattle.las_thin.specs.Sieving as sieve
 use Rattle.laz_file.specs.Copying.{EndsAfter, LeavesPart, Takes}
-use Rattle.laz_file.specs.Reading.{ReaderSeen}
+use Rattle.laz_chunk.specs.Layouts.{Format}
+use Rattle.laz_file.specs.Reading.{Lends, ReaderSeen}
 use Rattle.laz_file.specs.Writing.{WriterSeen}
+use Rattle.laz_workers.specs.Rooms.{HandSeen}
 
--- After any records of which none is refused, of these more these are kept, and then one is refused, or none.
-abbrev pub Adds : Steps → (records ones : List (List ℕ)) → (refused : Bool) → Type 0
-Adds plan records ones refused =
-    (before : List (List ℕ)) → (kept plan before).raw_range ≡ None
-    → kept plan (before ++ records) ≡ record {
-      records = (kept plan before).records ++ ones;
-      raw_range = if refused then Some (length ((kept plan before).records ++ ones)) else None;
+-- what is kept of a list of records
+abbrev pub Keeping : Type 0
+Keeping = List (List ℕ) → Kept
+
+-- what a plan keeps behind a sieve that has looked at these records: with the first of a cell what stays of the records
+-- themselves, and else those of them that stay of the records that were looked at
+abbrev pub kept_by : Settings → (looked : List Placed) → Steps → Keeping
+kept_by settings looked plan records =
+    if picks_first settings.pick then kept_behind plan settings records
+    else kept_where (stays settings looked) plan records
+
+-- After some records, of which none is refused, of these more these are kept, and then one is refused, or none.
+abbrev pub Adds : Keeping → (before records ones : List (List ℕ)) → (refused : Bool) → Type 0
+Adds keeping before records ones refused =
+    (keeping before).raw_range ≡ None
+    → keeping (before ++ records) ≡ record {
+      records = (keeping before).records ++ ones;
+      raw_range = if refused then Some (length ((keeping before).records ++ ones)) else None;
     }
+
+-- The same after any records, if there is no sieve.
+abbrev pub AddsAlways : Steps → (records ones : List (List ℕ)) → (refused : Bool) → Type 0
+AddsAlways plan records ones refused = (before : List (List ℕ)) → Adds (kept plan) before records ones refused
 
 -- whole records, each as its bytes
 abbrev pub cut_all : (size : ℕ) → List ℕ → List (List ℕ)
 cut_all size bytes = cut_records size (length bytes / size) bytes
 
--- Of some records `count` are kept, and then one is refused, or none; the writer took those that are kept.
-pub record Goes (plan : Steps) (size : ℕ) (records : List ℕ) (old now : Outside) (w v : WriterSeen) (count : ℕ)
-    (refused : Bool) : Type 0 where
+-- A sieve has looked at these records, and was asked for those of some records that pass the filters; if all records
+-- pass it, it need not be asked. So many records have passed by it.
+pub record IsAfter (plan : Steps) (looked : List Placed) (before : List (List ℕ)) (sieving : Sieving) (read : ℕ)
+    : Type 0 where
+  pub read_is : length before ≡ read
+  pub stands : (sieving.settings ≡ all_pass → ⊥) → sieve.StandsFor looked (passing plan before) sieving
+
+-- What is kept by the sieve after any records that may have passed by it, and after none, is such.
+abbrev pub AfterAny : Steps → Sieving → (read : ℕ) → (Keeping → (before : List (List ℕ)) → Type 0) → Type 0
+AfterAny plan sieving read Is = (looked : List Placed) (before : List (List ℕ))
+    → IsAfter plan looked before sieving read → Is (kept_by sieving.settings looked plan) before
+
+abbrev pub AfterNone : Steps → Sieving → (read : ℕ) → (Keeping → Type 0) → Type 0
+AfterNone plan sieving read Is = (looked : List Placed)
+    → IsAfter plan looked [] sieving read → Is (kept_by sieving.settings looked plan)
+
+-- A reader and its crew lend these blocks, so many, each of whole records.
+pub record IsLent (reader : ReaderSeen) (crew : List (HandSeen Format)) (size count : ℕ) (blocks : List (List ℕ))
+    : Type 0 where
+  pub lends : Lends reader crew blocks
+  pub count_is : length blocks ≡ count
+  pub whole : All (λ block. length block % size ≡ 0) blocks
+
+-- No tap has counted more in a bin than 2^63 and one for each of some records.
+abbrev pub HaveCounted : (records : ℕ) → List TapSeen → Type 0
+HaveCounted records taps = All (λ tap. (bin : ℕ) → count_at tap.tally bin ≤ 2 ^ 63 + records) taps
+
+-- Of some records after others `count` are kept, and then one is refused, or none; the writer took those that are kept,
+-- and each tap saw them.
+pub record Goes (keeping : Keeping) (before : List (List ℕ)) (size : ℕ) (records : List ℕ) (old now : Outside)
+    (w v : WriterSeen) (taps seen : List TapSeen) (count : ℕ) (refused : Bool) : Type 0 where
   pub ones : List (List ℕ)
-  pub adds : Adds plan (cut_all size records) ones refused
+  pub adds : Adds keeping before (cut_all size records) ones refused
   pub count_is : count ≡ length ones
   pub bytes : length (concat ones) ≡ size * length ones
   pub less : length (concat ones) ≤ length records
   pub takes : Takes old now w v (concat ones)
+  pub shown : seen ≡ map (λ tap. shown_all tap (cut_all size (concat ones))) taps
 
 -- A call failed while the writer took what is kept of the first of some records.
-pub record LeavesKept (plan : Steps) (size : ℕ) (records : List ℕ) (old now : Outside) (w : WriterSeen) : Type 0 where
+pub record LeavesKept (keeping : Keeping) (before : List (List ℕ)) (size : ℕ) (records : List ℕ) (old now : Outside)
+    (w : WriterSeen) : Type 0 where
   pub first : List (List ℕ)
   pub rest : List (List ℕ)
   pub ones : List (List ℕ)
   pub refused : Bool
   pub split : cut_all size records ≡ first ++ rest
-  pub adds : Adds plan first ones refused
+  pub adds : Adds keeping before first ones refused
   pub part : LeavesPart old now w (concat ones)
 
 -- The records end after n pieces: with one that is refused, or as those of the reader do.

@@ -1,28 +1,49 @@
--- What converting the range of all places gives.
-use Rattle.std.specs.Prelude.{ℕ, List, take, Option, Some, None}
+-- What converting the range of all places gives, and what it gives without a sieve.
+use Rattle.std.specs.Prelude.{◌↔◌, ℕ, List, take, Option, Some, None}
 use Rattle.las_header.specs.declared.refusal.Refusal.{Refusal}
 use Rattle.las_header.specs.declared.refusal.Refusal.TheVariants.{BadChunk, RawRange}
 use Rattle.las_header.specs.Fields.{head_of}
-use Rattle.las_filter.specs.Kept.{Steps}
+use Rattle.las_filter.specs.Kept.{Steps, kept}
+use Rattle.las_thin.specs.Kept.{kept_behind}
+use Rattle.las_thin.specs.Sieving.{IsFirst, Settings, all_pass}
 use Rattle.laz_file.specs.Pieces.{ArePieces, Piece}
-use Rattle.laz_file.specs.Ranges.{whole_range}
+use Rattle.laz_file.specs.Ranges.{Range, whole_range}
 use Rattle.laz_file.specs.Records.{AreRecordsOf, HoldBlocks}
-use Rattle.las_convert.specs.Converting.{ConvertsTo, Keeps}
+use Rattle.las_convert.specs.Converting.{ConvertsOnce, ConvertsTo, Keeps}
 
 -- a bad chunk as a refusal
 abbrev pub bad_chunk : Option ℕ → Option Refusal
 bad_chunk None = None
 bad_chunk (Some i) = Some (BadChunk i)
 
--- What a plan keeps of the records of a file is what converting the range of all places gives.
-abbrev pub ConvertsAllRecords : Type 0
-ConvertsAllRecords = (plan : Steps) (file records : List ℕ) (blocks : List (List ℕ)) (bad : Option ℕ)
-    → AreRecordsOf file blocks bad → Keeps plan file blocks records None
-    → ConvertsTo plan file (whole_range (head_of file)) records (bad_chunk bad)
+-- a record out of range as a refusal
+abbrev pub raw_record : Option ℕ → Option Refusal
+raw_record None = None
+raw_record (Some k) = Some (RawRange k)
 
--- So is what it keeps of the first pieces of the file, if a record of them is refused.
+-- If the first record of a cell stays, or all do, what is kept of the records of a file is what converting the range of
+-- all places gives.
+abbrev pub ConvertsAllRecords : Type 0
+ConvertsAllRecords = (plan : Steps) (settings : Settings) (file records : List ℕ) (blocks : List (List ℕ))
+    (bad : Option ℕ) → IsFirst settings.pick → AreRecordsOf file blocks bad
+    → Keeps (kept_behind plan settings) file blocks records None
+    → ConvertsTo plan settings file (whole_range (head_of file)) records (bad_chunk bad)
+
+-- So is what is kept of the first pieces of the file, if a record of them is refused.
 abbrev pub ConvertsFirstRecords : Type 0
-ConvertsFirstRecords = (plan : Steps) (file records : List ℕ) (pieces : List Piece) (number : ℕ)
-    (blocks : List (List ℕ)) (k : ℕ) → ArePieces file pieces → HoldBlocks file (take number pieces) blocks
-    → Keeps plan file blocks records (Some k)
-    → ConvertsTo plan file (whole_range (head_of file)) records (Some (RawRange k))
+ConvertsFirstRecords = (plan : Steps) (settings : Settings) (file records : List ℕ) (pieces : List Piece) (number : ℕ)
+    (blocks : List (List ℕ)) (k : ℕ) → IsFirst settings.pick → ArePieces file pieces
+    → HoldBlocks file (take number pieces) blocks → Keeps (kept_behind plan settings) file blocks records (Some k)
+    → ConvertsTo plan settings file (whole_range (head_of file)) records (Some (RawRange k))
+
+-- If the lowest or the highest stays, it is what is kept of all records of the file, also if one is refused.
+abbrev pub ConvertsWholeFiles : Type 0
+ConvertsWholeFiles = (plan : Steps) (settings : Settings) (file records : List ℕ) (blocks : List (List ℕ))
+    (raw_range : Option ℕ) → (IsFirst settings.pick → ⊥) → AreRecordsOf file blocks None
+    → Keeps (kept_behind plan settings) file blocks records raw_range
+    → ConvertsTo plan settings file (whole_range (head_of file)) records (raw_record raw_range)
+
+-- With a sieve that lets every record pass, converting gives what it gives without a sieve.
+abbrev pub ConvertsAsThePlan : Type 0
+ConvertsAsThePlan = (plan : Steps) (file : List ℕ) (range : Range) (records : List ℕ) (refusal : Option Refusal)
+    → ConvertsTo plan all_pass file range records refusal ↔ ConvertsOnce (kept plan) file range records refusal

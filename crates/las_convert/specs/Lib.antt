@@ -1,3 +1,4 @@
 pub mod Adding
+pub mod Passing
 pub mod Converting
 pub mod Laws

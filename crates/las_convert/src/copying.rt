@@ -1,26 +1,28 @@
-//! Records that go from a reader through a plan into a writer.
-ghost use Rattle.std.specs.Prelude.{◌≡◌, ◌≢◌, ◌%◌, ◌*◌, ◌+◌, ◌≤◌, ◌<◌, ℕ, Bool, List, length, All, false, true};
-ghost use Rattle.std.specs.Prelude.{IfErr, IfOk, OnErr, OnOk, vec_len};
+//! Records that go from a reader through a plan, a sieve and taps into a writer.
+ghost use Rattle.std.specs.Prelude.{◌≡◌, ◌≢◌, ◌%◌, ◌*◌, ◌+◌, ◌/◌, ◌^◌, ◌≤◌, ◌<◌, ◌++◌, [], ℕ, Bool, List};
+ghost use Rattle.std.specs.Prelude.{All, IfErr, IfOk, OnErr, OnOk, false, length, map};
 ghost use Rattle.std.specs.List.{concat};
 ghost use Rattle.las_filter.specs.Changes.{HasClass};
 ghost use Rattle.las_filter.specs.Kept.{steps_of};
 ghost use Rattle.las_outside.specs.Files.{WhereKnown};
 ghost use Rattle.las_outside.specs.Outside.{Later, Outside};
+ghost use Rattle.las_thin.specs.Placed.{Placed};
 ghost use Rattle.laz_file.specs.Copying.{CanTake, HasCause, HoldFirst, end_of};
 ghost use Rattle.laz_file.specs.Asking.{bytes_left};
 ghost use Rattle.laz_file.specs.Outputs.{Output};
 ghost use Rattle.laz_file.specs.Reading.{IsCrewOf, Lends, StandsFor};
 ghost use Rattle.laz_file.specs.Writing.{SameFaults, Stands};
-ghost use Rattle.las_convert.specs.Adding.{EndsKeeping, Goes, LeavesKept};
+ghost use Rattle.las_convert.specs.Adding.{AfterAny, AfterNone, EndsKeeping, Goes, HaveCounted, IsAfter, IsLent};
+ghost use Rattle.las_convert.specs.Adding.{LeavesKept, cut_all};
 
-use crate::keeping::keep_records;
+use crate::passage::Passage;
 use las_filter::Plan;
 use las_header::{POINT_RECORD, Refusal};
 use las_outside::{Files, Gate};
 use laz_chunk::Workspace;
 use laz_file::{Fault, Reader, Writer};
 use laz_workers::Crew;
-use std::alloc::{AllocError, Global};
+use std::alloc::Global;
 use std::thread::Threads;
 
 /// What was taken of some records: how many were kept, and whether the change of the next one that passes is refused.
@@ -30,17 +32,7 @@ pub(crate) struct Taken {
     pub(crate) refused: bool,
 }
 
-/// Makes a buffer at least as long as this.
-pub(crate) fn grow(buffer: &mut Vec<u8>, size: usize) -> Result<(), AllocError>
-    ensures { OnOk result (size ≤ vec_len buffer.new) }
-{
-    if buffer.len() < size {
-        buffer.resize(size, 0)?;
-    }
-    Ok(())
-}
-
-// Filters and changes the records of a block in a buffer, and pushes what is kept of them.
+// Filters, sifts and changes the records of a block, pushes what is kept of them, and shows it to the taps.
 fn push_kept<R: Threads + Sync, F: Files, G: Gate>(
     rt: &R,
     alloc: Global,
@@ -49,22 +41,33 @@ fn push_kept<R: Threads + Sync, F: Files, G: Gate>(
     plan: &Plan,
     size: usize,
     block: &[u8],
-    buffer: &mut [u8],
+    passage: &mut Passage,
     writer: &mut Writer,
 ) -> Result<Taken, Fault>
     requires size { POINT_RECORD ≤ size }
     requires whole { length block.now % size ≡ 0 }
-    requires fits { length block.now ≤ length buffer.old }
     requires classes { All HasClass plan.now.changes.items }
+    requires few { passage.old.read + length block.now / size < 2 ^ 32 }
+    requires after { (looked : List Placed) × (before : List (List ℕ))
+        × IsAfter (steps_of plan.now) looked before passage.old.sieve passage.old.read }
+    requires counted { HaveCounted passage.old.read (map (λ tap. tap_seen tap) passage.old.taps.items) }
     requires open { writer.old.failed ≡ false }
     requires same { writer.old.size ≡ size }
     requires room { writer.old.taken + length block.now ≤ writer.old.size * writer.old.most }
     requires stands { (before : Outside) × (out : Output) × (bytes : List ℕ)
         × Stands before (F.seen files.old) writer.old out bytes }
-    ensures goes { IfOk result (λ taken. Goes (steps_of plan.now) size block.now (F.seen files.old) (F.seen files.new)
-        writer.old writer.new taken.kept taken.refused) }
-    ensures left { OnErr result
-        (LeavesKept (steps_of plan.now) size block.now (F.seen files.old) (F.seen files.new) writer.old) }
+    ensures goes { AfterAny (steps_of plan.now) passage.old.sieve passage.old.read (λ keeping before.
+        IfOk result (λ taken. Goes keeping before size block.now (F.seen files.old) (F.seen files.new) writer.old
+        writer.new (map (λ tap. tap_seen tap) passage.old.taps.items)
+        (map (λ tap. tap_seen tap) passage.new.taps.items) taken.kept taken.refused)) }
+    ensures after { (looked : List Placed) (before : List (List ℕ))
+        → IsAfter (steps_of plan.now) looked before passage.old.sieve passage.old.read
+        → IfOk result (λ taken. taken.refused ≡ false → IsAfter (steps_of plan.now) looked
+        (before ++ cut_all size block.now) passage.new.sieve passage.new.read) }
+    ensures left { AfterAny (steps_of plan.now) passage.old.sieve passage.old.read (λ keeping before. OnErr result
+        (LeavesKept keeping before size block.now (F.seen files.old) (F.seen files.new) writer.old)) }
+    ensures settings { passage.new.sieve.settings ≡ passage.old.sieve.settings }
+    ensures read { OnOk result (passage.new.read ≡ passage.old.read + length block.now / size) }
     ensures most { writer.new.most ≡ writer.old.most }
     ensures open { OnOk result (writer.new.failed ≡ false) }
     ensures cause { IfErr result (HasCause (F.seen files.old) (F.seen files.new)) }
@@ -72,16 +75,17 @@ fn push_kept<R: Threads + Sync, F: Files, G: Gate>(
     ensures later { Later (F.seen files.old) (F.seen files.new) }
     ensures asked { (F.seen files.new).asked ≡ (F.seen files.old).asked }
 {
-    let part = keep_records(plan, size, block, buffer);
-    writer.push(rt, alloc, files, gate, &buffer[..part.length])?;
+    let part = passage.keep(plan, size, block)?;
+    writer.push(rt, alloc, files, gate, &passage.buffer[..part.length])?;
+    passage.show(size, part.length)?;
     Ok(Taken {
         kept: (part.length / size) as u64,
         refused: part.refused,
     })
 }
 
-// Filters, changes and pushes the records of a batch, which a reader and its crew lend, in order, up to the first whose
-// change is refused.
+// Filters, sifts, changes, pushes and shows the records of a batch, which a reader and its crew lend, in order, up to
+// the first whose change is refused.
 fn push_batch<R: Threads + Sync, F: Files, G: Gate>(
     rt: &R,
     alloc: Global,
@@ -92,25 +96,34 @@ fn push_batch<R: Threads + Sync, F: Files, G: Gate>(
     reader: &Reader,
     crew: &Crew<Workspace>,
     count: u32,
-    buffer: &mut Vec<u8>,
+    passage: &mut Passage,
     writer: &mut Writer,
 ) -> Result<Taken, Fault>
     requires size { POINT_RECORD ≤ size }
     requires classes { All HasClass plan.now.changes.items }
-    requires lent { (blocks : List (List ℕ)) × Lends reader.now crew.now blocks × (length blocks ≡ count)
-        × All (λ block. length block % size ≡ 0) blocks
-        × (writer.old.taken + length (concat blocks) ≤ writer.old.size * writer.old.most) }
+    requires lent { (blocks : List (List ℕ)) × IsLent reader.now crew.now size count blocks
+        × (writer.old.taken + length (concat blocks) ≤ writer.old.size * writer.old.most)
+        × (passage.old.read + length (concat blocks) / size < 2 ^ 32) }
+    requires after { (looked : List Placed) × (before : List (List ℕ))
+        × IsAfter (steps_of plan.now) looked before passage.old.sieve passage.old.read }
+    requires counted { HaveCounted passage.old.read (map (λ tap. tap_seen tap) passage.old.taps.items) }
     requires open { writer.old.failed ≡ false }
     requires same { writer.old.size ≡ size }
     requires stands { (before : Outside) × (out : Output) × (bytes : List ℕ)
         × Stands before (F.seen files.old) writer.old out bytes }
-    ensures goes { (blocks : List (List ℕ)) → Lends reader.now crew.now blocks → length blocks ≡ count
-        → All (λ block. length block % size ≡ 0) blocks
-        → IfOk result (λ taken. Goes (steps_of plan.now) size (concat blocks) (F.seen files.old) (F.seen files.new)
-        writer.old writer.new taken.kept taken.refused) }
-    ensures left { (blocks : List (List ℕ)) → Lends reader.now crew.now blocks → length blocks ≡ count
-        → All (λ block. length block % size ≡ 0) blocks → OnErr result
-        (LeavesKept (steps_of plan.now) size (concat blocks) (F.seen files.old) (F.seen files.new) writer.old) }
+    ensures goes { AfterAny (steps_of plan.now) passage.old.sieve passage.old.read (λ keeping before.
+        (blocks : List (List ℕ)) → IsLent reader.now crew.now size count blocks → IfOk result (λ taken. Goes keeping
+        before size (concat blocks) (F.seen files.old) (F.seen files.new) writer.old writer.new
+        (map (λ tap. tap_seen tap) passage.old.taps.items) (map (λ tap. tap_seen tap) passage.new.taps.items)
+        taken.kept taken.refused)) }
+    ensures after { (looked : List Placed) (before blocks : List (List ℕ))
+        → IsAfter (steps_of plan.now) looked before passage.old.sieve passage.old.read
+        → IsLent reader.now crew.now size count blocks → IfOk result (λ taken. taken.refused ≡ false → IsAfter
+        (steps_of plan.now) looked (before ++ cut_all size (concat blocks)) passage.new.sieve passage.new.read) }
+    ensures left { AfterAny (steps_of plan.now) passage.old.sieve passage.old.read (λ keeping before.
+        (blocks : List (List ℕ)) → IsLent reader.now crew.now size count blocks → OnErr result
+        (LeavesKept keeping before size (concat blocks) (F.seen files.old) (F.seen files.new) writer.old)) }
+    ensures settings { passage.new.sieve.settings ≡ passage.old.sieve.settings }
     ensures most { writer.new.most ≡ writer.old.most }
     ensures open { OnOk result (writer.new.failed ≡ false) }
     ensures cause { IfErr result (HasCause (F.seen files.old) (F.seen files.new)) }
@@ -121,8 +134,7 @@ fn push_batch<R: Threads + Sync, F: Files, G: Gate>(
     let mut kept = 0;
     for i in 0..count {
         let block = reader.block(crew, i);
-        grow(buffer, block.len())?;
-        let taken = push_kept(rt, alloc, files, gate, plan, size, block, buffer, writer)?;
+        let taken = push_kept(rt, alloc, files, gate, plan, size, block, passage, writer)?;
         kept += taken.kept;
         if taken.refused {
             return Ok(Taken {
@@ -149,8 +161,9 @@ fn end_of(fault: Fault) -> Result<Option<Refusal>, Fault>
     }
 }
 
-/// Copies the records that a plan keeps, changed, from a reader into a writer, batch by batch: up to the end of the
-/// records, or up to the first bad chunk or the first record whose change is refused, which is the answer.
+/// Copies the records that a plan keeps and that pass a sieve, changed, from a reader into a writer, batch by batch: up
+/// to the end of the records, or up to the first bad chunk or the first record whose change is refused, which is the
+/// answer. The taps see what is written.
 pub(crate) fn convert_records<R: Threads + Sync, F: Files, G: Gate>(
     rt: &R,
     alloc: Global,
@@ -159,10 +172,12 @@ pub(crate) fn convert_records<R: Threads + Sync, F: Files, G: Gate>(
     plan: &Plan,
     reader: &mut Reader,
     crew: &mut Crew<Workspace>,
-    buffer: &mut Vec<u8>,
+    passage: &mut Passage,
     writer: &mut Writer,
 ) -> Result<Option<Refusal>, Fault>
     requires classes { All HasClass plan.now.changes.items }
+    requires after { (looked : List Placed) × IsAfter (steps_of plan.now) looked [] passage.old.sieve passage.old.read }
+    requires counted { HaveCounted 0 (map (λ tap. tap_seen tap) passage.old.taps.items) }
     requires open { reader.old.failed ≡ false }
     requires crew { IsCrewOf reader.old crew.old }
     requires names { reader.old.name ≢ writer.old.name }
@@ -170,15 +185,15 @@ pub(crate) fn convert_records<R: Threads + Sync, F: Files, G: Gate>(
     requires room { CanTake reader.old writer.old }
     requires stands { (before : Outside) × (out : Output) × (bytes : List ℕ)
         × Stands before (F.seen files.old) writer.old out bytes }
-    ensures converted { IfOk result (λ end. (n : ℕ) × (blocks : List (List ℕ)) × (count : ℕ) × (refused : Bool)
+    ensures converted { AfterNone (steps_of plan.now) passage.old.sieve passage.old.read (λ keeping.
+        IfOk result (λ end. (n : ℕ) × (blocks : List (List ℕ)) × (count : ℕ) × (refused : Bool)
         × HoldFirst (F.seen files.old).held reader.old n blocks
-        × Goes (steps_of plan.now) writer.old.size (concat blocks) (F.seen files.old) (F.seen files.new) writer.old
-        writer.new count refused
-        × EndsKeeping (F.seen files.old).held reader.old n count refused end) }
-    ensures left { OnErr result ((n : ℕ) × (blocks : List (List ℕ))
-        × HoldFirst (F.seen files.old).held reader.old n blocks
-        × LeavesKept (steps_of plan.now) writer.old.size (concat blocks) (F.seen files.old) (F.seen files.new)
-        writer.old) }
+        × Goes keeping [] writer.old.size (concat blocks) (F.seen files.old) (F.seen files.new) writer.old writer.new
+        (map (λ tap. tap_seen tap) passage.old.taps.items) (map (λ tap. tap_seen tap) passage.new.taps.items) count
+        refused × EndsKeeping (F.seen files.old).held reader.old n count refused end)) }
+    ensures left { AfterNone (steps_of plan.now) passage.old.sieve passage.old.read (λ keeping. OnErr result ((n : ℕ)
+        × (blocks : List (List ℕ)) × HoldFirst (F.seen files.old).held reader.old n blocks
+        × LeavesKept keeping [] writer.old.size (concat blocks) (F.seen files.old) (F.seen files.new) writer.old)) }
     ensures open { OnOk result (writer.new.failed ≡ false) }
     ensures cause { IfErr result (HasCause (F.seen files.old) (F.seen files.new)) }
     ensures reads_calm { OnOk result ((F.seen files.new).read_faults ≡ (F.seen files.old).read_faults) }
@@ -197,7 +212,7 @@ pub(crate) fn convert_records<R: Threads + Sync, F: Files, G: Gate>(
             return Ok(None);
         }
         let taken = push_batch(
-            rt, alloc, files, gate, plan, size, reader, crew, count, buffer, writer,
+            rt, alloc, files, gate, plan, size, reader, crew, count, passage, writer,
         )?;
         kept += taken.kept;
         if taken.refused {

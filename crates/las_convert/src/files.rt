@@ -1,33 +1,38 @@
-//! Ranges of records, or whole files, through a plan.
-ghost use Rattle.std.specs.Prelude.{◌≡◌, ◌≢◌, ◌⊎◌, ◌+◌, ◌≤◌, ◌<◌, ◌++◌, [], ℕ, List, Option, All, false, None, Some};
-ghost use Rattle.std.specs.Prelude.{IfErr, IfOk};
+//! Ranges of records, or whole files, through a plan, a sieve and taps.
+ghost use Rattle.std.specs.Prelude.{◌≡◌, ◌≢◌, ◌⊎◌, ◌+◌, ◌^◌, ◌≤◌, ◌<◌, [], ℕ, List, Option};
+ghost use Rattle.std.specs.Prelude.{All, IfErr, IfOk, None, Some, false, map};
 ghost use Rattle.std.specs.Prelude.{IsErrOf, OnOk};
 ghost use Rattle.std.specs.Option.{ForSome};
 ghost use Rattle.las_header.specs.declared.refusal.Refusal.{Refusal};
 ghost use Rattle.las_header.specs.declared.refusal.Refusal.TheVariants.{BadChunk, RawRange};
-ghost use Rattle.las_header.specs.Fields.{points_of};
+ghost use Rattle.las_header.specs.Fields.{head_of};
 ghost use Rattle.las_filter.specs.Changes.{HasClass};
 ghost use Rattle.las_filter.specs.Kept.{steps_of};
+ghost use Rattle.las_info.specs.Tallies.{count_at, shown_all};
+ghost use Rattle.las_thin.specs.Placed.{Placed};
+ghost use Rattle.las_thin.specs.Sieving.{IsFirst};
 ghost use Rattle.las_outside.specs.Faults.{Rose};
 ghost use Rattle.las_outside.specs.Files.{WhereKnown, with_file};
 ghost use Rattle.las_outside.specs.Outside.{Later, Outside};
 ghost use Rattle.laz_file.specs.declared.fault.Fault.TheVariants.{Read, Refused, Write};
 ghost use Rattle.laz_file.specs.Copying.{CanTake, HasCause, LeavesUnfinished};
 ghost use Rattle.laz_file.specs.Asking.{bytes_left};
-ghost use Rattle.laz_file.specs.Outputs.{Output, finished, stopped};
+ghost use Rattle.laz_file.specs.Outputs.{Output, finished, records_after, stopped};
 ghost use Rattle.laz_file.specs.Reading.{AgreesWithHead, IsCrewOf, IsFreshReader, StandsFor};
 ghost use Rattle.laz_file.specs.Writing.{SameFaults, Stands};
-ghost use Rattle.las_convert.specs.Converting.{ConvertsTo, EndsConverting, FinishesKept, OnlyConverts};
+ghost use Rattle.las_convert.specs.Adding.{AfterNone, HaveCounted, IsAfter};
+ghost use Rattle.las_convert.specs.Converting.{ConvertsTo, EndsConverting, FinishesKept, IsReady, OnlyConverts};
 ghost use Rattle.las_convert.specs.Converting.{converted_output};
 ghost use Rattle.las_convert.specs.Converting.{output_of};
 
-use crate::copying::{convert_records, grow};
+use crate::copying::convert_records;
+use crate::passage::Passage;
 use las_filter::Plan;
 use las_outside::{Files, Gate};
 use laz_chunk::Workspace;
 use laz_file::{Fault, PLAIN_BLOCK, Reader, Writer};
 use laz_workers::Crew;
-use std::alloc::{AllocError, Global};
+use std::alloc::Global;
 use std::thread::Threads;
 
 // Begins the output: the plain head of the reader's file, with counts of zero.
@@ -62,17 +67,14 @@ fn begin<F: Files>(
     Writer::create(alloc, files, output, head, chunk, true, most, hands)
 }
 
-// A buffer for the records of a block, if its chunks have one size.
-fn room_for_blocks(alloc: Global, reader: &Reader) -> Result<Vec<u8>, AllocError> {
+// How many bytes the records of a block take, if the chunks have one size.
+fn block_bytes(reader: &Reader) -> usize {
     let head = reader.head();
     let most = match reader.chunk() {
         Some(chunk) if chunk != u32::MAX => chunk,
         _ => PLAIN_BLOCK,
     };
-    let size = usize::from(head.record_length());
-    let mut buffer = Vec::new(alloc);
-    grow(&mut buffer, size * most.min(head.points()) as usize)?;
-    Ok(buffer)
+    usize::from(head.record_length()) * most.min(head.points()) as usize
 }
 
 // Converts all records that a reader has left into a writer, and finishes the output. After a refusal it is stopped.
@@ -84,10 +86,12 @@ fn fill<R: Threads + Sync, F: Files, G: Gate>(
     plan: &Plan,
     reader: &mut Reader,
     crew: &mut Crew<Workspace>,
-    buffer: &mut Vec<u8>,
+    passage: &mut Passage,
     writer: Writer,
 ) -> Result<(), Fault>
     requires classes { All HasClass plan.now.changes.items }
+    requires after { (looked : List Placed) × IsAfter (steps_of plan.now) looked [] passage.old.sieve passage.old.read }
+    requires counted { HaveCounted 0 (map (λ tap. tap_seen tap) passage.old.taps.items) }
     requires open { reader.old.failed ≡ false }
     requires crew { IsCrewOf reader.old crew.old }
     requires names { reader.old.name ≢ writer.name }
@@ -95,14 +99,14 @@ fn fill<R: Threads + Sync, F: Files, G: Gate>(
     requires room { CanTake reader.old writer }
     requires stands { (before : Outside) × (out : Output) × (bytes : List ℕ)
         × Stands before (F.seen files.old) writer out bytes }
-    ensures finished { (before : Outside) (out : Output) (bytes : List ℕ)
-        → Stands before (F.seen files.old) writer out bytes
-        → OnOk result (FinishesKept (F.seen files.old).held before.held (F.seen files.new).held (steps_of plan.now)
-        reader.old out bytes) }
-    ensures ends { (before : Outside) (out : Output) (bytes : List ℕ)
-        → Stands before (F.seen files.old) writer out bytes
+    ensures finished { AfterNone (steps_of plan.now) passage.old.sieve passage.old.read (λ keeping. (before : Outside)
+        (out : Output) (bytes : List ℕ) → Stands before (F.seen files.old) writer out bytes
+        → OnOk result (FinishesKept (F.seen files.old).held before.held (F.seen files.new).held keeping reader.old out
+        bytes (map (λ tap. tap_seen tap) passage.old.taps.items) (map (λ tap. tap_seen tap) passage.new.taps.items))) }
+    ensures ends { AfterNone (steps_of plan.now) passage.old.sieve passage.old.read (λ keeping. (before : Outside)
+        (out : Output) (bytes : List ℕ) → Stands before (F.seen files.old) writer out bytes
         → IfErr result (EndsConverting (F.seen files.old).held before.held (F.seen files.old) (F.seen files.new)
-        (steps_of plan.now) reader.old out bytes) }
+        keeping reader.old out bytes)) }
     ensures reads_calm { OnOk result ((F.seen files.new).read_faults ≡ (F.seen files.old).read_faults) }
     ensures writes_calm { OnOk result ((F.seen files.new).write_faults ≡ (F.seen files.old).write_faults) }
     ensures later { Later (F.seen files.old) (F.seen files.new) }
@@ -117,7 +121,7 @@ fn fill<R: Threads + Sync, F: Files, G: Gate>(
         plan,
         reader,
         crew,
-        buffer,
+        passage,
         &mut writer,
     )? {
         None => {
@@ -132,9 +136,13 @@ fn fill<R: Threads + Sync, F: Files, G: Gate>(
 }
 
 /// Converts the records of a fresh reader: those of the range that it has sought, or all. The output, another name than
-/// the input's, has those that the plan keeps, changed, under the input's plain head with their own counts. It is
-/// packed in chunks of `chunk` points, 256 to 250,000, or plain. `workers`, 1 to 8, unpack and pack side by side, and
-/// what is written does not depend on them.
+/// the input's, has those that the plan keeps and that pass the passage's sieve, changed, under the input's plain head
+/// with their own counts. It is packed in chunks of `chunk` points, 256 to 250,000, or plain. `workers`, 1 to 8, unpack
+/// and pack side by side, and what is written does not depend on them. The passage's taps see each record as it is
+/// written, in order; no tap has counted more than 2^63 in a bin before.
+///
+/// A sieve of the lowest or the highest has looked at all records of the range that pass the filters, as
+/// [`look_through`](crate::look_through) has it do.
 ///
 /// The answer is `Refused` with `BadChunk` if a chunk that meets the range holds no records of its count, or with
 /// `RawRange` if a record that is kept of the range, counted from 0, has a coordinate that leaves its range: the first
@@ -149,6 +157,7 @@ pub fn convert<R: Threads + Sync, F: Files, G: Gate>(
     reader: Reader,
     output: &str,
     plan: &Plan,
+    passage: &mut Passage,
     chunk: Option<u32>,
     workers: u32,
 ) -> Result<(), Fault>
@@ -159,20 +168,31 @@ pub fn convert<R: Threads + Sync, F: Files, G: Gate>(
     requires names { output.now ≢ reader.name }
     requires stands { WhereKnown (F.seen files.old).held reader.name (StandsFor reader) }
     requires whole { AgreesWithHead reader }
+    requires unread { passage.old.read ≡ 0 }
+    requires ready { IsReady (F.seen files.old).held reader.name (steps_of plan.now) reader.range passage.old.sieve }
+    requires counted { All (λ tap. (bin : ℕ) → count_at (tap_seen tap).tally bin ≤ 2 ^ 63) passage.old.taps.items }
 
     ensures converted { OnOk result (WhereKnown (F.seen files.old).held reader.name (λ file.
-        (records : List ℕ) × OnlyConverts (steps_of plan.now) file reader.range records None
+        (records : List ℕ)
+        × OnlyConverts (steps_of plan.now) passage.old.sieve.settings file reader.range records None
         × ((F.seen files.new).held ≡ with_file (F.seen files.old).held output.now
         (finished (converted_output output.now file chunk) records)))) }
+    ensures tallied { OnOk result (WhereKnown (F.seen files.old).held reader.name (λ file. (records : List ℕ)
+        → ConvertsTo (steps_of plan.now) passage.old.sieve.settings file reader.range records None
+        → map (λ tap. tap_seen tap) passage.new.taps.items
+        ≡ map (λ tap. shown_all (tap_seen tap) (records_after (head_of file) records)) passage.old.taps.items)) }
     ensures refused { (cause : Refusal) → IsErrOf result (Refused cause)
-        → WhereKnown (F.seen files.old).held reader.name (λ file.
-        (records : List ℕ) × OnlyConverts (steps_of plan.now) file reader.range records (Some cause)
+        → WhereKnown (F.seen files.old).held reader.name (λ file. (records : List ℕ)
+        × OnlyConverts (steps_of plan.now) passage.old.sieve.settings file reader.range records (Some cause)
         × ((F.seen files.new).held ≡ with_file (F.seen files.old).held output.now
         (stopped (converted_output output.now file chunk) records))) }
     ensures bad { (cause : Refusal) → IsErrOf result (Refused cause)
         → ((i : ℕ) × (cause ≡ BadChunk i)) ⊎ ((k : ℕ) × (cause ≡ RawRange k)) }
+    ensures looked { (i : ℕ) → IsErrOf result (Refused (BadChunk i))
+        → WhereKnown (F.seen files.old).held reader.name (λ file. IsFirst passage.old.sieve.settings.pick) }
     ensures left { IfErr result (λ fault. WhereKnown (F.seen files.old).held reader.name (λ file.
-        (records : List ℕ) (refusal : Option Refusal) → ConvertsTo (steps_of plan.now) file reader.range records refusal
+        (records : List ℕ) (refusal : Option Refusal)
+        → ConvertsTo (steps_of plan.now) passage.old.sieve.settings file reader.range records refusal
         → LeavesUnfinished (converted_output output.now file chunk) records (F.seen files.old).held
         (F.seen files.new).held)) }
     ensures read { IsErrOf result Read → Rose (F.seen files.old).read_faults (F.seen files.new).read_faults }
@@ -185,7 +205,7 @@ pub fn convert<R: Threads + Sync, F: Files, G: Gate>(
     ensures asked { (F.seen files.new).asked ≤ (F.seen files.old).asked + bytes_left reader }
 {
     let mut reader = reader;
-    let mut buffer = room_for_blocks(alloc, &reader)?;
+    passage.grow(block_bytes(&reader))?;
     let hands = reader.hands(workers);
     let mut crew = reader.crew(alloc, hands)?;
     let writer = begin(alloc, files, &reader, output, chunk, workers)?;
@@ -197,7 +217,7 @@ pub fn convert<R: Threads + Sync, F: Files, G: Gate>(
         plan,
         &mut reader,
         &mut crew,
-        &mut buffer,
+        passage,
         writer,
     )
 }

@@ -1,12 +1,19 @@
-//! The records of one block that a plan keeps.
-ghost use Rattle.std.specs.Prelude.{◌≡◌, ◌↔◌, ◌*◌, ◌%◌, ◌≤◌, ℕ, List, length, take, All, IsErr, OnOk, None, Some};
+//! The records of one block that are kept.
+ghost use Rattle.std.specs.Prelude.{◌≡◌, ◌↔◌, ◌+◌, ◌*◌, ◌/◌, ◌%◌, ◌^◌, ◌≤◌, ◌<◌, ◌++◌, ◌∷◌, [], ℕ, List};
+ghost use Rattle.std.specs.Prelude.{All, IfOk, IsErr, OnOk, None, Some, false, length, take};
 ghost use Rattle.std.specs.List.{concat};
 ghost use Rattle.las_filter.specs.Changes.{HasClass, changed};
 ghost use Rattle.las_filter.specs.Kept.{steps_of};
-ghost use Rattle.las_convert.specs.Adding.{Adds, cut_all};
+ghost use Rattle.las_thin.specs.Kept.{passing};
+ghost use Rattle.las_thin.specs.Placed.{Placed};
+ghost use Rattle.las_thin.specs.Sieving.{StandsFor};
+ghost use Rattle.las_convert.specs.Adding.{Adds, AddsAlways, AfterAny, IsAfter, cut_all, kept_by};
+ghost use Rattle.las_convert.specs.Passing.{passes_after};
 
 use las_filter::{Plan, RawRange};
 use las_header::POINT_RECORD;
+use las_thin::Sieve;
+use std::alloc::AllocError;
 
 /// What was kept of records: how many bytes or records, and whether the change of the next one that passes is refused.
 #[derive(Clone, Copy)]
@@ -38,7 +45,8 @@ fn keep_sized(plan: &Plan, size: usize, block: &[u8], buffer: &mut [u8]) -> Part
     requires classes { All HasClass plan.now.changes.items }
     ensures within { result.length ≤ length block.now }
     ensures kept { (ones : List (List ℕ)) × (take result.length buffer.new ≡ concat ones)
-        × (result.length ≡ size * length ones) × Adds (steps_of plan.now) (cut_all size block.now) ones result.refused }
+        × (result.length ≡ size * length ones)
+        × AddsAlways (steps_of plan.now) (cut_all size block.now) ones result.refused }
 {
     let mut rest = block;
     let mut at = 0;
@@ -63,16 +71,16 @@ fn keep_sized(plan: &Plan, size: usize, block: &[u8], buffer: &mut [u8]) -> Part
     }
 }
 
-/// Copies the records of a block that a plan keeps to the front of a buffer, changed, up to the first whose change is
-/// refused. No memory is taken.
-pub(crate) fn keep_records(plan: &Plan, size: usize, block: &[u8], buffer: &mut [u8]) -> Part
+// The same, by the sizes that are constants.
+fn keep_plain(plan: &Plan, size: usize, block: &[u8], buffer: &mut [u8]) -> Part
     requires size { POINT_RECORD ≤ size }
     requires whole { length block.now % size ≡ 0 }
     requires room { length block.now ≤ length buffer.old }
     requires classes { All HasClass plan.now.changes.items }
     ensures within { result.length ≤ length block.now }
     ensures kept { (ones : List (List ℕ)) × (take result.length buffer.new ≡ concat ones)
-        × (result.length ≡ size * length ones) × Adds (steps_of plan.now) (cut_all size block.now) ones result.refused }
+        × (result.length ≡ size * length ones)
+        × AddsAlways (steps_of plan.now) (cut_all size block.now) ones result.refused }
 {
     match size {
         20 => keep_sized(plan, 20, block, buffer),
@@ -81,4 +89,113 @@ pub(crate) fn keep_records(plan: &Plan, size: usize, block: &[u8], buffer: &mut 
         34 => keep_sized(plan, 34, block, buffer),
         _ => keep_sized(plan, size, block, buffer),
     }
+}
+
+// Whether a record passes the filters of a plan, and then a sieve, which is not asked otherwise. Its place is its
+// number among the records, those included that the filters drop. `Err` means out of memory.
+fn passes(plan: &Plan, sieve: &mut Sieve, place: u64, point: &[u8]) -> Result<bool, AllocError>
+    requires long { POINT_RECORD ≤ length point.now }
+    requires asked { (looked : List Placed) × (before : List (List ℕ)) × (length before ≡ place)
+        × StandsFor looked (passing (steps_of plan.now) before) sieve.old }
+    ensures settings { sieve.new.settings ≡ sieve.old.settings }
+    ensures answer { (looked : List Placed) (before : List (List ℕ)) → length before ≡ place
+        → StandsFor looked (passing (steps_of plan.now) before) sieve.old
+        → IfOk result (λ passes. passes ≡ passes_after sieve.old.settings looked (steps_of plan.now) before point.now) }
+    ensures stands { (looked : List Placed) (before : List (List ℕ)) → length before ≡ place
+        → StandsFor looked (passing (steps_of plan.now) before) sieve.old
+        → OnOk result (StandsFor looked (passing (steps_of plan.now) (before ++ point.now ∷ [])) sieve.new) }
+{
+    if plan.keeps(point) {
+        return sieve.passes(place, point);
+    }
+    Ok(false)
+}
+
+// Copies the records of a block that a plan keeps and that pass a sieve to the front of a buffer, changed, up to the
+// first whose change is refused. So many records have passed by the sieve before. `Err` means out of memory.
+fn keep_sifted(
+    plan: &Plan,
+    sieve: &mut Sieve,
+    read: u64,
+    size: usize,
+    block: &[u8],
+    buffer: &mut [u8],
+) -> Result<Part, AllocError>
+    requires size { POINT_RECORD ≤ size }
+    requires whole { length block.now % size ≡ 0 }
+    requires room { length block.now ≤ length buffer.old }
+    requires classes { All HasClass plan.now.changes.items }
+    requires few { read + length block.now / size < 2 ^ 32 }
+    requires asked { (looked : List Placed) × (before : List (List ℕ)) × (length before ≡ read)
+        × StandsFor looked (passing (steps_of plan.now) before) sieve.old }
+    ensures settings { sieve.new.settings ≡ sieve.old.settings }
+    ensures within { IfOk result (λ part. part.length ≤ length block.now) }
+    ensures kept { (looked : List Placed) (before : List (List ℕ)) → length before ≡ read
+        → StandsFor looked (passing (steps_of plan.now) before) sieve.old
+        → IfOk result (λ part. (ones : List (List ℕ)) × (take part.length buffer.new ≡ concat ones)
+        × (part.length ≡ size * length ones)
+        × Adds (kept_by sieve.old.settings looked (steps_of plan.now)) before (cut_all size block.now) ones
+        part.refused) }
+    ensures stands { (looked : List Placed) (before : List (List ℕ)) → length before ≡ read
+        → StandsFor looked (passing (steps_of plan.now) before) sieve.old
+        → IfOk result (λ part. part.refused ≡ false
+        → StandsFor looked (passing (steps_of plan.now) (before ++ cut_all size block.now)) sieve.new) }
+{
+    let mut rest = block;
+    let mut at = 0;
+    let mut place = read;
+    for _turn in 0..block.len() / size {
+        let (point, further) = rest.split_at(size);
+        if passes(plan, sieve, place, point)? {
+            match put_changed(plan, point, &mut buffer[at..at + size]) {
+                Ok(()) => at += size,
+                Err(_) => {
+                    return Ok(Part {
+                        length: at,
+                        refused: true,
+                    });
+                }
+            }
+        }
+        rest = further;
+        place += 1;
+    }
+    Ok(Part {
+        length: at,
+        refused: false,
+    })
+}
+
+/// Copies the records of a block that a plan keeps and that pass a sieve to the front of a buffer, changed, up to the
+/// first whose change is refused. So many records have passed by the sieve before. `Err` means out of memory; a sieve
+/// that every record passes is not asked, and takes none.
+pub(crate) fn keep_records(
+    plan: &Plan,
+    sieve: &mut Sieve,
+    read: u64,
+    size: usize,
+    block: &[u8],
+    buffer: &mut [u8],
+) -> Result<Part, AllocError>
+    requires size { POINT_RECORD ≤ size }
+    requires whole { length block.now % size ≡ 0 }
+    requires room { length block.now ≤ length buffer.old }
+    requires classes { All HasClass plan.now.changes.items }
+    requires few { read + length block.now / size < 2 ^ 32 }
+    requires after { (looked : List Placed) × (before : List (List ℕ))
+        × IsAfter (steps_of plan.now) looked before sieve.old read }
+    ensures settings { sieve.new.settings ≡ sieve.old.settings }
+    ensures within { IfOk result (λ part. part.length ≤ length block.now) }
+    ensures kept { AfterAny (steps_of plan.now) sieve.old read (λ keeping before. IfOk result (λ part.
+        (ones : List (List ℕ)) × (take part.length buffer.new ≡ concat ones) × (part.length ≡ size * length ones)
+        × Adds keeping before (cut_all size block.now) ones part.refused)) }
+    ensures after { (looked : List Placed) (before : List (List ℕ))
+        → IsAfter (steps_of plan.now) looked before sieve.old read
+        → IfOk result (λ part. part.refused ≡ false → IsAfter (steps_of plan.now) looked
+        (before ++ cut_all size block.now) sieve.new (read + length block.now / size)) }
+{
+    if sieve.passes_all() {
+        return Ok(keep_plain(plan, size, block, buffer));
+    }
+    keep_sifted(plan, sieve, read, size, block, buffer)
 }

@@ -1,11 +1,15 @@
-//! What `las2las` does to a file, or to a range of its records: those that a plan keeps, changed, go into an output
-//! under the file's plain head, with counts of their own, plain or packed.
+//! What `las2las` does to a file, or to a range of its records: those that a plan keeps and that pass a sieve, changed,
+//! go into an output under the file's plain head, with counts of their own, plain or packed. Taps see what is written.
 #![tactic(auto)]
 
 mod copying;
 mod files;
 mod keeping;
 mod laws;
+mod looking;
+mod passage;
 
 pub use files::convert;
 pub use laws::converting_all_places;
+pub use looking::look_through;
+pub use passage::Passage;

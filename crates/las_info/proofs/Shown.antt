@@ -21,7 +21,7 @@ pub shown_whole : (records : List (List ℕ)) (tap : TapSeen) → IsShownSome re
 shown_whole records tap = (length records, ap (shown_all tap) (sym (take_all (length records) records (omega arith))))
 
 -- a survey that was shown nothing
-none_taps : (taps : List TapSeen) → taps ≡ map (λ tap. shown_all tap []) taps
+pub none_taps : (taps : List TapSeen) → taps ≡ map (λ tap. shown_all tap []) taps
 none_taps [] = refl
 none_taps (t ∷ taps) = ap (λ (xs : List TapSeen). t ∷ xs) (none_taps taps)
 
@@ -41,14 +41,14 @@ tally-both bin_of tally (r ∷ some) more = tally-both bin_of (with_one tally (b
 shown-both : (tap : TapSeen) (some more : List (List ℕ)) → shown_all (shown_all tap some) more ≡ shown_all tap (some ++ more)
 shown-both tap some more = ap (λ (t : Tally). record { name = tap.name; bin = tap.bin; tally = t }) (tally-both tap.bin tap.tally some more)
 
-taps-both : (taps : List TapSeen) (some more : List (List ℕ)) → map (λ tap. shown_all tap more) (map (λ tap. shown_all tap some) taps) ≡ map (λ tap. shown_all tap (some ++ more)) taps
+pub taps-both : (taps : List TapSeen) (some more : List (List ℕ)) → map (λ tap. shown_all tap more) (map (λ tap. shown_all tap some) taps) ≡ map (λ tap. shown_all tap (some ++ more)) taps
 taps-both [] some more = refl
 taps-both (t ∷ taps) some more =
     ap (λ (x : TapSeen). x ∷ map (λ tap. shown_all tap more) (map (λ tap. shown_all tap some) taps)) (shown-both t some more)
     ∙ ap (λ (xs : List TapSeen). shown_all t (some ++ more) ∷ xs) (taps-both taps some more)
 
 -- taps as a function sees them
-mapped : {X : Type 0} (f : X → TapSeen) (records : List (List ℕ)) (xs : List X) → map (λ x. shown_all (f x) records) xs ≡ map (λ tap. shown_all tap records) (map f xs)
+pub mapped : {X : Type 0} (f : X → TapSeen) (records : List (List ℕ)) (xs : List X) → map (λ x. shown_all (f x) records) xs ≡ map (λ tap. shown_all tap records) (map f xs)
 mapped f records [] = refl
 mapped f records (x ∷ xs) = ap (λ (ts : List TapSeen). shown_all (f x) records ∷ ts) (mapped f records xs)
 

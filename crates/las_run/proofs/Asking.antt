@@ -1,11 +1,13 @@
 -- How many bytes `las2las` asks for, by what its calls say of a reader.
-use Rattle.std.proofs.Common.{◌≡◌, ℕ, ◌+◌, ◌-◌, ◌≤◌, Bool, true, false, cond, min, List, [], ◌∷◌, length, drop, map, sum, Option, Some, None, IsSomeAnd, Result, Ok, Err, refl, sym, ◌∙◌, ap, subst, arith}
+use Rattle.std.proofs.Common.{◌≡◌, ℕ, ◌+◌, ◌-◌, ◌≤◌, Bool, true, false, cond, min, List, drop, Option, Some, None, IsSomeAnd, Result, Ok, Err, refl, sym, ◌∙◌, ap, subst, arith}
 use Rattle.std.specs.FinMap as finmap
 use Rattle.las_header.specs.declared.refusal.Refusal.{Refusal}
 use Rattle.las_header.specs.Fields.{head_of, points_of}
 use Rattle.las_header.specs.Heads.{HeadView}
 use Rattle.las_outside.specs.Files.{FileMap, IsMissing, WhereKnown}
 use Rattle.las_outside.specs.Outside.{Outside}
+use Rattle.las_thin.specs.declared.pick.Pick.{Pick}
+use Rattle.las_thin.specs.declared.pick.Pick.TheVariants.{First, Lowest, Highest}
 use Rattle.las_words.specs.declared.command.Command.{Command}
 use Rattle.las_words.specs.declared.command.WordFault.{WordFault}
 use Rattle.las_words.specs.declared.command.WordFault.TheVariants as fault
@@ -15,13 +17,12 @@ use Rattle.laz_file.specs.Asking.{AsksAtMost, asked_to_open, bytes_left}
 use Rattle.laz_file.specs.Pieces.{ArePieces, Piece}
 use Rattle.laz_file.specs.Ranges.{Range, parts_of}
 use Rattle.laz_file.specs.Reading.{ReaderSeen, StandsFor}
-use Rattle.laz_file.specs.Refusing.{IsRefusal}
 use Rattle.laz_file.proofs.Knowing.{known_three}
 use Rattle.laz_file.proofs.OneAnswer.{one_pieces, refused_once}
-use Rattle.las_run.specs.Asking.{AsksFor, AsksOf, WorkAsks, bytes_in}
+use Rattle.las_run.specs.Asking.{AsksFor, AsksOf, WorkAsks, bytes_in, in_first_reading, in_readings}
 use Rattle.las_run.specs.Ends.{IsRead}
 use Rattle.las_run.specs.Tools.{range_in}
-use Rattle.las_run.proofs.Opening.{known_more}
+use Rattle.las_run.proofs.Opening.{both_known, known_more}
 
 none_is_some : (c : Refusal) → ◌≡◌ {A = Option Refusal} None (Some c) → ⊥
 none_is_some c e = absurd (cc)
@@ -35,39 +36,45 @@ where_there (Some files) name P all there = by (finmap.get files name) refl
     by None is = absurd (there is)
     by (Some file) is = all file
 
-not_missing : {X : Type 0} (held : Option FileMap) (name : List ℕ) (P : List ℕ → Type 0) → WhereKnown held name P → IsMissing held name → X
+pub not_missing : {X : Type 0} (held : Option FileMap) (name : List ℕ) (P : List ℕ → Type 0) → WhereKnown held name P → IsMissing held name → X
 not_missing None name P known missing = absurd missing
 not_missing (Some files) name P known missing = absurd (subst (λ (o : Option (List ℕ)). IsSomeAnd o P) missing known)
 
+-- two readings ask for no less than one
+in_one : (pick : Pick) (opening more : ℕ) → opening ≤ in_readings pick (opening + more)
+in_one First opening more = omega arith
+in_one Lowest opening more = omega arith
+in_one Highest opening more = omega arith
+
 -- from what is known of the input, or of none
-by_input : (input : List ℕ) (start stop : ℕ) (old new : Outside) → (IsMissing old.held input → new.asked ≡ old.asked)
-    → ((IsMissing old.held input → ⊥) → WhereKnown old.held input (λ file. AsksOf (Some file) start stop old new)) → AsksFor input start stop old new
-by_input input start stop old new missing there known held = by (finmap.get known input) refl
+by_input : (input : List ℕ) (options : Las2lasOptions) (old new : Outside) → (IsMissing old.held input → new.asked ≡ old.asked)
+    → ((IsMissing old.held input → ⊥) → WhereKnown old.held input (λ file. AsksOf (Some file) options old new)) → AsksFor input options old new
+by_input input options old new missing there known held = by (finmap.get known input) refl
   where
     none_some : (o : Option (List ℕ)) (file : List ℕ) → o ≡ Some file → o ≡ None → ⊥
     none_some o file is none = absurd (cc)
 
-    of_some : (o : Option (List ℕ)) (file : List ℕ) → o ≡ Some file → IsSomeAnd o (λ file. AsksOf (Some file) start stop old new) → AsksOf (Some file) start stop old new
+    of_some : (o : Option (List ℕ)) (file : List ℕ) → o ≡ Some file → IsSomeAnd o (λ file. AsksOf (Some file) options old new) → AsksOf (Some file) options old new
     of_some None file is p = absurd p
-    of_some (Some other) file is p = let same : other ≡ file = cc in subst (λ (f : List ℕ). AsksOf (Some f) start stop old new) same p
+    of_some (Some other) file is p = let same : other ≡ file = cc in subst (λ (f : List ℕ). AsksOf (Some f) options old new) same p
 
-    by : (o : Option (List ℕ)) → finmap.get known input ≡ o → AsksOf o start stop old new
+    by : (o : Option (List ℕ)) → finmap.get known input ≡ o → AsksOf o options old new
     by None is = missing (subst (λ (h : Option FileMap). IsMissing h input) (sym held) is)
     by (Some file) is =
         let here : IsMissing old.held input → ⊥ = λ gone. none_some (finmap.get known input) file is (subst (λ (h : Option FileMap). IsMissing h input) held gone) in
-        of_some (finmap.get known input) file is (subst (λ (h : Option FileMap). WhereKnown h input (λ file. AsksOf (Some file) start stop old new)) held (there here))
+        of_some (finmap.get known input) file is (subst (λ (h : Option FileMap). WhereKnown h input (λ file. AsksOf (Some file) options old new)) held (there here))
 
 -- an input that could not be opened
-pub asks_opening : (input : List ℕ) (start stop : ℕ) (old new : Outside) → (IsMissing old.held input → new.asked ≡ old.asked)
-    → ((IsMissing old.held input → ⊥) → WhereKnown old.held input (λ file. AsksAtMost (asked_to_open file) old new)) → AsksFor input start stop old new
-asks_opening input start stop old new missing opened =
-    by_input input start stop old new missing (λ there. known_more old.held input (λ file. AsksAtMost (asked_to_open file) old new) (λ file. AsksOf (Some file) start stop old new) (λ file most. (λ cause is. most, λ pieces are. omega (arith, most))) (opened there))
+pub asks_opening : (input : List ℕ) (options : Las2lasOptions) (old new : Outside) → (IsMissing old.held input → new.asked ≡ old.asked)
+    → ((IsMissing old.held input → ⊥) → WhereKnown old.held input (λ file. AsksAtMost (asked_to_open file) old new)) → AsksFor input options old new
+asks_opening input options old new missing opened =
+    by_input input options old new missing (λ there. known_more old.held input (λ file. AsksAtMost (asked_to_open file) old new) (λ file. AsksOf (Some file) options old new) (λ file most. (λ cause is. most, λ pieces are. let less = in_one options.sieve.pick (asked_to_open file) (bytes_in (parts_of file (range_in options.start options.stop file) pieces)) in omega (arith, most, less))) (opened there))
 
 -- no file that was asked for anything
-asks_nothing : (input : List ℕ) (start stop : ℕ) (old new : Outside) → new ≡ old → AsksFor input start stop old new
-asks_nothing input start stop old new same =
+asks_nothing : (input : List ℕ) (options : Las2lasOptions) (old new : Outside) → new ≡ old → AsksFor input options old new
+asks_nothing input options old new same =
     let none : new.asked ≡ old.asked = ap (λ (o : Outside). o.asked) same in
-    by_input input start stop old new (λ missing. none) (where_there old.held input (λ file. AsksOf (Some file) start stop old new) (λ file. (λ cause is. omega (arith, none), λ pieces are. omega (arith, none))))
+    by_input input options old new (λ missing. none) (where_there old.held input (λ file. AsksOf (Some file) options old new) (λ file. (λ cause is. omega (arith, none), λ pieces are. omega (arith, none))))
 
 if_less : (b : Bool) (n : ℕ) → cond b 0 n ≤ n
 if_less true n = omega arith
@@ -91,25 +98,101 @@ left_bytes reader file pieces start stop s unread range are =
     let less = if_less reader.bad (bytes_in reader.left) in
     omega (arith, whole, less)
 
+-- the bytes of the readings: opening, a first reading if there are two, and the last one
+in_all : (pick : Pick) (opening more : ℕ) → opening + (in_first_reading pick (opening + more) + more) ≡ in_readings pick (opening + more)
+in_all First opening more = omega arith
+in_all Lowest opening more = omega arith
+in_all Highest opening more = omega arith
+
 -- an input that was opened
-pub asks_both : (reader : ReaderSeen) (input : List ℕ) (start stop : ℕ) (old mid new : Outside) → WhereKnown old.held input (StandsFor reader)
+pub asks_both : (reader : ReaderSeen) (input : List ℕ) (options : Las2lasOptions) (old mid new : Outside) → WhereKnown old.held input (StandsFor reader)
     → ((IsMissing old.held input → ⊥) → WhereKnown old.held input (λ file. AsksAtMost (asked_to_open file) old mid))
-    → WhereKnown old.held input (λ file. (pieces : List Piece) → ArePieces file pieces → AsksAtMost (bytes_in (parts_of file (range_in start stop file) pieces)) mid new)
-    → AsksFor input start stop old new
-asks_both reader input start stop old mid new stands opened rest =
+    → WhereKnown old.held input (λ file. (pieces : List Piece) → ArePieces file pieces
+    → AsksAtMost (in_first_reading options.sieve.pick (asked_to_open file + bytes_in (parts_of file (range_in options.start options.stop file) pieces))
+    + bytes_in (parts_of file (range_in options.start options.stop file) pieces)) mid new)
+    → AsksFor input options old new
+asks_both reader input options old mid new stands opened rest =
+    let more_of : (file : List ℕ) → List Piece → ℕ = λ file pieces. bytes_in (parts_of file (range_in options.start options.stop file) pieces) in
     let Opened : List ℕ → Type 0 = λ file. AsksAtMost (asked_to_open file) old mid in
-    let Rest : List ℕ → Type 0 = λ file. (pieces : List Piece) → ArePieces file pieces → AsksAtMost (bytes_in (parts_of file (range_in start stop file) pieces)) mid new in
-    by_input input start stop old new (not_missing old.held input (StandsFor reader) stands) (λ there.
-    known_three old.held input (StandsFor reader) Opened Rest (λ file. AsksOf (Some file) start stop old new)
-    (λ file s front more. (λ cause is. absurd (none_is_some cause (refused_once file None (Some cause) s.accepted is)), λ pieces are. let last = more pieces are in omega (arith, front, last)))
+    let Rest : List ℕ → Type 0 = λ file. (pieces : List Piece) → ArePieces file pieces → AsksAtMost (in_first_reading options.sieve.pick (asked_to_open file + more_of file pieces) + more_of file pieces) mid new in
+    by_input input options old new (not_missing old.held input (StandsFor reader) stands) (λ there.
+    known_three old.held input (StandsFor reader) Opened Rest (λ file. AsksOf (Some file) options old new)
+    (λ file s front more. (
+      λ cause is. absurd (none_is_some cause (refused_once file None (Some cause) s.accepted is)),
+      λ pieces are.
+          let last = more pieces are in
+          let all = in_all options.sieve.pick (asked_to_open file) (more_of file pieces) in
+          omega (arith, front, last, all),
+    ))
     stands (opened there) rest)
+
+-- an input that was opened, and not read
+pub asks_opened : (reader : ReaderSeen) (input : List ℕ) (options : Las2lasOptions) (old mid : Outside) → WhereKnown old.held input (StandsFor reader)
+    → ((IsMissing old.held input → ⊥) → WhereKnown old.held input (λ file. AsksAtMost (asked_to_open file) old mid)) → AsksFor input options old mid
+asks_opened reader input options old mid stands opened = asks_opening input options old mid (not_missing old.held input (StandsFor reader) stands) opened
+
+-- what is asked for in a first reading, in which the input is opened again
+in_first : (pick : Pick) (opening more looked again : ℕ) → (pick ≡ First → ⊥) → looked ≤ more → again ≤ opening → looked + again ≤ in_first_reading pick (opening + more)
+in_first First opening more looked again twice a b = absurd (twice refl)
+in_first Lowest opening more looked again twice a b = omega (arith, a, b)
+in_first Highest opening more looked again twice a b = omega (arith, a, b)
+
+-- A reader of a known file that has sought a range and read nothing.
+module _ (reader : ReaderSeen) (input : List ℕ) (start stop : ℕ) (pick : Pick) (old : Outside) (stands : WhereKnown old.held input (StandsFor reader)) (unread : reader.next ≡ reader.first)
+    (range : reader.range ≡ record { start = min start (points_of reader.head.bytes); stop = min stop (points_of reader.head.bytes) }) where
+  abbrev more_in : (file : List ℕ) → List Piece → ℕ
+  more_in file pieces = bytes_in (parts_of file (range_in start stop file) pieces)
+
+  abbrev AsksIn : (new : Outside) → (most : List ℕ → List Piece → ℕ) → Type 0
+  AsksIn new most = WhereKnown old.held input (λ file. (pieces : List Piece) → ArePieces file pieces → AsksAtMost (most file pieces) old new)
+
+  -- it was looked through, perhaps not to the end
+  pub asks_looking : (new : Outside) → (pick ≡ First → ⊥) → new.asked ≤ old.asked + bytes_left reader
+      → AsksIn new (λ file pieces. in_first_reading pick (asked_to_open file + more_in file pieces))
+  asks_looking new twice asked = known_more old.held input (StandsFor reader) _ (λ file s pieces are.
+      let less = left_bytes reader file pieces start stop s unread range are in
+      let none : 0 ≤ asked_to_open file = omega arith in
+      let all = in_first pick (asked_to_open file) (more_in file pieces) (bytes_left reader) 0 twice less none in
+      omega (arith, asked, all)) stands
+
+  -- and then the input was opened again
+  pub asks_again : (mid new : Outside) → (pick ≡ First → ⊥) → mid.held ≡ old.held → mid.asked ≤ old.asked + bytes_left reader
+      → ((IsMissing mid.held input → ⊥) → WhereKnown mid.held input (λ file. AsksAtMost (asked_to_open file) mid new))
+      → AsksIn new (λ file pieces. in_first_reading pick (asked_to_open file + more_in file pieces))
+  asks_again mid new twice same asked opened =
+      let Opened : List ℕ → Type 0 = λ file. AsksAtMost (asked_to_open file) mid new in
+      let there : IsMissing mid.held input → ⊥ = λ missing. not_missing old.held input (StandsFor reader) stands (subst (λ (h : Option FileMap). IsMissing h input) same missing) in
+      let again = subst (λ (h : Option FileMap). WhereKnown h input Opened) same (opened there) in
+      known_more old.held input (λ file. StandsFor reader file × Opened file) _ (λ file h pieces are.
+      let less = left_bytes reader file pieces start stop h.0 unread range are in
+      let last = h.1 in
+      let all = in_first pick (asked_to_open file) (more_in file pieces) (bytes_left reader) (asked_to_open file) twice less (omega arith) in
+      omega (arith, asked, last, all)) (both_known old.held input (StandsFor reader) Opened stands again)
+
+  -- and it was read, after what was asked for before
+  pub asks_selected : (mid new : Outside) (before : List ℕ → List Piece → ℕ) → WhereKnown old.held input (λ file. (pieces : List Piece) → ArePieces file pieces → AsksAtMost (before file pieces) old mid)
+      → new.asked ≤ mid.asked + bytes_left reader → AsksIn new (λ file pieces. before file pieces + more_in file pieces)
+  asks_selected mid new before asked rest =
+      let Before : List ℕ → Type 0 = λ file. (pieces : List Piece) → ArePieces file pieces → AsksAtMost (before file pieces) old mid in
+      known_more old.held input (λ file. StandsFor reader file × Before file) _ (λ file h pieces are.
+      let less = left_bytes reader file pieces start stop h.0 unread range are in
+      let first = h.1 pieces are in
+      omega (arith, first, rest, less)) (both_known old.held input (StandsFor reader) Before stands asked)
+
+-- an input that was not read to the end
+pub asks_stopped : (input : List ℕ) (start stop : ℕ) (pick : Pick) (old new : Outside)
+    → WhereKnown old.held input (λ file. (pieces : List Piece) → ArePieces file pieces
+    → AsksAtMost (in_first_reading pick (asked_to_open file + bytes_in (parts_of file (range_in start stop file) pieces))) old new)
+    → WhereKnown old.held input (λ file. (pieces : List Piece) → ArePieces file pieces
+    → AsksAtMost (in_first_reading pick (asked_to_open file + bytes_in (parts_of file (range_in start stop file) pieces)) + bytes_in (parts_of file (range_in start stop file) pieces)) old new)
+asks_stopped input start stop pick old new asked = known_more old.held input _ _ (λ file h pieces are. let most = h pieces are in omega (arith, most)) asked
 
 -- of words that were read
 pub asks_read : (said : Said) (read : Result Command WordFault) (input : List ℕ) (options : Las2lasOptions) (workers : ℕ) (old new : Outside)
     → IsRead said read → said ≡ asks (record { work = reads input (las2las options); workers = workers })
     → ((f : WordFault) → read ≡ Err f → new ≡ old)
     → ((command : Command) → read ≡ Ok command → WorkAsks (work_by command) old new)
-    → AsksFor input options.start options.stop old new
+    → AsksFor input options old new
 asks_read said (Ok command) input options workers old new is asked unread work =
     let same : asks (asked_by command) ≡ asks (record { work = reads input (las2las options); workers = workers }) = sym is ∙ asked in
     let by : work_by command ≡ reads input (las2las options) = work_same (asked_by command) (record { work = reads input (las2las options); workers = workers }) same in
@@ -121,7 +204,7 @@ asks_read said (Err (fault.Usage index)) input options workers old new is asked 
   where
     apart : (asked : Asked) (index : ℕ) → asks asked ≡ usage index → ⊥
     apart asked index e = absurd (cc)
-asks_read said (Err fault.Memory) input options workers old new is asked unread work = asks_nothing input options.start options.stop old new (unread fault.Memory refl)
+asks_read said (Err fault.Memory) input options workers old new is asked unread work = asks_nothing input options old new (unread fault.Memory refl)
 
 -- of a command that was obeyed
 pub asks_obeyed : (said : Result Command WordFault) (own command : Command) (old new : Outside) → said ≡ Ok own → said ≡ Ok command → WorkAsks (work_by own) old new → WorkAsks (work_by command) old new

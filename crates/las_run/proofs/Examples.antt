@@ -1,14 +1,16 @@
 -- Worked values of the definitions.
-use Rattle.std.proofs.Common.{◌≡◌, Some, [], ◌∷◌, ◌++◌, codes, refl}
+use Rattle.std.proofs.Common.{◌≡◌, None, Some, [], ◌∷◌, ◌++◌, length, codes, refl}
 use Rattle.std.specs.Fmt.{digits}
 use Rattle.las_header.specs.declared.refusal.Refusal.TheVariants.{BadChunk, NotPacked, RawRange, Trailing}
 use Rattle.las_merge.specs.declared.fault.MergeFault.TheVariants.{At, Unequal}
 use Rattle.las_merge.specs.declared.field.Field.TheVariants.{Format, Length, Scales, Offsets, Bounds}
 use Rattle.laz_file.specs.declared.fault.Fault.TheVariants as file
 use Rattle.las_run.specs.declared.stop.Surplus.TheVariants.{Chunks, Points}
-use Rattle.las_run.specs.Endings.{Memory, Usage, Unread, Unwritten, Refused, Differs, HasTooMany}
+use Rattle.las_thin.specs.declared.pick.Pick.TheVariants.{First, Lowest, Highest}
+use Rattle.las_run.specs.Asking.{in_readings}
+use Rattle.las_run.specs.Endings.{Memory, Usage, Unread, Unwritten, Refused, Differs, HasTooMany, ends_at_once}
 use Rattle.las_run.specs.Lines.{field_name, line_of}
-use Rattle.las_run.specs.Tools.{cause_at, cause_of_fault, made_text}
+use Rattle.las_run.specs.Tools.{cause_at, cause_of_fault, converted, made_text}
 
 no_memory : line_of Memory ≡ codes "no memory" ++ 10 ∷ []
 no_memory = refl
@@ -77,3 +79,17 @@ three_lines :
     made_text 3 327 180 ≡ codes "points 3" ++ 10 ∷ codes "plain 327" ++ 10 ∷ codes "packed 180" ++ 10 ∷ []
 unfolding digits
 three_lines = refl
+
+-- a bad chunk ends a run of two readings before there is an output
+no_output : converted None [] (codes "a") (codes "b") Lowest [] [] (Some (BadChunk 1)) ≡ ends_at_once (Refused (codes "a") (BadChunk 1))
+no_output = refl
+
+begun : length (converted None [] (codes "a") (codes "b") First [] [] (Some (BadChunk 1))).outputs ≡ 1
+begun = refl
+
+begun_twice : length (converted None [] (codes "a") (codes "b") Highest [] [] (Some (RawRange 1))).outputs ≡ 1
+begun_twice = refl
+
+-- two readings ask for twice the bytes of one
+readings : (in_readings First 30 ≡ 30) × (in_readings Lowest 30 ≡ 60) × (in_readings Highest 30 ≡ 60)
+readings = (refl, refl, refl)

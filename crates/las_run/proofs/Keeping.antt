@@ -6,7 +6,7 @@ use Rattle.las_outside.specs.Sinks.{Puts}
 use Rattle.las_words.specs.Asked.{Las2lasOptions, las2las, reads}
 use Rattle.las_words.specs.Says as words
 use Rattle.las_run.specs.Asking.{AsksFor}
-use Rattle.las_run.specs.Endings.{Cause, ComesFirst, Done, Memory, Usage, Unread, Unwritten, Refused, Differs, HasTooMany, Ending, status_of}
+use Rattle.las_run.specs.Endings.{Cause, Done, Memory, Usage, Unread, Unwritten, Refused, Differs, HasTooMany, Ending, status_of}
 use Rattle.las_run.specs.Ends.{Ends, EndsAs, IsTheEnding}
 use Rattle.las_run.specs.Lines.{line_of}
 use Rattle.las_run.specs.Promises.{KeepsPromises}
@@ -75,10 +75,10 @@ module _ (run : RunSeen) where
   done (Differs name field) known told e held decided = as_the_one (Differs name field) known told e.1 held
   done (HasTooMany surplus) known told e held decided = as_the_one (HasTooMany surplus) known told e.0 held
 
-  unchanged : (cause : Cause) (known : FileMap) (ending : Ending) → Ends run.task (change_of run) cause → IsDue run known ending → ComesFirst ending.cause → run.files_now.held ≡ run.files.held
-  unchanged cause known ending e due first =
+  untouched : (cause : Cause) (known : FileMap) (ending : Ending) → Ends run.task (change_of run) cause → IsDue run known ending → ending.outputs ≡ [] → run.files_now.held ≡ run.files.held
+  untouched cause known ending e due none =
       let h = left run.task (change_of run) cause e known ending due.known_is due.defined in
-      h.1 ∙ ap (λ (m : FileMap). Some m) (left_of_none ending.outputs known h.0 (no_outputs_first run.task known ending due.defined first) h.2) ∙ sym due.known_is
+      h.1 ∙ ap (λ (m : FileMap). Some m) (left_of_none ending.outputs known h.0 none h.2) ∙ sym due.known_is
 
   quiet : (cause : Cause) → run.status ≡ status_of cause → Ends run.task (change_of run) cause → (run.status ≡ 0) ⊎ ((run.status ≡ 4) ⊎ (run.out_now ≡ run.out))
   quiet cause is e = subst (λ (s : ℕ). (s ≡ 0) ⊎ ((s ≡ 4) ⊎ (run.out_now ≡ run.out))) (sym is) (quiet_but run.task (change_of run) cause e)
@@ -90,7 +90,7 @@ module _ (run : RunSeen) where
   -- how much `las2las` asks for
   abbrev pub Asks : Type 0
   Asks = (input : List ℕ) (options : Las2lasOptions) (workers : ℕ) → run.task.said ≡ words.asks (record { work = reads input (las2las options); workers = workers })
-      → AsksFor input options.start options.stop run.files run.files_now
+      → AsksFor input options run.files run.files_now
 
   pub keeps : (cause : Cause) → run.status ≡ status_of cause → Puts (line_of cause) run.err run.err_now → Ends run.task (change_of run) cause → EndsUnasked → Asks → Later run.files run.files_now → run.status ≤ 6 → KeepsPromises run
   keeps cause is line e unasked asks later few =
@@ -111,7 +111,8 @@ module _ (run : RunSeen) where
         read = λ three. read_cause run.task (change_of run) cause e (sym is ∙ three);
         write = λ four. write_cause run.task (change_of run) cause e (sym is ∙ four);
         left = all_left;
-        unchanged = λ known ending due first. unchanged cause known ending e due first;
+        unchanged = λ known ending due first. untouched cause known ending e due (no_outputs_first run.task known ending due.defined first);
+        untouched = λ known ending due none. untouched cause known ending e due none;
         out = quiet cause is e;
         put = λ known ending due. put_of run.task (change_of run) cause known ending e due.known_is due.defined;
         later = later;

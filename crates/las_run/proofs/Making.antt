@@ -12,6 +12,8 @@ use Rattle.las_header.specs.Plain.{plain_head}
 use Rattle.las_outside.specs.Faults.{Rose}
 use Rattle.las_outside.specs.Files.{FileMap, WhereKnown, with_file}
 use Rattle.las_outside.specs.Outside.{Outside}
+use Rattle.las_outside.specs.Sinks.{SinkView}
+use Rattle.las_outside.proofs.Texts.{with_more-none}
 use Rattle.laz_table.specs.VlrCauses.{chunk_size_of}
 use Rattle.laz_file.specs.declared.fault.Fault.{Fault}
 use Rattle.laz_file.specs.declared.fault.Fault.TheVariants as file
@@ -23,7 +25,7 @@ use Rattle.laz_file.proofs.Finished.{finished_is}
 use Rattle.laz_file.proofs.Packed.{plain-is}
 use Rattle.las_run.specs.Endings.{ComesAtOpening, Done, Refused, Ending, IsLeft, files_of}
 use Rattle.las_run.specs.Tools.{Zips, ZipsIf, output_of, writes}
-use Rattle.las_run.specs.Ends.{EndsMaking, IsOnlyEnding, LeavesOf, MakesAs}
+use Rattle.las_run.specs.Ends.{EndsMaking, IsOnlyEnding, LeavesOf, MakesAs, MakesOutput, quiet, stopped_by}
 use Rattle.las_run.proofs.Endings.{left_if_done, nothing_left}
 use Rattle.las_run.proofs.Opening.{both_known, known_more, some_outputs}
 
@@ -47,7 +49,7 @@ done_of_one out records text held now files input put is known = put ∙ ap (λ 
 pub stopped_of_one : (out : points.Output) (records : List ℕ) (held now : Option FileMap) (files : FileMap) (input : List ℕ) (refusal : Refusal) → now ≡ with_file held out.name (points.stopped out records) → held ≡ Some files → now ≡ Some (files_of (writes input out records (Some refusal)) files)
 stopped_of_one out records held now files input refusal put known = put ∙ ap (λ (h : Option FileMap). with_file h out.name (points.stopped out records)) known
 
-pub zips_output : (packed : Bool) (input output : List ℕ) (chunk : ℕ) (file : List ℕ) (ending : Ending) → ZipsIf packed input output chunk file ending → ending.outputs ≢ []
+zips_output : (packed : Bool) (input output : List ℕ) (chunk : ℕ) (file : List ℕ) (ending : Ending) → ZipsIf packed input output chunk file ending → ending.outputs ≢ []
 zips_output true input output chunk file ending makes = some_outputs ending.outputs _ _ (ap (λ (e : Ending). e.outputs) makes.3)
 zips_output false input output chunk file ending makes = some_outputs ending.outputs _ _ (ap (λ (e : Ending). e.outputs) makes)
 
@@ -70,7 +72,7 @@ pub is_packed_file : (reader : ReaderSeen) (file : List ℕ) → IsSome reader.c
 is_packed_file reader file some stands = packed_by (is_packed (head_of file)) (chunk_size_of (head_of file)) (subst (λ (o : Option ℕ). IsSome o) stands.chunk some)
 
 -- ---- what `laszip` makes of the file of a reader
-module _ (reader : ReaderSeen) (output : List ℕ) (chunk : ℕ) (old new : Outside) (stands : WhereKnown old.held reader.name (StandsFor reader)) where
+module _ (reader : ReaderSeen) (output : List ℕ) (chunk : ℕ) (old new : Outside) (out : SinkView) (stands : WhereKnown old.held reader.name (StandsFor reader)) where
   abbrev Makes : List ℕ → Ending → Type 0
   Makes file ending = Zips reader.name output chunk file ending
 
@@ -84,6 +86,10 @@ module _ (reader : ReaderSeen) (output : List ℕ) (chunk : ℕ) (old new : Outs
   -- what stands for the file, and something more that is known of it
   with_more : (P Q : List ℕ → Type 0) → ((file : List ℕ) → StandsFor reader file → P file → Q file) → WhereKnown old.held reader.name P → WhereKnown old.held reader.name Q
   with_more P Q f p = known_more old.held reader.name (λ file. StandsFor reader file × P file) Q (λ file h. f file h.0 h.1) (both_known old.held reader.name (StandsFor reader) P stands p)
+
+  -- an output is written
+  some_output : MakesOutput (Zips reader.name output chunk) reader.name (quiet old new out)
+  some_output = known_more old.held reader.name (StandsFor reader) _ (λ file s ending makes. zips_output (is_packed (head_of file)) reader.name output chunk file ending makes) stands
 
   -- ---- a plain one
   module _ (plain : reader.chunk ≡ None) (head : IsHead reader.head.bytes) where
@@ -104,20 +110,19 @@ module _ (reader : ReaderSeen) (output : List ℕ) (chunk : ℕ) (old new : Outs
       only = λ other makes. zipped false file other is makes;
     }
 
-    pack_made : WhereKnown old.held reader.name (λ file. new.held ≡ with_file old.held output (packed_file file chunk)) → MakesAs (Zips reader.name output chunk) reader.name old new Done
+    pack_made : WhereKnown old.held reader.name (λ file. new.held ≡ with_file old.held output (packed_file file chunk)) → MakesAs (Zips reader.name output chunk) reader.name (quiet old new out) Done
     pack_made put = with_more _ _ (λ file s held. (
       writes reader.name (packed_by_us file) (records file) None,
       packs file s,
-      refl,
-      refl,
+      (refl, with_more-none out),
       λ files known. done_of_one (packed_by_us file) (records file) (packed_file file chunk) old.held new.held files reader.name held (finished_pack file s) known,
     )) put
 
-    pack_left : WhereKnown old.held reader.name (λ file. LeavesUnfinished (packed_output output file chunk) (drop (point_offset_of file) file) old.held new.held) → LeavesOf (Zips reader.name output chunk) reader.name old new
+    pack_left : WhereKnown old.held reader.name (λ file. LeavesUnfinished (packed_output output file chunk) (drop (point_offset_of file) file) old.held new.held) → LeavesOf (Zips reader.name output chunk) reader.name (quiet old new out)
     pack_left left = with_more _ _ (λ file s leaves files ending known makes.
         left_of_one (packed_by_us file) (records file) old.held new.held files reader.name None ending leaves known (zipped false file ending (is_plain reader file plain s) makes)) left
 
-    pack_done_left : WhereKnown old.held reader.name (λ file. new.held ≡ with_file old.held output (packed_file file chunk)) → LeavesOf (Zips reader.name output chunk) reader.name old new
+    pack_done_left : WhereKnown old.held reader.name (λ file. new.held ≡ with_file old.held output (packed_file file chunk)) → LeavesOf (Zips reader.name output chunk) reader.name (quiet old new out)
     pack_done_left put = with_more _ _ (λ file s held files ending known makes.
         let is = zipped false file ending (is_plain reader file plain s) makes in (
           files_of ending files,
@@ -131,12 +136,12 @@ module _ (reader : ReaderSeen) (output : List ℕ) (chunk : ℕ) (old new : Outs
         → ((cause : Refusal) → IsErrOf outcome (file.Refused cause) → ⊥)
         → (IsErrOf outcome file.Read → Rose old.read_faults new.read_faults)
         → (IsErrOf outcome file.Write → Rose old.write_faults new.write_faults)
-        → EndsMaking (Zips reader.name output chunk) reader.name old new outcome
+        → EndsMaking (Zips reader.name output chunk) reader.name (quiet old new out) (stopped_by 0 outcome)
     ends_packing (Ok done) made left never read write = (pack_made made, pack_done_left made)
     ends_packing (Err (file.Refused cause)) made left never read write = absurd (never cause refl)
-    ends_packing (Err file.Read) made left never read write = (read refl, pack_left left)
-    ends_packing (Err file.Write) made left never read write = (write refl, pack_left left)
-    ends_packing (Err file.Memory) made left never read write = pack_left left
+    ends_packing (Err file.Read) made left never read write = (refl, read refl, pack_left left, refl)
+    ends_packing (Err file.Write) made left never read write = (inl (write refl, some_output, refl), pack_left left)
+    ends_packing (Err file.Memory) made left never read write = (pack_left left, refl)
 
   -- ---- a packed one
   module _ (packed : IsSome reader.chunk) where
@@ -155,16 +160,15 @@ module _ (reader : ReaderSeen) (output : List ℕ) (chunk : ℕ) (old new : Outs
     abbrev Unpacked : Option ℕ → List ℕ → Type 0
     Unpacked bad file = (blocks : List (List ℕ)) × AreOnlyRecords file blocks bad × (new.held ≡ with_file old.held output (plain_head file ++ concat blocks))
 
-    unpack_made : WhereKnown old.held reader.name (Unpacked None) → MakesAs (Zips reader.name output chunk) reader.name old new Done
+    unpack_made : WhereKnown old.held reader.name (Unpacked None) → MakesAs (Zips reader.name output chunk) reader.name (quiet old new out) Done
     unpack_made put = with_more _ _ (λ file s h. (
       unpacked file h.0 None,
       unpacks file h.0 None s h.1,
-      refl,
-      refl,
+      (refl, with_more-none out),
       λ files known. done_of_one (plain_output output file) (concat h.0) (plain_head file ++ concat h.0) old.held new.held files reader.name h.2 refl known,
     )) put
 
-    unpack_done_left : WhereKnown old.held reader.name (Unpacked None) → LeavesOf (Zips reader.name output chunk) reader.name old new
+    unpack_done_left : WhereKnown old.held reader.name (Unpacked None) → LeavesOf (Zips reader.name output chunk) reader.name (quiet old new out)
     unpack_done_left put = with_more _ _ (λ file s h files ending known makes.
         let is = (unpacks file h.0 None s h.1).only ending makes in (
           files_of ending files,
@@ -172,7 +176,7 @@ module _ (reader : ReaderSeen) (output : List ℕ) (chunk : ℕ) (old new : Outs
           left_if_done ending files (ap (λ (e : Ending). e.cause) is),
         )) put
 
-    unpack_left : WhereKnown old.held reader.name (λ file. LeavesRecords (plain_output output file) file old.held new.held) → LeavesOf (Zips reader.name output chunk) reader.name old new
+    unpack_left : WhereKnown old.held reader.name (λ file. LeavesRecords (plain_output output file) file old.held new.held) → LeavesOf (Zips reader.name output chunk) reader.name (quiet old new out)
     unpack_left left = with_more _ _ (λ file s leaves files ending known makes.
         let h = zipped true file ending (is_packed_file reader file packed s) makes in
         left_of_one (plain_output output file) (concat h.0) old.held new.held files reader.name (option_map BadChunk h.1) ending (leaves h.0 h.1 h.2) known h.3) left
@@ -180,12 +184,11 @@ module _ (reader : ReaderSeen) (output : List ℕ) (chunk : ℕ) (old new : Outs
     abbrev RefusedBy : Refusal → List ℕ → Type 0
     RefusedBy cause file = (blocks : List (List ℕ)) × (i : ℕ) × (cause ≡ BadChunk i) × AreOnlyRecords file blocks (Some i) × (new.held ≡ with_file old.held output (points.stopped (plain_output output file) (concat blocks)))
 
-    unpack_refused : (cause : Refusal) → WhereKnown old.held reader.name (RefusedBy cause) → MakesAs (Zips reader.name output chunk) reader.name old new (Refused reader.name cause)
+    unpack_refused : (cause : Refusal) → WhereKnown old.held reader.name (RefusedBy cause) → MakesAs (Zips reader.name output chunk) reader.name (quiet old new out) (Refused reader.name cause)
     unpack_refused cause put = with_more _ _ (λ file s h. (
       unpacked file h.0 (Some h.1),
       unpacks file h.0 (Some h.1) s h.3,
-      ap (λ (c : Refusal). Refused reader.name c) (sym h.2),
-      refl,
+      (ap (λ (c : Refusal). Refused reader.name c) (sym h.2), with_more-none out),
       λ files known. stopped_of_one (plain_output output file) (concat h.0) old.held new.held files reader.name (BadChunk h.1) h.4 known,
     )) put
 
@@ -199,9 +202,9 @@ module _ (reader : ReaderSeen) (output : List ℕ) (chunk : ℕ) (old new : Outs
         → IfErr outcome (λ fault. WhereKnown old.held reader.name (λ file. LeavesRecords (plain_output output file) file old.held new.held))
         → (IsErrOf outcome file.Read → Rose old.read_faults new.read_faults)
         → (IsErrOf outcome file.Write → Rose old.write_faults new.write_faults)
-        → EndsMaking (Zips reader.name output chunk) reader.name old new outcome
+        → EndsMaking (Zips reader.name output chunk) reader.name (quiet old new out) (stopped_by 0 outcome)
     ends_unpacking (Ok done) made refused bad left read write = (unpack_made made, unpack_done_left made)
-    ends_unpacking (Err (file.Refused cause)) made refused bad left read write = (unpack_refused cause (refused cause refl), unpack_left left, not_first cause (bad cause refl))
-    ends_unpacking (Err file.Read) made refused bad left read write = (read refl, unpack_left left)
-    ends_unpacking (Err file.Write) made refused bad left read write = (write refl, unpack_left left)
-    ends_unpacking (Err file.Memory) made refused bad left read write = unpack_left left
+    ends_unpacking (Err (file.Refused cause)) made refused bad left read write = (refl, unpack_refused cause (refused cause refl), unpack_left left, (λ first. absurd (not_first cause (bad cause refl) first)), refl)
+    ends_unpacking (Err file.Read) made refused bad left read write = (refl, read refl, unpack_left left, refl)
+    ends_unpacking (Err file.Write) made refused bad left read write = (inl (write refl, some_output, refl), unpack_left left)
+    ends_unpacking (Err file.Memory) made refused bad left read write = (unpack_left left, refl)

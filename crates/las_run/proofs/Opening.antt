@@ -1,22 +1,19 @@
 -- From an input that is opened, and from what a command makes of it, to the cause for which a run ends.
-use Rattle.std.proofs.Common.{◌≡◌, ◌≢◌, inl, inr, ℕ, List, [], ◌∷◌, map, take, lit<, Option, Some, None, IsSomeAnd, Result, Ok, Err, refl, sym, ◌∙◌, ap, subst}
+use Rattle.std.proofs.Common.{◌≡◌, ◌≢◌, inl, inr, ℕ, List, [], ◌∷◌, take, lit<, Option, Some, None, IsSomeAnd, Result, Ok, Err, refl, sym, ◌∙◌, ap, subst}
 use Rattle.std.specs.Prelude.{Contains}
 use Rattle.std.specs.FinMap as finmap
 use Rattle.las_header.specs.declared.refusal.Refusal.{Refusal}
-use Rattle.las_outside.specs.Faults.{Rose}
 use Rattle.las_outside.specs.Files.{FileMap, IsMissing, WhereKnown}
 use Rattle.las_outside.specs.Outside.{Outside}
 use Rattle.las_outside.specs.Sinks.{SinkView, with_fault, with_more}
 use Rattle.las_outside.proofs.Texts.{with_more-none}
-use Rattle.laz_file.specs.declared.fault.Fault.{Fault}
-use Rattle.laz_file.specs.declared.fault.Fault.TheVariants as file
 use Rattle.laz_file.specs.Refusing.{IsAcceptedFile, IsRefusal}
 use Rattle.laz_file.proofs.OneAnswer.{refused_once}
 use Rattle.las_run.specs.declared.stop.Stop.{Stop}
 use Rattle.las_run.specs.declared.stop.Stop.TheVariants as stop
-use Rattle.las_run.specs.Endings.{Cause, Done, Unread, Refused, Ending, IsLeft, Output, at_end, ends_at_once, files_of, with_all}
+use Rattle.las_run.specs.Endings.{Cause, Done, Unread, Refused, Ending, Output, ends_at_once, files_of}
 use Rattle.las_run.specs.Runs.{Accepts, Opens, OpensIn, RunOf, Task, files_read_by, inputs_of}
-use Rattle.las_run.specs.Ends.{Change, ComesTo, quiet, Ends, EndsAs, EndsMaking, EndsPutting, HasOutput, IsLeftBy, IsOnlyEnding, IsTheEnding, LeavesOf, MakesAs, MakesText, StopsOpening, cause_of, stopped_by}
+use Rattle.las_run.specs.Ends.{Change, ComesTo, quiet, Ends, EndsAs, EndsMaking, FailsMaking, FailsToWrite, HasOutput, IsLeftBy, IsOnlyEnding, IsTheEnding, LeavesOf, MakesAs, MakesOne, MakesOutput, StopsOpening, cause_of}
 use Rattle.las_run.proofs.Endings.{left_before}
 
 -- ---- what is known of an input
@@ -58,23 +55,30 @@ pub some_outputs : (os : List Output) (o : Output) (rest : List Output) → os �
 some_outputs os o rest is empty = absurd (cc)
 
 -- ---- what a command makes after calls that have changed no file and failed nowhere
-module _ (Makes : List ℕ → Ending → Type 0) (input : List ℕ) (old mid new : Outside) (same : mid.held ≡ old.held) (reads : mid.read_faults ≡ old.read_faults) (writes : mid.write_faults ≡ old.write_faults) where
-  made_before : (cause : Cause) → MakesAs Makes input mid new cause → MakesAs Makes input old new cause
-  made_before cause makes = subst (λ (h : Option FileMap). WhereKnown h input (λ file.
-      (ending : Ending) × IsOnlyEnding (Makes file) ending × (ending.cause ≡ cause) × (ending.text ≡ [])
-      × ((files : FileMap) → h ≡ Some files → new.held ≡ Some (files_of ending files)))) same makes
+module _ (Makes : List ℕ → Ending → Type 0) (input : List ℕ) (new : Outside) (out out_now : SinkView) where
+  abbrev after : Outside → Change
+  after files = record { files = files; files_now = new; out = out; out_now = out_now }
 
-  left_from : LeavesOf Makes input mid new → LeavesOf Makes input old new
-  left_from leaves = subst (λ (h : Option FileMap). WhereKnown h input (λ file.
-      (files : FileMap) (ending : Ending) → h ≡ Some files → Makes file ending
-      → (now : FileMap) × (new.held ≡ Some now) × IsLeft ending.outputs files now)) same leaves
+  -- how many bytes were asked for does not matter
+  asked_before : (old : Outside) (asked : ℕ) (outcome : Result (Unit {0}) Stop) → EndsMaking Makes input (after old) outcome → EndsMaking Makes input (after (record old { asked = asked })) outcome
+  asked_before old asked (Ok done) ends = ends
+  asked_before old asked (Err stop.Memory) ends = ends
+  asked_before old asked (Err (stop.Usage index)) ends = ends
+  asked_before old asked (Err (stop.Read number)) ends = ends
+  asked_before old asked (Err stop.Write) ends = ends
+  asked_before old asked (Err (stop.Refused number cause)) ends = ends
+  asked_before old asked (Err (stop.Differs number field)) ends = ends
+  asked_before old asked (Err (stop.TooMany surplus)) ends = ends
 
-  pub making_after : (outcome : Result (Unit {0}) Fault) → EndsMaking Makes input mid new outcome → EndsMaking Makes input old new outcome
-  making_after (Ok done) ends = (made_before Done ends.0, left_from ends.1)
-  making_after (Err (file.Refused cause)) ends = (made_before (Refused input cause) ends.0, left_from ends.1, ends.2)
-  making_after (Err file.Read) ends = (subst (λ (n : ℕ). Rose n new.read_faults) reads ends.0, left_from ends.1)
-  making_after (Err file.Write) ends = (subst (λ (n : ℕ). Rose n new.write_faults) writes ends.0, left_from ends.1)
-  making_after (Err file.Memory) ends = left_from ends
+  pub making_after : (old mid : Outside) → mid.held ≡ old.held → mid.read_faults ≡ old.read_faults → mid.write_faults ≡ old.write_faults
+      → (outcome : Result (Unit {0}) Stop) → EndsMaking Makes input (after mid) outcome → EndsMaking Makes input (after old) outcome
+  making_after old mid same reads writes outcome ends =
+      let seen : Option FileMap → ℕ → ℕ → Type 0 = λ held read_faults write_faults.
+      EndsMaking Makes input (after (record { held = held; read_faults = read_faults; write_faults = write_faults; asked = old.asked })) outcome in
+      subst (λ (h : Option FileMap). seen h old.read_faults old.write_faults) same
+      (subst (λ (r : ℕ). seen mid.held r old.write_faults) reads
+      (subst (λ (w : ℕ). seen mid.held mid.read_faults w) writes
+      (asked_before mid old.asked outcome ends)))
 
 -- ---- the endings of a command with one input
 
@@ -163,94 +167,57 @@ module _ (task : Task) (name : List ℕ) (Makes : List ℕ → Ending → Type 0
         subst (λ (n : ℕ). Ends task (quiet old new out) (cause_of (name ∷ []) (Err (stop.Refused n cause)))) (sym stops.0)
         (is_read, refused_ends cause stops.1 same, before same, (λ first. same), refl)
 
-    -- of an accepted input
-    module _ (accepted : WhereKnown old.held name IsAcceptedFile) where
-      made_ends : (cause : Cause) → MakesAs Makes name old new cause → EndsAs task (quiet old new out) cause
-      made_ends cause makes files known =
-          let P : List ℕ → Type 0 = λ file. (ending : Ending) × IsOnlyEnding (Makes file) ending × (ending.cause ≡ cause) × (ending.text ≡ []) × ((fs : FileMap) → old.held ≡ Some fs → new.held ≡ Some (files_of ending fs)) in
-          let both = both_known old.held name IsAcceptedFile P accepted makes in
-          let h = got files name (λ file. IsAcceptedFile file × P file) (subst (λ (o : Option FileMap). WhereKnown o name (λ file. IsAcceptedFile file × P file)) known both) in
-          let e = h.2.1 in
-          (e.0, accepted_ending files h.0 e.0 h.1 h.2.0 e.1, e.2, e.4 files known, with_more-none out ∙ ap (with_more out) (sym e.3))
+  -- of an accepted input
+  module _ (change : Change) (accepted : WhereKnown change.files.held name IsAcceptedFile) where
+    -- what is known of it, if the files are
+    known_of : (P : List ℕ → Type 0) → WhereKnown change.files.held name P → (files : FileMap) → change.files.held ≡ Some files
+        → (file : List ℕ) × (finmap.get files name ≡ Some file) × IsAcceptedFile file × P file
+    known_of P p files known =
+        let both = both_known change.files.held name IsAcceptedFile P accepted p in
+        let h = got files name (λ file. IsAcceptedFile file × P file) (subst (λ (o : Option FileMap). WhereKnown o name (λ file. IsAcceptedFile file × P file)) known both) in
+        (h.0, h.1, h.2.0, h.2.1)
 
-      left_of : LeavesOf Makes name old new → IsLeftBy task (quiet old new out)
-      left_of leaves files ending known run =
-          let P : List ℕ → Type 0 = λ file. (fs : FileMap) (e : Ending) → old.held ≡ Some fs → Makes file e → (now : FileMap) × (new.held ≡ Some now) × IsLeft e.outputs fs now in
-          let both = both_known old.held name IsAcceptedFile P accepted leaves in
-          let h = got files name (λ file. IsAcceptedFile file × P file) (subst (λ (o : Option FileMap). WhereKnown o name (λ file. IsAcceptedFile file × P file)) known both) in
-          h.2.1 files ending known (accepted_makes h.0 ending h.2.0 (opened files (Some h.0) ending h.1 run))
-
-      outputs : WhereKnown old.held name (λ file. (ending : Ending) → Makes file ending → ending.outputs ≢ []) → HasOutput task (quiet old new out)
-      outputs some files ending known run =
-          let P : List ℕ → Type 0 = λ file. (e : Ending) → Makes file e → e.outputs ≢ [] in
-          let both = both_known old.held name IsAcceptedFile P accepted some in
-          let h = got files name (λ file. IsAcceptedFile file × P file) (subst (λ (o : Option FileMap). WhereKnown o name (λ file. IsAcceptedFile file × P file)) known both) in
-          h.2.1 ending (accepted_makes h.0 ending h.2.0 (opened files (Some h.0) ending h.1 run))
-
-      -- a write that failed was of an output, if there is one
-      pub ends_writing : (outcome : Result (Unit {0}) Fault) → (outcome ≡ Err file.Write → WhereKnown old.held name (λ file. (ending : Ending) → Makes file ending → ending.outputs ≢ [])) → EndsMaking Makes name old new outcome
-          → Ends task (quiet old new out) (cause_of (name ∷ []) (stopped_by 0 outcome))
-      ends_writing (Ok done) some ends = (made_ends Done ends.0, left_of ends.1)
-      ends_writing (Err (file.Refused cause)) some ends = (is_read, made_ends (Refused name cause) ends.0, left_of ends.1, (λ first. absurd (ends.2 first)), refl)
-      ends_writing (Err file.Read) some ends = record { reads = is_read; comes = one.comes (quiet old new out) is_read; left = left_of ends.1; cause = inr ends.0; quiet = refl }
-      ends_writing (Err file.Write) some ends = (inl (ends.0, outputs (some refl), refl), left_of ends.1)
-      ends_writing (Err file.Memory) some ends = (left_of ends, refl)
-
-      pub ends_making : ((file : List ℕ) (ending : Ending) → Makes file ending → ending.outputs ≢ []) → (outcome : Result (Unit {0}) Fault) → EndsMaking Makes name old new outcome → Ends task (quiet old new out) (cause_of (name ∷ []) (stopped_by 0 outcome))
-      ends_making some outcome ends = ends_writing outcome (λ is. known_more old.held name IsAcceptedFile (λ file. (ending : Ending) → Makes file ending → ending.outputs ≢ []) (λ file accepted ending makes. some file ending makes) accepted) ends
-
-  -- ---- a command that puts a text, and changes no file
-  module _ (change : Change) (accepted : WhereKnown change.files.held name IsAcceptedFile) (same : change.files_now.held ≡ change.files.held) where
-    -- what is made of the input, if the files are known
-    text_made : (P : Ending → Type 0) → MakesText Makes name change P → (files : FileMap) → change.files.held ≡ Some files
+    one_made : (P : Ending → Type 0) → MakesOne Makes name change P → (files : FileMap) → change.files.held ≡ Some files
         → (ending : Ending) × IsTheEnding task files ending × P ending × (change.files_now.held ≡ Some (files_of ending files))
-    text_made P makes files known =
-        let Q : List ℕ → Type 0 = λ file. (ending : Ending) × IsOnlyEnding (Makes file) ending × (ending.outputs ≡ []) × P ending in
-        let both = both_known change.files.held name IsAcceptedFile Q accepted makes in
-        let h = got files name (λ file. IsAcceptedFile file × Q file) (subst (λ (o : Option FileMap). WhereKnown o name (λ file. IsAcceptedFile file × Q file)) known both) in
-        let e = h.2.1 in
-        (e.0, accepted_ending files h.0 e.0 h.1 h.2.0 e.1, e.3, same ∙ known ∙ sym (ap (λ (os : List Output). Some (with_all files (map (at_end e.0.cause) os))) e.2))
+    one_made P makes files known =
+        let h = known_of _ makes files known in
+        let e = h.3 in
+        (e.0, accepted_ending files h.0 e.0 h.1 h.2 e.1, e.2, e.3 files known)
 
-    put_as : (cause : Cause) (P : Ending → Type 0) → ((ending : Ending) → P ending → (ending.cause ≡ cause) × (change.out_now ≡ with_more change.out ending.text)) → MakesText Makes name change P → EndsAs task change cause
-    put_as cause P to makes files known =
-        let h = text_made P makes files known in
-        let p = to h.0 h.2 in
-        (h.0, h.1, p.0, h.3, p.1)
+    made_ends : (cause : Cause) → MakesAs Makes name change cause → EndsAs task change cause
+    made_ends cause makes files known =
+        let h = one_made (λ ending. (ending.cause ≡ cause) × (change.out_now ≡ with_more change.out ending.text)) makes files known in
+        (h.0, h.1, h.2.0, h.3, h.2.1)
 
-    pub ends_putting : (outcome : Result (Unit {0}) Stop) → EndsPutting Makes name change outcome → Ends task change (cause_of (name ∷ []) outcome)
-    ends_putting (Ok done) ends = (put_as Done (λ ending. (ending.cause ≡ Done) × (change.out_now ≡ with_more change.out ending.text)) (λ ending p. p) ends, left_before task change same)
-    ends_putting (Err stop.Memory) ends = (left_before task change same, ends)
-    ends_putting (Err (stop.Usage index)) ends = absurd ends
-    ends_putting (Err (stop.Read number)) ends =
-        subst (λ (n : ℕ). Ends task change (cause_of (name ∷ []) (Err (stop.Read n)))) (sym ends.0) (record { reads = is_read; comes = one.comes change is_read; left = left_before task change same; cause = inr ends.1; quiet = ends.2 })
-    ends_putting (Err stop.Write) ends = (
-      inr (record {
-        rose = ends.0;
-        known = λ files known. let h = text_made _ ends.1 files known in (h.0, h.1, h.2.0, h.2.1, h.3, h.2.2);
-      }),
-      left_before task change same,
-    )
-    ends_putting (Err (stop.Refused number cause)) ends =
-        subst (λ (n : ℕ). Ends task change (cause_of (name ∷ []) (Err (stop.Refused n cause)))) (sym ends.0) (
-          is_read,
-          put_as (Refused name cause) (λ ending. (ending.cause ≡ Refused name cause) × (ending.text ≡ [])) (λ ending p. (p.0, ends.2 ∙ with_more-none change.out ∙ ap (with_more change.out) (sym p.1))) ends.3,
-          left_before task change same,
-          (λ first. absurd (ends.1 first)),
-          ends.2,
-        )
-    ends_putting (Err (stop.Differs number field)) ends = absurd ends
-    ends_putting (Err (stop.TooMany surplus)) ends = absurd ends
+    left_of : LeavesOf Makes name change → IsLeftBy task change
+    left_of leaves files ending known run =
+        let h = known_of _ leaves files known in
+        h.3 files ending known (accepted_makes h.0 ending h.2 (opened files (Some h.0) ending h.1 run))
 
--- the same after calls that have changed no file and failed nowhere
-pub putting_after : (Makes : List ℕ → Ending → Type 0) (input : List ℕ) (old mid new : Outside) (out out_now : SinkView) → mid.held ≡ old.held → mid.read_faults ≡ old.read_faults → (outcome : Result (Unit {0}) Stop)
-    → EndsPutting Makes input (record { files = mid; files_now = new; out = out; out_now = out_now }) outcome → EndsPutting Makes input (record { files = old; files_now = new; out = out; out_now = out_now }) outcome
-putting_after Makes input old mid new out out_now same reads (Ok done) ends = subst (λ (h : Option FileMap). WhereKnown h input (λ file. (ending : Ending) × IsOnlyEnding (Makes file) ending × (ending.outputs ≡ []) × ((ending.cause ≡ Done) × (out_now ≡ with_more out ending.text)))) same ends
-putting_after Makes input old mid new out out_now same reads (Err stop.Memory) ends = ends
-putting_after Makes input old mid new out out_now same reads (Err (stop.Usage index)) ends = ends
-putting_after Makes input old mid new out out_now same reads (Err (stop.Read number)) ends = (ends.0, subst (λ (n : ℕ). Rose n new.read_faults) reads ends.1, ends.2)
-putting_after Makes input old mid new out out_now same reads (Err stop.Write) ends =
-    (ends.0, subst (λ (h : Option FileMap). WhereKnown h input (λ file. (ending : Ending) × IsOnlyEnding (Makes file) ending × (ending.outputs ≡ []) × ((ending.cause ≡ Done) × (ending.text ≢ []) × ((n : ℕ) × (out_now ≡ with_fault (with_more out (take n ending.text))))))) same ends.1)
-putting_after Makes input old mid new out out_now same reads (Err (stop.Refused number cause)) ends =
-    (ends.0, ends.1, ends.2, subst (λ (h : Option FileMap). WhereKnown h input (λ file. (ending : Ending) × IsOnlyEnding (Makes file) ending × (ending.outputs ≡ []) × ((ending.cause ≡ Refused input cause) × (ending.text ≡ [])))) same ends.3)
-putting_after Makes input old mid new out out_now same reads (Err (stop.Differs number field)) ends = ends
-putting_after Makes input old mid new out out_now same reads (Err (stop.TooMany surplus)) ends = ends
+    outputs : MakesOutput Makes name change → HasOutput task change
+    outputs some files ending known run =
+        let h = known_of _ some files known in
+        h.3 ending (accepted_makes h.0 ending h.2 (opened files (Some h.0) ending h.1 run))
+
+    fails : FailsMaking Makes name change → FailsToWrite task change
+    fails (inl write) = inl (write.0, outputs write.1, write.2)
+    fails (inr put) = inr (record {
+      rose = put.0;
+      known = λ files known.
+          let h = one_made (λ ending. (ending.cause ≡ Done) × (ending.text ≢ []) × ((n : ℕ) × (change.out_now ≡ with_fault (with_more change.out (take n ending.text))))) put.1 files known in
+          (h.0, h.1, h.2.0, h.2.1, h.3, h.2.2);
+    })
+
+    pub ends_making : (outcome : Result (Unit {0}) Stop) → EndsMaking Makes name change outcome → Ends task change (cause_of (name ∷ []) outcome)
+    ends_making (Ok done) ends = (made_ends Done ends.0, left_of ends.1)
+    ends_making (Err stop.Memory) ends = (left_of ends.0, ends.1)
+    ends_making (Err (stop.Usage index)) ends = absurd ends
+    ends_making (Err (stop.Read number)) ends =
+        subst (λ (n : ℕ). Ends task change (cause_of (name ∷ []) (Err (stop.Read n)))) (sym ends.0)
+        (record { reads = is_read; comes = one.comes change is_read; left = left_of ends.2; cause = inr ends.1; quiet = ends.3 })
+    ends_making (Err stop.Write) ends = (fails ends.0, left_of ends.1)
+    ends_making (Err (stop.Refused number cause)) ends =
+        subst (λ (n : ℕ). Ends task change (cause_of (name ∷ []) (Err (stop.Refused n cause)))) (sym ends.0)
+        (is_read, made_ends (Refused name cause) ends.1, left_of ends.2, ends.3, ends.4)
+    ends_making (Err (stop.Differs number field)) ends = absurd ends
+    ends_making (Err (stop.TooMany surplus)) ends = absurd ends

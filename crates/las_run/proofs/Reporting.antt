@@ -1,5 +1,5 @@
 -- Taps that are chosen by their names, and what is reported of a file.
-use Rattle.std.proofs.Common.{◌≡◌, ◌≢◌, ℕ, Bool, true, false, ◌||◌, cond, if◌then◌else◌, List, [], ◌∷◌, ◌++◌, length, take, map, get_or, Option, Some, None, find, refl, sym, ◌∙◌, ap, subst, arith}
+use Rattle.std.proofs.Common.{◌≡◌, ◌≢◌, inr, ℕ, Bool, true, false, ◌||◌, cond, if◌then◌else◌, List, [], ◌∷◌, ◌++◌, length, take, map, get_or, Option, Some, None, find, refl, sym, ◌∙◌, ap, subst, arith}
 use Rattle.std.specs.Prelude.{All, Result, Ok, Err, IsErrOf, OnOk, IsSome}
 use Rattle.std.specs.List.{AllPairs, AllZip, concat, cons_option, flat_map, list_any}
 use Rattle.std.specs.Option.{option_map}
@@ -18,8 +18,9 @@ use Rattle.las_info.specs.Surveys.{IsShown, SurveySeen}
 use Rattle.las_info.specs.Tallies.{TapSeen, shown_all}
 use Rattle.las_info.proofs.Shown.{all_seen}
 use Rattle.las_outside.specs.Faults.{Rose}
-use Rattle.las_outside.specs.Files.{WhereKnown}
+use Rattle.las_outside.specs.Files.{FileMap, WhereKnown}
 use Rattle.las_outside.specs.Sinks.{SinkView, with_fault, with_more}
+use Rattle.las_outside.proofs.Texts.{with_more-none}
 use Rattle.laz_file.specs.Copying.{AreOnlyRecords}
 use Rattle.laz_file.specs.Outputs.{records_after}
 use Rattle.laz_file.specs.Pieces.{ArePieces, Piece}
@@ -28,9 +29,10 @@ use Rattle.laz_file.proofs.OneAnswer.{one_pieces}
 use Rattle.laz_file.specs.declared.fault.Fault.{Fault}
 use Rattle.laz_file.specs.declared.fault.Fault.TheVariants as file
 use Rattle.laz_table.specs.VlrCauses.{chunk_size_of}
-use Rattle.las_run.specs.Endings.{ComesAtOpening, Done, Refused, Ending}
-use Rattle.las_run.specs.Ends.{Change, EndsPutting, IsOnlyEnding, MakesText, stop_by, stopped_report}
+use Rattle.las_run.specs.Endings.{ComesAtOpening, Done, Refused, Ending, Output, at_end, files_of, with_all}
+use Rattle.las_run.specs.Ends.{Change, EndsMaking, IsOnlyEnding, LeavesOf, MakesOne, stop_by, stopped_report}
 use Rattle.las_run.specs.Tools.{Reports, chosen_taps, chunks_line, report_of, reports, tallies_text}
+use Rattle.las_run.proofs.Endings.{nothing_left}
 use Rattle.las_run.proofs.Opening.{both_known, known_more}
 
 -- ---- names
@@ -114,7 +116,7 @@ module _ {X : Type 0} (seen : X → TapSeen) where
   lines_seen [] = refl
   lines_seen (x ∷ xs) = ap (λ (rest : List ℕ). tally_text (seen x).name (seen x).tally ++ rest) (lines_seen xs)
 
-lines_shown : (taps : List TapSeen) (records : List (List ℕ)) → flat_map (λ tap. tally_text tap.name tap.tally) (map (λ tap. shown_all tap records) taps) ≡ tallies_text taps records
+pub lines_shown : (taps : List TapSeen) (records : List (List ℕ)) → flat_map (λ tap. tally_text tap.name tap.tally) (map (λ tap. shown_all tap records) taps) ≡ tallies_text taps records
 lines_shown [] records = refl
 lines_shown (tap ∷ taps) records = ap (λ (rest : List ℕ). tally_text tap.name (shown_all tap records).tally ++ rest) (lines_shown taps records)
 
@@ -186,13 +188,20 @@ module _ (taps : List TapSeen) (tallies : List (List ℕ)) (reader : ReaderSeen)
       (ending_of taps reader.name tallies file known.0 None s.pieces, only_report taps reader.name tallies file known.0 None s.pieces known.1 s.are, refl, refl, sym text)
 
   -- how the run ends then
-  module _ (change : Change) (stands : WhereKnown change.files.held reader.name (StandsFor reader)) where
+  module _ (change : Change) (stands : WhereKnown change.files.held reader.name (StandsFor reader)) (same : change.files_now.held ≡ change.files.held) where
+    pub leaves : LeavesOf (Reports taps reader.name tallies) reader.name change
+    leaves = known_more change.files.held reader.name (StandsFor reader) _ (λ file s files ending known makes. (files, same ∙ known, nothing_left ending.outputs files)) stands
+
+    -- an ending without outputs has the files that were there
+    files_same : (ending : Ending) → ending.outputs ≡ [] → (files : FileMap) → change.files.held ≡ Some files → change.files_now.held ≡ Some (files_of ending files)
+    files_same ending none files known = same ∙ known ∙ sym (ap (λ (os : List Output). Some (with_all files (map (at_end ending.cause) os))) none)
+
     pub ends_reporting : (survey : SurveySeen) (text : List ℕ) (outcome : Result (Unit {0}) ReportFault) → WhereKnown change.files.held reader.name (IsSurveyed survey)
         → text ≡ survey_text reader.head.bytes reader.chunk (length reader.pieces) survey → text ≢ []
         → OnOk outcome (change.out_now ≡ with_more change.out text)
         → (IsErrOf outcome report.Failed → (n : ℕ) × (change.out_now ≡ with_fault (with_more change.out (take n text))))
         → (IsErrOf outcome report.Memory → change.out_now ≡ change.out)
-        → EndsPutting (Reports taps reader.name tallies) reader.name change (stopped_report outcome)
+        → EndsMaking (Reports taps reader.name tallies) reader.name change (stopped_report outcome)
     ends_reporting survey text outcome surveyed is some put failed memory = go outcome put failed memory
       where
         has : WhereKnown change.files.held reader.name (HasText text)
@@ -200,29 +209,33 @@ module _ (taps : List TapSeen) (tallies : List (List ℕ)) (reader : ReaderSeen)
             (λ file k. subst (λ (t : List ℕ). HasText t file) (sym is) (surveyed_text survey file k))
             (both_known change.files.held reader.name (StandsFor reader) (IsSurveyed survey) stands surveyed)
 
-        made : (P : Ending → Type 0) → ((ending : Ending) → ending.cause ≡ Done → ending.text ≡ text → P ending) → MakesText (Reports taps reader.name tallies) reader.name change P
-        made P to = known_more change.files.held reader.name (HasText text)
-            (λ file. (ending : Ending) × IsOnlyEnding (Reports taps reader.name tallies file) ending × (ending.outputs ≡ []) × P ending)
-            (λ file h. (h.0, h.1, h.2, to h.0 h.3 h.4)) has
+        made : (P : Ending → Type 0) → ((ending : Ending) → ending.cause ≡ Done → ending.text ≡ text → P ending) → MakesOne (Reports taps reader.name tallies) reader.name change P
+        made P to = known_more change.files.held reader.name (HasText text) _
+            (λ file h. (h.0, h.1, to h.0 h.3 h.4, files_same h.0 h.2)) has
 
         go : (outcome : Result (Unit {0}) ReportFault) → OnOk outcome (change.out_now ≡ with_more change.out text)
             → (IsErrOf outcome report.Failed → (n : ℕ) × (change.out_now ≡ with_fault (with_more change.out (take n text))))
             → (IsErrOf outcome report.Memory → change.out_now ≡ change.out)
-            → EndsPutting (Reports taps reader.name tallies) reader.name change (stopped_report outcome)
-        go (Ok done) put failed memory =
-            made (λ ending. (ending.cause ≡ Done) × (change.out_now ≡ with_more change.out ending.text))
-            (λ ending cause t. (cause, put ∙ ap (with_more change.out) (sym t)))
+            → EndsMaking (Reports taps reader.name tallies) reader.name change (stopped_report outcome)
+        go (Ok done) put failed memory = (
+          made (λ ending. (ending.cause ≡ Done) × (change.out_now ≡ with_more change.out ending.text))
+              (λ ending cause t. (cause, put ∙ ap (with_more change.out) (sym t))),
+          leaves,
+        )
         go (Err report.Failed) put failed memory =
             let f = failed refl in (
-              subst (λ (s : SinkView). Rose change.out.faults s.faults) (sym f.1) (omega arith),
-              made (λ ending. (ending.cause ≡ Done) × (ending.text ≢ []) × ((n : ℕ) × (change.out_now ≡ with_fault (with_more change.out (take n ending.text)))))
-                  (λ ending cause t. (
-                    cause,
-                    (λ empty. some (sym t ∙ empty)),
-                    (f.0, f.1 ∙ ap (λ (x : List ℕ). with_fault (with_more change.out (take f.0 x))) (sym t)),
-                  )),
+              inr (
+                subst (λ (s : SinkView). Rose change.out.faults s.faults) (sym f.1) (omega arith),
+                made (λ ending. (ending.cause ≡ Done) × (ending.text ≢ []) × ((n : ℕ) × (change.out_now ≡ with_fault (with_more change.out (take n ending.text)))))
+                    (λ ending cause t. (
+                      cause,
+                      (λ empty. some (sym t ∙ empty)),
+                      (f.0, f.1 ∙ ap (λ (x : List ℕ). with_fault (with_more change.out (take f.0 x))) (sym t)),
+                    )),
+              ),
+              leaves,
             )
-        go (Err report.Memory) put failed memory = memory refl
+        go (Err report.Memory) put failed memory = (leaves, memory refl)
 
     -- the survey failed
     pub ends_surveying : (fault : Fault)
@@ -231,23 +244,23 @@ module _ (taps : List TapSeen) (tallies : List (List ℕ)) (reader : ReaderSeen)
         → (fault ≡ file.Read → Rose change.files.read_faults change.files_now.read_faults)
         → (fault ≡ file.Write → ⊥)
         → change.out_now ≡ change.out
-        → EndsPutting (Reports taps reader.name tallies) reader.name change (Err (stop_by 0 fault))
+        → EndsMaking (Reports taps reader.name tallies) reader.name change (Err (stop_by 0 fault))
     ends_surveying (file.Refused cause) refused bad read never quiet =
         let b = bad cause refl in (
           refl,
-          subst (λ (r : Refusal). ComesAtOpening r → ⊥) (sym b.1) (λ first. first),
-          quiet,
           known_more change.files.held reader.name
-              (λ file. StandsFor reader file × ((blocks : List (List ℕ)) × (i : ℕ) × (cause ≡ BadChunk i) × AreOnlyRecords file blocks (Some i)))
-              (λ file. (ending : Ending) × IsOnlyEnding (Reports taps reader.name tallies file) ending × (ending.outputs ≡ []) × ((ending.cause ≡ Refused reader.name cause) × (ending.text ≡ [])))
+              (λ file. StandsFor reader file × ((blocks : List (List ℕ)) × (i : ℕ) × (cause ≡ BadChunk i) × AreOnlyRecords file blocks (Some i))) _
               (λ file k. let known = k.1 in (
                 ending_of taps reader.name tallies file known.0 (Some known.1) k.0.pieces,
                 only_report taps reader.name tallies file known.0 (Some known.1) k.0.pieces known.3 k.0.are,
-                refl,
-                (ap (Refused reader.name) (sym known.2), refl),
+                (ap (Refused reader.name) (sym known.2), quiet ∙ with_more-none change.out),
+                files_same (ending_of taps reader.name tallies file known.0 (Some known.1) k.0.pieces) refl,
               ))
               (both_known change.files.held reader.name (StandsFor reader) (λ file. (blocks : List (List ℕ)) × (i : ℕ) × (cause ≡ BadChunk i) × AreOnlyRecords file blocks (Some i)) stands (refused cause refl)),
+          leaves,
+          (λ first. absurd (subst ComesAtOpening b.1 first)),
+          quiet,
         )
-    ends_surveying file.Read refused bad read never quiet = (refl, read refl, quiet)
+    ends_surveying file.Read refused bad read never quiet = (refl, read refl, leaves, quiet)
     ends_surveying file.Write refused bad read never quiet = absurd (never refl)
-    ends_surveying file.Memory refused bad read never quiet = quiet
+    ends_surveying file.Memory refused bad read never quiet = (leaves, quiet)

@@ -12,7 +12,7 @@ use Rattle.las_header.specs.Refusals.{first_cause}
 use Rattle.las_header.proofs.ConditionLemmas.{IsFirst-append_none, IsFirst-append_some, IsFirst-tests}
 use Rattle.las_outside.specs.Files.{FileMap}
 use Rattle.las_info.specs.Tallies.{TapSeen}
-use Rattle.las_words.specs.Asked.{Asked, Las2lasOptions, LasmergeOptions, LaszipOptions, OneInput, Work, laszip, las2las, lasinfo, lassplit, lasmerge, make, reads}
+use Rattle.las_words.specs.Asked.{Asked, Las2lasOptions, LasmergeOptions, OneInput, Work, laszip, las2las, lasinfo, lassplit, lasmerge, make, reads}
 use Rattle.las_words.specs.Says.{Said, asks, usage}
 use Rattle.laz_file.specs.Copying.{packed_output, plain_output}
 use Rattle.laz_file.specs.Outputs.{records_after}
@@ -27,15 +27,18 @@ use Rattle.laz_file.specs.Refusing.{IsRefusal, chunk_causes, tested_causes}
 use Rattle.laz_file.proofs.OneAnswer.{refused_once}
 use Rattle.laz_file.proofs.Whole.{hold-plain, read_once}
 use Rattle.laz_file.proofs.Packed.{packed_accepted, unpacks_again}
-use Rattle.las_filter.specs.Kept.{Steps}
-use Rattle.las_convert.specs.Converting.{AreFirstRecords, ConvertsTo, converted_output, kept_in}
+use Rattle.las_convert.specs.Adding.{Keeping}
+use Rattle.las_convert.specs.Converting.{AreFirstRecords, ConvertsBy, ConvertsOnce, ConvertsTwice, kept_in}
+use Rattle.las_thin.specs.declared.pick.Pick.{Pick}
+use Rattle.las_thin.specs.declared.pick.Pick.TheVariants.{First, Lowest, Highest}
+use Rattle.las_thin.specs.Kept.{kept_behind}
 use Rattle.las_run.specs.Endings.{ComesAtOpening, ComesFirst, Ending, Refused, Unread, Usage, ends_at_once}
 use Rattle.las_filter.specs.declared.rule.Rule.{Rule}
 use Rattle.las_merge.specs.Merging.{BadPlace}
 use Rattle.las_split.specs.Outputs.{part_files}
 use Rattle.las_split.specs.Splitting.{SplitsTo}
 use Rattle.las_split.proofs.SomeSplits.{splits_some}
-use Rattle.las_run.specs.Tools.{Converts, range_in, MergesIf, Reports, Splits, Zips, ZipsIf, cause_at, cause_by, chosen_taps, chunk_if, part_outputs, report_of, reports, writes}
+use Rattle.las_run.specs.Tools.{Converts, range_in, MergesIf, Reports, Splits, Zips, ZipsIf, cause_at, cause_by, chosen_taps, chunk_if, converted, part_outputs, report_of, reports, writes}
 use Rattle.las_run.specs.Runs.{Accepts, Does, Makes, Opens, OpensIn, RunOf, RunsAs, Task}
 use Rattle.las_run.specs.EndingLaws.{HoldsOnce, LaszipEndsOnce, MissingInputsEnd, PackedFormsEnd, PlainHoldsOnce, PlainInputsEnd, WorkersDoNotMatter, WrongWordsEnd, input_of, with_one_worker}
 use Rattle.las_run.proofs.Commands.{reads_one_for}
@@ -150,27 +153,37 @@ read_whole : (file : List ℕ) (parts : List Piece) (blocks : List (List ℕ)) (
 read_whole file parts blocks first None whole read = read
 read_whole file parts blocks first (Some i) whole read = absurd (cc)
 
--- of the records of a range something is kept
-converts_some : (plan : Steps) (file : List ℕ) (range : Range) (blocks : List (List ℕ)) → AreRecordsIn file range blocks None → (records : List ℕ) × (refusal : Option Refusal) × ConvertsTo plan file range records refusal
-converts_some plan file range blocks are = by_range (kept_in plan file blocks).raw_range refl
-  where
-    by_range : (raw_range : Option ℕ) → (kept_in plan file blocks).raw_range ≡ raw_range → (records : List ℕ) × (refusal : Option Refusal) × ConvertsTo plan file range records refusal
-    by_range None is = (concat (kept_in plan file blocks).records, None, (blocks, are, record { records_are = refl; raw_range_is = is }))
-    by_range (Some k) is =
-        let parts = parts_of file range are.0 in
-        let hold = read_whole file parts blocks (first_of file range are.0) are.1 are.4 are.3 in
-        let first : AreFirstRecords file range blocks = record {
-          pieces = are.0;
-          are = are.2;
-          number = length parts;
-          hold = subst (λ (ps : List Piece). HoldBlocks file ps blocks) (sym (take_all (length parts) parts (omega arith))) hold;
-        } in
-        (concat (kept_in plan file blocks).records, Some (RawRange k), (blocks, first, record { records_are = refl; raw_range_is = is }))
+-- of the records of a range something is kept, in one reading or in two
+module _ (keeping : Keeping) (file : List ℕ) (range : Range) (blocks : List (List ℕ)) (are : AreRecordsIn file range blocks None) where
+  abbrev Gives : (List ℕ → Option Refusal → Type 0) → Type 0
+  Gives Converts = (records : List ℕ) × (refusal : Option Refusal) × Converts records refusal
 
-las2las_ending : (input : List ℕ) (options : Las2lasOptions) (file : List ℕ) (blocks : List (List ℕ)) → AreRecordsIn file (range_in options.start options.stop file) blocks None → (ending : Ending) × Converts input options file ending
-las2las_ending input options file blocks are =
-    let h = converts_some options.plan file (range_in options.start options.stop file) blocks are in
-    (writes input (converted_output options.output file (chunk_if options.packed options.chunk)) h.0 h.1, (h.0, h.1, h.2, refl))
+  once_some : (raw_range : Option ℕ) → (kept_in keeping file blocks).raw_range ≡ raw_range → Gives (ConvertsOnce keeping file range)
+  once_some None is = (concat (kept_in keeping file blocks).records, None, (blocks, are, record { records_are = refl; raw_range_is = is }))
+  once_some (Some k) is =
+      let parts = parts_of file range are.0 in
+      let hold = read_whole file parts blocks (first_of file range are.0) are.1 are.4 are.3 in
+      let first : AreFirstRecords file range blocks = record {
+        pieces = are.0;
+        are = are.2;
+        number = length parts;
+        hold = subst (λ (ps : List Piece). HoldBlocks file ps blocks) (sym (take_all (length parts) parts (omega arith))) hold;
+      } in
+      (concat (kept_in keeping file blocks).records, Some (RawRange k), (blocks, first, record { records_are = refl; raw_range_is = is }))
+
+  twice_some : (raw_range : Option ℕ) → (kept_in keeping file blocks).raw_range ≡ raw_range → Gives (ConvertsTwice keeping file range)
+  twice_some None is = (concat (kept_in keeping file blocks).records, None, (blocks, are, record { records_are = refl; raw_range_is = is }))
+  twice_some (Some k) is = (concat (kept_in keeping file blocks).records, Some (RawRange k), (blocks, are, record { records_are = refl; raw_range_is = is }))
+
+  converts_some : (pick : Pick) → Gives (ConvertsBy pick keeping file range)
+  converts_some First = once_some (kept_in keeping file blocks).raw_range refl
+  converts_some Lowest = twice_some (kept_in keeping file blocks).raw_range refl
+  converts_some Highest = twice_some (kept_in keeping file blocks).raw_range refl
+
+las2las_ending : (taps : List TapSeen) (input : List ℕ) (options : Las2lasOptions) (file : List ℕ) (blocks : List (List ℕ)) → AreRecordsIn file (range_in options.start options.stop file) blocks None → (ending : Ending) × Converts taps input options file ending
+las2las_ending taps input options file blocks are =
+    let h = converts_some (kept_behind options.plan options.sieve) file (range_in options.start options.stop file) blocks are options.sieve.pick in
+    (converted (chunk_if options.packed options.chunk) (chosen_taps taps options.tallies) input options.output options.sieve.pick file h.0 h.1, (h.0, h.1, h.2, refl))
 
 -- chunks that hold blocks hold the parts of them that are in a range
 held_parts : (file : List ℕ) → is_packed (head_of file) ≡ true → (range : Range) (at : ℕ) (pieces : List Piece) (blocks : List (List ℕ)) → HoldBlocks file pieces blocks → (parts : List (List ℕ)) × HoldBlocks file (parts_in range at pieces) parts
@@ -215,7 +228,7 @@ some_plain taps input (laszip options) file plain =
 some_plain taps input (las2las options) file plain =
     let pieces = plain_pieces file in
     let parts = parts_of file (range_in options.start options.stop file) pieces in
-    las2las_ending input options file (map (piece_bytes file) parts) (pieces, None, plain_records file (is_packed (head_of file)) plain, hold-plain file plain parts, refl)
+    las2las_ending taps input options file (map (piece_bytes file) parts) (pieces, None, plain_records file (is_packed (head_of file)) plain, hold-plain file plain parts, refl)
 some_plain taps input (lasinfo options) file plain =
     let pieces = plain_pieces file in
     reported taps input options.tallies file (map (piece_bytes file) pieces) pieces (plain_records file (is_packed (head_of file)) plain) (hold-plain file plain pieces)
@@ -229,7 +242,7 @@ some_form taps input (laszip options) file blocks packed are =
     (ending, zips_made true input options.output options.chunk file ending packed (blocks, None, are, refl))
 some_form taps input (las2las options) file blocks packed are =
     let h = range_of_form file (range_in options.start options.stop file) blocks packed are in
-    las2las_ending input options file h.0 h.1
+    las2las_ending taps input options file h.0 h.1
 some_form taps input (lasinfo options) file blocks packed are = reported taps input options.tallies file blocks are.0 are.1 are.2
 some_form taps input (lassplit options) file blocks packed are = lassplit_ending input options.stem options.end options.rule file blocks are
 
@@ -279,14 +292,21 @@ writes_some true input output chunk file ending makes first = absurd (bad_chunks
 writes_some false input output chunk file ending makes first = absurd (subst ComesFirst (ap (λ (e : Ending). e.cause) makes) first)
 
 -- a refusal of records comes after the opening
-refused_late : (plan : Steps) (file : List ℕ) (range : Range) (records : List ℕ) (cause : Refusal) → ConvertsTo plan file range records (Some cause) → ComesAtOpening cause → ⊥
-refused_late plan file range records (BadChunk i) converts first = first
-refused_late plan file range records (RawRange k) converts first = first
-refused_late plan file range records cause converts first = converts
+once_late : (keeping : Keeping) (file : List ℕ) (range : Range) (records : List ℕ) (cause : Refusal) → ConvertsOnce keeping file range records (Some cause) → ComesAtOpening cause → ⊥
+once_late keeping file range records (BadChunk i) converts first = first
+once_late keeping file range records (RawRange k) converts first = first
+once_late keeping file range records cause converts first = converts
 
-kept_late : (plan : Steps) (file : List ℕ) (range : Range) (records input : List ℕ) (refusal : Option Refusal) → ConvertsTo plan file range records refusal → ComesFirst (cause_by input refusal) → ⊥
-kept_late plan file range records input None converts first = first
-kept_late plan file range records input (Some cause) converts first = refused_late plan file range records cause converts first
+twice_late : (keeping : Keeping) (file : List ℕ) (range : Range) (records : List ℕ) (cause : Refusal) → ConvertsTwice keeping file range records (Some cause) → ComesAtOpening cause → ⊥
+twice_late keeping file range records (BadChunk i) converts first = first
+twice_late keeping file range records (RawRange k) converts first = first
+twice_late keeping file range records cause converts first = converts
+
+kept_late : (pick : Pick) (keeping : Keeping) (file : List ℕ) (range : Range) (records input : List ℕ) (refusal : Option Refusal) → ConvertsBy pick keeping file range records refusal → ComesFirst (cause_by input refusal) → ⊥
+kept_late pick keeping file range records input None converts first = first
+kept_late First keeping file range records input (Some cause) converts first = once_late keeping file range records cause converts first
+kept_late Lowest keeping file range records input (Some cause) converts first = twice_late keeping file range records cause converts first
+kept_late Highest keeping file range records input (Some cause) converts first = twice_late keeping file range records cause converts first
 
 -- what is made of an accepted input is made before any output only if it has none
 abbrev ComesWithout : (Ending → Type 0) → Type 0
@@ -325,7 +345,7 @@ merged_late inputs (Some place) first = first
 makes_first : (taps : List TapSeen) (input : List ℕ) (own : OneInput) (file : List ℕ) → ComesWithout (Makes taps input own file)
 makes_first taps input (laszip options) file ending makes first = writes_some (is_packed (head_of file)) input options.output options.chunk file ending makes first
 makes_first taps input (las2las options) file ending makes first =
-    absurd (kept_late options.plan file (range_in options.start options.stop file) makes.0 input makes.1 makes.2 (subst ComesFirst (ap (λ (x : Ending). x.cause) makes.3) first))
+    absurd (kept_late options.sieve.pick (kept_behind options.plan options.sieve) file (range_in options.start options.stop file) makes.0 input makes.1 makes.2 (subst ComesFirst (ap (λ (x : Ending). x.cause) makes.3) first))
 makes_first taps input (lasinfo options) file ending makes first = reports_first taps input options.tallies file ending makes first
 makes_first taps input (lassplit options) file ending makes first =
     absurd (split_late options.rule file makes.0 input makes.1 makes.2 (subst ComesFirst (ap (λ (x : Ending). x.cause) makes.3) first))

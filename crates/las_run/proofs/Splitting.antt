@@ -7,6 +7,8 @@ use Rattle.las_header.specs.declared.refusal.Refusal.TheVariants.{BadChunk, TooM
 use Rattle.las_outside.specs.Faults.{Rose}
 use Rattle.las_outside.specs.Files.{FileMap, WhereKnown}
 use Rattle.las_outside.specs.Outside.{Outside}
+use Rattle.las_outside.specs.Sinks.{SinkView}
+use Rattle.las_outside.proofs.Texts.{with_more-none}
 use Rattle.laz_file.specs.declared.fault.Fault.{Fault}
 use Rattle.laz_file.specs.declared.fault.Fault.TheVariants as file
 use Rattle.laz_file.specs.Outputs as points
@@ -16,7 +18,7 @@ use Rattle.las_split.specs.Outputs.{LeavesParts, PartFile, all_finished, all_sto
 use Rattle.las_split.specs.Splitting.{OnlySplits, SplitsTo}
 use Rattle.las_run.specs.Endings.{AreUnfinished, ComesAtOpening, Done, Refused, Ending, IsLeft, Output, at_end, files_of, named, with_all}
 use Rattle.las_run.specs.Tools.{Splits, cause_by, output_of, part_outputs}
-use Rattle.las_run.specs.Ends.{EndsMaking, IsOnlyEnding, LeavesOf, MakesAs}
+use Rattle.las_run.specs.Ends.{EndsMaking, IsOnlyEnding, LeavesOf, MakesAs, MakesOutput, quiet, stopped_by}
 use Rattle.las_run.proofs.Endings.{left_if_done}
 use Rattle.las_run.proofs.Opening.{known_more}
 
@@ -70,7 +72,7 @@ left_of_parts parts held now files left known =
     )
 
 -- ---- what `lassplit` makes of an input
-module _ (input stem end : List ℕ) (rule : Rule) (old new : Outside) where
+module _ (input stem end : List ℕ) (rule : Rule) (old new : Outside) (out : SinkView) where
   abbrev parts_of : (file : List ℕ) → (records : List (List ℕ)) → List PartFile
   parts_of file records = part_files stem end rule file records
 
@@ -94,10 +96,10 @@ module _ (input stem end : List ℕ) (rule : Rule) (old new : Outside) where
       let parts = part_files stem end rule file h.0 in
       h.2 ∙ ap (λ (o : Option FileMap). with_files o (all_finished parts)) known ∙ files_known files (all_finished parts) ∙ ap (λ (ps : List (List ℕ × List ℕ)). Some (with_all files ps)) (finished_parts parts)
 
-  done_made : WhereKnown old.held input Split → MakesAs (Splits input stem end rule) input old new Done
-  done_made put = known_more old.held input Split _ (λ file h. (ending_of file h.0 None, only_ending file h.0 None h.1, refl, refl, done_files file h)) put
+  done_made : WhereKnown old.held input Split → MakesAs (Splits input stem end rule) input (quiet old new out) Done
+  done_made put = known_more old.held input Split _ (λ file h. (ending_of file h.0 None, only_ending file h.0 None h.1, (refl, with_more-none out), done_files file h)) put
 
-  done_left : WhereKnown old.held input Split → LeavesOf (Splits input stem end rule) input old new
+  done_left : WhereKnown old.held input Split → LeavesOf (Splits input stem end rule) input (quiet old new out)
   done_left put = known_more old.held input Split _ (λ file h files ending known makes.
       let is = (only_ending file h.0 None h.1).only ending makes in
       (files_of ending files, done_files file h files known ∙ ap (λ (e : Ending). Some (files_of e files)) (sym is), left_if_done ending files (ap (λ (e : Ending). e.cause) is))) put
@@ -106,12 +108,11 @@ module _ (input stem end : List ℕ) (rule : Rule) (old new : Outside) where
   abbrev StoppedBy : Refusal → List ℕ → Type 0
   StoppedBy cause file = (records : List (List ℕ)) × OnlySplits rule file records (Some cause) × (new.held ≡ with_files old.held (all_stopped (part_files stem end rule file records)))
 
-  refused_made : (cause : Refusal) → WhereKnown old.held input (StoppedBy cause) → MakesAs (Splits input stem end rule) input old new (Refused input cause)
+  refused_made : (cause : Refusal) → WhereKnown old.held input (StoppedBy cause) → MakesAs (Splits input stem end rule) input (quiet old new out) (Refused input cause)
   refused_made cause put = known_more old.held input (StoppedBy cause) _ (λ file h. (
     ending_of file h.0 (Some cause),
     only_ending file h.0 (Some cause) h.1,
-    refl,
-    refl,
+    (refl, with_more-none out),
     λ files known.
         let parts = part_files stem end rule file h.0 in
         h.2 ∙ ap (λ (o : Option FileMap). with_files o (all_stopped parts)) known ∙ files_known files (all_stopped parts) ∙ ap (λ (ps : List (List ℕ × List ℕ)). Some (with_all files ps)) (stopped_parts input cause parts),
@@ -125,32 +126,34 @@ module _ (input stem end : List ℕ) (rule : Rule) (old new : Outside) where
   abbrev Leaves : List ℕ → Type 0
   Leaves file = (records : List (List ℕ)) (refusal : Option Refusal) → SplitsTo rule file records refusal → LeavesParts (part_files stem end rule file records) old.held new.held
 
-  left : WhereKnown old.held input Leaves → LeavesOf (Splits input stem end rule) input old new
+  left : WhereKnown old.held input Leaves → LeavesOf (Splits input stem end rule) input (quiet old new out)
   left leaves = known_more old.held input Leaves _ (λ file h files ending known makes.
       let l = left_of_parts (part_files stem end rule file makes.0) old.held new.held files (h makes.0 makes.1 makes.2) known in
       (l.0, l.1, subst (λ (e : Ending). IsLeft e.outputs files l.0) (sym makes.3) l.2)) leaves
 
-  pub ends_split : WhereKnown old.held input Split → EndsMaking (Splits input stem end rule) input old new (Ok tt)
+  pub ends_split : WhereKnown old.held input Split → EndsMaking (Splits input stem end rule) input (quiet old new out) (Ok tt)
   ends_split put = (done_made put, done_left put)
+
+  -- records are in parts
+  abbrev HasRecords : List ℕ → Type 0
+  HasRecords file = (records : List (List ℕ)) (refusal : Option Refusal) → SplitsTo rule file records refusal → records ≢ []
+
+  some_parts : (file : List ℕ) (records : List (List ℕ)) → records ≢ [] → part_outputs (part_files stem end rule file records) ≢ []
+  some_parts file [] some = absurd (some refl)
+  some_parts file (r ∷ rs) some = λ none. absurd (cc)
+
+  outputs_split : WhereKnown old.held input HasRecords → MakesOutput (Splits input stem end rule) input (quiet old new out)
+  outputs_split some = known_more old.held input HasRecords _
+      (λ file h ending makes. subst (λ (e : Ending). e.outputs ≢ []) (sym makes.3) (some_parts file makes.0 (h makes.0 makes.1 makes.2))) some
 
   pub ends_stopped : (fault : Fault)
       → ((cause : Refusal) → fault ≡ file.Refused cause → WhereKnown old.held input (StoppedBy cause))
       → ((cause : Refusal) → fault ≡ file.Refused cause → ((i : ℕ) × (cause ≡ BadChunk i)) ⊎ (cause ≡ TooManyParts))
       → WhereKnown old.held input Leaves
       → (fault ≡ file.Read → Rose old.read_faults new.read_faults)
-      → (fault ≡ file.Write → Rose old.write_faults new.write_faults)
-      → EndsMaking (Splits input stem end rule) input old new (Err fault)
-  ends_stopped (file.Refused cause) refused kinds leaves read write = (refused_made cause (refused cause refl), left leaves, not_first cause (kinds cause refl))
-  ends_stopped file.Read refused kinds leaves read write = (read refl, left leaves)
-  ends_stopped file.Write refused kinds leaves read write = (write refl, left leaves)
-  ends_stopped file.Memory refused kinds leaves read write = left leaves
-
-  -- records are in parts
-  some_parts : (file : List ℕ) (records : List (List ℕ)) → records ≢ [] → part_outputs (part_files stem end rule file records) ≢ []
-  some_parts file [] some = absurd (some refl)
-  some_parts file (r ∷ rs) some = λ none. absurd (cc)
-
-  pub outputs_split : WhereKnown old.held input (λ file. (records : List (List ℕ)) (refusal : Option Refusal) → SplitsTo rule file records refusal → records ≢ [])
-      → WhereKnown old.held input (λ file. (ending : Ending) → Splits input stem end rule file ending → ending.outputs ≢ [])
-  outputs_split some = known_more old.held input (λ file. (records : List (List ℕ)) (refusal : Option Refusal) → SplitsTo rule file records refusal → records ≢ []) _
-      (λ file h ending makes. subst (λ (e : Ending). e.outputs ≢ []) (sym makes.3) (some_parts file makes.0 (h makes.0 makes.1 makes.2))) some
+      → (fault ≡ file.Write → Rose old.write_faults new.write_faults × WhereKnown old.held input HasRecords)
+      → EndsMaking (Splits input stem end rule) input (quiet old new out) (stopped_by 0 (Err fault))
+  ends_stopped (file.Refused cause) refused kinds leaves read write = (refl, refused_made cause (refused cause refl), left leaves, (λ first. absurd (not_first cause (kinds cause refl) first)), refl)
+  ends_stopped file.Read refused kinds leaves read write = (refl, read refl, left leaves, refl)
+  ends_stopped file.Write refused kinds leaves read write = (inl ((write refl).0, outputs_split (write refl).1, refl), left leaves)
+  ends_stopped file.Memory refused kinds leaves read write = (left leaves, refl)

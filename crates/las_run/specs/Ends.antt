@@ -221,51 +221,52 @@ pub record IsOnlyEnding (Makes : Ending → Type 0) (ending : Ending) : Type 0 w
   pub makes : Makes ending
   pub only : (other : Ending) → Makes other → other ≡ ending
 
--- If the files are known: of an input, an ending is made that is for this cause, and the files are its own.
-abbrev pub MakesAs : (Makes : List ℕ → Ending → Type 0) → (input : List ℕ) → (old new : Outside) → Cause → Type 0
-MakesAs Makes input old new cause = WhereKnown old.held input (λ file.
-    (ending : Ending) × IsOnlyEnding (Makes file) ending × (ending.cause ≡ cause) × (ending.text ≡ [])
-    × ((files : FileMap) → old.held ≡ Some files → new.held ≡ Some (files_of ending files)))
+-- If the files are known: of an input, one ending is made and no other, of which P holds, and the files are its own.
+abbrev pub MakesOne : (Makes : List ℕ → Ending → Type 0) → (input : List ℕ) → Change → (P : Ending → Type 0) → Type 0
+MakesOne Makes input change P = WhereKnown change.files.held input (λ file.
+    (ending : Ending) × IsOnlyEnding (Makes file) ending × P ending
+    × ((files : FileMap) → change.files.held ≡ Some files → change.files_now.held ≡ Some (files_of ending files)))
+
+-- That ending is for this cause, and its text was put.
+abbrev pub MakesAs : (Makes : List ℕ → Ending → Type 0) → (input : List ℕ) → Change → Cause → Type 0
+MakesAs Makes input change cause =
+    MakesOne Makes input change (λ ending. (ending.cause ≡ cause) × (change.out_now ≡ with_more change.out ending.text))
+
+-- It is one of work that is done, and of its text, which is not empty, a prefix was put before standard output failed.
+abbrev pub MakesUnput : (Makes : List ℕ → Ending → Type 0) → (input : List ℕ) → Change → Type 0
+MakesUnput Makes input change = MakesOne Makes input change (λ ending.
+    (ending.cause ≡ Done) × (ending.text ≢ [])
+    × ((n : ℕ) × (change.out_now ≡ with_fault (with_more change.out (take n ending.text)))))
 
 -- If the files are known: what stands is left of every ending that is made of the input.
-abbrev pub LeavesOf : (Makes : List ℕ → Ending → Type 0) → (input : List ℕ) → (old new : Outside) → Type 0
-LeavesOf Makes input old new = WhereKnown old.held input (λ file.
-    (files : FileMap) (ending : Ending) → old.held ≡ Some files → Makes file ending
-    → (now : FileMap) × (new.held ≡ Some now) × IsLeft ending.outputs files now)
+abbrev pub LeavesOf : (Makes : List ℕ → Ending → Type 0) → (input : List ℕ) → Change → Type 0
+LeavesOf Makes input change = WhereKnown change.files.held input (λ file.
+    (files : FileMap) (ending : Ending) → change.files.held ≡ Some files → Makes file ending
+    → (now : FileMap) × (change.files_now.held ≡ Some now) × IsLeft ending.outputs files now)
 
--- What a command says of the outcome with which it made something of an accepted input.
-abbrev pub EndsMaking : (Makes : List ℕ → Ending → Type 0) → (input : List ℕ) → (old new : Outside)
-    → Result (Unit {0}) Fault → Type 0
-EndsMaking Makes input old new (Ok _) = MakesAs Makes input old new Done × LeavesOf Makes input old new
-EndsMaking Makes input old new (Err (file.Refused cause)) =
-    MakesAs Makes input old new (Refused input cause) × LeavesOf Makes input old new × (ComesAtOpening cause → ⊥)
-EndsMaking Makes input old new (Err file.Read) =
-    Rose old.read_faults new.read_faults × LeavesOf Makes input old new
-EndsMaking Makes input old new (Err file.Write) =
-    Rose old.write_faults new.write_faults × LeavesOf Makes input old new
-EndsMaking Makes input old new (Err file.Memory) = LeavesOf Makes input old new
+-- If the files are known: every ending that is made of the input has an output.
+abbrev pub MakesOutput : (Makes : List ℕ → Ending → Type 0) → (input : List ℕ) → Change → Type 0
+MakesOutput Makes input change =
+    WhereKnown change.files.held input (λ file. (ending : Ending) → Makes file ending → ending.outputs ≢ [])
 
--- If the files are known: of an input, an ending without outputs is made, and no other, of which P holds.
-abbrev pub MakesText : (Makes : List ℕ → Ending → Type 0) → (input : List ℕ) → Change → (P : Ending → Type 0) → Type 0
-MakesText Makes input change P = WhereKnown change.files.held input (λ file.
-    (ending : Ending) × IsOnlyEnding (Makes file) ending × (ending.outputs ≡ []) × P ending)
+-- A call that writes failed, and there was something to write; or standard output did.
+abbrev pub FailsMaking : (Makes : List ℕ → Ending → Type 0) → (input : List ℕ) → Change → Type 0
+FailsMaking Makes input change =
+    (Rose change.files.write_faults change.files_now.write_faults × MakesOutput Makes input change × IsQuiet change)
+    ⊎ (Rose change.out.faults change.out_now.faults × MakesUnput Makes input change)
 
--- What a command that puts a text, and changes no file, says of the outcome with which it made something of an accepted
--- input.
-abbrev pub EndsPutting : (Makes : List ℕ → Ending → Type 0) → (input : List ℕ) → Change → Result (Unit {0}) Stop
+-- What a command says of the outcome with which it made something of an accepted input: files, a text, or both.
+abbrev pub EndsMaking : (Makes : List ℕ → Ending → Type 0) → (input : List ℕ) → Change → Result (Unit {0}) Stop
     → Type 0
-EndsPutting Makes input change (Ok _) =
-    MakesText Makes input change (λ ending. (ending.cause ≡ Done) × (change.out_now ≡ with_more change.out ending.text))
-EndsPutting Makes input change (Err stop.Memory) = IsQuiet change
-EndsPutting Makes input change (Err (stop.Usage index)) = ⊥
-EndsPutting Makes input change (Err (stop.Read number)) =
-    (number ≡ 0) × Rose change.files.read_faults change.files_now.read_faults × IsQuiet change
-EndsPutting Makes input change (Err stop.Write) =
-    Rose change.out.faults change.out_now.faults
-    × MakesText Makes input change (λ ending. (ending.cause ≡ Done) × (ending.text ≢ [])
-    × ((n : ℕ) × (change.out_now ≡ with_fault (with_more change.out (take n ending.text)))))
-EndsPutting Makes input change (Err (stop.Refused number cause)) =
-    (number ≡ 0) × (ComesAtOpening cause → ⊥) × IsQuiet change
-    × MakesText Makes input change (λ ending. (ending.cause ≡ Refused input cause) × (ending.text ≡ []))
-EndsPutting Makes input change (Err (stop.Differs number field)) = ⊥
-EndsPutting Makes input change (Err (stop.TooMany surplus)) = ⊥
+EndsMaking Makes input change (Ok _) = MakesAs Makes input change Done × LeavesOf Makes input change
+EndsMaking Makes input change (Err stop.Memory) = LeavesOf Makes input change × IsQuiet change
+EndsMaking Makes input change (Err (stop.Usage index)) = ⊥
+EndsMaking Makes input change (Err (stop.Read number)) =
+    (number ≡ 0) × Rose change.files.read_faults change.files_now.read_faults × LeavesOf Makes input change
+    × IsQuiet change
+EndsMaking Makes input change (Err stop.Write) = FailsMaking Makes input change × LeavesOf Makes input change
+EndsMaking Makes input change (Err (stop.Refused number cause)) =
+    (number ≡ 0) × MakesAs Makes input change (Refused input cause) × LeavesOf Makes input change
+    × (ComesAtOpening cause → change.files_now.held ≡ change.files.held) × IsQuiet change
+EndsMaking Makes input change (Err (stop.Differs number field)) = ⊥
+EndsMaking Makes input change (Err (stop.TooMany surplus)) = ⊥

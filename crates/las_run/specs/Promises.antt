@@ -1,5 +1,5 @@
 -- What the top call promises of every run.
-use Rattle.std.specs.Prelude.{◌≡◌, ◌≤◌, ◌⊎◌, ℕ, List, Any, None, Some, take}
+use Rattle.std.specs.Prelude.{◌≡◌, ◌≤◌, ◌⊎◌, ℕ, List, [], Any, None, Some, take}
 use Rattle.las_header.specs.declared.refusal.Refusal.{Refusal}
 use Rattle.las_header.specs.declared.refusal.Refusal.TheVariants.{BadChunk}
 use Rattle.las_outside.specs.Faults.{Rose}
@@ -48,12 +48,12 @@ pub record KeepsPromises (run : RunSeen) : Type 0 where
       → (ending : Ending) × IsTheEnding run.task known ending × EndsAsDefined run known ending
   -- Over known files, a run ends as defined, unless memory is short or a count of faults rose.
   pub complete : (known : FileMap) (ending : Ending) → IsDue run known ending → EndsUnlessExcused run known ending
-  -- Over known files, and whatever ends the run, `las2las` asks for no more of its input than opening it takes, and the
-  -- bytes of those of its pieces that meet the range: no piece if it is refused when it is opened, and nothing at all if
-  -- it is missing.
+  -- Over known files, and whatever ends the run, `las2las` asks for no more of its input than opening it takes, and
+  -- the bytes of those of its pieces that meet the range: no piece if it is refused when it is opened, and nothing at
+  -- all if it is missing. With the lowest or the highest of a cell the input is read twice, and this is asked for twice.
   pub asks : (input : List ℕ) (options : Las2lasOptions) (workers : ℕ)
       → run.task.said ≡ words.asks (record { work = reads input (las2las options); workers = workers })
-      → AsksFor input options.start options.stop run.files run.files_now
+      → AsksFor input options run.files run.files_now
   -- ---- faults, and what is left
   -- Status 3 comes only from an input that is known to be missing, or from a read that failed,
   pub read : run.status ≡ 3 → Any (IsMissing run.files.held) (inputs_of run.task.said)
@@ -64,8 +64,12 @@ pub record KeepsPromises (run : RunSeen) : Type 0 where
   -- Over known files, whatever ended the run: each output is unfinished or not there, and all else is as before.
   pub left : (known : FileMap) (ending : Ending) → IsDue run known ending → Leaves run known ending
   -- Nothing has changed if the words are wrong, an input is missing or refused when it is opened, or the inputs can't
-  -- be merged.
+  -- be merged;
   pub unchanged : (known : FileMap) (ending : Ending) → IsDue run known ending → ComesFirst ending.cause
+      → run.files_now.held ≡ run.files.held
+  -- and nothing has if the ending has no output, as that of `las2las` if the lowest or the highest of a cell is to stay
+  -- and a chunk is bad.
+  pub untouched : (known : FileMap) (ending : Ending) → IsDue run known ending → ending.outputs ≡ []
       → run.files_now.held ≡ run.files.held
   -- Nothing is put on standard output unless the status is 0 or 4,
   pub out : (run.status ≡ 0) ⊎ ((run.status ≡ 4) ⊎ (run.out_now ≡ run.out))

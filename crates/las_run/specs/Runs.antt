@@ -63,7 +63,7 @@ OpensIn files name Makes ending = Opens name (finmap.get files name) Makes endin
 -- What a command makes of its one input, if that is accepted.
 abbrev pub Makes : List TapSeen → (input : List ℕ) → OneInput → (file : List ℕ) → Ending → Type 0
 Makes taps input (laszip options) file ending = Zips input options.output options.chunk file ending
-Makes taps input (las2las options) file ending = Converts input options file ending
+Makes taps input (las2las options) file ending = Converts taps input options file ending
 Makes taps input (lasinfo options) file ending = Reports taps input options.tallies file ending
 Makes taps input (lassplit options) file ending = Splits input options.stem options.end options.rule file ending
 

@@ -6,7 +6,9 @@ use Rattle.std.specs.List.{concat, filter_map, flat_map}
 use Rattle.std.specs.Str.{bytes_eq}
 use Rattle.std.specs.Option.{option_map}
 use Rattle.las_filter.specs.Kept.{Steps}
-use Rattle.las_convert.specs.Converting.{ConvertsTo, converted_output}
+use Rattle.las_convert.specs.Converting.{ConvertsTo, converted_output, has_output}
+use Rattle.las_thin.specs.declared.pick.Pick.{Pick}
+use Rattle.las_thin.specs.Sieving as sieve
 use Rattle.las_header.specs.declared.refusal.Refusal.{Refusal}
 use Rattle.las_header.specs.declared.refusal.Refusal.TheVariants.{BadChunk}
 use Rattle.las_header.specs.Fields.{head_of, is_packed, point_offset_of, points_of}
@@ -36,6 +38,7 @@ use Rattle.las_split.specs.Outputs.{PartFile, part_files}
 use Rattle.las_split.specs.Splitting.{SplitsTo}
 use Rattle.laz_file.specs.declared.fault.Fault.TheVariants as file
 use Rattle.las_words.specs.Asked.{Las2lasOptions, LasmergeOptions, MakeOptions}
+use Rattle.las_run.specs.declared.conversion.Conversion.{Conversion}
 use Rattle.las_run.specs.declared.stop.Surplus.TheVariants.{Chunks, Points}
 use Rattle.las_run.specs.Endings.{Cause, Done, Memory, Unread, Unwritten, Refused, Differs, HasTooMany}
 use Rattle.las_run.specs.Endings.{Ending, Output, ends_at_once}
@@ -88,19 +91,6 @@ abbrev pub range_in : (start stop : ℕ) → (file : List ℕ) → Range
 range_in start stop file =
     record { start = min start (points_of (head_of file)); stop = min stop (points_of (head_of file)) }
 
--- `las2las` writes what its plan keeps of the records of a range, up to the first refusal: in chunks of this size, if
--- there is one.
-abbrev pub ConvertsIn : (size : Option ℕ) → (range : List ℕ → Range) → (input output : List ℕ) → Steps
-    → (file : List ℕ) → Ending → Type 0
-ConvertsIn size range input output plan file ending =
-    (records : List ℕ) × (refusal : Option Refusal) × ConvertsTo plan file (range file) records refusal
-    × (ending ≡ writes input (converted_output output file size) records refusal)
-
-abbrev pub Converts : (input : List ℕ) → Las2lasOptions → (file : List ℕ) → Ending → Type 0
-Converts input options file ending =
-    ConvertsIn (chunk_if options.packed options.chunk) (range_in options.start options.stop) input options.output
-    options.plan file ending
-
 -- the first tap of each of these names
 abbrev pub chosen_taps : List TapSeen → (tallies : List (List ℕ)) → List TapSeen
 chosen_taps taps tallies = filter_map (λ name. find (λ tap. bytes_eq tap.name name) taps) tallies
@@ -108,6 +98,52 @@ chosen_taps taps tallies = filter_map (λ name. find (λ tap. bytes_eq tap.name 
 -- what the taps print that were shown some records
 abbrev pub tallies_text : List TapSeen → (records : List (List ℕ)) → List ℕ
 tallies_text taps records = flat_map (λ tap. tally_text tap.name (shown_all tap records).tally) taps
+
+-- what the chosen taps print of the records that are kept, if all is done
+abbrev pub kept_text : List TapSeen → (file records : List ℕ) → Option Refusal → List ℕ
+kept_text taps file records None = tallies_text taps (points.records_after (head_of file) records)
+kept_text taps file records (Some cause) = []
+
+-- the ending of `las2las` with these kept records, up to this refusal: without an output if a bad chunk was met before
+-- it was created
+abbrev pub converted : (size : Option ℕ) → (chosen : List TapSeen) → (input output : List ℕ) → Pick
+    → (file records : List ℕ) → Option Refusal → Ending
+converted size chosen input output pick file records refusal = record {
+  cause = cause_by input refusal;
+  outputs =
+      if has_output pick refusal then output_of (converted_output output file size) records ∷ [] else [];
+  text = kept_text chosen file records refusal;
+}
+
+-- `las2las` writes what its plan keeps, behind a sieve, of the records of a range, up to the first refusal: in chunks
+-- of this size, if there is one. It puts what the chosen taps count of the kept records.
+abbrev pub ConvertsIn : (size : Option ℕ) → (range : List ℕ → Range) → (chosen : List TapSeen)
+    → (input output : List ℕ) → Steps → sieve.Settings → (file : List ℕ) → Ending → Type 0
+ConvertsIn size range chosen input output plan settings file ending =
+    (records : List ℕ) × (refusal : Option Refusal) × ConvertsTo plan settings file (range file) records refusal
+    × (ending ≡ converted size chosen input output settings.pick file records refusal)
+
+abbrev pub Converts : List TapSeen → (input : List ℕ) → Las2lasOptions → (file : List ℕ) → Ending → Type 0
+Converts taps input options file ending =
+    ConvertsIn (chunk_if options.packed options.chunk) (range_in options.start options.stop)
+    (chosen_taps taps options.tallies) input options.output options.plan options.sieve file ending
+
+-- how a conversion sieves records
+abbrev pub sieve_in : Conversion → sieve.Settings
+sieve_in conversion = record { step = conversion.step; pick = conversion.pick; unique = conversion.unique }
+
+-- the options of `las2las` with this conversion
+abbrev pub las2las_options : (output : List ℕ) → Steps → Conversion → (tallies : List (List ℕ)) → Las2lasOptions
+las2las_options output plan conversion tallies = record {
+  output = output;
+  plan = plan;
+  packed = conversion.packing.packed;
+  chunk = conversion.packing.chunk;
+  start = conversion.start;
+  stop = conversion.stop;
+  sieve = sieve_in conversion;
+  tallies = tallies;
+}
 
 -- the chunk size and the number of chunks of a packed file
 abbrev pub chunks_line : (file : List ℕ) → List Piece → Option (ℕ × ℕ)

@@ -8,7 +8,7 @@ ghost use Rattle.las_words.specs.Asked.{AreChosen, lasinfo, reads};
 ghost use Rattle.las_words.specs.Texts.{texts};
 ghost use Rattle.laz_file.specs.Reading.{AgreesWithHead, IsNewReader, StandsFor};
 ghost use Rattle.std.specs.Option.{option_map};
-ghost use Rattle.las_run.specs.Ends.{Ends, EndsPutting, cause_of, stopped_report};
+ghost use Rattle.las_run.specs.Ends.{Ends, EndsMaking, cause_of, stopped_report};
 ghost use Rattle.las_run.specs.Runs.{task_with};
 ghost use Rattle.las_run.specs.Tools.{Reports};
 
@@ -70,14 +70,13 @@ fn inform<R: Threads + Sync, F: Files, O: Sink, G: Gate>(
     requires workers { (1 ≤ workers) × (workers ≤ 8) }
     requires room { All (λ tap. (bin : ℕ) → count_at (tap_seen tap).tally bin ≤ 2 ^ 63) taps.items }
     requires stands { WhereKnown (F.seen files.old).held reader.name (StandsFor reader) }
-    ensures ends { EndsPutting (Reports (map (λ tap. tap_seen tap) taps.items) reader.name (texts tallies.now))
+    ensures ends { EndsMaking (Reports (map (λ tap. tap_seen tap) taps.items) reader.name (texts tallies.now))
         reader.name (record {
           files = F.seen files.old;
           files_now = F.seen files.new;
           out = O.seen out.old;
           out_now = O.seen out.new;
         }) result }
-    ensures held { (F.seen files.new).held ≡ (F.seen files.old).held }
     ensures later { Later (F.seen files.old) (F.seen files.new) }
 {
     let mut reader = reader;
@@ -102,8 +101,8 @@ fn chunks_of(reader: &Reader) -> Option<(u32, u32)>
     }
 }
 
-// How a run ends whose report was put so.
-fn put(outcome: Result<(), ReportFault>) -> Result<(), Stop>
+/// How a run ends whose report, or whose tallies, were put so.
+pub fn put(outcome: Result<(), ReportFault>) -> Result<(), Stop>
     ensures { result ≡ stopped_report outcome }
 {
     match outcome {

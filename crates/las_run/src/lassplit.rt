@@ -1,15 +1,13 @@
 //! The command `lassplit`: the records of a file go into numbered parts.
-ghost use Rattle.std.specs.Prelude.{◌≡◌, ◌≢◌, ◌^◌, ◌<◌, ◌≤◌, ◌∷◌, [], ℕ, IfOk, IsErrOf, List, string_bytes};
+ghost use Rattle.std.specs.Prelude.{◌≡◌, ◌≢◌, ◌^◌, ◌<◌, ◌≤◌, ◌∷◌, [], ℕ, IfOk, List, string_bytes};
 ghost use Rattle.las_filter.specs.Parts.{IsRule, part_name};
 ghost use Rattle.las_outside.specs.Files.{WhereKnown};
 ghost use Rattle.las_outside.specs.Outside.{Later};
 ghost use Rattle.las_outside.specs.Sinks.{SinkView};
 ghost use Rattle.las_words.specs.Asked.{lassplit, reads};
-ghost use Rattle.laz_file.specs.declared.fault.Fault.TheVariants.{Write};
 ghost use Rattle.laz_file.specs.Reading.{AgreesWithHead, IsNewReader, StandsFor};
 ghost use Rattle.las_info.specs.Tallies.{TapSeen};
-ghost use Rattle.las_run.specs.Endings.{Ending};
-ghost use Rattle.las_run.specs.Ends.{Ends, EndsMaking, cause_of, quiet};
+ghost use Rattle.las_run.specs.Ends.{Ends, EndsMaking, cause_of, quiet, stopped_by};
 ghost use Rattle.las_run.specs.Runs.{task_with};
 ghost use Rattle.las_run.specs.Tools.{Splits};
 
@@ -84,11 +82,9 @@ fn write_parts<R: Threads + Sync, F: Files, G: Gate>(
     requires names { (number : ℕ) → number < 2 ^ 32
         → part_name (string_bytes names.now.stem) (string_bytes names.now.end) number ≢ reader.name }
     requires stands { WhereKnown (F.seen files.old).held reader.name (StandsFor reader) }
-    ensures ends { EndsMaking (Splits reader.name (string_bytes names.now.stem) (string_bytes names.now.end) rule.now)
-        reader.name (F.seen files.old) (F.seen files.new) result }
-    ensures some { IsErrOf result Write → WhereKnown (F.seen files.old).held reader.name (λ file. (ending : Ending)
-        → Splits reader.name (string_bytes names.now.stem) (string_bytes names.now.end) rule.now file ending
-        → ending.outputs ≢ []) }
+    ensures ends { (out : SinkView) → EndsMaking
+        (Splits reader.name (string_bytes names.now.stem) (string_bytes names.now.end) rule.now)
+        reader.name (quiet (F.seen files.old) (F.seen files.new) out) (stopped_by 0 result) }
     ensures later { Later (F.seen files.old) (F.seen files.new) }
 {
     match split(rt, alloc, files, gate, reader, names, rule, workers) {

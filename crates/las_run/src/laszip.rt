@@ -7,7 +7,7 @@ ghost use Rattle.las_outside.specs.Sinks.{SinkView};
 ghost use Rattle.las_words.specs.Asked.{laszip, reads};
 ghost use Rattle.laz_file.specs.Reading.{AgreesWithHead, IsNewReader, StandsFor};
 ghost use Rattle.las_info.specs.Tallies.{TapSeen};
-ghost use Rattle.las_run.specs.Ends.{Ends, EndsMaking, cause_of, quiet};
+ghost use Rattle.las_run.specs.Ends.{Ends, EndsMaking, cause_of, quiet, stopped_by};
 ghost use Rattle.las_run.specs.Runs.{task_with};
 ghost use Rattle.las_run.specs.Tools.{Zips};
 
@@ -64,8 +64,8 @@ fn zip<R: Threads + Sync, F: Files, G: Gate>(
     requires workers { (1 ≤ workers) × (workers ≤ 8) }
     requires names { output.now ≢ reader.name }
     requires stands { WhereKnown (F.seen files.old).held reader.name (StandsFor reader) }
-    ensures ends { EndsMaking (Zips reader.name output.now chunk) reader.name (F.seen files.old) (F.seen files.new)
-        result }
+    ensures ends { (out : SinkView) → EndsMaking (Zips reader.name output.now chunk) reader.name
+        (quiet (F.seen files.old) (F.seen files.new) out) (stopped_by 0 result) }
     ensures later { Later (F.seen files.old) (F.seen files.new) }
 {
     match reader.chunk() {

@@ -1,6 +1,7 @@
 //! The top call of the product: a command line, run over files and streams.
 #![tactic(auto)]
 
+mod conversion;
 mod input;
 mod las2las;
 mod lasinfo;

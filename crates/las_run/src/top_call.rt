@@ -13,7 +13,8 @@ ghost use Rattle.las_run.specs.Runs.{Task, files_read, task_of};
 ghost use Rattle.las_run.specs.Ends.{Ends, IsRead, cause_of, names_read, stop_of};
 ghost use Rattle.las_run.specs.Promises.{KeepsPromises};
 
-use crate::las2las::{Places, las2las};
+use crate::conversion::Conversion;
+use crate::las2las::las2las;
 use crate::lasinfo::lasinfo;
 use crate::lasmerge::lasmerge;
 use crate::lassplit::lassplit;
@@ -32,8 +33,8 @@ use std::thread::Threads;
 /// all went well. It answers the exit status: 0 done, 1 out of memory, 2 wrong words, 3 a read that failed or an input
 /// that is not there, 4 a write that failed, 5 an input that is refused, 6 inputs that can't be merged.
 ///
-/// The commands are `laszip`, which packs a plain file and unpacks a packed one; `las2las`, which filters and changes
-/// records; `lasinfo`, which reports what is in a file; `lassplit`, which splits one into parts; `lasmerge`, which merges
+/// The commands are `laszip`, which packs a plain file and unpacks a packed one; `las2las`, which filters, thins and
+/// changes records, and tallies those that are kept; `lasinfo`, which reports what is in a file; `lassplit`, which splits one into parts; `lasmerge`, which merges
 /// files that were written under one header; and `make`, which makes a file of drawn points and its packed form. A name is
 /// a text: to contracts, two names are two files.
 ///
@@ -144,13 +145,22 @@ fn obey<R: Threads + Sync, F: Files, O: Sink, G: Gate>(
             workers,
             start,
             stop,
+            step,
+            pick,
+            unique,
+            tallies,
         } => {
-            let places = Places {
+            let conversion = Conversion {
+                packing: *packing,
+                workers: *workers,
                 start: *start,
                 stop: *stop,
+                step: *step,
+                pick: *pick,
+                unique: *unique,
             };
             las2las(
-                rt, alloc, files, gate, input, output, plan, *packing, *workers, places,
+                rt, alloc, files, out, gate, taps, input, output, plan, conversion, tallies,
             )
         }
         Command::Lasinfo {

@@ -39,7 +39,7 @@ numbered-push n (p ∷ records) point =
     (numbered-push (suc n) records point ∙ ap (λ (k : ℕ). numbered (suc n) records ++ placed k point ∷ []) (omega arith))
 
 -- one that passes the filters more, or one that does not
-passing-push : (plan : Steps) (records : Points) (point : List ℕ)
+pub passing-push : (plan : Steps) (records : Points) (point : List ℕ)
     → passing plan (records ++ point ∷ []) ≡ passing plan records ++ cond (keeps_all plan.keeps point) (placed (length records) point ∷ []) []
 passing-push plan records point =
     let test = λ (a : Placed). keeps_all plan.keeps a.point in

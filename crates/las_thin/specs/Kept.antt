@@ -1,12 +1,11 @@
 -- What a plan keeps of a list of records behind a sieve.
-use Rattle.std.specs.Prelude.{◌≡◌, ℕ, suc, Bool, false, not, ◌&&◌, ◌||◌, if◌then◌else◌, List, [], ◌∷◌, ◌++◌}
-use Rattle.std.specs.Prelude.{length, map, filter, None, is_some}
+use Rattle.std.specs.Prelude.{◌≡◌, ℕ, suc, Bool, not, ◌&&◌, ◌||◌, if◌then◌else◌, List, [], ◌∷◌, ◌++◌}
+use Rattle.std.specs.Prelude.{length, map, filter, is_some}
 use Rattle.las_filter.specs.Filters.{keeps_all}
 use Rattle.las_filter.specs.Changes.{changed}
 use Rattle.las_filter.specs.Kept.{Steps, Kept, kept, kept_of, kept_and}
 use Rattle.las_thin.specs.Placed.{Placed, placed, AreAscending}
-use Rattle.las_thin.specs.Sieving.{Settings, IsFirst, sifted, stays}
-use Rattle.las_thin.specs.declared.pick.Pick.TheVariants.{First}
+use Rattle.las_thin.specs.Sieving.{Settings, IsFirst, all_pass, sifted, stays}
 
 -- records with their places, from a number on
 abbrev pub numbered : ℕ → List (List ℕ) → List Placed
@@ -33,7 +32,7 @@ kept_where test plan records = kept_of_placed plan (filter test (passing plan re
 -- Without a step and with repeated positions, it is what the plan alone keeps.
 abbrev pub KeepsAsThePlan : Type 0
 KeepsAsThePlan = (plan : Steps) (records : List (List ℕ))
-    → kept_behind plan (record { step = None; pick = First; unique = false }) records ≡ kept plan records
+    → kept_behind plan all_pass records ≡ kept plan records
 
 -- What is kept behind a sieve is what passes the test whether it stays.
 abbrev pub KeepsWhatStays : Type 0

@@ -17,6 +17,10 @@ pub record Settings : Type 0 where
   pub pick : Pick
   pub unique : Bool
 
+-- the settings with which every record passes
+abbrev pub all_pass : Settings
+all_pass = record { step = None; pick = First; unique = false }
+
 -- a step is from 1 to 2147483647; the lowest and the highest need one
 abbrev pub IsStep : Option ℕ → Type 0
 IsStep step = IfSome step (λ n. (0 < n) × (n < 2 ^ 31))

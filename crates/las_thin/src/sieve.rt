@@ -1,5 +1,6 @@
 //! A sieve of records.
-ghost use Rattle.std.specs.Prelude.{◌≡◌, ◌++◌, ◌∷◌, [], ◌≤◌, ◌<◌, List, Some, None, length, IfOk, OnOk, OnErr, IfSome};
+ghost use Rattle.std.specs.Prelude.{◌≡◌, ◌↔◌, ◌++◌, ◌∷◌, [], ◌≤◌, ◌<◌, List, Some, None, length, true};
+ghost use Rattle.std.specs.Prelude.{IfOk, OnOk, OnErr, IfSome};
 
 use crate::cell::{cell_of, position_of};
 use crate::pick::Pick;
@@ -53,7 +54,7 @@ impl Model for Sieve {
 impl Sieve {
     ghost use Rattle.las_thin.specs.Placed.{Placed, placed};
     ghost use Rattle.las_thin.specs.Sieving.{HasItsStep, IsFirst, IsStep, Settings, Sieving, StandsFor};
-    ghost use Rattle.las_thin.specs.Sieving.{judged_by, stays};
+    ghost use Rattle.las_thin.specs.Sieving.{all_pass, judged_by, stays};
     ghost use Rattle.las_thin.specs.Stored.{Takes};
 
     /// A sieve that has looked at no record and was asked for none. `step` is a cell's side in units of X and Y, from 1
@@ -76,6 +77,13 @@ impl Sieve {
             positions: HashSet::new(alloc),
             winners: HashMap::new(alloc),
         }
+    }
+
+    /// Whether every record passes: there is no step, and positions may repeat. Such a sieve need not be asked.
+    pub fn passes_all(&self) -> bool
+        ensures { (result ≡ true) ↔ (self.now.settings ≡ all_pass) }
+    {
+        self.step.is_none() && !self.unique
     }
 
     /// Looks at a record. `Err` means out of memory, and the sieve is as before.

@@ -1,10 +1,12 @@
 -- Values that compute: what words say.
-use Rattle.std.proofs.Common.{◌≡◌, ℕ, Bool, zero, suc, pos, negsuc, true, false, List, [], ◌∷◌, ◌++◌, codes, refl}
+use Rattle.std.proofs.Common.{◌≡◌, ℕ, Bool, zero, suc, pos, negsuc, true, false, List, [], ◌∷◌, ◌++◌, Some, None, codes, refl}
 use Rattle.std.specs.Fmt.{digits}
 use Rattle.las_filter.specs.declared.keep.Keep.TheVariants.{Classes, DropReturns, Intensity}
 use Rattle.las_filter.specs.declared.change.Change.TheVariants.{Translate, SetClass}
 use Rattle.las_filter.specs.Kept.{Steps}
 use Rattle.las_filter.specs.declared.rule.Rule.TheVariants.{Every, Source}
+use Rattle.las_thin.specs.declared.pick.Pick.TheVariants as pick
+use Rattle.las_thin.specs.Sieving.{Settings}
 use Rattle.las_words.specs.Names.{stem_of, end_of, is_part_name}
 use Rattle.las_filter.specs.declared.rule.Rule.{Rule}
 use Rattle.las_words.specs.Asked.{Asked, laszip, las2las, lasinfo, lassplit, lasmerge, make, reads}
@@ -15,6 +17,10 @@ abbrev zips : (input output : List ℕ) (chunk workers : ℕ) → Asked
 zips input output chunk workers =
     record { work = reads input (laszip (record { output = output; chunk = chunk })); workers = workers }
 
+-- each record stays
+abbrev every : Settings
+every = record { step = None; pick = pick.First; unique = false }
+
 abbrev converts_range : (input output : List ℕ) (plan : Steps) (packed : Bool) (chunk workers start stop : ℕ) → Asked
 converts_range input output plan packed chunk workers start stop = record {
   work = reads input (las2las (record {
@@ -24,8 +30,26 @@ converts_range input output plan packed chunk workers start stop = record {
     chunk = chunk;
     start = start;
     stop = stop;
+    sieve = every;
+    tallies = [];
   }));
   workers = workers;
+}
+
+-- all records of `a` sieved into `b`
+abbrev sieves : Settings → (tallies : List (List ℕ)) → Asked
+sieves sieve tallies = record {
+  work = reads (codes "a") (las2las (record {
+    output = codes "b";
+    plan = record { keeps = []; changes = [] };
+    packed = false;
+    chunk = 50000;
+    start = 0;
+    stop = 4294967295;
+    sieve = sieve;
+    tallies = tallies;
+  }));
+  workers = 1;
 }
 
 abbrev converts : (input output : List ℕ) (plan : Steps) (packed : Bool) (chunk workers : ℕ) → Asked
@@ -164,6 +188,56 @@ start_above_the_stop = refl
 stop_below_the_start : says (filter (codes "-stop_at_point" ∷ codes "4" ∷ codes "-keep_first" ∷ codes "-start_at_point" ∷ codes "5" ∷ [])) taps ≡ usage 9
 unfolding says
 stop_below_the_start = refl
+
+-- one record of each cell
+first_of_a_cell : says (filter (codes "-thin_raw" ∷ codes "2147483647" ∷ [])) taps ≡ asks (sieves (record { step = Some 2147483647; pick = pick.First; unique = false }) [])
+unfolding says
+first_of_a_cell = refl
+
+lowest_of_a_cell : says (filter (codes "-lowest" ∷ codes "-thin_raw" ∷ codes "1" ∷ [])) taps ≡ asks (sieves (record { step = Some 1; pick = pick.Lowest; unique = false }) [])
+unfolding says
+lowest_of_a_cell = refl
+
+highest_of_a_cell : says (filter (codes "-thin_raw" ∷ codes "10" ∷ codes "-drop_repeated" ∷ codes "-highest" ∷ [])) taps ≡ asks (sieves (record { step = Some 10; pick = pick.Highest; unique = true }) [])
+unfolding says
+highest_of_a_cell = refl
+
+no_repeated_position : says (filter (codes "-drop_repeated" ∷ codes "-tally" ∷ codes "source" ∷ codes "-tally" ∷ codes "class" ∷ [])) taps ≡ asks (sieves (record { step = None; pick = pick.First; unique = true }) (codes "source" ∷ codes "class" ∷ []))
+unfolding says
+no_repeated_position = refl
+
+step_of_nothing : says (filter (codes "-thin_raw" ∷ codes "0" ∷ [])) taps ≡ usage 6
+unfolding says
+step_of_nothing = refl
+
+step_too_long : says (filter (codes "-thin_raw" ∷ codes "2147483648" ∷ [])) taps ≡ usage 6
+unfolding says
+step_too_long = refl
+
+highest_beside_lowest : says (filter (codes "-highest" ∷ codes "-thin_raw" ∷ codes "10" ∷ codes "-lowest" ∷ [])) taps ≡ usage 8
+unfolding says
+highest_beside_lowest = refl
+
+lowest_without_cells : says (filter (codes "-lowest" ∷ [])) taps ≡ usage 5
+unfolding says
+lowest_without_cells = refl
+
+highest_without_cells : says (filter (codes "-drop_repeated" ∷ codes "-highest" ∷ [])) taps ≡ usage 6
+unfolding says
+highest_without_cells = refl
+
+-- a name is wrong before a pick without cells is
+name_before_the_pick : says (codes "las2las" ∷ codes "-lowest" ∷ codes "-i" ∷ codes "a" ∷ codes "-o" ∷ codes "a" ∷ []) taps ≡ usage 5
+unfolding says
+name_before_the_pick = refl
+
+kept_tallied_twice : says (filter (codes "-tally" ∷ codes "class" ∷ codes "-tally" ∷ codes "class" ∷ [])) taps ≡ usage 8
+unfolding says
+kept_tallied_twice = refl
+
+kept_by_no_tap : says (filter (codes "-tally" ∷ codes "none" ∷ [])) taps ≡ usage 6
+unfolding says
+kept_by_no_tap = refl
 
 -- the words of `lasinfo` with an input, and more words
 abbrev info : List (List ℕ) → List (List ℕ)

@@ -6,5 +6,6 @@ pub mod Chosen
 pub mod PartNames
 mod Inputs
 mod Places
+mod Sieves
 mod Saying
 pub mod Examples

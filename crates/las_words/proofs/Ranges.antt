@@ -21,7 +21,7 @@ use Rattle.las_words.specs.Texts.{word_at}
 use Rattle.las_words.specs.Settings.{text_of, number_of, chunk_of, workers_of, format_of, extra_of, rule_of}
 
 -- a number of a range, or a default of that range
-range : (low high number default : ℕ) (b : Bool) → low ≤ default → default ≤ high
+pub range : (low high number default : ℕ) (b : Bool) → low ≤ default → default ≤ high
     → (low ≤ unwrap_or (cond (b && (nat_le low number && nat_le number high)) (Some number) None) default)
     × (unwrap_or (cond (b && (nat_le low number && nat_le number high)) (Some number) None) default ≤ high)
 range low high number default b least most = (grind (arith, nat_tests), grind (arith, nat_tests))

@@ -1,7 +1,7 @@
 -- What words say, by their first word and the first that is wrong.
 use Rattle.std.proofs.Common.{◌≡◌, ◌≢◌, ℕ, ◌+◌, ◌^◌, ◌<◌, Bool, true, false, cond, ◌||◌, ◌&&◌, List, [], drop, length, Option, Some, None, is_some, codes, refl, sym, ◌∙◌, ap, subst}
 use Rattle.std.specs.Prelude.{All}
-use Rattle.std.specs.Option.{option_or, option_map}
+use Rattle.std.specs.Option.{option_map}
 use Rattle.std.specs.List.{list_any}
 use Rattle.std.specs.Str.{bytes_eq}
 use Rattle.las_filter.specs.Parts.{part_name}
@@ -12,7 +12,7 @@ use Rattle.las_words.specs.Texts.{word_at, is_packed_name}
 use Rattle.las_words.specs.Table.{tool_named}
 use Rattle.las_words.specs.Pieces.{cut}
 use Rattle.las_words.specs.Faults.{first_fault}
-use Rattle.las_words.specs.Settings.{place_of, is_given, text_of, texts_of, chunk_of, workers_of}
+use Rattle.las_words.specs.Settings.{place_of, is_given, text_of, texts_of, chunk_of, pick_alone, workers_of}
 use Rattle.las_words.specs.Names.{end_of, stem_of, is_part_name, plain_copy, same_name, unfit_parts, same_output, wrong_name}
 use Rattle.las_words.specs.Asked.{AreInputs, AreWorkers, Asked, IsChunkSize, IsSound, IsSoundWork}
 use Rattle.las_words.specs.Says.{asks, usage, says, said_to, said_unless, wrong_word, missing_option, asked_of, work_of}
@@ -20,6 +20,7 @@ use Rattle.las_words.proofs.Chosen.{or_false, or_none, tallies_distinct, tallies
 use Rattle.las_words.proofs.Inputs.{IsNamed, cut_named, few_inputs, first_text, none_is, some_text, unequal}
 use Rattle.las_words.proofs.PartNames.{no_part}
 use Rattle.las_words.proofs.Places.{in_order}
+use Rattle.las_words.proofs.Sieves.{sieve_is}
 use Rattle.las_words.proofs.Ranges.{chunk_range, workers_range, points_range, seed_range, format_range, extra_range, rule_is, changes_have_classes}
 
 pub no_tool : (names words : List (List ℕ)) → tool_named (word_at words 0) ≡ None → says words names ≡ usage 0
@@ -91,12 +92,14 @@ record Right (names words : List (List ℕ)) (tool : Tool) (pieces : List Piece)
   faults : first_fault names words [] pieces ≡ None
   missing : missing_option tool words pieces ≡ None
   name : wrong_name tool words pieces ≡ None
+  cells : pick_alone words pieces ≡ None
 
 right : (names words : List (List ℕ)) (tool : Tool) (pieces : List Piece) → wrong_word names tool words pieces ≡ None → Right names words tool pieces
 right names words tool pieces is =
-    let after = or_none (first_fault names words [] pieces) (option_or (missing_option tool words pieces) (wrong_name tool words pieces)) is in
-    let last = or_none (missing_option tool words pieces) (wrong_name tool words pieces) after.1 in
-    record { faults = after.0; missing = last.0; name = last.1 }
+    let after = or_none (first_fault names words [] pieces) _ is in
+    let last = or_none (missing_option tool words pieces) _ after.1 in
+    let names = or_none (wrong_name tool words pieces) (pick_alone words pieces) last.1 in
+    record { faults = after.0; missing = last.0; name = names.0; cells = names.1 }
 
 chunk_size : (words : List (List ℕ)) (pieces : List Piece) → IsChunkSize (chunk_of words pieces)
 chunk_size words pieces = let h = chunk_range words pieces in record { least = h.0; most = h.1 }
@@ -130,8 +133,14 @@ outputs_differ words pieces missing name =
 
 sound_of : (names words : List (List ℕ)) (tool : Tool) (pieces : List Piece) → All (IsNamed tool words) pieces → Right names words tool pieces → IsSoundWork names (work_of tool words pieces)
 sound_of names words Laszip pieces flags r = (names_differ words pieces (are_named words pieces true r.missing r.name), chunk_size words pieces)
-sound_of names words Las2las pieces flags r =
-    (names_differ words pieces (are_named words pieces true r.missing r.name), chunk_size words pieces, changes_have_classes words pieces, in_order names words pieces flags r.faults)
+sound_of names words Las2las pieces flags r = (
+  names_differ words pieces (are_named words pieces true r.missing r.name),
+  chunk_size words pieces,
+  changes_have_classes words pieces,
+  in_order names words pieces flags r.faults,
+  sieve_is words pieces r.cells,
+  record { there = tallies_there names words pieces r.faults; distinct = tallies_distinct names words pieces r.faults },
+)
 sound_of names words Lasinfo pieces flags r =
     record { there = tallies_there names words pieces r.faults; distinct = tallies_distinct names words pieces r.faults }
 sound_of names words Lassplit pieces flags r =

@@ -6,6 +6,7 @@ use Rattle.las_filter.specs.Changes.{HasClass}
 use Rattle.las_filter.specs.Kept.{Steps, steps_of}
 use Rattle.las_filter.specs.Parts.{IsRule, part_name}
 use Rattle.las_filter.specs.declared.rule.Rule.{Rule}
+use Rattle.las_thin.specs.Sieving.{HasItsStep, IsStep, Settings}
 use Rattle.las_words.specs.declared.command.Command.{Command}
 use Rattle.las_words.specs.declared.command.Command.TheVariants as command
 use Rattle.las_words.specs.Texts.{texts}
@@ -22,6 +23,8 @@ pub record Las2lasOptions : Type 0 where
   pub chunk : ℕ
   pub start : ℕ
   pub stop : ℕ
+  pub sieve : Settings
+  pub tallies : List (List ℕ)
 
 pub record LasinfoOptions : Type 0 where
   pub tallies : List (List ℕ)
@@ -69,7 +72,7 @@ pub record Asked : Type 0 where
 abbrev pub work_by : Command → Work
 work_by (command.Laszip input output chunk workers) =
     reads (string_bytes input) (laszip (record { output = string_bytes output; chunk = chunk }))
-work_by (command.Las2las input output plan packing workers start stop) =
+work_by (command.Las2las input output plan packing workers start stop step pick unique tallies) =
     reads (string_bytes input) (las2las (record {
       output = string_bytes output;
       plan = steps_of plan;
@@ -77,6 +80,8 @@ work_by (command.Las2las input output plan packing workers start stop) =
       chunk = packing.chunk;
       start = start;
       stop = stop;
+      sieve = record { step = step; pick = pick; unique = unique };
+      tallies = texts tallies.items;
     }))
 work_by (command.Lasinfo input tallies workers) =
     reads (string_bytes input) (lasinfo (record { tallies = texts tallies.items }))
@@ -104,7 +109,7 @@ work_by (command.Make output packed points seed format extra chunk workers) =
 
 abbrev pub workers_by : Command → ℕ
 workers_by (command.Laszip input output chunk workers) = workers
-workers_by (command.Las2las input output plan packing workers start stop) = workers
+workers_by (command.Las2las input output plan packing workers start stop step pick unique tallies) = workers
 workers_by (command.Lasinfo input tallies workers) = workers
 workers_by (command.Lassplit input stem end rule workers) = workers
 workers_by (command.Lasmerge inputs output packing workers copy) = workers
@@ -129,6 +134,11 @@ pub record AreChosen (names tallies : List (List ℕ)) : Type 0 where
   pub there : All (λ tally. list_any (bytes_eq tally) names ≡ true) tallies
   pub distinct : AllPairs (λ tally other. bytes_eq tally other ≡ false) tallies
 
+-- a sieve's cells are of a side in its range, and there are some unless the first record of a cell stays
+pub record IsSieve (sieve : Settings) : Type 0 where
+  pub side : IsStep sieve.step
+  pub cells : HasItsStep sieve.step sieve.pick
+
 -- the inputs of a merge: 1 to 32, none of which is the output
 pub record AreInputs (inputs : List (List ℕ)) (output : List ℕ) : Type 0 where
   pub some : 1 ≤ length inputs
@@ -147,7 +157,7 @@ abbrev pub IsSoundFor : (names : List (List ℕ)) → (input : List ℕ) → One
 IsSoundFor names input (laszip options) = (bytes_eq options.output input ≡ false) × IsChunkSize options.chunk
 IsSoundFor names input (las2las options) =
     (bytes_eq options.output input ≡ false) × IsChunkSize options.chunk × All HasClass options.plan.changes
-    × (options.start ≤ options.stop)
+    × (options.start ≤ options.stop) × IsSieve options.sieve × AreChosen names options.tallies
 IsSoundFor names input (lasinfo options) = AreChosen names options.tallies
 IsSoundFor names input (lassplit options) =
     IsRule options.rule

@@ -14,6 +14,7 @@ use Rattle.las_words.specs.Pieces.{cut}
 use Rattle.las_words.specs.Faults.{first_fault}
 use Rattle.las_words.specs.Settings.{is_given, text_of, texts_of, number_of}
 use Rattle.las_words.specs.Settings.{chunk_of, workers_of, start_of, stop_of, format_of, extra_of, rule_of}
+use Rattle.las_words.specs.Settings.{pick_alone, sieve_of}
 use Rattle.las_words.specs.Names.{end_of, stem_of, wrong_name}
 use Rattle.las_words.specs.Tallies.{tallies_of}
 use Rattle.las_words.specs.Plans.{plan_of}
@@ -30,11 +31,13 @@ missing_option tool words pieces =
     then None
     else Some (length words)
 
--- the index of the first word that is wrong: by the options and their values, then a missing option, then the names
+-- the index of the first word that is wrong: by the options and their values, then a missing option, then the names,
+-- then a pick without cells
 abbrev pub wrong_word : (names : List (List ℕ)) → Tool → List (List ℕ) → List Piece → Option ℕ
 wrong_word names tool words pieces =
     option_or (first_fault names words [] pieces)
-    (option_or (missing_option tool words pieces) (wrong_name tool words pieces))
+    (option_or (missing_option tool words pieces)
+    (option_or (wrong_name tool words pieces) (pick_alone words pieces)))
 
 -- the output of `las2las` and `lasmerge` is packed with -olaz, plain with -olas, and else by its name
 abbrev pub is_packed : List (List ℕ) → List Piece → Bool
@@ -55,6 +58,8 @@ work_of Las2las words pieces =
       chunk = chunk_of words pieces;
       start = start_of words pieces;
       stop = stop_of words pieces;
+      sieve = sieve_of words pieces;
+      tallies = tallies_of words pieces;
     }))
 work_of Lasinfo words pieces =
     reads (text_of words (codes "-i") pieces) (lasinfo (record { tallies = tallies_of words pieces }))

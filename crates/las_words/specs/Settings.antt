@@ -2,13 +2,16 @@
 use Rattle.std.specs.Prelude.{ℕ, ◌+◌, Bool, if◌then◌else◌, List, [], Option, Some, None}
 use Rattle.std.specs.Prelude.{find, is_some, unwrap_or, codes}
 use Rattle.std.specs.List.{filter_map}
-use Rattle.std.specs.Option.{option_map, option_map_or}
+use Rattle.std.specs.Option.{option_map, option_map_or, option_or}
 use Rattle.std.specs.Str.{bytes_eq}
 use Rattle.las_filter.specs.declared.rule.Rule.{Rule}
 use Rattle.las_filter.specs.declared.rule.Rule.TheVariants.{Every, Class, Source, Return}
+use Rattle.las_thin.specs.declared.pick.Pick.{Pick}
+use Rattle.las_thin.specs.declared.pick.Pick.TheVariants as pick
+use Rattle.las_thin.specs.Sieving as thin
 use Rattle.las_words.specs.declared.table.Flag.{Flag}
 use Rattle.las_words.specs.declared.table.Flag.TheVariants.{ChunkSize, Cores, Split, Format, Extra}
-use Rattle.las_words.specs.declared.table.Flag.TheVariants.{StartAtPoint, StopAtPoint}
+use Rattle.las_words.specs.declared.table.Flag.TheVariants.{StartAtPoint, StopAtPoint, ThinRaw}
 use Rattle.las_words.specs.declared.table.Values.{Values}
 use Rattle.las_words.specs.declared.table.Values.TheVariants.{Number}
 use Rattle.las_words.specs.declared.pieces.Piece.{Piece}
@@ -66,6 +69,33 @@ start_of words pieces = number_of words StartAtPoint 0 pieces
 -- the place of the first one after it that is not taken, the greatest unless it is given
 abbrev pub stop_of : List (List ℕ) → List Piece → ℕ
 stop_of words pieces = number_of words StopAtPoint 4294967295 pieces
+
+-- the side of a cell, if one record of each cell is to stay
+abbrev pub step_of : List (List ℕ) → List Piece → Option ℕ
+step_of words pieces =
+    if is_given words (codes "-thin_raw") pieces then Some (number_of words ThinRaw 1 pieces) else None
+
+-- which record of a cell stays, the first unless it is said
+abbrev pub pick_of : List (List ℕ) → List Piece → Pick
+pick_of words pieces =
+    if is_given words (codes "-lowest") pieces then pick.Lowest
+    else if is_given words (codes "-highest") pieces then pick.Highest
+    else pick.First
+
+-- the index of an option that says which record of a cell stays, if there are no cells
+abbrev pub pick_alone : List (List ℕ) → List Piece → Option ℕ
+pick_alone words pieces =
+    if is_given words (codes "-thin_raw") pieces
+    then None
+    else option_or (place_of words (codes "-lowest") pieces) (place_of words (codes "-highest") pieces)
+
+-- how records are sieved: into cells, and whether those that repeat a position are dropped
+abbrev pub sieve_of : List (List ℕ) → List Piece → thin.Settings
+sieve_of words pieces = record {
+  step = step_of words pieces;
+  pick = pick_of words pieces;
+  unique = is_given words (codes "-drop_repeated") pieces;
+}
 
 -- the point data format, 0 unless it is given
 abbrev pub format_of : List (List ℕ) → List Piece → ℕ

@@ -18,7 +18,8 @@ use Rattle.las_words.specs.declared.table.Flag.TheVariants.{KeepReturn, DropRetu
 use Rattle.las_words.specs.declared.table.Flag.TheVariants.{DropIntensityBelow, DropIntensityAbove, TranslateRawXyz}
 use Rattle.las_words.specs.declared.table.Flag.TheVariants.{TranslateRawX, TranslateRawY, TranslateRawZ}
 use Rattle.las_words.specs.declared.table.Flag.TheVariants.{SetClassification}
-use Rattle.las_words.specs.declared.table.Flag.TheVariants.{SetUserData, SetPointSource, Tally}
+use Rattle.las_words.specs.declared.table.Flag.TheVariants.{SetUserData, SetPointSource, ThinRaw, Lowest, Highest}
+use Rattle.las_words.specs.declared.table.Flag.TheVariants.{DropRepeated, Tally}
 use Rattle.las_words.specs.declared.table.Flag.TheVariants.{Split, ByClassification, ByFlightline, ByReturn}
 use Rattle.las_words.specs.declared.table.Flag.TheVariants.{PackedOutput, Points, Seed, Format, Extra}
 use Rattle.las_words.specs.Texts.{word_at}
@@ -46,7 +47,8 @@ pub record Row : Type 0 where
 abbrev pub once : List ℕ → Values → Meaning → Row
 once name values means = record { name = name; values = values; rivals = name ∷ []; before = 0; means = means }
 
--- an option that is given once, and none of its rivals beside it: how the output is written, or how a file is split
+-- an option that is given once, and none of its rivals beside it: how the output is written, how a file is split, or
+-- which record of a cell stays
 abbrev pub one_of : List (List ℕ) → List ℕ → Values → Row
 one_of rivals name values = record { name = name; values = values; rivals = rivals; before = 0; means = Setting }
 
@@ -57,6 +59,10 @@ forms = codes "-olas" ∷ codes "-olaz" ∷ []
 -- that chunks are copied
 abbrev pub copying : List (List ℕ)
 copying = codes "-copy_chunks" ∷ []
+
+-- which record of a cell stays, other than the first
+abbrev pub picks : List (List ℕ)
+picks = codes "-lowest" ∷ codes "-highest" ∷ []
 
 -- the ways to split a file
 abbrev pub ways : List (List ℕ)
@@ -118,6 +124,10 @@ row_of SetClassification =
 row_of SetUserData = once (codes "-set_user_data") (Number 0 255) (Changes (λ words. SetUser (first_number 255 words)))
 row_of SetPointSource =
     once (codes "-set_point_source") (Number 0 65535) (Changes (λ words. SetSource (first_number 65535 words)))
+row_of ThinRaw = once (codes "-thin_raw") (Number 1 2147483647) Setting
+row_of Lowest = one_of picks (codes "-lowest") Nothing
+row_of Highest = one_of picks (codes "-highest") Nothing
+row_of DropRepeated = once (codes "-drop_repeated") Nothing Setting
 row_of Tally = record { name = codes "-tally"; values = Tap; rivals = []; before = 0; means = TallyNames }
 row_of Split = one_of ways (codes "-split") (Number 1 4294967295)
 row_of ByClassification = one_of ways (codes "-by_classification") Nothing
@@ -150,7 +160,8 @@ command_row Las2las = record {
       ∷ KeepClass ∷ DropClass ∷ KeepReturn ∷ DropReturn ∷ KeepFirst ∷ KeepLast
       ∷ KeepIntensity ∷ DropIntensityBelow ∷ DropIntensityAbove
       ∷ TranslateRawXyz ∷ TranslateRawX ∷ TranslateRawY ∷ TranslateRawZ
-      ∷ SetClassification ∷ SetUserData ∷ SetPointSource ∷ [];
+      ∷ SetClassification ∷ SetUserData ∷ SetPointSource
+      ∷ ThinRaw ∷ Lowest ∷ Highest ∷ DropRepeated ∷ Tally ∷ [];
   required = input_and_output;
 }
 command_row Lasinfo =

@@ -4,6 +4,7 @@ ghost use Rattle.std.specs.Prelude.{◌≡◌};
 ghost use Rattle.las_words.specs.declared.command.WordFault.TheVariants.{Memory};
 
 use las_filter::{Plan, Rule};
+use las_thin::Pick;
 use std::alloc::AllocError;
 
 /// How an output is written.
@@ -29,7 +30,7 @@ pub enum Command {
         /// The number of workers, 1 to 8.
         workers: u32,
     },
-    /// Filters and changes the records of a file.
+    /// Filters, thins and changes the records of a file.
     Las2las {
         /// The name of the input.
         input: String,
@@ -45,6 +46,14 @@ pub enum Command {
         start: u32,
         /// The place of the first record after it that is not taken, `start` or above. It may be past the end.
         stop: u32,
+        /// The side of a cell in units of X and Y, 1 to 2147483647, if one record of each cell is to stay.
+        step: Option<u32>,
+        /// Which one that is. Without a step it is the first.
+        pick: Pick,
+        /// Whether records are dropped that repeat the position of an earlier one.
+        unique: bool,
+        /// The names of the taps that tally the kept records, each another one.
+        tallies: Vec<String>,
     },
     /// Reports what is in a file.
     Lasinfo {

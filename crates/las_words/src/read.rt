@@ -19,8 +19,8 @@ use crate::names::{end_of, stem_of, wrong_name};
 use crate::pieces::{Piece, pieces};
 use crate::plan::{changes_of, filters_of};
 use crate::settings::{
-    chunk_of, extra_of, format_of, is_given, number_of, rule_of, start_of, stop_of, text_of,
-    texts_of, workers_of,
+    chunk_of, extra_of, format_of, is_given, number_of, pick_alone, pick_of, rule_of, start_of,
+    step_of, stop_of, text_of, texts_of, workers_of,
 };
 use crate::table::{Flag, Tool};
 use crate::tallies::tallies_of;
@@ -100,7 +100,11 @@ fn wrong_word(
     if missing.is_some() {
         return Ok(missing);
     }
-    wrong_name(alloc, tool, words, pieces)
+    let name = wrong_name(alloc, tool, words, pieces)?;
+    if name.is_some() {
+        return Ok(name);
+    }
+    Ok(pick_alone(words, pieces))
 }
 
 // The number of words, if a required option is missing.
@@ -188,6 +192,10 @@ fn las2las_of(alloc: Global, words: &[String], pieces: &[Piece]) -> Result<Comma
         workers: workers_of(words, pieces),
         start: start_of(words, pieces),
         stop: stop_of(words, pieces),
+        step: step_of(words, pieces),
+        pick: pick_of(words, pieces),
+        unique: is_given(words, "-drop_repeated", pieces),
+        tallies: tallies_of(alloc, words, pieces)?,
     })
 }
 

@@ -7,12 +7,14 @@ ghost use Rattle.las_words.specs.Texts.{texts};
 ghost use Rattle.las_words.specs.Table.{row_of};
 ghost use Rattle.las_words.specs.Settings.{place_of, is_given, text_of, texts_of, number_of, number_said};
 ghost use Rattle.las_words.specs.Settings.{chunk_of, workers_of, start_of, stop_of, format_of, extra_of, rule_of};
+ghost use Rattle.las_words.specs.Settings.{pick_alone, pick_of, step_of};
 
 use crate::numbers::number_in;
 use crate::pieces::Piece;
 use crate::table::{Flag, Values};
 use crate::texts::word;
 use las_filter::Rule;
+use las_thin::Pick;
 use std::alloc::{AllocError, Global};
 
 /// The index of the first option of a name.
@@ -112,6 +114,47 @@ pub fn stop_of(words: &[String], pieces: &[Piece]) -> u32
     ensures { result ≡ stop_of (texts words.now) pieces.now }
 {
     number_of(words, Flag::StopAtPoint, u32::MAX, pieces)
+}
+
+/// The side of a cell, if records are to be thinned.
+pub fn step_of(words: &[String], pieces: &[Piece]) -> Option<u32>
+    requires { All (λ piece. piece.at < length words.now) pieces.now }
+    ensures { result ≡ step_of (texts words.now) pieces.now }
+{
+    if is_given(words, "-thin_raw", pieces) {
+        Some(number_of(words, Flag::ThinRaw, 1, pieces))
+    } else {
+        None
+    }
+}
+
+/// Which record of a cell stays.
+pub fn pick_of(words: &[String], pieces: &[Piece]) -> Pick
+    requires { All (λ piece. piece.at < length words.now) pieces.now }
+    ensures { result ≡ pick_of (texts words.now) pieces.now }
+{
+    if is_given(words, "-lowest", pieces) {
+        Pick::Lowest
+    } else if is_given(words, "-highest", pieces) {
+        Pick::Highest
+    } else {
+        Pick::First
+    }
+}
+
+/// The index of an option that says which record of a cell stays, if there are no cells.
+pub fn pick_alone(words: &[String], pieces: &[Piece]) -> Option<usize>
+    requires { All (λ piece. piece.at < length words.now) pieces.now }
+    ensures { result ≡ pick_alone (texts words.now) pieces.now }
+{
+    if is_given(words, "-thin_raw", pieces) {
+        return None;
+    }
+    let lowest = place_of(words, "-lowest", pieces);
+    if lowest.is_some() {
+        return lowest;
+    }
+    place_of(words, "-highest", pieces)
 }
 
 /// The number of records of a chunk.

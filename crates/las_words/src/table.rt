@@ -46,6 +46,10 @@ pub enum Flag {
     SetClassification,
     SetUserData,
     SetPointSource,
+    ThinRaw,
+    Lowest,
+    Highest,
+    DropRepeated,
     Tally,
     Split,
     ByClassification,
@@ -83,7 +87,7 @@ const MAX_INPUTS: usize = 32;
 
 const LASZIP: [Flag; 4] = [Flag::Input, Flag::Output, Flag::ChunkSize, Flag::Cores];
 
-const LAS2LAS: [Flag; 24] = [
+const LAS2LAS: [Flag; 29] = [
     Flag::Input,
     Flag::Output,
     Flag::ChunkSize,
@@ -108,6 +112,11 @@ const LAS2LAS: [Flag; 24] = [
     Flag::SetClassification,
     Flag::SetUserData,
     Flag::SetPointSource,
+    Flag::ThinRaw,
+    Flag::Lowest,
+    Flag::Highest,
+    Flag::DropRepeated,
+    Flag::Tally,
 ];
 
 const LASINFO: [Flag; 3] = [Flag::Input, Flag::Tally, Flag::Cores];
@@ -221,6 +230,10 @@ impl Flag {
             Flag::SetClassification => "-set_classification",
             Flag::SetUserData => "-set_user_data",
             Flag::SetPointSource => "-set_point_source",
+            Flag::ThinRaw => "-thin_raw",
+            Flag::Lowest => "-lowest",
+            Flag::Highest => "-highest",
+            Flag::DropRepeated => "-drop_repeated",
             Flag::Tally => "-tally",
             Flag::Split => "-split",
             Flag::ByClassification => "-by_classification",
@@ -244,6 +257,7 @@ impl Flag {
             Flag::Cores => Values::Number(1, 8),
             Flag::Olas | Flag::Olaz | Flag::CopyChunks => Values::Nothing,
             Flag::KeepFirst | Flag::KeepLast => Values::Nothing,
+            Flag::Lowest | Flag::Highest | Flag::DropRepeated => Values::Nothing,
             Flag::StartAtPoint | Flag::StopAtPoint => Values::Number(0, u32::MAX),
             Flag::ByClassification | Flag::ByFlightline | Flag::ByReturn => Values::Nothing,
             Flag::KeepClass | Flag::DropClass => Values::Several(31),
@@ -255,6 +269,7 @@ impl Flag {
             Flag::SetClassification => Values::Number(0, 31),
             Flag::SetUserData => Values::Number(0, 255),
             Flag::SetPointSource => Values::Number(0, 65_535),
+            Flag::ThinRaw => Values::Number(1, 2_147_483_647),
             Flag::Tally => Values::Tap,
             Flag::Split => Values::Number(1, u32::MAX),
             Flag::Points => Values::Number(0, 10_000_000),
@@ -279,6 +294,7 @@ impl Flag {
             Flag::Split | Flag::ByClassification | Flag::ByFlightline | Flag::ByReturn => {
                 is_way(name)
             }
+            Flag::Lowest | Flag::Highest => name == "-lowest" || name == "-highest",
             Flag::Tally => false,
             _ => name == self.name(),
         }

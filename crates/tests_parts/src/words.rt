@@ -1,6 +1,7 @@
 //! Command lines, each with what it says.
 
 use las_info::{ClassTap, ReturnTap, Tap};
+use las_thin::Pick;
 use las_words::{Command, Packing, WordFault, read_words};
 use std::alloc::{AllocError, Global};
 use std::test::Fail;
@@ -18,7 +19,17 @@ laszip -i a b = usage 3
 laszip -i a -o b -keep_class 2 = usage 5
 laszip -i a -o b -olaz = usage 5
 las2las -i a -o b -z c = usage 5
-las2las -i a -o b -tally class = usage 5
+las2las -i a -o b -tally none = usage 6
+las2las -i a -o b -tally class -tally return -tally class = usage 10
+las2las -i a -o b -thin_raw 0 = usage 6
+las2las -i a -o b -thin_raw 2147483648 = usage 6
+las2las -i a -o b -thin_raw 5 -thin_raw 5 = usage 7
+las2las -i a -o b -lowest = usage 5
+las2las -highest -i a -o b = usage 1
+las2las -i a -o b -thin_raw 5 -highest -lowest = usage 8
+las2las -lowest -i a -o a = usage 5
+las2las -drop_repeated -drop_repeated = usage 2
+lasinfo -i a -drop_repeated = usage 3
 las2las -i a -o b 2 = usage 5
 las2las -i a -o b  = usage 5
 las2las -i a -o b -Keep_first = usage 5
@@ -170,6 +181,10 @@ las2las -i a -o b -start_at_point 5 -stop_at_point 5 = las2las a b [] [] plain 5
 las2las -start_at_point 4294967295 -i a -o b = las2las a b [] [] plain 50000 1 4294967295 4294967295
 las2las -i a -stop_at_point 0 -o b -start_at_point 0 = las2las a b [] [] plain 50000 1 0 0
 las2las -i a -o b.laz -stop_at_point 07 -keep_last -cores 2 = las2las a b.laz [Last] [] packed 50000 2 0 7
+las2las -i a -o b -thin_raw 0002147483647 = las2las a b [] [] plain 50000 1 First 2147483647
+las2las -lowest -i a -o b -thin_raw 1 = las2las a b [] [] plain 50000 1 Lowest 1
+las2las -i a -drop_repeated -o b -highest -thin_raw 10 = las2las a b [] [] plain 50000 1 Highest 10 once
+las2las -drop_repeated -i a -o b -tally return -tally class = las2las a b [] [] plain 50000 1 once [return, class]
 laszip -i a -o b -stop_at_point 1 = usage 5
 lasinfo -i a -start_at_point 1 = usage 3
 lasinfo = usage 1
@@ -384,13 +399,19 @@ fn line_of(alloc: Global, command: Command) -> Result<String, AllocError> {
             workers,
             start,
             stop,
+            step,
+            pick,
+            unique,
+            tallies,
         } => {
             let packing = packing_in(alloc, packing)?;
             let range = range_in(alloc, start, stop)?;
+            let sieve = sieve_in(alloc, step, pick, unique)?;
+            let names = tallies_in(alloc, &tallies)?;
             let keeps = plan.keeps;
             let changes = plan.changes;
             format!(in alloc;
-                "las2las {input} {output} {keeps:?} {changes:?} {packing} {workers}{range}"
+                "las2las {input} {output} {keeps:?} {changes:?} {packing} {workers}{range}{sieve}{names}"
             )
         }
         Command::Lasinfo {
@@ -456,6 +477,29 @@ fn range_in(alloc: Global, start: u32, stop: u32) -> Result<String, AllocError> 
         return Ok(String::new(alloc));
     }
     format!(in alloc; " {start} {stop}")
+}
+
+// A sieve after a blank, if it does not let every record pass.
+fn sieve_in(
+    alloc: Global,
+    step: Option<u32>,
+    pick: Pick,
+    unique: bool,
+) -> Result<String, AllocError> {
+    let once = if unique { " once" } else { "" };
+    match step {
+        Some(step) => format!(in alloc; " {pick:?} {step}{once}"),
+        None => String::from_str(alloc, once),
+    }
+}
+
+// Names in brackets after a blank, if there are any.
+fn tallies_in(alloc: Global, names: &[String]) -> Result<String, AllocError> {
+    if names.is_empty() {
+        return Ok(String::new(alloc));
+    }
+    let names = joined(alloc, names)?;
+    format!(in alloc; " {names}")
 }
 
 // Names in brackets.

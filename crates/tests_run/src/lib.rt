@@ -18,6 +18,8 @@ mod own_tap;
 #[cfg(test)]
 mod range_rows;
 #[cfg(test)]
+mod thin_rows;
+#[cfg(test)]
 mod tool_faults;
 #[cfg(test)]
 mod tool_rows;

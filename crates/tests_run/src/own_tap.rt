@@ -85,5 +85,14 @@ fn a_tap_that_has_counted_before(rt: HostRuntime) -> Result<(), Fail> {
     }
     assert_eq!(rt; told(&rt, alloc, &words, &mut files, &mut out)?, 0);
     assert!(rt; out.bytes().ends_with(b"tally parity\n1 4\n"));
+    let mut out = MemSink::with_room(alloc, 1000)?;
+    let line = "las2las -i a -o b -translate_raw_x 1 -tally parity";
+    files.prepare("b", 1000)?;
+    words.clear();
+    for word in line.split_whitespace() {
+        words.push(String::from_str(alloc, word)?)?;
+    }
+    assert_eq!(rt; told(&rt, alloc, &words, &mut files, &mut out)?, 0);
+    assert!(rt; out.bytes() == b"tally parity\n0 1\n1 3\n".as_slice());
     Ok(())
 }

@@ -1,13 +1,14 @@
-use Rattle.std.proofs.Common.{◌≡◌, false, ℕ, List, length, ◌+◌, ◌≤◌}
+use Rattle.std.proofs.Common.{◌≡◌, false, ℕ, List, [], length, map, ◌+◌, ◌≤◌}
 use Rattle.std.specs.List.{concat}
 use Rattle.las_filter.specs.Kept.{steps_of}
 use Rattle.las_outside.specs.Files.{WhereKnown}
 use Rattle.las_outside.specs.Outside.{Later}
+use Rattle.las_thin.specs.Placed.{Placed}
 use Rattle.laz_file.specs.Asking.{bytes_left}
 use Rattle.laz_file.specs.Copying.{CanTake}
 use Rattle.laz_file.specs.Reading.{IsCrewOf, StandsFor}
 use Rattle.laz_file.proofs.Copies.{HasRead}
-use Rattle.las_convert.specs.Adding.{Goes}
+use Rattle.las_convert.specs.Adding.{Goes, HaveCounted, IsAfter, cut_all, kept_by}
 use Rattle.las_convert.proofs.copying.convert_records.Given as goal
 
 abbrev pub invariant-batches : goal.invariant-batches
@@ -16,8 +17,13 @@ invariant-batches g l = record {
   crew : IsCrewOf l.reader l.crew;
   reads : WhereKnown (g.F.Files.seen l.files).held l.reader.name (StandsFor l.reader);
   can : CanTake l.reader l.writer;
-  converted : (n : ℕ) × (blocks : List (List ℕ)) × HasRead (g.F.Files.seen l.fn.files).held l.fn.reader l.reader n blocks
-      × Goes (steps_of l.plan) l.fn.writer.size (concat blocks) (g.F.Files.seen l.fn.files) (g.F.Files.seen l.files) l.fn.writer l.writer l.kept false;
+  settings : l.passage.sieve.settings ≡ l.fn.passage.sieve.settings;
+  counted : HaveCounted l.passage.read (map (λ tap. (goal.Tap-dyn g (tap.vtable, tap.value)).tap_seen tap.value) l.passage.taps.items);
+  converted : (looked : List Placed) → IsAfter (steps_of l.plan) looked [] l.fn.passage.sieve l.fn.passage.read
+      → (n : ℕ) × (blocks : List (List ℕ)) × HasRead (g.F.Files.seen l.fn.files).held l.fn.reader l.reader n blocks
+      × Goes (kept_by l.fn.passage.sieve.settings looked (steps_of l.plan)) [] l.fn.writer.size (concat blocks) (g.F.Files.seen l.fn.files) (g.F.Files.seen l.files) l.fn.writer l.writer
+      (map (λ tap. (goal.Tap-dyn g (tap.vtable, tap.value)).tap_seen tap.value) l.fn.passage.taps.items) (map (λ tap. (goal.Tap-dyn g (tap.vtable, tap.value)).tap_seen tap.value) l.passage.taps.items) l.kept false
+      × IsAfter (steps_of l.plan) looked (cut_all l.fn.writer.size (concat blocks)) l.passage.sieve l.passage.read;
   reads_calm : (g.F.Files.seen l.files).read_faults ≡ (g.F.Files.seen l.fn.files).read_faults;
   writes_calm : (g.F.Files.seen l.files).write_faults ≡ (g.F.Files.seen l.fn.files).write_faults;
   later : Later (g.F.Files.seen l.fn.files) (g.F.Files.seen l.files);

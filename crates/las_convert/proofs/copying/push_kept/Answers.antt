@@ -1,52 +1,43 @@
-use Rattle.std.proofs.Common.{◌≤◌, ◌∙◌, [], length, take, Err, refl, sym, ap, subst, arith}
+use Rattle.std.proofs.Common.{◌≤◌, ◌<◌, ◌+◌, ◌/◌, ◌%◌, ◌^◌, ◌∙◌, ℕ, List, [], length, map, take, sym, ap, subst, arith}
+use Rattle.std.proofs.Math.Nat.{mul-mod_right}
 use Rattle.std.proofs.lemmas.List.{append-nil}
 use Rattle.las_filter.specs.Kept.{steps_of}
-use Rattle.laz_file.specs.Copying.{LeavesPart}
-use Rattle.laz_file.proofs.Putting.{if_err}
-use Rattle.laz_file.proofs.Taking.{cause_push, on_err, part_push, takes_push}
-use Rattle.las_convert.specs.Adding.{cut_all}
+use Rattle.las_info.specs.Tallies.{TapSeen}
+use Rattle.laz_file.specs.Copying.{LeavesPart, Takes}
+use Rattle.laz_file.proofs.Taking.{on_err, part_push, takes_push}
+use Rattle.las_convert.specs.Adding.{HaveCounted, cut_all, kept_by}
 use Rattle.las_convert.proofs.Asked.{stands_asked, stops_asked}
-use Rattle.las_convert.proofs.Going.{kept_even, kept_goes}
+use Rattle.las_convert.proofs.Going.{few_ones, kept_even, kept_goes, leaves_none, leaves_taken}
+use Rattle.las_convert.proofs.Shown.{room_seen, seen_by, shown_as}
 use Rattle.las_convert.proofs.copying.push_kept.Goals as goal
+
+pub returns-in_err-part-clause-left : goal.returns-in_err-part-clause-left
+returns-in_err-part-clause-left g c looked before is =
+    on_err c.from_residual.result (leaves_none (kept_by c.args.passage.now.sieve.settings looked (steps_of c.args.plan.now)) before c.args.size c.args.block.now (g.F.Files.seen c.args.files.now) c.args.writer.now)
 
 pub push-requires-clause-whole : goal.push-requires-clause-whole
 push-requires-clause-whole g c κs within =
-    let k = c.keep_records-part.ensures.kept in
-    let fits : c.keep_records-part.result.length ≤ length c.keep_records-part.new.buffer = omega (arith, c.keep_records-part.ensures.within, c.keep_records-part.auto.buffer, c.requires.fits) in
-    kept_even c.args.size c.keep_records-part.result.length c.args.writer.now.size c.keep_records-part.new.buffer k.0 fits k.2 c.requires.same
+    let a = c.requires.after in
+    let k = c.in_ok-part.ensures.kept a.0 a.1 a.2 in
+    let fits : c.in_ok-part.part.length ≤ length c.deref.result.now = omega (arith, c.in_ok-part.ensures.long, ap (λ (b : List ℕ). length b) c.deref.ensures.value) in
+    kept_even c.args.size c.in_ok-part.part.length c.args.writer.now.size c.deref.result.now k.0 fits k.2 c.requires.same
 
 pub returns-in_err-push-clause-left : goal.returns-in_err-push-clause-left
-returns-in_err-push-clause-left g c =
+returns-in_err-push-clause-left g c looked before is =
     let old = g.F.Files.seen c.args.files.now in
     let new = g.F.Files.seen c.push.new.files in
-    let k = c.keep_records-part.ensures.kept in
-    let pushed = take c.keep_records-part.result.length c.keep_records-part.new.buffer in
-    on_err c.from_residual.result (record {
+    let k = c.in_ok-part.ensures.kept looked before is in
+    let len = c.in_ok-part.part.length in
+    let pushed = take len c.deref.result.now in
+    on_err c.from_residual-in_err-push.result (record {
       first = cut_all c.args.size c.args.block.now;
       rest = [];
       ones = k.0;
-      refused = c.keep_records-part.result.refused;
+      refused = c.in_ok-part.part.refused;
       split = sym (append-nil (cut_all c.args.size c.args.block.now));
       adds = k.3;
-      part = subst (LeavesPart old new c.args.writer.now) k.1 (part_push old new c.args.writer.now pushed c.in_err-push.field-0.0 c.in_err-push.ensures.stopped);
+      part = subst (LeavesPart old new c.args.writer.now) (ap (take len) c.deref.ensures.value ∙ k.1) (part_push old new c.args.writer.now pushed c.in_err-push.field-0.0 c.in_err-push.ensures.stopped);
     })
-
-pub returns-clause-goes : goal.returns-clause-goes
-returns-clause-goes g c =
-    let old = g.F.Files.seen c.args.files.now in
-    let new = g.F.Files.seen c.push.new.files in
-    let k = c.keep_records-part.ensures.kept in
-    let len = c.keep_records-part.result.length in
-    let buffer = c.keep_records-part.new.buffer in
-    let fits : len ≤ length buffer = omega (arith, c.keep_records-part.ensures.within, c.keep_records-part.auto.buffer, c.requires.fits) in
-    kept_goes (steps_of c.args.plan.now) c.args.size len c.args.block.now buffer k.0 old new c.args.writer.now c.push.new.self c.keep_records-part.result.refused (omega (arith, c.requires.size)) c.keep_records-part.ensures.within fits k.1 k.2 k.3
-    (takes_push old new c.args.writer.now c.push.new.self (take len buffer) c.in_ok-push.ensures.stands)
-
-pub returns-in_err-push-clause-cause : goal.returns-in_err-push-clause-cause
-returns-in_err-push-clause-cause g c =
-    let old = g.F.Files.seen c.args.files.now in
-    if_err _ c.from_residual.result _ c.from_residual.ensures.1
-    (cause_push old old (g.F.Files.seen c.push.new.files) c.in_err-push.field-0.0 c.in_err-push.ensures.fault (λ e. c.in_err-push.ensures.write (ap Err e)) refl)
 
 pub returns-in_err-push-clause-asked : goal.returns-in_err-push-clause-asked
 returns-in_err-push-clause-asked g c =
@@ -54,3 +45,45 @@ returns-in_err-push-clause-asked g c =
     let s = c.requires.stands in
     let stops = c.in_err-push.ensures.stopped s.0 s.1 s.2 s.3 in
     stops_asked c.in_err-push.field-0.0 _ (g.F.Files.seen c.push.new.files) stops.1 ∙ sym (stands_asked s.0 old c.args.writer.now s.1 s.2 s.3)
+
+pub show-requires-clause-whole : goal.show-requires-clause-whole
+show-requires-clause-whole g c =
+    let a = c.requires.after in
+    let k = c.in_ok-part.ensures.kept a.0 a.1 a.2 in
+    ap (λ (n : ℕ). n % c.args.size) k.2 ∙ mul-mod_right c.args.size (length k.0)
+
+pub show-requires-clause-room : goal.show-requires-clause-room
+show-requires-clause-room g c =
+    let a = c.requires.after in
+    let k = c.in_ok-part.ensures.kept a.0 a.1 a.2 in
+    let f = few_ones c.args.size c.in_ok-part.part.length (length c.args.block.now) (length k.0) (omega (arith, c.requires.size)) k.2 c.in_ok-part.ensures.within in
+    let few : c.args.passage.now.read + c.in_ok-part.part.length / c.args.size < 2 ^ 63 = omega (arith, c.requires.few, f.0, f.1) in
+    room_seen (λ tap. (goal.Tap-dyn g (tap.vtable, tap.value)).tap_seen tap.value) c.keep.new.self.taps.items c.args.passage.now.read (c.in_ok-part.part.length / c.args.size) few
+    (subst (λ xs. HaveCounted c.args.passage.now.read (map (λ tap. (goal.Tap-dyn g (tap.vtable, tap.value)).tap_seen tap.value) xs)) (sym c.in_ok-part.ensures.taps) c.requires.counted)
+
+pub returns-in_err-show-clause-left : goal.returns-in_err-show-clause-left
+returns-in_err-show-clause-left g c looked before is =
+    let old = g.F.Files.seen c.args.files.now in
+    let new = g.F.Files.seen c.push.new.files in
+    let k = c.in_ok-part.ensures.kept looked before is in
+    let len = c.in_ok-part.part.length in
+    let buffer = c.deref.result.now in
+    on_err c.from_residual-in_err-show.result
+    (leaves_taken (kept_by c.args.passage.now.sieve.settings looked (steps_of c.args.plan.now)) before c.args.size len c.args.block.now buffer k.0 old new c.args.writer.now c.push.new.self c.in_ok-part.part.refused
+    (ap (take len) c.deref.ensures.value ∙ k.1) k.3 (takes_push old new c.args.writer.now c.push.new.self (take len buffer) c.in_ok-push.ensures.stands))
+
+pub returns-clause-goes : goal.returns-clause-goes
+returns-clause-goes g c looked before is =
+    let old = g.F.Files.seen c.args.files.now in
+    let new = g.F.Files.seen c.push.new.files in
+    let size = c.args.size in
+    let k = c.in_ok-part.ensures.kept looked before is in
+    let len = c.in_ok-part.part.length in
+    let buffer = c.keep.new.self.buffer.items in
+    let same = c.deref.ensures.value in
+    let fits : len ≤ length buffer = omega (arith, c.in_ok-part.ensures.long, c.deref.ensures.len, ap (λ (b : List ℕ). length b) same) in
+    let seen : List TapSeen = map (λ tap. (goal.Tap-dyn g (tap.vtable, tap.value)).tap_seen tap.value) c.show.new.self.taps.items in
+    let shown = shown_as (λ tap. (goal.Tap-dyn g (tap.vtable, tap.value)).tap_seen tap.value) size (take len buffer) c.keep.new.self.taps.items seen c.in_ok-show.ensures.shown in
+    kept_goes (kept_by c.args.passage.now.sieve.settings looked (steps_of c.args.plan.now)) before size len c.args.block.now buffer k.0 old new c.args.writer.now c.push.new.self c.in_ok-part.part.refused (omega (arith, c.requires.size)) c.in_ok-part.ensures.within fits k.1 k.2 k.3
+    (subst (λ (b : List ℕ). Takes old new c.args.writer.now c.push.new.self (take len b)) same (takes_push old new c.args.writer.now c.push.new.self (take len c.deref.result.now) c.in_ok-push.ensures.stands))
+    (shown ∙ ap (λ xs. seen_by size (take len buffer) (map (λ tap. (goal.Tap-dyn g (tap.vtable, tap.value)).tap_seen tap.value) xs)) c.in_ok-part.ensures.taps)

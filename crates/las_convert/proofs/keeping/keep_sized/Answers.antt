@@ -1,18 +1,36 @@
-use Rattle.std.proofs.Common.{◌≡◌, ◌+◌, ◌*◌, ◌-◌, ◌/◌, ◌≤◌, length, refl, sym, ◌∙◌, subst, ℕ, List, arith}
-use Rattle.las_filter.specs.Kept.{steps_of}
-use Rattle.las_convert.proofs.Cuts.{KeptSo, block_fits, kept_dropped, kept_more, kept_refused, rest_next}
+use Rattle.std.proofs.Common.{◌≡◌, ◌+◌, ◌*◌, ◌-◌, ◌/◌, ◌≤◌, ◌++◌, length, refl, sym, ◌∙◌, subst, ℕ, List, arith}
+use Rattle.las_filter.specs.Filters.{keeps_all}
+use Rattle.las_filter.specs.Changes.{changed}
+use Rattle.las_filter.specs.Kept.{kept, steps_of}
+use Rattle.las_filter.proofs.Keeping.{grows}
+use Rattle.las_header.specs.Plain.{cut_records}
+use Rattle.las_convert.specs.Adding.{AddsAlways}
+use Rattle.las_convert.proofs.Adding.{adds_none, plan_keeps}
+use Rattle.las_convert.proofs.Cuts.{KeptSo, block_fits, kept_dropped, kept_first, kept_more, kept_refused, next_dropped, next_kept, next_refused, none_yet, rest_next}
 use Rattle.las_convert.proofs.keeping.keep_sized.Goals as goal
 use Rattle.las_convert.proofs.keeping.keep_sized.Goals.{then-keeps+in-Ok, else-keeps}
 
+pub loop-turn-init : goal.loop-turn-init
+loop-turn-init c = record {
+  rest = none_yet c.args.size c.args.block.now;
+  at = omega arith;
+  kept = kept_first (AddsAlways (steps_of c.args.plan.now)) c.args.size c.args.block.now c.args.buffer.now (λ before. adds_none (kept (steps_of c.args.plan.now)) before);
+}
+
 pub returns-in-Err-clause-kept : goal.returns-in-Err-clause-kept
 returns-in-Err-clause-kept c =
+    let plan = steps_of c.args.plan.now in
     let size = c.args.size in
+    let block = c.args.block.now in
     let at = c.loop-turn.at in
     let t = c.loop-turn._turn in
-    let n = length c.args.block.now / size in
-    let within : at ≤ length c.loop-turn.buffer = omega (arith, c.loop-turn.invariant.at, c.loop-turn.auto.buffer, block_fits size t c.args.block.now c.requires.whole c.loop-turn-test.true, c.requires.room) in
-    kept_refused (steps_of c.args.plan.now) size t at c.args.block.now c.loop-turn.buffer c.loop-turn.rest.now c.split_at.result.0.now c.loop-turn.invariant.kept c.loop-turn.invariant.rest c.split_at.ensures.front
-    (at + size - at) n c.put_changed.new.place (sym c.if-keeps.ensures) (c.in-Err.ensures.refused.0 refl) within c.loop-turn-test.true
+    let n = length block / size in
+    let point = c.split_at.result.0.now in
+    let within : at ≤ length c.loop-turn.buffer = omega (arith, c.loop-turn.invariant.at, c.loop-turn.auto.buffer, block_fits size t block c.requires.whole c.loop-turn-test.true, c.requires.room) in
+    kept_refused (AddsAlways plan) size t at block c.loop-turn.buffer c.loop-turn.invariant.kept (at + size - at) n c.put_changed.new.place
+    (λ ones adds before. next_refused (kept plan) before size t block c.loop-turn.rest.now point c.loop-turn.invariant.rest c.split_at.ensures.front (keeps_all plan.keeps point) (changed plan.changes point) (grows plan (before ++ cut_records size t block) point) ones (adds before) (plan_keeps plan) n
+    (sym c.if-keeps.ensures) (c.in-Err.ensures.refused.0 refl) c.loop-turn-test.true)
+    within
 
 pub loop-turn-preserved : goal.loop-turn-preserved
 loop-turn-preserved c =
@@ -24,6 +42,7 @@ loop-turn-preserved c =
     let so = c.loop-turn.invariant.kept in
     let left = c.loop-turn.invariant.rest in
     let first = c.split_at.ensures.front in
+    let point = c.split_at.result.0.now in
     let within : at ≤ length c.loop-turn.buffer = omega (arith, c.loop-turn.invariant.at, c.loop-turn.auto.buffer, block_fits size t block c.requires.whole c.loop-turn-test.true, c.requires.room) in
     let long : size * (t + 1) ≡ size * t + size = omega arith in
     record {
@@ -33,10 +52,13 @@ loop-turn-preserved c =
         | then-keeps+in-Ok w ↦
             let new = w.put_changed.new.place in
             let size_is : length new ≡ size = w.put_changed.ensures.size ∙ c.split_at.ensures.front_len in
-            let here = kept_more plan size t at block c.loop-turn.buffer c.loop-turn.rest.now c.split_at.result.0.now so left first (at + size - at) new (sym w.if-keeps.ensures) w.in-Ok.ensures.made size_is within in
-            subst (λ (n : ℕ). KeptSo plan size (t + 1) n block c.if-keeps.buffer) (sym w.at-is) (subst (λ (b : List ℕ). KeptSo plan size (t + 1) (at + size) block b) (sym w.buffer-is) here)
+            let here = kept_more (AddsAlways plan) size t at block c.loop-turn.buffer so (at + size - at) new
+            (λ ones adds before. next_kept (kept plan) before size t block c.loop-turn.rest.now point left first (keeps_all plan.keeps point) (changed plan.changes point) (grows plan (before ++ cut_records size t block) point) ones (adds before) new (sym w.if-keeps.ensures) w.in-Ok.ensures.made)
+            size_is within in
+            subst (λ (n : ℕ). KeptSo (AddsAlways plan) size (t + 1) n block c.if-keeps.buffer) (sym w.at-is) (subst (λ (b : List ℕ). KeptSo (AddsAlways plan) size (t + 1) (at + size) block b) (sym w.buffer-is) here)
         | else-keeps w ↦
-            let here = kept_dropped plan size t at block c.loop-turn.buffer c.loop-turn.rest.now c.split_at.result.0.now so left first (sym c.keeps.ensures ∙ w.if-keeps.false) in
-            subst (λ (n : ℕ). KeptSo plan size (t + 1) n block c.if-keeps.buffer) (sym w.at-is) (subst (λ (b : List ℕ). KeptSo plan size (t + 1) at block b) (sym w.buffer-is) here)
+            let here = kept_dropped (AddsAlways plan) size t at block c.loop-turn.buffer so
+            (λ ones adds before. next_dropped (kept plan) before size t block c.loop-turn.rest.now point left first (keeps_all plan.keeps point) (changed plan.changes point) (grows plan (before ++ cut_records size t block) point) ones (adds before) (sym c.keeps.ensures ∙ w.if-keeps.false)) in
+            subst (λ (n : ℕ). KeptSo (AddsAlways plan) size (t + 1) n block c.if-keeps.buffer) (sym w.at-is) (subst (λ (b : List ℕ). KeptSo (AddsAlways plan) size (t + 1) at block b) (sym w.buffer-is) here)
       ];
     }

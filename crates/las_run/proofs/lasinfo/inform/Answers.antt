@@ -12,8 +12,8 @@ use Rattle.las_info.specs.Report.{report_text, tally_text}
 use Rattle.las_info.specs.Surveys.{IsShown, SurveySeen}
 use Rattle.las_info.specs.Tallies.{TapSeen, count_at}
 use Rattle.las_words.specs.Texts.{texts}
-use Rattle.las_run.specs.Ends.{Change, EndsPutting}
-use Rattle.las_run.proofs.Reporting.{chosen, distinct, ends_reporting, ends_surveying, holds_of_chosen, lines_seen, some_text, survey_text, there}
+use Rattle.las_run.specs.Ends.{Change, EndsMaking}
+use Rattle.las_run.proofs.Reporting.{chosen, distinct, ends_reporting, ends_surveying, holds_of_chosen, leaves, lines_seen, some_text, survey_text, there}
 use Rattle.las_run.proofs.lasinfo.inform.Goals as goal
 
 pub choose-requires-clause-there : goal.choose-requires-clause-there
@@ -60,8 +60,8 @@ returns-in-Ok-survey-clause-ends g c =
     × IsShown ts (records_after (head_of file) (concat blocks)) survey))
     (chosen (λ tap. (goal.Tap-dyn g (tap.vtable, tap.value)).tap_seen tap.value) string_bytes c.args.taps.items c.args.tallies.now c.in-Ok.chosen.items c.in-Ok.ensures)
     h.surveyed in
-    subst (EndsPutting (Reports taps reader.name tallies) reader.name change) (sym c.put.ensures)
-    (ends_reporting taps tallies reader change c.requires.stands survey text c.report.result surveyed is (some_text c.head.result.now.bytes chunks survey.summary lines)
+    subst (EndsMaking (Reports taps reader.name tallies) reader.name change) (sym c.put.ensures)
+    (ends_reporting taps tallies reader change c.requires.stands h.held survey text c.report.result surveyed is (some_text c.head.result.now.bytes chunks survey.summary lines)
     c.report.ensures.put c.report.ensures.failed c.report.ensures.memory)
 
 pub returns-clause-ends : goal.returns-clause-ends
@@ -76,10 +76,21 @@ returns-clause-ends g c =
       out = g.O.Sink.seen c.args.out.now;
       out_now = g.O.Sink.seen c.args.out.now;
     } in
-    subst (λ (s : Stop). EndsPutting (Reports taps reader.name tallies) reader.name change (Err s)) (sym c.stop.ensures)
-    (ends_surveying taps tallies reader change c.requires.stands c.in-Err-survey.fault
+    subst (λ (s : Stop). EndsMaking (Reports taps reader.name tallies) reader.name change (Err s)) (sym c.stop.ensures)
+    (ends_surveying taps tallies reader change c.requires.stands h.held c.in-Err-survey.fault
     (λ cause is. h.refused cause (c.in-Err-survey.is ∙ ap Err is))
     (λ cause is. h.bad cause (c.in-Err-survey.is ∙ ap Err is))
     (λ is. h.read (c.in-Err-survey.is ∙ ap Err is))
     (λ is. h.never (c.in-Err-survey.is ∙ ap Err is))
     refl)
+
+pub returns-in-Err-clause-ends : goal.returns-in-Err-clause-ends
+returns-in-Err-clause-ends g c =
+    let taps : List TapSeen = map (λ tap. (goal.Tap-dyn g (tap.vtable, tap.value)).tap_seen tap.value) c.args.taps.items in
+    let change : Change = record {
+      files = g.F.Files.seen c.args.files.now;
+      files_now = g.F.Files.seen c.args.files.now;
+      out = g.O.Sink.seen c.args.out.now;
+      out_now = g.O.Sink.seen c.args.out.now;
+    } in
+    (leaves taps (texts c.args.tallies.now) c.args.reader change c.requires.stands refl, refl)

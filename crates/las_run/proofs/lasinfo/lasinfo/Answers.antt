@@ -1,14 +1,14 @@
-use Rattle.std.proofs.Common.{◌≡◌, List, ℕ, map, subst, ◌∙◌}
+use Rattle.std.proofs.Common.{◌≡◌, List, ℕ, map, subst}
 use Rattle.std.proofs.lemmas.Result.{err_from_is_err_and}
 use Rattle.las_words.specs.Asked.{Asked, lasinfo, reads}
 use Rattle.las_words.specs.Texts.{texts}
 use Rattle.laz_file.specs.Reading.{StandsFor}
 use Rattle.laz_file.specs.Refusing.{IsAcceptedFile}
-use Rattle.las_run.specs.Ends.{Change, EndsPutting}
+use Rattle.las_run.specs.Ends.{Change, EndsMaking}
 use Rattle.las_run.specs.Runs.{task_with}
 use Rattle.las_run.specs.Tools.{Reports}
 use Rattle.las_run.proofs.Commands.{reads_one}
-use Rattle.las_run.proofs.Opening.{ends_opening, ends_putting, known_more, putting_after}
+use Rattle.las_run.proofs.Opening.{ends_making, ends_opening, known_more, making_after}
 use Rattle.las_run.proofs.lasinfo.lasinfo.Goals as goal
 
 pub returns-in_err-reader-clause-ends : goal.returns-in_err-reader-clause-ends
@@ -34,7 +34,7 @@ returns-clause-ends g c =
     let asked : Asked = record { work = reads input (lasinfo (record { tallies = tallies })); workers = c.args.workers } in
     let named : r.name ≡ input = h.fresh.named in
     let change : Change = record { files = old; files_now = new; out = out; out_now = out_now } in
-    let made = subst (λ (n : List ℕ). EndsPutting (Reports taps n tallies) n (record { files = mid; files_now = new; out = out; out_now = out_now }) c.inform.result) named c.inform.ensures.ends in
-    let ends = putting_after (Reports taps input tallies) input old mid new out out_now h.held h.faults c.inform.result made in
+    let made = subst (λ (n : List ℕ). EndsMaking (Reports taps n tallies) n (record { files = mid; files_now = new; out = out; out_now = out_now }) c.inform.result) named c.inform.ensures.ends in
+    let ends = making_after (Reports taps input tallies) input new out out_now old mid h.held h.faults h.writes c.inform.result made in
     let accepted = known_more old.held input (StandsFor r) IsAcceptedFile (λ file s. s.accepted) h.stands in
-    ends_putting (task_with taps asked) input (Reports taps input (texts c.args.tallies.now)) (reads_one taps input (lasinfo (record { tallies = texts c.args.tallies.now })) c.args.workers) change accepted (c.inform.ensures.held ∙ h.held) c.inform.result ends
+    ends_making (task_with taps asked) input (Reports taps input (texts c.args.tallies.now)) (reads_one taps input (lasinfo (record { tallies = texts c.args.tallies.now })) c.args.workers) change accepted c.inform.result ends

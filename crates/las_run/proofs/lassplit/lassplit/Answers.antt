@@ -1,19 +1,16 @@
-use Rattle.std.proofs.Common.{◌≡◌, ◌≢◌, [], ◌∷◌, List, ℕ, Option, Result, Err, refl, sym, subst}
+use Rattle.std.proofs.Common.{[], ◌∷◌, List, ℕ, Result, refl, sym, subst}
 use Rattle.std.specs.Prelude.{string_bytes}
 use Rattle.std.proofs.lemmas.Result.{err_from_is_err_and}
-use Rattle.las_outside.specs.Files.{FileMap, WhereKnown}
 use Rattle.las_words.specs.Asked.{Asked, LassplitOptions, lassplit, reads}
-use Rattle.laz_file.specs.declared.fault.Fault.TheVariants.{Write}
 use Rattle.laz_file.specs.Reading.{StandsFor}
 use Rattle.laz_file.specs.Refusing.{IsAcceptedFile}
 use Rattle.las_run.specs.declared.stop.Stop.{Stop}
-use Rattle.las_run.specs.Endings.{Ending}
-use Rattle.las_run.specs.Ends.{Ends, EndsMaking, cause_of, quiet}
+use Rattle.las_run.specs.Ends.{Ends, EndsMaking, cause_of, quiet, stopped_by}
 use Rattle.las_run.specs.Runs.{task_with}
 use Rattle.las_run.specs.Tools.{Splits}
 use Rattle.las_run.proofs.Commands.{reads_one}
 use Rattle.las_run.proofs.Endings.{left_before}
-use Rattle.las_run.proofs.Opening.{ends_opening, ends_writing, known_more, making_after}
+use Rattle.las_run.proofs.Opening.{ends_making, ends_opening, known_more, making_after}
 use Rattle.las_run.proofs.lassplit.lassplit.Goals as goal
 
 pub returns-in_err-reader-clause-ends : goal.returns-in_err-reader-clause-ends
@@ -49,18 +46,13 @@ returns-clause-ends g c =
     let rule = c.args.rule.now in
     let options : LassplitOptions = record { stem = stem; end = end; rule = rule } in
     let asked : Asked = record { work = reads input (lassplit options); workers = c.args.workers } in
-    let outcome = c.write_parts.result in
+    let outcome = stopped_by 0 c.write_parts.result in
     let names = c.in-Ok.names in
-    let made = subst (λ (e : List ℕ). EndsMaking (Splits input stem e rule) input mid new outcome) c.in-Ok.ensures.end
-    (subst (λ (s : List ℕ). EndsMaking (Splits input s (string_bytes names.end) rule) input mid new outcome) c.in-Ok.ensures.stem
-    (subst (λ (n : List ℕ). EndsMaking (Splits n (string_bytes names.stem) (string_bytes names.end) rule) n mid new outcome) h.fresh.named c.write_parts.ensures.ends)) in
-    let ends = making_after (Splits input stem end rule) input old mid new h.held h.faults h.writes outcome made in
-    let HasOutputs = λ (n s e : List ℕ) (file : List ℕ). (ending : Ending) → Splits n s e rule file ending → ending.outputs ≢ [] in
-    let some : outcome ≡ Err Write → WhereKnown old.held input (HasOutputs input stem end) = λ is.
-    subst (λ (f : Option FileMap). WhereKnown f input (HasOutputs input stem end)) h.held
-    (subst (λ (e : List ℕ). WhereKnown mid.held input (HasOutputs input stem e)) c.in-Ok.ensures.end
-    (subst (λ (s : List ℕ). WhereKnown mid.held input (HasOutputs input s (string_bytes names.end))) c.in-Ok.ensures.stem
-    (subst (λ (n : List ℕ). WhereKnown mid.held n (HasOutputs n (string_bytes names.stem) (string_bytes names.end))) h.fresh.named (c.write_parts.ensures.some is)))) in
     let accepted = known_more old.held input (StandsFor r) IsAcceptedFile (λ file s. s.accepted) h.stands in
-    λ taps out. subst (λ (o : Result (Unit {0}) Stop). Ends (task_with taps asked) (quiet old new out) (cause_of (input ∷ []) o)) (sym c.stopped.ensures)
-    (ends_writing (task_with taps asked) input (Splits input stem end rule) (reads_one taps input (lassplit options) c.args.workers) old new out accepted outcome some ends)
+    λ taps out.
+    let made = subst (λ (e : List ℕ). EndsMaking (Splits input stem e rule) input (quiet mid new out) outcome) c.in-Ok.ensures.end
+    (subst (λ (s : List ℕ). EndsMaking (Splits input s (string_bytes names.end) rule) input (quiet mid new out) outcome) c.in-Ok.ensures.stem
+    (subst (λ (n : List ℕ). EndsMaking (Splits n (string_bytes names.stem) (string_bytes names.end) rule) n (quiet mid new out) outcome) h.fresh.named (c.write_parts.ensures.ends out))) in
+    let ends = making_after (Splits input stem end rule) input new out out old mid h.held h.faults h.writes outcome made in
+    subst (λ (o : Result (Unit {0}) Stop). Ends (task_with taps asked) (quiet old new out) (cause_of (input ∷ []) o)) (sym c.stopped.ensures)
+    (ends_making (task_with taps asked) input (Splits input stem end rule) (reads_one taps input (lassplit options) c.args.workers) (quiet old new out) accepted outcome ends)

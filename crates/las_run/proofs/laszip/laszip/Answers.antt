@@ -4,11 +4,9 @@ use Rattle.las_words.specs.Asked.{Asked, LaszipOptions, laszip, reads}
 use Rattle.laz_file.specs.Reading.{StandsFor}
 use Rattle.laz_file.specs.Refusing.{IsAcceptedFile}
 use Rattle.las_run.specs.declared.stop.Stop.{Stop}
-use Rattle.las_run.specs.Ends.{Ends, EndsMaking, cause_of, quiet}
+use Rattle.las_run.specs.Ends.{Ends, EndsMaking, cause_of, quiet, stopped_by}
 use Rattle.las_run.specs.Runs.{task_with}
 use Rattle.las_run.specs.Tools.{Zips}
-use Rattle.las_header.specs.Fields.{head_of, is_packed}
-use Rattle.las_run.proofs.Making.{zips_output}
 use Rattle.las_run.proofs.Commands.{reads_one}
 use Rattle.las_run.proofs.Opening.{ends_making, ends_opening, known_more, making_after}
 use Rattle.las_run.proofs.laszip.laszip.Goals as goal
@@ -35,8 +33,10 @@ returns-clause-ends g c =
     let options : LaszipOptions = record { output = output; chunk = chunk } in
     let asked : Asked = record { work = reads input (laszip options); workers = c.args.workers } in
     let named : r.name ≡ input = h.fresh.named in
-    let made = subst (λ (n : List ℕ). EndsMaking (Zips n output chunk) n mid new c.zip.result) named c.zip.ensures.ends in
-    let ends = making_after (Zips input output chunk) input old mid new h.held h.faults h.writes c.zip.result made in
     let accepted = known_more old.held input (StandsFor r) IsAcceptedFile (λ file s. s.accepted) h.stands in
-    λ taps out. subst (λ (o : Result (Unit {0}) Stop). Ends (task_with taps asked) (quiet old new out) (cause_of (input ∷ []) o)) (sym c.stopped.ensures)
-    (ends_making (task_with taps asked) input (Zips input output chunk) (reads_one taps input (laszip options) c.args.workers) old new out accepted (λ file ending makes. zips_output (is_packed (head_of file)) input output chunk file ending makes) c.zip.result ends)
+    λ taps out.
+    let outcome = stopped_by 0 c.zip.result in
+    let made = subst (λ (n : List ℕ). EndsMaking (Zips n output chunk) n (quiet mid new out) outcome) named (c.zip.ensures.ends out) in
+    let ends = making_after (Zips input output chunk) input new out out old mid h.held h.faults h.writes outcome made in
+    subst (λ (o : Result (Unit {0}) Stop). Ends (task_with taps asked) (quiet old new out) (cause_of (input ∷ []) o)) (sym c.stopped.ensures)
+    (ends_making (task_with taps asked) input (Zips input output chunk) (reads_one taps input (laszip options) c.args.workers) (quiet old new out) accepted outcome ends)

@@ -10,7 +10,8 @@ use Rattle.las_make.specs.declared.settings.Settings.{Settings}
 use Rattle.las_run.specs.Ends.{Change, Ends, cause_of}
 use Rattle.las_run.specs.Asking.{WorkAsks}
 use Rattle.las_run.specs.Runs.{task_with}
-use Rattle.las_run.specs.Tools.{options_with}
+use Rattle.las_run.specs.declared.conversion.Conversion.{Conversion}
+use Rattle.las_run.specs.Tools.{las2las_options, options_with}
 use Rattle.las_run.proofs.Saying.{by_task}
 use Rattle.las_run.proofs.top_call.obey.Goals as goal
 
@@ -25,10 +26,23 @@ returns-in-Laszip-clause-ends g c =
 pub returns-in-Las2las-clause-ends : goal.returns-in-Las2las-clause-ends
 returns-in-Las2las-clause-ends g c =
     let w = c.in-Las2las in
-    let asks_for : (input output : List ℕ) → Asked = λ input output. record { work = reads input (las2las (record { output = output; plan = steps_of w.plan; packed = w.packing.packed; chunk = w.packing.chunk; start = w.start; stop = w.stop })); workers = w.workers } in
-    let asked : asks_for c.deref-in-Las2las.result.now c.deref-in-Las2las-2.result.now ≡ asked_by c.args.command.now =
-    ap (λ (i : List ℕ). asks_for i c.deref-in-Las2las-2.result.now) c.deref-in-Las2las.ensures ∙ ap (asks_for (string_bytes w.input)) c.deref-in-Las2las-2.ensures ∙ sym (ap asked_by w.is) in
-    λ task taps said. by_task task _ _ _ c.las2las.result said asked (c.las2las.ensures.ends task.taps (g.O.Sink.seen c.args.out.now))
+    let conversion : Conversion = record { packing = w.packing; workers = w.workers; start = w.start; stop = w.stop; step = w.step; pick = w.pick; unique = w.unique } in
+    let asks_for : (input output : List ℕ) (tallies : List (List ℕ)) → Asked = λ input output tallies.
+    record { work = reads input (las2las (las2las_options output (steps_of w.plan) conversion tallies)); workers = w.workers } in
+    let asked : asks_for c.deref-in-Las2las.result.now c.deref-in-Las2las-2.result.now (texts c.deref-in-Las2las-3.result.now) ≡ asked_by c.args.command.now =
+    ap (λ (i : List ℕ). asks_for i c.deref-in-Las2las-2.result.now (texts c.deref-in-Las2las-3.result.now)) c.deref-in-Las2las.ensures
+    ∙ ap (λ (o : List ℕ). asks_for (string_bytes w.input) o (texts c.deref-in-Las2las-3.result.now)) c.deref-in-Las2las-2.ensures
+    ∙ ap (λ ts. asks_for (string_bytes w.input) (string_bytes w.output) (texts ts)) c.deref-in-Las2las-3.ensures.value
+    ∙ sym (ap asked_by w.is) in
+    let change : Change = record {
+      files = g.F.Files.seen c.args.files.now;
+      files_now = g.F.Files.seen c.las2las.new.files;
+      out = g.O.Sink.seen c.args.out.now;
+      out_now = g.O.Sink.seen c.las2las.new.out;
+    } in
+    λ task taps said. by_task task _ _ change c.las2las.result said asked
+    (subst (λ (ts : List TapSeen). Ends (task_with ts (asks_for c.deref-in-Las2las.result.now c.deref-in-Las2las-2.result.now (texts c.deref-in-Las2las-3.result.now))) change
+    (cause_of (c.deref-in-Las2las.result.now ∷ []) c.las2las.result)) (sym taps) c.las2las.ensures.ends)
 
 pub returns-in-Lasinfo-clause-ends : goal.returns-in-Lasinfo-clause-ends
 returns-in-Lasinfo-clause-ends g c =
@@ -84,9 +98,14 @@ returns-in-Make-clause-ends g c =
 pub returns-in-Las2las-clause-asks : goal.returns-in-Las2las-clause-asks
 returns-in-Las2las-clause-asks g c =
     let w = c.in-Las2las in
-    let asks_for : (input output : List ℕ) → Asked = λ input output. record { work = reads input (las2las (record { output = output; plan = steps_of w.plan; packed = w.packing.packed; chunk = w.packing.chunk; start = w.start; stop = w.stop })); workers = w.workers } in
-    let asked : asks_for c.deref-in-Las2las.result.now c.deref-in-Las2las-2.result.now ≡ asked_by c.args.command.now =
-    ap (λ (i : List ℕ). asks_for i c.deref-in-Las2las-2.result.now) c.deref-in-Las2las.ensures ∙ ap (asks_for (string_bytes w.input)) c.deref-in-Las2las-2.ensures ∙ sym (ap asked_by w.is) in
+    let conversion : Conversion = record { packing = w.packing; workers = w.workers; start = w.start; stop = w.stop; step = w.step; pick = w.pick; unique = w.unique } in
+    let asks_for : (input output : List ℕ) (tallies : List (List ℕ)) → Asked = λ input output tallies.
+    record { work = reads input (las2las (las2las_options output (steps_of w.plan) conversion tallies)); workers = w.workers } in
+    let asked : asks_for c.deref-in-Las2las.result.now c.deref-in-Las2las-2.result.now (texts c.deref-in-Las2las-3.result.now) ≡ asked_by c.args.command.now =
+    ap (λ (i : List ℕ). asks_for i c.deref-in-Las2las-2.result.now (texts c.deref-in-Las2las-3.result.now)) c.deref-in-Las2las.ensures
+    ∙ ap (λ (o : List ℕ). asks_for (string_bytes w.input) o (texts c.deref-in-Las2las-3.result.now)) c.deref-in-Las2las-2.ensures
+    ∙ ap (λ ts. asks_for (string_bytes w.input) (string_bytes w.output) (texts ts)) c.deref-in-Las2las-3.ensures.value
+    ∙ sym (ap asked_by w.is) in
     subst (λ (a : Asked). WorkAsks a.work (g.F.Files.seen c.args.files.now) (g.F.Files.seen c.las2las.new.files)) asked c.las2las.ensures.asks
 
 pub returns-in-Laszip-clause-asks : goal.returns-in-Laszip-clause-asks

@@ -1,0 +1,204 @@
+//! The first of two readings: a sieve looks at the records of a range.
+ghost use Rattle.std.specs.Prelude.{◌≡◌, ◌%◌, ◌+◌, ◌/◌, ◌^◌, ◌≤◌, ◌<◌, ◌++◌, ◌∷◌, [], ℕ, List, length};
+ghost use Rattle.std.specs.Prelude.{IfErr, IfOk, IsErrOf, OnOk, Some, false};
+ghost use Rattle.std.specs.List.{concat};
+ghost use Rattle.las_header.specs.declared.refusal.Refusal.{Refusal};
+ghost use Rattle.las_header.specs.declared.refusal.Refusal.TheVariants.{BadChunk};
+ghost use Rattle.las_filter.specs.Kept.{steps_of};
+ghost use Rattle.las_outside.specs.Faults.{Rose};
+ghost use Rattle.las_outside.specs.Files.{WhereKnown};
+ghost use Rattle.las_outside.specs.Outside.{Later};
+ghost use Rattle.las_thin.specs.Kept.{passing};
+ghost use Rattle.las_thin.specs.Sieving.{IsFirst};
+ghost use Rattle.las_thin.specs.Sieving as sifting;
+ghost use Rattle.laz_file.specs.declared.fault.Fault.TheVariants.{Read, Refused, Write};
+ghost use Rattle.laz_file.specs.Asking.{bytes_left};
+ghost use Rattle.laz_file.specs.Copying.{EndsAfter, HoldFirst};
+ghost use Rattle.laz_file.specs.Outputs.{records_after};
+ghost use Rattle.laz_file.specs.Reading.{AgreesWithHead, EndsReading, IsCrewOf, IsFreshReader, StandsFor};
+ghost use Rattle.laz_file.specs.Reading.{records_in};
+ghost use Rattle.las_convert.specs.Adding.{IsLent, cut_all};
+ghost use Rattle.las_convert.specs.Converting.{IsReady, OnlyConverts};
+
+use las_filter::Plan;
+use las_header::POINT_RECORD;
+use las_outside::{Files, Gate};
+use las_thin::Sieve;
+use laz_chunk::Workspace;
+use laz_file::{Fault, Reader};
+use laz_workers::Crew;
+use std::alloc::{AllocError, Global};
+use std::thread::Threads;
+
+// A sieve looks at a record, if it passes the filters of a plan. Its place is its number among the records, those
+// included that the filters drop. `Err` means out of memory.
+fn look_at(plan: &Plan, sieve: &mut Sieve, place: u64, point: &[u8]) -> Result<(), AllocError>
+    requires long { POINT_RECORD ≤ length point.now }
+    requires pick { ¬ IsFirst sieve.old.settings.pick }
+    requires looked { (before : List (List ℕ)) × (length before ≡ place)
+        × sifting.StandsFor (passing (steps_of plan.now) before) [] sieve.old }
+    ensures settings { sieve.new.settings ≡ sieve.old.settings }
+    ensures stands { (before : List (List ℕ)) → length before ≡ place
+        → sifting.StandsFor (passing (steps_of plan.now) before) [] sieve.old
+        → OnOk result (sifting.StandsFor (passing (steps_of plan.now) (before ++ point.now ∷ [])) [] sieve.new) }
+{
+    if plan.keeps(point) {
+        return sieve.look(place, point);
+    }
+    Ok(())
+}
+
+// A sieve looks at the records of a block that pass the filters of a plan. So many records came before. `Err` means out
+// of memory.
+fn look_block(
+    plan: &Plan,
+    sieve: &mut Sieve,
+    read: u64,
+    size: usize,
+    block: &[u8],
+) -> Result<(), AllocError>
+    requires size { POINT_RECORD ≤ size }
+    requires whole { length block.now % size ≡ 0 }
+    requires few { read + length block.now / size < 2 ^ 32 }
+    requires pick { ¬ IsFirst sieve.old.settings.pick }
+    requires looked { (before : List (List ℕ)) × (length before ≡ read)
+        × sifting.StandsFor (passing (steps_of plan.now) before) [] sieve.old }
+    ensures settings { sieve.new.settings ≡ sieve.old.settings }
+    ensures stands { (before : List (List ℕ)) → length before ≡ read
+        → sifting.StandsFor (passing (steps_of plan.now) before) [] sieve.old
+        → OnOk result
+        (sifting.StandsFor (passing (steps_of plan.now) (before ++ cut_all size block.now)) [] sieve.new) }
+{
+    let mut rest = block;
+    let mut place = read;
+    for _turn in 0..block.len() / size {
+        let (point, further) = rest.split_at(size);
+        look_at(plan, sieve, place, point)?;
+        rest = further;
+        place += 1;
+    }
+    Ok(())
+}
+
+// A sieve looks at the records of a batch, which a reader and its crew lend, and that pass the filters of a plan. So
+// many records came before; the answer is how many have come with them.
+fn look_batch(
+    plan: &Plan,
+    sieve: &mut Sieve,
+    read: u64,
+    size: usize,
+    reader: &Reader,
+    crew: &Crew<Workspace>,
+    count: u32,
+) -> Result<u64, AllocError>
+    requires size { POINT_RECORD ≤ size }
+    requires pick { ¬ IsFirst sieve.old.settings.pick }
+    requires lent { (blocks : List (List ℕ)) × IsLent reader.now crew.now size count blocks
+        × (read + length (concat blocks) / size < 2 ^ 32) }
+    requires looked { (before : List (List ℕ)) × (length before ≡ read)
+        × sifting.StandsFor (passing (steps_of plan.now) before) [] sieve.old }
+    ensures settings { sieve.new.settings ≡ sieve.old.settings }
+    ensures stands { (before blocks : List (List ℕ)) → length before ≡ read
+        → sifting.StandsFor (passing (steps_of plan.now) before) [] sieve.old
+        → IsLent reader.now crew.now size count blocks → IfOk result (λ now.
+        (length (before ++ cut_all size (concat blocks)) ≡ now) × sifting.StandsFor
+        (passing (steps_of plan.now) (before ++ cut_all size (concat blocks))) [] sieve.new) }
+{
+    let mut now = read;
+    for i in 0..count {
+        let block = reader.block(crew, i);
+        look_block(plan, sieve, now, size, block)?;
+        now += (block.len() / size) as u64;
+    }
+    Ok(now)
+}
+
+// A sieve looks at all records that a reader has left and that pass the filters of a plan, batch by batch.
+fn look_records<R: Threads + Sync, F: Files, G: Gate>(
+    rt: &R,
+    alloc: Global,
+    files: &mut F,
+    gate: &G,
+    plan: &Plan,
+    sieve: &mut Sieve,
+    reader: &mut Reader,
+    crew: &mut Crew<Workspace>,
+) -> Result<(), Fault>
+    requires open { reader.old.failed ≡ false }
+    requires crew { IsCrewOf reader.old crew.old }
+    requires few { records_in reader.old.left < 2 ^ 32 }
+    requires pick { ¬ IsFirst sieve.old.settings.pick }
+    requires unlooked { sifting.StandsFor [] [] sieve.old }
+    requires stands { WhereKnown (F.seen files.old).held reader.old.name (StandsFor reader.old) }
+    ensures looked { OnOk result ((blocks : List (List ℕ))
+        × HoldFirst (F.seen files.old).held reader.old (length reader.old.left) blocks
+        × sifting.StandsFor (passing (steps_of plan.now) (records_after reader.old.head.bytes (concat blocks))) []
+        sieve.new) }
+    ensures bad { (cause : Refusal) → IsErrOf result (Refused cause)
+        → (n : ℕ) × (blocks : List (List ℕ)) × HoldFirst (F.seen files.old).held reader.old n blocks
+        × EndsAfter (F.seen files.old).held reader.old n (Some cause) }
+    ensures settings { sieve.new.settings ≡ sieve.old.settings }
+    ensures cause { IfErr result (EndsReading ⊥ (F.seen files.old) (F.seen files.new)) }
+    ensures held { (F.seen files.new).held ≡ (F.seen files.old).held }
+    ensures writes { (F.seen files.new).write_faults ≡ (F.seen files.old).write_faults }
+    ensures reads_calm { OnOk result ((F.seen files.new).read_faults ≡ (F.seen files.old).read_faults) }
+    ensures later { Later (F.seen files.old) (F.seen files.new) }
+    ensures asked { (F.seen files.new).asked ≤ (F.seen files.old).asked + bytes_left reader.old }
+{
+    let size = usize::from(reader.head().record_length());
+    let mut read = 0;
+    'batches: loop {
+        let count = reader.next_batch(rt, alloc, files, gate, crew)?;
+        if count == 0 {
+            return Ok(());
+        }
+        read = look_batch(plan, sieve, read, size, reader, crew, count)?;
+    }
+}
+
+/// A sieve of the lowest or the highest, which has looked at none yet, looks at those records of a fresh reader that
+/// pass the filters of a plan: of the range that it has sought, or of all. `workers`, 1 to 8, unpack side by side. Then
+/// the file is opened again, and [`convert`](crate::convert) asks the sieve for the same records.
+///
+/// The answer is `Refused` with `BadChunk` if a chunk that meets the range holds no records of its count, the first of
+/// them. It is `Read` if a read failed, and never `Write`. No file is changed.
+pub fn look_through<R: Threads + Sync, F: Files, G: Gate>(
+    rt: &R,
+    alloc: Global,
+    files: &mut F,
+    gate: &G,
+    plan: &Plan,
+    sieve: &mut Sieve,
+    reader: Reader,
+    workers: u32,
+) -> Result<(), Fault>
+    requires fresh { IsFreshReader reader.name reader }
+    requires whole { AgreesWithHead reader }
+    requires workers { (1 ≤ workers) × (workers ≤ 8) }
+    requires pick { ¬ IsFirst sieve.old.settings.pick }
+    requires unlooked { sifting.StandsFor [] [] sieve.old }
+    requires stands { WhereKnown (F.seen files.old).held reader.name (StandsFor reader) }
+
+    ensures ready { OnOk result
+        (IsReady (F.seen files.old).held reader.name (steps_of plan.now) reader.range sieve.new) }
+    ensures refused { (cause : Refusal) → IsErrOf result (Refused cause)
+        → WhereKnown (F.seen files.old).held reader.name (λ file.
+        OnlyConverts (steps_of plan.now) sieve.old.settings file reader.range [] (Some cause)) }
+    ensures bad { (cause : Refusal) → IsErrOf result (Refused cause) → (i : ℕ) × (cause ≡ BadChunk i) }
+    ensures settings { sieve.new.settings ≡ sieve.old.settings }
+    ensures read { IsErrOf result Read → Rose (F.seen files.old).read_faults (F.seen files.new).read_faults }
+    ensures never { IsErrOf result Write → ⊥ }
+    ensures held { (F.seen files.new).held ≡ (F.seen files.old).held }
+    ensures writes { (F.seen files.new).write_faults ≡ (F.seen files.old).write_faults }
+    ensures reads_calm { OnOk result ((F.seen files.new).read_faults ≡ (F.seen files.old).read_faults) }
+    ensures later { Later (F.seen files.old) (F.seen files.new) }
+
+    // No more is asked for than the reader has left, however the call ends.
+    ensures asked { (F.seen files.new).asked ≤ (F.seen files.old).asked + bytes_left reader }
+{
+    let mut reader = reader;
+    let _ = reader.head().points();
+    let hands = reader.hands(workers);
+    let mut crew = reader.crew(alloc, hands)?;
+    look_records(rt, alloc, files, gate, plan, sieve, &mut reader, &mut crew)
+}
