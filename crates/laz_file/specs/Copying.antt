@@ -15,7 +15,8 @@ use Rattle.laz_file.specs.declared.fault.Fault.{Fault}
 use Rattle.laz_file.specs.declared.fault.Fault.TheVariants.{Refused, Read, Write, Memory}
 use Rattle.laz_file.specs.Outputs.{Output, draft_of, finished, patches_of, stopped}
 use Rattle.laz_file.specs.Reading.{AreWholeBlocks, ReaderSeen, records_in}
-use Rattle.laz_file.specs.Records.{AreRecordsOf, HoldOnly, IsBadPiece}
+use Rattle.laz_file.specs.Ranges.{Range}
+use Rattle.laz_file.specs.Records.{AreRecordsIn, AreRecordsOf, HoldOnly, IsBadPiece}
 use Rattle.laz_file.specs.Writing.{Stands, WriterSeen}
 
 -- the packed form of a plain file as an output, and the plain form of a packed one: the records are not counted, since
@@ -49,6 +50,12 @@ LeavesRecords out file old new =
 pub record AreOnlyRecords (file : List ℕ) (blocks : List (List ℕ)) (bad : Option ℕ) : Type 0 where
   pub are : AreRecordsOf file blocks bad
   pub only : (others : List (List ℕ)) (worse : Option ℕ) → AreRecordsOf file others worse
+      → (others ≡ blocks) × (worse ≡ bad)
+
+-- The same of the records of a range.
+pub record AreOnlyRecordsIn (file : List ℕ) (range : Range) (blocks : List (List ℕ)) (bad : Option ℕ) : Type 0 where
+  pub are : AreRecordsIn file range blocks bad
+  pub only : (others : List (List ℕ)) (worse : Option ℕ) → AreRecordsIn file range others worse
       → (others ≡ blocks) × (worse ≡ bad)
 
 -- ---- records that go from a reader to a writer
