@@ -118,17 +118,17 @@ fn record_of(
 // Whether two of a record, or one, become the record and this stream, and come back from it.
 fn is_worked(
     trial: &mut Trial,
-    record: &[u8],
+    point: &[u8],
     twice: bool,
     stream: &[u8],
 ) -> Result<bool, AllocError> {
-    let mut records = record.to_vec(trial.alloc)?;
+    let mut records = point.to_vec(trial.alloc)?;
     if twice {
-        records.extend_from_slice(record)?;
+        records.extend_from_slice(point)?;
     }
     let count = 1 + u32::from(twice);
     let chunk = trial.pack(&records, count)?;
-    if chunk != with_stream(trial.alloc, record, stream)? {
+    if chunk != with_stream(trial.alloc, point, stream)? {
         return Ok(false);
     }
     holds_exactly(trial, &chunk, count, &records)
