@@ -1,15 +1,18 @@
 -- The records of ranges: one answer, all records, no records, and a slice of all records.
-use Rattle.std.proofs.Common.{◌≡◌, ℕ, ◌+◌, ◌-◌, ◌*◌, ◌≤◌, Bool, true, false, List, [], ◌∷◌, Option, Some, None, refl, sym, ◌∙◌, ap, subst, arith}
+use Rattle.std.proofs.Common.{◌≡◌, ℕ, ◌+◌, ◌-◌, ◌*◌, ◌≤◌, Bool, true, false, List, [], ◌∷◌, length, take, drop, Option, Some, None, refl, sym, ◌∙◌, ap, subst, arith}
 use Rattle.las_header.specs.Fields.{head_of, is_packed, point_offset_of, record_length_of}
+use Rattle.laz_file.specs.Copying.{AreOnlyRecordsIn}
 use Rattle.laz_file.specs.Laws.{IsEmptyRange, IsRangeReadOnce, IsWholeOfAll}
 use Rattle.laz_file.specs.Pieces.{Piece, plain_from}
 use Rattle.laz_file.specs.Ranges.{Range, first_of, parts_if, parts_of, whole_range}
-use Rattle.laz_file.specs.Records.{AreRead, AreRecordsIn, AreRecordsOf, moved}
+use Rattle.laz_file.specs.Reading.{ReaderSeen, StandsFor}
+use Rattle.laz_file.specs.Records.{AreRead, AreRecordsIn, AreRecordsOf, HoldOnly, IsBadPiece, moved}
 use Rattle.laz_file.proofs.AllParts.{all_of}
 use Rattle.laz_file.proofs.FirstPieces.{inside}
 use Rattle.laz_file.proofs.OneAnswer.{one_pieces}
 use Rattle.laz_file.proofs.Parts.{empty_parts}
 use Rattle.laz_file.proofs.Whole.{once}
+use Rattle.std.proofs.lemmas.List.{take_all}
 
 moved_none : (o : Option ℕ) → moved 0 o ≡ o
 moved_none None = refl
@@ -55,3 +58,25 @@ empty_range file range blocks bad empty of =
     let none = none_if (is_packed (head_of file)) (head_of file) (point_offset_of file) range of.0 empty in
     let r = read_none file blocks of.1 (subst (λ (ps : List Piece). AreRead file ps blocks of.1) none of.3) in
     (r.0, of.4 ∙ ap (moved (first_of file range of.0)) r.1)
+
+-- ---- what a reader finds that has read nothing
+module _ (first : ReaderSeen) (file : List ℕ) (s : StandsFor first file) (unread : first.next ≡ first.first) where
+  range_left : first.left ≡ parts_of file first.range s.pieces
+  range_left =
+      let none : first.next - first.first ≡ 0 = omega (arith, unread) in
+      s.left ∙ ap (λ (n : ℕ). drop n (parts_of file first.range s.pieces)) none
+
+  pub all_records_in : (blocks : List (List ℕ)) → HoldOnly file (take (length first.left) first.left) blocks → AreOnlyRecordsIn file first.range blocks None
+  all_records_in blocks hold =
+      let parts = parts_of file first.range s.pieces in
+      let here : HoldOnly file parts blocks = subst (λ (ps : List Piece). HoldOnly file ps blocks) (take_all (length first.left) first.left (omega arith) ∙ range_left) hold in
+      record { are = (s.pieces, None, s.are, here.hold, refl); only = range_once file first.range s.pieces blocks None s.are here tt }
+
+  pub records_in_before : (n : ℕ) (blocks : List (List ℕ)) → HoldOnly file (take n first.left) blocks → IsBadPiece file first.left n → AreOnlyRecordsIn file first.range blocks (Some (first.first + n))
+  records_in_before n blocks hold bad =
+      let parts = parts_of file first.range s.pieces in
+      let here : HoldOnly file (take n parts) blocks = subst (λ (ps : List Piece). HoldOnly file (take n ps) blocks) range_left hold in
+      let there : IsBadPiece file parts n = subst (λ (ps : List Piece). IsBadPiece file ps n) range_left bad in
+      let number : Some (first_of file first.range s.pieces + n) ≡ Some (first.first + n) = ap (λ (k : ℕ). Some (k + n)) (sym s.first) in
+      subst (λ (b : Option ℕ). AreOnlyRecordsIn file first.range blocks b) number
+      (record { are = (s.pieces, Some n, s.are, (here.hold, there), refl); only = range_once file first.range s.pieces blocks (Some n) s.are here there })
