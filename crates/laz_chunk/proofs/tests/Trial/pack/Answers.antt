@@ -1,4 +1,4 @@
-use Rattle.std.proofs.Common.{◌≡◌, ◌*◌, length, arith, rules, ◌∙◌}
+use Rattle.std.proofs.Common.{◌≡◌, ◌*◌, length, rules, ◌∙◌}
 use Rattle.laz_chunk.specs.Layouts.{Format, layout, record_length}
 use Rattle.laz_chunk.proofs.Lengths.{are-enough, are-whole}
 use Rattle.laz_chunk.proofs.tests.Trial.pack.Goals as goal
