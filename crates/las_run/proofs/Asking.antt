@@ -1,24 +1,23 @@
--- How many bytes `las2las` asks for, by what its calls say of a reader.
-use Rattle.std.proofs.Common.{◌≡◌, ℕ, ◌+◌, ◌-◌, ◌≤◌, Bool, true, false, cond, min, List, [], ◌∷◌, length, drop, map, sum, Option, Some, None, IsSomeAnd, Result, Ok, Err, refl, sym, ◌∙◌, ap, subst, arith}
+-- How many bytes a command asks for, by what its calls say of a reader.
+use Rattle.std.proofs.Common.{◌≡◌, ℕ, ◌-◌, ◌^◌, ◌≤◌, Bool, true, false, cond, min, List, drop, Option, Some, None, IsSomeAnd, Result, Ok, Err, refl, sym, ◌∙◌, ap, subst, arith}
 use Rattle.std.specs.FinMap as finmap
 use Rattle.las_header.specs.declared.refusal.Refusal.{Refusal}
 use Rattle.las_header.specs.Fields.{head_of, points_of}
-use Rattle.las_header.specs.Heads.{HeadView}
+use Rattle.las_header.specs.Heads.{HeadView, IsHead}
 use Rattle.las_outside.specs.Files.{FileMap, IsMissing, WhereKnown}
 use Rattle.las_outside.specs.Outside.{Outside}
 use Rattle.las_words.specs.declared.command.Command.{Command}
 use Rattle.las_words.specs.declared.command.WordFault.{WordFault}
 use Rattle.las_words.specs.declared.command.WordFault.TheVariants as fault
-use Rattle.las_words.specs.Asked.{Asked, Las2lasOptions, Work, asked_by, las2las, reads, work_by}
+use Rattle.las_words.specs.Asked.{Asked, Las2lasOptions, OneInput, Work, asked_by, las2las, lasinfo, lassplit, laszip, reads, work_by}
 use Rattle.las_words.specs.Says.{Said, asks, usage}
 use Rattle.laz_file.specs.Asking.{AsksAtMost, asked_to_open, bytes_left}
 use Rattle.laz_file.specs.Pieces.{ArePieces, Piece}
 use Rattle.laz_file.specs.Ranges.{Range, parts_of}
-use Rattle.laz_file.specs.Reading.{ReaderSeen, StandsFor}
-use Rattle.laz_file.specs.Refusing.{IsRefusal}
+use Rattle.laz_file.specs.Reading.{IsNewReader, ReaderSeen, StandsFor}
 use Rattle.laz_file.proofs.Knowing.{known_three}
 use Rattle.laz_file.proofs.OneAnswer.{one_pieces, refused_once}
-use Rattle.las_run.specs.Asking.{AsksFor, AsksOf, WorkAsks, bytes_in}
+use Rattle.las_run.specs.Asking.{AsksFor, AsksOf, AsksWhole, TakesAll, WorkAsks, bytes_in}
 use Rattle.las_run.specs.Ends.{IsRead}
 use Rattle.las_run.specs.Tools.{range_in}
 use Rattle.las_run.proofs.Opening.{known_more}
@@ -104,24 +103,31 @@ asks_both reader input start stop old mid new stands opened rest =
     (λ file s front more. (λ cause is. absurd (none_is_some cause (refused_once file None (Some cause) s.accepted is)), λ pieces are. let last = more pieces are in omega (arith, front, last)))
     stands (opened there) rest)
 
--- of words that were read
+-- of words that were read: what the command asks, if what asks nothing is no exception
+asks_by : (said : Said) (read : Result Command WordFault) (work : Work) (workers : ℕ) (old new : Outside)
+    → IsRead said read → said ≡ asks (record { work = work; workers = workers })
+    → ((f : WordFault) → read ≡ Err f → new ≡ old)
+    → ((command : Command) → read ≡ Ok command → WorkAsks (work_by command) old new)
+    → (new ≡ old → WorkAsks work old new) → WorkAsks work old new
+asks_by said (Ok command) work workers old new is asked unread obeyed nothing =
+    let same : asks (asked_by command) ≡ asks (record { work = work; workers = workers }) = sym is ∙ asked in
+    subst (λ (w : Work). WorkAsks w old new) (same_work (asked_by command) (record { work = work; workers = workers }) same) (obeyed command refl)
+  where
+    same_work : (a b : Asked) → asks a ≡ asks b → a.work ≡ b.work
+    same_work a b e = let inner : a ≡ b = cc in ap (λ (x : Asked). x.work) inner
+asks_by said (Err (fault.Usage index)) work workers old new is asked unread obeyed nothing = absurd (apart (record { work = work; workers = workers }) index (sym asked ∙ is))
+  where
+    apart : (asked : Asked) (index : ℕ) → asks asked ≡ usage index → ⊥
+    apart asked index e = absurd (cc)
+asks_by said (Err fault.Memory) work workers old new is asked unread obeyed nothing = nothing (unread fault.Memory refl)
+
 pub asks_read : (said : Said) (read : Result Command WordFault) (input : List ℕ) (options : Las2lasOptions) (workers : ℕ) (old new : Outside)
     → IsRead said read → said ≡ asks (record { work = reads input (las2las options); workers = workers })
     → ((f : WordFault) → read ≡ Err f → new ≡ old)
     → ((command : Command) → read ≡ Ok command → WorkAsks (work_by command) old new)
     → AsksFor input options.start options.stop old new
-asks_read said (Ok command) input options workers old new is asked unread work =
-    let same : asks (asked_by command) ≡ asks (record { work = reads input (las2las options); workers = workers }) = sym is ∙ asked in
-    let by : work_by command ≡ reads input (las2las options) = work_same (asked_by command) (record { work = reads input (las2las options); workers = workers }) same in
-    subst (λ (w : Work). WorkAsks w old new) by (work command refl)
-  where
-    work_same : (a b : Asked) → asks a ≡ asks b → a.work ≡ b.work
-    work_same a b e = let inner : a ≡ b = cc in ap (λ (x : Asked). x.work) inner
-asks_read said (Err (fault.Usage index)) input options workers old new is asked unread work = absurd (apart (record { work = reads input (las2las options); workers = workers }) index (sym asked ∙ is))
-  where
-    apart : (asked : Asked) (index : ℕ) → asks asked ≡ usage index → ⊥
-    apart asked index e = absurd (cc)
-asks_read said (Err fault.Memory) input options workers old new is asked unread work = asks_nothing input options.start options.stop old new (unread fault.Memory refl)
+asks_read said read input options workers old new is asked unread obeyed =
+    asks_by said read (reads input (las2las options)) workers old new is asked unread obeyed (asks_nothing input options.start options.stop old new)
 
 -- of a command that was obeyed
 pub asks_obeyed : (said : Result Command WordFault) (own command : Command) (old new : Outside) → said ≡ Ok own → said ≡ Ok command → WorkAsks (work_by own) old new → WorkAsks (work_by command) old new
@@ -132,3 +138,30 @@ asks_obeyed said own command old new is are work = subst (λ (x : Command). Work
 
 pub not_both : (said : Result Command WordFault) (command : Command) (f : WordFault) → said ≡ Ok command → said ≡ Err f → ⊥
 not_both said command f is was = let clash : ◌≡◌ {A = Result Command WordFault} (Ok command) (Err f) = sym is ∙ was in absurd (cc)
+
+-- the same of a command that takes all records of its input
+pub asks_whole : (said : Said) (read : Result Command WordFault) (input : List ℕ) (own : OneInput) (workers : ℕ) (old new : Outside)
+    → IsRead said read → said ≡ asks (record { work = reads input own; workers = workers })
+    → ((f : WordFault) → read ≡ Err f → new ≡ old)
+    → ((command : Command) → read ≡ Ok command → WorkAsks (work_by command) old new)
+    → TakesAll own → AsksWhole input old new
+asks_whole said read input (las2las options) workers old new is asked unread obeyed whole = absurd whole
+asks_whole said read input (laszip options) workers old new is asked unread obeyed whole =
+    asks_by said read (reads input (laszip options)) workers old new is asked unread obeyed (asks_nothing input 0 (2 ^ 32 - 1) old new)
+asks_whole said read input (lasinfo options) workers old new is asked unread obeyed whole =
+    asks_by said read (reads input (lasinfo options)) workers old new is asked unread obeyed (asks_nothing input 0 (2 ^ 32 - 1) old new)
+asks_whole said read input (lassplit options) workers old new is asked unread obeyed whole =
+    asks_by said read (reads input (lassplit options)) workers old new is asked unread obeyed (asks_nothing input 0 (2 ^ 32 - 1) old new)
+
+-- an input that was opened, and of which all records are read
+pub asks_all : (reader : ReaderSeen) (input : List ℕ) (old mid new : Outside) → IsNewReader input reader → IsHead reader.head.bytes → WhereKnown old.held input (StandsFor reader)
+    → ((IsMissing old.held input → ⊥) → WhereKnown old.held input (λ file. AsksAtMost (asked_to_open file) old mid)) → AsksAtMost (bytes_left reader) mid new → AsksWhole input old new
+asks_all reader input old mid new fresh head stands opened rest =
+    let points = points_of reader.head.bytes in
+    let first : 0 ≡ min 0 points = omega arith in
+    let last : points ≡ min (2 ^ 32 - 1) points = omega (arith, head.points) in
+    let range_at : ℕ → ℕ → Range = λ start stop. record { start = start; stop = stop } in
+    let range : reader.range ≡ range_at (min 0 points) (min (2 ^ 32 - 1) points) = fresh.whole.all ∙ ap (λ (n : ℕ). range_at n points) first ∙ ap (range_at (min 0 points)) last in
+    asks_both reader input 0 (2 ^ 32 - 1) old mid new stands opened
+    (known_more old.held input (StandsFor reader) (λ file. (pieces : List Piece) → ArePieces file pieces → AsksAtMost (bytes_in (parts_of file (range_in 0 (2 ^ 32 - 1) file) pieces)) mid new)
+    (λ file s. λ pieces are. omega (arith, rest, left_bytes reader file pieces 0 (2 ^ 32 - 1) s fresh.unread range are)) stands)

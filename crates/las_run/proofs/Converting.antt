@@ -6,7 +6,7 @@ use Rattle.las_filter.specs.Kept.{Steps}
 use Rattle.las_header.specs.declared.refusal.Refusal.{Refusal}
 use Rattle.las_header.specs.declared.refusal.Refusal.TheVariants.{BadChunk, RawRange}
 use Rattle.las_outside.specs.Faults.{Rose}
-use Rattle.las_header.specs.Fields.{head_of, points_of}
+use Rattle.las_header.specs.Fields.{points_of}
 use Rattle.las_header.specs.Heads.{HeadView}
 use Rattle.las_outside.specs.Files.{FileMap, WhereKnown, with_file}
 use Rattle.las_outside.specs.Outside.{Outside}

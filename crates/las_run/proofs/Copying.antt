@@ -1,9 +1,8 @@
 -- What the call that copies chunks says of its outcome, as how a run of `lasmerge` ends.
-use Rattle.std.proofs.Common.{◌≡◌, ◌≢◌, ◌⊎◌, inl, inr, ℕ, ◌<◌, ◌≤◌, true, List, [], ◌∷◌, length, take, Option, Some, None, Result, Ok, Err, refl, sym, ◌∙◌, ap, subst}
+use Rattle.std.proofs.Common.{◌≡◌, ◌≢◌, ◌⊎◌, inl, inr, ℕ, ◌<◌, true, List, [], ◌∷◌, length, take, Option, Some, Result, Ok, Err, refl, sym, ◌∙◌, ap, subst}
 use Rattle.std.specs.Prelude.{Contains, IfErr, IsErrOf, OnOk}
 use Rattle.std.specs.FinMap as finmap
 use Rattle.std.proofs.lemmas.List.{get_or_default}
-use Rattle.las_header.specs.declared.refusal.Refusal.{Refusal}
 use Rattle.las_info.specs.Tallies.{TapSeen}
 use Rattle.las_outside.specs.Faults.{Rose}
 use Rattle.las_outside.specs.Files.{FileMap, IsMissing, with_file}

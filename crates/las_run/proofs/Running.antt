@@ -12,7 +12,7 @@ use Rattle.las_header.specs.Refusals.{first_cause}
 use Rattle.las_header.proofs.ConditionLemmas.{IsFirst-append_none, IsFirst-append_some, IsFirst-tests}
 use Rattle.las_outside.specs.Files.{FileMap}
 use Rattle.las_info.specs.Tallies.{TapSeen}
-use Rattle.las_words.specs.Asked.{Asked, Las2lasOptions, LasmergeOptions, LaszipOptions, OneInput, Work, laszip, las2las, lasinfo, lassplit, lasmerge, make, reads}
+use Rattle.las_words.specs.Asked.{Asked, Las2lasOptions, LasmergeOptions, OneInput, Work, laszip, las2las, lasinfo, lassplit, lasmerge, make, reads}
 use Rattle.las_words.specs.Says.{Said, asks, usage}
 use Rattle.laz_file.specs.Copying.{packed_output, plain_output}
 use Rattle.laz_file.specs.Outputs.{records_after}

@@ -1,10 +1,10 @@
--- How many bytes of its input `las2las` asks for.
-use Rattle.std.specs.Prelude.{◌≡◌, ℕ, ◌+◌, List, map, sum, Option, Some, None}
+-- How many bytes of its input a command asks for.
+use Rattle.std.specs.Prelude.{◌≡◌, ℕ, ◌+◌, ◌-◌, ◌^◌, List, map, sum, Option, Some, None}
 use Rattle.std.specs.FinMap as finmap
 use Rattle.las_header.specs.declared.refusal.Refusal.{Refusal}
 use Rattle.las_outside.specs.Files.{FileMap}
 use Rattle.las_outside.specs.Outside.{Outside}
-use Rattle.las_words.specs.Asked.{Work, las2las, reads}
+use Rattle.las_words.specs.Asked.{OneInput, Work, las2las, lasinfo, lassplit, laszip, reads}
 use Rattle.laz_file.specs.Asking.{AsksAtMost, asked_to_open}
 use Rattle.laz_file.specs.Pieces.{ArePieces, Piece}
 use Rattle.laz_file.specs.Ranges.{parts_of}
@@ -29,7 +29,19 @@ abbrev pub AsksFor : (input : List ℕ) → (start stop : ℕ) → (old new : Ou
 AsksFor input start stop old new =
     (known : FileMap) → old.held ≡ Some known → AsksOf (finmap.get known input) start stop old new
 
--- This holds of a command if it is `las2las`.
+-- The same for all places that there may be: those of all records.
+abbrev pub AsksWhole : (input : List ℕ) → (old new : Outside) → Type 0
+AsksWhole input old new = AsksFor input 0 (2 ^ 32 - 1) old new
+
+-- A command takes all records of its input.
+abbrev pub TakesAll : OneInput → Type 0
+TakesAll (las2las options) = ⊥
+TakesAll own = Unit {0}
+
+-- This holds of a command with one input.
 abbrev pub WorkAsks : Work → (old new : Outside) → Type 0
 WorkAsks (reads input (las2las options)) old new = AsksFor input options.start options.stop old new
+WorkAsks (reads input (laszip options)) old new = AsksWhole input old new
+WorkAsks (reads input (lasinfo options)) old new = AsksWhole input old new
+WorkAsks (reads input (lassplit options)) old new = AsksWhole input old new
 WorkAsks work old new = Unit {0}

@@ -1,4 +1,4 @@
-use Rattle.std.proofs.Common.{◌≡◌, ℕ, ◌<◌, true, Result, string_bytes, sym, subst}
+use Rattle.std.proofs.Common.{ℕ, ◌<◌, true, Result, string_bytes, sym, subst}
 use Rattle.std.proofs.lemmas.List.{length-map}
 use Rattle.las_words.specs.Asked.{Asked, LasmergeOptions, lasmerge}
 use Rattle.las_words.specs.Texts.{texts}

@@ -1,4 +1,4 @@
-use Rattle.std.proofs.Common.{◌≡◌, ◌≢◌, [], ◌∷◌, List, ℕ, Option, Result, Err, refl, sym, subst}
+use Rattle.std.proofs.Common.{◌≡◌, ◌-◌, ◌^◌, ◌≢◌, [], ◌∷◌, List, ℕ, Option, Result, Err, refl, sym, subst}
 use Rattle.std.specs.Prelude.{string_bytes}
 use Rattle.std.proofs.lemmas.Result.{err_from_is_err_and}
 use Rattle.las_outside.specs.Files.{FileMap, WhereKnown}
@@ -11,6 +11,7 @@ use Rattle.las_run.specs.Endings.{Ending}
 use Rattle.las_run.specs.Ends.{Ends, EndsMaking, cause_of, quiet}
 use Rattle.las_run.specs.Runs.{task_with}
 use Rattle.las_run.specs.Tools.{Splits}
+use Rattle.las_run.proofs.Asking.{asks_all, asks_opening}
 use Rattle.las_run.proofs.Commands.{reads_one}
 use Rattle.las_run.proofs.Endings.{left_before}
 use Rattle.las_run.proofs.Opening.{ends_opening, ends_writing, known_more, making_after}
@@ -64,3 +65,17 @@ returns-clause-ends g c =
     let accepted = known_more old.held input (StandsFor r) IsAcceptedFile (λ file s. s.accepted) h.stands in
     λ taps out. subst (λ (o : Result (Unit {0}) Stop). Ends (task_with taps asked) (quiet old new out) (cause_of (input ∷ []) o)) (sym c.stopped.ensures)
     (ends_writing (task_with taps asked) input (Splits input stem end rule) (reads_one taps input (lassplit options) c.args.workers) old new out accepted outcome some ends)
+
+pub returns-in_err-reader-clause-asks : goal.returns-in_err-reader-clause-asks
+returns-in_err-reader-clause-asks g c =
+    asks_opening c.args.input.now 0 (2 ^ 32 - 1) (g.F.Files.seen c.args.files.now) (g.F.Files.seen c.open_input.new.files) c.in_err-reader.ensures.missing c.in_err-reader.ensures.asked_of
+
+pub returns-in-Err-clause-asks : goal.returns-in-Err-clause-asks
+returns-in-Err-clause-asks g c =
+    let h = c.in_ok-reader.ensures in
+    asks_opening c.args.input.now 0 (2 ^ 32 - 1) (g.F.Files.seen c.args.files.now) (g.F.Files.seen c.open_input.new.files) h.missing h.asked_of
+
+pub returns-clause-asks : goal.returns-clause-asks
+returns-clause-asks g c =
+    let h = c.in_ok-reader.ensures in
+    asks_all c.in_ok-reader.reader c.args.input.now (g.F.Files.seen c.args.files.now) (g.F.Files.seen c.open_input.new.files) (g.F.Files.seen c.write_parts.new.files) h.fresh h.head h.stands h.asked_of c.write_parts.ensures.asked
