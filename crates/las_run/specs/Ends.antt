@@ -120,8 +120,8 @@ ComesToInput inputs change name =
     × IfKnown change.files.held (λ known. (before : List (List ℕ)) × AreFirst known inputs before
     × (length before ≡ number))
 
--- `make` had come to read the file of this name again: its plain file, which stands whole, and of the packed one no more
--- than a part of its draft; or the packed one, and both stand whole.
+-- `make` had come to read the file of this name again: its plain file, which stands whole, and of the packed one no
+-- more than a part of its draft; or the packed one, and both stand whole.
 abbrev pub ComesToMade : (output packed : List ℕ) → Settings → (chunk : ℕ) → Change → (name : List ℕ) → Type 0
 ComesToMade output packed settings chunk change name =
     ((name ≡ output) × LeavesPackedInPart output packed settings chunk change.files.held change.files_now.held)
