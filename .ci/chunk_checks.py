@@ -38,7 +38,7 @@ def sources(place, header, points):
 def ranges(cases, folder):
     """`las2las` takes the records of a range, from each kind of file and by any number of workers."""
     points = many(COUNT)
-    for minor in (2, 4):
+    for minor in range(5):
         header = long_head(minor, 0, 0, points, vlr(b"somebody", 7, b"abc"), 1, b"\xdd")
         place = tempfile.mkdtemp(dir=folder)
         names = sources(place, header, points)

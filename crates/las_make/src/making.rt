@@ -29,8 +29,8 @@ pub struct Sizes {
 /// the size of the packed file is asked. After `Write` or `Memory` the files are as before, or the plain file is a
 /// prefix of its own bytes, or it is whole and the packed one is as before, a prefix of its draft, or its draft after a
 /// part of its patch. After `ReadPlain` the plain file is whole, and the packed one is as before or a prefix of its
-/// draft, and not all of it. After `ReadPacked` both are whole. A read or a write that failed has raised its count. `Changed` comes only if it is not known
-/// what the files hold.
+/// draft, and not all of it. After `ReadPacked` both are whole. A read or a write that failed has raised its count.
+/// `Changed` comes only if it is not known what the files hold.
 pub fn make<R: Threads + Sync, F: Files, G: Gate>(
     rt: &R,
     alloc: Global,

@@ -1,9 +1,9 @@
--- How many bytes `las2las` asks for, by what its calls say of a reader.
-use Rattle.std.proofs.Common.{◌≡◌, ℕ, ◌+◌, ◌-◌, ◌≤◌, Bool, true, false, cond, min, List, drop, Option, Some, None, IsSomeAnd, Result, Ok, Err, refl, sym, ◌∙◌, ap, subst, arith}
+-- How many bytes a command asks for, by what its calls say of a reader.
+use Rattle.std.proofs.Common.{◌≡◌, ℕ, ◌+◌, ◌-◌, ◌^◌, ◌≤◌, Bool, true, false, cond, min, List, drop, Option, Some, None, IsSomeAnd, Result, Ok, Err, refl, sym, ◌∙◌, ap, subst, arith}
 use Rattle.std.specs.FinMap as finmap
 use Rattle.las_header.specs.declared.refusal.Refusal.{Refusal}
 use Rattle.las_header.specs.Fields.{head_of, points_of}
-use Rattle.las_header.specs.Heads.{HeadView}
+use Rattle.las_header.specs.Heads.{HeadView, IsHead}
 use Rattle.las_outside.specs.Files.{FileMap, IsMissing, WhereKnown}
 use Rattle.las_outside.specs.Outside.{Outside}
 use Rattle.las_thin.specs.declared.pick.Pick.{Pick}
@@ -11,15 +11,15 @@ use Rattle.las_thin.specs.declared.pick.Pick.TheVariants.{First, Lowest, Highest
 use Rattle.las_words.specs.declared.command.Command.{Command}
 use Rattle.las_words.specs.declared.command.WordFault.{WordFault}
 use Rattle.las_words.specs.declared.command.WordFault.TheVariants as fault
-use Rattle.las_words.specs.Asked.{Asked, Las2lasOptions, Work, asked_by, las2las, reads, work_by}
+use Rattle.las_words.specs.Asked.{Asked, Las2lasOptions, OneInput, Work, asked_by, las2las, lasinfo, lassplit, laszip, reads, work_by}
 use Rattle.las_words.specs.Says.{Said, asks, usage}
 use Rattle.laz_file.specs.Asking.{AsksAtMost, asked_to_open, bytes_left}
 use Rattle.laz_file.specs.Pieces.{ArePieces, Piece}
 use Rattle.laz_file.specs.Ranges.{Range, parts_of}
-use Rattle.laz_file.specs.Reading.{ReaderSeen, StandsFor}
+use Rattle.laz_file.specs.Reading.{IsNewReader, ReaderSeen, StandsFor}
 use Rattle.laz_file.proofs.Knowing.{known_three}
 use Rattle.laz_file.proofs.OneAnswer.{one_pieces, refused_once}
-use Rattle.las_run.specs.Asking.{AsksFor, AsksOf, WorkAsks, bytes_in, in_first_reading, in_readings}
+use Rattle.las_run.specs.Asking.{AsksFor, AsksOf, AsksWhole, TakesAll, WorkAsks, bytes_in, in_first_reading, in_readings}
 use Rattle.las_run.specs.Ends.{IsRead}
 use Rattle.las_run.specs.Tools.{range_in}
 use Rattle.las_run.proofs.Opening.{both_known, known_more}
@@ -47,34 +47,34 @@ in_one Lowest opening more = omega arith
 in_one Highest opening more = omega arith
 
 -- from what is known of the input, or of none
-by_input : (input : List ℕ) (options : Las2lasOptions) (old new : Outside) → (IsMissing old.held input → new.asked ≡ old.asked)
-    → ((IsMissing old.held input → ⊥) → WhereKnown old.held input (λ file. AsksOf (Some file) options old new)) → AsksFor input options old new
-by_input input options old new missing there known held = by (finmap.get known input) refl
+by_input : (input : List ℕ) (pick : Pick) (start stop : ℕ) (old new : Outside) → (IsMissing old.held input → new.asked ≡ old.asked)
+    → ((IsMissing old.held input → ⊥) → WhereKnown old.held input (λ file. AsksOf (Some file) pick start stop old new)) → AsksFor input pick start stop old new
+by_input input pick start stop old new missing there known held = by (finmap.get known input) refl
   where
     none_some : (o : Option (List ℕ)) (file : List ℕ) → o ≡ Some file → o ≡ None → ⊥
     none_some o file is none = absurd (cc)
 
-    of_some : (o : Option (List ℕ)) (file : List ℕ) → o ≡ Some file → IsSomeAnd o (λ file. AsksOf (Some file) options old new) → AsksOf (Some file) options old new
+    of_some : (o : Option (List ℕ)) (file : List ℕ) → o ≡ Some file → IsSomeAnd o (λ file. AsksOf (Some file) pick start stop old new) → AsksOf (Some file) pick start stop old new
     of_some None file is p = absurd p
-    of_some (Some other) file is p = let same : other ≡ file = cc in subst (λ (f : List ℕ). AsksOf (Some f) options old new) same p
+    of_some (Some other) file is p = let same : other ≡ file = cc in subst (λ (f : List ℕ). AsksOf (Some f) pick start stop old new) same p
 
-    by : (o : Option (List ℕ)) → finmap.get known input ≡ o → AsksOf o options old new
+    by : (o : Option (List ℕ)) → finmap.get known input ≡ o → AsksOf o pick start stop old new
     by None is = missing (subst (λ (h : Option FileMap). IsMissing h input) (sym held) is)
     by (Some file) is =
         let here : IsMissing old.held input → ⊥ = λ gone. none_some (finmap.get known input) file is (subst (λ (h : Option FileMap). IsMissing h input) held gone) in
-        of_some (finmap.get known input) file is (subst (λ (h : Option FileMap). WhereKnown h input (λ file. AsksOf (Some file) options old new)) held (there here))
+        of_some (finmap.get known input) file is (subst (λ (h : Option FileMap). WhereKnown h input (λ file. AsksOf (Some file) pick start stop old new)) held (there here))
 
 -- an input that could not be opened
-pub asks_opening : (input : List ℕ) (options : Las2lasOptions) (old new : Outside) → (IsMissing old.held input → new.asked ≡ old.asked)
-    → ((IsMissing old.held input → ⊥) → WhereKnown old.held input (λ file. AsksAtMost (asked_to_open file) old new)) → AsksFor input options old new
-asks_opening input options old new missing opened =
-    by_input input options old new missing (λ there. known_more old.held input (λ file. AsksAtMost (asked_to_open file) old new) (λ file. AsksOf (Some file) options old new) (λ file most. (λ cause is. most, λ pieces are. let less = in_one options.sieve.pick (asked_to_open file) (bytes_in (parts_of file (range_in options.start options.stop file) pieces)) in omega (arith, most, less))) (opened there))
+pub asks_opening : (input : List ℕ) (pick : Pick) (start stop : ℕ) (old new : Outside) → (IsMissing old.held input → new.asked ≡ old.asked)
+    → ((IsMissing old.held input → ⊥) → WhereKnown old.held input (λ file. AsksAtMost (asked_to_open file) old new)) → AsksFor input pick start stop old new
+asks_opening input pick start stop old new missing opened =
+    by_input input pick start stop old new missing (λ there. known_more old.held input (λ file. AsksAtMost (asked_to_open file) old new) (λ file. AsksOf (Some file) pick start stop old new) (λ file most. (λ cause is. most, λ pieces are. let less = in_one pick (asked_to_open file) (bytes_in (parts_of file (range_in start stop file) pieces)) in omega (arith, most, less))) (opened there))
 
 -- no file that was asked for anything
-asks_nothing : (input : List ℕ) (options : Las2lasOptions) (old new : Outside) → new ≡ old → AsksFor input options old new
-asks_nothing input options old new same =
+asks_nothing : (input : List ℕ) (pick : Pick) (start stop : ℕ) (old new : Outside) → new ≡ old → AsksFor input pick start stop old new
+asks_nothing input pick start stop old new same =
     let none : new.asked ≡ old.asked = ap (λ (o : Outside). o.asked) same in
-    by_input input options old new (λ missing. none) (where_there old.held input (λ file. AsksOf (Some file) options old new) (λ file. (λ cause is. omega (arith, none), λ pieces are. omega (arith, none))))
+    by_input input pick start stop old new (λ missing. none) (where_there old.held input (λ file. AsksOf (Some file) pick start stop old new) (λ file. (λ cause is. omega (arith, none), λ pieces are. omega (arith, none))))
 
 if_less : (b : Bool) (n : ℕ) → cond b 0 n ≤ n
 if_less true n = omega arith
@@ -105,31 +105,31 @@ in_all Lowest opening more = omega arith
 in_all Highest opening more = omega arith
 
 -- an input that was opened
-pub asks_both : (reader : ReaderSeen) (input : List ℕ) (options : Las2lasOptions) (old mid new : Outside) → WhereKnown old.held input (StandsFor reader)
+pub asks_both : (reader : ReaderSeen) (input : List ℕ) (pick : Pick) (start stop : ℕ) (old mid new : Outside) → WhereKnown old.held input (StandsFor reader)
     → ((IsMissing old.held input → ⊥) → WhereKnown old.held input (λ file. AsksAtMost (asked_to_open file) old mid))
     → WhereKnown old.held input (λ file. (pieces : List Piece) → ArePieces file pieces
-    → AsksAtMost (in_first_reading options.sieve.pick (asked_to_open file + bytes_in (parts_of file (range_in options.start options.stop file) pieces))
-    + bytes_in (parts_of file (range_in options.start options.stop file) pieces)) mid new)
-    → AsksFor input options old new
-asks_both reader input options old mid new stands opened rest =
-    let more_of : (file : List ℕ) → List Piece → ℕ = λ file pieces. bytes_in (parts_of file (range_in options.start options.stop file) pieces) in
+    → AsksAtMost (in_first_reading pick (asked_to_open file + bytes_in (parts_of file (range_in start stop file) pieces))
+    + bytes_in (parts_of file (range_in start stop file) pieces)) mid new)
+    → AsksFor input pick start stop old new
+asks_both reader input pick start stop old mid new stands opened rest =
+    let more_of : (file : List ℕ) → List Piece → ℕ = λ file pieces. bytes_in (parts_of file (range_in start stop file) pieces) in
     let Opened : List ℕ → Type 0 = λ file. AsksAtMost (asked_to_open file) old mid in
-    let Rest : List ℕ → Type 0 = λ file. (pieces : List Piece) → ArePieces file pieces → AsksAtMost (in_first_reading options.sieve.pick (asked_to_open file + more_of file pieces) + more_of file pieces) mid new in
-    by_input input options old new (not_missing old.held input (StandsFor reader) stands) (λ there.
-    known_three old.held input (StandsFor reader) Opened Rest (λ file. AsksOf (Some file) options old new)
+    let Rest : List ℕ → Type 0 = λ file. (pieces : List Piece) → ArePieces file pieces → AsksAtMost (in_first_reading pick (asked_to_open file + more_of file pieces) + more_of file pieces) mid new in
+    by_input input pick start stop old new (not_missing old.held input (StandsFor reader) stands) (λ there.
+    known_three old.held input (StandsFor reader) Opened Rest (λ file. AsksOf (Some file) pick start stop old new)
     (λ file s front more. (
       λ cause is. absurd (none_is_some cause (refused_once file None (Some cause) s.accepted is)),
       λ pieces are.
           let last = more pieces are in
-          let all = in_all options.sieve.pick (asked_to_open file) (more_of file pieces) in
+          let all = in_all pick (asked_to_open file) (more_of file pieces) in
           omega (arith, front, last, all),
     ))
     stands (opened there) rest)
 
 -- an input that was opened, and not read
-pub asks_opened : (reader : ReaderSeen) (input : List ℕ) (options : Las2lasOptions) (old mid : Outside) → WhereKnown old.held input (StandsFor reader)
-    → ((IsMissing old.held input → ⊥) → WhereKnown old.held input (λ file. AsksAtMost (asked_to_open file) old mid)) → AsksFor input options old mid
-asks_opened reader input options old mid stands opened = asks_opening input options old mid (not_missing old.held input (StandsFor reader) stands) opened
+pub asks_opened : (reader : ReaderSeen) (input : List ℕ) (pick : Pick) (start stop : ℕ) (old mid : Outside) → WhereKnown old.held input (StandsFor reader)
+    → ((IsMissing old.held input → ⊥) → WhereKnown old.held input (λ file. AsksAtMost (asked_to_open file) old mid)) → AsksFor input pick start stop old mid
+asks_opened reader input pick start stop old mid stands opened = asks_opening input pick start stop old mid (not_missing old.held input (StandsFor reader) stands) opened
 
 -- what is asked for in a first reading, in which the input is opened again
 in_first : (pick : Pick) (opening more looked again : ℕ) → (pick ≡ First → ⊥) → looked ≤ more → again ≤ opening → looked + again ≤ in_first_reading pick (opening + more)
@@ -187,24 +187,31 @@ pub asks_stopped : (input : List ℕ) (start stop : ℕ) (pick : Pick) (old new 
     → AsksAtMost (in_first_reading pick (asked_to_open file + bytes_in (parts_of file (range_in start stop file) pieces)) + bytes_in (parts_of file (range_in start stop file) pieces)) old new)
 asks_stopped input start stop pick old new asked = known_more old.held input _ _ (λ file h pieces are. let most = h pieces are in omega (arith, most)) asked
 
--- of words that were read
+-- of words that were read: what the command asks, if what asks nothing is no exception
+asks_by : (said : Said) (read : Result Command WordFault) (work : Work) (workers : ℕ) (old new : Outside)
+    → IsRead said read → said ≡ asks (record { work = work; workers = workers })
+    → ((f : WordFault) → read ≡ Err f → new ≡ old)
+    → ((command : Command) → read ≡ Ok command → WorkAsks (work_by command) old new)
+    → (new ≡ old → WorkAsks work old new) → WorkAsks work old new
+asks_by said (Ok command) work workers old new is asked unread obeyed nothing =
+    let same : asks (asked_by command) ≡ asks (record { work = work; workers = workers }) = sym is ∙ asked in
+    subst (λ (w : Work). WorkAsks w old new) (same_work (asked_by command) (record { work = work; workers = workers }) same) (obeyed command refl)
+  where
+    same_work : (a b : Asked) → asks a ≡ asks b → a.work ≡ b.work
+    same_work a b e = let inner : a ≡ b = cc in ap (λ (x : Asked). x.work) inner
+asks_by said (Err (fault.Usage index)) work workers old new is asked unread obeyed nothing = absurd (apart (record { work = work; workers = workers }) index (sym asked ∙ is))
+  where
+    apart : (asked : Asked) (index : ℕ) → asks asked ≡ usage index → ⊥
+    apart asked index e = absurd (cc)
+asks_by said (Err fault.Memory) work workers old new is asked unread obeyed nothing = nothing (unread fault.Memory refl)
+
 pub asks_read : (said : Said) (read : Result Command WordFault) (input : List ℕ) (options : Las2lasOptions) (workers : ℕ) (old new : Outside)
     → IsRead said read → said ≡ asks (record { work = reads input (las2las options); workers = workers })
     → ((f : WordFault) → read ≡ Err f → new ≡ old)
     → ((command : Command) → read ≡ Ok command → WorkAsks (work_by command) old new)
-    → AsksFor input options old new
-asks_read said (Ok command) input options workers old new is asked unread work =
-    let same : asks (asked_by command) ≡ asks (record { work = reads input (las2las options); workers = workers }) = sym is ∙ asked in
-    let by : work_by command ≡ reads input (las2las options) = work_same (asked_by command) (record { work = reads input (las2las options); workers = workers }) same in
-    subst (λ (w : Work). WorkAsks w old new) by (work command refl)
-  where
-    work_same : (a b : Asked) → asks a ≡ asks b → a.work ≡ b.work
-    work_same a b e = let inner : a ≡ b = cc in ap (λ (x : Asked). x.work) inner
-asks_read said (Err (fault.Usage index)) input options workers old new is asked unread work = absurd (apart (record { work = reads input (las2las options); workers = workers }) index (sym asked ∙ is))
-  where
-    apart : (asked : Asked) (index : ℕ) → asks asked ≡ usage index → ⊥
-    apart asked index e = absurd (cc)
-asks_read said (Err fault.Memory) input options workers old new is asked unread work = asks_nothing input options old new (unread fault.Memory refl)
+    → AsksFor input options.sieve.pick options.start options.stop old new
+asks_read said read input options workers old new is asked unread obeyed =
+    asks_by said read (reads input (las2las options)) workers old new is asked unread obeyed (asks_nothing input options.sieve.pick options.start options.stop old new)
 
 -- of a command that was obeyed
 pub asks_obeyed : (said : Result Command WordFault) (own command : Command) (old new : Outside) → said ≡ Ok own → said ≡ Ok command → WorkAsks (work_by own) old new → WorkAsks (work_by command) old new
@@ -215,3 +222,30 @@ asks_obeyed said own command old new is are work = subst (λ (x : Command). Work
 
 pub not_both : (said : Result Command WordFault) (command : Command) (f : WordFault) → said ≡ Ok command → said ≡ Err f → ⊥
 not_both said command f is was = let clash : ◌≡◌ {A = Result Command WordFault} (Ok command) (Err f) = sym is ∙ was in absurd (cc)
+
+-- the same of a command that takes all records of its input
+pub asks_whole : (said : Said) (read : Result Command WordFault) (input : List ℕ) (own : OneInput) (workers : ℕ) (old new : Outside)
+    → IsRead said read → said ≡ asks (record { work = reads input own; workers = workers })
+    → ((f : WordFault) → read ≡ Err f → new ≡ old)
+    → ((command : Command) → read ≡ Ok command → WorkAsks (work_by command) old new)
+    → TakesAll own → AsksWhole input old new
+asks_whole said read input (las2las options) workers old new is asked unread obeyed whole = absurd whole
+asks_whole said read input (laszip options) workers old new is asked unread obeyed whole =
+    asks_by said read (reads input (laszip options)) workers old new is asked unread obeyed (asks_nothing input First 0 (2 ^ 32 - 1) old new)
+asks_whole said read input (lasinfo options) workers old new is asked unread obeyed whole =
+    asks_by said read (reads input (lasinfo options)) workers old new is asked unread obeyed (asks_nothing input First 0 (2 ^ 32 - 1) old new)
+asks_whole said read input (lassplit options) workers old new is asked unread obeyed whole =
+    asks_by said read (reads input (lassplit options)) workers old new is asked unread obeyed (asks_nothing input First 0 (2 ^ 32 - 1) old new)
+
+-- an input that was opened, and of which all records are read
+pub asks_all : (reader : ReaderSeen) (input : List ℕ) (old mid new : Outside) → IsNewReader input reader → IsHead reader.head.bytes → WhereKnown old.held input (StandsFor reader)
+    → ((IsMissing old.held input → ⊥) → WhereKnown old.held input (λ file. AsksAtMost (asked_to_open file) old mid)) → AsksAtMost (bytes_left reader) mid new → AsksWhole input old new
+asks_all reader input old mid new fresh head stands opened rest =
+    let points = points_of reader.head.bytes in
+    let first : 0 ≡ min 0 points = omega arith in
+    let last : points ≡ min (2 ^ 32 - 1) points = omega (arith, head.points) in
+    let range_at : ℕ → ℕ → Range = λ start stop. record { start = start; stop = stop } in
+    let range : reader.range ≡ range_at (min 0 points) (min (2 ^ 32 - 1) points) = fresh.whole.all ∙ ap (λ (n : ℕ). range_at n points) first ∙ ap (range_at (min 0 points)) last in
+    asks_both reader input First 0 (2 ^ 32 - 1) old mid new stands opened
+    (known_more old.held input (StandsFor reader) (λ file. (pieces : List Piece) → ArePieces file pieces → AsksAtMost (in_first_reading First (asked_to_open file + bytes_in (parts_of file (range_in 0 (2 ^ 32 - 1) file) pieces)) + bytes_in (parts_of file (range_in 0 (2 ^ 32 - 1) file) pieces)) mid new)
+    (λ file s. λ pieces are. omega (arith, rest, left_bytes reader file pieces 0 (2 ^ 32 - 1) s fresh.unread range are)) stands)

@@ -3,9 +3,9 @@ use Rattle.std.proofs.Common.{◌≡◌, ◌≢◌, ◌≤◌, ◌⊎◌, inl, i
 use Rattle.las_outside.specs.Files.{FileMap}
 use Rattle.las_outside.specs.Outside.{Later}
 use Rattle.las_outside.specs.Sinks.{Puts}
-use Rattle.las_words.specs.Asked.{Las2lasOptions, las2las, reads}
+use Rattle.las_words.specs.Asked.{Las2lasOptions, OneInput, las2las, reads}
 use Rattle.las_words.specs.Says as words
-use Rattle.las_run.specs.Asking.{AsksFor}
+use Rattle.las_run.specs.Asking.{AsksFor, AsksWhole, TakesAll}
 use Rattle.las_run.specs.Endings.{Cause, Done, Memory, Usage, Unread, Unwritten, Refused, Differs, HasTooMany, Ending, status_of}
 use Rattle.las_run.specs.Ends.{Ends, EndsAs, IsTheEnding}
 use Rattle.las_run.specs.Lines.{line_of}
@@ -90,10 +90,15 @@ module _ (run : RunSeen) where
   -- how much `las2las` asks for
   abbrev pub Asks : Type 0
   Asks = (input : List ℕ) (options : Las2lasOptions) (workers : ℕ) → run.task.said ≡ words.asks (record { work = reads input (las2las options); workers = workers })
-      → AsksFor input options run.files run.files_now
+      → AsksFor input options.sieve.pick options.start options.stop run.files run.files_now
 
-  pub keeps : (cause : Cause) → run.status ≡ status_of cause → Puts (line_of cause) run.err run.err_now → Ends run.task (change_of run) cause → EndsUnasked → Asks → Later run.files run.files_now → run.status ≤ 6 → KeepsPromises run
-  keeps cause is line e unasked asks later few =
+  -- and the commands that take all records
+  abbrev pub AsksAll : Type 0
+  AsksAll = (input : List ℕ) (own : OneInput) (workers : ℕ) → run.task.said ≡ words.asks (record { work = reads input own; workers = workers })
+      → TakesAll own → AsksWhole input run.files run.files_now
+
+  pub keeps : (cause : Cause) → run.status ≡ status_of cause → Puts (line_of cause) run.err run.err_now → Ends run.task (change_of run) cause → EndsUnasked → Asks → AsksAll → Later run.files run.files_now → run.status ≤ 6 → KeepsPromises run
+  keeps cause is line e unasked asks whole later few =
       let all : (known : FileMap) (ending : Ending) → IsDue run known ending → EndsUnlessExcused run known ending = λ known ending due. complete cause known ending (is, line) e due in
       let all_left : (known : FileMap) (ending : Ending) → IsDue run known ending → Leaves run known ending = λ known ending due. left run.task (change_of run) cause e known ending due.known_is due.defined in
       record {
@@ -108,6 +113,7 @@ module _ (run : RunSeen) where
         done = λ known held decided. done cause known (is, line) e held decided;
         complete = all;
         asks = asks;
+        asks_whole = whole;
         read = λ three. read_cause run.task (change_of run) cause e (sym is ∙ three);
         write = λ four. write_cause run.task (change_of run) cause e (sym is ∙ four);
         left = all_left;

@@ -1,9 +1,11 @@
 -- What the call that splits a file says of its outcome, as what `lassplit` makes of its input.
-use Rattle.std.proofs.Common.{◌≡◌, ◌≢◌, ◌⊎◌, inl, inr, ℕ, zero, suc, List, [], ◌∷◌, map, take, Option, Some, None, Ok, Err, refl, sym, ◌∙◌, ap, subst}
+use Rattle.std.proofs.Common.{◌≡◌, ◌≢◌, ◌⊎◌, ◌≤◌, inl, inr, ℕ, zero, suc, List, [], ◌∷◌, length, map, take, Option, Some, None, Ok, Err, refl, sym, ◌∙◌, ap, subst, arith}
+use Rattle.std.proofs.lemmas.List.{take_all}
 use Rattle.std.specs.FinMap as finmap
 use Rattle.las_filter.specs.declared.rule.Rule.{Rule}
 use Rattle.las_header.specs.declared.refusal.Refusal.{Refusal}
 use Rattle.las_header.specs.declared.refusal.Refusal.TheVariants.{BadChunk, TooManyParts}
+use Rattle.las_outside.specs.Drafts.{IsPatchedInPart}
 use Rattle.las_outside.specs.Faults.{Rose}
 use Rattle.las_outside.specs.Files.{FileMap, WhereKnown}
 use Rattle.las_outside.specs.Outside.{Outside}
@@ -12,6 +14,7 @@ use Rattle.las_outside.proofs.Texts.{with_more-none}
 use Rattle.laz_file.specs.declared.fault.Fault.{Fault}
 use Rattle.laz_file.specs.declared.fault.Fault.TheVariants as file
 use Rattle.laz_file.specs.Outputs as points
+use Rattle.laz_file.proofs.Patching.{all_patched}
 use Rattle.las_split.specs.Files.{with_files}
 use Rattle.las_split.specs.Outputs as split
 use Rattle.las_split.specs.Outputs.{LeavesParts, PartFile, all_finished, all_stopped, part_files}
@@ -44,11 +47,32 @@ first_outputs zero parts = refl
 first_outputs (suc k) [] = refl
 first_outputs (suc k) (p ∷ ps) = ap (λ (rest : List Output). output_of p.output p.records ∷ rest) (first_outputs k ps)
 
-unfinished_parts : (parts : List PartFile) (texts : List (List ℕ)) → split.AreUnfinished parts texts → AreUnfinished (part_outputs parts) texts
-unfinished_parts [] [] are = tt
-unfinished_parts [] (t ∷ ts) are = are
-unfinished_parts (p ∷ ps) [] are = are
-unfinished_parts (p ∷ ps) (t ∷ ts) are = (are.0, unfinished_parts ps ts are.1)
+begun_parts : (parts : List PartFile) (texts : List (List ℕ)) → split.AreBegun parts texts → AreUnfinished (part_outputs parts) texts
+begun_parts [] [] are = tt
+begun_parts [] (t ∷ ts) are = are
+begun_parts (p ∷ ps) [] are = are
+begun_parts (p ∷ ps) (t ∷ ts) are = (inl are.0, begun_parts ps ts are.1)
+
+draft_parts : (parts : List PartFile) (texts : List (List ℕ)) → split.AreDrafts parts texts → AreUnfinished (part_outputs parts) texts
+draft_parts [] [] are = tt
+draft_parts [] (t ∷ ts) are = are
+draft_parts (p ∷ ps) [] are = are
+draft_parts (p ∷ ps) (t ∷ ts) are =
+    let draft = points.draft_of p.output p.records in
+    (inl (length draft, are.0 ∙ sym (take_all (length draft) draft (omega arith))), draft_parts ps ts are.1)
+
+ending_parts : (parts : List PartFile) (texts : List (List ℕ)) → split.AreEnding parts texts → AreUnfinished (part_outputs parts) texts
+ending_parts [] ts are = absurd are
+ending_parts (p ∷ ps) [] are = are
+ending_parts (p ∷ ps) (t ∷ ts) (inl are) =
+    let draft = points.draft_of p.output p.records in
+    let patches = points.patches_of p.output p.records in
+    (inr (subst (IsPatchedInPart draft patches) (sym are.0) (all_patched draft patches)), ending_parts ps ts are.1)
+ending_parts (p ∷ ps) (t ∷ ts) (inr are) = (are.0, draft_parts ps ts are.1)
+
+unfinished_parts : (parts : List PartFile) (k : ℕ) (texts : List (List ℕ)) → split.AreBegun (take k parts) texts ⊎ ((length parts ≤ k) × split.AreEnding (take k parts) texts) → AreUnfinished (part_outputs (take k parts)) texts
+unfinished_parts parts k texts (inl are) = begun_parts (take k parts) texts are
+unfinished_parts parts k texts (inr are) = ending_parts (take k parts) texts are.1
 
 named_parts : (parts : List PartFile) (texts : List (List ℕ)) → split.named parts texts ≡ named (part_outputs parts) texts
 named_parts [] ts = refl
@@ -66,7 +90,7 @@ left_of_parts parts held now files left known =
       (
         left.0,
         left.1,
-        subst (λ (os : List Output). AreUnfinished os left.1) first (unfinished_parts (take left.0 parts) left.1 left.2),
+        subst (λ (os : List Output). AreUnfinished os left.1) first (unfinished_parts parts left.0 left.1 left.2),
         ap (λ (os : List Output). with_all files (named os left.1)) first,
       ),
     )

@@ -1,12 +1,12 @@
--- How many bytes of its input `las2las` asks for.
-use Rattle.std.specs.Prelude.{◌≡◌, ℕ, ◌+◌, ◌*◌, List, map, sum, Option, Some, None}
+-- How many bytes of its input a command asks for.
+use Rattle.std.specs.Prelude.{◌≡◌, ℕ, ◌+◌, ◌*◌, ◌-◌, ◌^◌, List, map, sum, Option, Some, None}
 use Rattle.std.specs.FinMap as finmap
 use Rattle.las_header.specs.declared.refusal.Refusal.{Refusal}
 use Rattle.las_outside.specs.Files.{FileMap}
 use Rattle.las_outside.specs.Outside.{Outside}
 use Rattle.las_thin.specs.declared.pick.Pick.{Pick}
 use Rattle.las_thin.specs.declared.pick.Pick.TheVariants.{First, Lowest, Highest}
-use Rattle.las_words.specs.Asked.{Las2lasOptions, Work, las2las, reads}
+use Rattle.las_words.specs.Asked.{OneInput, Work, las2las, lasinfo, lassplit, laszip, reads}
 use Rattle.laz_file.specs.Asking.{AsksAtMost, asked_to_open}
 use Rattle.laz_file.specs.Pieces.{ArePieces, Piece}
 use Rattle.laz_file.specs.Ranges.{parts_of}
@@ -31,20 +31,32 @@ in_first_reading Highest size = size
 
 -- What is asked of an input: nothing if it is missing; if it is refused when it is opened, at most what opening it
 -- takes; and else, in each reading, at most that, and the bytes of those of its pieces that meet the range.
-abbrev pub AsksOf : (input : Option (List ℕ)) → Las2lasOptions → (old new : Outside) → Type 0
-AsksOf None options old new = new.asked ≡ old.asked
-AsksOf (Some file) options old new =
+abbrev pub AsksOf : (input : Option (List ℕ)) → Pick → (start stop : ℕ) → (old new : Outside) → Type 0
+AsksOf None pick start stop old new = new.asked ≡ old.asked
+AsksOf (Some file) pick start stop old new =
     ((cause : Refusal) → IsRefusal file (Some cause) → AsksAtMost (asked_to_open file) old new)
-    × ((pieces : List Piece) → ArePieces file pieces
-    → AsksAtMost (in_readings options.sieve.pick
-    (asked_to_open file + bytes_in (parts_of file (range_in options.start options.stop file) pieces))) old new)
+    × ((pieces : List Piece) → ArePieces file pieces → AsksAtMost
+    (in_readings pick (asked_to_open file + bytes_in (parts_of file (range_in start stop file) pieces))) old new)
 
 -- If the files are known, no more is asked of the input of this name, however the run ends.
-abbrev pub AsksFor : (input : List ℕ) → Las2lasOptions → (old new : Outside) → Type 0
-AsksFor input options old new =
-    (known : FileMap) → old.held ≡ Some known → AsksOf (finmap.get known input) options old new
+abbrev pub AsksFor : (input : List ℕ) → Pick → (start stop : ℕ) → (old new : Outside) → Type 0
+AsksFor input pick start stop old new =
+    (known : FileMap) → old.held ≡ Some known → AsksOf (finmap.get known input) pick start stop old new
 
--- This holds of a command if it is `las2las`.
+-- The same of one reading, for all places that there may be: those of all records.
+abbrev pub AsksWhole : (input : List ℕ) → (old new : Outside) → Type 0
+AsksWhole input old new = AsksFor input First 0 (2 ^ 32 - 1) old new
+
+-- A command takes all records of its input.
+abbrev pub TakesAll : OneInput → Type 0
+TakesAll (las2las options) = ⊥
+TakesAll own = Unit {0}
+
+-- This holds of a command with one input.
 abbrev pub WorkAsks : Work → (old new : Outside) → Type 0
-WorkAsks (reads input (las2las options)) old new = AsksFor input options old new
+WorkAsks (reads input (las2las options)) old new =
+    AsksFor input options.sieve.pick options.start options.stop old new
+WorkAsks (reads input (laszip options)) old new = AsksWhole input old new
+WorkAsks (reads input (lasinfo options)) old new = AsksWhole input old new
+WorkAsks (reads input (lassplit options)) old new = AsksWhole input old new
 WorkAsks work old new = Unit {0}

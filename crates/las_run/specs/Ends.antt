@@ -17,7 +17,7 @@ use Rattle.laz_file.specs.Refusing.{IsRefusal}
 use Rattle.las_make.specs.declared.fault.MakeFault.{MakeFault}
 use Rattle.las_make.specs.declared.fault.MakeFault.TheVariants as made
 use Rattle.las_make.specs.declared.settings.Settings.{Settings}
-use Rattle.las_make.specs.Making.{LeavesPacked, with_made}
+use Rattle.las_make.specs.Making.{LeavesPackedInPart, with_made}
 use Rattle.las_merge.specs.declared.fault.MergeFault.{MergeFault}
 use Rattle.las_merge.specs.declared.fault.MergeFault.TheVariants as merge
 use Rattle.las_merge.specs.Inputs.{AreFirst, IfKnown, item_at}
@@ -120,11 +120,11 @@ ComesToInput inputs change name =
     × IfKnown change.files.held (λ known. (before : List (List ℕ)) × AreFirst known inputs before
     × (length before ≡ number))
 
--- `make` had come to read the file of this name again: its plain file, which stands whole, with nothing but the packed
--- one changed beside it; or the packed one, and both stand whole.
+-- `make` had come to read the file of this name again: its plain file, which stands whole, and of the packed one no
+-- more than a part of its draft; or the packed one, and both stand whole.
 abbrev pub ComesToMade : (output packed : List ℕ) → Settings → (chunk : ℕ) → Change → (name : List ℕ) → Type 0
 ComesToMade output packed settings chunk change name =
-    ((name ≡ output) × LeavesPacked output packed settings chunk change.files.held change.files_now.held)
+    ((name ≡ output) × LeavesPackedInPart output packed settings chunk change.files.held change.files_now.held)
     ⊎ ((name ≡ packed) × (change.files_now.held ≡ with_made output packed settings chunk change.files.held))
 
 -- The work had come to the file of this name.

@@ -6,12 +6,12 @@ use Rattle.las_outside.specs.Faults.{Rose}
 use Rattle.las_outside.specs.Files.{FileMap, IsMissing}
 use Rattle.las_outside.specs.Outside.{Later}
 use Rattle.las_outside.specs.Sinks.{Puts, written_after}
-use Rattle.las_words.specs.Asked.{Las2lasOptions, las2las, reads}
+use Rattle.las_words.specs.Asked.{Las2lasOptions, OneInput, las2las, reads}
 use Rattle.las_words.specs.Says as words
 use Rattle.laz_file.specs.Laws.{CanBePacked}
 use Rattle.laz_file.specs.Packing.{packed_file}
 use Rattle.laz_file.specs.Refusing.{IsRefusal}
-use Rattle.las_run.specs.Asking.{AsksFor}
+use Rattle.las_run.specs.Asking.{AsksFor, AsksWhole, TakesAll}
 use Rattle.las_run.specs.Endings.{Cause, ComesFirst, Done, Refused, Ending, status_of}
 use Rattle.las_run.specs.Ends.{Ends, IsTheEnding}
 use Rattle.las_run.specs.Headline.{IsLaszip, IsPackedOf, Refuses, Writes, unpacked}
@@ -53,7 +53,11 @@ pub record KeepsPromises (run : RunSeen) : Type 0 where
   -- all if it is missing. With the lowest or the highest of a cell the input is read twice, and this is asked for twice.
   pub asks : (input : List ℕ) (options : Las2lasOptions) (workers : ℕ)
       → run.task.said ≡ words.asks (record { work = reads input (las2las options); workers = workers })
-      → AsksFor input options run.files run.files_now
+      → AsksFor input options.sieve.pick options.start options.stop run.files run.files_now
+  -- So do `laszip`, `lasinfo` and `lassplit`, which take all records of their input: no piece is asked for twice.
+  pub asks_whole : (input : List ℕ) (own : OneInput) (workers : ℕ)
+      → run.task.said ≡ words.asks (record { work = reads input own; workers = workers })
+      → TakesAll own → AsksWhole input run.files run.files_now
   -- ---- faults, and what is left
   -- Status 3 comes only from an input that is known to be missing, or from a read that failed,
   pub read : run.status ≡ 3 → Any (IsMissing run.files.held) (inputs_of run.task.said)

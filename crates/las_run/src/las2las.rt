@@ -69,8 +69,8 @@ pub fn las2las<R: Threads + Sync, F: Files, O: Sink, G: Gate>(
       out = O.seen out.old;
       out_now = O.seen out.new;
     }) (cause_of (input.now ∷ []) result) }
-    ensures asks { AsksFor input.now (las2las_options output.now (steps_of plan.now) conversion (texts tallies.now))
-        (F.seen files.old) (F.seen files.new) }
+    ensures asks { AsksFor input.now conversion.pick conversion.start conversion.stop (F.seen files.old)
+        (F.seen files.new) }
     ensures later { Later (F.seen files.old) (F.seen files.new) }
 {
     let reader = open_input(alloc, files, 0, input)?;

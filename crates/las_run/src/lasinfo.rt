@@ -6,8 +6,10 @@ ghost use Rattle.las_outside.specs.Files.{WhereKnown};
 ghost use Rattle.las_outside.specs.Outside.{Later};
 ghost use Rattle.las_words.specs.Asked.{AreChosen, lasinfo, reads};
 ghost use Rattle.las_words.specs.Texts.{texts};
+ghost use Rattle.laz_file.specs.Asking.{AsksAtMost, bytes_left};
 ghost use Rattle.laz_file.specs.Reading.{AgreesWithHead, IsNewReader, StandsFor};
 ghost use Rattle.std.specs.Option.{option_map};
+ghost use Rattle.las_run.specs.Asking.{AsksWhole};
 ghost use Rattle.las_run.specs.Ends.{Ends, EndsMaking, cause_of, stopped_report};
 ghost use Rattle.las_run.specs.Runs.{task_with};
 ghost use Rattle.las_run.specs.Tools.{Reports};
@@ -45,6 +47,7 @@ pub fn lasinfo<R: Threads + Sync, F: Files, O: Sink, G: Gate>(
       out = O.seen out.old;
       out_now = O.seen out.new;
     }) (cause_of (input.now ∷ []) result) }
+    ensures asks { AsksWhole input.now (F.seen files.old) (F.seen files.new) }
     ensures later { Later (F.seen files.old) (F.seen files.new) }
 {
     let reader = open_input(alloc, files, 0, input)?;
@@ -77,6 +80,7 @@ fn inform<R: Threads + Sync, F: Files, O: Sink, G: Gate>(
           out = O.seen out.old;
           out_now = O.seen out.new;
         }) result }
+    ensures asked { AsksAtMost (bytes_left reader) (F.seen files.old) (F.seen files.new) }
     ensures later { Later (F.seen files.old) (F.seen files.new) }
 {
     let mut reader = reader;

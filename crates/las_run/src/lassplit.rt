@@ -5,8 +5,10 @@ ghost use Rattle.las_outside.specs.Files.{WhereKnown};
 ghost use Rattle.las_outside.specs.Outside.{Later};
 ghost use Rattle.las_outside.specs.Sinks.{SinkView};
 ghost use Rattle.las_words.specs.Asked.{lassplit, reads};
+ghost use Rattle.laz_file.specs.Asking.{AsksAtMost, bytes_left};
 ghost use Rattle.laz_file.specs.Reading.{AgreesWithHead, IsNewReader, StandsFor};
 ghost use Rattle.las_info.specs.Tallies.{TapSeen};
+ghost use Rattle.las_run.specs.Asking.{AsksWhole};
 ghost use Rattle.las_run.specs.Ends.{Ends, EndsMaking, cause_of, quiet, stopped_by};
 ghost use Rattle.las_run.specs.Runs.{task_with};
 ghost use Rattle.las_run.specs.Tools.{Splits};
@@ -41,6 +43,7 @@ pub fn lassplit<R: Threads + Sync, F: Files, G: Gate>(
       workers = workers;
     }))
         (quiet (F.seen files.old) (F.seen files.new) out) (cause_of (input.now ∷ []) result) }
+    ensures asks { AsksWhole input.now (F.seen files.old) (F.seen files.new) }
     ensures later { Later (F.seen files.old) (F.seen files.new) }
 {
     let reader = open_input(alloc, files, 0, input)?;
@@ -85,6 +88,7 @@ fn write_parts<R: Threads + Sync, F: Files, G: Gate>(
     ensures ends { (out : SinkView) → EndsMaking
         (Splits reader.name (string_bytes names.now.stem) (string_bytes names.now.end) rule.now)
         reader.name (quiet (F.seen files.old) (F.seen files.new) out) (stopped_by 0 result) }
+    ensures asked { AsksAtMost (bytes_left reader) (F.seen files.old) (F.seen files.new) }
     ensures later { Later (F.seen files.old) (F.seen files.new) }
 {
     match split(rt, alloc, files, gate, reader, names, rule, workers) {

@@ -88,11 +88,4 @@ module _ (task : Task) (bytes : ℕ → List ℕ) where
       by (m ∷ ms) (v ∷ vs) zero are within same is = (is, tt)
       by (m ∷ ms) (v ∷ vs) (suc j) are within same is = (are.0, by ms vs j are.1 (omega (arith, within)) (omega (arith, same)) is)
 
--- the same bytes, by another function
-pub writers_as : (task : Task) (f g : ℕ → List ℕ) (ns : List ℕ) (ws : List WriterSeen) → ((n : ℕ) → f n ≡ g n) → AreWriters task f ns ws → AreWriters task g ns ws
-writers_as task f g [] [] same are = tt
-writers_as task f g [] (w ∷ ws) same are = absurd are
-writers_as task f g (n ∷ ns) [] same are = absurd are
-writers_as task f g (n ∷ ns) (w ∷ ws) same are = (writer_as task n w (f n) (g n) (same n) are.0, writers_as task f g ns ws same are.1)
-
 -- ---- how long the records of a part are

@@ -51,8 +51,8 @@ AreDrafts [] (t ∷ ts) = ⊥
 AreDrafts (p ∷ ps) [] = ⊥
 AreDrafts (p ∷ ps) (t ∷ ts) = (t ≡ draft_of p.output p.records) × AreDrafts ps ts
 
--- these texts are the parts' while one after another is finished: the first are, the next is unfinished, and of each other
--- part the draft stands
+-- these texts are the parts' while one after another is finished: the first are, the next is unfinished, and of each
+-- other part the draft stands
 abbrev pub AreEnding : List PartFile → (texts : List (List ℕ)) → Type 0
 AreEnding [] ts = ⊥
 AreEnding (p ∷ ps) [] = ⊥
@@ -66,8 +66,8 @@ named [] ts = []
 named (p ∷ ps) [] = []
 named (p ∷ ps) (t ∷ ts) = (p.output.name, t) ∷ named ps ts
 
--- The first of the parts were created, and each of them is a prefix of its draft; or all were created, and they were being
--- finished in their order. Every other file is as before.
+-- The first of the parts were created, and each of them is a prefix of its draft; or all were created, and they were
+-- being finished in their order. Every other file is as before.
 abbrev pub LeavesParts : List PartFile → (old new : Option FileMap) → Type 0
 LeavesParts parts old new =
     (k : ℕ) × (texts : List (List ℕ))

@@ -34,7 +34,8 @@ LeavesUnfinished out records old new =
     ⊎ ((left : List ℕ) × IsUnfinished (draft_of out records) (patches_of out records) left
     × (new ≡ with_file old out.name left))
 
--- The files are as before, or of the output a part of its draft stands, and not all of it; every other file is as before.
+-- The files are as before, or of the output a part of its draft stands, and not all of it, and every other file is as
+-- before.
 abbrev pub LeavesInPart : Output → (records : List ℕ) → (old new : Option FileMap) → Type 0
 LeavesInPart out records old new =
     (new ≡ old)

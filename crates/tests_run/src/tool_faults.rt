@@ -95,13 +95,15 @@ impl Trial {
         Ok(files)
     }
 
-    // Whether every output that is there is unfinished.
+    // Whether every output that is there is unfinished, and none is begun to be finished before all before it are done.
     fn are_unfinished(&self, files: &MemFiles) -> bool {
+        let mut are_done = true;
         for output in &self.outputs {
-            if let Some(left) = files.get(output.name)
-                && !output.is_unfinished(left)
-            {
-                return false;
+            if let Some(left) = files.get(output.name) {
+                if !output.is_unfinished(left) || !(are_done || output.draft.starts_with(left)) {
+                    return false;
+                }
+                are_done = are_done && left == output.done.as_slice();
             }
         }
         true

@@ -80,14 +80,14 @@ returns-clause-ends g c =
 
 pub returns-in_err-reader-clause-asks : goal.returns-in_err-reader-clause-asks
 returns-in_err-reader-clause-asks g c =
-    let options = las2las_options c.args.output.now (steps_of c.args.plan.now) c.args.conversion (texts c.args.tallies.now) in
-    asks_opening c.args.input.now options (g.F.Files.seen c.args.files.now) (g.F.Files.seen c.open_input.new.files) c.in_err-reader.ensures.missing c.in_err-reader.ensures.asked_of
+    let places = c.args.conversion in
+    asks_opening c.args.input.now places.pick places.start places.stop (g.F.Files.seen c.args.files.now) (g.F.Files.seen c.open_input.new.files) c.in_err-reader.ensures.missing c.in_err-reader.ensures.asked_of
 
 pub returns-in-Err-clause-asks : goal.returns-in-Err-clause-asks
 returns-in-Err-clause-asks g c =
     let h = c.in_ok-reader.ensures in
-    let options = las2las_options c.args.output.now (steps_of c.args.plan.now) c.args.conversion (texts c.args.tallies.now) in
-    asks_opened c.in_ok-reader.reader c.args.input.now options (g.F.Files.seen c.args.files.now) (g.F.Files.seen c.open_input.new.files) h.stands h.asked_of
+    let places = c.args.conversion in
+    asks_opened c.in_ok-reader.reader c.args.input.now places.pick places.start places.stop (g.F.Files.seen c.args.files.now) (g.F.Files.seen c.open_input.new.files) h.stands h.asked_of
 
 pub returns-clause-asks : goal.returns-clause-asks
 returns-clause-asks g c =
@@ -98,9 +98,8 @@ returns-clause-asks g c =
     let new = g.F.Files.seen c.select.new.files in
     let input = c.args.input.now in
     let conversion = c.args.conversion in
-    let options = las2las_options c.args.output.now (steps_of c.args.plan.now) conversion (texts c.args.tallies.now) in
     let bytes : (file : List ℕ) → List Piece → ℕ = λ file pieces. bytes_in (parts_of file (range_in conversion.start conversion.stop file) pieces) in
     let Rest : List ℕ → Type 0 = λ file. (pieces : List Piece) → ArePieces file pieces
     → AsksAtMost (in_first_reading conversion.pick (asked_to_open file + bytes file pieces) + bytes file pieces) mid new in
     let rest = subst (λ (f : Option FileMap). WhereKnown f input Rest) h.held c.select.ensures.asked in
-    asks_both r input options old mid new h.stands h.asked_of rest
+    asks_both r input conversion.pick conversion.start conversion.stop old mid new h.stands h.asked_of rest

@@ -1,5 +1,6 @@
-use Rattle.std.proofs.Common.{◌≡◌, List, ℕ, map, subst}
+use Rattle.std.proofs.Common.{◌≡◌, ◌-◌, ◌^◌, List, ℕ, map, subst}
 use Rattle.std.proofs.lemmas.Result.{err_from_is_err_and}
+use Rattle.las_thin.specs.declared.pick.Pick.TheVariants.{First}
 use Rattle.las_words.specs.Asked.{Asked, lasinfo, reads}
 use Rattle.las_words.specs.Texts.{texts}
 use Rattle.laz_file.specs.Reading.{StandsFor}
@@ -7,6 +8,7 @@ use Rattle.laz_file.specs.Refusing.{IsAcceptedFile}
 use Rattle.las_run.specs.Ends.{Change, EndsMaking}
 use Rattle.las_run.specs.Runs.{task_with}
 use Rattle.las_run.specs.Tools.{Reports}
+use Rattle.las_run.proofs.Asking.{asks_all, asks_opening}
 use Rattle.las_run.proofs.Commands.{reads_one}
 use Rattle.las_run.proofs.Opening.{ends_making, ends_opening, known_more, making_after}
 use Rattle.las_run.proofs.lasinfo.lasinfo.Goals as goal
@@ -38,3 +40,12 @@ returns-clause-ends g c =
     let ends = making_after (Reports taps input tallies) input new out out_now old mid h.held h.faults h.writes c.inform.result made in
     let accepted = known_more old.held input (StandsFor r) IsAcceptedFile (λ file s. s.accepted) h.stands in
     ends_making (task_with taps asked) input (Reports taps input (texts c.args.tallies.now)) (reads_one taps input (lasinfo (record { tallies = texts c.args.tallies.now })) c.args.workers) change accepted c.inform.result ends
+
+pub returns-in_err-reader-clause-asks : goal.returns-in_err-reader-clause-asks
+returns-in_err-reader-clause-asks g c =
+    asks_opening c.args.input.now First 0 (2 ^ 32 - 1) (g.F.Files.seen c.args.files.now) (g.F.Files.seen c.open_input.new.files) c.in_err-reader.ensures.missing c.in_err-reader.ensures.asked_of
+
+pub returns-clause-asks : goal.returns-clause-asks
+returns-clause-asks g c =
+    let h = c.in_ok-reader.ensures in
+    asks_all c.in_ok-reader.reader c.args.input.now (g.F.Files.seen c.args.files.now) (g.F.Files.seen c.open_input.new.files) (g.F.Files.seen c.inform.new.files) h.fresh h.head h.stands h.asked_of c.inform.ensures.asked

@@ -1,6 +1,7 @@
-use Rattle.std.proofs.Common.{[], ◌∷◌, List, ℕ, Result, refl, sym, subst}
+use Rattle.std.proofs.Common.{◌-◌, ◌^◌, [], ◌∷◌, List, ℕ, Result, refl, sym, subst}
 use Rattle.std.specs.Prelude.{string_bytes}
 use Rattle.std.proofs.lemmas.Result.{err_from_is_err_and}
+use Rattle.las_thin.specs.declared.pick.Pick.TheVariants.{First}
 use Rattle.las_words.specs.Asked.{Asked, LassplitOptions, lassplit, reads}
 use Rattle.laz_file.specs.Reading.{StandsFor}
 use Rattle.laz_file.specs.Refusing.{IsAcceptedFile}
@@ -8,6 +9,7 @@ use Rattle.las_run.specs.declared.stop.Stop.{Stop}
 use Rattle.las_run.specs.Ends.{Ends, EndsMaking, cause_of, quiet, stopped_by}
 use Rattle.las_run.specs.Runs.{task_with}
 use Rattle.las_run.specs.Tools.{Splits}
+use Rattle.las_run.proofs.Asking.{asks_all, asks_opening}
 use Rattle.las_run.proofs.Commands.{reads_one}
 use Rattle.las_run.proofs.Endings.{left_before}
 use Rattle.las_run.proofs.Opening.{ends_making, ends_opening, known_more, making_after}
@@ -56,3 +58,17 @@ returns-clause-ends g c =
     let ends = making_after (Splits input stem end rule) input new out out old mid h.held h.faults h.writes outcome made in
     subst (λ (o : Result (Unit {0}) Stop). Ends (task_with taps asked) (quiet old new out) (cause_of (input ∷ []) o)) (sym c.stopped.ensures)
     (ends_making (task_with taps asked) input (Splits input stem end rule) (reads_one taps input (lassplit options) c.args.workers) (quiet old new out) accepted outcome ends)
+
+pub returns-in_err-reader-clause-asks : goal.returns-in_err-reader-clause-asks
+returns-in_err-reader-clause-asks g c =
+    asks_opening c.args.input.now First 0 (2 ^ 32 - 1) (g.F.Files.seen c.args.files.now) (g.F.Files.seen c.open_input.new.files) c.in_err-reader.ensures.missing c.in_err-reader.ensures.asked_of
+
+pub returns-in-Err-clause-asks : goal.returns-in-Err-clause-asks
+returns-in-Err-clause-asks g c =
+    let h = c.in_ok-reader.ensures in
+    asks_opening c.args.input.now First 0 (2 ^ 32 - 1) (g.F.Files.seen c.args.files.now) (g.F.Files.seen c.open_input.new.files) h.missing h.asked_of
+
+pub returns-clause-asks : goal.returns-clause-asks
+returns-clause-asks g c =
+    let h = c.in_ok-reader.ensures in
+    asks_all c.in_ok-reader.reader c.args.input.now (g.F.Files.seen c.args.files.now) (g.F.Files.seen c.open_input.new.files) (g.F.Files.seen c.write_parts.new.files) h.fresh h.head h.stands h.asked_of c.write_parts.ensures.asked

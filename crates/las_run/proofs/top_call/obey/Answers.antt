@@ -109,13 +109,35 @@ returns-in-Las2las-clause-asks g c =
     subst (λ (a : Asked). WorkAsks a.work (g.F.Files.seen c.args.files.now) (g.F.Files.seen c.las2las.new.files)) asked c.las2las.ensures.asks
 
 pub returns-in-Laszip-clause-asks : goal.returns-in-Laszip-clause-asks
-returns-in-Laszip-clause-asks g c = subst (λ (command : Command). WorkAsks (work_by command) (g.F.Files.seen c.args.files.now) (g.F.Files.seen c.laszip.new.files)) (sym c.in-Laszip.is) tt
+returns-in-Laszip-clause-asks g c =
+    let w = c.in-Laszip in
+    let asks_for : (input output : List ℕ) → Asked = λ input output. record { work = reads input (laszip (record { output = output; chunk = w.chunk })); workers = w.workers } in
+    let asked : asks_for c.deref.result.now c.deref-in-Laszip.result.now ≡ asked_by c.args.command.now =
+    ap (λ (i : List ℕ). asks_for i c.deref-in-Laszip.result.now) c.deref.ensures ∙ ap (asks_for (string_bytes w.input)) c.deref-in-Laszip.ensures ∙ sym (ap asked_by w.is) in
+    subst (λ (a : Asked). WorkAsks a.work (g.F.Files.seen c.args.files.now) (g.F.Files.seen c.laszip.new.files)) asked c.laszip.ensures.asks
 
 pub returns-in-Lasinfo-clause-asks : goal.returns-in-Lasinfo-clause-asks
-returns-in-Lasinfo-clause-asks g c = subst (λ (command : Command). WorkAsks (work_by command) (g.F.Files.seen c.args.files.now) (g.F.Files.seen c.lasinfo.new.files)) (sym c.in-Lasinfo.is) tt
+returns-in-Lasinfo-clause-asks g c =
+    let w = c.in-Lasinfo in
+    let asks_for : (input : List ℕ) (tallies : List (List ℕ)) → Asked = λ input tallies. record { work = reads input (lasinfo (record { tallies = tallies })); workers = w.workers } in
+    let asked : asks_for c.deref-in-Lasinfo.result.now (texts c.deref-in-Lasinfo-2.result.now) ≡ asked_by c.args.command.now =
+    ap (λ (i : List ℕ). asks_for i (texts c.deref-in-Lasinfo-2.result.now)) c.deref-in-Lasinfo.ensures
+    ∙ ap (λ ts. asks_for (string_bytes w.input) (texts ts)) c.deref-in-Lasinfo-2.ensures.value
+    ∙ sym (ap asked_by w.is) in
+    subst (λ (a : Asked). WorkAsks a.work (g.F.Files.seen c.args.files.now) (g.F.Files.seen c.lasinfo.new.files)) asked c.lasinfo.ensures.asks
 
 pub returns-in-Lassplit-clause-asks : goal.returns-in-Lassplit-clause-asks
-returns-in-Lassplit-clause-asks g c = subst (λ (command : Command). WorkAsks (work_by command) (g.F.Files.seen c.args.files.now) (g.F.Files.seen c.lassplit.new.files)) (sym c.in-Lassplit.is) tt
+returns-in-Lassplit-clause-asks g c =
+    let w = c.in-Lassplit in
+    let stem = c.deref-in-Lassplit-2.result.now in
+    let end = c.deref-in-Lassplit-3.result.now in
+    let asks_for : (input stem end : List ℕ) → Asked = λ input stem end. record { work = reads input (lassplit (record { stem = stem; end = end; rule = w.rule })); workers = w.workers } in
+    let asked : asks_for c.deref-in-Lassplit.result.now stem end ≡ asked_by c.args.command.now =
+    ap (λ (i : List ℕ). asks_for i stem end) c.deref-in-Lassplit.ensures
+    ∙ ap (λ (s : List ℕ). asks_for (string_bytes w.input) s end) c.deref-in-Lassplit-2.ensures
+    ∙ ap (asks_for (string_bytes w.input) (string_bytes w.stem)) c.deref-in-Lassplit-3.ensures
+    ∙ sym (ap asked_by w.is) in
+    subst (λ (a : Asked). WorkAsks a.work (g.F.Files.seen c.args.files.now) (g.F.Files.seen c.lassplit.new.files)) asked c.lassplit.ensures.asks
 
 pub returns-in-Lasmerge-clause-asks : goal.returns-in-Lasmerge-clause-asks
 returns-in-Lasmerge-clause-asks g c = subst (λ (command : Command). WorkAsks (work_by command) (g.F.Files.seen c.args.files.now) (g.F.Files.seen c.lasmerge.new.files)) (sym c.in-Lasmerge.is) tt

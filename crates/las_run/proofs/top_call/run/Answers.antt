@@ -5,8 +5,8 @@ use Rattle.las_run.specs.Runs.{task_of}
 use Rattle.las_run.specs.Endings.{status_of}
 use Rattle.las_run.specs.Ends.{cause_of, names_read, stop_of}
 use Rattle.las_run.specs.Seen.{RunSeen}
-use Rattle.las_run.proofs.Asking.{asks_read}
-use Rattle.las_run.proofs.Keeping.{Asks, EndsUnasked, keeps}
+use Rattle.las_run.proofs.Asking.{asks_read, asks_whole}
+use Rattle.las_run.proofs.Keeping.{Asks, AsksAll, EndsUnasked, keeps}
 use Rattle.las_run.proofs.Saying.{is_read_of, names_of_taps, not_read, two_or_one}
 use Rattle.las_run.proofs.top_call.run.Goals as goal
 
@@ -34,4 +34,6 @@ returns g c =
     (rw status_is (two_or_one names f.0), unread.1) in
     let asks : Asks run = λ input options workers asked.
     asks_read task.said said input options workers run.files run.files_now read asked (λ f unread. (c.work-outcome.ensures.unread f unread).1) c.work-outcome.ensures.asks in
-    keeps run (cause_of names c.work-outcome.result) is c.report.ensures.line (c.work-outcome.ensures.ends task refl read) unasked asks c.work-outcome.ensures.later c.status.ensures.known
+    let whole : AsksAll run = λ input own workers asked.
+    asks_whole task.said said input own workers run.files run.files_now read asked (λ f unread. (c.work-outcome.ensures.unread f unread).1) c.work-outcome.ensures.asks in
+    keeps run (cause_of names c.work-outcome.result) is c.report.ensures.line (c.work-outcome.ensures.ends task refl read) unasked asks whole c.work-outcome.ensures.later c.status.ensures.known
