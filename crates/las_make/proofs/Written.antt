@@ -148,5 +148,5 @@ ok_with P Q (Err e) to p = tt
 -- no bytes are asked for while an output is finished
 pub ended_asked : {T : Type 0} (r : Result T Fault) (old mid new : Outside) (name : List ℕ) (P : List ℕ → Type 0) → mid.asked ≡ old.asked → OnOk r (SameFaults mid new)
     → IfErr r (λ fault. (left : List ℕ) × P left × Stops fault (with_bytes old name left) new) → new.asked ≡ old.asked
-ended_asked (Ok x) old mid new name P same calm stops = calm.asked ∙ same
-ended_asked (Err fault) old mid new name P same calm stops = stops_asked fault (with_bytes old name stops.0) new stops.2
+ended_asked (Ok x) old mid new name P still calm stops = calm.asked ∙ still
+ended_asked (Err fault) old mid new name P still calm stops = stops_asked fault (with_bytes old name stops.0) new stops.2
