@@ -20,6 +20,7 @@ use Rattle.laz_file.proofs.Accepted.{accepted_is_head}
 use Rattle.laz_file.proofs.EvenBlocks.{even_in}
 use Rattle.laz_file.proofs.OneAnswer.{one_pieces}
 use Rattle.laz_file.proofs.OneBlock.{begins-with, only-blocks}
+use Rattle.laz_file.proofs.Whole.{none_some, some_same}
 use Rattle.las_convert.specs.Adding.{Keeping, kept_by}
 use Rattle.las_convert.specs.Converting.{AreFirstRecords, ConvertsBy, ConvertsOnce, ConvertsTwice, Keeps, kept_in}
 use Rattle.las_convert.specs.Laws.{ConvertsInOneWay}
@@ -27,12 +28,6 @@ use Rattle.las_convert.proofs.Adding.{IsKeeping}
 use Rattle.las_convert.proofs.Only.{HasRecords, raw_clash, same_refused, stays_in}
 use Rattle.las_convert.proofs.Passing.{kept_as_first, sieve_keeps}
 use Rattle.las_convert.proofs.Readings.{OnlyBy, once_only, once_same, only_by}
-
-none_some : {X : Type 0} (x : X) → None ≡ Some x → ⊥
-none_some x e = absurd (cc)
-
-some_same : {X : Type 0} (x y : X) → Some x ≡ Some y → x ≡ y
-some_same x y e = cc
 
 module _ (keeping : Keeping) (file : List ℕ) (range : Range) (small : IsBytes file) (one : HasOneInRange) where
   -- of the same blocks the same records are kept, and the same one is refused

@@ -15,16 +15,11 @@ use Rattle.laz_file.proofs.EvenBlocks.{even_of}
 use Rattle.laz_file.proofs.FirstPieces.{more_first}
 use Rattle.laz_file.proofs.OneAnswer.{one_pieces}
 use Rattle.laz_file.proofs.OneBlock.{begins-with, only-blocks}
+use Rattle.laz_file.proofs.Whole.{none_some, some_same}
 use Rattle.las_split.specs.Laws.{SplitsInOneWay}
 use Rattle.las_split.specs.Splitting.{EndsTooMany, HaveParts, SplitsTo, records_in_blocks}
 use Rattle.las_split.proofs.BatchesTaken.{head_some}
 use Rattle.las_split.proofs.Splits.{more_records, not_too_many, same_records}
-
-none_some : {X : Type 0} (x : X) → None ≡ Some x → ⊥
-none_some x e = absurd (cc)
-
-some_same : {X : Type 0} (x y : X) → Some x ≡ Some y → x ≡ y
-some_same x y e = cc
 
 module _ (rule : Rule) (file : List ℕ) (accepted : IsAcceptedFile file) (small : IsBytes file) (held : HasOneBlock) (one : HasOneRecords) where
   positive : 0 < record_length_of (head_of file)

@@ -18,10 +18,10 @@ use Rattle.laz_file.proofs.Packed.{plain-is, unpacks_again}
 use Rattle.laz_file.proofs.Sums.{sum-first, sum-sizes, sum-times}
 
 -- ---- packed forms
-some_same : (x y : Piece) → Some x ≡ Some y → x ≡ y
+pub some_same : {X : Type 0} (x y : X) → Some x ≡ Some y → x ≡ y
 some_same x y e = cc
 
-none_some : (x : Piece) → None ≡ Some x → ⊥
+pub none_some : {X : Type 0} (x : X) → None ≡ Some x → ⊥
 none_some x e = absurd (cc)
 
 -- each of the pieces holds a block
