@@ -11,4 +11,5 @@ pub mod Looks
 pub mod Wholes
 pub mod Asked
 pub mod AllPlaces
+pub mod OneWay
 mod Examples

@@ -39,7 +39,7 @@ pub record OnlyBy (pick : Pick) (keeping : Keeping) (file : List ℕ) (range : R
   pub are : ConvertsBy pick keeping file range records refusal
   pub only : (others : List ℕ) (other : Option Refusal) → ConvertsBy pick keeping file range others other → (others ≡ records) × (other ≡ refusal)
 
-once_only : (one two : Keeping) → ((records : List (List ℕ)) → one records ≡ two records) → (file : List ℕ) (range : Range) (records : List ℕ) (refusal : Option Refusal) → OnlyOnce one file range records refusal → OnlyBy First two file range records refusal
+pub once_only : (one two : Keeping) → ((records : List (List ℕ)) → one records ≡ two records) → (file : List ℕ) (range : Range) (records : List ℕ) (refusal : Option Refusal) → OnlyOnce one file range records refusal → OnlyBy First two file range records refusal
 once_only one two same file range records refusal o = record {
   are = once_same one two same file range records refusal o.are;
   only = λ others other c. o.only others other (once_same two one (λ rs. sym (same rs)) file range others other c);

@@ -6,10 +6,12 @@ use Rattle.las_header.specs.Fields.{head_of}
 use Rattle.las_filter.specs.Kept.{Steps, kept}
 use Rattle.las_thin.specs.Kept.{kept_behind}
 use Rattle.las_thin.specs.Sieving.{IsFirst, Settings, all_pass}
+use Rattle.laz_range.specs.Span.{IsBytes}
 use Rattle.laz_file.specs.Pieces.{ArePieces, Piece}
 use Rattle.laz_file.specs.Ranges.{Range, whole_range}
 use Rattle.laz_file.specs.Records.{AreRecordsOf, HoldBlocks}
-use Rattle.las_convert.specs.Converting.{ConvertsOnce, ConvertsTo, Keeps}
+use Rattle.laz_file.specs.Refusing.{IsAcceptedFile}
+use Rattle.las_convert.specs.Converting.{ConvertsOnce, ConvertsTo, Keeps, OnlyConverts}
 
 -- a bad chunk as a refusal
 abbrev pub bad_chunk : Option ℕ → Option Refusal
@@ -47,3 +49,10 @@ ConvertsWholeFiles = (plan : Steps) (settings : Settings) (file records : List �
 abbrev pub ConvertsAsThePlan : Type 0
 ConvertsAsThePlan = (plan : Steps) (file : List ℕ) (range : Range) (records : List ℕ) (refusal : Option Refusal)
     → ConvertsTo plan all_pass file range records refusal ↔ ConvertsOnce (kept plan) file range records refusal
+
+-- Whatever the bytes of an accepted file are, what converting a range of its records gives is the only thing that it can
+-- give.
+abbrev pub ConvertsInOneWay : Type 0
+ConvertsInOneWay = (plan : Steps) (settings : Settings) (file : List ℕ) (range : Range) (records : List ℕ)
+    (refusal : Option Refusal) → IsAcceptedFile file → IsBytes file
+    → ConvertsTo plan settings file range records refusal → OnlyConverts plan settings file range records refusal

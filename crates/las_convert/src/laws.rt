@@ -1,6 +1,8 @@
-//! What converting all places gives, as the contract of a function that does nothing.
+//! What converting gives of all places, and that it gives one thing alone, as contracts of functions that do nothing.
 ghost use Rattle.las_convert.specs.Laws.{ConvertsAllRecords, ConvertsAsThePlan, ConvertsFirstRecords};
-ghost use Rattle.las_convert.specs.Laws.{ConvertsWholeFiles};
+ghost use Rattle.las_convert.specs.Laws.{ConvertsInOneWay, ConvertsWholeFiles};
+
+use laz_file::records_have_one_answer;
 
 /// To convert the range of all places is to convert the records of the file: all of them, or those before its first bad
 /// chunk, or those before the first that is kept and has a coordinate out of range. If the lowest or the highest of a
@@ -11,3 +13,11 @@ pub fn converting_all_places()
     ensures whole { ConvertsWholeFiles }
     ensures plan { ConvertsAsThePlan }
 {}
+
+/// Whatever the bytes of an accepted file are, what converting a range of its records gives is the only thing that it can
+/// give: one list of records, and one refusal or none.
+pub fn converting_ends_in_one_way()
+    ensures { ConvertsInOneWay }
+{
+    records_have_one_answer();
+}

@@ -18,3 +18,4 @@ pub mod KeptPacked
 pub mod CopiedOnce
 pub mod CopiedLaws
 pub mod CopiedWhole
+pub mod OneWay

@@ -68,6 +68,18 @@ if_looked Highest plan settings file range records None placed looked converts =
 if_looked Highest plan settings file range records (Some (BadChunk i)) placed looked converts = absurd (none_is_some i (looked.1.only converts.0 (Some i) converts.1).1)
 if_looked Highest plan settings file range records (Some cause) placed looked converts = refl
 
+-- what converting gives alone has one ending
+pub only_conversion : (size : Option ℕ) (range : List ℕ → Range) (chosen : List TapSeen) (input output : List ℕ) (plan : Steps) (settings : Settings) (file records : List ℕ) (refusal : Option Refusal)
+    → OnlyConverts plan settings file (range file) records refusal → IsOnlyEnding (ConvertsIn size range chosen input output plan settings file) (converted size chosen input output settings.pick file records refusal)
+only_conversion size range chosen input output plan settings file records refusal only = record {
+  makes = (records, refusal, only.are, refl);
+  only = λ other makes.
+      let same = only.only makes.0 makes.1 makes.2 in
+      makes.3
+      ∙ ap (λ (rs : List ℕ). converted size chosen input output settings.pick file rs makes.1) same.0
+      ∙ ap (converted size chosen input output settings.pick file records) same.1;
+}
+
 -- ---- what `las2las` makes of an input
 module _ (size : Option ℕ) (range : List ℕ → Range) (chosen : List TapSeen) (input output : List ℕ) (plan : Steps) (settings : Settings) (change : Change) where
   abbrev Makes : List ℕ → Ending → Type 0
@@ -94,12 +106,7 @@ module _ (size : Option ℕ) (range : List ℕ → Range) (chosen : List TapSeen
   }
 
   only_ending : (file records : List ℕ) (refusal : Option Refusal) → OnlyConverts plan settings file (range file) records refusal → IsOnlyEnding (Makes file) (ending_of file records refusal)
-  only_ending file records refusal only = record {
-    makes = (records, refusal, only.are, refl);
-    only = λ other makes.
-        let same = only.only makes.0 makes.1 makes.2 in
-        makes.3 ∙ ap (λ (rs : List ℕ). ending_of file rs makes.1) same.0 ∙ ap (ending_of file records) same.1;
-  }
+  only_ending file records refusal only = only_conversion size range chosen input output plan settings file records refusal only
 
   -- ---- all is done
   abbrev pub HasKept : (text : List ℕ) → List ℕ → Type 0

@@ -76,7 +76,7 @@ module _ (taps : List TapSeen) (options : LasmergeOptions) (workers : ℕ) where
   is_input number within = (number, within, get_or_default options.inputs number (item_at options.inputs number) [] within)
 
   -- of inputs that are kept from being copied
-  kept_ending : (known : FileMap) (fault : MergeFault) → IsKeptFromCopying known options.inputs fault → IsTheEnding task known (ends_at_once (cause_of_fault options.inputs fault))
+  pub kept_ending : (known : FileMap) (fault : MergeFault) → IsKeptFromCopying known options.inputs fault → IsTheEnding task known (ends_at_once (cause_of_fault options.inputs fault))
   kept_ending known fault kept = record { defined = inl (fault, kept, refl); only = only }
     where
       only : (other : Ending) → Runs known other → other ≡ ends_at_once (cause_of_fault options.inputs fault)
@@ -84,7 +84,7 @@ module _ (taps : List TapSeen) (options : LasmergeOptions) (workers : ℕ) where
       only other (inr m) = absurd (kept_or_copied known options.inputs m.0 m.1 fault kept m.2)
 
   -- and of those that can be
-  copied_ending : (known : FileMap) (merged : List (List ℕ)) (parts : List (List Chunk)) → CanCopyFrom known options.inputs merged parts → IsTheEnding task known (copies options.output (copied_file merged (all_of parts)))
+  pub copied_ending : (known : FileMap) (merged : List (List ℕ)) (parts : List (List Chunk)) → CanCopyFrom known options.inputs merged parts → IsTheEnding task known (copies options.output (copied_file merged (all_of parts)))
   copied_ending known merged parts can = record { defined = inr (merged, parts, can, refl); only = only }
     where
       only : (other : Ending) → Runs known other → other ≡ copies options.output (copied_file merged (all_of parts))

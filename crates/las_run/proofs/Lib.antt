@@ -14,6 +14,7 @@ pub mod Parting
 pub mod Rejoining
 pub mod Reporting
 pub mod Running
+pub mod OneEnding
 pub mod Saying
 pub mod Splitting
 pub mod Wholes

@@ -88,7 +88,7 @@ module _ (taps : List TapSeen) (options : LasmergeOptions) (workers : ℕ) where
   is_input number within = (number, within, get_or_default inputs number (item_at inputs number) [] within)
 
   -- of inputs that are kept from being merged
-  kept_ending : (known : FileMap) (fault : MergeFault) → IsKeptBy known inputs fault → IsTheEnding task known (ends_at_once (cause_of_fault inputs fault))
+  pub kept_ending : (known : FileMap) (fault : MergeFault) → IsKeptBy known inputs fault → IsTheEnding task known (ends_at_once (cause_of_fault inputs fault))
   kept_ending known fault kept = record { defined = inl (fault, kept, refl); only = only }
     where
       only : (other : Ending) → Runs known other → other ≡ ends_at_once (cause_of_fault inputs fault)
@@ -96,7 +96,7 @@ module _ (taps : List TapSeen) (options : LasmergeOptions) (workers : ℕ) where
       only other (inr m) = absurd (kept_or_merged known inputs m.0 fault kept m.3)
 
   -- and of those that can be
-  merged_ending : (known : FileMap) (merged : List (List ℕ)) (records : List ℕ) (bad : Option BadPlace) → CanMerge known inputs merged → OnlyMerges merged records bad → IsTheEnding task known (merges inputs output size merged records bad)
+  pub merged_ending : (known : FileMap) (merged : List (List ℕ)) (records : List ℕ) (bad : Option BadPlace) → CanMerge known inputs merged → OnlyMerges merged records bad → IsTheEnding task known (merges inputs output size merged records bad)
   merged_ending known merged records bad can are = record { defined = inr (merged, records, bad, can, are.are, refl); only = only }
     where
       only : (other : Ending) → Runs known other → other ≡ merges inputs output size merged records bad

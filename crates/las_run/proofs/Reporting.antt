@@ -137,7 +137,7 @@ module _ (taps : List TapSeen) (input : List ℕ) (tallies : List (List ℕ)) (f
   abbrev ending_of : List (List ℕ) → Option ℕ → List Piece → Ending
   ending_of blocks bad pieces = reports input (report_of (chosen_taps taps tallies) file pieces (records_after (head_of file) (concat blocks))) bad
 
-  only_report : (blocks : List (List ℕ)) (bad : Option ℕ) (pieces : List Piece) → AreOnlyRecords file blocks bad → ArePieces file pieces
+  pub only_report : (blocks : List (List ℕ)) (bad : Option ℕ) (pieces : List Piece) → AreOnlyRecords file blocks bad → ArePieces file pieces
       → IsOnlyEnding (Reports taps input tallies file) (ending_of blocks bad pieces)
   only_report blocks bad pieces are listed = record {
     makes = (blocks, bad, pieces, are.are, listed, refl);

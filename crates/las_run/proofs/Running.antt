@@ -1,5 +1,5 @@
--- Which words and files have an ending, and that they have one alone.
-use Rattle.std.proofs.Common.{◌≡◌, inl, inr, ℕ, ◌+◌, Bool, true, false, if◌then◌else◌, nat_lt, List, [], ◌∷◌, ◌++◌, drop, length, map, take, Option, Some, None, refl, sym, ◌∙◌, ap, subst, arith}
+-- Which words and files have an ending.
+use Rattle.std.proofs.Common.{◌≡◌, inl, inr, ℕ, ◌+◌, Bool, true, false, if◌then◌else◌, nat_lt, List, [], ◌∷◌, ◌++◌, drop, length, map, Option, Some, None, refl, sym, ap, subst, arith}
 use Rattle.std.proofs.lemmas.List.{take_all}
 use Rattle.std.specs.FinMap as finmap
 use Rattle.std.specs.List.{concat}
@@ -18,14 +18,12 @@ use Rattle.laz_file.specs.Copying.{packed_output, plain_output}
 use Rattle.laz_file.specs.Outputs.{records_after}
 use Rattle.laz_file.specs.Packing.{packed_file}
 use Rattle.laz_file.specs.Pieces.{ArePieces, ArePiecesIf, Piece, piece_bytes, plain_pieces}
-use Rattle.laz_file.specs.Laws.{IsBadIf, pieces_before}
 use Rattle.laz_chunk.specs.Layouts.{record_length}
 use Rattle.laz_file.specs.Packing.{record_layout}
 use Rattle.laz_file.specs.Ranges.{Range, first_of, part_in, parts_if, parts_in, parts_of, taken_of}
-use Rattle.laz_file.specs.Records.{AreRead, AreRecordsIn, AreRecordsOf, HoldBlocks, HoldOnly, HoldsBlock, HoldsIf, cut_block, moved}
+use Rattle.laz_file.specs.Records.{AreRead, AreRecordsIn, AreRecordsOf, HoldBlocks, HoldsBlock, HoldsIf, cut_block, moved}
 use Rattle.laz_file.specs.Refusing.{IsRefusal, chunk_causes, tested_causes}
-use Rattle.laz_file.proofs.OneAnswer.{refused_once}
-use Rattle.laz_file.proofs.Whole.{hold-plain, read_once}
+use Rattle.laz_file.proofs.Whole.{hold-plain}
 use Rattle.laz_file.proofs.Packed.{packed_accepted, unpacks_again}
 use Rattle.las_convert.specs.Adding.{Keeping}
 use Rattle.las_convert.specs.Converting.{AreFirstRecords, ConvertsBy, ConvertsOnce, ConvertsTwice, kept_in}
@@ -38,68 +36,10 @@ use Rattle.las_merge.specs.Merging.{BadPlace}
 use Rattle.las_split.specs.Outputs.{part_files}
 use Rattle.las_split.specs.Splitting.{SplitsTo}
 use Rattle.las_split.proofs.SomeSplits.{splits_some}
-use Rattle.las_run.specs.Tools.{Converts, range_in, MergesIf, Reports, Splits, Zips, ZipsIf, cause_at, cause_by, chosen_taps, chunk_if, converted, part_outputs, report_of, reports, writes}
+use Rattle.las_run.specs.Tools.{Converts, range_in, MergesIf, Reports, Splits, ZipsIf, cause_at, cause_by, chosen_taps, chunk_if, converted, part_outputs, report_of, reports, writes}
 use Rattle.las_run.specs.Runs.{Accepts, Does, Makes, Opens, OpensIn, RunOf, RunsAs, Task}
-use Rattle.las_run.specs.EndingLaws.{HoldsOnce, LaszipEndsOnce, MissingInputsEnd, PackedFormsEnd, PlainHoldsOnce, PlainInputsEnd, WorkersDoNotMatter, WrongWordsEnd, input_of, with_one_worker}
-use Rattle.las_run.proofs.Commands.{reads_one_for}
+use Rattle.las_run.specs.EndingLaws.{MissingInputsEnd, PackedFormsEnd, PlainInputsEnd, WorkersDoNotMatter, WrongWordsEnd, input_of, with_one_worker}
 use Rattle.las_run.proofs.Headline.{is_packed_form}
-
--- ---- one ending
-some_cause : (a b : Refusal) → ◌≡◌ {A = Option Refusal} (Some a) (Some b) → a ≡ b
-some_cause a b e = cc
-
-none_cause : {X : Type 0} (c : Refusal) → ◌≡◌ {A = Option Refusal} None (Some c) → X
-none_cause c e = absurd (cc)
-
-one_accepted : (name file : List ℕ) (Makes : Ending → Type 0) (one other : Ending) → ((a b : Ending) → Makes a → Makes b → a ≡ b) → Accepts name file Makes one → Accepts name file Makes other → one ≡ other
-one_accepted name file Makes one other once (inl r) (inl s) = r.2 ∙ ap (λ (c : Refusal). ends_at_once (Refused name c)) (some_cause r.0 s.0 (refused_once file (Some r.0) (Some s.0) r.1 s.1)) ∙ sym s.2
-one_accepted name file Makes one other once (inl r) (inr b) = none_cause r.0 (refused_once file None (Some r.0) b.0 r.1)
-one_accepted name file Makes one other once (inr a) (inl s) = none_cause s.0 (refused_once file None (Some s.0) a.0 s.1)
-one_accepted name file Makes one other once (inr a) (inr b) = once one other a.1 b.1
-
-one_opened : (name : List ℕ) (o : Option (List ℕ)) (Makes : List ℕ → Ending → Type 0) (one other : Ending) → ((file : List ℕ) → o ≡ Some file → (a b : Ending) → Makes file a → Makes file b → a ≡ b) → Opens name o Makes one → Opens name o Makes other → one ≡ other
-one_opened name None Makes one other once is was = is ∙ sym was
-one_opened name (Some file) Makes one other once is was = one_accepted name file (Makes file) one other (once file refl) is was
-
--- ---- one list of blocks
-module _ (file : List ℕ) (pieces : List Piece) (are : ArePieces file pieces) (once : HoldsOnce file) where
-  same_blocks : (some : List Piece) (xs ys : List (List ℕ)) → HoldBlocks file some xs → HoldBlocks file some ys → xs ≡ ys
-  same_blocks [] [] [] hold held = refl
-  same_blocks [] [] (y ∷ ys) hold held = absurd held
-  same_blocks [] (x ∷ xs) ys hold held = absurd hold
-  same_blocks (p ∷ some) [] ys hold held = absurd hold
-  same_blocks (p ∷ some) (x ∷ xs) [] hold held = absurd held
-  same_blocks (p ∷ some) (x ∷ xs) (y ∷ ys) hold held =
-      ap (λ (b : List ℕ). b ∷ xs) (once pieces p x y are hold.0 held.0) ∙ ap (λ (bs : List (List ℕ)). y ∷ bs) (same_blocks some xs ys hold.1 held.1)
-
-  -- so what is read of the file is read once
-  hold_only : (bad : Option ℕ) (blocks : List (List ℕ)) → AreRead file pieces blocks bad → HoldOnly file (pieces_before bad pieces) blocks × IsBadIf bad file pieces
-  hold_only None blocks read = (record { hold = read; only = λ others held. same_blocks pieces others blocks held read }, tt)
-  hold_only (Some i) blocks read = (record { hold = read.0; only = λ others held. same_blocks (take i pieces) others blocks held read.0 }, read.1)
-
-  pub once_read : (blocks : List (List ℕ)) (bad : Option ℕ) → AreRead file pieces blocks bad → (others : List (List ℕ)) (worse : Option ℕ) → AreRecordsOf file others worse → (others ≡ blocks) × (worse ≡ bad)
-  once_read blocks bad read others worse of =
-      let h = hold_only bad blocks read in
-      read_once file pieces blocks bad are h.0 h.1 others worse of
-
-zips_once : (packed : Bool) (input output : List ℕ) (chunk : ℕ) (file : List ℕ) (one other : Ending) → HoldsOnce file → ZipsIf packed input output chunk file one → ZipsIf packed input output chunk file other → one ≡ other
-zips_once true input output chunk file one other once is was =
-    let same = once_read file was.2.0 was.2.1 once was.0 was.1 was.2.2 is.0 is.1 is.2 in
-    let ending : List (List ℕ) → Option ℕ → Ending = λ blocks bad. writes input (plain_output output file) (concat blocks) (option_map BadChunk bad) in
-    is.3 ∙ ap (λ (bs : List (List ℕ)). ending bs is.1) same.0 ∙ ap (ending was.0) same.1 ∙ sym was.3
-zips_once false input output chunk file one other once is was = is ∙ sym was
-
-pub laszip_once : LaszipEndsOnce
-laszip_once task files input options workers one other said once is was =
-    let opened = reads_one_for task input (laszip options) workers said in
-    one_opened input (finmap.get files input) (Zips input options.output options.chunk) one other (λ file held a b. zips_once (is_packed (head_of file)) input options.output options.chunk file a b (once file held)) (opened.opens files one is) (opened.opens files other was)
-
-plain_once : (packed : Bool) (file : List ℕ) (piece : Piece) (one other : List ℕ) → packed ≡ false → HoldsIf packed file piece one → HoldsIf packed file piece other → one ≡ other
-plain_once true file piece one other plain is was = absurd (cc)
-plain_once false file piece one other plain is was = is ∙ sym was
-
-pub plain_holds_once : PlainHoldsOnce
-plain_holds_once file plain pieces piece one other are is was = plain_once (is_packed (head_of file)) file piece one other plain is was
 
 -- ---- some ending
 run_of : (task : Task) (files : FileMap) (said : Said) (ending : Ending) → task.said ≡ said → RunsAs task.taps said files ending → RunOf task files ending

@@ -95,6 +95,17 @@ left_of_parts parts held now files left known =
       ),
     )
 
+-- what splitting gives alone has one ending
+pub only_parts : (input stem end : List ℕ) (rule : Rule) (file : List ℕ) (records : List (List ℕ)) (refusal : Option Refusal) → OnlySplits rule file records refusal
+    → IsOnlyEnding (Splits input stem end rule file) (record { cause = cause_by input refusal; outputs = part_outputs (part_files stem end rule file records); text = [] })
+only_parts input stem end rule file records refusal only = record {
+  makes = (records, refusal, only.are, refl);
+  only = λ other makes.
+      let ending : (records : List (List ℕ)) → Option Refusal → Ending = λ records refusal. record { cause = cause_by input refusal; outputs = part_outputs (part_files stem end rule file records); text = [] } in
+      let same = only.only makes.0 makes.1 makes.2 in
+      makes.3 ∙ ap (λ (rs : List (List ℕ)). ending rs makes.1) same.0 ∙ ap (ending records) same.1;
+}
+
 -- ---- what `lassplit` makes of an input
 module _ (input stem end : List ℕ) (rule : Rule) (old new : Outside) (out : SinkView) where
   abbrev parts_of : (file : List ℕ) → (records : List (List ℕ)) → List PartFile
@@ -104,12 +115,7 @@ module _ (input stem end : List ℕ) (rule : Rule) (old new : Outside) (out : Si
   ending_of file records refusal = record { cause = cause_by input refusal; outputs = part_outputs (part_files stem end rule file records); text = [] }
 
   only_ending : (file : List ℕ) (records : List (List ℕ)) (refusal : Option Refusal) → OnlySplits rule file records refusal → IsOnlyEnding (Splits input stem end rule file) (ending_of file records refusal)
-  only_ending file records refusal only = record {
-    makes = (records, refusal, only.are, refl);
-    only = λ other makes.
-        let same = only.only makes.0 makes.1 makes.2 in
-        makes.3 ∙ ap (λ (rs : List (List ℕ)). ending_of file rs makes.1) same.0 ∙ ap (ending_of file records) same.1;
-  }
+  only_ending file records refusal only = only_parts input stem end rule file records refusal only
 
   -- all is done
   abbrev Split : List ℕ → Type 0

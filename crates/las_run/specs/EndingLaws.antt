@@ -10,7 +10,7 @@ use Rattle.las_header.specs.Heads.{IsHead}
 use Rattle.las_header.specs.Plain.{plain_head}
 use Rattle.las_header.specs.Vlrs.{laszip_vlrs_of}
 use Rattle.las_outside.specs.Files.{FileMap}
-use Rattle.las_words.specs.Asked.{Asked, LaszipOptions, Work, lasmerge, laszip, make, reads}
+use Rattle.las_words.specs.Asked.{Asked, Work, lasmerge, make, reads}
 use Rattle.las_words.specs.Says.{Said, asks, usage}
 use Rattle.las_merge.specs.Copying.{output_with}
 use Rattle.las_split.specs.Outputs.{part_files}
@@ -19,30 +19,19 @@ use Rattle.laz_range.specs.Span.{IsBytes}
 use Rattle.laz_file.specs.Laws.{CanBePacked}
 use Rattle.laz_file.specs.Outputs.{finished}
 use Rattle.laz_file.specs.Packing.{packed_file}
-use Rattle.laz_file.specs.Pieces.{ArePieces, Piece}
-use Rattle.laz_file.specs.Records.{HoldsBlock}
 use Rattle.laz_file.specs.Refusing.{IsAcceptedFile}
 use Rattle.las_run.specs.Endings.{Done, Ending, files_of}
 use Rattle.las_run.specs.Runs.{RunOf, Task}
 use Rattle.las_run.specs.Tools.{MergesIn, Splits, part_outputs}
 
--- Each piece of a file holds at most one block of records. A call that has unpacked a chunk has shown this of it, and
--- of a plain file it is a law.
-abbrev pub HoldsOnce : (file : List ℕ) → Type 0
-HoldsOnce file =
-    (pieces : List Piece) (piece : Piece) (one other : List ℕ) → ArePieces file pieces
-    → HoldsBlock file piece one → HoldsBlock file piece other → one ≡ other
+-- Every file that is known holds bytes.
+abbrev pub HoldBytes : FileMap → Type 0
+HoldBytes files = (name file : List ℕ) → finmap.get files name ≡ Some file → IsBytes file
 
--- At most one ending is defined for `laszip` of a file whose pieces hold at most one block each.
-abbrev pub LaszipEndsOnce : Type 0
-LaszipEndsOnce = (task : Task) (files : FileMap) (input : List ℕ) (options : LaszipOptions) (workers : ℕ)
-    (one other : Ending) → task.said ≡ asks (record { work = reads input (laszip options); workers = workers })
-    → ((file : List ℕ) → finmap.get files input ≡ Some file → HoldsOnce file)
+-- At most one ending is defined for a task, whatever the bytes of the files are.
+abbrev pub EndsInOneWay : Type 0
+EndsInOneWay = (task : Task) (files : FileMap) (one other : Ending) → HoldBytes files
     → RunOf task files one → RunOf task files other → one ≡ other
-
--- The pieces of a plain file hold at most one block each.
-abbrev pub PlainHoldsOnce : Type 0
-PlainHoldsOnce = (file : List ℕ) → is_packed (head_of file) ≡ false → HoldsOnce file
 
 -- the name of the input of a command that has one
 abbrev pub input_of : Work → Option (List ℕ)

@@ -1,15 +1,21 @@
 //! Laws of the definitions that the top call's contract cites.
-ghost use Rattle.las_run.specs.EndingLaws.{LaszipEndsOnce, MissingInputsEnd, PackedFormsEnd, PlainHoldsOnce};
-ghost use Rattle.las_run.specs.EndingLaws.{PartsOfSplitMerge, PlainInputsEnd, PlainRecordsAreWhole};
-ghost use Rattle.las_run.specs.EndingLaws.{WorkersDoNotMatter, WrongWordsEnd};
+ghost use Rattle.las_run.specs.EndingLaws.{EndsInOneWay, MissingInputsEnd, PackedFormsEnd, PartsOfSplitMerge};
+ghost use Rattle.las_run.specs.EndingLaws.{PlainInputsEnd, PlainRecordsAreWhole, WorkersDoNotMatter, WrongWordsEnd};
 
-/// At most one ending is defined for `laszip` of a file, if each piece of the file holds at most one block of records, as
-/// the pieces of a plain file do. Of a packed input, a run that is done or refuses a chunk shows that its ending is the
-/// only one.
+use las_convert::converting_ends_in_one_way;
+use las_merge::merging_ends_in_one_way;
+use las_split::splitting_ends_in_one_way;
+use laz_file::records_have_one_answer;
+
+/// At most one ending is defined for a task, for every command and whatever the bytes of the files are.
 pub fn one_ending()
-    ensures laszip { LaszipEndsOnce }
-    ensures plain { PlainHoldsOnce }
-{}
+    ensures { EndsInOneWay }
+{
+    records_have_one_answer();
+    converting_ends_in_one_way();
+    splitting_ends_in_one_way();
+    merging_ends_in_one_way();
+}
 
 /// Which tasks and files have an ending: wrong words, and commands with one input if it is missing, plain, or the packed
 /// form of an accepted plain file.

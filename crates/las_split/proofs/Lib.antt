@@ -18,3 +18,4 @@ pub mod Joining
 pub mod Examples
 pub mod SomeSplits
 pub mod SomeRecords
+pub mod OneWay

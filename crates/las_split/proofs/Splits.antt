@@ -74,6 +74,10 @@ front_of_many rule first tail others tail2 point same fine opens = elim (cases_l
       (drop k others, sym (take-append-drop k others) ∙ ap (λ (t : List (List ℕ)). t ++ drop k others) front)
 ]
 
+-- the records of blocks, and of more blocks
+pub more_records : (file : List ℕ) → 0 < record_length_of (head_of file) → (ys more : List (List ℕ)) → All (λ block. length block % record_length_of (head_of file) ≡ 0) ys → records_in_blocks file (ys ++ more) ≡ records_in_blocks file ys ++ records_in_blocks file more
+more_records file positive ys more all = ap (cut_all (record_length_of (head_of file))) (concat-append ys more) ∙ cut-append (record_length_of (head_of file)) (concat ys) (concat more) positive (even_all (record_length_of (head_of file)) ys all)
+
 module _ (rule : Rule) (first : ReaderSeen) (file : List ℕ) (st : StandsFor first file) (new : ReadsAll first) (some : 0 < record_length_of first.head.bytes) (n : ℕ) (xs : List (List ℕ)) (within : n ≤ length first.left) (whole : AreWholeBlocks (record_length_of first.head.bytes) (take n first.left) xs) (hold : HoldOnly file (take n first.left) xs) where
   bytes_is : first.head.bytes ≡ head_of file
   bytes_is = ap (λ (h : HeadView). h.bytes) st.head
@@ -96,9 +100,8 @@ module _ (rule : Rule) (first : ReaderSeen) (file : List ℕ) (st : StandsFor fi
   even : All (λ block. length block % record_length_of (head_of file) ≡ 0) xs
   even = subst (λ (t : List ℕ). All (λ block. length block % record_length_of t ≡ 0) xs) bytes_is (even_whole (record_length_of first.head.bytes) (take n first.left) xs whole)
 
-  -- the records of blocks, and of more blocks
   records_more : (ys more : List (List ℕ)) → All (λ block. length block % record_length_of (head_of file) ≡ 0) ys → records_in_blocks file (ys ++ more) ≡ records_in_blocks file ys ++ records_in_blocks file more
-  records_more ys more all = ap (cut_all (record_length_of (head_of file))) (concat-append ys more) ∙ cut-append (record_length_of (head_of file)) (concat ys) (concat more) positive (even_all (record_length_of (head_of file)) ys all)
+  records_more ys more all = more_records file positive ys more all
 
   even_front : (ys more : List (List ℕ)) → All (λ block. length block % record_length_of (head_of file) ≡ 0) (ys ++ more) → All (λ block. length block % record_length_of (head_of file) ≡ 0) ys
   even_front [] more all k d lt = absurd (omega arith)

@@ -3,3 +3,4 @@ pub mod Files
 pub mod Outputs
 pub mod Splitting
 pub mod Sorting
+pub mod Laws

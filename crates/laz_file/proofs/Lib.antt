@@ -55,4 +55,5 @@ pub mod WholeOutputs
 pub mod RangeLaws
 pub mod Slices
 pub mod SliceLaw
-mod OneBlock
+pub mod OneBlock
+pub mod EvenBlocks
