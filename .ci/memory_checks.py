@@ -1,5 +1,5 @@
 """What runs of the built program take of memory when a small file claims much: by the greatest resident size of the
-process, and under a limit on its address space. And an input of a merge that changes between its two openings."""
+process, and under a limit on its address space. And inputs that change between two openings or readings."""
 import os
 import resource
 import signal
@@ -15,6 +15,7 @@ MEGABYTE = 1_000_000
 TABLE = bytes([0, 0, 0, 0, 1, 0, 0, 0, 0x2C, 0x5C, 0, 0, 0])
 LIST_CHUNKS = 1 << 24
 THREE_RECORDS = head(3, (3, 0, 0, 0, 0)) + record(7, 1) * 3
+SPREAD = 1_000_000
 
 
 def laszip_vlr(chunk, items):
@@ -165,6 +166,72 @@ def changes(cases, folder):
     changed_input(cases, folder, "a byte fewer", THREE_RECORDS[:-1], 5, b"refused: second.las: 9 Count\n")
 
 
+def spread(count, moved=0):
+    """Records of a plain file, each in a cell of its own."""
+    return head(count) + b"".join(struct.pack("<iii8x", i + moved, i, 0) for i in range(count))
+
+
+def thinned_while_changed(folder, data):
+    """A run that reads its input twice, and the input is written over after the first time: it stands still meanwhile."""
+    output = os.path.join(folder, "low.las")
+    if os.path.exists(output):
+        os.remove(output)
+    written(os.path.join(folder, "spread.las"), spread(SPREAD))
+    words = ["las2las", "-i", "spread.las", "-o", "low.las", "-thin_raw", "1", "-lowest"]
+    process = subprocess.Popen([PROGRAM, *words], cwd=folder, stdout=subprocess.PIPE, stderr=subprocess.PIPE)
+    while process.poll() is None and not os.path.exists(output):
+        pass
+    process.send_signal(signal.SIGSTOP)
+    written(os.path.join(folder, "spread.las"), data)
+    process.send_signal(signal.SIGCONT)
+    out, errors = process.communicate(timeout=300)
+    return subprocess.CompletedProcess(words, process.returncode, out, errors)
+
+
+def is_front(folder):
+    """What is wrong with the output: it has first records of the input as it was when it was looked through."""
+    low = content(os.path.join(folder, "low.las"))
+    number = struct.unpack_from("<I", low, 107)[0]
+    if number >= SPREAD:
+        return f"all {number} records"
+    return None if low[227:] == spread(SPREAD)[227:][:20 * number] else "other records"
+
+
+def changes_between_readings(cases, folder):
+    """An input that another program changes between its two readings: what was not found at its place is not kept."""
+    problem = differs(thinned_while_changed(folder, spread(SPREAD)), 0, b"", {"low.las": spread(SPREAD)}, folder)
+    cases.note("an input that is read twice and is written again", problem)
+    for name, data, status, line in [("other records", spread(SPREAD, 1), 0, b""),
+                                     ("its first half", spread(SPREAD)[:10 * SPREAD], 3, b"read fault: spread.las\n")]:
+        problem = None
+        for _ in range(6):
+            run = thinned_while_changed(folder, data)
+            problem = differs(run, status, line, {"spread.las": data}, folder)
+            if problem is None and status == 0:
+                problem = is_front(folder)
+            if problem is None:
+                break
+        cases.note(f"an input that is read twice and changes meanwhile: {name}", problem)
+
+
+def sieves(cases, folder):
+    """A sieve that runs out of memory ends the run, and the output is a front of its draft."""
+    written(os.path.join(folder, "spread.las"), spread(SPREAD))
+    for option in [["-drop_repeated"], ["-thin_raw", "1"]]:
+        run = Taken(folder, ["las2las", "-i", "spread.las", "-o", "few.las", *option], space=16 * MEGABYTE)
+        problem = run.differs(1, b"no memory\n")
+        few = content(os.path.join(folder, "few.las"))
+        draft = head(0) + spread(SPREAD)[227:]
+        if problem is None and not (227 <= len(few) < len(draft) and draft.startswith(few)):
+            problem = f"{len(few)} bytes that are no front of the draft"
+        cases.note(f"out of memory with {option[0]}", problem)
+    run = Taken(folder, ["las2las", "-i", "spread.las", "-o", "low.laz", "-thin_raw", "1", "-lowest"], 16 * MEGABYTE)
+    problem = run.differs(1, b"no memory\n")
+    if problem is None and os.path.exists(os.path.join(folder, "low.laz")):
+        problem = "there is an output"
+    cases.note("out of memory while an input is looked through", problem)
+
+
 def speeds(cases, folder):
     """Two chunks of 250,000 points: four workers are no slower than one. The times are printed; a check would rest on
     what else the machine does."""
@@ -186,4 +253,6 @@ def memory(cases, folder):
     claims_of_plain(cases, place)
     chunk_lists(cases, place)
     changes(cases, place)
+    changes_between_readings(cases, place)
+    sieves(cases, place)
     speeds(cases, place)
