@@ -1,6 +1,6 @@
 -- Blocks of records that are copied, batch after batch.
-use Rattle.std.proofs.Common.{◌≡◌, inl, inr, ℕ, zero, suc, ◌+◌, ◌*◌, ◌-◌, ◌%◌, ◌<◌, ◌≤◌, false, List, [], ◌∷◌, ◌++◌, length, take, drop, get_or, slice_get, Option, Some, None, Result, IfOk, IfErr, OnOk, refl, sym, ◌∙◌, ap, subst, length-append, arith}
-use Rattle.std.specs.Prelude.{All, IsSome}
+use Rattle.std.proofs.Common.{◌≡◌, inl, inr, ℕ, zero, suc, ◌+◌, ◌*◌, ◌-◌, ◌%◌, ◌<◌, ◌≤◌, false, Bool, List, [], ◌∷◌, ◌++◌, length, take, drop, get_or, slice_get, Option, Some, None, Result, IfOk, IfErr, OnOk, refl, sym, ◌∙◌, ap, subst, length-append, arith}
+use Rattle.std.specs.Prelude.{All, IsSome, slice_index_or}
 use Rattle.std.specs.List.{concat}
 use Rattle.std.proofs.lemmas.List.{append-nil, drop-drop, length-drop, take-append-drop, take_more}
 use Rattle.std.proofs.lemmas.List.Elements.{All-cons, All-nil}
@@ -15,12 +15,14 @@ use Rattle.las_header.specs.Heads.{HeadView}
 use Rattle.las_outside.specs.Faults.{Rose}
 use Rattle.las_outside.specs.Files.{FileMap, WhereKnown}
 use Rattle.las_outside.specs.Outside.{Outside}
+use Rattle.laz_chunk.specs.Layouts.{Format}
+use Rattle.laz_workers.specs.Rooms.{HandSeen, rooms_of}
 use Rattle.laz_file.specs.declared.fault.Fault.{Fault}
 use Rattle.laz_file.specs.declared.fault.Fault.TheVariants.{Refused, Read, Write, Memory}
 use Rattle.laz_file.specs.Copying.{CanTake, EndsAfter, HasCause, HoldFirst, Takes, end_of}
 use Rattle.laz_file.specs.Outputs.{Output}
 use Rattle.laz_file.specs.Pieces.{Piece}
-use Rattle.laz_file.specs.Reading.{AreWholeBlocks, EndsReading, ReaderSeen, records_in}
+use Rattle.laz_file.specs.Reading.{AreWholeBlocks, EndsReading, IsCrewOf, Lends, LendsIf, ReaderSeen, StandsFor, records_in}
 use Rattle.laz_file.specs.Records.{AreRead, HoldBlocks, HoldOnly, IsBadPiece}
 use Rattle.laz_file.specs.Writing.{Stands, WriterSeen}
 use Rattle.laz_file.proofs.FirstPieces.{hold_split}
@@ -114,6 +116,52 @@ read_begins file pieces n blocks others (Some i) within first read = elim (cases
     found [] j p e = absurd (cc)
     found (q ∷ ps) zero p e = omega arith
     found (q ∷ ps) (suc j) p e = omega (arith, found ps j p e)
+
+-- ---- a plain file's batch
+
+-- The only block of a batch is the block in the reader.
+pub whole_lent : (reader : ReaderSeen) (crew : List (HandSeen Format)) (blocks : List (List ℕ)) → reader.chunk ≡ None → Lends reader crew blocks → length blocks ≡ 1 → blocks ≡ reader.lent ∷ []
+whole_lent reader crew [] none lends one = absurd (omega (arith, one))
+whole_lent reader crew (b ∷ []) none lends one =
+    let is : (k : ℕ) → k < 1 → slice_index_or (b ∷ []) k [] ≡ reader.lent = subst (λ (c : Option ℕ). LendsIf c reader (rooms_of crew) (b ∷ [])) none lends in
+    ap (λ (x : List ℕ). x ∷ []) (is 0 (omega arith))
+whole_lent reader crew (b ∷ d ∷ bs) none lends one = absurd (omega (arith, one))
+
+-- A reader that lends another block is as before.
+module _ (old new : ReaderSeen) (is : new ≡ record old { lent = new.lent }) where
+  pub crew_lent : (crew : List (HandSeen Format)) → IsCrewOf old crew → IsCrewOf new crew
+  crew_lent crew s =
+      let other : ReaderSeen = record old { lent = new.lent } in
+      let same : IsCrewOf other crew = record { hands = s.hands; buffers = s.buffers; spaces = s.spaces; rooms = s.rooms } in
+      subst (λ (r : ReaderSeen). IsCrewOf r crew) (sym is) same
+
+  pub stands_lent : (file : List ℕ) → StandsFor old file → StandsFor new file
+  stands_lent file s =
+      let other : ReaderSeen = record old { lent = new.lent } in
+      let same : StandsFor other file = record {
+        accepted = s.accepted;
+        head = s.head;
+        chunk = s.chunk;
+        pieces = s.pieces;
+        are = s.are;
+        chunks = s.chunks;
+        all_lie = s.all_lie;
+        begun = s.begun;
+        first = s.first;
+        left = s.left;
+        lie = s.lie;
+        bad = s.bad;
+      } in
+      subst (λ (r : ReaderSeen). StandsFor r file) (sym is) same
+
+  pub moved_lent : (first : ReaderSeen) (n : ℕ) → old ≡ record first { next = first.next + n; left = drop n first.left; bad = old.bad; cuts = old.cuts; lent = old.lent }
+      → new ≡ record first { next = first.next + n; left = drop n first.left; bad = new.bad; cuts = new.cuts; lent = new.lent }
+  moved_lent first n moved =
+      let bad : old.bad ≡ new.bad = sym (ap (λ (r : ReaderSeen). r.bad) is) in
+      let cuts : old.cuts ≡ new.cuts = sym (ap (λ (r : ReaderSeen). r.cuts) is) in
+      is ∙ ap (λ (r : ReaderSeen). let x : ReaderSeen = record r { lent = new.lent } in x) moved
+      ∙ ap (λ (b : Bool). let x : ReaderSeen = record first { next = first.next + n; left = drop n first.left; bad = b; cuts = old.cuts; lent = new.lent } in x) bad
+      ∙ ap (λ (cs : List (ℕ × ℕ)). let x : ReaderSeen = record first { next = first.next + n; left = drop n first.left; bad = new.bad; cuts = cs; lent = new.lent } in x) cuts
 
 -- ---- what was read so far
 

@@ -146,6 +146,15 @@ whole_both size m n one two =
 pub record_least : (head : List ℕ) → IsHead head → 20 ≤ record_length_of head
 record_least head is = omega (arith, is.record_length)
 
+-- A writer that has room for some records counts fewer than 2^32 with them.
+pub few_taken : (before now : Outside) (w : WriterSeen) (out : Output) (bytes records : List ℕ) → Stands before now w out bytes → w.taken + length records ≤ w.size * w.most → length (records_after out.head bytes) + length records / w.size < 2 ^ 32
+few_taken before now w out bytes records s most =
+    let head = record_length_of out.head in
+    let room : length bytes + length records ≤ w.size * w.most = omega (arith, most, s.taken) in
+    let some : 0 < w.size = omega (arith, s.size, record_least out.head s.head) in
+    let size : length bytes / head ≡ length bytes / w.size = ap (λ n. length bytes / n) (sym s.size) in
+    omega (arith, length-cut head (length bytes / head) bytes, size, few_records w.size (length bytes) (length records) w.most some s.few room)
+
 -- A writer that took some records more stands for them too.
 pub pushed : (before old new : Outside) (w v : WriterSeen) (out : Output) (bytes records : List ℕ) (packing : Option PackingSeen) (counts : Option Counts) → Stands before old w out bytes → length records % w.size ≡ 0 → w.taken + length records ≤ w.size * w.most
     → v ≡ record w { taken = w.taken + length records; counts = counts; packing = packing } → PointsStand out.chunk before new out w.most packing (bytes ++ records)

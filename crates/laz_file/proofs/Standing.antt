@@ -156,10 +156,9 @@ module _ (p0 p q : PackingSeen) (same : p.plan ≡ p0.plan) (before now : Outsid
   pub next_plan : q.plan ≡ p0.plan
   next_plan = t.plan ∙ same
 
-  -- the step ends with a fault while the blocks that are kept back are appended
-  pub next_stopped : (k : ℕ) → (m : ℕ) × ((front ++ all_chunks q.plan.format next.done) ++ take k (all_chunks q.plan.format q.kept) ≡ take m (front ++ full_chunks p0.plan (bytes ++ records)))
-  next_stopped k =
+  -- the step ends with a fault before the chunks of all full blocks are appended
+  pub next_within : (k : ℕ) → (m : ℕ) × (take k (front ++ full_chunks q.plan (bytes ++ take (at + n) records)) ≡ take m (front ++ full_chunks p0.plan (bytes ++ records)))
+  next_within k =
       let u = next in
-      let a = stopped_in before now name front q (bytes ++ take (at + n) records) u k in
-      let b = stopped_within q.plan front bytes records (at + n) a.0 (omega (arith, u.short)) in
-      (b.0, a.1 ∙ b.1 ∙ ap (λ (x : Plan). take b.0 (front ++ full_chunks x (bytes ++ records))) next_plan)
+      let b = stopped_within q.plan front bytes records (at + n) k (omega (arith, u.short)) in
+      (b.0, b.1 ∙ ap (λ (x : Plan). take b.0 (front ++ full_chunks x (bytes ++ records))) next_plan)

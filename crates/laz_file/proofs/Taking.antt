@@ -2,7 +2,7 @@
 use Rattle.std.proofs.Common.{◌≡◌, ◌≢◌, ◌⊎◌, inl, inr, Result, Ok, Err, map, ℕ, ◌*◌, ◌<◌, Bool, cond, List, [], ◌++◌, length, take, Option, Some, None, IsSomeAnd, refl, sym, ◌∙◌, ap, subst, append_assoc, arith}
 use Rattle.std.specs.FinMap as maps
 use Rattle.std.specs.List.{concat}
-use Rattle.std.specs.Prelude.{OnErr}
+use Rattle.std.specs.Prelude.{IfErr, OnErr, OnOk}
 use Rattle.std.proofs.lemmas.List.{append-nil, take_all}
 use Rattle.las_header.specs.Fields.{record_length_of}
 use Rattle.las_outside.specs.Faults.{Rose}
@@ -187,6 +187,19 @@ calm_trans a b c ab bc = record { reads = bc.reads ∙ ab.reads; writes = bc.wri
 pub on_err : {T E P : Type 0} (r : Result T E) → P → OnErr r P
 on_err (Ok x) p = tt
 on_err (Err e) p = p
+
+-- ---- a call of a writer, whatever it answers
+
+pub push_takes : {T E : Type 0} (r : Result T E) (old new : Outside) (w v : WriterSeen) (records : List ℕ) → ((before : Outside) (out : Output) (bytes : List ℕ) → Stands before old w out bytes → OnOk r (Stands before new v out (bytes ++ records)))
+    → OnOk r (Takes old new w v records)
+push_takes (Ok x) old new w v records to = takes_push old new w v records to
+push_takes (Err e) old new w v records to = tt
+
+pub push_part : {T : Type 0} (r : Result T Fault) (old new : Outside) (w : WriterSeen) (records : List ℕ)
+    → ((before : Outside) (out : Output) (bytes : List ℕ) → Stands before old w out bytes → IfErr r (λ fault. (n : ℕ) × Stops fault (with_bytes before out.name (take n (stopped out (bytes ++ records)))) new))
+    → OnErr r (LeavesPart old new w records)
+push_part (Ok x) old new w records to = tt
+push_part (Err e) old new w records to = part_push old new w records e to
 
 -- ---- what is known of another name
 

@@ -1,5 +1,5 @@
 -- While an output is written no bytes are asked for, also if a call fails.
-use Rattle.std.proofs.Common.{◌≡◌, ◌⊎◌, inl, inr, ℕ, List, take, Result, Ok, Err, IfErr, OnOk, ap}
+use Rattle.std.proofs.Common.{◌≡◌, ◌⊎◌, inl, inr, ℕ, List, take, Result, Ok, Err, IfErr, OnOk, sym, ◌∙◌, ap}
 use Rattle.las_outside.specs.Outside.{Outside, with_bytes}
 use Rattle.laz_file.specs.declared.fault.Fault.{Fault}
 use Rattle.laz_file.specs.declared.fault.Fault.TheVariants.{Refused, Read, Write, Memory}
@@ -12,6 +12,11 @@ stops_asked (Refused cause) made now s = absurd s
 stops_asked Read made now s = absurd s
 stops_asked Write made now s = ap (λ (o : Outside). o.asked) s
 stops_asked Memory made now s = ap (λ (o : Outside). o.asked) s
+
+-- a call of a writer asks for nothing, whatever it answers
+pub push_asked : {T : Type 0} (r : Result T Fault) (old new before : Outside) (name : List ℕ) (text : ℕ → List ℕ) → old.asked ≡ before.asked → OnOk r (SameFaults old new) → IfErr r (λ fault. (n : ℕ) × Stops fault (with_bytes before name (text n)) new) → new.asked ≡ old.asked
+push_asked (Ok x) old new before name text same calm stops = calm.asked
+push_asked (Err e) old new before name text same calm stops = stops_asked e (with_bytes before name (text stops.0)) new stops.1 ∙ sym same
 
 pub stands_asked : (before now : Outside) (w : WriterSeen) (out : Output) (bytes : List ℕ) → Stands before now w out bytes → now.asked ≡ before.asked
 stands_asked before now w out bytes s = ap (λ (o : Outside). o.asked) (held_text before now w out bytes s).1

@@ -57,6 +57,43 @@ fn push_lent<R: Threads + Sync, F: Files, G: Gate>(
     Ok(())
 }
 
+// Pushes the blocks of a batch, in order. Of a plain file the writer may keep the block itself, and the reader has
+// another buffer in its place.
+fn push_batch<R: Threads + Sync, F: Files, G: Gate>(
+    rt: &R,
+    alloc: Global,
+    files: &mut F,
+    gate: &G,
+    reader: &mut Reader,
+    crew: &Crew<Workspace>,
+    count: u32,
+    writer: &mut Writer,
+) -> Result<(), Fault>
+    requires one { reader.old.chunk ≡ None → count ≡ 1 }
+    requires lent { (blocks : List (List ℕ)) × Lends reader.old crew.now blocks × (length blocks ≡ count)
+        × All (λ block. length block % writer.old.size ≡ 0) blocks
+        × (writer.old.taken + length (concat blocks) ≤ writer.old.size * writer.old.most) }
+    requires open { writer.old.failed ≡ false }
+    requires stands { (before : Outside) × (out : Output) × (bytes : List ℕ)
+        × Stands before (F.seen files.old) writer.old out bytes }
+    ensures takes { (blocks : List (List ℕ)) → Lends reader.old crew.now blocks → length blocks ≡ count
+        → OnOk result (Takes (F.seen files.old) (F.seen files.new) writer.old writer.new (concat blocks)) }
+    ensures part { (blocks : List (List ℕ)) → Lends reader.old crew.now blocks → length blocks ≡ count
+        → OnErr result (LeavesPart (F.seen files.old) (F.seen files.new) writer.old (concat blocks)) }
+    ensures most { writer.new.most ≡ writer.old.most }
+    ensures open { OnOk result (writer.new.failed ≡ false) }
+    ensures cause { IfErr result (HasCause (F.seen files.old) (F.seen files.new)) }
+    ensures calm { OnOk result (SameFaults (F.seen files.old) (F.seen files.new)) }
+    ensures asked { (F.seen files.new).asked ≡ (F.seen files.old).asked }
+    ensures later { Later (F.seen files.old) (F.seen files.new) }
+    ensures reader { reader.new ≡ record reader.old { lent = reader.new.lent } }
+{
+    match reader.chunk {
+        None => writer.push_block(rt, alloc, files, gate, &mut reader.block),
+        Some(_) => push_lent(rt, alloc, files, gate, reader, crew, count, writer),
+    }
+}
+
 // A refusal ends the records that are copied, and any other fault the call.
 fn end_of(fault: Fault) -> Result<Option<Refusal>, Fault>
     ensures { result ≡ end_of fault }
@@ -114,6 +151,6 @@ pub fn copy_records<R: Threads + Sync, F: Files, G: Gate>(
         if count == 0 {
             return Ok(None);
         }
-        push_lent(rt, alloc, files, gate, reader, crew, count, writer)?;
+        push_batch(rt, alloc, files, gate, reader, crew, count, writer)?;
     }
 }

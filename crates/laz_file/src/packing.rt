@@ -107,6 +107,28 @@ impl Packing {
         Ok(n)
     }
 
+    // Whether a block is full and the next one, so that it may be kept back as it stands.
+    fn takes_whole(&self, block: &[u8]) -> bool
+        ensures { IsTrue result → (self.now.rest ≡ []) × (length block.now ≡ block_size self.now.plan) }
+    {
+        self.rest.is_empty() && block.len() == self.block
+    }
+
+    // Keeps back a full block as it stands. Its place is taken by a buffer that is spare, whatever that holds.
+    fn take_block(&mut self, block: &mut Vec<u8>) -> Result<(), AllocError>
+        requires full { length block.old.items ≡ block_size self.old.plan }
+        requires next { self.old.rest ≡ [] }
+        requires some { 0 < block_size self.old.plan }
+        ensures taken { OnOk result (Took self.old self.new block.old.items) }
+        ensures plan { self.new.plan ≡ self.old.plan }
+    {
+        if let Some(buffer) = self.spare.pop() {
+            self.rest = buffer;
+        }
+        mem::swap(&mut self.rest, block);
+        self.keep()
+    }
+
     /// Packs the blocks that are kept back, all together, and appends their chunks in order.
     pub(crate) fn append_kept<R: Threads + Sync, F: Files, G: Gate>(
         &mut self,
@@ -168,6 +190,36 @@ impl Packing {
         self.kept.len() == 2 * self.crew.hands()
     }
 
+    // Packs and appends the blocks that are kept back, if these are as many as the workers pack together.
+    fn append_batch<R: Threads + Sync, F: Files, G: Gate>(
+        &mut self,
+        rt: &R,
+        alloc: Global,
+        files: &mut F,
+        gate: &G,
+        name: &str,
+    ) -> Result<(), Fault>
+        requires hands { 0 < self.old.plan.workers }
+        requires few { length self.old.kept ≤ 2 * self.old.plan.workers }
+        requires stands { (before : Outside) × (front : List ℕ) × (bytes : List ℕ)
+            × PackedStands before (F.seen files.old) name.now front self.old bytes }
+        ensures stands { (before : Outside) (front bytes : List ℕ)
+            → PackedStands before (F.seen files.old) name.now front self.old bytes
+            → OnOk result (PackedStands before (F.seen files.new) name.now front self.new bytes) }
+        ensures stopped { (before : Outside) (front bytes : List ℕ)
+            → PackedStands before (F.seen files.old) name.now front self.old bytes
+            → IfErr result (λ fault. (n : ℕ) × Stops fault
+            (with_bytes before name.now (take n (front ++ full_chunks self.old.plan bytes))) (F.seen files.new)) }
+        ensures few { OnOk result (length self.new.kept < 2 * self.new.plan.workers) }
+        ensures plan { self.new.plan ≡ self.old.plan }
+        ensures later { Later (F.seen files.old) (F.seen files.new) }
+    {
+        if self.is_full() {
+            return self.append_kept(rt, alloc, files, gate, name);
+        }
+        Ok(())
+    }
+
     /// Adds records. Full blocks are packed and their chunks appended in order, or they are kept back.
     pub(crate) fn add<R: Threads + Sync, F: Files, G: Gate>(
         &mut self,
@@ -199,10 +251,44 @@ impl Packing {
         let mut at = 0;
         while at < records.len() {
             at += self.take_in(&records[at..])?;
-            if self.is_full() {
-                self.append_kept(rt, alloc, files, gate, name)?;
-            }
+            self.append_batch(rt, alloc, files, gate, name)?;
         }
         Ok(())
+    }
+
+    /// Adds the records of a block, of which nothing is known then. A full block at the front of the next chunk is kept
+    /// back as it stands.
+    pub(crate) fn add_block<R: Threads + Sync, F: Files, G: Gate>(
+        &mut self,
+        rt: &R,
+        alloc: Global,
+        files: &mut F,
+        gate: &G,
+        name: &str,
+        block: &mut Vec<u8>,
+    ) -> Result<(), Fault>
+        requires few { length self.old.kept < 2 * self.old.plan.workers }
+        requires stands { (before : Outside) × (front : List ℕ) × (bytes : List ℕ)
+            × PackedStands before (F.seen files.old) name.now front self.old bytes
+            × (length bytes + length block.old.items ≤ record_size self.old.plan * self.old.plan.most) }
+        ensures stands { (before : Outside) (front bytes : List ℕ)
+            → PackedStands before (F.seen files.old) name.now front self.old bytes
+            → length bytes + length block.old.items ≤ record_size self.old.plan * self.old.plan.most
+            → OnOk result (PackedStands before (F.seen files.new) name.now front self.new (bytes ++ block.old.items)) }
+        ensures stopped { (before : Outside) (front bytes : List ℕ)
+            → PackedStands before (F.seen files.old) name.now front self.old bytes
+            → length bytes + length block.old.items ≤ record_size self.old.plan * self.old.plan.most
+            → IfErr result (λ fault. (n : ℕ) × Stops fault
+            (with_bytes before name.now (take n (front ++ full_chunks self.old.plan (bytes ++ block.old.items))))
+            (F.seen files.new)) }
+        ensures few { OnOk result (length self.new.kept < 2 * self.new.plan.workers) }
+        ensures plan { self.new.plan ≡ self.old.plan }
+        ensures later { Later (F.seen files.old) (F.seen files.new) }
+    {
+        if !self.takes_whole(block) {
+            return self.add(rt, alloc, files, gate, name, block);
+        }
+        self.take_block(block)?;
+        self.append_batch(rt, alloc, files, gate, name)
     }
 }

@@ -187,21 +187,54 @@ impl Writer {
         Ok(())
     }
 
-    // Counts records, if they are counted.
-    fn tally(&mut self, records: &[u8])
-        requires size { 20 ≤ self.old.size }
-        requires whole { length records.now % self.old.size ≡ 0 }
-        requires tally { (counted : Bool) × (before : List (List ℕ)) × IsTally counted self.old.counts before
-            × (length before + length records.now / self.old.size < 2 ^ 32) }
-        ensures tally { (counted : Bool) (before : List (List ℕ)) → IsTally counted self.old.counts before
-            → IsTally counted self.new.counts
-            (before ++ cut_records self.old.size (length records.now / self.old.size) records.now) }
-        ensures same { self.new ≡ record self.old { counts = self.new.counts } }
+    // Appends the records of a block as `append_points` does. Nothing is known of the block then.
+    fn append_block<R: Threads + Sync, F: Files, G: Gate>(
+        &mut self,
+        rt: &R,
+        alloc: Global,
+        files: &mut F,
+        gate: &G,
+        block: &mut Vec<u8>,
+    ) -> Result<(), Fault>
+        requires points { (before : Outside) × (out : Output) × (bytes : List ℕ)
+            × Stands before (F.seen files.old) self.old out bytes
+            × (length bytes + length block.old.items ≤ self.old.size * self.old.most) }
+        ensures points { (before : Outside) (out : Output) (bytes : List ℕ)
+            → Stands before (F.seen files.old) self.old out bytes
+            → length bytes + length block.old.items ≤ self.old.size * self.old.most
+            → OnOk result (PointsStand out.chunk before (F.seen files.new) out self.old.most self.new.packing
+            (bytes ++ block.old.items)) }
+        ensures stopped { (before : Outside) (out : Output) (bytes : List ℕ)
+            → Stands before (F.seen files.old) self.old out bytes
+            → length bytes + length block.old.items ≤ self.old.size * self.old.most
+            → IfErr result (λ fault. (n : ℕ) × Stops fault
+            (with_bytes before out.name (take n (stopped out (bytes ++ block.old.items)))) (F.seen files.new)) }
+        ensures same { self.new ≡ record self.old { packing = self.new.packing } }
+        ensures later { Later (F.seen files.old) (F.seen files.new) }
+    {
+        let name = self.name.as_str();
+        let Some(packing) = &mut self.packing else {
+            return put(files, name, block);
+        };
+        packing.add_block(rt, alloc, files, gate, name, block)?;
+        Ok(())
+    }
+
+    // The counts with those of some records more, if records are counted.
+    fn tallied(&self, records: &[u8]) -> Option<Counts>
+        requires size { 20 ≤ self.now.size }
+        requires whole { length records.now % self.now.size ≡ 0 }
+        requires tally { (counted : Bool) × (before : List (List ℕ)) × IsTally counted self.now.counts before
+            × (length before + length records.now / self.now.size < 2 ^ 32) }
+        ensures { (counted : Bool) (before : List (List ℕ)) → IsTally counted self.now.counts before
+            → IsTally counted result
+            (before ++ cut_records self.now.size (length records.now / self.now.size) records.now) }
     {
         if let Some(mut counts) = self.counts {
             count_all(&mut counts, records, self.size);
-            self.counts = Some(counts);
+            return Some(counts);
         }
+        None
     }
 
     /// Adds records, as their bytes one after another: whole ones, and at most `most` in all.
@@ -239,6 +272,7 @@ impl Writer {
         ensures calm { OnOk result (SameFaults (F.seen files.old) (F.seen files.new)) }
         ensures later { Later (F.seen files.old) (F.seen files.new) }
     {
+        let counts = self.tallied(records);
         match self.append_points(rt, alloc, files, gate, records) {
             Ok(()) => {}
             Err(fault) => {
@@ -246,8 +280,51 @@ impl Writer {
                 return Err(fault);
             }
         }
-        self.tally(records);
+        self.counts = counts;
         self.taken += records.len() as u64;
+        Ok(())
+    }
+
+    /// Adds the records of a block as `push` does. Nothing is known of the block then: if it is all of the next chunk,
+    /// it is kept back as it stands, and a buffer takes its place.
+    pub(crate) fn push_block<R: Threads + Sync, F: Files, G: Gate>(
+        &mut self,
+        rt: &R,
+        alloc: Global,
+        files: &mut F,
+        gate: &G,
+        block: &mut Vec<u8>,
+    ) -> Result<(), Fault>
+        requires open { self.old.failed ≡ false }
+        requires whole { length block.old.items % self.old.size ≡ 0 }
+        requires most { self.old.taken + length block.old.items ≤ self.old.size * self.old.most }
+        requires stands { (before : Outside) × (out : Output) × (bytes : List ℕ)
+            × Stands before (F.seen files.old) self.old out bytes }
+        ensures stands { (before : Outside) (out : Output) (bytes : List ℕ)
+            → Stands before (F.seen files.old) self.old out bytes
+            → OnOk result (Stands before (F.seen files.new) self.new out (bytes ++ block.old.items)) }
+        ensures most { self.new.most ≡ self.old.most }
+        ensures open { OnOk result (self.new.failed ≡ false) }
+        ensures stopped { (before : Outside) (out : Output) (bytes : List ℕ)
+            → Stands before (F.seen files.old) self.old out bytes
+            → IfErr result (λ fault. (n : ℕ) × Stops fault
+            (with_bytes before out.name (take n (stopped out (bytes ++ block.old.items)))) (F.seen files.new)) }
+        ensures failed { OnErr result (self.new.failed ≡ true) }
+        ensures fault { IfErr result (λ fault. (fault ≡ Memory) ⊎ (fault ≡ Write)) }
+        ensures write { IsErrOf result Write → Rose (F.seen files.old).write_faults (F.seen files.new).write_faults }
+        ensures calm { OnOk result (SameFaults (F.seen files.old) (F.seen files.new)) }
+        ensures later { Later (F.seen files.old) (F.seen files.new) }
+    {
+        let (counts, length) = (self.tallied(block), block.len());
+        match self.append_block(rt, alloc, files, gate, block) {
+            Ok(()) => {}
+            Err(fault) => {
+                self.failed = true;
+                return Err(fault);
+            }
+        }
+        self.counts = counts;
+        self.taken += length as u64;
         Ok(())
     }
 }

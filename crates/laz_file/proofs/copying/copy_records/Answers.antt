@@ -4,7 +4,9 @@ use Rattle.las_outside.specs.Files.{FileMap, WhereKnown}
 use Rattle.laz_file.specs.Copying.{LeavesPart, Takes, with_reads}
 use Rattle.laz_file.specs.Reading.{ReaderSeen, StandsFor}
 use Rattle.laz_file.specs.Records.{HoldOnly, IsBadPiece}
-use Rattle.laz_file.proofs.Copies.{ReadsMore, calm_ok, end_all, end_bad, end_err, end_ok, even_for, read_more, read_none, room_after, room_for}
+use Rattle.laz_file.specs.Asking.{bytes_left}
+use Rattle.laz_file.proofs.Knowing.{known_then}
+use Rattle.laz_file.proofs.Copies.{ReadsMore, calm_ok, crew_lent, end_all, end_bad, end_err, end_ok, even_for, moved_lent, read_more, read_none, room_after, room_for, stands_lent}
 use Rattle.laz_file.proofs.Faults.{later-trans}
 use Rattle.laz_file.proofs.Putting.{concat-append, if_err}
 use Rattle.laz_file.proofs.Taking.{cause_since, known_taken, on_err, other_name, part_stands, part_then, takes_none, takes_read, takes_then}
@@ -77,8 +79,8 @@ returns-then-count-eq0-clause-copied g c =
       takes_read old now later c.args.writer.now c.batches.writer (concat done.1) c.next_batch.ensures.held c.next_batch.ensures.writes done.3,
     )
 
-pub push_lent-requires-clause-lent : goal.push_lent-requires-clause-lent
-push_lent-requires-clause-lent g c κs within =
+pub push_batch-requires-clause-lent : goal.push_batch-requires-clause-lent
+push_batch-requires-clause-lent g c κs within =
     let b = c.in-Ok.ensures.blocks in
     let can = c.batches.invariant.can in (
       b.0,
@@ -88,8 +90,8 @@ push_lent-requires-clause-lent g c κs within =
       room_for c.batches.reader c.batches.writer c.in-Ok.count b.0 can b.3,
     )
 
-pub push_lent-requires-clause-stands : goal.push_lent-requires-clause-stands
-push_lent-requires-clause-stands g c κs within =
+pub push_batch-requires-clause-stands : goal.push_batch-requires-clause-stands
+push_batch-requires-clause-stands g c κs within =
     let old = g.F.Files.seen c.args.files.now in
     let now = g.F.Files.seen c.batches.files in
     let later = g.F.Files.seen c.next_batch.new.files in
@@ -103,50 +105,55 @@ batches-preserved g c =
     let old = g.F.Files.seen c.args.files.now in
     let now = g.F.Files.seen c.batches.files in
     let later = g.F.Files.seen c.next_batch.new.files in
-    let new = g.F.Files.seen c.push_lent.new.files in
+    let new = g.F.Files.seen c.push_batch.new.files in
     let first = c.args.reader.now in
     let reader = c.batches.reader in
-    let next = c.next_batch.new.self in
+    let mid = c.next_batch.new.self in
+    let next = c.push_batch.new.reader in
+    let lent = c.push_batch.ensures.reader in
     let w = c.args.writer.now in
     let v = c.batches.writer in
-    let u = c.push_lent.new.writer in
+    let u = c.push_batch.new.writer in
     let s = c.requires.stands in
     let done = c.batches.invariant.copied in
     let b = c.in-Ok.ensures.blocks in
     let n = c.in-Ok.count in
     let other = other_name reader first w.name done.2.named c.requires.names in
     let hold = (known_taken old now w v (concat done.1) s.0 s.1 s.2 s.3 done.3 reader.name other (λ file. HoldOnly file (take n reader.left) b.0)).1 b.4 in
-    let more : ReadsMore old.held reader next n b.0 = record { within = omega (arith, c.in-Ok.ensures.most); whole = b.3; hold = hold; moved = c.in-Ok.ensures.moved } in
+    let more : ReadsMore old.held reader next n b.0 = record { within = omega (arith, c.in-Ok.ensures.most); whole = b.3; hold = hold; moved = moved_lent mid next lent reader n c.in-Ok.ensures.moved } in
     let read = takes_read old now later w v (concat done.1) c.next_batch.ensures.held c.next_batch.ensures.writes done.3 in
-    let here = c.in_ok-push_lent.ensures.takes b.0 b.2 b.1 in
+    let here = c.in_ok-push_batch.ensures.takes b.0 b.2 b.1 in
     let all = takes_then old later new w v u (concat done.1) (concat b.0) read here in
     let takes = subst (Takes old new w u) (sym (concat-append done.1 b.0)) all in
     let named : next.name ≡ reader.name = ap (λ (x : ReaderSeen). x.name) more.moved in
     let t = done.3 s.0 s.1 s.2 s.3 in
     record {
       sound = ap (λ (x : ReaderSeen). x.failed) more.moved ∙ c.batches.invariant.sound;
-      crew = c.in-Ok.ensures.crew;
+      crew = crew_lent mid next lent c.next_batch.new.crew c.in-Ok.ensures.crew;
       reads = subst (λ (name : List ℕ). WhereKnown new.held name (StandsFor next)) (sym named)
           ((known_taken later new v u (concat b.0) (with_reads s.0 later) s.1 (s.2 ++ concat done.1) (read s.0 s.1 s.2 s.3) here reader.name (λ e. other (e ∙ (t.named ∙ sym s.3.named))) (StandsFor next)).0
-          (subst (λ (h : Option FileMap). WhereKnown h reader.name (StandsFor next)) (sym c.next_batch.ensures.held) c.in-Ok.ensures.stands));
-      can = room_after later new reader next old.held v u n b.0 (with_reads s.0 later) s.1 (s.2 ++ concat done.1) (read s.0 s.1 s.2 s.3) c.batches.invariant.can more here c.push_lent.ensures.most c.in_ok-push_lent.ensures.open;
-      most = c.push_lent.ensures.most ∙ c.batches.invariant.most;
+          (subst (λ (h : Option FileMap). WhereKnown h reader.name (StandsFor next)) (sym c.next_batch.ensures.held)
+          (known_then now.held reader.name (StandsFor mid) (StandsFor next) (stands_lent mid next lent) c.in-Ok.ensures.stands)));
+      can = room_after later new reader next old.held v u n b.0 (with_reads s.0 later) s.1 (s.2 ++ concat done.1) (read s.0 s.1 s.2 s.3) c.batches.invariant.can more here c.push_batch.ensures.most c.in_ok-push_batch.ensures.open;
+      most = c.push_batch.ensures.most ∙ c.batches.invariant.most;
       copied = (done.0 + n, done.1 ++ b.0, read_more old.held first reader next done.0 n done.1 b.0 done.2 more, takes);
-      reads_calm = c.in_ok-push_lent.ensures.calm.reads ∙ c.in-Ok.ensures.faults ∙ c.batches.invariant.reads_calm;
-      writes_calm = c.in_ok-push_lent.ensures.calm.writes ∙ c.next_batch.ensures.writes ∙ c.batches.invariant.writes_calm;
-      later = later-trans _ _ _ c.batches.invariant.later (later-trans _ _ _ c.next_batch.ensures.later c.push_lent.ensures.later);
-      asked = omega (arith, c.batches.invariant.asked, c.in-Ok.ensures.asked, c.push_lent.ensures.asked);
+      reads_calm = c.in_ok-push_batch.ensures.calm.reads ∙ c.in-Ok.ensures.faults ∙ c.batches.invariant.reads_calm;
+      writes_calm = c.in_ok-push_batch.ensures.calm.writes ∙ c.next_batch.ensures.writes ∙ c.batches.invariant.writes_calm;
+      later = later-trans _ _ _ c.batches.invariant.later (later-trans _ _ _ c.next_batch.ensures.later c.push_batch.ensures.later);
+      asked = omega (arith, c.batches.invariant.asked, c.in-Ok.ensures.asked, c.push_batch.ensures.asked, ap bytes_left lent);
     }
 
-pub returns-in_err-push_lent-clause-part : goal.returns-in_err-push_lent-clause-part
-returns-in_err-push_lent-clause-part g c =
+pub returns-in_err-push_batch-clause-part : goal.returns-in_err-push_batch-clause-part
+returns-in_err-push_batch-clause-part g c =
     let old = g.F.Files.seen c.args.files.now in
     let now = g.F.Files.seen c.batches.files in
     let later = g.F.Files.seen c.next_batch.new.files in
-    let new = g.F.Files.seen c.push_lent.new.files in
+    let new = g.F.Files.seen c.push_batch.new.files in
     let first = c.args.reader.now in
     let reader = c.batches.reader in
-    let next = c.next_batch.new.self in
+    let mid = c.next_batch.new.self in
+    let next = c.push_batch.new.reader in
+    let lent = c.push_batch.ensures.reader in
     let w = c.args.writer.now in
     let v = c.batches.writer in
     let s = c.requires.stands in
@@ -155,9 +162,9 @@ returns-in_err-push_lent-clause-part g c =
     let n = c.in-Ok.count in
     let other = other_name reader first w.name done.2.named c.requires.names in
     let hold = (known_taken old now w v (concat done.1) s.0 s.1 s.2 s.3 done.3 reader.name other (λ file. HoldOnly file (take n reader.left) b.0)).1 b.4 in
-    let more : ReadsMore old.held reader next n b.0 = record { within = omega (arith, c.in-Ok.ensures.most); whole = b.3; hold = hold; moved = c.in-Ok.ensures.moved } in
+    let more : ReadsMore old.held reader next n b.0 = record { within = omega (arith, c.in-Ok.ensures.most); whole = b.3; hold = hold; moved = moved_lent mid next lent reader n c.in-Ok.ensures.moved } in
     let read = takes_read old now later w v (concat done.1) c.next_batch.ensures.held c.next_batch.ensures.writes done.3 in
-    let part = part_then old later new w v (concat done.1) (concat b.0) read (c.in_err-push_lent.ensures.part b.0 b.2 b.1) in
+    let part = part_then old later new w v (concat done.1) (concat b.0) read (c.in_err-push_batch.ensures.part b.0 b.2 b.1) in
     on_err c.from_residual.result (
       done.0 + n,
       done.1 ++ b.0,
@@ -165,13 +172,13 @@ returns-in_err-push_lent-clause-part g c =
       subst (LeavesPart old new w) (sym (concat-append done.1 b.0)) part,
     )
 
-pub returns-in_err-push_lent-clause-cause : goal.returns-in_err-push_lent-clause-cause
-returns-in_err-push_lent-clause-cause g c =
+pub returns-in_err-push_batch-clause-cause : goal.returns-in_err-push_batch-clause-cause
+returns-in_err-push_batch-clause-cause g c =
     let old = g.F.Files.seen c.args.files.now in
     let later = g.F.Files.seen c.next_batch.new.files in
-    let new = g.F.Files.seen c.push_lent.new.files in
+    let new = g.F.Files.seen c.push_batch.new.files in
     if_err _ c.from_residual.result _ c.from_residual.ensures.1
-    (cause_since old later new c.in_err-push_lent.field-0.0 (c.in-Ok.ensures.faults ∙ c.batches.invariant.reads_calm) (c.next_batch.ensures.writes ∙ c.batches.invariant.writes_calm) c.in_err-push_lent.ensures.cause)
+    (cause_since old later new c.in_err-push_batch.field-0.0 (c.in-Ok.ensures.faults ∙ c.batches.invariant.reads_calm) (c.next_batch.ensures.writes ∙ c.batches.invariant.writes_calm) c.in_err-push_batch.ensures.cause)
 
 pub returns-in-Err-clause-asked : goal.returns-in-Err-clause-asked
 returns-in-Err-clause-asked g c = omega (arith, c.batches.invariant.asked, c.in-Err.ensures.asked_more)
@@ -179,5 +186,5 @@ returns-in-Err-clause-asked g c = omega (arith, c.batches.invariant.asked, c.in-
 pub returns-then-count-eq0-clause-asked : goal.returns-then-count-eq0-clause-asked
 returns-then-count-eq0-clause-asked g c = omega (arith, c.batches.invariant.asked, c.in-Ok.ensures.asked)
 
-pub returns-in_err-push_lent-clause-asked : goal.returns-in_err-push_lent-clause-asked
-returns-in_err-push_lent-clause-asked g c = omega (arith, c.batches.invariant.asked, c.in-Ok.ensures.asked, c.push_lent.ensures.asked)
+pub returns-in_err-push_batch-clause-asked : goal.returns-in_err-push_batch-clause-asked
+returns-in_err-push_batch-clause-asked g c = omega (arith, c.batches.invariant.asked, c.in-Ok.ensures.asked, c.push_batch.ensures.asked)

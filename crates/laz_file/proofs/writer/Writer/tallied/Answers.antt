@@ -3,10 +3,10 @@ use Rattle.las_header.specs.Plain.{cut_records}
 use Rattle.las_points.specs.Tally.{counts_of}
 use Rattle.laz_file.specs.Writing.{WriterSeen}
 use Rattle.laz_file.proofs.Pushing.{tally_more}
-use Rattle.laz_file.proofs.writer.Writer.tally.Goals as goal
+use Rattle.laz_file.proofs.writer.Writer.tallied.Goals as goal
 
-pub returns-in-Some-clause-tally : goal.returns-in-Some-clause-tally
-returns-in-Some-clause-tally c counted before t =
+pub returns-in-Some : goal.returns-in-Some
+returns-in-Some c counted before t =
     let w = c.args.self.now in
     let records = c.args.records.now in
     let kept : w.counts ≡ Some c.in-Some.counts = sym (ap (λ (v : WriterSeen). v.counts) c.self.view_is) ∙ c.in-Some.is in
