@@ -120,8 +120,9 @@ fn refusals_of_two_readings(rt: HostRuntime) -> Result<(), Fail> {
     let mut file = head_of(alloc, PLAIN, 605)?;
     let five = file_at(alloc, &FIVE, &[0, 1, 2, 3, 4])?;
     file.extend_from_slice(&part(alloc, &five, 227, five.len())?)?;
-    for i in 0..600 {
-        let cell = file_at(alloc, &[(100 * i, 1000, i)], &[0])?;
+    for i in 0..600_u16 {
+        let z = i32::from(i);
+        let cell = file_at(alloc, &[(100 * z, 1000, z)], &[0])?;
         file.extend_from_slice(&part(alloc, &cell, 227, cell.len())?)?;
     }
     let form = packed(&rt, &file)?;
