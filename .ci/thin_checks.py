@@ -98,6 +98,12 @@ def rows(cases, folder):
     for words, kept in [([], [0, 2, 3]), (["-lowest"], [1, 2, 3]), (["-highest"], [2, 3, 4])]:
         cases.note(f"five records thinned {' '.join(words)}",
                    compared(place, source, ["-thin_raw", "10"] + words, [five[i] for i in kept]))
+    three = [point(5, 6, 7, 2), point(6, 6, 7, 1), point(7, 6, 7, 2)]
+    place, source = prepared(folder, three)
+    kept = [point(5, 6, 7, 5), point(7, 6, 7, 5)]
+    cases.note("two of three records, of another class",
+               compared(place, source, ["-keep_class", "2", "-set_classification", "5", "-tally", "class"], kept,
+                        b"tally class\n5 2\n"))
     edge = [point(-2**31, 2**31 - 1, 0), point(2**31 - 1, -2**31, 0), point(-1, -1, 0), point(0, 0, 0)]
     place, source = prepared(folder, edge)
     cases.note("records at the ends of the raw range", compared(place, source, ["-thin_raw", "2147483647"], edge))

@@ -71,7 +71,7 @@ asks_opening input pick start stop old new missing opened =
     by_input input pick start stop old new missing (λ there. known_more old.held input (λ file. AsksAtMost (asked_to_open file) old new) (λ file. AsksOf (Some file) pick start stop old new) (λ file most. (λ cause is. most, λ pieces are. let less = in_one pick (asked_to_open file) (bytes_in (parts_of file (range_in start stop file) pieces)) in omega (arith, most, less))) (opened there))
 
 -- no file that was asked for anything
-asks_nothing : (input : List ℕ) (pick : Pick) (start stop : ℕ) (old new : Outside) → new ≡ old → AsksFor input pick start stop old new
+pub asks_nothing : (input : List ℕ) (pick : Pick) (start stop : ℕ) (old new : Outside) → new ≡ old → AsksFor input pick start stop old new
 asks_nothing input pick start stop old new same =
     let none : new.asked ≡ old.asked = ap (λ (o : Outside). o.asked) same in
     by_input input pick start stop old new (λ missing. none) (where_there old.held input (λ file. AsksOf (Some file) pick start stop old new) (λ file. (λ cause is. omega (arith, none), λ pieces are. omega (arith, none))))
@@ -125,11 +125,6 @@ asks_both reader input pick start stop old mid new stands opened rest =
           omega (arith, front, last, all),
     ))
     stands (opened there) rest)
-
--- an input that was opened, and not read
-pub asks_opened : (reader : ReaderSeen) (input : List ℕ) (pick : Pick) (start stop : ℕ) (old mid : Outside) → WhereKnown old.held input (StandsFor reader)
-    → ((IsMissing old.held input → ⊥) → WhereKnown old.held input (λ file. AsksAtMost (asked_to_open file) old mid)) → AsksFor input pick start stop old mid
-asks_opened reader input pick start stop old mid stands opened = asks_opening input pick start stop old mid (not_missing old.held input (StandsFor reader) stands) opened
 
 -- what is asked for in a first reading, in which the input is opened again
 in_first : (pick : Pick) (opening more looked again : ℕ) → (pick ≡ First → ⊥) → looked ≤ more → again ≤ opening → looked + again ≤ in_first_reading pick (opening + more)

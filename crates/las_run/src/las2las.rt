@@ -73,11 +73,11 @@ pub fn las2las<R: Threads + Sync, F: Files, O: Sink, G: Gate>(
         (F.seen files.new) }
     ensures later { Later (F.seen files.old) (F.seen files.new) }
 {
-    let reader = open_input(alloc, files, 0, input)?;
     let chosen = match choose(alloc, taps, tallies) {
         Ok(chosen) => chosen,
         Err(_) => return Err(Stop::Memory),
     };
+    let reader = open_input(alloc, files, 0, input)?;
     select(
         rt, alloc, files, out, gate, reader, chosen, input, output, plan, conversion,
     )

@@ -2,7 +2,6 @@
 ghost use Rattle.std.specs.Prelude.{◌≤◌};
 
 use las_header::{set_u16_at, set_u32_at, set_u64_at};
-use las_info::{ClassTap, Tap};
 use las_outside::{Gate, MemFiles, MemSink, OpenGate};
 use las_run::run;
 use std::alloc::{AllocError, Global};
@@ -216,7 +215,7 @@ pub fn end_of<R: Threads + Sync + AllocGlobal, G: Gate>(
     end_with(rt, words, files, gate, &mut out)
 }
 
-// The status of a run and its line, with this standard output. The tap of classes is there.
+// The status of a run without taps and its line, with this standard output.
 pub fn end_with<R: Threads + Sync + AllocGlobal, G: Gate>(
     rt: &R,
     words: &str,
@@ -230,9 +229,16 @@ pub fn end_with<R: Threads + Sync + AllocGlobal, G: Gate>(
     for word in words.split_whitespace() {
         said.push(String::from_str(alloc, word)?)?;
     }
-    let tap: Box<dyn Tap> = Box::new(alloc, ClassTap::new(alloc))?;
-    let taps = vec![in alloc; tap]?;
-    let status = run(rt, alloc, &said, files, out, &mut err, gate, taps);
+    let status = run(
+        rt,
+        alloc,
+        &said,
+        files,
+        out,
+        &mut err,
+        gate,
+        Vec::new(alloc),
+    );
     let line = err.bytes().to_vec(alloc)?;
     Ok((status, line))
 }

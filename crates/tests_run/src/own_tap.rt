@@ -85,14 +85,64 @@ fn a_tap_that_has_counted_before(rt: HostRuntime) -> Result<(), Fail> {
     }
     assert_eq!(rt; told(&rt, alloc, &words, &mut files, &mut out)?, 0);
     assert!(rt; out.bytes().ends_with(b"tally parity\n1 4\n"));
-    let mut out = MemSink::with_room(alloc, 1000)?;
-    let line = "las2las -i a -o b -translate_raw_x 1 -tally parity";
     files.prepare("b", 1000)?;
-    words.clear();
-    for word in line.split_whitespace() {
+    for (line, status, text) in [
+        ("las2las -i a -o b -tally parity", 0, "tally parity\n1 4\n"),
+        (
+            "las2las -i a -o b -translate_raw_x 1 -tally parity",
+            0,
+            "tally parity\n0 1\n1 3\n",
+        ),
+        (
+            "las2las -i a -o b -keep_class 5 -tally parity",
+            0,
+            "tally parity\n1 3\n",
+        ),
+        (
+            "las2las -i a -o b -thin_raw 9 -lowest -tally parity",
+            0,
+            "tally parity\n1 4\n",
+        ),
+        ("las2las -i a -o b -keep_first", 0, ""),
+        (
+            "las2las -i a -o b -translate_raw_x 2147483647 -tally parity",
+            5,
+            "",
+        ),
+        ("las2las -i a -o b -tally class", 2, ""),
+    ] {
+        let mut out = MemSink::with_room(alloc, 1000)?;
+        words.clear();
+        for word in line.split_whitespace() {
+            words.push(String::from_str(alloc, word)?)?;
+        }
+        assert_eq!(rt;
+            told(&rt, alloc, &words, &mut files, &mut out)?,
+            status,
+            "{line}"
+        );
+        assert!(rt; out.bytes() == text.as_bytes(), "{line}");
+    }
+    Ok(())
+}
+
+// Standard output fails: the output is whole.
+#[test]
+fn tallies_that_are_not_put(rt: HostRuntime) -> Result<(), Fail> {
+    let alloc = rt.alloc();
+    let mut file = head_of(alloc, PLAIN, 1)?;
+    file.extend_from_slice(&ODD)?;
+    let mut files = MemFiles::new(alloc);
+    files.put_file("a", &file)?;
+    files.prepare("b", 1000)?;
+    let mut out = MemSink::with_room(alloc, 1000)?;
+    out.fail_put(1)?;
+    let mut words = Vec::new(alloc);
+    for word in ["las2las", "-i", "a", "-o", "b", "-tally", "parity"] {
         words.push(String::from_str(alloc, word)?)?;
     }
-    assert_eq!(rt; told(&rt, alloc, &words, &mut files, &mut out)?, 0);
-    assert!(rt; out.bytes() == b"tally parity\n0 1\n1 3\n".as_slice());
+    assert_eq!(rt; told(&rt, alloc, &words, &mut files, &mut out)?, 4);
+    assert!(rt; files.get("b") == Some(file.as_slice()));
+    assert!(rt; out.bytes().is_empty());
     Ok(())
 }

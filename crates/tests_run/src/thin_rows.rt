@@ -1,4 +1,4 @@
-//! `las2las`: one record of a cell, no position twice, and tallies of what is kept.
+//! `las2las`: one record of a cell, and no position twice.
 use crate::fixtures::{
     PLAIN, ends_so, file_of, files_with, head_of, packed, part, patched, says, with_room,
 };
@@ -112,46 +112,6 @@ fn one_after_another(rt: HostRuntime) -> Result<(), Fail> {
     Ok(())
 }
 
-// Taps count the records that are kept, after their changes, and nothing is put unless all is done.
-#[test]
-fn tallies_of_what_is_kept(rt: HostRuntime) -> Result<(), Fail> {
-    let alloc = rt.alloc();
-    let file = file_of(alloc, PLAIN, 3)?;
-    let mut files = files_with(alloc, &file, "b")?;
-    for (options, status, line, text) in [
-        (
-            "-keep_class 2 -tally class -set_classification 5",
-            0,
-            "",
-            "tally class\n5 2\n",
-        ),
-        ("-tally class", 0, "", "tally class\n2 2\n5 1\n"),
-        ("-tally class -keep_class 1", 0, "", "tally class\n"),
-        (
-            "-tally class -thin_raw 2147483647",
-            0,
-            "",
-            "tally class\n5 1\n",
-        ),
-        ("-keep_first", 0, "", ""),
-        (
-            "-tally class -translate_raw_x 2147483647",
-            5,
-            "refused: a: 22 RawRange 0\n",
-            "",
-        ),
-        ("-tally return", 2, "usage: word 6\n", ""),
-        ("-tally class -tally class", 2, "usage: word 8\n", ""),
-    ] {
-        let words = format!(in alloc; "las2las -i a -o b {options}")?;
-        assert!(rt;
-            says(&rt, &words, &mut files, status, line, text)?,
-            "{words}"
-        );
-    }
-    Ok(())
-}
-
 // A bad chunk ends a run of two readings before its output is created. A coordinate that leaves its range has the
 // number that it has in the list that stays.
 #[test]
@@ -160,8 +120,9 @@ fn refusals_of_two_readings(rt: HostRuntime) -> Result<(), Fail> {
     let mut file = head_of(alloc, PLAIN, 605)?;
     let five = file_at(alloc, &FIVE, &[0, 1, 2, 3, 4])?;
     file.extend_from_slice(&part(alloc, &five, 227, five.len())?)?;
-    for i in 0..600 {
-        let cell = file_at(alloc, &[(100 * i, 1000, i)], &[0])?;
+    for i in 0..600_u16 {
+        let z = i32::from(i);
+        let cell = file_at(alloc, &[(100 * z, 1000, z)], &[0])?;
         file.extend_from_slice(&part(alloc, &cell, 227, cell.len())?)?;
     }
     let form = packed(&rt, &file)?;
@@ -178,7 +139,7 @@ fn refusals_of_two_readings(rt: HostRuntime) -> Result<(), Fail> {
     let line = "refused: a: 21 BadChunk 1\n";
     for (options, begun) in [("-lowest", false), ("-highest", false), ("", true)] {
         let mut files = files_with(alloc, &bad, "b")?;
-        let words = format!(in alloc; "las2las -i a -o b -thin_raw 10 -tally class {options}")?;
+        let words = format!(in alloc; "las2las -i a -o b -thin_raw 10 {options}")?;
         assert!(rt; says(&rt, &words, &mut files, 5, line, "")?, "{words}");
         assert_eq!(rt; files.get("b").is_some(), begun, "{words}");
     }

@@ -225,7 +225,7 @@ fn calls_of_copying_fail(rt: HostRuntime) -> Result<(), Fail> {
 // The input is read twice. The output is created between, and gets a head, the records in one block, and its counts.
 #[test]
 fn calls_of_thinning_fail(rt: HostRuntime) -> Result<(), Fail> {
-    let words = "las2las -i c -o b -thin_raw 5 -lowest -tally class -cores 2";
+    let words = "las2las -i c -o b -thin_raw 5 -lowest -cores 2";
     let trial = Trial::new(&rt, words, ["b", "d"], "b d", true)?;
     assert_eq!(rt; trial.outputs.len(), 1);
     let reads = trial.calls(&rt, Failing::Read, "read fault: c\n", "read fault: c\n")?;
@@ -241,7 +241,7 @@ fn standard_output_fails(rt: HostRuntime) -> Result<(), Fail> {
     let words = "make -o b -z d -points 3 -seed 1";
     let trial = Trial::new(&rt, words, ["b", "d"], "b d", false)?;
     assert_eq!(rt; trial.outputs.len(), 2);
-    for words in [words, "lasinfo -i a", "las2las -i a -o b -tally class"] {
+    for words in [words, "lasinfo -i a"] {
         let mut files = trial.files(alloc)?;
         let mut out = MemSink::with_room(alloc, 1000)?;
         out.fail_put(1)?;
@@ -251,9 +251,6 @@ fn standard_output_fails(rt: HostRuntime) -> Result<(), Fail> {
             line.as_slice() == b"write fault\n".as_slice() && out.bytes().is_empty(),
             "{words}"
         );
-        if words.starts_with("las2las") {
-            assert!(rt; files.get("b") == Some(trial.first.as_slice()));
-        }
         if words.starts_with("make") {
             for output in &trial.outputs {
                 assert!(rt; files.get(output.name) == Some(output.done.as_slice()));

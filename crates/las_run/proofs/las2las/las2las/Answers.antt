@@ -15,7 +15,7 @@ use Rattle.las_run.specs.Asking.{bytes_in, in_first_reading}
 use Rattle.las_run.specs.Ends.{Change, EndsMaking, quiet}
 use Rattle.las_run.specs.Runs.{task_with}
 use Rattle.las_run.specs.Tools.{Converts, ConvertsIn, chunk_if, las2las_options, range_in, sieve_in}
-use Rattle.las_run.proofs.Asking.{asks_both, asks_opened, asks_opening}
+use Rattle.las_run.proofs.Asking.{asks_both, asks_nothing, asks_opening}
 use Rattle.las_run.proofs.Commands.{reads_one}
 use Rattle.las_run.proofs.Endings.{left_before}
 use Rattle.las_run.proofs.Opening.{ends_making, ends_opening, known_more, making_after}
@@ -50,7 +50,8 @@ returns-in-Err-clause-ends g c =
     let taps : List TapSeen = map (λ tap. (goal.Tap-dyn g (tap.vtable, tap.value)).tap_seen tap.value) c.args.taps.items in
     let options = las2las_options c.args.output.now (steps_of c.args.plan.now) c.args.conversion (texts c.args.tallies.now) in
     let asked : Asked = record { work = reads c.args.input.now (las2las options); workers = c.args.conversion.workers } in
-    (left_before (task_with taps asked) (quiet (g.F.Files.seen c.args.files.now) (g.F.Files.seen c.open_input.new.files) (g.O.Sink.seen c.args.out.now)) c.in_ok-reader.ensures.held, refl)
+    let files = g.F.Files.seen c.args.files.now in
+    (left_before (task_with taps asked) (quiet files files (g.O.Sink.seen c.args.out.now)) refl, refl)
 
 pub returns-clause-ends : goal.returns-clause-ends
 returns-clause-ends g c =
@@ -85,9 +86,8 @@ returns-in_err-reader-clause-asks g c =
 
 pub returns-in-Err-clause-asks : goal.returns-in-Err-clause-asks
 returns-in-Err-clause-asks g c =
-    let h = c.in_ok-reader.ensures in
     let places = c.args.conversion in
-    asks_opened c.in_ok-reader.reader c.args.input.now places.pick places.start places.stop (g.F.Files.seen c.args.files.now) (g.F.Files.seen c.open_input.new.files) h.stands h.asked_of
+    asks_nothing c.args.input.now places.pick places.start places.stop (g.F.Files.seen c.args.files.now) (g.F.Files.seen c.args.files.now) refl
 
 pub returns-clause-asks : goal.returns-clause-asks
 returns-clause-asks g c =
