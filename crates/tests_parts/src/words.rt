@@ -350,7 +350,7 @@ fn lines_are_read(rt: HostRuntime) -> Result<(), Fail> {
         assert_eq!(rt; answer(rt.alloc(), &words, &taps)?.as_str(), said, "{line}");
         count = count.saturating_add(1);
     }
-    assert_eq!(rt; count, 310);
+    assert_eq!(rt; count, 324);
     Ok(())
 }
 
