@@ -118,6 +118,7 @@ impl<'a> Decoder<'a> {
         ensures is { result ≡ estimated_place self.now.value self.now.len / 2 ^ bits }
         ensures below { result * 2 ^ bits ≤ symbol_place self.now }
         ensures within { result * 2 ^ bits < SYMBOL_PARTS }
+        ensures guard { symbol_place self.now < GUARD }
     {
         estimate(self.input.value, self.input.length, self.input.top, bits)
     }
