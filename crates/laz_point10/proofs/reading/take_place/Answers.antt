@@ -5,7 +5,7 @@ use Rattle.std.proofs.lemmas.Result.{err_from_is_err_and}
 use Rattle.laz_integer.proofs.Spellings.{fixed-none, fixed-reads}
 use Rattle.laz_point10.specs.Points.{one_return}
 use Rattle.laz_point10.specs.PointEvents.{even_below}
-use Rattle.laz_point10.proofs.Takings.{int-none, int-takes, int-value, place-none_first, place-none_second, place-none_third, place-takes, same-place, sum-is}
+use Rattle.laz_point10.proofs.Takings.{int-counts, int-none, int-takes, int-value, place-none_first, place-none_second, place-none_third, place-takes, same-place, sum-is}
 use Rattle.laz_point10.proofs.reading.take_place.Goals as goal
 
 pub returns-in_err-dx-clause-reads : goal.returns-in_err-dx-clause-reads
@@ -57,5 +57,5 @@ returns-clause-reads c =
         int-value e.dy c.in_ok-dy.ky y.v c.in_ok-dy.dy fy y.makes,
         int-value e.z c.in_ok-z.field-0-1 z.v c.in_ok-z.z fz z.makes,
       ),
-      same-place _ _ _ _ _ _ (rw one at x.counts) (rw second at y.counts) (rw third at z.counts),
+      same-place _ _ _ _ _ _ (int-counts ms.dx _ _ _ _ x.v one x.counts) (int-counts ms.dy _ _ _ _ y.v second y.counts) (int-counts ms.z _ _ _ _ z.v third z.counts),
     )
