@@ -107,6 +107,13 @@ fn read_record<T: TimePart, C: ColourPart>(
     Ok(())
 }
 
+// How long each of some records is, and how many there are.
+#[derive(Clone, Copy)]
+struct Extent {
+    size: usize,
+    count: usize,
+}
+
 // Codes records whose items have these types.
 #[inline(always)]
 fn put_all<T: TimePart, C: ColourPart>(
@@ -116,32 +123,31 @@ fn put_all<T: TimePart, C: ColourPart>(
     colours: &mut C,
     extra: &mut Option<Bytes>,
     records: &[u8],
-    size: usize,
-    count: usize,
+    extent: Extent,
 )
     requires size { let items = items_of point10.old (T.item times.old) (C.item colours.old) extra.old
-        in size ≡ record_length (layout_in items) }
+        in extent.size ≡ record_length (layout_in items) }
     requires records { let items = items_of point10.old (T.item times.old) (C.item colours.old) extra.old
-        in length records.now ≡ record_length (layout_in items) * count }
+        in length records.now ≡ record_length (layout_in items) * extent.count }
     requires left { let items = items_of point10.old (T.item times.old) (C.item colours.old) extra.old
-        in 3 * most_events (layout_in items) * count ≤ encoder.old.left }
+        in 3 * most_events (layout_in items) * extent.count ≤ encoder.old.left }
     ensures layout { let items = items_of point10.old (T.item times.old) (C.item colours.old) extra.old
         in layout_in (items_of point10.new (T.item times.new) (C.item colours.new) extra.new) ≡ layout_in items }
     ensures codes { let items = items_of point10.old (T.item times.old) (C.item colours.old) extra.old
         in (h : History) → AreChunkPoints (layout_in items).extra h.1 → ItemsStand h.0 h.1 items
         → let l = layout_in items in
         Codes encoder.old encoder.new
-        (all_cuts grown record_cuts h (written l h (records_in l count records.now))) }
+        (all_cuts grown record_cuts h (written l h (records_in l extent.count records.now))) }
 {
-    for i in 0..count {
-        let at = i * size;
+    for i in 0..extent.count {
+        let at = i * extent.size;
         code_record(
             encoder,
             point10,
             times,
             colours,
             extra,
-            &records[at..at + size],
+            &records[at..at + extent.size],
         );
     }
 }
@@ -155,13 +161,12 @@ fn take_all<T: TimePart, C: ColourPart>(
     colours: &mut C,
     extra: &mut Option<Bytes>,
     records: &mut [u8],
-    size: usize,
-    count: usize,
+    extent: Extent,
 ) -> Result<(), Bad>
     requires size { let items = items_of point10.old (T.item times.old) (C.item colours.old) extra.old
-        in size ≡ record_length (layout_in items) }
+        in extent.size ≡ record_length (layout_in items) }
     requires records { let items = items_of point10.old (T.item times.old) (C.item colours.old) extra.old
-        in length records.old ≡ record_length (layout_in items) * count }
+        in length records.old ≡ record_length (layout_in items) * extent.count }
     requires good { decoder.old.failed ≡ false }
     requires within { decoder.old.taken ≤ length decoder.old.bytes }
     ensures records { length records.new ≡ length records.old }
@@ -173,19 +178,19 @@ fn take_all<T: TimePart, C: ColourPart>(
         → let l = layout_in items
         in MatchResult result
         (λ _. (xs : List Spelling)
-        × Takes (AreAsked grown (IsSpelled l) h count) (all_cuts grown record_cuts h) decoder.old decoder.new xs
-        × (spelled_records xs ≡ records_in l count records.new))
-        (λ _. Refuses (AreAsked grown (IsSpelled l) h count) (all_cuts grown record_cuts h) decoder.old decoder.new) }
+        × Takes (AreAsked grown (IsSpelled l) h extent.count) (all_cuts grown record_cuts h) decoder.old decoder.new xs
+        × (spelled_records xs ≡ records_in l extent.count records.new))
+        (λ _. Refuses (AreAsked grown (IsSpelled l) h extent.count) (all_cuts grown record_cuts h) decoder.old decoder.new) }
 {
-    for i in 0..count {
-        let at = i * size;
+    for i in 0..extent.count {
+        let at = i * extent.size;
         read_record(
             decoder,
             point10,
             times,
             colours,
             extra,
-            &mut records[at..at + size],
+            &mut records[at..at + extent.size],
         )?;
     }
     Ok(())
@@ -211,19 +216,14 @@ pub(crate) fn put_records(
 {
     let (point10, extra) = (&mut items.point10, &mut items.extra);
     let mut none = Absent;
+    let extent = Extent { size, count };
     match &mut items.gps_time {
         Some(times) => match &mut items.rgb {
-            Some(colours) => put_all(
-                encoder, point10, times, colours, extra, records, size, count,
-            ),
-            None => put_all(
-                encoder, point10, times, &mut none, extra, records, size, count,
-            ),
+            Some(colours) => put_all(encoder, point10, times, colours, extra, records, extent),
+            None => put_all(encoder, point10, times, &mut none, extra, records, extent),
         },
         None => match &mut items.rgb {
-            Some(colours) => put_all(
-                encoder, point10, &mut none, colours, extra, records, size, count,
-            ),
+            Some(colours) => put_all(encoder, point10, &mut none, colours, extra, records, extent),
             None => put_all(
                 encoder,
                 point10,
@@ -231,8 +231,7 @@ pub(crate) fn put_records(
                 &mut Absent,
                 extra,
                 records,
-                size,
-                count,
+                extent,
             ),
         },
     }
@@ -264,19 +263,14 @@ pub(crate) fn take_records(
 {
     let (point10, extra) = (&mut items.point10, &mut items.extra);
     let mut none = Absent;
+    let extent = Extent { size, count };
     match &mut items.gps_time {
         Some(times) => match &mut items.rgb {
-            Some(colours) => take_all(
-                decoder, point10, times, colours, extra, records, size, count,
-            ),
-            None => take_all(
-                decoder, point10, times, &mut none, extra, records, size, count,
-            ),
+            Some(colours) => take_all(decoder, point10, times, colours, extra, records, extent),
+            None => take_all(decoder, point10, times, &mut none, extra, records, extent),
         },
         None => match &mut items.rgb {
-            Some(colours) => take_all(
-                decoder, point10, &mut none, colours, extra, records, size, count,
-            ),
+            Some(colours) => take_all(decoder, point10, &mut none, colours, extra, records, extent),
             None => take_all(
                 decoder,
                 point10,
@@ -284,8 +278,7 @@ pub(crate) fn take_records(
                 &mut Absent,
                 extra,
                 records,
-                size,
-                count,
+                extent,
             ),
         },
     }

@@ -10,6 +10,7 @@ use Rattle.laz_gpstime.specs.Sequences.{Point}
 use Rattle.laz_gpstime.specs.Spelling.{SpellsTime}
 use Rattle.laz_gpstime.specs.Slots.{AreSlots, ModelsStand, TimeState}
 use Rattle.laz_integer.specs.Spelled.{spelled_cuts}
+use Rattle.laz_gpstime.specs.declared.limits.TheConstants.{TOTAL}
 
 -- Events, and the time that they spell after earlier points.
 abbrev pub IsSpelledTime : List Point → List Event × ℕ → Type 0
@@ -18,7 +19,7 @@ IsSpelledTime points x = SpellsTime points x.0 x.1
 -- The numbers of symbols under which the events of times are lawful.
 pub record HasTimeSizes (sizes : Name → ℕ) : Type 0 where
   pub six : sizes (own_name time_kind 0) ≡ 6
-  pub many : sizes (own_name time_kind 1) ≡ 516
+  pub many : sizes (own_name time_kind 1) ≡ TOTAL
   pub integers : HasIntSizes sizes time_kind 32
 
 -- A point that was spelled by these events.

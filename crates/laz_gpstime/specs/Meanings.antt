@@ -1,11 +1,12 @@
 -- What the symbols of times mean (LASzip's GPSTIME11, version 2).
-use Rattle.std.specs.Prelude.{ℕ, ◌+◌, ◌-◌, ◌==◌, ◌&&◌, ◌||◌, Bool, true, false, if◌then◌else◌, nat_lt, List, [], ◌∷◌}
+use Rattle.std.specs.Prelude.{ℕ, ◌+◌, ◌-◌, ◌==◌, ◌&&◌, ◌||◌, Bool, true, false, if◌then◌else◌, nat_lt, List, [], ◌∷◌, codes}
 use Rattle.laz_integer.specs.Events.{Event, Symbol, Flag, Bits, same_name}
 use Rattle.laz_integer.specs.Uses.{own_name}
+use Rattle.laz_gpstime.specs.declared.limits.TheConstants.{FULL, MULTI, MULTI_MINUS, UNCHANGED}
 
 -- The use of the models of times: "time". Model 0 of its own has 6 symbols, model 1 has 516.
 abbrev pub time_kind : List ℕ
-time_kind = 116 ∷ 105 ∷ 109 ∷ 101 ∷ []
+time_kind = codes "time"
 
 -- What a symbol of these models means.
 pub data Meaning : Type 0 where
@@ -26,7 +27,8 @@ meaning m s =
     if m == 0 then
     (if s == 0 then Same else if s == 1 then First else if s == 2 then New else Switch (s - 2))
     else
-    (if nat_lt s 511 then Multiple s else if s == 511 then Same else if s == 512 then New else Switch (s - 512))
+    (if nat_lt s UNCHANGED then Multiple s else if s == UNCHANGED then Same else if s == FULL then New
+    else Switch (s - FULL))
 
 -- What the events of a point say of its time. Events under other names say nothing of it.
 abbrev pub meanings : List Event → List Meaning
@@ -63,7 +65,7 @@ is_one m = false
 
 -- A difference that is less than half of the last one, about 500 times as large or more, or about -10 times or less.
 abbrev pub is_extreme : Meaning → Bool
-is_extreme (Multiple s) = if s == 0 then true else if s == 500 then true else s == 510
+is_extreme (Multiple s) = if s == 0 then true else if s == MULTI then true else s == MULTI + MULTI_MINUS
 is_extreme m = false
 
 -- After `count` extreme differences, a point sets the difference of its sequence if it is the first difference there,

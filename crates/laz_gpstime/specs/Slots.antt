@@ -11,6 +11,7 @@ use Rattle.laz_gpstime.specs.Sequences.{Point, difference, extremes, last_time, 
 use Rattle.laz_gpstime.specs.Times.{model_of, near_events, near_symbol, new_events, switch_events}
 use Rattle.laz_gpstime.specs.declared.sequences.Slot.{Slot}
 use Rattle.laz_gpstime.specs.declared.sequences.Sequences.{Sequences}
+use Rattle.laz_gpstime.specs.declared.limits.TheConstants.{TOTAL}
 
 abbrev pub no_slot : Slot
 no_slot = record { time = 0; difference = 0; extremes = 0 }
@@ -78,7 +79,7 @@ pub record IsTimeState (st : TimeState) : Type 0 where
   pub next : st.sequences.next < 4
   pub count : length st.sequences.slots ≡ 4
   pub extremes : (s : ℕ) → (slot_at st.sequences s).extremes < 4
-  pub sizes : alphabet_sizes st.symbols ≡ 6 ∷ 516 ∷ []
+  pub sizes : alphabet_sizes st.symbols ≡ 6 ∷ TOTAL ∷ []
   pub integers : IsInts 32 9 st.integers
 
 -- The models stand for the events of a stream.

@@ -7,6 +7,7 @@ use Rattle.laz_integer.specs.Integer.{IntEvents}
 use Rattle.laz_integer.specs.Uses.{own_name}
 use Rattle.laz_gpstime.specs.Meanings.{time_kind}
 use Rattle.laz_gpstime.specs.Sequences.{Point, difference, last_time, sequence, time_difference}
+use Rattle.laz_gpstime.specs.declared.limits.TheConstants.{FULL, MULTI, MULTI_MINUS, TOTAL, UNCHANGED}
 
 -- The time in the eight bytes of a record, the low byte first.
 abbrev pub time_at : List ℕ → ℕ
@@ -18,18 +19,18 @@ abbrev pub model_of : ℕ → ℕ
 model_of d = if d == 0 then 0 else 1
 
 abbrev pub symbols_of : ℕ → ℕ
-symbols_of d = if d == 0 then 6 else 516
+symbols_of d = if d == 0 then 6 else TOTAL
 
 abbrev pub time_symbol : ℕ → ℕ → Event
 time_symbol d s = Symbol (own_name time_kind (model_of d)) (symbols_of d) s
 
 -- The same time.
 abbrev pub same_symbol : ℕ → ℕ
-same_symbol d = if d == 0 then 0 else 511
+same_symbol d = if d == 0 then 0 else UNCHANGED
 
 -- A new sequence. A switch by i is i more.
 abbrev pub new_symbol : ℕ → ℕ
-new_symbol d = if d == 0 then 2 else 512
+new_symbol d = if d == 0 then 2 else FULL
 
 -- ---- differences
 
@@ -56,12 +57,12 @@ abbrev pub difference_symbol : ℕ → ℕ → ℕ
 difference_symbol d x =
     if d == 0 then 1
     else if times_in d x == 0 then 0
-    else if signs_differ d x then 500 + min 10 (times_in d x)
-    else min 500 (times_in d x)
+    else if signs_differ d x then MULTI + min MULTI_MINUS (times_in d x)
+    else min MULTI (times_in d x)
 
 -- The multiple of d that a symbol stands for, modulo 2^32, which predicts the difference. It is 0 if d is.
 abbrev pub predicted : ℕ → ℕ → ℕ
-predicted d s = if nat_le s 500 then s * d % 4294967296 else (s - 500) * (4294967296 - d) % 4294967296
+predicted d s = if nat_le s MULTI then s * d % 4294967296 else (s - MULTI) * (4294967296 - d) % 4294967296
 
 -- The context of the difference.
 abbrev pub context : ℕ → ℕ → ℕ
@@ -70,9 +71,9 @@ context d s =
     else if s == 0 then 7
     else if s == 1 then 1
     else if nat_lt s 10 then 2
-    else if nat_lt s 500 then 3
-    else if s == 500 then 4
-    else if nat_lt s 510 then 5
+    else if nat_lt s MULTI then 3
+    else if s == MULTI then 4
+    else if nat_lt s (MULTI + MULTI_MINUS) then 5
     else 6
 
 -- ---- the events of a time after earlier points

@@ -12,6 +12,7 @@ ghost use Rattle.laz_integer.specs.Spelled.{OneBegins};
 ghost use Rattle.laz_integer.specs.Spelled.{spelled_cuts};
 
 use crate::coding::put_time;
+use crate::limits::TOTAL;
 use crate::reading::take_time;
 use crate::sequences::{Sequences, Slot};
 use crate::times::Times;
@@ -86,7 +87,7 @@ fn set_time(part: &mut [u8], time: u64)
 impl GpsTime {
     /// Initial models, of no chunk yet. `Err` means out of memory.
     pub fn new(alloc: Global) -> Result<Self, AllocError> {
-        let symbols = ModelBank::new(alloc, &[6, 516])?;
+        let symbols = ModelBank::new(alloc, &[6, TOTAL])?;
         let integers = IntModel::new(alloc, 32, 9)?;
         let sequences = sequences_of(0);
         Ok(GpsTime {

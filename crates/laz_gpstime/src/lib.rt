@@ -4,6 +4,7 @@
 mod coding;
 mod gps_time;
 mod laws;
+mod limits;
 mod reading;
 mod sequences;
 mod symbols;

@@ -19,7 +19,7 @@ use crate::coding::high;
 use crate::sequences::{add_point, current, open_sequence, switch_by};
 use crate::symbols::{context, model_of, new_symbol, predicted, same_symbol};
 use crate::times::Times;
-use laz_integer::take_symbol_of;
+use laz_integer::take_frequent_symbol_of;
 use laz_range::{Bad, Decoder};
 
 // Takes a symbol of the latest point's sequence.
@@ -34,7 +34,7 @@ fn take_time_symbol(times: &mut Times, decoder: &mut Decoder<'_>) -> Result<u32,
     ensures state { IsTimeState (state_of times.new) }
 {
     let difference = current(&times.sequences).difference;
-    take_symbol_of(decoder, &mut times.symbols, model_of(difference))
+    take_frequent_symbol_of(decoder, &mut times.symbols, model_of(difference))
 }
 
 // Takes a symbol of the latest point's sequence that is no switch.

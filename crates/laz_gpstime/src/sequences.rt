@@ -5,6 +5,8 @@ ghost use Rattle.laz_gpstime.specs.Sequences.{time_difference};
 ghost use Rattle.laz_gpstime.specs.Slots.{after_switch, next_slot, slot_at, after_point};
 ghost use Rattle.laz_gpstime.specs.Times.{model_of, new_symbol};
 
+use crate::limits::{MULTI, MULTI_MINUS};
+
 /// What is kept of a sequence: its last time, its difference, and how many differences were extreme.
 #[derive(Clone, Copy)]
 pub struct Slot {
@@ -47,7 +49,7 @@ pub(crate) fn update_slot(slot: &mut Slot, symbol: u32, time: u64)
     }
     if symbol == 1 {
         slot.extremes = 0;
-    } else if symbol == 0 || symbol == 500 || symbol == 510 {
+    } else if symbol == 0 || symbol == MULTI || symbol == MULTI + MULTI_MINUS {
         slot.extremes += 1;
         if slot.extremes == 4 {
             slot.difference = word;

@@ -3,6 +3,8 @@ ghost use Rattle.std.specs.Prelude.{◌≡◌, ◌≢◌, ◌<◌, ◌≤◌};
 ghost use Rattle.laz_gpstime.specs.Times.{context, difference_symbol, model_of, new_symbol, predicted, same_symbol};
 ghost use Rattle.laz_gpstime.specs.Times.{signs_differ, size_of_word, times_in};
 
+use crate::limits::{FULL, MULTI, MULTI_MINUS, UNCHANGED};
+
 // Which model has the symbols of a sequence.
 #[inline(always)]
 pub(crate) fn model_of(difference: u32) -> u32
@@ -16,7 +18,7 @@ pub(crate) fn model_of(difference: u32) -> u32
 pub(crate) fn same_symbol(difference: u32) -> u32
     ensures { result ≡ same_symbol difference }
 {
-    if difference == 0 { 0 } else { 511 }
+    if difference == 0 { 0 } else { UNCHANGED }
 }
 
 // The symbol of a new sequence.
@@ -24,7 +26,7 @@ pub(crate) fn same_symbol(difference: u32) -> u32
 pub(crate) fn new_symbol(difference: u32) -> u32
     ensures { result ≡ new_symbol difference }
 {
-    if difference == 0 { 2 } else { 512 }
+    if difference == 0 { 2 } else { FULL }
 }
 
 // The size of a word, signed, without its sign.
@@ -79,9 +81,9 @@ pub(crate) fn difference_symbol(difference: u32, word: u32) -> u32
         return 0;
     }
     if signs_differ(difference, word) {
-        return 500 + times.min(10) as u32;
+        return MULTI + times.min(MULTI_MINUS as u64) as u32;
     }
-    times.min(500) as u32
+    times.min(MULTI as u64) as u32
 }
 
 // The multiple of `difference` that a symbol stands for.
@@ -89,10 +91,10 @@ pub(crate) fn difference_symbol(difference: u32, word: u32) -> u32
 pub(crate) fn predicted(difference: u32, symbol: u32) -> u32
     ensures { result ≡ predicted difference symbol }
 {
-    if symbol <= 500 {
+    if symbol <= MULTI {
         symbol.wrapping_mul(difference)
     } else {
-        (symbol - 500).wrapping_mul(difference.wrapping_neg())
+        (symbol - MULTI).wrapping_mul(difference.wrapping_neg())
     }
 }
 
@@ -109,9 +111,9 @@ pub(crate) fn context(difference: u32, symbol: u32) -> u32
         0 => 7,
         1 => 1,
         2..=9 => 2,
-        10..=499 => 3,
-        500 => 4,
-        501..=509 => 5,
+        _ if symbol < MULTI => 3,
+        MULTI => 4,
+        _ if symbol < MULTI + MULTI_MINUS => 5,
         _ => 6,
     }
 }

@@ -10,7 +10,7 @@ use Rattle.laz_range.specs.Decoding.{Decoding, Takes, TakesNone, Reads, reading_
 use Rattle.laz_range.proofs.Chain.{same_pair}
 use Rattle.laz_range.proofs.Composition.{Takes-then, TakesNone-first, TakesNone-second, Takes-empty}
 use Rattle.laz_integer.specs.Corrector.{choices}
-use Rattle.laz_integer.specs.Integer.{IntState, symbol_cut, high_at, symbol_next, flag_next, rest_events, events_cuts, events_next}
+use Rattle.laz_integer.specs.Integer.{digit_cuts, digit_next, IntState, symbol_cut, high_at, symbol_next, flag_next, events_cuts, events_next}
 use Rattle.laz_integer.proofs.Cases.{events-zero, events-most, events-narrow, events-wide}
 use Rattle.laz_integer.proofs.Named.{events_cuts-raw, events_next-raw}
 
@@ -46,13 +46,6 @@ Reads-equal (Err e) P Q cuts others a b to from same h = TakesNone-onto (λ y. y
 -- ---- a wide corrector: its high 8 digits, and the rest
 abbrev pub wide_cuts : IntState → ℕ → ℕ → List Cut
 wide_cuts st k v = symbol_cut (high_at st k) (v / 2 ^ (k - 8)) ∷ raw_cuts (k - 8) (v % 2 ^ (k - 8))
-
--- the parts after the width
-abbrev pub rest_cuts : IntState → ℕ → ℕ → List Cut
-rest_cuts st k v = events_cuts st (rest_events [] k v)
-
-abbrev pub rest_next : IntState → ℕ → ℕ → IntState
-rest_next st k v = events_next st (rest_events [] k v)
 
 pub wide_parts : (k y : ℕ) → 8 < k → y < 2 ^ k → (y / 2 ^ (k - 8) < 2 ^ min k 8) × (y % 2 ^ (k - 8) < 2 ^ (k - 8))
 wide_parts k y wide small =
@@ -130,74 +123,74 @@ bit_small : (bit : Bool) → bool_byte bit < 2
 bit_small false = lit< tt
 bit_small true = lit< tt
 
-pub cuts-zero : (st : IntState) (v : ℕ) → rest_cuts st 0 v ≡ Bit st.zero_or_one.p0 (eqb v 1) ∷ []
+pub cuts-zero : (st : IntState) (v : ℕ) → digit_cuts st 0 v ≡ Bit st.zero_or_one.p0 (eqb v 1) ∷ []
 cuts-zero st v = ap (events_cuts st) (events-zero [] v)
 
-pub zero-takes : (st : IntState) (bit : Bool) (a b : Decoding) → Takes {X = Bool} (λ _. ⊤) (λ bit. Bit st.zero_or_one.p0 bit ∷ []) a b bit → Takes (λ v. v < choices 0) (rest_cuts st 0) a b (bool_byte bit)
+pub zero-takes : (st : IntState) (bit : Bool) (a b : Decoding) → Takes {X = Bool} (λ _. ⊤) (λ bit. Bit st.zero_or_one.p0 bit ∷ []) a b bit → Takes (λ v. v < choices 0) (digit_cuts st 0) a b (bool_byte bit)
 unfolding choices
 zero-takes st bit a b h =
-    Takes-onto bool_byte (λ v. eqb v 1) (λ _. ⊤) (λ v. v < choices 0) (λ bit. Bit st.zero_or_one.p0 bit ∷ []) (rest_cuts st 0) a b bit
+    Takes-onto bool_byte (λ v. eqb v 1) (λ _. ⊤) (λ v. v < choices 0) (λ bit. Bit st.zero_or_one.p0 bit ∷ []) (digit_cuts st 0) a b bit
     (λ z q. bit_round z q) (bit_small bit) (λ z q. tt) (λ z. cuts-zero st z) (bit_back bit) h
 
-pub zero-none : (st : IntState) (a b : Decoding) → TakesNone {X = Bool} (λ _. ⊤) (λ bit. Bit st.zero_or_one.p0 bit ∷ []) a b → TakesNone (λ v. v < choices 0) (rest_cuts st 0) a b
+pub zero-none : (st : IntState) (a b : Decoding) → TakesNone {X = Bool} (λ _. ⊤) (λ bit. Bit st.zero_or_one.p0 bit ∷ []) a b → TakesNone (λ v. v < choices 0) (digit_cuts st 0) a b
 zero-none st a b h =
-    TakesNone-onto {X = Bool} (λ v. eqb v 1) (λ _. ⊤) (λ v. v < choices 0) (λ bit. Bit st.zero_or_one.p0 bit ∷ []) (rest_cuts st 0) a b (λ z q. tt) (λ z. cuts-zero st z) h
+    TakesNone-onto {X = Bool} (λ v. eqb v 1) (λ _. ⊤) (λ v. v < choices 0) (λ bit. Bit st.zero_or_one.p0 bit ∷ []) (digit_cuts st 0) a b (λ z q. tt) (λ z. cuts-zero st z) h
 
 -- ---- the parts of a corrector after its width, and the models after them
-pub cuts-wide : (st : IntState) (k v : ℕ) → 8 < k → k < 32 → rest_cuts st k v ≡ wide_cuts st k v
+pub cuts-wide : (st : IntState) (k v : ℕ) → 8 < k → k < 32 → digit_cuts st k v ≡ wide_cuts st k v
 cuts-wide st k v wide small =
     ap (events_cuts st) (events-wide [] k v wide small)
     ∙ ap (λ l. symbol_cut (high_at st k) (v / 2 ^ (k - 8)) ∷ l) (events_cuts-raw (symbol_next st (st.contexts + (k - 1)) (v / 2 ^ (k - 8))) (k - 8) (v % 2 ^ (k - 8)))
 
-pub cuts-narrow : (st : IntState) (k v : ℕ) → 0 < k → k ≤ 8 → rest_cuts st k v ≡ symbol_cut (high_at st k) v ∷ []
+pub cuts-narrow : (st : IntState) (k v : ℕ) → 0 < k → k ≤ 8 → digit_cuts st k v ≡ symbol_cut (high_at st k) v ∷ []
 cuts-narrow st k v some narrow = ap (events_cuts st) (events-narrow [] k v some narrow)
 
-pub cuts-most : (st : IntState) (v : ℕ) → rest_cuts st 32 v ≡ []
+pub cuts-most : (st : IntState) (v : ℕ) → digit_cuts st 32 v ≡ []
 cuts-most st v = ap (events_cuts st) (events-most [] v)
 
-pub next-wide : (st : IntState) (k v : ℕ) → 8 < k → k < 32 → rest_next st k v ≡ symbol_next st (st.contexts + (k - 1)) (v / 2 ^ (k - 8))
+pub next-wide : (st : IntState) (k v : ℕ) → 8 < k → k < 32 → digit_next st k v ≡ symbol_next st (st.contexts + (k - 1)) (v / 2 ^ (k - 8))
 next-wide st k v wide small =
     ap (events_next st) (events-wide [] k v wide small)
     ∙ events_next-raw (symbol_next st (st.contexts + (k - 1)) (v / 2 ^ (k - 8))) (k - 8) (v % 2 ^ (k - 8))
 
-pub next-narrow : (st : IntState) (k v : ℕ) → 0 < k → k ≤ 8 → rest_next st k v ≡ symbol_next st (st.contexts + (k - 1)) v
+pub next-narrow : (st : IntState) (k v : ℕ) → 0 < k → k ≤ 8 → digit_next st k v ≡ symbol_next st (st.contexts + (k - 1)) v
 next-narrow st k v some narrow = ap (events_next st) (events-narrow [] k v some narrow)
 
-pub next-zero : (st : IntState) (v : ℕ) → rest_next st 0 v ≡ flag_next st (eqb v 1)
+pub next-zero : (st : IntState) (v : ℕ) → digit_next st 0 v ≡ flag_next st (eqb v 1)
 next-zero st v = ap (events_next st) (events-zero [] v)
 
-pub next-most : (st : IntState) (v : ℕ) → rest_next st 32 v ≡ st
+pub next-most : (st : IntState) (v : ℕ) → digit_next st 32 v ≡ st
 next-most st v = ap (events_next st) (events-most [] v)
 
 -- ---- the one corrector of width 32
 one_choice : (y : ℕ) → y < 1 → y ≡ 0
 one_choice y h = omega arith
 
-pub most-takes : (st : IntState) (d : Decoding) → d.taken ≤ length d.bytes → d.failed ≡ false → Takes (λ v. v < choices 32) (rest_cuts st 32) d d 0
+pub most-takes : (st : IntState) (d : Decoding) → d.taken ≤ length d.bytes → d.failed ≡ false → Takes (λ v. v < choices 32) (digit_cuts st 32) d d 0
 unfolding choices
-most-takes st d within good = Takes-empty (λ v. v < choices 32) (rest_cuts st 32) d 0 (lit< tt) (cuts-most st 0) (λ y q. one_choice y q) within good
+most-takes st d within good = Takes-empty (λ v. v < choices 32) (digit_cuts st 32) d 0 (lit< tt) (cuts-most st 0) (λ y q. one_choice y q) within good
 
 -- ---- the digits of a corrector, narrow or wide
-pub digits-none_high : (st : IntState) (k : ℕ) (a b : Decoding) → 0 < k → k < 32 → TakesNone (λ s. s < 2 ^ min k 8) (λ s. symbol_cut (high_at st k) s ∷ []) a b → TakesNone (λ v. v < 2 ^ k) (rest_cuts st k) a b
+pub digits-none_high : (st : IntState) (k : ℕ) (a b : Decoding) → 0 < k → k < 32 → TakesNone (λ s. s < 2 ^ min k 8) (λ s. symbol_cut (high_at st k) s ∷ []) a b → TakesNone (λ v. v < 2 ^ k) (digit_cuts st k) a b
 digits-none_high st k a b some small f =
     ⊎_elim
-    (λ (wide : 8 < k). TakesNone-onto (λ v. v) (λ v. v < 2 ^ k) (λ v. v < 2 ^ k) (wide_cuts st k) (rest_cuts st k) a b (λ z q. q) (λ z. cuts-wide st k z wide small) (wide-none_high st k a b wide f))
+    (λ (wide : 8 < k). TakesNone-onto (λ v. v) (λ v. v < 2 ^ k) (λ v. v < 2 ^ k) (wide_cuts st k) (digit_cuts st k) a b (λ z q. q) (λ z. cuts-wide st k z wide small) (wide-none_high st k a b wide f))
     (λ (narrow : k ≤ 8).
     let same : 2 ^ min k 8 ≡ 2 ^ k = ap (λ n. 2 ^ n) (let least : min k 8 ≡ k = omega (arith, narrow) in least) in
-    TakesNone-onto (λ v. v) (λ s. s < 2 ^ min k 8) (λ v. v < 2 ^ k) (λ s. symbol_cut (high_at st k) s ∷ []) (rest_cuts st k) a b (λ z q. omega (arith, q, same)) (λ z. cuts-narrow st k z some narrow) f)
+    TakesNone-onto (λ v. v) (λ s. s < 2 ^ min k 8) (λ v. v < 2 ^ k) (λ s. symbol_cut (high_at st k) s ∷ []) (digit_cuts st k) a b (λ z q. omega (arith, q, same)) (λ z. cuts-narrow st k z some narrow) f)
     (cases_lt 8 k)
 
-pub digits-narrow : (st : IntState) (k v : ℕ) (a b : Decoding) → 0 < k → k ≤ 8 → Takes (λ s. s < 2 ^ min k 8) (λ s. symbol_cut (high_at st k) s ∷ []) a b v → Takes (λ v. v < 2 ^ k) (rest_cuts st k) a b v
+pub digits-narrow : (st : IntState) (k v : ℕ) (a b : Decoding) → 0 < k → k ≤ 8 → Takes (λ s. s < 2 ^ min k 8) (λ s. symbol_cut (high_at st k) s ∷ []) a b v → Takes (λ v. v < 2 ^ k) (digit_cuts st k) a b v
 digits-narrow st k v a b some narrow f =
     let same : 2 ^ min k 8 ≡ 2 ^ k = ap (λ n. 2 ^ n) (let least : min k 8 ≡ k = omega (arith, narrow) in least) in
-    Takes-onto (λ y. y) (λ y. y) (λ s. s < 2 ^ min k 8) (λ v. v < 2 ^ k) (λ s. symbol_cut (high_at st k) s ∷ []) (rest_cuts st k) a b v (λ z q. refl) (omega (arith, f.choice.asked, same)) (λ z q. omega (arith, q, same)) (λ z. cuts-narrow st k z some narrow) refl f
+    Takes-onto (λ y. y) (λ y. y) (λ s. s < 2 ^ min k 8) (λ v. v < 2 ^ k) (λ s. symbol_cut (high_at st k) s ∷ []) (digit_cuts st k) a b v (λ z q. refl) (omega (arith, f.choice.asked, same)) (λ z q. omega (arith, q, same)) (λ z. cuts-narrow st k z some narrow) refl f
 
-pub digits-none_low : (st : IntState) (k high : ℕ) (a b c : Decoding) → 8 < k → k < 32 → Takes (λ s. s < 2 ^ min k 8) (λ s. symbol_cut (high_at st k) s ∷ []) a b high → TakesNone (λ v. v < 2 ^ (k - 8)) (raw_cuts (k - 8)) b c → TakesNone (λ v. v < 2 ^ k) (rest_cuts st k) a c
+pub digits-none_low : (st : IntState) (k high : ℕ) (a b c : Decoding) → 8 < k → k < 32 → Takes (λ s. s < 2 ^ min k 8) (λ s. symbol_cut (high_at st k) s ∷ []) a b high → TakesNone (λ v. v < 2 ^ (k - 8)) (raw_cuts (k - 8)) b c → TakesNone (λ v. v < 2 ^ k) (digit_cuts st k) a c
 digits-none_low st k high a b c wide small f g =
-    TakesNone-onto (λ v. v) (λ v. v < 2 ^ k) (λ v. v < 2 ^ k) (wide_cuts st k) (rest_cuts st k) a c (λ z q. q) (λ z. cuts-wide st k z wide small) (wide-none_low st k high a b c wide f g)
+    TakesNone-onto (λ v. v) (λ v. v < 2 ^ k) (λ v. v < 2 ^ k) (wide_cuts st k) (digit_cuts st k) a c (λ z q. q) (λ z. cuts-wide st k z wide small) (wide-none_low st k high a b c wide f g)
 
 pub digits-wide : (st : IntState) (k high low : ℕ) (a b c : Decoding) → 8 < k → k < 32 → Takes (λ s. s < 2 ^ min k 8) (λ s. symbol_cut (high_at st k) s ∷ []) a b high → Takes (λ v. v < 2 ^ (k - 8)) (raw_cuts (k - 8)) b c low
-    → Takes (λ v. v < 2 ^ k) (rest_cuts st k) a c (high * 2 ^ (k - 8) + low)
+    → Takes (λ v. v < 2 ^ k) (digit_cuts st k) a c (high * 2 ^ (k - 8) + low)
 digits-wide st k high low a b c wide small f g =
     let h = wide-takes st k high low a b c wide f g in
-    Takes-onto (λ y. y) (λ y. y) (λ v. v < 2 ^ k) (λ v. v < 2 ^ k) (wide_cuts st k) (rest_cuts st k) a c (high * 2 ^ (k - 8) + low) (λ z q. refl) h.choice.asked (λ z q. q) (λ z. cuts-wide st k z wide small) refl h
+    Takes-onto (λ y. y) (λ y. y) (λ v. v < 2 ^ k) (λ v. v < 2 ^ k) (wide_cuts st k) (digit_cuts st k) a c (high * 2 ^ (k - 8) + low) (λ z q. refl) h.choice.asked (λ z q. q) (λ z. cuts-wide st k z wide small) refl h

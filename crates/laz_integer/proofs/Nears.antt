@@ -1,5 +1,5 @@
 -- A symbol that is one of the two at which a decoder's search begins.
-use Rattle.std.proofs.Common.{◌≡◌, ℕ, ◌+◌, ◌<◌, ◌≤◌, min, Bool, true, false, leb, List, get_or, sym, ap, ◌∙◌, arith, ⊎_elim}
+use Rattle.std.proofs.Common.{◌≡◌, ℕ, ◌+◌, ◌<◌, ◌≤◌, min, Bool, true, false, leb, List, get_or, sym, ap, ◌∙◌, subst, arith, ⊎_elim}
 use Rattle.std.proofs.lemmas.Bool.{cases_lt, le-leb, lt-leb}
 use Rattle.std.proofs.lemmas.List.{get_or_default, get_or_past}
 use mir.Val.{bool_byte}
@@ -96,14 +96,14 @@ pub record Chosen (n : ℕ) (starts : List ℕ) (place s : ℕ) (c : Cut) : Type
   pub last : IsLastAt starts place s
   pub part : c ≡ symbol starts s
 
-pub chosen-first : (n : ℕ) (starts : List ℕ) (e place : ℕ) (near : Near) → AreStarts n starts → IsNear starts e near → e ≤ place → place < near.next
+pub chosen-first : (n : ℕ) (starts : List ℕ) (e place : ℕ) (near : Near) → AreStarts n starts → IsNear starts e near → near.start ≤ place → place < near.next
     → Chosen n starts place near.symbol (part_of_two near.start near.next near.after false)
 chosen-first n starts e place near are is low below =
     let s : ℕ = near.symbol in
     let here : s < n = omega (arith, is.symbol.symbol, are.length) in
     record {
       within = here;
-      last = last_at n starts place s are here (omega (arith, is.symbol.start, low)) (λ more. omega (arith, inner n starts (s + 1) are more, is.next, below));
+      last = last_at n starts place s are here (omega (arith, is.start, low)) (λ more. omega (arith, inner n starts (s + 1) are more, is.next, below));
       part = rw (is.start, is.next) (part-of n starts s are here);
     }
 
@@ -134,19 +134,46 @@ chosen n starts e place near true are is low below said =
     (cases_lt place near.next)
 chosen n starts e place near false are is low below said =
     ⊎_elim
-    (λ (less : place < near.next). let same : near.symbol + 0 ≡ near.symbol = omega arith in rw same (chosen-first n starts e place near are is low less))
+    (λ (less : place < near.next). let same : near.symbol + 0 ≡ near.symbol = omega arith in rw same (chosen-first n starts e place near are is (omega (arith, is.start, is.symbol.start, low)) less))
     (λ (above : near.next ≤ place). let no : true ≡ false = sym (le-leb near.next place above) ∙ said in cc)
     (cases_lt place near.next)
 
--- the place of a value lies below the end of the two parts that its own symbol begins
-pub place-before : (n : ℕ) (starts : List ℕ) (place : ℕ) (near : Near) → AreStarts n starts → IsNear starts place near → place < 65535 → place < near.after
-place-before n starts place near are is small =
+-- ---- a search from symbol to symbol
+-- a symbol whose part begins at a place or below, with the starts after it
+pub record IsReached (starts : List ℕ) (place : ℕ) (near : Near) : Type 0 where
+  pub is : IsNear starts near.start near
+  pub low : near.start ≤ place
+
+-- where a search begins
+pub reached-first : (n : ℕ) (starts : List ℕ) (e place : ℕ) (near : Near) → AreStarts n starts → IsNear starts e near → e ≤ place → IsReached starts place near
+reached-first n starts e place near are is low =
+    let s : ℕ = near.symbol in
+    let here : s < n = omega (arith, is.symbol.symbol, are.length) in
+    record {
+      is = record {
+        symbol = last_at n starts near.start s are here (omega (arith, is.start)) (λ more. omega (arith, is.start, are.rising s more));
+        start = is.start;
+        next = is.next;
+        after = is.after;
+      };
+      low = omega (arith, is.start, is.symbol.start, low);
+    }
+
+-- a symbol after it, if the place lies past the next part
+pub reached-more : (n : ℕ) (starts : List ℕ) (place : ℕ) (near : Near) → AreStarts n starts → IsReached starts place near → near.after ≤ place → place < 65535 → near.symbol + 2 < n
+reached-more n starts place near are reached above small =
     ⊎_elim
-    (λ (more : near.symbol + 1 < n).
-    let next : near.next ≡ get_or starts (near.symbol + 1) 0 = is.next ∙ inner n starts (near.symbol + 1) are more in
-    ⊎_elim
-    (λ (less : place < get_or starts (near.symbol + 1) 0). omega (arith, next, less, (after-next n starts place near are is more).0))
-    (λ (from : get_or starts (near.symbol + 1) 0 ≤ place). absurd (omega (arith, is.symbol.greatest (near.symbol + 1) (omega (arith, more, are.length)) from)))
-    (cases_lt place (get_or starts (near.symbol + 1) 0)))
-    (λ (last : n ≤ near.symbol + 1). omega (arith, is.after, past n starts (near.symbol + 2) are (omega (arith, last)), small))
-    (cases_lt (near.symbol + 1) n)
+    (λ (more : near.symbol + 2 < n). more)
+    (λ (end : n ≤ near.symbol + 2). absurd (omega (arith, reached.is.after, past n starts (near.symbol + 2) are end, above, small)))
+    (cases_lt (near.symbol + 2) n)
+
+pub reached-next : (n : ℕ) (starts : List ℕ) (place : ℕ) (near next : Near) → AreStarts n starts → IsReached starts place near → near.after ≤ place → place < 65535
+    → next.symbol ≡ near.symbol + 1 → IsNear starts (get_or starts (near.symbol + 1) 0) next → IsReached starts place next
+reached-next n starts place near next are reached above small symbol is =
+    let more : near.symbol + 1 < n = omega (arith, reached-more n starts place near are reached above small) in
+    let at : near.next ≡ get_or starts (near.symbol + 1) 0 = reached.is.next ∙ inner n starts (near.symbol + 1) are more in
+    let start : next.start ≡ get_or starts (near.symbol + 1) 0 = is.start ∙ ap (λ k. get_or starts k 0) symbol in
+    record {
+      is = subst (λ (v : ℕ). IsNear starts v next) (sym start) is;
+      low = omega (arith, start, at, (after-next n starts near.start near are reached.is more).0, above);
+    }

@@ -123,10 +123,9 @@ pub int-short : (st : IntState) (ctx k v : ℕ) (a b : Coding) → k ≤ 27 → 
 int-short st ctx k v a b few h = omega (arith, h.used, length-events_cuts st (corrector_events [] st.bits ctx k v), corrector-fewer [] st.bits ctx k v few)
 
 -- ---- a reader's answer, with the number of bits fixed
-pub fixed-reads : (bits : ℕ) (st next : IntState) (ctx : ℕ) (pred value : ℤ) (k v : ℕ) (old new : Decoding) → st.bits ≡ bits
-    → Takes {X = ℕ × ℕ} (IsCorrector st.bits) (λ y. int_cuts st ctx y.0 y.1) old new (k, v) → value ≡ corrected st.bits pred k v → next ≡ int_next st ctx k v → ReadsCorrector bits st ctx pred value k old new next
-fixed-reads bits st next ctx pred value k v old new same takes makes counts =
-    subst (λ (n : ℕ). ReadsCorrector n st ctx pred value k old new next) same (record { v = v; takes = takes; makes = makes; counts = counts })
+pub fixed-reads : (bits : ℕ) (st next : IntState) (ctx : ℕ) (pred value : ℤ) (k : ℕ) (old new : Decoding) → st.bits ≡ bits
+    → ReadsCorrector st.bits st ctx pred value k old new next → ReadsCorrector bits st ctx pred value k old new next
+fixed-reads bits st next ctx pred value k old new same reads = subst (λ (n : ℕ). ReadsCorrector n st ctx pred value k old new next) same reads
 
 pub fixed-none : (bits : ℕ) (st : IntState) (ctx : ℕ) (old new : Decoding) → st.bits ≡ bits
     → TakesNone {X = ℕ × ℕ} (IsCorrector st.bits) (λ y. int_cuts st ctx y.0 y.1) old new → TakesNone {X = ℕ × ℕ} (IsCorrector bits) (λ y. int_cuts st ctx y.0 y.1) old new

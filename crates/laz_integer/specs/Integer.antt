@@ -22,18 +22,18 @@ use Rattle.laz_integer.specs.Corrector.{choices, corrected, difference, width_of
 
 -- The names of an integer's models: of the width, one for each context; of a corrector of 0 or 1; of the high digits,
 -- one for each width from 1 on.
-abbrev pub width_name : List ℕ → ℕ → Name
+abbrev pub width_name : (kind : List ℕ) → (context : ℕ) → Name
 width_name kind ctx = record { kind = kind; role = Width; which = ctx }
 
-abbrev pub bit_name : List ℕ → Name
+abbrev pub bit_name : (kind : List ℕ) → Name
 bit_name kind = record { kind = kind; role = ZeroOrOne; which = 0 }
 
-abbrev pub high_name : List ℕ → ℕ → Name
+abbrev pub high_name : (kind : List ℕ) → (width : ℕ) → Name
 high_name kind k = record { kind = kind; role = High; which = k }
 
 -- The events of a corrector's index v after its width k: a bit if k is 0; none if k is 32; a symbol up to 8 bits; else
 -- a symbol of the high 8 bits, and the rest raw.
-unfoldable pub rest_events : List ℕ → ℕ → ℕ → List Event
+unfoldable pub rest_events : (kind : List ℕ) → (width index : ℕ) → List Event
 rest_events kind k v =
     if k == 0 then Flag (bit_name kind) (v == 1) ∷ []
     else if k == MAX_BITS then []
@@ -42,7 +42,7 @@ rest_events kind k v =
     ∷ raw_events (k - HIGH_BITS) (v % 2 ^ (k - HIGH_BITS))
 
 -- The events of a corrector: its width k, under the context, and then its index v in that width.
-abbrev pub corrector_events : List ℕ → ℕ → ℕ → ℕ → ℕ → List Event
+abbrev pub corrector_events : (kind : List ℕ) → (bits context width index : ℕ) → List Event
 corrector_events kind bits ctx k v = Symbol (width_name kind ctx) (bits + 1) k ∷ rest_events kind k v
 
 -- Events that spell `value` with its prediction: those of some corrector of width k that makes the value. A reader
@@ -55,11 +55,11 @@ pub record IntSpell (kind : List ℕ) (bits ctx : ℕ) (pred : ℤ) (events : Li
   pub makes : value ≡ corrected bits pred k v
 
 -- The width of the corrector that a writer chooses.
-abbrev pub int_width : ℕ → ℤ → ℤ → ℕ
+abbrev pub int_width : (bits : ℕ) → (pred real : ℤ) → ℕ
 int_width bits pred real = width_of bits (difference bits pred real)
 
 -- The events that a writer makes of an integer: those of the folded difference.
-abbrev pub IntEvents : List ℕ → ℕ → ℕ → ℤ → ℤ → List Event
+abbrev pub IntEvents : (kind : List ℕ) → (bits context : ℕ) → (pred real : ℤ) → List Event
 IntEvents kind bits ctx pred real =
     let k = int_width bits pred real
     in corrector_events kind bits ctx k (corrector_index bits (difference bits pred real) k)
@@ -74,7 +74,7 @@ pub record IntState : Type 0 where
   pub bank : List Counting
 
 -- The number of symbols of each model of the bank.
-unfoldable pub int_sizes : ℕ → ℕ → List ℕ
+unfoldable pub int_sizes : (bits contexts : ℕ) → List ℕ
 int_sizes bits contexts = replicate contexts (bits + 1) ++ map (λ k. 2 ^ min k HIGH_BITS) (range_with_len 1 bits)
 
 -- What holds of the state between any two calls.
@@ -159,12 +159,20 @@ abbrev pub events_next : IntState → List Event → IntState
 events_next st [] = st
 events_next st (e ∷ events) = events_next (event_next st e) events
 
+-- The parts of the events after a corrector's width. They are the same for each use, since a state knows no names.
+abbrev pub digit_cuts : (st : IntState) → (width index : ℕ) → List Cut
+digit_cuts st k v = events_cuts st (rest_events [] k v)
+
+-- The state after them.
+abbrev pub digit_next : (st : IntState) → (width index : ℕ) → IntState
+digit_next st k v = events_next st (rest_events [] k v)
+
 -- The parts of a corrector's events, which are the same for each use.
-abbrev pub int_cuts : IntState → ℕ → ℕ → ℕ → List Cut
+abbrev pub int_cuts : (st : IntState) → (context width index : ℕ) → List Cut
 int_cuts st ctx k v = events_cuts st (corrector_events [] st.bits ctx k v)
 
 -- The state after them.
-abbrev pub int_next : IntState → ℕ → ℕ → ℕ → IntState
+abbrev pub int_next : (st : IntState) → (context width index : ℕ) → IntState
 int_next st ctx k v = events_next st (corrector_events [] st.bits ctx k v)
 
 -- A corrector of an integer of `bits` bits, as width and index.
@@ -194,7 +202,7 @@ pub record ReadsInt (kind : List ℕ) (earlier : List Event) (bits ctx : ℕ) (p
       → (others ≡ events) × (other ≡ value) × (j ≡ k)
 
 -- No spelling with this prediction begins the bytes that are left.
-abbrev pub NoInt : List ℕ → List Event → ℕ → ℕ → ℤ → Decoding → Type 0
+abbrev pub NoInt : (kind : List ℕ) → (earlier : List Event) → (bits context : ℕ) → (pred : ℤ) → Decoding → Type 0
 NoInt kind earlier bits ctx pred old =
     (read : List Cut) → HasRead read old → (events : List Event) (value : ℤ) (k : ℕ)
     → IntSpell kind bits ctx pred events value k → Begins (span (read ++ cuts_after earlier events)) old.bytes → ⊥

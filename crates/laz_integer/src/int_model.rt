@@ -161,10 +161,6 @@ impl IntModel {
             → IfOk result (λ x. ReadsInt kind earlier self.old.bits ctx pred x.0 x.1 decoder.old decoder.new self.new) }
         ensures none { (kind : List ℕ) (earlier : List Event) → IntStands kind earlier self.old
             → OnErr result (NoInt kind earlier self.old.bits ctx pred decoder.old) }
-        ensures fixed { (bits : ℕ) → self.old.bits ≡ bits
-            → MatchResult result
-            (λ x. ReadsCorrector bits self.old ctx pred x.0 x.1 decoder.old decoder.new self.new)
-            (λ _. TakesNone (IsCorrector bits) (λ y. int_cuts self.old ctx y.0 y.1) decoder.old decoder.new) }
         ensures good { OnOk result (decoder.new.failed ≡ false) }
         ensures range { IfOk result (λ x. HasBits self.old.bits x.0) }
         ensures width { IfOk result (λ x. x.1 ≤ self.old.bits) }

@@ -28,4 +28,7 @@ pub use limits::{
     HIGH_BITS, MAX_BITS, MAX_CONTEXTS, MAX_INT_BYTES, MAX_SHORT_INT_BYTES, SHORT_BITS,
 };
 pub use marks::has_bit;
-pub use symbols::{put_bit, put_symbol, put_symbol_of, take_bit, take_symbol, take_symbol_of};
+pub use symbols::{
+    put_bit, put_symbol, put_symbol_of, take_bit, take_frequent_symbol_of, take_symbol,
+    take_symbol_of,
+};

@@ -17,3 +17,6 @@ pub const MAX_INT_BYTES: u32 = 12;
 
 /// The same for an integer of at most [`SHORT_BITS`] bits.
 pub const MAX_SHORT_INT_BYTES: u32 = 9;
+
+/// The middle of the parts that the symbols of a model share.
+pub const MIDDLE: u64 = 0x4000;

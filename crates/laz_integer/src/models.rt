@@ -9,7 +9,7 @@ ghost use Rattle.laz_models.specs.BitCounting.{new_bit_model};
 ghost use Rattle.laz_models.specs.Counting.{new_model};
 ghost use Rattle.laz_integer.specs.Corrector.{choices};
 ghost use Rattle.laz_integer.specs.Integer.{IsIntState, SameShape, IsCorrector, symbol_cut, high_at, symbol_next};
-ghost use Rattle.laz_integer.specs.Integer.{rest_events, events_cuts, events_next, int_cuts, int_next, int_sizes};
+ghost use Rattle.laz_integer.specs.Integer.{digit_cuts, digit_next, int_cuts, int_next, int_sizes};
 ghost use Rattle.laz_integer.specs.Models.{state_of};
 
 use crate::limits::{HIGH_BITS, MAX_BITS, MAX_CONTEXTS};
@@ -124,8 +124,8 @@ fn take_digits(models: &mut Models, decoder: &mut Decoder<'_>, k: u32) -> Result
     requires small { k < MAX_BITS }
     requires range { k ≤ models.old.bits }
     ensures reads { Reads result (λ v. v < 2 ^ k)
-        (λ v. events_cuts (state_of models.old) (rest_events [] k v)) decoder.old decoder.new }
-    ensures next { IfOk result (λ v. state_of models.new ≡ events_next (state_of models.old) (rest_events [] k v)) }
+        (λ v. digit_cuts (state_of models.old) k v) decoder.old decoder.new }
+    ensures next { IfOk result (λ v. state_of models.new ≡ digit_next (state_of models.old) k v) }
     ensures shape { SameShape (state_of models.old) (state_of models.new) }
     ensures state { IsIntState (state_of models.new) }
 {
@@ -145,8 +145,8 @@ fn take_rest(models: &mut Models, decoder: &mut Decoder<'_>, k: u32) -> Result<u
     requires state { IsIntState (state_of models.old) }
     requires range { k ≤ models.old.bits }
     ensures reads { Reads result (λ v. v < choices k)
-        (λ v. events_cuts (state_of models.old) (rest_events [] k v)) decoder.old decoder.new }
-    ensures next { IfOk result (λ v. state_of models.new ≡ events_next (state_of models.old) (rest_events [] k v)) }
+        (λ v. digit_cuts (state_of models.old) k v) decoder.old decoder.new }
+    ensures next { IfOk result (λ v. state_of models.new ≡ digit_next (state_of models.old) k v) }
     ensures shape { SameShape (state_of models.old) (state_of models.new) }
     ensures state { IsIntState (state_of models.new) }
 {
@@ -217,8 +217,8 @@ fn put_digits(models: &mut Models, encoder: &mut Encoder, k: u32, v: u32)
     requires range { k ≤ models.old.bits }
     requires value { v < 2 ^ k }
     requires left { 7 ≤ encoder.old.left }
-    ensures codes { Codes encoder.old encoder.new (events_cuts (state_of models.old) (rest_events [] k v)) }
-    ensures next { state_of models.new ≡ events_next (state_of models.old) (rest_events [] k v) }
+    ensures codes { Codes encoder.old encoder.new (digit_cuts (state_of models.old) k v) }
+    ensures next { state_of models.new ≡ digit_next (state_of models.old) k v }
     ensures shape { SameShape (state_of models.old) (state_of models.new) }
     ensures state { IsIntState (state_of models.new) }
 {
@@ -236,8 +236,8 @@ fn put_rest(models: &mut Models, encoder: &mut Encoder, k: u32, v: u32)
     requires range { k ≤ models.old.bits }
     requires value { v < choices k }
     requires left { 7 ≤ encoder.old.left }
-    ensures codes { Codes encoder.old encoder.new (events_cuts (state_of models.old) (rest_events [] k v)) }
-    ensures next { state_of models.new ≡ events_next (state_of models.old) (rest_events [] k v) }
+    ensures codes { Codes encoder.old encoder.new (digit_cuts (state_of models.old) k v) }
+    ensures next { state_of models.new ≡ digit_next (state_of models.old) k v }
     ensures shape { SameShape (state_of models.old) (state_of models.new) }
     ensures state { IsIntState (state_of models.new) }
 {

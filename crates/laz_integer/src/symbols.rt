@@ -14,6 +14,7 @@ ghost use Rattle.laz_models.specs.Counting.{after_symbol, AreStarts};
 ghost use Rattle.laz_models.specs.Dist.{StandsFor, dist, alphabet_size};
 ghost use Rattle.laz_integer.specs.Integer.{HasPlace, symbol_at, symbol_cut};
 
+use crate::limits::MIDDLE;
 use laz_models::{BitModel, ModelBank, Near, SymbolModel};
 use laz_range::{Bad, Decoder, Encoder};
 
@@ -29,41 +30,7 @@ pub fn put_symbol(encoder: &mut Encoder, model: &mut SymbolModel, s: u32)
         → Codes encoder.old encoder.new (symbol (dist (alphabet_size model.old) h) s ∷ []) }
     ensures stands { (h : List ℕ) → StandsFor h model.old → StandsFor (h ++ s ∷ []) model.new }
 {
-    let (lo, hi) = model.part(s);
-    model.count(s);
-    encoder.cut15(lo, hi);
-}
-
-/// Where the search for the next symbol of a model begins: at that symbol, or at the one before it.
-// Nearly always a table tells it, and else a division and a search of all parts, out of line. What is out of line sees
-// no decoder, so that the decoder's state may stay in registers.
-#[inline(always)]
-fn near_next(decoder: &Decoder<'_>, model: &SymbolModel) -> Near
-    requires { decoder.now.failed ≡ false }
-    ensures near { HasPlace model.now.starts (symbol_place decoder.now) result }
-    ensures starts { AreStarts (alphabet_size model.now) model.now.starts }
-{
-    let near = model.near(decoder.estimate(model.step_bits()));
-    if decoder.is_from(near.after) {
-        return model.near_at(decoder.at15());
-    }
-    near
-}
-
-/// Reads the next symbol of a model.
-// It is the symbol that the search begins at, or the next one: the two are told apart without a branch.
-#[inline(always)]
-fn take_next(decoder: &mut Decoder<'_>, model: &SymbolModel) -> Result<u32, Bad>
-    requires { decoder.old.failed ≡ false }
-    ensures reads { Reads result (λ s. s < alphabet_size model.now)
-        (λ s. symbol_cut model.now s ∷ []) decoder.old decoder.new }
-    ensures bad { IsErr result
-        ↔ RunsOut decoder.old (symbol_cut model.now (symbol_at model.now.starts (symbol_place decoder.old))) }
-    ensures starts { AreStarts (alphabet_size model.now) model.now.starts }
-{
-    let near = near_next(decoder, model);
-    let second = decoder.take_either(near.start, near.next, near.after)?;
-    Ok(near.symbol + second as u32)
+    put_symbol_of(encoder, &mut model.bank, 0, s);
 }
 
 /// Reads a symbol of a model, and counts it. [`Bad`] means that the bytes end too early: no symbol begins those left.
@@ -84,9 +51,7 @@ pub fn take_symbol(decoder: &mut Decoder<'_>, model: &mut SymbolModel) -> Result
         → OnErr result (NoneBegins (λ s. s < alphabet_size model.old)
         (λ s. symbol (dist (alphabet_size model.old) h) s ∷ []) decoder.old) }
 {
-    let symbol = take_next(decoder, model)?;
-    model.count_read(symbol);
-    Ok(symbol)
+    take_symbol_of(decoder, &mut model.bank, 0)
 }
 
 /// Codes symbol `s` of model `m` of a bank, and counts it.
@@ -108,6 +73,7 @@ pub fn put_symbol_of(encoder: &mut Encoder, bank: &mut ModelBank, m: u32, s: u32
 }
 
 /// Where the search for the next symbol of model `m` of a bank begins: at that symbol, or at the one before it.
+// Nearly always a table tells it. Else the symbols after it are tried in turn.
 #[inline(always)]
 fn near_next_of(decoder: &Decoder<'_>, bank: &ModelBank, m: u32) -> Near
     requires good { decoder.now.failed ≡ false }
@@ -115,14 +81,15 @@ fn near_next_of(decoder: &Decoder<'_>, bank: &ModelBank, m: u32) -> Near
     ensures near { HasPlace (model_at bank.now m).starts (symbol_place decoder.now) result }
     ensures starts { AreStarts (alphabet_size (model_at bank.now m)) (model_at bank.now m).starts }
 {
-    let near = bank.near(m, decoder.estimate(bank.step_bits(m)));
-    if decoder.is_from(near.after) {
-        return bank.near_at(m, decoder.at15());
+    let mut near = bank.near(m, decoder.estimate(bank.step_bits(m)));
+    while decoder.is_from(near.after) {
+        near = bank.near_symbol(m, near.symbol + 1);
     }
     near
 }
 
 /// Reads the next symbol of model `m` of a bank.
+// It is the symbol that the search begins at, or the next one: the two are told apart without a branch.
 #[inline(always)]
 fn take_next_of(decoder: &mut Decoder<'_>, bank: &ModelBank, m: u32) -> Result<u32, Bad>
     requires good { decoder.old.failed ≡ false }
@@ -162,6 +129,49 @@ pub fn take_symbol_of(decoder: &mut Decoder<'_>, bank: &mut ModelBank, m: u32) -
     ensures sizes { alphabet_sizes bank.new ≡ alphabet_sizes bank.old }
 {
     let symbol = take_next_of(decoder, bank, m)?;
+    bank.count_read(m, symbol);
+    Ok(symbol)
+}
+
+/// Reads the next symbol of model `m` of a bank, which is most often the symbol in the middle of all parts.
+// A symbol that has more than half of the parts lies there. It is tried before the search, so that a processor that
+// foresees the outcome need not wait for it.
+#[inline(always)]
+fn take_next_by_guess(decoder: &mut Decoder<'_>, bank: &ModelBank, m: u32) -> Result<u32, Bad>
+    requires good { decoder.old.failed ≡ false }
+    requires model { m < length bank.now }
+    ensures reads { Reads result (λ s. s < alphabet_size (model_at bank.now m))
+        (λ s. symbol_cut (model_at bank.now m) s ∷ []) decoder.old decoder.new }
+    ensures bad { let model = model_at bank.now m
+        in IsErr result ↔ RunsOut decoder.old (symbol_cut model (symbol_at model.starts (symbol_place decoder.old))) }
+    ensures starts { AreStarts (alphabet_size (model_at bank.now m)) (model_at bank.now m).starts }
+{
+    let guess = bank.near(m, MIDDLE >> bank.step_bits(m));
+    if decoder.is_in(guess.start, guess.next) {
+        decoder.take_to(guess.start, guess.next)?;
+        return Ok(guess.symbol);
+    }
+    take_next_of(decoder, bank, m)
+}
+
+/// The same as [`take_symbol_of`], for a model one of whose symbols has mostly more than half of the parts.
+#[inline(always)]
+pub fn take_frequent_symbol_of(
+    decoder: &mut Decoder<'_>,
+    bank: &mut ModelBank,
+    m: u32,
+) -> Result<u32, Bad>
+    requires good { decoder.old.failed ≡ false }
+    requires model { m < length bank.old }
+    ensures reads { Reads result (λ s. s < alphabet_size (model_at bank.old m))
+        (λ s. symbol_cut (model_at bank.old m) s ∷ []) decoder.old decoder.new }
+    ensures bad { let model = model_at bank.old m
+        in IsErr result ↔ RunsOut decoder.old (symbol_cut model (symbol_at model.starts (symbol_place decoder.old))) }
+    ensures after_symbol { IfOk result (λ s. bank.new ≡ slice_set bank.old m (after_symbol (model_at bank.old m) s)) }
+    ensures kept { OnErr result (bank.new ≡ bank.old) }
+    ensures sizes { alphabet_sizes bank.new ≡ alphabet_sizes bank.old }
+{
+    let symbol = take_next_by_guess(decoder, bank, m)?;
     bank.count_read(m, symbol);
     Ok(symbol)
 }

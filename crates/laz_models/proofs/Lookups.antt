@@ -1,5 +1,5 @@
 -- The last symbol at or below a position, and the size of look-up tables.
-use Rattle.std.proofs.Common.{◌≡◌, ℕ, zero, suc, ◌+◌, ◌-◌, ◌*◌, ◌^◌, ◌<◌, ◌≤◌, List, [], ◌∷◌, cond, ltb, get_or, refl, sym, ap, ◌∙◌, arith, ⊎_elim, lit<}
+use Rattle.std.proofs.Common.{◌≡◌, ℕ, zero, suc, ◌+◌, ◌-◌, ◌*◌, ◌%◌, ◌^◌, ◌<◌, ◌≤◌, List, [], ◌∷◌, cond, ltb, get_or, refl, sym, ap, ◌∙◌, mul_assoc, arith, ⊎_elim, lit<}
 use Rattle.std.proofs.Math.Nat.{pow-le-pow_right}
 use Rattle.std.proofs.lemmas.Bool.{cases_lt, cond-true, cond-false, lt-ltb, le-ltb}
 use Rattle.std.proofs.lemmas.List.Sums.{count_by-le-length}
@@ -85,3 +85,35 @@ step-below n step within =
     (λ (less : step < 2 ^ search_bits n). less)
     (λ (more : 2 ^ search_bits n ≤ step). absurd (omega (arith, within, search-whole n, mul-le (2 ^ search_bits n) unit step unit more (omega arith))))
     (cases_lt step (2 ^ search_bits n))
+
+-- ---- the table that is kept has the entries of the other
+counts-le : (a b n : ℕ) → b ≤ a → cond {A = ℕ} (ltb a n) 1 0 ≤ cond {A = ℕ} (ltb b n) 1 0
+counts-le a b n order =
+    ⊎_elim
+    (λ (more : a < n). omega (arith, counts-one a n more, counts-one b n (omega arith)))
+    (λ (less : n ≤ a). omega (arith, counts-none a n less))
+    (cases_lt a n)
+
+pub table_bits-le : (n : ℕ) → table_bits n ≤ search_bits n
+table_bits-le n = omega (arith, table_bits-sum n, search_bits-sum n, counts-le 32 8 n (omega arith), counts-le 64 16 n (omega arith), counts-le 128 32 n (omega arith), counts-le 256 64 n (omega arith), counts-le 512 128 n (omega arith), counts-le 1024 256 n (omega arith))
+
+pub table_bits-below : (n : ℕ) → 1 * 2 ^ table_bits n % 4294967296 ≡ 2 ^ table_bits n
+table_bits-below n = let few : 2 ^ table_bits n ≤ 512 = pow-le-pow_right {n = 2} (lit< tt) {i = table_bits n} {j = 9} (table_bits-bounds n).1 in omega arith
+
+-- an entry of the other, as one of the table that is kept
+pub record IsKept (n t : ℕ) : Type 0 where
+  pub within : t * 2 ^ (search_bits n - table_bits n) < 2 ^ search_bits n
+  pub place : t * 2 ^ (search_bits n - table_bits n) * 2 ^ (15 - search_bits n) ≡ t * 2 ^ (15 - table_bits n)
+
+pub entry-kept : (n t : ℕ) → t < 2 ^ table_bits n → IsKept n t
+entry-kept n t below =
+    let more : ℕ = search_bits n - table_bits n in
+    let bits : table_bits n + more ≡ search_bits n = omega (arith, table_bits-le n) in
+    let whole : 2 ^ search_bits n ≡ 2 ^ table_bits n * 2 ^ more = ap (λ k. 2 ^ k) (sym bits) ∙ pow-add 2 (table_bits n) more in
+    let less : (t + 1) * 2 ^ more ≤ 2 ^ table_bits n * 2 ^ more = mul-le (t + 1) (2 ^ more) (2 ^ table_bits n) (2 ^ more) (omega arith) (omega arith) in
+    let rest : more + (15 - search_bits n) ≡ 15 - table_bits n = omega (arith, table_bits-le n, search_bits-bounds n) in
+    let places : 2 ^ (15 - table_bits n) ≡ 2 ^ more * 2 ^ (15 - search_bits n) = ap (λ k. 2 ^ k) (sym rest) ∙ pow-add 2 more (15 - search_bits n) in
+    record {
+      within = omega (arith, whole, less, pow_pos more);
+      place = mul_assoc t (2 ^ more) (2 ^ (15 - search_bits n)) ∙ ap (λ x. t * x) (sym places);
+    }

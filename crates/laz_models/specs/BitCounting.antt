@@ -1,5 +1,5 @@
 -- Models of bits, as they count.
-use Rattle.std.specs.Prelude.{ℕ, ◌+◌, ◌-◌, ◌*◌, ◌/◌, ◌<◌, ◌≤◌, ◌==◌, min, Bool, true, false, nat_lt, if◌then◌else◌}
+use Rattle.std.specs.Prelude.{ℕ, ◌+◌, ◌-◌, ◌*◌, ◌/◌, ◌^◌, ◌<◌, ◌≤◌, ◌==◌, min, Bool, true, false, nat_lt, if◌then◌else◌}
 use Rattle.laz_models.specs.declared.limits.TheConstants.{BIT_PARTS, MAX_BIT_COUNT}
 
 -- What a model of bits knows: the zeros and the bits that it counted for the part of 0, that part as it was last
@@ -29,7 +29,7 @@ small_bit_counts zeros count =
 
 -- The part of 0, of 2 ^ 13 parts: the share of the zeros (LASzip, after Said).
 abbrev pub zero_part : ℕ × ℕ → ℕ
-zero_part counts = counts.0 * (2147483648 / counts.1) / 262144
+zero_part counts = counts.0 * (2 ^ 31 / counts.1) / 2 ^ 18
 
 -- How long the cycle after one of this length is: a quarter longer, up to 64 (LASzip).
 abbrev pub next_bit_cycle : ℕ → ℕ

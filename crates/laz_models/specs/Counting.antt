@@ -1,5 +1,5 @@
 -- Models of symbols, as they count.
-use Rattle.std.specs.Prelude.{◌≡◌, ℕ, ◌+◌, ◌-◌, ◌*◌, ◌/◌, ◌<◌, ◌≤◌, ◌==◌, min, List, length, take, map, sum, replicate}
+use Rattle.std.specs.Prelude.{◌≡◌, ℕ, ◌+◌, ◌-◌, ◌*◌, ◌/◌, ◌^◌, ◌<◌, ◌≤◌, ◌==◌, min, List, length, take, map, sum, replicate}
 use Rattle.std.specs.Prelude.{nat_lt, if◌then◌else◌, slice_index, slice_set}
 use Rattle.std.specs.List.{range_with_len}
 use Rattle.laz_models.specs.declared.limits.TheConstants.{MAX_COUNT, MAX_SYMBOLS, SYMBOL_PARTS}
@@ -22,7 +22,7 @@ next_cycle n cycle = min (8 * (n + 6)) (5 * cycle / 4)
 
 -- The start of the part of symbol k, of 2 ^ 15 parts: the share of the counts below it (LASzip, after Said).
 abbrev pub part_start : List ℕ → ℕ → ℕ
-part_start counts k = 2147483648 / sum counts * sum (take k counts) / 65536
+part_start counts k = 2 ^ 31 / sum counts * sum (take k counts) / 2 ^ 16
 
 -- The start of each symbol's part.
 unfoldable pub starts_of : List ℕ → List ℕ

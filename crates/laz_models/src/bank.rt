@@ -98,9 +98,9 @@ impl ModelBank {
         lookup::find(&self.cells, place, v)
     }
 
-    /// Entry `t` of the look-up table of model `m`: the greatest symbol whose part begins at `t · 2^(15 - b)` or below.
-    /// For a model of n symbols, b is the least number from 3 on with n ≤ 2^(b + 2). A model of up to 16 symbols has no
-    /// table.
+    /// Entry `t` of the look-up table that LASzip has for model `m`, of more than 16 symbols: the greatest symbol whose
+    /// part begins at `t · 2^(15 - b)` or below. For a model of n symbols, b is the least number from 3 on with
+    /// n ≤ 2^(b + 2). The table that is kept is finer, and has this entry, too.
     #[inline]
     pub fn entry(&self, m: u32, t: u32) -> u32
         requires model { m < length self.now }
@@ -121,7 +121,7 @@ impl ModelBank {
     pub fn step_bits(&self, m: u32) -> u32
         requires { m < length self.now }
         ensures is { result ≡ 15 - search_bits (alphabet_size (model_at self.now m)) }
-        ensures few { result < 16 }
+        ensures few { result ≤ 12 }
     {
         self.places[m as usize].shift
     }
@@ -139,15 +139,16 @@ impl ModelBank {
         lookup::near(&self.cells, &self.places[m as usize], step)
     }
 
-    /// The symbol of model `m` at place `v`, by a search of all parts, with the starts that [`near`](Self::near) answers.
+    /// Symbol `s` of model `m`, with the starts that [`near`](Self::near) answers.
     #[inline(always)]
-    pub fn near_at(&self, m: u32, v: u32) -> Near
-        requires { m < length self.now }
-        ensures near { IsNear (model_at self.now m).starts v result }
+    pub fn near_symbol(&self, m: u32, s: u32) -> Near
+        requires model { m < length self.now }
+        requires symbol { s < alphabet_size (model_at self.now m) }
+        ensures symbol { result.symbol ≡ s }
+        ensures near { let starts = (model_at self.now m).starts in IsNear starts (slice_index starts s) result }
         ensures starts { AreStarts (alphabet_size (model_at self.now m)) (model_at self.now m).starts }
     {
-        let place = &self.places[m as usize];
-        lookup::near_without_table(&self.cells, place, v)
+        lookup::near_symbol(&self.cells, &self.places[m as usize], s)
     }
 
     /// Counts symbol `s` of model `m`.

@@ -111,33 +111,6 @@ pub fn find(cells: &[u16], place: &Place, v: u32) -> u32
     last_at(distribution(cells, place), place.size, v)
 }
 
-/// How many bits of a position choose an entry of the look-up table of a reader.
-fn table_bits(size: u32) -> u32
-    requires few { size ≤ MAX_SYMBOLS }
-    ensures { result ≡ table_bits size }
-{
-    match size {
-        ..=32 => 3,
-        ..=64 => 4,
-        ..=128 => 5,
-        ..=256 => 6,
-        ..=512 => 7,
-        ..=1024 => 8,
-        _ => 9,
-    }
-}
-
-/// An entry of the look-up table of a reader.
-#[inline]
-pub fn entry(cells: &[u16], place: &Place, t: u32) -> u32
-    requires placed { IsPlaced place.now cells.now }
-    requires first { IsFirst place.now.size place.now.first cells.now }
-    requires entry { t ≤ 2 ^ table_bits place.now.size }
-    ensures { IsLastAt (counting_in cells.now place.now).starts (t * 2 ^ (15 - table_bits place.now.size)) result }
-{
-    find(cells, place, t << (15 - table_bits(place.size)))
-}
-
 /// A symbol with the starts of its part and of the next two.
 #[inline(always)]
 fn near_of(dist: &[u16], symbol: u32) -> Near
@@ -193,4 +166,47 @@ pub fn near(cells: &[u16], place: &Place, entry: u64) -> Near
         return near_in_table(dist, place.size, place.shift, entry);
     }
     near_without_table(cells, place, (entry as u32) << place.shift)
+}
+
+/// A symbol with the starts of its part and of the next two.
+#[inline(always)]
+pub fn near_symbol(cells: &[u16], place: &Place, s: u32) -> Near
+    requires placed { IsPlaced place.now cells.now }
+    requires first { IsFirst place.now.size place.now.first cells.now }
+    requires symbol { s < place.now.size }
+    ensures symbol { result.symbol ≡ s }
+    ensures near { let starts = (counting_in cells.now place.now).starts in IsNear starts (slice_index starts s) result }
+{
+    near_of(distribution(cells, place), s)
+}
+
+/// How many bits of a place choose an entry of the look-up table of LASzip.
+fn table_bits(size: u32) -> u32
+    requires few { size ≤ MAX_SYMBOLS }
+    ensures { result ≡ table_bits size }
+{
+    match size {
+        ..=32 => 3,
+        ..=64 => 4,
+        ..=128 => 5,
+        ..=256 => 6,
+        ..=512 => 7,
+        ..=1024 => 8,
+        _ => 9,
+    }
+}
+
+/// An entry of the look-up table of LASzip. The table that is kept has as many entries or more.
+#[inline]
+pub fn entry(cells: &[u16], place: &Place, t: u32) -> u32
+    requires placed { IsPlaced place.now cells.now }
+    requires first { IsFirst place.now.size place.now.first cells.now }
+    requires entry { t ≤ 2 ^ table_bits place.now.size }
+    ensures { IsLastAt (counting_in cells.now place.now).starts (t * 2 ^ (15 - table_bits place.now.size)) result }
+{
+    let bits = table_bits(place.size);
+    if t == 1 << bits {
+        return find(cells, place, SYMBOL_PARTS);
+    }
+    near(cells, place, (t as u64) << (15 - bits - place.shift)).symbol
 }

@@ -1,9 +1,8 @@
 //! A model of symbols.
-ghost use Rattle.std.specs.Prelude.{◌≡◌, ℕ, ◌+◌, ◌-◌, ◌*◌, ◌^◌, ◌<◌, ◌≤◌, List, [], ◌∷◌, ◌++◌, IfOk, slice_index};
+ghost use Rattle.std.specs.Prelude.{◌≡◌, ℕ, ◌<◌, ◌≤◌, List, [], ◌∷◌, ◌++◌, IfOk, slice_index};
 
 use crate::bank::ModelBank;
 use crate::limits::{MAX_SYMBOLS, SYMBOL_PARTS};
-use crate::near::Near;
 use std::alloc::{AllocError, Global};
 use std::marker::Model;
 
@@ -13,7 +12,8 @@ use std::marker::Model;
 /// that list. No part is empty, and the last one begins below 32,768. Only `new` takes memory.
 #[derive(Drop)]
 pub struct SymbolModel {
-    bank: ModelBank,
+    /// The bank.
+    pub bank: ModelBank,
 }
 
 impl Model for SymbolModel {
@@ -31,8 +31,7 @@ impl Model for SymbolModel {
 impl SymbolModel {
     ghost use Rattle.laz_models.specs.Counting.{after_symbol, new_model, part_end, AreStarts};
     ghost use Rattle.laz_models.specs.Dist.{dist, alphabet_size, StandsFor};
-    ghost use Rattle.laz_models.specs.Lookup.{IsLastAt, search_bits};
-    ghost use Rattle.laz_models.specs.Near.{IsNear};
+    ghost use Rattle.laz_models.specs.Lookup.{IsLastAt};
     ghost use Rattle.laz_models.specs.Sound.{IsSound};
 
     /// Makes a model of `n` symbols, 2 to 2,048.
@@ -83,35 +82,6 @@ impl SymbolModel {
         self.bank.find(0, v)
     }
 
-    /// How many low bits of a place, at most 12, a search for a symbol leaves out.
-    #[inline(always)]
-    pub fn step_bits(&self) -> u32
-        ensures is { result ≡ 15 - search_bits (alphabet_size self.now) }
-        ensures few { result < 16 }
-    {
-        self.bank.step_bits(0)
-    }
-
-    /// Where a decoder's search for a symbol begins: the last symbol whose part begins at place `step · 2^b` or below, with
-    /// the starts of its part and of the next two. Here b is what [`step_bits`](Self::step_bits) answers.
-    #[inline(always)]
-    pub fn near(&self, step: u64) -> Near
-        requires { step < 2 ^ search_bits (alphabet_size self.now) }
-        ensures near { IsNear self.now.starts (step * 2 ^ (15 - search_bits (alphabet_size self.now))) result }
-        ensures starts { AreStarts (alphabet_size self.now) self.now.starts }
-    {
-        self.bank.near(0, step)
-    }
-
-    /// The symbol at place `v`, by a search of all parts, with the starts that [`near`](Self::near) answers.
-    #[inline(always)]
-    pub fn near_at(&self, v: u32) -> Near
-        ensures near { IsNear self.now.starts v result }
-        ensures starts { AreStarts (alphabet_size self.now) self.now.starts }
-    {
-        self.bank.near_at(0, v)
-    }
-
     /// Counts symbol `s`.
     #[inline]
     pub fn count(&mut self, s: u32)
@@ -122,18 +92,5 @@ impl SymbolModel {
         ensures sound { IsSound self.new }
     {
         self.bank.count(0, s);
-    }
-
-    /// The same as [`count`](Self::count), for a reader: where a cycle begins, a look-up table is written, from which
-    /// [`near`](Self::near) answers.
-    #[inline]
-    pub fn count_read(&mut self, s: u32)
-        requires { s < alphabet_size self.old }
-        ensures after_symbol { self.new ≡ after_symbol self.old s }
-        ensures stands { (h : List ℕ) → StandsFor h self.old → StandsFor (h ++ s ∷ []) self.new }
-        ensures size { alphabet_size self.new ≡ alphabet_size self.old }
-        ensures sound { IsSound self.new }
-    {
-        self.bank.count_read(0, s);
     }
 }

@@ -36,6 +36,9 @@ int-takes st other ctx x a b same h = subst (λ (c : ℕ). Takes (IsCorrector 32
 pub int-none : (st : IntState) (other ctx : ℕ) (a b : Decoding) → other ≡ ctx → TakesNone (IsCorrector 32) (λ y. int_cuts st other y.0 y.1) a b → TakesNone (IsCorrector 32) (λ y. int_cuts st ctx y.0 y.1) a b
 int-none st other ctx a b same h = subst (λ (c : ℕ). TakesNone (IsCorrector 32) (λ y. int_cuts st c y.0 y.1) a b) same h
 
+pub int-counts : (st next : IntState) (other ctx k v : ℕ) → other ≡ ctx → next ≡ int_next st other k v → next ≡ int_next st ctx k v
+int-counts st next other ctx k v same h = subst (λ (c : ℕ). next ≡ int_next st c k v) same h
+
 pub int-value : (pred : ℤ) (k v : ℕ) (z : ℤ) → FitsSigned w32 pred → z ≡ corrected 32 (cast_signed w32 (cast_unsigned w32 pred)) k v → cast_signed w32 (cast_unsigned w32 z) ≡ corrected 32 pred k v
 int-value pred k v z fits is = corrected-passed 32 pred k v z (lit≤ tt) fits is
 

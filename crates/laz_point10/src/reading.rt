@@ -15,7 +15,7 @@ use crate::models::{HeadModels, Models, PlaceModels, ScanModels, SurfaceModels};
 use crate::point::Point;
 use crate::returns::one_return;
 use crate::writing::{even_below, intensity_context};
-use laz_integer::{has_bit, take_byte, take_symbol_of, take_word};
+use laz_integer::{has_bit, take_byte, take_frequent_symbol_of, take_word};
 use laz_range::{Bad, Decoder};
 
 // Takes the symbol of changes, and the flag byte.
@@ -31,7 +31,7 @@ fn take_head(
     ensures next { IfOk result (λ x. models.new ≡ head_next models.old previous.now x) }
     ensures models { AreHeadModels models.new }
 {
-    let changes = take_symbol_of(decoder, &mut models.changes, 0)?;
+    let changes = take_frequent_symbol_of(decoder, &mut models.changes, 0)?;
     let marked = has_bit(changes, 32);
     let flags = take_byte(
         decoder,

@@ -42,7 +42,7 @@ width_in len (Raw b v) = len / 2 ^ b
 
 -- A raw value of more than 19 bits is two events: its low 16 bits, and the rest (LASzip's `writeBits`).
 abbrev pub raw_cuts : ℕ → ℕ → List Cut
-raw_cuts b v = if nat_lt MAX_RAW_BITS b then Raw 16 (v % 65536) ∷ Raw (b - 16) (v / 65536) ∷ [] else Raw b v ∷ []
+raw_cuts b v = if nat_lt MAX_RAW_BITS b then Raw 16 (v % 2 ^ 16) ∷ Raw (b - 16) (v / 2 ^ 16) ∷ [] else Raw b v ∷ []
 
 -- One event, as a list.
 abbrev pub one_event : Cut → List Cut

@@ -1,12 +1,12 @@
 -- The output of an encoder.
-use Rattle.std.specs.Prelude.{◌≡◌, ℕ, ◌+◌, ◌-◌, ◌*◌, ◌/◌, ◌%◌, ◌≤◌, List, length, take, drop}
+use Rattle.std.specs.Prelude.{◌≡◌, ℕ, ◌+◌, ◌-◌, ◌*◌, ◌/◌, ◌%◌, ◌^◌, ◌≤◌, List, length, take, drop}
 use Rattle.laz_range.specs.Span.{Span, number, IsBytes}
 use Rattle.laz_range.specs.Coding.{Coding}
 use Rattle.laz_range.specs.declared.output.Output.{Output}
 
 -- The low end of an interval, which the bytes from `at` up to `next` and the lower half of `low` spell.
 abbrev pub low_of : ℕ → ℕ → ℕ → List ℕ → ℕ
-low_of at next low bytes = number (drop at (take next bytes)) * 4294967296 + low % 4294967296
+low_of at next low bytes = number (drop at (take next bytes)) * 2 ^ 32 + low % 2 ^ 32
 
 -- The span of an output.
 abbrev pub span_of : Output → Span
@@ -19,7 +19,7 @@ pub record Spells (at next d : ℕ) (old new : List ℕ) : Type 0 where
 
 -- The upper half of `low` is the number of the last four of the first `next` bytes, or of all of them.
 abbrev pub IsWindow : ℕ → ℕ → List ℕ → Type 0
-IsWindow low next bytes = low / 4294967296 ≡ number (take next bytes) % 4294967296
+IsWindow low next bytes = low / 2 ^ 32 ≡ number (take next bytes) % 2 ^ 32
 
 -- The room has four more bytes, for the lower half of `low`, whose upper half is as the bytes written are.
 pub record HasRoom (o : Output) : Type 0 where

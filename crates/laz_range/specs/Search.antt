@@ -6,7 +6,7 @@ use Rattle.laz_range.specs.declared.limits.TheConstants.{GUARD, SYMBOL_PARTS}
 
 -- 2 ^ 47 divided by the greatest number of 32 bits whose top 11 bits are these.
 abbrev pub reciprocal : ℕ → ℕ
-reciprocal top = 140737488355328 / ((top + 1) * 2097152 - 1)
+reciprocal top = 2 ^ 47 / ((top + 1) * 2 ^ 21 - 1)
 
 -- Entry i is the reciprocal of the top bits i + 1024.
 abbrev pub AreReciprocals : List ℕ → Type 0
@@ -14,13 +14,13 @@ AreReciprocals table = (i : ℕ) → i < 1024 → slice_index table i ≡ recipr
 
 -- The top 11 bits of a length without its leading zeros.
 abbrev pub top_bits : ℕ → ℕ
-top_bits len = len * 2 ^ leading_zeros w32 len / 2097152
+top_bits len = len * 2 ^ leading_zeros w32 len / 2 ^ 21
 
 -- The place of a value, of 2 ^ 15 parts of a length, as the reciprocal of the length's top 11 bits gives it.
 abbrev pub estimated_place : ℕ → ℕ → ℕ
 estimated_place value len =
     let zeros = leading_zeros w32 len
-    in value * reciprocal (len * 2 ^ zeros / 2097152) / 2 ^ (32 - zeros)
+    in value * reciprocal (len * 2 ^ zeros / 2 ^ 21) / 2 ^ (32 - zeros)
 
 -- Two parts of a distribution that follow each other. A part that ends with the interval ends at a guard.
 pub record AreTwo (start next after : ℕ) : Type 0 where

@@ -65,8 +65,8 @@ pub record Begins (s : Span) (bytes : List ℕ) : Type 0 where
 -- two.
 abbrev pub final_number : Span → ℕ
 final_number s =
-    if nat_lt 33554432 s.len then (s.low + 16777216) / 16777216 * 16777216
-    else (s.low + 8388608) / 65536 * 65536
+    if nat_lt (2 ^ 25) s.len then (s.low + 2 ^ 24) / 2 ^ 24 * 2 ^ 24
+    else (s.low + 2 ^ 23) / 2 ^ 16 * 2 ^ 16
 
 -- A number below 256 ^ n, as n digits of base 256, most significant first.
 abbrev pub digits : ℕ → ℕ → List ℕ
@@ -79,10 +79,11 @@ bytes_of s = digits (s.shifts + 4) (final_number s)
 
 -- How many more bytes a part of this length needs: one for each factor of 256 that it lacks to reach 2 ^ 24.
 unfoldable pub bytes_for : ℕ → ℕ
-bytes_for len = if nat_lt len 256 then 3 else if nat_lt len 65536 then 2 else if nat_lt len MIN_LENGTH then 1 else 0
+bytes_for len =
+    if nat_lt len (2 ^ 8) then 3 else if nat_lt len (2 ^ 16) then 2 else if nat_lt len MIN_LENGTH then 1 else 0
 
 -- What holds of every span that the coder reaches.
 pub record IsSpan (s : Span) : Type 0 where
   pub long : MIN_LENGTH ≤ s.len
-  pub short : s.len < 4294967296
+  pub short : s.len < 2 ^ 32
   pub within : s.low + s.len ≤ 256 ^ (s.shifts + 4)

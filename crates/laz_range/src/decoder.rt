@@ -1,6 +1,6 @@
 //! The decoder.
 ghost use Rattle.std.specs.Prelude.{◌≡◌, ℕ, Bool, true, false, ◌+◌, ◌*◌, ◌/◌, ◌<◌, ◌≤◌, ◌^◌, ◌↔◌, ◌⊎◌, ⊤, [], ◌∷◌};
-ghost use Rattle.std.specs.Prelude.{List, IsTrue, IsErr, IfOk, OnOk, OnErr, MatchResult, Option, length, take, nat_le};
+ghost use Rattle.std.specs.Prelude.{List, IsTrue, IsErr, IfOk, OnOk, OnErr, MatchResult, Option, length, min, take, nat_le};
 ghost use Rattle.laz_range.specs.Cut.{Cut, Part, Bit, Raw, AreCuts, IsLike, one_event, raw_cuts};
 ghost use Rattle.laz_range.specs.Search.{AreTwo, estimated_place, part_of_two};
 ghost use Rattle.laz_range.specs.Span.{Begins, number, span};
@@ -8,12 +8,13 @@ ghost use Rattle.laz_range.specs.Reading.{quotient, reading_after_part, RefusesP
 ghost use Rattle.laz_range.specs.Decoding.{HasRead, ReadsOn, NoneBegins, Reads, RunsOut, Takes, TakesNone, bit_of};
 ghost use Rattle.laz_range.specs.Decoding.{symbol_place, reading_of};
 ghost use Rattle.laz_range.specs.Input.{Advances, Stops};
+ghost use Rattle.laz_range.specs.declared.limits.TheConstants.{GUARD};
 
 pub use crate::input::Bad;
 use crate::input::{Input, advance};
 use crate::limits::{BIT_PARTS, MAX_LENGTH, MAX_RAW_BITS, MIN_LENGTH, SYMBOL_PARTS};
 use crate::reciprocal::{estimate, top_of};
-use crate::search::{bit_part, either, parts};
+use crate::search::{bit_part, either, part_to, parts};
 use std::marker::Model;
 
 /// Reads events from borrowed bytes.
@@ -117,6 +118,7 @@ impl<'a> Decoder<'a> {
         ensures is { result ≡ estimated_place self.now.value self.now.len / 2 ^ bits }
         ensures below { result * 2 ^ bits ≤ symbol_place self.now }
         ensures within { result * 2 ^ bits < SYMBOL_PARTS }
+        ensures guard { symbol_place self.now < GUARD }
     {
         estimate(self.input.value, self.input.length, self.input.top, bits)
     }
@@ -128,6 +130,36 @@ impl<'a> Decoder<'a> {
         ensures { IsTrue result ↔ (place ≤ symbol_place self.now) }
     {
         parts(place, self.input.length >> 15) <= self.input.value as u64
+    }
+
+    /// Whether the value lies in the part from `start` up to `next` of 2^15 parts. A part that ends with the interval
+    /// ends at a guard.
+    #[inline(always)]
+    pub fn is_in(&self, start: u32, next: u32) -> bool
+        requires { self.now.failed ≡ false }
+        ensures { IsTrue result ↔ ((start ≤ symbol_place self.now) × (symbol_place self.now < next)) }
+    {
+        self.is_from(start) && !self.is_from(next)
+    }
+
+    /// Takes the symbol whose part is from `start` up to `next` of 2^15 parts, which the value lies in. A part that ends
+    /// with the interval ends at a guard. Bad means that the bytes run out: no symbol of any distribution with this part
+    /// begins the rest of them.
+    #[inline(always)]
+    pub fn take_to(&mut self, start: u32, next: u32) -> Result<(), Bad>
+        requires good { self.old.failed ≡ false }
+        requires start { start < SYMBOL_PARTS }
+        requires guard { SYMBOL_PARTS ≤ next → GUARD ≤ next }
+        requires above { start ≤ symbol_place self.old }
+        requires below { symbol_place self.old < next }
+        ensures reads { let part = Part start (min next SYMBOL_PARTS)
+            in MatchResult result
+            (λ _. Takes (IsLike part) one_event self.old self.new part)
+            (λ _. TakesNone (IsLike part) one_event self.old self.new) }
+        ensures bad { IsErr result ↔ RunsOut self.old (Part start (min next SYMBOL_PARTS)) }
+    {
+        let (from, width) = part_to(start, next, self.input.length);
+        self.take_part(from, width)
     }
 
     /// Takes one of two symbols that follow each other, and answers whether it is the second one. Their parts begin at

@@ -11,7 +11,7 @@ ghost use Rattle.laz_rgb.specs.Coded.{choice_symbols, two_cuts, two_next};
 
 use crate::colour::Colour;
 use crate::writing::{colour_marks, moved, predicted_blue};
-use laz_integer::{has_bit, take_byte, take_symbol_of};
+use laz_integer::{has_bit, take_byte, take_frequent_symbol_of};
 use laz_models::ModelBank;
 use laz_range::{Bad, Decoder};
 
@@ -65,44 +65,44 @@ fn take_red(
     Ok((first, second))
 }
 
-// Takes a byte of green and one of blue, both low or both high, under models `m` and `m + 1`. Red went from `red_from`
-// to `red_to`.
-#[inline(always)]
-fn take_green_blue(
-    decoder: &mut Decoder<'_>,
-    bank: &mut ModelBank,
-    m: u32,
+// A byte of green and one of blue, both low or both high: whether they are marked, those of the colour before, and how
+// the byte of red went, which predicts them.
+#[derive(Clone, Copy)]
+struct GreenBlue {
     green_marked: bool,
     blue_marked: bool,
     red_from: u8,
     red_to: u8,
     green_from: u8,
     blue_from: u8,
+}
+
+// Takes a byte of green and one of blue under models `m` and `m + 1`.
+#[inline(always)]
+fn take_green_blue(
+    decoder: &mut Decoder<'_>,
+    bank: &mut ModelBank,
+    m: u32,
+    q: GreenBlue,
 ) -> Result<(u8, u8), Bad>
     requires good { decoder.old.failed ≡ false }
     requires within { decoder.old.taken ≤ length decoder.old.bytes }
     requires models { AreRowModels 2 m bank.old }
     requires few { m < 1024 }
     ensures reads { MatchResult result
-        (λ r. (x : ℕ × ℕ) × Takes (IsTwo green_marked blue_marked)
-        (two_cuts green_marked blue_marked bank.old m) decoder.old decoder.new x
-        × (r.0 ≡ byte_of green_marked (predicted_green red_from red_to green_from) green_from x.0)
-        × (r.1 ≡ byte_of blue_marked (predicted_blue red_from red_to green_from r.0 blue_from) blue_from x.1)
-        × (bank.new ≡ two_next green_marked blue_marked bank.old m x))
-        (λ _. TakesNone (IsTwo green_marked blue_marked)
-        (two_cuts green_marked blue_marked bank.old m) decoder.old decoder.new) }
+        (λ r. (x : ℕ × ℕ) × Takes (IsTwo q.green_marked q.blue_marked)
+        (two_cuts q.green_marked q.blue_marked bank.old m) decoder.old decoder.new x
+        × (r.0 ≡ byte_of q.green_marked (predicted_green q.red_from q.red_to q.green_from) q.green_from x.0)
+        × (r.1 ≡ byte_of q.blue_marked (predicted_blue q.red_from q.red_to q.green_from r.0 q.blue_from) q.blue_from x.1)
+        × (bank.new ≡ two_next q.green_marked q.blue_marked bank.old m x))
+        (λ _. TakesNone (IsTwo q.green_marked q.blue_marked)
+        (two_cuts q.green_marked q.blue_marked bank.old m) decoder.old decoder.new) }
     ensures sizes { alphabet_sizes bank.new ≡ alphabet_sizes bank.old }
 {
-    let green = take_next(
-        decoder,
-        bank,
-        m,
-        green_marked,
-        moved(red_from, red_to, green_from),
-        green_from,
-    )?;
-    let predicted = predicted_blue(red_from, red_to, green_from, green, blue_from);
-    let blue = take_next(decoder, bank, m + 1, blue_marked, predicted, blue_from)?;
+    let predicted = moved(q.red_from, q.red_to, q.green_from);
+    let green = take_next(decoder, bank, m, q.green_marked, predicted, q.green_from)?;
+    let predicted = predicted_blue(q.red_from, q.red_to, q.green_from, green, q.blue_from);
+    let blue = take_next(decoder, bank, m + 1, q.blue_marked, predicted, q.blue_from)?;
     Ok((green, blue))
 }
 
@@ -137,30 +137,26 @@ pub(crate) fn take_colour<M>(
         (λ _. TakesNone IsColourChoice (choice_cuts bank.old) decoder.old decoder.new) }
     ensures sizes { alphabet_sizes bank.new ≡ alphabet_sizes bank.old }
 {
-    let symbol = take_symbol_of(decoder, bank, 0)?;
+    let symbol = take_frequent_symbol_of(decoder, bank, 0)?;
     let marks = colour_marks(symbol);
     let red = take_red(decoder, bank, marks[0], marks[1], last)?;
-    let low = take_green_blue(
-        decoder,
-        bank,
-        3,
-        marks[2],
-        marks[3],
-        last.red_low,
-        red.0,
-        last.green_low,
-        last.blue_low,
-    )?;
-    let high = take_green_blue(
-        decoder,
-        bank,
-        5,
-        marks[4],
-        marks[5],
-        last.red_high,
-        red.1,
-        last.green_high,
-        last.blue_high,
-    )?;
+    let low = GreenBlue {
+        green_marked: marks[2],
+        blue_marked: marks[3],
+        red_from: last.red_low,
+        red_to: red.0,
+        green_from: last.green_low,
+        blue_from: last.blue_low,
+    };
+    let low = take_green_blue(decoder, bank, 3, low)?;
+    let high = GreenBlue {
+        green_marked: marks[4],
+        blue_marked: marks[5],
+        red_from: last.red_high,
+        red_to: red.1,
+        green_from: last.green_high,
+        blue_from: last.blue_high,
+    };
+    let high = take_green_blue(decoder, bank, 5, high)?;
     Ok(colour_with(symbol, red, low, high))
 }

@@ -13,13 +13,13 @@ use Rattle.laz_chunk.proofs.records.put_all.Goals as goal
 pub code_record-requires-clause-whole : goal.code_record-requires-clause-whole
 code_record-requires-clause-whole g c =
     let items : Items = items_of c.args.point10.now (g.T.TimePart.item c.args.times.now) (g.C.ColourPart.item c.args.colours.now) c.args.extra.now in
-    part-length c.loop-i.i c.args.count c.args.size (record_length (layout_in items)) c.args.records.now c.requires.size c.requires.records c.loop-i-test.true ∙ ap record_length (sym c.loop-i.invariant.layout)
+    part-length c.loop-i.i c.args.extent.count c.args.extent.size (record_length (layout_in items)) c.args.records.now c.requires.size c.requires.records c.loop-i-test.true ∙ ap record_length (sym c.loop-i.invariant.layout)
 
 pub code_record-requires-clause-left : goal.code_record-requires-clause-left
 code_record-requires-clause-left g c =
     let items : Items = items_of c.args.point10.now (g.T.TimePart.item c.args.times.now) (g.C.ColourPart.item c.args.colours.now) c.args.extra.now in
     let r : ℕ = 3 * most_events (layout_in items) in
-    let few : r ≤ c.loop-i.encoder.left = omega (arith, c.loop-i.invariant.left, place-within c.loop-i.i c.args.count r c.loop-i-test.true) in
+    let few : r ≤ c.loop-i.encoder.left = omega (arith, c.loop-i.invariant.left, place-within c.loop-i.i c.args.extent.count r c.loop-i-test.true) in
     subst (λ (l : Layout). 3 * most_events l ≤ c.loop-i.encoder.left) (sym c.loop-i.invariant.layout) few
 
 pub loop-i-preserved : goal.loop-i-preserved
@@ -29,7 +29,7 @@ loop-i-preserved g c =
     let l : Layout = layout_in items in
     let used : c.loop-i.encoder.left ≤ c.code_record.new.encoder.left + 3 * most_events l = subst (λ (k : Layout). c.loop-i.encoder.left ≤ c.code_record.new.encoder.left + 3 * most_events k) old.layout c.code_record.ensures.used in
     let step : (h : History) → AreChunkPoints l.extra h.1 → ItemsStand h.0 h.1 items → Codes c.args.encoder.now c.code_record.new.encoder (all_cuts grown record_cuts h (written l h (records_in l (c.loop-i.i + 1) c.args.records.now))) × Stand l (state_after grown h (written l h (records_in l (c.loop-i.i + 1) c.args.records.now))) (items_of c.code_record.new.point10 (g.T.TimePart.item c.code_record.new.times) (g.C.ColourPart.item c.code_record.new.colours) c.code_record.new.extra) = λ h are s.
-    put-step l (layout_in (items_of c.loop-i.point10 (g.T.TimePart.item c.loop-i.times) (g.C.ColourPart.item c.loop-i.colours) c.loop-i.extra)) h c.loop-i.i c.args.count c.args.size c.args.records.now (items_of c.loop-i.point10 (g.T.TimePart.item c.loop-i.times) (g.C.ColourPart.item c.loop-i.colours) c.loop-i.extra) (items_of c.code_record.new.point10 (g.T.TimePart.item c.code_record.new.times) (g.C.ColourPart.item c.code_record.new.colours) c.code_record.new.extra) c.args.encoder.now c.loop-i.encoder c.code_record.new.encoder old.layout c.requires.size c.requires.records c.loop-i-test.true
+    put-step l (layout_in (items_of c.loop-i.point10 (g.T.TimePart.item c.loop-i.times) (g.C.ColourPart.item c.loop-i.colours) c.loop-i.extra)) h c.loop-i.i c.args.extent.count c.args.extent.size c.args.records.now (items_of c.loop-i.point10 (g.T.TimePart.item c.loop-i.times) (g.C.ColourPart.item c.loop-i.colours) c.loop-i.extra) (items_of c.code_record.new.point10 (g.T.TimePart.item c.code_record.new.times) (g.C.ColourPart.item c.code_record.new.colours) c.code_record.new.extra) c.args.encoder.now c.loop-i.encoder c.code_record.new.encoder old.layout c.requires.size c.requires.records c.loop-i-test.true
     (λ i. (c.type_inv.records i).fits)
     (old.codes h are s)
     (old.stands h are s)

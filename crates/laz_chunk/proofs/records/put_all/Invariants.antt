@@ -10,7 +10,7 @@ use Rattle.laz_chunk.proofs.records.put_all.Given as goal
 abbrev pub invariant-loop-i : goal.invariant-loop-i
 invariant-loop-i g l = record {
   layout : layout_in (items_of l.point10 (g.T.TimePart.item l.times) (g.C.ColourPart.item l.colours) l.extra) ≡ layout_in (items_of l.initial.point10 (g.T.TimePart.item l.initial.times) (g.C.ColourPart.item l.initial.colours) l.initial.extra);
-  left : 3 * most_events (layout_in (items_of l.initial.point10 (g.T.TimePart.item l.initial.times) (g.C.ColourPart.item l.initial.colours) l.initial.extra)) * l.count ≤ l.encoder.left + 3 * most_events (layout_in (items_of l.initial.point10 (g.T.TimePart.item l.initial.times) (g.C.ColourPart.item l.initial.colours) l.initial.extra)) * l.i;
+  left : 3 * most_events (layout_in (items_of l.initial.point10 (g.T.TimePart.item l.initial.times) (g.C.ColourPart.item l.initial.colours) l.initial.extra)) * l.extent.count ≤ l.encoder.left + 3 * most_events (layout_in (items_of l.initial.point10 (g.T.TimePart.item l.initial.times) (g.C.ColourPart.item l.initial.colours) l.initial.extra)) * l.i;
   codes : (h : History) → AreChunkPoints (layout_in (items_of l.initial.point10 (g.T.TimePart.item l.initial.times) (g.C.ColourPart.item l.initial.colours) l.initial.extra)).extra h.1 → ItemsStand h.0 h.1 (items_of l.initial.point10 (g.T.TimePart.item l.initial.times) (g.C.ColourPart.item l.initial.colours) l.initial.extra)
       → Codes l.initial.encoder l.encoder (all_cuts grown record_cuts h (written (layout_in (items_of l.initial.point10 (g.T.TimePart.item l.initial.times) (g.C.ColourPart.item l.initial.colours) l.initial.extra)) h (records_in (layout_in (items_of l.initial.point10 (g.T.TimePart.item l.initial.times) (g.C.ColourPart.item l.initial.colours) l.initial.extra)) l.i l.records)));
   stands : (h : History) → AreChunkPoints (layout_in (items_of l.initial.point10 (g.T.TimePart.item l.initial.times) (g.C.ColourPart.item l.initial.colours) l.initial.extra)).extra h.1 → ItemsStand h.0 h.1 (items_of l.initial.point10 (g.T.TimePart.item l.initial.times) (g.C.ColourPart.item l.initial.colours) l.initial.extra)

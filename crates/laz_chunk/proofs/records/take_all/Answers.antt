@@ -27,7 +27,7 @@ loop-i-init g c =
 pub read_record-requires-clause-whole : goal.read_record-requires-clause-whole
 read_record-requires-clause-whole g c =
     let items : Items = items_of c.args.point10.now (g.T.TimePart.item c.args.times.now) (g.C.ColourPart.item c.args.colours.now) c.args.extra.now in
-    part-length c.loop-i.i c.args.count c.args.size (record_length (layout_in items)) c.loop-i.records c.requires.size (c.loop-i.invariant.long ∙ c.requires.records) c.loop-i-test.true ∙ ap record_length (sym c.loop-i.invariant.layout)
+    part-length c.loop-i.i c.args.extent.count c.args.extent.size (record_length (layout_in items)) c.loop-i.records c.requires.size (c.loop-i.invariant.long ∙ c.requires.records) c.loop-i-test.true ∙ ap record_length (sym c.loop-i.invariant.layout)
 
 pub read_record-requires-clause-good : goal.read_record-requires-clause-good
 read_record-requires-clause-good g c = c.loop-i.invariant.good
@@ -40,7 +40,7 @@ returns-in_err-read_record-clause-reads g c h s =
     let old = c.loop-i.invariant.reads h s in
     let h2 : History = state_after grown h old.0 in
     let none = subst (λ (k : Layout). Refuses (IsSpelled k h2) (record_cuts h2) c.loop-i.decoder c.read_record.new.decoder) c.loop-i.invariant.layout (c.in_err-read_record.ensures.reads h2 old.3) in
-    rw p.1 (Refuses-step grown (IsSpelled l) record_cuts h h2 c.loop-i.i c.args.count c.args.decoder.now c.loop-i.decoder c.read_record.new.decoder old.0 refl c.loop-i-test.true old.1 none)
+    rw p.1 (Refuses-step grown (IsSpelled l) record_cuts h h2 c.loop-i.i c.args.extent.count c.args.decoder.now c.loop-i.decoder c.read_record.new.decoder old.0 refl c.loop-i-test.true old.1 none)
 
 pub loop-i-preserved : goal.loop-i-preserved
 loop-i-preserved g c =
@@ -49,9 +49,9 @@ loop-i-preserved g c =
     let l : Layout = layout_in items in
     let i : ℕ = c.loop-i.i in
     let m : ℕ = record_length l in
-    let place : i * c.args.size ≡ m * i = ap (λ (n : ℕ). i * n) c.requires.size ∙ place-is i m in
-    let within = place-within i c.args.count m c.loop-i-test.true in
-    let own = part-length i c.args.count c.args.size m c.loop-i.records c.requires.size (inv.long ∙ c.requires.records) c.loop-i-test.true in
+    let place : i * c.args.extent.size ≡ m * i = ap (λ (n : ℕ). i * n) c.requires.size ∙ place-is i m in
+    let within = place-within i c.args.extent.count m c.loop-i-test.true in
+    let own = part-length i c.args.extent.count c.args.extent.size m c.loop-i.records c.requires.size (inv.long ∙ c.requires.records) c.loop-i-test.true in
     record {
       good = c.in_ok-read_record.ensures.good;
       layout = c.in_ok-read_record.ensures.layout ∙ inv.layout;
@@ -61,7 +61,7 @@ loop-i-preserved g c =
           let h2 : History = state_after grown h old.0 in
           let one = subst (λ (k : Layout). ReadsRecord k h2 (record_at k c.read_record.new.bytes) (items_of c.read_record.new.point10 (g.T.TimePart.item c.read_record.new.times) (g.C.ColourPart.item c.read_record.new.colours) c.read_record.new.extra) c.loop-i.decoder c.read_record.new.decoder) inv.layout (c.in_ok-read_record.ensures.reads h2 old.3) in
           take-step l h i old.0 (records_in l i c.loop-i.records) _ (record_at l c.read_record.new.bytes) (items_of c.read_record.new.point10 (g.T.TimePart.item c.read_record.new.times) (g.C.ColourPart.item c.read_record.new.colours) c.read_record.new.extra) c.args.decoder.now c.loop-i.decoder c.read_record.new.decoder old.1 old.2
-          (records-set l i (i * c.args.size) _ c.loop-i.records c.read_record.new.bytes (c.in_ok-read_record.ensures.whole ∙ own) place (omega (arith, within, place, inv.long, c.requires.records, place-is i m)))
+          (records-set l i (i * c.args.extent.size) _ c.loop-i.records c.read_record.new.bytes (c.in_ok-read_record.ensures.whole ∙ own) place (omega (arith, within, place, inv.long, c.requires.records, place-is i m)))
           one;
     }
 
@@ -70,7 +70,7 @@ returns-clause-reads g c h s =
     let items : Items = items_of c.args.point10.now (g.T.TimePart.item c.args.times.now) (g.C.ColourPart.item c.args.colours.now) c.args.extra.now in
     let l : Layout = layout_in items in
     let old = c.loop-i.invariant.reads h s in
-    let all : c.loop-i.i ≡ c.args.count = omega (arith, c.loop-i-test.false, c.loop-i.auto.i-end) in (
+    let all : c.loop-i.i ≡ c.args.extent.count = omega (arith, c.loop-i-test.false, c.loop-i.auto.i-end) in (
       old.0,
       subst (λ (n : ℕ). Takes (AreAsked grown (IsSpelled l) h n) (all_cuts grown record_cuts h) c.args.decoder.now c.loop-i.decoder old.0) all old.1,
       old.2 ∙ ap (λ (n : ℕ). records_in l n c.loop-i.records) all,

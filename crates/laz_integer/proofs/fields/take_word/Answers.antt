@@ -1,12 +1,13 @@
 use Rattle.std.proofs.Common.{false, refl}
 use Rattle.laz_range.proofs.Composition.{Takes-empty}
 use Rattle.laz_integer.specs.Fields.{IsWord, word_cuts}
+use Rattle.laz_integer.proofs.Spellings.{fixed-reads}
 use Rattle.laz_integer.proofs.Words.{word-pos, word-value}
 use Rattle.laz_integer.proofs.fields.take_word.Goals as goal
 
 pub returns-then-marked-clause-reads : goal.returns-then-marked-clause-reads
 returns-then-marked-clause-reads c =
-    let read = c.in_ok-value.ensures.fixed 16 c.requires.ints.bits in
+    let read = fixed-reads 16 _ _ _ _ _ _ _ _ c.requires.ints.bits c.in_ok-value.ensures.reads in
     rw c.if-marked.true (record {
       corrector = (c.in_ok-value.field-0-1, read.v);
       takes = read.takes;

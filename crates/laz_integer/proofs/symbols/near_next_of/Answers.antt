@@ -1,13 +1,10 @@
-use Rattle.std.proofs.Common.{◌≡◌, ◌-◌, ◌*◌, ◌^◌, ◌<◌, ◌≤◌, ℕ, true, false, arith, ⊎_elim}
-use Rattle.std.proofs.lemmas.Bool.{cases_lt}
+use Rattle.std.proofs.Common.{◌≡◌, ◌-◌, ◌*◌, ◌^◌, ◌≤◌, ℕ, true, arith}
 use Rattle.laz_range.specs.Decoding.{symbol_place}
-use Rattle.laz_range.proofs.Choosing.{place-small}
 use Rattle.laz_models.specs.Bank.{model_at}
 use Rattle.laz_models.specs.Dist.{alphabet_size}
 use Rattle.laz_models.specs.Lookup.{search_bits}
-use Rattle.laz_models.specs.Near.{IsNear}
 use Rattle.laz_models.proofs.Lookups.{step-below}
-use Rattle.laz_integer.proofs.Nears.{place-before}
+use Rattle.laz_integer.proofs.Nears.{near-small, reached-first, reached-more, reached-next}
 use Rattle.laz_integer.proofs.symbols.near_next_of.Goals as goal
 
 pub near-near-requires-clause-below : goal.near-near-requires-clause-below
@@ -16,33 +13,28 @@ near-near-requires-clause-below c =
     let same : c.step_bits.result ≡ 15 - search_bits (alphabet_size m) = c.step_bits.ensures.is in
     step-below (alphabet_size m) c.estimate.result (rw same at c.estimate.ensures.within)
 
-pub returns-then-is_from-clause-near : goal.returns-then-is_from-clause-near
-returns-then-is_from-clause-near c =
-    let m = model_at c.args.bank.now c.args.m in
-    let d = c.args.decoder.now in
-    let place = symbol_place d in
-    let is : IsNear m.starts place c.near_at.result = rw c.at15.ensures.place at c.near_at.ensures.near in
-    record {
-      from = place;
-      is = is;
-      low = omega arith;
-      high = place-before (alphabet_size m) m.starts place c.near_at.result c.near_at.ensures.starts is (place-small d.value d.len c.at15.ensures.below c.at15.ensures.long);
-    }
-
-pub returns-clause-near : goal.returns-clause-near
-returns-clause-near c =
+pub loop-near-init : goal.loop-near-init
+loop-near-init c =
     let m = model_at c.args.bank.now c.args.m in
     let place = symbol_place c.args.decoder.now in
     let bits : ℕ = 15 - search_bits (alphabet_size m) in
     let same : c.step_bits.result ≡ bits = c.step_bits.ensures.is in
     let low : c.estimate.result * 2 ^ bits ≤ place = rw same at c.estimate.ensures.below in
-    let near = c.near-near.result in
-    record {
-      from = c.estimate.result * 2 ^ bits;
-      is = c.near-near.ensures.near;
-      low = low;
-      high = ⊎_elim
-          (λ (less : place < near.after). less)
-          (λ (more : near.after ≤ place). let no : false ≡ true = c.if-is_from.ensures.1 more in cc)
-          (cases_lt place near.after);
-    }
+    reached-first (alphabet_size m) m.starts (c.estimate.result * 2 ^ bits) place c.near-near.result c.near-near.ensures.starts c.near-near.ensures.near low
+
+pub overflow_add-near : goal.overflow_add-near
+overflow_add-near c =
+    let m = model_at c.args.bank.now c.args.m in
+    omega (arith, near-small (alphabet_size m) m.starts c.loop-near.near.start c.loop-near.near true c.near-near.ensures.starts c.loop-near.invariant.is)
+
+pub near_symbol-near-requires-clause-symbol : goal.near_symbol-near-requires-clause-symbol
+near_symbol-near-requires-clause-symbol c =
+    let m = model_at c.args.bank.now c.args.m in
+    let above : c.loop-near.near.after ≤ symbol_place c.args.decoder.now = c.is_from.ensures.0 c.loop-near-test.true in
+    omega (arith, reached-more (alphabet_size m) m.starts (symbol_place c.args.decoder.now) c.loop-near.near c.near-near.ensures.starts c.loop-near.invariant above c.estimate.ensures.guard)
+
+pub loop-near-preserved : goal.loop-near-preserved
+loop-near-preserved c =
+    let m = model_at c.args.bank.now c.args.m in
+    let above : c.loop-near.near.after ≤ symbol_place c.args.decoder.now = c.is_from.ensures.0 c.loop-near-test.true in
+    reached-next (alphabet_size m) m.starts (symbol_place c.args.decoder.now) c.loop-near.near c.near_symbol-near.result c.near-near.ensures.starts c.loop-near.invariant above c.estimate.ensures.guard c.near_symbol-near.ensures.symbol c.near_symbol-near.ensures.near

@@ -1,12 +1,13 @@
-use Rattle.std.proofs.lemmas.Result.{err_from_is_err_and}
-use Rattle.laz_integer.proofs.SymbolParts.{symbol-read, symbol-nothing}
 use Rattle.laz_integer.proofs.symbols.take_symbol.Goals as goal
 
-pub returns-in_err-symbol-clause-none : goal.returns-in_err-symbol-clause-none
-returns-in_err-symbol-clause-none c h stands =
-    let p = err_from_is_err_and c.from_residual.result c.from_residual.ensures.1 in
-    rw p.1 (symbol-nothing c.args.model.now c.args.decoder.now c.take_next.new.decoder h c.take_next.ensures.starts stands c.in_err-symbol.ensures.reads)
+pub returns-clause-reads : goal.returns-clause-reads
+returns-clause-reads c = rw (← c.model.view_is) c.take_symbol_of.ensures.reads
 
 pub returns-clause-read : goal.returns-clause-read
-returns-clause-read c h stands =
-    symbol-read c.args.model.now c.args.decoder.now c.take_next.new.decoder c.in_ok-symbol.symbol h c.take_next.ensures.starts stands c.in_ok-symbol.ensures.reads
+returns-clause-read c = rw (← c.model.view_is) c.take_symbol_of.ensures.read
+
+pub returns-clause-stands : goal.returns-clause-stands
+returns-clause-stands c = rw (← c.model.view_is) c.take_symbol_of.ensures.stands
+
+pub returns-clause-none : goal.returns-clause-none
+returns-clause-none c = rw (← c.model.view_is) c.take_symbol_of.ensures.none

@@ -1,6 +1,6 @@
 use Rattle.std.proofs.lemmas.Result.{err_from_is_err_and}
 use Rattle.laz_integer.specs.Models.{state_of}
-use Rattle.laz_integer.proofs.Spellings.{no-int, reads-int, corrected-passed, fixed-reads, fixed-none}
+use Rattle.laz_integer.proofs.Spellings.{no-int, reads-int, corrected-passed}
 use Rattle.laz_integer.proofs.int_model.IntModel.read.Goals as goal
 
 pub returns-in_err-k-clause-none : goal.returns-in_err-k-clause-none
@@ -22,13 +22,3 @@ pub returns-clause-spelled : goal.returns-clause-spelled
 returns-clause-spelled c kind earlier h =
     let st = state_of c.self.inside.models in
     rw (← c.self.view_is) (reads-int kind earlier st (state_of c.take.new.models) c.args.ctx c.args.pred _ c.in_ok-k.k c.in_ok-k.v c.args.decoder.now c.take.new.decoder c.self.invariant (rw (← c.self.view_is) at c.requires.context) (rw (← c.self.view_is) at h) c.in_ok-k.ensures.reads (corrected-passed c.self.inside.models.bits c.args.pred c.in_ok-k.k c.in_ok-k.v c.correct.result c.self.invariant.few c.ranges.pred c.correct.ensures) c.in_ok-k.ensures.next)
-
-pub returns-in_err-k-clause-fixed : goal.returns-in_err-k-clause-fixed
-returns-in_err-k-clause-fixed c bits same =
-    let p = err_from_is_err_and c.from_residual.result c.from_residual.ensures.1 in
-    rw (p.1, ← c.self.view_is) (fixed-none bits (state_of c.self.inside.models) c.args.ctx c.args.decoder.now c.take.new.decoder (rw (← c.self.view_is) at same) c.in_err-k.ensures.reads)
-
-pub returns-clause-fixed : goal.returns-clause-fixed
-returns-clause-fixed c bits same =
-    rw (← c.self.view_is) (fixed-reads bits (state_of c.self.inside.models) (state_of c.take.new.models) c.args.ctx c.args.pred _ c.in_ok-k.k c.in_ok-k.v c.args.decoder.now c.take.new.decoder (rw (← c.self.view_is) at same) c.in_ok-k.ensures.reads
-    (corrected-passed c.self.inside.models.bits c.args.pred c.in_ok-k.k c.in_ok-k.v c.correct.result c.self.invariant.few c.ranges.pred c.correct.ensures) c.in_ok-k.ensures.next)
