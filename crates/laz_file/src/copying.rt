@@ -4,14 +4,14 @@ ghost use Rattle.std.specs.Prelude.{IsErrOf};
 ghost use Rattle.std.specs.Prelude.{OnErr, OnOk};
 ghost use Rattle.std.specs.List.{concat};
 ghost use Rattle.las_outside.specs.Faults.{Rose};
-ghost use Rattle.las_outside.specs.Files.{WhereKnown};
+ghost use Rattle.las_outside.specs.Frames.{IsCalm, OnlyWrites};
 ghost use Rattle.las_outside.specs.Outside.{Later, Outside};
 ghost use Rattle.laz_file.specs.declared.fault.Fault.TheVariants.{Memory, Write};
 ghost use Rattle.laz_file.specs.Asking.{AsksAtMost, bytes_left};
 ghost use Rattle.laz_file.specs.Copying.{CanTake, EndsAfter, HasCause, HoldFirst, LeavesPart, Takes, end_of};
 ghost use Rattle.laz_file.specs.Outputs.{Output};
-ghost use Rattle.laz_file.specs.Reading.{IsCrewOf, Lends, StandsFor};
-ghost use Rattle.laz_file.specs.Writing.{SameFaults, Stands};
+ghost use Rattle.laz_file.specs.Reading.{IsCrewOf, Lends, OfFile, StandsFor};
+ghost use Rattle.laz_file.specs.Writing.{Stands};
 
 use crate::Fault;
 use crate::reader::Reader;
@@ -47,9 +47,8 @@ fn push_lent<R: Threads + Sync, F: Files, G: Gate>(
     ensures most { writer.new.most ≡ writer.old.most }
     ensures open { OnOk result (writer.new.failed ≡ false) }
     ensures cause { IfErr result (HasCause (F.seen files.old) (F.seen files.new)) }
-    ensures calm { OnOk result (SameFaults (F.seen files.old) (F.seen files.new)) }
-    ensures asked { (F.seen files.new).asked ≡ (F.seen files.old).asked }
-    ensures later { Later (F.seen files.old) (F.seen files.new) }
+    ensures calm { OnOk result (IsCalm (F.seen files.old) (F.seen files.new)) }
+    ensures writes { OnlyWrites (F.seen files.old) (F.seen files.new) }
 {
     for i in 0..count {
         writer.push(rt, alloc, files, gate, reader.block(crew, i))?;
@@ -83,9 +82,8 @@ fn push_batch<R: Threads + Sync, F: Files, G: Gate>(
     ensures most { writer.new.most ≡ writer.old.most }
     ensures open { OnOk result (writer.new.failed ≡ false) }
     ensures cause { IfErr result (HasCause (F.seen files.old) (F.seen files.new)) }
-    ensures calm { OnOk result (SameFaults (F.seen files.old) (F.seen files.new)) }
-    ensures asked { (F.seen files.new).asked ≡ (F.seen files.old).asked }
-    ensures later { Later (F.seen files.old) (F.seen files.new) }
+    ensures calm { OnOk result (IsCalm (F.seen files.old) (F.seen files.new)) }
+    ensures writes { OnlyWrites (F.seen files.old) (F.seen files.new) }
     ensures reader { reader.new ≡ record reader.old { lent = reader.new.lent } }
 {
     match reader.chunk {
@@ -94,15 +92,17 @@ fn push_batch<R: Threads + Sync, F: Files, G: Gate>(
     }
 }
 
-// A refusal ends the records that are copied, and any other fault the call.
-fn end_of(fault: Fault) -> Result<Option<Refusal>, Fault>
-    ensures { result ≡ end_of fault }
-{
-    match fault {
-        Fault::Refused(cause) => Ok(Some(cause)),
-        Fault::Read => Err(Fault::Read),
-        Fault::Write => Err(Fault::Write),
-        Fault::Memory => Err(Fault::Memory),
+impl Fault {
+    /// What a fault of a reader ends: a refusal the records, and any other fault the call.
+    pub fn into_end(self) -> Result<Option<Refusal>, Fault>
+        ensures { result ≡ end_of self }
+    {
+        match self {
+            Fault::Refused(cause) => Ok(Some(cause)),
+            Fault::Read => Err(Fault::Read),
+            Fault::Write => Err(Fault::Write),
+            Fault::Memory => Err(Fault::Memory),
+        }
     }
 }
 
@@ -124,7 +124,7 @@ pub fn copy_records<R: Threads + Sync, F: Files, G: Gate>(
     requires open { reader.old.failed ≡ false }
     requires crew { IsCrewOf reader.old crew.old }
     requires names { reader.old.name ≢ writer.old.name }
-    requires reads { WhereKnown (F.seen files.old).held reader.old.name (StandsFor reader.old) }
+    requires reads { OfFile reader.old (F.seen files.old) (StandsFor reader.old) }
     requires room { CanTake reader.old writer.old }
     requires stands { (before : Outside) × (out : Output) × (bytes : List ℕ)
         × Stands before (F.seen files.old) writer.old out bytes }
@@ -146,7 +146,7 @@ pub fn copy_records<R: Threads + Sync, F: Files, G: Gate>(
     'batches: loop {
         let count = match reader.next_batch(rt, alloc, files, gate, crew) {
             Ok(count) => count,
-            Err(fault) => return end_of(fault),
+            Err(fault) => return fault.into_end(),
         };
         if count == 0 {
             return Ok(None);

@@ -3,6 +3,7 @@ ghost use Rattle.std.specs.Prelude.{◌≡◌, ◌⊎◌, ◌+◌, ◌≤◌, �
 ghost use Rattle.std.specs.Prelude.{OnOk, IfOk, IfErr, IsErrOf};
 ghost use Rattle.las_outside.specs.Drafts.{IsUnfinished};
 ghost use Rattle.las_outside.specs.Faults.{Rose};
+ghost use Rattle.las_outside.specs.Frames.{IsCalm, OnlyWrites};
 ghost use Rattle.las_outside.specs.Outside.{Later, Outside, with_bytes};
 ghost use Rattle.laz_file.specs.Outputs.{Output, draft_of, finished, patches_of, pointer_patches, stopped};
 ghost use Rattle.laz_file.specs.Writing.{SameFaults, Stands, Stops, pointer_patch, tally_patches};
@@ -75,7 +76,7 @@ impl Writer {
             → IfErr result (λ fault. (n : ℕ) × Stops fault (with_bytes before out.name (take n (draft_of out records)))
             (F.seen files.new)) }
         ensures same { self.new ≡ record self.old { packing = self.new.packing } }
-        ensures later { Later (F.seen files.old) (F.seen files.new) }
+        ensures writes { OnlyWrites (F.seen files.old) (F.seen files.new) }
     {
         let name = self.name.as_str();
         let Some(packing) = &mut self.packing else {
@@ -105,8 +106,8 @@ impl Writer {
             (F.seen files.new)) }
         ensures fault { IfErr result (λ fault. (fault ≡ Memory) ⊎ (fault ≡ Write)) }
         ensures write { IsErrOf result Write → Rose (F.seen files.old).write_faults (F.seen files.new).write_faults }
-        ensures calm { OnOk result (SameFaults (F.seen files.old) (F.seen files.new)) }
-        ensures later { Later (F.seen files.old) (F.seen files.new) }
+        ensures calm { OnOk result (IsCalm (F.seen files.old) (F.seen files.new)) }
+        ensures writes { OnlyWrites (F.seen files.old) (F.seen files.new) }
     {
         let name = self.name.as_str();
         let Some(packing) = &mut self.packing else {
@@ -139,8 +140,8 @@ impl Writer {
             × Stops fault (with_bytes before out.name left) (F.seen files.new)) }
         ensures fault { IfErr result (λ fault. (fault ≡ Memory) ⊎ (fault ≡ Write)) }
         ensures write { IsErrOf result Write → Rose (F.seen files.old).write_faults (F.seen files.new).write_faults }
-        ensures calm { OnOk result (SameFaults (F.seen files.old) (F.seen files.new)) }
-        ensures later { Later (F.seen files.old) (F.seen files.new) }
+        ensures calm { OnOk result (IsCalm (F.seen files.old) (F.seen files.new)) }
+        ensures writes { OnlyWrites (F.seen files.old) (F.seen files.new) }
     {
         let (pointer, end) = self.append_draft(rt, alloc, files, gate)?;
         let patches = self.patches(alloc, pointer)?;
@@ -176,6 +177,7 @@ impl Writer {
         ensures fault { IfErr result (λ fault. (fault ≡ Memory) ⊎ (fault ≡ Write)) }
         ensures write { IsErrOf result Write → Rose (F.seen files.old).write_faults (F.seen files.new).write_faults }
         ensures calm { OnOk result (SameFaults (F.seen files.old) (F.seen files.new)) }
+        ensures writes { OnlyWrites (F.seen files.old) (F.seen files.new) }
         ensures later { Later (F.seen files.old) (F.seen files.new) }
     {
         let mut writer = self;
@@ -207,6 +209,7 @@ impl Writer {
         ensures fault { IfErr result (λ fault. (fault ≡ Memory) ⊎ (fault ≡ Write)) }
         ensures write { IsErrOf result Write → Rose (F.seen files.old).write_faults (F.seen files.new).write_faults }
         ensures calm { OnOk result (SameFaults (F.seen files.old) (F.seen files.new)) }
+        ensures writes { OnlyWrites (F.seen files.old) (F.seen files.new) }
         ensures later { Later (F.seen files.old) (F.seen files.new) }
     {
         let mut writer = self;

@@ -2,7 +2,8 @@
 ghost use Rattle.std.specs.Prelude.{◌≡◌, ◌↔◌, ◌+◌, ◌*◌, ◌%◌, ◌^◌, ◌<◌, ◌≤◌, ◌++◌, [], ℕ, List, length, map, sum};
 ghost use Rattle.std.specs.Prelude.{take, OnOk};
 ghost use Rattle.std.specs.Prelude.{IfOk, IfErr, IsTrue};
-ghost use Rattle.las_outside.specs.Outside.{Later, Outside, with_bytes};
+ghost use Rattle.las_outside.specs.Frames.{OnlyWrites};
+ghost use Rattle.las_outside.specs.Outside.{Outside, with_bytes};
 ghost use Rattle.laz_table.specs.Table.{table_bytes};
 ghost use Rattle.laz_file.specs.Packing.{blocks_of};
 ghost use Rattle.laz_file.specs.Writing.{PackedStands, Stops, block_size, chunks, every_chunk, packed_text};
@@ -64,7 +65,7 @@ impl Packing {
             → IfErr result (λ fault. (n : ℕ) × Stops fault
             (with_bytes before name.now (take n (front ++ every_chunk self.old.plan records))) (F.seen files.new)) }
         ensures plan { self.new.plan ≡ self.old.plan }
-        ensures later { Later (F.seen files.old) (F.seen files.new) }
+        ensures writes { OnlyWrites (F.seen files.old) (F.seen files.new) }
     {
         self.keep_rest()?;
         self.append_kept(rt, alloc, files, gate, name)?;
@@ -119,7 +120,7 @@ impl Packing {
             → PackedStands before (F.seen files.old) name.now front self.old records
             → IfErr result (λ fault. (n : ℕ) × Stops fault
             (with_bytes before name.now (take n (front ++ packed_text self.old.plan records))) (F.seen files.new)) }
-        ensures later { Later (F.seen files.old) (F.seen files.new) }
+        ensures writes { OnlyWrites (F.seen files.old) (F.seen files.new) }
     {
         self.append_rest(rt, alloc, files, gate, name)?;
         let place = self.table_place();

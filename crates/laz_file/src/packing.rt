@@ -1,7 +1,8 @@
 //! The packing of an output: records that become chunks.
 ghost use Rattle.std.specs.Prelude.{◌≡◌, ◌+◌, ◌*◌, ◌<◌, ◌≤◌, ◌++◌, ◌∷◌, [], ℕ, List, length, map, take, All, OnOk};
 ghost use Rattle.std.specs.Prelude.{IfOk, IfErr, IsTrue, ◌↔◌};
-ghost use Rattle.las_outside.specs.Outside.{Later, Outside, with_bytes};
+ghost use Rattle.las_outside.specs.Frames.{OnlyWrites};
+ghost use Rattle.las_outside.specs.Outside.{Outside, with_bytes};
 ghost use Rattle.laz_file.specs.Packing.{blocks_of};
 ghost use Rattle.laz_file.specs.Writing.{IsBlock, PackedStands, Stops, Took, all_chunks, block_size, chunks};
 ghost use Rattle.laz_file.specs.Writing.{every_chunk};
@@ -153,7 +154,7 @@ impl Packing {
           kept = [];
         }) }
         ensures plan { self.new.plan ≡ self.old.plan }
-        ensures later { Later (F.seen files.old) (F.seen files.new) }
+        ensures writes { OnlyWrites (F.seen files.old) (F.seen files.new) }
     {
         work_batch(
             rt,
@@ -212,7 +213,7 @@ impl Packing {
             (with_bytes before name.now (take n (front ++ full_chunks self.old.plan bytes))) (F.seen files.new)) }
         ensures few { OnOk result (length self.new.kept < 2 * self.new.plan.workers) }
         ensures plan { self.new.plan ≡ self.old.plan }
-        ensures later { Later (F.seen files.old) (F.seen files.new) }
+        ensures writes { OnlyWrites (F.seen files.old) (F.seen files.new) }
     {
         if self.is_full() {
             return self.append_kept(rt, alloc, files, gate, name);
@@ -246,7 +247,7 @@ impl Packing {
             (F.seen files.new)) }
         ensures few { OnOk result (length self.new.kept < 2 * self.new.plan.workers) }
         ensures plan { self.new.plan ≡ self.old.plan }
-        ensures later { Later (F.seen files.old) (F.seen files.new) }
+        ensures writes { OnlyWrites (F.seen files.old) (F.seen files.new) }
     {
         let mut at = 0;
         while at < records.len() {
@@ -283,7 +284,7 @@ impl Packing {
             (F.seen files.new)) }
         ensures few { OnOk result (length self.new.kept < 2 * self.new.plan.workers) }
         ensures plan { self.new.plan ≡ self.old.plan }
-        ensures later { Later (F.seen files.old) (F.seen files.new) }
+        ensures writes { OnlyWrites (F.seen files.old) (F.seen files.new) }
     {
         if !self.takes_whole(block) {
             return self.add(rt, alloc, files, gate, name, block);

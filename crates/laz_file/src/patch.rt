@@ -2,7 +2,8 @@
 ghost use Rattle.std.specs.Prelude.{◌≡◌, ◌+◌, ◌≤◌, ◌++◌, ◌∷◌, [], ℕ, List, length, take, All, OnOk, IfErr};
 ghost use Rattle.las_outside.specs.Drafts.{IsPatchedInPart, with_patches};
 ghost use Rattle.las_outside.specs.Files.{with_patch};
-ghost use Rattle.las_outside.specs.Outside.{Later, Outside, with_bytes};
+ghost use Rattle.las_outside.specs.Frames.{OnlyWrites};
+ghost use Rattle.las_outside.specs.Outside.{Outside, with_bytes};
 ghost use Rattle.laz_file.specs.Writing.{Stops};
 
 use crate::Fault;
@@ -51,7 +52,7 @@ fn put_patch<F: Files>(files: &mut F, name: &str, patch: &Patch) -> Result<(), F
     ensures stopped { (before : Outside) (text : List ℕ) → F.seen files.old ≡ with_bytes before name.now text
         → IfErr result (λ fault. (n : ℕ) × Stops fault
         (with_bytes before name.now (with_patch text patch.now.0 (take n patch.now.1))) (F.seen files.new)) }
-    ensures later { Later (F.seen files.old) (F.seen files.new) }
+    ensures writes { OnlyWrites (F.seen files.old) (F.seen files.new) }
 {
     match files.patch(name, patch.at, patch.bytes.as_slice()) {
         Ok(()) => Ok(()),
@@ -70,7 +71,7 @@ pub(crate) fn patch_all<F: Files>(files: &mut F, name: &str, patches: &[Patch]) 
         → All (λ patch. patch.0 + length patch.1 ≤ length text) patches.now
         → IfErr result (λ fault. (left : List ℕ) × IsPatchedInPart text patches.now left
         × Stops fault (with_bytes before name.now left) (F.seen files.new)) }
-    ensures later { Later (F.seen files.old) (F.seen files.new) }
+    ensures writes { OnlyWrites (F.seen files.old) (F.seen files.new) }
 {
     for patch in patches {
         put_patch(files, name, patch)?;

@@ -1,7 +1,8 @@
 //! Bytes at the end of an output.
 ghost use Rattle.std.specs.Prelude.{◌≡◌, ◌^◌, ◌*◌, ◌<◌, ◌≤◌, ◌++◌, ℕ, List, length, map, take, All, Contains, OnOk};
 ghost use Rattle.std.specs.Prelude.{IfErr};
-ghost use Rattle.las_outside.specs.Outside.{Later, Outside, with_bytes};
+ghost use Rattle.las_outside.specs.Frames.{OnlyWrites};
+ghost use Rattle.las_outside.specs.Outside.{Outside, with_bytes};
 ghost use Rattle.laz_chunk.specs.Layouts.{Format};
 ghost use Rattle.laz_file.specs.declared.fault.Fault.TheVariants.{Write};
 ghost use Rattle.laz_file.specs.Writing.{IsChunk, Stops, all_chunks, chunks};
@@ -23,7 +24,7 @@ pub(crate) fn put<F: Files>(files: &mut F, name: &str, bytes: &[u8]) -> Result<(
         → IfErr result (λ fault. (n : ℕ) × Stops fault (with_bytes before name.now (text ++ take n bytes.now))
         (F.seen files.new)) }
     ensures fault { IfErr result (λ fault. fault ≡ Write) }
-    ensures later { Later (F.seen files.old) (F.seen files.new) }
+    ensures writes { OnlyWrites (F.seen files.old) (F.seen files.new) }
 {
     match files.append(name, bytes) {
         Ok(()) => Ok(()),
@@ -53,7 +54,7 @@ pub(crate) fn put_chunks<F: Files>(
         (with_bytes before name.now (text ++ take n (all_chunks job (texts blocks.now)))) (F.seen files.new)) }
     ensures lengths { OnOk result (lengths.new.items
         ≡ lengths.old.items ++ map (λ chunk. length chunk) (chunks job (texts blocks.now))) }
-    ensures later { Later (F.seen files.old) (F.seen files.new) }
+    ensures writes { OnlyWrites (F.seen files.old) (F.seen files.new) }
 {
     for i in 0..blocks.len() {
         let Some(chunk) = crew.result(i as u32) else {

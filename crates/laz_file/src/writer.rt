@@ -7,6 +7,8 @@ ghost use Rattle.las_header.specs.Fields.{is_packed};
 ghost use Rattle.las_header.specs.Plain.{cut_records};
 ghost use Rattle.las_header.specs.Vlrs.{laszip_vlrs_of};
 ghost use Rattle.las_outside.specs.Faults.{Rose};
+ghost use Rattle.las_outside.specs.Limits.{AreWorkers, IsChunkSize};
+ghost use Rattle.las_outside.specs.Frames.{IsCalm, OnlyWrites};
 ghost use Rattle.las_outside.specs.Outside.{Later, Outside, with_bytes};
 ghost use Rattle.laz_file.specs.Outputs.{Output, front, stopped};
 ghost use Rattle.laz_file.specs.Writing.{IsTally, PointsStand, SameFaults, Stands, Stops, first_packing};
@@ -71,8 +73,8 @@ fn packing_of(
     workers: u32,
     pointer: u32,
 ) -> Result<Option<Packing>, AllocError>
-    requires chunk { ForSome chunk (λ n. (256 ≤ n) × (n ≤ 250000)) }
-    requires workers { (0 < workers) × (workers ≤ 8) }
+    requires chunk { ForSome chunk IsChunkSize }
+    requires workers { AreWorkers workers }
     ensures { IfOk result (λ p. p ≡ first_packing head.now.bytes most pointer workers chunk) }
 {
     let Some(chunk) = chunk else {
@@ -101,8 +103,8 @@ impl Writer {
     ) -> Result<Writer, Fault>
         requires plain { is_packed head.now.bytes ≡ false }
         requires none { laszip_vlrs_of head.now.bytes ≡ [] }
-        requires chunk { ForSome chunk (λ n. (256 ≤ n) × (n ≤ 250000)) }
-        requires workers { (0 < workers) × (workers ≤ 8) }
+        requires chunk { ForSome chunk IsChunkSize }
+        requires workers { AreWorkers workers }
 
         ensures stands { let out : Output =
             record { name = name.now; head = head.now.bytes; chunk = chunk; counted = counted } in
@@ -121,8 +123,10 @@ impl Writer {
         ensures fault { IfErr result (λ fault. (fault ≡ Memory) ⊎ (fault ≡ Write)) }
         ensures write { IsErrOf result Write → Rose (F.seen files.old).write_faults (F.seen files.new).write_faults }
         ensures calm { OnOk result (SameFaults (F.seen files.old) (F.seen files.new)) }
+        ensures writes { OnlyWrites (F.seen files.old) (F.seen files.new) }
         ensures later { Later (F.seen files.old) (F.seen files.new) }
     {
+        // Its contract says what holds of every head.
         let _ = head.bytes();
         let start = head.offset();
         let size = head.record_length();
@@ -177,7 +181,7 @@ impl Writer {
             → IfErr result (λ fault. (n : ℕ) × Stops fault
             (with_bytes before out.name (take n (stopped out (bytes ++ records.now)))) (F.seen files.new)) }
         ensures same { self.new ≡ record self.old { packing = self.new.packing } }
-        ensures later { Later (F.seen files.old) (F.seen files.new) }
+        ensures writes { OnlyWrites (F.seen files.old) (F.seen files.new) }
     {
         let name = self.name.as_str();
         let Some(packing) = &mut self.packing else {
@@ -210,7 +214,7 @@ impl Writer {
             → IfErr result (λ fault. (n : ℕ) × Stops fault
             (with_bytes before out.name (take n (stopped out (bytes ++ block.old.items)))) (F.seen files.new)) }
         ensures same { self.new ≡ record self.old { packing = self.new.packing } }
-        ensures later { Later (F.seen files.old) (F.seen files.new) }
+        ensures writes { OnlyWrites (F.seen files.old) (F.seen files.new) }
     {
         let name = self.name.as_str();
         let Some(packing) = &mut self.packing else {
@@ -270,6 +274,7 @@ impl Writer {
         ensures fault { IfErr result (λ fault. (fault ≡ Memory) ⊎ (fault ≡ Write)) }
         ensures write { IsErrOf result Write → Rose (F.seen files.old).write_faults (F.seen files.new).write_faults }
         ensures calm { OnOk result (SameFaults (F.seen files.old) (F.seen files.new)) }
+        ensures writes { OnlyWrites (F.seen files.old) (F.seen files.new) }
         ensures later { Later (F.seen files.old) (F.seen files.new) }
     {
         let counts = self.tallied(records);
@@ -312,8 +317,8 @@ impl Writer {
         ensures failed { OnErr result (self.new.failed ≡ true) }
         ensures fault { IfErr result (λ fault. (fault ≡ Memory) ⊎ (fault ≡ Write)) }
         ensures write { IsErrOf result Write → Rose (F.seen files.old).write_faults (F.seen files.new).write_faults }
-        ensures calm { OnOk result (SameFaults (F.seen files.old) (F.seen files.new)) }
-        ensures later { Later (F.seen files.old) (F.seen files.new) }
+        ensures calm { OnOk result (IsCalm (F.seen files.old) (F.seen files.new)) }
+        ensures writes { OnlyWrites (F.seen files.old) (F.seen files.new) }
     {
         let (counts, length) = (self.tallied(block), block.len());
         match self.append_block(rt, alloc, files, gate, block) {
