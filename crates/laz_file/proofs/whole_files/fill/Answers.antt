@@ -1,4 +1,4 @@
-use Rattle.std.proofs.Common.{◌++◌, Err, ap, subst, arith}
+use Rattle.std.proofs.Common.{◌++◌, Err, ap, subst}
 use Rattle.std.specs.List.{concat}
 use Rattle.las_outside.specs.Outside.{Outside}
 use Rattle.laz_file.specs.Copying.{EndsAfter, with_reads}
