@@ -9,15 +9,15 @@ ghost use Rattle.las_header.specs.Plain.{plain_head};
 ghost use Rattle.las_outside.specs.Faults.{Rose};
 ghost use Rattle.las_outside.specs.Files.{with_file};
 ghost use Rattle.las_outside.specs.Limits.{AreWorkers, IsChunkSize};
-ghost use Rattle.las_outside.specs.Outside.{Later, Outside};
+ghost use Rattle.las_outside.specs.Outside.{Later};
 ghost use Rattle.laz_file.specs.declared.fault.Fault.TheVariants.{Read, Refused, Write};
 ghost use Rattle.laz_file.specs.Asking.{AsksAtMost, bytes_left};
 ghost use Rattle.laz_file.specs.Copying.{AreOnlyRecords, CanTake, EndsCopying, Finishes, LeavesInPart, LeavesRecords};
 ghost use Rattle.laz_file.specs.Copying.{LeavesUnfinished, packed_output, plain_output};
-ghost use Rattle.laz_file.specs.Outputs.{Output, stopped};
+ghost use Rattle.laz_file.specs.Outputs.{stopped};
 ghost use Rattle.laz_file.specs.Packing.{packed_file};
 ghost use Rattle.laz_file.specs.Reading.{AgreesWithHead, IsCrewOf, IsNewReader, OfFile, StandsFor};
-ghost use Rattle.laz_file.specs.Writing.{Stands};
+ghost use Rattle.laz_file.specs.Writing.{HasOutput, OfOutput};
 
 use crate::Fault;
 use crate::copying::copy_records;
@@ -44,15 +44,13 @@ fn fill<R: Threads + Sync, F: Files, G: Gate>(
     requires names { reader.old.name ≢ writer.name }
     requires reads { OfFile reader.old (F.seen files.old) (StandsFor reader.old) }
     requires room { CanTake reader.old writer }
-    requires stands { (before : Outside) × (out : Output) × (bytes : List ℕ)
-        × Stands before (F.seen files.old) writer out bytes }
-    ensures finished { (before : Outside) (out : Output) (bytes : List ℕ)
-        → Stands before (F.seen files.old) writer out bytes
-        → OnOk result (Finishes (F.seen files.old).held before.held (F.seen files.new).held reader.old out bytes) }
-    ensures ends { (before : Outside) (out : Output) (bytes : List ℕ)
-        → Stands before (F.seen files.old) writer out bytes
-        → IfErr result (EndsCopying (F.seen files.old).held before.held (F.seen files.old) (F.seen files.new) reader.old
-        out bytes) }
+    requires stands { HasOutput (F.seen files.old) writer }
+    ensures finished { OfOutput (F.seen files.old) writer
+        (λ before out bytes. OnOk result (Finishes (F.seen files.old).held before.held
+        (F.seen files.new).held reader.old out bytes)) }
+    ensures ends { OfOutput (F.seen files.old) writer
+        (λ before out bytes. IfErr result (EndsCopying (F.seen files.old).held before.held (F.seen files.old)
+        (F.seen files.new) reader.old out bytes)) }
     ensures reads_calm { OnOk result ((F.seen files.new).read_faults ≡ (F.seen files.old).read_faults) }
     ensures writes_calm { OnOk result ((F.seen files.new).write_faults ≡ (F.seen files.old).write_faults) }
     ensures asked { AsksAtMost (bytes_left reader.old) (F.seen files.old) (F.seen files.new) }
