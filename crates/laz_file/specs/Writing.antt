@@ -1,5 +1,5 @@
 -- What a writer of an output stands for, from call to call.
-use Rattle.std.specs.Prelude.{◌≡◌, ℕ, ◌*◌, ◌/◌, ◌%◌, ◌^◌, ◌<◌, ◌≤◌, min, Bool, true, false, if◌then◌else◌, List}
+use Rattle.std.specs.Prelude.{◌≡◌, ℕ, ◌+◌, ◌*◌, ◌/◌, ◌%◌, ◌^◌, ◌<◌, ◌≤◌, min, Bool, true, false, if◌then◌else◌, List}
 use Rattle.std.specs.Prelude.{[]}
 use Rattle.std.specs.Prelude.{◌∷◌, ◌++◌, length, map, take, Option, Some, None, All}
 use Rattle.std.specs.List.{concat}
@@ -156,6 +156,10 @@ pub record PackedStands (before now : Outside) (name front : List ℕ) (packing 
   pub lengths : packing.lengths ≡ map (λ chunk. length chunk) (chunks packing.plan.format done)
   pub within : length records ≤ record_size packing.plan * packing.plan.most
   pub numbers : IsPlan packing.plan
+
+-- The plan has room for more bytes of records.
+abbrev pub HasRoom : Plan → (bytes more : List ℕ) → Type 0
+HasRoom plan bytes more = length bytes + length more ≤ record_size plan * plan.most
 
 -- P holds of each outside over which the output and its packing stand, and of its front and of the records.
 abbrev pub OfPacked : (now : Outside) → (name : List ℕ) → PackingSeen

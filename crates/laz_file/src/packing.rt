@@ -4,8 +4,8 @@ ghost use Rattle.std.specs.Prelude.{IfOk, IfErr, IsTrue, ◌↔◌};
 ghost use Rattle.las_outside.specs.Frames.{OnlyWrites};
 ghost use Rattle.las_outside.specs.Outside.{Outside, with_bytes};
 ghost use Rattle.laz_file.specs.Packing.{blocks_of};
-ghost use Rattle.laz_file.specs.Writing.{HasText, IsBlock, OfPacked, OfText, PackedStands, StopsAfter, StopsIn, Took};
-ghost use Rattle.laz_file.specs.Writing.{all_chunks, block_size, chunks, full_chunks, record_size};
+ghost use Rattle.laz_file.specs.Writing.{HasRoom, HasText, IsBlock, OfPacked, OfText, PackedStands, StopsAfter, StopsIn, Took};
+ghost use Rattle.laz_file.specs.Writing.{all_chunks, block_size, chunks, full_chunks};
 
 use crate::Fault;
 use crate::batch::work_batch;
@@ -203,8 +203,8 @@ impl Packing {
         requires stands { (before : Outside) × (front : List ℕ) × (bytes : List ℕ)
             × PackedStands before (F.seen files.old) name.now front self.old bytes }
         ensures stands { OfPacked (F.seen files.old) name.now self.old
-            (λ before front bytes. OnOk result (PackedStands before
-            (F.seen files.new) name.now front self.new bytes)) }
+            (λ before front bytes. OnOk result
+            (PackedStands before (F.seen files.new) name.now front self.new bytes)) }
         ensures stopped { OfPacked (F.seen files.old) name.now self.old
             (λ before front bytes. IfErr result (StopsIn before (F.seen files.new) name.now
             (front ++ full_chunks self.old.plan bytes))) }
@@ -231,14 +231,14 @@ impl Packing {
         requires few { length self.old.kept < 2 * self.old.plan.workers }
         requires stands { (before : Outside) × (front : List ℕ) × (bytes : List ℕ)
             × PackedStands before (F.seen files.old) name.now front self.old bytes
-            × (length bytes + length records.now ≤ record_size self.old.plan * self.old.plan.most) }
+            × HasRoom self.old.plan bytes records.now }
         ensures stands { OfPacked (F.seen files.old) name.now self.old
-            (λ before front bytes. length bytes + length records.now ≤ record_size self.old.plan * self.old.plan.most
+            (λ before front bytes. HasRoom self.old.plan bytes records.now
             → OnOk result (PackedStands before (F.seen files.new) name.now front self.new (bytes ++ records.now))) }
         ensures stopped { OfPacked (F.seen files.old) name.now self.old
-            (λ before front bytes. length bytes + length records.now ≤ record_size self.old.plan * self.old.plan.most
-            → IfErr result (StopsIn before (F.seen files.new) name.now (front ++ full_chunks self.old.plan
-            (bytes ++ records.now)))) }
+            (λ before front bytes. HasRoom self.old.plan bytes records.now
+            → IfErr result (StopsIn before (F.seen files.new) name.now
+            (front ++ full_chunks self.old.plan (bytes ++ records.now)))) }
         ensures few { OnOk result (length self.new.kept < 2 * self.new.plan.workers) }
         ensures plan { self.new.plan ≡ self.old.plan }
         ensures writes { OnlyWrites (F.seen files.old) (F.seen files.new) }
@@ -265,14 +265,13 @@ impl Packing {
         requires few { length self.old.kept < 2 * self.old.plan.workers }
         requires stands { (before : Outside) × (front : List ℕ) × (bytes : List ℕ)
             × PackedStands before (F.seen files.old) name.now front self.old bytes
-            × (length bytes + length block.old.items ≤ record_size self.old.plan * self.old.plan.most) }
+            × HasRoom self.old.plan bytes block.old.items }
         ensures stands { OfPacked (F.seen files.old) name.now self.old
-            (λ before front bytes. length bytes + length block.old.items ≤ record_size self.old.plan *
-            self.old.plan.most → OnOk result (PackedStands before (F.seen files.new) name.now front self.new
-            (bytes ++ block.old.items))) }
+            (λ before front bytes. HasRoom self.old.plan bytes block.old.items
+            → OnOk result (PackedStands before (F.seen files.new) name.now front self.new (bytes ++ block.old.items))) }
         ensures stopped { OfPacked (F.seen files.old) name.now self.old
-            (λ before front bytes. length bytes + length block.old.items ≤ record_size self.old.plan *
-            self.old.plan.most → IfErr result (StopsIn before (F.seen files.new) name.now
+            (λ before front bytes. HasRoom self.old.plan bytes block.old.items
+            → IfErr result (StopsIn before (F.seen files.new) name.now
             (front ++ full_chunks self.old.plan (bytes ++ block.old.items)))) }
         ensures few { OnOk result (length self.new.kept < 2 * self.new.plan.workers) }
         ensures plan { self.new.plan ≡ self.old.plan }
