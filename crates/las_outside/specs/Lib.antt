@@ -2,6 +2,8 @@ pub mod Calls
 pub mod Drafts
 pub mod Faults
 pub mod Files
+pub mod Frames
+pub mod Limits
 pub mod MemFiles
 pub mod MemSink
 pub mod Outside

@@ -5,6 +5,7 @@ use Rattle.std.specs.Option.{option_map}
 use Rattle.std.specs.List.{list_any}
 use Rattle.std.specs.Str.{bytes_eq}
 use Rattle.las_filter.specs.Parts.{part_name}
+use Rattle.las_outside.specs.Limits.{AreWorkers, IsChunkSize}
 use Rattle.las_words.specs.declared.table.Tool.{Tool}
 use Rattle.las_words.specs.declared.table.Tool.TheVariants.{Laszip, Las2las, Lasinfo, Lassplit, Lasmerge, Make}
 use Rattle.las_words.specs.declared.pieces.Piece.{Piece}
@@ -14,7 +15,7 @@ use Rattle.las_words.specs.Pieces.{cut}
 use Rattle.las_words.specs.Faults.{first_fault}
 use Rattle.las_words.specs.Settings.{place_of, is_given, text_of, texts_of, chunk_of, pick_alone, workers_of}
 use Rattle.las_words.specs.Names.{end_of, stem_of, is_part_name, plain_copy, same_name, unfit_parts, same_output, wrong_name}
-use Rattle.las_words.specs.Asked.{AreInputs, AreWorkers, Asked, IsChunkSize, IsSound, IsSoundWork}
+use Rattle.las_words.specs.Asked.{AreInputs, Asked, IsSound, IsSoundWork}
 use Rattle.las_words.specs.Says.{asks, usage, says, said_to, said_unless, wrong_word, missing_option, asked_of, work_of}
 use Rattle.las_words.proofs.Chosen.{or_false, or_none, tallies_distinct, tallies_there}
 use Rattle.las_words.proofs.Inputs.{IsNamed, cut_named, few_inputs, first_text, none_is, some_text, unequal}
@@ -102,10 +103,10 @@ right names words tool pieces is =
     record { faults = after.0; missing = last.0; name = names.0; cells = names.1 }
 
 chunk_size : (words : List (List ℕ)) (pieces : List Piece) → IsChunkSize (chunk_of words pieces)
-chunk_size words pieces = let h = chunk_range words pieces in record { least = h.0; most = h.1 }
+chunk_size words pieces = chunk_range words pieces
 
 workers : (words : List (List ℕ)) (pieces : List Piece) → AreWorkers (workers_of words pieces)
-workers words pieces = let h = workers_range words pieces in record { some = h.0; few = h.1 }
+workers words pieces = workers_range words pieces
 
 -- no part has the input's name
 no_part_is_the_input : (words : List (List ℕ)) (pieces : List Piece) → AreNamed words pieces → unfit_parts words pieces ≡ None

@@ -6,6 +6,7 @@ use Rattle.las_filter.specs.Changes.{HasClass}
 use Rattle.las_filter.specs.Kept.{Steps, steps_of}
 use Rattle.las_filter.specs.Parts.{IsRule, part_name}
 use Rattle.las_filter.specs.declared.rule.Rule.{Rule}
+use Rattle.las_outside.specs.Limits.{AreWorkers, IsChunkSize}
 use Rattle.las_thin.specs.Sieving.{HasItsStep, IsStep, Settings}
 use Rattle.las_words.specs.declared.command.Command.{Command}
 use Rattle.las_words.specs.declared.command.Command.TheVariants as command
@@ -119,16 +120,6 @@ abbrev pub asked_by : Command → Asked
 asked_by command = record { work = work_by command; workers = workers_by command }
 
 -- ---- what holds of a command that words ask for
--- the number of workers is in its range
-pub record AreWorkers (workers : ℕ) : Type 0 where
-  pub some : 1 ≤ workers
-  pub few : workers ≤ 8
-
--- the number of records of a chunk is in its range
-pub record IsChunkSize (chunk : ℕ) : Type 0 where
-  pub least : 256 ≤ chunk
-  pub most : chunk ≤ 250000
-
 -- these are names of taps, and no name stands twice
 pub record AreChosen (names tallies : List (List ℕ)) : Type 0 where
   pub there : All (λ tally. list_any (bytes_eq tally) names ≡ true) tallies

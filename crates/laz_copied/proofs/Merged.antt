@@ -128,9 +128,6 @@ module _ (size : ℕ) (some : 0 < size) (Q : List ℕ → Type 0) where
 cut_same : (size : ℕ) (some : 0 < size) (head bytes : List ℕ) → record_length_of head ≡ size → records_after head bytes ≡ cut size some bytes
 cut_same size some head bytes same = ap (λ (n : ℕ). cut_records n (length bytes / n) bytes) same
 
-abbrev AnyFile : List ℕ → Type 0
-AnyFile file = Unit {0}
-
 any_file : (files : List (List ℕ)) → AllByRecursion (λ (file : List ℕ). Unit {0}) files
 any_file [] = tt
 any_file (file ∷ files) = (tt, any_file files)
@@ -232,9 +229,6 @@ by_sets false plain short long other e same =
 
 -- ---- the law
 module _ (file : List ℕ) (files : List (List ℕ)) (parts : List (List Chunk)) (blocks : List (List (List ℕ))) (can : CanCopy (file ∷ files) parts) (have : HaveBlocks (file ∷ files) blocks) (right : AreRight (file ∷ files) blocks) (sets : HaveBothSets (file ∷ files)) where
-  abbrev everything : List (List ℕ)
-  everything = file ∷ files
-
   abbrev plain : List ℕ
   plain = plain_of (head_of file)
 

@@ -12,7 +12,7 @@ use Rattle.las_header.specs.Refusals.{first_cause}
 use Rattle.las_header.proofs.CauseLemmas.{none_first}
 use Rattle.las_header.proofs.NumberLemmas.{number_at-drop, reads_back}
 use Rattle.laz_table.specs.Payload.{Item, all_item_bytes, item_bytes, items_of, items_part, laszip_payload, payload_start}
-use Rattle.laz_table.specs.VlrCauses.{chunk_size_in, has_other_compressor, has_other_items, has_other_shape, is_bad_chunk_size, is_counted, makes_many_chunks, payload_causes}
+use Rattle.laz_table.specs.VlrCauses.{chunk_size_in, has_other_compressor, has_other_items, has_other_shape, is_bad_chunk_size, makes_many_chunks, payload_causes}
 use Rattle.laz_file.proofs.Payloads.{payload-short, skip}
 
 length-items : (items : List Item) → length (all_item_bytes items) ≡ 6 * length items
@@ -77,10 +77,6 @@ module _ (format extra chunk : ℕ) where
   chunk-in : chunk < 4294967296 → chunk_size_in payload ≡ chunk
   unfolding payload
   chunk-in fits = number_at-drop 4 12 (laszip_payload format extra chunk) ∙ reads_back 4 chunk (replicate 16 255 ++ items_part (items_of format extra)) (omega (arith, fits))
-
--- the chunk size of counted chunks
-pub counted-size : is_counted 4294967295 ≡ true
-counted-size = refl
 
 good-size : (points : ℕ) → is_bad_chunk_size points 4294967295 ≡ false
 good-size points = refl

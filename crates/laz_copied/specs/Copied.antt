@@ -71,8 +71,3 @@ copied_head files =
 -- their own, then the pointer to the table, the chunks as they stand, and the table
 abbrev pub copied_file : (files : List (List ℕ)) → (chunks : List Chunk) → List ℕ
 copied_file files chunks = packed_form (copied_head files) COUNTED_CHUNKS (counts_in chunks) (bytes_in chunks)
-
--- These bytes are the files as one, with their chunks as they are.
-abbrev pub IsCopied : (files : List (List ℕ)) → (bytes : List ℕ) → Type 0
-IsCopied files bytes =
-    (parts : List (List Chunk)) × HaveChunks files parts × (bytes ≡ copied_file files (all_of parts))

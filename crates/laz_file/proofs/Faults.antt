@@ -2,18 +2,12 @@
 use Rattle.std.proofs.Common.{◌≡◌, ◌⊎◌, inl, inr, ℕ, List, Result, Ok, Err, refl, sym, ◌∙◌, ap, arith}
 use Rattle.std.specs.Prelude.{IsErrAnd}
 use Rattle.las_outside.specs.Faults.{Rose, count_after}
-use Rattle.las_outside.specs.Outside.{Later, Outside, with_bytes}
+use Rattle.las_outside.specs.Frames.{IsCalm}
+use Rattle.las_outside.specs.Outside.{Outside, with_bytes}
+pub use Rattle.las_outside.proofs.Frames.{later-trans}
 use Rattle.laz_file.specs.declared.fault.Fault.{Fault}
 use Rattle.laz_file.specs.declared.fault.Fault.TheVariants.{Refused, Read, Write, Memory}
 use Rattle.laz_file.specs.Writing.{SameFaults, Stops}
-
-pub later-trans : (a b c : Outside) → Later a b → Later b c → Later a c
-later-trans a b c ab bc = record {
-  known = bc.known ∙ ab.known;
-  reads = omega (arith, ab.reads, bc.reads);
-  writes = omega (arith, ab.writes, bc.writes);
-  asked = omega (arith, ab.asked, bc.asked);
-}
 
 -- a call ends with one of two faults
 pub stops_kind : (fault : Fault) (made now : Outside) → Stops fault made now → (fault ≡ Memory) ⊎ (fault ≡ Write)
@@ -35,6 +29,12 @@ same_faults before old new name xs ys was is = record {
   reads = ap (λ (o : Outside). o.read_faults) is ∙ sym (ap (λ (o : Outside). o.read_faults) was);
   writes = ap (λ (o : Outside). o.write_faults) is ∙ sym (ap (λ (o : Outside). o.write_faults) was);
   asked = ap (λ (o : Outside). o.asked) is ∙ sym (ap (λ (o : Outside). o.asked) was);
+}
+
+pub calm_text : (before old new : Outside) (name xs ys : List ℕ) → old ≡ with_bytes before name xs → new ≡ with_bytes before name ys → IsCalm old new
+calm_text before old new name xs ys was is = record {
+  reads = ap (λ (o : Outside). o.read_faults) is ∙ sym (ap (λ (o : Outside). o.read_faults) was);
+  writes = ap (λ (o : Outside). o.write_faults) is ∙ sym (ap (λ (o : Outside). o.write_faults) was);
 }
 
 -- the error of a result, by either way of saying it

@@ -7,7 +7,6 @@ use Rattle.std.proofs.lemmas.List.Sums.{sum_by-take-drop, sum_by_more}
 use Rattle.byteorder.specs.Endian.{little_bytes}
 use Rattle.las_header.specs.Numbers.{number_at}
 use Rattle.las_header.proofs.NumberLemmas.{reads_back}
-use Rattle.las_outside.specs.Outside.{Outside, Later}
 use Rattle.laz_workers.specs.Work.{texts}
 use Rattle.laz_workers.proofs.Texts.{length-texts}
 use Rattle.laz_file.specs.Pieces.{Piece, pieces_from, whole_piece}
@@ -58,6 +57,3 @@ end_within sizes i lt = omega (arith, sum_by_more (λ x. x) sizes i 0 lt, sum_by
 
 pub next_place : (sizes : List ℕ) (i : ℕ) → i < length sizes → sum (take (i + 1) sizes) ≡ sum (take i sizes) + get_or sizes i 0
 next_place sizes i lt = sum_by_more (λ x. x) sizes i 0 lt
-
-pub later_then : (a b c : Outside) → Later a b → Later b c → Later a c
-later_then a b c one two = record { known = two.known ∙ one.known; reads = omega (arith, one.reads, two.reads); writes = omega (arith, one.writes, two.writes); asked = omega (arith, one.asked, two.asked) }

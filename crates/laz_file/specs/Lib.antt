@@ -3,6 +3,8 @@ pub use Rattle.las_header.specs.Conditions
 pub use Rattle.las_outside.specs.Drafts
 pub use Rattle.las_outside.specs.Faults
 pub use Rattle.las_outside.specs.Files
+pub use Rattle.las_outside.specs.Frames
+pub use Rattle.las_outside.specs.Limits
 pub use Rattle.las_outside.specs.Outside
 pub use Rattle.laz_workers.specs.Rooms
 pub use Rattle.laz_workers.specs.Work
@@ -21,6 +23,7 @@ pub mod Writing
 pub mod Stopping
 pub mod Unpacking
 pub mod Reading
+pub mod Batches
 pub mod Copying
 pub mod Hands
 pub mod Asking

@@ -19,12 +19,12 @@ pub record Piece : Type 0 where
 abbrev pub whole_piece : (start size count : ℕ) → Piece
 whole_piece start size count = record { start = start; size = size; count = count; skip = 0; taken = count }
 
--- pieces one after another from a place on, with these numbers of records and of bytes, all taken whole
-abbrev pub pieces_from : ℕ → (counts sizes : List ℕ) → List Piece
-pieces_from at [] sizes = []
-pieces_from at (n ∷ counts) [] = []
-pieces_from at (n ∷ counts) (s ∷ sizes) =
-    whole_piece at s n ∷ pieces_from (at + s) counts sizes
+-- pieces one after another from a place on, with these numbers of points and of bytes, all taken whole
+abbrev pub pieces_from : ℕ → (points bytes : List ℕ) → List Piece
+pieces_from at [] bytes = []
+pieces_from at (n ∷ points) [] = []
+pieces_from at (n ∷ points) (s ∷ bytes) =
+    whole_piece at s n ∷ pieces_from (at + s) points bytes
 
 -- the bytes of a piece
 abbrev pub piece_bytes : (file : List ℕ) → Piece → List ℕ
@@ -33,7 +33,7 @@ piece_bytes file piece = take piece.size (drop piece.start file)
 -- the pieces of this many records of a plain file, from a place on
 abbrev pub plain_from : (size at records : ℕ) → List Piece
 plain_from size at records =
-    let counts = fixed_sizes PLAIN_BLOCK records in pieces_from at counts (map (λ n. size * n) counts)
+    let points = fixed_sizes PLAIN_BLOCK records in pieces_from at points (map (λ n. size * n) points)
 
 -- the pieces of a plain file
 abbrev pub plain_pieces : (file : List ℕ) → List Piece
@@ -43,9 +43,9 @@ plain_pieces file =
 -- the pieces of a packed file: its chunks, as its table has them
 abbrev pub ArePackedPieces : (file : List ℕ) → List Piece → Type 0
 ArePackedPieces file pieces =
-    (counts : List ℕ) × (sizes : List ℕ)
-    × IsAccepted (table_part file) (blocks_in (head_of file)) (table_place file - chunks_place file) counts sizes
-    × (pieces ≡ pieces_from (chunks_place file) counts sizes)
+    (points : List ℕ) × (bytes : List ℕ)
+    × IsAccepted (table_part file) (blocks_in (head_of file)) (table_place file - chunks_place file) points bytes
+    × (pieces ≡ pieces_from (chunks_place file) points bytes)
 
 -- the pieces of an accepted file
 abbrev pub ArePiecesIf : (packed : Bool) → (file : List ℕ) → List Piece → Type 0

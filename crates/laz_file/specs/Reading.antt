@@ -9,6 +9,7 @@ use Rattle.las_header.specs.Fields.{head_of, is_packed, points_of, record_length
 use Rattle.las_header.specs.Refusals.{causes_of, first_cause}
 use Rattle.las_header.specs.Vlrs.{laszip_vlrs_of}
 use Rattle.las_outside.specs.Faults.{Rose}
+use Rattle.las_outside.specs.Files.{WhereKnown}
 use Rattle.las_outside.specs.Outside.{Outside}
 use Rattle.las_header.specs.Numbers.{number_at}
 use Rattle.laz_table.specs.declared.chunks.Blocks.{Blocks}
@@ -69,19 +70,19 @@ points_in (Fixed chunk points) = points
 points_in (Counted points) = points
 
 -- the lists of a table's chunks, whose bytes take this many in all
-pub record AreChunkLists (counts sizes : List ℕ) (total : ℕ) : Type 0 where
-  pub same : length counts ≡ length sizes
-  pub few : length counts ≤ MAX_CHUNKS
-  pub whole : sum sizes ≡ total
+pub record AreChunkLists (points bytes : List ℕ) (total : ℕ) : Type 0 where
+  pub same : length points ≡ length bytes
+  pub few : length points ≤ MAX_CHUNKS
+  pub whole : sum bytes ≡ total
 
 -- the chunk size of a packed file, and none of a plain one
 abbrev pub chunk_of : (head : List ℕ) → Option ℕ
 chunk_of head = if is_packed head then Some (chunk_size_of head) else None
 
 -- the pieces of a file with this head, in which a packed file lists its chunks so, after the eight bytes of the pointer
-abbrev pub pieces_listed : (chunk : Option ℕ) → (head : List ℕ) → (counts sizes : List ℕ) → List Piece
-pieces_listed None head counts sizes = plain_from (record_length_of head) (length head) (points_of head)
-pieces_listed (Some chunk) head counts sizes = pieces_from (length head + 8) counts sizes
+abbrev pub pieces_listed : (chunk : Option ℕ) → (head : List ℕ) → (points bytes : List ℕ) → List Piece
+pieces_listed None head points bytes = plain_from (record_length_of head) (length head) (points_of head)
+pieces_listed (Some chunk) head points bytes = pieces_from (length head + 8) points bytes
 
 -- Where a reader stands: where the next piece begins; how many blocks of a plain file were read, and how many of its
 -- records are left; of a packed file which chunks are read, the number of the next one, that of the first one of the
@@ -96,9 +97,9 @@ pub record Position : Type 0 where
   pub bad : Bool
 
 -- the pieces that are left to read: of a packed file of those that are listed, of a plain one those of its records
-abbrev pub pieces_left : (chunk : Option ℕ) → (size : ℕ) → Position → (counts sizes : List ℕ) → List Piece
-pieces_left None size position counts sizes = plain_from size position.at position.records
-pieces_left (Some chunk) size position counts sizes = left_of position.ends position.next position.at counts sizes
+abbrev pub pieces_left : (chunk : Option ℕ) → (size : ℕ) → Position → (points bytes : List ℕ) → List Piece
+pieces_left None size position points bytes = plain_from size position.at position.records
+pieces_left (Some chunk) size position points bytes = left_of position.ends position.next position.at points bytes
 
 -- the chunks of a file with these pieces: none, if it is plain
 abbrev pub chunks_in : (chunk : Option ℕ) → (pieces : List Piece) → List Piece
@@ -127,24 +128,24 @@ pub record ReaderSeen : Type 0 where
 
 -- The chunks of a reader: their lists, after a head that ends at `offset`. A packed file has as many points in them as
 -- its head counts, and a plain file has none.
-pub record AreListed (chunk : Option ℕ) (offset points : ℕ) (counts sizes : List ℕ) : Type 0 where
-  pub same : length counts ≡ length sizes
-  pub few : length counts ≤ MAX_CHUNKS
-  pub near : (size : ℕ) → chunk ≡ Some size → offset + 8 + sum sizes < 2 ^ 64
-  pub some : All (λ n. 0 < n) counts
-  pub all : (size : ℕ) → chunk ≡ Some size → sum counts ≡ points
-  pub plain : chunk ≡ None → counts ≡ []
+pub record AreListed (chunk : Option ℕ) (offset total : ℕ) (points bytes : List ℕ) : Type 0 where
+  pub same : length points ≡ length bytes
+  pub few : length points ≤ MAX_CHUNKS
+  pub near : (size : ℕ) → chunk ≡ Some size → offset + 8 + sum bytes < 2 ^ 64
+  pub some : All (λ n. 0 < n) points
+  pub all : (size : ℕ) → chunk ≡ Some size → sum points ≡ total
+  pub plain : chunk ≡ None → points ≡ []
 
 -- How the numbers of a reader belong together.
-pub record IsInPlace (size : ℕ) (position : Position) (counts sizes : List ℕ) : Type 0 where
+pub record IsInPlace (size : ℕ) (position : Position) (points bytes : List ℕ) : Type 0 where
   pub first : position.ends.first ≤ position.batch
   pub batch : position.batch ≤ position.next
   pub next : position.next ≤ position.ends.last
-  pub last : position.ends.last ≤ length counts
-  pub front : position.ends.skip ≤ slice_index_or counts position.ends.first 0
-  pub near : position.at + sum (take (position.ends.last - position.next) (drop position.next sizes))
+  pub last : position.ends.last ≤ length points
+  pub front : position.ends.skip ≤ slice_index_or points position.ends.first 0
+  pub near : position.at + sum (take (position.ends.last - position.next) (drop position.next bytes))
       + size * position.records < 2 ^ 64
-  pub number : length counts + position.blocks + position.records < 2 ^ 32
+  pub number : length points + position.blocks + position.records < 2 ^ 32
   pub bad : position.bad ≡ true → (position.ends.first < position.next) × (position.next < position.ends.last)
 
 -- a piece lies in the file
@@ -167,11 +168,15 @@ pub record StandsFor (reader : ReaderSeen) (file : List ℕ) : Type 0 where
   pub lie : All (LiesIn file) reader.left
   pub bad : reader.bad ≡ true → IsBadPiece file reader.left 0
 
+-- If the files are known, the reader's file is there, and its bytes have P.
+abbrev pub OfFile : ReaderSeen → Outside → (P : List ℕ → Type 0) → Type 0
+OfFile reader outside P = WhereKnown outside.held reader.name P
+
 -- The file is accepted, its pieces are these, and each lies in it.
-pub record ListsPieces (file : List ℕ) (chunk : Option ℕ) (head counts sizes : List ℕ) : Type 0 where
+pub record ListsPieces (file : List ℕ) (chunk : Option ℕ) (head points bytes : List ℕ) : Type 0 where
   pub accepted : IsAcceptedFile file
-  pub are : ArePieces file (pieces_listed chunk head counts sizes)
-  pub lie : All (LiesIn file) (pieces_listed chunk head counts sizes)
+  pub are : ArePieces file (pieces_listed chunk head points bytes)
+  pub lie : All (LiesIn file) (pieces_listed chunk head points bytes)
 
 -- A fresh reader has read nothing, has not failed, and has no buffers yet: it may have sought a range.
 pub record IsFreshReader (name : List ℕ) (reader : ReaderSeen) : Type 0 where

@@ -1,7 +1,7 @@
 -- What a writer of an output stands for, from call to call.
 use Rattle.std.specs.Prelude.{◌≡◌, ℕ, ◌*◌, ◌/◌, ◌%◌, ◌^◌, ◌<◌, ◌≤◌, min, Bool, true, false, if◌then◌else◌, List}
 use Rattle.std.specs.Prelude.{[]}
-use Rattle.std.specs.Prelude.{◌∷◌, ◌++◌, length, map, Option, Some, None, All}
+use Rattle.std.specs.Prelude.{◌∷◌, ◌++◌, length, map, take, Option, Some, None, All}
 use Rattle.std.specs.List.{concat}
 use Rattle.byteorder.specs.Endian.{little_bytes}
 use Rattle.las_header.specs.declared.counts.Counts.{Counts}
@@ -37,6 +37,22 @@ Stops Memory made now = now ≡ made
 Stops Write made now = now ≡ with_write_fault made
 Stops Read made now = ⊥
 Stops (Refused cause) made now = ⊥
+
+-- A call ended with this fault, and of the output a prefix of a text stands.
+abbrev pub StopsIn : (before now : Outside) → (name text : List ℕ) → Fault → Type 0
+StopsIn before now name text fault = (n : ℕ) × Stops fault (with_bytes before name (take n text)) now
+
+-- The same, and a text stands before the prefix of another.
+abbrev pub StopsAfter : (before now : Outside) → (name text more : List ℕ) → Fault → Type 0
+StopsAfter before now name text more fault = (n : ℕ) × Stops fault (with_bytes before name (text ++ take n more)) now
+
+-- The outside is another one with some text under the name.
+abbrev pub HasText : (now : Outside) → (name : List ℕ) → Type 0
+HasText now name = (before : Outside) × (text : List ℕ) × (now ≡ with_bytes before name text)
+
+-- P holds of each other one, and of the text.
+abbrev pub OfText : (now : Outside) → (name : List ℕ) → (P : Outside → List ℕ → Type 0) → Type 0
+OfText now name P = (before : Outside) (text : List ℕ) → now ≡ with_bytes before name text → P before text
 
 -- the chunks of some blocks
 abbrev pub chunks : Format → (blocks : List (List ℕ)) → List (List ℕ)
@@ -141,6 +157,13 @@ pub record PackedStands (before now : Outside) (name front : List ℕ) (packing 
   pub within : length records ≤ record_size packing.plan * packing.plan.most
   pub numbers : IsPlan packing.plan
 
+-- P holds of each outside over which the output and its packing stand, and of its front and of the records.
+abbrev pub OfPacked : (now : Outside) → (name : List ℕ) → PackingSeen
+    → (P : Outside → (front records : List ℕ) → Type 0) → Type 0
+OfPacked now name packing P =
+    (before : Outside) (front records : List ℕ) → PackedStands before now name front packing records
+    → P before front records
+
 -- ---- writers
 
 -- what contracts see of a writer: the name of its output; the lengths of the plain head and of a record; how many
@@ -228,6 +251,17 @@ pub record Stands (before now : Outside) (writer : WriterSeen) (out : Output) (r
   pub long : writer.long_counts ≡ has_long_counts out.head
   pub tally : IsTally out.counted writer.counts (records_after out.head records)
   pub points : PointsStand out.chunk before now out writer.most writer.packing records
+
+-- A writer stands for some records of some output.
+abbrev pub HasOutput : (now : Outside) → WriterSeen → Type 0
+HasOutput now writer =
+    (before : Outside) × (out : Output) × (records : List ℕ) × Stands before now writer out records
+
+-- P holds of each output and of the records for which a writer stands, and of the outside before the output.
+abbrev pub OfOutput : (now : Outside) → WriterSeen → (P : Outside → Output → (records : List ℕ) → Type 0) → Type 0
+OfOutput now writer P =
+    (before : Outside) (out : Output) (records : List ℕ) → Stands before now writer out records
+    → P before out records
 
 -- ---- the patches that finish an output, as a writer makes them
 

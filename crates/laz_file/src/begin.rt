@@ -1,4 +1,4 @@
-//! The beginning of an output: its crew, its buffers and its front.
+//! The beginning of an output: its packing and its front.
 ghost use Rattle.std.specs.Prelude.{◌≡◌, ◌⊎◌, ◌+◌, ◌*◌, ◌<◌, ◌≤◌, ◌++◌, ◌^◌, [], ℕ, List, length, map, min, take};
 ghost use Rattle.std.specs.Prelude.{true, false, All};
 ghost use Rattle.std.specs.Prelude.{OnOk, IfOk, IfErr, if◌then◌else◌};
@@ -6,7 +6,9 @@ ghost use Rattle.byteorder.specs.Endian.{little_bytes};
 ghost use Rattle.las_header.specs.Counting.{with_counts};
 ghost use Rattle.las_header.specs.Fields.{is_packed};
 ghost use Rattle.las_header.specs.Vlrs.{laszip_vlrs_of};
-ghost use Rattle.las_outside.specs.Outside.{Later, with_bytes};
+ghost use Rattle.las_outside.specs.Limits.{AreWorkers, IsChunkSize};
+ghost use Rattle.las_outside.specs.Frames.{OnlyWrites};
+ghost use Rattle.las_outside.specs.Outside.{with_bytes};
 ghost use Rattle.las_points.specs.Tally.{counts_of};
 ghost use Rattle.laz_chunk.specs.Layouts.{layout, room_for};
 ghost use Rattle.laz_file.specs.declared.fault.Fault.TheVariants.{Write};
@@ -15,15 +17,15 @@ ghost use Rattle.laz_file.specs.Packing.{format_in};
 ghost use Rattle.laz_workers.specs.Rooms.{lengths_of, rooms_of};
 
 use crate::Fault;
+use crate::crewing::{buffers_of, crew_of};
 use crate::pack_job::PackJob;
 use crate::packing::Packing;
 use crate::put::put;
 use byteorder::{ByteOrder, LittleEndian};
 use las_header::{Counts, Head};
 use las_outside::Files;
-use laz_chunk::{Workspace, room_for};
+use laz_chunk::room_for;
 use laz_table::{chunk_count, vlr_of};
-use laz_workers::Crew;
 use std::alloc::{AllocError, Global};
 
 // No point record.
@@ -88,6 +90,7 @@ pub(crate) fn first_form(
     ensures { IfOk result (λ written. written.bytes
         ≡ written_head chunk (if counted then with_counts (counts_of []) head.now.bytes else head.now.bytes)) }
 {
+    // Its contract says what holds of every head.
     let _ = head.bytes();
     let written = formed(alloc, head, chunk)?;
     if counted {
@@ -110,7 +113,7 @@ pub(crate) fn put_front<F: Files>(
         ⊎ ((n : ℕ) × Stops fault (with_bytes (F.seen files.old) name.now
         (take n (head.now ++ pointer_part packed head.now))) (F.seen files.new))) }
     ensures fault { IfErr result (λ fault. fault ≡ Write) }
-    ensures later { Later (F.seen files.old) (F.seen files.new) }
+    ensures writes { OnlyWrites (F.seen files.old) (F.seen files.new) }
 {
     match files.create(name) {
         Ok(()) => {}
@@ -124,43 +127,6 @@ pub(crate) fn put_front<F: Files>(
     Ok(())
 }
 
-// A crew of workers that pack blocks, with rooms of one size.
-fn crew_of(
-    alloc: Global,
-    job: PackJob,
-    room: usize,
-    workers: u32,
-) -> Result<Crew<Workspace>, AllocError>
-    requires known { job.format < 4 }
-    requires extra { job.extra < 193 }
-    requires workers { workers ≤ 8 }
-    ensures workers { IfOk result (λ crew. length crew ≡ workers) }
-    ensures spaces { IfOk result (λ crew. All (λ hand. hand.space ≡ job) crew) }
-    ensures rooms { IfOk result (λ crew. All (λ n. n ≡ room) (lengths_of (rooms_of crew))) }
-{
-    let mut crew = Crew::new(alloc);
-    for _turn in 0..workers {
-        let space = Workspace::new(alloc, job.format, job.extra)?;
-        match crew.add(space, room) {
-            Ok(()) => {}
-            Err((_, error)) => return Err(error),
-        }
-    }
-    Ok(crew)
-}
-
-// Empty buffers of one capacity.
-fn buffers(alloc: Global, count: usize, size: usize) -> Result<Vec<Vec<u8>>, AllocError> {
-    let mut list = Vec::with_capacity(alloc, count)?;
-    for _turn in 0..count {
-        match list.push(Vec::with_capacity(alloc, size)?) {
-            Ok(()) => {}
-            Err(_) => return Err(AllocError),
-        }
-    }
-    Ok(list)
-}
-
 /// The packing of an output for at most `most` records that follow a head, in chunks of `chunk` points: all of its
 /// rooms and buffers.
 pub(crate) fn new_packing(
@@ -171,8 +137,8 @@ pub(crate) fn new_packing(
     workers: u32,
     pointer: u32,
 ) -> Result<Packing, AllocError>
-    requires chunk { (256 ≤ chunk) × (chunk ≤ 250000) }
-    requires workers { (0 < workers) × (workers ≤ 8) }
+    requires chunk { IsChunkSize chunk }
+    requires workers { AreWorkers workers }
     ensures { IfOk result (λ p. p ≡ record {
       plan = record
           { format = format_in head.now.bytes; chunk = chunk; most = most; pointer = pointer; workers = workers };
@@ -181,24 +147,18 @@ pub(crate) fn new_packing(
       rest = [];
     }) }
 {
+    // Its contract says what holds of every head.
     let _ = head.bytes();
-    let job = PackJob {
-        format: head.format(),
-        extra: head.extra(),
-    };
+    let (format, extra) = (head.format(), head.extra());
     let points = chunk.min(most);
-    let crew = crew_of(
-        alloc,
-        job,
-        room_for(job.format, job.extra, points) as usize,
-        workers,
-    )?;
+    let room = room_for(format, extra, points) as usize;
+    let crew = crew_of(alloc, format, extra, workers, room)?;
     let size = usize::from(head.record_length());
-    let spare = buffers(alloc, 2 * workers as usize, size * points as usize)?;
+    let spare = buffers_of(alloc, 2 * workers, size * points as usize)?;
     let kept = Vec::with_capacity(alloc, 2 * workers as usize)?;
     let lengths = Vec::with_capacity(alloc, chunk_count(most, chunk) as usize)?;
     Ok(Packing {
-        job,
+        job: PackJob { format, extra },
         chunk,
         most,
         pointer: u64::from(pointer),

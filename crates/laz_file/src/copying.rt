@@ -4,14 +4,13 @@ ghost use Rattle.std.specs.Prelude.{IsErrOf};
 ghost use Rattle.std.specs.Prelude.{OnErr, OnOk};
 ghost use Rattle.std.specs.List.{concat};
 ghost use Rattle.las_outside.specs.Faults.{Rose};
-ghost use Rattle.las_outside.specs.Files.{WhereKnown};
-ghost use Rattle.las_outside.specs.Outside.{Later, Outside};
+ghost use Rattle.las_outside.specs.Frames.{IsCalm, OnlyWrites};
+ghost use Rattle.las_outside.specs.Outside.{Later};
 ghost use Rattle.laz_file.specs.declared.fault.Fault.TheVariants.{Memory, Write};
 ghost use Rattle.laz_file.specs.Asking.{AsksAtMost, bytes_left};
 ghost use Rattle.laz_file.specs.Copying.{CanTake, EndsAfter, HasCause, HoldFirst, LeavesPart, Takes, end_of};
-ghost use Rattle.laz_file.specs.Outputs.{Output};
-ghost use Rattle.laz_file.specs.Reading.{IsCrewOf, Lends, StandsFor};
-ghost use Rattle.laz_file.specs.Writing.{SameFaults, Stands};
+ghost use Rattle.laz_file.specs.Reading.{IsCrewOf, Lends, OfFile, StandsFor};
+ghost use Rattle.laz_file.specs.Writing.{HasOutput};
 
 use crate::Fault;
 use crate::reader::Reader;
@@ -19,16 +18,14 @@ use crate::writer::Writer;
 use las_header::Refusal;
 use las_outside::{Files, Gate};
 use laz_chunk::Workspace;
-use laz_workers::Crew;
+use laz_workers::{Crew, Machine};
 use std::alloc::Global;
 use std::thread::Threads;
 
 // Pushes the blocks of a batch, which a reader and its crew lend, in order.
 fn push_lent<R: Threads + Sync, F: Files, G: Gate>(
-    rt: &R,
-    alloc: Global,
+    machine: &Machine<'_, R, G>,
     files: &mut F,
-    gate: &G,
     reader: &Reader,
     crew: &Crew<Workspace>,
     count: u32,
@@ -38,8 +35,7 @@ fn push_lent<R: Threads + Sync, F: Files, G: Gate>(
         × All (λ block. length block % writer.old.size ≡ 0) blocks
         × (writer.old.taken + length (concat blocks) ≤ writer.old.size * writer.old.most) }
     requires open { writer.old.failed ≡ false }
-    requires stands { (before : Outside) × (out : Output) × (bytes : List ℕ)
-        × Stands before (F.seen files.old) writer.old out bytes }
+    requires stands { HasOutput (F.seen files.old) writer.old }
     ensures takes { (blocks : List (List ℕ)) → Lends reader.now crew.now blocks → length blocks ≡ count
         → OnOk result (Takes (F.seen files.old) (F.seen files.new) writer.old writer.new (concat blocks)) }
     ensures part { (blocks : List (List ℕ)) → Lends reader.now crew.now blocks → length blocks ≡ count
@@ -47,12 +43,17 @@ fn push_lent<R: Threads + Sync, F: Files, G: Gate>(
     ensures most { writer.new.most ≡ writer.old.most }
     ensures open { OnOk result (writer.new.failed ≡ false) }
     ensures cause { IfErr result (HasCause (F.seen files.old) (F.seen files.new)) }
-    ensures calm { OnOk result (SameFaults (F.seen files.old) (F.seen files.new)) }
-    ensures asked { (F.seen files.new).asked ≡ (F.seen files.old).asked }
-    ensures later { Later (F.seen files.old) (F.seen files.new) }
+    ensures calm { OnOk result (IsCalm (F.seen files.old) (F.seen files.new)) }
+    ensures writes { OnlyWrites (F.seen files.old) (F.seen files.new) }
 {
     for i in 0..count {
-        writer.push(rt, alloc, files, gate, reader.block(crew, i))?;
+        writer.push(
+            machine.rt,
+            machine.alloc,
+            files,
+            machine.gate,
+            reader.block(crew, i),
+        )?;
     }
     Ok(())
 }
@@ -60,10 +61,8 @@ fn push_lent<R: Threads + Sync, F: Files, G: Gate>(
 // Pushes the blocks of a batch, in order. Of a plain file the writer may keep the block itself, and the reader has
 // another buffer in its place.
 fn push_batch<R: Threads + Sync, F: Files, G: Gate>(
-    rt: &R,
-    alloc: Global,
+    machine: &Machine<'_, R, G>,
     files: &mut F,
-    gate: &G,
     reader: &mut Reader,
     crew: &Crew<Workspace>,
     count: u32,
@@ -74,8 +73,7 @@ fn push_batch<R: Threads + Sync, F: Files, G: Gate>(
         × All (λ block. length block % writer.old.size ≡ 0) blocks
         × (writer.old.taken + length (concat blocks) ≤ writer.old.size * writer.old.most) }
     requires open { writer.old.failed ≡ false }
-    requires stands { (before : Outside) × (out : Output) × (bytes : List ℕ)
-        × Stands before (F.seen files.old) writer.old out bytes }
+    requires stands { HasOutput (F.seen files.old) writer.old }
     ensures takes { (blocks : List (List ℕ)) → Lends reader.old crew.now blocks → length blocks ≡ count
         → OnOk result (Takes (F.seen files.old) (F.seen files.new) writer.old writer.new (concat blocks)) }
     ensures part { (blocks : List (List ℕ)) → Lends reader.old crew.now blocks → length blocks ≡ count
@@ -83,26 +81,33 @@ fn push_batch<R: Threads + Sync, F: Files, G: Gate>(
     ensures most { writer.new.most ≡ writer.old.most }
     ensures open { OnOk result (writer.new.failed ≡ false) }
     ensures cause { IfErr result (HasCause (F.seen files.old) (F.seen files.new)) }
-    ensures calm { OnOk result (SameFaults (F.seen files.old) (F.seen files.new)) }
-    ensures asked { (F.seen files.new).asked ≡ (F.seen files.old).asked }
-    ensures later { Later (F.seen files.old) (F.seen files.new) }
+    ensures calm { OnOk result (IsCalm (F.seen files.old) (F.seen files.new)) }
+    ensures writes { OnlyWrites (F.seen files.old) (F.seen files.new) }
     ensures reader { reader.new ≡ record reader.old { lent = reader.new.lent } }
 {
     match reader.chunk {
-        None => writer.push_block(rt, alloc, files, gate, &mut reader.block),
-        Some(_) => push_lent(rt, alloc, files, gate, reader, crew, count, writer),
+        None => writer.push_block(
+            machine.rt,
+            machine.alloc,
+            files,
+            machine.gate,
+            &mut reader.block,
+        ),
+        Some(_) => push_lent(machine, files, reader, crew, count, writer),
     }
 }
 
-// A refusal ends the records that are copied, and any other fault the call.
-fn end_of(fault: Fault) -> Result<Option<Refusal>, Fault>
-    ensures { result ≡ end_of fault }
-{
-    match fault {
-        Fault::Refused(cause) => Ok(Some(cause)),
-        Fault::Read => Err(Fault::Read),
-        Fault::Write => Err(Fault::Write),
-        Fault::Memory => Err(Fault::Memory),
+impl Fault {
+    /// What a fault of a reader ends: a refusal the records, and any other fault the call.
+    pub fn into_end(self) -> Result<Option<Refusal>, Fault>
+        ensures { result ≡ end_of self }
+    {
+        match self {
+            Fault::Refused(cause) => Ok(Some(cause)),
+            Fault::Read => Err(Fault::Read),
+            Fault::Write => Err(Fault::Write),
+            Fault::Memory => Err(Fault::Memory),
+        }
     }
 }
 
@@ -124,10 +129,9 @@ pub fn copy_records<R: Threads + Sync, F: Files, G: Gate>(
     requires open { reader.old.failed ≡ false }
     requires crew { IsCrewOf reader.old crew.old }
     requires names { reader.old.name ≢ writer.old.name }
-    requires reads { WhereKnown (F.seen files.old).held reader.old.name (StandsFor reader.old) }
+    requires reads { OfFile reader.old (F.seen files.old) (StandsFor reader.old) }
     requires room { CanTake reader.old writer.old }
-    requires stands { (before : Outside) × (out : Output) × (bytes : List ℕ)
-        × Stands before (F.seen files.old) writer.old out bytes }
+    requires stands { HasOutput (F.seen files.old) writer.old }
     ensures copied { IfOk result (λ end. (n : ℕ) × (blocks : List (List ℕ))
         × HoldFirst (F.seen files.old).held reader.old n blocks × EndsAfter (F.seen files.old).held reader.old n end
         × Takes (F.seen files.old) (F.seen files.new) writer.old writer.new (concat blocks)) }
@@ -143,14 +147,20 @@ pub fn copy_records<R: Threads + Sync, F: Files, G: Gate>(
     ensures asked { AsksAtMost (bytes_left reader.old) (F.seen files.old) (F.seen files.new) }
     ensures later { Later (F.seen files.old) (F.seen files.new) }
 {
+    let machine = Machine {
+        rt,
+        alloc,
+        gate,
+        workers: crew.hands() as u32,
+    };
     'batches: loop {
         let count = match reader.next_batch(rt, alloc, files, gate, crew) {
             Ok(count) => count,
-            Err(fault) => return end_of(fault),
+            Err(fault) => return fault.into_end(),
         };
         if count == 0 {
             return Ok(None);
         }
-        push_batch(rt, alloc, files, gate, reader, crew, count, writer)?;
+        push_batch(&machine, files, reader, crew, count, writer)?;
     }
 }

@@ -1,5 +1,6 @@
-//! The crew of a reader, and the buffers of its inputs.
+//! Crews and buffers, and those of a reader.
 ghost use Rattle.std.specs.Prelude.{◌≡◌, ◌*◌, ◌<◌, ◌≤◌, true, length, All, IfOk, OnErr, OnOk};
+ghost use Rattle.las_outside.specs.Limits.{AreWorkers};
 ghost use Rattle.laz_workers.specs.Rooms.{lengths_of, rooms_of};
 ghost use Rattle.laz_file.specs.Reading.{IsCrewOf};
 
@@ -40,7 +41,7 @@ pub(crate) fn crew_of(
 pub(crate) fn buffers_of(alloc: Global, count: u32, room: usize) -> Result<Vec<Vec<u8>>, AllocError>
     ensures { IfOk result (λ buffers. length buffers.items ≡ count) }
 {
-    let mut buffers = Vec::new(alloc);
+    let mut buffers = Vec::with_capacity(alloc, count as usize)?;
     for _buffer in 0..count {
         buffers.push(Vec::with_capacity(alloc, room)?)?;
     }
@@ -59,13 +60,13 @@ pub(crate) fn greatest(numbers: &[u32]) -> u32
 }
 
 /// The greatest number of bytes of a chunk that may hold records of its count, or 0.
-pub(crate) fn greatest_size(job: &UnpackJob, counts: &[u32], sizes: &[u32]) -> u32
-    requires { length counts.now ≡ length sizes.now }
+pub(crate) fn greatest_size(job: &UnpackJob, points: &[u32], bytes: &[u32]) -> u32
+    requires { length points.now ≡ length bytes.now }
 {
     let mut most = 0;
-    for i in 0..counts.len() {
-        if job.may_hold(counts[i], sizes[i]) {
-            most = most.max(sizes[i]);
+    for i in 0..points.len() {
+        if job.may_hold(points[i], bytes[i]) {
+            most = most.max(bytes[i]);
         }
     }
     most
@@ -76,7 +77,7 @@ impl Reader {
     /// of a batch's inputs into the reader, two for each hand, each with room for the greatest chunk that is read, and
     /// of a plain file the room of a block. `Err` means out of memory, and the reader has failed.
     pub fn crew(&mut self, alloc: Global, workers: u32) -> Result<Crew<Workspace>, AllocError>
-        requires workers { (1 ≤ workers) × (workers ≤ 8) }
+        requires workers { AreWorkers workers }
         ensures crew { IfOk result (λ crew. IsCrewOf self.new crew) }
         ensures hands { IfOk result (λ crew. length crew ≡ workers) }
         ensures kept { OnOk result (self.new ≡ record self.old { buffers = 2 * workers }) }
@@ -92,16 +93,16 @@ impl Reader {
     }
 
     fn prepare(&mut self, alloc: Global, workers: u32) -> Result<Crew<Workspace>, AllocError>
-        requires workers { (1 ≤ workers) × (workers ≤ 8) }
+        requires workers { AreWorkers workers }
         ensures crew { IfOk result (λ crew. IsCrewOf self.new crew) }
         ensures hands { IfOk result (λ crew. length crew ≡ workers) }
         ensures kept { OnOk result (self.new ≡ record self.old { buffers = 2 * workers }) }
     {
         let (format, extra) = (self.head.format(), self.head.extra());
         let job = UnpackJob::new(format, extra);
-        let room = job.record_length() * greatest(&self.counts) as usize;
+        let room = job.record_length() * greatest(&self.points) as usize;
         let crew = crew_of(alloc, format, extra, workers, room)?;
-        let size = greatest_size(&job, &self.counts, &self.sizes) as usize;
+        let size = greatest_size(&job, &self.points, &self.bytes) as usize;
         self.inputs = buffers_of(alloc, 2 * workers, 4 + size)?;
         let most = self.records.min(PLAIN_BLOCK) as usize;
         self.block.reserve(job.record_length() * most)?;

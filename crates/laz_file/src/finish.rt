@@ -1,11 +1,13 @@
 //! The end of an output: it is finished, or stopped.
-ghost use Rattle.std.specs.Prelude.{◌≡◌, ◌⊎◌, ◌+◌, ◌≤◌, ◌++◌, ◌∷◌, [], ℕ, List, length, take, false};
+ghost use Rattle.std.specs.Prelude.{◌≡◌, ◌⊎◌, ◌+◌, ◌≤◌, ◌++◌, ◌∷◌, [], ℕ, List, length, false};
 ghost use Rattle.std.specs.Prelude.{OnOk, IfOk, IfErr, IsErrOf};
 ghost use Rattle.las_outside.specs.Drafts.{IsUnfinished};
 ghost use Rattle.las_outside.specs.Faults.{Rose};
-ghost use Rattle.las_outside.specs.Outside.{Later, Outside, with_bytes};
-ghost use Rattle.laz_file.specs.Outputs.{Output, draft_of, finished, patches_of, pointer_patches, stopped};
-ghost use Rattle.laz_file.specs.Writing.{SameFaults, Stands, Stops, pointer_patch, tally_patches};
+ghost use Rattle.las_outside.specs.Frames.{IsCalm, OnlyWrites};
+ghost use Rattle.las_outside.specs.Outside.{Later, with_bytes};
+ghost use Rattle.laz_file.specs.Outputs.{draft_of, finished, patches_of, pointer_patches, stopped};
+ghost use Rattle.laz_file.specs.Writing.{HasOutput, OfOutput, SameFaults, Stops, StopsIn, pointer_patch};
+ghost use Rattle.laz_file.specs.Writing.{tally_patches};
 ghost use Rattle.laz_file.specs.declared.fault.Fault.TheVariants.{Memory, Write};
 
 use crate::Fault;
@@ -59,23 +61,18 @@ impl Writer {
         files: &mut F,
         gate: &G,
     ) -> Result<(Option<(u64, u64)>, u64), Fault>
-        requires stands { (before : Outside) × (out : Output) × (records : List ℕ)
-            × Stands before (F.seen files.old) self.old out records }
-        ensures appended { (before : Outside) (out : Output) (records : List ℕ)
-            → Stands before (F.seen files.old) self.old out records
-            → OnOk result (F.seen files.new ≡ with_bytes before out.name (draft_of out records)) }
-        ensures pointer { (before : Outside) (out : Output) (records : List ℕ)
-            → Stands before (F.seen files.old) self.old out records
-            → IfOk result (λ r. pointer_patch r.0 ≡ pointer_patches out.chunk out.head records) }
-        ensures end { (before : Outside) (out : Output) (records : List ℕ)
-            → Stands before (F.seen files.old) self.old out records
-            → IfOk result (λ r. r.1 ≡ length (draft_of out records)) }
-        ensures stopped { (before : Outside) (out : Output) (records : List ℕ)
-            → Stands before (F.seen files.old) self.old out records
-            → IfErr result (λ fault. (n : ℕ) × Stops fault (with_bytes before out.name (take n (draft_of out records)))
-            (F.seen files.new)) }
+        requires stands { HasOutput (F.seen files.old) self.old }
+        ensures appended { OfOutput (F.seen files.old) self.old
+            (λ before out records. OnOk result (F.seen files.new
+            ≡ with_bytes before out.name (draft_of out records))) }
+        ensures pointer { OfOutput (F.seen files.old) self.old (λ before out records. IfOk result
+            (λ r. pointer_patch r.0 ≡ pointer_patches out.chunk out.head records)) }
+        ensures end { OfOutput (F.seen files.old) self.old (λ before out records. IfOk result
+            (λ r. r.1 ≡ length (draft_of out records))) }
+        ensures stopped { OfOutput (F.seen files.old) self.old
+            (λ before out records. IfErr result (StopsIn before (F.seen files.new) out.name (draft_of out records))) }
         ensures same { self.new ≡ record self.old { packing = self.new.packing } }
-        ensures later { Later (F.seen files.old) (F.seen files.new) }
+        ensures writes { OnlyWrites (F.seen files.old) (F.seen files.new) }
     {
         let name = self.name.as_str();
         let Some(packing) = &mut self.packing else {
@@ -94,19 +91,15 @@ impl Writer {
         files: &mut F,
         gate: &G,
     ) -> Result<(), Fault>
-        requires stands { (before : Outside) × (out : Output) × (records : List ℕ)
-            × Stands before (F.seen files.old) self.old out records }
-        ensures appended { (before : Outside) (out : Output) (records : List ℕ)
-            → Stands before (F.seen files.old) self.old out records
-            → OnOk result (F.seen files.new ≡ with_bytes before out.name (stopped out records)) }
-        ensures stopped { (before : Outside) (out : Output) (records : List ℕ)
-            → Stands before (F.seen files.old) self.old out records
-            → IfErr result (λ fault. (n : ℕ) × Stops fault (with_bytes before out.name (take n (stopped out records)))
-            (F.seen files.new)) }
+        requires stands { HasOutput (F.seen files.old) self.old }
+        ensures appended { OfOutput (F.seen files.old) self.old
+            (λ before out records. OnOk result (F.seen files.new ≡ with_bytes before out.name (stopped out records))) }
+        ensures stopped { OfOutput (F.seen files.old) self.old
+            (λ before out records. IfErr result (StopsIn before (F.seen files.new) out.name (stopped out records))) }
         ensures fault { IfErr result (λ fault. (fault ≡ Memory) ⊎ (fault ≡ Write)) }
         ensures write { IsErrOf result Write → Rose (F.seen files.old).write_faults (F.seen files.new).write_faults }
-        ensures calm { OnOk result (SameFaults (F.seen files.old) (F.seen files.new)) }
-        ensures later { Later (F.seen files.old) (F.seen files.new) }
+        ensures calm { OnOk result (IsCalm (F.seen files.old) (F.seen files.new)) }
+        ensures writes { OnlyWrites (F.seen files.old) (F.seen files.new) }
     {
         let name = self.name.as_str();
         let Some(packing) = &mut self.packing else {
@@ -124,23 +117,20 @@ impl Writer {
         files: &mut F,
         gate: &G,
     ) -> Result<u64, Fault>
-        requires stands { (before : Outside) × (out : Output) × (records : List ℕ)
-            × Stands before (F.seen files.old) self.old out records }
+        requires stands { HasOutput (F.seen files.old) self.old }
 
-        ensures finished { (before : Outside) (out : Output) (records : List ℕ)
-            → Stands before (F.seen files.old) self.old out records
-            → OnOk result (F.seen files.new ≡ with_bytes before out.name (finished out records)) }
-        ensures length { (before : Outside) (out : Output) (records : List ℕ)
-            → Stands before (F.seen files.old) self.old out records
-            → IfOk result (λ n. n ≡ length (finished out records)) }
-        ensures stopped { (before : Outside) (out : Output) (records : List ℕ)
-            → Stands before (F.seen files.old) self.old out records
-            → IfErr result (λ fault. (left : List ℕ) × IsUnfinished (draft_of out records) (patches_of out records) left
-            × Stops fault (with_bytes before out.name left) (F.seen files.new)) }
+        ensures finished { OfOutput (F.seen files.old) self.old
+            (λ before out records. OnOk result (F.seen files.new
+            ≡ with_bytes before out.name (finished out records))) }
+        ensures length { OfOutput (F.seen files.old) self.old (λ before out records. IfOk result
+            (λ n. n ≡ length (finished out records))) }
+        ensures stopped { OfOutput (F.seen files.old) self.old (λ before out records. IfErr result
+            (λ fault. (left : List ℕ) × IsUnfinished (draft_of out records) (patches_of out records) left
+            × Stops fault (with_bytes before out.name left) (F.seen files.new))) }
         ensures fault { IfErr result (λ fault. (fault ≡ Memory) ⊎ (fault ≡ Write)) }
         ensures write { IsErrOf result Write → Rose (F.seen files.old).write_faults (F.seen files.new).write_faults }
-        ensures calm { OnOk result (SameFaults (F.seen files.old) (F.seen files.new)) }
-        ensures later { Later (F.seen files.old) (F.seen files.new) }
+        ensures calm { OnOk result (IsCalm (F.seen files.old) (F.seen files.new)) }
+        ensures writes { OnlyWrites (F.seen files.old) (F.seen files.new) }
     {
         let (pointer, end) = self.append_draft(rt, alloc, files, gate)?;
         let patches = self.patches(alloc, pointer)?;
@@ -158,24 +148,22 @@ impl Writer {
         gate: &G,
     ) -> Result<u64, Fault>
         requires open { self.failed ≡ false }
-        requires stands { (before : Outside) × (out : Output) × (records : List ℕ)
-            × Stands before (F.seen files.old) self out records }
+        requires stands { HasOutput (F.seen files.old) self }
 
-        ensures finished { (before : Outside) (out : Output) (records : List ℕ)
-            → Stands before (F.seen files.old) self out records
-            → OnOk result (F.seen files.new ≡ with_bytes before out.name (finished out records)) }
-        ensures length { (before : Outside) (out : Output) (records : List ℕ)
-            → Stands before (F.seen files.old) self out records
-            → IfOk result (λ n. n ≡ length (finished out records)) }
+        ensures finished { OfOutput (F.seen files.old) self
+            (λ before out records. OnOk result (F.seen files.new
+            ≡ with_bytes before out.name (finished out records))) }
+        ensures length { OfOutput (F.seen files.old) self (λ before out records. IfOk result
+            (λ n. n ≡ length (finished out records))) }
 
         // After an error the output is unfinished.
-        ensures stopped { (before : Outside) (out : Output) (records : List ℕ)
-            → Stands before (F.seen files.old) self out records
-            → IfErr result (λ fault. (left : List ℕ) × IsUnfinished (draft_of out records) (patches_of out records) left
-            × Stops fault (with_bytes before out.name left) (F.seen files.new)) }
+        ensures stopped { OfOutput (F.seen files.old) self (λ before out records. IfErr result
+            (λ fault. (left : List ℕ) × IsUnfinished (draft_of out records) (patches_of out records) left
+            × Stops fault (with_bytes before out.name left) (F.seen files.new))) }
         ensures fault { IfErr result (λ fault. (fault ≡ Memory) ⊎ (fault ≡ Write)) }
         ensures write { IsErrOf result Write → Rose (F.seen files.old).write_faults (F.seen files.new).write_faults }
         ensures calm { OnOk result (SameFaults (F.seen files.old) (F.seen files.new)) }
+        ensures writes { OnlyWrites (F.seen files.old) (F.seen files.new) }
         ensures later { Later (F.seen files.old) (F.seen files.new) }
     {
         let mut writer = self;
@@ -192,21 +180,18 @@ impl Writer {
         gate: &G,
     ) -> Result<(), Fault>
         requires open { self.failed ≡ false }
-        requires stands { (before : Outside) × (out : Output) × (records : List ℕ)
-            × Stands before (F.seen files.old) self out records }
+        requires stands { HasOutput (F.seen files.old) self }
 
-        ensures stopped { (before : Outside) (out : Output) (records : List ℕ)
-            → Stands before (F.seen files.old) self out records
-            → OnOk result (F.seen files.new ≡ with_bytes before out.name (stopped out records)) }
+        ensures stopped { OfOutput (F.seen files.old) self
+            (λ before out records. OnOk result (F.seen files.new ≡ with_bytes before out.name (stopped out records))) }
 
         // After an error the output holds a prefix of that.
-        ensures broken { (before : Outside) (out : Output) (records : List ℕ)
-            → Stands before (F.seen files.old) self out records
-            → IfErr result (λ fault. (n : ℕ) × Stops fault (with_bytes before out.name (take n (stopped out records)))
-            (F.seen files.new)) }
+        ensures broken { OfOutput (F.seen files.old) self
+            (λ before out records. IfErr result (StopsIn before (F.seen files.new) out.name (stopped out records))) }
         ensures fault { IfErr result (λ fault. (fault ≡ Memory) ⊎ (fault ≡ Write)) }
         ensures write { IsErrOf result Write → Rose (F.seen files.old).write_faults (F.seen files.new).write_faults }
         ensures calm { OnOk result (SameFaults (F.seen files.old) (F.seen files.new)) }
+        ensures writes { OnlyWrites (F.seen files.old) (F.seen files.new) }
         ensures later { Later (F.seen files.old) (F.seen files.new) }
     {
         let mut writer = self;

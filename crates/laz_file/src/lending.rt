@@ -63,7 +63,7 @@ impl Reader {
             result.now ≡ take (size * cut.1) (drop (size * cut.0) block.now) }
     {
         let number = self.batch + i;
-        let (skip, taken) = cut_at(self.ends, number, self.counts[number as usize]);
+        let (skip, taken) = cut_at(self.ends, number, self.points[number as usize]);
         part_of(block, usize::from(self.head.record_length()), skip, taken)
     }
 }

@@ -7,7 +7,7 @@ ghost use Rattle.las_header.specs.Fields.{is_packed, points_of};
 ghost use Rattle.las_header.specs.Refusals.{first_cause};
 ghost use Rattle.las_header.specs.Vlrs.{laszip_vlrs_of};
 ghost use Rattle.las_outside.specs.Files.{WhereKnown};
-ghost use Rattle.las_outside.specs.Outside.{Later};
+ghost use Rattle.las_outside.specs.Frames.{IsCalm, OnlyReads, Reads};
 ghost use Rattle.laz_table.specs.declared.chunks.Blocks.TheVariants.{Fixed, Counted};
 ghost use Rattle.laz_table.specs.VlrCauses.{chunk_size_of, is_counted, vlr_causes};
 ghost use Rattle.laz_file.specs.Asking.{AsksAtMost, asked_for_chunks, asked_for_list, asked_for_table};
@@ -22,13 +22,13 @@ use las_outside::Files;
 use laz_table::{Blocks, COUNTED_CHUNKS, ChunkList, read_vlr};
 use std::alloc::Global;
 
-/// The chunk size of a packed file, and for each chunk its number of records and its number of bytes. A plain file has
+/// The chunk size of a packed file, and for each chunk its number of points and its number of bytes. A plain file has
 /// none.
 #[derive(Drop)]
 pub(crate) struct Listing {
     pub(crate) chunk: Option<u32>,
-    pub(crate) counts: Vec<u32>,
-    pub(crate) sizes: Vec<u32>,
+    pub(crate) points: Vec<u32>,
+    pub(crate) bytes: Vec<u32>,
 }
 
 /// Reads what a file with this head lists of its chunks.
@@ -44,31 +44,29 @@ pub(crate) fn read_list<F: Files>(
     ensures chunk { IfOk result (λ list. list.chunk ≡ chunk_of head.now.bytes) }
     ensures vlr { IfOk result (λ _. is_packed head.now.bytes ≡ true → length (laszip_vlrs_of head.now.bytes) ≡ 1) }
     ensures points { IfOk result
-        (λ list. (chunk : ℕ) → list.chunk ≡ Some chunk → sum list.counts.items ≡ points_of head.now.bytes) }
-    ensures lists { IfOk result (λ list. AreChunkLists list.counts.items list.sizes.items (sum list.sizes.items)) }
-    ensures some { IfOk result (λ list. All (λ n. 0 < n) list.counts.items) }
+        (λ list. (chunk : ℕ) → list.chunk ≡ Some chunk → sum list.points.items ≡ points_of head.now.bytes) }
+    ensures lists { IfOk result (λ list. AreChunkLists list.points.items list.bytes.items (sum list.bytes.items)) }
+    ensures some { IfOk result (λ list. All (λ n. 0 < n) list.points.items) }
     ensures near { IfOk result
-        (λ list. (chunk : ℕ) → list.chunk ≡ Some chunk → length head.now.bytes + 8 + sum list.sizes.items < 2 ^ 64) }
-    ensures plain { IfOk result (λ list. list.chunk ≡ None → list.counts.items ≡ []) }
+        (λ list. (chunk : ℕ) → list.chunk ≡ Some chunk → length head.now.bytes + 8 + sum list.bytes.items < 2 ^ 64) }
+    ensures plain { IfOk result (λ list. list.chunk ≡ None → list.points.items ≡ []) }
     ensures stands { IfOk result (λ list. WhereKnown (F.seen files.old).held name.now
-        (λ file. ListsPieces file list.chunk head.now.bytes list.counts.items list.sizes.items)) }
+        (λ file. ListsPieces file list.chunk head.now.bytes list.points.items list.bytes.items)) }
     ensures refused { (cause : Refusal) → IsErrOf result (Refused cause)
         → WhereKnown (F.seen files.old).held name.now (λ file. IsRefusal file (Some cause)) }
-    ensures faults { OnOk result ((F.seen files.new).read_faults ≡ (F.seen files.old).read_faults) }
+    ensures reads { OnlyReads (F.seen files.old) (F.seen files.new) }
+    ensures calm { OnOk result (IsCalm (F.seen files.old) (F.seen files.new)) }
     ensures ends { IfErr result (EndsReading ⊥ (F.seen files.old) (F.seen files.new)) }
-    ensures held { (F.seen files.new).held ≡ (F.seen files.old).held }
-    ensures writes { (F.seen files.new).write_faults ≡ (F.seen files.old).write_faults }
-    ensures asked { IfOk result (λ list. AsksAtMost (asked_for_list list.chunk (length list.counts.items))
+    ensures asked { IfOk result (λ list. AsksAtMost (asked_for_list list.chunk (length list.points.items))
         (F.seen files.old) (F.seen files.new)) }
     ensures asked_of { WhereKnown (F.seen files.old).held name.now
         (λ file. AsksAtMost (asked_for_table file) (F.seen files.old) (F.seen files.new)) }
-    ensures later { Later (F.seen files.old) (F.seen files.new) }
 {
     if !head.packed() {
         return Ok(Listing {
             chunk: None,
-            counts: Vec::new(alloc),
-            sizes: Vec::new(alloc),
+            points: Vec::new(alloc),
+            bytes: Vec::new(alloc),
         });
     }
     match read_vlr(head) {
@@ -92,24 +90,22 @@ fn read_packed<F: Files>(
     requires chunk { chunk ≡ chunk_size_of head.now.bytes }
     requires head { WhereKnown (F.seen files.old).held name.now (λ file. IsHeadOf file head.now) }
     ensures chunk { IfOk result (λ list. list.chunk ≡ chunk_of head.now.bytes) }
-    ensures points { IfOk result (λ list. sum list.counts.items ≡ points_of head.now.bytes) }
-    ensures some { IfOk result (λ list. All (λ n. 0 < n) list.counts.items) }
-    ensures lists { IfOk result (λ list. AreChunkLists list.counts.items list.sizes.items (sum list.sizes.items)) }
+    ensures points { IfOk result (λ list. sum list.points.items ≡ points_of head.now.bytes) }
+    ensures some { IfOk result (λ list. All (λ n. 0 < n) list.points.items) }
+    ensures lists { IfOk result (λ list. AreChunkLists list.points.items list.bytes.items (sum list.bytes.items)) }
     ensures near { IfOk result
-        (λ list. (chunk : ℕ) → list.chunk ≡ Some chunk → length head.now.bytes + 8 + sum list.sizes.items < 2 ^ 64) }
+        (λ list. (chunk : ℕ) → list.chunk ≡ Some chunk → length head.now.bytes + 8 + sum list.bytes.items < 2 ^ 64) }
     ensures stands { IfOk result (λ list. WhereKnown (F.seen files.old).held name.now
-        (λ file. ListsPieces file list.chunk head.now.bytes list.counts.items list.sizes.items)) }
+        (λ file. ListsPieces file list.chunk head.now.bytes list.points.items list.bytes.items)) }
     ensures refused { (cause : Refusal) → IsErrOf result (Refused cause)
         → WhereKnown (F.seen files.old).held name.now (λ file. IsRefusal file (Some cause)) }
-    ensures faults { OnOk result ((F.seen files.new).read_faults ≡ (F.seen files.old).read_faults) }
+    ensures reads { OnlyReads (F.seen files.old) (F.seen files.new) }
+    ensures calm { OnOk result (IsCalm (F.seen files.old) (F.seen files.new)) }
     ensures ends { IfErr result (EndsReading ⊥ (F.seen files.old) (F.seen files.new)) }
-    ensures held { (F.seen files.new).held ≡ (F.seen files.old).held }
-    ensures writes { (F.seen files.new).write_faults ≡ (F.seen files.old).write_faults }
-    ensures asked { IfOk result (λ list. AsksAtMost (asked_for_chunks (length list.counts.items))
+    ensures asked { IfOk result (λ list. AsksAtMost (asked_for_chunks (length list.points.items))
         (F.seen files.old) (F.seen files.new)) }
     ensures asked_of { WhereKnown (F.seen files.old).held name.now
         (λ file. AsksAtMost (asked_for_table file) (F.seen files.old) (F.seen files.new)) }
-    ensures later { Later (F.seen files.old) (F.seen files.new) }
 {
     let offset = u64::from(head.offset());
     let place = find_table(files, name, offset, size)?;
@@ -118,8 +114,8 @@ fn read_packed<F: Files>(
     let ChunkList { sizes, counts } = read_chunks(alloc, files, name, place, blocks, total)?;
     Ok(Listing {
         chunk: Some(chunk),
-        counts: sizes,
-        sizes: counts,
+        points: sizes,
+        bytes: counts,
     })
 }
 

@@ -4,11 +4,10 @@ ghost use Rattle.std.specs.Prelude.{IfErr, IfOk, IsErrOf, IsSome, OnErr, OnOk};
 ghost use Rattle.las_header.specs.declared.refusal.Refusal.{Refusal};
 ghost use Rattle.las_header.specs.declared.refusal.Refusal.TheVariants.{BadChunk};
 ghost use Rattle.las_header.specs.Fields.{record_length_of};
-ghost use Rattle.las_outside.specs.Files.{WhereKnown};
 ghost use Rattle.las_outside.specs.Outside.{Later};
 ghost use Rattle.laz_file.specs.Asking.{bytes_left};
 ghost use Rattle.laz_file.specs.declared.fault.Fault.TheVariants.{Refused};
-ghost use Rattle.laz_file.specs.Reading.{AreWholeBlocks, EndsReading, IsCrewOf, Lends, StandsFor, batch_size};
+ghost use Rattle.laz_file.specs.Reading.{AreWholeBlocks, EndsReading, IsCrewOf, Lends, OfFile, StandsFor, batch_size};
 ghost use Rattle.laz_file.specs.Records.{HoldOnly, IsBadPiece};
 
 use crate::Fault;
@@ -40,20 +39,20 @@ impl Reader {
     ) -> Result<u32, Fault>
         requires open { self.old.failed ≡ false }
         requires crew { IsCrewOf self.old crew.old }
-        requires stands { WhereKnown (F.seen files.old).held self.old.name (StandsFor self.old) }
+        requires stands { OfFile self.old (F.seen files.old) (StandsFor self.old) }
 
         // The next pieces hold these blocks, and no others, and reader and crew lend them.
         ensures blocks { IfOk result (λ n. (blocks : List (List ℕ)) × (length blocks ≡ n)
             × Lends self.new crew.new blocks
             × AreWholeBlocks (record_length_of self.old.head.bytes) (take n self.old.left) blocks
-            × WhereKnown (F.seen files.old).held self.old.name
+            × OfFile self.old (F.seen files.old)
             (λ file. HoldOnly file (take n self.old.left) blocks)) }
         ensures end { IfOk result (λ n. n ≡ 0 → self.old.left ≡ []) }
 
         // A batch is full, or ends with the records or before a bad chunk.
         ensures most { IfOk result (λ n. n ≤ min (batch_size self.old.chunk (length crew.old)) (length self.old.left)) }
         ensures cut { IfOk result (λ n. n < min (batch_size self.old.chunk (length crew.old)) (length self.old.left)
-            → WhereKnown (F.seen files.old).held self.old.name (λ file. IsBadPiece file self.old.left n)) }
+            → OfFile self.old (F.seen files.old) (λ file. IsBadPiece file self.old.left n)) }
         ensures moved { IfOk result (λ n. self.new ≡ record self.old {
           next = self.old.next + n;
           left = drop n self.old.left;
@@ -61,14 +60,14 @@ impl Reader {
           cuts = self.new.cuts;
           lent = self.new.lent;
         }) }
-        ensures stands { OnOk result (WhereKnown (F.seen files.old).held self.old.name (StandsFor self.new)) }
+        ensures stands { OnOk result (OfFile self.old (F.seen files.old) (StandsFor self.new)) }
         ensures crew { OnOk result (IsCrewOf self.new crew.new) }
         ensures hands { length crew.new ≡ length crew.old }
 
         // A chunk is bad exactly if it is the next one, and holds no records of its count.
         ensures bad { (cause : Refusal) → IsErrOf result (Refused cause) → (cause ≡ BadChunk self.old.next)
             × (0 < length self.old.left)
-            × WhereKnown (F.seen files.old).held self.old.name (λ file. IsBadPiece file self.old.left 0) }
+            × OfFile self.old (F.seen files.old) (λ file. IsBadPiece file self.old.left 0) }
         ensures packed { (cause : Refusal) → IsErrOf result (Refused cause) → IsSome self.old.chunk }
         ensures failed { OnErr result (self.new.failed ≡ true) }
 

@@ -2,10 +2,9 @@
 ghost use Rattle.std.specs.Prelude.{◌≡◌, ℕ, ◌+◌, ◌<◌, ◌≤◌, [], List, None, false, length, min, take, drop, IfErr, IfOk, OnErr, OnOk};
 ghost use Rattle.std.specs.Prelude.{slice_index_or};
 ghost use Rattle.las_header.specs.Fields.{record_length_of};
-ghost use Rattle.las_outside.specs.Files.{WhereKnown};
-ghost use Rattle.las_outside.specs.Outside.{Later};
+ghost use Rattle.las_outside.specs.Frames.{IsCalm, Reads};
 ghost use Rattle.laz_file.specs.Asking.{bytes_left};
-ghost use Rattle.laz_file.specs.Reading.{AreWholeBlocks, FailsReading, StandsFor};
+ghost use Rattle.laz_file.specs.Reading.{AreWholeBlocks, FailsReading, OfFile, StandsFor};
 ghost use Rattle.laz_file.specs.Records.{HoldOnly};
 
 use crate::Fault;
@@ -19,11 +18,11 @@ impl Reader {
     // has read.
     pub(crate) fn next_plain<F: Files>(&mut self, files: &mut F) -> Result<u32, Fault>
         requires plain { self.old.chunk ≡ None }
-        requires stands { WhereKnown (F.seen files.old).held self.old.name (StandsFor self.old) }
+        requires stands { OfFile self.old (F.seen files.old) (StandsFor self.old) }
         ensures blocks { IfOk result (λ n. (blocks : List (List ℕ)) × (length blocks ≡ n)
             × ((k : ℕ) → k < n → slice_index_or blocks k [] ≡ self.new.lent)
             × AreWholeBlocks (record_length_of self.old.head.bytes) (take n self.old.left) blocks
-            × WhereKnown (F.seen files.old).held self.old.name
+            × OfFile self.old (F.seen files.old)
             (λ file. HoldOnly file (take n self.old.left) blocks)) }
         ensures whole { IfOk result (λ n. n ≡ min 1 (length self.old.left)) }
         ensures moved { IfOk result (λ n. self.new ≡ record self.old {
@@ -32,14 +31,11 @@ impl Reader {
           lent = self.new.lent;
         }) }
         ensures fine { self.new.bad ≡ false }
-        ensures faults { OnOk result ((F.seen files.new).read_faults ≡ (F.seen files.old).read_faults) }
+        ensures reads { Reads (bytes_left self.old) (F.seen files.old) (F.seen files.new) }
+        ensures calm { OnOk result (IsCalm (F.seen files.old) (F.seen files.new)) }
         ensures ends { IfErr result (FailsReading (F.seen files.old) (F.seen files.new)) }
-        ensures held { (F.seen files.new).held ≡ (F.seen files.old).held }
-        ensures writes { (F.seen files.new).write_faults ≡ (F.seen files.old).write_faults }
         ensures asked { OnOk result ((F.seen files.new).asked + bytes_left self.new
             ≤ (F.seen files.old).asked + bytes_left self.old) }
-        ensures asked_more { OnErr result ((F.seen files.new).asked ≤ (F.seen files.old).asked + bytes_left self.old) }
-        ensures later { Later (F.seen files.old) (F.seen files.new) }
     {
         if self.records == 0 {
             return Ok(0);

@@ -11,7 +11,7 @@ ghost use Rattle.las_header.specs.Numbers.{number_at};
 ghost use Rattle.las_header.specs.Refusals.{causes_of, first_cause, front_causes};
 ghost use Rattle.las_header.specs.Vlrs.{laszip_vlrs_of};
 ghost use Rattle.las_outside.specs.Files.{IsMissing, WhereKnown};
-ghost use Rattle.las_outside.specs.Outside.{Later};
+ghost use Rattle.las_outside.specs.Frames.{IsCalm, OnlyReads, Reads};
 ghost use Rattle.laz_table.specs.declared.chunks.Blocks.{Blocks};
 ghost use Rattle.laz_table.specs.Chunks.{HasChunkSize, IsAccepted, IsFirstFault, table_causes};
 ghost use Rattle.laz_table.specs.declared.limits.TheConstants.{MAX_CHUNKS, MAX_CHUNK_BYTES, MIN_TABLE_BYTES};
@@ -50,17 +50,15 @@ pub(crate) fn read_head<F: Files>(
     ensures plain { IfOk result (λ r. is_packed r.0.bytes ≡ false → laszip_vlrs_of r.0.bytes ≡ []) }
     ensures refused { (cause : Refusal) → IsErrOf result (Refused cause)
         → WhereKnown (F.seen files.old).held name.now (λ file. first_cause (causes_of file) ≡ Some cause) }
-    ensures faults { OnOk result ((F.seen files.new).read_faults ≡ (F.seen files.old).read_faults) }
+    ensures reads { OnlyReads (F.seen files.old) (F.seen files.new) }
+    ensures calm { OnOk result (IsCalm (F.seen files.old) (F.seen files.new)) }
     ensures ends { IfErr result
         (EndsReading (IsMissing (F.seen files.old).held name.now) (F.seen files.old) (F.seen files.new)) }
-    ensures held { (F.seen files.new).held ≡ (F.seen files.old).held }
-    ensures writes { (F.seen files.new).write_faults ≡ (F.seen files.old).write_faults }
     ensures asked { IfOk result (λ r. AsksAtMost (length r.0.bytes) (F.seen files.old) (F.seen files.new)) }
     ensures asked_of { (IsMissing (F.seen files.old).held name.now → ⊥) → WhereKnown (F.seen files.old).held name.now
         (λ file. AsksAtMost (asked_for_head file) (F.seen files.old) (F.seen files.new)) }
     ensures missing { IsMissing (F.seen files.old).held name.now
         → (F.seen files.new).asked ≡ (F.seen files.old).asked }
-    ensures later { Later (F.seen files.old) (F.seen files.new) }
 {
     let Ok(size) = files.size(name) else {
         return Err(Fault::Read);
@@ -91,12 +89,9 @@ fn read_front<F: Files>(
         (WhereKnown (F.seen files.old).held name.now (λ file. bytes.new.items ≡ take 227 file)) }
     ensures refused { (cause : Refusal) → IsErrOf result (Refused cause)
         → WhereKnown (F.seen files.old).held name.now (λ file. first_cause (front_causes file size) ≡ Some cause) }
-    ensures faults { OnOk result ((F.seen files.new).read_faults ≡ (F.seen files.old).read_faults) }
+    ensures reads { Reads 227 (F.seen files.old) (F.seen files.new) }
+    ensures calm { OnOk result (IsCalm (F.seen files.old) (F.seen files.new)) }
     ensures ends { IfErr result (EndsReading ⊥ (F.seen files.old) (F.seen files.new)) }
-    ensures held { (F.seen files.new).held ≡ (F.seen files.old).held }
-    ensures writes { (F.seen files.new).write_faults ≡ (F.seen files.old).write_faults }
-    ensures asked { AsksAtMost 227 (F.seen files.old) (F.seen files.new) }
-    ensures later { Later (F.seen files.old) (F.seen files.new) }
 {
     let most = size.min(HEADER_BLOCK as u64) as usize;
     read_on(files, name, 0, bytes, most)?;
@@ -122,12 +117,9 @@ pub(crate) fn find_table<F: Files>(
         (λ place. (offset + 8 ≤ place.start) × (place.start ≤ place.end) × (place.end ≤ size)) }
     ensures refused { (cause : Refusal) → IsErrOf result (Refused cause) → (cause ≡ TablePointer)
         × WhereKnown (F.seen files.old).held name.now (λ file. has_bad_pointer file ≡ true) }
-    ensures faults { OnOk result ((F.seen files.new).read_faults ≡ (F.seen files.old).read_faults) }
+    ensures reads { Reads 16 (F.seen files.old) (F.seen files.new) }
+    ensures calm { OnOk result (IsCalm (F.seen files.old) (F.seen files.new)) }
     ensures ends { IfErr result (EndsReading ⊥ (F.seen files.old) (F.seen files.new)) }
-    ensures held { (F.seen files.new).held ≡ (F.seen files.old).held }
-    ensures writes { (F.seen files.new).write_faults ≡ (F.seen files.old).write_faults }
-    ensures asked { AsksAtMost 16 (F.seen files.old) (F.seen files.new) }
-    ensures later { Later (F.seen files.old) (F.seen files.new) }
 {
     if size < offset + 8 {
         return Err(Fault::Refused(Refusal::TablePointer));
@@ -177,15 +169,13 @@ pub(crate) fn read_chunks<F: Files>(
     ensures refused { (cause : Refusal) → IsErrOf result (Refused cause)
         → WhereKnown (F.seen files.old).held name.now
         (λ file. IsFirst (table_causes (drop place.start (take place.end file)) blocks total) (Some cause)) }
-    ensures faults { OnOk result ((F.seen files.new).read_faults ≡ (F.seen files.old).read_faults) }
+    ensures reads { OnlyReads (F.seen files.old) (F.seen files.new) }
+    ensures calm { OnOk result (IsCalm (F.seen files.old) (F.seen files.new)) }
     ensures ends { IfErr result (EndsReading ⊥ (F.seen files.old) (F.seen files.new)) }
-    ensures held { (F.seen files.new).held ≡ (F.seen files.old).held }
-    ensures writes { (F.seen files.new).write_faults ≡ (F.seen files.old).write_faults }
     ensures asked { IfOk result (λ list. AsksAtMost (MIN_TABLE_BYTES + MAX_CHUNK_BYTES * length list.sizes.items)
         (F.seen files.old) (F.seen files.new)) }
     ensures asked_of { WhereKnown (F.seen files.old).held name.now (λ file.
         AsksAtMost (table_size (drop place.start (take place.end file))) (F.seen files.old) (F.seen files.new)) }
-    ensures later { Later (F.seen files.old) (F.seen files.new) }
 {
     let bytes = read_table_front(alloc, files, name, place)?;
     match read_table(alloc, &bytes, blocks, total) {
@@ -205,15 +195,13 @@ fn read_table_front<F: Files>(
     requires within { WhereKnown (F.seen files.old).held name.now (λ file. place.end ≤ length file) }
     ensures bytes { IfOk result (λ bytes. WhereKnown (F.seen files.old).held name.now (λ file.
         let part = drop place.start (take place.end file) in bytes.items ≡ take (table_size part) part)) }
-    ensures faults { OnOk result ((F.seen files.new).read_faults ≡ (F.seen files.old).read_faults) }
+    ensures reads { OnlyReads (F.seen files.old) (F.seen files.new) }
+    ensures calm { OnOk result (IsCalm (F.seen files.old) (F.seen files.new)) }
     ensures ends { IfErr result (FailsReading (F.seen files.old) (F.seen files.new)) }
-    ensures held { (F.seen files.new).held ≡ (F.seen files.old).held }
-    ensures writes { (F.seen files.new).write_faults ≡ (F.seen files.old).write_faults }
     ensures asked { IfOk result (λ bytes. AsksAtMost (length bytes.items) (F.seen files.old) (F.seen files.new)) }
     ensures asked_of { WhereKnown (F.seen files.old).held name.now (λ file.
         AsksAtMost (table_size (drop place.start (take place.end file))) (F.seen files.old) (F.seen files.new)) }
     ensures short { IfOk result (λ bytes. length bytes.items ≤ table_size bytes.items) }
-    ensures later { Later (F.seen files.old) (F.seen files.new) }
 {
     let long = place.end - place.start;
     let mut bytes = Vec::new(alloc);

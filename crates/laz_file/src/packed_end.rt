@@ -1,12 +1,13 @@
 //! The end of a packed output: the last block, and the chunk table.
 ghost use Rattle.std.specs.Prelude.{◌≡◌, ◌↔◌, ◌+◌, ◌*◌, ◌%◌, ◌^◌, ◌<◌, ◌≤◌, ◌++◌, [], ℕ, List, length, map, sum};
-ghost use Rattle.std.specs.Prelude.{take, OnOk};
+ghost use Rattle.std.specs.Prelude.{OnOk};
 ghost use Rattle.std.specs.Prelude.{IfOk, IfErr, IsTrue};
-ghost use Rattle.las_outside.specs.Outside.{Later, Outside, with_bytes};
+ghost use Rattle.las_outside.specs.Frames.{OnlyWrites};
+ghost use Rattle.las_outside.specs.Outside.{Outside, with_bytes};
 ghost use Rattle.laz_table.specs.Table.{table_bytes};
 ghost use Rattle.laz_file.specs.Packing.{blocks_of};
-ghost use Rattle.laz_file.specs.Writing.{PackedStands, Stops, block_size, chunks, every_chunk, packed_text};
-ghost use Rattle.laz_file.specs.Writing.{record_size};
+ghost use Rattle.laz_file.specs.Writing.{OfPacked, PackedStands, StopsIn, block_size, chunks, every_chunk};
+ghost use Rattle.laz_file.specs.Writing.{packed_text, record_size};
 
 use crate::Fault;
 use crate::packing::Packing;
@@ -52,19 +53,17 @@ impl Packing {
         requires stands { (before : Outside) × (front : List ℕ) × (records : List ℕ)
             × PackedStands before (F.seen files.old) name.now front self.old records
             × (length records % record_size self.old.plan ≡ 0) }
-        ensures appended { (before : Outside) (front records : List ℕ)
-            → PackedStands before (F.seen files.old) name.now front self.old records
-            → OnOk result (F.seen files.new ≡ with_bytes before name.now (front ++ every_chunk self.old.plan records)) }
-        ensures lengths { (before : Outside) (front records : List ℕ)
-            → PackedStands before (F.seen files.old) name.now front self.old records
-            → OnOk result (self.new.lengths ≡ map (λ chunk. length chunk)
-            (chunks self.old.plan.format (blocks_of (block_size self.old.plan) records))) }
-        ensures stopped { (before : Outside) (front records : List ℕ)
-            → PackedStands before (F.seen files.old) name.now front self.old records
-            → IfErr result (λ fault. (n : ℕ) × Stops fault
-            (with_bytes before name.now (take n (front ++ every_chunk self.old.plan records))) (F.seen files.new)) }
+        ensures appended { OfPacked (F.seen files.old) name.now self.old
+            (λ before front records. OnOk result (F.seen files.new
+            ≡ with_bytes before name.now (front ++ every_chunk self.old.plan records))) }
+        ensures lengths { OfPacked (F.seen files.old) name.now self.old
+            (λ before front records. OnOk result (self.new.lengths ≡ map
+            (λ chunk. length chunk) (chunks self.old.plan.format (blocks_of (block_size self.old.plan) records)))) }
+        ensures stopped { OfPacked (F.seen files.old) name.now self.old
+            (λ before front records. IfErr result (StopsIn before (F.seen files.new) name.now
+            (front ++ every_chunk self.old.plan records))) }
         ensures plan { self.new.plan ≡ self.old.plan }
-        ensures later { Later (F.seen files.old) (F.seen files.new) }
+        ensures writes { OnlyWrites (F.seen files.old) (F.seen files.new) }
     {
         self.keep_rest()?;
         self.append_kept(rt, alloc, files, gate, name)?;
@@ -106,20 +105,17 @@ impl Packing {
         requires stands { (before : Outside) × (front : List ℕ) × (records : List ℕ)
             × PackedStands before (F.seen files.old) name.now front self.old records
             × (length records % record_size self.old.plan ≡ 0) }
-        ensures appended { (before : Outside) (front records : List ℕ)
-            → PackedStands before (F.seen files.old) name.now front self.old records
-            → OnOk result (F.seen files.new ≡ with_bytes before name.now (front ++ packed_text self.old.plan records)) }
-        ensures place { (before : Outside) (front records : List ℕ)
-            → PackedStands before (F.seen files.old) name.now front self.old records
-            → IfOk result (λ r. r.0 ≡ self.old.plan.pointer + 8 + length (every_chunk self.old.plan records)) }
-        ensures end { (before : Outside) (front records : List ℕ)
-            → PackedStands before (F.seen files.old) name.now front self.old records
-            → IfOk result (λ r. r.1 ≡ self.old.plan.pointer + 8 + length (packed_text self.old.plan records)) }
-        ensures stopped { (before : Outside) (front records : List ℕ)
-            → PackedStands before (F.seen files.old) name.now front self.old records
-            → IfErr result (λ fault. (n : ℕ) × Stops fault
-            (with_bytes before name.now (take n (front ++ packed_text self.old.plan records))) (F.seen files.new)) }
-        ensures later { Later (F.seen files.old) (F.seen files.new) }
+        ensures appended { OfPacked (F.seen files.old) name.now self.old
+            (λ before front records. OnOk result (F.seen files.new
+            ≡ with_bytes before name.now (front ++ packed_text self.old.plan records))) }
+        ensures place { OfPacked (F.seen files.old) name.now self.old (λ before front records. IfOk result
+            (λ r. r.0 ≡ self.old.plan.pointer + 8 + length (every_chunk self.old.plan records))) }
+        ensures end { OfPacked (F.seen files.old) name.now self.old (λ before front records. IfOk result
+            (λ r. r.1 ≡ self.old.plan.pointer + 8 + length (packed_text self.old.plan records))) }
+        ensures stopped { OfPacked (F.seen files.old) name.now self.old
+            (λ before front records. IfErr result (StopsIn before (F.seen files.new) name.now
+            (front ++ packed_text self.old.plan records))) }
+        ensures writes { OnlyWrites (F.seen files.old) (F.seen files.new) }
     {
         self.append_rest(rt, alloc, files, gate, name)?;
         let place = self.table_place();

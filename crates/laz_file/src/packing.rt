@@ -1,11 +1,11 @@
 //! The packing of an output: records that become chunks.
 ghost use Rattle.std.specs.Prelude.{◌≡◌, ◌+◌, ◌*◌, ◌<◌, ◌≤◌, ◌++◌, ◌∷◌, [], ℕ, List, length, map, take, All, OnOk};
 ghost use Rattle.std.specs.Prelude.{IfOk, IfErr, IsTrue, ◌↔◌};
-ghost use Rattle.las_outside.specs.Outside.{Later, Outside, with_bytes};
+ghost use Rattle.las_outside.specs.Frames.{OnlyWrites};
+ghost use Rattle.las_outside.specs.Outside.{Outside, with_bytes};
 ghost use Rattle.laz_file.specs.Packing.{blocks_of};
-ghost use Rattle.laz_file.specs.Writing.{IsBlock, PackedStands, Stops, Took, all_chunks, block_size, chunks};
-ghost use Rattle.laz_file.specs.Writing.{every_chunk};
-ghost use Rattle.laz_file.specs.Writing.{full_chunks, record_size};
+ghost use Rattle.laz_file.specs.Writing.{HasText, IsBlock, OfPacked, OfText, PackedStands, StopsAfter, StopsIn, Took};
+ghost use Rattle.laz_file.specs.Writing.{all_chunks, block_size, chunks, full_chunks, record_size};
 
 use crate::Fault;
 use crate::batch::work_batch;
@@ -140,20 +140,19 @@ impl Packing {
     ) -> Result<(), Fault>
         requires blocks { All (IsBlock self.old.plan) self.old.kept }
         requires few { length self.old.kept ≤ 2 * self.old.plan.workers }
-        requires held { (before : Outside) × (text : List ℕ) × (F.seen files.old ≡ with_bytes before name.now text) }
-        ensures added { (before : Outside) (text : List ℕ) → F.seen files.old ≡ with_bytes before name.now text
-            → OnOk result (F.seen files.new
-            ≡ with_bytes before name.now (text ++ all_chunks self.old.plan.format self.old.kept)) }
-        ensures stopped { (before : Outside) (text : List ℕ) → F.seen files.old ≡ with_bytes before name.now text
-            → IfErr result (λ fault. (n : ℕ) × Stops fault
-            (with_bytes before name.now (text ++ take n (all_chunks self.old.plan.format self.old.kept)))
-            (F.seen files.new)) }
+        requires held { HasText (F.seen files.old) name.now }
+        ensures added { OfText (F.seen files.old) name.now
+            (λ before text. OnOk result (F.seen files.new ≡ with_bytes before name.now
+            (text ++ all_chunks self.old.plan.format self.old.kept))) }
+        ensures stopped { OfText (F.seen files.old) name.now
+            (λ before text. IfErr result (StopsAfter before (F.seen files.new) name.now text
+            (all_chunks self.old.plan.format self.old.kept))) }
         ensures packing { OnOk result (self.new ≡ record self.old {
           lengths = self.old.lengths ++ map (λ chunk. length chunk) (chunks self.old.plan.format self.old.kept);
           kept = [];
         }) }
         ensures plan { self.new.plan ≡ self.old.plan }
-        ensures later { Later (F.seen files.old) (F.seen files.new) }
+        ensures writes { OnlyWrites (F.seen files.old) (F.seen files.new) }
     {
         work_batch(
             rt,
@@ -203,16 +202,15 @@ impl Packing {
         requires few { length self.old.kept ≤ 2 * self.old.plan.workers }
         requires stands { (before : Outside) × (front : List ℕ) × (bytes : List ℕ)
             × PackedStands before (F.seen files.old) name.now front self.old bytes }
-        ensures stands { (before : Outside) (front bytes : List ℕ)
-            → PackedStands before (F.seen files.old) name.now front self.old bytes
-            → OnOk result (PackedStands before (F.seen files.new) name.now front self.new bytes) }
-        ensures stopped { (before : Outside) (front bytes : List ℕ)
-            → PackedStands before (F.seen files.old) name.now front self.old bytes
-            → IfErr result (λ fault. (n : ℕ) × Stops fault
-            (with_bytes before name.now (take n (front ++ full_chunks self.old.plan bytes))) (F.seen files.new)) }
+        ensures stands { OfPacked (F.seen files.old) name.now self.old
+            (λ before front bytes. OnOk result (PackedStands before
+            (F.seen files.new) name.now front self.new bytes)) }
+        ensures stopped { OfPacked (F.seen files.old) name.now self.old
+            (λ before front bytes. IfErr result (StopsIn before (F.seen files.new) name.now
+            (front ++ full_chunks self.old.plan bytes))) }
         ensures few { OnOk result (length self.new.kept < 2 * self.new.plan.workers) }
         ensures plan { self.new.plan ≡ self.old.plan }
-        ensures later { Later (F.seen files.old) (F.seen files.new) }
+        ensures writes { OnlyWrites (F.seen files.old) (F.seen files.new) }
     {
         if self.is_full() {
             return self.append_kept(rt, alloc, files, gate, name);
@@ -234,19 +232,16 @@ impl Packing {
         requires stands { (before : Outside) × (front : List ℕ) × (bytes : List ℕ)
             × PackedStands before (F.seen files.old) name.now front self.old bytes
             × (length bytes + length records.now ≤ record_size self.old.plan * self.old.plan.most) }
-        ensures stands { (before : Outside) (front bytes : List ℕ)
-            → PackedStands before (F.seen files.old) name.now front self.old bytes
-            → length bytes + length records.now ≤ record_size self.old.plan * self.old.plan.most
-            → OnOk result (PackedStands before (F.seen files.new) name.now front self.new (bytes ++ records.now)) }
-        ensures stopped { (before : Outside) (front bytes : List ℕ)
-            → PackedStands before (F.seen files.old) name.now front self.old bytes
-            → length bytes + length records.now ≤ record_size self.old.plan * self.old.plan.most
-            → IfErr result (λ fault. (n : ℕ) × Stops fault
-            (with_bytes before name.now (take n (front ++ full_chunks self.old.plan (bytes ++ records.now))))
-            (F.seen files.new)) }
+        ensures stands { OfPacked (F.seen files.old) name.now self.old
+            (λ before front bytes. length bytes + length records.now ≤ record_size self.old.plan * self.old.plan.most
+            → OnOk result (PackedStands before (F.seen files.new) name.now front self.new (bytes ++ records.now))) }
+        ensures stopped { OfPacked (F.seen files.old) name.now self.old
+            (λ before front bytes. length bytes + length records.now ≤ record_size self.old.plan * self.old.plan.most
+            → IfErr result (StopsIn before (F.seen files.new) name.now (front ++ full_chunks self.old.plan
+            (bytes ++ records.now)))) }
         ensures few { OnOk result (length self.new.kept < 2 * self.new.plan.workers) }
         ensures plan { self.new.plan ≡ self.old.plan }
-        ensures later { Later (F.seen files.old) (F.seen files.new) }
+        ensures writes { OnlyWrites (F.seen files.old) (F.seen files.new) }
     {
         let mut at = 0;
         while at < records.len() {
@@ -271,19 +266,17 @@ impl Packing {
         requires stands { (before : Outside) × (front : List ℕ) × (bytes : List ℕ)
             × PackedStands before (F.seen files.old) name.now front self.old bytes
             × (length bytes + length block.old.items ≤ record_size self.old.plan * self.old.plan.most) }
-        ensures stands { (before : Outside) (front bytes : List ℕ)
-            → PackedStands before (F.seen files.old) name.now front self.old bytes
-            → length bytes + length block.old.items ≤ record_size self.old.plan * self.old.plan.most
-            → OnOk result (PackedStands before (F.seen files.new) name.now front self.new (bytes ++ block.old.items)) }
-        ensures stopped { (before : Outside) (front bytes : List ℕ)
-            → PackedStands before (F.seen files.old) name.now front self.old bytes
-            → length bytes + length block.old.items ≤ record_size self.old.plan * self.old.plan.most
-            → IfErr result (λ fault. (n : ℕ) × Stops fault
-            (with_bytes before name.now (take n (front ++ full_chunks self.old.plan (bytes ++ block.old.items))))
-            (F.seen files.new)) }
+        ensures stands { OfPacked (F.seen files.old) name.now self.old
+            (λ before front bytes. length bytes + length block.old.items ≤ record_size self.old.plan *
+            self.old.plan.most → OnOk result (PackedStands before (F.seen files.new) name.now front self.new
+            (bytes ++ block.old.items))) }
+        ensures stopped { OfPacked (F.seen files.old) name.now self.old
+            (λ before front bytes. length bytes + length block.old.items ≤ record_size self.old.plan *
+            self.old.plan.most → IfErr result (StopsIn before (F.seen files.new) name.now
+            (front ++ full_chunks self.old.plan (bytes ++ block.old.items)))) }
         ensures few { OnOk result (length self.new.kept < 2 * self.new.plan.workers) }
         ensures plan { self.new.plan ≡ self.old.plan }
-        ensures later { Later (F.seen files.old) (F.seen files.new) }
+        ensures writes { OnlyWrites (F.seen files.old) (F.seen files.new) }
     {
         if !self.takes_whole(block) {
             return self.add(rt, alloc, files, gate, name, block);

@@ -2,8 +2,9 @@
 ghost use Rattle.std.specs.Prelude.{◌≡◌, ◌+◌, ◌≤◌, ◌++◌, ◌∷◌, [], ℕ, List, length, take, All, OnOk, IfErr};
 ghost use Rattle.las_outside.specs.Drafts.{IsPatchedInPart, with_patches};
 ghost use Rattle.las_outside.specs.Files.{with_patch};
-ghost use Rattle.las_outside.specs.Outside.{Later, Outside, with_bytes};
-ghost use Rattle.laz_file.specs.Writing.{Stops};
+ghost use Rattle.las_outside.specs.Frames.{OnlyWrites};
+ghost use Rattle.las_outside.specs.Outside.{Outside, with_bytes};
+ghost use Rattle.laz_file.specs.Writing.{OfText, Stops};
 
 use crate::Fault;
 use las_outside::Files;
@@ -46,12 +47,13 @@ pub(crate) fn add_patch(
 fn put_patch<F: Files>(files: &mut F, name: &str, patch: &Patch) -> Result<(), Fault>
     requires held { (before : Outside) × (text : List ℕ) × (F.seen files.old ≡ with_bytes before name.now text)
         × (patch.now.0 + length patch.now.1 ≤ length text) }
-    ensures replaced { (before : Outside) (text : List ℕ) → F.seen files.old ≡ with_bytes before name.now text
-        → OnOk result (F.seen files.new ≡ with_bytes before name.now (with_patch text patch.now.0 patch.now.1)) }
-    ensures stopped { (before : Outside) (text : List ℕ) → F.seen files.old ≡ with_bytes before name.now text
-        → IfErr result (λ fault. (n : ℕ) × Stops fault
-        (with_bytes before name.now (with_patch text patch.now.0 (take n patch.now.1))) (F.seen files.new)) }
-    ensures later { Later (F.seen files.old) (F.seen files.new) }
+    ensures replaced { OfText (F.seen files.old) name.now
+        (λ before text. OnOk result (F.seen files.new ≡ with_bytes before name.now
+        (with_patch text patch.now.0 patch.now.1))) }
+    ensures stopped { OfText (F.seen files.old) name.now (λ before text. IfErr result
+        (λ fault. (n : ℕ) × Stops fault (with_bytes before name.now (with_patch text patch.now.0 (take n patch.now.1)))
+        (F.seen files.new))) }
+    ensures writes { OnlyWrites (F.seen files.old) (F.seen files.new) }
 {
     match files.patch(name, patch.at, patch.bytes.as_slice()) {
         Ok(()) => Ok(()),
@@ -63,14 +65,14 @@ fn put_patch<F: Files>(files: &mut F, name: &str, patch: &Patch) -> Result<(), F
 pub(crate) fn patch_all<F: Files>(files: &mut F, name: &str, patches: &[Patch]) -> Result<(), Fault>
     requires held { (before : Outside) × (text : List ℕ) × (F.seen files.old ≡ with_bytes before name.now text)
         × All (λ patch. patch.0 + length patch.1 ≤ length text) patches.now }
-    ensures patched { (before : Outside) (text : List ℕ) → F.seen files.old ≡ with_bytes before name.now text
-        → All (λ patch. patch.0 + length patch.1 ≤ length text) patches.now
-        → OnOk result (F.seen files.new ≡ with_bytes before name.now (with_patches text patches.now)) }
-    ensures stopped { (before : Outside) (text : List ℕ) → F.seen files.old ≡ with_bytes before name.now text
-        → All (λ patch. patch.0 + length patch.1 ≤ length text) patches.now
+    ensures patched { OfText (F.seen files.old) name.now (λ before text. All
+        (λ patch. patch.0 + length patch.1 ≤ length text) patches.now
+        → OnOk result (F.seen files.new ≡ with_bytes before name.now (with_patches text patches.now))) }
+    ensures stopped { OfText (F.seen files.old) name.now (λ before text. All
+        (λ patch. patch.0 + length patch.1 ≤ length text) patches.now
         → IfErr result (λ fault. (left : List ℕ) × IsPatchedInPart text patches.now left
-        × Stops fault (with_bytes before name.now left) (F.seen files.new)) }
-    ensures later { Later (F.seen files.old) (F.seen files.new) }
+        × Stops fault (with_bytes before name.now left) (F.seen files.new))) }
+    ensures writes { OnlyWrites (F.seen files.old) (F.seen files.new) }
 {
     for patch in patches {
         put_patch(files, name, patch)?;

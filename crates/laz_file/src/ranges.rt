@@ -41,7 +41,7 @@ impl Reader {
                 self.records = stop - start;
             }
             Some(_) => {
-                let sought = seek(&self.counts, &self.sizes, offset + 8, start, stop);
+                let sought = seek(&self.points, &self.bytes, offset + 8, start, stop);
                 self.ends = sought.ends;
                 self.next = sought.ends.first;
                 self.batch = sought.ends.first;

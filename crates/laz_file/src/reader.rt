@@ -34,10 +34,10 @@ pub struct Reader {
     // The places of the records that are read.
     pub(crate) start: u32,
     pub(crate) stop: u32,
-    // Of a packed file: the numbers of records and of bytes of its chunks; which of them are read; the number of the
+    // Of a packed file: the numbers of points and of bytes of its chunks; which of them are read; the number of the
     // next one, of the first one of the last batch, and whether the next one is known to be bad.
-    pub(crate) counts: Vec<u32>,
-    pub(crate) sizes: Vec<u32>,
+    pub(crate) points: Vec<u32>,
+    pub(crate) bytes: Vec<u32>,
     pub(crate) ends: Ends,
     pub(crate) next: u32,
     pub(crate) batch: u32,
@@ -67,7 +67,7 @@ impl Model for Reader {
       name = string_bytes r.name;
       head = r.head;
       chunk = r.chunk;
-      pieces = pieces_from (length r.head.bytes + 8) r.counts.items r.sizes.items;
+      pieces = pieces_from (length r.head.bytes + 8) r.points.items r.bytes.items;
       range = record { start = r.start; stop = r.stop };
       first = r.ends.first;
       next = r.next + r.blocks;
@@ -79,15 +79,15 @@ impl Model for Reader {
         next = r.next;
         batch = r.batch;
         bad = r.bad;
-      }) r.counts.items r.sizes.items;
+      }) r.points.items r.bytes.items;
       bad = r.bad;
       failed = r.failed;
       buffers = length r.inputs.items;
-      cuts = cuts_from r.ends r.batch (take (r.next - r.batch) (drop r.batch r.counts.items));
+      cuts = cuts_from r.ends r.batch (take (r.next - r.batch) (drop r.batch r.points.items));
       lent = r.block.items;
     } };
 
-    ghost invariant = { λ r. AreListed r.chunk (length r.head.bytes) (points_of r.head.bytes) r.counts.items r.sizes.items
+    ghost invariant = { λ r. AreListed r.chunk (length r.head.bytes) (points_of r.head.bytes) r.points.items r.bytes.items
         × IsInPlace (record_length_of r.head.bytes) (record {
           at = r.place;
           blocks = r.blocks;
@@ -96,7 +96,7 @@ impl Model for Reader {
           next = r.next;
           batch = r.batch;
           bad = r.bad;
-        }) r.counts.items r.sizes.items };
+        }) r.points.items r.bytes.items };
 }
 
 impl Reader {
@@ -136,20 +136,20 @@ impl Reader {
 
     // A new reader of a file with this head and these chunks.
     fn of(alloc: Global, name: String, head: Head, list: Listing) -> Reader
-        requires lists { AreChunkLists list.counts.items list.sizes.items (sum list.sizes.items) }
-        requires near { (chunk : ℕ) → list.chunk ≡ Some chunk → length head.bytes + 8 + sum list.sizes.items < 2 ^ 64 }
-        requires some { All (λ n. 0 < n) list.counts.items }
-        requires points { (chunk : ℕ) → list.chunk ≡ Some chunk → sum list.counts.items ≡ points_of head.bytes }
-        requires plain { list.chunk ≡ None → list.counts.items ≡ [] }
+        requires lists { AreChunkLists list.points.items list.bytes.items (sum list.bytes.items) }
+        requires near { (chunk : ℕ) → list.chunk ≡ Some chunk → length head.bytes + 8 + sum list.bytes.items < 2 ^ 64 }
+        requires some { All (λ n. 0 < n) list.points.items }
+        requires points { (chunk : ℕ) → list.chunk ≡ Some chunk → sum list.points.items ≡ points_of head.bytes }
+        requires plain { list.chunk ≡ None → list.points.items ≡ [] }
         ensures { result ≡ record {
           name = string_bytes name;
           head = head;
           chunk = list.chunk;
-          pieces = pieces_from (length head.bytes + 8) list.counts.items list.sizes.items;
+          pieces = pieces_from (length head.bytes + 8) list.points.items list.bytes.items;
           range = whole_range head.bytes;
           first = 0;
           next = 0;
-          left = pieces_listed list.chunk head.bytes list.counts.items list.sizes.items;
+          left = pieces_listed list.chunk head.bytes list.points.items list.bytes.items;
           bad = false;
           failed = false;
           buffers = 0;
@@ -163,15 +163,15 @@ impl Reader {
             None => (offset, points),
             Some(_) => (offset + 8, 0),
         };
-        let ends = Ends::all(&list.counts);
+        let ends = Ends::all(&list.points);
         Reader {
             name,
             head,
             chunk: list.chunk,
             start: 0,
             stop: points,
-            counts: list.counts,
-            sizes: list.sizes,
+            points: list.points,
+            bytes: list.bytes,
             ends,
             next: 0,
             batch: 0,
@@ -211,7 +211,7 @@ impl Reader {
     pub fn chunks(&self) -> u32
         ensures { result ≡ length self.now.pieces }
     {
-        self.counts.len() as u32
+        self.points.len() as u32
     }
 
     /// Whether a call has failed. A reader that has failed is not asked for more.

@@ -2,8 +2,7 @@
 ghost use Rattle.std.specs.Prelude.{◌≡◌, ◌+◌, ◌-◌, ◌^◌, ◌<◌, ◌≤◌, length, take, drop, vec_len, IfErr, IfOk, OnOk};
 ghost use Rattle.las_header.specs.Numbers.{number_at};
 ghost use Rattle.las_outside.specs.Files.{WhereKnown};
-ghost use Rattle.las_outside.specs.Outside.{Later};
-ghost use Rattle.laz_file.specs.Asking.{AsksAtMost};
+ghost use Rattle.las_outside.specs.Frames.{IsCalm, Reads};
 ghost use Rattle.laz_file.specs.Reading.{FailsReading};
 
 use crate::Fault;
@@ -25,12 +24,9 @@ pub(crate) fn read_on<F: Files>(
     ensures front { OnOk result (take (vec_len bytes.old) bytes.new.items ≡ bytes.old.items) }
     ensures bytes { OnOk result (WhereKnown (F.seen files.old).held name.now (λ file.
         bytes.old.items ≡ take (vec_len bytes.old) (drop from file) → bytes.new.items ≡ take total (drop from file))) }
-    ensures faults { OnOk result ((F.seen files.new).read_faults ≡ (F.seen files.old).read_faults) }
+    ensures reads { Reads (total - vec_len bytes.old) (F.seen files.old) (F.seen files.new) }
+    ensures calm { OnOk result (IsCalm (F.seen files.old) (F.seen files.new)) }
     ensures ends { IfErr result (FailsReading (F.seen files.old) (F.seen files.new)) }
-    ensures held { (F.seen files.new).held ≡ (F.seen files.old).held }
-    ensures writes { (F.seen files.new).write_faults ≡ (F.seen files.old).write_faults }
-    ensures asked { AsksAtMost (total - vec_len bytes.old) (F.seen files.old) (F.seen files.new) }
-    ensures later { Later (F.seen files.old) (F.seen files.new) }
 {
     let start = bytes.len();
     bytes.resize(total, 0)?;
@@ -51,12 +47,9 @@ fn fill_from<F: Files>(
     ensures front { OnOk result (take start bytes.new ≡ take start bytes.old) }
     ensures bytes { OnOk result (WhereKnown (F.seen files.old).held name.now (λ file.
         drop start bytes.new ≡ take (length bytes.old - start) (drop (from + start) file))) }
-    ensures faults { OnOk result ((F.seen files.new).read_faults ≡ (F.seen files.old).read_faults) }
+    ensures reads { Reads (length bytes.old - start) (F.seen files.old) (F.seen files.new) }
+    ensures calm { OnOk result (IsCalm (F.seen files.old) (F.seen files.new)) }
     ensures ends { IfErr result (FailsReading (F.seen files.old) (F.seen files.new)) }
-    ensures held { (F.seen files.new).held ≡ (F.seen files.old).held }
-    ensures writes { (F.seen files.new).write_faults ≡ (F.seen files.old).write_faults }
-    ensures asked { AsksAtMost (length bytes.old - start) (F.seen files.old) (F.seen files.new) }
-    ensures later { Later (F.seen files.old) (F.seen files.new) }
 {
     let (_, rest) = bytes.split_at_mut(start);
     read_exactly(files, name, from + start as u64, rest)
@@ -72,12 +65,9 @@ pub(crate) fn read_exactly<F: Files>(
     requires { WhereKnown (F.seen files.old).held name.now (λ file. at + length bytes.old ≤ length file) }
     ensures bytes { OnOk result (WhereKnown (F.seen files.old).held name.now
         (λ file. bytes.new ≡ take (length bytes.old) (drop at file))) }
-    ensures faults { OnOk result ((F.seen files.new).read_faults ≡ (F.seen files.old).read_faults) }
+    ensures reads { Reads (length bytes.old) (F.seen files.old) (F.seen files.new) }
+    ensures calm { OnOk result (IsCalm (F.seen files.old) (F.seen files.new)) }
     ensures ends { IfErr result (FailsReading (F.seen files.old) (F.seen files.new)) }
-    ensures held { (F.seen files.new).held ≡ (F.seen files.old).held }
-    ensures writes { (F.seen files.new).write_faults ≡ (F.seen files.old).write_faults }
-    ensures asked { AsksAtMost (length bytes.old) (F.seen files.old) (F.seen files.new) }
-    ensures later { Later (F.seen files.old) (F.seen files.new) }
 {
     match files.read_at(name, at, bytes) {
         Ok(()) => Ok(()),
@@ -98,12 +88,9 @@ pub(crate) fn read_part<F: Files>(
     ensures len { OnOk result (length buffer.new.items ≡ size) }
     ensures bytes { OnOk result
         (WhereKnown (F.seen files.old).held name.now (λ file. buffer.new.items ≡ take size (drop at file))) }
-    ensures faults { OnOk result ((F.seen files.new).read_faults ≡ (F.seen files.old).read_faults) }
+    ensures reads { Reads size (F.seen files.old) (F.seen files.new) }
+    ensures calm { OnOk result (IsCalm (F.seen files.old) (F.seen files.new)) }
     ensures ends { IfErr result (FailsReading (F.seen files.old) (F.seen files.new)) }
-    ensures held { (F.seen files.new).held ≡ (F.seen files.old).held }
-    ensures writes { (F.seen files.new).write_faults ≡ (F.seen files.old).write_faults }
-    ensures asked { AsksAtMost size (F.seen files.old) (F.seen files.new) }
-    ensures later { Later (F.seen files.old) (F.seen files.new) }
 {
     buffer.resize(size, 0)?;
     read_exactly(files, name, at, buffer)
@@ -114,12 +101,9 @@ pub(crate) fn read_number<F: Files>(files: &mut F, name: &str, at: u64) -> Resul
     requires { WhereKnown (F.seen files.old).held name.now (λ file. at + 8 ≤ length file) }
     ensures number { IfOk result
         (λ n. WhereKnown (F.seen files.old).held name.now (λ file. n ≡ number_at 8 at file)) }
-    ensures faults { OnOk result ((F.seen files.new).read_faults ≡ (F.seen files.old).read_faults) }
+    ensures reads { Reads 8 (F.seen files.old) (F.seen files.new) }
+    ensures calm { OnOk result (IsCalm (F.seen files.old) (F.seen files.new)) }
     ensures ends { IfErr result (FailsReading (F.seen files.old) (F.seen files.new)) }
-    ensures held { (F.seen files.new).held ≡ (F.seen files.old).held }
-    ensures writes { (F.seen files.new).write_faults ≡ (F.seen files.old).write_faults }
-    ensures asked { AsksAtMost 8 (F.seen files.old) (F.seen files.new) }
-    ensures later { Later (F.seen files.old) (F.seen files.new) }
 {
     let mut bytes = [0; 8];
     read_exactly(files, name, at, &mut bytes)?;

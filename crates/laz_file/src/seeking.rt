@@ -14,13 +14,13 @@ pub(crate) struct Ends {
 
 impl Ends {
     /// All of some chunks are read, whole.
-    pub(crate) fn all(counts: &[u32]) -> Ends
-        requires few { length counts.now < 2 ^ 32 }
-        ensures { result ≡ record { first = 0; last = length counts.now; skip = 0; tail = 0 } }
+    pub(crate) fn all(points: &[u32]) -> Ends
+        requires few { length points.now < 2 ^ 32 }
+        ensures { result ≡ record { first = 0; last = length points.now; skip = 0; tail = 0 } }
     {
         Ends {
             first: 0,
-            last: counts.len() as u32,
+            last: points.len() as u32,
             skip: 0,
             tail: 0,
         }
@@ -36,17 +36,17 @@ pub(crate) struct Sought {
 
 /// The chunks with records of the places from `start` on and before `stop`: none, if there are no such places. The first
 /// chunk of all begins at `place`.
-pub(crate) fn seek(counts: &[u32], sizes: &[u32], place: u64, start: u32, stop: u32) -> Sought
-    requires same { length counts.now ≡ length sizes.now }
-    requires few { length counts.now < 2 ^ 32 }
-    requires near { place + sum sizes.now < 2 ^ 64 }
-    requires some { All (λ n. 0 < n) counts.now }
+pub(crate) fn seek(points: &[u32], bytes: &[u32], place: u64, start: u32, stop: u32) -> Sought
+    requires same { length points.now ≡ length bytes.now }
+    requires few { length points.now < 2 ^ 32 }
+    requires near { place + sum bytes.now < 2 ^ 64 }
+    requires some { All (λ n. 0 < n) points.now }
     requires order { start ≤ stop }
-    requires within { stop ≤ sum counts.now }
-    ensures { IsSought (record { start = start; stop = stop }) place counts.now sizes.now result.ends result.place }
+    requires within { stop ≤ sum points.now }
+    ensures { IsSought (record { start = start; stop = stop }) place points.now bytes.now result.ends result.place }
 {
     if start == stop {
-        let none = counts.len() as u32;
+        let none = points.len() as u32;
         let ends = Ends {
             first: none,
             last: none,
@@ -55,8 +55,8 @@ pub(crate) fn seek(counts: &[u32], sizes: &[u32], place: u64, start: u32, stop: 
         };
         return Sought { ends, place };
     }
-    let (first, before, at) = first_chunk(counts, sizes, place, start);
-    let (last, reached) = last_chunk(counts, first, before, stop);
+    let (first, before, at) = first_chunk(points, bytes, place, start);
+    let (last, reached) = last_chunk(points, first, before, stop);
     let ends = Ends {
         first,
         last,
@@ -68,49 +68,49 @@ pub(crate) fn seek(counts: &[u32], sizes: &[u32], place: u64, start: u32, stop: 
 
 // The number of the first chunk that ends after the record of place `start`, how many records are before it, and where
 // it begins.
-fn first_chunk(counts: &[u32], sizes: &[u32], place: u64, start: u32) -> (u32, u64, u64)
-    requires same { length counts.now ≡ length sizes.now }
-    requires few { length counts.now < 2 ^ 32 }
-    requires near { place + sum sizes.now < 2 ^ 64 }
-    ensures within { result.0 ≤ length counts.now }
-    ensures before { result.1 ≡ sum (take result.0 counts.now) }
+fn first_chunk(points: &[u32], bytes: &[u32], place: u64, start: u32) -> (u32, u64, u64)
+    requires same { length points.now ≡ length bytes.now }
+    requires few { length points.now < 2 ^ 32 }
+    requires near { place + sum bytes.now < 2 ^ 64 }
+    ensures within { result.0 ≤ length points.now }
+    ensures before { result.1 ≡ sum (take result.0 points.now) }
     ensures early { result.1 ≤ start }
-    ensures here { result.0 < length counts.now → start < result.1 + slice_index counts.now result.0 }
-    ensures place { result.2 ≡ place + sum (take result.0 sizes.now) }
+    ensures here { result.0 < length points.now → start < result.1 + slice_index points.now result.0 }
+    ensures place { result.2 ≡ place + sum (take result.0 bytes.now) }
 {
     let mut at = place;
     let mut before = 0;
-    for i in 0..counts.len() {
-        let reached = before + u64::from(counts[i]);
+    for i in 0..points.len() {
+        let reached = before + u64::from(points[i]);
         if reached > u64::from(start) {
             return (i as u32, before, at);
         }
         before = reached;
-        at += u64::from(sizes[i]);
+        at += u64::from(bytes[i]);
     }
-    (counts.len() as u32, before, at)
+    (points.len() as u32, before, at)
 }
 
 // The number of the chunk after the one with the last record before place `stop`, and how many records are before it.
-fn last_chunk(counts: &[u32], first: u32, before: u64, stop: u32) -> (u32, u64)
-    requires few { length counts.now < 2 ^ 32 }
-    requires within { first ≤ length counts.now }
-    requires before { before ≡ sum (take first counts.now) }
+fn last_chunk(points: &[u32], first: u32, before: u64, stop: u32) -> (u32, u64)
+    requires few { length points.now < 2 ^ 32 }
+    requires within { first ≤ length points.now }
+    requires before { before ≡ sum (take first points.now) }
     requires early { before < stop }
-    requires stop { stop ≤ sum counts.now }
+    requires stop { stop ≤ sum points.now }
     ensures order { first < result.0 }
-    ensures within { result.0 ≤ length counts.now }
-    ensures reached { result.1 ≡ sum (take result.0 counts.now) }
+    ensures within { result.0 ≤ length points.now }
+    ensures reached { result.1 ≡ sum (take result.0 points.now) }
     ensures past { stop ≤ result.1 }
-    ensures least { sum (take (result.0 - 1) counts.now) < stop }
+    ensures least { sum (take (result.0 - 1) points.now) < stop }
     ensures small { result.1 < stop + 2 ^ 32 }
 {
     let mut reached = before;
-    for i in first as usize..counts.len() {
+    for i in first as usize..points.len() {
         if reached >= u64::from(stop) {
             return (i as u32, reached);
         }
-        reached += u64::from(counts[i]);
+        reached += u64::from(points[i]);
     }
-    (counts.len() as u32, reached)
+    (points.len() as u32, reached)
 }

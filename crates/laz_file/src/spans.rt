@@ -6,13 +6,13 @@ use crate::reader::Reader;
 use las_header::Head;
 
 /// How many bytes some chunks have, in all.
-pub(crate) fn total(sizes: &[u32]) -> u64
-    requires { sum sizes.now < 2 ^ 64 }
-    ensures { result ≡ sum sizes.now }
+pub(crate) fn total(bytes: &[u32]) -> u64
+    requires { sum bytes.now < 2 ^ 64 }
+    ensures { result ≡ sum bytes.now }
 {
     let mut total = 0;
-    for size in sizes {
-        total += u64::from(*size);
+    for count in bytes {
+        total += u64::from(*count);
     }
     total
 }
@@ -23,10 +23,10 @@ impl Reader {
         requires within { i < length self.now.pieces }
         ensures { (d : Piece) → result ≡ (slice_index_or self.now.pieces i d).count }
     {
-        self.counts[i as usize]
+        self.points[i as usize]
     }
 
-    /// Where chunk `i` of a packed file begins, from 0, and its number of bytes. It adds up the sizes of the chunks
+    /// Where chunk `i` of a packed file begins, from 0, and its number of bytes. It adds up the bytes of the chunks
     /// before it.
     pub fn chunk_span(&self, i: u32) -> (u64, u32)
         requires within { i < length self.now.pieces }
@@ -35,15 +35,15 @@ impl Reader {
     {
         let i = i as usize;
         let offset = self.head.bytes().len() as u64;
-        (offset + 8 + total(&self.sizes[..i]), self.sizes[i])
+        (offset + 8 + total(&self.bytes[..i]), self.bytes[i])
     }
 
     /// The head, and the numbers of points and of bytes of all chunks: no chunks, if the file is plain.
     pub fn into_chunks(self) -> (Head, Vec<u32>, Vec<u32>)
         ensures head { result.0 ≡ self.head }
-        ensures counts { result.1.items ≡ map (λ piece. piece.count) self.pieces }
-        ensures sizes { result.2.items ≡ map (λ piece. piece.size) self.pieces }
+        ensures points { result.1.items ≡ map (λ piece. piece.count) self.pieces }
+        ensures bytes { result.2.items ≡ map (λ piece. piece.size) self.pieces }
     {
-        (self.head, self.counts, self.sizes)
+        (self.head, self.points, self.bytes)
     }
 }

@@ -7,16 +7,17 @@ ghost use Rattle.las_header.specs.declared.refusal.Refusal.TheVariants.{BadChunk
 ghost use Rattle.las_header.specs.Fields.{point_offset_of};
 ghost use Rattle.las_header.specs.Plain.{plain_head};
 ghost use Rattle.las_outside.specs.Faults.{Rose};
-ghost use Rattle.las_outside.specs.Files.{WhereKnown, with_file};
-ghost use Rattle.las_outside.specs.Outside.{Later, Outside};
+ghost use Rattle.las_outside.specs.Files.{with_file};
+ghost use Rattle.las_outside.specs.Limits.{AreWorkers, IsChunkSize};
+ghost use Rattle.las_outside.specs.Outside.{Later};
 ghost use Rattle.laz_file.specs.declared.fault.Fault.TheVariants.{Read, Refused, Write};
 ghost use Rattle.laz_file.specs.Asking.{AsksAtMost, bytes_left};
 ghost use Rattle.laz_file.specs.Copying.{AreOnlyRecords, CanTake, EndsCopying, Finishes, LeavesInPart, LeavesRecords};
 ghost use Rattle.laz_file.specs.Copying.{LeavesUnfinished, packed_output, plain_output};
-ghost use Rattle.laz_file.specs.Outputs.{Output, stopped};
+ghost use Rattle.laz_file.specs.Outputs.{stopped};
 ghost use Rattle.laz_file.specs.Packing.{packed_file};
-ghost use Rattle.laz_file.specs.Reading.{AgreesWithHead, IsCrewOf, IsNewReader, StandsFor};
-ghost use Rattle.laz_file.specs.Writing.{Stands};
+ghost use Rattle.laz_file.specs.Reading.{AgreesWithHead, IsCrewOf, IsNewReader, OfFile, StandsFor};
+ghost use Rattle.laz_file.specs.Writing.{HasOutput, OfOutput};
 
 use crate::Fault;
 use crate::copying::copy_records;
@@ -41,17 +42,15 @@ fn fill<R: Threads + Sync, F: Files, G: Gate>(
     requires open { reader.old.failed ≡ false }
     requires crew { IsCrewOf reader.old crew.old }
     requires names { reader.old.name ≢ writer.name }
-    requires reads { WhereKnown (F.seen files.old).held reader.old.name (StandsFor reader.old) }
+    requires reads { OfFile reader.old (F.seen files.old) (StandsFor reader.old) }
     requires room { CanTake reader.old writer }
-    requires stands { (before : Outside) × (out : Output) × (bytes : List ℕ)
-        × Stands before (F.seen files.old) writer out bytes }
-    ensures finished { (before : Outside) (out : Output) (bytes : List ℕ)
-        → Stands before (F.seen files.old) writer out bytes
-        → OnOk result (Finishes (F.seen files.old).held before.held (F.seen files.new).held reader.old out bytes) }
-    ensures ends { (before : Outside) (out : Output) (bytes : List ℕ)
-        → Stands before (F.seen files.old) writer out bytes
-        → IfErr result (EndsCopying (F.seen files.old).held before.held (F.seen files.old) (F.seen files.new) reader.old
-        out bytes) }
+    requires stands { HasOutput (F.seen files.old) writer }
+    ensures finished { OfOutput (F.seen files.old) writer
+        (λ before out bytes. OnOk result (Finishes (F.seen files.old).held before.held
+        (F.seen files.new).held reader.old out bytes)) }
+    ensures ends { OfOutput (F.seen files.old) writer
+        (λ before out bytes. IfErr result (EndsCopying (F.seen files.old).held before.held (F.seen files.old)
+        (F.seen files.new) reader.old out bytes)) }
     ensures reads_calm { OnOk result ((F.seen files.new).read_faults ≡ (F.seen files.old).read_faults) }
     ensures writes_calm { OnOk result ((F.seen files.new).write_faults ≡ (F.seen files.old).write_faults) }
     ensures asked { AsksAtMost (bytes_left reader.old) (F.seen files.old) (F.seen files.new) }
@@ -88,19 +87,19 @@ pub fn pack<R: Threads + Sync, F: Files, G: Gate>(
 ) -> Result<(), Fault>
     requires new { IsNewReader reader.name reader }
     requires plain { reader.chunk ≡ None }
-    requires chunk { (256 ≤ chunk) × (chunk ≤ 250000) }
-    requires workers { (1 ≤ workers) × (workers ≤ 8) }
+    requires chunk { IsChunkSize chunk }
+    requires workers { AreWorkers workers }
     requires names { output.now ≢ reader.name }
-    requires stands { WhereKnown (F.seen files.old).held reader.name (StandsFor reader) }
+    requires stands { OfFile reader (F.seen files.old) (StandsFor reader) }
     requires whole { AgreesWithHead reader }
 
-    ensures packed { OnOk result (WhereKnown (F.seen files.old).held reader.name (λ file.
+    ensures packed { OnOk result (OfFile reader (F.seen files.old) (λ file.
         (F.seen files.new).held ≡ with_file (F.seen files.old).held output.now (packed_file file chunk))) }
-    ensures left { IfErr result (λ fault. WhereKnown (F.seen files.old).held reader.name (λ file.
+    ensures left { IfErr result (λ fault. OfFile reader (F.seen files.old) (λ file.
         LeavesUnfinished (packed_output output.now file chunk) (drop (point_offset_of file) file)
         (F.seen files.old).held (F.seen files.new).held)) }
     // After a read that failed the output does not stand whole.
-    ensures in_part { IsErrOf result Read → WhereKnown (F.seen files.old).held reader.name (λ file.
+    ensures in_part { IsErrOf result Read → OfFile reader (F.seen files.old) (λ file.
         LeavesInPart (packed_output output.now file chunk) (drop (point_offset_of file) file)
         (F.seen files.old).held (F.seen files.new).held) }
     ensures never { (cause : Refusal) → IsErrOf result (Refused cause) → ⊥ }
@@ -139,22 +138,22 @@ pub fn unpack<R: Threads + Sync, F: Files, G: Gate>(
 ) -> Result<(), Fault>
     requires new { IsNewReader reader.name reader }
     requires packed { IsSome reader.chunk }
-    requires workers { (1 ≤ workers) × (workers ≤ 8) }
+    requires workers { AreWorkers workers }
     requires names { output.now ≢ reader.name }
-    requires stands { WhereKnown (F.seen files.old).held reader.name (StandsFor reader) }
+    requires stands { OfFile reader (F.seen files.old) (StandsFor reader) }
     requires whole { AgreesWithHead reader }
 
-    ensures unpacked { OnOk result (WhereKnown (F.seen files.old).held reader.name (λ file.
+    ensures unpacked { OnOk result (OfFile reader (F.seen files.old) (λ file.
         (blocks : List (List ℕ)) × AreOnlyRecords file blocks None
         × ((F.seen files.new).held
         ≡ with_file (F.seen files.old).held output.now (plain_head file ++ concat blocks)))) }
     ensures refused { (cause : Refusal) → IsErrOf result (Refused cause)
-        → WhereKnown (F.seen files.old).held reader.name (λ file.
+        → OfFile reader (F.seen files.old) (λ file.
         (blocks : List (List ℕ)) × (i : ℕ) × (cause ≡ BadChunk i) × AreOnlyRecords file blocks (Some i)
         × ((F.seen files.new).held ≡ with_file (F.seen files.old).held output.now
         (stopped (plain_output output.now file) (concat blocks)))) }
     ensures bad { (cause : Refusal) → IsErrOf result (Refused cause) → (i : ℕ) × (cause ≡ BadChunk i) }
-    ensures left { IfErr result (λ fault. WhereKnown (F.seen files.old).held reader.name (λ file.
+    ensures left { IfErr result (λ fault. OfFile reader (F.seen files.old) (λ file.
         LeavesRecords (plain_output output.now file) file (F.seen files.old).held (F.seen files.new).held)) }
     ensures read { IsErrOf result Read → Rose (F.seen files.old).read_faults (F.seen files.new).read_faults }
     ensures write { IsErrOf result Write → Rose (F.seen files.old).write_faults (F.seen files.new).write_faults }

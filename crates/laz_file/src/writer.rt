@@ -7,9 +7,12 @@ ghost use Rattle.las_header.specs.Fields.{is_packed};
 ghost use Rattle.las_header.specs.Plain.{cut_records};
 ghost use Rattle.las_header.specs.Vlrs.{laszip_vlrs_of};
 ghost use Rattle.las_outside.specs.Faults.{Rose};
+ghost use Rattle.las_outside.specs.Limits.{AreWorkers, IsChunkSize};
+ghost use Rattle.las_outside.specs.Frames.{IsCalm, OnlyWrites};
 ghost use Rattle.las_outside.specs.Outside.{Later, Outside, with_bytes};
 ghost use Rattle.laz_file.specs.Outputs.{Output, front, stopped};
-ghost use Rattle.laz_file.specs.Writing.{IsTally, PointsStand, SameFaults, Stands, Stops, first_packing};
+ghost use Rattle.laz_file.specs.Writing.{HasOutput, IsTally, OfOutput, PointsStand, SameFaults, Stands, Stops};
+ghost use Rattle.laz_file.specs.Writing.{StopsIn, first_packing};
 ghost use Rattle.laz_file.specs.declared.fault.Fault.TheVariants.{Memory, Write};
 
 use crate::Fault;
@@ -71,8 +74,8 @@ fn packing_of(
     workers: u32,
     pointer: u32,
 ) -> Result<Option<Packing>, AllocError>
-    requires chunk { ForSome chunk (λ n. (256 ≤ n) × (n ≤ 250000)) }
-    requires workers { (0 < workers) × (workers ≤ 8) }
+    requires chunk { ForSome chunk IsChunkSize }
+    requires workers { AreWorkers workers }
     ensures { IfOk result (λ p. p ≡ first_packing head.now.bytes most pointer workers chunk) }
 {
     let Some(chunk) = chunk else {
@@ -101,8 +104,8 @@ impl Writer {
     ) -> Result<Writer, Fault>
         requires plain { is_packed head.now.bytes ≡ false }
         requires none { laszip_vlrs_of head.now.bytes ≡ [] }
-        requires chunk { ForSome chunk (λ n. (256 ≤ n) × (n ≤ 250000)) }
-        requires workers { (0 < workers) × (workers ≤ 8) }
+        requires chunk { ForSome chunk IsChunkSize }
+        requires workers { AreWorkers workers }
 
         ensures stands { let out : Output =
             record { name = name.now; head = head.now.bytes; chunk = chunk; counted = counted } in
@@ -121,8 +124,10 @@ impl Writer {
         ensures fault { IfErr result (λ fault. (fault ≡ Memory) ⊎ (fault ≡ Write)) }
         ensures write { IsErrOf result Write → Rose (F.seen files.old).write_faults (F.seen files.new).write_faults }
         ensures calm { OnOk result (SameFaults (F.seen files.old) (F.seen files.new)) }
+        ensures writes { OnlyWrites (F.seen files.old) (F.seen files.new) }
         ensures later { Later (F.seen files.old) (F.seen files.new) }
     {
+        // Its contract says what holds of every head.
         let _ = head.bytes();
         let start = head.offset();
         let size = head.record_length();
@@ -166,18 +171,15 @@ impl Writer {
         requires points { (before : Outside) × (out : Output) × (bytes : List ℕ)
             × Stands before (F.seen files.old) self.old out bytes
             × (length bytes + length records.now ≤ self.old.size * self.old.most) }
-        ensures points { (before : Outside) (out : Output) (bytes : List ℕ)
-            → Stands before (F.seen files.old) self.old out bytes
-            → length bytes + length records.now ≤ self.old.size * self.old.most
+        ensures points { OfOutput (F.seen files.old) self.old
+            (λ before out bytes. length bytes + length records.now ≤ self.old.size * self.old.most
             → OnOk result (PointsStand out.chunk before (F.seen files.new) out self.old.most self.new.packing
-            (bytes ++ records.now)) }
-        ensures stopped { (before : Outside) (out : Output) (bytes : List ℕ)
-            → Stands before (F.seen files.old) self.old out bytes
-            → length bytes + length records.now ≤ self.old.size * self.old.most
-            → IfErr result (λ fault. (n : ℕ) × Stops fault
-            (with_bytes before out.name (take n (stopped out (bytes ++ records.now)))) (F.seen files.new)) }
+            (bytes ++ records.now))) }
+        ensures stopped { OfOutput (F.seen files.old) self.old
+            (λ before out bytes. length bytes + length records.now ≤ self.old.size * self.old.most
+            → IfErr result (StopsIn before (F.seen files.new) out.name (stopped out (bytes ++ records.now)))) }
         ensures same { self.new ≡ record self.old { packing = self.new.packing } }
-        ensures later { Later (F.seen files.old) (F.seen files.new) }
+        ensures writes { OnlyWrites (F.seen files.old) (F.seen files.new) }
     {
         let name = self.name.as_str();
         let Some(packing) = &mut self.packing else {
@@ -199,18 +201,15 @@ impl Writer {
         requires points { (before : Outside) × (out : Output) × (bytes : List ℕ)
             × Stands before (F.seen files.old) self.old out bytes
             × (length bytes + length block.old.items ≤ self.old.size * self.old.most) }
-        ensures points { (before : Outside) (out : Output) (bytes : List ℕ)
-            → Stands before (F.seen files.old) self.old out bytes
-            → length bytes + length block.old.items ≤ self.old.size * self.old.most
+        ensures points { OfOutput (F.seen files.old) self.old
+            (λ before out bytes. length bytes + length block.old.items ≤ self.old.size * self.old.most
             → OnOk result (PointsStand out.chunk before (F.seen files.new) out self.old.most self.new.packing
-            (bytes ++ block.old.items)) }
-        ensures stopped { (before : Outside) (out : Output) (bytes : List ℕ)
-            → Stands before (F.seen files.old) self.old out bytes
-            → length bytes + length block.old.items ≤ self.old.size * self.old.most
-            → IfErr result (λ fault. (n : ℕ) × Stops fault
-            (with_bytes before out.name (take n (stopped out (bytes ++ block.old.items)))) (F.seen files.new)) }
+            (bytes ++ block.old.items))) }
+        ensures stopped { OfOutput (F.seen files.old) self.old
+            (λ before out bytes. length bytes + length block.old.items ≤ self.old.size * self.old.most
+            → IfErr result (StopsIn before (F.seen files.new) out.name (stopped out (bytes ++ block.old.items)))) }
         ensures same { self.new ≡ record self.old { packing = self.new.packing } }
-        ensures later { Later (F.seen files.old) (F.seen files.new) }
+        ensures writes { OnlyWrites (F.seen files.old) (F.seen files.new) }
     {
         let name = self.name.as_str();
         let Some(packing) = &mut self.packing else {
@@ -252,24 +251,22 @@ impl Writer {
         requires open { self.old.failed ≡ false }
         requires whole { length records.now % self.old.size ≡ 0 }
         requires most { self.old.taken + length records.now ≤ self.old.size * self.old.most }
-        requires stands { (before : Outside) × (out : Output) × (bytes : List ℕ)
-            × Stands before (F.seen files.old) self.old out bytes }
+        requires stands { HasOutput (F.seen files.old) self.old }
 
-        ensures stands { (before : Outside) (out : Output) (bytes : List ℕ)
-            → Stands before (F.seen files.old) self.old out bytes
-            → OnOk result (Stands before (F.seen files.new) self.new out (bytes ++ records.now)) }
+        ensures stands { OfOutput (F.seen files.old) self.old
+            (λ before out bytes. OnOk result (Stands before (F.seen files.new) self.new out (bytes ++ records.now))) }
         ensures most { self.new.most ≡ self.old.most }
         ensures open { OnOk result (self.new.failed ≡ false) }
 
         // After an error the output holds a prefix of its front and of what full chunks give, or of all records.
-        ensures stopped { (before : Outside) (out : Output) (bytes : List ℕ)
-            → Stands before (F.seen files.old) self.old out bytes
-            → IfErr result (λ fault. (n : ℕ) × Stops fault
-            (with_bytes before out.name (take n (stopped out (bytes ++ records.now)))) (F.seen files.new)) }
+        ensures stopped { OfOutput (F.seen files.old) self.old
+            (λ before out bytes. IfErr result (StopsIn before (F.seen files.new) out.name (stopped out
+            (bytes ++ records.now)))) }
         ensures failed { OnErr result (self.new.failed ≡ true) }
         ensures fault { IfErr result (λ fault. (fault ≡ Memory) ⊎ (fault ≡ Write)) }
         ensures write { IsErrOf result Write → Rose (F.seen files.old).write_faults (F.seen files.new).write_faults }
         ensures calm { OnOk result (SameFaults (F.seen files.old) (F.seen files.new)) }
+        ensures writes { OnlyWrites (F.seen files.old) (F.seen files.new) }
         ensures later { Later (F.seen files.old) (F.seen files.new) }
     {
         let counts = self.tallied(records);
@@ -298,22 +295,20 @@ impl Writer {
         requires open { self.old.failed ≡ false }
         requires whole { length block.old.items % self.old.size ≡ 0 }
         requires most { self.old.taken + length block.old.items ≤ self.old.size * self.old.most }
-        requires stands { (before : Outside) × (out : Output) × (bytes : List ℕ)
-            × Stands before (F.seen files.old) self.old out bytes }
-        ensures stands { (before : Outside) (out : Output) (bytes : List ℕ)
-            → Stands before (F.seen files.old) self.old out bytes
-            → OnOk result (Stands before (F.seen files.new) self.new out (bytes ++ block.old.items)) }
+        requires stands { HasOutput (F.seen files.old) self.old }
+        ensures stands { OfOutput (F.seen files.old) self.old
+            (λ before out bytes. OnOk result (Stands before (F.seen files.new) self.new out
+            (bytes ++ block.old.items))) }
         ensures most { self.new.most ≡ self.old.most }
         ensures open { OnOk result (self.new.failed ≡ false) }
-        ensures stopped { (before : Outside) (out : Output) (bytes : List ℕ)
-            → Stands before (F.seen files.old) self.old out bytes
-            → IfErr result (λ fault. (n : ℕ) × Stops fault
-            (with_bytes before out.name (take n (stopped out (bytes ++ block.old.items)))) (F.seen files.new)) }
+        ensures stopped { OfOutput (F.seen files.old) self.old
+            (λ before out bytes. IfErr result (StopsIn before (F.seen files.new) out.name (stopped out
+            (bytes ++ block.old.items)))) }
         ensures failed { OnErr result (self.new.failed ≡ true) }
         ensures fault { IfErr result (λ fault. (fault ≡ Memory) ⊎ (fault ≡ Write)) }
         ensures write { IsErrOf result Write → Rose (F.seen files.old).write_faults (F.seen files.new).write_faults }
-        ensures calm { OnOk result (SameFaults (F.seen files.old) (F.seen files.new)) }
-        ensures later { Later (F.seen files.old) (F.seen files.new) }
+        ensures calm { OnOk result (IsCalm (F.seen files.old) (F.seen files.new)) }
+        ensures writes { OnlyWrites (F.seen files.old) (F.seen files.new) }
     {
         let (counts, length) = (self.tallied(block), block.len());
         match self.append_block(rt, alloc, files, gate, block) {

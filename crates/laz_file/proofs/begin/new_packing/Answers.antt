@@ -10,23 +10,23 @@ use Rattle.laz_file.proofs.begin.new_packing.Goals as goal
 pub invariant_of-result : goal.invariant_of-result
 invariant_of-result c =
     let h = c.args.head.now.bytes in
-    let f : Format = record { format = c.format.result; extra = c.extra.result } in
-    let same : f ≡ format_in h = ap (λ (n : ℕ). let x : Format = record { format = n; extra = c.extra.result } in x) c.format.ensures.field ∙ ap (λ (n : ℕ). let x : Format = record { format = format_of h; extra = n } in x) c.extra.ensures.field in
+    let f : Format = record { format = c.format-format.result; extra = c.extra-extra.result } in
+    let same : f ≡ format_in h = ap (λ (n : ℕ). let x : Format = record { format = n; extra = c.extra-extra.result } in x) c.format-format.ensures.field ∙ ap (λ (n : ℕ). let x : Format = record { format = format_of h; extra = n } in x) c.extra-extra.ensures.field in
     let size : c.from-size.result ≡ record_length (layout f) = c.from-size.ensures ∙ c.record_length.ensures.field ∙ sym (record_is h c.bytes.ensures.head) ∙ ap (λ (x : Format). record_length (layout x)) (sym same) in
-    let room : c.room_for.result ≡ room_for (layout f) (min c.args.chunk c.args.most) = c.room_for.ensures ∙ ap (λ (n : ℕ). room_for (layout_of c.format.result c.extra.result) n) c.min-points.ensures in (
+    let room : c.room_for-room.result ≡ room_for (layout f) (min c.args.chunk c.args.most) = c.room_for-room.ensures ∙ ap (λ (n : ℕ). room_for (layout_of c.format-format.result c.extra-extra.result) n) c.min-points.ensures in (
       record {
-        known = omega (arith, c.format.ensures.known);
-        extra = omega (arith, c.extra.ensures.known);
+        known = omega (arith, c.format-format.ensures.known);
+        extra = omega (arith, c.extra-extra.ensures.known);
         numbers = record {
           least = c.requires.chunk.0;
           small = c.requires.chunk.1;
           most = omega (arith, c.ranges.most.fits);
           near = omega (arith, c.from.ensures, c.ranges.pointer.fits);
         };
-        hands = omega (arith, c.in_ok-crew.ensures.workers, c.requires.workers.0);
-        few = omega (arith, c.in_ok-crew.ensures.workers, c.requires.workers.1);
+        hands = omega (arith, c.in_ok-crew.ensures.hands, c.requires.workers.0);
+        few = omega (arith, c.in_ok-crew.ensures.hands, c.requires.workers.1);
         spaces_are = All-map (λ (s : Format). s ≡ f) (λ (x : HandSeen Format). x.space) c.in_ok-crew.crew c.in_ok-crew.ensures.spaces;
-        rooms_are = All-weaker (λ (n : ℕ). n ≡ c.room_for.result) (λ (n : ℕ). n ≡ room_for (layout f) (min c.args.chunk c.args.most)) (λ n is. is ∙ room) (lengths_of (rooms_of c.in_ok-crew.crew)) c.in_ok-crew.ensures.rooms;
+        rooms_are = All-weaker (λ (n : ℕ). n ≡ c.room_for-room.result) (λ (n : ℕ). n ≡ room_for (layout f) (min c.args.chunk c.args.most)) (λ n is. is ∙ room) (lengths_of (rooms_of c.in_ok-crew.crew)) c.in_ok-crew.ensures.rooms;
       },
       ap (λ (n : ℕ). n * c.args.chunk) size,
     )

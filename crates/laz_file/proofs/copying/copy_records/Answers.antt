@@ -1,13 +1,13 @@
 use Rattle.std.proofs.Common.{◌≡◌, ◌+◌, ℕ, List, Option, [], ◌++◌, take, refl, Err, sym, ◌∙◌, ap, subst, arith}
 use Rattle.std.specs.List.{concat}
 use Rattle.las_outside.specs.Files.{FileMap, WhereKnown}
+use Rattle.las_outside.proofs.Frames.{later-refl, later-trans}
 use Rattle.laz_file.specs.Copying.{LeavesPart, Takes, with_reads}
 use Rattle.laz_file.specs.Reading.{ReaderSeen, StandsFor}
 use Rattle.laz_file.specs.Records.{HoldOnly, IsBadPiece}
 use Rattle.laz_file.specs.Asking.{bytes_left}
 use Rattle.laz_file.proofs.Knowing.{known_then}
 use Rattle.laz_file.proofs.Copies.{ReadsMore, calm_ok, crew_lent, end_all, end_bad, end_err, end_ok, even_for, moved_lent, read_more, read_none, room_after, room_for, stands_lent}
-use Rattle.laz_file.proofs.Faults.{later-trans}
 use Rattle.laz_file.proofs.Putting.{concat-append, if_err}
 use Rattle.laz_file.proofs.Taking.{cause_since, known_taken, on_err, other_name, part_stands, part_then, takes_none, takes_read, takes_then}
 use Rattle.laz_file.proofs.copying.copy_records.Goals as goal
@@ -25,7 +25,7 @@ batches-init g c =
       copied = (0, [], read_none old.held reader (StandsFor reader) c.requires.reads, takes_none old c.args.writer.now);
       reads_calm = refl;
       writes_calm = refl;
-      later = record { known = refl; reads = omega arith; writes = omega arith; asked = omega arith };
+      later = later-refl _;
       asked = omega arith;
     }
 
@@ -39,7 +39,7 @@ returns-in-Err-clause-copied g c =
     let v = c.batches.writer in
     let s = c.requires.stands in
     let done = c.batches.invariant.copied in
-    end_ok c.in-Err.fault c.end_of.result _ c.end_of.ensures
+    end_ok c.in-Err.fault c.into_end.result _ c.into_end.ensures
     (λ cause is.
     let bad = c.in-Err.ensures.bad cause (ap Err is) in
     let known = (known_taken old now w v (concat done.1) s.0 s.1 s.2 s.3 done.3 c.batches.reader.name (other_name c.batches.reader first w.name done.2.named c.requires.names) (λ file. IsBadPiece file c.batches.reader.left 0)).1 bad.2 in (
@@ -56,15 +56,15 @@ returns-in-Err-clause-part g c =
     let now = g.F.Files.seen c.batches.files in
     let later = g.F.Files.seen c.next_batch.new.files in
     let done = c.batches.invariant.copied in
-    on_err c.end_of.result (done.0, done.1, done.2.hold, part_stands old now later c.args.writer.now c.batches.writer (concat done.1) c.next_batch.ensures.held done.3)
+    on_err c.into_end.result (done.0, done.1, done.2.hold, part_stands old now later c.args.writer.now c.batches.writer (concat done.1) c.next_batch.ensures.held done.3)
 
 pub returns-in-Err-clause-cause : goal.returns-in-Err-clause-cause
 returns-in-Err-clause-cause g c =
-    end_err c.in-Err.fault c.end_of.result (g.F.Files.seen c.args.files.now) (g.F.Files.seen c.batches.files) (g.F.Files.seen c.next_batch.new.files) c.end_of.ensures c.in-Err.ensures.ends c.batches.invariant.reads_calm
+    end_err c.in-Err.fault c.into_end.result (g.F.Files.seen c.args.files.now) (g.F.Files.seen c.batches.files) (g.F.Files.seen c.next_batch.new.files) c.into_end.ensures c.in-Err.ensures.ends c.batches.invariant.reads_calm
 
 pub returns-in-Err-clause-reads_calm : goal.returns-in-Err-clause-reads_calm
 returns-in-Err-clause-reads_calm g c =
-    calm_ok c.in-Err.fault c.end_of.result (g.F.Files.seen c.args.files.now) (g.F.Files.seen c.batches.files) (g.F.Files.seen c.next_batch.new.files) c.end_of.ensures c.in-Err.ensures.ends c.batches.invariant.reads_calm
+    calm_ok c.in-Err.fault c.into_end.result (g.F.Files.seen c.args.files.now) (g.F.Files.seen c.batches.files) (g.F.Files.seen c.next_batch.new.files) c.into_end.ensures c.in-Err.ensures.ends c.batches.invariant.reads_calm
 
 pub returns-then-count-eq0-clause-copied : goal.returns-then-count-eq0-clause-copied
 returns-then-count-eq0-clause-copied g c =
@@ -139,8 +139,8 @@ batches-preserved g c =
       copied = (done.0 + n, done.1 ++ b.0, read_more old.held first reader next done.0 n done.1 b.0 done.2 more, takes);
       reads_calm = c.in_ok-push_batch.ensures.calm.reads ∙ c.in-Ok.ensures.faults ∙ c.batches.invariant.reads_calm;
       writes_calm = c.in_ok-push_batch.ensures.calm.writes ∙ c.next_batch.ensures.writes ∙ c.batches.invariant.writes_calm;
-      later = later-trans _ _ _ c.batches.invariant.later (later-trans _ _ _ c.next_batch.ensures.later c.push_batch.ensures.later);
-      asked = omega (arith, c.batches.invariant.asked, c.in-Ok.ensures.asked, c.push_batch.ensures.asked, ap bytes_left lent);
+      later = later-trans _ _ _ c.batches.invariant.later (later-trans _ _ _ c.next_batch.ensures.later c.push_batch.ensures.writes.later);
+      asked = omega (arith, c.batches.invariant.asked, c.in-Ok.ensures.asked, c.push_batch.ensures.writes.asked, ap bytes_left lent);
     }
 
 pub returns-in_err-push_batch-clause-part : goal.returns-in_err-push_batch-clause-part
@@ -187,4 +187,4 @@ pub returns-then-count-eq0-clause-asked : goal.returns-then-count-eq0-clause-ask
 returns-then-count-eq0-clause-asked g c = omega (arith, c.batches.invariant.asked, c.in-Ok.ensures.asked)
 
 pub returns-in_err-push_batch-clause-asked : goal.returns-in_err-push_batch-clause-asked
-returns-in_err-push_batch-clause-asked g c = omega (arith, c.batches.invariant.asked, c.in-Ok.ensures.asked, c.push_batch.ensures.asked)
+returns-in_err-push_batch-clause-asked g c = omega (arith, c.batches.invariant.asked, c.in-Ok.ensures.asked, c.push_batch.ensures.writes.asked)

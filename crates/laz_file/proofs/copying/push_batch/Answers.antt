@@ -1,14 +1,11 @@
-use Rattle.std.proofs.Common.{◌≡◌, None, ◌+◌, ◌*◌, ◌%◌, ◌≤◌, ℕ, List, [], ◌++◌, length, take, sym, ◌∙◌, ap, subst, arith}
+use Rattle.std.proofs.Common.{◌≡◌, None, ◌+◌, ◌*◌, ◌%◌, ◌≤◌, ℕ, List, [], length, sym, ◌∙◌, ap, subst, arith}
 use Rattle.std.specs.Prelude.{All, OnErr, OnOk}
 use Rattle.std.specs.List.{concat}
 use Rattle.std.proofs.lemmas.List.{append-nil}
-use Rattle.las_outside.specs.Outside.{Outside}
 use Rattle.laz_file.specs.Copying.{LeavesPart, Takes}
-use Rattle.laz_file.specs.Outputs.{stopped}
 use Rattle.laz_file.specs.Reading.{ReaderSeen}
 use Rattle.laz_file.proofs.Copies.{whole_lent}
-use Rattle.laz_file.proofs.Taking.{push_part, push_takes, reads_are}
-use Rattle.laz_file.proofs.Unasked.{push_asked}
+use Rattle.laz_file.proofs.Taking.{push_part, push_takes}
 use Rattle.laz_file.proofs.copying.push_batch.Goals as goal
 
 pub push_block-requires-clause-whole : goal.push_block-requires-clause-whole
@@ -49,10 +46,3 @@ returns-in-None-clause-part g c blocks lends all =
     let is = whole_lent c.args.reader.now c.args.crew.now blocks none lends (all ∙ c.requires.one none) in
     let same = ap (λ (bs : List (List ℕ)). concat bs) is ∙ append-nil c.args.reader.now.lent ∙ sym (ap (λ (r : ReaderSeen). r.lent) c.reader.view_is) in
     subst (λ (b : List ℕ). OnErr c.push_block.result (LeavesPart old new w b)) (sym same) (push_part c.push_block.result old new w c.reader.inside.block.items c.push_block.ensures.stopped)
-
-pub returns-in-None-clause-asked : goal.returns-in-None-clause-asked
-returns-in-None-clause-asked g c =
-    let old = g.F.Files.seen c.args.files.now in
-    let h = c.requires.stands in
-    let same = ap (λ (o : Outside). o.asked) (reads_are h.0 old c.args.writer.now h.1 h.2 h.3) in
-    push_asked c.push_block.result old (g.F.Files.seen c.push_block.new.files) h.0 h.1.name (λ n. take n (stopped h.1 (h.2 ++ c.reader.inside.block.items))) same c.push_block.ensures.calm (c.push_block.ensures.stopped h.0 h.1 h.2 h.3)

@@ -1,12 +1,11 @@
 use Rattle.std.proofs.Common.{◌≡◌, Err, ◌+◌, ◌*◌, ◌%◌, ◌≤◌, ◌<◌, ℕ, List, ◌++◌, length, take, drop, refl, sym, ◌∙◌, ap, subst, arith}
 use Rattle.std.specs.List.{concat}
 use Rattle.std.proofs.lemmas.List.{take_all}
+use Rattle.las_outside.proofs.Frames.{calm-refl, calm-trans, only_writes-refl, only_writes-trans}
 use Rattle.laz_file.specs.Copying.{LeavesPart, Takes, with_reads}
 use Rattle.laz_file.proofs.Copies.{concat_more, concat_rest, even_block, room_block}
-use Rattle.laz_file.proofs.Faults.{later-trans}
 use Rattle.laz_file.proofs.Putting.{if_err}
-use Rattle.laz_file.proofs.Taking.{calm_trans, cause_push, on_err, part_more, part_push, part_then, takes_none, takes_push, takes_then}
-use Rattle.laz_file.proofs.Unasked.{stops_asked}
+use Rattle.laz_file.proofs.Taking.{cause_push, on_err, part_more, part_push, part_then, takes_none, takes_push, takes_then}
 use Rattle.laz_file.proofs.copying.push_lent.Goals as goal
 
 pub loop-i-init : goal.loop-i-init
@@ -14,8 +13,8 @@ loop-i-init g c = record {
   sound = c.requires.open;
   most = refl;
   takes = λ blocks lends all. takes_none (g.F.Files.seen c.args.files.now) c.args.writer.now;
-  calm = record { reads = refl; writes = refl; asked = refl };
-  later = record { known = refl; reads = omega arith; writes = omega arith; asked = omega arith };
+  calm = calm-refl _;
+  writes = only_writes-refl _;
 }
 
 pub block-requires : goal.block-requires
@@ -90,8 +89,8 @@ loop-i-preserved g c =
           let both = takes_then old mid new w c.loop-i.writer c.push.new.self (concat (take i blocks)) c.block.result.now (c.loop-i.invariant.takes blocks lends all) here in
           let same : concat (take i blocks) ++ c.block.result.now ≡ concat (take (i + 1) blocks) = ap (λ (b : List ℕ). concat (take i blocks) ++ b) is ∙ sym (concat_more blocks i lt) in
           subst (Takes old new w c.push.new.self) same both;
-      calm = calm_trans old mid new c.loop-i.invariant.calm c.in_ok-push.ensures.calm;
-      later = later-trans _ _ _ c.loop-i.invariant.later c.in_ok-push.ensures.later;
+      calm = (let here = c.in_ok-push.ensures.calm in calm-trans old mid new c.loop-i.invariant.calm (record { reads = here.reads; writes = here.writes }));
+      writes = only_writes-trans _ _ _ c.loop-i.invariant.writes c.push.ensures.writes;
     }
 
 pub returns-clause-takes : goal.returns-clause-takes
@@ -101,15 +100,3 @@ returns-clause-takes g c blocks lends all =
     let i = c.loop-i.i in
     let end : length blocks ≤ i = omega (arith, all, c.loop-i-test.false) in
     subst (λ (t : List (List ℕ)). Takes old now c.args.writer.now c.loop-i.writer (concat t)) (take_all i blocks end) (c.loop-i.invariant.takes blocks lends all)
-
-pub returns-in_err-push-clause-asked : goal.returns-in_err-push-clause-asked
-returns-in_err-push-clause-asked g c =
-    let mid = g.F.Files.seen c.loop-i.files in
-    let h = c.requires.lent in
-    let s = c.requires.stands in
-    let t = c.loop-i.invariant.takes h.0 h.1 h.2 s.0 s.1 s.2 s.3 in
-    let stops = c.in_err-push.ensures.stopped (with_reads s.0 mid) s.1 (s.2 ++ concat (take c.loop-i.i h.0)) t in
-    stops_asked c.in_err-push.field-0.0 _ (g.F.Files.seen c.push.new.files) stops.1 ∙ c.loop-i.invariant.calm.asked
-
-pub returns-clause-asked : goal.returns-clause-asked
-returns-clause-asked g c = c.loop-i.invariant.calm.asked

@@ -1,9 +1,8 @@
 use Rattle.std.proofs.Common.{◌≡◌, false, ℕ, List, length, take}
 use Rattle.std.specs.List.{concat}
-use Rattle.las_outside.specs.Outside.{Later}
+use Rattle.las_outside.specs.Frames.{IsCalm, OnlyWrites}
 use Rattle.laz_file.specs.Copying.{Takes}
 use Rattle.laz_file.specs.Reading.{Lends}
-use Rattle.laz_file.specs.Writing.{SameFaults}
 use Rattle.laz_file.proofs.copying.push_lent.Given as goal
 
 abbrev pub invariant-loop-i : goal.invariant-loop-i
@@ -12,6 +11,6 @@ invariant-loop-i g l = record {
   most : l.writer.most ≡ l.fn.writer.most;
   takes : (blocks : List (List ℕ)) → Lends l.reader l.crew blocks → length blocks ≡ l.count
       → Takes (g.F.Files.seen l.fn.files) (g.F.Files.seen l.files) l.fn.writer l.writer (concat (take l.i blocks));
-  calm : SameFaults (g.F.Files.seen l.fn.files) (g.F.Files.seen l.files);
-  later : Later (g.F.Files.seen l.fn.files) (g.F.Files.seen l.files);
+  calm : IsCalm (g.F.Files.seen l.fn.files) (g.F.Files.seen l.files);
+  writes : OnlyWrites (g.F.Files.seen l.fn.files) (g.F.Files.seen l.files);
 }

@@ -23,7 +23,7 @@ returns-in_err-sizes-clause-refused g c = λ cause is.
     let start = c.in_ok-place.place.start in
     let offset_is = c.from-offset.ensures ∙ c.offset.ensures.field in
     let blocks_are = blocks_as c.args.head.now.bytes c.args.chunk c.points.result c.blocks_of-blocks.result c.blocks_of-blocks.ensures c.requires.chunk c.points.ensures in
-    known_three _ _ _ _ _ _ (λ file h place table. refused_table file c.args.head.now h c.requires.packed c.requires.vlr start c.in_ok-place.place.end (start - (offset + 8)) offset c.blocks_of-blocks.result place blocks_are offset_is refl (Some cause) table) c.requires.head c.in_ok-place.ensures.place (known_at _ _ _ _ c.in_ok-place.ensures.held refused)
+    known_three _ _ _ _ _ _ (λ file h place table. refused_table file c.args.head.now h c.requires.packed c.requires.vlr start c.in_ok-place.place.end (start - (offset + 8)) offset c.blocks_of-blocks.result place blocks_are offset_is refl (Some cause) table) c.requires.head c.in_ok-place.ensures.place (known_at _ _ _ _ c.in_ok-place.ensures.reads.only.held refused)
 
 pub returns-clause-stands : goal.returns-clause-stands
 returns-clause-stands g c =
@@ -39,7 +39,7 @@ returns-clause-stands g c =
     let both = accepted_packed file c.args.head.now h c.requires.packed c.requires.vlr start end (start - (offset + 8)) offset c.blocks_of-blocks.result place blocks_are offset_is refl c.args.chunk counts sizes list in
     let size_is : c.args.size ≡ length file = sym c.requires.size ∙ h.size in
     let lie = packed_lie file c.args.head.now h c.requires.packed c.requires.vlr start end (start - (offset + 8)) offset c.blocks_of-blocks.result place blocks_are offset_is refl c.args.chunk counts sizes order.0 (omega (arith, order.1, order.2, size_is)) c.in_ok-sizes.ensures.lists.whole in
-    record { accepted = both.0; are = both.1; lie = lie }) c.requires.head c.in_ok-place.ensures.place (known_at _ _ _ _ c.in_ok-place.ensures.held c.in_ok-sizes.ensures.accepted)
+    record { accepted = both.0; are = both.1; lie = lie }) c.requires.head c.in_ok-place.ensures.place (known_at _ _ _ _ c.in_ok-place.ensures.reads.only.held c.in_ok-sizes.ensures.accepted)
 
 pub returns-clause-points : goal.returns-clause-points
 returns-clause-points g c =

@@ -24,7 +24,7 @@ returns-in-Ok-read-clause-head g c =
     let bytes = c.read_on.new.bytes.items in
     let size = c.in-Ok.size in
     let offset = c.in_ok-offset.offset in
-    let known = head_known (g.F.Files.seen c.args.files.now).held c.args.name.now front bytes size offset _ c.in-Ok.ensures.length (known_at _ _ _ _ held1 c.in_ok-offset.ensures.bytes) (known_at _ _ _ _ (c.in_ok-offset.ensures.held ∙ held1) c.in_ok-read_on.ensures.bytes) c.in_ok-offset.ensures.len c.in_ok-offset.ensures.front c.in_ok-offset.ensures.offset in
+    let known = head_known (g.F.Files.seen c.args.files.now).held c.args.name.now front bytes size offset _ c.in-Ok.ensures.length (known_at _ _ _ _ held1 c.in_ok-offset.ensures.bytes) (known_at _ _ _ _ (c.in_ok-offset.ensures.reads.only.held ∙ held1) c.in_ok-read_on.ensures.bytes) c.in_ok-offset.ensures.len c.in_ok-offset.ensures.front c.in_ok-offset.ensures.offset in
     known_then _ _ _ _ (λ file h. head_accepted file front bytes size offset h c.read.result c.in-Ok-read.head c.read.ensures.head c.read.ensures.refused c.in-Ok-read.is) known
 
 pub returns-in-Ok-read-clause-size : goal.returns-in-Ok-read-clause-size
@@ -42,7 +42,7 @@ returns-in-Err-clause-refused g c = λ cause is.
     let bytes = c.read_on.new.bytes.items in
     let size = c.in-Ok.size in
     let offset = c.in_ok-offset.offset in
-    let known = head_known (g.F.Files.seen c.args.files.now).held c.args.name.now front bytes size offset _ c.in-Ok.ensures.length (known_at _ _ _ _ held1 c.in_ok-offset.ensures.bytes) (known_at _ _ _ _ (c.in_ok-offset.ensures.held ∙ held1) c.in_ok-read_on.ensures.bytes) c.in_ok-offset.ensures.len c.in_ok-offset.ensures.front c.in_ok-offset.ensures.offset in
+    let known = head_known (g.F.Files.seen c.args.files.now).held c.args.name.now front bytes size offset _ c.in-Ok.ensures.length (known_at _ _ _ _ held1 c.in_ok-offset.ensures.bytes) (known_at _ _ _ _ (c.in_ok-offset.ensures.reads.only.held ∙ held1) c.in_ok-read_on.ensures.bytes) c.in_ok-offset.ensures.len c.in_ok-offset.ensures.front c.in_ok-offset.ensures.offset in
     known_then _ _ _ _ (λ file h. head_refused file front bytes size offset h c.read.result c.in-Err.cause cause c.read.ensures.head c.read.ensures.refused c.in-Err.is (same_cause c.in-Err.cause cause is)) known
 
 pub returns-in-Ok-read-clause-plain : goal.returns-in-Ok-read-clause-plain
@@ -54,7 +54,7 @@ returns-in-Ok-read-clause-asked g c =
     let before = ap (λ (o : Outside). o.asked) c.in-Ok.ensures.ok in
     let front = c.in_ok-offset.ensures in
     let rest = c.in_ok-read_on.ensures in
-    omega (arith, same, before, front.asked, front.len, front.bounds, rest.asked, rest.len, c.read_on.new.bytes.ok.0)
+    omega (arith, same, before, front.reads.asked, front.len, front.bounds, rest.reads.asked, rest.len, c.read_on.new.bytes.ok.0)
 
 pub returns-in_err-read_on-clause-asked_of : goal.returns-in_err-read_on-clause-asked_of
 returns-in_err-read_on-clause-asked_of g c = λ there.
@@ -63,7 +63,7 @@ returns-in_err-read_on-clause-asked_of g c = λ there.
     let front = c.in_ok-offset.ensures in
     let rest = c.in_err-read_on.ensures in
     head_asks (g.F.Files.seen c.args.files.now).held c.args.name.now c.read_front.new.bytes.items c.in_ok-offset.offset (g.F.Files.seen c.args.files.now).asked (g.F.Files.seen c.read_on.new.files).asked (known_at _ _ _ _ held front.bytes) front.offset
-    (omega (arith, before, front.asked, front.len, rest.asked))
+    (omega (arith, before, front.reads.asked, front.len, rest.reads.asked))
 
 pub returns-in-Ok-read-clause-asked_of : goal.returns-in-Ok-read-clause-asked_of
 returns-in-Ok-read-clause-asked_of g c = λ there.
@@ -72,7 +72,7 @@ returns-in-Ok-read-clause-asked_of g c = λ there.
     let front = c.in_ok-offset.ensures in
     let rest = c.in_ok-read_on.ensures in
     head_asks (g.F.Files.seen c.args.files.now).held c.args.name.now c.read_front.new.bytes.items c.in_ok-offset.offset (g.F.Files.seen c.args.files.now).asked (g.F.Files.seen c.read_on.new.files).asked (known_at _ _ _ _ held front.bytes) front.offset
-    (omega (arith, before, front.asked, front.len, rest.asked))
+    (omega (arith, before, front.reads.asked, front.len, rest.reads.asked))
 
 pub returns-in-Err-clause-asked_of : goal.returns-in-Err-clause-asked_of
 returns-in-Err-clause-asked_of g c = λ there.
@@ -81,4 +81,4 @@ returns-in-Err-clause-asked_of g c = λ there.
     let front = c.in_ok-offset.ensures in
     let rest = c.in_ok-read_on.ensures in
     head_asks (g.F.Files.seen c.args.files.now).held c.args.name.now c.read_front.new.bytes.items c.in_ok-offset.offset (g.F.Files.seen c.args.files.now).asked (g.F.Files.seen c.read_on.new.files).asked (known_at _ _ _ _ held front.bytes) front.offset
-    (omega (arith, before, front.asked, front.len, rest.asked))
+    (omega (arith, before, front.reads.asked, front.len, rest.reads.asked))

@@ -12,7 +12,7 @@ returns-clause-bytes g c =
     let start = c.args.place.start in
     let end = c.args.place.end in
     let most = c.table_size-most.result in
-    let held1 = c.in_ok-read_on.ensures.held in
+    let held1 = c.in_ok-read_on.ensures.reads.only.held in
     known_three _ _ _ _ _ _ (λ file within one two.
     let first_is = one (c.new-bytes.ensures.items ∙ ap (λ (n : ℕ). take n (drop start file)) (sym c.new-bytes.ensures.len)) ∙ ap (λ (n : ℕ). take n (drop start file)) c.min.ensures in
     let first_known = first_is ∙ ap (λ (n : ℕ). take n (drop start file)) (sym (c.in_ok-read_on.ensures.len ∙ c.min.ensures)) in
@@ -40,7 +40,7 @@ returns-in_err-read_on-2-clause-asked_of g c =
     part_asks (g.F.Files.seen c.args.files.now).held c.args.name.now _ first c.args.place.start c.args.place.end _ _ c.table_size-most.result (g.F.Files.seen c.args.files.now).asked (g.F.Files.seen c.read_on-2.new.files).asked
     c.requires.order c.requires.within c.new-bytes.ensures.items c.new-bytes.ensures.len c.min.ensures one.bytes
     (λ long. c.table_size-most.ensures.size (omega (arith, long, ap (λ (l : List ℕ). length l) c.deref.ensures.value)) ∙ ap (λ (l : List ℕ). table_size l) c.deref.ensures.value)
-    (omega (arith, one.asked, two.asked, one.len, c.min.ensures, c.min-2.ensures, c.new-bytes.ensures.len, c.table_size-most.ensures.bounds))
+    (omega (arith, one.reads.asked, two.reads.asked, one.len, c.min.ensures, c.min-2.ensures, c.new-bytes.ensures.len, c.table_size-most.ensures.bounds))
 
 pub returns-clause-asked_of : goal.returns-clause-asked_of
 returns-clause-asked_of g c =
@@ -50,4 +50,4 @@ returns-clause-asked_of g c =
     part_asks (g.F.Files.seen c.args.files.now).held c.args.name.now _ first c.args.place.start c.args.place.end _ _ c.table_size-most.result (g.F.Files.seen c.args.files.now).asked (g.F.Files.seen c.read_on-2.new.files).asked
     c.requires.order c.requires.within c.new-bytes.ensures.items c.new-bytes.ensures.len c.min.ensures one.bytes
     (λ long. c.table_size-most.ensures.size (omega (arith, long, ap (λ (l : List ℕ). length l) c.deref.ensures.value)) ∙ ap (λ (l : List ℕ). table_size l) c.deref.ensures.value)
-    (omega (arith, one.asked, two.asked, one.len, c.min.ensures, c.min-2.ensures, c.new-bytes.ensures.len, c.table_size-most.ensures.bounds))
+    (omega (arith, one.reads.asked, two.reads.asked, one.len, c.min.ensures, c.min-2.ensures, c.new-bytes.ensures.len, c.table_size-most.ensures.bounds))

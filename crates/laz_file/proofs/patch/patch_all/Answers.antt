@@ -3,7 +3,7 @@ use Rattle.std.proofs.lemmas.List.Elements.{All-take}
 use Rattle.las_outside.specs.Drafts.{IsPatchedInPart, Patch, with_patches}
 use Rattle.las_outside.specs.Files.{with_patch}
 use Rattle.las_outside.specs.Outside.{with_bytes}
-use Rattle.laz_file.proofs.Faults.{later-trans}
+use Rattle.las_outside.proofs.Frames.{only_writes-trans}
 use Rattle.laz_file.proofs.Patching.{LiesIn, length-with_patches, patched_part, with_patches-more}
 use Rattle.laz_file.proofs.Putting.{if_err}
 use Rattle.laz_file.proofs.patch.patch_all.Goals as goal
@@ -41,5 +41,5 @@ loop-patch-preserved g c =
           c.in_ok-put_patch.ensures.replaced before (with_patches text (take i ps)) (c.loop-patch.invariant.patched before text was)
           ∙ ap (λ (x : Patch). with_bytes before c.args.name.now (with_patch (with_patches text (take i ps)) x.0 x.1)) c.patch-item.is
           ∙ ap (with_bytes before c.args.name.now) (sym (with_patches-more text ps i p within));
-      later = later-trans _ _ _ c.loop-patch.invariant.later c.in_ok-put_patch.ensures.later;
+      writes = only_writes-trans _ _ _ c.loop-patch.invariant.writes c.in_ok-put_patch.ensures.writes;
     }

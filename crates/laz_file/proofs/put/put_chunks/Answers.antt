@@ -1,6 +1,7 @@
 use Rattle.std.proofs.Common.{◌≡◌, ◌<◌, ℕ, List, [], ◌∷◌, ◌++◌, length, take, map, get_or, sym, ◌∙◌, ap, subst, append_assoc, arith}
 use Rattle.std.proofs.lemmas.List.{append-nil}
 use Rattle.las_outside.specs.Outside.{Outside, with_bytes}
+use Rattle.las_outside.proofs.Frames.{only_writes-trans}
 use Rattle.laz_chunk.specs.Chunks.{chunk_bytes}
 use Rattle.laz_chunk.specs.Layouts.{layout}
 use Rattle.laz_workers.specs.Rooms.{rooms_of}
@@ -9,7 +10,6 @@ use Rattle.laz_workers.proofs.Standing.{answer_there}
 use Rattle.laz_workers.proofs.Texts.{length-texts}
 use Rattle.laz_file.specs.Writing.{IsChunk, Stops, all_chunks, chunks}
 use Rattle.laz_file.proofs.Putting.{if_err, in_part, is_lent, joined_more, lent_is, lent_small, sizes_more}
-use Rattle.laz_file.proofs.Faults.{later-trans}
 use Rattle.laz_file.proofs.put.put_chunks.Goals as goal
 
 pub result-requires : goal.result-requires
@@ -67,6 +67,6 @@ loop-i-preserved g c =
     record {
       added = λ before text was. c.in_ok-put.ensures.added before (text ++ done) (c.loop-i.invariant.added before text was)
           ∙ ap (with_bytes before name) (append_assoc text done c.in-Some.chunk.now ∙ ap (λ (t : List ℕ). text ++ (done ++ t)) piece ∙ ap (λ (t : List ℕ). text ++ t) (sym (joined_more f inputs i [] within)));
-      later = later-trans _ _ _ c.loop-i.invariant.later c.in_ok-put.ensures.later;
+      writes = only_writes-trans _ _ _ c.loop-i.invariant.writes c.in_ok-put.ensures.writes;
       lengths = c.in-Ok.ensures.items ∙ ap (λ (t : List ℕ). t ++ length c.in-Some.chunk.now ∷ []) c.loop-i.invariant.lengths ∙ append_assoc c.args.lengths.now.items sizes (length c.in-Some.chunk.now ∷ []) ∙ ap (λ (n : ℕ). c.args.lengths.now.items ++ (sizes ++ n ∷ [])) (ap (λ (t : List ℕ). length t) piece) ∙ ap (λ (t : List ℕ). c.args.lengths.now.items ++ t) (sym (sizes_more f inputs i [] within));
     }

@@ -8,9 +8,9 @@ use Rattle.laz_file.proofs.seeking.seek.Goals as goal
 pub returns-then-start-stop : goal.returns-then-start-stop
 returns-then-start-stop c =
     let range : Range = record { start = c.args.start; stop = c.args.stop } in
-    let n = length c.args.counts.now in
+    let n = length c.args.points.now in
     let ends : Ends = record { first = n; last = n; skip = 0; tail = 0 } in
-    sought_none range ends c.args.place c.args.counts.now c.args.sizes.now (omega (arith, c.if-start-stop.true)) c.requires.same refl refl refl
+    sought_none range ends c.args.place c.args.points.now c.args.bytes.now (omega (arith, c.if-start-stop.true)) c.requires.same refl refl refl
 
 pub overflow_cast-ends-2 : goal.overflow_cast-ends-2
 overflow_cast-ends-2 c = record { fits = omega (arith, c.last_chunk-last.ensures.small, c.from-2.ensures) }
@@ -23,10 +23,10 @@ returns c =
     let before = c.first_chunk-first.result.1 in
     let reached = c.last_chunk-last.result.1 in
     let ends : Ends = record { first = c.first_chunk-first.result.0; last = c.last_chunk-last.result.0; skip = c.from.result - before; tail = reached - c.from-2.result } in
-    subst (λ (at : ℕ). IsSought range c.args.place c.args.counts.now c.args.sizes.now ends at) (sym one.place)
-    (sought range ends c.args.place before reached c.args.counts.now c.args.sizes.now (record {
+    subst (λ (at : ℕ). IsSought range c.args.place c.args.points.now c.args.bytes.now ends at) (sym one.place)
+    (sought range ends c.args.place before reached c.args.points.now c.args.bytes.now (record {
       same = c.requires.same;
-      some = recursion_from_All (λ n. 0 < n) c.args.counts.now c.requires.some;
+      some = recursion_from_All (λ n. 0 < n) c.args.points.now c.requires.some;
       order = two.order;
       within = two.within;
       before_is = one.before;

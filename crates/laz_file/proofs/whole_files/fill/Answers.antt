@@ -1,11 +1,10 @@
-use Rattle.std.proofs.Common.{◌++◌, Err, ap, subst, arith}
+use Rattle.std.proofs.Common.{◌++◌, Err, ap, subst}
 use Rattle.std.specs.List.{concat}
 use Rattle.las_outside.specs.Outside.{Outside}
 use Rattle.laz_file.specs.Copying.{EndsAfter, with_reads}
 use Rattle.laz_file.proofs.Endings.{ends_part, ends_with, first_finish, first_stop, hold_all}
 use Rattle.laz_file.proofs.Putting.{if_err}
 use Rattle.laz_file.proofs.Taking.{cause_push}
-use Rattle.laz_file.proofs.Unasked.{stops_asked}
 use Rattle.laz_file.proofs.whole_files.fill.Goals as goal
 
 pub returns-in_err-copy_records-clause-ends : goal.returns-in_err-copy_records-clause-ends
@@ -70,27 +69,3 @@ returns-in_ok-stop-in-Some-clause-ends g c before out bytes s =
     let d = c.in_ok-copy_records.ensures.copied in
     let end = subst (EndsAfter old.held c.args.reader.now d.0) c.in-Some.is d.3 in
     (d.0, d.1, d.2, end, ap (λ (o : Outside). o.held) (c.in_ok-stop-in-Some.ensures.stopped (with_reads before mid) out (bytes ++ concat d.1) (d.4 before out bytes s)))
-
-pub returns-in_err-finish-in-None-clause-asked : goal.returns-in_err-finish-in-None-clause-asked
-returns-in_err-finish-in-None-clause-asked g c =
-    let s = c.requires.stands in
-    let mid = g.F.Files.seen c.copy_records.new.files in
-    let d = c.in_ok-copy_records.ensures.copied in
-    let p = c.in_err-finish-in-None.ensures.stopped (with_reads s.0 mid) s.1 (s.2 ++ concat d.1) (d.4 s.0 s.1 s.2 s.3) in
-    let same = stops_asked c.in_err-finish-in-None.field-0.0 _ (g.F.Files.seen c.finish.new.files) p.2 in
-    omega (arith, same, c.copy_records.ensures.asked)
-
-pub returns-in_err-stop-in-Some-clause-asked : goal.returns-in_err-stop-in-Some-clause-asked
-returns-in_err-stop-in-Some-clause-asked g c =
-    let s = c.requires.stands in
-    let mid = g.F.Files.seen c.copy_records.new.files in
-    let d = c.in_ok-copy_records.ensures.copied in
-    let p = c.in_err-stop-in-Some.ensures.broken (with_reads s.0 mid) s.1 (s.2 ++ concat d.1) (d.4 s.0 s.1 s.2 s.3) in
-    let same = stops_asked c.in_err-stop-in-Some.field-0.0 _ (g.F.Files.seen c.stop.new.files) p.1 in
-    omega (arith, same, c.copy_records.ensures.asked)
-
-pub returns-in_ok-finish-in-None-clause-asked : goal.returns-in_ok-finish-in-None-clause-asked
-returns-in_ok-finish-in-None-clause-asked g c = omega (arith, c.in_ok-finish-in-None.ensures.calm.asked, c.copy_records.ensures.asked)
-
-pub returns-in_ok-stop-in-Some-clause-asked : goal.returns-in_ok-stop-in-Some-clause-asked
-returns-in_ok-stop-in-Some-clause-asked g c = omega (arith, c.in_ok-stop-in-Some.ensures.calm.asked, c.copy_records.ensures.asked)

@@ -13,7 +13,6 @@ use Rattle.laz_file.specs.Reading.{ReaderSeen, StandsFor}
 use Rattle.laz_file.specs.Records.{AreRecordsOf}
 use Rattle.laz_file.proofs.Knowing.{known_both, known_then}
 use Rattle.laz_file.proofs.Putting.{if_err}
-use Rattle.laz_file.proofs.Unasked.{created_asked}
 use Rattle.laz_file.proofs.WholeOutputs.{create_left, ends_left, err_at, err_then, finishes, known_reader, leaves, leaves_plain, leaves_short, no_chunk, ok_then, packed_out, packs, plain_kind, stands_ready}
 use Rattle.laz_file.proofs.whole_files.pack.Goals as goal
 
@@ -106,16 +105,10 @@ returns-clause-write g c is =
     let e = err_at (EndsCopying mid.held old.held mid new c.crew.new.self out []) c.fill.result Write (c.fill.ensures.ends old out [] c.in_ok-writer.ensures.stands) is in
     subst (λ (n : ℕ). Rose n new.write_faults) c.in_ok-writer.ensures.calm.writes e.0
 
-pub returns-in_err-writer-clause-asked : goal.returns-in_err-writer-clause-asked
-returns-in_err-writer-clause-asked g c =
-    let old = g.F.Files.seen c.args.files.now in
-    let same = created_asked c.create.result old (g.F.Files.seen c.create.new.files) c.args.output.now _ c.create.ensures.calm c.create.ensures.stopped in
-    omega (arith, same)
-
 pub returns-clause-asked : goal.returns-clause-asked
 returns-clause-asked g c =
     let same : bytes_left c.crew.new.self ≡ bytes_left c.args.reader = ap bytes_left c.in_ok-crew.ensures.kept in
-    omega (arith, same, c.in_ok-writer.ensures.calm.asked, c.fill.ensures.asked)
+    omega (arith, same, c.create.ensures.writes.asked, c.fill.ensures.asked)
 
 pub returns-clause-in_part : goal.returns-clause-in_part
 returns-clause-in_part g c is =

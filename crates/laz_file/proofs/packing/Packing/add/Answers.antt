@@ -1,11 +1,11 @@
 use Rattle.std.proofs.Common.{◌+◌, ◌-◌, ℕ, List, ◌++◌, length, take, drop, ◌∙◌, ap, subst, arith}
 use Rattle.std.proofs.lemmas.List.{length-drop, length-take}
 use Rattle.las_outside.specs.Outside.{with_bytes}
+use Rattle.las_outside.proofs.Frames.{only_writes-trans}
 use Rattle.laz_file.specs.declared.fault.Fault.TheVariants.{Memory}
 use Rattle.laz_file.specs.Writing.{Plan, Stops, full_chunks}
 use Rattle.laz_file.proofs.Putting.{if_err}
 use Rattle.laz_file.proofs.Standing.{few_more, next, next_within, stands_within}
-use Rattle.laz_file.proofs.Faults.{later-trans}
 use Rattle.laz_file.proofs.packing.Packing.add.Goals as goal
 
 pub take_in-requires-clause-short : goal.take_in-requires-clause-short
@@ -54,7 +54,7 @@ loop-at-preserved g c =
       within = omega (arith, t.1, length-take (length records - at) (drop at records), length-drop at records, c.loop-at-test.true);
       few = c.in_ok-append_batch.ensures.few;
       plan = c.append_batch.ensures.plan ∙ (c.take_in.ensures.plan ∙ c.loop-at.invariant.plan);
-      later = later-trans _ _ _ c.loop-at.invariant.later c.append_batch.ensures.later;
+      writes = only_writes-trans _ _ _ c.loop-at.invariant.writes c.append_batch.ensures.writes;
       stands = λ before front bytes s room.
           let now = c.loop-at.invariant.stands before front bytes s room in
           let u = next c.args.self.now c.loop-at.self q c.loop-at.invariant.plan before _ c.args.name.now front bytes records at c.in_ok-at.field-0 now t.2 c.loop-at-test.true room in

@@ -6,4 +6,4 @@ use Rattle.laz_file.proofs.reader.Reader.chunks.Goals as goal
 pub returns : goal.returns
 returns c =
     let r = c.self.inside in
-    omega (arith, r.counts.ok.0, length-pieces (length r.head.bytes + 8) r.counts.items r.sizes.items c.self.invariant.0.same, ap (λ (s : ReaderSeen). length s.pieces) c.self.view_is)
+    omega (arith, r.points.ok.0, length-pieces (length r.head.bytes + 8) r.points.items r.bytes.items c.self.invariant.0.same, ap (λ (s : ReaderSeen). length s.pieces) c.self.view_is)

@@ -4,12 +4,12 @@ use Rattle.laz_file.specs.Reading.{ReaderSeen}
 use Rattle.laz_file.proofs.PieceLists.{piece_counts, piece_sizes}
 use Rattle.laz_file.proofs.reader.Reader.into_chunks.Goals as goal
 
-pub returns-clause-counts : goal.returns-clause-counts
-returns-clause-counts c =
+pub returns-clause-points : goal.returns-clause-points
+returns-clause-points c =
     let r = c.self.inside in
-    sym (piece_counts (length r.head.bytes + 8) r.counts.items r.sizes.items c.self.invariant.0.same) ∙ ap (λ (s : ReaderSeen). map (λ (p : Piece). p.count) s.pieces) c.self.view_is
+    sym (piece_counts (length r.head.bytes + 8) r.points.items r.bytes.items c.self.invariant.0.same) ∙ ap (λ (s : ReaderSeen). map (λ (p : Piece). p.count) s.pieces) c.self.view_is
 
-pub returns-clause-sizes : goal.returns-clause-sizes
-returns-clause-sizes c =
+pub returns-clause-bytes : goal.returns-clause-bytes
+returns-clause-bytes c =
     let r = c.self.inside in
-    sym (piece_sizes (length r.head.bytes + 8) r.counts.items r.sizes.items c.self.invariant.0.same) ∙ ap (λ (s : ReaderSeen). map (λ (p : Piece). p.size) s.pieces) c.self.view_is
+    sym (piece_sizes (length r.head.bytes + 8) r.points.items r.bytes.items c.self.invariant.0.same) ∙ ap (λ (s : ReaderSeen). map (λ (p : Piece). p.size) s.pieces) c.self.view_is

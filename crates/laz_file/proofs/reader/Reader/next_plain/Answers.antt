@@ -3,7 +3,6 @@ use Rattle.las_header.specs.Fields.{points_of, record_length_of}
 use Rattle.laz_file.specs.Reading.{AreWholeBlocks, Position, ReaderSeen, pieces_left}
 use Rattle.laz_file.specs.Pieces.{plain_from}
 use Rattle.laz_file.proofs.Asking.{asked_block, asked_part}
-use Rattle.laz_file.proofs.Taking.{on_err}
 use Rattle.laz_file.proofs.Knowing.{known_as, known_both, known_then}
 use Rattle.laz_file.proofs.Batches.{block_held, first, first_size, parts, plain_fine, block_is, block_lies, block_rest, block_whole, no_pieces, one_lent, plain_left, stands_plain}
 use Rattle.laz_file.proofs.reader.Reader.next_plain.Goals as goal
@@ -74,8 +73,8 @@ returns-clause-moved g c =
     let rest = plain_left r.chunk size q _ _ (ap (λ (s : ReaderSeen). s.chunk) c.self.view_is ∙ c.requires.plain) ∙ block_rest size r.place r.records c.min-count.result _ c.args.self.now.left some count taken left in
     λ i. record (c.self.view_is i) { next = next i; left = rest i; lent = c.read_part.new.buffer.items }
 
-pub returns-in_err-read_part-clause-asked_more : goal.returns-in_err-read_part-clause-asked_more
-returns-in_err-read_part-clause-asked_more g c =
+pub returns-in_err-read_part-clause-reads : goal.returns-in_err-read_part-clause-reads
+returns-in_err-read_part-clause-reads g c =
     let r = c.self.inside in
     let p : Position = record { at = r.place; blocks = r.blocks; records = r.records; ends = r.ends; next = r.next; batch = r.batch; bad = r.bad } in
     let size = record_length_of r.head.bytes in
@@ -87,9 +86,10 @@ returns-in_err-read_part-clause-asked_more g c =
     let now = c.args.self.now in
     let old = (g.F.Files.seen c.args.files.now).asked in
     let later = (g.F.Files.seen c.read_part.new.files).asked in
-    let fine : now.bad ≡ false = sym (ap (λ (s : ReaderSeen). s.bad) c.self.view_is) ∙ plain_fine r.chunk (length r.head.bytes) (points_of r.head.bytes) size p r.counts.items r.sizes.items c.self.invariant.0 c.self.invariant.1 chunk in
+    let fine : now.bad ≡ false = sym (ap (λ (s : ReaderSeen). s.bad) c.self.view_is) ∙ plain_fine r.chunk (length r.head.bytes) (points_of r.head.bytes) size p r.points.items r.bytes.items c.self.invariant.0 c.self.invariant.1 chunk in
     let rest = plain_from size (r.place + c.from.result * c.min-count.result) (r.records - c.min-count.result) in
-    on_err c.from_residual.result (asked_part now (first size r.place r.records c.min-count.result (c.from.result * c.min-count.result) c.args.self.now.left some count taken left) rest (c.from.result * c.min-count.result) (parts size r.place r.records c.min-count.result (c.from.result * c.min-count.result) c.args.self.now.left some count taken left) (first_size size r.place r.records c.min-count.result (c.from.result * c.min-count.result) c.args.self.now.left some count taken left) fine old later c.read_part.ensures.asked)
+    let reads = c.read_part.ensures.reads in
+    record { only = reads.only; asked = asked_part now (first size r.place r.records c.min-count.result (c.from.result * c.min-count.result) c.args.self.now.left some count taken left) rest (c.from.result * c.min-count.result) (parts size r.place r.records c.min-count.result (c.from.result * c.min-count.result) c.args.self.now.left some count taken left) (first_size size r.place r.records c.min-count.result (c.from.result * c.min-count.result) c.args.self.now.left some count taken left) fine old later reads.asked }
 
 pub returns-clause-asked : goal.returns-clause-asked
 returns-clause-asked g c =
@@ -104,9 +104,12 @@ returns-clause-asked g c =
     let now = c.args.self.now in
     let old = (g.F.Files.seen c.args.files.now).asked in
     let later = (g.F.Files.seen c.read_part.new.files).asked in
-    let fine : now.bad ≡ false = sym (ap (λ (s : ReaderSeen). s.bad) c.self.view_is) ∙ plain_fine r.chunk (length r.head.bytes) (points_of r.head.bytes) size p r.counts.items r.sizes.items c.self.invariant.0 c.self.invariant.1 chunk in
+    let fine : now.bad ≡ false = sym (ap (λ (s : ReaderSeen). s.bad) c.self.view_is) ∙ plain_fine r.chunk (length r.head.bytes) (points_of r.head.bytes) size p r.points.items r.bytes.items c.self.invariant.0 c.self.invariant.1 chunk in
     let rest = plain_from size (r.place + c.from.result * c.min-count.result) (r.records - c.min-count.result) in
     let moved = returns-clause-moved g c in
     let still = ap (λ (s : ReaderSeen). s.bad) c.self.view_is ∙ fine in
     let q : Position = record p { at = r.place + c.from.result * c.min-count.result; blocks = r.blocks + 1; records = r.records - c.min-count.result } in
-    asked_block now r.bad (pieces_left r.chunk size q r.counts.items r.sizes.items) (first size r.place r.records c.min-count.result (c.from.result * c.min-count.result) c.args.self.now.left some count taken left) rest (c.from.result * c.min-count.result) (parts size r.place r.records c.min-count.result (c.from.result * c.min-count.result) c.args.self.now.left some count taken left) (first_size size r.place r.records c.min-count.result (c.from.result * c.min-count.result) c.args.self.now.left some count taken left) (ap (λ (s : ReaderSeen). s.left) moved ∙ ap (drop 1) (parts size r.place r.records c.min-count.result (c.from.result * c.min-count.result) c.args.self.now.left some count taken left)) fine still old later c.read_part.ensures.asked
+    asked_block now r.bad (pieces_left r.chunk size q r.points.items r.bytes.items) (first size r.place r.records c.min-count.result (c.from.result * c.min-count.result) c.args.self.now.left some count taken left) rest (c.from.result * c.min-count.result) (parts size r.place r.records c.min-count.result (c.from.result * c.min-count.result) c.args.self.now.left some count taken left) (first_size size r.place r.records c.min-count.result (c.from.result * c.min-count.result) c.args.self.now.left some count taken left) (ap (λ (s : ReaderSeen). s.left) moved ∙ ap (drop 1) (parts size r.place r.records c.min-count.result (c.from.result * c.min-count.result) c.args.self.now.left some count taken left)) fine still old later c.read_part.ensures.reads.asked
+
+pub returns-clause-reads : goal.returns-clause-reads
+returns-clause-reads g c = record { only = c.read_part.ensures.reads.only; asked = omega (arith, returns-clause-asked g c) }

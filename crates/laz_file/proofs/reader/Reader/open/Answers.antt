@@ -19,13 +19,13 @@ returns-clause-stands g c =
     let head = c.in_ok-head.head in
     let list = c.in_ok-list.list in
     known_both _ _ _ _ _ (λ file h lists. subst (λ (r : ReaderSeen). StandsFor r file) (sym c.of.ensures)
-    (new_stands file _ head list.chunk list.counts.items list.sizes.items h c.in_ok-list.ensures.chunk lists c.in_ok-list.ensures.plain)) c.in_ok-head.ensures.head (known_at _ _ _ _ c.in_ok-head.ensures.held c.in_ok-list.ensures.stands)
+    (new_stands file _ head list.chunk list.points.items list.bytes.items h c.in_ok-list.ensures.chunk lists c.in_ok-list.ensures.plain)) c.in_ok-head.ensures.head (known_at _ _ _ _ c.in_ok-head.ensures.reads.held c.in_ok-list.ensures.stands)
 
 pub returns-clause-whole : goal.returns-clause-whole
 returns-clause-whole g c =
     let list = c.in_ok-list.list in
     let e = c.in_ok-list.ensures in
-    subst AgreesWithHead (sym c.of.ensures) (new_agrees _ c.in_ok-head.head list.chunk list.counts.items list.sizes.items e.chunk e.vlr c.in_ok-head.ensures.plain e.lists.same e.points)
+    subst AgreesWithHead (sym c.of.ensures) (new_agrees _ c.in_ok-head.head list.chunk list.points.items list.bytes.items e.chunk e.vlr c.in_ok-head.ensures.plain e.lists.same e.points)
 
 pub returns-clause-asked : goal.returns-clause-asked
 returns-clause-asked g c =
@@ -34,8 +34,8 @@ returns-clause-asked g c =
     let e = c.in_ok-list.ensures in
     let old = (g.F.Files.seen c.args.files.now).asked in
     let new = (g.F.Files.seen c.read_list.new.files).asked in
-    let asked : new ≤ old + (length head.bytes + asked_for_list list.chunk (length list.counts.items)) = omega (arith, c.in_ok-head.ensures.asked, e.asked) in
-    let chunks = length-pieces (length head.bytes + 8) list.counts.items list.sizes.items e.lists.same in
+    let asked : new ≤ old + (length head.bytes + asked_for_list list.chunk (length list.points.items)) = omega (arith, c.in_ok-head.ensures.asked, e.asked) in
+    let chunks = length-pieces (length head.bytes + 8) list.points.items list.bytes.items e.lists.same in
     subst (λ (r : ReaderSeen). new ≤ old + (length r.head.bytes + asked_for_list r.chunk (length r.pieces))) (sym c.of.ensures)
     (subst (λ (n : ℕ). new ≤ old + (length head.bytes + asked_for_list list.chunk n)) (sym chunks) asked)
 
@@ -45,4 +45,4 @@ returns-clause-asked_of g c = λ there.
     let mid = g.F.Files.seen c.read_head.new.files in
     let new = g.F.Files.seen c.read_list.new.files in
     known_both old.held c.args.name.now (λ file. AsksAtMost (asked_for_head file) old mid) (λ file. AsksAtMost (asked_for_table file) mid new) (λ file. AsksAtMost (asked_to_open file) old new)
-    (λ file head table. omega (arith, head, table)) (c.in_ok-head.ensures.asked_of there) (known_at _ _ _ _ c.in_ok-head.ensures.held c.in_ok-list.ensures.asked_of)
+    (λ file head table. omega (arith, head, table)) (c.in_ok-head.ensures.asked_of there) (known_at _ _ _ _ c.in_ok-head.ensures.reads.held c.in_ok-list.ensures.asked_of)

@@ -13,7 +13,7 @@ returns-clause-crew c =
     let head = r.head.bytes in
     let long = record_length (record_layout head) in
     let most = c.greatest.result in
-    let counts = r.counts.items in
+    let counts = r.points.items in
     let crew = c.in_ok-crew.crew in
     let format : ◌≡◌ {A = Format} (record { format = c.format-format.result; extra = c.extra-extra.result }) (format_in head) = λ i. record { format = c.format-format.ensures.field i; extra = c.extra-extra.ensures.field i } in
     let size : c.record_length.result ≡ long = c.record_length.ensures.length ∙ ap (λ (f : Format). record_length (layout f)) (c.new-job.ensures ∙ format) in
@@ -22,5 +22,5 @@ returns-clause-crew c =
       hands = omega (arith, c.in_ok-crew.ensures.hands, c.requires.workers.0);
       buffers = omega (arith, c.in_ok-self-inside.ensures, c.in_ok-crew.ensures.hands);
       spaces = λ k d lt. c.in_ok-crew.ensures.spaces k d lt ∙ format;
-      rooms = have_room long (length head + 8) most (c.record_length.result * most) counts r.sizes.items (lengths_of (rooms_of crew)) within (ap (λ (n : ℕ). n * most) size) c.in_ok-crew.ensures.rooms;
+      rooms = have_room long (length head + 8) most (c.record_length.result * most) counts r.bytes.items (lengths_of (rooms_of crew)) within (ap (λ (n : ℕ). n * most) size) c.in_ok-crew.ensures.rooms;
     }

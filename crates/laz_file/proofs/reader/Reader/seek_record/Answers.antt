@@ -17,8 +17,8 @@ returns-in-None-clause-stands c = λ file st.
     let p : Position = record { at = r.place; blocks = r.blocks; records = r.records; ends = r.ends; next = r.next; batch = r.batch; bad = r.bad } in
     let size = record_length_of r.head.bytes in
     let offset = length r.head.bytes in
-    let counts = r.counts.items in
-    let sizes = r.sizes.items in
+    let counts = r.points.items in
+    let sizes = r.bytes.items in
     let l = c.self.invariant.0 in
     let place = c.self.invariant.1 in
     let unread : r.next + r.blocks ≡ r.ends.first = ap (λ (s : ReaderSeen). s.next) v ∙ c.requires.unread ∙ sym (ap (λ (s : ReaderSeen). s.first) v) in
@@ -41,8 +41,8 @@ returns-in-None-clause-whole c = λ a.
     let p : Position = record { at = r.place; blocks = r.blocks; records = r.records; ends = r.ends; next = r.next; batch = r.batch; bad = r.bad } in
     let size = record_length_of r.head.bytes in
     let offset = length r.head.bytes in
-    let counts = r.counts.items in
-    let sizes = r.sizes.items in
+    let counts = r.points.items in
+    let sizes = r.bytes.items in
     let l = c.self.invariant.0 in
     let place = c.self.invariant.1 in
     let unread : r.next + r.blocks ≡ r.ends.first = ap (λ (s : ReaderSeen). s.next) v ∙ c.requires.unread ∙ sym (ap (λ (s : ReaderSeen). s.first) v) in
@@ -64,8 +64,8 @@ returns-in-Some-clause-stands c = λ file st.
     let p : Position = record { at = r.place; blocks = r.blocks; records = r.records; ends = r.ends; next = r.next; batch = r.batch; bad = r.bad } in
     let size = record_length_of r.head.bytes in
     let offset = length r.head.bytes in
-    let counts = r.counts.items in
-    let sizes = r.sizes.items in
+    let counts = r.points.items in
+    let sizes = r.bytes.items in
     let l = c.self.invariant.0 in
     let place = c.self.invariant.1 in
     let unread : r.next + r.blocks ≡ r.ends.first = ap (λ (s : ReaderSeen). s.next) v ∙ c.requires.unread ∙ sym (ap (λ (s : ReaderSeen). s.first) v) in
@@ -93,8 +93,8 @@ returns-in-Some-clause-whole c = λ a.
     let p : Position = record { at = r.place; blocks = r.blocks; records = r.records; ends = r.ends; next = r.next; batch = r.batch; bad = r.bad } in
     let size = record_length_of r.head.bytes in
     let offset = length r.head.bytes in
-    let counts = r.counts.items in
-    let sizes = r.sizes.items in
+    let counts = r.points.items in
+    let sizes = r.bytes.items in
     let l = c.self.invariant.0 in
     let place = c.self.invariant.1 in
     let unread : r.next + r.blocks ≡ r.ends.first = ap (λ (s : ReaderSeen). s.next) v ∙ c.requires.unread ∙ sym (ap (λ (s : ReaderSeen). s.first) v) in
@@ -121,8 +121,8 @@ returns-in-Some-clause-crew c = λ crew k.
     let p : Position = record { at = r.place; blocks = r.blocks; records = r.records; ends = r.ends; next = r.next; batch = r.batch; bad = r.bad } in
     let size = record_length_of r.head.bytes in
     let offset = length r.head.bytes in
-    let counts = r.counts.items in
-    let sizes = r.sizes.items in
+    let counts = r.points.items in
+    let sizes = r.bytes.items in
     let l = c.self.invariant.0 in
     let place = c.self.invariant.1 in
     let unread : r.next + r.blocks ≡ r.ends.first = ap (λ (s : ReaderSeen). s.next) v ∙ c.requires.unread ∙ sym (ap (λ (s : ReaderSeen). s.first) v) in

@@ -3,7 +3,7 @@ use Rattle.las_outside.specs.Outside.{Outside, with_bytes}
 use Rattle.laz_file.specs.Outputs.{front}
 use Rattle.laz_file.specs.Writing.{Stops, WriterSeen, all_chunks}
 use Rattle.laz_file.proofs.Arms.{held_text, kept_part, kept_text, packed_form, plain_stopped}
-use Rattle.laz_file.proofs.Faults.{err_of, same_faults, stops_kind, stops_rose}
+use Rattle.laz_file.proofs.Faults.{calm_text, err_of, stops_kind, stops_rose}
 use Rattle.laz_file.proofs.Putting.{if_err}
 use Rattle.laz_file.proofs.Standing.{kept_blocks}
 use Rattle.laz_file.proofs.writer.Writer.append_full.Goals as goal
@@ -88,4 +88,4 @@ pub returns-clause-calm : goal.returns-clause-calm
 returns-clause-calm g c =
     let h = c.requires.stands in
     let held = held_text h.0 _ c.args.self.now h.1 h.2 h.3 in
-    same_faults h.0 _ _ h.1.name held.0 _ held.1 (returns-clause-appended g c h.0 h.1 h.2 h.3)
+    calm_text h.0 _ _ h.1.name held.0 _ held.1 (returns-clause-appended g c h.0 h.1 h.2 h.3)

@@ -6,7 +6,7 @@ use Rattle.laz_file.specs.Outputs.{draft_of, patches_of}
 use Rattle.laz_file.specs.declared.fault.Fault.TheVariants.{Memory}
 use Rattle.laz_file.specs.Writing.{Stops, WriterSeen}
 use Rattle.laz_file.proofs.Arms.{held_text}
-use Rattle.laz_file.proofs.Faults.{err_of, same_faults, stops_kind, stops_rose}
+use Rattle.laz_file.proofs.Faults.{calm_text, err_of, stops_kind, stops_rose}
 use Rattle.laz_file.proofs.Finishing.{finished_size, list_is, patches_fit}
 use Rattle.laz_file.proofs.Patching.{LiesIn, unpatched}
 use Rattle.laz_file.proofs.Putting.{if_err}
@@ -81,7 +81,7 @@ pub returns-clause-calm : goal.returns-clause-calm
 returns-clause-calm g c =
     let h = c.requires.stands in
     let held = held_text h.0 _ c.args.self.now h.1 h.2 h.3 in
-    same_faults h.0 _ _ h.1.name held.0 _ held.1 (returns-clause-finished g c h.0 h.1 h.2 h.3)
+    calm_text h.0 _ _ h.1.name held.0 _ held.1 (returns-clause-finished g c h.0 h.1 h.2 h.3)
 
 pub returns-in_err-pointer-clause-write : goal.returns-in_err-pointer-clause-write
 returns-in_err-pointer-clause-write g c of =
