@@ -12,4 +12,5 @@ pub mod Wholes
 pub mod Asked
 pub mod AllPlaces
 pub mod OneWay
+pub mod Existing
 mod Examples

@@ -7,6 +7,7 @@ use Rattle.las_filter.specs.Kept.{Steps, kept}
 use Rattle.las_thin.specs.Kept.{kept_behind}
 use Rattle.las_thin.specs.Sieving.{IsFirst, Settings, all_pass}
 use Rattle.laz_range.specs.Span.{IsBytes}
+use Rattle.laz_file.specs.Existing.{IsNotNone}
 use Rattle.laz_file.specs.Pieces.{ArePieces, Piece}
 use Rattle.laz_file.specs.Ranges.{Range, whole_range}
 use Rattle.laz_file.specs.Records.{AreRecordsOf, HoldBlocks}
@@ -56,3 +57,9 @@ abbrev pub ConvertsInOneWay : Type 0
 ConvertsInOneWay = (plan : Steps) (settings : Settings) (file : List ℕ) (range : Range) (records : List ℕ)
     (refusal : Option Refusal) → IsAcceptedFile file → IsBytes file
     → ConvertsTo plan settings file range records refusal → OnlyConverts plan settings file range records refusal
+
+-- That converting a range of an accepted file gives nothing is refuted.
+abbrev pub ConvertsToSomething : Type 0
+ConvertsToSomething = (plan : Steps) (settings : Settings) (file : List ℕ) (range : Range) → IsAcceptedFile file
+    → IsBytes file
+    → IsNotNone ((records : List ℕ) × (refusal : Option Refusal) × ConvertsTo plan settings file range records refusal)

@@ -1,8 +1,8 @@
 //! What converting gives of all places, and that it gives one thing alone, as contracts of functions that do nothing.
 ghost use Rattle.las_convert.specs.Laws.{ConvertsAllRecords, ConvertsAsThePlan, ConvertsFirstRecords};
-ghost use Rattle.las_convert.specs.Laws.{ConvertsInOneWay, ConvertsWholeFiles};
+ghost use Rattle.las_convert.specs.Laws.{ConvertsInOneWay, ConvertsToSomething, ConvertsWholeFiles};
 
-use laz_file::records_have_one_answer;
+use laz_file::{no_file_is_without_an_answer, records_have_one_answer};
 
 /// To convert the range of all places is to convert the records of the file: all of them, or those before its first bad
 /// chunk, or those before the first that is kept and has a coordinate out of range. If the lowest or the highest of a
@@ -20,4 +20,11 @@ pub fn converting_ends_in_one_way()
     ensures { ConvertsInOneWay }
 {
     records_have_one_answer();
+}
+
+/// That converting a range of an accepted file gives nothing is refuted, whatever the bytes of the file are.
+pub fn converting_gives_something()
+    ensures { ConvertsToSomething }
+{
+    no_file_is_without_an_answer();
 }

@@ -10,6 +10,6 @@ mod looking;
 mod passage;
 
 pub use files::convert;
-pub use laws::{converting_all_places, converting_ends_in_one_way};
+pub use laws::{converting_all_places, converting_ends_in_one_way, converting_gives_something};
 pub use looking::look_through;
 pub use passage::Passage;

@@ -19,3 +19,4 @@ pub mod CopiedOnce
 pub mod CopiedLaws
 pub mod CopiedWhole
 pub mod OneWay
+pub mod Existing

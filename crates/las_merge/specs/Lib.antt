@@ -9,5 +9,6 @@ pub mod Appending
 pub mod Listing
 pub mod Summing
 pub mod Laws
+pub mod Existing
 pub mod Parts
 pub mod CopiedLaws

@@ -1,10 +1,11 @@
 //! Laws of the definitions that the contracts of `merge` and `merge_copied` cite.
 ghost use Rattle.las_merge.specs.CopiedLaws.{AreAcceptedAsOne, AreCopiedOnce, HaveMergedRecords, IsKeptFromCopyingByOne};
 ghost use Rattle.las_merge.specs.CopiedLaws.{IsKeptOrCopied, UnpackToMerged};
+ghost use Rattle.las_merge.specs.Existing.{AreKeptOrCopied, AreKeptOrMerged, MergesToSomething};
 ghost use Rattle.las_merge.specs.Laws.{AreMergedOnce, IsKeptByOne, IsKeptOrMerged, MergesInOneWay};
 ghost use Rattle.las_merge.specs.Parts.{PartsMerge};
 
-use laz_file::records_have_one_answer;
+use laz_file::{no_file_is_without_an_answer, records_have_one_answer};
 
 /// Inputs are kept from being merged by one cause, or by none, and then they are one list of files. Whatever the bytes of
 /// these are, what merging them gives is the only thing that it can give: one list of records, and one bad chunk or none.
@@ -39,3 +40,13 @@ pub fn copied_inputs_are_merged()
     ensures records { HaveMergedRecords }
     ensures merged { UnpackToMerged }
 {}
+
+/// Something comes of a merge, whatever the inputs are: that nothing keeps them from being merged, or their chunks from
+/// being copied, and that they can't be merged or copied, is refuted. So it is that merging accepted files gives nothing.
+pub fn merging_gives_something()
+    ensures merged { AreKeptOrMerged }
+    ensures records { MergesToSomething }
+    ensures copied { AreKeptOrCopied }
+{
+    no_file_is_without_an_answer();
+}

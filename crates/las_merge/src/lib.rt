@@ -20,6 +20,6 @@ pub use fault::MergeFault;
 pub use field::Field;
 pub use laws::{
     copied_inputs_are_merged, copying_ends_in_one_way, merging_ends_in_one_way,
-    parts_merge_to_the_whole,
+    merging_gives_something, parts_merge_to_the_whole,
 };
 pub use merging::merge;

@@ -15,6 +15,7 @@ pub mod Rejoining
 pub mod Reporting
 pub mod Running
 pub mod OneEnding
+pub mod SomeEnding
 pub mod Saying
 pub mod Splitting
 pub mod Wholes

@@ -19,13 +19,15 @@ use Rattle.laz_file.specs.Ranges.{Range}
 use Rattle.laz_file.specs.Refusing.{IsAcceptedFile}
 use Rattle.laz_file.proofs.OneAnswer.{refused_once}
 use Rattle.las_convert.specs.Laws.{ConvertsInOneWay}
+use Rattle.las_merge.specs.Existing.{HoldBytes}
 use Rattle.las_merge.specs.Inputs.{CanMerge, item_at}
 use Rattle.las_merge.specs.Laws.{MergesInOneWay}
 use Rattle.las_split.specs.Laws.{SplitsInOneWay}
 use Rattle.las_run.specs.Endings.{Ending, Refused, ends_at_once}
-use Rattle.las_run.specs.EndingLaws.{EndsInOneWay, HoldBytes}
+use Rattle.las_run.specs.EndingLaws.{EndsInOneWay}
 use Rattle.las_run.specs.Runs.{Accepts, Does, Makes, Opens, RunsAs}
 use Rattle.las_run.specs.Tools.{MergesIf, ZipsIf, chosen_taps, chunk_if, range_in, writes}
+use Rattle.las_merge.proofs.Existing.{bytes_of_first}
 use Rattle.las_run.proofs.Converting.{only_conversion}
 use Rattle.las_run.proofs.Copying as copying
 use Rattle.las_run.proofs.Merging as merging
@@ -48,11 +50,6 @@ one_accepted name file Makes one other once (inr a) (inr b) = once a.0 a.1 b.1
 one_opened : (name : List ℕ) (o : Option (List ℕ)) (Makes : List ℕ → Ending → Type 0) (one other : Ending) → ((file : List ℕ) → o ≡ Some file → IsAcceptedFile file → Makes file one → Makes file other → one ≡ other) → Opens name o Makes one → Opens name o Makes other → one ≡ other
 one_opened name None Makes one other once is was = is ∙ sym was
 one_opened name (Some file) Makes one other once is was = one_accepted name file (Makes file) one other (once file refl) is was
-
--- the files that can be merged hold bytes
-merged_bytes : (files : FileMap) (names merged : List (List ℕ)) → HoldBytes files → CanMerge files names merged → All IsBytes merged
-merged_bytes files names merged hold can k d lt =
-    subst IsBytes (get_or_default merged k [] d lt) (hold (item_at names k) (item_at merged k) (can.first.held k lt))
 
 module _ (records : HasOneRecords) (converts : ConvertsInOneWay) (splits : SplitsInOneWay) (merges : MergesInOneWay) where
   zips_once : (packed : Bool) (input output : List ℕ) (chunk : ℕ) (file : List ℕ) (one other : Ending) → IsBytes file → ZipsIf packed input output chunk file one → ZipsIf packed input output chunk file other → one ≡ other
@@ -83,7 +80,7 @@ module _ (records : HasOneRecords) (converts : ConvertsInOneWay) (splits : Split
   merges_once taps true options files one other hold (inr m) was = m.3 ∙ sym ((copying.copied_ending taps options 0 files m.0 m.1 m.2).only other was)
   merges_once taps false options files one other hold (inl k) was = k.2 ∙ sym ((merging.kept_ending taps options 0 files k.0 k.1).only other was)
   merges_once taps false options files one other hold (inr m) was =
-      let gives = merges m.0 m.1 m.2 (merged_bytes files options.inputs m.0 hold m.3) m.4 in
+      let gives = merges m.0 m.1 m.2 (bytes_of_first files options.inputs m.0 hold m.3.first) m.4 in
       m.5 ∙ sym ((merging.merged_ending taps options 0 files m.0 m.1 m.2 m.3 gives).only other was)
 
   does_once : (taps : List TapSeen) (work : Work) (files : FileMap) (one other : Ending) → HoldBytes files → Does taps work files one → Does taps work files other → one ≡ other

@@ -1,6 +1,5 @@
 -- Which words and files have an ending.
 use Rattle.std.proofs.Common.{◌≡◌, inl, inr, ℕ, ◌+◌, Bool, true, false, if◌then◌else◌, nat_lt, List, [], ◌∷◌, ◌++◌, drop, length, map, Option, Some, None, refl, sym, ap, subst, arith}
-use Rattle.std.proofs.lemmas.List.{take_all}
 use Rattle.std.specs.FinMap as finmap
 use Rattle.std.specs.List.{concat}
 use Rattle.std.specs.Option.{option_map}
@@ -25,16 +24,13 @@ use Rattle.laz_file.specs.Records.{AreRead, AreRecordsIn, AreRecordsOf, HoldBloc
 use Rattle.laz_file.specs.Refusing.{IsRefusal, chunk_causes, tested_causes}
 use Rattle.laz_file.proofs.Whole.{hold-plain}
 use Rattle.laz_file.proofs.Packed.{packed_accepted, unpacks_again}
-use Rattle.las_convert.specs.Adding.{Keeping}
-use Rattle.las_convert.specs.Converting.{AreFirstRecords, ConvertsBy, ConvertsOnce, ConvertsTwice, kept_in}
-use Rattle.las_thin.specs.declared.pick.Pick.{Pick}
-use Rattle.las_thin.specs.declared.pick.Pick.TheVariants.{First, Lowest, Highest}
 use Rattle.las_thin.specs.Kept.{kept_behind}
 use Rattle.las_run.specs.Endings.{ComesAtOpening, ComesFirst, Ending, Refused, Unread, Usage, ends_at_once}
 use Rattle.las_filter.specs.declared.rule.Rule.{Rule}
 use Rattle.las_merge.specs.Merging.{BadPlace}
 use Rattle.las_split.specs.Outputs.{part_files}
 use Rattle.las_split.specs.Splitting.{SplitsTo}
+use Rattle.las_convert.proofs.Existing.{converts_some}
 use Rattle.las_split.proofs.SomeSplits.{splits_some}
 use Rattle.las_run.specs.Tools.{Converts, range_in, MergesIf, Reports, Splits, ZipsIf, cause_at, cause_by, chosen_taps, chunk_if, converted, part_outputs, report_of, reports, writes}
 use Rattle.las_run.specs.Runs.{Accepts, Does, Makes, Opens, OpensIn, RunOf, RunsAs, Task}
@@ -81,48 +77,16 @@ plain_refusal file true tests plain is = absurd (cc)
 plain_refusal file false None plain is = IsFirst-append_none (conditions (tested_causes file)) [] None is refl
 plain_refusal file false (Some cause) plain is = IsFirst-append_some (conditions (tested_causes file)) [] cause is
 
-accepts_by : (name file : List ℕ) (Makes : Ending → Type 0) (ending : Ending) (o : Option Refusal) → IsRefusal file o → Makes ending → (e : Ending) × Accepts name file Makes e
+pub accepts_by : (name file : List ℕ) (Makes : Ending → Type 0) (ending : Ending) (o : Option Refusal) → IsRefusal file o → Makes ending → (e : Ending) × Accepts name file Makes e
 accepts_by name file Makes ending None is makes = (ending, inr (is, makes))
 accepts_by name file Makes ending (Some cause) is makes = (ends_at_once (Refused name cause), inl (cause, is, refl))
 
-zips_made : (packed : Bool) (input output : List ℕ) (chunk : ℕ) (file : List ℕ) (ending : Ending) → is_packed (head_of file) ≡ packed → ZipsIf packed input output chunk file ending → ZipsIf (is_packed (head_of file)) input output chunk file ending
+pub zips_made : (packed : Bool) (input output : List ℕ) (chunk : ℕ) (file : List ℕ) (ending : Ending) → is_packed (head_of file) ≡ packed → ZipsIf packed input output chunk file ending → ZipsIf (is_packed (head_of file)) input output chunk file ending
 zips_made packed input output chunk file ending is makes = subst (λ (b : Bool). ZipsIf b input output chunk file ending) (sym is) makes
-
--- all records of a range are held, if its last chunk is not found to be bad
-read_whole : (file : List ℕ) (parts : List Piece) (blocks : List (List ℕ)) (first : ℕ) (found : Option ℕ) → None ≡ moved first found → AreRead file parts blocks found → HoldBlocks file parts blocks
-read_whole file parts blocks first None whole read = read
-read_whole file parts blocks first (Some i) whole read = absurd (cc)
-
--- of the records of a range something is kept, in one reading or in two
-module _ (keeping : Keeping) (file : List ℕ) (range : Range) (blocks : List (List ℕ)) (are : AreRecordsIn file range blocks None) where
-  abbrev Gives : (List ℕ → Option Refusal → Type 0) → Type 0
-  Gives Converts = (records : List ℕ) × (refusal : Option Refusal) × Converts records refusal
-
-  once_some : (raw_range : Option ℕ) → (kept_in keeping file blocks).raw_range ≡ raw_range → Gives (ConvertsOnce keeping file range)
-  once_some None is = (concat (kept_in keeping file blocks).records, None, (blocks, are, record { records_are = refl; raw_range_is = is }))
-  once_some (Some k) is =
-      let parts = parts_of file range are.0 in
-      let hold = read_whole file parts blocks (first_of file range are.0) are.1 are.4 are.3 in
-      let first : AreFirstRecords file range blocks = record {
-        pieces = are.0;
-        are = are.2;
-        number = length parts;
-        hold = subst (λ (ps : List Piece). HoldBlocks file ps blocks) (sym (take_all (length parts) parts (omega arith))) hold;
-      } in
-      (concat (kept_in keeping file blocks).records, Some (RawRange k), (blocks, first, record { records_are = refl; raw_range_is = is }))
-
-  twice_some : (raw_range : Option ℕ) → (kept_in keeping file blocks).raw_range ≡ raw_range → Gives (ConvertsTwice keeping file range)
-  twice_some None is = (concat (kept_in keeping file blocks).records, None, (blocks, are, record { records_are = refl; raw_range_is = is }))
-  twice_some (Some k) is = (concat (kept_in keeping file blocks).records, Some (RawRange k), (blocks, are, record { records_are = refl; raw_range_is = is }))
-
-  converts_some : (pick : Pick) → Gives (ConvertsBy pick keeping file range)
-  converts_some First = once_some (kept_in keeping file blocks).raw_range refl
-  converts_some Lowest = twice_some (kept_in keeping file blocks).raw_range refl
-  converts_some Highest = twice_some (kept_in keeping file blocks).raw_range refl
 
 las2las_ending : (taps : List TapSeen) (input : List ℕ) (options : Las2lasOptions) (file : List ℕ) (blocks : List (List ℕ)) → AreRecordsIn file (range_in options.start options.stop file) blocks None → (ending : Ending) × Converts taps input options file ending
 las2las_ending taps input options file blocks are =
-    let h = converts_some (kept_behind options.plan options.sieve) file (range_in options.start options.stop file) blocks are options.sieve.pick in
+    let h = converts_some (kept_behind options.plan options.sieve) file (range_in options.start options.stop file) blocks options.sieve.pick None are in
     (converted (chunk_if options.packed options.chunk) (chosen_taps taps options.tallies) input options.output options.sieve.pick file h.0 h.1, (h.0, h.1, h.2, refl))
 
 -- chunks that hold blocks hold the parts of them that are in a range
@@ -150,7 +114,7 @@ range_of_form file range blocks packed are =
 
 lassplit_ending : (input stem end : List ℕ) (rule : Rule) (file : List ℕ) (blocks : List (List ℕ)) → AreRecordsOf file blocks None → (ending : Ending) × Splits input stem end rule file ending
 lassplit_ending input stem end rule file blocks are =
-    let h = splits_some rule file blocks are in
+    let h = splits_some rule file blocks None are in
     (record { cause = cause_by input h.1; outputs = part_outputs (part_files stem end rule file h.0); text = [] }, (h.0, h.1, h.2, refl))
 
 plain_records : (file : List ℕ) (packed : Bool) → packed ≡ false → ArePiecesIf packed file (plain_pieces file)

@@ -13,9 +13,11 @@ use Rattle.las_outside.specs.Files.{FileMap}
 use Rattle.las_words.specs.Asked.{Asked, Work, lasmerge, make, reads}
 use Rattle.las_words.specs.Says.{Said, asks, usage}
 use Rattle.las_merge.specs.Copying.{output_with}
+use Rattle.las_merge.specs.Existing.{HoldBytes}
 use Rattle.las_split.specs.Outputs.{part_files}
 use Rattle.las_split.specs.Splitting.{SplitsTo}
 use Rattle.laz_range.specs.Span.{IsBytes}
+use Rattle.laz_file.specs.Existing.{IsNotNone}
 use Rattle.laz_file.specs.Laws.{CanBePacked}
 use Rattle.laz_file.specs.Outputs.{finished}
 use Rattle.laz_file.specs.Packing.{packed_file}
@@ -24,14 +26,15 @@ use Rattle.las_run.specs.Endings.{Done, Ending, files_of}
 use Rattle.las_run.specs.Runs.{RunOf, Task}
 use Rattle.las_run.specs.Tools.{MergesIn, Splits, part_outputs}
 
--- Every file that is known holds bytes.
-abbrev pub HoldBytes : FileMap → Type 0
-HoldBytes files = (name file : List ℕ) → finmap.get files name ≡ Some file → IsBytes file
-
 -- At most one ending is defined for a task, whatever the bytes of the files are.
 abbrev pub EndsInOneWay : Type 0
 EndsInOneWay = (task : Task) (files : FileMap) (one other : Ending) → HoldBytes files
     → RunOf task files one → RunOf task files other → one ≡ other
+
+-- That none is defined is refuted, for every task and any files of bytes.
+abbrev pub SomeEndingIsDefined : Type 0
+SomeEndingIsDefined = (task : Task) (files : FileMap) → HoldBytes files
+    → IsNotNone ((ending : Ending) × RunOf task files ending)
 
 -- the name of the input of a command that has one
 abbrev pub input_of : Work → Option (List ℕ)

@@ -1,11 +1,12 @@
 //! Laws of the definitions that the top call's contract cites.
 ghost use Rattle.las_run.specs.EndingLaws.{EndsInOneWay, MissingInputsEnd, PackedFormsEnd, PartsOfSplitMerge};
-ghost use Rattle.las_run.specs.EndingLaws.{PlainInputsEnd, PlainRecordsAreWhole, WorkersDoNotMatter, WrongWordsEnd};
+ghost use Rattle.las_run.specs.EndingLaws.{PlainInputsEnd, PlainRecordsAreWhole, SomeEndingIsDefined};
+ghost use Rattle.las_run.specs.EndingLaws.{WorkersDoNotMatter, WrongWordsEnd};
 
-use las_convert::converting_ends_in_one_way;
-use las_merge::merging_ends_in_one_way;
-use las_split::splitting_ends_in_one_way;
-use laz_file::records_have_one_answer;
+use las_convert::{converting_ends_in_one_way, converting_gives_something};
+use las_merge::{merging_ends_in_one_way, merging_gives_something};
+use las_split::{splitting_ends_in_one_way, splitting_gives_something};
+use laz_file::{no_file_is_without_an_answer, records_have_one_answer};
 
 /// At most one ending is defined for a task, for every command and whatever the bytes of the files are.
 pub fn one_ending()
@@ -17,7 +18,19 @@ pub fn one_ending()
     merging_ends_in_one_way();
 }
 
-/// Which tasks and files have an ending: wrong words, and commands with one input if it is missing, plain, or the packed
+/// That no ending is defined for a task is refuted, for every command and whatever the bytes of the files are: also for
+/// packed files of other writers, and for merges. Together with `one_ending`, each run has its one ending. Which one it is
+/// can be told of a packed file only by reading it, so this law names none.
+pub fn no_task_is_without_an_ending()
+    ensures { SomeEndingIsDefined }
+{
+    no_file_is_without_an_answer();
+    converting_gives_something();
+    splitting_gives_something();
+    merging_gives_something();
+}
+
+/// Which tasks and files have an ending that is known before they are read: wrong words, and commands with one input if it is missing, plain, or the packed
 /// form of an accepted plain file.
 pub fn endings_are_defined()
     ensures wrong { WrongWordsEnd }

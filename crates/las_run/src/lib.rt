@@ -14,5 +14,8 @@ mod report;
 mod stop;
 mod top_call;
 
-pub use laws::{endings_are_defined, one_ending, parts_of_a_split_merge, workers_do_not_matter};
+pub use laws::{
+    endings_are_defined, no_task_is_without_an_ending, one_ending, parts_of_a_split_merge,
+    workers_do_not_matter,
+};
 pub use top_call::run;

@@ -1,8 +1,8 @@
 //! Laws of parts and of splitting, as contracts of functions that do nothing.
-ghost use Rattle.las_split.specs.Laws.{SplitsInOneWay};
+ghost use Rattle.las_split.specs.Laws.{SplitsInOneWay, SplitsToSomething};
 ghost use Rattle.las_split.specs.Parts.{PartsJoin};
 
-use laz_file::records_have_one_answer;
+use laz_file::{no_file_is_without_an_answer, records_have_one_answer};
 
 /// Parts of equal numbers of records, joined by ascending number, are the records again.
 pub fn parts_join()
@@ -15,4 +15,11 @@ pub fn splitting_ends_in_one_way()
     ensures { SplitsInOneWay }
 {
     records_have_one_answer();
+}
+
+/// That splitting an accepted file gives nothing is refuted, whatever its bytes are.
+pub fn splitting_gives_something()
+    ensures { SplitsToSomething }
+{
+    no_file_is_without_an_answer();
 }

@@ -15,7 +15,7 @@ mod pushing;
 mod sorting;
 
 pub use files::split;
-pub use laws::{parts_join, splitting_ends_in_one_way};
+pub use laws::{parts_join, splitting_ends_in_one_way, splitting_gives_something};
 pub use limits::MAX_PARTS;
 pub use numbering::part_of;
 pub use part_names::PartNames;

@@ -5,6 +5,7 @@ pub mod Blocks
 pub mod Sums
 pub mod Finished
 pub mod OneAnswer
+pub mod Existing
 pub mod Accepted
 pub mod Payloads
 pub mod Fronts

@@ -18,6 +18,7 @@ pub mod Pieces
 pub mod Ranges
 pub mod Records
 pub mod Laws
+pub mod Existing
 pub mod Writing
 pub mod Stopping
 pub mod Unpacking

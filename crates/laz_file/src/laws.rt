@@ -4,9 +4,11 @@ ghost use Rattle.laz_file.specs.Laws.{AreCounted, ArePackedChunks, HasNoBadPiece
 ghost use Rattle.laz_file.specs.Laws.{HasOnePieces, HasOneRecords, IsAcceptedPack};
 ghost use Rattle.laz_file.specs.Laws.{IsAcceptedPlain, IsCountedFile, IsFinished, IsItsPlainForm, IsPackedAccepted};
 ghost use Rattle.laz_file.specs.Laws.{IsEmptyRange, IsRangeReadOnce, IsSliceOfRecords, IsWholeOfAll};
+ghost use Rattle.laz_file.specs.Existing.{HasAnAnswer, HasPieces, HasSomeRecords, HasSomeInRange};
 ghost use Rattle.laz_file.specs.Laws.{IsReadOnce, IsRefusedOnce, ReadsBack, ReadsPlain, UnpacksAgain};
 
 use laz_chunk::one_is_held;
+use laz_table::tables_hold_one_pair;
 
 /// A file is refused for at most one cause, and has at most one list of pieces. Records that are read of it piece by
 /// piece, if each piece holds one block alone, are its only ones, and so is the first bad piece.
@@ -24,6 +26,17 @@ pub fn records_have_one_answer()
     ensures range { HasOneInRange }
 {
     one_is_held();
+}
+
+/// No file is without an answer: that it is neither refused nor accepted is refuted, whatever its bytes are. So it is that an
+/// accepted file has no pieces, or no records before its end or its first bad chunk, and that a range of it has none.
+pub fn no_file_is_without_an_answer()
+    ensures answer { HasAnAnswer }
+    ensures pieces { HasPieces }
+    ensures records { HasSomeRecords }
+    ensures range { HasSomeInRange }
+{
+    tables_hold_one_pair();
 }
 
 /// The records of the range of all places are those of the file. Records of a range that are read piece by piece, if each

@@ -44,8 +44,8 @@ pub use fault::Fault;
 pub use joining::batches_join;
 pub use laws::{
     files_are_packed_without_loss, files_are_read_whole, files_have_one_answer,
-    heads_and_records_are_accepted, outputs_are_finished, ranges_have_one_answer,
-    records_have_one_answer,
+    heads_and_records_are_accepted, no_file_is_without_an_answer, outputs_are_finished,
+    ranges_have_one_answer, records_have_one_answer,
 };
 pub use limits::PLAIN_BLOCK;
 pub use reader::Reader;
