@@ -1,5 +1,5 @@
 -- Counts of bins, one record after another.
-use Rattle.std.proofs.Common.{◌≡◌, ℕ, ◌+◌, ◌≤◌, ◌∙◌, Bool, true, false, cond, Option, Some, unwrap_or, List, [], ◌∷◌, ◌++◌}
+use Rattle.std.proofs.Common.{◌≡◌, ℕ, ◌+◌, ◌-◌, ◌^◌, ◌<◌, ◌≤◌, ◌∙◌, Bool, true, false, cond, Option, Some, unwrap_or, List, [], ◌∷◌, ◌++◌}
 use Rattle.std.proofs.Common.{ap, arith, length, subst, sym, refl}
 use Rattle.std.proofs.Math.Path.{fun_ext}
 use Rattle.std.specs.Cmp.{nat_cmp_total}
@@ -62,3 +62,28 @@ shown-few tap [] bin most few = omega (arith, few bin)
 shown-few tap (r ∷ records) bin most few =
     let rest = shown-few (shown tap r) records bin (most + 1) (λ b. count-more tap.tally (tap.bin r) b most (few (tap.bin r)) (few b)) in
     omega (arith, rest)
+
+-- a tap whose parts are those of another
+pub same_parts : (old new : TapSeen) → new.name ≡ old.name → ((other : List ℕ) → new.bin other ≡ old.bin other) → new.tally ≡ old.tally → new ≡ old
+same_parts old new name rule tally =
+    ap (λ (n : List ℕ). record { name = n; bin = new.bin; tally = new.tally }) name
+    ∙ ap (λ (b : List ℕ → ℕ). record { name = old.name; bin = b; tally = new.tally }) (fun_ext rule)
+    ∙ ap (λ (t : Tally). record { name = old.name; bin = old.bin; tally = t }) tally
+
+-- there is room for the next of some records in each bin
+pub room_left : (bin_of : List ℕ → ℕ) (old : Tally) (done : List (List ℕ)) (n t more bin : ℕ) → ((b : ℕ) → count_at old b + n < 2 ^ 64)
+    → length done ≡ t → t + more ≤ n → count_at (tally_after bin_of old done) bin + more < 2 ^ 64
+room_left bin_of old done n t more bin room is within =
+    let tap : TapSeen = record { name = []; bin = bin_of; tally = old } in
+    omega (arith, is, within, shown-few tap done bin (2 ^ 64 - 1 - n) (λ b. omega (arith, room b)), room 0)
+
+-- one record more is counted, and two
+pub one_counted : (bin_of : List ℕ → ℕ) (old now new : Tally) (done : List (List ℕ)) (point : List ℕ) (bin : ℕ) → now ≡ tally_after bin_of old done
+    → bin ≡ bin_of point → new ≡ with_one now bin → new ≡ tally_after bin_of old (done ++ point ∷ [])
+one_counted bin_of old now new done point bin are is one =
+    one ∙ ap (λ (t : Tally). with_one t bin) are ∙ ap (with_one (tally_after bin_of old done)) is ∙ sym (tally-grows bin_of old done point)
+
+pub two_counted : (bin_of : List ℕ → ℕ) (old now new : Tally) (done : List (List ℕ)) (point other : List ℕ) (bin second : ℕ) → now ≡ tally_after bin_of old done
+    → bin ≡ bin_of point → second ≡ bin_of other → new ≡ with_one (with_one now bin) second → new ≡ tally_after bin_of old ((done ++ point ∷ []) ++ other ∷ [])
+two_counted bin_of old now new done point other bin second are first last both =
+    one_counted bin_of old (with_one now bin) new (done ++ point ∷ []) other second (one_counted bin_of old now (with_one now bin) done point bin are first refl) last both

@@ -1,12 +1,13 @@
 -- Counts in a list, one for each bin, as a finite map.
-use Rattle.std.proofs.Common.{◌≡◌, ℕ, zero, suc, ◌+◌, ◌<◌, Bool, true, false, ◌&&◌, cond, T, List, [], ◌∷◌, ◌++◌, length, refl, sym, ◌∙◌, ap, subst, arith, get_or, set, replicate, Option, Some, None, unwrap_or, inl, inr}
+use Rattle.std.proofs.Common.{◌≡◌, ℕ, zero, suc, ◌+◌, ◌<◌, ◌==◌, Bool, true, false, ◌&&◌, cond, T, List, [], ◌∷◌, ◌++◌, length, refl, sym, ◌∙◌, ap, subst, arith, get_or, set, length-set, replicate, Option, Some, None, unwrap_or, inl, inr}
 use Rattle.std.specs.declared.cmp.Ordering.TheVariants.{Less, Equal, Greater}
 use Rattle.std.specs.Ordering.{nat_cmp, is_lt, is_eq, eq_by_cmp}
 use Rattle.std.specs.Cmp.{nat_cmp_total, nat_cmp_is}
 use Rattle.std.specs.FinMap as map
 use Rattle.std.specs.FinMap.{entries-from_sorted, get-from_sorted, get-insert, same_map, nat_cmp-IsAntisymmetric, len-entries, empty_of_len}
 use Rattle.std.specs.FinMap.Entries.{find, is_sorted, below_all}
-use Rattle.std.proofs.lemmas.Bool.{cases_lt, cases_eq}
+use Rattle.std.proofs.lemmas.Bool.{cases_lt, cases_eq, eqb-false, eqb-true}
+use Rattle.std.proofs.lemmas.List.{get_or-set_other, get_or-set_same}
 use Rattle.las_info.specs.Cells.{bins_from}
 use Rattle.las_info.specs.Tallies.{Tally, count_at, with_one}
 
@@ -120,6 +121,22 @@ made-set xs ys bin lt is =
     (λ q. get-made (set xs bin (n + 1)) q ∙ one_set xs bin n q lt
     ∙ sym (get-insert nat_cmp_total (made xs) bin (n + 1) q ∙ ap (cond (eq_by_cmp nat_cmp q bin) (Some (n + 1))) (get-made xs q)))
     ∙ ap (λ (k : ℕ). map.insert (made xs) bin (k + 1)) (sym (count-made xs bin))
+
+-- one more in a bin, and then one more in another or the same: both counts are read before either is written
+get_after : (b : Bool) (xs : List ℕ) (i j : ℕ) → (i == j) ≡ b → i < length xs → get_or (set xs i (get_or xs i 0 + 1)) j 0 ≡ get_or xs j 0 + cond b 1 0
+get_after true xs i j same lt =
+    let e : i ≡ j = eqb-true i j same in
+    subst (λ (k : ℕ). get_or (set xs i (get_or xs i 0 + 1)) k 0 ≡ get_or xs k 0 + 1) e (get_or-set_same xs i (get_or xs i 0 + 1) 0 lt)
+get_after false xs i j apart lt =
+    get_or-set_other xs i j (get_or xs i 0 + 1) 0 (λ (e : j ≡ i). eqb-false i j apart (sym e)) ∙ (let zero_more : get_or xs j 0 ≡ get_or xs j 0 + 0 = omega arith in zero_more)
+
+pub made-two : (xs ys zs : List ℕ) (i j again : ℕ) → i < length xs → j < length xs → again ≡ cond (i == j) 1 0
+    → ys ≡ set xs i (get_or xs i 0 + 1) → zs ≡ set ys j (get_or xs j 0 + again + 1) → made zs ≡ with_one (with_one (made xs) i) j
+made-two xs ys zs i j again lt within is first second =
+    let here : get_or ys j 0 ≡ get_or xs j 0 + again = ap (λ (l : List ℕ). get_or l j 0) first ∙ get_after (i == j) xs i j refl lt ∙ ap (λ (n : ℕ). get_or xs j 0 + n) (sym is) in
+    let long : length ys ≡ length xs = ap (λ (l : List ℕ). length l) first ∙ length-set xs i (get_or xs i 0 + 1) in
+    made-set ys zs j (omega (arith, long, within)) (second ∙ ap (λ (n : ℕ). set ys j (n + 1)) (sym here))
+    ∙ ap (λ t. with_one t j) (made-set xs ys i lt first)
 
 pub made-empty : made [] ≡ map.empty
 made-empty = empty_of_len (made []) (len-entries (made []) ∙ ap length (entries-made []))

@@ -1,5 +1,5 @@
 -- Tallies of records: how many of them have each bin.
-use Rattle.std.specs.Prelude.{◌≡◌, ℕ, ◌+◌, ◌≤◌, List, [], ◌∷◌, ◌++◌, fold, take, unwrap_or}
+use Rattle.std.specs.Prelude.{◌≡◌, ℕ, ◌+◌, ◌^◌, ◌<◌, ◌≤◌, List, [], ◌∷◌, ◌++◌, fold, take, unwrap_or}
 use Rattle.std.specs.Ordering.{nat_cmp}
 use Rattle.std.specs.FinMap as map
 
@@ -32,6 +32,10 @@ shown tap point = record tap { tally = with_one tap.tally (tap.bin point) }
 -- a tap that was shown some records, one after another
 abbrev pub shown_all : TapSeen → (records : List (List ℕ)) → TapSeen
 shown_all tap records = record tap { tally = tally_after tap.bin tap.tally records }
+
+-- There is room for a number of records more: no bin comes to a count of 2^64, if all of them have it.
+pub record HasRoomFor (records : ℕ) (tally : Tally) : Type 0 where
+  pub fits : (bin : ℕ) → count_at tally bin + records < 2 ^ 64
 
 -- A tap was shown records from the first of these on, perhaps not all of them.
 abbrev pub IsShownSome : (records : List (List ℕ)) → (old new : TapSeen) → Type 0

@@ -1,6 +1,8 @@
 //! What is in a file of point records: taps that tally its records, a survey that counts them, and a report.
 #![tactic(auto)]
 
+mod bins;
+mod block_count;
 mod bounds;
 mod choosing;
 mod extents;

@@ -4,7 +4,7 @@ ghost use Rattle.std.specs.Prelude.{length, map, All};
 ghost use Rattle.std.specs.List.{AllZip};
 ghost use Rattle.las_header.specs.declared.limits.TheConstants.{POINT_RECORD};
 ghost use Rattle.las_info.specs.Summaries.{summary_of};
-ghost use Rattle.las_info.specs.Tallies.{IsShownSome, TapSeen, count_at, shown, shown_all};
+ghost use Rattle.las_info.specs.Tallies.{HasRoomFor, IsShownSome, TapSeen, count_at, shown, shown_all};
 ghost use Rattle.las_info.specs.Surveys.{IsShown};
 ghost use Rattle.las_header.specs.Plain.{cut_records};
 
@@ -39,19 +39,13 @@ pub(crate) fn show_all(taps: &mut [Box<dyn Tap>], point: &[u8]) -> Result<(), Al
 fn show_through(tap: &mut Box<dyn Tap>, size: usize, block: &[u8]) -> Result<(), AllocError>
     requires size { POINT_RECORD ≤ size }
     requires whole { length block.now % size ≡ 0 }
-    requires room { (bin : ℕ) → count_at (tap_seen tap.old).tally bin + length block.now / size < 2 ^ 64 }
+    requires room { HasRoomFor (length block.now / size) (tap_seen tap.old).tally }
     ensures shown { OnOk result (tap_seen tap.new
         ≡ shown_all (tap_seen tap.old) (cut_records size (length block.now / size) block.now)) }
     ensures err { OnErr result (IsShownSome (cut_records size (length block.now / size) block.now)
         (tap_seen tap.old) (tap_seen tap.new)) }
 {
-    let mut rest = block;
-    for _turn in 0..block.len() / size {
-        let (point, further) = rest.split_at(size);
-        show_one(tap, point)?;
-        rest = further;
-    }
-    Ok(())
+    tap.see_block(size, block)
 }
 
 /// Shows whole records of one size, 20 bytes or more, which stand one after another, to taps: all of them in their
@@ -111,6 +105,7 @@ impl Survey {
         self.summary.add(point);
         show_all(&mut self.taps, point)
     }
+
     /// Counts whole records of one size, 20 bytes or more, which stand one after another, and shows each to the taps.
     /// `Err` means out of memory, and the survey is of no use.
     ///

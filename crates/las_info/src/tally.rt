@@ -1,6 +1,6 @@
 //! A tally that a tap keeps.
 ghost use Rattle.std.specs.Prelude.{◌≡◌, ◌+◌, ◌-◌, ◌^◌, ◌<◌, ◌≤◌, ◌++◌, ◌∷◌, [], length, replicate, IfOk, OnErr, OnOk};
-ghost use Rattle.std.specs.Prelude.{vec_len};
+ghost use Rattle.std.specs.Prelude.{◌==◌, ◌⊎◌, if◌then◌else◌, vec_len};
 ghost use Rattle.std.specs.FinMap as map;
 ghost use Rattle.las_info.specs.Cells.{bins_from};
 ghost use Rattle.las_info.specs.Tallies.{count_at, with_one};
@@ -68,6 +68,18 @@ fn reach(counts: &mut Vec<u64>, bin: usize) -> Result<(), AllocError>
     counts.resize(bin + 1, 0)
 }
 
+// How often a bin was counted, if this one was.
+#[inline(always)]
+fn again(counted: usize, bin: usize) -> u64
+    ensures is { result ≡ (if counted == bin then 1 else 0) }
+    ensures once { result ≤ 1 }
+{
+    if counted == bin {
+        return 1;
+    }
+    0
+}
+
 impl Counted {
     /// No bin yet.
     pub(crate) fn new(alloc: Global) -> Counted
@@ -91,6 +103,28 @@ impl Counted {
             return Ok(());
         }
         self.add_new(bin)
+    }
+
+    /// Adds one to a bin, and then one to another, which may be the same. Both counts are read before either is written:
+    /// a count that was just written is slow to read. `Err` means out of memory, and the first or none was added.
+    #[inline(always)]
+    pub(crate) fn add_two(&mut self, first: u32, second: u32) -> Result<(), AllocError>
+        requires first { count_at self.old first < 2 ^ 64 - 2 }
+        requires second { count_at self.old second < 2 ^ 64 - 2 }
+        ensures ok { OnOk result (self.new ≡ with_one (with_one self.old first) second) }
+        ensures err { OnErr result ((self.new ≡ self.old) ⊎ (self.new ≡ with_one self.old first)) }
+    {
+        let (at, other) = (first as usize, second as usize);
+        if at < self.counts.len() && other < self.counts.len() {
+            let before = again(at, other);
+            let count = self.counts[at] + 1;
+            let others = self.counts[other] + before + 1;
+            self.counts[at] = count;
+            self.counts[other] = others;
+            return Ok(());
+        }
+        self.add_new(first)?;
+        self.add_new(second)
     }
 
     // Adds one to a bin that may have no count yet. It stays out of line, so that `add` keeps nothing on the stack.

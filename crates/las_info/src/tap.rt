@@ -1,8 +1,9 @@
 //! What tallies records.
-ghost use Rattle.std.specs.Prelude.{◌≡◌, ◌+◌, ◌-◌, ◌^◌, ◌<◌, ◌≤◌, ℕ, List, length, IfOk, OnErr, OnOk};
+ghost use Rattle.std.specs.Prelude.{◌≡◌, ◌-◌, ◌/◌, ◌%◌, ◌^◌, ◌<◌, ◌≤◌, ℕ, List, length, IfOk, OnErr, OnOk};
 ghost use Rattle.std.specs.FinMap as map;
-ghost use Rattle.las_info.specs.Tallies.{TapSeen, count_at, with_one};
+ghost use Rattle.las_info.specs.Tallies.{HasRoomFor, IsShownSome, TapSeen, count_at, shown_all, with_one};
 ghost use Rattle.las_header.specs.declared.limits.TheConstants.{POINT_RECORD};
+ghost use Rattle.las_header.specs.Plain.{cut_records};
 
 use std::alloc::AllocError;
 
@@ -30,6 +31,29 @@ pub trait Tap: Drop {
         ensures err { OnErr result ((tap_seen self.new).tally ≡ (tap_seen self.old).tally) }
         ensures name { (tap_seen self.new).name ≡ (tap_seen self.old).name }
         ensures rule { (other : List ℕ) → (tap_seen self.new).bin other ≡ (tap_seen self.old).bin other };
+
+    /// Counts whole records of one size, 20 bytes or more, which stand one after another, each in its bin. `Err` means out
+    /// of memory: then the records from the first on were counted, perhaps not all of them.
+    ///
+    /// No bin comes to a count of 2^64, if all records have it. A tap that does not write this call sees the records one
+    /// by one.
+    fn see_block(&mut self, size: usize, block: &[u8]) -> Result<(), AllocError>
+        requires size { POINT_RECORD ≤ size }
+        requires whole { length block.now % size ≡ 0 }
+        requires room { HasRoomFor (length block.now / size) (tap_seen self.old).tally }
+        ensures ok { OnOk result (tap_seen self.new
+            ≡ shown_all (tap_seen self.old) (cut_records size (length block.now / size) block.now)) }
+        ensures err { OnErr result (IsShownSome (cut_records size (length block.now / size) block.now)
+            (tap_seen self.old) (tap_seen self.new)) }
+    {
+        let mut rest = block;
+        for _turn in 0..block.len() / size {
+            let (point, further) = rest.split_at(size);
+            self.see(point)?;
+            rest = further;
+        }
+        Ok(())
+    }
 
     /// The bins that were counted, each with its count, by ascending bin. `Err` means out of memory.
     fn rows(&self) -> Result<Vec<(u32, u64)>, AllocError>

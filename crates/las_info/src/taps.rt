@@ -2,9 +2,10 @@
 ghost use Rattle.std.specs.Prelude.{◌≡◌};
 ghost use Rattle.std.specs.FinMap as map;
 
+use crate::bins::{Bins, Classes, Intensities, ReturnNumbers, Sources};
+use crate::block_count::count_block;
 use crate::tally::Counted;
 use crate::tap::Tap;
-use las_points::{class, intensity, return_number, source};
 use std::alloc::{AllocError, Global};
 use std::marker::Model;
 
@@ -48,12 +49,16 @@ impl Tap for ClassTap {
     }
 
     fn bin(&self, point: &[u8]) -> u32 {
-        u32::from(class(point))
+        Classes::of(point)
     }
 
     fn see(&mut self, point: &[u8]) -> Result<(), AllocError> {
         let bin = self.bin(point);
         self.counted.add(bin)
+    }
+
+    fn see_block(&mut self, size: usize, block: &[u8]) -> Result<(), AllocError> {
+        count_block::<Classes>(&mut self.counted, size, block)
     }
 
     fn rows(&self) -> Result<Vec<(u32, u64)>, AllocError> {
@@ -101,12 +106,16 @@ impl Tap for ReturnTap {
     }
 
     fn bin(&self, point: &[u8]) -> u32 {
-        u32::from(return_number(point))
+        ReturnNumbers::of(point)
     }
 
     fn see(&mut self, point: &[u8]) -> Result<(), AllocError> {
         let bin = self.bin(point);
         self.counted.add(bin)
+    }
+
+    fn see_block(&mut self, size: usize, block: &[u8]) -> Result<(), AllocError> {
+        count_block::<ReturnNumbers>(&mut self.counted, size, block)
     }
 
     fn rows(&self) -> Result<Vec<(u32, u64)>, AllocError> {
@@ -154,12 +163,16 @@ impl Tap for IntensityTap {
     }
 
     fn bin(&self, point: &[u8]) -> u32 {
-        u32::from(intensity(point) / 256)
+        Intensities::of(point)
     }
 
     fn see(&mut self, point: &[u8]) -> Result<(), AllocError> {
         let bin = self.bin(point);
         self.counted.add(bin)
+    }
+
+    fn see_block(&mut self, size: usize, block: &[u8]) -> Result<(), AllocError> {
+        count_block::<Intensities>(&mut self.counted, size, block)
     }
 
     fn rows(&self) -> Result<Vec<(u32, u64)>, AllocError> {
@@ -207,12 +220,16 @@ impl Tap for SourceTap {
     }
 
     fn bin(&self, point: &[u8]) -> u32 {
-        u32::from(source(point))
+        Sources::of(point)
     }
 
     fn see(&mut self, point: &[u8]) -> Result<(), AllocError> {
         let bin = self.bin(point);
         self.counted.add(bin)
+    }
+
+    fn see_block(&mut self, size: usize, block: &[u8]) -> Result<(), AllocError> {
+        count_block::<Sources>(&mut self.counted, size, block)
     }
 
     fn rows(&self) -> Result<Vec<(u32, u64)>, AllocError> {

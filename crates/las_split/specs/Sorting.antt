@@ -18,6 +18,7 @@ use Rattle.laz_file.specs.Reading.{ReaderSeen}
 use Rattle.laz_file.specs.Writing.{Stands, WriterSeen}
 use Rattle.las_split.specs.declared.limits.TheConstants.{MAX_PARTS}
 use Rattle.las_split.specs.declared.part_names.PartNames.{PartNames}
+use Rattle.las_split.specs.declared.splitter.Splitter.{Splitter}
 use Rattle.las_split.specs.Files.{with_files}
 use Rattle.las_split.specs.Outputs.{output_under}
 use Rattle.las_split.specs.Parts.{numbers_of_parts, part, part_from}
@@ -42,6 +43,10 @@ pub record Task : Type 0 where
 abbrev pub task_of : PartNames → HeadView → Rule → Task
 task_of names head rule =
     record { stem = string_bytes names.stem; end = string_bytes names.end; head = head.bytes; rule = rule }
+
+-- that of the records of a batch
+abbrev pub task_in : Splitter → Task
+task_in splitter = task_of splitter.names.now splitter.head.now splitter.rule.now
 
 abbrev pub output_at : Task → (number : ℕ) → Output
 output_at task number = output_under task.stem task.end task.head number

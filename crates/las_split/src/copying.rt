@@ -1,6 +1,6 @@
 //! Records that go from a reader into the parts.
-ghost use Rattle.std.specs.Prelude.{◌≡◌, ◌≢◌, ◌%◌, ◌*◌, ◌+◌, ◌≤◌, ◌<◌, ◌^◌, ℕ, All, Bool, List, Option, [], length};
-ghost use Rattle.std.specs.Prelude.{IfErr, IfOk, MatchOption, false, OnErr, OnOk, string_bytes, true, unwrap_or};
+ghost use Rattle.std.specs.Prelude.{◌≡◌, ◌≢◌, ◌%◌, ◌+◌, ◌≤◌, ◌<◌, ◌^◌, ℕ, All, Bool, List, Option, [], length};
+ghost use Rattle.std.specs.Prelude.{IfErr, IfOk, false, OnErr, OnOk, string_bytes, true, unwrap_or};
 ghost use Rattle.std.specs.List.{concat};
 ghost use Rattle.las_header.specs.Fields.{is_packed, points_of, record_length_of};
 ghost use Rattle.las_header.specs.Heads.{IsHead};
@@ -13,75 +13,63 @@ ghost use Rattle.laz_file.specs.Asking.{AsksAtMost, bytes_left};
 ghost use Rattle.laz_file.specs.Copying.{HasCause, HoldFirst, end_of};
 ghost use Rattle.laz_file.specs.Reading.{IsCrewOf, Lends, StandsFor, records_in};
 ghost use Rattle.laz_file.specs.Writing.{SameFaults};
-ghost use Rattle.las_split.specs.Sorting.{EndsSplitting, HasRoom, InParts, IsPlainFor, LeavesBlock, TakesBlock};
-ghost use Rattle.las_split.specs.Sorting.{cut_all, task_of};
+ghost use Rattle.las_split.specs.Sorting.{EndsSplitting, HasRoom, IsPlainFor, LeavesBlock, TakesBlock, cut_all, task_in};
+ghost use Rattle.las_split.specs.Sorting.{task_of};
+ghost use Rattle.las_split.specs.Steps.{AreIn, TakesBatch};
 
-use crate::gathering::Gathered;
 use crate::part_names::PartNames;
 use crate::parts::Parts;
 use crate::pushing::push_parts;
 use crate::sorting::sort_block;
+use crate::splitter::Splitter;
 use las_filter::Rule;
 use las_header::{Head, Refusal};
 use las_outside::{Files, Gate};
 use laz_chunk::Workspace;
 use laz_file::{Fault, Reader};
-use laz_workers::Crew;
-use std::alloc::Global;
+use laz_workers::{Crew, Machine};
 use std::thread::Threads;
 
 // Takes the records of a block into their parts. The answer is false if one of them would open one part too many; then
 // those before it were taken.
 fn split_block<R: Threads + Sync, F: Files, G: Gate>(
-    rt: &R,
-    alloc: Global,
+    machine: &Machine<R, G>,
     files: &mut F,
-    gate: &G,
-    names: &PartNames,
-    head: &Head,
-    rule: &Rule,
+    splitter: &Splitter,
     index: u64,
-    size: usize,
     block: &[u8],
-    gathered: &mut Gathered,
     parts: &mut Parts,
 ) -> Result<bool, Fault>
-    requires plain { is_packed head.now.bytes ≡ false }
-    requires none { laszip_vlrs_of head.now.bytes ≡ [] }
-    requires rule { IsRule rule.now }
-    requires room { HasRoom (task_of names.now head.now rule.now) size index (length block.now) }
-    requires whole { length block.now % size ≡ 0 }
+    requires plain { is_packed splitter.now.head.now.bytes ≡ false }
+    requires none { laszip_vlrs_of splitter.now.head.now.bytes ≡ [] }
+    requires rule { IsRule splitter.now.rule.now }
+    requires room { HasRoom (task_in splitter.now) splitter.now.size index (length block.now) }
+    requires whole { length block.now % splitter.now.size ≡ 0 }
     requires parts { (was : Option FileMap) × (records : List (List ℕ))
-        × InParts (task_of names.now head.now rule.now) was (F.seen files.old).held parts.old.numbers
-        parts.old.writers.items records records
+        × AreIn (task_in splitter.now) was (F.seen files.old).held parts.old records records
         × (index ≡ length records) }
     ensures takes { (was : Option FileMap) (records : List (List ℕ))
-        → InParts (task_of names.now head.now rule.now) was (F.seen files.old).held parts.old.numbers
-        parts.old.writers.items records records
+        → AreIn (task_in splitter.now) was (F.seen files.old).held parts.old records records
         → index ≡ length records
-        → IfOk result (TakesBlock (task_of names.now head.now rule.now) was (F.seen files.new).held parts.new.numbers
-        parts.new.writers.items records (cut_all size block.now)) }
+        → IfOk result (TakesBlock (task_in splitter.now) was (F.seen files.new).held parts.new.numbers
+        parts.new.writers.items records (cut_all splitter.now.size block.now)) }
     ensures left { (was : Option FileMap) (records : List (List ℕ))
-        → InParts (task_of names.now head.now rule.now) was (F.seen files.old).held parts.old.numbers
-        parts.old.writers.items records records
+        → AreIn (task_in splitter.now) was (F.seen files.old).held parts.old records records
         → index ≡ length records
-        → OnErr result (LeavesBlock (task_of names.now head.now rule.now) was (F.seen files.new).held records
-        (cut_all size block.now)) }
+        → OnErr result (LeavesBlock (task_in splitter.now) was (F.seen files.new).held records
+        (cut_all splitter.now.size block.now)) }
     ensures some { (was : Option FileMap) (records : List (List ℕ))
-        → InParts (task_of names.now head.now rule.now) was (F.seen files.old).held parts.old.numbers
-        parts.old.writers.items records records
+        → AreIn (task_in splitter.now) was (F.seen files.old).held parts.old records records
         → index ≡ length records
-        → IfErr result (λ fault. fault ≡ Write → 1 ≤ length records + length (cut_all size block.now)) }
+        → IfErr result (λ fault. fault ≡ Write → 1 ≤ length records + length (cut_all splitter.now.size block.now)) }
     ensures cause { IfErr result (HasCause (F.seen files.old) (F.seen files.new)) }
     ensures calm { OnOk result (SameFaults (F.seen files.old) (F.seen files.new)) }
     ensures asked { (F.seen files.new).asked ≡ (F.seen files.old).asked }
     ensures later { Later (F.seen files.old) (F.seen files.new) }
 {
-    let taken = sort_block(
-        alloc, files, names, head, rule, index, size, block, parts, gathered,
-    )?;
-    push_parts(rt, alloc, files, gate, gathered, parts)?;
-    if taken < block.len() / size {
+    let taken = sort_block(machine.alloc, files, splitter, index, block, parts)?;
+    push_parts(machine, files, parts)?;
+    if taken < block.len() / splitter.size {
         return Ok(false);
     }
     Ok(true)
@@ -100,70 +88,56 @@ fn plain_of<'a>(plain: &'a Option<Head>, reader: &'a Reader) -> &'a Head
 // Takes the records of a batch, which a reader and its crew lend, into their parts, in order. The answer is the place
 // of the next record, or none if a record would open one part too many; then those before it were taken.
 fn split_batch<R: Threads + Sync, F: Files, G: Gate>(
-    rt: &R,
-    alloc: Global,
+    machine: &Machine<R, G>,
     files: &mut F,
-    gate: &G,
-    names: &PartNames,
-    plain: &Option<Head>,
-    rule: &Rule,
-    index: u64,
-    size: usize,
+    splitter: &Splitter,
     reader: &Reader,
     crew: &Crew<Workspace>,
     count: u32,
-    gathered: &mut Gathered,
     parts: &mut Parts,
 ) -> Result<Option<u64>, Fault>
-    requires plain { IsPlainFor reader.now.head (unwrap_or plain.now reader.now.head) }
-    requires rule { IsRule rule.now }
+    requires plain { is_packed splitter.now.head.now.bytes ≡ false }
+    requires none { laszip_vlrs_of splitter.now.head.now.bytes ≡ [] }
+    requires rule { IsRule splitter.now.rule.now }
     requires lent { (blocks : List (List ℕ)) × Lends reader.now crew.now blocks × (length blocks ≡ count)
-        × All (λ block. length block % size ≡ 0) blocks
-        × HasRoom (task_of names.now (unwrap_or plain.now reader.now.head) rule.now) size index
-        (length (concat blocks)) }
+        × All (λ block. length block % splitter.now.size ≡ 0) blocks
+        × HasRoom (task_in splitter.now) splitter.now.size splitter.now.index (length (concat blocks)) }
     requires parts { (was : Option FileMap) × (records : List (List ℕ))
-        × InParts (task_of names.now (unwrap_or plain.now reader.now.head) rule.now) was (F.seen files.old).held
-        parts.old.numbers parts.old.writers.items records records
-        × (index ≡ length records) }
+        × AreIn (task_in splitter.now) was (F.seen files.old).held parts.old records records
+        × (splitter.now.index ≡ length records) }
     ensures takes { (blocks : List (List ℕ)) (was : Option FileMap) (records : List (List ℕ))
-        → Lends reader.now crew.now blocks → length blocks ≡ count → All (λ block. length block % size ≡ 0) blocks
-        → InParts (task_of names.now (unwrap_or plain.now reader.now.head) rule.now) was (F.seen files.old).held
-        parts.old.numbers parts.old.writers.items records records
-        → index ≡ length records
-        → IfOk result (λ after. MatchOption after
-        (TakesBlock (task_of names.now (unwrap_or plain.now reader.now.head) rule.now) was (F.seen files.new).held
-        parts.new.numbers parts.new.writers.items records (cut_all size (concat blocks)) false)
-        (λ next. TakesBlock (task_of names.now (unwrap_or plain.now reader.now.head) rule.now) was
-        (F.seen files.new).held parts.new.numbers parts.new.writers.items records (cut_all size (concat blocks)) true
-        × (next ≡ length records + length (cut_all size (concat blocks))))) }
+        → Lends reader.now crew.now blocks → length blocks ≡ count
+        → All (λ block. length block % splitter.now.size ≡ 0) blocks
+        → AreIn (task_in splitter.now) was (F.seen files.old).held parts.old records records
+        → splitter.now.index ≡ length records
+        → IfOk result (TakesBatch (task_in splitter.now) was (F.seen files.new).held parts.new records
+        (cut_all splitter.now.size (concat blocks))) }
     ensures left { (blocks : List (List ℕ)) (was : Option FileMap) (records : List (List ℕ))
-        → Lends reader.now crew.now blocks → length blocks ≡ count → All (λ block. length block % size ≡ 0) blocks
-        → InParts (task_of names.now (unwrap_or plain.now reader.now.head) rule.now) was (F.seen files.old).held
-        parts.old.numbers parts.old.writers.items records records
-        → index ≡ length records
-        → OnErr result (LeavesBlock (task_of names.now (unwrap_or plain.now reader.now.head) rule.now) was
-        (F.seen files.new).held records (cut_all size (concat blocks))) }
+        → Lends reader.now crew.now blocks → length blocks ≡ count
+        → All (λ block. length block % splitter.now.size ≡ 0) blocks
+        → AreIn (task_in splitter.now) was (F.seen files.old).held parts.old records records
+        → splitter.now.index ≡ length records
+        → OnErr result (LeavesBlock (task_in splitter.now) was (F.seen files.new).held records
+        (cut_all splitter.now.size (concat blocks))) }
     ensures some { (blocks : List (List ℕ)) (was : Option FileMap) (records : List (List ℕ))
-        → Lends reader.now crew.now blocks → length blocks ≡ count → All (λ block. length block % size ≡ 0) blocks
-        → InParts (task_of names.now (unwrap_or plain.now reader.now.head) rule.now) was (F.seen files.old).held
-        parts.old.numbers parts.old.writers.items records records
-        → index ≡ length records
-        → IfErr result (λ fault. fault ≡ Write → 1 ≤ length records + length (cut_all size (concat blocks))) }
+        → Lends reader.now crew.now blocks → length blocks ≡ count
+        → All (λ block. length block % splitter.now.size ≡ 0) blocks
+        → AreIn (task_in splitter.now) was (F.seen files.old).held parts.old records records
+        → splitter.now.index ≡ length records
+        → IfErr result (λ fault. fault ≡ Write
+        → 1 ≤ length records + length (cut_all splitter.now.size (concat blocks))) }
     ensures cause { IfErr result (HasCause (F.seen files.old) (F.seen files.new)) }
     ensures calm { OnOk result (SameFaults (F.seen files.old) (F.seen files.new)) }
     ensures asked { (F.seen files.new).asked ≡ (F.seen files.old).asked }
     ensures later { Later (F.seen files.old) (F.seen files.new) }
 {
-    let head = plain_of(plain, reader);
-    let mut next = index;
+    let mut next = splitter.index;
     for i in 0..count {
         let block = reader.block(crew, i);
-        if !split_block(
-            rt, alloc, files, gate, names, head, rule, next, size, block, gathered, parts,
-        )? {
+        if !split_block(machine, files, splitter, next, block, parts)? {
             return Ok(None);
         }
-        next += (block.len() / size) as u64;
+        next += (block.len() / splitter.size) as u64;
     }
     Ok(Some(next))
 }
@@ -181,19 +155,16 @@ fn end_of(fault: Fault) -> Result<Option<Refusal>, Fault>
 }
 
 /// Takes all records that a reader has left into parts, batch by batch: up to the end of the records, or up to the
-/// first bad chunk or the first record that would open one part too many, which is the answer.
+/// first bad chunk or the first record that would open one part too many, which is the answer beside the parts.
 pub(crate) fn split_records<R: Threads + Sync, F: Files, G: Gate>(
-    rt: &R,
-    alloc: Global,
+    machine: &Machine<R, G>,
     files: &mut F,
-    gate: &G,
     names: &PartNames,
     plain: &Option<Head>,
     rule: &Rule,
     reader: &mut Reader,
     crew: &mut Crew<Workspace>,
-    parts: &mut Parts,
-) -> Result<Option<Refusal>, Fault>
+) -> Result<(Parts, Option<Refusal>), Fault>
     requires open { reader.old.failed ≡ false }
     requires crew { IsCrewOf reader.old crew.old }
     requires names { (number : ℕ) → number < 2 ^ 32
@@ -203,14 +174,12 @@ pub(crate) fn split_records<R: Threads + Sync, F: Files, G: Gate>(
     requires rule { IsRule rule.now }
     requires head { IsHead reader.old.head.bytes }
     requires all { records_in reader.old.left ≡ points_of reader.old.head.bytes }
-    requires numbers { parts.old.numbers ≡ [] }
-    requires writers { parts.old.writers.items ≡ [] }
-    ensures takes { IfOk result (λ end. (n : ℕ) × (blocks : List (List ℕ)) × (all : Bool)
+    ensures takes { IfOk result (λ answer. (n : ℕ) × (blocks : List (List ℕ)) × (all : Bool)
         × HoldFirst (F.seen files.old).held reader.old n blocks
         × TakesBlock (task_of names.now (unwrap_or plain.now reader.old.head) rule.now) (F.seen files.old).held
-        (F.seen files.new).held parts.new.numbers parts.new.writers.items []
+        (F.seen files.new).held answer.0.numbers answer.0.writers.items []
         (cut_all (record_length_of reader.old.head.bytes) (concat blocks)) all
-        × EndsSplitting (F.seen files.old).held reader.old n all end) }
+        × EndsSplitting (F.seen files.old).held reader.old n all answer.1) }
     ensures left { OnErr result ((n : ℕ) × (blocks : List (List ℕ))
         × HoldFirst (F.seen files.old).held reader.old n blocks
         × LeavesBlock (task_of names.now (unwrap_or plain.now reader.old.head) rule.now) (F.seen files.old).held
@@ -225,34 +194,30 @@ pub(crate) fn split_records<R: Threads + Sync, F: Files, G: Gate>(
     ensures later { Later (F.seen files.old) (F.seen files.new) }
 {
     let size = usize::from(reader.head().record_length());
-    let mut gathered = Gathered::new(alloc);
+    let mut parts = Parts::new(machine.alloc);
     let mut index = 0;
     'batches: loop {
-        let count = match reader.next_batch(rt, alloc, files, gate, crew) {
+        let count = match reader.next_batch(machine.rt, machine.alloc, files, machine.gate, crew) {
             Ok(count) => count,
-            Err(fault) => return end_of(fault),
+            Err(fault) => {
+                let end = end_of(fault)?;
+                return Ok((parts, end));
+            }
         };
         if count == 0 {
-            return Ok(None);
+            return Ok((parts, None));
         }
-        let after = split_batch(
-            rt,
-            alloc,
-            files,
-            gate,
+        let head = plain_of(plain, reader);
+        let splitter = Splitter {
             names,
-            plain,
+            head,
             rule,
-            index,
             size,
-            reader,
-            crew,
-            count,
-            &mut gathered,
-            parts,
-        )?;
+            index,
+        };
+        let after = split_batch(machine, files, &splitter, reader, crew, count, &mut parts)?;
         let Some(next) = after else {
-            return Ok(Some(Refusal::TooManyParts));
+            return Ok((parts, Some(Refusal::TooManyParts)));
         };
         index = next;
     }

@@ -16,7 +16,8 @@ ghost use Rattle.laz_file.specs.Writing.{SameFaults};
 ghost use Rattle.las_split.specs.Files.{with_files};
 ghost use Rattle.las_split.specs.Outputs.{LeavesParts, all_finished, all_stopped, outputs_under, part_files};
 ghost use Rattle.las_split.specs.Parts.{numbers_of_parts};
-ghost use Rattle.las_split.specs.Sorting.{InParts, IsPlainFor, LeavesPrefixes, Task};
+ghost use Rattle.las_split.specs.Sorting.{IsPlainFor, LeavesPrefixes, Task};
+ghost use Rattle.las_split.specs.Steps.{AreIn};
 ghost use Rattle.las_split.specs.Splitting.{OnlySplits, SplitsTo};
 
 use crate::copying::split_records;
@@ -26,6 +27,7 @@ use las_filter::Rule;
 use las_header::Head;
 use las_outside::{Files, Gate};
 use laz_file::{Fault, Reader};
+use laz_workers::Machine;
 use std::alloc::{AllocError, Global};
 use std::thread::Threads;
 
@@ -46,59 +48,59 @@ fn plain_head(alloc: Global, reader: &Reader) -> Result<Option<Head>, AllocError
 
 // Finishes the outputs of all parts, in the order of their first records, and gives their numbers.
 fn finish_all<R: Threads + Sync, F: Files, G: Gate>(
-    rt: &R,
-    alloc: Global,
+    machine: &Machine<R, G>,
     files: &mut F,
-    gate: &G,
     parts: Parts,
 ) -> Result<Vec<u32>, Fault>
     requires parts { (task : Task) × (was : Option FileMap) × (records : List (List ℕ))
-        × InParts task was (F.seen files.old).held parts.numbers parts.writers.items records records }
+        × AreIn task was (F.seen files.old).held parts records records }
     ensures finished { (task : Task) (was : Option FileMap) (records : List (List ℕ))
-        → InParts task was (F.seen files.old).held parts.numbers parts.writers.items records records
+        → AreIn task was (F.seen files.old).held parts records records
         → IfOk result (λ numbers. (numbers.items ≡ numbers_of_parts task.rule records)
         × ((F.seen files.new).held ≡ with_files was (all_finished
         (outputs_under task.stem task.end task.head task.rule records)))) }
     ensures left { (task : Task) (was : Option FileMap) (records : List (List ℕ))
-        → InParts task was (F.seen files.old).held parts.numbers parts.writers.items records records
+        → AreIn task was (F.seen files.old).held parts records records
         → OnErr result (LeavesParts (outputs_under task.stem task.end task.head task.rule records) was
         (F.seen files.new).held) }
     ensures some { (task : Task) (was : Option FileMap) (records : List (List ℕ))
-        → InParts task was (F.seen files.old).held parts.numbers parts.writers.items records records
+        → AreIn task was (F.seen files.old).held parts records records
         → IfErr result (λ fault. fault ≡ Write → 1 ≤ length records) }
     ensures cause { IfErr result (HasCause (F.seen files.old) (F.seen files.new)) }
     ensures calm { OnOk result (SameFaults (F.seen files.old) (F.seen files.new)) }
     ensures asked { (F.seen files.new).asked ≡ (F.seen files.old).asked }
     ensures later { Later (F.seen files.old) (F.seen files.new) }
 {
-    let Parts { numbers, writers } = parts;
+    let Parts {
+        numbers,
+        writers,
+        gathered: _,
+    } = parts;
     let mut rest = writers;
     rest.as_mut_slice().reverse();
     while let Some(writer) = rest.pop() {
-        writer.finish(rt, alloc, files, gate)?;
+        writer.finish(machine.rt, machine.alloc, files, machine.gate)?;
     }
     Ok(numbers.into_list())
 }
 
 // Stops the outputs of all parts, in the order of their first records.
 fn stop_all<R: Threads + Sync, F: Files, G: Gate>(
-    rt: &R,
-    alloc: Global,
+    machine: &Machine<R, G>,
     files: &mut F,
-    gate: &G,
     parts: Parts,
 ) -> Result<(), Fault>
     requires parts { (task : Task) × (was : Option FileMap) × (records : List (List ℕ))
-        × InParts task was (F.seen files.old).held parts.numbers parts.writers.items records records }
+        × AreIn task was (F.seen files.old).held parts records records }
     ensures stopped { (task : Task) (was : Option FileMap) (records : List (List ℕ))
-        → InParts task was (F.seen files.old).held parts.numbers parts.writers.items records records
+        → AreIn task was (F.seen files.old).held parts records records
         → OnOk result ((F.seen files.new).held ≡ with_files was (all_stopped
         (outputs_under task.stem task.end task.head task.rule records))) }
     ensures left { (task : Task) (was : Option FileMap) (records : List (List ℕ))
-        → InParts task was (F.seen files.old).held parts.numbers parts.writers.items records records
+        → AreIn task was (F.seen files.old).held parts records records
         → OnErr result (LeavesPrefixes task was (F.seen files.new).held records) }
     ensures some { (task : Task) (was : Option FileMap) (records : List (List ℕ))
-        → InParts task was (F.seen files.old).held parts.numbers parts.writers.items records records
+        → AreIn task was (F.seen files.old).held parts records records
         → IfErr result (λ fault. fault ≡ Write → 1 ≤ length records) }
     ensures cause { IfErr result (HasCause (F.seen files.old) (F.seen files.new)) }
     ensures calm { OnOk result (SameFaults (F.seen files.old) (F.seen files.new)) }
@@ -108,11 +110,12 @@ fn stop_all<R: Threads + Sync, F: Files, G: Gate>(
     let Parts {
         numbers: _,
         writers,
+        gathered: _,
     } = parts;
     let mut rest = writers;
     rest.as_mut_slice().reverse();
     while let Some(writer) = rest.pop() {
-        writer.stop(rt, alloc, files, gate)?;
+        writer.stop(machine.rt, machine.alloc, files, machine.gate)?;
     }
     Ok(())
 }
@@ -177,22 +180,25 @@ pub fn split<R: Threads + Sync, F: Files, G: Gate>(
     let hands = reader.hands(workers);
     let mut crew = reader.crew(alloc, hands)?;
     let plain = plain_head(alloc, &reader)?;
-    let mut parts = Parts::new(alloc);
-    match split_records(
+    let machine = Machine {
         rt,
         alloc,
-        files,
         gate,
+        workers,
+    };
+    let (parts, end) = split_records(
+        &machine,
+        files,
         output,
         &plain,
         rule,
         &mut reader,
         &mut crew,
-        &mut parts,
-    )? {
-        None => finish_all(rt, alloc, files, gate, parts),
+    )?;
+    match end {
+        None => finish_all(&machine, files, parts),
         Some(cause) => {
-            stop_all(rt, alloc, files, gate, parts)?;
+            stop_all(&machine, files, parts)?;
             Err(Fault::Refused(cause))
         }
     }

@@ -13,6 +13,7 @@ mod part_names;
 mod parts;
 mod pushing;
 mod sorting;
+mod splitter;
 
 pub use files::split;
 pub use laws::{parts_join, splitting_ends_in_one_way, splitting_gives_something};

@@ -5,73 +5,64 @@ ghost use Rattle.las_outside.specs.Outside.{Later};
 ghost use Rattle.laz_file.specs.declared.fault.Fault.TheVariants.{Write};
 ghost use Rattle.laz_file.specs.Copying.{HasCause};
 ghost use Rattle.laz_file.specs.Writing.{SameFaults};
-ghost use Rattle.las_split.specs.Sorting.{AreGathered, FitAfter, InParts, LeavesPrefixes, PushedSo, Task};
+ghost use Rattle.las_split.specs.Sorting.{AreGathered, FitAfter, LeavesPrefixes, PushedSo, Task};
+ghost use Rattle.las_split.specs.Steps.{AreIn, AreSorted};
 
-use crate::gathering::Gathered;
 use crate::parts::Parts;
 use las_outside::{Files, Gate};
 use laz_file::Fault;
-use std::alloc::Global;
+use laz_workers::Machine;
 use std::thread::Threads;
 
 // Pushes the records of a block that belong to the part at this place, in one call. The parts before it have theirs.
 fn push_place<R: Threads + Sync, F: Files, G: Gate>(
-    rt: &R,
-    alloc: Global,
+    machine: &Machine<R, G>,
     files: &mut F,
-    gate: &G,
-    gathered: &Gathered,
     place: usize,
     parts: &mut Parts,
 ) -> Result<(), Fault>
     requires place { place < length parts.old.numbers }
     requires parts { (task : Task) × (was : Option FileMap) × (records : List (List ℕ)) × (block : List (List ℕ))
         × PushedSo task was (F.seen files.old).held parts.old.numbers parts.old.writers.items place records block
-        × AreGathered task parts.old.numbers gathered.now records block × FitAfter task records block }
+        × AreGathered task parts.old.numbers parts.old.gathered records block × FitAfter task records block }
     ensures pushed { (task : Task) (was : Option FileMap) (records block : List (List ℕ))
         → PushedSo task was (F.seen files.old).held parts.old.numbers parts.old.writers.items place records block
-        → AreGathered task parts.old.numbers gathered.now records block
+        → AreGathered task parts.old.numbers parts.old.gathered records block
         → OnOk result (PushedSo task was (F.seen files.new).held parts.new.numbers parts.new.writers.items (place + 1)
         records block) }
     ensures left { (task : Task) (was : Option FileMap) (records block : List (List ℕ))
         → PushedSo task was (F.seen files.old).held parts.old.numbers parts.old.writers.items place records block
-        → AreGathered task parts.old.numbers gathered.now records block
+        → AreGathered task parts.old.numbers parts.old.gathered records block
         → OnErr result (LeavesPrefixes task was (F.seen files.new).held (records ++ block)) }
     ensures numbers { parts.new.numbers ≡ parts.old.numbers }
+    ensures gathered { parts.new.gathered ≡ parts.old.gathered }
     ensures cause { IfErr result (HasCause (F.seen files.old) (F.seen files.new)) }
     ensures calm { OnOk result (SameFaults (F.seen files.old) (F.seen files.new)) }
     ensures asked { (F.seen files.new).asked ≡ (F.seen files.old).asked }
     ensures later { Later (F.seen files.old) (F.seen files.new) }
 {
-    let text = gathered.text(place);
+    let text = parts.gathered.text(place);
     if text.is_empty() {
         return Ok(());
     }
     let writer = &mut parts.writers[place];
-    writer.push(rt, alloc, files, gate, text)?;
+    writer.push(machine.rt, machine.alloc, files, machine.gate, text)?;
     Ok(())
 }
 
 /// Pushes the records of a block into the writers of their parts, those of a part in one call.
 pub(crate) fn push_parts<R: Threads + Sync, F: Files, G: Gate>(
-    rt: &R,
-    alloc: Global,
+    machine: &Machine<R, G>,
     files: &mut F,
-    gate: &G,
-    gathered: &Gathered,
     parts: &mut Parts,
 ) -> Result<(), Fault>
     requires parts { (task : Task) × (was : Option FileMap) × (records : List (List ℕ)) × (block : List (List ℕ))
-        × InParts task was (F.seen files.old).held parts.old.numbers parts.old.writers.items (records ++ block) records
-        × AreGathered task parts.old.numbers gathered.now records block × FitAfter task records block }
+        × AreSorted task was (F.seen files.old).held parts.old records block × FitAfter task records block }
     ensures pushed { (task : Task) (was : Option FileMap) (records block : List (List ℕ))
-        → InParts task was (F.seen files.old).held parts.old.numbers parts.old.writers.items (records ++ block) records
-        → AreGathered task parts.old.numbers gathered.now records block → FitAfter task records block
-        → OnOk result (InParts task was (F.seen files.new).held parts.new.numbers parts.new.writers.items
-        (records ++ block) (records ++ block)) }
+        → AreSorted task was (F.seen files.old).held parts.old records block → FitAfter task records block
+        → OnOk result (AreIn task was (F.seen files.new).held parts.new (records ++ block) (records ++ block)) }
     ensures left { (task : Task) (was : Option FileMap) (records block : List (List ℕ))
-        → InParts task was (F.seen files.old).held parts.old.numbers parts.old.writers.items (records ++ block) records
-        → AreGathered task parts.old.numbers gathered.now records block → FitAfter task records block
+        → AreSorted task was (F.seen files.old).held parts.old records block → FitAfter task records block
         → OnErr result (LeavesPrefixes task was (F.seen files.new).held (records ++ block)) }
     ensures some { IfErr result (λ fault. fault ≡ Write → 1 ≤ length parts.old.writers.items) }
     ensures cause { IfErr result (HasCause (F.seen files.old) (F.seen files.new)) }
@@ -80,7 +71,7 @@ pub(crate) fn push_parts<R: Threads + Sync, F: Files, G: Gate>(
     ensures later { Later (F.seen files.old) (F.seen files.new) }
 {
     for place in 0..parts.writers.len() {
-        push_place(rt, alloc, files, gate, gathered, place, parts)?;
+        push_place(machine, files, place, parts)?;
     }
     Ok(())
 }

@@ -1,6 +1,6 @@
 //! The records of a block by the parts that they belong to.
-ghost use Rattle.std.specs.Prelude.{◌≡◌, ◌⊎◌, ◌+◌, ◌++◌, ◌∷◌, ◌%◌, ◌<◌, ◌≤◌, ◌^◌, ℕ, List, [], Option, Some};
-ghost use Rattle.std.specs.Prelude.{false, length, IfErr, IfOk, MatchOption, OnErr, OnOk, map, slice_get};
+ghost use Rattle.std.specs.Prelude.{◌≡◌, ◌+◌, ◌++◌, ◌∷◌, ◌%◌, ◌<◌, ◌≤◌, ◌^◌, ℕ, List, [], Option};
+ghost use Rattle.std.specs.Prelude.{false, length, IfErr, IfOk, OnErr, OnOk, map};
 ghost use Rattle.las_header.specs.Fields.{is_packed};
 ghost use Rattle.las_header.specs.Vlrs.{laszip_vlrs_of};
 ghost use Rattle.las_filter.specs.Parts.{IsRule};
@@ -10,17 +10,14 @@ ghost use Rattle.laz_file.specs.declared.fault.Fault.TheVariants.{Write};
 ghost use Rattle.laz_file.specs.Copying.{HasCause};
 ghost use Rattle.laz_file.specs.Writing.{SameFaults};
 ghost use Rattle.las_split.specs.Parts.{number_by};
-ghost use Rattle.las_split.specs.Sorting.{AreGathered, HasRoom, InParts, LeavesBlock, LeavesPrefixes, SortsBlock};
-ghost use Rattle.las_split.specs.Sorting.{SortsPoint, cut_all, has, task_of};
-ghost use Rattle.las_split.specs.Splitting.{OpensTooMany};
+ghost use Rattle.las_split.specs.Sorting.{HasRoom, LeavesBlock, SortsBlock, SortsPoint, cut_all, has, task_in};
+ghost use Rattle.las_split.specs.Steps.{AreIn, AreSorted, LeavesRecord, OpensOrRefuses};
 
-use crate::gathering::Gathered;
 use crate::limits::MAX_PARTS;
 use crate::numbering::part_of;
-use crate::part_names::PartNames;
 use crate::parts::Parts;
-use las_filter::Rule;
-use las_header::{Head, POINT_RECORD};
+use crate::splitter::Splitter;
+use las_header::POINT_RECORD;
 use las_outside::Files;
 use laz_file::Fault;
 use std::alloc::Global;
@@ -31,39 +28,28 @@ use std::alloc::Global;
 fn open_place<F: Files>(
     alloc: Global,
     files: &mut F,
-    names: &PartNames,
-    head: &Head,
-    rule: &Rule,
+    splitter: &Splitter,
     number: u32,
     parts: &mut Parts,
-    gathered: &mut Gathered,
 ) -> Result<Option<usize>, Fault>
-    requires plain { is_packed head.now.bytes ≡ false }
-    requires none { laszip_vlrs_of head.now.bytes ≡ [] }
+    requires plain { is_packed splitter.now.head.now.bytes ≡ false }
+    requires none { laszip_vlrs_of splitter.now.head.now.bytes ≡ [] }
     requires other { has number parts.old.numbers ≡ false }
 
     // The part was opened after others, at the first record that has its number.
     ensures opened { (was : Option FileMap) (opened written more : List (List ℕ)) (point : List ℕ)
-        → InParts (task_of names.now head.now rule.now) was (F.seen files.old).held parts.old.numbers
-        parts.old.writers.items opened written
-        → number ≡ number_by rule.now (length opened) point
+        → AreIn (task_in splitter.now) was (F.seen files.old).held parts.old opened written
+        → number ≡ number_by splitter.now.rule.now (length opened) point
         → opened ≡ written ++ more
-        → IfOk result (λ found. MatchOption found
-        (InParts (task_of names.now head.now rule.now) was (F.seen files.new).held parts.new.numbers
-        parts.new.writers.items opened written × OpensTooMany rule.now opened point
-        × (gathered.new ≡ gathered.old) × (parts.new.numbers ≡ parts.old.numbers))
-        (λ place. InParts (task_of names.now head.now rule.now) was (F.seen files.new).held parts.new.numbers
-        parts.new.writers.items (opened ++ point ∷ []) written
-        × (slice_get parts.new.numbers place ≡ Some number))) }
-    ensures gathered { (text : ℕ → List ℕ) → gathered.old ≡ map text parts.old.numbers → text number ≡ []
-        → IfOk result (λ found. gathered.new ≡ map text parts.new.numbers) }
+        → IfOk result (OpensOrRefuses (task_in splitter.now) was (F.seen files.new).held parts.old parts.new opened written
+        number point) }
+    ensures gathered { (text : ℕ → List ℕ) → parts.old.gathered ≡ map text parts.old.numbers → text number ≡ []
+        → IfOk result (λ found. parts.new.gathered ≡ map text parts.new.numbers) }
     ensures left { (was : Option FileMap) (opened written more : List (List ℕ)) (point : List ℕ)
-        → InParts (task_of names.now head.now rule.now) was (F.seen files.old).held parts.old.numbers
-        parts.old.writers.items opened written
-        → number ≡ number_by rule.now (length opened) point
+        → AreIn (task_in splitter.now) was (F.seen files.old).held parts.old opened written
+        → number ≡ number_by splitter.now.rule.now (length opened) point
         → opened ≡ written ++ more
-        → OnErr result (LeavesPrefixes (task_of names.now head.now rule.now) was (F.seen files.new).held opened
-        ⊎ LeavesPrefixes (task_of names.now head.now rule.now) was (F.seen files.new).held (opened ++ point ∷ [])) }
+        → OnErr result (LeavesRecord (task_in splitter.now) was (F.seen files.new).held opened point) }
     ensures cause { IfErr result (HasCause (F.seen files.old) (F.seen files.new)) }
     ensures calm { OnOk result (SameFaults (F.seen files.old) (F.seen files.new)) }
     ensures asked { (F.seen files.new).asked ≡ (F.seen files.old).asked }
@@ -73,8 +59,8 @@ fn open_place<F: Files>(
     if place >= MAX_PARTS {
         return Ok(None);
     }
-    parts.open(alloc, files, names, head, number)?;
-    gathered.open(alloc)?;
+    parts.open(alloc, files, splitter, number)?;
+    parts.gathered.open(alloc)?;
     Ok(Some(place))
 }
 
@@ -84,37 +70,26 @@ fn open_place<F: Files>(
 fn place_of<F: Files>(
     alloc: Global,
     files: &mut F,
-    names: &PartNames,
-    head: &Head,
-    rule: &Rule,
+    splitter: &Splitter,
     number: u32,
     parts: &mut Parts,
-    gathered: &mut Gathered,
 ) -> Result<Option<usize>, Fault>
-    requires plain { is_packed head.now.bytes ≡ false }
-    requires none { laszip_vlrs_of head.now.bytes ≡ [] }
+    requires plain { is_packed splitter.now.head.now.bytes ≡ false }
+    requires none { laszip_vlrs_of splitter.now.head.now.bytes ≡ [] }
     ensures opened { (was : Option FileMap) (opened written more : List (List ℕ)) (point : List ℕ)
-        → InParts (task_of names.now head.now rule.now) was (F.seen files.old).held parts.old.numbers
-        parts.old.writers.items opened written
-        → number ≡ number_by rule.now (length opened) point
+        → AreIn (task_in splitter.now) was (F.seen files.old).held parts.old opened written
+        → number ≡ number_by splitter.now.rule.now (length opened) point
         → opened ≡ written ++ more
-        → IfOk result (λ found. MatchOption found
-        (InParts (task_of names.now head.now rule.now) was (F.seen files.new).held parts.new.numbers
-        parts.new.writers.items opened written × OpensTooMany rule.now opened point
-        × (gathered.new ≡ gathered.old) × (parts.new.numbers ≡ parts.old.numbers))
-        (λ place. InParts (task_of names.now head.now rule.now) was (F.seen files.new).held parts.new.numbers
-        parts.new.writers.items (opened ++ point ∷ []) written
-        × (slice_get parts.new.numbers place ≡ Some number))) }
-    ensures gathered { (text : ℕ → List ℕ) → gathered.old ≡ map text parts.old.numbers
+        → IfOk result (OpensOrRefuses (task_in splitter.now) was (F.seen files.new).held parts.old parts.new opened written
+        number point) }
+    ensures gathered { (text : ℕ → List ℕ) → parts.old.gathered ≡ map text parts.old.numbers
         → (has number parts.old.numbers ≡ false → text number ≡ [])
-        → IfOk result (λ found. gathered.new ≡ map text parts.new.numbers) }
+        → IfOk result (λ found. parts.new.gathered ≡ map text parts.new.numbers) }
     ensures left { (was : Option FileMap) (opened written more : List (List ℕ)) (point : List ℕ)
-        → InParts (task_of names.now head.now rule.now) was (F.seen files.old).held parts.old.numbers
-        parts.old.writers.items opened written
-        → number ≡ number_by rule.now (length opened) point
+        → AreIn (task_in splitter.now) was (F.seen files.old).held parts.old opened written
+        → number ≡ number_by splitter.now.rule.now (length opened) point
         → opened ≡ written ++ more
-        → OnErr result (LeavesPrefixes (task_of names.now head.now rule.now) was (F.seen files.new).held opened
-        ⊎ LeavesPrefixes (task_of names.now head.now rule.now) was (F.seen files.new).held (opened ++ point ∷ [])) }
+        → OnErr result (LeavesRecord (task_in splitter.now) was (F.seen files.new).held opened point) }
     ensures cause { IfErr result (HasCause (F.seen files.old) (F.seen files.new)) }
     ensures calm { OnOk result (SameFaults (F.seen files.old) (F.seen files.new)) }
     ensures asked { (F.seen files.new).asked ≡ (F.seen files.old).asked }
@@ -123,7 +98,7 @@ fn place_of<F: Files>(
     if let Some(place) = parts.numbers.find(number) {
         return Ok(Some(place));
     }
-    open_place(alloc, files, names, head, rule, number, parts, gathered)
+    open_place(alloc, files, splitter, number, parts)
 }
 
 // Sorts a record after others of its block: its part is found, or opened. The answer is false if it would open one part
@@ -132,51 +107,39 @@ fn place_of<F: Files>(
 fn sort_point<F: Files>(
     alloc: Global,
     files: &mut F,
-    names: &PartNames,
-    head: &Head,
-    rule: &Rule,
+    splitter: &Splitter,
     index: u64,
     point: &[u8],
     parts: &mut Parts,
-    gathered: &mut Gathered,
 ) -> Result<bool, Fault>
-    requires plain { is_packed head.now.bytes ≡ false }
-    requires none { laszip_vlrs_of head.now.bytes ≡ [] }
-    requires rule { IsRule rule.now }
+    requires plain { is_packed splitter.now.head.now.bytes ≡ false }
+    requires none { laszip_vlrs_of splitter.now.head.now.bytes ≡ [] }
+    requires rule { IsRule splitter.now.rule.now }
     requires index { index < 2 ^ 32 }
     requires long { POINT_RECORD ≤ length point.now }
     requires parts { (was : Option FileMap) × (records : List (List ℕ)) × (block : List (List ℕ))
-        × InParts (task_of names.now head.now rule.now) was (F.seen files.old).held parts.old.numbers
-        parts.old.writers.items (records ++ block) records
-        × AreGathered (task_of names.now head.now rule.now) parts.old.numbers gathered.old records block
+        × AreSorted (task_in splitter.now) was (F.seen files.old).held parts.old records block
         × (index ≡ length records + length block) }
     ensures sorts { (was : Option FileMap) (records block : List (List ℕ))
-        → InParts (task_of names.now head.now rule.now) was (F.seen files.old).held parts.old.numbers
-        parts.old.writers.items (records ++ block) records
-        → AreGathered (task_of names.now head.now rule.now) parts.old.numbers gathered.old records block
+        → AreSorted (task_in splitter.now) was (F.seen files.old).held parts.old records block
         → index ≡ length records + length block
-        → IfOk result (SortsPoint (task_of names.now head.now rule.now) was (F.seen files.new).held parts.new.numbers
-        parts.new.writers.items gathered.new records block point.now) }
+        → IfOk result (SortsPoint (task_in splitter.now) was (F.seen files.new).held parts.new.numbers
+        parts.new.writers.items parts.new.gathered records block point.now) }
     ensures left { (was : Option FileMap) (records block : List (List ℕ))
-        → InParts (task_of names.now head.now rule.now) was (F.seen files.old).held parts.old.numbers
-        parts.old.writers.items (records ++ block) records
-        → AreGathered (task_of names.now head.now rule.now) parts.old.numbers gathered.old records block
+        → AreSorted (task_in splitter.now) was (F.seen files.old).held parts.old records block
         → index ≡ length records + length block
-        → OnErr result
-        (LeavesPrefixes (task_of names.now head.now rule.now) was (F.seen files.new).held (records ++ block)
-        ⊎ LeavesPrefixes (task_of names.now head.now rule.now) was (F.seen files.new).held
-        ((records ++ block) ++ point.now ∷ [])) }
+        → OnErr result (LeavesRecord (task_in splitter.now) was (F.seen files.new).held (records ++ block) point.now) }
     ensures cause { IfErr result (HasCause (F.seen files.old) (F.seen files.new)) }
     ensures calm { OnOk result (SameFaults (F.seen files.old) (F.seen files.new)) }
     ensures asked { (F.seen files.new).asked ≡ (F.seen files.old).asked }
     ensures later { Later (F.seen files.old) (F.seen files.new) }
 {
-    let number = part_of(rule, index, point);
-    let found = place_of(alloc, files, names, head, rule, number, parts, gathered)?;
+    let number = part_of(splitter.rule, index, point);
+    let found = place_of(alloc, files, splitter, number, parts)?;
     let Some(place) = found else {
         return Ok(false);
     };
-    match gathered.add(place, point) {
+    match parts.gathered.add(place, point) {
         Ok(()) => Ok(true),
         Err(_) => Err(Fault::Memory),
     }
@@ -187,51 +150,44 @@ fn sort_point<F: Files>(
 pub(crate) fn sort_block<F: Files>(
     alloc: Global,
     files: &mut F,
-    names: &PartNames,
-    head: &Head,
-    rule: &Rule,
+    splitter: &Splitter,
     index: u64,
-    size: usize,
     block: &[u8],
     parts: &mut Parts,
-    gathered: &mut Gathered,
 ) -> Result<usize, Fault>
-    requires plain { is_packed head.now.bytes ≡ false }
-    requires none { laszip_vlrs_of head.now.bytes ≡ [] }
-    requires rule { IsRule rule.now }
-    requires room { HasRoom (task_of names.now head.now rule.now) size index (length block.now) }
-    requires whole { length block.now % size ≡ 0 }
+    requires plain { is_packed splitter.now.head.now.bytes ≡ false }
+    requires none { laszip_vlrs_of splitter.now.head.now.bytes ≡ [] }
+    requires rule { IsRule splitter.now.rule.now }
+    requires room { HasRoom (task_in splitter.now) splitter.now.size index (length block.now) }
+    requires whole { length block.now % splitter.now.size ≡ 0 }
     requires parts { (was : Option FileMap) × (records : List (List ℕ))
-        × InParts (task_of names.now head.now rule.now) was (F.seen files.old).held parts.old.numbers
-        parts.old.writers.items records records
+        × AreIn (task_in splitter.now) was (F.seen files.old).held parts.old records records
         × (index ≡ length records) }
     ensures sorts { (was : Option FileMap) (records : List (List ℕ))
-        → InParts (task_of names.now head.now rule.now) was (F.seen files.old).held parts.old.numbers
-        parts.old.writers.items records records
+        → AreIn (task_in splitter.now) was (F.seen files.old).held parts.old records records
         → index ≡ length records
-        → IfOk result (SortsBlock (task_of names.now head.now rule.now) was (F.seen files.new).held parts.new.numbers
-        parts.new.writers.items gathered.new records (cut_all size block.now)) }
+        → IfOk result (SortsBlock (task_in splitter.now) was (F.seen files.new).held parts.new.numbers
+        parts.new.writers.items parts.new.gathered records (cut_all splitter.now.size block.now)) }
     ensures left { (was : Option FileMap) (records : List (List ℕ))
-        → InParts (task_of names.now head.now rule.now) was (F.seen files.old).held parts.old.numbers
-        parts.old.writers.items records records
+        → AreIn (task_in splitter.now) was (F.seen files.old).held parts.old records records
         → index ≡ length records
-        → OnErr result (LeavesBlock (task_of names.now head.now rule.now) was (F.seen files.new).held records
-        (cut_all size block.now)) }
-    ensures some { IfErr result (λ fault. fault ≡ Write → 1 ≤ length (cut_all size block.now)) }
+        → OnErr result (LeavesBlock (task_in splitter.now) was (F.seen files.new).held records
+        (cut_all splitter.now.size block.now)) }
+    ensures some { IfErr result (λ fault. fault ≡ Write → 1 ≤ length (cut_all splitter.now.size block.now)) }
     ensures cause { IfErr result (HasCause (F.seen files.old) (F.seen files.new)) }
     ensures calm { OnOk result (SameFaults (F.seen files.old) (F.seen files.new)) }
     ensures asked { (F.seen files.new).asked ≡ (F.seen files.old).asked }
     ensures later { Later (F.seen files.old) (F.seen files.new) }
 {
-    gathered.begin(alloc, parts.writers.len())?;
+    let size = splitter.size;
+    let open = parts.writers.len();
+    parts.gathered.begin(alloc, open)?;
     let mut rest = block;
     let count = block.len() / size;
     for turn in 0..count {
         let (point, further) = rest.split_at(size);
         let place = index + turn as u64;
-        if !sort_point(
-            alloc, files, names, head, rule, place, point, parts, gathered,
-        )? {
+        if !sort_point(alloc, files, splitter, place, point, parts)? {
             return Ok(turn);
         }
         rest = further;

@@ -6,9 +6,11 @@ use Rattle.las_info.proofs.Zips.{changed_alike, holds_left, one_mapped, related}
 use Rattle.las_info.proofs.survey.show_block.Goals as goal
 
 pub show_through-requires-clause-room : goal.show_through-requires-clause-room
-show_through-requires-clause-room g c =
-    holds_left (λ tap. (bin : ℕ) → count_at (((goal.Tap-dyn g (tap.vtable, tap.value)).tap_seen tap.value).tally) bin + length c.args.block.now / c.args.size < 2 ^ 64)
-    c.args.taps.now c.loop-i.taps c.loop-i.i c.index-taps-i.result c.loop-i-test.true c.loop-i.invariant.0 c.requires.room
+show_through-requires-clause-room g c = record {
+  fits =
+      holds_left (λ tap. (bin : ℕ) → count_at (((goal.Tap-dyn g (tap.vtable, tap.value)).tap_seen tap.value).tally) bin + length c.args.block.now / c.args.size < 2 ^ 64)
+      c.args.taps.now c.loop-i.taps c.loop-i.i c.index-taps-i.result c.loop-i-test.true c.loop-i.invariant.0 c.requires.room;
+}
 
 pub loop-i-preserved : goal.loop-i-preserved
 loop-i-preserved g c =

@@ -1,8 +1,9 @@
-use Rattle.std.proofs.Common.{◌≡◌, ◌≢◌, ◌%◌, ◌+◌, ◌<◌, ◌≤◌, ◌^◌, true, false, ℕ, List, [], ◌++◌, length, take, refl, Err, sym, ◌∙◌, ap, subst, length-append, arith}
+use Rattle.std.proofs.Common.{◌≡◌, ◌≢◌, ◌%◌, ◌+◌, ◌<◌, ◌≤◌, ◌^◌, Bool, true, false, ℕ, List, Option, [], ◌++◌, length, take, refl, Err, Ok, sym, ◌∙◌, ap, subst, length-append, arith}
 use Rattle.std.specs.Prelude.{All, unwrap_or}
 use Rattle.std.specs.List.{concat}
 use Rattle.las_filter.specs.Parts.{part_name}
-use Rattle.las_header.specs.Fields.{record_length_of}
+use Rattle.las_header.specs.Fields.{is_packed, record_length_of}
+use Rattle.las_header.specs.Vlrs.{laszip_vlrs_of}
 use Rattle.las_header.specs.Heads.{HeadView}
 use Rattle.las_outside.specs.Files.{WhereKnown}
 use Rattle.laz_file.specs.Reading.{ReaderSeen, StandsFor}
@@ -11,7 +12,9 @@ use Rattle.laz_file.proofs.Copies.{ReadsMore, calm_ok, end_all, end_bad, end_err
 use Rattle.laz_file.proofs.Faults.{later-trans}
 use Rattle.laz_file.proofs.Putting.{if_err}
 use Rattle.laz_file.proofs.Taking.{cause_since, on_err}
-use Rattle.las_split.specs.Sorting.{HasRoom, InParts, IsPlainFor, LeavesBlock, TakesBlock, cut_all, task_of}
+use Rattle.laz_file.specs.Copying.{HoldFirst}
+use Rattle.las_header.specs.declared.refusal.Refusal.{Refusal}
+use Rattle.las_split.specs.Sorting.{EndsSplitting, HasRoom, InParts, LeavesBlock, TakesBlock, cut_all, task_of}
 use Rattle.las_split.proofs.BatchesTaken.{batch_even, batch_room, cut_batch, head_some, known_parts, left_whole, none_yet, parts_held, parts_none}
 use Rattle.las_split.proofs.Blocks.{left_then, takes_then}
 use Rattle.las_split.proofs.SomeRecords.{never_write}
@@ -28,7 +31,7 @@ batches-init g c =
       sound = c.requires.open;
       crew = c.requires.crew;
       reads = c.requires.reads;
-      taken = (0, [], read_none old.held first (StandsFor first) c.requires.reads, parts_none task old.held c.args.parts.now.numbers c.args.parts.now.writers.items s some c.requires.numbers c.requires.writers, none_yet s some);
+      taken = (0, [], read_none old.held first (StandsFor first) c.requires.reads, parts_none task old.held c.new-parts.result.numbers c.new-parts.result.writers.items s some c.new-parts.ensures.numbers c.new-parts.ensures.writers, none_yet s some);
       reads_calm = refl;
       writes_calm = refl;
       later = record { known = refl; reads = omega arith; writes = omega arith; asked = omega arith };
@@ -42,44 +45,50 @@ returns-in-Err-clause-takes g c =
     let later = g.F.Files.seen c.next_batch.new.files in
     let first = c.args.reader.now in
     let reader = c.batches.reader in
-    let task = λ (h : HeadView). task_of c.args.names.now (unwrap_or c.args.plain.now h) c.args.rule.now in
+    let task = λ (h : HeadView). task_of c.args.names.now h c.args.rule.now in
+    let used = unwrap_or c.args.plain.now first.head in
     let s = record_length_of first.head.bytes in
     let ns = c.batches.parts.numbers in
     let ws = c.batches.parts.writers.items in
     let done = c.batches.invariant.taken in
     let x = cut_all s (concat done.1) in
-    let apart : (n : ℕ) → n < 2 ^ 32 → part_name (task first.head).stem (task first.head).end n ≢ reader.name = λ n lt e. c.requires.names n lt (e ∙ done.2.named) in
-    let here = parts_held (task first.head) old.held now.held later.held ns ws x x c.next_batch.ensures.held done.3 in
-    end_ok c.in-Err.fault c.end_of.result _ c.end_of.ensures
+    let apart : (n : ℕ) → n < 2 ^ 32 → part_name (task used).stem (task used).end n ≢ reader.name = λ n lt e. c.requires.names n lt (e ∙ done.2.named) in
+    let here = parts_held (task used) old.held now.held later.held ns ws x x c.next_batch.ensures.held done.3 in
+    end_ok c.in-Err.fault (Ok c.in_ok-end-in-Err.end)
+    (λ (e : Option Refusal). (n : ℕ) × (blocks : List (List ℕ)) × (all : Bool) × HoldFirst old.held first n blocks
+    × TakesBlock (task used) old.held later.held ns ws [] (cut_all s (concat blocks)) all × EndsSplitting old.held first n all e)
+    c.in_ok-end-in-Err.ensures
     (λ cause is.
     let bad = c.in-Err.ensures.bad cause (ap Err is) in
-    let known = (known_parts (task first.head) old.held now.held ns ws x x done.3 reader.name apart (λ file. IsBadPiece file reader.left 0)).1 bad.2 in
+    let known = (known_parts (task used) old.held now.held ns ws x x done.3 reader.name apart (λ file. IsBadPiece file reader.left 0)).1 bad.2 in
     (done.0, done.1, true, done.2.hold, here, end_bad old.held first reader done.0 done.1 cause done.2 bad.0 (c.in-Err.ensures.packed cause (ap Err is)) known))
 
-pub returns-in-Err-clause-left : goal.returns-in-Err-clause-left
-returns-in-Err-clause-left g c =
+pub returns-in_err-end-in-Err-clause-left : goal.returns-in_err-end-in-Err-clause-left
+returns-in_err-end-in-Err-clause-left g c =
     let old = g.F.Files.seen c.args.files.now in
     let now = g.F.Files.seen c.batches.files in
     let later = g.F.Files.seen c.next_batch.new.files in
     let first = c.args.reader.now in
     let reader = c.batches.reader in
-    let task = λ (h : HeadView). task_of c.args.names.now (unwrap_or c.args.plain.now h) c.args.rule.now in
+    let task = λ (h : HeadView). task_of c.args.names.now h c.args.rule.now in
+    let used = unwrap_or c.args.plain.now first.head in
     let s = record_length_of first.head.bytes in
     let ns = c.batches.parts.numbers in
     let ws = c.batches.parts.writers.items in
     let done = c.batches.invariant.taken in
     let x = cut_all s (concat done.1) in
-    let apart : (n : ℕ) → n < 2 ^ 32 → part_name (task first.head).stem (task first.head).end n ≢ reader.name = λ n lt e. c.requires.names n lt (e ∙ done.2.named) in
-    let here = parts_held (task first.head) old.held now.held later.held ns ws x x c.next_batch.ensures.held done.3 in
-    on_err c.end_of.result (done.0, done.1, done.2.hold, left_whole (task first.head) old.held later.held ns ws x here)
+    let apart : (n : ℕ) → n < 2 ^ 32 → part_name (task used).stem (task used).end n ≢ reader.name = λ n lt e. c.requires.names n lt (e ∙ done.2.named) in
+    let here = parts_held (task used) old.held now.held later.held ns ws x x c.next_batch.ensures.held done.3 in
+    on_err c.from_residual.result (done.0, done.1, done.2.hold, left_whole (task used) old.held later.held ns ws x here)
 
-pub returns-in-Err-clause-cause : goal.returns-in-Err-clause-cause
-returns-in-Err-clause-cause g c =
-    end_err c.in-Err.fault c.end_of.result (g.F.Files.seen c.args.files.now) (g.F.Files.seen c.batches.files) (g.F.Files.seen c.next_batch.new.files) c.end_of.ensures c.in-Err.ensures.ends c.batches.invariant.reads_calm
+pub returns-in_err-end-in-Err-clause-cause : goal.returns-in_err-end-in-Err-clause-cause
+returns-in_err-end-in-Err-clause-cause g c =
+    if_err _ c.from_residual.result _ c.from_residual.ensures.1
+    (end_err c.in-Err.fault (Err c.in_err-end-in-Err.field-0.0) (g.F.Files.seen c.args.files.now) (g.F.Files.seen c.batches.files) (g.F.Files.seen c.next_batch.new.files) c.in_err-end-in-Err.ensures c.in-Err.ensures.ends c.batches.invariant.reads_calm)
 
 pub returns-in-Err-clause-reads_calm : goal.returns-in-Err-clause-reads_calm
 returns-in-Err-clause-reads_calm g c =
-    calm_ok c.in-Err.fault c.end_of.result (g.F.Files.seen c.args.files.now) (g.F.Files.seen c.batches.files) (g.F.Files.seen c.next_batch.new.files) c.end_of.ensures c.in-Err.ensures.ends c.batches.invariant.reads_calm
+    calm_ok c.in-Err.fault (Ok c.in_ok-end-in-Err.end) (g.F.Files.seen c.args.files.now) (g.F.Files.seen c.batches.files) (g.F.Files.seen c.next_batch.new.files) c.in_ok-end-in-Err.ensures c.in-Err.ensures.ends c.batches.invariant.reads_calm
 
 pub returns-then-count-eq0-clause-takes : goal.returns-then-count-eq0-clause-takes
 returns-then-count-eq0-clause-takes g c =
@@ -88,14 +97,15 @@ returns-then-count-eq0-clause-takes g c =
     let later = g.F.Files.seen c.next_batch.new.files in
     let first = c.args.reader.now in
     let reader = c.batches.reader in
-    let task = λ (h : HeadView). task_of c.args.names.now (unwrap_or c.args.plain.now h) c.args.rule.now in
+    let task = λ (h : HeadView). task_of c.args.names.now h c.args.rule.now in
+    let used = unwrap_or c.args.plain.now first.head in
     let s = record_length_of first.head.bytes in
     let ns = c.batches.parts.numbers in
     let ws = c.batches.parts.writers.items in
     let done = c.batches.invariant.taken in
     let x = cut_all s (concat done.1) in
-    let apart : (n : ℕ) → n < 2 ^ 32 → part_name (task first.head).stem (task first.head).end n ≢ reader.name = λ n lt e. c.requires.names n lt (e ∙ done.2.named) in
-    let here = parts_held (task first.head) old.held now.held later.held ns ws x x c.next_batch.ensures.held done.3 in
+    let apart : (n : ℕ) → n < 2 ^ 32 → part_name (task used).stem (task used).end n ≢ reader.name = λ n lt e. c.requires.names n lt (e ∙ done.2.named) in
+    let here = parts_held (task used) old.held now.held later.held ns ws x x c.next_batch.ensures.held done.3 in
     (done.0, done.1, true, done.2.hold, here, end_all old.held first reader done.0 done.1 done.2 (c.in-Ok.ensures.end c.if-count-eq0.true))
 
 pub split_batch-requires-clause-plain : goal.split_batch-requires-clause-plain
@@ -105,27 +115,60 @@ split_batch-requires-clause-plain g c κs lives =
     let later = g.F.Files.seen c.next_batch.new.files in
     let first = c.args.reader.now in
     let reader = c.batches.reader in
-    let task = λ (h : HeadView). task_of c.args.names.now (unwrap_or c.args.plain.now h) c.args.rule.now in
+    let task = λ (h : HeadView). task_of c.args.names.now h c.args.rule.now in
+    let used = unwrap_or c.args.plain.now first.head in
     let s = record_length_of first.head.bytes in
     let ns = c.batches.parts.numbers in
     let ws = c.batches.parts.writers.items in
     let done = c.batches.invariant.taken in
     let x = cut_all s (concat done.1) in
-    let apart : (n : ℕ) → n < 2 ^ 32 → part_name (task first.head).stem (task first.head).end n ≢ reader.name = λ n lt e. c.requires.names n lt (e ∙ done.2.named) in
-    let here = parts_held (task first.head) old.held now.held later.held ns ws x x c.next_batch.ensures.held done.3 in
+    let apart : (n : ℕ) → n < 2 ^ 32 → part_name (task used).stem (task used).end n ≢ reader.name = λ n lt e. c.requires.names n lt (e ∙ done.2.named) in
+    let here = parts_held (task used) old.held now.held later.held ns ws x x c.next_batch.ensures.held done.3 in
     let b = c.in-Ok.ensures.blocks in
     let m = c.in-Ok.count in
     let y = cut_all s (concat b.0) in
     let next = c.next_batch.new.self in
-    let hold = (known_parts (task first.head) old.held now.held ns ws x x done.3 reader.name apart (λ file. HoldOnly file (take m reader.left) b.0)).1 b.4 in
+    let hold = (known_parts (task used) old.held now.held ns ws x x done.3 reader.name apart (λ file. HoldOnly file (take m reader.left) b.0)).1 b.4 in
     let more : ReadsMore old.held reader next m b.0 = record { within = omega (arith, c.in-Ok.ensures.most); whole = b.3; hold = hold; moved = c.in-Ok.ensures.moved } in
     let has = read_more old.held first reader next done.0 m done.1 b.0 done.2 more in
+    let heads : c.plain_of-head.result.now ≡ used = c.plain_of-head.ensures ∙ ap (unwrap_or c.args.plain.now) has.head in
     let same : c.from-size.result ≡ s = c.from-size.ensures ∙ c.record_length.ensures.field ∙ ap (λ (h : HeadView). record_length_of h.bytes) c.head.ensures in
     let wide = batch_even old.held first reader done.0 done.1 done.2 c.requires.head m b.0 b.3 in
     let even = subst (λ (k : ℕ). All (λ block. length block % k ≡ 0) b.0) (sym same) wide in
-    let parts = subst (λ (h : HeadView). InParts (task h) old.held later.held ns ws x x) (sym has.head) here in
+    let parts = subst (λ (h : HeadView). InParts (task h) old.held later.held ns ws x x) (sym heads) here in
     let joined = cut_batch old.held first reader done.0 done.1 done.2 c.requires.head b.0 in
-    subst (λ (h : HeadView). IsPlainFor h (unwrap_or c.args.plain.now h)) (sym has.head) c.requires.plain
+    ap (λ (h : HeadView). is_packed h.bytes) heads ∙ c.requires.plain.plain_is
+
+pub split_batch-requires-clause-none : goal.split_batch-requires-clause-none
+split_batch-requires-clause-none g c κs lives =
+    let old = g.F.Files.seen c.args.files.now in
+    let now = g.F.Files.seen c.batches.files in
+    let later = g.F.Files.seen c.next_batch.new.files in
+    let first = c.args.reader.now in
+    let reader = c.batches.reader in
+    let task = λ (h : HeadView). task_of c.args.names.now h c.args.rule.now in
+    let used = unwrap_or c.args.plain.now first.head in
+    let s = record_length_of first.head.bytes in
+    let ns = c.batches.parts.numbers in
+    let ws = c.batches.parts.writers.items in
+    let done = c.batches.invariant.taken in
+    let x = cut_all s (concat done.1) in
+    let apart : (n : ℕ) → n < 2 ^ 32 → part_name (task used).stem (task used).end n ≢ reader.name = λ n lt e. c.requires.names n lt (e ∙ done.2.named) in
+    let here = parts_held (task used) old.held now.held later.held ns ws x x c.next_batch.ensures.held done.3 in
+    let b = c.in-Ok.ensures.blocks in
+    let m = c.in-Ok.count in
+    let y = cut_all s (concat b.0) in
+    let next = c.next_batch.new.self in
+    let hold = (known_parts (task used) old.held now.held ns ws x x done.3 reader.name apart (λ file. HoldOnly file (take m reader.left) b.0)).1 b.4 in
+    let more : ReadsMore old.held reader next m b.0 = record { within = omega (arith, c.in-Ok.ensures.most); whole = b.3; hold = hold; moved = c.in-Ok.ensures.moved } in
+    let has = read_more old.held first reader next done.0 m done.1 b.0 done.2 more in
+    let heads : c.plain_of-head.result.now ≡ used = c.plain_of-head.ensures ∙ ap (unwrap_or c.args.plain.now) has.head in
+    let same : c.from-size.result ≡ s = c.from-size.ensures ∙ c.record_length.ensures.field ∙ ap (λ (h : HeadView). record_length_of h.bytes) c.head.ensures in
+    let wide = batch_even old.held first reader done.0 done.1 done.2 c.requires.head m b.0 b.3 in
+    let even = subst (λ (k : ℕ). All (λ block. length block % k ≡ 0) b.0) (sym same) wide in
+    let parts = subst (λ (h : HeadView). InParts (task h) old.held later.held ns ws x x) (sym heads) here in
+    let joined = cut_batch old.held first reader done.0 done.1 done.2 c.requires.head b.0 in
+    ap (λ (h : HeadView). laszip_vlrs_of h.bytes) heads ∙ c.requires.plain.none
 
 pub split_batch-requires-clause-lent : goal.split_batch-requires-clause-lent
 split_batch-requires-clause-lent g c κs lives =
@@ -134,28 +177,30 @@ split_batch-requires-clause-lent g c κs lives =
     let later = g.F.Files.seen c.next_batch.new.files in
     let first = c.args.reader.now in
     let reader = c.batches.reader in
-    let task = λ (h : HeadView). task_of c.args.names.now (unwrap_or c.args.plain.now h) c.args.rule.now in
+    let task = λ (h : HeadView). task_of c.args.names.now h c.args.rule.now in
+    let used = unwrap_or c.args.plain.now first.head in
     let s = record_length_of first.head.bytes in
     let ns = c.batches.parts.numbers in
     let ws = c.batches.parts.writers.items in
     let done = c.batches.invariant.taken in
     let x = cut_all s (concat done.1) in
-    let apart : (n : ℕ) → n < 2 ^ 32 → part_name (task first.head).stem (task first.head).end n ≢ reader.name = λ n lt e. c.requires.names n lt (e ∙ done.2.named) in
-    let here = parts_held (task first.head) old.held now.held later.held ns ws x x c.next_batch.ensures.held done.3 in
+    let apart : (n : ℕ) → n < 2 ^ 32 → part_name (task used).stem (task used).end n ≢ reader.name = λ n lt e. c.requires.names n lt (e ∙ done.2.named) in
+    let here = parts_held (task used) old.held now.held later.held ns ws x x c.next_batch.ensures.held done.3 in
     let b = c.in-Ok.ensures.blocks in
     let m = c.in-Ok.count in
     let y = cut_all s (concat b.0) in
     let next = c.next_batch.new.self in
-    let hold = (known_parts (task first.head) old.held now.held ns ws x x done.3 reader.name apart (λ file. HoldOnly file (take m reader.left) b.0)).1 b.4 in
+    let hold = (known_parts (task used) old.held now.held ns ws x x done.3 reader.name apart (λ file. HoldOnly file (take m reader.left) b.0)).1 b.4 in
     let more : ReadsMore old.held reader next m b.0 = record { within = omega (arith, c.in-Ok.ensures.most); whole = b.3; hold = hold; moved = c.in-Ok.ensures.moved } in
     let has = read_more old.held first reader next done.0 m done.1 b.0 done.2 more in
+    let heads : c.plain_of-head.result.now ≡ used = c.plain_of-head.ensures ∙ ap (unwrap_or c.args.plain.now) has.head in
     let same : c.from-size.result ≡ s = c.from-size.ensures ∙ c.record_length.ensures.field ∙ ap (λ (h : HeadView). record_length_of h.bytes) c.head.ensures in
     let wide = batch_even old.held first reader done.0 done.1 done.2 c.requires.head m b.0 b.3 in
     let even = subst (λ (k : ℕ). All (λ block. length block % k ≡ 0) b.0) (sym same) wide in
-    let parts = subst (λ (h : HeadView). InParts (task h) old.held later.held ns ws x x) (sym has.head) here in
+    let parts = subst (λ (h : HeadView). InParts (task h) old.held later.held ns ws x x) (sym heads) here in
     let joined = cut_batch old.held first reader done.0 done.1 done.2 c.requires.head b.0 in
-    let room = batch_room old.held first reader done.0 done.1 done.2 c.requires.head (task first.head) (unwrap_or c.args.plain.now first.head) c.batches.index m b.0 refl c.requires.plain c.requires.all b.3 done.4 in
-    (b.0, b.2, b.1, even, subst (λ (h : HeadView). HasRoom (task h) c.from-size.result c.batches.index (length (concat b.0))) (sym has.head) (subst (λ (k : ℕ). HasRoom (task first.head) k c.batches.index (length (concat b.0))) (sym same) room))
+    let room = batch_room old.held first reader done.0 done.1 done.2 c.requires.head (task used) used c.batches.index m b.0 refl c.requires.plain c.requires.all b.3 done.4 in
+    (b.0, b.2, b.1, even, subst (λ (h : HeadView). HasRoom (task h) c.from-size.result c.batches.index (length (concat b.0))) (sym heads) (subst (λ (k : ℕ). HasRoom (task used) k c.batches.index (length (concat b.0))) (sym same) room))
 
 pub split_batch-requires-clause-parts : goal.split_batch-requires-clause-parts
 split_batch-requires-clause-parts g c κs lives =
@@ -164,25 +209,27 @@ split_batch-requires-clause-parts g c κs lives =
     let later = g.F.Files.seen c.next_batch.new.files in
     let first = c.args.reader.now in
     let reader = c.batches.reader in
-    let task = λ (h : HeadView). task_of c.args.names.now (unwrap_or c.args.plain.now h) c.args.rule.now in
+    let task = λ (h : HeadView). task_of c.args.names.now h c.args.rule.now in
+    let used = unwrap_or c.args.plain.now first.head in
     let s = record_length_of first.head.bytes in
     let ns = c.batches.parts.numbers in
     let ws = c.batches.parts.writers.items in
     let done = c.batches.invariant.taken in
     let x = cut_all s (concat done.1) in
-    let apart : (n : ℕ) → n < 2 ^ 32 → part_name (task first.head).stem (task first.head).end n ≢ reader.name = λ n lt e. c.requires.names n lt (e ∙ done.2.named) in
-    let here = parts_held (task first.head) old.held now.held later.held ns ws x x c.next_batch.ensures.held done.3 in
+    let apart : (n : ℕ) → n < 2 ^ 32 → part_name (task used).stem (task used).end n ≢ reader.name = λ n lt e. c.requires.names n lt (e ∙ done.2.named) in
+    let here = parts_held (task used) old.held now.held later.held ns ws x x c.next_batch.ensures.held done.3 in
     let b = c.in-Ok.ensures.blocks in
     let m = c.in-Ok.count in
     let y = cut_all s (concat b.0) in
     let next = c.next_batch.new.self in
-    let hold = (known_parts (task first.head) old.held now.held ns ws x x done.3 reader.name apart (λ file. HoldOnly file (take m reader.left) b.0)).1 b.4 in
+    let hold = (known_parts (task used) old.held now.held ns ws x x done.3 reader.name apart (λ file. HoldOnly file (take m reader.left) b.0)).1 b.4 in
     let more : ReadsMore old.held reader next m b.0 = record { within = omega (arith, c.in-Ok.ensures.most); whole = b.3; hold = hold; moved = c.in-Ok.ensures.moved } in
     let has = read_more old.held first reader next done.0 m done.1 b.0 done.2 more in
+    let heads : c.plain_of-head.result.now ≡ used = c.plain_of-head.ensures ∙ ap (unwrap_or c.args.plain.now) has.head in
     let same : c.from-size.result ≡ s = c.from-size.ensures ∙ c.record_length.ensures.field ∙ ap (λ (h : HeadView). record_length_of h.bytes) c.head.ensures in
     let wide = batch_even old.held first reader done.0 done.1 done.2 c.requires.head m b.0 b.3 in
     let even = subst (λ (k : ℕ). All (λ block. length block % k ≡ 0) b.0) (sym same) wide in
-    let parts = subst (λ (h : HeadView). InParts (task h) old.held later.held ns ws x x) (sym has.head) here in
+    let parts = subst (λ (h : HeadView). InParts (task h) old.held later.held ns ws x x) (sym heads) here in
     let joined = cut_batch old.held first reader done.0 done.1 done.2 c.requires.head b.0 in
     (old.held, x, parts, done.4)
 
@@ -193,41 +240,43 @@ returns-in_err-after-clause-left g c =
     let later = g.F.Files.seen c.next_batch.new.files in
     let first = c.args.reader.now in
     let reader = c.batches.reader in
-    let task = λ (h : HeadView). task_of c.args.names.now (unwrap_or c.args.plain.now h) c.args.rule.now in
+    let task = λ (h : HeadView). task_of c.args.names.now h c.args.rule.now in
+    let used = unwrap_or c.args.plain.now first.head in
     let s = record_length_of first.head.bytes in
     let ns = c.batches.parts.numbers in
     let ws = c.batches.parts.writers.items in
     let done = c.batches.invariant.taken in
     let x = cut_all s (concat done.1) in
-    let apart : (n : ℕ) → n < 2 ^ 32 → part_name (task first.head).stem (task first.head).end n ≢ reader.name = λ n lt e. c.requires.names n lt (e ∙ done.2.named) in
-    let here = parts_held (task first.head) old.held now.held later.held ns ws x x c.next_batch.ensures.held done.3 in
+    let apart : (n : ℕ) → n < 2 ^ 32 → part_name (task used).stem (task used).end n ≢ reader.name = λ n lt e. c.requires.names n lt (e ∙ done.2.named) in
+    let here = parts_held (task used) old.held now.held later.held ns ws x x c.next_batch.ensures.held done.3 in
     let b = c.in-Ok.ensures.blocks in
     let m = c.in-Ok.count in
     let y = cut_all s (concat b.0) in
     let next = c.next_batch.new.self in
-    let hold = (known_parts (task first.head) old.held now.held ns ws x x done.3 reader.name apart (λ file. HoldOnly file (take m reader.left) b.0)).1 b.4 in
+    let hold = (known_parts (task used) old.held now.held ns ws x x done.3 reader.name apart (λ file. HoldOnly file (take m reader.left) b.0)).1 b.4 in
     let more : ReadsMore old.held reader next m b.0 = record { within = omega (arith, c.in-Ok.ensures.most); whole = b.3; hold = hold; moved = c.in-Ok.ensures.moved } in
     let has = read_more old.held first reader next done.0 m done.1 b.0 done.2 more in
+    let heads : c.plain_of-head.result.now ≡ used = c.plain_of-head.ensures ∙ ap (unwrap_or c.args.plain.now) has.head in
     let same : c.from-size.result ≡ s = c.from-size.ensures ∙ c.record_length.ensures.field ∙ ap (λ (h : HeadView). record_length_of h.bytes) c.head.ensures in
     let wide = batch_even old.held first reader done.0 done.1 done.2 c.requires.head m b.0 b.3 in
     let even = subst (λ (k : ℕ). All (λ block. length block % k ≡ 0) b.0) (sym same) wide in
-    let parts = subst (λ (h : HeadView). InParts (task h) old.held later.held ns ws x x) (sym has.head) here in
+    let parts = subst (λ (h : HeadView). InParts (task h) old.held later.held ns ws x x) (sym heads) here in
     let joined = cut_batch old.held first reader done.0 done.1 done.2 c.requires.head b.0 in
     let fin = c.split_batch.new in
     let new = g.F.Files.seen fin.files in
     let us = fin.parts.numbers in
     let vs = fin.parts.writers.items in
     let l = c.in_err-after.ensures.left b.0 old.held x b.2 b.1 even parts done.4 in
-    let l2 = subst (λ (h : HeadView). LeavesBlock (task h) old.held new.held x (cut_all c.from-size.result (concat b.0))) has.head l in
-    let l3 = subst (λ (k : ℕ). LeavesBlock (task first.head) old.held new.held x (cut_all k (concat b.0))) same l2 in
-    on_err c.from_residual.result (done.0 + m, done.1 ++ b.0, has.hold, subst (LeavesBlock (task first.head) old.held new.held []) (sym joined) (left_then (task first.head) old.held new.held [] x y l3))
+    let l2 = subst (λ (h : HeadView). LeavesBlock (task h) old.held new.held x (cut_all c.from-size.result (concat b.0))) heads l in
+    let l3 = subst (λ (k : ℕ). LeavesBlock (task used) old.held new.held x (cut_all k (concat b.0))) same l2 in
+    on_err c.from_residual-in_err-after.result (done.0 + m, done.1 ++ b.0, has.hold, subst (LeavesBlock (task used) old.held new.held []) (sym joined) (left_then (task used) old.held new.held [] x y l3))
 
 pub returns-in_err-after-clause-cause : goal.returns-in_err-after-clause-cause
 returns-in_err-after-clause-cause g c =
     let old = g.F.Files.seen c.args.files.now in
     let later = g.F.Files.seen c.next_batch.new.files in
     let new = g.F.Files.seen c.split_batch.new.files in
-    if_err _ c.from_residual.result _ c.from_residual.ensures.1
+    if_err _ c.from_residual-in_err-after.result _ c.from_residual-in_err-after.ensures.1
     (cause_since old later new c.in_err-after.field-0.0 (c.in-Ok.ensures.faults ∙ c.batches.invariant.reads_calm) (c.next_batch.ensures.writes ∙ c.batches.invariant.writes_calm) c.in_err-after.ensures.cause)
 
 pub returns-in_default-clause-takes : goal.returns-in_default-clause-takes
@@ -237,25 +286,27 @@ returns-in_default-clause-takes g c =
     let later = g.F.Files.seen c.next_batch.new.files in
     let first = c.args.reader.now in
     let reader = c.batches.reader in
-    let task = λ (h : HeadView). task_of c.args.names.now (unwrap_or c.args.plain.now h) c.args.rule.now in
+    let task = λ (h : HeadView). task_of c.args.names.now h c.args.rule.now in
+    let used = unwrap_or c.args.plain.now first.head in
     let s = record_length_of first.head.bytes in
     let ns = c.batches.parts.numbers in
     let ws = c.batches.parts.writers.items in
     let done = c.batches.invariant.taken in
     let x = cut_all s (concat done.1) in
-    let apart : (n : ℕ) → n < 2 ^ 32 → part_name (task first.head).stem (task first.head).end n ≢ reader.name = λ n lt e. c.requires.names n lt (e ∙ done.2.named) in
-    let here = parts_held (task first.head) old.held now.held later.held ns ws x x c.next_batch.ensures.held done.3 in
+    let apart : (n : ℕ) → n < 2 ^ 32 → part_name (task used).stem (task used).end n ≢ reader.name = λ n lt e. c.requires.names n lt (e ∙ done.2.named) in
+    let here = parts_held (task used) old.held now.held later.held ns ws x x c.next_batch.ensures.held done.3 in
     let b = c.in-Ok.ensures.blocks in
     let m = c.in-Ok.count in
     let y = cut_all s (concat b.0) in
     let next = c.next_batch.new.self in
-    let hold = (known_parts (task first.head) old.held now.held ns ws x x done.3 reader.name apart (λ file. HoldOnly file (take m reader.left) b.0)).1 b.4 in
+    let hold = (known_parts (task used) old.held now.held ns ws x x done.3 reader.name apart (λ file. HoldOnly file (take m reader.left) b.0)).1 b.4 in
     let more : ReadsMore old.held reader next m b.0 = record { within = omega (arith, c.in-Ok.ensures.most); whole = b.3; hold = hold; moved = c.in-Ok.ensures.moved } in
     let has = read_more old.held first reader next done.0 m done.1 b.0 done.2 more in
+    let heads : c.plain_of-head.result.now ≡ used = c.plain_of-head.ensures ∙ ap (unwrap_or c.args.plain.now) has.head in
     let same : c.from-size.result ≡ s = c.from-size.ensures ∙ c.record_length.ensures.field ∙ ap (λ (h : HeadView). record_length_of h.bytes) c.head.ensures in
     let wide = batch_even old.held first reader done.0 done.1 done.2 c.requires.head m b.0 b.3 in
     let even = subst (λ (k : ℕ). All (λ block. length block % k ≡ 0) b.0) (sym same) wide in
-    let parts = subst (λ (h : HeadView). InParts (task h) old.held later.held ns ws x x) (sym has.head) here in
+    let parts = subst (λ (h : HeadView). InParts (task h) old.held later.held ns ws x x) (sym heads) here in
     let joined = cut_batch old.held first reader done.0 done.1 done.2 c.requires.head b.0 in
     let fin = c.split_batch.new in
     let new = g.F.Files.seen fin.files in
@@ -263,9 +314,9 @@ returns-in_default-clause-takes g c =
     let vs = fin.parts.writers.items in
     let e = c.in_ok-after.ensures.takes b.0 old.held x b.2 b.1 even parts done.4 in
     let t = rw c.in_default.is at e in
-    let t2 = subst (λ (h : HeadView). TakesBlock (task h) old.held new.held us vs x (cut_all c.from-size.result (concat b.0)) false) has.head t in
-    let t3 = subst (λ (k : ℕ). TakesBlock (task first.head) old.held new.held us vs x (cut_all k (concat b.0)) false) same t2 in
-    (done.0 + m, done.1 ++ b.0, false, has.hold, subst (λ (z : List (List ℕ)). TakesBlock (task first.head) old.held new.held us vs [] z false) (sym joined) (takes_then (task first.head) old.held new.held us vs [] x y false t3), refl)
+    let t2 = subst (λ (h : HeadView). TakesBlock (task h) old.held new.held us vs x (cut_all c.from-size.result (concat b.0)) false) heads t in
+    let t3 = subst (λ (k : ℕ). TakesBlock (task used) old.held new.held us vs x (cut_all k (concat b.0)) false) same t2 in
+    (done.0 + m, done.1 ++ b.0, false, has.hold, subst (λ (z : List (List ℕ)). TakesBlock (task used) old.held new.held us vs [] z false) (sym joined) (takes_then (task used) old.held new.held us vs [] x y false t3), refl)
 
 pub batches-preserved : goal.batches-preserved
 batches-preserved g c =
@@ -274,25 +325,27 @@ batches-preserved g c =
     let later = g.F.Files.seen c.next_batch.new.files in
     let first = c.args.reader.now in
     let reader = c.batches.reader in
-    let task = λ (h : HeadView). task_of c.args.names.now (unwrap_or c.args.plain.now h) c.args.rule.now in
+    let task = λ (h : HeadView). task_of c.args.names.now h c.args.rule.now in
+    let used = unwrap_or c.args.plain.now first.head in
     let s = record_length_of first.head.bytes in
     let ns = c.batches.parts.numbers in
     let ws = c.batches.parts.writers.items in
     let done = c.batches.invariant.taken in
     let x = cut_all s (concat done.1) in
-    let apart : (n : ℕ) → n < 2 ^ 32 → part_name (task first.head).stem (task first.head).end n ≢ reader.name = λ n lt e. c.requires.names n lt (e ∙ done.2.named) in
-    let here = parts_held (task first.head) old.held now.held later.held ns ws x x c.next_batch.ensures.held done.3 in
+    let apart : (n : ℕ) → n < 2 ^ 32 → part_name (task used).stem (task used).end n ≢ reader.name = λ n lt e. c.requires.names n lt (e ∙ done.2.named) in
+    let here = parts_held (task used) old.held now.held later.held ns ws x x c.next_batch.ensures.held done.3 in
     let b = c.in-Ok.ensures.blocks in
     let m = c.in-Ok.count in
     let y = cut_all s (concat b.0) in
     let next = c.next_batch.new.self in
-    let hold = (known_parts (task first.head) old.held now.held ns ws x x done.3 reader.name apart (λ file. HoldOnly file (take m reader.left) b.0)).1 b.4 in
+    let hold = (known_parts (task used) old.held now.held ns ws x x done.3 reader.name apart (λ file. HoldOnly file (take m reader.left) b.0)).1 b.4 in
     let more : ReadsMore old.held reader next m b.0 = record { within = omega (arith, c.in-Ok.ensures.most); whole = b.3; hold = hold; moved = c.in-Ok.ensures.moved } in
     let has = read_more old.held first reader next done.0 m done.1 b.0 done.2 more in
+    let heads : c.plain_of-head.result.now ≡ used = c.plain_of-head.ensures ∙ ap (unwrap_or c.args.plain.now) has.head in
     let same : c.from-size.result ≡ s = c.from-size.ensures ∙ c.record_length.ensures.field ∙ ap (λ (h : HeadView). record_length_of h.bytes) c.head.ensures in
     let wide = batch_even old.held first reader done.0 done.1 done.2 c.requires.head m b.0 b.3 in
     let even = subst (λ (k : ℕ). All (λ block. length block % k ≡ 0) b.0) (sym same) wide in
-    let parts = subst (λ (h : HeadView). InParts (task h) old.held later.held ns ws x x) (sym has.head) here in
+    let parts = subst (λ (h : HeadView). InParts (task h) old.held later.held ns ws x x) (sym heads) here in
     let joined = cut_batch old.held first reader done.0 done.1 done.2 c.requires.head b.0 in
     let fin = c.split_batch.new in
     let new = g.F.Files.seen fin.files in
@@ -300,17 +353,17 @@ batches-preserved g c =
     let vs = fin.parts.writers.items in
     let e = c.in_ok-after.ensures.takes b.0 old.held x b.2 b.1 even parts done.4 in
     let t = rw c.in-Some.is at e in
-    let t2 = subst (λ (h : HeadView). TakesBlock (task h) old.held new.held us vs x (cut_all c.from-size.result (concat b.0)) true) has.head t.0 in
-    let t3 = subst (λ (k : ℕ). TakesBlock (task first.head) old.held new.held us vs x (cut_all k (concat b.0)) true) same t2 in
-    let all = subst (λ (z : List (List ℕ)). InParts (task first.head) old.held new.held us vs z z) (sym joined) t3 in
+    let t2 = subst (λ (h : HeadView). TakesBlock (task h) old.held new.held us vs x (cut_all c.from-size.result (concat b.0)) true) heads t.0 in
+    let t3 = subst (λ (k : ℕ). TakesBlock (task used) old.held new.held us vs x (cut_all k (concat b.0)) true) same t2 in
+    let all = subst (λ (z : List (List ℕ)). InParts (task used) old.held new.held us vs z z) (sym joined) t3 in
     let z = cut_all s (concat (done.1 ++ b.0)) in
     let named : next.name ≡ reader.name = ap (λ (r : ReaderSeen). r.name) more.moved in
-    let next_apart : (n : ℕ) → n < 2 ^ 32 → part_name (task first.head).stem (task first.head).end n ≢ next.name = λ n lt e. apart n lt (e ∙ named) in
-    let was = (known_parts (task first.head) old.held now.held ns ws x x done.3 reader.name apart (StandsFor next)).1 c.in-Ok.ensures.stands in
+    let next_apart : (n : ℕ) → n < 2 ^ 32 → part_name (task used).stem (task used).end n ≢ next.name = λ n lt e. apart n lt (e ∙ named) in
+    let was = (known_parts (task used) old.held now.held ns ws x x done.3 reader.name apart (StandsFor next)).1 c.in-Ok.ensures.stands in
     record {
       sound = ap (λ (r : ReaderSeen). r.failed) more.moved ∙ c.batches.invariant.sound;
       crew = c.in-Ok.ensures.crew;
-      reads = (known_parts (task first.head) old.held new.held us vs z z all next.name next_apart (StandsFor next)).0 (subst (λ (name : List ℕ). WhereKnown old.held name (StandsFor next)) (sym named) was);
+      reads = (known_parts (task used) old.held new.held us vs z z all next.name next_apart (StandsFor next)).0 (subst (λ (name : List ℕ). WhereKnown old.held name (StandsFor next)) (sym named) was);
       taken = (done.0 + m, done.1 ++ b.0, has, all, t.1 ∙ ap (λ (k : ℕ). length x + length (cut_all k (concat b.0))) same ∙ sym (length-append x y) ∙ ap (λ (l : List (List ℕ)). length l) (sym joined));
       reads_calm = c.in_ok-after.ensures.calm.reads ∙ c.in-Ok.ensures.faults ∙ c.batches.invariant.reads_calm;
       writes_calm = c.in_ok-after.ensures.calm.writes ∙ c.next_batch.ensures.writes ∙ c.batches.invariant.writes_calm;
@@ -318,10 +371,10 @@ batches-preserved g c =
       asked = omega (arith, c.batches.invariant.asked, c.in-Ok.ensures.asked, c.split_batch.ensures.asked);
     }
 
-pub returns-in-Err-clause-some : goal.returns-in-Err-clause-some
-returns-in-Err-clause-some g c =
-    let first = c.args.reader.now in
-    never_write c.in-Err.fault c.end_of.result _ (g.F.Files.seen c.batches.files) (g.F.Files.seen c.next_batch.new.files) c.end_of.ensures c.in-Err.ensures.ends
+pub returns-in_err-end-in-Err-clause-some : goal.returns-in_err-end-in-Err-clause-some
+returns-in_err-end-in-Err-clause-some g c =
+    if_err _ c.from_residual.result _ c.from_residual.ensures.1
+    (never_write c.in-Err.fault (Err c.in_err-end-in-Err.field-0.0) _ (g.F.Files.seen c.batches.files) (g.F.Files.seen c.next_batch.new.files) c.in_err-end-in-Err.ensures c.in-Err.ensures.ends)
 
 pub returns-in_err-after-clause-some : goal.returns-in_err-after-clause-some
 returns-in_err-after-clause-some g c =
@@ -330,28 +383,30 @@ returns-in_err-after-clause-some g c =
     let later = g.F.Files.seen c.next_batch.new.files in
     let first = c.args.reader.now in
     let reader = c.batches.reader in
-    let task = λ (h : HeadView). task_of c.args.names.now (unwrap_or c.args.plain.now h) c.args.rule.now in
+    let task = λ (h : HeadView). task_of c.args.names.now h c.args.rule.now in
+    let used = unwrap_or c.args.plain.now first.head in
     let s = record_length_of first.head.bytes in
     let ns = c.batches.parts.numbers in
     let ws = c.batches.parts.writers.items in
     let done = c.batches.invariant.taken in
     let x = cut_all s (concat done.1) in
-    let apart : (n : ℕ) → n < 2 ^ 32 → part_name (task first.head).stem (task first.head).end n ≢ reader.name = λ n lt e. c.requires.names n lt (e ∙ done.2.named) in
-    let here = parts_held (task first.head) old.held now.held later.held ns ws x x c.next_batch.ensures.held done.3 in
+    let apart : (n : ℕ) → n < 2 ^ 32 → part_name (task used).stem (task used).end n ≢ reader.name = λ n lt e. c.requires.names n lt (e ∙ done.2.named) in
+    let here = parts_held (task used) old.held now.held later.held ns ws x x c.next_batch.ensures.held done.3 in
     let b = c.in-Ok.ensures.blocks in
     let m = c.in-Ok.count in
     let y = cut_all s (concat b.0) in
     let next = c.next_batch.new.self in
-    let hold = (known_parts (task first.head) old.held now.held ns ws x x done.3 reader.name apart (λ file. HoldOnly file (take m reader.left) b.0)).1 b.4 in
+    let hold = (known_parts (task used) old.held now.held ns ws x x done.3 reader.name apart (λ file. HoldOnly file (take m reader.left) b.0)).1 b.4 in
     let more : ReadsMore old.held reader next m b.0 = record { within = omega (arith, c.in-Ok.ensures.most); whole = b.3; hold = hold; moved = c.in-Ok.ensures.moved } in
     let has = read_more old.held first reader next done.0 m done.1 b.0 done.2 more in
+    let heads : c.plain_of-head.result.now ≡ used = c.plain_of-head.ensures ∙ ap (unwrap_or c.args.plain.now) has.head in
     let same : c.from-size.result ≡ s = c.from-size.ensures ∙ c.record_length.ensures.field ∙ ap (λ (h : HeadView). record_length_of h.bytes) c.head.ensures in
     let wide = batch_even old.held first reader done.0 done.1 done.2 c.requires.head m b.0 b.3 in
     let even = subst (λ (k : ℕ). All (λ block. length block % k ≡ 0) b.0) (sym same) wide in
-    let parts = subst (λ (h : HeadView). InParts (task h) old.held later.held ns ws x x) (sym has.head) here in
+    let parts = subst (λ (h : HeadView). InParts (task h) old.held later.held ns ws x x) (sym heads) here in
     let joined = cut_batch old.held first reader done.0 done.1 done.2 c.requires.head b.0 in
     let e = c.in_err-after.ensures.some b.0 old.held x b.2 b.1 even parts done.4 in
-    if_err _ c.from_residual.result _ c.from_residual.ensures.1
+    if_err _ c.from_residual-in_err-after.result _ c.from_residual-in_err-after.ensures.1
     (λ is.
     let there = subst (λ (k : ℕ). 1 ≤ length x + length (cut_all k (concat b.0))) same (e is) in
     let every : length (cut_all s (concat (done.1 ++ b.0))) ≡ length x + length y = ap (λ (l : List (List ℕ)). length l) joined ∙ length-append x y in
@@ -359,6 +414,9 @@ returns-in_err-after-clause-some g c =
 
 pub returns-in-Err-clause-asked : goal.returns-in-Err-clause-asked
 returns-in-Err-clause-asked g c = omega (arith, c.batches.invariant.asked, c.in-Err.ensures.asked_more)
+
+pub returns-in_err-end-in-Err-clause-asked : goal.returns-in_err-end-in-Err-clause-asked
+returns-in_err-end-in-Err-clause-asked g c = omega (arith, c.batches.invariant.asked, c.in-Err.ensures.asked_more)
 
 pub returns-then-count-eq0-clause-asked : goal.returns-then-count-eq0-clause-asked
 returns-then-count-eq0-clause-asked g c = omega (arith, c.batches.invariant.asked, c.in-Ok.ensures.asked)

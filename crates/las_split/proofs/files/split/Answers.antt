@@ -53,8 +53,8 @@ split_records-requires-clause-reads g c κs lives =
     subst (λ (name : List ℕ). WhereKnown old name (StandsFor reader)) (sym (ap (λ (r : ReaderSeen). r.name) ready))
     (known_then old first.name (StandsFor first) (StandsFor reader) (λ file st. stands_ready first reader (2 * c.hands-hands.result) file ready st) c.requires.stands)
 
-pub returns-in_err-split_records-clause-left : goal.returns-in_err-split_records-clause-left
-returns-in_err-split_records-clause-left g c =
+pub returns-in_err-parts-clause-left : goal.returns-in_err-parts-clause-left
+returns-in_err-parts-clause-left g c =
     let old = (g.F.Files.seen c.args.files.now).held in
     let first = c.args.reader in
     let rule = c.args.rule.now in
@@ -68,14 +68,12 @@ returns-in_err-split_records-clause-left g c =
     let head : IsHead first.head.bytes = subst (λ (h : HeadView). IsHead h.bytes) heads c.plain_head.ensures.head in
     let same : task.head ≡ plain_of first.head.bytes = c.in_ok-plain.ensures.plain.bytes ∙ ap (λ (h : HeadView). plain_of h.bytes) heads in
     let mid = (g.F.Files.seen c.split_records.new.files).held in
-    let ns = c.split_records.new.parts.numbers in
-    let ws = c.split_records.new.parts.writers.items in
     let turn = λ (now : Option FileMap) (k : WhereKnown old first.name (λ file. (records : List (List ℕ)) (refusal : Option Refusal) → SplitsTo rule file records refusal → LeavesParts (outputs_under stem end task.head rule records) old now)).
     known_both old first.name (StandsFor first) (λ file. (records : List (List ℕ)) (refusal : Option Refusal) → SplitsTo rule file records refusal → LeavesParts (outputs_under stem end task.head rule records) old now)
     (λ file. (records : List (List ℕ)) (refusal : Option Refusal) → SplitsTo rule file records refusal → LeavesParts (part_files stem end rule file records) old now)
     (λ file st l. λ records refusal to. subst (λ (ps : List PartFile). LeavesParts ps old now) (files_are task first file records same st) (l records refusal to)) c.requires.stands k in
-    let p = c.in_err-split_records.ensures.left in
-    if_err _ c.from_residual-in_err-split_records.result _ c.from_residual-in_err-split_records.ensures.1
+    let p = c.in_err-parts.ensures.left in
+    if_err _ c.from_residual-in_err-parts.result _ c.from_residual-in_err-parts.ensures.1
     (turn mid (leaves_splits task old first reader (2 * c.hands-hands.result) ready c.requires.new.whole head c.requires.stands p.0 p.1 p.2 mid p.3))
 
 pub finish_all-requires-clause-parts : goal.finish_all-requires-clause-parts
@@ -93,9 +91,9 @@ finish_all-requires-clause-parts g c κs lives =
     let head : IsHead first.head.bytes = subst (λ (h : HeadView). IsHead h.bytes) heads c.plain_head.ensures.head in
     let same : task.head ≡ plain_of first.head.bytes = c.in_ok-plain.ensures.plain.bytes ∙ ap (λ (h : HeadView). plain_of h.bytes) heads in
     let mid = (g.F.Files.seen c.split_records.new.files).held in
-    let ns = c.split_records.new.parts.numbers in
-    let ws = c.split_records.new.parts.writers.items in
-    let d = c.in_ok-split_records.ensures.takes in
+    let ns = c.in_ok-parts.parts.numbers in
+    let ws = c.in_ok-parts.parts.writers.items in
+    let d = c.in_ok-parts.ensures.takes in
     let ends = subst (EndsSplitting old reader d.0 d.2) c.in-None.is d.5 in
     let e = splits_end task old first reader (2 * c.hands-hands.result) ready c.requires.new.whole head c.requires.stands d.0 d.1 d.3 mid ns ws d.2 None d.4 ends in
     (task, old, e.0, e.1)
@@ -115,9 +113,9 @@ returns-in-None-clause-split g c =
     let head : IsHead first.head.bytes = subst (λ (h : HeadView). IsHead h.bytes) heads c.plain_head.ensures.head in
     let same : task.head ≡ plain_of first.head.bytes = c.in_ok-plain.ensures.plain.bytes ∙ ap (λ (h : HeadView). plain_of h.bytes) heads in
     let mid = (g.F.Files.seen c.split_records.new.files).held in
-    let ns = c.split_records.new.parts.numbers in
-    let ws = c.split_records.new.parts.writers.items in
-    let d = c.in_ok-split_records.ensures.takes in
+    let ns = c.in_ok-parts.parts.numbers in
+    let ws = c.in_ok-parts.parts.writers.items in
+    let d = c.in_ok-parts.ensures.takes in
     let ends = subst (EndsSplitting old reader d.0 d.2) c.in-None.is d.5 in
     let e = splits_end task old first reader (2 * c.hands-hands.result) ready c.requires.new.whole head c.requires.stands d.0 d.1 d.3 mid ns ws d.2 None d.4 ends in
     let new = (g.F.Files.seen c.finish_all.new.files).held in
@@ -143,13 +141,13 @@ returns-in-None-clause-left g c =
     let head : IsHead first.head.bytes = subst (λ (h : HeadView). IsHead h.bytes) heads c.plain_head.ensures.head in
     let same : task.head ≡ plain_of first.head.bytes = c.in_ok-plain.ensures.plain.bytes ∙ ap (λ (h : HeadView). plain_of h.bytes) heads in
     let mid = (g.F.Files.seen c.split_records.new.files).held in
-    let ns = c.split_records.new.parts.numbers in
-    let ws = c.split_records.new.parts.writers.items in
+    let ns = c.in_ok-parts.parts.numbers in
+    let ws = c.in_ok-parts.parts.writers.items in
     let turn = λ (now : Option FileMap) (k : WhereKnown old first.name (λ file. (records : List (List ℕ)) (refusal : Option Refusal) → SplitsTo rule file records refusal → LeavesParts (outputs_under stem end task.head rule records) old now)).
     known_both old first.name (StandsFor first) (λ file. (records : List (List ℕ)) (refusal : Option Refusal) → SplitsTo rule file records refusal → LeavesParts (outputs_under stem end task.head rule records) old now)
     (λ file. (records : List (List ℕ)) (refusal : Option Refusal) → SplitsTo rule file records refusal → LeavesParts (part_files stem end rule file records) old now)
     (λ file st l. λ records refusal to. subst (λ (ps : List PartFile). LeavesParts ps old now) (files_are task first file records same st) (l records refusal to)) c.requires.stands k in
-    let d = c.in_ok-split_records.ensures.takes in
+    let d = c.in_ok-parts.ensures.takes in
     let ends = subst (EndsSplitting old reader d.0 d.2) c.in-None.is d.5 in
     let e = splits_end task old first reader (2 * c.hands-hands.result) ready c.requires.new.whole head c.requires.stands d.0 d.1 d.3 mid ns ws d.2 None d.4 ends in
     let new = (g.F.Files.seen c.finish_all.new.files).held in
@@ -170,9 +168,9 @@ stop_all-requires-clause-parts g c κs lives =
     let head : IsHead first.head.bytes = subst (λ (h : HeadView). IsHead h.bytes) heads c.plain_head.ensures.head in
     let same : task.head ≡ plain_of first.head.bytes = c.in_ok-plain.ensures.plain.bytes ∙ ap (λ (h : HeadView). plain_of h.bytes) heads in
     let mid = (g.F.Files.seen c.split_records.new.files).held in
-    let ns = c.split_records.new.parts.numbers in
-    let ws = c.split_records.new.parts.writers.items in
-    let d = c.in_ok-split_records.ensures.takes in
+    let ns = c.in_ok-parts.parts.numbers in
+    let ws = c.in_ok-parts.parts.writers.items in
+    let d = c.in_ok-parts.ensures.takes in
     let ends = subst (EndsSplitting old reader d.0 d.2) c.in-Some.is d.5 in
     let e = splits_end task old first reader (2 * c.hands-hands.result) ready c.requires.new.whole head c.requires.stands d.0 d.1 d.3 mid ns ws d.2 (Some c.in-Some.cause) d.4 ends in
     (task, old, e.0, e.1)
@@ -192,13 +190,13 @@ returns-in_err-stop_all-in-Some-clause-left g c =
     let head : IsHead first.head.bytes = subst (λ (h : HeadView). IsHead h.bytes) heads c.plain_head.ensures.head in
     let same : task.head ≡ plain_of first.head.bytes = c.in_ok-plain.ensures.plain.bytes ∙ ap (λ (h : HeadView). plain_of h.bytes) heads in
     let mid = (g.F.Files.seen c.split_records.new.files).held in
-    let ns = c.split_records.new.parts.numbers in
-    let ws = c.split_records.new.parts.writers.items in
+    let ns = c.in_ok-parts.parts.numbers in
+    let ws = c.in_ok-parts.parts.writers.items in
     let turn = λ (now : Option FileMap) (k : WhereKnown old first.name (λ file. (records : List (List ℕ)) (refusal : Option Refusal) → SplitsTo rule file records refusal → LeavesParts (outputs_under stem end task.head rule records) old now)).
     known_both old first.name (StandsFor first) (λ file. (records : List (List ℕ)) (refusal : Option Refusal) → SplitsTo rule file records refusal → LeavesParts (outputs_under stem end task.head rule records) old now)
     (λ file. (records : List (List ℕ)) (refusal : Option Refusal) → SplitsTo rule file records refusal → LeavesParts (part_files stem end rule file records) old now)
     (λ file st l. λ records refusal to. subst (λ (ps : List PartFile). LeavesParts ps old now) (files_are task first file records same st) (l records refusal to)) c.requires.stands k in
-    let d = c.in_ok-split_records.ensures.takes in
+    let d = c.in_ok-parts.ensures.takes in
     let ends = subst (EndsSplitting old reader d.0 d.2) c.in-Some.is d.5 in
     let e = splits_end task old first reader (2 * c.hands-hands.result) ready c.requires.new.whole head c.requires.stands d.0 d.1 d.3 mid ns ws d.2 (Some c.in-Some.cause) d.4 ends in
     let new = (g.F.Files.seen c.stop_all.new.files).held in
@@ -220,9 +218,9 @@ returns-clause-refused g c cause is =
     let head : IsHead first.head.bytes = subst (λ (h : HeadView). IsHead h.bytes) heads c.plain_head.ensures.head in
     let same : task.head ≡ plain_of first.head.bytes = c.in_ok-plain.ensures.plain.bytes ∙ ap (λ (h : HeadView). plain_of h.bytes) heads in
     let mid = (g.F.Files.seen c.split_records.new.files).held in
-    let ns = c.split_records.new.parts.numbers in
-    let ws = c.split_records.new.parts.writers.items in
-    let d = c.in_ok-split_records.ensures.takes in
+    let ns = c.in_ok-parts.parts.numbers in
+    let ws = c.in_ok-parts.parts.writers.items in
+    let d = c.in_ok-parts.ensures.takes in
     let ends = subst (EndsSplitting old reader d.0 d.2) c.in-Some.is d.5 in
     let e = splits_end task old first reader (2 * c.hands-hands.result) ready c.requires.new.whole head c.requires.stands d.0 d.1 d.3 mid ns ws d.2 (Some c.in-Some.cause) d.4 ends in
     let new = (g.F.Files.seen c.stop_all.new.files).held in
@@ -247,21 +245,21 @@ returns-clause-left g c =
     let head : IsHead first.head.bytes = subst (λ (h : HeadView). IsHead h.bytes) heads c.plain_head.ensures.head in
     let same : task.head ≡ plain_of first.head.bytes = c.in_ok-plain.ensures.plain.bytes ∙ ap (λ (h : HeadView). plain_of h.bytes) heads in
     let mid = (g.F.Files.seen c.split_records.new.files).held in
-    let ns = c.split_records.new.parts.numbers in
-    let ws = c.split_records.new.parts.writers.items in
+    let ns = c.in_ok-parts.parts.numbers in
+    let ws = c.in_ok-parts.parts.writers.items in
     let turn = λ (now : Option FileMap) (k : WhereKnown old first.name (λ file. (records : List (List ℕ)) (refusal : Option Refusal) → SplitsTo rule file records refusal → LeavesParts (outputs_under stem end task.head rule records) old now)).
     known_both old first.name (StandsFor first) (λ file. (records : List (List ℕ)) (refusal : Option Refusal) → SplitsTo rule file records refusal → LeavesParts (outputs_under stem end task.head rule records) old now)
     (λ file. (records : List (List ℕ)) (refusal : Option Refusal) → SplitsTo rule file records refusal → LeavesParts (part_files stem end rule file records) old now)
     (λ file st l. λ records refusal to. subst (λ (ps : List PartFile). LeavesParts ps old now) (files_are task first file records same st) (l records refusal to)) c.requires.stands k in
-    let d = c.in_ok-split_records.ensures.takes in
+    let d = c.in_ok-parts.ensures.takes in
     let ends = subst (EndsSplitting old reader d.0 d.2) c.in-Some.is d.5 in
     let e = splits_end task old first reader (2 * c.hands-hands.result) ready c.requires.new.whole head c.requires.stands d.0 d.1 d.3 mid ns ws d.2 (Some c.in-Some.cause) d.4 ends in
     let new = (g.F.Files.seen c.stop_all.new.files).held in
     let s = c.in_ok-stop_all-in-Some.ensures.stopped task old e.0 e.1 in
     turn new (only_leaves task old new first.name e.0 (Some c.in-Some.cause) e.2 (stopped_leave task old mid new ns ws e.0 e.1 s))
 
-pub returns-in_err-split_records-clause-some : goal.returns-in_err-split_records-clause-some
-returns-in_err-split_records-clause-some g c is =
+pub returns-in_err-parts-clause-some : goal.returns-in_err-parts-clause-some
+returns-in_err-parts-clause-some g c is =
     let old = (g.F.Files.seen c.args.files.now).held in
     let first = c.args.reader in
     let rule = c.args.rule.now in
@@ -271,8 +269,8 @@ returns-in_err-split_records-clause-some g c is =
     let plain = c.in_ok-plain.plain in
     let task = task_of c.args.output.now (unwrap_or plain reader.head) rule in
     let head : IsHead first.head.bytes = subst (λ (h : HeadView). IsHead h.bytes) heads c.plain_head.ensures.head in
-    let made = if_err _ c.from_residual-in_err-split_records.result _ c.from_residual-in_err-split_records.ensures.1 c.in_err-split_records.ensures.some in
-    let p = of_fault c.from_residual-in_err-split_records.result Write _ made is in
+    let made = if_err _ c.from_residual-in_err-parts.result _ c.from_residual-in_err-parts.ensures.1 c.in_err-parts.ensures.some in
+    let p = of_fault c.from_residual-in_err-parts.result Write _ made is in
     splits_one task old first reader (2 * c.hands-hands.result) ready c.requires.new.whole head c.requires.stands p.0 p.1 p.2 p.3
 
 pub returns-in-None-clause-some : goal.returns-in-None-clause-some
@@ -287,9 +285,9 @@ returns-in-None-clause-some g c is =
     let task = task_of c.args.output.now (unwrap_or plain reader.head) rule in
     let head : IsHead first.head.bytes = subst (λ (h : HeadView). IsHead h.bytes) heads c.plain_head.ensures.head in
     let mid = (g.F.Files.seen c.split_records.new.files).held in
-    let ns = c.split_records.new.parts.numbers in
-    let ws = c.split_records.new.parts.writers.items in
-    let d = c.in_ok-split_records.ensures.takes in
+    let ns = c.in_ok-parts.parts.numbers in
+    let ws = c.in_ok-parts.parts.writers.items in
+    let d = c.in_ok-parts.ensures.takes in
     let ends = subst (EndsSplitting old reader d.0 d.2) c.in-None.is d.5 in
     let e = splits_end task old first reader (2 * c.hands-hands.result) ready c.requires.new.whole head c.requires.stands d.0 d.1 d.3 mid ns ws d.2 None d.4 ends in
     only_some rule old first.name e.0 None e.2 (of_fault c.finish_all.result Write (1 ≤ length e.0) (c.finish_all.ensures.some task old e.0 e.1) is)
@@ -306,16 +304,16 @@ returns-in_err-stop_all-in-Some-clause-some g c is =
     let task = task_of c.args.output.now (unwrap_or plain reader.head) rule in
     let head : IsHead first.head.bytes = subst (λ (h : HeadView). IsHead h.bytes) heads c.plain_head.ensures.head in
     let mid = (g.F.Files.seen c.split_records.new.files).held in
-    let ns = c.split_records.new.parts.numbers in
-    let ws = c.split_records.new.parts.writers.items in
-    let d = c.in_ok-split_records.ensures.takes in
+    let ns = c.in_ok-parts.parts.numbers in
+    let ws = c.in_ok-parts.parts.writers.items in
+    let d = c.in_ok-parts.ensures.takes in
     let ends = subst (EndsSplitting old reader d.0 d.2) c.in-Some.is d.5 in
     let e = splits_end task old first reader (2 * c.hands-hands.result) ready c.requires.new.whole head c.requires.stands d.0 d.1 d.3 mid ns ws d.2 (Some c.in-Some.cause) d.4 ends in
     let made = if_err (λ f. f ≡ Write → 1 ≤ length e.0) c.from_residual-in_err-stop_all-in-Some.result _ c.from_residual-in_err-stop_all-in-Some.ensures.1 (c.in_err-stop_all-in-Some.ensures.some task old e.0 e.1) in
     only_some rule old first.name e.0 (Some c.in-Some.cause) e.2 (of_fault c.from_residual-in_err-stop_all-in-Some.result Write (1 ≤ length e.0) made is)
 
-pub returns-in_err-split_records-clause-asked : goal.returns-in_err-split_records-clause-asked
-returns-in_err-split_records-clause-asked g c =
+pub returns-in_err-parts-clause-asked : goal.returns-in_err-parts-clause-asked
+returns-in_err-parts-clause-asked g c =
     let same : bytes_left c.crew.new.self ≡ bytes_left c.args.reader = ap bytes_left c.in_ok-crew.ensures.kept in
     omega (arith, same, c.split_records.ensures.asked)
 

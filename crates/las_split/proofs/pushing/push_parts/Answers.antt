@@ -9,6 +9,7 @@ use Rattle.las_split.proofs.pushing.push_parts.Goals as goal
 pub loop-place-init : goal.loop-place-init
 loop-place-init g c = record {
   numbers = refl;
+  gathered = refl;
   pushed = λ task was records block i s. pushed_first task was (g.F.Files.seen c.args.files.now).held c.args.parts.now.numbers c.args.parts.now.writers.items records block i;
   calm = record { reads = refl; writes = refl; asked = refl };
   later = record { known = refl; reads = omega arith; writes = omega arith; asked = omega arith };
@@ -17,33 +18,38 @@ loop-place-init g c = record {
 pub push_place-requires-clause-place : goal.push_place-requires-clause-place
 push_place-requires-clause-place g c κs lives =
     let q = c.requires.parts in
-    let first = pushed_first q.0 q.1 (g.F.Files.seen c.args.files.now).held c.args.parts.now.numbers c.args.parts.now.writers.items q.2 q.3 q.4 in
+    let first = pushed_first q.0 q.1 (g.F.Files.seen c.args.files.now).held c.args.parts.now.numbers c.args.parts.now.writers.items q.2 q.3 q.4.0 in
     omega (arith, c.loop-place-test.true, c.len-place-end.ensures, first.same, ap (λ (t : List ℕ). length t) c.loop-place.invariant.numbers)
 
 pub push_place-requires-clause-parts : goal.push_place-requires-clause-parts
 push_place-requires-clause-parts g c κs lives =
     let q = c.requires.parts in
-    let p = c.loop-place.invariant.pushed q.0 q.1 q.2 q.3 q.4 q.5 in
-    let s = subst (λ (ns : List ℕ). AreGathered q.0 ns c.args.gathered.now q.2 q.3) (sym c.loop-place.invariant.numbers) q.5 in
-    (q.0, q.1, q.2, q.3, p, s, q.6)
+    let p = c.loop-place.invariant.pushed q.0 q.1 q.2 q.3 q.4.0 q.4.1 in
+    let s = subst (λ (ns : List ℕ). AreGathered q.0 ns c.args.parts.now.gathered q.2 q.3) (sym c.loop-place.invariant.numbers) q.4.1 in
+    (q.0, q.1, q.2, q.3, p, subst (λ (ts : List (List ℕ)). AreGathered q.0 c.loop-place.parts.numbers ts q.2 q.3) (sym c.loop-place.invariant.gathered) s, q.5)
 
 pub loop-place-preserved : goal.loop-place-preserved
 loop-place-preserved g c = record {
   numbers = c.push_place.ensures.numbers ∙ c.loop-place.invariant.numbers;
+  gathered = c.push_place.ensures.gathered ∙ c.loop-place.invariant.gathered;
   pushed = λ task was records block i s.
-      let gathered = subst (λ (ns : List ℕ). AreGathered task ns c.args.gathered.now records block) (sym c.loop-place.invariant.numbers) s in
-      c.in_ok-push_place.ensures.pushed task was records block (c.loop-place.invariant.pushed task was records block i s) gathered;
+      let gathered = subst (λ (ns : List ℕ). AreGathered task ns c.args.parts.now.gathered records block) (sym c.loop-place.invariant.numbers) s in
+      c.in_ok-push_place.ensures.pushed task was records block (c.loop-place.invariant.pushed task was records block i s) (subst (λ (ts : List (List ℕ)). AreGathered task c.loop-place.parts.numbers ts records block) (sym c.loop-place.invariant.gathered) gathered);
   calm = calm_trans (g.F.Files.seen c.args.files.now) (g.F.Files.seen c.loop-place.files) (g.F.Files.seen c.push_place.new.files) c.loop-place.invariant.calm c.in_ok-push_place.ensures.calm;
   later = later-trans (g.F.Files.seen c.args.files.now) (g.F.Files.seen c.loop-place.files) (g.F.Files.seen c.push_place.new.files) c.loop-place.invariant.later c.push_place.ensures.later;
 }
 
 pub returns-in_err-push_place-clause-left : goal.returns-in_err-push_place-clause-left
-returns-in_err-push_place-clause-left g c task was records block i s fit =
-    let gathered = subst (λ (ns : List ℕ). AreGathered task ns c.args.gathered.now records block) (sym c.loop-place.invariant.numbers) s in
-    on_err c.from_residual.result (c.in_err-push_place.ensures.left task was records block (c.loop-place.invariant.pushed task was records block i s) gathered)
+returns-in_err-push_place-clause-left g c task was records block both fit =
+    let i = both.0 in
+    let s = both.1 in
+    let gathered = subst (λ (ns : List ℕ). AreGathered task ns c.args.parts.now.gathered records block) (sym c.loop-place.invariant.numbers) s in
+    on_err c.from_residual.result (c.in_err-push_place.ensures.left task was records block (c.loop-place.invariant.pushed task was records block i s) (subst (λ (ts : List (List ℕ)). AreGathered task c.loop-place.parts.numbers ts records block) (sym c.loop-place.invariant.gathered) gathered))
 
 pub returns-clause-pushed : goal.returns-clause-pushed
-returns-clause-pushed g c task was records block i s fit =
+returns-clause-pushed g c task was records block both fit =
+    let i = both.0 in
+    let s = both.1 in
     let p = c.loop-place.invariant.pushed task was records block i s in
     let first = pushed_first task was (g.F.Files.seen c.args.files.now).held c.args.parts.now.numbers c.args.parts.now.writers.items records block i in
     let end : length c.loop-place.parts.numbers ≤ c.loop-place.place = omega (arith, c.loop-place-test.false, c.len-place-end.ensures, first.same, ap (λ (t : List ℕ). length t) c.loop-place.invariant.numbers) in

@@ -19,7 +19,7 @@ text-text-requires g c =
     let block = q.3 in
     let p = q.4 in
     let s = q.5 in
-    omega (arith, c.requires.place, texts_length task c.args.parts.now.numbers c.args.gathered.now records block s)
+    omega (arith, c.requires.place, texts_length task c.args.parts.now.numbers c.args.parts.now.gathered records block s)
 
 pub returns-then-is_empty-clause-pushed : goal.returns-then-is_empty-clause-pushed
 returns-then-is_empty-clause-pushed g c task was records block p s =
@@ -28,7 +28,7 @@ returns-then-is_empty-clause-pushed g c task was records block p s =
     let ws = c.args.parts.now.writers.items in
     let n = get_or ns c.args.place 0 in
     let none : c.text-text.result.now ≡ [] = no_bytes c.text-text.result.now (sym c.is_empty.ensures ∙ c.if-is_empty.true) in
-    let gone : text_of task records block n ≡ [] = sym (c.text-text.ensures ∙ text_at task ns c.args.gathered.now records block s c.args.place c.requires.place) ∙ none in
+    let gone : text_of task records block n ≡ [] = sym (c.text-text.ensures ∙ text_at task ns c.args.parts.now.gathered records block s c.args.place c.requires.place) ∙ none in
     pushed_none task was now ns ws records block c.args.place p c.requires.place no_writer (bytes_same task records block n gone)
 
 pub push-requires-clause-open : goal.push-requires-clause-open
@@ -61,7 +61,7 @@ push-requires-clause-whole g c κs lives =
     let is : IsWriter task n w bytes = subst (λ (x : WriterSeen). IsWriter task n x bytes) (sym c.index_mut-writer.ensures.value) (next_writer task was now.held ns ws records block place p c.requires.place w) in
     let here = stands_here task n w bytes now is (next_here task was now.held ns ws records block place p c.requires.place) in
     let text = text_of task records block n in
-    let same : c.text-text.result.now ≡ text = c.text-text.ensures ∙ text_at task ns c.args.gathered.now records block s place c.requires.place in
+    let same : c.text-text.result.now ≡ text = c.text-text.ensures ∙ text_at task ns c.args.parts.now.gathered records block s place c.requires.place in
     ap (λ (t : List ℕ). length t % w.size) same ∙ even_for task n w bytes records block q.6 is
 
 pub push-requires-clause-most : goal.push-requires-clause-most
@@ -84,7 +84,7 @@ push-requires-clause-most g c κs lives =
     let is : IsWriter task n w bytes = subst (λ (x : WriterSeen). IsWriter task n x bytes) (sym c.index_mut-writer.ensures.value) (next_writer task was now.held ns ws records block place p c.requires.place w) in
     let here = stands_here task n w bytes now is (next_here task was now.held ns ws records block place p c.requires.place) in
     let text = text_of task records block n in
-    let same : c.text-text.result.now ≡ text = c.text-text.ensures ∙ text_at task ns c.args.gathered.now records block s place c.requires.place in
+    let same : c.text-text.result.now ≡ text = c.text-text.ensures ∙ text_at task ns c.args.parts.now.gathered records block s place c.requires.place in
     subst (λ (t : List ℕ). w.taken + length t ≤ w.size * w.most) (sym same) (room_for task n w records block q.6 is p.sized)
 
 pub push-requires-clause-stands : goal.push-requires-clause-stands
@@ -107,7 +107,7 @@ push-requires-clause-stands g c κs lives =
     let is : IsWriter task n w bytes = subst (λ (x : WriterSeen). IsWriter task n x bytes) (sym c.index_mut-writer.ensures.value) (next_writer task was now.held ns ws records block place p c.requires.place w) in
     let here = stands_here task n w bytes now is (next_here task was now.held ns ws records block place p c.requires.place) in
     let text = text_of task records block n in
-    let same : c.text-text.result.now ≡ text = c.text-text.ensures ∙ text_at task ns c.args.gathered.now records block s place c.requires.place in
+    let same : c.text-text.result.now ≡ text = c.text-text.ensures ∙ text_at task ns c.args.parts.now.gathered records block s place c.requires.place in
     (now, out, bytes, here)
 
 pub returns-in_err-push-clause-left : goal.returns-in_err-push-clause-left
@@ -123,7 +123,7 @@ returns-in_err-push-clause-left g c task was records block p s =
     let is : IsWriter task n w bytes = subst (λ (x : WriterSeen). IsWriter task n x bytes) (sym c.index_mut-writer.ensures.value) (next_writer task was now.held ns ws records block place p c.requires.place w) in
     let here = stands_here task n w bytes now is (next_here task was now.held ns ws records block place p c.requires.place) in
     let text = text_of task records block n in
-    let same : c.text-text.result.now ≡ text = c.text-text.ensures ∙ text_at task ns c.args.gathered.now records block s place c.requires.place in
+    let same : c.text-text.result.now ≡ text = c.text-text.ensures ∙ text_at task ns c.args.parts.now.gathered records block s place c.requires.place in
     let new = g.F.Files.seen c.push.new.files in
     let more : bytes_at task (records ++ block) n ≡ bytes ++ c.text-text.result.now = bytes_more task records block n ∙ ap (λ (b : List ℕ). bytes ++ b) (sym same) in
     let e = c.in_err-push.ensures.stopped now out bytes here in
@@ -144,7 +144,7 @@ returns-clause-pushed g c task was records block p s =
     let is : IsWriter task n w bytes = subst (λ (x : WriterSeen). IsWriter task n x bytes) (sym c.index_mut-writer.ensures.value) (next_writer task was now.held ns ws records block place p c.requires.place w) in
     let here = stands_here task n w bytes now is (next_here task was now.held ns ws records block place p c.requires.place) in
     let text = text_of task records block n in
-    let same : c.text-text.result.now ≡ text = c.text-text.ensures ∙ text_at task ns c.args.gathered.now records block s place c.requires.place in
+    let same : c.text-text.result.now ≡ text = c.text-text.ensures ∙ text_at task ns c.args.parts.now.gathered records block s place c.requires.place in
     let new = g.F.Files.seen c.push.new.files in
     let more : bytes_at task (records ++ block) n ≡ bytes ++ c.text-text.result.now = bytes_more task records block n ∙ ap (λ (b : List ℕ). bytes ++ b) (sym same) in
     let both = took task n now new c.push.new.self bytes c.text-text.result.now (c.in_ok-push.ensures.stands now out bytes here) c.in_ok-push.ensures.open (c.push.ensures.most ∙ is.most) (bytes_at task (records ++ block) n) more in

@@ -2,14 +2,14 @@ use Rattle.std.proofs.Common.{◌≡◌, inl, inr, ℕ, ◌<◌, ◌^◌, List, 
 use Rattle.laz_file.specs.Writing.{WriterSeen}
 use Rattle.laz_file.proofs.Taking.{on_err}
 use Rattle.las_split.specs.declared.limits.TheConstants.{MAX_PARTS}
-use Rattle.las_split.specs.Sorting.{InParts, bytes_at, task_of}
+use Rattle.las_split.specs.Sorting.{InParts, bytes_at, task_in}
 use Rattle.las_split.proofs.Placing.{at_end, in_new, leaves_here, left_new, text_new, too_many}
 use Rattle.las_split.proofs.Standing.{writers_length}
 use Rattle.las_split.proofs.sorting.open_place.Goals as goal
 
 pub returns-then-place-ge-MAX_PARTS-clause-opened : goal.returns-then-place-ge-MAX_PARTS-clause-opened
 returns-then-place-ge-MAX_PARTS-clause-opened g c was opened written more point i is whole =
-    let task = task_of c.args.names.now c.args.head.now c.args.rule.now in (
+    let task = task_in c.args.splitter.now in (
       i,
       too_many task was (g.F.Files.seen c.args.files.now).held c.args.parts.now.numbers c.args.parts.now.writers.items opened written i more whole point c.args.number is c.requires.other (omega (arith, c.if-place-ge-MAX_PARTS.true, c.len-place.ensures)),
       refl,
@@ -18,7 +18,7 @@ returns-then-place-ge-MAX_PARTS-clause-opened g c was opened written more point 
 
 pub returns-in_err-open-clause-left : goal.returns-in_err-open-clause-left
 returns-in_err-open-clause-left g c was opened written more point i is whole =
-    let task = task_of c.args.names.now c.args.head.now c.args.rule.now in
+    let task = task_in c.args.splitter.now in
     let old = (g.F.Files.seen c.args.files.now).held in
     let new = (g.F.Files.seen c.open.new.files).held in
     let small : c.args.number < 2 ^ 32 = omega (arith, c.ranges.number.fits) in
@@ -31,7 +31,7 @@ returns-in_err-open-clause-left g c was opened written more point i is whole =
 
 pub returns-clause-opened : goal.returns-clause-opened
 returns-clause-opened g c was opened written more point i is whole =
-    let task = task_of c.args.names.now c.args.head.now c.args.rule.now in
+    let task = task_in c.args.splitter.now in
     let old = g.F.Files.seen c.args.files.now in
     let new = g.F.Files.seen c.open.new.files in
     let ns = c.args.parts.now.numbers in
@@ -49,12 +49,13 @@ returns-clause-opened g c was opened written more point i is whole =
 pub returns-clause-gathered : goal.returns-clause-gathered
 returns-clause-gathered g c text is none =
     c.in_ok-open-2.ensures
-    ∙ text_new text c.args.parts.now.numbers c.args.number c.args.gathered.now none is
+    ∙ ap (λ (ts : List (List ℕ)). ts ++ [] ∷ []) c.open.ensures.gathered
+    ∙ text_new text c.args.parts.now.numbers c.args.number c.args.parts.now.gathered none is
     ∙ ap (λ (ms : List ℕ). map text ms) (sym c.in_ok-open.ensures.numbers)
 
 pub returns-in_err-open-2-clause-left : goal.returns-in_err-open-2-clause-left
 returns-in_err-open-2-clause-left g c was opened written more point i is whole =
-    let task = task_of c.args.names.now c.args.head.now c.args.rule.now in
+    let task = task_in c.args.splitter.now in
     let old = g.F.Files.seen c.args.files.now in
     let new = g.F.Files.seen c.open.new.files in
     let ns = c.args.parts.now.numbers in

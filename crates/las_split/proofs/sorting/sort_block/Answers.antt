@@ -3,63 +3,63 @@ use Rattle.laz_file.proofs.Faults.{later-trans}
 use Rattle.laz_file.specs.declared.fault.Fault.TheVariants.{Write}
 use Rattle.laz_file.proofs.Putting.{if_err}
 use Rattle.laz_file.proofs.Taking.{calm_trans, on_err}
-use Rattle.las_split.specs.Sorting.{SortsBlock, SortsPoint, cut_all, task_of}
+use Rattle.las_split.specs.Sorting.{SortsBlock, SortsPoint, cut_all, task_in}
 use Rattle.las_split.proofs.SortingPoints.{cut_length, index_fits, left_more, left_none, place_here, rest_next, sorted_more, sorted_none, sorts_all, sorts_less}
 use Rattle.las_split.proofs.sorting.sort_block.Goals as goal
 
 pub returns-in_err-begin-clause-left : goal.returns-in_err-begin-clause-left
 returns-in_err-begin-clause-left g c was records i at =
-    on_err c.from_residual.result (left_none (task_of c.args.names.now c.args.head.now c.args.rule.now) was (g.F.Files.seen c.args.files.now).held c.args.parts.now.numbers c.args.parts.now.writers.items records (cut_all c.args.size c.args.block.now) i)
+    on_err c.from_residual.result (left_none (task_in c.args.splitter.now) was (g.F.Files.seen c.args.files.now).held c.args.parts.now.numbers c.args.parts.now.writers.items records (cut_all c.args.splitter.now.size c.args.block.now) i)
 
 pub loop-turn-init : goal.loop-turn-init
 loop-turn-init g c = record {
-  rest = (let none : c.args.size * 0 ≡ 0 = omega arith in ap (λ (k : ℕ). drop k c.args.block.now) (sym none));
+  rest = (let none : c.args.splitter.now.size * 0 ≡ 0 = omega arith in ap (λ (k : ℕ). drop k c.args.block.now) (sym none));
   sorts = λ was records i at.
-      let count : c.len.result ≡ length c.args.parts.now.writers.items = omega (arith, c.len.ensures) in
-      sorted_none (task_of c.args.names.now c.args.head.now c.args.rule.now) was (g.F.Files.seen c.args.files.now).held c.args.parts.now.numbers c.args.parts.now.writers.items c.begin.new.self c.len.result records (cut_all c.args.size c.args.block.now) i count c.in_ok-begin.ensures;
+      let count : c.len-open.result ≡ length c.args.parts.now.writers.items = omega (arith, c.len-open.ensures) in
+      sorted_none (task_in c.args.splitter.now) was (g.F.Files.seen c.args.files.now).held c.args.parts.now.numbers c.args.parts.now.writers.items c.begin.new.self c.len-open.result records (cut_all c.args.splitter.now.size c.args.block.now) i count c.in_ok-begin.ensures;
   calm = record { reads = refl; writes = refl; asked = refl };
   later = record { known = refl; reads = omega arith; writes = omega arith; asked = omega arith };
 }
 
 pub overflow_add-place : goal.overflow_add-place
 overflow_add-place g c =
-    let more : c.loop-turn.turn < length c.args.block.now / c.args.size = omega (arith, c.loop-turn-test.true) in
-    omega (arith, index_fits (task_of c.args.names.now c.args.head.now c.args.rule.now) c.args.size c.args.index c.loop-turn.turn c.args.block.now c.requires.room c.requires.whole more)
+    let more : c.loop-turn.turn < length c.args.block.now / c.args.splitter.now.size = omega (arith, c.loop-turn-test.true) in
+    omega (arith, index_fits (task_in c.args.splitter.now) c.args.splitter.now.size c.args.index c.loop-turn.turn c.args.block.now c.requires.room c.requires.whole more)
 
 pub sort_point-requires-clause-index : goal.sort_point-requires-clause-index
 sort_point-requires-clause-index g c =
-    let more : c.loop-turn.turn < length c.args.block.now / c.args.size = omega (arith, c.loop-turn-test.true) in
-    omega (arith, index_fits (task_of c.args.names.now c.args.head.now c.args.rule.now) c.args.size c.args.index c.loop-turn.turn c.args.block.now c.requires.room c.requires.whole more)
+    let more : c.loop-turn.turn < length c.args.block.now / c.args.splitter.now.size = omega (arith, c.loop-turn-test.true) in
+    omega (arith, index_fits (task_in c.args.splitter.now) c.args.splitter.now.size c.args.index c.loop-turn.turn c.args.block.now c.requires.room c.requires.whole more)
 
 pub sort_point-requires-clause-parts : goal.sort_point-requires-clause-parts
 sort_point-requires-clause-parts g c =
     let q = c.requires.parts in
-    let more : c.loop-turn.turn < length c.args.block.now / c.args.size = omega (arith, c.loop-turn-test.true) in
+    let more : c.loop-turn.turn < length c.args.block.now / c.args.splitter.now.size = omega (arith, c.loop-turn-test.true) in
     let s = c.loop-turn.invariant.sorts q.0 q.1 q.2 q.3 in
-    (q.0, q.1, take c.loop-turn.turn (cut_all c.args.size c.args.block.now), s.parts, s.gathered, place_here c.args.size c.loop-turn.turn c.args.index c.args.block.now q.1 more q.3)
+    (q.0, q.1, take c.loop-turn.turn (cut_all c.args.splitter.now.size c.args.block.now), (s.parts, s.gathered), place_here c.args.splitter.now.size c.loop-turn.turn c.args.index c.args.block.now q.1 more q.3)
 
 pub returns-in_err-sort_point-clause-left : goal.returns-in_err-sort_point-clause-left
 returns-in_err-sort_point-clause-left g c was records i at =
-    let task = task_of c.args.names.now c.args.head.now c.args.rule.now in
-    let more : c.loop-turn.turn < length c.args.block.now / c.args.size = omega (arith, c.loop-turn-test.true) in
+    let task = task_in c.args.splitter.now in
+    let more : c.loop-turn.turn < length c.args.block.now / c.args.splitter.now.size = omega (arith, c.loop-turn-test.true) in
     let s = c.loop-turn.invariant.sorts was records i at in
-    let here = place_here c.args.size c.loop-turn.turn c.args.index c.args.block.now records more at in
+    let here = place_here c.args.splitter.now.size c.loop-turn.turn c.args.index c.args.block.now records more at in
     on_err c.from_residual-in_err-sort_point.result
-    (left_more task was records c.args.size c.loop-turn.turn c.args.block.now c.split_at.result.0.now c.loop-turn.rest.now more c.loop-turn.invariant.rest c.split_at.ensures.front (g.F.Files.seen c.sort_point.new.files).held
-    (c.in_err-sort_point.ensures.left was records (take c.loop-turn.turn (cut_all c.args.size c.args.block.now)) s.parts s.gathered here))
+    (left_more task was records c.args.splitter.now.size c.loop-turn.turn c.args.block.now c.split_at.result.0.now c.loop-turn.rest.now more c.loop-turn.invariant.rest c.split_at.ensures.front (g.F.Files.seen c.sort_point.new.files).held
+    (c.in_err-sort_point.ensures.left was records (take c.loop-turn.turn (cut_all c.args.splitter.now.size c.args.block.now)) (s.parts, s.gathered) here))
 
 pub returns-then-not-branch-clause-sorts : goal.returns-then-not-branch-clause-sorts
 returns-then-not-branch-clause-sorts g c was records i at =
-    let task = task_of c.args.names.now c.args.head.now c.args.rule.now in
-    let more : c.loop-turn.turn < length c.args.block.now / c.args.size = omega (arith, c.loop-turn-test.true) in
+    let task = task_in c.args.splitter.now in
+    let more : c.loop-turn.turn < length c.args.block.now / c.args.splitter.now.size = omega (arith, c.loop-turn-test.true) in
     let s = c.loop-turn.invariant.sorts was records i at in
-    let here = place_here c.args.size c.loop-turn.turn c.args.index c.args.block.now records more at in
+    let here = place_here c.args.splitter.now.size c.loop-turn.turn c.args.index c.args.block.now records more at in
     let new = c.sort_point.new in
     let now = (g.F.Files.seen new.files).held in
-    let block = take c.loop-turn.turn (cut_all c.args.size c.args.block.now) in
+    let block = take c.loop-turn.turn (cut_all c.args.splitter.now.size c.args.block.now) in
     let stops : c.in_ok-sort_point.field-0 ≡ false = c.if-not-branch.true in
-    let e = subst (SortsPoint task was now new.parts.numbers new.parts.writers.items new.gathered records block c.split_at.result.0.now) stops (c.in_ok-sort_point.ensures.sorts was records block s.parts s.gathered here) in
-    sorts_less task was records c.args.size c.loop-turn.turn c.args.block.now c.split_at.result.0.now c.loop-turn.rest.now more c.loop-turn.invariant.rest c.split_at.ensures.front now new.parts.numbers new.parts.writers.items new.gathered e
+    let e = subst (SortsPoint task was now new.parts.numbers new.parts.writers.items new.parts.gathered records block c.split_at.result.0.now) stops (c.in_ok-sort_point.ensures.sorts was records block (s.parts, s.gathered) here) in
+    sorts_less task was records c.args.splitter.now.size c.loop-turn.turn c.args.block.now c.split_at.result.0.now c.loop-turn.rest.now more c.loop-turn.invariant.rest c.split_at.ensures.front now new.parts.numbers new.parts.writers.items new.parts.gathered e
 
 pub loop-turn-preserved : goal.loop-turn-preserved
 loop-turn-preserved g c =
@@ -67,36 +67,36 @@ loop-turn-preserved g c =
     let mid = g.F.Files.seen c.loop-turn.files in
     let new = g.F.Files.seen c.sort_point.new.files in
     record {
-      rest = rest_next c.args.size c.loop-turn.turn c.args.block.now c.loop-turn.rest.now c.split_at.result.1.now c.loop-turn.invariant.rest c.split_at.ensures.back;
+      rest = rest_next c.args.splitter.now.size c.loop-turn.turn c.args.block.now c.loop-turn.rest.now c.split_at.result.1.now c.loop-turn.invariant.rest c.split_at.ensures.back;
       sorts = λ was records i at.
-          let task = task_of c.args.names.now c.args.head.now c.args.rule.now in
-          let more : c.loop-turn.turn < length c.args.block.now / c.args.size = omega (arith, c.loop-turn-test.true) in
+          let task = task_in c.args.splitter.now in
+          let more : c.loop-turn.turn < length c.args.block.now / c.args.splitter.now.size = omega (arith, c.loop-turn-test.true) in
           let s = c.loop-turn.invariant.sorts was records i at in
-          let here = place_here c.args.size c.loop-turn.turn c.args.index c.args.block.now records more at in
+          let here = place_here c.args.splitter.now.size c.loop-turn.turn c.args.index c.args.block.now records more at in
           let after = c.sort_point.new in
-          let block = take c.loop-turn.turn (cut_all c.args.size c.args.block.now) in
+          let block = take c.loop-turn.turn (cut_all c.args.splitter.now.size c.args.block.now) in
           let goes : c.in_ok-sort_point.field-0 ≡ true = c.if-not-branch.false in
-          let e = subst (SortsPoint task was new.held after.parts.numbers after.parts.writers.items after.gathered records block c.split_at.result.0.now) goes (c.in_ok-sort_point.ensures.sorts was records block s.parts s.gathered here) in
-          sorted_more task was records c.args.size c.loop-turn.turn c.args.block.now c.split_at.result.0.now c.loop-turn.rest.now more c.loop-turn.invariant.rest c.split_at.ensures.front new.held after.parts.numbers after.parts.writers.items after.gathered e;
+          let e = subst (SortsPoint task was new.held after.parts.numbers after.parts.writers.items after.parts.gathered records block c.split_at.result.0.now) goes (c.in_ok-sort_point.ensures.sorts was records block (s.parts, s.gathered) here) in
+          sorted_more task was records c.args.splitter.now.size c.loop-turn.turn c.args.block.now c.split_at.result.0.now c.loop-turn.rest.now more c.loop-turn.invariant.rest c.split_at.ensures.front new.held after.parts.numbers after.parts.writers.items after.parts.gathered e;
       calm = calm_trans old mid new c.loop-turn.invariant.calm c.in_ok-sort_point.ensures.calm;
       later = later-trans old mid new c.loop-turn.invariant.later c.sort_point.ensures.later;
     }
 
 pub returns-clause-sorts : goal.returns-clause-sorts
 returns-clause-sorts g c was records i at =
-    let task = task_of c.args.names.now c.args.head.now c.args.rule.now in
+    let task = task_in c.args.splitter.now in
     let now = (g.F.Files.seen c.loop-turn.files).held in
     let t = c.loop-turn.turn in
-    let count = length c.args.block.now / c.args.size in
+    let count = length c.args.block.now / c.args.splitter.now.size in
     let end : count ≤ t = omega (arith, c.loop-turn-test.false) in
     let within : t ≤ count = omega (arith, c.loop-turn.auto.turn-end) in
     let same : t ≡ count = omega (arith, end, within) in
-    subst (SortsBlock task was now c.loop-turn.parts.numbers c.loop-turn.parts.writers.items c.loop-turn.gathered records (cut_all c.args.size c.args.block.now)) same
-    (sorts_all task was now c.loop-turn.parts.numbers c.loop-turn.parts.writers.items c.loop-turn.gathered records c.args.size t c.args.block.now end within (c.loop-turn.invariant.sorts was records i at))
+    subst (SortsBlock task was now c.loop-turn.parts.numbers c.loop-turn.parts.writers.items c.loop-turn.parts.gathered records (cut_all c.args.splitter.now.size c.args.block.now)) same
+    (sorts_all task was now c.loop-turn.parts.numbers c.loop-turn.parts.writers.items c.loop-turn.parts.gathered records c.args.splitter.now.size t c.args.block.now end within (c.loop-turn.invariant.sorts was records i at))
 
 pub returns-in_err-sort_point-clause-some : goal.returns-in_err-sort_point-clause-some
 returns-in_err-sort_point-clause-some g c =
-    let size = c.args.size in
+    let size = c.args.splitter.now.size in
     let bytes = c.args.block.now in
     let there : 1 ≤ length (cut_all size bytes) = omega (arith, c.loop-turn-test.true, cut_length size (length bytes / size) bytes) in
     if_err (λ fault. fault ≡ Write → 1 ≤ length (cut_all size bytes)) c.from_residual-in_err-sort_point.result _ c.from_residual-in_err-sort_point.ensures.1 (λ is. there)

@@ -1,0 +1,10 @@
+-- What is fixed while the records of a batch are split.
+use Rattle.std.specs.Prelude.{ℕ, string_bytes}
+use Rattle.laz_file.specs.Outputs.{Output}
+use Rattle.las_split.specs.declared.splitter.Splitter.{Splitter}
+use Rattle.las_split.specs.Outputs.{output_under}
+
+-- the output of a part
+abbrev pub output_of : Splitter → (number : ℕ) → Output
+output_of splitter number =
+    output_under (string_bytes splitter.names.now.stem) (string_bytes splitter.names.now.end) splitter.head.now.bytes number
