@@ -7,6 +7,7 @@ pub mod Standing
 pub mod Opening
 pub mod Placing
 pub mod SortingPoints
+pub mod Runs
 pub mod PushedParts
 pub mod Blocks
 pub mod Splits

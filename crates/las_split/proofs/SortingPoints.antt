@@ -164,7 +164,7 @@ sorted_none task was now numbers writers texts count records block i all none = 
     empties (n ∷ ns) = ap (λ (t : List (List ℕ)). [] ∷ t) (empties ns)
 
 module _ (task : Task) (was : Option FileMap) (records : List (List ℕ)) (size t : ℕ) (bytes point rest : List ℕ) (more : t < length bytes / size) (left : rest ≡ drop (size * t) bytes) (first : point ≡ take size rest) where
-  point_is : point ≡ get_or (cut_all size bytes) t []
+  pub point_is : point ≡ get_or (cut_all size bytes) t []
   point_is = first ∙ ap (take size) left ∙ sym (cut_at size (length bytes / size) t bytes more)
 
   pub one_more : take (t + 1) (cut_all size bytes) ≡ take t (cut_all size bytes) ++ point ∷ []

@@ -7,4 +7,5 @@ use Rattle.las_split.specs.Outputs.{output_under}
 -- the output of a part
 abbrev pub output_of : Splitter → (number : ℕ) → Output
 output_of splitter number =
-    output_under (string_bytes splitter.names.now.stem) (string_bytes splitter.names.now.end) splitter.head.now.bytes number
+    output_under (string_bytes splitter.names.now.stem) (string_bytes splitter.names.now.end) splitter.head.now.bytes
+    number

@@ -13,8 +13,8 @@ ghost use Rattle.laz_file.specs.Asking.{AsksAtMost, bytes_left};
 ghost use Rattle.laz_file.specs.Copying.{HasCause, HoldFirst, end_of};
 ghost use Rattle.laz_file.specs.Reading.{IsCrewOf, Lends, StandsFor, records_in};
 ghost use Rattle.laz_file.specs.Writing.{SameFaults};
-ghost use Rattle.las_split.specs.Sorting.{EndsSplitting, HasRoom, IsPlainFor, LeavesBlock, TakesBlock, cut_all, task_in};
-ghost use Rattle.las_split.specs.Sorting.{task_of};
+ghost use Rattle.las_split.specs.Sorting.{EndsSplitting, HasRoom, IsPlainFor, LeavesBlock, TakesBlock};
+ghost use Rattle.las_split.specs.Sorting.{cut_all, task_in, task_of};
 ghost use Rattle.las_split.specs.Steps.{AreIn, TakesBatch};
 
 use crate::part_names::PartNames;

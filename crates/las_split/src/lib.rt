@@ -12,6 +12,7 @@ mod numbers;
 mod part_names;
 mod parts;
 mod pushing;
+mod running;
 mod sorting;
 mod splitter;
 

@@ -55,8 +55,8 @@ impl Parts {
             × Stands (F.seen files.old) (F.seen files.new) writer (output_of splitter.now number) []
             × (writer.failed ≡ false) × (writer.most ≡ points_of splitter.now.head.now.bytes)) }
         ensures left { OnErr result (((F.seen files.new).held ≡ (F.seen files.old).held)
-            ⊎ ((n : ℕ) × ((F.seen files.new).held ≡ with_file (F.seen files.old).held (output_of splitter.now number).name
-            (take n (front (output_of splitter.now number)))))) }
+            ⊎ ((n : ℕ) × ((F.seen files.new).held ≡ with_file (F.seen files.old).held
+            (output_of splitter.now number).name (take n (front (output_of splitter.now number)))))) }
         ensures cause { IfErr result (HasCause (F.seen files.old) (F.seen files.new)) }
         ensures calm { OnOk result (SameFaults (F.seen files.old) (F.seen files.new)) }
         ensures asked { (F.seen files.new).asked ≡ (F.seen files.old).asked }

@@ -11,11 +11,12 @@ ghost use Rattle.laz_file.specs.Copying.{HasCause};
 ghost use Rattle.laz_file.specs.Writing.{SameFaults};
 ghost use Rattle.las_split.specs.Parts.{number_by};
 ghost use Rattle.las_split.specs.Sorting.{HasRoom, LeavesBlock, SortsBlock, SortsPoint, cut_all, has, task_in};
-ghost use Rattle.las_split.specs.Steps.{AreIn, AreSorted, LeavesRecord, OpensOrRefuses};
+ghost use Rattle.las_split.specs.Steps.{AreIn, AreSorted, LeavesMore, LeavesRecord, OpensOrRefuses, SortsMore};
 
-use crate::limits::MAX_PARTS;
+use crate::limits::{GROUP, MAX_PARTS};
 use crate::numbering::part_of;
 use crate::parts::Parts;
+use crate::running::all_have;
 use crate::splitter::Splitter;
 use las_header::POINT_RECORD;
 use las_outside::Files;
@@ -41,8 +42,8 @@ fn open_place<F: Files>(
         → AreIn (task_in splitter.now) was (F.seen files.old).held parts.old opened written
         → number ≡ number_by splitter.now.rule.now (length opened) point
         → opened ≡ written ++ more
-        → IfOk result (OpensOrRefuses (task_in splitter.now) was (F.seen files.new).held parts.old parts.new opened written
-        number point) }
+        → IfOk result (OpensOrRefuses (task_in splitter.now) was (F.seen files.new).held parts.old parts.new opened
+        written number point) }
     ensures gathered { (text : ℕ → List ℕ) → parts.old.gathered ≡ map text parts.old.numbers → text number ≡ []
         → IfOk result (λ found. parts.new.gathered ≡ map text parts.new.numbers) }
     ensures left { (was : Option FileMap) (opened written more : List (List ℕ)) (point : List ℕ)
@@ -80,8 +81,8 @@ fn place_of<F: Files>(
         → AreIn (task_in splitter.now) was (F.seen files.old).held parts.old opened written
         → number ≡ number_by splitter.now.rule.now (length opened) point
         → opened ≡ written ++ more
-        → IfOk result (OpensOrRefuses (task_in splitter.now) was (F.seen files.new).held parts.old parts.new opened written
-        number point) }
+        → IfOk result (OpensOrRefuses (task_in splitter.now) was (F.seen files.new).held parts.old parts.new opened
+        written number point) }
     ensures gathered { (text : ℕ → List ℕ) → parts.old.gathered ≡ map text parts.old.numbers
         → (has number parts.old.numbers ≡ false → text number ≡ [])
         → IfOk result (λ found. parts.new.gathered ≡ map text parts.new.numbers) }
@@ -145,6 +146,99 @@ fn sort_point<F: Files>(
     }
 }
 
+// Sorts records after others of their block, one after another, up to the first that would open one part too many. It
+// answers how many were taken.
+fn sort_each<F: Files>(
+    alloc: Global,
+    files: &mut F,
+    splitter: &Splitter,
+    index: u64,
+    group: &[u8],
+    parts: &mut Parts,
+) -> Result<usize, Fault>
+    requires plain { is_packed splitter.now.head.now.bytes ≡ false }
+    requires none { laszip_vlrs_of splitter.now.head.now.bytes ≡ [] }
+    requires rule { IsRule splitter.now.rule.now }
+    requires room { HasRoom (task_in splitter.now) splitter.now.size index (length group.now) }
+    requires whole { length group.now % splitter.now.size ≡ 0 }
+    requires parts { (was : Option FileMap) × (records : List (List ℕ)) × (block : List (List ℕ))
+        × AreSorted (task_in splitter.now) was (F.seen files.old).held parts.old records block
+        × (index ≡ length records + length block) }
+    ensures sorts { (was : Option FileMap) (records block : List (List ℕ))
+        → AreSorted (task_in splitter.now) was (F.seen files.old).held parts.old records block
+        → index ≡ length records + length block
+        → IfOk result (SortsMore (task_in splitter.now) was (F.seen files.new).held parts.new records block
+        (cut_all splitter.now.size group.now)) }
+    ensures left { (was : Option FileMap) (records block : List (List ℕ))
+        → AreSorted (task_in splitter.now) was (F.seen files.old).held parts.old records block
+        → index ≡ length records + length block
+        → OnErr result (LeavesMore (task_in splitter.now) was (F.seen files.new).held records block
+        (cut_all splitter.now.size group.now)) }
+    ensures some { IfErr result (λ fault. fault ≡ Write → 1 ≤ length (cut_all splitter.now.size group.now)) }
+    ensures cause { IfErr result (HasCause (F.seen files.old) (F.seen files.new)) }
+    ensures calm { OnOk result (SameFaults (F.seen files.old) (F.seen files.new)) }
+    ensures asked { (F.seen files.new).asked ≡ (F.seen files.old).asked }
+    ensures later { Later (F.seen files.old) (F.seen files.new) }
+{
+    let size = splitter.size;
+    let mut rest = group;
+    let count = group.len() / size;
+    for turn in 0..count {
+        let (point, further) = rest.split_at(size);
+        let place = index + turn as u64;
+        if !sort_point(alloc, files, splitter, place, point, parts)? {
+            return Ok(turn);
+        }
+        rest = further;
+    }
+    Ok(count)
+}
+
+// The same for one record or more. If all of them belong to one part that is open, they are gathered at once.
+fn sort_group<F: Files>(
+    alloc: Global,
+    files: &mut F,
+    splitter: &Splitter,
+    index: u64,
+    group: &[u8],
+    parts: &mut Parts,
+) -> Result<usize, Fault>
+    requires plain { is_packed splitter.now.head.now.bytes ≡ false }
+    requires none { laszip_vlrs_of splitter.now.head.now.bytes ≡ [] }
+    requires rule { IsRule splitter.now.rule.now }
+    requires room { HasRoom (task_in splitter.now) splitter.now.size index (length group.now) }
+    requires whole { length group.now % splitter.now.size ≡ 0 }
+    requires one { splitter.now.size ≤ length group.now }
+    requires parts { (was : Option FileMap) × (records : List (List ℕ)) × (block : List (List ℕ))
+        × AreSorted (task_in splitter.now) was (F.seen files.old).held parts.old records block
+        × (index ≡ length records + length block) }
+    ensures sorts { (was : Option FileMap) (records block : List (List ℕ))
+        → AreSorted (task_in splitter.now) was (F.seen files.old).held parts.old records block
+        → index ≡ length records + length block
+        → IfOk result (SortsMore (task_in splitter.now) was (F.seen files.new).held parts.new records block
+        (cut_all splitter.now.size group.now)) }
+    ensures left { (was : Option FileMap) (records block : List (List ℕ))
+        → AreSorted (task_in splitter.now) was (F.seen files.old).held parts.old records block
+        → index ≡ length records + length block
+        → OnErr result (LeavesMore (task_in splitter.now) was (F.seen files.new).held records block
+        (cut_all splitter.now.size group.now)) }
+    ensures some { IfErr result (λ fault. fault ≡ Write → 1 ≤ length (cut_all splitter.now.size group.now)) }
+    ensures cause { IfErr result (HasCause (F.seen files.old) (F.seen files.new)) }
+    ensures calm { OnOk result (SameFaults (F.seen files.old) (F.seen files.new)) }
+    ensures asked { (F.seen files.new).asked ≡ (F.seen files.old).asked }
+    ensures later { Later (F.seen files.old) (F.seen files.new) }
+{
+    let size = splitter.size;
+    let number = part_of(splitter.rule, index, group);
+    if all_have(splitter.rule, index, size, group, number) {
+        if let Some(place) = parts.numbers.find(number) {
+            parts.gathered.add(place, group)?;
+            return Ok(group.len() / size);
+        }
+    }
+    sort_each(alloc, files, splitter, index, group, parts)
+}
+
 /// Gathers the records of a block by their parts, and opens the parts that are new, up to the first record that would
 /// open one part too many. It answers how many records were taken.
 pub(crate) fn sort_block<F: Files>(
@@ -183,14 +277,16 @@ pub(crate) fn sort_block<F: Files>(
     let open = parts.writers.len();
     parts.gathered.begin(alloc, open)?;
     let mut rest = block;
-    let count = block.len() / size;
-    for turn in 0..count {
-        let (point, further) = rest.split_at(size);
-        let place = index + turn as u64;
-        if !sort_point(alloc, files, splitter, place, point, parts)? {
-            return Ok(turn);
+    let mut taken = 0;
+    'groups: while !rest.is_empty() {
+        let (group, further) = rest.split_at((rest.len() / size).min(GROUP) * size);
+        let place = index + taken as u64;
+        let more = sort_group(alloc, files, splitter, place, group, parts)?;
+        taken += more;
+        if more < group.len() / size {
+            return Ok(taken);
         }
         rest = further;
     }
-    Ok(count)
+    Ok(taken)
 }

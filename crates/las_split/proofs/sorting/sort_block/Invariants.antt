@@ -1,18 +1,22 @@
-use Rattle.std.proofs.Common.{◌≡◌, ◌*◌, ℕ, List, Option, drop, length, take}
+use Rattle.std.proofs.Common.{◌≡◌, ◌%◌, ◌++◌, ℕ, List, Option, length}
 use Rattle.las_outside.specs.Files.{FileMap}
 use Rattle.las_outside.specs.Outside.{Later}
 use Rattle.laz_file.specs.Writing.{SameFaults}
-use Rattle.las_split.specs.Sorting.{InParts, cut_all, task_in}
-use Rattle.las_split.proofs.SortingPoints.{SortedSo}
+use Rattle.las_split.specs.Sorting.{cut_all, task_in}
+use Rattle.las_split.specs.Steps.{AreIn, AreSorted}
 use Rattle.las_split.proofs.sorting.sort_block.Given as goal
 
-abbrev pub invariant-loop-turn : goal.invariant-loop-turn
-invariant-loop-turn g l = record {
-  rest : l.rest ≡ drop (l.splitter.size * l.turn) l.block;
-  sorts : (was : Option FileMap) (records : List (List ℕ))
-      → InParts (task_in l.splitter) was (g.F.Files.seen l.fn.files).held l.fn.parts.numbers l.fn.parts.writers.items records records
+abbrev pub invariant-groups : goal.invariant-groups
+invariant-groups g l = record {
+  whole : length l.rest % l.splitter.size ≡ 0;
+  sorts : (done : List ℕ) × (l.block ≡ done ++ l.rest) × (length done % l.splitter.size ≡ 0) × (l.taken ≡ length (cut_all l.splitter.size done))
+      × ((was : Option FileMap) (records : List (List ℕ))
+      → AreIn (task_in l.splitter) was (g.F.Files.seen l.fn.files).held l.fn.parts records records
       → l.index ≡ length records
-      → SortedSo (task_in l.splitter) was (g.F.Files.seen l.files).held l.parts.numbers l.parts.writers.items l.parts.gathered records (take l.turn (cut_all l.splitter.size l.block));
+      → AreSorted (task_in l.splitter) was (g.F.Files.seen l.files).held l.parts records (cut_all l.splitter.size done));
   calm : SameFaults (g.F.Files.seen l.fn.files) (g.F.Files.seen l.files);
   later : Later (g.F.Files.seen l.fn.files) (g.F.Files.seen l.files);
 }
+
+abbrev pub decreases-groups : goal.decreases-groups
+decreases-groups g l = length l.rest

@@ -1,0 +1,11 @@
+use Rattle.std.proofs.Common.{◌≡◌, ◌*◌, drop, take}
+use Rattle.std.specs.Prelude.{All}
+use Rattle.las_split.specs.Parts.{numbers_from}
+use Rattle.las_split.specs.Sorting.{cut_all}
+use Rattle.las_split.proofs.running.all_have.Given as goal
+
+abbrev pub invariant-loop-turn : goal.invariant-loop-turn
+invariant-loop-turn l = record {
+  rest : l.rest ≡ drop (l.size * l.turn) l.group;
+  all : All (λ n. n ≡ l.number) (numbers_from l.rule l.index (take l.turn (cut_all l.size l.group)));
+}

@@ -1,0 +1,23 @@
+use Rattle.laz_file.proofs.Taking.{on_err}
+use Rattle.las_split.specs.Sorting.{cut_all, task_in, text_of}
+use Rattle.las_split.proofs.Blocks.{next_fits}
+use Rattle.las_split.proofs.Runs.{group_unsorted, run_taken}
+use Rattle.las_split.proofs.SortingPoints.{place_within}
+use Rattle.las_split.proofs.sorting.sort_group.Goals as goal
+
+pub all_have-requires-clause-index : goal.all_have-requires-clause-index
+all_have-requires-clause-index g c = next_fits (task_in c.args.splitter.now) c.args.splitter.now.size c.args.index c.args.group.now c.requires.room
+
+pub add-requires : goal.add-requires
+add-requires g c =
+    let q = c.requires.parts in
+    place_within c.args.parts.now.gathered (text_of (task_in c.args.splitter.now) q.1 q.2) c.args.parts.now.numbers c.in-Some.place c.part_of-number.result q.3.1 c.in-Some.ensures.some
+
+pub returns-in_err-add-clause-left : goal.returns-in_err-add-clause-left
+returns-in_err-add-clause-left g c was records block s at =
+    on_err c.from_residual.result (group_unsorted (task_in c.args.splitter.now) was (g.F.Files.seen c.args.files.now).held c.args.parts.now records block (cut_all c.args.splitter.now.size c.args.group.now) s)
+
+pub returns-in-Some-clause-sorts : goal.returns-in-Some-clause-sorts
+returns-in-Some-clause-sorts g c was records block s at =
+    run_taken (task_in c.args.splitter.now) was (g.F.Files.seen c.args.files.now).held c.args.parts.now c.add.new.self records block c.args.splitter.now.size c.part_of-number.result c.in-Some.place c.args.index c.args.group.now
+    c.requires.whole c.in-Some.ensures.some at (c.all_have.ensures c.if-all_have.true) s c.in_ok-add.ensures
