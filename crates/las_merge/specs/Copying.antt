@@ -1,5 +1,6 @@
 -- How the records of inputs are copied into an output, one input after another.
-use Rattle.std.specs.Prelude.{◌≡◌, ◌⊎◌, ◌+◌, ◌*◌, ◌<◌, ◌≤◌, ℕ, true, false, List, [], ◌∷◌, ◌++◌, length, Option, Some, None}
+use Rattle.std.specs.Prelude.{◌≡◌, ◌⊎◌, ◌+◌, ◌*◌, ◌<◌, ◌≤◌, ℕ, true, false, List, [], ◌∷◌, ◌++◌, length, Option, Some}
+use Rattle.std.specs.Prelude.{None}
 use Rattle.std.specs.List.{concat}
 use Rattle.las_header.specs.declared.refusal.Refusal.{Refusal}
 use Rattle.las_header.specs.declared.refusal.Refusal.TheVariants.{BadChunk}
@@ -12,10 +13,11 @@ use Rattle.laz_file.specs.declared.fault.Fault.TheVariants as fault
 use Rattle.laz_file.specs.Copying.{AreOnlyRecords, LeavesPart, LeavesUnfinished}
 use Rattle.laz_file.specs.Outputs.{Output, stopped}
 use Rattle.laz_file.specs.Records.{AreRecordsOf}
-use Rattle.laz_file.specs.Writing.{WriterSeen}
+use Rattle.laz_file.specs.Writing.{Stands, WriterSeen}
 use Rattle.las_merge.specs.declared.copying.BadInput.{BadInput}
 use Rattle.las_merge.specs.declared.fault.MergeFault.{MergeFault}
-use Rattle.las_merge.specs.declared.fault.MergeFault.TheVariants.{At, Unequal, TooManyPoints, TooManyChunks, Write, Memory}
+use Rattle.las_merge.specs.declared.fault.MergeFault.TheVariants.{At, Unequal, TooManyPoints, TooManyChunks, Write}
+use Rattle.las_merge.specs.declared.fault.MergeFault.TheVariants.{Memory}
 use Rattle.las_merge.specs.Inputs.{item_at}
 use Rattle.las_merge.specs.Opening.{InputSeen}
 
@@ -75,6 +77,10 @@ pub record HasRoom (input : InputSeen) (writer : WriterSeen) : Type 0 where
   pub sound : writer.failed ≡ false
   pub size : writer.size ≡ record_length_of input.head.bytes
   pub room : writer.taken + writer.size * points_of input.head.bytes ≤ writer.size * writer.most
+
+-- An output was begun, and the writer stands for the records that were written to it.
+abbrev pub IsBegun : Outside → WriterSeen → Type 0
+IsBegun now writer = (before : Outside) × (out : Output) × (bytes : List ℕ) × Stands before now writer out bytes
 
 -- A fault while inputs are copied has its cause, and is of an input that there is or of the output. An input that was
 -- opened is refused when it is opened again, or differs then, only if it is not known what the files hold.
