@@ -1,5 +1,6 @@
 -- How an output ends that records are converted into.
-use Rattle.std.proofs.Common.{◌≡◌, ◌⊎◌, ℕ, Bool, true, false, cond, List, [], ◌++◌, length, take, Option, Some, None, Result, IfErr, refl, sym, ◌∙◌, ap, subst}
+use Rattle.std.proofs.Common.{◌≡◌, ◌⊎◌, ℕ, Bool, true, false, cond, List, [], ◌++◌, length, take, Option, Some, None}
+use Rattle.std.proofs.Common.{Result, IfErr, OnErr, refl, sym, ◌∙◌, ap, subst}
 use Rattle.std.specs.List.{concat}
 use Rattle.std.proofs.lemmas.List.{append-nil, take_all}
 use Rattle.std.proofs.Common.{arith}
@@ -20,20 +21,27 @@ use Rattle.laz_file.specs.Reading.{ReaderSeen}
 use Rattle.laz_file.specs.Writing.{Stands, Stops, WriterSeen}
 use Rattle.laz_file.proofs.Endings.{leaves_end, leaves_part}
 use Rattle.laz_file.proofs.Taking.{held_after}
-use Rattle.laz_file.proofs.WholeOutputs.{create_left, err_then}
+use Rattle.laz_file.proofs.WholeOutputs.{create_left}
 use Rattle.las_convert.specs.Adding.{Adds, EndsKeeping, Goes, Keeping, LeavesKept, cut_all}
 use Rattle.las_convert.specs.Converting.{EndsConverting, FinishesKept, LeavesConverting, RefusesKept, output_of}
+use Rattle.las_convert.proofs.Adding.{on_err_from}
 use Rattle.las_convert.proofs.Shown.{seen_by}
 
 -- an output that could not be created
-pub begin_left : {T : Type 0} (r : Result T Fault) (old new : Outside) (reader : ReaderSeen) (name head : List ℕ) (chunk : Option ℕ) → head ≡ plain_of reader.head.bytes
-    → IfErr r (λ fault. Stops fault old new ⊎ ((n : ℕ) × Stops fault (with_bytes old name (take n (front (record { name = name; head = head; chunk = chunk; counted = true })))) new))
-    → IfErr r (λ fault. (records : List ℕ) → LeavesUnfinished (output_of reader name chunk) records old.held new.held)
+pub begin_left : {T : Type 0} (r : Result T Fault) (old new : Outside) (reader : ReaderSeen) (name head : List ℕ)
+    (chunk : Option ℕ) → head ≡ plain_of reader.head.bytes
+    → IfErr r (λ fault. Stops fault old new ⊎ ((n : ℕ) × Stops fault
+    (with_bytes old name (take n (front (record { name = name; head = head; chunk = chunk; counted = true }))))
+    new))
+    → OnErr r ((records : List ℕ) → LeavesUnfinished (output_of reader name chunk) records old.held new.held)
 begin_left r old new reader name head chunk is =
     let out : Output = record { name = name; head = head; chunk = chunk; counted = true } in
-    let same : out ≡ output_of reader name chunk = ap (λ (h : List ℕ). let o : Output = record { name = name; head = h; chunk = chunk; counted = true } in o) is in
-    err_then (λ fault. Stops fault old new ⊎ ((n : ℕ) × Stops fault (with_bytes old name (take n (front out))) new)) (λ fault. (records : List ℕ) → LeavesUnfinished (output_of reader name chunk) records old.held new.held) r
-    (λ fault stops records. subst (λ (o : Output). LeavesUnfinished o records old.held new.held) same (create_left old new out fault records stops))
+    let same : out ≡ output_of reader name chunk =
+    ap (λ (h : List ℕ). let o : Output = record { name = name; head = h; chunk = chunk; counted = true } in o) is in
+    on_err_from (λ fault. Stops fault old new ⊎ ((n : ℕ) × Stops fault (with_bytes old name (take n (front out))) new))
+    r
+    (λ fault stops records. subst (λ (o : Output). LeavesUnfinished o records old.held new.held) same
+    (create_left old new out fault records stops))
 
 pub plain_itself : (head : List ℕ) → is_packed head ≡ false → head ≡ plain_of head
 plain_itself head is = sym (by (is_packed head) is)
@@ -43,19 +51,30 @@ plain_itself head is = sym (by (is_packed head) is)
     by false e = refl
 
 -- the length of a record, by the reader and by the writer
-pub adds_wide : (keeping : Keeping) (reader : ReaderSeen) (w : WriterSeen) (blocks ones : List (List ℕ)) (refused : Bool) → w.size ≡ record_length_of reader.head.bytes → Adds keeping [] (cut_all w.size (concat blocks)) ones refused → Adds keeping [] (cut_all (record_length_of reader.head.bytes) (concat blocks)) ones refused
-adds_wide keeping reader w blocks ones refused same adds = subst (λ (n : ℕ). Adds keeping [] (cut_all n (concat blocks)) ones refused) same adds
+pub adds_wide : (keeping : Keeping) (reader : ReaderSeen) (w : WriterSeen) (blocks ones : List (List ℕ))
+    (refused : Bool) → w.size ≡ record_length_of reader.head.bytes
+    → Adds keeping [] (cut_all w.size (concat blocks)) ones refused
+    → Adds keeping [] (cut_all (record_length_of reader.head.bytes) (concat blocks)) ones refused
+adds_wide keeping reader w blocks ones refused same adds =
+    subst (λ (n : ℕ). Adds keeping [] (cut_all n (concat blocks)) ones refused) same adds
 
 -- a fault with its cause, and what it leaves
-pub ends_with : (known was : Option FileMap) (old now : Outside) (keeping : Keeping) (reader : ReaderSeen) (out : Output) (bytes : List ℕ) (fault : Fault) → HasCause old now fault → LeavesConverting known was now.held keeping reader out bytes → EndsConverting known was old now keeping reader out bytes fault
+pub ends_with : (known was : Option FileMap) (old now : Outside) (keeping : Keeping) (reader : ReaderSeen)
+    (out : Output) (bytes : List ℕ) (fault : Fault) → HasCause old now fault
+    → LeavesConverting known was now.held keeping reader out bytes
+    → EndsConverting known was old now keeping reader out bytes fault
 ends_with known was old now keeping reader out bytes (Refused cause) has left = absurd has
 ends_with known was old now keeping reader out bytes Read has left = (has, left)
 ends_with known was old now keeping reader out bytes Write has left = (has, left)
 ends_with known was old now keeping reader out bytes Memory has left = left
 
-module _ (old : Outside) (keeping : Keeping) (reader : ReaderSeen) (w : WriterSeen) (wide : w.size ≡ record_length_of reader.head.bytes) (n : ℕ) (blocks : List (List ℕ)) (hold : HoldFirst old.held reader n blocks) (before : Outside) (out : Output) (bytes : List ℕ) (s : Stands before old w out bytes) where
+module _ (old : Outside) (keeping : Keeping) (reader : ReaderSeen) (w : WriterSeen)
+    (wide : w.size ≡ record_length_of reader.head.bytes) (n : ℕ) (blocks : List (List ℕ))
+    (hold : HoldFirst old.held reader n blocks) (before : Outside) (out : Output) (bytes : List ℕ)
+    (s : Stands before old w out bytes) where
   -- converting failed
-  pub left_part : (new : Outside) → LeavesKept keeping [] w.size (concat blocks) old new w → LeavesConverting old.held before.held new.held keeping reader out bytes
+  pub left_part : (new : Outside) → LeavesKept keeping [] w.size (concat blocks) old new w
+      → LeavesConverting old.held before.held new.held keeping reader out bytes
   left_part new l =
       let p = l.part before out bytes s in
       record {
@@ -71,12 +90,15 @@ module _ (old : Outside) (keeping : Keeping) (reader : ReaderSeen) (w : WriterSe
         left = λ more none. leaves_part before old w out bytes s (concat l.ones) more new.held p.0 p.1;
       }
 
-  module _ (mid : Outside) (v : WriterSeen) (taps seen : List TapSeen) (count : ℕ) (refused : Bool) (g : Goes keeping [] w.size (concat blocks) old mid w v taps seen count refused) where
+  module _ (mid : Outside) (v : WriterSeen) (taps seen : List TapSeen) (count : ℕ) (refused : Bool)
+      (g : Goes keeping [] w.size (concat blocks) old mid w v taps seen count refused) where
     adds_here : Adds keeping [] (cut_all (record_length_of reader.head.bytes) (concat blocks)) g.ones refused
     adds_here = adds_wide keeping reader w blocks g.ones refused wide g.adds
 
     -- finishing failed
-    pub left_finish : (new : Outside) (fault : Fault) (left : List ℕ) → n ≡ length reader.left → IsUnfinished (draft_of out (bytes ++ concat g.ones)) (patches_of out (bytes ++ concat g.ones)) left → Stops fault (with_bytes (with_reads before mid) out.name left) new
+    pub left_finish : (new : Outside) (fault : Fault) (left : List ℕ) → n ≡ length reader.left
+        → IsUnfinished (draft_of out (bytes ++ concat g.ones)) (patches_of out (bytes ++ concat g.ones)) left
+        → Stops fault (with_bytes (with_reads before mid) out.name left) new
         → LeavesConverting old.held before.held new.held keeping reader out bytes
     left_finish new fault left all is stops = record {
       n = n;
@@ -88,11 +110,14 @@ module _ (old : Outside) (keeping : Keeping) (reader : ReaderSeen) (w : WriterSe
       hold = hold;
       split = sym (append-nil (cut_all (record_length_of reader.head.bytes) (concat blocks)));
       adds = adds_here;
-      left = λ more none. leaves_end before out bytes (concat g.ones) more new.held left (none all refl) is (held_after fault (with_bytes (with_reads before mid) out.name left) new stops);
+      left = λ more none. leaves_end before out bytes (concat g.ones) more new.held left (none all refl) is
+          (held_after fault (with_bytes (with_reads before mid) out.name left) new stops);
     }
 
     -- stopping failed
-    pub left_stop : (new : Outside) (fault : Fault) (k : ℕ) → Stops fault (with_bytes (with_reads before mid) out.name (take k (stopped out (bytes ++ concat g.ones)))) new → LeavesConverting old.held before.held new.held keeping reader out bytes
+    pub left_stop : (new : Outside) (fault : Fault) (k : ℕ)
+        → Stops fault (with_bytes (with_reads before mid) out.name (take k (stopped out (bytes ++ concat g.ones)))) new
+        → LeavesConverting old.held before.held new.held keeping reader out bytes
     left_stop new fault k stops = record {
       n = n;
       blocks = blocks;
@@ -103,13 +128,19 @@ module _ (old : Outside) (keeping : Keeping) (reader : ReaderSeen) (w : WriterSe
       hold = hold;
       split = sym (append-nil (cut_all (record_length_of reader.head.bytes) (concat blocks)));
       adds = adds_here;
-      left = λ more none. leaves_part before old w out bytes s (concat g.ones) more new.held k (held_after fault (with_bytes (with_reads before mid) out.name (take k (stopped out (bytes ++ concat g.ones)))) new stops);
+      left = λ more none. leaves_part before old w out bytes s (concat g.ones) more new.held k
+          (held_after fault (with_bytes (with_reads before mid) out.name
+          (take k (stopped out (bytes ++ concat g.ones)))) new stops);
     }
 
-    pub finished_all : (now : Option FileMap) → EndsKeeping old.held reader n count refused None → now ≡ with_file before.held out.name (finished out (bytes ++ concat g.ones)) → FinishesKept old.held before.held now keeping reader out bytes taps seen
+    pub finished_all : (now : Option FileMap) → EndsKeeping old.held reader n count refused None
+        → now ≡ with_file before.held out.name (finished out (bytes ++ concat g.ones))
+        → FinishesKept old.held before.held now keeping reader out bytes taps seen
     finished_all now ends is = by refused ends adds_here
       where
-        by : (r : Bool) → EndsKeeping old.held reader n count r None → Adds keeping [] (cut_all (record_length_of reader.head.bytes) (concat blocks)) g.ones r → FinishesKept old.held before.held now keeping reader out bytes taps seen
+        by : (r : Bool) → EndsKeeping old.held reader n count r None
+            → Adds keeping [] (cut_all (record_length_of reader.head.bytes) (concat blocks)) g.ones r
+            → FinishesKept old.held before.held now keeping reader out bytes taps seen
         by true e adds = absurd (let clash : None ≡ Some (RawRange count) = e in cc)
         by false e adds = record {
           blocks = blocks;
@@ -127,7 +158,10 @@ module _ (old : Outside) (keeping : Keeping) (reader : ReaderSeen) (w : WriterSe
         by true e = absurd (let clash : None ≡ Some (RawRange count) = e in cc)
         by false e = e
 
-    pub refused_here : (cause : Refusal) (now : Option FileMap) → EndsKeeping old.held reader n count refused (Some cause) → now ≡ with_file before.held out.name (stopped out (bytes ++ concat g.ones)) → RefusesKept old.held before.held now keeping reader out bytes cause
+    pub refused_here : (cause : Refusal) (now : Option FileMap)
+        → EndsKeeping old.held reader n count refused (Some cause)
+        → now ≡ with_file before.held out.name (stopped out (bytes ++ concat g.ones))
+        → RefusesKept old.held before.held now keeping reader out bytes cause
     refused_here cause now ends is = record {
       n = n;
       blocks = blocks;
@@ -140,7 +174,9 @@ module _ (old : Outside) (keeping : Keeping) (reader : ReaderSeen) (w : WriterSe
     }
 
 -- what a fault leaves, a refusal too
-pub ends_left : (known : Option FileMap) (before old new : Outside) (keeping : Keeping) (reader : ReaderSeen) (w : WriterSeen) (out : Output) (bytes : List ℕ) (fault : Fault) → Stands before old w out bytes → EndsConverting known before.held old new keeping reader out bytes fault
+pub ends_left : (known : Option FileMap) (before old new : Outside) (keeping : Keeping) (reader : ReaderSeen)
+    (w : WriterSeen) (out : Output) (bytes : List ℕ) (fault : Fault) → Stands before old w out bytes
+    → EndsConverting known before.held old new keeping reader out bytes fault
     → LeavesConverting known before.held new.held keeping reader out bytes
 ends_left known before old new keeping reader w out bytes (Refused cause) s e =
     let text = stopped out (bytes ++ concat e.ones) in
@@ -154,7 +190,8 @@ ends_left known before old new keeping reader w out bytes (Refused cause) s e =
       hold = e.hold;
       split = sym (append-nil (cut_all (record_length_of reader.head.bytes) (concat e.blocks)));
       adds = e.adds;
-      left = λ more none. leaves_part before old w out bytes s (concat e.ones) more new.held (length text) (e.now_is ∙ ap (with_file before.held out.name) (sym (take_all (length text) text (omega arith))));
+      left = λ more none. leaves_part before old w out bytes s (concat e.ones) more new.held (length text)
+          (e.now_is ∙ ap (with_file before.held out.name) (sym (take_all (length text) text (omega arith))));
     }
 ends_left known before old new keeping reader w out bytes Read s e = e.1
 ends_left known before old new keeping reader w out bytes Write s e = e.1

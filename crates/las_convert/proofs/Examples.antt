@@ -18,7 +18,8 @@ use Rattle.las_convert.specs.Converting.{converted_output, has_output, kept_in}
 -- a LAS 1.2 head of 227 bytes and format 0, with this number of points, all of them first returns
 abbrev head : (points : ℕ) → List ℕ
 head points =
-    codes "LASF" ++ replicate 20 0 ++ (1 ∷ 2 ∷ []) ++ replicate 68 0 ++ little_bytes 2 227 ++ little_bytes 4 227 ++ little_bytes 4 0
+    codes "LASF" ++ replicate 20 0 ++ (1 ∷ 2 ∷ []) ++ replicate 68 0 ++ little_bytes 2 227 ++ little_bytes 4
+    227 ++ little_bytes 4 0
     ++ (0 ∷ 20 ∷ 0 ∷ []) ++ little_bytes 4 points ++ little_bytes 4 points ++ replicate 112 0
 
 -- a record with this coordinate x, a first return, of this class
@@ -51,7 +52,8 @@ abbrev renamed : Steps
 renamed = record { keeps = Classes 2 ∷ []; changes = SetClass 31 ∷ [] }
 
 -- ---- what is kept
-ground_kept : kept_in (kept ground) file blocks ≡ record { records = point five 2 ∷ point most 2 ∷ []; raw_range = None }
+ground_kept : kept_in (kept ground) file blocks ≡ record
+    { records = point five 2 ∷ point most 2 ∷ []; raw_range = None }
 unfolding number_at
 ground_kept = refl
 
@@ -60,11 +62,12 @@ unfolding number_at
 renamed_kept = refl
 
 -- the second kept record leaves its range, and not the second of the file
-out_of_range : kept_in (kept ground_shifted) file blocks ≡ record { records = point (6 ∷ 0 ∷ 0 ∷ 0 ∷ []) 2 ∷ []; raw_range = Some 1 }
+out_of_range : kept_in (kept ground_shifted) file blocks ≡ record
+    { records = point (6 ∷ 0 ∷ 0 ∷ 0 ∷ []) 2 ∷ []; raw_range = Some 1 }
 unfolding number_at placed
 out_of_range = refl
 
--- ---- behind a sieve with a step of 10: the first lies in a cell, and the two others in another
+-- ---- thinned with a step of 10: the first lies in a cell, and the two others in another
 
 abbrev thinned : Pick → Settings
 thinned pick = record { step = Some 10; pick = pick; unique = false }
@@ -75,17 +78,20 @@ all = record { keeps = []; changes = [] }
 abbrev all_shifted : Steps
 all_shifted = record { keeps = []; changes = Translate (pos 1) (pos 0) (pos 0) ∷ [] }
 
-first_kept : kept_in (kept_behind all (thinned First)) file blocks ≡ record { records = point five 2 ∷ point most 1 ∷ []; raw_range = None }
+first_kept : kept_in (kept_behind all (thinned First)) file blocks ≡ record
+    { records = point five 2 ∷ point most 1 ∷ []; raw_range = None }
 unfolding number_at
 first_kept = refl
 
 -- the filters come first
-class_kept : kept_in (kept_behind ground (thinned First)) file blocks ≡ record { records = point five 2 ∷ point most 2 ∷ []; raw_range = None }
+class_kept : kept_in (kept_behind ground (thinned First)) file blocks ≡ record
+    { records = point five 2 ∷ point most 2 ∷ []; raw_range = None }
 unfolding number_at
 class_kept = refl
 
 -- the record of the second cell is refused, as it is the second that stays
-thinned_range : kept_in (kept_behind all_shifted (thinned Lowest)) file blocks ≡ record { records = point (6 ∷ 0 ∷ 0 ∷ 0 ∷ []) 2 ∷ []; raw_range = Some 1 }
+thinned_range : kept_in (kept_behind all_shifted (thinned Lowest)) file blocks ≡ record
+    { records = point (6 ∷ 0 ∷ 0 ∷ 0 ∷ []) 2 ∷ []; raw_range = Some 1 }
 unfolding number_at placed
 thinned_range = refl
 
@@ -101,7 +107,8 @@ refused_output = refl
 
 -- ---- the outputs
 -- of all that is kept, and of nothing: with their own counts
-ground_file : finished (converted_output [] file None) (point five 2 ++ point most 2) ≡ head 2 ++ point five 2 ++ point most 2
+ground_file : finished (converted_output [] file None) (point five 2 ++ point most 2) ≡ head 2 ++ point five 2 ++ point
+    most 2
 unfolding number_at short_bytes long_bytes
 ground_file = refl
 
@@ -110,6 +117,7 @@ unfolding number_at short_bytes long_bytes
 empty_file = refl
 
 -- after a refusal: with counts of zero
-stopped_file : stopped (converted_output [] file None) (point (6 ∷ 0 ∷ 0 ∷ 0 ∷ []) 2) ≡ head 0 ++ point (6 ∷ 0 ∷ 0 ∷ 0 ∷ []) 2
+stopped_file : stopped (converted_output [] file None) (point (6 ∷ 0 ∷ 0 ∷ 0 ∷ []) 2) ≡ head 0 ++ point
+    (6 ∷ 0 ∷ 0 ∷ 0 ∷ []) 2
 unfolding number_at short_bytes long_bytes
 stopped_file = refl

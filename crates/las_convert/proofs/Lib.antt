@@ -3,6 +3,7 @@ pub mod Passing
 pub mod Cuts
 pub mod Shown
 pub mod Going
+pub mod Unchanged
 pub mod Only
 pub mod Endings
 pub mod Converts

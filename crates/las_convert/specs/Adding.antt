@@ -13,18 +13,19 @@ use Rattle.las_thin.specs.Kept.{kept_behind, kept_where, passing}
 use Rattle.las_thin.specs.Placed.{Placed}
 use Rattle.las_thin.specs.Sieving.{Settings, Sieving, all_pass, picks_first, stays}
 use Rattle.las_thin.specs.Sieving as sieve
-use Rattle.laz_file.specs.Copying.{EndsAfter, LeavesPart, Takes}
+use Rattle.laz_file.specs.Copying.{EndsAfter, HoldFirst, LeavesPart, Takes}
 use Rattle.laz_chunk.specs.Layouts.{Format}
 use Rattle.laz_file.specs.Reading.{Lends, ReaderSeen}
-use Rattle.laz_file.specs.Writing.{WriterSeen}
+use Rattle.laz_file.specs.Outputs.{Output}
+use Rattle.laz_file.specs.Writing.{Stands, WriterSeen}
 use Rattle.laz_workers.specs.Rooms.{HandSeen}
 
 -- what is kept of a list of records
 abbrev pub Keeping : Type 0
 Keeping = List (List ℕ) → Kept
 
--- what a plan keeps behind a sieve that has looked at these records: with the first of a cell what stays of the records
--- themselves, and else those of them that stay of the records that were looked at
+-- what a plan keeps of records that are thinned after its filters, by a sieve that has looked at these records: with
+-- the first of a cell what stays of the records themselves, and else those of them that stay of the records looked at
 abbrev pub kept_by : Settings → (looked : List Placed) → Steps → Keeping
 kept_by settings looked plan records =
     if picks_first settings.pick then kept_behind plan settings records
@@ -47,12 +48,28 @@ AddsAlways plan records ones refused = (before : List (List ℕ)) → Adds (kept
 abbrev pub cut_all : (size : ℕ) → List ℕ → List (List ℕ)
 cut_all size bytes = cut_records size (length bytes / size) bytes
 
+-- Each record is written as it was read, and no tap sees it: there is no filter and no change, every record passes the
+-- sieve, and there is no tap.
+pub record ChangesNothing {Tap : Type 0} (plan : Steps) (settings : Settings) (taps : List Tap) : Type 0 where
+  pub no_filter : plan.keeps ≡ []
+  pub no_change : plan.changes ≡ []
+  pub all_pass_it : settings ≡ all_pass
+  pub no_tap : taps ≡ []
+
 -- A sieve has looked at these records, and was asked for those of some records that pass the filters; if all records
--- pass it, it need not be asked. So many records have passed by it.
+-- pass it, it need not be asked. `read` is the number of these records.
 pub record IsAfter (plan : Steps) (looked : List Placed) (before : List (List ℕ)) (sieving : Sieving) (read : ℕ)
     : Type 0 where
   pub read_is : length before ≡ read
   pub stands : (sieving.settings ≡ all_pass → ⊥) → sieve.StandsFor looked (passing plan before) sieving
+
+-- The sieve has come by some records, or by none yet.
+abbrev pub AfterSome : Steps → Sieving → (read : ℕ) → Type 0
+AfterSome plan sieving read =
+    (looked : List Placed) × (before : List (List ℕ)) × IsAfter plan looked before sieving read
+
+abbrev pub BeforeAll : Steps → Sieving → (read : ℕ) → Type 0
+BeforeAll plan sieving read = (looked : List Placed) × IsAfter plan looked [] sieving read
 
 -- What is kept by the sieve after any records that may have passed by it, and after none, is such.
 abbrev pub AfterAny : Steps → Sieving → (read : ℕ) → (Keeping → (before : List (List ℕ)) → Type 0) → Type 0
@@ -63,7 +80,7 @@ abbrev pub AfterNone : Steps → Sieving → (read : ℕ) → (Keeping → Type 
 AfterNone plan sieving read Is = (looked : List Placed)
     → IsAfter plan looked [] sieving read → Is (kept_by sieving.settings looked plan)
 
--- A reader and its crew lend these blocks, so many, each of whole records.
+-- A reader and its crew lend these blocks. `count` is their number, and each has whole records.
 pub record IsLent (reader : ReaderSeen) (crew : List (HandSeen Format)) (size count : ℕ) (blocks : List (List ℕ))
     : Type 0 where
   pub lends : Lends reader crew blocks
@@ -86,7 +103,7 @@ pub record Goes (keeping : Keeping) (before : List (List ℕ)) (size : ℕ) (rec
   pub takes : Takes old now w v (concat ones)
   pub shown : seen ≡ map (λ tap. shown_all tap (cut_all size (concat ones))) taps
 
--- A call failed while the writer took what is kept of the first of some records.
+-- A call failed while the writer took what is kept of some of these records, from the first on.
 pub record LeavesKept (keeping : Keeping) (before : List (List ℕ)) (size : ℕ) (records : List ℕ) (old now : Outside)
     (w : WriterSeen) : Type 0 where
   pub first : List (List ℕ)
@@ -102,3 +119,18 @@ abbrev pub EndsKeeping : (held : Option FileMap) → ReaderSeen → (n count : �
     → Type 0
 EndsKeeping held reader n count true end = end ≡ Some (RawRange count)
 EndsKeeping held reader n count false end = EndsAfter held reader n end
+
+-- Of the records that a reader has left, those of its first pieces went into the writer, up to their end, or up to the
+-- first bad chunk or the first record that is refused.
+abbrev pub GoesToEnd : Keeping → (old now : Outside) → ReaderSeen → (w v : WriterSeen) → (taps seen : List TapSeen)
+    → Option Refusal → Type 0
+GoesToEnd keeping old now reader w v taps seen end =
+    (n : ℕ) × (blocks : List (List ℕ)) × (count : ℕ) × (refused : Bool) × HoldFirst old.held reader n blocks
+    × Goes keeping [] w.size (concat blocks) old now w v taps seen count refused
+    × EndsKeeping old.held reader n count refused end
+
+-- A call failed while they went into the writer.
+abbrev pub LeavesKeeping : Keeping → (old now : Outside) → ReaderSeen → WriterSeen → Type 0
+LeavesKeeping keeping old now reader w =
+    (n : ℕ) × (blocks : List (List ℕ)) × HoldFirst old.held reader n blocks
+    × LeavesKept keeping [] w.size (concat blocks) old now w

@@ -1,5 +1,5 @@
--- What converting a range of a file's records gives: those that a plan keeps behind a sieve, changed, under the plain
--- head with counts of their own.
+-- What converting a range of a file's records gives: those that stay of it when it is filtered and thinned, changed,
+-- under the plain head with counts of their own.
 use Rattle.std.specs.Prelude.{◌≡◌, ℕ, Bool, true, false, List, [], ◌++◌, length, map, take, Option, Some}
 use Rattle.std.specs.Prelude.{None}
 use Rattle.std.specs.List.{concat}
@@ -78,8 +78,8 @@ ConvertsBy First = ConvertsOnce
 ConvertsBy Lowest = ConvertsTwice
 ConvertsBy Highest = ConvertsTwice
 
--- The records that a plan keeps, behind a sieve, of a range of an accepted file, one after another, and the refusal
--- that ends them, if there is one.
+-- The records that stay of a range of an accepted file when it is filtered and thinned, changed, one after another, and
+-- the refusal that ends them, if there is one.
 abbrev pub ConvertsTo : Steps → Settings → (file : List ℕ) → Range → (records : List ℕ) → Option Refusal → Type 0
 ConvertsTo plan settings = ConvertsBy settings.pick (kept_behind plan settings)
 
@@ -111,6 +111,45 @@ abbrev pub IsReady : (held : Option FileMap) → (name : List ℕ) → Steps →
 IsReady held name plan range sieving =
     (looked : List Placed) × sieve.StandsFor looked [] sieving
     × WhereKnown held name (λ file. AreLooked sieving.settings.pick plan file range looked)
+
+-- ---- what stands after a conversion
+
+-- what a conversion is asked for: a plan, how records are thinned, and a range
+pub record Wanted : Type 0 where
+  pub plan : Steps
+  pub settings : Settings
+  pub range : Range
+
+abbrev pub wanted_of : Steps → Settings → Range → Wanted
+wanted_of plan settings range = record { plan = plan; settings = settings; range = range }
+
+-- It gives these records of a file, and this refusal or none.
+abbrev pub Gives : Wanted → (file : List ℕ) → (records : List ℕ) → Option Refusal → Type 0
+Gives wanted file records refusal = ConvertsTo wanted.plan wanted.settings file wanted.range records refusal
+
+abbrev pub GivesOnly : Wanted → (file : List ℕ) → (records : List ℕ) → Option Refusal → Type 0
+GivesOnly wanted file records refusal = OnlyConverts wanted.plan wanted.settings file wanted.range records refusal
+
+-- The output has all records that it gives, and was finished.
+abbrev pub IsConverted : Wanted → (name : List ℕ) → (chunk : Option ℕ) → (file : List ℕ) → (was now : Option FileMap)
+    → Type 0
+IsConverted wanted name chunk file was now =
+    (records : List ℕ) × GivesOnly wanted file records None
+    × (now ≡ with_file was name (finished (converted_output name file chunk) records))
+
+-- The output has the records before a refusal for this cause, and was stopped.
+abbrev pub IsStopped : Wanted → (name : List ℕ) → (chunk : Option ℕ) → Refusal → (file : List ℕ)
+    → (was now : Option FileMap) → Type 0
+IsStopped wanted name chunk cause file was now =
+    (records : List ℕ) × GivesOnly wanted file records (Some cause)
+    × (now ≡ with_file was name (stopped (converted_output name file chunk) records))
+
+-- The output is unfinished, or not there, whatever is given of the file.
+abbrev pub IsLeftOf : Wanted → (name : List ℕ) → (chunk : Option ℕ) → (file : List ℕ) → (was now : Option FileMap)
+    → Type 0
+IsLeftOf wanted name chunk file was now =
+    (records : List ℕ) (refusal : Option Refusal) → Gives wanted file records refusal
+    → LeavesUnfinished (converted_output name file chunk) records was now
 
 -- ---- how converting goes
 

@@ -1,4 +1,4 @@
--- What converting the range of all places gives, and what it gives without a sieve.
+-- What converting the range of all places gives, and what it gives without thinning.
 use Rattle.std.specs.Prelude.{◌↔◌, ℕ, List, take, Option, Some, None}
 use Rattle.las_header.specs.declared.refusal.Refusal.{Refusal}
 use Rattle.las_header.specs.declared.refusal.Refusal.TheVariants.{BadChunk, RawRange}
@@ -46,13 +46,13 @@ ConvertsWholeFiles = (plan : Steps) (settings : Settings) (file records : List �
     → Keeps (kept_behind plan settings) file blocks records raw_range
     → ConvertsTo plan settings file (whole_range (head_of file)) records (raw_record raw_range)
 
--- With a sieve that lets every record pass, converting gives what it gives without a sieve.
+-- Without thinning, converting gives what the plan keeps.
 abbrev pub ConvertsAsThePlan : Type 0
 ConvertsAsThePlan = (plan : Steps) (file : List ℕ) (range : Range) (records : List ℕ) (refusal : Option Refusal)
     → ConvertsTo plan all_pass file range records refusal ↔ ConvertsOnce (kept plan) file range records refusal
 
--- Whatever the bytes of an accepted file are, what converting a range of its records gives is the only thing that it can
--- give.
+-- Whatever the bytes of an accepted file are, what converting a range of its records gives is the only thing that it
+-- can give.
 abbrev pub ConvertsInOneWay : Type 0
 ConvertsInOneWay = (plan : Steps) (settings : Settings) (file : List ℕ) (range : Range) (records : List ℕ)
     (refusal : Option Refusal) → IsAcceptedFile file → IsBytes file

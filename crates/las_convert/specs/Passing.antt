@@ -1,4 +1,4 @@
--- Which records pass the filters of a plan and then a sieve.
+-- Which records pass the filters of a plan and are then let pass by a sieve.
 use Rattle.std.specs.Prelude.{◌≡◌, ℕ, not, ◌&&◌, ◌||◌, if◌then◌else◌, List, [], ◌∷◌, ◌++◌, Bool, length, is_some}
 use Rattle.las_filter.specs.Filters.{keeps_all}
 use Rattle.las_filter.specs.Changes.{changed}
@@ -14,7 +14,7 @@ passes_after settings looked plan before point =
     let a = placed (length before) point in
     keeps_all plan.keeps point && stays settings (judged_by settings looked (passing plan before) a) a
 
--- What is kept behind a sieve is said one record at a time.
+-- What is kept is said one record at a time.
 abbrev pub KeepsOneMore : Type 0
 KeepsOneMore = (settings : Settings) (looked : List Placed) (plan : Steps) (before : List (List ℕ)) (point : List ℕ)
     → let now = kept_by settings looked plan before in

@@ -1,7 +1,6 @@
-//! Ranges of records, or whole files, through a plan, a sieve and taps.
-ghost use Rattle.std.specs.Prelude.{◌≡◌, ◌≢◌, ◌⊎◌, ◌+◌, ◌^◌, ◌≤◌, ◌<◌, [], ℕ, List, Option};
-ghost use Rattle.std.specs.Prelude.{All, IfErr, IfOk, None, Some, false, map};
-ghost use Rattle.std.specs.Prelude.{IsErrOf, OnOk};
+//! Ranges of records, or whole files, that are filtered, thinned and changed.
+ghost use Rattle.std.specs.Prelude.{◌≡◌, ◌≢◌, ◌⊎◌, ◌^◌, ◌≤◌, [], ℕ, List, All, IfErr, IfOk, IsErrOf, None, OnErr};
+ghost use Rattle.std.specs.Prelude.{OnOk, false, map};
 ghost use Rattle.std.specs.Option.{ForSome};
 ghost use Rattle.las_header.specs.declared.refusal.Refusal.{Refusal};
 ghost use Rattle.las_header.specs.declared.refusal.Refusal.TheVariants.{BadChunk, RawRange};
@@ -9,21 +8,21 @@ ghost use Rattle.las_header.specs.Fields.{head_of};
 ghost use Rattle.las_filter.specs.Changes.{HasClass};
 ghost use Rattle.las_filter.specs.Kept.{steps_of};
 ghost use Rattle.las_info.specs.Tallies.{count_at, shown_all};
-ghost use Rattle.las_thin.specs.Placed.{Placed};
 ghost use Rattle.las_thin.specs.Sieving.{IsFirst};
 ghost use Rattle.las_outside.specs.Faults.{Rose};
-ghost use Rattle.las_outside.specs.Files.{WhereKnown, with_file};
+ghost use Rattle.las_outside.specs.Files.{WhereKnown};
+ghost use Rattle.las_outside.specs.Frames.{IsCalm};
+ghost use Rattle.las_outside.specs.Limits.{AreWorkers, IsChunkSize};
 ghost use Rattle.las_outside.specs.Outside.{Later, Outside};
 ghost use Rattle.laz_file.specs.declared.fault.Fault.TheVariants.{Read, Refused, Write};
 ghost use Rattle.laz_file.specs.Copying.{CanTake, HasCause, LeavesUnfinished};
-ghost use Rattle.laz_file.specs.Asking.{bytes_left};
-ghost use Rattle.laz_file.specs.Outputs.{Output, finished, records_after, stopped};
+ghost use Rattle.laz_file.specs.Asking.{AsksAtMost, bytes_left};
+ghost use Rattle.laz_file.specs.Outputs.{Output, records_after};
 ghost use Rattle.laz_file.specs.Reading.{AgreesWithHead, IsCrewOf, IsFreshReader, StandsFor};
-ghost use Rattle.laz_file.specs.Writing.{SameFaults, Stands};
-ghost use Rattle.las_convert.specs.Adding.{AfterNone, HaveCounted, IsAfter};
-ghost use Rattle.las_convert.specs.Converting.{ConvertsTo, EndsConverting, FinishesKept, IsReady, OnlyConverts};
-ghost use Rattle.las_convert.specs.Converting.{converted_output};
-ghost use Rattle.las_convert.specs.Converting.{output_of};
+ghost use Rattle.laz_file.specs.Writing.{IsBegun, Stands};
+ghost use Rattle.las_convert.specs.Adding.{AfterNone, BeforeAll, HaveCounted};
+ghost use Rattle.las_convert.specs.Converting.{EndsConverting, FinishesKept, Gives, IsConverted, IsLeftOf, IsReady};
+ghost use Rattle.las_convert.specs.Converting.{IsStopped, output_of, wanted_of};
 
 use crate::copying::convert_records;
 use crate::passage::Passage;
@@ -31,7 +30,7 @@ use las_filter::Plan;
 use las_outside::{Files, Gate};
 use laz_chunk::Workspace;
 use laz_file::{Fault, PLAIN_BLOCK, Reader, Writer};
-use laz_workers::Crew;
+use laz_workers::{Crew, Machine};
 use std::alloc::Global;
 use std::thread::Threads;
 
@@ -45,15 +44,15 @@ fn begin<F: Files>(
     workers: u32,
 ) -> Result<Writer, Fault>
     requires whole { AgreesWithHead reader.now }
-    requires chunk { ForSome chunk (λ n. (256 ≤ n) × (n ≤ 250000)) }
-    requires workers { (1 ≤ workers) × (workers ≤ 8) }
+    requires chunk { ForSome chunk IsChunkSize }
+    requires workers { AreWorkers workers }
     ensures stands { IfOk result (λ writer. Stands (F.seen files.old) (F.seen files.new) writer
         (output_of reader.now output.now chunk) []) }
     ensures can { IfOk result (CanTake reader.now) }
-    ensures left { IfErr result (λ fault. (records : List ℕ) → LeavesUnfinished (output_of reader.now output.now chunk)
+    ensures left { OnErr result ((records : List ℕ) → LeavesUnfinished (output_of reader.now output.now chunk)
         records (F.seen files.old).held (F.seen files.new).held) }
     ensures cause { IfErr result (HasCause (F.seen files.old) (F.seen files.new)) }
-    ensures calm { OnOk result (SameFaults (F.seen files.old) (F.seen files.new)) }
+    ensures calm { OnOk result (IsCalm (F.seen files.old) (F.seen files.new)) }
     ensures later { Later (F.seen files.old) (F.seen files.new) }
     ensures asked { (F.seen files.new).asked ≡ (F.seen files.old).asked }
 {
@@ -79,10 +78,8 @@ fn block_bytes(reader: &Reader) -> usize {
 
 // Converts all records that a reader has left into a writer, and finishes the output. After a refusal it is stopped.
 fn fill<R: Threads + Sync, F: Files, G: Gate>(
-    rt: &R,
-    alloc: Global,
+    machine: Machine<'_, R, G>,
     files: &mut F,
-    gate: &G,
     plan: &Plan,
     reader: &mut Reader,
     crew: &mut Crew<Workspace>,
@@ -90,59 +87,49 @@ fn fill<R: Threads + Sync, F: Files, G: Gate>(
     writer: Writer,
 ) -> Result<(), Fault>
     requires classes { All HasClass plan.now.changes.items }
-    requires after { (looked : List Placed) × IsAfter (steps_of plan.now) looked [] passage.old.sieve passage.old.read }
+    requires after { BeforeAll (steps_of plan.now) passage.old.sieve passage.old.read }
     requires counted { HaveCounted 0 (map (λ tap. tap_seen tap) passage.old.taps.items) }
     requires open { reader.old.failed ≡ false }
     requires crew { IsCrewOf reader.old crew.old }
     requires names { reader.old.name ≢ writer.name }
     requires reads { WhereKnown (F.seen files.old).held reader.old.name (StandsFor reader.old) }
     requires room { CanTake reader.old writer }
-    requires stands { (before : Outside) × (out : Output) × (bytes : List ℕ)
-        × Stands before (F.seen files.old) writer out bytes }
-    ensures finished { AfterNone (steps_of plan.now) passage.old.sieve passage.old.read (λ keeping. (before : Outside)
+    requires stands { IsBegun (F.seen files.old) writer }
+    ensures finished { let taps = map (λ tap. tap_seen tap) passage.old.taps.items in
+        let seen = map (λ tap. tap_seen tap) passage.new.taps.items in
+        AfterNone (steps_of plan.now) passage.old.sieve passage.old.read (λ keeping. (before : Outside)
         (out : Output) (bytes : List ℕ) → Stands before (F.seen files.old) writer out bytes
         → OnOk result (FinishesKept (F.seen files.old).held before.held (F.seen files.new).held keeping reader.old out
-        bytes (map (λ tap. tap_seen tap) passage.old.taps.items) (map (λ tap. tap_seen tap) passage.new.taps.items))) }
+        bytes taps seen)) }
     ensures ends { AfterNone (steps_of plan.now) passage.old.sieve passage.old.read (λ keeping. (before : Outside)
         (out : Output) (bytes : List ℕ) → Stands before (F.seen files.old) writer out bytes
         → IfErr result (EndsConverting (F.seen files.old).held before.held (F.seen files.old) (F.seen files.new)
         keeping reader.old out bytes)) }
-    ensures reads_calm { OnOk result ((F.seen files.new).read_faults ≡ (F.seen files.old).read_faults) }
-    ensures writes_calm { OnOk result ((F.seen files.new).write_faults ≡ (F.seen files.old).write_faults) }
+    ensures calm { OnOk result (IsCalm (F.seen files.old) (F.seen files.new)) }
     ensures later { Later (F.seen files.old) (F.seen files.new) }
-    ensures asked { (F.seen files.new).asked ≤ (F.seen files.old).asked + bytes_left reader.old }
+    ensures asked { AsksAtMost (bytes_left reader.old) (F.seen files.old) (F.seen files.new) }
 {
     let mut writer = writer;
-    match convert_records(
-        rt,
-        alloc,
-        files,
-        gate,
-        plan,
-        reader,
-        crew,
-        passage,
-        &mut writer,
-    )? {
+    match convert_records(machine, files, plan, reader, crew, passage, &mut writer)? {
         None => {
-            writer.finish(rt, alloc, files, gate)?;
+            writer.finish(machine.rt, machine.alloc, files, machine.gate)?;
             Ok(())
         }
         Some(cause) => {
-            writer.stop(rt, alloc, files, gate)?;
+            writer.stop(machine.rt, machine.alloc, files, machine.gate)?;
             Err(Fault::Refused(cause))
         }
     }
 }
 
 /// Converts the records of a fresh reader: those of the range that it has sought, or all. The output, another name than
-/// the input's, has those that the plan keeps and that pass the passage's sieve, changed, under the input's plain head
-/// with their own counts. It is packed in chunks of `chunk` points, 256 to 250,000, or plain. `workers`, 1 to 8, unpack
-/// and pack side by side, and what is written does not depend on them. The passage's taps see each record as it is
-/// written, in order; no tap has counted more than 2^63 in a bin before.
+/// the input's, has those that the plan keeps and the passage's sieve lets pass, changed, under the input's plain head
+/// with their own counts. It is packed in chunks of `chunk` points, 256 to 250,000, or plain. The machine's workers
+/// unpack and pack side by side, and what is written does not depend on them. The passage's taps see each record as it
+/// is written, in order; no tap has counted more than 2^63 in a bin before.
 ///
-/// A sieve of the lowest or the highest has looked at all records of the range that pass the filters, as
-/// [`look_through`](crate::look_through) has it do.
+/// If the lowest or the highest record of a cell is to stay, the sieve has looked at all records of the range that pass
+/// the filters, as [`look_through`](crate::look_through) has it do.
 ///
 /// The answer is `Refused` with `BadChunk` if a chunk that meets the range holds no records of its count, or with
 /// `RawRange` if a record that is kept of the range, counted from 0, has a coordinate that leaves its range: the first
@@ -150,21 +137,18 @@ fn fill<R: Threads + Sync, F: Files, G: Gate>(
 /// output in full chunks. The answer is `Read` or `Write` if such a call failed; then the files are as before, or the
 /// output is a prefix of its draft, or its draft after a part of its patches.
 pub fn convert<R: Threads + Sync, F: Files, G: Gate>(
-    rt: &R,
-    alloc: Global,
+    machine: Machine<'_, R, G>,
     files: &mut F,
-    gate: &G,
     reader: Reader,
     output: &str,
     plan: &Plan,
     passage: &mut Passage,
     chunk: Option<u32>,
-    workers: u32,
 ) -> Result<(), Fault>
     requires fresh { IsFreshReader reader.name reader }
-    requires chunk { ForSome chunk (λ n. (256 ≤ n) × (n ≤ 250000)) }
+    requires chunk { ForSome chunk IsChunkSize }
     requires classes { All HasClass plan.now.changes.items }
-    requires workers { (1 ≤ workers) × (workers ≤ 8) }
+    requires workers { AreWorkers machine.workers }
     requires names { output.now ≢ reader.name }
     requires stands { WhereKnown (F.seen files.old).held reader.name (StandsFor reader) }
     requires whole { AgreesWithHead reader }
@@ -172,48 +156,46 @@ pub fn convert<R: Threads + Sync, F: Files, G: Gate>(
     requires ready { IsReady (F.seen files.old).held reader.name (steps_of plan.now) reader.range passage.old.sieve }
     requires counted { All (λ tap. (bin : ℕ) → count_at (tap_seen tap).tally bin ≤ 2 ^ 63) passage.old.taps.items }
 
-    ensures converted { OnOk result (WhereKnown (F.seen files.old).held reader.name (λ file.
-        (records : List ℕ)
-        × OnlyConverts (steps_of plan.now) passage.old.sieve.settings file reader.range records None
-        × ((F.seen files.new).held ≡ with_file (F.seen files.old).held output.now
-        (finished (converted_output output.now file chunk) records)))) }
-    ensures tallied { OnOk result (WhereKnown (F.seen files.old).held reader.name (λ file. (records : List ℕ)
-        → ConvertsTo (steps_of plan.now) passage.old.sieve.settings file reader.range records None
-        → map (λ tap. tap_seen tap) passage.new.taps.items
+    ensures converted { let wanted = wanted_of (steps_of plan.now) passage.old.sieve.settings reader.range in
+        OnOk result (WhereKnown (F.seen files.old).held reader.name (λ file.
+        IsConverted wanted output.now chunk file (F.seen files.old).held (F.seen files.new).held)) }
+    ensures tallied { let wanted = wanted_of (steps_of plan.now) passage.old.sieve.settings reader.range in
+        OnOk result (WhereKnown (F.seen files.old).held reader.name (λ file. (records : List ℕ)
+        → Gives wanted file records None → map (λ tap. tap_seen tap) passage.new.taps.items
         ≡ map (λ tap. shown_all (tap_seen tap) (records_after (head_of file) records)) passage.old.taps.items)) }
-    ensures refused { (cause : Refusal) → IsErrOf result (Refused cause)
-        → WhereKnown (F.seen files.old).held reader.name (λ file. (records : List ℕ)
-        × OnlyConverts (steps_of plan.now) passage.old.sieve.settings file reader.range records (Some cause)
-        × ((F.seen files.new).held ≡ with_file (F.seen files.old).held output.now
-        (stopped (converted_output output.now file chunk) records))) }
+    ensures refused { let wanted = wanted_of (steps_of plan.now) passage.old.sieve.settings reader.range in
+        (cause : Refusal) → IsErrOf result (Refused cause)
+        → WhereKnown (F.seen files.old).held reader.name (λ file.
+        IsStopped wanted output.now chunk cause file (F.seen files.old).held (F.seen files.new).held) }
     ensures bad { (cause : Refusal) → IsErrOf result (Refused cause)
         → ((i : ℕ) × (cause ≡ BadChunk i)) ⊎ ((k : ℕ) × (cause ≡ RawRange k)) }
     ensures looked { (i : ℕ) → IsErrOf result (Refused (BadChunk i))
         → WhereKnown (F.seen files.old).held reader.name (λ file. IsFirst passage.old.sieve.settings.pick) }
-    ensures left { IfErr result (λ fault. WhereKnown (F.seen files.old).held reader.name (λ file.
-        (records : List ℕ) (refusal : Option Refusal)
-        → ConvertsTo (steps_of plan.now) passage.old.sieve.settings file reader.range records refusal
-        → LeavesUnfinished (converted_output output.now file chunk) records (F.seen files.old).held
-        (F.seen files.new).held)) }
+    ensures left { let wanted = wanted_of (steps_of plan.now) passage.old.sieve.settings reader.range in
+        OnErr result (WhereKnown (F.seen files.old).held reader.name (λ file.
+        IsLeftOf wanted output.now chunk file (F.seen files.old).held (F.seen files.new).held)) }
     ensures read { IsErrOf result Read → Rose (F.seen files.old).read_faults (F.seen files.new).read_faults }
     ensures write { IsErrOf result Write → Rose (F.seen files.old).write_faults (F.seen files.new).write_faults }
-    ensures reads_calm { OnOk result ((F.seen files.new).read_faults ≡ (F.seen files.old).read_faults) }
-    ensures writes_calm { OnOk result ((F.seen files.new).write_faults ≡ (F.seen files.old).write_faults) }
+    ensures calm { OnOk result (IsCalm (F.seen files.old) (F.seen files.new)) }
     ensures later { Later (F.seen files.old) (F.seen files.new) }
-
     // No more is asked for than the reader has left, however the call ends.
-    ensures asked { (F.seen files.new).asked ≤ (F.seen files.old).asked + bytes_left reader }
+    ensures asked { AsksAtMost (bytes_left reader) (F.seen files.old) (F.seen files.new) }
 {
     let mut reader = reader;
     passage.grow(block_bytes(&reader))?;
-    let hands = reader.hands(workers);
-    let mut crew = reader.crew(alloc, hands)?;
-    let writer = begin(alloc, files, &reader, output, chunk, workers)?;
-    fill(
-        rt,
-        alloc,
+    let hands = reader.hands(machine.workers);
+    let mut crew = reader.crew(machine.alloc, hands)?;
+    let writer = begin(
+        machine.alloc,
         files,
-        gate,
+        &reader,
+        output,
+        chunk,
+        machine.workers,
+    )?;
+    fill(
+        machine,
+        files,
         plan,
         &mut reader,
         &mut crew,

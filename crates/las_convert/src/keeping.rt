@@ -7,7 +7,8 @@ ghost use Rattle.las_filter.specs.Kept.{steps_of};
 ghost use Rattle.las_thin.specs.Kept.{passing};
 ghost use Rattle.las_thin.specs.Placed.{Placed};
 ghost use Rattle.las_thin.specs.Sieving.{StandsFor};
-ghost use Rattle.las_convert.specs.Adding.{Adds, AddsAlways, AfterAny, IsAfter, cut_all, kept_by};
+ghost use Rattle.las_convert.specs.Adding.{Adds, AddsAlways, AfterAny, AfterSome, IsAfter, cut_all};
+ghost use Rattle.las_convert.specs.Adding.{kept_by};
 ghost use Rattle.las_convert.specs.Passing.{passes_after};
 
 use las_filter::{Plan, RawRange};
@@ -111,8 +112,8 @@ fn passes(plan: &Plan, sieve: &mut Sieve, place: u64, point: &[u8]) -> Result<bo
     Ok(false)
 }
 
-// Copies the records of a block that a plan keeps and that pass a sieve to the front of a buffer, changed, up to the
-// first whose change is refused. So many records have passed by the sieve before. `Err` means out of memory.
+// Copies the records of a block that a plan keeps and a sieve lets pass to the front of a buffer, changed, up to the
+// first whose change is refused. `read` is the number of the records before them. `Err` means out of memory.
 fn keep_sifted(
     plan: &Plan,
     sieve: &mut Sieve,
@@ -166,9 +167,9 @@ fn keep_sifted(
     })
 }
 
-/// Copies the records of a block that a plan keeps and that pass a sieve to the front of a buffer, changed, up to the
-/// first whose change is refused. So many records have passed by the sieve before. `Err` means out of memory; a sieve
-/// that every record passes is not asked, and takes none.
+/// Copies the records of a block that a plan keeps and a sieve lets pass to the front of a buffer, changed, up to the
+/// first whose change is refused. `read` is the number of the records before them. `Err` means out of memory; a sieve
+/// that lets every record pass is not asked, and takes none.
 pub(crate) fn keep_records(
     plan: &Plan,
     sieve: &mut Sieve,
@@ -182,8 +183,7 @@ pub(crate) fn keep_records(
     requires room { length block.now ≤ length buffer.old }
     requires classes { All HasClass plan.now.changes.items }
     requires few { read + length block.now / size < 2 ^ 32 }
-    requires after { (looked : List Placed) × (before : List (List ℕ))
-        × IsAfter (steps_of plan.now) looked before sieve.old read }
+    requires after { AfterSome (steps_of plan.now) sieve.old read }
     ensures settings { sieve.new.settings ≡ sieve.old.settings }
     ensures within { IfOk result (λ part. part.length ≤ length block.now) }
     ensures kept { AfterAny (steps_of plan.now) sieve.old read (λ keeping before. IfOk result (λ part.

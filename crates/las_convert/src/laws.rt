@@ -6,7 +6,7 @@ use laz_file::{no_file_is_without_an_answer, records_have_one_answer};
 
 /// To convert the range of all places is to convert the records of the file: all of them, or those before its first bad
 /// chunk, or those before the first that is kept and has a coordinate out of range. If the lowest or the highest of a
-/// cell stays, what is kept is that of all records of the file. A sieve that lets every record pass changes nothing.
+/// cell stays, what is kept is that of all records of the file. Without thinning, it is what the plan keeps.
 pub fn converting_all_places()
     ensures records { ConvertsAllRecords }
     ensures first { ConvertsFirstRecords }
@@ -14,8 +14,8 @@ pub fn converting_all_places()
     ensures plan { ConvertsAsThePlan }
 {}
 
-/// Whatever the bytes of an accepted file are, what converting a range of its records gives is the only thing that it can
-/// give: one list of records, and one refusal or none.
+/// Whatever the bytes of an accepted file are, what converting a range of its records gives is the only thing that it
+/// can give: one list of records, and one refusal or none.
 pub fn converting_ends_in_one_way()
     ensures { ConvertsInOneWay }
 {

@@ -1,7 +1,8 @@
-//! What `las2las` does to a file, or to a range of its records: those that a plan keeps and that pass a sieve, changed,
-//! go into an output under the file's plain head, with counts of their own, plain or packed. Taps see what is written.
+//! What `las2las` does to a file, or to a range of its records: they are filtered, thinned and changed, and go into an
+//! output under the file's plain head, with counts of their own, plain or packed. Taps see what is written.
 #![tactic(auto)]
 
+mod batch;
 mod copying;
 mod files;
 mod keeping;

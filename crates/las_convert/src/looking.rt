@@ -1,4 +1,4 @@
-//! The first of two readings: a sieve looks at the records of a range.
+//! The first of two readings: all records of a range are looked at, to find the lowest or the highest of each cell.
 ghost use Rattle.std.specs.Prelude.{◌≡◌, ◌%◌, ◌+◌, ◌/◌, ◌^◌, ◌≤◌, ◌<◌, ◌++◌, ◌∷◌, [], ℕ, List, length};
 ghost use Rattle.std.specs.Prelude.{IfErr, IfOk, IsErrOf, OnOk, Some, false};
 ghost use Rattle.std.specs.List.{concat};
@@ -7,7 +7,8 @@ ghost use Rattle.las_header.specs.declared.refusal.Refusal.TheVariants.{BadChunk
 ghost use Rattle.las_filter.specs.Kept.{steps_of};
 ghost use Rattle.las_outside.specs.Faults.{Rose};
 ghost use Rattle.las_outside.specs.Files.{WhereKnown};
-ghost use Rattle.las_outside.specs.Outside.{Later};
+ghost use Rattle.las_outside.specs.Frames.{IsCalm, Reads};
+ghost use Rattle.las_outside.specs.Limits.{AreWorkers};
 ghost use Rattle.las_thin.specs.Kept.{passing};
 ghost use Rattle.las_thin.specs.Sieving.{IsFirst};
 ghost use Rattle.las_thin.specs.Sieving as sifting;
@@ -20,14 +21,15 @@ ghost use Rattle.laz_file.specs.Reading.{records_in};
 ghost use Rattle.las_convert.specs.Adding.{IsLent, cut_all};
 ghost use Rattle.las_convert.specs.Converting.{IsReady, OnlyConverts};
 
+use crate::batch::Batch;
 use las_filter::Plan;
 use las_header::POINT_RECORD;
 use las_outside::{Files, Gate};
 use las_thin::Sieve;
 use laz_chunk::Workspace;
 use laz_file::{Fault, Reader};
-use laz_workers::Crew;
-use std::alloc::{AllocError, Global};
+use laz_workers::{Crew, Machine};
+use std::alloc::AllocError;
 use std::thread::Threads;
 
 // A sieve looks at a record, if it passes the filters of a plan. Its place is its number among the records, those
@@ -48,8 +50,8 @@ fn look_at(plan: &Plan, sieve: &mut Sieve, place: u64, point: &[u8]) -> Result<(
     Ok(())
 }
 
-// A sieve looks at the records of a block that pass the filters of a plan. So many records came before. `Err` means out
-// of memory.
+// A sieve looks at the records of a block that pass the filters of a plan. `read` is the number of the records before
+// them. `Err` means out of memory.
 fn look_block(
     plan: &Plan,
     sieve: &mut Sieve,
@@ -80,33 +82,32 @@ fn look_block(
     Ok(())
 }
 
-// A sieve looks at the records of a batch, which a reader and its crew lend, and that pass the filters of a plan. So
-// many records came before; the answer is how many have come with them.
+// A sieve looks at the records of a batch that pass the filters of a plan. `read` is the number of the records before
+// them, and the answer is that number with them.
 fn look_batch(
     plan: &Plan,
     sieve: &mut Sieve,
     read: u64,
     size: usize,
-    reader: &Reader,
-    crew: &Crew<Workspace>,
-    count: u32,
+    batch: &Batch<'_>,
 ) -> Result<u64, AllocError>
     requires size { POINT_RECORD ≤ size }
     requires pick { ¬ IsFirst sieve.old.settings.pick }
-    requires lent { (blocks : List (List ℕ)) × IsLent reader.now crew.now size count blocks
+    requires lent { (blocks : List (List ℕ))
+        × IsLent batch.now.reader.now batch.now.crew.now size batch.now.count blocks
         × (read + length (concat blocks) / size < 2 ^ 32) }
     requires looked { (before : List (List ℕ)) × (length before ≡ read)
         × sifting.StandsFor (passing (steps_of plan.now) before) [] sieve.old }
     ensures settings { sieve.new.settings ≡ sieve.old.settings }
     ensures stands { (before blocks : List (List ℕ)) → length before ≡ read
         → sifting.StandsFor (passing (steps_of plan.now) before) [] sieve.old
-        → IsLent reader.now crew.now size count blocks → IfOk result (λ now.
+        → IsLent batch.now.reader.now batch.now.crew.now size batch.now.count blocks → IfOk result (λ now.
         (length (before ++ cut_all size (concat blocks)) ≡ now) × sifting.StandsFor
         (passing (steps_of plan.now) (before ++ cut_all size (concat blocks))) [] sieve.new) }
 {
     let mut now = read;
-    for i in 0..count {
-        let block = reader.block(crew, i);
+    for i in 0..batch.count {
+        let block = batch.reader.block(batch.crew, i);
         look_block(plan, sieve, now, size, block)?;
         now += (block.len() / size) as u64;
     }
@@ -115,10 +116,8 @@ fn look_batch(
 
 // A sieve looks at all records that a reader has left and that pass the filters of a plan, batch by batch.
 fn look_records<R: Threads + Sync, F: Files, G: Gate>(
-    rt: &R,
-    alloc: Global,
+    machine: Machine<'_, R, G>,
     files: &mut F,
-    gate: &G,
     plan: &Plan,
     sieve: &mut Sieve,
     reader: &mut Reader,
@@ -139,42 +138,41 @@ fn look_records<R: Threads + Sync, F: Files, G: Gate>(
         × EndsAfter (F.seen files.old).held reader.old n (Some cause) }
     ensures settings { sieve.new.settings ≡ sieve.old.settings }
     ensures cause { IfErr result (EndsReading ⊥ (F.seen files.old) (F.seen files.new)) }
-    ensures held { (F.seen files.new).held ≡ (F.seen files.old).held }
-    ensures writes { (F.seen files.new).write_faults ≡ (F.seen files.old).write_faults }
-    ensures reads_calm { OnOk result ((F.seen files.new).read_faults ≡ (F.seen files.old).read_faults) }
-    ensures later { Later (F.seen files.old) (F.seen files.new) }
-    ensures asked { (F.seen files.new).asked ≤ (F.seen files.old).asked + bytes_left reader.old }
+    ensures reads { Reads (bytes_left reader.old) (F.seen files.old) (F.seen files.new) }
+    ensures calm { OnOk result (IsCalm (F.seen files.old) (F.seen files.new)) }
 {
     let size = usize::from(reader.head().record_length());
     let mut read = 0;
     'batches: loop {
-        let count = reader.next_batch(rt, alloc, files, gate, crew)?;
+        let count = reader.next_batch(machine.rt, machine.alloc, files, machine.gate, crew)?;
         if count == 0 {
             return Ok(());
         }
-        read = look_batch(plan, sieve, read, size, reader, crew, count)?;
+        let batch = Batch {
+            reader,
+            crew,
+            count,
+        };
+        read = look_batch(plan, sieve, read, size, &batch)?;
     }
 }
 
 /// A sieve of the lowest or the highest, which has looked at none yet, looks at those records of a fresh reader that
-/// pass the filters of a plan: of the range that it has sought, or of all. `workers`, 1 to 8, unpack side by side. Then
-/// the file is opened again, and [`convert`](crate::convert) asks the sieve for the same records.
+/// pass the filters of a plan: of the range that it has sought, or of all. The machine's workers unpack side by side.
+/// Then the file is opened again, and [`convert`](crate::convert) asks the sieve for the same records.
 ///
 /// The answer is `Refused` with `BadChunk` if a chunk that meets the range holds no records of its count, the first of
 /// them. It is `Read` if a read failed, and never `Write`. No file is changed.
 pub fn look_through<R: Threads + Sync, F: Files, G: Gate>(
-    rt: &R,
-    alloc: Global,
+    machine: Machine<'_, R, G>,
     files: &mut F,
-    gate: &G,
     plan: &Plan,
     sieve: &mut Sieve,
     reader: Reader,
-    workers: u32,
 ) -> Result<(), Fault>
     requires fresh { IsFreshReader reader.name reader }
     requires whole { AgreesWithHead reader }
-    requires workers { (1 ≤ workers) × (workers ≤ 8) }
+    requires workers { AreWorkers machine.workers }
     requires pick { ¬ IsFirst sieve.old.settings.pick }
     requires unlooked { sifting.StandsFor [] [] sieve.old }
     requires stands { WhereKnown (F.seen files.old).held reader.name (StandsFor reader) }
@@ -188,17 +186,13 @@ pub fn look_through<R: Threads + Sync, F: Files, G: Gate>(
     ensures settings { sieve.new.settings ≡ sieve.old.settings }
     ensures read { IsErrOf result Read → Rose (F.seen files.old).read_faults (F.seen files.new).read_faults }
     ensures never { IsErrOf result Write → ⊥ }
-    ensures held { (F.seen files.new).held ≡ (F.seen files.old).held }
-    ensures writes { (F.seen files.new).write_faults ≡ (F.seen files.old).write_faults }
-    ensures reads_calm { OnOk result ((F.seen files.new).read_faults ≡ (F.seen files.old).read_faults) }
-    ensures later { Later (F.seen files.old) (F.seen files.new) }
-
     // No more is asked for than the reader has left, however the call ends.
-    ensures asked { (F.seen files.new).asked ≤ (F.seen files.old).asked + bytes_left reader }
+    ensures reads { Reads (bytes_left reader) (F.seen files.old) (F.seen files.new) }
+    ensures calm { OnOk result (IsCalm (F.seen files.old) (F.seen files.new)) }
 {
     let mut reader = reader;
     let _ = reader.head().points();
-    let hands = reader.hands(workers);
-    let mut crew = reader.crew(alloc, hands)?;
-    look_records(rt, alloc, files, gate, plan, sieve, &mut reader, &mut crew)
+    let hands = reader.hands(machine.workers);
+    let mut crew = reader.crew(machine.alloc, hands)?;
+    look_records(machine, files, plan, sieve, &mut reader, &mut crew)
 }

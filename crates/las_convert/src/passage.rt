@@ -1,12 +1,12 @@
 //! What records pass on their way to an output.
 ghost use Rattle.std.specs.Prelude.{◌≡◌, ◌+◌, ◌*◌, ◌/◌, ◌%◌, ◌^◌, ◌≤◌, ◌<◌, ◌++◌, ℕ, List, length, take, map};
-ghost use Rattle.std.specs.Prelude.{All, IfOk, OnOk, false, vec_len};
+ghost use Rattle.std.specs.Prelude.{All, IfOk, OnOk, false, true, vec_len};
 ghost use Rattle.std.specs.List.{concat};
 ghost use Rattle.las_filter.specs.Changes.{HasClass};
 ghost use Rattle.las_filter.specs.Kept.{steps_of};
 ghost use Rattle.las_info.specs.Tallies.{count_at, shown_all};
 ghost use Rattle.las_thin.specs.Placed.{Placed};
-ghost use Rattle.las_convert.specs.Adding.{Adds, AfterAny, IsAfter, cut_all};
+ghost use Rattle.las_convert.specs.Adding.{Adds, AfterAny, AfterSome, ChangesNothing, IsAfter, cut_all};
 
 use crate::keeping::{Part, keep_records};
 use las_filter::Plan;
@@ -49,6 +49,17 @@ impl Passage {
         &self.taps
     }
 
+    // Whether each record goes on as it was read: the plan has no filter and no change, every record passes the sieve,
+    // and there is no tap to see it.
+    pub(crate) fn changes_nothing(&self, plan: &Plan) -> bool
+        ensures { result ≡ true → ChangesNothing (steps_of plan.now) self.now.sieve.settings self.now.taps.items }
+    {
+        plan.keeps.is_empty()
+            && plan.changes.is_empty()
+            && self.sieve.passes_all()
+            && self.taps.is_empty()
+    }
+
     // Makes the buffer at least as long as this.
     pub(crate) fn grow(&mut self, size: usize) -> Result<(), AllocError>
         ensures long { OnOk result (size ≤ vec_len self.new.buffer) }
@@ -62,7 +73,7 @@ impl Passage {
         Ok(())
     }
 
-    // Keeps in the buffer, changed, the records of a block that a plan keeps and that pass the sieve, up to the first
+    // Keeps in the buffer, changed, the records of a block that a plan keeps and the sieve lets pass, up to the first
     // whose change is refused.
     pub(crate) fn keep(
         &mut self,
@@ -74,8 +85,7 @@ impl Passage {
         requires whole { length block.now % size ≡ 0 }
         requires classes { All HasClass plan.now.changes.items }
         requires few { self.old.read + length block.now / size < 2 ^ 32 }
-        requires after { (looked : List Placed) × (before : List (List ℕ))
-            × IsAfter (steps_of plan.now) looked before self.old.sieve self.old.read }
+        requires after { AfterSome (steps_of plan.now) self.old.sieve self.old.read }
         ensures settings { self.new.sieve.settings ≡ self.old.sieve.settings }
         ensures taps { self.new.taps.items ≡ self.old.taps.items }
         ensures within { IfOk result (λ part. part.length ≤ length block.now) }

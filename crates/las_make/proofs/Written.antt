@@ -1,5 +1,7 @@
 -- Records that are pushed block by block, and the plain file that they give.
-use Rattle.std.proofs.Common.{◌≡◌, inr, ℕ, zero, suc, ◌+◌, ◌*◌, ◌-◌, ◌%◌, ◌≤◌, min, false, List, [], ◌∷◌, ◌++◌, length, take, drop, Result, Ok, Err, IfErr, IfOk, OnOk, sym, ◌∙◌, ap, subst, arith, length-append, append_assoc}
+use Rattle.std.proofs.Common.{◌≡◌, inr, ℕ, zero, suc, ◌+◌, ◌*◌, ◌-◌, ◌%◌, ◌≤◌, min, false, List, [], ◌∷◌, ◌++◌, length}
+use Rattle.std.proofs.Common.{take, drop, Result, Ok, Err, IfErr, IfOk, OnErr, OnOk, sym, ◌∙◌, ap, subst, arith}
+use Rattle.std.proofs.Common.{length-append, append_assoc}
 use Rattle.std.specs.List.{concat}
 use Rattle.std.proofs.Math.Nat.{mul-le-mul_left, mul-mod_right}
 use Rattle.std.proofs.lemmas.List.{length-take-le, take_at}
@@ -28,7 +30,8 @@ use Rattle.las_make.proofs.Blank.{blank-laszip, blank-plain, blank-record_length
 use Rattle.las_make.proofs.Bytes.{all_length}
 
 -- the first records, and those after them
-records_split : (s : Settings) (from n m : ℕ) → records_from s from (n + m) ≡ records_from s from n ++ records_from s (from + n) m
+records_split : (s : Settings) (from n m : ℕ) → records_from s from (n + m) ≡ records_from s from n ++ records_from s
+    (from + n) m
 records_split s from zero m =
     let none : 0 + m ≡ m = omega arith in
     let here : from ≡ from + 0 = omega arith in
@@ -36,22 +39,30 @@ records_split s from zero m =
 records_split s from (suc n) m =
     let more : suc n + m ≡ suc (n + m) = omega arith in
     let there : from + 1 + n ≡ from + suc n = omega arith in
-    ap (records_from s from) more ∙ ap (λ (rs : List (List ℕ)). made_record s from ∷ rs) (records_split s (from + 1) n m)
+    ap (records_from s from) more ∙ ap (λ (rs : List (List ℕ)). made_record s from ∷ rs)
+    (records_split s (from + 1) n m)
     ∙ ap (λ (k : ℕ). made_record s from ∷ (records_from s (from + 1) n ++ records_from s k m)) there
 
-pub joined : (s : Settings) (from n m : ℕ) → concat (records_from s from n) ++ concat (records_from s (from + n) m) ≡ concat (records_from s from (n + m))
-joined s from n m = sym (concat-append (records_from s from n) (records_from s (from + n) m)) ∙ ap concat (sym (records_split s from n m))
+pub joined : (s : Settings) (from n m : ℕ) → concat (records_from s from n) ++ concat
+    (records_from s (from + n) m) ≡ concat (records_from s from (n + m))
+joined s from n m = sym (concat-append (records_from s from n) (records_from s (from + n) m))
+    ∙ ap concat (sym (records_split s from n m))
 
 -- a block more
-pub block_joined : (s : Settings) (from count : ℕ) (block : List ℕ) → block ≡ concat (records_from s from count) → concat (records_from s 0 from) ++ block ≡ concat (records_from s 0 (from + count))
+pub block_joined : (s : Settings) (from count : ℕ) (block : List ℕ) → block ≡ concat (records_from s from count)
+    → concat (records_from s 0 from) ++ block ≡ concat (records_from s 0 (from + count))
 block_joined s from count block is =
     let first : from ≡ 0 + from = omega arith in
-    ap (λ (b : List ℕ). concat (records_from s 0 from) ++ b) (is ∙ ap (λ (k : ℕ). concat (records_from s k count)) first) ∙ joined s 0 from count
+    ap (λ (b : List ℕ). concat (records_from s 0 from) ++ b)
+    (is ∙ ap (λ (k : ℕ). concat (records_from s k count)) first) ∙ joined s 0 from count
 
 -- ---- what is left of the output
 
-module _ (s : Settings) (from count : ℕ) (within : from + count ≤ s.points) (before old : Outside) (w : WriterSeen) (out : Output) (stands : Stands before old w out (concat (records_from s 0 from))) where
-  pub block_left : (new : Outside) (fault : Fault) (n : ℕ) (block : List ℕ) → block ≡ concat (records_from s from count) → Stops fault (with_bytes before out.name (take n (stopped out (concat (records_from s 0 from) ++ block)))) new → LeavesUnfinished out (concat (made_records s)) before.held new.held
+module _ (s : Settings) (from count : ℕ) (within : from + count ≤ s.points) (before old : Outside) (w : WriterSeen)
+    (out : Output) (stands : Stands before old w out (concat (records_from s 0 from))) where
+  pub block_left : (new : Outside) (fault : Fault) (n : ℕ) (block : List ℕ) → block ≡ concat (records_from s from count)
+      → Stops fault (with_bytes before out.name (take n (stopped out (concat (records_from s 0 from) ++ block)))) new
+      → LeavesUnfinished out (concat (made_records s)) before.held new.held
   block_left new fault n block is stops =
       let done = concat (records_from s 0 from) in
       let rest = s.points - (from + count) in
@@ -60,16 +71,21 @@ module _ (s : Settings) (from count : ℕ) (within : from + count ≤ s.points) 
       let all : from + count + rest ≡ s.points = omega arith in
       let whole : done ++ (block ++ more) ≡ concat (made_records s) =
       sym (append_assoc done block more) ∙ ap (λ (d : List ℕ). d ++ more) (block_joined s from count block is)
-      ∙ ap (λ (k : ℕ). concat (records_from s 0 (from + count)) ++ concat (records_from s k rest)) first ∙ joined s 0 (from + count) rest
+      ∙ ap (λ (k : ℕ). concat (records_from s 0 (from + count)) ++ concat (records_from s k rest)) first
+      ∙ joined s 0 (from + count) rest
       ∙ ap (λ (k : ℕ). concat (records_from s 0 k)) all in
       subst (λ (t : List ℕ). LeavesUnfinished out t before.held new.held) whole
-      (leaves_part before old w out done stands block more new.held n (held_after fault (with_bytes before out.name (take n (stopped out (done ++ block)))) new stops))
+      (leaves_part before old w out done stands block more new.held n
+      (held_after fault (with_bytes before out.name (take n (stopped out (done ++ block)))) new stops))
 
-pub end_left : (before new : Outside) (out : Output) (records : List ℕ) (fault : Fault) → (left : List ℕ) × IsUnfinished (draft_of out records) (patches_of out records) left × Stops fault (with_bytes before out.name left) new → LeavesUnfinished out records before.held new.held
+pub end_left : (before new : Outside) (out : Output) (records : List ℕ) (fault : Fault)
+    → (left : List ℕ) × IsUnfinished (draft_of out records) (patches_of out records) left
+    × Stops fault (with_bytes before out.name left) new → LeavesUnfinished out records before.held new.held
 end_left before new out records fault l = inr (l.0, l.1, held_after fault (with_bytes before out.name l.0) new l.2)
 
 -- a call after others that moved no count
-pub fails_since : (old mid new : Outside) (fault : Fault) → mid.write_faults ≡ old.write_faults → FailsWriting mid new fault → FailsWriting old new fault
+pub fails_since : (old mid new : Outside) (fault : Fault) → mid.write_faults ≡ old.write_faults
+    → FailsWriting mid new fault → FailsWriting old new fault
 fails_since old mid new (Refused cause) same fails = fails
 fails_since old mid new Read same fails = fails
 fails_since old mid new Write same fails = subst (λ (n : ℕ). Rose n new.write_faults) same fails
@@ -78,17 +94,22 @@ fails_since old mid new Memory same fails = fails
 -- ---- a block that can be pushed
 
 module _ (s : Settings) (range : IsInRange s) where
-  pub block_whole : (size count : ℕ) (block : List ℕ) → size ≡ made_length s → length block ≡ made_length s * count → length block % size ≡ 0
-  block_whole size count block size_is is = ap (λ (n : ℕ). n % size) (is ∙ ap (λ (n : ℕ). n * count) (sym size_is)) ∙ mul-mod_right size count
+  pub block_whole : (size count : ℕ) (block : List ℕ) → size ≡ made_length s → length block ≡ made_length s * count
+      → length block % size ≡ 0
+  block_whole size count block size_is is = ap (λ (n : ℕ). n % size) (is ∙ ap (λ (n : ℕ). n * count) (sym size_is))
+      ∙ mul-mod_right size count
 
-  pub block_fits : (from count taken size most long : ℕ) → size ≡ made_length s → most ≡ s.points → taken ≡ length (concat (records_from s 0 from)) → long ≡ made_length s * count → from + count ≤ s.points → taken + long ≤ size * most
+  pub block_fits : (from count taken size most long : ℕ) → size ≡ made_length s → most ≡ s.points
+      → taken ≡ length (concat (records_from s 0 from)) → long ≡ made_length s * count → from + count ≤ s.points
+      → taken + long ≤ size * most
   block_fits from count taken size most long size_is most_is taken_is long_is within =
       let L = made_length s in
       let enough : L * (from + count) ≤ L * s.points = mul-le-mul_left L within in
       let all : size * most ≡ L * s.points = ap (λ (n : ℕ). n * most) size_is ∙ ap (λ (n : ℕ). L * n) most_is in
       omega (arith, enough, all, taken_is, all_length s range 0 from, long_is)
 
-  pub block_room : (from count room : ℕ) → room ≡ made_length s * min s.points 50000 → count ≡ min 50000 (s.points - from) → made_length s * count ≤ room
+  pub block_room : (from count room : ℕ) → room ≡ made_length s * min s.points 50000
+      → count ≡ min 50000 (s.points - from) → made_length s * count ≤ room
   block_room from count room room_is is =
       let few : count ≤ min s.points 50000 = omega (arith, is) in
       let enough : made_length s * count ≤ made_length s * min s.points 50000 = mul-le-mul_left (made_length s) few in
@@ -96,7 +117,8 @@ module _ (s : Settings) (range : IsInRange s) where
 
   -- ---- the part of the buffer that a block takes
 
-  module _ (from count size : ℕ) (buffer new : List ℕ) (size_is : size ≡ made_length s) (count_is : count ≡ min 50000 (s.points - from)) (room : length buffer ≡ made_length s * min s.points 50000) where
+  module _ (from count size : ℕ) (buffer new : List ℕ) (size_is : size ≡ made_length s)
+      (count_is : count ≡ min 50000 (s.points - from)) (room : length buffer ≡ made_length s * min s.points 50000) where
     same : size * count ≡ made_length s * count
     same = ap (λ (n : ℕ). n * count) size_is
 
@@ -127,9 +149,11 @@ module _ (s : Settings) (range : IsInRange s) where
 
   -- ---- the head
 
-  module _ (blank counted : List ℕ) (counts : Counts) (is : blank ≡ blank_head s) (all : counts ≡ counts_of (made_records s)) (made : counted ≡ with_counts counts blank) where
+  module _ (blank counted : List ℕ) (counts : Counts) (is : blank ≡ blank_head s)
+      (all : counts ≡ counts_of (made_records s)) (made : counted ≡ with_counts counts blank) where
     pub head_made : counted ≡ made_head s
-    head_made = made ∙ ap (λ (c : Counts). with_counts c blank) all ∙ ap (λ (h : List ℕ). with_counts (counts_of (made_records s)) h) is
+    head_made = made ∙ ap (λ (c : Counts). with_counts c blank) all
+        ∙ ap (λ (h : List ℕ). with_counts (counts_of (made_records s)) h) is
 
     module _ (kept : KeepsLayout blank counted) where
       pub counted_plain : is_packed counted ≡ false
@@ -141,12 +165,18 @@ module _ (s : Settings) (range : IsInRange s) where
       pub counted_size : record_length_of counted ≡ made_length s
       counted_size = kept.records.record_length ∙ ap record_length_of is ∙ blank-record_length s range
 
+pub on_err_from : {T E Q : Type 0} (P : E → Type 0) (r : Result T E) → ((e : E) → P e → Q) → IfErr r P → OnErr r Q
+on_err_from P (Ok x) to p = tt
+on_err_from P (Err e) to p = to e p
+
 pub ok_with : {T E : Type 0} (P Q : T → Type 0) (r : Result T E) → ((x : T) → P x → Q x) → IfOk r P → IfOk r Q
 ok_with P Q (Ok x) to p = to x p
 ok_with P Q (Err e) to p = tt
 
 -- no bytes are asked for while an output is finished
-pub ended_asked : {T : Type 0} (r : Result T Fault) (old mid new : Outside) (name : List ℕ) (P : List ℕ → Type 0) → mid.asked ≡ old.asked → OnOk r (SameFaults mid new)
+pub ended_asked : {T : Type 0} (r : Result T Fault) (old mid new : Outside) (name : List ℕ) (P : List ℕ → Type 0)
+    → mid.asked ≡ old.asked → OnOk r (SameFaults mid new)
     → IfErr r (λ fault. (left : List ℕ) × P left × Stops fault (with_bytes old name left) new) → new.asked ≡ old.asked
 ended_asked (Ok x) old mid new name P still calm stops = calm.asked ∙ still
-ended_asked (Err fault) old mid new name P still calm stops = stops_asked fault (with_bytes old name stops.0) new stops.2
+ended_asked (Err fault) old mid new name P still calm stops =
+    stops_asked fault (with_bytes old name stops.0) new stops.2

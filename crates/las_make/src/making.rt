@@ -1,5 +1,7 @@
 //! Both files, one after the other.
-ghost use Rattle.std.specs.Prelude.{◌≡◌, ◌≢◌, ◌≤◌, IfErr, IfOk, IsSome, OnOk, length};
+ghost use Rattle.std.specs.Prelude.{◌≡◌, ◌≢◌, IfErr, IfOk, IsSome, OnOk, length};
+ghost use Rattle.las_outside.specs.Frames.{IsCalm};
+ghost use Rattle.las_outside.specs.Limits.{AreWorkers, IsChunkSize};
 ghost use Rattle.las_outside.specs.Outside.{Later};
 ghost use Rattle.laz_file.specs.Asking.{AsksAtMost};
 ghost use Rattle.laz_file.specs.Packing.{packed_file};
@@ -10,7 +12,7 @@ use crate::packing::{fault_of, pack_plain};
 use crate::plain::write_plain;
 use crate::{MakeFault, Settings};
 use las_outside::{Files, Gate};
-use std::alloc::Global;
+use laz_workers::Machine;
 use std::thread::Threads;
 
 /// The sizes of both files, in bytes.
@@ -23,7 +25,8 @@ pub struct Sizes {
 }
 
 /// Makes two files, under two names: the plain file that the settings determine, and its packed form in chunks of
-/// `chunk` points, 256 to 250,000. `workers`, 1 to 8, pack side by side, and what is written does not depend on them.
+/// `chunk` points, 256 to 250,000. The machine's workers pack side by side, and what is written does not depend on
+/// them.
 ///
 /// The head of the plain file has the counts of its records from the start. The file is read again and packed, and then
 /// the size of the packed file is asked. After `Write` or `Memory` the files are as before, or the plain file is a
@@ -32,19 +35,16 @@ pub struct Sizes {
 /// draft, and not all of it. After `ReadPacked` both are whole. A read or a write that failed has raised its count.
 /// `Changed` comes only if it is not known what the files hold.
 pub fn make<R: Threads + Sync, F: Files, G: Gate>(
-    rt: &R,
-    alloc: Global,
+    machine: Machine<'_, R, G>,
     files: &mut F,
-    gate: &G,
     plain: &str,
     packed: &str,
     settings: Settings,
     chunk: u32,
-    workers: u32,
 ) -> Result<Sizes, MakeFault>
     requires range { IsInRange settings }
-    requires chunk { (256 ≤ chunk) × (chunk ≤ 250000) }
-    requires workers { (1 ≤ workers) × (workers ≤ 8) }
+    requires chunk { IsChunkSize chunk }
+    requires workers { AreWorkers machine.workers }
     requires names { packed.now ≢ plain.now }
 
     ensures made { OnOk result
@@ -55,18 +55,17 @@ pub fn make<R: Threads + Sync, F: Files, G: Gate>(
 
     ensures fails { IfErr result
         (FailsMaking plain.now packed.now settings chunk (F.seen files.old) (F.seen files.new)) }
-    ensures reads_calm { OnOk result ((F.seen files.new).read_faults ≡ (F.seen files.old).read_faults) }
-    ensures writes_calm { OnOk result ((F.seen files.new).write_faults ≡ (F.seen files.old).write_faults) }
+    ensures calm { OnOk result (IsCalm (F.seen files.old) (F.seen files.new)) }
     // Over known files the plain file is read once, however the call ends.
     ensures asked { IsSome (F.seen files.old).held
         → AsksAtMost (length (made_file settings)) (F.seen files.old) (F.seen files.new) }
     ensures later { Later (F.seen files.old) (F.seen files.new) }
 {
-    let plain_size = match write_plain(rt, alloc, files, gate, plain, settings) {
+    let plain_size = match write_plain(machine, files, plain, settings) {
         Ok(size) => size,
         Err(fault) => return Err(fault_of(fault)),
     };
-    pack_plain(rt, alloc, files, gate, plain, packed, chunk, workers)?;
+    pack_plain(machine, files, plain, packed, chunk)?;
     match files.size(packed) {
         Ok(packed_size) => Ok(Sizes {
             plain: plain_size,

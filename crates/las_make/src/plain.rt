@@ -1,5 +1,6 @@
 //! The plain file: its head, with the counts of its records, and then the records, block by block.
-ghost use Rattle.std.specs.Prelude.{◌≡◌, ◌+◌, ◌*◌, ◌<◌, ◌≤◌, [], ℕ, false, min, length, vec_len, IfErr, IfOk, OnOk};
+ghost use Rattle.std.specs.Prelude.{◌≡◌, ◌+◌, ◌*◌, ◌<◌, ◌≤◌, [], ℕ, false, min, length, vec_len, IfErr, IfOk};
+ghost use Rattle.std.specs.Prelude.{OnErr, OnOk};
 ghost use Rattle.std.specs.List.{concat};
 ghost use Rattle.las_outside.specs.Outside.{Later, Outside, with_bytes};
 ghost use Rattle.laz_file.specs.Copying.{LeavesUnfinished};
@@ -15,6 +16,7 @@ use crate::head::blank_head;
 use crate::settings::{Settings, record_length};
 use las_outside::{Files, Gate};
 use laz_file::{Fault, PLAIN_BLOCK, Writer};
+use laz_workers::Machine;
 use std::alloc::{AllocError, Global};
 use std::thread::Threads;
 
@@ -29,10 +31,8 @@ fn room_for_block(alloc: Global, settings: Settings) -> Result<Vec<u8>, AllocErr
 
 // Makes the records of a block, from this number on, and pushes them. It answers the number of the record after them.
 fn push_block<R: Threads + Sync, F: Files, G: Gate>(
-    rt: &R,
-    alloc: Global,
+    machine: Machine<'_, R, G>,
     files: &mut F,
-    gate: &G,
     settings: Settings,
     from: u32,
     generator: &mut Generator,
@@ -59,7 +59,7 @@ fn push_block<R: Threads + Sync, F: Files, G: Gate>(
     ensures calm { OnOk result ((F.seen files.new).write_faults ≡ (F.seen files.old).write_faults) }
     ensures left { (before : Outside) (out : Output)
         → Stands before (F.seen files.old) writer.old out (concat (records_from settings 0 from))
-        → IfErr result (λ fault. LeavesUnfinished out (concat (made_records settings)) before.held
+        → OnErr result (LeavesUnfinished out (concat (made_records settings)) before.held
         (F.seen files.new).held) }
     ensures cause { IfErr result (FailsWriting (F.seen files.old) (F.seen files.new)) }
     ensures asked { (F.seen files.new).asked ≡ (F.seen files.old).asked }
@@ -68,16 +68,20 @@ fn push_block<R: Threads + Sync, F: Files, G: Gate>(
     let count = PLAIN_BLOCK.min(settings.points - from);
     let end = record_length(settings) * count as usize;
     fill(&mut buffer[..end], settings, from, count, generator);
-    writer.push(rt, alloc, files, gate, &buffer[..end])?;
+    writer.push(
+        machine.rt,
+        machine.alloc,
+        files,
+        machine.gate,
+        &buffer[..end],
+    )?;
     Ok(from + count)
 }
 
 // Makes all records and pushes them.
 fn push_records<R: Threads + Sync, F: Files, G: Gate>(
-    rt: &R,
-    alloc: Global,
+    machine: Machine<'_, R, G>,
     files: &mut F,
-    gate: &G,
     settings: Settings,
     buffer: &mut [u8],
     writer: &mut Writer,
@@ -92,7 +96,7 @@ fn push_records<R: Threads + Sync, F: Files, G: Gate>(
         → OnOk result (Stands before (F.seen files.new) writer.new out (concat (made_records settings))) }
     ensures open { OnOk result (writer.new.failed ≡ false) }
     ensures left { (before : Outside) (out : Output) → Stands before (F.seen files.old) writer.old out []
-        → IfErr result (λ fault. LeavesUnfinished out (concat (made_records settings)) before.held
+        → OnErr result (LeavesUnfinished out (concat (made_records settings)) before.held
         (F.seen files.new).held) }
     ensures cause { IfErr result (FailsWriting (F.seen files.old) (F.seen files.new)) }
     ensures asked { (F.seen files.new).asked ≡ (F.seen files.old).asked }
@@ -102,10 +106,8 @@ fn push_records<R: Threads + Sync, F: Files, G: Gate>(
     let mut from = 0;
     while from < settings.points {
         from = push_block(
-            rt,
-            alloc,
+            machine,
             files,
-            gate,
             settings,
             from,
             &mut generator,
@@ -118,25 +120,23 @@ fn push_records<R: Threads + Sync, F: Files, G: Gate>(
 
 /// Writes the plain file, and answers its length.
 pub(crate) fn write_plain<R: Threads + Sync, F: Files, G: Gate>(
-    rt: &R,
-    alloc: Global,
+    machine: Machine<'_, R, G>,
     files: &mut F,
-    gate: &G,
     output: &str,
     settings: Settings,
 ) -> Result<u64, Fault>
     requires range { IsInRange settings }
     ensures written { OnOk result (F.seen files.new ≡ with_bytes (F.seen files.old) output.now (made_file settings)) }
     ensures length { IfOk result (λ size. size ≡ length (made_file settings)) }
-    ensures left { IfErr result (λ fault.
-        LeavesPlain output.now settings (F.seen files.old).held (F.seen files.new).held) }
+    ensures left { OnErr result (LeavesPlain output.now settings (F.seen files.old).held (F.seen files.new).held) }
     ensures cause { IfErr result (FailsWriting (F.seen files.old) (F.seen files.new)) }
     ensures asked { (F.seen files.new).asked ≡ (F.seen files.old).asked }
     ensures later { Later (F.seen files.old) (F.seen files.new) }
 {
+    let alloc = machine.alloc;
     let head = blank_head(alloc, settings)?.with_counts(count_records(settings));
     let mut buffer = room_for_block(alloc, settings)?;
     let mut writer = Writer::create(alloc, files, output, &head, None, false, settings.points, 1)?;
-    push_records(rt, alloc, files, gate, settings, &mut buffer, &mut writer)?;
-    writer.finish(rt, alloc, files, gate)
+    push_records(machine, files, settings, &mut buffer, &mut writer)?;
+    writer.finish(machine.rt, alloc, files, machine.gate)
 }

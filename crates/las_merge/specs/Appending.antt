@@ -5,7 +5,8 @@ use Rattle.las_outside.specs.Files.{FileMap, WhereKnown, bytes_of, with_file}
 use Rattle.las_outside.specs.Outside.{Outside}
 use Rattle.laz_file.specs.declared.fault.Fault.TheVariants as fault
 use Rattle.las_merge.specs.declared.fault.MergeFault.{MergeFault}
-use Rattle.las_merge.specs.declared.fault.MergeFault.TheVariants.{At, Unequal, TooManyPoints, TooManyChunks, Write, Memory}
+use Rattle.las_merge.specs.declared.fault.MergeFault.TheVariants.{At, Unequal, TooManyPoints, TooManyChunks, Write}
+use Rattle.las_merge.specs.declared.fault.MergeFault.TheVariants.{Memory}
 
 -- the bytes of a file that stand from a place on, if the files are known
 abbrev pub part_in : Option FileMap → (name : List ℕ) → (place size : ℕ) → List ℕ

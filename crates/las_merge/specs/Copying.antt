@@ -1,5 +1,6 @@
 -- How the records of inputs are copied into an output, one input after another.
-use Rattle.std.specs.Prelude.{◌≡◌, ◌⊎◌, ◌+◌, ◌*◌, ◌<◌, ◌≤◌, ℕ, true, false, List, [], ◌∷◌, ◌++◌, length, Option, Some, None}
+use Rattle.std.specs.Prelude.{◌≡◌, ◌⊎◌, ◌+◌, ◌*◌, ◌<◌, ◌≤◌, ℕ, true, false, List, [], ◌∷◌, ◌++◌, length, Option, Some}
+use Rattle.std.specs.Prelude.{None}
 use Rattle.std.specs.List.{concat}
 use Rattle.las_header.specs.declared.refusal.Refusal.{Refusal}
 use Rattle.las_header.specs.declared.refusal.Refusal.TheVariants.{BadChunk}
@@ -12,10 +13,11 @@ use Rattle.laz_file.specs.declared.fault.Fault.TheVariants as fault
 use Rattle.laz_file.specs.Copying.{AreOnlyRecords, LeavesPart, LeavesUnfinished}
 use Rattle.laz_file.specs.Outputs.{Output, stopped}
 use Rattle.laz_file.specs.Records.{AreRecordsOf}
-use Rattle.laz_file.specs.Writing.{WriterSeen}
+use Rattle.laz_file.specs.Writing.{Stands, WriterSeen}
 use Rattle.las_merge.specs.declared.copying.BadInput.{BadInput}
 use Rattle.las_merge.specs.declared.fault.MergeFault.{MergeFault}
-use Rattle.las_merge.specs.declared.fault.MergeFault.TheVariants.{At, Unequal, TooManyPoints, TooManyChunks, Write, Memory}
+use Rattle.las_merge.specs.declared.fault.MergeFault.TheVariants.{At, Unequal, TooManyPoints, TooManyChunks, Write}
+use Rattle.las_merge.specs.declared.fault.MergeFault.TheVariants.{Memory}
 use Rattle.las_merge.specs.Inputs.{item_at}
 use Rattle.las_merge.specs.Opening.{InputSeen}
 

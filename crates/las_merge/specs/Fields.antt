@@ -10,8 +10,8 @@ use Rattle.las_merge.specs.declared.field.Field.TheVariants.{Format, Length, Sca
 abbrev pub bytes_in : (place size : ℕ) → (head : List ℕ) → List ℕ
 bytes_in place size head = take size (drop place head)
 
--- Two heads have the same in a field (LAS specification, "Public Header Block"): three doubles of scales at 131, three of
--- offsets at 155, and the six of the box at 179.
+-- Two heads have the same in a field (LAS specification, "Public Header Block"): three doubles of scales at 131, three
+-- of offsets at 155, and the six of the box at 179.
 abbrev pub is_same : Field → (head other : List ℕ) → Bool
 is_same Format head other = format_of head == format_of other
 is_same Length head other = record_length_of head == record_length_of other

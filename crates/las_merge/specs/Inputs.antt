@@ -1,15 +1,18 @@
 -- The inputs of a merge, and what keeps them from being merged.
-use Rattle.std.specs.Prelude.{◌≡◌, ℕ, ◌^◌, ◌<◌, ◌≤◌, List, [], length, map, slice_index_or, Option, Some, None}
+use Rattle.std.specs.Prelude.{◌≡◌, ◌⊎◌, ℕ, ◌^◌, ◌<◌, ◌≤◌, List, [], length, map, slice_index_or, Option, Some, None}
 use Rattle.std.specs.Prelude.{All, String, string_bytes}
 use Rattle.std.specs.FinMap as finmap
 use Rattle.std.specs.declared.alloc.Global.{Global}
 use Rattle.las_header.specs.Fields.{head_of}
-use Rattle.las_outside.specs.Files.{FileMap}
+use Rattle.las_outside.specs.Faults.{Rose}
+use Rattle.las_outside.specs.Files.{FileMap, IsMissing}
+use Rattle.las_outside.specs.Outside.{Outside}
 use Rattle.laz_file.specs.declared.fault.Fault.TheVariants as fault
 use Rattle.laz_file.specs.Refusing.{IsAcceptedFile, IsRefusal}
 use Rattle.laz_copied.specs.Copied.{first_head, points_in}
 use Rattle.las_merge.specs.declared.fault.MergeFault.{MergeFault}
-use Rattle.las_merge.specs.declared.fault.MergeFault.TheVariants.{At, Unequal, TooManyPoints, TooManyChunks, Write, Memory}
+use Rattle.las_merge.specs.declared.fault.MergeFault.TheVariants.{At, Unequal, TooManyPoints, TooManyChunks, Write}
+use Rattle.las_merge.specs.declared.fault.MergeFault.TheVariants.{Memory}
 use Rattle.las_merge.specs.Fields.{first_difference}
 
 -- names as their bytes
@@ -33,14 +36,22 @@ pub record CanMerge (known : FileMap) (names files : List (List ℕ)) : Type 0 w
   pub all : length files ≡ length names
   pub few : points_in files < 2 ^ 32
 
+abbrev pub CanBeMerged : (known : FileMap) → (names : List (List ℕ)) → Type 0
+CanBeMerged known names = (merged : List (List ℕ)) × CanMerge known names merged
+
+-- A merge comes to the input of this number: those before it are held, accepted and like the first.
+abbrev pub IsReached : (known : FileMap) → (names : List (List ℕ)) → (number : ℕ) → Type 0
+IsReached known names number =
+    (before : List (List ℕ)) × AreFirst known names before × (length before ≡ number)
+
 -- The inputs before this one are these files.
 pub record Reaches (known : FileMap) (names : List (List ℕ)) (number : ℕ) (files : List (List ℕ)) : Type 0 where
   pub first : AreFirst known names files
   pub number_is : length files ≡ number
   pub within : number < length names
 
--- What keeps inputs from being merged, before an output is created: the first input that is not held, is refused when it
--- is opened, or differs from the first; or, if there is none, that they have too many records.
+-- What keeps inputs from being merged, before an output is created: the first input that is not held, is refused when
+-- it is opened, or differs from the first; or, if there is none, that they have too many records.
 abbrev pub IsKeptBy : FileMap → (names : List (List ℕ)) → MergeFault → Type 0
 IsKeptBy known names (At number (fault.Refused cause)) =
     (files : List (List ℕ)) × (file : List ℕ) × Reaches known names number files
@@ -58,6 +69,10 @@ IsKeptBy known names TooManyPoints =
 IsKeptBy known names TooManyChunks = ⊥
 IsKeptBy known names Write = ⊥
 IsKeptBy known names Memory = ⊥
+
+-- An input could not be read: it is missing, and no file has changed, or a read failed.
+abbrev pub IsUnread : (name : List ℕ) → (old new : Outside) → Type 0
+IsUnread name old new = (IsMissing old.held name × (new.held ≡ old.held)) ⊎ Rose old.read_faults new.read_faults
 
 -- P of the files, if they are known
 abbrev pub IfKnown : Option FileMap → (FileMap → Type 0) → Type 0

@@ -12,9 +12,12 @@ use Rattle.laz_file.specs.declared.fault.Fault.{Fault}
 use Rattle.laz_file.specs.declared.fault.Fault.TheVariants as fault
 use Rattle.laz_file.specs.Asking.{asked_for_chunks}
 use Rattle.laz_file.specs.Pieces.{ArePieces, Piece}
+use Rattle.laz_file.specs.Reading.{ReaderSeen}
 use Rattle.laz_copied.specs.Copied.{all_of}
 use Rattle.las_merge.specs.declared.fault.MergeFault.{MergeFault}
-use Rattle.las_merge.specs.declared.fault.MergeFault.TheVariants.{At, Unequal, TooManyPoints, TooManyChunks, Write, Memory}
+use Rattle.las_merge.specs.declared.fault.MergeFault.TheVariants.{At, Unequal, TooManyPoints, TooManyChunks, Write}
+use Rattle.las_merge.specs.declared.fault.MergeFault.TheVariants.{Memory}
+use Rattle.las_merge.specs.declared.listing.Listed.{Listed}
 use Rattle.las_merge.specs.Appending.{SourceSeen}
 use Rattle.las_merge.specs.Fields.{first_difference}
 use Rattle.las_merge.specs.Inputs.{item_at}
@@ -25,6 +28,13 @@ use Rattle.las_merge.specs.Packed.{IsRefusedToCopy}
 pub record ListedInput : Type 0 where
   pub input : InputSeen
   pub pieces : List Piece
+
+-- what is kept of an input that was opened, and what is kept with its pieces
+abbrev pub input_of : (name : List ℕ) → ReaderSeen → InputSeen
+input_of name reader = record { name = name; head = reader.head }
+
+abbrev pub listed_as : (name : List ℕ) → ReaderSeen → ListedInput
+listed_as name reader = record { input = input_of name reader; pieces = reader.pieces }
 
 -- how many bytes pieces have, in all
 abbrev pub bytes_in : List Piece → ℕ
@@ -66,6 +76,12 @@ pub record ListsChunks (held : Option FileMap) (inputs : List InputSeen) (source
   pub many_are : many ≡ true → MAX_CHUNKS < length (all_pieces listed)
   pub counts_are : many ≡ false → counts ≡ map (λ piece. piece.count) (all_pieces listed)
   pub sizes_are : many ≡ false → sizes ≡ map (λ piece. piece.size) (all_pieces listed)
+
+-- The same of what is kept.
+abbrev pub Lists : (held : Option FileMap) → Listed → (asked : ℕ) → Type 0
+Lists held listed asked =
+    ListsChunks held listed.inputs.items listed.sources.items listed.lists.many listed.lists.counts.items
+    listed.lists.sizes.items asked
 
 -- The lists get these numbers more, unless there would be too many, or were before.
 pub record AddsChunks (was now : Bool) (counts counts_now sizes sizes_now more_counts more_sizes : List ℕ) : Type 0

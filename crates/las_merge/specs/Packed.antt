@@ -1,19 +1,20 @@
 -- Packed inputs whose chunks are copied, and what keeps them from being copied.
-use Rattle.std.specs.Prelude.{◌≡◌, ◌⊎◌, ℕ, ◌^◌, ◌<◌, ◌≤◌, true, false, List, length, Some, None, All}
+use Rattle.std.specs.Prelude.{◌≡◌, ◌⊎◌, ℕ, ◌^◌, ◌<◌, ◌≤◌, true, false, List, length, take, Option, Some, None, All}
 use Rattle.std.specs.Prelude.{◌+◌, [], ◌∷◌}
 use Rattle.std.specs.List.{concat}
 use Rattle.std.specs.FinMap as finmap
 use Rattle.las_header.specs.declared.refusal.Refusal.{Refusal}
 use Rattle.las_header.specs.declared.refusal.Refusal.TheVariants.{NotPacked}
 use Rattle.las_header.specs.Fields.{head_of, is_packed}
-use Rattle.las_outside.specs.Files.{FileMap}
+use Rattle.las_outside.specs.Files.{FileMap, with_file}
 use Rattle.laz_table.specs.declared.limits.TheConstants.{MAX_CHUNKS}
 use Rattle.laz_file.specs.declared.fault.Fault.TheVariants as fault
 use Rattle.laz_file.specs.Asking.{asked_for_chunks}
 use Rattle.laz_file.specs.Refusing.{IsAcceptedFile, IsRefusal}
-use Rattle.laz_copied.specs.Copied.{Chunk, HaveChunks, bytes_in, first_head, all_of, points_in}
+use Rattle.laz_copied.specs.Copied.{Chunk, HaveChunks, bytes_in, copied_file, first_head, all_of, points_in}
 use Rattle.las_merge.specs.declared.fault.MergeFault.{MergeFault}
-use Rattle.las_merge.specs.declared.fault.MergeFault.TheVariants.{At, Unequal, TooManyPoints, TooManyChunks, Write, Memory}
+use Rattle.las_merge.specs.declared.fault.MergeFault.TheVariants.{At, Unequal, TooManyPoints, TooManyChunks, Write}
+use Rattle.las_merge.specs.declared.fault.MergeFault.TheVariants.{Memory}
 use Rattle.las_merge.specs.Fields.{first_difference}
 use Rattle.las_merge.specs.Inputs.{AreFirst, item_at}
 
@@ -40,6 +41,27 @@ pub record CanCopyFrom (known : FileMap) (names files : List (List ℕ)) (parts 
   pub few : points_in files < 2 ^ 32
   pub have : HaveChunks files parts
   pub chunks : length (all_of parts) ≤ MAX_CHUNKS
+
+abbrev pub CanBeCopied : (known : FileMap) → (names : List (List ℕ)) → Type 0
+CanBeCopied known names = (files : List (List ℕ)) × (parts : List (List Chunk)) × CanCopyFrom known names files parts
+
+-- Copying comes to the input of this number: those before it are held, accepted, packed and like the first.
+abbrev pub IsReachedPacked : (known : FileMap) → (names : List (List ℕ)) → (number : ℕ) → Type 0
+IsReachedPacked known names number =
+    (before : List (List ℕ)) × AreFirstPacked known names before × (length before ≡ number)
+
+-- The output has all chunks of these files.
+abbrev pub IsCopied : (name : List ℕ) → (files : List (List ℕ)) → (parts : List (List Chunk))
+    → (was now : Option FileMap) → Type 0
+IsCopied name files parts was now = now ≡ with_file was name (copied_file files (all_of parts))
+
+-- The files are as before, or the chunks of the inputs can be copied and the output is a prefix of what they give.
+abbrev pub IsLeftOfCopy : (known : FileMap) → (names : List (List ℕ)) → (name : List ℕ) → (was now : Option FileMap)
+    → Type 0
+IsLeftOfCopy known names name was now =
+    (now ≡ was)
+    ⊎ ((files : List (List ℕ)) × (parts : List (List Chunk)) × CanCopyFrom known names files parts
+    × ((n : ℕ) × (now ≡ with_file was name (take n (copied_file files (all_of parts))))))
 
 -- at most, how many bytes packed files are asked for whose chunks are copied: each for its head, two pointers and its
 -- table, and for its chunks

@@ -41,7 +41,8 @@ abbrev pub StandUnder : FileMap → (names : List (List ℕ)) → (head : List �
 StandUnder known names head parts =
     (k : ℕ) → k < length parts → finmap.get known (item_at names k) ≡ Some (part_file head (item_at parts k))
 
--- Such files can be merged, and merging them gives the records of all parts, in order, under the head with their counts.
+-- Such files can be merged, and merging them gives the records of all parts, in order, under the head with their
+-- counts.
 abbrev pub PartsMerge : Type 0
 PartsMerge = (known : FileMap) (names : List (List ℕ)) (head : List ℕ) (parts : List (List ℕ)) → AreParts head parts
     → 1 ≤ length parts → length parts ≡ length names → StandUnder known names head parts

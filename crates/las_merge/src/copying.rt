@@ -3,15 +3,17 @@ ghost use Rattle.std.specs.Prelude.{◌≡◌, ◌≢◌, ◌*◌, ◌+◌, ◌<
 ghost use Rattle.std.specs.Prelude.{IfErr, IfOk, OnErr, OnOk};
 ghost use Rattle.las_header.specs.Fields.{points_of, record_length_of};
 ghost use Rattle.las_outside.specs.Files.{WhereKnown};
-ghost use Rattle.las_outside.specs.Outside.{Later, Outside};
+ghost use Rattle.las_outside.specs.Frames.{IsCalm};
+ghost use Rattle.las_outside.specs.Limits.{AreWorkers};
+ghost use Rattle.las_outside.specs.Outside.{Later};
 ghost use Rattle.laz_file.specs.Asking.{AsksAtMost, bytes_left};
 ghost use Rattle.laz_file.specs.Copying.{CanTake, HasCause, LeavesPart, Takes};
-ghost use Rattle.laz_file.specs.Outputs.{Output};
 ghost use Rattle.laz_file.specs.Reading.{IsNewReader, ReaderSeen, StandsFor, records_in};
-ghost use Rattle.laz_file.specs.Writing.{Stands};
+ghost use Rattle.laz_file.specs.Writing.{IsBegun};
 ghost use Rattle.las_merge.specs.Asking.{asked_of_all, asked_to_read};
 ghost use Rattle.las_merge.specs.Inputs.{IfKnown};
-ghost use Rattle.las_merge.specs.Copying.{BeginsWith, CopiesTo, CopiesUpTo, FailsCopying, HasRoom, IsFaultOf};
+ghost use Rattle.las_merge.specs.Copying.{BeginsWith, CopiesTo, CopiesUpTo, FailsCopying, HasRoom};
+ghost use Rattle.las_merge.specs.Copying.{IsFaultOf};
 ghost use Rattle.las_merge.specs.Opening.{InputSeen, IsOpen, fault_of, names_read, points_read};
 
 use crate::MergeFault;
@@ -20,7 +22,7 @@ use crate::opening::{fault_of, open_again};
 use las_header::Refusal;
 use las_outside::{Files, Gate};
 use laz_file::{Fault, Reader, Writer, copy_records};
-use std::alloc::Global;
+use laz_workers::Machine;
 use std::thread::Threads;
 
 /// An input with a bad chunk.
@@ -33,21 +35,17 @@ pub(crate) struct BadInput {
 // Copies the records of an input that was opened again: all of them, or those before its first bad chunk, which is the
 // answer.
 fn copy_input<R: Threads + Sync, F: Files, G: Gate>(
-    rt: &R,
-    alloc: Global,
+    machine: Machine<'_, R, G>,
     files: &mut F,
-    gate: &G,
     reader: Reader,
-    workers: u32,
     writer: &mut Writer,
 ) -> Result<Option<Refusal>, Fault>
-    requires workers { (1 ≤ workers) × (workers ≤ 8) }
+    requires workers { AreWorkers machine.workers }
     requires fresh { IsNewReader reader.name reader }
     requires reads { WhereKnown (F.seen files.old).held reader.name (StandsFor reader) }
     requires names { reader.name ≢ writer.old.name }
     requires room { CanTake reader writer.old }
-    requires stands { (before : Outside) × (out : Output) × (bytes : List ℕ)
-        × Stands before (F.seen files.old) writer.old out bytes }
+    requires stands { IsBegun (F.seen files.old) writer.old }
     ensures copied { IfOk result (λ end. (records : List ℕ)
         × CopiesTo (F.seen files.old).held reader.name records end
         × Takes (F.seen files.old) (F.seen files.new) writer.old writer.new records
@@ -58,35 +56,38 @@ fn copy_input<R: Threads + Sync, F: Files, G: Gate>(
     ensures open { OnOk result (writer.new.failed ≡ false) }
     ensures most { OnOk result (writer.new.most ≡ writer.old.most) }
     ensures cause { IfErr result (HasCause (F.seen files.old) (F.seen files.new)) }
-    ensures reads_calm { OnOk result ((F.seen files.new).read_faults ≡ (F.seen files.old).read_faults) }
-    ensures writes_calm { OnOk result ((F.seen files.new).write_faults ≡ (F.seen files.old).write_faults) }
+    ensures calm { OnOk result (IsCalm (F.seen files.old) (F.seen files.new)) }
     ensures asked { AsksAtMost (bytes_left reader) (F.seen files.old) (F.seen files.new) }
     ensures later { Later (F.seen files.old) (F.seen files.new) }
 {
     let mut reader = reader;
-    let hands = reader.hands(workers);
-    let mut crew = reader.crew(alloc, hands)?;
-    copy_records(rt, alloc, files, gate, &mut reader, &mut crew, writer)
+    let hands = reader.hands(machine.workers);
+    let mut crew = reader.crew(machine.alloc, hands)?;
+    copy_records(
+        machine.rt,
+        machine.alloc,
+        files,
+        machine.gate,
+        &mut reader,
+        &mut crew,
+        writer,
+    )
 }
 
 // Opens an input again, and copies its records: all of them, or those before its first bad chunk, which is the answer.
 // What is known of its chunks is let go at the end.
 fn copy_next<R: Threads + Sync, F: Files, G: Gate>(
-    rt: &R,
-    alloc: Global,
+    machine: Machine<'_, R, G>,
     files: &mut F,
-    gate: &G,
     number: u32,
     input: &Input,
-    workers: u32,
     writer: &mut Writer,
 ) -> Result<Option<Refusal>, MergeFault>
-    requires workers { (1 ≤ workers) × (workers ≤ 8) }
+    requires workers { AreWorkers machine.workers }
     requires opened { IsOpen (F.seen files.old).held input.now }
     requires names { input.now.name ≢ writer.old.name }
     requires room { HasRoom input.now writer.old }
-    requires stands { (before : Outside) × (out : Output) × (bytes : List ℕ)
-        × Stands before (F.seen files.old) writer.old out bytes }
+    requires stands { IsBegun (F.seen files.old) writer.old }
     ensures copied { IfOk result (λ end. (records : List ℕ)
         × CopiesTo (F.seen files.old).held input.now.name records end
         × Takes (F.seen files.old) (F.seen files.new) writer.old writer.new records
@@ -97,17 +98,16 @@ fn copy_next<R: Threads + Sync, F: Files, G: Gate>(
     ensures open { OnOk result (writer.new.failed ≡ false) }
     ensures most { OnOk result (writer.new.most ≡ writer.old.most) }
     ensures cause { IfErr result (IsFaultOf (F.seen files.old) (F.seen files.new) number) }
-    ensures reads_calm { OnOk result ((F.seen files.new).read_faults ≡ (F.seen files.old).read_faults) }
-    ensures writes_calm { OnOk result ((F.seen files.new).write_faults ≡ (F.seen files.old).write_faults) }
+    ensures calm { OnOk result (IsCalm (F.seen files.old) (F.seen files.new)) }
     ensures asked { WhereKnown (F.seen files.old).held input.now.name (λ file.
         AsksAtMost (asked_to_read (Some file)) (F.seen files.old) (F.seen files.new)) }
     ensures later { Later (F.seen files.old) (F.seen files.new) }
 {
-    let reader = match open_again(alloc, files, number, input) {
+    let reader = match open_again(machine.alloc, files, number, input) {
         Ok(reader) => reader,
         Err(fault) => return Err(fault),
     };
-    match copy_input(rt, alloc, files, gate, reader, workers, writer) {
+    match copy_input(machine, files, reader, writer) {
         Ok(end) => Ok(end),
         Err(fault) => Err(fault_of(number, fault)),
     }
@@ -115,39 +115,34 @@ fn copy_next<R: Threads + Sync, F: Files, G: Gate>(
 
 /// Copies the records of all inputs, up to the first bad chunk. Each input is opened again for its turn.
 pub(crate) fn copy_inputs<R: Threads + Sync, F: Files, G: Gate>(
-    rt: &R,
-    alloc: Global,
+    machine: Machine<'_, R, G>,
     files: &mut F,
-    gate: &G,
     inputs: Vec<Input>,
-    workers: u32,
     writer: &mut Writer,
 ) -> Result<Option<BadInput>, MergeFault>
     requires few { length inputs.items ≤ 32 }
-    requires workers { (1 ≤ workers) × (workers ≤ 8) }
+    requires workers { AreWorkers machine.workers }
     requires opened { All (IsOpen (F.seen files.old).held) inputs.items }
     requires sizes { All (λ input. record_length_of input.head.bytes ≡ writer.old.size) inputs.items }
     requires names { All (λ input. input.name ≢ writer.old.name) inputs.items }
     requires room { writer.old.taken + writer.old.size * points_read inputs.items
         ≤ writer.old.size * writer.old.most }
     requires sound { writer.old.failed ≡ false }
-    requires stands { (before : Outside) × (out : Output) × (bytes : List ℕ)
-        × Stands before (F.seen files.old) writer.old out bytes }
+    requires stands { IsBegun (F.seen files.old) writer.old }
     ensures copied { IfOk result (λ end. (records : List ℕ)
         × CopiesUpTo (F.seen files.old).held (names_read inputs.items) records end
         × Takes (F.seen files.old) (F.seen files.new) writer.old writer.new records) }
     ensures ends { IfErr result
         (FailsCopying (F.seen files.old) (F.seen files.new) (names_read inputs.items) writer.old) }
     ensures open { OnOk result (writer.new.failed ≡ false) }
-    ensures reads_calm { OnOk result ((F.seen files.new).read_faults ≡ (F.seen files.old).read_faults) }
-    ensures writes_calm { OnOk result ((F.seen files.new).write_faults ≡ (F.seen files.old).write_faults) }
+    ensures calm { OnOk result (IsCalm (F.seen files.old) (F.seen files.new)) }
     ensures asked { IfKnown (F.seen files.old).held (λ known. AsksAtMost
         (asked_of_all asked_to_read known (names_read inputs.items)) (F.seen files.old) (F.seen files.new)) }
     ensures later { Later (F.seen files.old) (F.seen files.new) }
 {
     let mut number = 0;
     'inputs: for input in inputs {
-        let end = match copy_next(rt, alloc, files, gate, number, &input, workers, writer) {
+        let end = match copy_next(machine, files, number, &input, writer) {
             Ok(end) => end,
             Err(fault) => return Err(fault),
         };

@@ -1,11 +1,12 @@
 //! Packed files that are merged by copying their chunks.
-ghost use Rattle.std.specs.Prelude.{◌≡◌, ◌≢◌, ◌⊎◌, ◌+◌, ◌++◌, ◌^◌, ◌<◌, ◌≤◌, ℕ, List, All, true, length, map, sum, sum_by};
-ghost use Rattle.std.specs.Prelude.{IfErr, IfOk, IsErrOf, OnErr, OnOk, string_bytes, take};
+ghost use Rattle.std.specs.Prelude.{◌≡◌, ◌≢◌, ◌⊎◌, ◌+◌, ◌++◌, ◌^◌, ◌<◌, ◌≤◌, ℕ, List, All, true, length, map, sum};
+ghost use Rattle.std.specs.Prelude.{sum_by};
+ghost use Rattle.std.specs.Prelude.{IfErr, IfOk, IsErrOf, OnErr, OnOk, string_bytes};
 ghost use Rattle.byteorder.specs.Endian.{little_bytes};
 ghost use Rattle.las_header.specs.Fields.{is_packed};
 ghost use Rattle.las_header.specs.Vlrs.{laszip_vlrs_of};
 ghost use Rattle.las_outside.specs.Faults.{Rose};
-ghost use Rattle.las_outside.specs.Files.{IsMissing, with_file};
+ghost use Rattle.las_outside.specs.Frames.{IsCalm};
 ghost use Rattle.las_outside.specs.Outside.{Later, with_bytes};
 ghost use Rattle.laz_table.specs.declared.limits.TheConstants.{COUNTED_CHUNKS, MAX_CHUNKS};
 ghost use Rattle.laz_table.specs.Table.{table_bytes};
@@ -13,14 +14,15 @@ ghost use Rattle.laz_file.specs.declared.fault.Fault.{Fault};
 ghost use Rattle.laz_file.specs.declared.fault.Fault.TheVariants as file;
 ghost use Rattle.laz_file.specs.Asking.{AsksAtMost};
 ghost use Rattle.laz_file.specs.Packing.{packed_head};
-ghost use Rattle.laz_copied.specs.Copied.{Chunk, copied_file, all_of};
+ghost use Rattle.laz_copied.specs.Copied.{Chunk};
 ghost use Rattle.las_merge.specs.declared.fault.MergeFault.{MergeFault};
 ghost use Rattle.las_merge.specs.declared.fault.MergeFault.TheVariants.{At, Unequal, Write};
 ghost use Rattle.las_merge.specs.declared.field.Field.{Field};
 ghost use Rattle.las_merge.specs.Appending.{IsCopyFault, LeavesPrefix, LiesIn, with_reads};
-ghost use Rattle.las_merge.specs.Inputs.{IfKnown, item_at, names_of};
+ghost use Rattle.las_merge.specs.Inputs.{IfKnown, IsUnread, item_at, names_of};
 ghost use Rattle.las_merge.specs.Opening.{first_read, points_read};
-ghost use Rattle.las_merge.specs.Packed.{AreFirstPacked, CanCopyFrom, IsKeptFromCopying, IsNoFault, asked_to_copy};
+ghost use Rattle.las_merge.specs.Packed.{CanBeCopied, CanCopyFrom, IsCopied, IsKeptFromCopying, IsLeftOfCopy};
+ghost use Rattle.las_merge.specs.Packed.{IsNoFault, IsReachedPacked, asked_to_copy};
 ghost use Rattle.las_merge.specs.Summing.{copied_text, summed_head};
 
 use crate::MergeFault;
@@ -176,8 +178,7 @@ pub fn merge_copied<F: Files>(
 
     ensures copied { OnOk result (IfKnown (F.seen files.old).held (λ known.
         (merged : List (List ℕ)) × (parts : List (List Chunk)) × CanCopyFrom known (names_of inputs.now) merged parts
-        × ((F.seen files.new).held
-        ≡ with_file (F.seen files.old).held output.now (copied_file merged (all_of parts))))) }
+        × IsCopied output.now merged parts (F.seen files.old).held (F.seen files.new).held)) }
 
     // What keeps the inputs from being copied: then no file has changed.
     ensures kept { IfErr result (λ cause. IsNoFault cause
@@ -188,30 +189,23 @@ pub fn merge_copied<F: Files>(
     // opened, packed, and like the first.
     ensures at { (number : ℕ) (cause : Fault) → IsErrOf result (At number cause)
         → (number < length inputs.now) × IfKnown (F.seen files.old).held (λ known.
-        (before : List (List ℕ)) × AreFirstPacked known (names_of inputs.now) before × (length before ≡ number)) }
+        IsReachedPacked known (names_of inputs.now) number) }
     ensures read { (number : ℕ) → IsErrOf result (At number file.Read)
-        → (IsMissing (F.seen files.old).held (item_at (names_of inputs.now) number)
-        × ((F.seen files.new).held ≡ (F.seen files.old).held))
-        ⊎ Rose (F.seen files.old).read_faults (F.seen files.new).read_faults }
+        → IsUnread (item_at (names_of inputs.now) number) (F.seen files.old) (F.seen files.new) }
     ensures write { IsErrOf result Write → Rose (F.seen files.old).write_faults (F.seen files.new).write_faults
-        × IfKnown (F.seen files.old).held (λ known. (merged : List (List ℕ)) × (parts : List (List Chunk))
-        × CanCopyFrom known (names_of inputs.now) merged parts) }
+        × IfKnown (F.seen files.old).held (λ known. CanBeCopied known (names_of inputs.now)) }
     ensures unequal { (number : ℕ) (field : Field) → IsErrOf result (Unequal number field)
         → number < length inputs.now }
     ensures never { (number : ℕ) → IsErrOf result (At number file.Write) → ⊥ }
 
     // The output is begun only if the inputs can be copied, and then a prefix of it is left.
-    ensures left { IfErr result (λ cause. IfKnown (F.seen files.old).held (λ known.
-        ((F.seen files.new).held ≡ (F.seen files.old).held)
-        ⊎ ((merged : List (List ℕ)) × (parts : List (List Chunk)) × CanCopyFrom known (names_of inputs.now) merged parts
-        × ((n : ℕ) × ((F.seen files.new).held ≡ with_file (F.seen files.old).held output.now
-        (take n (copied_file merged (all_of parts)))))))) }
+    ensures left { OnErr result (IfKnown (F.seen files.old).held (λ known.
+        IsLeftOfCopy known (names_of inputs.now) output.now (F.seen files.old).held (F.seen files.new).held)) }
     // Each input is asked once for what is read of it.
     ensures asked { OnOk result (IfKnown (F.seen files.old).held (λ known.
         (merged : List (List ℕ)) (parts : List (List Chunk)) → CanCopyFrom known (names_of inputs.now) merged parts
         → AsksAtMost (asked_to_copy merged parts) (F.seen files.old) (F.seen files.new))) }
-    ensures reads_calm { OnOk result ((F.seen files.new).read_faults ≡ (F.seen files.old).read_faults) }
-    ensures writes_calm { OnOk result ((F.seen files.new).write_faults ≡ (F.seen files.old).write_faults) }
+    ensures calm { OnOk result (IsCalm (F.seen files.old) (F.seen files.new)) }
     ensures later { Later (F.seen files.old) (F.seen files.new) }
 {
     let listed = list_inputs(alloc, files, inputs)?;

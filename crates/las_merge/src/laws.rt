@@ -1,5 +1,6 @@
 //! Laws of the definitions that the contracts of `merge` and `merge_copied` cite.
-ghost use Rattle.las_merge.specs.CopiedLaws.{AreAcceptedAsOne, AreCopiedOnce, HaveMergedRecords, IsKeptFromCopyingByOne};
+ghost use Rattle.las_merge.specs.CopiedLaws.{AreAcceptedAsOne, AreCopiedOnce, HaveMergedRecords};
+ghost use Rattle.las_merge.specs.CopiedLaws.{IsKeptFromCopyingByOne};
 ghost use Rattle.las_merge.specs.CopiedLaws.{IsKeptOrCopied, UnpackToMerged};
 ghost use Rattle.las_merge.specs.Existing.{AreKeptOrCopied, AreKeptOrMerged, MergesToSomething};
 ghost use Rattle.las_merge.specs.Laws.{AreMergedOnce, IsKeptByOne, IsKeptOrMerged, MergesInOneWay};
@@ -7,8 +8,9 @@ ghost use Rattle.las_merge.specs.Parts.{PartsMerge};
 
 use laz_file::{no_file_is_without_an_answer, records_have_one_answer};
 
-/// Inputs are kept from being merged by one cause, or by none, and then they are one list of files. Whatever the bytes of
-/// these are, what merging them gives is the only thing that it can give: one list of records, and one bad chunk or none.
+/// Inputs are kept from being merged by one cause, or by none, and then they are one list of files. Whatever the bytes
+/// of these are, what merging them gives is the only thing that it can give: one list of records, and one bad chunk or
+/// none.
 pub fn merging_ends_in_one_way()
     ensures kept { IsKeptByOne }
     ensures merged { IsKeptOrMerged }
@@ -18,9 +20,9 @@ pub fn merging_ends_in_one_way()
     records_have_one_answer();
 }
 
-/// Files that were written under one plain head, each with a part of some records and with their counts, can be merged, if
-/// they have fewer than 2^32 records in all: merging them in order gives all of the records under that head, with their
-/// counts, plain or packed.
+/// Files that were written under one plain head, each with a part of some records and with their counts, can be merged,
+/// if they have fewer than 2^32 records in all: merging them in order gives all of the records under that head, with
+/// their counts, plain or packed.
 pub fn parts_merge_to_the_whole()
     ensures { PartsMerge }
 {}

@@ -1,13 +1,14 @@
 //! Packed inputs whose chunks are copied: opened one after another, with what their tables say of their chunks.
-ghost use Rattle.std.specs.Prelude.{◌≡◌, ◌+◌, ◌-◌, ◌*◌, ◌^◌, ◌<◌, ◌≤◌, ◌++◌, ◌∷◌, ℕ, List, [], length, sum, map, vec_len};
+ghost use Rattle.std.specs.Prelude.{◌≡◌, ◌+◌, ◌-◌, ◌*◌, ◌^◌, ◌<◌, ◌≤◌, ◌++◌, ◌∷◌, ℕ, List, [], length, sum, map};
+ghost use Rattle.std.specs.Prelude.{vec_len};
 ghost use Rattle.std.specs.Prelude.{true, false, IfErr, IfOk, OnOk, string_bytes};
 ghost use Rattle.las_header.specs.Fields.{is_packed};
-ghost use Rattle.las_outside.specs.Outside.{Later};
+ghost use Rattle.las_outside.specs.Frames.{IsCalm, OnlyReads};
 ghost use Rattle.laz_table.specs.declared.limits.TheConstants.{MAX_CHUNKS};
 ghost use Rattle.laz_file.specs.Reading.{IsNewReader};
 ghost use Rattle.las_merge.specs.Inputs.{names_of};
-ghost use Rattle.las_merge.specs.Listing.{AddsChunks, EndsListing, FailsNextPacked, ListedInput, ListsChunks};
-ghost use Rattle.las_merge.specs.Listing.{source_of};
+ghost use Rattle.las_merge.specs.Listing.{AddsChunks, EndsListing, FailsNextPacked, Lists, input_of};
+ghost use Rattle.las_merge.specs.Listing.{listed_as, source_of};
 ghost use Rattle.las_merge.specs.Opening.{AreOpen, InputSeen, IsNext};
 
 use crate::MergeFault;
@@ -93,12 +94,12 @@ impl Listed {
     // Adds an input that was opened.
     fn add(&mut self, alloc: Global, name: &str, reader: Reader) -> Result<(), AllocError>
         requires few { vec_len self.old.lists.counts ≤ MAX_CHUNKS }
-        ensures inputs { OnOk result (self.new.inputs.items
-            ≡ self.old.inputs.items ++ record { name = name.now; head = reader.head } ∷ []) }
-        ensures sources { OnOk result (self.new.sources.items ≡ self.old.sources.items
-            ++ source_of (record { input = record { name = name.now; head = reader.head }; pieces = reader.pieces }) ∷ []) }
+        ensures inputs { OnOk result (self.new.inputs.items ≡ self.old.inputs.items ++ input_of name.now reader ∷ []) }
+        ensures sources { OnOk result (self.new.sources.items
+            ≡ self.old.sources.items ++ source_of (listed_as name.now reader) ∷ []) }
         ensures added { OnOk result (AddsChunks self.old.lists.many self.new.lists.many
-            self.old.lists.counts.items self.new.lists.counts.items self.old.lists.sizes.items self.new.lists.sizes.items
+            self.old.lists.counts.items self.new.lists.counts.items
+            self.old.lists.sizes.items self.new.lists.sizes.items
             (map (λ piece. piece.count) reader.pieces) (map (λ piece. piece.size) reader.pieces)) }
         ensures few { OnOk result (vec_len self.new.lists.counts ≤ MAX_CHUNKS) }
     {
@@ -126,22 +127,17 @@ fn list_next<F: Files>(
     name: &str,
 ) -> Result<(), MergeFault>
     requires few { vec_len listed.old.inputs < 32 }
-    requires lists { (asked : ℕ) × ListsChunks (F.seen files.old).held listed.old.inputs.items
-        listed.old.sources.items listed.old.lists.many listed.old.lists.counts.items listed.old.lists.sizes.items asked }
+    requires lists { (asked : ℕ) × Lists (F.seen files.old).held listed.old asked }
     ensures next { OnOk result ((input : InputSeen)
         × IsNext (F.seen files.old).held name.now listed.old.inputs.items input
         × (listed.new.inputs.items ≡ listed.old.inputs.items ++ input ∷ [])) }
-    ensures lists { (asked : ℕ) → ListsChunks (F.seen files.old).held listed.old.inputs.items listed.old.sources.items
-        listed.old.lists.many listed.old.lists.counts.items listed.old.lists.sizes.items asked
-        → OnOk result (ListsChunks (F.seen files.old).held listed.new.inputs.items listed.new.sources.items
-        listed.new.lists.many listed.new.lists.counts.items listed.new.lists.sizes.items
+    ensures lists { (asked : ℕ) → Lists (F.seen files.old).held listed.old asked
+        → OnOk result (Lists (F.seen files.old).held listed.new
         (asked + ((F.seen files.new).asked - (F.seen files.old).asked))) }
     ensures ends { IfErr result
         (FailsNextPacked name.now listed.old.inputs.items (F.seen files.old) (F.seen files.new)) }
-    ensures faults { OnOk result ((F.seen files.new).read_faults ≡ (F.seen files.old).read_faults) }
-    ensures held { (F.seen files.new).held ≡ (F.seen files.old).held }
-    ensures writes { (F.seen files.new).write_faults ≡ (F.seen files.old).write_faults }
-    ensures later { Later (F.seen files.old) (F.seen files.new) }
+    ensures reads { OnlyReads (F.seen files.old) (F.seen files.new) }
+    ensures calm { OnOk result (IsCalm (F.seen files.old) (F.seen files.new)) }
 {
     let number = listed.inputs.len() as u32;
     let reader = match Reader::open(alloc, files, name) {
@@ -160,8 +156,8 @@ fn list_next<F: Files>(
     }
 }
 
-/// Opens the inputs in order. Each is to be packed, and each after the first is compared with the first at once. Each is
-/// closed again: the chunk lists of one input alone are in memory, beside those of all inputs together.
+/// Opens the inputs in order. Each is to be packed, and each after the first is compared with the first at once. Each
+/// is closed again: the chunk lists of one input alone are in memory, beside those of all inputs together.
 pub(crate) fn list_inputs<F: Files>(
     alloc: Global,
     files: &mut F,
@@ -169,15 +165,12 @@ pub(crate) fn list_inputs<F: Files>(
 ) -> Result<Listed, MergeFault>
     requires few { length names.now ≤ 32 }
     ensures opened { IfOk result (λ listed. AreOpen (F.seen files.old).held (names_of names.now) listed.inputs.items) }
-    ensures lists { IfOk result (λ listed. ListsChunks (F.seen files.old).held listed.inputs.items listed.sources.items
-        listed.lists.many listed.lists.counts.items listed.lists.sizes.items
+    ensures lists { IfOk result (λ listed. Lists (F.seen files.old).held listed
         ((F.seen files.new).asked - (F.seen files.old).asked)) }
     ensures all { IfOk result (λ listed. length listed.inputs.items ≡ length names.now) }
     ensures ends { IfErr result (EndsListing (names_of names.now) (F.seen files.old) (F.seen files.new)) }
-    ensures faults { OnOk result ((F.seen files.new).read_faults ≡ (F.seen files.old).read_faults) }
-    ensures held { (F.seen files.new).held ≡ (F.seen files.old).held }
-    ensures writes { (F.seen files.new).write_faults ≡ (F.seen files.old).write_faults }
-    ensures later { Later (F.seen files.old) (F.seen files.new) }
+    ensures reads { OnlyReads (F.seen files.old) (F.seen files.new) }
+    ensures calm { OnOk result (IsCalm (F.seen files.old) (F.seen files.new)) }
 {
     let mut listed = Listed {
         inputs: Vec::new(alloc),

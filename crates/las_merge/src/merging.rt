@@ -1,27 +1,29 @@
 //! Whole files that are merged.
-ghost use Rattle.std.specs.Prelude.{◌≡◌, ◌≢◌, ◌⊎◌, ◌*◌, ◌<◌, ◌≤◌, ℕ, List, [], All, true, false, None, Some, length};
-ghost use Rattle.std.specs.Prelude.{IfErr, IfOk, IsErrOf, OnOk, string_bytes};
+ghost use Rattle.std.specs.Prelude.{◌≡◌, ◌≢◌, ◌⊎◌, ◌*◌, ◌<◌, ◌≤◌, ℕ, List, [], All, true, false, length};
+ghost use Rattle.std.specs.Prelude.{IfErr, IfOk, IsErrOf, OnErr, OnOk, string_bytes};
 ghost use Rattle.std.specs.Option.{ForSome};
 ghost use Rattle.las_header.specs.declared.refusal.Refusal.{Refusal};
-ghost use Rattle.las_header.specs.declared.refusal.Refusal.TheVariants.{BadChunk};
 ghost use Rattle.las_header.specs.Fields.{is_packed, record_length_of};
 ghost use Rattle.las_header.specs.Vlrs.{laszip_vlrs_of};
 ghost use Rattle.las_outside.specs.Faults.{Rose};
-ghost use Rattle.las_outside.specs.Files.{IsMissing, with_file};
+ghost use Rattle.las_outside.specs.Files.{with_file};
+ghost use Rattle.las_outside.specs.Frames.{IsCalm};
+ghost use Rattle.las_outside.specs.Limits.{AreWorkers, IsChunkSize};
 ghost use Rattle.las_outside.specs.Outside.{Later, Outside};
 ghost use Rattle.laz_file.specs.declared.fault.Fault.{Fault};
 ghost use Rattle.laz_file.specs.declared.fault.Fault.TheVariants as file;
 ghost use Rattle.laz_file.specs.Asking.{AsksAtMost};
-ghost use Rattle.laz_file.specs.Outputs.{Output, finished, stopped};
-ghost use Rattle.laz_file.specs.Writing.{SameFaults, Stands};
+ghost use Rattle.laz_file.specs.Outputs.{Output, finished};
+ghost use Rattle.laz_file.specs.Writing.{Stands};
 ghost use Rattle.las_merge.specs.declared.fault.MergeFault.TheVariants.{At, Memory, TooManyChunks, TooManyPoints};
 ghost use Rattle.las_merge.specs.declared.fault.MergeFault.TheVariants.{Unequal, Write};
 ghost use Rattle.las_merge.specs.declared.field.Field.{Field};
 ghost use Rattle.las_merge.specs.Asking.{asked_of_all, asked_to_merge, asked_to_read};
 ghost use Rattle.las_merge.specs.Copying.{CopiesAll, EndsMerging, FailsBeginning, output_under, output_with};
-ghost use Rattle.las_merge.specs.Inputs.{AreFirst, CanMerge, IfKnown, IsKeptBy, item_at, names_of};
+ghost use Rattle.las_merge.specs.Inputs.{CanBeMerged, IfKnown, IsKeptBy, IsReached, IsUnread};
+ghost use Rattle.las_merge.specs.Inputs.{item_at, names_of};
 ghost use Rattle.las_merge.specs.Opening.{IsOpen, names_read, points_read};
-ghost use Rattle.las_merge.specs.Merging.{LeavesMerged, OnlyMerges, merged_output};
+ghost use Rattle.las_merge.specs.Merging.{IsLeftIn, IsMerged, IsRefusedIn};
 
 use crate::MergeFault;
 use crate::copying::copy_inputs;
@@ -30,6 +32,7 @@ use crate::opening::{count_points, open_inputs};
 use las_header::Head;
 use las_outside::{Files, Gate};
 use laz_file::{Fault, Writer};
+use laz_workers::Machine;
 use std::alloc::Global;
 use std::thread::Threads;
 
@@ -57,14 +60,14 @@ fn create<F: Files>(
 ) -> Result<Writer, MergeFault>
     requires plain { is_packed head.now.bytes ≡ false }
     requires none { laszip_vlrs_of head.now.bytes ≡ [] }
-    requires chunk { ForSome chunk (λ n. (256 ≤ n) × (n ≤ 250000)) }
-    requires workers { (1 ≤ workers) × (workers ≤ 8) }
+    requires chunk { ForSome chunk IsChunkSize }
+    requires workers { AreWorkers workers }
     ensures stands { IfOk result (λ writer. Stands (F.seen files.old) (F.seen files.new) writer
         (output_with output.now head.now.bytes chunk) []) }
     ensures fresh { IfOk result (λ writer. (writer.failed ≡ false) × (writer.most ≡ most)) }
     ensures ends { IfErr result (FailsBeginning (F.seen files.old) (F.seen files.new)
         (output_with output.now head.now.bytes chunk)) }
-    ensures calm { OnOk result (SameFaults (F.seen files.old) (F.seen files.new)) }
+    ensures calm { OnOk result (IsCalm (F.seen files.old) (F.seen files.new)) }
     ensures asked { (F.seen files.new).asked ≡ (F.seen files.old).asked }
     ensures later { Later (F.seen files.old) (F.seen files.new) }
 {
@@ -87,15 +90,15 @@ fn begin<F: Files>(
 ) -> Result<Writer, MergeFault>
     requires one { is_packed head.now.bytes ≡ true → length (laszip_vlrs_of head.now.bytes) ≡ 1 }
     requires none { is_packed head.now.bytes ≡ false → laszip_vlrs_of head.now.bytes ≡ [] }
-    requires chunk { ForSome chunk (λ n. (256 ≤ n) × (n ≤ 250000)) }
-    requires workers { (1 ≤ workers) × (workers ≤ 8) }
+    requires chunk { ForSome chunk IsChunkSize }
+    requires workers { AreWorkers workers }
     ensures stands { IfOk result (λ writer. Stands (F.seen files.old) (F.seen files.new) writer
         (output_under output.now head.now.bytes chunk) []) }
     ensures fresh { IfOk result (λ writer. (writer.failed ≡ false) × (writer.most ≡ most) × (writer.taken ≡ 0)
         × (writer.size ≡ record_length_of head.now.bytes)) }
     ensures ends { IfErr result (FailsBeginning (F.seen files.old) (F.seen files.new)
         (output_under output.now head.now.bytes chunk)) }
-    ensures calm { OnOk result (SameFaults (F.seen files.old) (F.seen files.new)) }
+    ensures calm { OnOk result (IsCalm (F.seen files.old) (F.seen files.new)) }
     ensures asked { (F.seen files.new).asked ≡ (F.seen files.old).asked }
     ensures later { Later (F.seen files.old) (F.seen files.new) }
 {
@@ -110,16 +113,13 @@ fn begin<F: Files>(
 
 // Copies the records of all inputs into the output, and finishes it. After a bad chunk it is stopped.
 fn fill<R: Threads + Sync, F: Files, G: Gate>(
-    rt: &R,
-    alloc: Global,
+    machine: Machine<'_, R, G>,
     files: &mut F,
-    gate: &G,
     inputs: Vec<Input>,
-    workers: u32,
     writer: Writer,
 ) -> Result<(), MergeFault>
     requires few { length inputs.items ≤ 32 }
-    requires workers { (1 ≤ workers) × (workers ≤ 8) }
+    requires workers { AreWorkers machine.workers }
     requires opened { All (IsOpen (F.seen files.old).held) inputs.items }
     requires sizes { All (λ input. record_length_of input.head.bytes ≡ writer.size) inputs.items }
     requires names { All (λ input. input.name ≢ writer.name) inputs.items }
@@ -132,19 +132,18 @@ fn fill<R: Threads + Sync, F: Files, G: Gate>(
     ensures ends { (before : Outside) (out : Output) → Stands before (F.seen files.old) writer out []
         → IfErr result (EndsMerging (F.seen files.old).held before.held (F.seen files.old) (F.seen files.new)
         (names_read inputs.items) out) }
-    ensures reads_calm { OnOk result ((F.seen files.new).read_faults ≡ (F.seen files.old).read_faults) }
-    ensures writes_calm { OnOk result ((F.seen files.new).write_faults ≡ (F.seen files.old).write_faults) }
+    ensures calm { OnOk result (IsCalm (F.seen files.old) (F.seen files.new)) }
     ensures asked { IfKnown (F.seen files.old).held (λ known. AsksAtMost
         (asked_of_all asked_to_read known (names_read inputs.items)) (F.seen files.old) (F.seen files.new)) }
     ensures later { Later (F.seen files.old) (F.seen files.new) }
 {
     let mut writer = writer;
-    match copy_inputs(rt, alloc, files, gate, inputs, workers, &mut writer)? {
-        None => match writer.finish(rt, alloc, files, gate) {
+    match copy_inputs(machine, files, inputs, &mut writer)? {
+        None => match writer.finish(machine.rt, machine.alloc, files, machine.gate) {
             Ok(_) => Ok(()),
             Err(fault) => Err(fault_of_output(fault)),
         },
-        Some(bad) => match writer.stop(rt, alloc, files, gate) {
+        Some(bad) => match writer.stop(machine.rt, machine.alloc, files, machine.gate) {
             Ok(()) => Err(MergeFault::At(bad.input, Fault::Refused(bad.cause))),
             Err(fault) => Err(fault_of_output(fault)),
         },
@@ -153,7 +152,7 @@ fn fill<R: Threads + Sync, F: Files, G: Gate>(
 
 /// Merges 1 to 32 files: the output, another name than any input's, has the records of all inputs, in their order,
 /// under the plain head of the first input with the counts of these records. It is packed in chunks of `chunk` points,
-/// 256 to 250,000, or plain. `workers`, 1 to 8, unpack and pack side by side, and what is written does not depend on
+/// 256 to 250,000, or plain. The machine's workers unpack and pack side by side, and what is written does not depend on
 /// them. An input may be given more than once.
 ///
 /// The inputs are opened in order, and each is compared with the first: it has the same format (a packed and a plain
@@ -173,37 +172,26 @@ fn fill<R: Threads + Sync, F: Files, G: Gate>(
 /// it is opened at first: for its own cause, with `Unequal` if its head differs from what it was in a field, or with
 /// `PointCounts` if it has another number of records. The output is then left unfinished.
 pub fn merge<R: Threads + Sync, F: Files, G: Gate>(
-    rt: &R,
-    alloc: Global,
+    machine: Machine<'_, R, G>,
     files: &mut F,
-    gate: &G,
     inputs: &[String],
     output: &str,
     chunk: Option<u32>,
-    workers: u32,
 ) -> Result<(), MergeFault>
     requires some { 1 ≤ length inputs.now }
     requires few { length inputs.now ≤ 32 }
-    requires chunk { ForSome chunk (λ n. (256 ≤ n) × (n ≤ 250000)) }
-    requires workers { (1 ≤ workers) × (workers ≤ 8) }
+    requires chunk { ForSome chunk IsChunkSize }
+    requires workers { AreWorkers machine.workers }
     requires names { All (λ name. string_bytes name ≢ output.now) inputs.now }
 
     ensures merged { OnOk result (IfKnown (F.seen files.old).held (λ known.
-        (merged : List (List ℕ)) × (records : List ℕ) × CanMerge known (names_of inputs.now) merged
-        × OnlyMerges merged records None
-        × ((F.seen files.new).held ≡ with_file (F.seen files.old).held output.now
-        (finished (merged_output output.now merged chunk) records)))) }
+        IsMerged known (names_of inputs.now) output.now chunk (F.seen files.old).held (F.seen files.new).held)) }
 
     // An input is refused when it is opened, or a chunk of it is bad.
     ensures refused { (number : ℕ) (cause : Refusal) → IsErrOf result (At number (file.Refused cause))
         → IfKnown (F.seen files.old).held (λ known.
-        (IsKeptBy known (names_of inputs.now) (At number (file.Refused cause))
-        × ((F.seen files.new).held ≡ (F.seen files.old).held))
-        ⊎ ((merged : List (List ℕ)) × (records : List ℕ) × (bad : ℕ) × (cause ≡ BadChunk bad)
-        × CanMerge known (names_of inputs.now) merged
-        × OnlyMerges merged records (Some (record { file = number; chunk = bad }))
-        × ((F.seen files.new).held ≡ with_file (F.seen files.old).held output.now
-        (stopped (merged_output output.now merged chunk) records)))) }
+        IsRefusedIn known (names_of inputs.now) output.now chunk number cause (F.seen files.old).held
+        (F.seen files.new).held) }
     ensures unequal { (number : ℕ) (field : Field) → IsErrOf result (Unequal number field)
         → (number < length inputs.now) × ((F.seen files.new).held ≡ (F.seen files.old).held)
         × IfKnown (F.seen files.old).held (λ known. IsKeptBy known (names_of inputs.now) (Unequal number field)) }
@@ -215,32 +203,34 @@ pub fn merge<R: Threads + Sync, F: Files, G: Gate>(
     // opened, and like the first.
     ensures at { (number : ℕ) (cause : Fault) → IsErrOf result (At number cause)
         → (number < length inputs.now) × IfKnown (F.seen files.old).held (λ known.
-        (before : List (List ℕ)) × AreFirst known (names_of inputs.now) before × (length before ≡ number)) }
+        IsReached known (names_of inputs.now) number) }
     ensures read { (number : ℕ) → IsErrOf result (At number file.Read)
-        → (IsMissing (F.seen files.old).held (item_at (names_of inputs.now) number)
-        × ((F.seen files.new).held ≡ (F.seen files.old).held))
-        ⊎ Rose (F.seen files.old).read_faults (F.seen files.new).read_faults }
+        → IsUnread (item_at (names_of inputs.now) number) (F.seen files.old) (F.seen files.new) }
     ensures write { IsErrOf result Write → Rose (F.seen files.old).write_faults (F.seen files.new).write_faults
-        × IfKnown (F.seen files.old).held (λ known.
-        (merged : List (List ℕ)) × CanMerge known (names_of inputs.now) merged) }
+        × IfKnown (F.seen files.old).held (λ known. CanBeMerged known (names_of inputs.now)) }
     ensures never { (number : ℕ) → IsErrOf result (At number file.Write) → ⊥ }
     ensures few_chunks { IsErrOf result TooManyChunks → ⊥ }
 
     // The output is begun only if the inputs can be merged, and then it is left unfinished.
-    ensures left { IfErr result (λ cause. IfKnown (F.seen files.old).held (λ known.
-        ((F.seen files.new).held ≡ (F.seen files.old).held)
-        ⊎ ((merged : List (List ℕ)) × CanMerge known (names_of inputs.now) merged
-        × LeavesMerged (merged_output output.now merged chunk) merged (F.seen files.old).held
-        (F.seen files.new).held))) }
+    ensures left { OnErr result (IfKnown (F.seen files.old).held (λ known.
+        IsLeftIn known (names_of inputs.now) output.now chunk (F.seen files.old).held (F.seen files.new).held)) }
     // However the call ends, no more is asked for than what opening each input twice and reading it once takes.
     ensures asked { IfKnown (F.seen files.old).held (λ known.
         AsksAtMost (asked_to_merge known (names_of inputs.now)) (F.seen files.old) (F.seen files.new)) }
-    ensures reads_calm { OnOk result ((F.seen files.new).read_faults ≡ (F.seen files.old).read_faults) }
-    ensures writes_calm { OnOk result ((F.seen files.new).write_faults ≡ (F.seen files.old).write_faults) }
+    ensures calm { OnOk result (IsCalm (F.seen files.old) (F.seen files.new)) }
     ensures later { Later (F.seen files.old) (F.seen files.new) }
 {
+    let alloc = machine.alloc;
     let opened = open_inputs(alloc, files, inputs)?;
     let most = count_points(&opened)?;
-    let writer = begin(alloc, files, opened[0].head(), output, chunk, most, workers)?;
-    fill(rt, alloc, files, gate, opened, workers, writer)
+    let writer = begin(
+        alloc,
+        files,
+        opened[0].head(),
+        output,
+        chunk,
+        most,
+        machine.workers,
+    )?;
+    fill(machine, files, opened, writer)
 }

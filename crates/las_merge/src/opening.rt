@@ -2,7 +2,7 @@
 ghost use Rattle.std.specs.Prelude.{◌≡◌, ◌^◌, ◌<◌, ◌≤◌, ◌++◌, ◌∷◌, [], length, vec_len, None, Some, IfErr, IfOk, OnOk};
 ghost use Rattle.std.specs.FinMap as finmap;
 ghost use Rattle.las_outside.specs.Files.{WhereKnown};
-ghost use Rattle.las_outside.specs.Outside.{Later};
+ghost use Rattle.las_outside.specs.Frames.{IsCalm, OnlyReads};
 ghost use Rattle.laz_file.specs.Asking.{AsksAtMost, asked_to_open};
 ghost use Rattle.las_merge.specs.declared.fault.MergeFault.TheVariants.{TooManyPoints};
 ghost use Rattle.las_merge.specs.declared.field.Field.{Field};
@@ -56,12 +56,10 @@ fn open_input<F: Files>(
     ensures named { IfOk result (λ input. input.name ≡ name.now) }
     ensures opened { IfOk result (IsOpen (F.seen files.old).held) }
     ensures ends { IfErr result (FailsAt number name.now (F.seen files.old) (F.seen files.new)) }
-    ensures faults { OnOk result ((F.seen files.new).read_faults ≡ (F.seen files.old).read_faults) }
-    ensures held { (F.seen files.new).held ≡ (F.seen files.old).held }
-    ensures writes { (F.seen files.new).write_faults ≡ (F.seen files.old).write_faults }
     ensures asked { IfKnown (F.seen files.old).held (λ known.
         AsksAtMost (asked_to_compare (finmap.get known name.now)) (F.seen files.old) (F.seen files.new)) }
-    ensures later { Later (F.seen files.old) (F.seen files.new) }
+    ensures reads { OnlyReads (F.seen files.old) (F.seen files.new) }
+    ensures calm { OnOk result (IsCalm (F.seen files.old) (F.seen files.new)) }
 {
     let reader = match Reader::open(alloc, files, name) {
         Ok(reader) => reader,
@@ -88,12 +86,10 @@ fn open_next<F: Files>(
         × (inputs.new.items ≡ inputs.old.items ++ input ∷ [])) }
     ensures ends { IfErr result
         (FailsNext name.now inputs.old.items (F.seen files.old) (F.seen files.new)) }
-    ensures faults { OnOk result ((F.seen files.new).read_faults ≡ (F.seen files.old).read_faults) }
-    ensures held { (F.seen files.new).held ≡ (F.seen files.old).held }
-    ensures writes { (F.seen files.new).write_faults ≡ (F.seen files.old).write_faults }
     ensures asked { IfKnown (F.seen files.old).held (λ known.
         AsksAtMost (asked_to_compare (finmap.get known name.now)) (F.seen files.old) (F.seen files.new)) }
-    ensures later { Later (F.seen files.old) (F.seen files.new) }
+    ensures reads { OnlyReads (F.seen files.old) (F.seen files.new) }
+    ensures calm { OnOk result (IsCalm (F.seen files.old) (F.seen files.new)) }
 {
     let number = inputs.len() as u32;
     let input = open_input(alloc, files, number, name)?;
@@ -117,12 +113,10 @@ pub(crate) fn open_inputs<F: Files>(
     ensures opened { IfOk result (λ inputs. AreOpen (F.seen files.old).held (names_of names.now) inputs.items) }
     ensures all { IfOk result (λ inputs. length inputs.items ≡ length names.now) }
     ensures ends { IfErr result (EndsOpening (names_of names.now) (F.seen files.old) (F.seen files.new)) }
-    ensures faults { OnOk result ((F.seen files.new).read_faults ≡ (F.seen files.old).read_faults) }
-    ensures held { (F.seen files.new).held ≡ (F.seen files.old).held }
-    ensures writes { (F.seen files.new).write_faults ≡ (F.seen files.old).write_faults }
     ensures asked { IfKnown (F.seen files.old).held (λ known.
         AsksAtMost (asked_of_all asked_to_compare known (names_of names.now)) (F.seen files.old) (F.seen files.new)) }
-    ensures later { Later (F.seen files.old) (F.seen files.new) }
+    ensures reads { OnlyReads (F.seen files.old) (F.seen files.new) }
+    ensures calm { OnOk result (IsCalm (F.seen files.old) (F.seen files.new)) }
 {
     let mut inputs = Vec::new(alloc);
     'inputs: for name in names {
@@ -142,12 +136,10 @@ pub(crate) fn open_again<F: Files>(
     requires opened { IsOpen (F.seen files.old).held input.now }
     ensures again { IfOk result (IsAgain (F.seen files.old).held input.now) }
     ensures ends { IfErr result (IsFaultOf (F.seen files.old) (F.seen files.new) number) }
-    ensures faults { OnOk result ((F.seen files.new).read_faults ≡ (F.seen files.old).read_faults) }
-    ensures held { (F.seen files.new).held ≡ (F.seen files.old).held }
-    ensures writes { (F.seen files.new).write_faults ≡ (F.seen files.old).write_faults }
     ensures asked { WhereKnown (F.seen files.old).held input.now.name
         (λ file. AsksAtMost (asked_to_open file) (F.seen files.old) (F.seen files.new)) }
-    ensures later { Later (F.seen files.old) (F.seen files.new) }
+    ensures reads { OnlyReads (F.seen files.old) (F.seen files.new) }
+    ensures calm { OnOk result (IsCalm (F.seen files.old) (F.seen files.new)) }
 {
     let reader = match Reader::open(alloc, files, &input.name) {
         Ok(reader) => reader,

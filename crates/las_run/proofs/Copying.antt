@@ -1,6 +1,7 @@
 -- What the call that copies chunks says of its outcome, as how a run of `lasmerge` ends.
-use Rattle.std.proofs.Common.{◌≡◌, ◌≢◌, ◌⊎◌, inl, inr, ℕ, ◌<◌, true, List, [], ◌∷◌, length, take, Option, Some, Result, Ok, Err, refl, sym, ◌∙◌, ap, subst}
-use Rattle.std.specs.Prelude.{Contains, IfErr, IsErrOf, OnOk}
+use Rattle.std.proofs.Common.{◌≡◌, ◌≢◌, ◌⊎◌, inl, inr, ℕ, ◌<◌, true, List, [], ◌∷◌, length, take, Option, Some, Result}
+use Rattle.std.proofs.Common.{Ok, Err, refl, sym, ◌∙◌, ap, subst}
+use Rattle.std.specs.Prelude.{Contains, IfErr, IsErrOf, OnErr, OnOk}
 use Rattle.std.specs.FinMap as finmap
 use Rattle.std.proofs.lemmas.List.{get_or_default}
 use Rattle.las_info.specs.Tallies.{TapSeen}
@@ -48,14 +49,16 @@ module _ (inputs : List (List ℕ)) (output : List ℕ) (old new : Outside) wher
     pub copied : OnOk outcome (IfKnown old.held IsCopiedNow)
     pub kept : IfErr outcome (λ fault. IsNoFault fault → IsKept fault)
     pub at : (number : ℕ) (cause : Fault) → IsErrOf outcome (merge.At number cause)
-        → (number < length inputs) × IfKnown old.held (λ known. (before : List (List ℕ)) × AreFirstPacked known inputs before × (length before ≡ number))
+        → (number < length inputs) × IfKnown old.held
+        (λ known. (before : List (List ℕ)) × AreFirstPacked known inputs before × (length before ≡ number))
     pub unequal : (number : ℕ) (field : Field) → IsErrOf outcome (merge.Unequal number field) → number < length inputs
     pub read : (number : ℕ) → IsErrOf outcome (merge.At number file.Read)
         → (IsMissing old.held (item_at inputs number) × (new.held ≡ old.held)) ⊎ Rose old.read_faults new.read_faults
     pub write : IsErrOf outcome merge.Write
-        → Rose old.write_faults new.write_faults × IfKnown old.held (λ known. (merged : List (List ℕ)) × (parts : List (List Chunk)) × CanCopyFrom known inputs merged parts)
+        → Rose old.write_faults new.write_faults × IfKnown old.held
+        (λ known. (merged : List (List ℕ)) × (parts : List (List Chunk)) × CanCopyFrom known inputs merged parts)
     pub never : (number : ℕ) → IsErrOf outcome (merge.At number file.Write) → ⊥
-    pub left : IfErr outcome (λ cause. IfKnown old.held Leaves)
+    pub left : OnErr outcome (IfKnown old.held Leaves)
     pub later : Later old new
 
 -- ---- the endings of a copy
@@ -73,18 +76,27 @@ module _ (taps : List TapSeen) (options : LasmergeOptions) (workers : ℕ) where
   Runs known ending = CopiesIn options.inputs options.output known ending
 
   is_input : (number : ℕ) → number < length options.inputs → Contains options.inputs (item_at options.inputs number)
-  is_input number within = (number, within, get_or_default options.inputs number (item_at options.inputs number) [] within)
+  is_input number within = (
+    number,
+    within,
+    get_or_default options.inputs number (item_at options.inputs number) []
+        within,
+  )
 
   -- of inputs that are kept from being copied
-  pub kept_ending : (known : FileMap) (fault : MergeFault) → IsKeptFromCopying known options.inputs fault → IsTheEnding task known (ends_at_once (cause_of_fault options.inputs fault))
+  pub kept_ending : (known : FileMap) (fault : MergeFault) → IsKeptFromCopying known options.inputs fault
+      → IsTheEnding task known (ends_at_once (cause_of_fault options.inputs fault))
   kept_ending known fault kept = record { defined = inl (fault, kept, refl); only = only }
     where
       only : (other : Ending) → Runs known other → other ≡ ends_at_once (cause_of_fault options.inputs fault)
-      only other (inl k) = k.2 ∙ ap (λ (f : MergeFault). ends_at_once (cause_of_fault options.inputs f)) (copied_by_one known options.inputs fault k.0 kept k.1)
+      only other (inl k) = k.2 ∙ ap (λ (f : MergeFault). ends_at_once (cause_of_fault options.inputs f))
+          (copied_by_one known options.inputs fault k.0 kept k.1)
       only other (inr m) = absurd (kept_or_copied known options.inputs m.0 m.1 fault kept m.2)
 
   -- and of those that can be
-  pub copied_ending : (known : FileMap) (merged : List (List ℕ)) (parts : List (List Chunk)) → CanCopyFrom known options.inputs merged parts → IsTheEnding task known (copies options.output (copied_file merged (all_of parts)))
+  pub copied_ending : (known : FileMap) (merged : List (List ℕ)) (parts : List (List Chunk))
+      → CanCopyFrom known options.inputs merged parts
+      → IsTheEnding task known (copies options.output (copied_file merged (all_of parts)))
   copied_ending known merged parts can = record { defined = inr (merged, parts, can, refl); only = only }
     where
       only : (other : Ending) → Runs known other → other ≡ copies options.output (copied_file merged (all_of parts))
@@ -95,16 +107,29 @@ module _ (taps : List TapSeen) (options : LasmergeOptions) (workers : ℕ) where
           ∙ ap (λ (fs : List (List ℕ)). copies options.output (copied_file fs (all_of m.1))) same.0
           ∙ ap (λ (ps : List (List Chunk)). copies options.output (copied_file merged (all_of ps))) same.1
 
-  has_output : (known : FileMap) (merged : List (List ℕ)) (parts : List (List Chunk)) (ending : Ending) → CanCopyFrom known options.inputs merged parts → Runs known ending → ending.outputs ≢ []
-  has_output known merged parts ending can (inl k) = absurd (kept_or_copied known options.inputs merged parts k.0 k.1 can)
-  has_output known merged parts ending can (inr m) = some_outputs ending.outputs _ _ (ap (λ (e : Ending). e.outputs) m.3)
+  has_output : (known : FileMap) (merged : List (List ℕ)) (parts : List (List Chunk)) (ending : Ending)
+      → CanCopyFrom known options.inputs merged parts → Runs known ending → ending.outputs ≢ []
+  has_output known merged parts ending can (inl k) =
+      absurd (kept_or_copied known options.inputs merged parts k.0 k.1 can)
+  has_output known merged parts ending can (inr m) =
+      some_outputs ending.outputs _ _ (ap (λ (e : Ending). e.outputs) m.3)
 
   -- ---- how a run ends
   module _ (old new : Outside) (out : SinkView) where
-    kept_ends : (fault : MergeFault) → IsKept options.inputs options.output old new fault → EndsAs task (quiet old new out) (cause_of_fault options.inputs fault)
-    kept_ends fault kept files known = (ends_at_once (cause_of_fault options.inputs fault), kept_ending files fault (kept.1 files known), refl, kept.0 ∙ known, with_more-none out)
+    kept_ends : (fault : MergeFault) → IsKept options.inputs options.output old new fault
+        → EndsAs task (quiet old new out) (cause_of_fault options.inputs fault)
+    kept_ends fault kept files known = (
+      ends_at_once (cause_of_fault options.inputs fault),
+      kept_ending files fault
+          (kept.1 files known),
+      refl,
+      kept.0 ∙ known,
+      with_more-none out,
+    )
 
-    left_one : (files : FileMap) (ending : Ending) → old.held ≡ Some files → Leaves options.inputs options.output old new files → Runs files ending → (now : FileMap) × (new.held ≡ Some now) × IsLeft ending.outputs files now
+    left_one : (files : FileMap) (ending : Ending) → old.held ≡ Some files
+        → Leaves options.inputs options.output old new files → Runs files ending
+        → (now : FileMap) × (new.held ≡ Some now) × IsLeft ending.outputs files now
     left_one files ending known (inl same) run = (files, same ∙ known, nothing_left ending.outputs files)
     left_one files ending known (inr l) (inl k) = absurd (kept_or_copied files options.inputs l.0 l.1 k.0 k.1 l.2)
     left_one files ending known (inr l) (inr m) =
@@ -113,17 +138,25 @@ module _ (taps : List TapSeen) (options : LasmergeOptions) (workers : ℕ) where
         let part = take l.3.0 text in (
           finmap.insert files options.output part,
           l.3.1 ∙ ap (λ (h : Option FileMap). with_file h options.output part) known,
-          subst (λ (e : Ending). IsLeft e.outputs files (finmap.insert files options.output part)) (sym is) (1, part ∷ [], (inl (l.3.0, refl), tt), refl),
+          subst (λ (e : Ending). IsLeft e.outputs files (finmap.insert files options.output part)) (sym is)
+              (1, part ∷ [], (inl (l.3.0, refl), tt), refl),
         )
 
     left_by : IfKnown old.held (Leaves options.inputs options.output old new) → IsLeftBy task (quiet old new out)
     left_by leaves files ending known run = left_one files ending known (leaves files known) run
 
-    done_ends : IfKnown old.held (IsCopiedNow options.inputs options.output old new) → EndsAs task (quiet old new out) Done
+    done_ends : IfKnown old.held (IsCopiedNow options.inputs options.output old new)
+        → EndsAs task (quiet old new out) Done
     done_ends made files known =
         let m = made files known in
-        let text = copied_file m.0 (all_of m.1) in
-        (copies options.output text, copied_ending files m.0 m.1 m.2, refl, m.3 ∙ ap (λ (h : Option FileMap). with_file h options.output text) known, with_more-none out)
+        let text = copied_file m.0 (all_of m.1) in (
+          copies options.output text,
+          copied_ending files m.0 m.1 m.2,
+          refl,
+          m.3
+              ∙ ap (λ (h : Option FileMap). with_file h options.output text) known,
+          with_more-none out,
+        )
 
     done_left : IfKnown old.held (IsCopiedNow options.inputs options.output old new) → IsLeftBy task (quiet old new out)
     done_left made files ending known run =
@@ -132,10 +165,13 @@ module _ (taps : List TapSeen) (options : LasmergeOptions) (workers : ℕ) where
         let done : ending.cause ≡ Done = ap (λ (x : Ending). x.cause) (sym is) ∙ e.2 in
         (files_of ending files, e.3 ∙ ap (λ (x : Ending). Some (files_of x files)) is, left_if_done ending files done)
 
-    outputs : IfKnown old.held (λ known. (merged : List (List ℕ)) × (parts : List (List Chunk)) × CanCopyFrom known options.inputs merged parts) → HasOutput task (quiet old new out)
+    outputs : IfKnown old.held (λ known. (merged : List (List ℕ)) × (parts : List (List Chunk))
+        × CanCopyFrom known options.inputs merged parts) → HasOutput task (quiet old new out)
     outputs can files ending known run = let m = can files known in has_output files m.0 m.1 ending m.2 run
 
-    missing_ends : (number : ℕ) → number < length options.inputs → IfKnown old.held (λ known. (before : List (List ℕ)) × AreFirstPacked known options.inputs before × (length before ≡ number)) → IsMissing old.held (item_at options.inputs number) → new.held ≡ old.held
+    missing_ends : (number : ℕ) → number < length options.inputs
+        → IfKnown old.held (λ known. (before : List (List ℕ)) × AreFirstPacked known options.inputs before
+        × (length before ≡ number)) → IsMissing old.held (item_at options.inputs number) → new.held ≡ old.held
         → EndsAs task (quiet old new out) (Unread (item_at options.inputs number))
     missing_ends number within first missing same = kept_ends (merge.At number file.Read) (
       same,
@@ -145,13 +181,20 @@ module _ (taps : List TapSeen) (options : LasmergeOptions) (workers : ℕ) where
           (f.0, record { first = f.1; number_is = f.2; within = within }, none),
     )
 
-    pub ends_copying : (outcome : Result (Unit {0}) MergeFault) → SaysCopying options.inputs options.output old new outcome
-        → Ends (task_with taps (record { work = lasmerge (record options { copy = true }); workers = workers })) (quiet old new out) (cause_of options.inputs (stopped_merge outcome))
+    pub ends_copying : (outcome : Result (Unit {0}) MergeFault)
+        → SaysCopying options.inputs options.output old new outcome
+        → Ends (task_with taps (record { work = lasmerge (record options { copy = true }); workers = workers }))
+        (quiet old new out) (cause_of options.inputs (stopped_merge outcome))
     ends_copying (Ok done) s = (done_ends s.copied, done_left s.copied)
     ends_copying (Err (merge.At number (file.Refused cause))) s =
         let a = s.at number (file.Refused cause) refl in
-        let kept = s.kept tt in
-        (is_input number a.0, kept_ends (merge.At number (file.Refused cause)) kept, left_by s.left, (λ first. kept.0), refl)
+        let kept = s.kept tt in (
+          is_input number a.0,
+          kept_ends (merge.At number (file.Refused cause)) kept,
+          left_by s.left,
+          (λ first. kept.0),
+          refl,
+        )
     ends_copying (Err (merge.At number file.Read)) s =
         let a = s.at number file.Read refl in
         let there = is_input number a.0 in
@@ -172,8 +215,10 @@ module _ (taps : List TapSeen) (options : LasmergeOptions) (workers : ℕ) where
         let within = s.unequal number field refl in
         let kept = s.kept tt in
         (is_input number within, kept_ends (merge.Unequal number field) kept, left_by s.left, kept.0, refl)
-    ends_copying (Err merge.TooManyPoints) s = let kept = s.kept tt in (kept_ends merge.TooManyPoints kept, left_by s.left, kept.0, refl)
-    ends_copying (Err merge.TooManyChunks) s = let kept = s.kept tt in (kept_ends merge.TooManyChunks kept, left_by s.left, kept.0, refl)
+    ends_copying (Err merge.TooManyPoints) s = let kept =
+        s.kept tt in (kept_ends merge.TooManyPoints kept, left_by s.left, kept.0, refl)
+    ends_copying (Err merge.TooManyChunks) s = let kept =
+        s.kept tt in (kept_ends merge.TooManyChunks kept, left_by s.left, kept.0, refl)
     ends_copying (Err merge.Write) s =
         let w = s.write refl in
         (inl (w.0, outputs w.1, refl), left_by s.left)

@@ -1,6 +1,7 @@
 -- What the call that merges files says of its outcome, as how a run of `lasmerge` ends.
-use Rattle.std.proofs.Common.{◌≡◌, ◌≢◌, ◌⊎◌, inl, inr, ℕ, ◌<◌, false, List, [], length, Option, Some, None, Result, Ok, Err, refl, sym, ◌∙◌, ap, subst}
-use Rattle.std.specs.Prelude.{Contains, IfErr, IsErrOf, OnOk, is_some}
+use Rattle.std.proofs.Common.{◌≡◌, ◌≢◌, ◌⊎◌, inl, inr, ℕ, ◌<◌, false, List, [], length, Option, Some, None, Result, Ok}
+use Rattle.std.proofs.Common.{Err, refl, sym, ◌∙◌, ap, subst}
+use Rattle.std.specs.Prelude.{Contains, IsErrOf, OnErr, OnOk, is_some}
 use Rattle.std.proofs.lemmas.List.{get_or_default}
 use Rattle.las_header.specs.declared.refusal.Refusal.{Refusal}
 use Rattle.las_header.specs.declared.refusal.Refusal.TheVariants.{BadChunk}
@@ -40,7 +41,8 @@ module _ (inputs : List (List ℕ)) (output : List ℕ) (size : Option ℕ) (old
   abbrev IsRefused : (number : ℕ) → Refusal → FileMap → Type 0
   IsRefused number cause known =
       (IsKeptBy known inputs (merge.At number (file.Refused cause)) × (new.held ≡ old.held))
-      ⊎ ((merged : List (List ℕ)) × (records : List ℕ) × (bad : ℕ) × (cause ≡ BadChunk bad) × CanMerge known inputs merged
+      ⊎ ((merged : List (List ℕ)) × (records : List ℕ) × (bad : ℕ) × (cause ≡ BadChunk bad)
+      × CanMerge known inputs merged
       × OnlyMerges merged records (Some (record { file = number; chunk = bad }))
       × (new.held ≡ with_file old.held output (points.stopped (merged_output output merged size) records)))
 
@@ -48,23 +50,29 @@ module _ (inputs : List (List ℕ)) (output : List ℕ) (size : Option ℕ) (old
   abbrev Leaves : FileMap → Type 0
   Leaves known =
       (new.held ≡ old.held)
-      ⊎ ((merged : List (List ℕ)) × CanMerge known inputs merged × LeavesMerged (merged_output output merged size) merged old.held new.held)
+      ⊎ ((merged : List (List ℕ)) × CanMerge known inputs merged
+      × LeavesMerged (merged_output output merged size) merged old.held new.held)
 
   pub record SaysMerging (outcome : Result (Unit {0}) MergeFault) : Type 0 where
     pub merged : OnOk outcome (IfKnown old.held IsMerged)
-    pub refused : (number : ℕ) (cause : Refusal) → IsErrOf outcome (merge.At number (file.Refused cause)) → IfKnown old.held (IsRefused number cause)
+    pub refused : (number : ℕ) (cause : Refusal) → IsErrOf outcome (merge.At number (file.Refused cause))
+        → IfKnown old.held (IsRefused number cause)
     pub unequal : (number : ℕ) (field : Field) → IsErrOf outcome (merge.Unequal number field)
-        → (number < length inputs) × (new.held ≡ old.held) × IfKnown old.held (λ known. IsKeptBy known inputs (merge.Unequal number field))
+        → (number < length inputs) × (new.held ≡ old.held)
+        × IfKnown old.held (λ known. IsKeptBy known inputs (merge.Unequal number field))
     pub few_chunks : IsErrOf outcome merge.TooManyChunks → ⊥
-    pub too_many : IsErrOf outcome merge.TooManyPoints → (new.held ≡ old.held) × IfKnown old.held (λ known. IsKeptBy known inputs merge.TooManyPoints)
+    pub too_many : IsErrOf outcome merge.TooManyPoints
+        → (new.held ≡ old.held) × IfKnown old.held (λ known. IsKeptBy known inputs merge.TooManyPoints)
     pub at : (number : ℕ) (cause : Fault) → IsErrOf outcome (merge.At number cause)
-        → (number < length inputs) × IfKnown old.held (λ known. (before : List (List ℕ)) × AreFirst known inputs before × (length before ≡ number))
+        → (number < length inputs) × IfKnown old.held
+        (λ known. (before : List (List ℕ)) × AreFirst known inputs before × (length before ≡ number))
     pub read : (number : ℕ) → IsErrOf outcome (merge.At number file.Read)
         → (IsMissing old.held (item_at inputs number) × (new.held ≡ old.held)) ⊎ Rose old.read_faults new.read_faults
     pub write : IsErrOf outcome merge.Write
-        → Rose old.write_faults new.write_faults × IfKnown old.held (λ known. (merged : List (List ℕ)) × CanMerge known inputs merged)
+        → Rose old.write_faults new.write_faults × IfKnown old.held
+        (λ known. (merged : List (List ℕ)) × CanMerge known inputs merged)
     pub never : (number : ℕ) → IsErrOf outcome (merge.At number file.Write) → ⊥
-    pub left : IfErr outcome (λ cause. IfKnown old.held Leaves)
+    pub left : OnErr outcome (IfKnown old.held Leaves)
     pub later : Later old new
 
 -- ---- the endings of a merge
@@ -88,16 +96,21 @@ module _ (taps : List TapSeen) (options : LasmergeOptions) (workers : ℕ) where
   is_input number within = (number, within, get_or_default inputs number (item_at inputs number) [] within)
 
   -- of inputs that are kept from being merged
-  pub kept_ending : (known : FileMap) (fault : MergeFault) → IsKeptBy known inputs fault → IsTheEnding task known (ends_at_once (cause_of_fault inputs fault))
+  pub kept_ending : (known : FileMap) (fault : MergeFault) → IsKeptBy known inputs fault
+      → IsTheEnding task known (ends_at_once (cause_of_fault inputs fault))
   kept_ending known fault kept = record { defined = inl (fault, kept, refl); only = only }
     where
       only : (other : Ending) → Runs known other → other ≡ ends_at_once (cause_of_fault inputs fault)
-      only other (inl k) = k.2 ∙ ap (λ (f : MergeFault). ends_at_once (cause_of_fault inputs f)) (kept_by_one known inputs fault k.0 kept k.1)
+      only other (inl k) = k.2 ∙ ap (λ (f : MergeFault). ends_at_once (cause_of_fault inputs f))
+          (kept_by_one known inputs fault k.0 kept k.1)
       only other (inr m) = absurd (kept_or_merged known inputs m.0 fault kept m.3)
 
   -- and of those that can be
-  pub merged_ending : (known : FileMap) (merged : List (List ℕ)) (records : List ℕ) (bad : Option BadPlace) → CanMerge known inputs merged → OnlyMerges merged records bad → IsTheEnding task known (merges inputs output size merged records bad)
-  merged_ending known merged records bad can are = record { defined = inr (merged, records, bad, can, are.are, refl); only = only }
+  pub merged_ending : (known : FileMap) (merged : List (List ℕ)) (records : List ℕ) (bad : Option BadPlace)
+      → CanMerge known inputs merged → OnlyMerges merged records bad
+      → IsTheEnding task known (merges inputs output size merged records bad)
+  merged_ending known merged records bad can are =
+      record { defined = inr (merged, records, bad, can, are.are, refl); only = only }
     where
       only : (other : Ending) → Runs known other → other ≡ merges inputs output size merged records bad
       only other (inl k) = absurd (kept_or_merged known inputs merged k.0 k.1 can)
@@ -109,22 +122,34 @@ module _ (taps : List TapSeen) (options : LasmergeOptions) (workers : ℕ) where
           ∙ ap (λ (rs : List ℕ). merges inputs output (chunk_if options.packed options.chunk) merged rs m.2) same.0
           ∙ ap (merges inputs output (chunk_if options.packed options.chunk) merged records) same.1
 
-  has_output : (known : FileMap) (merged : List (List ℕ)) (ending : Ending) → CanMerge known inputs merged → Runs known ending → ending.outputs ≢ []
+  has_output : (known : FileMap) (merged : List (List ℕ)) (ending : Ending) → CanMerge known inputs merged
+      → Runs known ending → ending.outputs ≢ []
   has_output known merged ending can (inl k) = absurd (kept_or_merged known inputs merged k.0 k.1 can)
   has_output known merged ending can (inr m) = some_outputs ending.outputs _ _ (ap (λ (e : Ending). e.outputs) m.5)
 
   -- ---- how a run ends
   module _ (old new : Outside) (out : SinkView) where
-    kept_ends : (fault : MergeFault) → IfKnown old.held (λ known. IsKeptBy known inputs fault) → new.held ≡ old.held → EndsAs task (quiet old new out) (cause_of_fault inputs fault)
-    kept_ends fault kept same files known = (ends_at_once (cause_of_fault inputs fault), kept_ending files fault (kept files known), refl, same ∙ known, with_more-none out)
+    kept_ends : (fault : MergeFault) → IfKnown old.held (λ known. IsKeptBy known inputs fault) → new.held ≡ old.held
+        → EndsAs task (quiet old new out) (cause_of_fault inputs fault)
+    kept_ends fault kept same files known = (
+      ends_at_once (cause_of_fault inputs fault),
+      kept_ending files fault
+          (kept files known),
+      refl,
+      same ∙ known,
+      with_more-none out,
+    )
 
-    left_one : (files : FileMap) (ending : Ending) → old.held ≡ Some files → Leaves inputs output size old new files → Runs files ending → (now : FileMap) × (new.held ≡ Some now) × IsLeft ending.outputs files now
+    left_one : (files : FileMap) (ending : Ending) → old.held ≡ Some files → Leaves inputs output size old new files
+        → Runs files ending → (now : FileMap) × (new.held ≡ Some now) × IsLeft ending.outputs files now
     left_one files ending known (inl same) run = (files, same ∙ known, nothing_left ending.outputs files)
     left_one files ending known (inr l) (inl k) = absurd (kept_or_merged files inputs l.0 k.0 k.1 l.1)
     left_one files ending known (inr l) (inr m) =
         let one = merged_once files inputs m.0 l.0 m.3 l.1 in
-        let leaves = subst (λ (fs : List (List ℕ)). LeavesMerged (merged_output output fs (chunk_if options.packed options.chunk)) fs old.held new.held) one l.2 in
-        let left = left_of_output (merged_output output m.0 (chunk_if options.packed options.chunk)) m.1 old.held new.held files (leaves m.1 m.2 m.4) known in
+        let leaves = subst (λ (fs : List (List ℕ)). LeavesMerged
+        (merged_output output fs (chunk_if options.packed options.chunk)) fs old.held new.held) one l.2 in
+        let left = left_of_output (merged_output output m.0 (chunk_if options.packed options.chunk)) m.1 old.held
+        new.held files (leaves m.1 m.2 m.4) known in
         (left.0, left.1, subst (λ (e : Ending). IsLeft e.outputs files left.0) (sym m.5) left.2)
 
     left_by : IfKnown old.held (Leaves inputs output size old new) → IsLeftBy task (quiet old new out)
@@ -148,12 +173,21 @@ module _ (taps : List TapSeen) (options : LasmergeOptions) (workers : ℕ) where
         let done : ending.cause ≡ Done = ap (λ (x : Ending). x.cause) (sym is) ∙ e.2 in
         (files_of ending files, e.3 ∙ ap (λ (x : Ending). Some (files_of x files)) is, left_if_done ending files done)
 
-    refused_ends : (number : ℕ) (cause : Refusal) → IfKnown old.held (IsRefused inputs output size old new number cause) → EndsAs task (quiet old new out) (Refused (item_at inputs number) cause)
+    refused_ends : (number : ℕ) (cause : Refusal) → IfKnown old.held (IsRefused inputs output size old new number cause)
+        → EndsAs task (quiet old new out) (Refused (item_at inputs number) cause)
     refused_ends number cause refused files known = one (refused files known)
       where
         one : IsRefused inputs output size old new number cause files
-            → (ending : Ending) × IsTheEnding task files ending × (ending.cause ≡ Refused (item_at inputs number) cause) × (new.held ≡ Some (files_of ending files)) × (out ≡ with_more out ending.text)
-        one (inl k) = let fault = merge.At number (file.Refused cause) in (ends_at_once (cause_of_fault inputs fault), kept_ending files fault k.0, refl, k.1 ∙ known, with_more-none out)
+            → (ending : Ending) × IsTheEnding task files ending × (ending.cause ≡ Refused (item_at inputs number) cause)
+            × (new.held ≡ Some (files_of ending files)) × (out ≡ with_more out ending.text)
+        one (inl k) = let fault = merge.At number (file.Refused cause) in (
+          ends_at_once (cause_of_fault inputs fault),
+          kept_ending files fault k.0,
+          refl,
+          k.1
+              ∙ known,
+          with_more-none out,
+        )
         one (inr m) =
             let place : BadPlace = record { file = number; chunk = m.2 } in
             let text = points.stopped (merged_output output m.0 (chunk_if options.packed options.chunk)) m.1 in (
@@ -165,33 +199,46 @@ module _ (taps : List TapSeen) (options : LasmergeOptions) (workers : ℕ) where
             )
 
     -- a refusal that comes when an input is opened changes nothing
-    unchanged : (number : ℕ) (cause : Refusal) → Later old new → IfKnown old.held (IsRefused inputs output size old new number cause) → ComesAtOpening cause → new.held ≡ old.held
-    unchanged number cause later refused first = go old.held new.held later.known (λ files known. one files (refused files known))
+    unchanged : (number : ℕ) (cause : Refusal) → Later old new
+        → IfKnown old.held (IsRefused inputs output size old new number cause) → ComesAtOpening cause
+        → new.held ≡ old.held
+    unchanged number cause later refused first = go old.held new.held later.known
+        (λ files known. one files (refused files known))
       where
         one : (files : FileMap) → IsRefused inputs output size old new number cause files → new.held ≡ old.held
         one files (inl k) = k.1
         one files (inr m) = absurd (subst ComesAtOpening m.3 first)
 
-        go : (held now : Option FileMap) → is_some now ≡ is_some held → ((files : FileMap) → held ≡ Some files → now ≡ held) → now ≡ held
+        go : (held now : Option FileMap) → is_some now ≡ is_some held
+            → ((files : FileMap) → held ≡ Some files → now ≡ held) → now ≡ held
         go None None same to = refl
         go None (Some files) same to = absurd (cc)
         go (Some files) now same to = to files refl
 
-    outputs : IfKnown old.held (λ known. (merged : List (List ℕ)) × CanMerge known inputs merged) → HasOutput task (quiet old new out)
+    outputs : IfKnown old.held (λ known. (merged : List (List ℕ)) × CanMerge known inputs merged)
+        → HasOutput task (quiet old new out)
     outputs can files ending known run = let m = can files known in has_output files m.0 ending m.1 run
 
-    missing_ends : (number : ℕ) → number < length inputs → IfKnown old.held (λ known. (before : List (List ℕ)) × AreFirst known inputs before × (length before ≡ number)) → IsMissing old.held (item_at inputs number) → new.held ≡ old.held
+    missing_ends : (number : ℕ) → number < length inputs
+        → IfKnown old.held (λ known. (before : List (List ℕ)) × AreFirst known inputs before × (length before ≡ number))
+        → IsMissing old.held (item_at inputs number) → new.held ≡ old.held
         → EndsAs task (quiet old new out) (Unread (item_at inputs number))
     missing_ends number within first missing same = kept_ends (merge.At number file.Read) (λ files known.
         let f = first files known in
         let none = subst (λ (h : Option FileMap). IsMissing h (item_at inputs number)) known missing in
         (f.0, record { first = f.1; number_is = f.2; within = within }, none)) same
 
-    ends_so : (outcome : Result (Unit {0}) MergeFault) → SaysMerging inputs output size old new outcome → Ends task (quiet old new out) (cause_of inputs (stopped_merge outcome))
+    ends_so : (outcome : Result (Unit {0}) MergeFault) → SaysMerging inputs output size old new outcome
+        → Ends task (quiet old new out) (cause_of inputs (stopped_merge outcome))
     ends_so (Ok done) s = (done_ends s.merged, done_left s.merged)
     ends_so (Err (merge.At number (file.Refused cause))) s =
-        let is = s.refused number cause refl in
-        (is_input number (s.at number (file.Refused cause) refl).0, refused_ends number cause is, left_by s.left, unchanged number cause s.later is, refl)
+        let is = s.refused number cause refl in (
+          is_input number (s.at number (file.Refused cause) refl).0,
+          refused_ends number cause is,
+          left_by s.left,
+          unchanged number cause s.later is,
+          refl,
+        )
     ends_so (Err (merge.At number file.Read)) s =
         let a = s.at number file.Read refl in
         let there = is_input number a.0 in
@@ -220,6 +267,9 @@ module _ (taps : List TapSeen) (options : LasmergeOptions) (workers : ℕ) where
         (inl (w.0, outputs w.1, refl), left_by s.left)
     ends_so (Err merge.Memory) s = (left_by s.left, refl)
 
-    pub ends_merging : (size : Option ℕ) (outcome : Result (Unit {0}) MergeFault) → size ≡ chunk_if options.packed options.chunk → SaysMerging inputs output size old new outcome
-        → Ends (task_with taps (record { work = lasmerge (record options { copy = false }); workers = workers })) (quiet old new out) (cause_of options.inputs (stopped_merge outcome))
-    ends_merging size outcome is s = ends_so outcome (subst (λ (c : Option ℕ). SaysMerging inputs output c old new outcome) is s)
+    pub ends_merging : (size : Option ℕ) (outcome : Result (Unit {0}) MergeFault)
+        → size ≡ chunk_if options.packed options.chunk → SaysMerging inputs output size old new outcome
+        → Ends (task_with taps (record { work = lasmerge (record options { copy = false }); workers = workers }))
+        (quiet old new out) (cause_of options.inputs (stopped_merge outcome))
+    ends_merging size outcome is s = ends_so outcome
+        (subst (λ (c : Option ℕ). SaysMerging inputs output c old new outcome) is s)

@@ -11,6 +11,7 @@ use Rattle.laz_file.specs.Asking.{AsksAtMost, asked_to_open}
 use Rattle.laz_file.specs.Pieces.{ArePieces, Piece}
 use Rattle.laz_file.specs.Ranges.{parts_of}
 use Rattle.laz_file.specs.Refusing.{IsRefusal}
+use Rattle.las_run.specs.declared.conversion.Conversion.{Conversion}
 use Rattle.las_run.specs.Tools.{range_in}
 
 -- how many bytes some pieces have
@@ -28,6 +29,21 @@ abbrev pub in_first_reading : Pick → ℕ → ℕ
 in_first_reading First size = 0
 in_first_reading Lowest size = size
 in_first_reading Highest size = size
+
+-- What is asked of a file that was opened: in a first reading, with opening it again, the bytes of those of its pieces
+-- that meet the range; and that, and then the same bytes again.
+abbrev pub AsksToLook : Conversion → (file : List ℕ) → (old new : Outside) → Type 0
+AsksToLook conversion file old new =
+    (pieces : List Piece) → ArePieces file pieces → AsksAtMost
+    (in_first_reading conversion.pick (asked_to_open file
+    + bytes_in (parts_of file (range_in conversion.start conversion.stop file) pieces))) old new
+
+abbrev pub AsksAfterOpening : Conversion → (file : List ℕ) → (old new : Outside) → Type 0
+AsksAfterOpening conversion file old new =
+    (pieces : List Piece) → ArePieces file pieces → AsksAtMost
+    (in_first_reading conversion.pick (asked_to_open file
+    + bytes_in (parts_of file (range_in conversion.start conversion.stop file) pieces))
+    + bytes_in (parts_of file (range_in conversion.start conversion.stop file) pieces)) old new
 
 -- What is asked of an input: nothing if it is missing; if it is refused when it is opened, at most what opening it
 -- takes; and else, in each reading, at most that, and the bytes of those of its pieces that meet the range.

@@ -95,7 +95,8 @@ MergesWhole known output file size records split =
     ≡ finmap.insert (files_of split known) output (whole_output output (plain_head file) size records))
 
 -- `lassplit` of a file into parts of n records ends with these parts. Where they stand, `lasmerge` of their names, in
--- their order, is done: its output has all records of the file, under its plain head with their counts, plain or packed.
+-- their order, is done: its output has all records of the file, under its plain head with their counts, plain or
+-- packed.
 abbrev pub PartsOfSplitMerge : Type 0
 PartsOfSplitMerge = (known : FileMap) (input stem end output file : List ℕ) (n : ℕ) (size : Option ℕ)
     (records : List (List ℕ)) → 0 < n → 1 ≤ length records → AreWhole (plain_head file) records

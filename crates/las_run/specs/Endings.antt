@@ -17,9 +17,9 @@ pub record Output : Type 0 where
   pub stopped : List ℕ
 
 -- Why a run ends: all is done; memory is short; the word of this index is wrong; the file of this name is not held or
--- could not be read; an output could not be written; the input of this name is refused; or inputs can't be merged, since
--- the one of this name is the first that differs from the first input, and this is the first field in which it does, or
--- since they have too many points, or chunks that were to be copied.
+-- could not be read; an output could not be written; the input of this name is refused; or inputs can't be merged,
+-- since the one of this name is the first that differs from the first input, and this is the first field in which it
+-- does, or since they have too many points, or chunks that were to be copied.
 pub data Cause : Type 0 where
   Done : Cause
   Memory : Cause
@@ -48,8 +48,8 @@ ComesAtOpening (refusal.RawRange record_number) = ⊥
 ComesAtOpening refusal.TooManyParts = ⊥
 ComesAtOpening _ = Unit {0}
 
--- A run that ends for this cause has created no output: the words are wrong, an input is missing, or is refused when it is
--- opened, or the inputs can't be merged.
+-- A run that ends for this cause has created no output: the words are wrong, an input is missing, or is refused when it
+-- is opened, or the inputs can't be merged.
 abbrev pub ComesFirst : Cause → Type 0
 ComesFirst Done = ⊥
 ComesFirst Memory = ⊥

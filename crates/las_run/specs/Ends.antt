@@ -65,6 +65,9 @@ pub record Change : Type 0 where
   pub out : SinkView
   pub out_now : SinkView
 
+abbrev pub changes : (files files_now : Outside) → (out out_now : SinkView) → Change
+changes files files_now out out_now = record { files = files; files_now = files_now; out = out; out_now = out_now }
+
 -- a change of files alone
 abbrev pub quiet : Outside → Outside → SinkView → Change
 quiet old now out = record { files = old; files_now = now; out = out; out_now = out }

@@ -20,6 +20,10 @@ pub record Task : Type 0 where
 abbrev pub task_with : List TapSeen → Asked → Task
 task_with taps asked = record { said = asks asked; taps = taps }
 
+-- the task of a command's work
+abbrev pub task_for : List TapSeen → Work → (workers : ℕ) → Task
+task_for taps work workers = task_with taps (record { work = work; workers = workers })
+
 -- the task of some words, with these taps
 abbrev pub task_of : (words : List (List ℕ)) → List TapSeen → Task
 task_of words taps = record { said = says words (map (λ tap. tap.name) taps); taps = taps }
@@ -34,8 +38,8 @@ abbrev pub inputs_of : Said → List (List ℕ)
 inputs_of (asks asked) = inputs_asked asked.work
 inputs_of (usage index) = []
 
--- the names of the files that a command reads, in the order of their first reading: its inputs, and those that `make` has
--- written
+-- the names of the files that a command reads, in the order of their first reading: its inputs, and those that `make`
+-- has written
 abbrev pub files_read : Work → List (List ℕ)
 files_read (reads input own) = input ∷ []
 files_read (lasmerge options) = options.inputs

@@ -9,7 +9,8 @@ use Rattle.las_run.specs.Ends.{Change}
 use Rattle.las_run.specs.Lines.{line_of}
 use Rattle.las_run.specs.Runs.{RunOf, Task}
 
--- What is seen of a run: its task and its status, and the files, standard output and standard error before and after it.
+-- What is seen of a run: its task and its status, and the files, standard output and standard error before and after
+-- it.
 pub record RunSeen : Type 0 where
   pub task : Task
   pub status : ℕ

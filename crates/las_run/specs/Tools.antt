@@ -37,6 +37,7 @@ use Rattle.las_outside.specs.Files.{FileMap}
 use Rattle.las_split.specs.Outputs.{PartFile, part_files}
 use Rattle.las_split.specs.Splitting.{SplitsTo}
 use Rattle.laz_file.specs.declared.fault.Fault.TheVariants as file
+use Rattle.las_words.specs.declared.command.Packing.{Packing}
 use Rattle.las_words.specs.Asked.{Las2lasOptions, LasmergeOptions, MakeOptions}
 use Rattle.las_run.specs.declared.conversion.Conversion.{Conversion}
 use Rattle.las_run.specs.declared.stop.Surplus.TheVariants.{Chunks, Points}
@@ -86,10 +87,12 @@ Zips input output chunk file ending = ZipsIf (is_packed (head_of file)) input ou
 abbrev pub chunk_if : (packed : Bool) → (chunk : ℕ) → Option ℕ
 chunk_if packed chunk = if packed then Some chunk else None
 
--- places from `start` on and before `stop`, cut to those of a file's records
+-- places from `start` on and before `stop`, cut to those of the records under a head, and of a file's records
+abbrev pub range_under : (start stop : ℕ) → (head : List ℕ) → Range
+range_under start stop head = record { start = min start (points_of head); stop = min stop (points_of head) }
+
 abbrev pub range_in : (start stop : ℕ) → (file : List ℕ) → Range
-range_in start stop file =
-    record { start = min start (points_of (head_of file)); stop = min stop (points_of (head_of file)) }
+range_in start stop file = range_under start stop (head_of file)
 
 -- the first tap of each of these names
 abbrev pub chosen_taps : List TapSeen → (tallies : List (List ℕ)) → List TapSeen
@@ -115,22 +118,37 @@ converted size chosen input output pick file records refusal = record {
   text = kept_text chosen file records refusal;
 }
 
--- `las2las` writes what its plan keeps, behind a sieve, of the records of a range, up to the first refusal: in chunks
--- of this size, if there is one. It puts what the chosen taps count of the kept records.
+-- `las2las` writes what stays of the records of a range when they are filtered and thinned, changed, up to the first
+-- refusal: in chunks of this size, if there is one. It puts what the chosen taps count of the records that it writes.
 abbrev pub ConvertsIn : (size : Option ℕ) → (range : List ℕ → Range) → (chosen : List TapSeen)
     → (input output : List ℕ) → Steps → sieve.Settings → (file : List ℕ) → Ending → Type 0
 ConvertsIn size range chosen input output plan settings file ending =
     (records : List ℕ) × (refusal : Option Refusal) × ConvertsTo plan settings file (range file) records refusal
     × (ending ≡ converted size chosen input output settings.pick file records refusal)
 
+-- how a conversion thins records
+abbrev pub sieve_in : Conversion → sieve.Settings
+sieve_in conversion = record { step = conversion.step; pick = conversion.pick; unique = conversion.unique }
+
+-- the range of a conversion, by the head of its input, and by its input
+abbrev pub range_for : Conversion → (head : List ℕ) → Range
+range_for conversion head = range_under conversion.start conversion.stop head
+
+-- the chunk size of a conversion's output, if it is packed
+abbrev pub chunk_for : Conversion → Option ℕ
+chunk_for conversion = chunk_if conversion.packing.packed conversion.packing.chunk
+
+-- What a conversion writes, with these taps chosen.
+abbrev pub ConvertsTaken : Conversion → (chosen : List TapSeen) → (input output : List ℕ) → Steps → (file : List ℕ)
+    → Ending → Type 0
+ConvertsTaken conversion chosen input output plan file ending =
+    ConvertsIn (chunk_for conversion) (range_in conversion.start conversion.stop) chosen input output plan
+    (sieve_in conversion) file ending
+
 abbrev pub Converts : List TapSeen → (input : List ℕ) → Las2lasOptions → (file : List ℕ) → Ending → Type 0
 Converts taps input options file ending =
     ConvertsIn (chunk_if options.packed options.chunk) (range_in options.start options.stop)
     (chosen_taps taps options.tallies) input options.output options.plan options.sieve file ending
-
--- how a conversion sieves records
-abbrev pub sieve_in : Conversion → sieve.Settings
-sieve_in conversion = record { step = conversion.step; pick = conversion.pick; unique = conversion.unique }
 
 -- the options of `las2las` with this conversion
 abbrev pub las2las_options : (output : List ℕ) → Steps → Conversion → (tallies : List (List ℕ)) → Las2lasOptions
@@ -181,6 +199,11 @@ Splits input stem end rule file ending =
       outputs = part_outputs (part_files stem end rule file records);
       text = [];
     })
+
+-- the options of `lasmerge` with this packing
+abbrev pub merge_options : (inputs : List (List ℕ)) → (output : List ℕ) → Packing → (copy : Bool) → LasmergeOptions
+merge_options inputs output packing copy =
+    record { inputs = inputs; output = output; packed = packing.packed; chunk = packing.chunk; copy = copy }
 
 -- the cause for which inputs are kept from being merged
 abbrev pub cause_of_fault : (inputs : List (List ℕ)) → MergeFault → Cause

@@ -1,4 +1,5 @@
-//! How `las2las` converts an input.
+//! What `las2las` does to an input.
+use las_filter::Plan;
 use las_thin::Pick;
 use las_words::Packing;
 
@@ -7,8 +8,6 @@ use las_words::Packing;
 pub struct Conversion {
     /// How the output is written.
     pub packing: Packing,
-    /// The number of workers.
-    pub workers: u32,
     /// The place of the first record that is taken, from 0.
     pub start: u32,
     /// The place of the first record after it that is not taken.
@@ -19,4 +18,17 @@ pub struct Conversion {
     pub pick: Pick,
     /// Whether records are dropped that repeat the position of an earlier one.
     pub unique: bool,
+}
+
+/// What `las2las` is to do, and to which file.
+#[derive(Clone, Copy)]
+pub struct Request<'a> {
+    /// The name of the input.
+    pub input: &'a str,
+    /// The name of the output.
+    pub output: &'a str,
+    /// The filters and the changes.
+    pub plan: &'a Plan,
+    /// The range, how records are thinned, and how they are written.
+    pub conversion: Conversion,
 }

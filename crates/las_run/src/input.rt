@@ -2,7 +2,7 @@
 ghost use Rattle.std.specs.Prelude.{◌≡◌, IfErr, IfOk, OnOk};
 ghost use Rattle.las_header.specs.Heads.{IsHead};
 ghost use Rattle.las_outside.specs.Files.{IsMissing, WhereKnown};
-ghost use Rattle.las_outside.specs.Outside.{Later};
+ghost use Rattle.las_outside.specs.Frames.{IsCalm, OnlyReads};
 ghost use Rattle.laz_file.specs.Asking.{AsksAtMost, asked_to_open};
 ghost use Rattle.laz_file.specs.Reading.{AgreesWithHead, IsNewReader, StandsFor};
 ghost use Rattle.las_run.specs.Ends.{StopsOpening, stop_by, stopped_by};
@@ -23,15 +23,13 @@ pub fn open_input<F: Files>(
     ensures fresh { IfOk result (IsNewReader name.now) }
     ensures whole { IfOk result AgreesWithHead }
     ensures head { IfOk result (λ reader. IsHead reader.head.bytes) }
-    ensures faults { OnOk result ((F.seen files.new).read_faults ≡ (F.seen files.old).read_faults) }
+    ensures calm { OnOk result (IsCalm (F.seen files.old) (F.seen files.new)) }
     ensures stops { IfErr result (StopsOpening number name.now (F.seen files.old) (F.seen files.new)) }
-    ensures held { (F.seen files.new).held ≡ (F.seen files.old).held }
-    ensures writes { (F.seen files.new).write_faults ≡ (F.seen files.old).write_faults }
     ensures asked_of { (IsMissing (F.seen files.old).held name.now → ⊥) → WhereKnown (F.seen files.old).held name.now
         (λ file. AsksAtMost (asked_to_open file) (F.seen files.old) (F.seen files.new)) }
     ensures missing { IsMissing (F.seen files.old).held name.now
         → (F.seen files.new).asked ≡ (F.seen files.old).asked }
-    ensures later { Later (F.seen files.old) (F.seen files.new) }
+    ensures reads { OnlyReads (F.seen files.old) (F.seen files.new) }
 {
     match Reader::open(alloc, files, name) {
         Ok(reader) => {

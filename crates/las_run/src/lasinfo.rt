@@ -3,6 +3,7 @@ ghost use Rattle.std.specs.Prelude.{◌≡◌, ◌^◌, ◌≤◌, ◌∷◌, []
 ghost use Rattle.las_header.specs.Heads.{IsHead};
 ghost use Rattle.las_info.specs.Tallies.{count_at};
 ghost use Rattle.las_outside.specs.Files.{WhereKnown};
+ghost use Rattle.las_outside.specs.Limits.{AreWorkers};
 ghost use Rattle.las_outside.specs.Outside.{Later};
 ghost use Rattle.las_words.specs.Asked.{AreChosen, lasinfo, reads};
 ghost use Rattle.las_words.specs.Texts.{texts};
@@ -10,8 +11,8 @@ ghost use Rattle.laz_file.specs.Asking.{AsksAtMost, bytes_left};
 ghost use Rattle.laz_file.specs.Reading.{AgreesWithHead, IsNewReader, StandsFor};
 ghost use Rattle.std.specs.Option.{option_map};
 ghost use Rattle.las_run.specs.Asking.{AsksWhole};
-ghost use Rattle.las_run.specs.Ends.{Ends, EndsMaking, cause_of, stopped_report};
-ghost use Rattle.las_run.specs.Runs.{task_with};
+ghost use Rattle.las_run.specs.Ends.{Ends, EndsMaking, cause_of, changes, stopped_report};
+ghost use Rattle.las_run.specs.Runs.{task_for};
 ghost use Rattle.las_run.specs.Tools.{Reports};
 
 use crate::input::{open_input, stop};
@@ -20,71 +21,61 @@ use las_info::{ReportFault, Tap, choose, report};
 use las_outside::{Files, Gate, Sink};
 use las_survey::survey;
 use laz_file::Reader;
-use std::alloc::Global;
+use laz_workers::Machine;
 use std::thread::Threads;
 
 /// Reports what is in an input, with the taps of these names.
 pub fn lasinfo<R: Threads + Sync, F: Files, O: Sink, G: Gate>(
-    rt: &R,
-    alloc: Global,
+    machine: Machine<'_, R, G>,
     files: &mut F,
     out: &mut O,
-    gate: &G,
     taps: Vec<Box<dyn Tap>>,
     input: &str,
     tallies: &[String],
-    workers: u32,
 ) -> Result<(), Stop>
     requires chosen { AreChosen (map (λ tap. (tap_seen tap).name) taps.items) (texts tallies.now) }
-    requires workers { (1 ≤ workers) × (workers ≤ 8) }
+    requires workers { AreWorkers machine.workers }
     requires room { All (λ tap. (bin : ℕ) → count_at (tap_seen tap).tally bin ≤ 2 ^ 63) taps.items }
-    ensures ends { Ends (task_with (map (λ tap. tap_seen tap) taps.items) (record {
-      work = reads input.now (lasinfo (record { tallies = texts tallies.now }));
-      workers = workers;
-    })) (record {
-      files = F.seen files.old;
-      files_now = F.seen files.new;
-      out = O.seen out.old;
-      out_now = O.seen out.new;
-    }) (cause_of (input.now ∷ []) result) }
+    ensures ends { let work = reads input.now (lasinfo (record { tallies = texts tallies.now })) in
+        Ends (task_for (map (λ tap. tap_seen tap) taps.items) work machine.entry.workers)
+        (changes (F.seen files.old) (F.seen files.new) (O.seen out.old) (O.seen out.new))
+        (cause_of (input.now ∷ []) result) }
     ensures asks { AsksWhole input.now (F.seen files.old) (F.seen files.new) }
     ensures later { Later (F.seen files.old) (F.seen files.new) }
 {
-    let reader = open_input(alloc, files, 0, input)?;
-    inform(rt, alloc, files, out, gate, reader, taps, tallies, workers)
+    let reader = open_input(machine.alloc, files, 0, input)?;
+    inform(machine, files, out, reader, taps, tallies)
 }
 
 // Reports what is in the file of a reader.
 fn inform<R: Threads + Sync, F: Files, O: Sink, G: Gate>(
-    rt: &R,
-    alloc: Global,
+    machine: Machine<'_, R, G>,
     files: &mut F,
     out: &mut O,
-    gate: &G,
     reader: Reader,
     taps: Vec<Box<dyn Tap>>,
     tallies: &[String],
-    workers: u32,
 ) -> Result<(), Stop>
     requires new { IsNewReader reader.name reader }
     requires whole { AgreesWithHead reader }
     requires head { IsHead reader.head.bytes }
     requires chosen { AreChosen (map (λ tap. (tap_seen tap).name) taps.items) (texts tallies.now) }
-    requires workers { (1 ≤ workers) × (workers ≤ 8) }
+    requires workers { AreWorkers machine.workers }
     requires room { All (λ tap. (bin : ℕ) → count_at (tap_seen tap).tally bin ≤ 2 ^ 63) taps.items }
     requires stands { WhereKnown (F.seen files.old).held reader.name (StandsFor reader) }
     ensures ends { EndsMaking (Reports (map (λ tap. tap_seen tap) taps.items) reader.name (texts tallies.now))
-        reader.name (record {
-          files = F.seen files.old;
-          files_now = F.seen files.new;
-          out = O.seen out.old;
-          out_now = O.seen out.new;
-        }) result }
+        reader.name (changes (F.seen files.old) (F.seen files.new) (O.seen out.old) (O.seen out.new)) result }
     ensures asked { AsksAtMost (bytes_left reader) (F.seen files.old) (F.seen files.new) }
     ensures later { Later (F.seen files.old) (F.seen files.new) }
 {
     let mut reader = reader;
     let chunks = chunks_of(&reader);
+    let Machine {
+        rt,
+        alloc,
+        gate,
+        workers,
+    } = machine;
     let chosen = match choose(alloc, taps, tallies) {
         Ok(chosen) => chosen,
         Err(_) => return Err(Stop::Memory),

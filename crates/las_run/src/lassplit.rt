@@ -1,7 +1,8 @@
 //! The command `lassplit`: the records of a file go into numbered parts.
-ghost use Rattle.std.specs.Prelude.{◌≡◌, ◌≢◌, ◌^◌, ◌<◌, ◌≤◌, ◌∷◌, [], ℕ, IfOk, List, string_bytes};
+ghost use Rattle.std.specs.Prelude.{◌≡◌, ◌≢◌, ◌^◌, ◌<◌, ◌∷◌, [], ℕ, IfOk, List, string_bytes};
 ghost use Rattle.las_filter.specs.Parts.{IsRule, part_name};
 ghost use Rattle.las_outside.specs.Files.{WhereKnown};
+ghost use Rattle.las_outside.specs.Limits.{AreWorkers};
 ghost use Rattle.las_outside.specs.Outside.{Later};
 ghost use Rattle.las_outside.specs.Sinks.{SinkView};
 ghost use Rattle.las_words.specs.Asked.{lassplit, reads};
@@ -10,7 +11,7 @@ ghost use Rattle.laz_file.specs.Reading.{AgreesWithHead, IsNewReader, StandsFor}
 ghost use Rattle.las_info.specs.Tallies.{TapSeen};
 ghost use Rattle.las_run.specs.Asking.{AsksWhole};
 ghost use Rattle.las_run.specs.Ends.{Ends, EndsMaking, cause_of, quiet, stopped_by};
-ghost use Rattle.las_run.specs.Runs.{task_with};
+ghost use Rattle.las_run.specs.Runs.{task_for};
 ghost use Rattle.las_run.specs.Tools.{Splits};
 
 use crate::input::{open_input, stopped};
@@ -19,42 +20,36 @@ use las_filter::Rule;
 use las_outside::{Files, Gate};
 use las_split::{PartNames, split};
 use laz_file::{Fault, Reader};
+use laz_workers::Machine;
 use std::alloc::{AllocError, Global};
 use std::thread::Threads;
 
 /// Splits the records of an input into parts by a rule. A part is named by the stem, an underscore, its number in seven
 /// digits or as many as it has, and the end.
 pub fn lassplit<R: Threads + Sync, F: Files, G: Gate>(
-    rt: &R,
-    alloc: Global,
+    machine: Machine<'_, R, G>,
     files: &mut F,
-    gate: &G,
     input: &str,
     stem: &str,
     end: &str,
     rule: &Rule,
-    workers: u32,
 ) -> Result<(), Stop>
     requires rule { IsRule rule.now }
-    requires workers { (1 ≤ workers) × (workers ≤ 8) }
+    requires workers { AreWorkers machine.workers }
     requires names { (number : ℕ) → number < 2 ^ 32 → part_name stem.now end.now number ≢ input.now }
-    ensures ends { (taps : List TapSeen) (out : SinkView) → Ends (task_with taps (record {
-      work = reads input.now (lassplit (record { stem = stem.now; end = end.now; rule = rule.now }));
-      workers = workers;
-    }))
-        (quiet (F.seen files.old) (F.seen files.new) out) (cause_of (input.now ∷ []) result) }
+    ensures ends { (taps : List TapSeen) (out : SinkView)
+        → let work = reads input.now (lassplit (record { stem = stem.now; end = end.now; rule = rule.now })) in
+        Ends (task_for taps work machine.entry.workers) (quiet (F.seen files.old) (F.seen files.new) out)
+        (cause_of (input.now ∷ []) result) }
     ensures asks { AsksWhole input.now (F.seen files.old) (F.seen files.new) }
     ensures later { Later (F.seen files.old) (F.seen files.new) }
 {
-    let reader = open_input(alloc, files, 0, input)?;
-    let names = match part_names(alloc, stem, end) {
+    let reader = open_input(machine.alloc, files, 0, input)?;
+    let names = match part_names(machine.alloc, stem, end) {
         Ok(names) => names,
         Err(_) => return Err(Stop::Memory),
     };
-    stopped(
-        0,
-        write_parts(rt, alloc, files, gate, reader, &names, rule, workers),
-    )
+    stopped(0, write_parts(machine, files, reader, &names, rule))
 }
 
 // What the names of parts have in common.
@@ -69,19 +64,16 @@ fn part_names(alloc: Global, stem: &str, end: &str) -> Result<PartNames, AllocEr
 
 // Writes the records of a file into parts.
 fn write_parts<R: Threads + Sync, F: Files, G: Gate>(
-    rt: &R,
-    alloc: Global,
+    machine: Machine<'_, R, G>,
     files: &mut F,
-    gate: &G,
     reader: Reader,
     names: &PartNames,
     rule: &Rule,
-    workers: u32,
 ) -> Result<(), Fault>
     requires new { IsNewReader reader.name reader }
     requires whole { AgreesWithHead reader }
     requires rule { IsRule rule.now }
-    requires workers { (1 ≤ workers) × (workers ≤ 8) }
+    requires workers { AreWorkers machine.workers }
     requires names { (number : ℕ) → number < 2 ^ 32
         → part_name (string_bytes names.now.stem) (string_bytes names.now.end) number ≢ reader.name }
     requires stands { WhereKnown (F.seen files.old).held reader.name (StandsFor reader) }
@@ -91,7 +83,16 @@ fn write_parts<R: Threads + Sync, F: Files, G: Gate>(
     ensures asked { AsksAtMost (bytes_left reader) (F.seen files.old) (F.seen files.new) }
     ensures later { Later (F.seen files.old) (F.seen files.new) }
 {
-    match split(rt, alloc, files, gate, reader, names, rule, workers) {
+    match split(
+        machine.rt,
+        machine.alloc,
+        files,
+        machine.gate,
+        reader,
+        names,
+        rule,
+        machine.workers,
+    ) {
         Ok(_) => Ok(()),
         Err(fault) => Err(fault),
     }

@@ -30,8 +30,8 @@ pub fn no_task_is_without_an_ending()
     merging_gives_something();
 }
 
-/// Which tasks and files have an ending that is known before they are read: wrong words, and commands with one input if it is missing, plain, or the packed
-/// form of an accepted plain file.
+/// Which tasks and files have an ending that is known before they are read: wrong words, and commands with one input if it
+/// is missing, plain, or the packed form of an accepted plain file.
 pub fn endings_are_defined()
     ensures wrong { WrongWordsEnd }
     ensures missing { MissingInputsEnd }
@@ -44,9 +44,9 @@ pub fn workers_do_not_matter()
     ensures { WorkersDoNotMatter }
 {}
 
-/// The parts that `lassplit -split n` makes of a file, merged in their order, are the file's records again, under its plain
-/// head with their counts. This holds for whole records, one or more, whose plain head has an offset within its limit, and
-/// so for every accepted plain file that has a record.
+/// The parts that `lassplit -split n` makes of a file, merged in their order, are the file's records again, under its
+/// plain head with their counts. This holds for whole records, one or more, whose plain head has an offset within its
+/// limit, and so for every accepted plain file that has a record.
 pub fn parts_of_a_split_merge()
     ensures merge { PartsOfSplitMerge }
     ensures plain { PlainRecordsAreWhole }

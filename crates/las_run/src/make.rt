@@ -1,52 +1,43 @@
 //! The command `make`: a plain file, and its packed form.
-ghost use Rattle.std.specs.Prelude.{◌≡◌, ◌≢◌, ◌≤◌, ◌∷◌, [], ℕ, List, OnErr, OnOk, take};
+ghost use Rattle.std.specs.Prelude.{◌≡◌, ◌≢◌, ◌∷◌, [], ℕ, List, OnErr, OnOk, take};
 ghost use Rattle.las_info.specs.Tallies.{TapSeen};
 ghost use Rattle.las_make.specs.Made.{IsInRange};
+ghost use Rattle.las_outside.specs.Limits.{AreWorkers, IsChunkSize};
 ghost use Rattle.las_outside.specs.Outside.{Later};
 ghost use Rattle.las_outside.specs.Sinks.{with_fault, with_more};
 ghost use Rattle.las_words.specs.Asked.{make};
-ghost use Rattle.las_run.specs.Ends.{Ends, cause_of, stop_making};
-ghost use Rattle.las_run.specs.Runs.{task_with};
+ghost use Rattle.las_run.specs.Ends.{Ends, cause_of, changes, stop_making};
+ghost use Rattle.las_run.specs.Runs.{task_for};
 ghost use Rattle.las_run.specs.Tools.{made_text, options_with};
 
 use crate::stop::Stop;
 use itoa::Buffer;
 use las_make::{MakeFault, Settings, Sizes};
 use las_outside::{Failed, Files, Gate, Sink, put_all};
-use std::alloc::Global;
+use laz_workers::Machine;
 use std::thread::Threads;
 
 /// Writes a plain file of drawn points and its packed form, in chunks of `chunk` points, and puts their sizes.
 pub fn make<R: Threads + Sync, F: Files, O: Sink, G: Gate>(
-    rt: &R,
-    alloc: Global,
+    machine: Machine<'_, R, G>,
     files: &mut F,
     out: &mut O,
-    gate: &G,
     output: &str,
     packed: &str,
     settings: Settings,
     chunk: u32,
-    workers: u32,
 ) -> Result<(), Stop>
     requires range { IsInRange settings }
-    requires chunk { (256 ≤ chunk) × (chunk ≤ 250000) }
-    requires workers { (1 ≤ workers) × (workers ≤ 8) }
+    requires chunk { IsChunkSize chunk }
+    requires workers { AreWorkers machine.workers }
     requires names { packed.now ≢ output.now }
-    ensures ends { (taps : List TapSeen) → Ends (task_with taps (record {
-      work = make (options_with output.now packed.now settings chunk);
-      workers = workers;
-    })) (record {
-      files = F.seen files.old;
-      files_now = F.seen files.new;
-      out = O.seen out.old;
-      out_now = O.seen out.new;
-    }) (cause_of (output.now ∷ packed.now ∷ []) result) }
+    ensures ends { (taps : List TapSeen) → let work = make (options_with output.now packed.now settings chunk) in
+        Ends (task_for taps work machine.entry.workers)
+        (changes (F.seen files.old) (F.seen files.new) (O.seen out.old) (O.seen out.new))
+        (cause_of (output.now ∷ packed.now ∷ []) result) }
     ensures later { Later (F.seen files.old) (F.seen files.new) }
 {
-    match las_make::make(
-        rt, alloc, files, gate, output, packed, settings, chunk, workers,
-    ) {
+    match las_make::make(machine, files, output, packed, settings, chunk) {
         Ok(sizes) => match put_sizes(out, settings.points, sizes) {
             Ok(()) => Ok(()),
             Err(_) => Err(Stop::Write),

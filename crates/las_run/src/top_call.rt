@@ -10,10 +10,10 @@ ghost use Rattle.las_words.specs.Texts.{texts};
 ghost use Rattle.las_words.specs.declared.command.Command.{Command};
 ghost use Rattle.las_run.specs.Asking.{WorkAsks};
 ghost use Rattle.las_run.specs.Runs.{Task, files_read, task_of};
-ghost use Rattle.las_run.specs.Ends.{Ends, IsRead, cause_of, names_read, stop_of};
+ghost use Rattle.las_run.specs.Ends.{Ends, IsRead, cause_of, changes, names_read, stop_of};
 ghost use Rattle.las_run.specs.Promises.{KeepsPromises};
 
-use crate::conversion::Conversion;
+use crate::conversion::{Conversion, Request};
 use crate::las2las::las2las;
 use crate::lasinfo::lasinfo;
 use crate::lasmerge::lasmerge;
@@ -26,6 +26,7 @@ use las_info::Tap;
 use las_make::Settings;
 use las_outside::{Files, Gate, Sink};
 use las_words::{Command, WordFault, read_words};
+use laz_workers::Machine;
 use std::alloc::Global;
 use std::thread::Threads;
 
@@ -34,13 +35,14 @@ use std::thread::Threads;
 /// that is not there, 4 a write that failed, 5 an input that is refused, 6 inputs that can't be merged.
 ///
 /// The commands are `laszip`, which packs a plain file and unpacks a packed one; `las2las`, which filters, thins and
-/// changes records, and tallies those that are kept; `lasinfo`, which reports what is in a file; `lassplit`, which splits one into parts; `lasmerge`, which merges
-/// files that were written under one header; and `make`, which makes a file of drawn points and its packed form. A name is
-/// a text: to contracts, two names are two files.
+/// changes records, and tallies those that are kept; `lasinfo`, which reports what is in a file; `lassplit`, which
+/// splits one into parts; `lasmerge`, which merges files that were written under one header; and `make`, which makes a
+/// file of drawn points and its packed form. A name is a text: to contracts, two names are two files.
 ///
 /// The status is fixed before the line is put, and a fault of `err` changes nothing else.
 ///
-/// What it promises is one record of named facts over what is seen of the run: `KeepsPromises`, in `specs/Promises.antt`.
+/// What it promises is one record of named facts over what is seen of the run: `KeepsPromises`, in
+/// `specs/Promises.antt`.
 pub fn run<R: Threads + Sync, F: Files, O: Sink, E: Sink, G: Gate>(
     rt: &R,
     alloc: Global,
@@ -79,14 +81,13 @@ fn work<R: Threads + Sync, F: Files, O: Sink, G: Gate>(
     taps: Vec<Box<dyn Tap>>,
     said: &Result<Command, WordFault>,
 ) -> Result<(), Stop>
-    requires sound { ForOk said.now (λ command. IsSound (map (λ tap. (tap_seen tap).name) taps.items) (asked_by command)) }
+    requires sound { ForOk said.now (λ command.
+        IsSound (map (λ tap. (tap_seen tap).name) taps.items) (asked_by command)) }
     requires room { All (λ tap. (bin : ℕ) → count_at (tap_seen tap).tally bin ≤ 2 ^ 63) taps.items }
-    ensures ends { (task : Task) → task.taps ≡ map (λ tap. tap_seen tap) taps.items → IsRead task.said said.now → Ends task (record {
-      files = F.seen files.old;
-      files_now = F.seen files.new;
-      out = O.seen out.old;
-      out_now = O.seen out.new;
-    }) (cause_of (names_read said.now) result) }
+    ensures ends { (task : Task) → task.taps ≡ map (λ tap. tap_seen tap) taps.items
+        → IsRead task.said said.now → Ends task
+        (changes (F.seen files.old) (F.seen files.new) (O.seen out.old) (O.seen out.new))
+        (cause_of (names_read said.now) result) }
     ensures asks { (command : Command) → said.now ≡ Ok command
         → WorkAsks (work_by command) (F.seen files.old) (F.seen files.new) }
     ensures unread { (fault : WordFault) → said.now ≡ Err fault
@@ -121,12 +122,10 @@ fn obey<R: Threads + Sync, F: Files, O: Sink, G: Gate>(
 ) -> Result<(), Stop>
     requires sound { IsSound (map (λ tap. (tap_seen tap).name) taps.items) (asked_by command.now) }
     requires room { All (λ tap. (bin : ℕ) → count_at (tap_seen tap).tally bin ≤ 2 ^ 63) taps.items }
-    ensures ends { (task : Task) → task.taps ≡ map (λ tap. tap_seen tap) taps.items → task.said ≡ asks (asked_by command.now) → Ends task (record {
-      files = F.seen files.old;
-      files_now = F.seen files.new;
-      out = O.seen out.old;
-      out_now = O.seen out.new;
-    }) (cause_of (files_read (work_by command.now)) result) }
+    ensures ends { (task : Task) → task.taps ≡ map (λ tap. tap_seen tap) taps.items
+        → task.said ≡ asks (asked_by command.now) → Ends task
+        (changes (F.seen files.old) (F.seen files.new) (O.seen out.old) (O.seen out.new))
+        (cause_of (files_read (work_by command.now)) result) }
     ensures asks { WorkAsks (work_by command.now) (F.seen files.old) (F.seen files.new) }
     ensures later { Later (F.seen files.old) (F.seen files.new) }
 {
@@ -136,7 +135,15 @@ fn obey<R: Threads + Sync, F: Files, O: Sink, G: Gate>(
             output,
             chunk,
             workers,
-        } => laszip(rt, alloc, files, gate, input, output, *chunk, *workers),
+        } => {
+            let machine = Machine {
+                rt,
+                alloc,
+                gate,
+                workers: *workers,
+            };
+            laszip(machine, files, input, output, *chunk)
+        }
         Command::Las2las {
             input,
             output,
@@ -150,40 +157,70 @@ fn obey<R: Threads + Sync, F: Files, O: Sink, G: Gate>(
             unique,
             tallies,
         } => {
-            let conversion = Conversion {
-                packing: *packing,
-                workers: *workers,
-                start: *start,
-                stop: *stop,
-                step: *step,
-                pick: *pick,
-                unique: *unique,
+            let request = Request {
+                input,
+                output,
+                plan,
+                conversion: Conversion {
+                    packing: *packing,
+                    start: *start,
+                    stop: *stop,
+                    step: *step,
+                    pick: *pick,
+                    unique: *unique,
+                },
             };
-            las2las(
-                rt, alloc, files, out, gate, taps, input, output, plan, conversion, tallies,
-            )
+            let machine = Machine {
+                rt,
+                alloc,
+                gate,
+                workers: *workers,
+            };
+            las2las(machine, files, out, taps, &request, tallies)
         }
         Command::Lasinfo {
             input,
             tallies,
             workers,
-        } => lasinfo(rt, alloc, files, out, gate, taps, input, tallies, *workers),
+        } => {
+            let machine = Machine {
+                rt,
+                alloc,
+                gate,
+                workers: *workers,
+            };
+            lasinfo(machine, files, out, taps, input, tallies)
+        }
         Command::Lassplit {
             input,
             stem,
             end,
             rule,
             workers,
-        } => lassplit(rt, alloc, files, gate, input, stem, end, rule, *workers),
+        } => {
+            let machine = Machine {
+                rt,
+                alloc,
+                gate,
+                workers: *workers,
+            };
+            lassplit(machine, files, input, stem, end, rule)
+        }
         Command::Lasmerge {
             inputs,
             output,
             packing,
             workers,
             copy,
-        } => lasmerge(
-            rt, alloc, files, gate, inputs, output, *packing, *workers, *copy,
-        ),
+        } => {
+            let machine = Machine {
+                rt,
+                alloc,
+                gate,
+                workers: *workers,
+            };
+            lasmerge(machine, files, inputs, output, *packing, *copy)
+        }
         Command::Make {
             output,
             packed,
@@ -200,9 +237,13 @@ fn obey<R: Threads + Sync, F: Files, O: Sink, G: Gate>(
                 format: *format,
                 extra: *extra,
             };
-            make(
-                rt, alloc, files, out, gate, output, packed, settings, *chunk, *workers,
-            )
+            let machine = Machine {
+                rt,
+                alloc,
+                gate,
+                workers: *workers,
+            };
+            make(machine, files, out, output, packed, settings, *chunk)
         }
     }
 }

@@ -1,4 +1,4 @@
--- What a plan keeps of a list of records behind a sieve.
+-- What a plan keeps of a list of records that is thinned too.
 use Rattle.std.specs.Prelude.{◌≡◌, ℕ, suc, Bool, not, ◌&&◌, ◌||◌, if◌then◌else◌, List, [], ◌∷◌, ◌++◌}
 use Rattle.std.specs.Prelude.{length, map, filter, is_some}
 use Rattle.las_filter.specs.Filters.{keeps_all}
@@ -20,8 +20,8 @@ passing plan records = filter (λ a. keeps_all plan.keeps a.point) (numbered 0 r
 abbrev pub kept_of_placed : Steps → List Placed → Kept
 kept_of_placed plan records = kept_of (map (λ a. changed plan.changes a.point) records)
 
--- What a plan keeps behind a sieve: the records that pass all filters, in order; of these the first of each position,
--- if positions are not to repeat; of these one in each cell, if there is a step; and each of these changed.
+-- What a plan keeps when records are thinned: those that pass all filters, in order; of these the first of each
+-- position, if positions are not to repeat; of these one in each cell, if there is a step; and each of these changed.
 abbrev pub kept_behind : Steps → Settings → List (List ℕ) → Kept
 kept_behind plan settings records = kept_of_placed plan (sifted settings (passing plan records))
 
@@ -34,7 +34,7 @@ abbrev pub KeepsAsThePlan : Type 0
 KeepsAsThePlan = (plan : Steps) (records : List (List ℕ))
     → kept_behind plan all_pass records ≡ kept plan records
 
--- What is kept behind a sieve is what passes the test whether it stays.
+-- What is kept when records are thinned is what passes the test whether it stays.
 abbrev pub KeepsWhatStays : Type 0
 KeepsWhatStays = (plan : Steps) (settings : Settings) (records : List (List ℕ))
     → kept_behind plan settings records ≡ kept_where (stays settings (passing plan records)) plan records
@@ -52,7 +52,7 @@ KeepsOneByOne = (test : Placed → Bool) (plan : Steps) (records : List (List �
 abbrev pub PlacesAscend : Type 0
 PlacesAscend = (plan : Steps) (records : List (List ℕ)) → AreAscending (passing plan records)
 
--- With the first of a cell, what is kept behind a sieve is said one record at a time.
+-- With the first of a cell, what is kept when records are thinned is said one record at a time.
 abbrev pub FirstKeepsOneByOne : Type 0
 FirstKeepsOneByOne = (settings : Settings) (plan : Steps) (records : List (List ℕ)) (point : List ℕ)
     → IsFirst settings.pick → let before = kept_behind plan settings records in let a = placed (length records) point in

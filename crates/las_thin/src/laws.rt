@@ -19,7 +19,7 @@ pub fn sieving_is_thinning()
     ensures whole { SiftsWhole }
 {}
 
-/// What a plan keeps behind a sieve is what it keeps of the records that stay. Without a step, and if positions may
+/// What a plan keeps when records are thinned is what it keeps of those that stay. Without a step, and if positions may
 /// repeat, it is what the plan alone keeps. It is said one record at a time.
 pub fn kept_behind_a_sieve()
     ensures ascend { PlacesAscend }

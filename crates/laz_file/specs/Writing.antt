@@ -257,8 +257,8 @@ pub record Stands (before now : Outside) (writer : WriterSeen) (out : Output) (r
   pub points : PointsStand out.chunk before now out writer.most writer.packing records
 
 -- A writer stands for some records of some output.
-abbrev pub HasOutput : (now : Outside) → WriterSeen → Type 0
-HasOutput now writer =
+abbrev pub IsBegun : (now : Outside) → WriterSeen → Type 0
+IsBegun now writer =
     (before : Outside) × (out : Output) × (records : List ℕ) × Stands before now writer out records
 
 -- P holds of each output and of the records for which a writer stands, and of the outside before the output.

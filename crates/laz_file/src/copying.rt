@@ -10,7 +10,7 @@ ghost use Rattle.laz_file.specs.declared.fault.Fault.TheVariants.{Memory, Write}
 ghost use Rattle.laz_file.specs.Asking.{AsksAtMost, bytes_left};
 ghost use Rattle.laz_file.specs.Copying.{CanTake, EndsAfter, HasCause, HoldFirst, LeavesPart, Takes, end_of};
 ghost use Rattle.laz_file.specs.Reading.{IsCrewOf, Lends, OfFile, StandsFor};
-ghost use Rattle.laz_file.specs.Writing.{HasOutput};
+ghost use Rattle.laz_file.specs.Writing.{IsBegun};
 
 use crate::Fault;
 use crate::reader::Reader;
@@ -35,7 +35,7 @@ fn push_lent<R: Threads + Sync, F: Files, G: Gate>(
         × All (λ block. length block % writer.old.size ≡ 0) blocks
         × (writer.old.taken + length (concat blocks) ≤ writer.old.size * writer.old.most) }
     requires open { writer.old.failed ≡ false }
-    requires stands { HasOutput (F.seen files.old) writer.old }
+    requires stands { IsBegun (F.seen files.old) writer.old }
     ensures takes { (blocks : List (List ℕ)) → Lends reader.now crew.now blocks → length blocks ≡ count
         → OnOk result (Takes (F.seen files.old) (F.seen files.new) writer.old writer.new (concat blocks)) }
     ensures part { (blocks : List (List ℕ)) → Lends reader.now crew.now blocks → length blocks ≡ count
@@ -73,7 +73,7 @@ fn push_batch<R: Threads + Sync, F: Files, G: Gate>(
         × All (λ block. length block % writer.old.size ≡ 0) blocks
         × (writer.old.taken + length (concat blocks) ≤ writer.old.size * writer.old.most) }
     requires open { writer.old.failed ≡ false }
-    requires stands { HasOutput (F.seen files.old) writer.old }
+    requires stands { IsBegun (F.seen files.old) writer.old }
     ensures takes { (blocks : List (List ℕ)) → Lends reader.old crew.now blocks → length blocks ≡ count
         → OnOk result (Takes (F.seen files.old) (F.seen files.new) writer.old writer.new (concat blocks)) }
     ensures part { (blocks : List (List ℕ)) → Lends reader.old crew.now blocks → length blocks ≡ count
@@ -131,7 +131,7 @@ pub fn copy_records<R: Threads + Sync, F: Files, G: Gate>(
     requires names { reader.old.name ≢ writer.old.name }
     requires reads { OfFile reader.old (F.seen files.old) (StandsFor reader.old) }
     requires room { CanTake reader.old writer.old }
-    requires stands { HasOutput (F.seen files.old) writer.old }
+    requires stands { IsBegun (F.seen files.old) writer.old }
     ensures copied { IfOk result (λ end. (n : ℕ) × (blocks : List (List ℕ))
         × HoldFirst (F.seen files.old).held reader.old n blocks × EndsAfter (F.seen files.old).held reader.old n end
         × Takes (F.seen files.old) (F.seen files.new) writer.old writer.new (concat blocks)) }

@@ -6,7 +6,7 @@ ghost use Rattle.las_outside.specs.Faults.{Rose};
 ghost use Rattle.las_outside.specs.Frames.{IsCalm, OnlyWrites};
 ghost use Rattle.las_outside.specs.Outside.{Later, with_bytes};
 ghost use Rattle.laz_file.specs.Outputs.{draft_of, finished, patches_of, pointer_patches, stopped};
-ghost use Rattle.laz_file.specs.Writing.{HasOutput, OfOutput, SameFaults, Stops, StopsIn, pointer_patch};
+ghost use Rattle.laz_file.specs.Writing.{IsBegun, OfOutput, SameFaults, Stops, StopsIn, pointer_patch};
 ghost use Rattle.laz_file.specs.Writing.{tally_patches};
 ghost use Rattle.laz_file.specs.declared.fault.Fault.TheVariants.{Memory, Write};
 
@@ -61,7 +61,7 @@ impl Writer {
         files: &mut F,
         gate: &G,
     ) -> Result<(Option<(u64, u64)>, u64), Fault>
-        requires stands { HasOutput (F.seen files.old) self.old }
+        requires stands { IsBegun (F.seen files.old) self.old }
         ensures appended { OfOutput (F.seen files.old) self.old
             (λ before out records. OnOk result (F.seen files.new
             ≡ with_bytes before out.name (draft_of out records))) }
@@ -91,7 +91,7 @@ impl Writer {
         files: &mut F,
         gate: &G,
     ) -> Result<(), Fault>
-        requires stands { HasOutput (F.seen files.old) self.old }
+        requires stands { IsBegun (F.seen files.old) self.old }
         ensures appended { OfOutput (F.seen files.old) self.old
             (λ before out records. OnOk result (F.seen files.new ≡ with_bytes before out.name (stopped out records))) }
         ensures stopped { OfOutput (F.seen files.old) self.old
@@ -117,7 +117,7 @@ impl Writer {
         files: &mut F,
         gate: &G,
     ) -> Result<u64, Fault>
-        requires stands { HasOutput (F.seen files.old) self.old }
+        requires stands { IsBegun (F.seen files.old) self.old }
 
         ensures finished { OfOutput (F.seen files.old) self.old
             (λ before out records. OnOk result (F.seen files.new
@@ -148,7 +148,7 @@ impl Writer {
         gate: &G,
     ) -> Result<u64, Fault>
         requires open { self.failed ≡ false }
-        requires stands { HasOutput (F.seen files.old) self }
+        requires stands { IsBegun (F.seen files.old) self }
 
         ensures finished { OfOutput (F.seen files.old) self
             (λ before out records. OnOk result (F.seen files.new
@@ -180,7 +180,7 @@ impl Writer {
         gate: &G,
     ) -> Result<(), Fault>
         requires open { self.failed ≡ false }
-        requires stands { HasOutput (F.seen files.old) self }
+        requires stands { IsBegun (F.seen files.old) self }
 
         ensures stopped { OfOutput (F.seen files.old) self
             (λ before out records. OnOk result (F.seen files.new ≡ with_bytes before out.name (stopped out records))) }

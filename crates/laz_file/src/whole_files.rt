@@ -17,7 +17,7 @@ ghost use Rattle.laz_file.specs.Copying.{LeavesUnfinished, packed_output, plain_
 ghost use Rattle.laz_file.specs.Outputs.{stopped};
 ghost use Rattle.laz_file.specs.Packing.{packed_file};
 ghost use Rattle.laz_file.specs.Reading.{AgreesWithHead, IsCrewOf, IsNewReader, OfFile, StandsFor};
-ghost use Rattle.laz_file.specs.Writing.{HasOutput, OfOutput};
+ghost use Rattle.laz_file.specs.Writing.{IsBegun, OfOutput};
 
 use crate::Fault;
 use crate::copying::copy_records;
@@ -44,7 +44,7 @@ fn fill<R: Threads + Sync, F: Files, G: Gate>(
     requires names { reader.old.name ≢ writer.name }
     requires reads { OfFile reader.old (F.seen files.old) (StandsFor reader.old) }
     requires room { CanTake reader.old writer }
-    requires stands { HasOutput (F.seen files.old) writer }
+    requires stands { IsBegun (F.seen files.old) writer }
     ensures finished { OfOutput (F.seen files.old) writer
         (λ before out bytes. OnOk result (Finishes (F.seen files.old).held before.held
         (F.seen files.new).held reader.old out bytes)) }

@@ -11,7 +11,7 @@ ghost use Rattle.las_outside.specs.Limits.{AreWorkers, IsChunkSize};
 ghost use Rattle.las_outside.specs.Frames.{IsCalm, OnlyWrites};
 ghost use Rattle.las_outside.specs.Outside.{Later, Outside, with_bytes};
 ghost use Rattle.laz_file.specs.Outputs.{Output, front, stopped};
-ghost use Rattle.laz_file.specs.Writing.{HasOutput, IsTally, OfOutput, PointsStand, SameFaults, Stands, Stops};
+ghost use Rattle.laz_file.specs.Writing.{IsBegun, IsTally, OfOutput, PointsStand, SameFaults, Stands, Stops};
 ghost use Rattle.laz_file.specs.Writing.{StopsIn, first_packing};
 ghost use Rattle.laz_file.specs.declared.fault.Fault.TheVariants.{Memory, Write};
 
@@ -251,7 +251,7 @@ impl Writer {
         requires open { self.old.failed ≡ false }
         requires whole { length records.now % self.old.size ≡ 0 }
         requires most { self.old.taken + length records.now ≤ self.old.size * self.old.most }
-        requires stands { HasOutput (F.seen files.old) self.old }
+        requires stands { IsBegun (F.seen files.old) self.old }
 
         ensures stands { OfOutput (F.seen files.old) self.old
             (λ before out bytes. OnOk result (Stands before (F.seen files.new) self.new out (bytes ++ records.now))) }
@@ -295,7 +295,7 @@ impl Writer {
         requires open { self.old.failed ≡ false }
         requires whole { length block.old.items % self.old.size ≡ 0 }
         requires most { self.old.taken + length block.old.items ≤ self.old.size * self.old.most }
-        requires stands { HasOutput (F.seen files.old) self.old }
+        requires stands { IsBegun (F.seen files.old) self.old }
         ensures stands { OfOutput (F.seen files.old) self.old
             (λ before out bytes. OnOk result (Stands before (F.seen files.new) self.new out
             (bytes ++ block.old.items))) }

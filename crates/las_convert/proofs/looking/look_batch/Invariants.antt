@@ -9,6 +9,9 @@ use Rattle.las_convert.proofs.looking.look_batch.Given as goal
 abbrev pub invariant-loop-i : goal.invariant-loop-i
 invariant-loop-i l = record {
   settings : l.sieve.settings ≡ l.fn.sieve.settings;
-  stands : (before blocks : List (List ℕ)) → length before ≡ l.read → StandsFor (passing (steps_of l.plan) before) [] l.fn.sieve → IsLent l.reader l.crew l.size l.count blocks
-      → (length (before ++ cut_all l.size (concat (take l.i blocks))) ≡ l.now) × StandsFor (passing (steps_of l.plan) (before ++ cut_all l.size (concat (take l.i blocks)))) [] l.sieve;
+  stands : (before blocks : List (List ℕ)) → length before ≡ l.read
+      → StandsFor (passing (steps_of l.plan) before) [] l.fn.sieve
+      → IsLent l.batch.reader.now l.batch.crew.now l.size l.batch.count blocks
+      → (length (before ++ cut_all l.size (concat (take l.i blocks))) ≡ l.now)
+      × StandsFor (passing (steps_of l.plan) (before ++ cut_all l.size (concat (take l.i blocks)))) [] l.sieve;
 }

@@ -5,21 +5,25 @@ use Rattle.las_outside.specs.Outside.{with_bytes}
 use Rattle.laz_file.specs.Copying.{LeavesUnfinished}
 use Rattle.laz_file.specs.Outputs.{Output, draft_of, finished, patches_of}
 use Rattle.laz_file.specs.Writing.{Stops}
-use Rattle.laz_file.proofs.Putting.{if_err}
-use Rattle.laz_file.proofs.WholeOutputs.{create_left, err_then, ok_then}
+use Rattle.laz_file.proofs.Taking.{on_err}
+use Rattle.laz_file.proofs.WholeOutputs.{create_left, ok_then}
 use Rattle.laz_file.proofs.Unasked.{created_asked}
 use Rattle.las_make.specs.Made.{made_file, made_records}
-use Rattle.las_make.specs.Making.{LeavesPlain}
-use Rattle.las_make.proofs.Written.{ended_asked, counted_none, counted_plain, counted_size, end_left, head_made, ok_with}
+use Rattle.las_make.proofs.Written.{ended_asked, counted_none, counted_plain, counted_size, end_left, head_made}
+use Rattle.las_make.proofs.Written.{ok_with, on_err_from}
 use Rattle.las_make.proofs.plain.write_plain.Goals as goal
 
 pub create-requires-clause-plain : goal.create-requires-clause-plain
 create-requires-clause-plain g c =
-    counted_plain c.args.settings c.requires.range c.in_ok-blank_head.field-0.bytes c.with_counts-head.result.bytes c.count_records.result c.in_ok-blank_head.ensures c.count_records.ensures c.with_counts-head.ensures.bytes c.with_counts-head.ensures.kept
+    counted_plain c.args.settings c.requires.range c.in_ok-blank_head.field-0.bytes c.with_counts-head.result.bytes
+    c.count_records.result c.in_ok-blank_head.ensures c.count_records.ensures c.with_counts-head.ensures.bytes
+    c.with_counts-head.ensures.kept
 
 pub create-requires-clause-none : goal.create-requires-clause-none
 create-requires-clause-none g c =
-    counted_none c.args.settings c.requires.range c.in_ok-blank_head.field-0.bytes c.with_counts-head.result.bytes c.count_records.result c.in_ok-blank_head.ensures c.count_records.ensures c.with_counts-head.ensures.bytes c.with_counts-head.ensures.kept
+    counted_none c.args.settings c.requires.range c.in_ok-blank_head.field-0.bytes c.with_counts-head.result.bytes
+    c.count_records.result c.in_ok-blank_head.ensures c.count_records.ensures c.with_counts-head.ensures.bytes
+    c.with_counts-head.ensures.kept
 
 pub returns-in_err-writer-clause-left : goal.returns-in_err-writer-clause-left
 returns-in_err-writer-clause-left g c =
@@ -29,14 +33,19 @@ returns-in_err-writer-clause-left g c =
     let new = g.F.Files.seen c.create.new.files in
     let records = concat (made_records s) in
     let out : Output = record { name = name; head = c.with_counts-head.result.bytes; chunk = None; counted = false } in
-    let is = head_made s c.requires.range c.in_ok-blank_head.field-0.bytes c.with_counts-head.result.bytes c.count_records.result c.in_ok-blank_head.ensures c.count_records.ensures c.with_counts-head.ensures.bytes in
-    if_err (λ fault. LeavesPlain name s old.held new.held) c.from_residual-in_err-writer.result _ c.from_residual-in_err-writer.ensures.1
-    (subst (λ (h : List ℕ). let o : Output = record { name = name; head = h; chunk = None; counted = false } in LeavesUnfinished o records old.held new.held) is (create_left old new out c.in_err-writer.field-0.0 records c.in_err-writer.ensures.stopped))
+    let is = head_made s c.requires.range c.in_ok-blank_head.field-0.bytes c.with_counts-head.result.bytes
+    c.count_records.result c.in_ok-blank_head.ensures c.count_records.ensures c.with_counts-head.ensures.bytes in
+    on_err c.from_residual-in_err-writer.result
+    (subst (λ (h : List ℕ). let o : Output = record { name = name; head = h; chunk = None; counted = false } in
+    LeavesUnfinished o records old.held new.held) is
+    (create_left old new out c.in_err-writer.field-0.0 records c.in_err-writer.ensures.stopped))
 
 pub push_records-requires-clause-size : goal.push_records-requires-clause-size
 push_records-requires-clause-size g c κs within =
     c.in_ok-writer.ensures.stands.size
-    ∙ counted_size c.args.settings c.requires.range c.in_ok-blank_head.field-0.bytes c.with_counts-head.result.bytes c.count_records.result c.in_ok-blank_head.ensures c.count_records.ensures c.with_counts-head.ensures.bytes c.with_counts-head.ensures.kept
+    ∙ counted_size c.args.settings c.requires.range c.in_ok-blank_head.field-0.bytes c.with_counts-head.result.bytes
+    c.count_records.result c.in_ok-blank_head.ensures c.count_records.ensures c.with_counts-head.ensures.bytes
+    c.with_counts-head.ensures.kept
 
 pub returns-in_err-push_records-clause-left : goal.returns-in_err-push_records-clause-left
 returns-in_err-push_records-clause-left g c =
@@ -46,15 +55,28 @@ returns-in_err-push_records-clause-left g c =
     let new = g.F.Files.seen c.push_records.new.files in
     let records = concat (made_records s) in
     let out : Output = record { name = name; head = c.with_counts-head.result.bytes; chunk = None; counted = false } in
-    let is = head_made s c.requires.range c.in_ok-blank_head.field-0.bytes c.with_counts-head.result.bytes c.count_records.result c.in_ok-blank_head.ensures c.count_records.ensures c.with_counts-head.ensures.bytes in
-    if_err (λ fault. LeavesPlain name s old.held new.held) c.from_residual-in_err-push_records.result _ c.from_residual-in_err-push_records.ensures.1
-    (subst (λ (h : List ℕ). let o : Output = record { name = name; head = h; chunk = None; counted = false } in LeavesUnfinished o records old.held new.held) is (c.in_err-push_records.ensures.left old out c.in_ok-writer.ensures.stands))
+    let is = head_made s c.requires.range c.in_ok-blank_head.field-0.bytes c.with_counts-head.result.bytes
+    c.count_records.result c.in_ok-blank_head.ensures c.count_records.ensures c.with_counts-head.ensures.bytes in
+    on_err c.from_residual-in_err-push_records.result
+    (subst (λ (h : List ℕ). let o : Output = record { name = name; head = h; chunk = None; counted = false } in
+    LeavesUnfinished o records old.held new.held) is
+    (c.in_err-push_records.ensures.left old out c.in_ok-writer.ensures.stands))
 
 pub finish-requires-clause-stands : goal.finish-requires-clause-stands
 finish-requires-clause-stands g c κs within =
     let old = g.F.Files.seen c.args.files.now in
-    let out : Output = record { name = c.args.output.now; head = c.with_counts-head.result.bytes; chunk = None; counted = false } in
-    (old, out, concat (made_records c.args.settings), c.in_ok-push_records.ensures.stands old out c.in_ok-writer.ensures.stands)
+    let out : Output = record {
+      name = c.args.output.now;
+      head = c.with_counts-head.result.bytes;
+      chunk = None;
+      counted = false;
+    } in (
+      old,
+      out,
+      concat (made_records c.args.settings),
+      c.in_ok-push_records.ensures.stands old out
+          c.in_ok-writer.ensures.stands,
+    )
 
 pub returns-clause-written : goal.returns-clause-written
 returns-clause-written g c =
@@ -63,19 +85,29 @@ returns-clause-written g c =
     let old = g.F.Files.seen c.args.files.now in
     let records = concat (made_records s) in
     let out : Output = record { name = name; head = c.with_counts-head.result.bytes; chunk = None; counted = false } in
-    let is = head_made s c.requires.range c.in_ok-blank_head.field-0.bytes c.with_counts-head.result.bytes c.count_records.result c.in_ok-blank_head.ensures c.count_records.ensures c.with_counts-head.ensures.bytes in
+    let is = head_made s c.requires.range c.in_ok-blank_head.field-0.bytes c.with_counts-head.result.bytes
+    c.count_records.result c.in_ok-blank_head.ensures c.count_records.ensures c.with_counts-head.ensures.bytes in
     let stands = c.in_ok-push_records.ensures.stands old out c.in_ok-writer.ensures.stands in
-    ok_then c.finish.result (λ written. written ∙ ap (λ (h : List ℕ). with_bytes old name (h ++ records)) is) (c.finish.ensures.finished old out records stands)
+    ok_then c.finish.result (λ written. written ∙ ap (λ (h : List ℕ). with_bytes old name (h ++ records)) is)
+    (c.finish.ensures.finished old out records stands)
 
 pub returns-clause-length : goal.returns-clause-length
 returns-clause-length g c =
     let s = c.args.settings in
     let old = g.F.Files.seen c.args.files.now in
     let records = concat (made_records s) in
-    let out : Output = record { name = c.args.output.now; head = c.with_counts-head.result.bytes; chunk = None; counted = false } in
-    let is = head_made s c.requires.range c.in_ok-blank_head.field-0.bytes c.with_counts-head.result.bytes c.count_records.result c.in_ok-blank_head.ensures c.count_records.ensures c.with_counts-head.ensures.bytes in
+    let out : Output = record {
+      name = c.args.output.now;
+      head = c.with_counts-head.result.bytes;
+      chunk = None;
+      counted = false;
+    } in
+    let is = head_made s c.requires.range c.in_ok-blank_head.field-0.bytes c.with_counts-head.result.bytes
+    c.count_records.result c.in_ok-blank_head.ensures c.count_records.ensures c.with_counts-head.ensures.bytes in
     let stands = c.in_ok-push_records.ensures.stands old out c.in_ok-writer.ensures.stands in
-    ok_with (λ size. size ≡ length (finished out records)) (λ size. size ≡ length (made_file s)) c.finish.result (λ size long. long ∙ ap (λ (h : List ℕ). length (h ++ records)) is) (c.finish.ensures.length old out records stands)
+    ok_with (λ size. size ≡ length (finished out records)) (λ size. size ≡ length (made_file s)) c.finish.result
+    (λ size long. long ∙ ap (λ (h : List ℕ). length (h ++ records)) is)
+    (c.finish.ensures.length old out records stands)
 
 pub returns-clause-left : goal.returns-clause-left
 returns-clause-left g c =
@@ -85,15 +117,20 @@ returns-clause-left g c =
     let new = g.F.Files.seen c.finish.new.files in
     let records = concat (made_records s) in
     let out : Output = record { name = name; head = c.with_counts-head.result.bytes; chunk = None; counted = false } in
-    let is = head_made s c.requires.range c.in_ok-blank_head.field-0.bytes c.with_counts-head.result.bytes c.count_records.result c.in_ok-blank_head.ensures c.count_records.ensures c.with_counts-head.ensures.bytes in
+    let is = head_made s c.requires.range c.in_ok-blank_head.field-0.bytes c.with_counts-head.result.bytes
+    c.count_records.result c.in_ok-blank_head.ensures c.count_records.ensures c.with_counts-head.ensures.bytes in
     let stands = c.in_ok-push_records.ensures.stands old out c.in_ok-writer.ensures.stands in
-    err_then (λ fault. (left : List ℕ) × IsUnfinished (draft_of out records) (patches_of out records) left × Stops fault (with_bytes old name left) new) (λ fault. LeavesPlain name s old.held new.held) c.finish.result
-    (λ fault l. subst (λ (h : List ℕ). let o : Output = record { name = name; head = h; chunk = None; counted = false } in LeavesUnfinished o records old.held new.held) is (end_left old new out records fault l))
+    on_err_from (λ fault. (left : List ℕ) × IsUnfinished (draft_of out records) (patches_of out records) left
+    × Stops fault (with_bytes old name left) new) c.finish.result
+    (λ fault l. subst (λ (h : List ℕ). let o : Output =
+    record { name = name; head = h; chunk = None; counted = false } in LeavesUnfinished o records old.held new.held)
+    is (end_left old new out records fault l))
     (c.finish.ensures.stopped old out records stands)
 
 pub returns-in_err-writer-clause-asked : goal.returns-in_err-writer-clause-asked
 returns-in_err-writer-clause-asked g c =
-    created_asked c.create.result (g.F.Files.seen c.args.files.now) (g.F.Files.seen c.create.new.files) c.args.output.now _ c.create.ensures.calm c.create.ensures.stopped
+    created_asked c.create.result (g.F.Files.seen c.args.files.now) (g.F.Files.seen c.create.new.files)
+    c.args.output.now _ c.create.ensures.calm c.create.ensures.stopped
 
 pub returns-in_err-push_records-clause-asked : goal.returns-in_err-push_records-clause-asked
 returns-in_err-push_records-clause-asked g c = c.push_records.ensures.asked ∙ c.in_ok-writer.ensures.calm.asked
@@ -104,6 +141,14 @@ returns-clause-asked g c =
     let mid = g.F.Files.seen c.push_records.new.files in
     let new = g.F.Files.seen c.finish.new.files in
     let records = concat (made_records c.args.settings) in
-    let out : Output = record { name = c.args.output.now; head = c.with_counts-head.result.bytes; chunk = None; counted = false } in
+    let out : Output = record {
+      name = c.args.output.now;
+      head = c.with_counts-head.result.bytes;
+      chunk = None;
+      counted = false;
+    } in
     let stands = c.in_ok-push_records.ensures.stands old out c.in_ok-writer.ensures.stands in
-    ended_asked c.finish.result old mid new c.args.output.now (IsUnfinished (draft_of out records) (patches_of out records)) (c.push_records.ensures.asked ∙ c.in_ok-writer.ensures.calm.asked) c.finish.ensures.calm (c.finish.ensures.stopped old out records stands)
+    ended_asked c.finish.result old mid new c.args.output.now
+    (IsUnfinished (draft_of out records) (patches_of out records))
+    (c.push_records.ensures.asked ∙ c.in_ok-writer.ensures.calm.asked) c.finish.ensures.calm
+    (c.finish.ensures.stopped old out records stands)

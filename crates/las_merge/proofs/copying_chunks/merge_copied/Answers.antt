@@ -16,8 +16,11 @@ use Rattle.las_merge.specs.Opening.{InputSeen, points_read}
 use Rattle.las_merge.specs.Packed.{IsKeptFromCopying, asked_to_copy}
 use Rattle.las_merge.specs.Summing.{copied_text}
 use Rattle.las_merge.proofs.CopiedOnce.{copied_once}
-use Rattle.las_merge.proofs.CopiedWhole.{asked_few, before_copied, can_copy, copy_is_fault, copy_within, err_all, files, head_one, head_packed, left_by, many_chunks, many_points, on_ok_any, parts, sources_lie, sources_long, sources_other, text_is}
+use Rattle.las_merge.proofs.CopiedWhole.{asked_few, before_copied, can_copy, copy_is_fault, copy_within, files}
+use Rattle.las_merge.proofs.CopiedWhole.{head_one, head_packed, left_by, many_chunks, many_points, on_err_then}
+use Rattle.las_merge.proofs.CopiedWhole.{on_ok_any, parts, sources_lie, sources_long, sources_other, text_is}
 use Rattle.las_merge.proofs.KeptPacked.{before_packed, kept_by_ends}
+use Rattle.las_merge.proofs.CopiedWhole.{on_ok_both}
 use Rattle.las_merge.proofs.Whole.{other_names}
 use Rattle.las_merge.proofs.copying_chunks.merge_copied.Goals as goal
 
@@ -28,7 +31,11 @@ returns-in_err-listed-clause-kept g c =
     let names = names_of c.args.inputs.now in
     let e = c.in_err-listed.field-0.0 in
     if_err _ c.from_residual.result e c.from_residual.ensures.1
-    (λ kind. (c.list_inputs.ensures.held, λ known is. kept_by_ends known names old new is e kind c.in_err-listed.ensures.ends))
+    (λ kind. (
+      c.list_inputs.ensures.reads.held,
+      λ known is. kept_by_ends known names old new is e kind
+          c.in_err-listed.ensures.ends,
+    ))
 
 pub returns-in_err-listed-clause-at : goal.returns-in_err-listed-clause-at
 returns-in_err-listed-clause-at g c number cause is =
@@ -36,7 +43,8 @@ returns-in_err-listed-clause-at g c number cause is =
     let new = g.F.Files.seen c.list_inputs.new.files in
     let names = names_of c.args.inputs.now in
     let e = c.in_err-listed.field-0.0 in
-    let d = subst (EndsListing names old new) (err_of c.from_residual.result e (At number cause) c.from_residual.ensures.1 is) c.in_err-listed.ensures.ends in (
+    let d = subst (EndsListing names old new) (err_of c.from_residual.result e (At number cause)
+    c.from_residual.ensures.1 is) c.in_err-listed.ensures.ends in (
       omega (arith, d.1.within, length-map c.args.inputs.now (string_bytes {Z = Global})),
       λ known holds. before_packed known names old.held holds number d.0 d.1 d.2,
     )
@@ -46,30 +54,57 @@ returns-in_err-points-clause-kept g c =
     let names = names_of c.args.inputs.now in
     let l = c.in_ok-listed.listed in
     let ens = c.in_ok-listed.ensures in
-    let all : length l.inputs.items ≡ length names = omega (arith, ens.all, length-map c.args.inputs.now (string_bytes {Z = Global})) in
-    let some : 1 ≤ length names = omega (arith, c.requires.some, length-map c.args.inputs.now (string_bytes {Z = Global})) in
-    let many : 2 ^ 32 ≤ points_read l.inputs.items = subst (λ (is : List InputSeen). 2 ^ 32 ≤ points_read is) c.deref.ensures.value c.in_err-points.ensures.many.1 in
+    let all : length l.inputs.items ≡ length names =
+    omega (arith, ens.all, length-map c.args.inputs.now (string_bytes {Z = Global})) in
+    let some : 1 ≤ length names = omega (
+      arith,
+      c.requires.some,
+      length-map c.args.inputs.now
+          (string_bytes {Z = Global}),
+    ) in
+    let many : 2 ^ 32 ≤ points_read l.inputs.items =
+    subst (λ (is : List InputSeen). 2 ^ 32 ≤ points_read is) c.deref.ensures.value c.in_err-points.ensures.many.1 in
     let e = c.in_err-points.field-0.0 in
     if_err _ c.from_residual-in_err-points.result e c.from_residual-in_err-points.ensures.1
-    (λ kind. (c.list_inputs.ensures.held, λ known is. subst (IsKeptFromCopying known names) (sym c.in_err-points.ensures.many.0) (many_points _ _ _ _ _ _ _ _ ens.opened ens.lists all some known is many)))
+    (λ kind. (
+      c.list_inputs.ensures.reads.held,
+      λ known is. subst (IsKeptFromCopying known names)
+          (sym c.in_err-points.ensures.many.0) (many_points _ _ _ _ _ _ _ _ ens.opened ens.lists all some known is many),
+    ))
 
 pub returns-then-listed-clause-kept : goal.returns-then-listed-clause-kept
 returns-then-listed-clause-kept g c kind =
     let names = names_of c.args.inputs.now in
     let l = c.in_ok-listed.listed in
     let ens = c.in_ok-listed.ensures in
-    let all : length l.inputs.items ≡ length names = omega (arith, ens.all, length-map c.args.inputs.now (string_bytes {Z = Global})) in
-    let some : 1 ≤ length names = omega (arith, c.requires.some, length-map c.args.inputs.now (string_bytes {Z = Global})) in
-    let few : points_read l.inputs.items < 2 ^ 32 = subst (λ (is : List InputSeen). points_read is < 2 ^ 32) c.deref.ensures.value c.in_ok-points.ensures.small in
-    (c.list_inputs.ensures.held, λ known is. many_chunks _ _ _ _ _ _ _ _ ens.opened ens.lists all some known is few c.if-listed.true)
+    let all : length l.inputs.items ≡ length names =
+    omega (arith, ens.all, length-map c.args.inputs.now (string_bytes {Z = Global})) in
+    let some : 1 ≤ length names = omega (
+      arith,
+      c.requires.some,
+      length-map c.args.inputs.now
+          (string_bytes {Z = Global}),
+    ) in
+    let few : points_read l.inputs.items < 2 ^ 32 =
+    subst (λ (is : List InputSeen). points_read is < 2 ^ 32) c.deref.ensures.value c.in_ok-points.ensures.small in (
+      c.list_inputs.ensures.reads.held,
+      λ known is. many_chunks _ _ _ _ _ _ _ _ ens.opened ens.lists all some known is
+          few c.if-listed.true,
+    )
 
 pub frame_of-requires-clause-packed : goal.frame_of-requires-clause-packed
 frame_of-requires-clause-packed g c =
     let names = names_of c.args.inputs.now in
     let l = c.in_ok-listed.listed in
     let ens = c.in_ok-listed.ensures in
-    let all : length l.inputs.items ≡ length names = omega (arith, ens.all, length-map c.args.inputs.now (string_bytes {Z = Global})) in
-    let some : 1 ≤ length names = omega (arith, c.requires.some, length-map c.args.inputs.now (string_bytes {Z = Global})) in
+    let all : length l.inputs.items ≡ length names =
+    omega (arith, ens.all, length-map c.args.inputs.now (string_bytes {Z = Global})) in
+    let some : 1 ≤ length names = omega (
+      arith,
+      c.requires.some,
+      length-map c.args.inputs.now
+          (string_bytes {Z = Global}),
+    ) in
     head_packed _ _ _ _ _ _ _ _ ens.opened ens.lists all some
 
 pub frame_of-requires-clause-one : goal.frame_of-requires-clause-one
@@ -77,8 +112,14 @@ frame_of-requires-clause-one g c =
     let names = names_of c.args.inputs.now in
     let l = c.in_ok-listed.listed in
     let ens = c.in_ok-listed.ensures in
-    let all : length l.inputs.items ≡ length names = omega (arith, ens.all, length-map c.args.inputs.now (string_bytes {Z = Global})) in
-    let some : 1 ≤ length names = omega (arith, c.requires.some, length-map c.args.inputs.now (string_bytes {Z = Global})) in
+    let all : length l.inputs.items ≡ length names =
+    omega (arith, ens.all, length-map c.args.inputs.now (string_bytes {Z = Global})) in
+    let some : 1 ≤ length names = omega (
+      arith,
+      c.requires.some,
+      length-map c.args.inputs.now
+          (string_bytes {Z = Global}),
+    ) in
     head_one _ _ _ _ _ _ _ _ ens.opened ens.lists all some
 
 pub write-requires-clause-names : goal.write-requires-clause-names
@@ -86,22 +127,36 @@ write-requires-clause-names g c k d lt =
     let names = names_of c.args.inputs.now in
     let l = c.in_ok-listed.listed in
     let ens = c.in_ok-listed.ensures in
-    let all : length l.inputs.items ≡ length names = omega (arith, ens.all, length-map c.args.inputs.now (string_bytes {Z = Global})) in
-    let some : 1 ≤ length names = omega (arith, c.requires.some, length-map c.args.inputs.now (string_bytes {Z = Global})) in
-    let other = sources_other _ _ _ _ _ _ _ _ ens.opened ens.lists all some c.args.output.now (other_names c.args.inputs.now c.args.output.now c.requires.names) in
-    subst (λ (ss : List SourceSeen). All (λ s. s.name ≢ c.args.output.now) ss) (sym c.deref-2.ensures.value) other k d lt
+    let all : length l.inputs.items ≡ length names =
+    omega (arith, ens.all, length-map c.args.inputs.now (string_bytes {Z = Global})) in
+    let some : 1 ≤ length names = omega (
+      arith,
+      c.requires.some,
+      length-map c.args.inputs.now
+          (string_bytes {Z = Global}),
+    ) in
+    let other = sources_other _ _ _ _ _ _ _ _ ens.opened ens.lists all some c.args.output.now
+    (other_names c.args.inputs.now c.args.output.now c.requires.names) in
+    subst (λ (ss : List SourceSeen). All (λ s. s.name ≢ c.args.output.now) ss) (sym c.deref-2.ensures.value) other k d
+    lt
 
 pub write-requires-clause-lie : goal.write-requires-clause-lie
 write-requires-clause-lie g c =
-    let old = g.F.Files.seen c.args.files.now in
     let names = names_of c.args.inputs.now in
     let l = c.in_ok-listed.listed in
     let ens = c.in_ok-listed.ensures in
-    let all : length l.inputs.items ≡ length names = omega (arith, ens.all, length-map c.args.inputs.now (string_bytes {Z = Global})) in
-    let some : 1 ≤ length names = omega (arith, c.requires.some, length-map c.args.inputs.now (string_bytes {Z = Global})) in
+    let all : length l.inputs.items ≡ length names =
+    omega (arith, ens.all, length-map c.args.inputs.now (string_bytes {Z = Global})) in
+    let some : 1 ≤ length names = omega (
+      arith,
+      c.requires.some,
+      length-map c.args.inputs.now
+          (string_bytes {Z = Global}),
+    ) in
     let lie = sources_lie _ _ _ _ _ _ _ _ ens.opened ens.lists all some in
-    subst (λ (ss : List SourceSeen). All (LiesIn (g.F.Files.seen c.list_inputs.new.files).held) ss) (sym c.deref-2.ensures.value)
-    (subst (λ (h : Option FileMap). All (LiesIn h) l.sources.items) (sym c.list_inputs.ensures.held) lie)
+    subst (λ (ss : List SourceSeen). All (LiesIn (g.F.Files.seen c.list_inputs.new.files).held) ss)
+    (sym c.deref-2.ensures.value)
+    (subst (λ (h : Option FileMap). All (LiesIn h) l.sources.items) (sym c.list_inputs.ensures.reads.held) lie)
 
 pub returns-clause-copied : goal.returns-clause-copied
 returns-clause-copied g c =
@@ -112,20 +167,31 @@ returns-clause-copied g c =
     let names = names_of c.args.inputs.now in
     let l = c.in_ok-listed.listed in
     let ens = c.in_ok-listed.ensures in
-    let all : length l.inputs.items ≡ length names = omega (arith, ens.all, length-map c.args.inputs.now (string_bytes {Z = Global})) in
-    let some : 1 ≤ length names = omega (arith, c.requires.some, length-map c.args.inputs.now (string_bytes {Z = Global})) in
-    let few : points_read l.inputs.items < 2 ^ 32 = subst (λ (is : List InputSeen). points_read is < 2 ^ 32) c.deref.ensures.value c.in_ok-points.ensures.small in
+    let all : length l.inputs.items ≡ length names =
+    omega (arith, ens.all, length-map c.args.inputs.now (string_bytes {Z = Global})) in
+    let some : 1 ≤ length names = omega (
+      arith,
+      c.requires.some,
+      length-map c.args.inputs.now
+          (string_bytes {Z = Global}),
+    ) in
+    let few : points_read l.inputs.items < 2 ^ 32 =
+    subst (λ (is : List InputSeen). points_read is < 2 ^ 32) c.deref.ensures.value c.in_ok-points.ensures.small in
     let frame = c.in-Ok.frame in
     let text = copied_text mid.held frame.head.bytes frame.place c.deref-2.result.now frame.table.items in
-    let here : text ≡ copied_text old.held frame.head.bytes frame.place l.sources.items frame.table.items = (λ i. copied_text (c.list_inputs.ensures.held i) frame.head.bytes frame.place (c.deref-2.ensures.value i) frame.table.items) in
+    let here : text ≡ copied_text old.held frame.head.bytes frame.place l.sources.items frame.table.items =
+    (λ i. copied_text (c.list_inputs.ensures.reads.held i) frame.head.bytes frame.place (c.deref-2.ensures.value i)
+    frame.table.items) in
     let written : OnOk c.write.result (new ≡ with_bytes (with_reads mid new) output text) = c.write.ensures.written in
     ok_then c.write.result
     (λ put known is. (
       files _ _ _ _ _ _ _ _ ens.opened ens.lists all some known is,
       parts _ _ _ _ _ _ _ _ ens.opened ens.lists all some known is,
       can_copy _ _ _ _ _ _ _ _ ens.opened ens.lists all some known is few c.if-listed.false,
-      ap (λ (o : Outside). o.held) put ∙ (λ i. with_file (c.list_inputs.ensures.held i) output (here i))
-          ∙ ap (λ (t : List ℕ). with_file old.held output t) (text_is _ _ _ _ _ _ _ _ ens.opened ens.lists all some known is frame.head.bytes frame.table.items frame.place c.if-listed.false c.in-Ok.ensures.head c.in-Ok.ensures.place c.in-Ok.ensures.table),
+      ap (λ (o : Outside). o.held) put ∙ (λ i. with_file (c.list_inputs.ensures.reads.held i) output (here i))
+          ∙ ap (λ (t : List ℕ). with_file old.held output t)
+          (text_is _ _ _ _ _ _ _ _ ens.opened ens.lists all some known is frame.head.bytes frame.table.items
+          frame.place c.if-listed.false c.in-Ok.ensures.head c.in-Ok.ensures.place c.in-Ok.ensures.table),
     ))
     written
 
@@ -133,28 +199,42 @@ pub returns-clause-kept : goal.returns-clause-kept
 returns-clause-kept g c =
     let mid = g.F.Files.seen c.list_inputs.new.files in
     let new = g.F.Files.seen c.write.new.files in
-    err_then (IsCopyFault (λ n. n < length c.deref-2.result.now) mid new) _ c.write.result (λ e h kind. absurd (copy_is_fault (λ n. n < length c.deref-2.result.now) mid new e h kind)) c.write.ensures.cause
+    err_then (IsCopyFault (λ n. n < length c.deref-2.result.now) mid new) _ c.write.result
+    (λ e h kind. absurd (copy_is_fault (λ n. n < length c.deref-2.result.now) mid new e h kind))
+    c.write.ensures.cause
 
 pub returns-clause-at : goal.returns-clause-at
 returns-clause-at g c number cause err =
-    let old = g.F.Files.seen c.args.files.now in
     let mid = g.F.Files.seen c.list_inputs.new.files in
     let new = g.F.Files.seen c.write.new.files in
-    let output = c.args.output.now in
     let names = names_of c.args.inputs.now in
     let l = c.in_ok-listed.listed in
     let ens = c.in_ok-listed.ensures in
-    let all : length l.inputs.items ≡ length names = omega (arith, ens.all, length-map c.args.inputs.now (string_bytes {Z = Global})) in
-    let some : 1 ≤ length names = omega (arith, c.requires.some, length-map c.args.inputs.now (string_bytes {Z = Global})) in
-    let few : points_read l.inputs.items < 2 ^ 32 = subst (λ (is : List InputSeen). points_read is < 2 ^ 32) c.deref.ensures.value c.in_ok-points.ensures.small in
-    let frame = c.in-Ok.frame in
-    let text = copied_text mid.held frame.head.bytes frame.place c.deref-2.result.now frame.table.items in
-    let here : text ≡ copied_text old.held frame.head.bytes frame.place l.sources.items frame.table.items = (λ i. copied_text (c.list_inputs.ensures.held i) frame.head.bytes frame.place (c.deref-2.ensures.value i) frame.table.items) in
-    let within : number < length c.deref-2.result.now = copy_within (λ n. n < length c.deref-2.result.now) mid new number cause (err_at (IsCopyFault (λ n. n < length c.deref-2.result.now) mid new) c.write.result (At number cause) c.write.ensures.cause err) in
+    let all : length l.inputs.items ≡ length names =
+    omega (arith, ens.all, length-map c.args.inputs.now (string_bytes {Z = Global})) in
+    let some : 1 ≤ length names = omega (
+      arith,
+      c.requires.some,
+      length-map c.args.inputs.now
+          (string_bytes {Z = Global}),
+    ) in
+    let few : points_read l.inputs.items < 2 ^ 32 =
+    subst (λ (is : List InputSeen). points_read is < 2 ^ 32) c.deref.ensures.value c.in_ok-points.ensures.small in
+    let within : number < length c.deref-2.result.now =
+    copy_within (λ n. n < length c.deref-2.result.now) mid new number cause
+    (err_at (IsCopyFault (λ n. n < length c.deref-2.result.now) mid new) c.write.result (At number cause)
+    c.write.ensures.cause err) in
     let long = sources_long _ _ _ _ _ _ _ _ ens.opened ens.lists all some in
-    let below : number < length names = omega (arith, within, ap (λ (ss : List SourceSeen). length ss) c.deref-2.ensures.value, long) in (
+    let below : number < length names = omega (
+      arith,
+      within,
+      ap (λ (ss : List SourceSeen). length ss)
+          c.deref-2.ensures.value,
+      long,
+    ) in (
       omega (arith, below, length-map c.args.inputs.now (string_bytes {Z = Global})),
-      λ known is. before_copied known names (files _ _ _ _ _ _ _ _ ens.opened ens.lists all some known is) (parts _ _ _ _ _ _ _ _ ens.opened ens.lists all some known is) number
+      λ known is. before_copied known names (files _ _ _ _ _ _ _ _ ens.opened ens.lists all some known is)
+          (parts _ _ _ _ _ _ _ _ ens.opened ens.lists all some known is) number
           (can_copy _ _ _ _ _ _ _ _ ens.opened ens.lists all some known is few c.if-listed.false) below,
     )
 
@@ -163,17 +243,27 @@ returns-clause-write g c err =
     let old = g.F.Files.seen c.args.files.now in
     let mid = g.F.Files.seen c.list_inputs.new.files in
     let new = g.F.Files.seen c.write.new.files in
-    let output = c.args.output.now in
     let names = names_of c.args.inputs.now in
     let l = c.in_ok-listed.listed in
     let ens = c.in_ok-listed.ensures in
-    let all : length l.inputs.items ≡ length names = omega (arith, ens.all, length-map c.args.inputs.now (string_bytes {Z = Global})) in
-    let some : 1 ≤ length names = omega (arith, c.requires.some, length-map c.args.inputs.now (string_bytes {Z = Global})) in
-    let few : points_read l.inputs.items < 2 ^ 32 = subst (λ (is : List InputSeen). points_read is < 2 ^ 32) c.deref.ensures.value c.in_ok-points.ensures.small in
+    let all : length l.inputs.items ≡ length names =
+    omega (arith, ens.all, length-map c.args.inputs.now (string_bytes {Z = Global})) in
+    let some : 1 ≤ length names = omega (
+      arith,
+      c.requires.some,
+      length-map c.args.inputs.now
+          (string_bytes {Z = Global}),
+    ) in
+    let few : points_read l.inputs.items < 2 ^ 32 =
+    subst (λ (is : List InputSeen). points_read is < 2 ^ 32) c.deref.ensures.value c.in_ok-points.ensures.small in
     let frame = c.in-Ok.frame in
     let text = copied_text mid.held frame.head.bytes frame.place c.deref-2.result.now frame.table.items in
-    let here : text ≡ copied_text old.held frame.head.bytes frame.place l.sources.items frame.table.items = (λ i. copied_text (c.list_inputs.ensures.held i) frame.head.bytes frame.place (c.deref-2.ensures.value i) frame.table.items) in (
-      subst (λ (n : ℕ). Rose n new.write_faults) c.list_inputs.ensures.writes (err_at (IsCopyFault (λ n. n < length c.deref-2.result.now) mid new) c.write.result Write c.write.ensures.cause err),
+    let here : text ≡ copied_text old.held frame.head.bytes frame.place l.sources.items frame.table.items =
+    (λ i. copied_text (c.list_inputs.ensures.reads.held i) frame.head.bytes frame.place (c.deref-2.ensures.value i)
+    frame.table.items) in (
+      subst (λ (n : ℕ). Rose n new.write_faults) c.list_inputs.ensures.reads.writes
+          (err_at (IsCopyFault (λ n. n < length c.deref-2.result.now) mid new) c.write.result Write
+          c.write.ensures.cause err),
       λ known is. (
         files _ _ _ _ _ _ _ _ ens.opened ens.lists all some known is,
         parts _ _ _ _ _ _ _ _ ens.opened ens.lists all some known is,
@@ -190,38 +280,61 @@ returns-clause-left g c =
     let names = names_of c.args.inputs.now in
     let l = c.in_ok-listed.listed in
     let ens = c.in_ok-listed.ensures in
-    let all : length l.inputs.items ≡ length names = omega (arith, ens.all, length-map c.args.inputs.now (string_bytes {Z = Global})) in
-    let some : 1 ≤ length names = omega (arith, c.requires.some, length-map c.args.inputs.now (string_bytes {Z = Global})) in
-    let few : points_read l.inputs.items < 2 ^ 32 = subst (λ (is : List InputSeen). points_read is < 2 ^ 32) c.deref.ensures.value c.in_ok-points.ensures.small in
+    let all : length l.inputs.items ≡ length names =
+    omega (arith, ens.all, length-map c.args.inputs.now (string_bytes {Z = Global})) in
+    let some : 1 ≤ length names = omega (
+      arith,
+      c.requires.some,
+      length-map c.args.inputs.now
+          (string_bytes {Z = Global}),
+    ) in
+    let few : points_read l.inputs.items < 2 ^ 32 =
+    subst (λ (is : List InputSeen). points_read is < 2 ^ 32) c.deref.ensures.value c.in_ok-points.ensures.small in
     let frame = c.in-Ok.frame in
     let text = copied_text mid.held frame.head.bytes frame.place c.deref-2.result.now frame.table.items in
-    let here : text ≡ copied_text old.held frame.head.bytes frame.place l.sources.items frame.table.items = (λ i. copied_text (c.list_inputs.ensures.held i) frame.head.bytes frame.place (c.deref-2.ensures.value i) frame.table.items) in
+    let here : text ≡ copied_text old.held frame.head.bytes frame.place l.sources.items frame.table.items =
+    (λ i. copied_text (c.list_inputs.ensures.reads.held i) frame.head.bytes frame.place (c.deref-2.ensures.value i)
+    frame.table.items) in
     let left : OnErr c.write.result (LeavesPrefix mid.held new.held output text) = c.write.ensures.left in
-    err_all _ c.write.result
-    (λ prefix e known is. left_by old.held mid.held new.held known names (files _ _ _ _ _ _ _ _ ens.opened ens.lists all some known is) (parts _ _ _ _ _ _ _ _ ens.opened ens.lists all some known is) output text c.list_inputs.ensures.held
+    on_err_then c.write.result
+    (λ prefix known is. left_by old.held mid.held new.held known names
+    (files _ _ _ _ _ _ _ _ ens.opened ens.lists all some known is)
+    (parts _ _ _ _ _ _ _ _ ens.opened ens.lists all some known is) output text c.list_inputs.ensures.reads.held
     (can_copy _ _ _ _ _ _ _ _ ens.opened ens.lists all some known is few c.if-listed.false)
-    (here ∙ text_is _ _ _ _ _ _ _ _ ens.opened ens.lists all some known is frame.head.bytes frame.table.items frame.place c.if-listed.false c.in-Ok.ensures.head c.in-Ok.ensures.place c.in-Ok.ensures.table) prefix)
+    (here ∙ text_is _ _ _ _ _ _ _ _ ens.opened ens.lists all some known is frame.head.bytes frame.table.items
+    frame.place c.if-listed.false c.in-Ok.ensures.head c.in-Ok.ensures.place c.in-Ok.ensures.table) prefix)
     left
 
-pub returns-clause-writes_calm : goal.returns-clause-writes_calm
-returns-clause-writes_calm g c =
+pub returns-clause-calm : goal.returns-clause-calm
+returns-clause-calm g c =
     let mid = g.F.Files.seen c.list_inputs.new.files in
     let new = g.F.Files.seen c.write.new.files in
     let frame = c.in-Ok.frame in
-    let written : OnOk c.write.result (new ≡ with_bytes (with_reads mid new) c.args.output.now (copied_text mid.held frame.head.bytes frame.place c.deref-2.result.now frame.table.items)) = c.write.ensures.written in
-    ok_then c.write.result (λ put. ap (λ (o : Outside). o.write_faults) put ∙ c.list_inputs.ensures.writes) written
+    let written : OnOk c.write.result (new ≡ with_bytes (with_reads mid new) c.args.output.now
+    (copied_text mid.held frame.head.bytes frame.place c.deref-2.result.now frame.table.items)) =
+    c.write.ensures.written in
+    on_ok_both c.write.result
+    (λ reads put. record {
+      reads = reads ∙ c.in_ok-listed.ensures.calm.reads;
+      writes = ap (λ (o : Outside). o.write_faults) put ∙ c.list_inputs.ensures.reads.writes;
+    })
+    c.write.ensures.reads_calm written
 
 pub returns-clause-asked : goal.returns-clause-asked
 returns-clause-asked g c =
-    let old = g.F.Files.seen c.args.files.now in
-    let mid = g.F.Files.seen c.list_inputs.new.files in
-    let new = g.F.Files.seen c.write.new.files in
     let names = names_of c.args.inputs.now in
     let l = c.in_ok-listed.listed in
     let ens = c.in_ok-listed.ensures in
-    let all : length l.inputs.items ≡ length names = omega (arith, ens.all, length-map c.args.inputs.now (string_bytes {Z = Global})) in
-    let some : 1 ≤ length names = omega (arith, c.requires.some, length-map c.args.inputs.now (string_bytes {Z = Global})) in
-    let few : points_read l.inputs.items < 2 ^ 32 = subst (λ (is : List InputSeen). points_read is < 2 ^ 32) c.deref.ensures.value c.in_ok-points.ensures.small in
+    let all : length l.inputs.items ≡ length names =
+    omega (arith, ens.all, length-map c.args.inputs.now (string_bytes {Z = Global})) in
+    let some : 1 ≤ length names = omega (
+      arith,
+      c.requires.some,
+      length-map c.args.inputs.now
+          (string_bytes {Z = Global}),
+    ) in
+    let few : points_read l.inputs.items < 2 ^ 32 =
+    subst (λ (is : List InputSeen). points_read is < 2 ^ 32) c.deref.ensures.value c.in_ok-points.ensures.small in
     let size : SourceSeen → ℕ = λ s. s.size in
     on_ok_any c.write.result
     (λ known is merged chunks can.
@@ -230,4 +343,13 @@ returns-clause-asked g c =
     let here = can_copy _ _ _ _ _ _ _ _ ens.opened ens.lists all some known is few c.if-listed.false in
     let bound = asked_few _ _ _ _ _ _ _ _ ens.opened ens.lists all some known is in
     let once = copied_once known names files_here merged parts_here chunks here can in
-    omega (arith, bound, c.write.ensures.asked, ap (sum_by size) c.deref-2.ensures.value, c.list_inputs.ensures.later.asked, ap (λ (fs : List (List ℕ)). asked_to_copy fs chunks) once.0, ap (asked_to_copy files_here) once.1))
+    omega (
+      arith,
+      bound,
+      c.write.ensures.asked,
+      ap (sum_by size) c.deref-2.ensures.value,
+      c.list_inputs.ensures.reads.later.asked,
+      ap (λ (fs : List (List ℕ)). asked_to_copy fs chunks) once.0,
+      ap
+          (asked_to_copy files_here) once.1,
+    ))

@@ -1,5 +1,5 @@
 use Rattle.std.proofs.Common.{◌≡◌, ◌-◌, length}
-use Rattle.las_outside.specs.Outside.{Later}
+use Rattle.las_outside.specs.Frames.{IsCalm, OnlyReads}
 use Rattle.las_merge.specs.Inputs.{names_of}
 use Rattle.las_merge.specs.Listing.{ListsChunks}
 use Rattle.las_merge.specs.Opening.{AreOpen}
@@ -8,10 +8,10 @@ use Rattle.las_merge.proofs.listing.list_inputs.Given as goal
 abbrev pub invariant-inputs : goal.invariant-inputs
 invariant-inputs g l = record {
   opened : AreOpen (g.F.Files.seen l.fn.files).held (names_of l.names) l.listed.inputs.items;
-  lists : ListsChunks (g.F.Files.seen l.fn.files).held l.listed.inputs.items l.listed.sources.items l.listed.lists.many l.listed.lists.counts.items l.listed.lists.sizes.items ((g.F.Files.seen l.files).asked - (g.F.Files.seen l.fn.files).asked);
+  lists : ListsChunks (g.F.Files.seen l.fn.files).held l.listed.inputs.items l.listed.sources.items l.listed.lists.many
+      l.listed.lists.counts.items l.listed.lists.sizes.items
+      ((g.F.Files.seen l.files).asked - (g.F.Files.seen l.fn.files).asked);
   count : length l.listed.inputs.items ≡ l.name-index;
-  faults : (g.F.Files.seen l.files).read_faults ≡ (g.F.Files.seen l.fn.files).read_faults;
-  held : (g.F.Files.seen l.files).held ≡ (g.F.Files.seen l.fn.files).held;
-  writes : (g.F.Files.seen l.files).write_faults ≡ (g.F.Files.seen l.fn.files).write_faults;
-  later : Later (g.F.Files.seen l.fn.files) (g.F.Files.seen l.files);
+  reads : OnlyReads (g.F.Files.seen l.fn.files) (g.F.Files.seen l.files);
+  calm : IsCalm (g.F.Files.seen l.fn.files) (g.F.Files.seen l.files);
 }

@@ -14,7 +14,8 @@ returns-in_err-copy_inputs-clause-ends g c before out s =
     let old = g.F.Files.seen c.args.files.now in
     let new = g.F.Files.seen c.copy_inputs.new.files in
     if_err _ c.from_residual.result _ c.from_residual.ensures.1
-    (fails_merging old (names_read c.args.inputs.items) c.args.writer before out s new c.in_err-copy_inputs.field-0.0 c.in_err-copy_inputs.ensures.ends)
+    (fails_merging old (names_read c.args.inputs.items) c.args.writer before out s new c.in_err-copy_inputs.field-0.0
+    c.in_err-copy_inputs.ensures.ends)
 
 pub finish-requires-clause-stands : goal.finish-requires-clause-stands
 finish-requires-clause-stands g c κs within =
@@ -33,8 +34,13 @@ returns-in-Ok-clause-finished g c before out s =
     let old = g.F.Files.seen c.args.files.now in
     let mid = g.F.Files.seen c.copy_inputs.new.files in
     let d = c.in_ok-copy_inputs.ensures.copied in
-    let all = subst (λ (e : Option BadInput). CopiesUpTo old.held (names_read c.args.inputs.items) d.0 e) c.in-None.is d.1 in
-    (d.0, all, ap (λ (o : Outside). o.held) (c.in-Ok.ensures.finished (with_reads before mid) out d.0 (d.2 before out [] s)))
+    let all = subst (λ (e : Option BadInput). CopiesUpTo old.held (names_read c.args.inputs.items) d.0 e) c.in-None.is
+    d.1 in (
+      d.0,
+      all,
+      ap (λ (o : Outside). o.held) (c.in-Ok.ensures.finished (with_reads before mid) out d.0
+          (d.2 before out [] s)),
+    )
 
 pub returns-in-Err-clause-ends : goal.returns-in-Err-clause-ends
 returns-in-Err-clause-ends g c before out s =
@@ -45,15 +51,23 @@ returns-in-Err-clause-ends g c before out s =
     let d = c.in_ok-copy_inputs.ensures.copied in
     let all = subst (λ (e : Option BadInput). CopiesUpTo old.held names d.0 e) c.in-None.is d.1 in
     let p = c.in-Err.ensures.stopped (with_reads before mid) out d.0 (d.2 before out [] s) in
-    finish_fails old names c.args.writer before out s mid new d.0 c.in_ok-copy_inputs.ensures.writes_calm all c.in-Err.fault c.fault_of_output.result c.fault_of_output.ensures.memory c.fault_of_output.ensures.write c.in-Err.ensures.fault (λ e. c.in-Err.ensures.write (ap Err e)) p.0 p.1 p.2
+    finish_fails old names c.args.writer before out s mid new d.0 c.in_ok-copy_inputs.ensures.calm.writes all
+    c.in-Err.fault c.fault_of_output.result c.fault_of_output.ensures.memory c.fault_of_output.ensures.write
+    c.in-Err.ensures.fault (λ e. c.in-Err.ensures.write (ap Err e)) p.0 p.1 p.2
 
 pub returns-in-Ok-stop-clause-ends : goal.returns-in-Ok-stop-clause-ends
 returns-in-Ok-stop-clause-ends g c before out s =
     let old = g.F.Files.seen c.args.files.now in
     let mid = g.F.Files.seen c.copy_inputs.new.files in
     let d = c.in_ok-copy_inputs.ensures.copied in
-    let bad = subst (λ (e : Option BadInput). CopiesUpTo old.held (names_read c.args.inputs.items) d.0 e) c.in-Some.is d.1 in
-    inl (d.0, bad, ap (λ (o : Outside). o.held) (c.in-Ok-stop.ensures.stopped (with_reads before mid) out d.0 (d.2 before out [] s)))
+    let bad = subst (λ (e : Option BadInput). CopiesUpTo old.held (names_read c.args.inputs.items) d.0 e) c.in-Some.is
+    d.1 in
+    inl (
+      d.0,
+      bad,
+      ap (λ (o : Outside). o.held) (c.in-Ok-stop.ensures.stopped (with_reads before mid) out d.0
+          (d.2 before out [] s)),
+    )
 
 pub returns-in-Err-stop-clause-ends : goal.returns-in-Err-stop-clause-ends
 returns-in-Err-stop-clause-ends g c before out s =
@@ -64,13 +78,20 @@ returns-in-Err-stop-clause-ends g c before out s =
     let d = c.in_ok-copy_inputs.ensures.copied in
     let bad = subst (λ (e : Option BadInput). CopiesUpTo old.held names d.0 e) c.in-Some.is d.1 in
     let p = c.in-Err-stop.ensures.broken (with_reads before mid) out d.0 (d.2 before out [] s) in
-    stop_fails old names c.args.writer before out s mid new c.in-Some.bad.input d.0 c.in-Some.bad.cause c.in_ok-copy_inputs.ensures.writes_calm bad c.in-Err-stop.fault c.fault_of_output-in-Err-stop.result c.fault_of_output-in-Err-stop.ensures.memory c.fault_of_output-in-Err-stop.ensures.write c.in-Err-stop.ensures.fault (λ e. c.in-Err-stop.ensures.write (ap Err e)) p.0 p.1
+    stop_fails old names c.args.writer before out s mid new c.in-Some.bad.input d.0 c.in-Some.bad.cause
+    c.in_ok-copy_inputs.ensures.calm.writes bad c.in-Err-stop.fault c.fault_of_output-in-Err-stop.result
+    c.fault_of_output-in-Err-stop.ensures.memory c.fault_of_output-in-Err-stop.ensures.write
+    c.in-Err-stop.ensures.fault (λ e. c.in-Err-stop.ensures.write (ap Err e)) p.0 p.1
 
 pub returns-in_err-copy_inputs-clause-asked : goal.returns-in_err-copy_inputs-clause-asked
 returns-in_err-copy_inputs-clause-asked g c known is = c.copy_inputs.ensures.asked known is
 
 pub returns-in-Ok-clause-asked : goal.returns-in-Ok-clause-asked
-returns-in-Ok-clause-asked g c known is = omega (arith, c.copy_inputs.ensures.asked known is, c.in-Ok.ensures.calm.asked)
+returns-in-Ok-clause-asked g c known is = omega (
+  arith,
+  c.copy_inputs.ensures.asked known is,
+  c.in-Ok.ensures.calm.asked,
+)
 
 pub returns-in-Err-clause-asked : goal.returns-in-Err-clause-asked
 returns-in-Err-clause-asked g c known is =
@@ -82,7 +103,8 @@ returns-in-Err-clause-asked g c known is =
     omega (arith, same, c.copy_inputs.ensures.asked known is)
 
 pub returns-in-Ok-stop-clause-asked : goal.returns-in-Ok-stop-clause-asked
-returns-in-Ok-stop-clause-asked g c known is = omega (arith, c.copy_inputs.ensures.asked known is, c.in-Ok-stop.ensures.calm.asked)
+returns-in-Ok-stop-clause-asked g c known is = omega
+    (arith, c.copy_inputs.ensures.asked known is, c.in-Ok-stop.ensures.calm.asked)
 
 pub returns-in-Err-stop-clause-asked : goal.returns-in-Err-stop-clause-asked
 returns-in-Err-stop-clause-asked g c known is =

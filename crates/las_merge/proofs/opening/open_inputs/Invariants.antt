@@ -1,5 +1,5 @@
 use Rattle.std.proofs.Common.{◌≡◌, length, take}
-use Rattle.las_outside.specs.Outside.{Later}
+use Rattle.las_outside.specs.Frames.{IsCalm, OnlyReads}
 use Rattle.laz_file.specs.Asking.{AsksAtMost}
 use Rattle.las_merge.specs.Asking.{asked_of_all, asked_to_compare}
 use Rattle.las_merge.specs.Inputs.{IfKnown, names_of}
@@ -10,9 +10,9 @@ abbrev pub invariant-inputs : goal.invariant-inputs
 invariant-inputs g l = record {
   opened : AreOpen (g.F.Files.seen l.fn.files).held (names_of l.names) l.inputs.items;
   count : length l.inputs.items ≡ l.name-index;
-  faults : (g.F.Files.seen l.files).read_faults ≡ (g.F.Files.seen l.fn.files).read_faults;
-  held : (g.F.Files.seen l.files).held ≡ (g.F.Files.seen l.fn.files).held;
-  writes : (g.F.Files.seen l.files).write_faults ≡ (g.F.Files.seen l.fn.files).write_faults;
-  later : Later (g.F.Files.seen l.fn.files) (g.F.Files.seen l.files);
-  asked : IfKnown (g.F.Files.seen l.fn.files).held (λ known. AsksAtMost (asked_of_all asked_to_compare known (take l.name-index (names_of l.names))) (g.F.Files.seen l.fn.files) (g.F.Files.seen l.files));
+  reads : OnlyReads (g.F.Files.seen l.fn.files) (g.F.Files.seen l.files);
+  calm : IsCalm (g.F.Files.seen l.fn.files) (g.F.Files.seen l.files);
+  asked : IfKnown (g.F.Files.seen l.fn.files).held
+      (λ known. AsksAtMost (asked_of_all asked_to_compare known (take l.name-index (names_of l.names)))
+      (g.F.Files.seen l.fn.files) (g.F.Files.seen l.files));
 }

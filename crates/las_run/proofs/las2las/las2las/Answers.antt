@@ -24,7 +24,8 @@ use Rattle.las_run.proofs.las2las.las2las.Goals as goal
 
 pub choose-requires-clause-there : goal.choose-requires-clause-there
 choose-requires-clause-there g c =
-    there (λ tap. (goal.Tap-dyn g (tap.vtable, tap.value)).tap_seen tap.value) string_bytes c.args.tallies.now c.args.taps.items c.requires.chosen.there
+    there (λ tap. (goal.Tap-dyn g (tap.vtable, tap.value)).tap_seen tap.value) string_bytes c.args.tallies.now
+    c.args.taps.items c.requires.chosen.there
 
 pub choose-requires-clause-distinct : goal.choose-requires-clause-distinct
 choose-requires-clause-distinct g c = distinct string_bytes c.args.tallies.now c.requires.chosen.distinct
@@ -39,17 +40,27 @@ pub returns-in_err-reader-clause-ends : goal.returns-in_err-reader-clause-ends
 returns-in_err-reader-clause-ends g c =
     let p = err_from_is_err_and c.from_residual.result c.from_residual.ensures.1 in
     let h = c.in_err-reader.ensures in
-    let input = c.args.input.now in
-    let taps : List TapSeen = map (λ tap. (goal.Tap-dyn g (tap.vtable, tap.value)).tap_seen tap.value) c.args.taps.items in
-    let options = las2las_options c.args.output.now (steps_of c.args.plan.now) c.args.conversion (texts c.args.tallies.now) in
-    let asked : Asked = record { work = reads input (las2las options); workers = c.args.conversion.workers } in
-    rw (p.1, p.2) (ends_opening (task_with taps asked) input (Converts taps input options) (reads_one taps input (las2las options) c.args.conversion.workers) (g.F.Files.seen c.args.files.now) (g.F.Files.seen c.open_input.new.files) (g.O.Sink.seen c.args.out.now) c.in_err-reader.field-0.0 h.stops h.held)
+    let input = c.args.request.now.input.now in
+    let taps : List TapSeen = map (λ tap. (goal.Tap-dyn g (tap.vtable, tap.value)).tap_seen tap.value)
+    c.args.taps.items in
+    let options = las2las_options c.args.request.now.output.now (steps_of c.args.request.now.plan.now)
+    c.args.request.now.conversion (texts c.args.tallies.now) in
+    let asked : Asked = record { work = reads input (las2las options); workers = c.args.machine.workers } in
+    rw (p.1, p.2) (ends_opening (task_with taps asked) input (Converts taps input options)
+    (reads_one taps input (las2las options) c.args.machine.workers) (g.F.Files.seen c.args.files.now)
+    (g.F.Files.seen c.open_input.new.files) (g.O.Sink.seen c.args.out.now) c.in_err-reader.field-0.0 h.stops
+    h.reads.held)
 
 pub returns-in-Err-clause-ends : goal.returns-in-Err-clause-ends
 returns-in-Err-clause-ends g c =
-    let taps : List TapSeen = map (λ tap. (goal.Tap-dyn g (tap.vtable, tap.value)).tap_seen tap.value) c.args.taps.items in
-    let options = las2las_options c.args.output.now (steps_of c.args.plan.now) c.args.conversion (texts c.args.tallies.now) in
-    let asked : Asked = record { work = reads c.args.input.now (las2las options); workers = c.args.conversion.workers } in
+    let taps : List TapSeen = map (λ tap. (goal.Tap-dyn g (tap.vtable, tap.value)).tap_seen tap.value)
+    c.args.taps.items in
+    let options = las2las_options c.args.request.now.output.now (steps_of c.args.request.now.plan.now)
+    c.args.request.now.conversion (texts c.args.tallies.now) in
+    let asked : Asked = record {
+      work = reads c.args.request.now.input.now (las2las options);
+      workers = c.args.machine.workers;
+    } in
     let files = g.F.Files.seen c.args.files.now in
     (left_before (task_with taps asked) (quiet files files (g.O.Sink.seen c.args.out.now)) refl, refl)
 
@@ -62,32 +73,41 @@ returns-clause-ends g c =
     let new = g.F.Files.seen c.select.new.files in
     let out = g.O.Sink.seen c.args.out.now in
     let out_now = g.O.Sink.seen c.select.new.out in
-    let input = c.args.input.now in
-    let taps : List TapSeen = map (λ tap. (goal.Tap-dyn g (tap.vtable, tap.value)).tap_seen tap.value) c.args.taps.items in
+    let input = c.args.request.now.input.now in
+    let taps : List TapSeen = map (λ tap. (goal.Tap-dyn g (tap.vtable, tap.value)).tap_seen tap.value)
+    c.args.taps.items in
     let tallies = texts c.args.tallies.now in
-    let packing = c.args.conversion.packing in
-    let conversion = c.args.conversion in
-    let plan = steps_of c.args.plan.now in
-    let options = las2las_options c.args.output.now plan conversion tallies in
-    let asked : Asked = record { work = reads input (las2las options); workers = c.args.conversion.workers } in
+    let packing = c.args.request.now.conversion.packing in
+    let conversion = c.args.request.now.conversion in
+    let plan = steps_of c.args.request.now.plan.now in
+    let options = las2las_options c.args.request.now.output.now plan conversion tallies in
+    let asked : Asked = record { work = reads input (las2las options); workers = c.args.machine.workers } in
     let change : Change = record { files = old; files_now = new; out = out; out_now = out_now } in
     let before : Change = record { files = mid; files_now = new; out = out; out_now = out_now } in
     let outcome = c.select.result in
-    let chosen_are = chosen (λ tap. (goal.Tap-dyn g (tap.vtable, tap.value)).tap_seen tap.value) string_bytes c.args.taps.items c.args.tallies.now c.in-Ok.chosen.items c.in-Ok.ensures in
-    let made = subst (λ (ts : List TapSeen). EndsMaking (ConvertsIn (chunk_if packing.packed packing.chunk) (range_in conversion.start conversion.stop) ts input c.args.output.now plan (sieve_in conversion)) input before outcome) chosen_are c.select.ensures.ends in
-    let ends = making_after (Converts taps input options) input new out out_now old mid h.held h.faults h.writes outcome made in
+    let chosen_are = chosen (λ tap. (goal.Tap-dyn g (tap.vtable, tap.value)).tap_seen tap.value) string_bytes
+    c.args.taps.items c.args.tallies.now c.in-Ok.chosen.items c.in-Ok.ensures in
+    let made = subst (λ (ts : List TapSeen). EndsMaking
+    (ConvertsIn (chunk_if packing.packed packing.chunk) (range_in conversion.start conversion.stop) ts input
+    c.args.request.now.output.now plan (sieve_in conversion)) input before outcome) chosen_are
+    c.select.ensures.ends in
+    let ends = making_after (Converts taps input options) input new out out_now old mid h.reads.held h.calm.reads
+    h.reads.writes outcome made in
     let accepted = known_more old.held input (StandsFor r) IsAcceptedFile (λ file s. s.accepted) h.stands in
-    ends_making (task_with taps asked) input (Converts taps input options) (reads_one taps input (las2las options) c.args.conversion.workers) change accepted outcome ends
+    ends_making (task_with taps asked) input (Converts taps input options)
+    (reads_one taps input (las2las options) c.args.machine.workers) change accepted outcome ends
 
 pub returns-in_err-reader-clause-asks : goal.returns-in_err-reader-clause-asks
 returns-in_err-reader-clause-asks g c =
-    let places = c.args.conversion in
-    asks_opening c.args.input.now places.pick places.start places.stop (g.F.Files.seen c.args.files.now) (g.F.Files.seen c.open_input.new.files) c.in_err-reader.ensures.missing c.in_err-reader.ensures.asked_of
+    let places = c.args.request.now.conversion in
+    asks_opening c.args.request.now.input.now places.pick places.start places.stop (g.F.Files.seen c.args.files.now)
+    (g.F.Files.seen c.open_input.new.files) c.in_err-reader.ensures.missing c.in_err-reader.ensures.asked_of
 
 pub returns-in-Err-clause-asks : goal.returns-in-Err-clause-asks
 returns-in-Err-clause-asks g c =
-    let places = c.args.conversion in
-    asks_nothing c.args.input.now places.pick places.start places.stop (g.F.Files.seen c.args.files.now) (g.F.Files.seen c.args.files.now) refl
+    let places = c.args.request.now.conversion in
+    asks_nothing c.args.request.now.input.now places.pick places.start places.stop (g.F.Files.seen c.args.files.now)
+    (g.F.Files.seen c.args.files.now) refl
 
 pub returns-clause-asks : goal.returns-clause-asks
 returns-clause-asks g c =
@@ -96,10 +116,12 @@ returns-clause-asks g c =
     let old = g.F.Files.seen c.args.files.now in
     let mid = g.F.Files.seen c.open_input.new.files in
     let new = g.F.Files.seen c.select.new.files in
-    let input = c.args.input.now in
-    let conversion = c.args.conversion in
-    let bytes : (file : List ℕ) → List Piece → ℕ = λ file pieces. bytes_in (parts_of file (range_in conversion.start conversion.stop file) pieces) in
+    let input = c.args.request.now.input.now in
+    let conversion = c.args.request.now.conversion in
+    let bytes : (file : List ℕ) → List Piece → ℕ =
+    λ file pieces. bytes_in (parts_of file (range_in conversion.start conversion.stop file) pieces) in
     let Rest : List ℕ → Type 0 = λ file. (pieces : List Piece) → ArePieces file pieces
-    → AsksAtMost (in_first_reading conversion.pick (asked_to_open file + bytes file pieces) + bytes file pieces) mid new in
-    let rest = subst (λ (f : Option FileMap). WhereKnown f input Rest) h.held c.select.ensures.asked in
+    → AsksAtMost (in_first_reading conversion.pick (asked_to_open file + bytes file pieces) + bytes file pieces) mid
+    new in
+    let rest = subst (λ (f : Option FileMap). WhereKnown f input Rest) h.reads.held c.select.ensures.asked in
     asks_both r input conversion.pick conversion.start conversion.stop old mid new h.stands h.asked_of rest

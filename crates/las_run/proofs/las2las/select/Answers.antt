@@ -18,25 +18,28 @@ use Rattle.las_run.proofs.las2las.select.Goals as goal
 pub returns-in_err-reader-clause-ends : goal.returns-in_err-reader-clause-ends
 returns-in_err-reader-clause-ends g c =
     let p = err_from_is_err_and c.from_residual.result c.from_residual.ensures.1 in
-    let chosen : List TapSeen = map (λ tap. (goal.Tap-dyn g (tap.vtable, tap.value)).tap_seen tap.value) c.args.chosen.items in
-    rw (p.1, p.2) (c.in_err-reader.ensures.stops (chunk_if c.args.conversion.packing.packed c.args.conversion.packing.chunk) chosen c.args.output.now (g.O.Sink.seen c.args.out.now))
+    let chosen : List TapSeen = map (λ tap. (goal.Tap-dyn g (tap.vtable, tap.value)).tap_seen tap.value)
+    c.args.chosen.items in
+    rw (p.1, p.2) (c.in_err-reader.ensures.stops chosen c.args.request.now.output.now (g.O.Sink.seen c.args.out.now))
 
 pub returns-in_err-reader-clause-asked : goal.returns-in_err-reader-clause-asked
 returns-in_err-reader-clause-asked g c =
-    let places = c.args.conversion in
-    asks_stopped c.args.input.now places.start places.stop places.pick (g.F.Files.seen c.args.files.now) (g.F.Files.seen c.prepare.new.files) c.in_err-reader.ensures.asked
+    let places = c.args.request.now.conversion in
+    asks_stopped c.args.request.now.input.now places.start places.stop places.pick (g.F.Files.seen c.args.files.now)
+    (g.F.Files.seen c.prepare.new.files) c.in_err-reader.ensures.asked
 
 pub returns-clause-ends : goal.returns-clause-ends
 returns-clause-ends g c =
     let h = c.in_ok-reader.ensures in
     let now = c.in_ok-reader.reader in
-    let places = c.args.conversion in
-    let packing = c.args.conversion.packing in
+    let places = c.args.request.now.conversion in
+    let packing = c.args.request.now.conversion.packing in
     let size = chunk_if packing.packed packing.chunk in
-    let input = c.args.input.now in
-    let output = c.args.output.now in
-    let plan = steps_of c.args.plan.now in
-    let chosen : List TapSeen = map (λ tap. (goal.Tap-dyn g (tap.vtable, tap.value)).tap_seen tap.value) c.args.chosen.items in
+    let input = c.args.request.now.input.now in
+    let output = c.args.request.now.output.now in
+    let plan = steps_of c.args.request.now.plan.now in
+    let chosen : List TapSeen = map (λ tap. (goal.Tap-dyn g (tap.vtable, tap.value)).tap_seen tap.value)
+    c.args.chosen.items in
     let old = g.F.Files.seen c.args.files.now in
     let mid = g.F.Files.seen c.prepare.new.files in
     let new = g.F.Files.seen c.write_kept.new.files in
@@ -45,17 +48,24 @@ returns-clause-ends g c =
     let outcome = c.write_kept.result in
     let change : Change = record { files = mid; files_now = new; out = out; out_now = out_now } in
     let settings : c.prepare.new.sieve.settings ≡ sieve_in places = h.settings ∙ c.new-sieve.ensures.settings in
-    let Ends : List ℕ → Settings → Type 0 = λ name s. EndsMaking (ConvertsIn size (λ file. now.range) chosen name output plan s) name change outcome in
-    let made = subst (Ends input) settings (subst (λ (n : List ℕ). Ends n c.prepare.new.sieve.settings) h.fresh.named c.write_kept.ensures.ends) in
-    let stands = subst (λ (f : Option FileMap). WhereKnown f input (StandsFor now)) (sym h.held) h.stands in
-    let sought = ends_sought size chosen input output plan (sieve_in places) change now places.start places.stop h.range stands outcome made in
-    making_after (ConvertsIn size (range_in places.start places.stop) chosen input output plan (sieve_in places)) input new out out_now old mid h.held h.faults h.writes outcome sought
+    let Ends : List ℕ → Settings → Type 0 = λ name s. EndsMaking
+    (ConvertsIn size (λ file. now.range) chosen name output plan s) name change outcome in
+    let made = subst (Ends input) settings (subst (λ (n : List ℕ). Ends n c.prepare.new.sieve.settings) h.fresh.named
+    c.write_kept.ensures.ends) in
+    let stands = subst (λ (f : Option FileMap). WhereKnown f input (StandsFor now)) (sym h.reads.held) h.stands in
+    let sought = ends_sought size chosen input output plan (sieve_in places) change now places.start places.stop h.range
+    stands outcome made in
+    making_after (ConvertsIn size (range_in places.start places.stop) chosen input output plan (sieve_in places)) input
+    new out out_now old mid h.reads.held h.calm.reads h.reads.writes outcome sought
 
 pub returns-clause-asked : goal.returns-clause-asked
 returns-clause-asked g c =
     let h = c.in_ok-reader.ensures in
     let now = c.in_ok-reader.reader in
-    let places = c.args.conversion in
-    asks_selected now c.args.input.now places.start places.stop places.pick (g.F.Files.seen c.args.files.now) h.stands h.fresh.unread h.range
+    let places = c.args.request.now.conversion in
+    asks_selected now c.args.request.now.input.now places.start places.stop places.pick
+    (g.F.Files.seen c.args.files.now) h.stands h.fresh.unread h.range
     (g.F.Files.seen c.prepare.new.files) (g.F.Files.seen c.write_kept.new.files)
-    (λ file pieces. in_first_reading places.pick (asked_to_open file + bytes_in (parts_of file (range_in places.start places.stop file) pieces))) h.asked c.write_kept.ensures.asked
+    (λ file pieces. in_first_reading places.pick
+    (asked_to_open file + bytes_in (parts_of file (range_in places.start places.stop file) pieces))) h.asked
+    c.write_kept.ensures.asked

@@ -9,12 +9,36 @@ pub returns-then-copy-clause-ends : goal.returns-then-copy-clause-ends
 returns-then-copy-clause-ends g c =
     let inputs = texts c.args.inputs.now in
     let packing = c.args.packing in
-    let asks_for : Bool → Asked = λ copy. record { work = lasmerge (record { inputs = inputs; output = c.args.output.now; packed = packing.packed; chunk = packing.chunk; copy = copy }); workers = c.args.workers } in
-    λ taps out. subst (λ (copy : Bool). Ends (task_with taps (asks_for copy)) (quiet (g.F.Files.seen c.args.files.now) (g.F.Files.seen c.copy_inputs.new.files) out) (cause_of inputs c.copy_inputs.result)) (sym c.if-copy.true) (c.copy_inputs.ensures.ends taps out)
+    let asks_for : Bool → Asked = λ copy. record {
+      work = lasmerge
+          (record {
+            inputs = inputs;
+            output = c.args.output.now;
+            packed = packing.packed;
+            chunk = packing.chunk;
+            copy = copy;
+          });
+      workers = c.args.machine.workers;
+    } in
+    λ taps out. subst (λ (copy : Bool). Ends (task_with taps (asks_for copy))
+    (quiet (g.F.Files.seen c.args.files.now) (g.F.Files.seen c.copy_inputs.new.files) out)
+    (cause_of inputs c.copy_inputs.result)) (sym c.if-copy.true) (c.copy_inputs.ensures.ends taps out)
 
 pub returns-else-copy-clause-ends : goal.returns-else-copy-clause-ends
 returns-else-copy-clause-ends g c =
     let inputs = texts c.args.inputs.now in
     let packing = c.args.packing in
-    let asks_for : Bool → Asked = λ copy. record { work = lasmerge (record { inputs = inputs; output = c.args.output.now; packed = packing.packed; chunk = packing.chunk; copy = copy }); workers = c.args.workers } in
-    λ taps out. subst (λ (copy : Bool). Ends (task_with taps (asks_for copy)) (quiet (g.F.Files.seen c.args.files.now) (g.F.Files.seen c.join_inputs.new.files) out) (cause_of inputs c.join_inputs.result)) (sym c.if-copy.false) (c.join_inputs.ensures.ends taps out)
+    let asks_for : Bool → Asked = λ copy. record {
+      work = lasmerge
+          (record {
+            inputs = inputs;
+            output = c.args.output.now;
+            packed = packing.packed;
+            chunk = packing.chunk;
+            copy = copy;
+          });
+      workers = c.args.machine.workers;
+    } in
+    λ taps out. subst (λ (copy : Bool). Ends (task_with taps (asks_for copy))
+    (quiet (g.F.Files.seen c.args.files.now) (g.F.Files.seen c.join_inputs.new.files) out)
+    (cause_of inputs c.join_inputs.result)) (sym c.if-copy.false) (c.join_inputs.ensures.ends taps out)

@@ -24,16 +24,18 @@ returns-in_err-reader-clause-ends g c =
     let end = c.args.end.now in
     let rule = c.args.rule.now in
     let options : LassplitOptions = record { stem = stem; end = end; rule = rule } in
-    let asked : Asked = record { work = reads input (lassplit options); workers = c.args.workers } in
-    rw (p.1, p.2) (λ taps out. ends_opening (task_with taps asked) input (Splits input stem end rule) (reads_one taps input (lassplit options) c.args.workers) (g.F.Files.seen c.args.files.now) (g.F.Files.seen c.open_input.new.files) out c.in_err-reader.field-0.0 h.stops h.held)
+    let asked : Asked = record { work = reads input (lassplit options); workers = c.args.machine.workers } in
+    rw (p.1, p.2) (λ taps out. ends_opening (task_with taps asked) input (Splits input stem end rule)
+    (reads_one taps input (lassplit options) c.args.machine.workers) (g.F.Files.seen c.args.files.now)
+    (g.F.Files.seen c.open_input.new.files) out c.in_err-reader.field-0.0 h.stops h.reads.held)
 
 pub returns-in-Err-clause-ends : goal.returns-in-Err-clause-ends
 returns-in-Err-clause-ends g c =
     let old = g.F.Files.seen c.args.files.now in
     let mid = g.F.Files.seen c.open_input.new.files in
     let options : LassplitOptions = record { stem = c.args.stem.now; end = c.args.end.now; rule = c.args.rule.now } in
-    let asked : Asked = record { work = reads c.args.input.now (lassplit options); workers = c.args.workers } in
-    λ taps out. (left_before (task_with taps asked) (quiet old mid out) c.in_ok-reader.ensures.held, refl)
+    let asked : Asked = record { work = reads c.args.input.now (lassplit options); workers = c.args.machine.workers } in
+    λ taps out. (left_before (task_with taps asked) (quiet old mid out) c.in_ok-reader.ensures.reads.held, refl)
 
 pub returns-clause-ends : goal.returns-clause-ends
 returns-clause-ends g c =
@@ -47,28 +49,38 @@ returns-clause-ends g c =
     let end = c.args.end.now in
     let rule = c.args.rule.now in
     let options : LassplitOptions = record { stem = stem; end = end; rule = rule } in
-    let asked : Asked = record { work = reads input (lassplit options); workers = c.args.workers } in
+    let asked : Asked = record { work = reads input (lassplit options); workers = c.args.machine.workers } in
     let outcome = stopped_by 0 c.write_parts.result in
     let names = c.in-Ok.names in
     let accepted = known_more old.held input (StandsFor r) IsAcceptedFile (λ file s. s.accepted) h.stands in
     λ taps out.
-    let made = subst (λ (e : List ℕ). EndsMaking (Splits input stem e rule) input (quiet mid new out) outcome) c.in-Ok.ensures.end
-    (subst (λ (s : List ℕ). EndsMaking (Splits input s (string_bytes names.end) rule) input (quiet mid new out) outcome) c.in-Ok.ensures.stem
-    (subst (λ (n : List ℕ). EndsMaking (Splits n (string_bytes names.stem) (string_bytes names.end) rule) n (quiet mid new out) outcome) h.fresh.named (c.write_parts.ensures.ends out))) in
-    let ends = making_after (Splits input stem end rule) input new out out old mid h.held h.faults h.writes outcome made in
-    subst (λ (o : Result (Unit {0}) Stop). Ends (task_with taps asked) (quiet old new out) (cause_of (input ∷ []) o)) (sym c.stopped.ensures)
-    (ends_making (task_with taps asked) input (Splits input stem end rule) (reads_one taps input (lassplit options) c.args.workers) (quiet old new out) accepted outcome ends)
+    let made = subst (λ (e : List ℕ). EndsMaking (Splits input stem e rule) input (quiet mid new out) outcome)
+    c.in-Ok.ensures.end
+    (subst (λ (s : List ℕ). EndsMaking (Splits input s (string_bytes names.end) rule) input (quiet mid new out) outcome)
+    c.in-Ok.ensures.stem
+    (subst (λ (n : List ℕ). EndsMaking (Splits n (string_bytes names.stem) (string_bytes names.end) rule) n
+    (quiet mid new out) outcome) h.fresh.named (c.write_parts.ensures.ends out))) in
+    let ends = making_after (Splits input stem end rule) input new out out old mid h.reads.held h.calm.reads
+    h.reads.writes outcome made in
+    subst (λ (o : Result (Unit {0}) Stop). Ends (task_with taps asked) (quiet old new out) (cause_of (input ∷ []) o))
+    (sym c.stopped.ensures)
+    (ends_making (task_with taps asked) input (Splits input stem end rule)
+    (reads_one taps input (lassplit options) c.args.machine.workers) (quiet old new out) accepted outcome ends)
 
 pub returns-in_err-reader-clause-asks : goal.returns-in_err-reader-clause-asks
 returns-in_err-reader-clause-asks g c =
-    asks_opening c.args.input.now First 0 (2 ^ 32 - 1) (g.F.Files.seen c.args.files.now) (g.F.Files.seen c.open_input.new.files) c.in_err-reader.ensures.missing c.in_err-reader.ensures.asked_of
+    asks_opening c.args.input.now First 0 (2 ^ 32 - 1) (g.F.Files.seen c.args.files.now)
+    (g.F.Files.seen c.open_input.new.files) c.in_err-reader.ensures.missing c.in_err-reader.ensures.asked_of
 
 pub returns-in-Err-clause-asks : goal.returns-in-Err-clause-asks
 returns-in-Err-clause-asks g c =
     let h = c.in_ok-reader.ensures in
-    asks_opening c.args.input.now First 0 (2 ^ 32 - 1) (g.F.Files.seen c.args.files.now) (g.F.Files.seen c.open_input.new.files) h.missing h.asked_of
+    asks_opening c.args.input.now First 0 (2 ^ 32 - 1) (g.F.Files.seen c.args.files.now)
+    (g.F.Files.seen c.open_input.new.files) h.missing h.asked_of
 
 pub returns-clause-asks : goal.returns-clause-asks
 returns-clause-asks g c =
     let h = c.in_ok-reader.ensures in
-    asks_all c.in_ok-reader.reader c.args.input.now (g.F.Files.seen c.args.files.now) (g.F.Files.seen c.open_input.new.files) (g.F.Files.seen c.write_parts.new.files) h.fresh h.head h.stands h.asked_of c.write_parts.ensures.asked
+    asks_all c.in_ok-reader.reader c.args.input.now (g.F.Files.seen c.args.files.now)
+    (g.F.Files.seen c.open_input.new.files) (g.F.Files.seen c.write_parts.new.files) h.fresh h.head h.stands
+    h.asked_of c.write_parts.ensures.asked

@@ -14,7 +14,9 @@ returns-in-Ok-put_sizes-clause-ends g c =
     let new = g.F.Files.seen c.make.new.files in
     let out = g.O.Sink.seen c.args.out.now in
     let out_now = g.O.Sink.seen c.put_sizes.new.out in
-    λ taps. ends_made taps c.args.output.now c.args.packed.now c.args.settings c.requires.range c.args.chunk c.args.workers old new out out_now c.in-Ok.sizes h.made h.plain_size h.packed_size c.in-Ok-put_sizes.ensures.put
+    λ taps. ends_made taps c.args.output.now c.args.packed.now c.args.settings c.requires.range c.args.chunk
+    c.args.machine.workers old new out out_now c.in-Ok.sizes h.made h.plain_size h.packed_size
+    c.in-Ok-put_sizes.ensures.put
 
 pub returns-in-Err-put_sizes-clause-ends : goal.returns-in-Err-put_sizes-clause-ends
 returns-in-Err-put_sizes-clause-ends g c =
@@ -23,7 +25,9 @@ returns-in-Err-put_sizes-clause-ends g c =
     let new = g.F.Files.seen c.make.new.files in
     let out = g.O.Sink.seen c.args.out.now in
     let out_now = g.O.Sink.seen c.put_sizes.new.out in
-    λ taps. ends_unput taps c.args.output.now c.args.packed.now c.args.settings c.requires.range c.args.chunk c.args.workers old new out out_now c.in-Ok.sizes h.made h.plain_size h.packed_size c.in-Err-put_sizes.ensures.failed
+    λ taps. ends_unput taps c.args.output.now c.args.packed.now c.args.settings c.requires.range c.args.chunk
+    c.args.machine.workers old new out out_now c.in-Ok.sizes h.made h.plain_size h.packed_size
+    c.in-Err-put_sizes.ensures.failed
 
 pub returns-in-Err-clause-ends : goal.returns-in-Err-clause-ends
 returns-in-Err-clause-ends g c =
@@ -32,5 +36,11 @@ returns-in-Err-clause-ends g c =
     let new = g.F.Files.seen c.make.new.files in
     let out = g.O.Sink.seen c.args.out.now in
     let names = c.args.output.now ∷ c.args.packed.now ∷ [] in
-    λ taps. subst (λ (stop : Stop). Ends (task_with taps (record { work = make (options_with c.args.output.now c.args.packed.now s c.args.chunk); workers = c.args.workers })) (record { files = old; files_now = new; out = out; out_now = out }) (cause_of names (Err stop))) (sym c.stop_making.ensures)
-    (ends_unmade taps c.args.output.now c.args.packed.now s c.requires.range c.args.chunk c.args.workers old new out out c.in-Err.fault refl c.in-Err.ensures.fails)
+    λ taps. subst (λ (stop : Stop). Ends
+    (task_with taps (record {
+      work = make (options_with c.args.output.now c.args.packed.now s c.args.chunk);
+      workers = c.args.machine.workers;
+    })) (record { files = old; files_now = new; out = out; out_now = out })
+    (cause_of names (Err stop))) (sym c.stop_making.ensures)
+    (ends_unmade taps c.args.output.now c.args.packed.now s c.requires.range c.args.chunk c.args.machine.workers old new
+    out out c.in-Err.fault refl c.in-Err.ensures.fails)

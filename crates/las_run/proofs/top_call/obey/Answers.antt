@@ -3,7 +3,8 @@ use Rattle.std.specs.Prelude.{string_bytes}
 use Rattle.las_filter.specs.Kept.{steps_of}
 use Rattle.las_info.specs.Tallies.{TapSeen}
 use Rattle.las_words.specs.declared.command.Command.{Command}
-use Rattle.las_words.specs.Asked.{Asked, IsSound, asked_by, las2las, lasinfo, lasmerge, lassplit, laszip, make, reads, work_by}
+use Rattle.las_words.specs.Asked.{Asked, IsSound, asked_by, las2las, lasinfo, lasmerge, lassplit, laszip, make, reads}
+use Rattle.las_words.specs.Asked.{work_by}
 use Rattle.las_words.specs.Texts.{texts}
 use Rattle.laz_file.proofs.Putting.{All-unmap}
 use Rattle.las_make.specs.declared.settings.Settings.{Settings}
@@ -18,20 +19,39 @@ use Rattle.las_run.proofs.top_call.obey.Goals as goal
 pub returns-in-Laszip-clause-ends : goal.returns-in-Laszip-clause-ends
 returns-in-Laszip-clause-ends g c =
     let w = c.in-Laszip in
-    let asks_for : (input output : List ℕ) → Asked = λ input output. record { work = reads input (laszip (record { output = output; chunk = w.chunk })); workers = w.workers } in
+    let asks_for : (input output : List ℕ) → Asked =
+    λ input output. record {
+      work = reads input (laszip (record { output = output; chunk = w.chunk }));
+      workers = w.workers;
+    } in
     let asked : asks_for c.deref.result.now c.deref-in-Laszip.result.now ≡ asked_by c.args.command.now =
-    ap (λ (i : List ℕ). asks_for i c.deref-in-Laszip.result.now) c.deref.ensures ∙ ap (asks_for (string_bytes w.input)) c.deref-in-Laszip.ensures ∙ sym (ap asked_by w.is) in
-    λ task taps said. by_task task _ _ _ c.laszip.result said asked (c.laszip.ensures.ends task.taps (g.O.Sink.seen c.args.out.now))
+    ap (λ (i : List ℕ). asks_for i c.deref-in-Laszip.result.now) c.deref.ensures
+    ∙ ap (asks_for (string_bytes w.input)) c.deref-in-Laszip.ensures ∙ sym (ap asked_by w.is) in
+    λ task taps said. by_task task _ _ _ c.laszip.result said asked
+    (c.laszip.ensures.ends task.taps (g.O.Sink.seen c.args.out.now))
 
 pub returns-in-Las2las-clause-ends : goal.returns-in-Las2las-clause-ends
 returns-in-Las2las-clause-ends g c =
     let w = c.in-Las2las in
-    let conversion : Conversion = record { packing = w.packing; workers = w.workers; start = w.start; stop = w.stop; step = w.step; pick = w.pick; unique = w.unique } in
+    let conversion : Conversion = record {
+      packing = w.packing;
+      start = w.start;
+      stop = w.stop;
+      step = w.step;
+      pick = w.pick;
+      unique = w.unique;
+    } in
     let asks_for : (input output : List ℕ) (tallies : List (List ℕ)) → Asked = λ input output tallies.
-    record { work = reads input (las2las (las2las_options output (steps_of w.plan) conversion tallies)); workers = w.workers } in
-    let asked : asks_for c.deref-in-Las2las.result.now c.deref-in-Las2las-2.result.now (texts c.deref-in-Las2las-3.result.now) ≡ asked_by c.args.command.now =
-    ap (λ (i : List ℕ). asks_for i c.deref-in-Las2las-2.result.now (texts c.deref-in-Las2las-3.result.now)) c.deref-in-Las2las.ensures
-    ∙ ap (λ (o : List ℕ). asks_for (string_bytes w.input) o (texts c.deref-in-Las2las-3.result.now)) c.deref-in-Las2las-2.ensures
+    record {
+      work = reads input (las2las (las2las_options output (steps_of w.plan) conversion tallies));
+      workers = w.workers;
+    } in
+    let asked : asks_for c.deref-in-Las2las.result.now c.deref-in-Las2las-2.result.now
+    (texts c.deref-in-Las2las-3.result.now) ≡ asked_by c.args.command.now =
+    ap (λ (i : List ℕ). asks_for i c.deref-in-Las2las-2.result.now (texts c.deref-in-Las2las-3.result.now))
+    c.deref-in-Las2las.ensures
+    ∙ ap (λ (o : List ℕ). asks_for (string_bytes w.input) o (texts c.deref-in-Las2las-3.result.now))
+    c.deref-in-Las2las-2.ensures
     ∙ ap (λ ts. asks_for (string_bytes w.input) (string_bytes w.output) (texts ts)) c.deref-in-Las2las-3.ensures.value
     ∙ sym (ap asked_by w.is) in
     let change : Change = record {
@@ -41,15 +61,21 @@ returns-in-Las2las-clause-ends g c =
       out_now = g.O.Sink.seen c.las2las.new.out;
     } in
     λ task taps said. by_task task _ _ change c.las2las.result said asked
-    (subst (λ (ts : List TapSeen). Ends (task_with ts (asks_for c.deref-in-Las2las.result.now c.deref-in-Las2las-2.result.now (texts c.deref-in-Las2las-3.result.now))) change
+    (subst (λ (ts : List TapSeen). Ends
+    (task_with ts (asks_for c.deref-in-Las2las.result.now c.deref-in-Las2las-2.result.now
+    (texts c.deref-in-Las2las-3.result.now))) change
     (cause_of (c.deref-in-Las2las.result.now ∷ []) c.las2las.result)) (sym taps) c.las2las.ensures.ends)
 
 pub returns-in-Lasinfo-clause-ends : goal.returns-in-Lasinfo-clause-ends
 returns-in-Lasinfo-clause-ends g c =
     let w = c.in-Lasinfo in
-    let own : List TapSeen = map (λ tap. (goal.Tap-dyn g (tap.vtable, tap.value)).tap_seen tap.value) c.args.taps.items in
-    let asks_for : (input : List ℕ) (tallies : List (List ℕ)) → Asked = λ input tallies. record { work = reads input (lasinfo (record { tallies = tallies })); workers = w.workers } in
-    let asked : asks_for c.deref-in-Lasinfo.result.now (texts c.deref-in-Lasinfo-2.result.now) ≡ asked_by c.args.command.now =
+    let asks_for : (input : List ℕ) (tallies : List (List ℕ))
+    → Asked = λ input tallies. record {
+      work = reads input (lasinfo (record { tallies = tallies }));
+      workers = w.workers;
+    } in
+    let asked : asks_for c.deref-in-Lasinfo.result.now (texts c.deref-in-Lasinfo-2.result.now) ≡ asked_by
+    c.args.command.now =
     ap (λ (i : List ℕ). asks_for i (texts c.deref-in-Lasinfo-2.result.now)) c.deref-in-Lasinfo.ensures
     ∙ ap (λ ts. asks_for (string_bytes w.input) (texts ts)) c.deref-in-Lasinfo-2.ensures.value
     ∙ sym (ap asked_by w.is) in
@@ -60,7 +86,8 @@ returns-in-Lasinfo-clause-ends g c =
       out_now = g.O.Sink.seen c.lasinfo.new.out;
     } in
     λ task taps said. by_task task _ _ change c.lasinfo.result said asked
-    (subst (λ (ts : List TapSeen). Ends (task_with ts (asks_for c.deref-in-Lasinfo.result.now (texts c.deref-in-Lasinfo-2.result.now))) change
+    (subst (λ (ts : List TapSeen). Ends
+    (task_with ts (asks_for c.deref-in-Lasinfo.result.now (texts c.deref-in-Lasinfo-2.result.now))) change
     (cause_of (c.deref-in-Lasinfo.result.now ∷ []) c.lasinfo.result)) (sym taps) c.lasinfo.ensures.ends)
 
 pub returns-in-Lassplit-clause-ends : goal.returns-in-Lassplit-clause-ends
@@ -68,87 +95,140 @@ returns-in-Lassplit-clause-ends g c =
     let w = c.in-Lassplit in
     let stem = c.deref-in-Lassplit-2.result.now in
     let end = c.deref-in-Lassplit-3.result.now in
-    let asks_for : (input stem end : List ℕ) → Asked = λ input stem end. record { work = reads input (lassplit (record { stem = stem; end = end; rule = w.rule })); workers = w.workers } in
+    let asks_for : (input stem end : List ℕ) → Asked =
+    λ input stem end. record {
+      work = reads input (lassplit (record { stem = stem; end = end; rule = w.rule }));
+      workers = w.workers;
+    } in
     let asked : asks_for c.deref-in-Lassplit.result.now stem end ≡ asked_by c.args.command.now =
     ap (λ (i : List ℕ). asks_for i stem end) c.deref-in-Lassplit.ensures
     ∙ ap (λ (s : List ℕ). asks_for (string_bytes w.input) s end) c.deref-in-Lassplit-2.ensures
     ∙ ap (asks_for (string_bytes w.input) (string_bytes w.stem)) c.deref-in-Lassplit-3.ensures
     ∙ sym (ap asked_by w.is) in
-    λ task taps said. by_task task _ _ _ c.lassplit.result said asked (c.lassplit.ensures.ends task.taps (g.O.Sink.seen c.args.out.now))
+    λ task taps said. by_task task _ _ _ c.lassplit.result said asked
+    (c.lassplit.ensures.ends task.taps (g.O.Sink.seen c.args.out.now))
 
 pub returns-in-Lasmerge-clause-ends : goal.returns-in-Lasmerge-clause-ends
 returns-in-Lasmerge-clause-ends g c =
     let w = c.in-Lasmerge in
     let output = c.deref-in-Lasmerge-2.result.now in
-    let asks_for : (inputs : List (List ℕ)) (output : List ℕ) → Asked = λ inputs output. record { work = lasmerge (record { inputs = inputs; output = output; packed = w.packing.packed; chunk = w.packing.chunk; copy = w.copy }); workers = w.workers } in
+    let asks_for : (inputs : List (List ℕ)) (output : List ℕ)
+    → Asked = λ inputs output. record {
+      work = lasmerge (record {
+        inputs = inputs;
+        output = output;
+        packed = w.packing.packed;
+        chunk = w.packing.chunk;
+        copy = w.copy;
+      });
+      workers = w.workers;
+    } in
     let asked : asks_for (texts c.deref-in-Lasmerge.result.now) output ≡ asked_by c.args.command.now =
-    ap (λ ts. asks_for (texts ts) output) c.deref-in-Lasmerge.ensures.value ∙ ap (asks_for (texts w.inputs.items)) c.deref-in-Lasmerge-2.ensures ∙ sym (ap asked_by w.is) in
-    λ task taps said. by_task task _ _ _ c.lasmerge.result said asked (c.lasmerge.ensures.ends task.taps (g.O.Sink.seen c.args.out.now))
+    ap (λ ts. asks_for (texts ts) output) c.deref-in-Lasmerge.ensures.value
+    ∙ ap (asks_for (texts w.inputs.items)) c.deref-in-Lasmerge-2.ensures ∙ sym (ap asked_by w.is) in
+    λ task taps said. by_task task _ _ _ c.lasmerge.result said asked
+    (c.lasmerge.ensures.ends task.taps (g.O.Sink.seen c.args.out.now))
 
 pub returns-in-Make-clause-ends : goal.returns-in-Make-clause-ends
 returns-in-Make-clause-ends g c =
     let w = c.in-Make in
     let packed = c.deref-in-Make-2.result.now in
     let settings : Settings = record { points = w.points; seed = w.seed; format = w.format; extra = w.extra } in
-    let asks_for : (output packed : List ℕ) → Asked = λ output packed. record { work = make (options_with output packed settings w.chunk); workers = w.workers } in
+    let asks_for : (output packed : List ℕ) → Asked =
+    λ output packed. record { work = make (options_with output packed settings w.chunk); workers = w.workers } in
     let asked : asks_for c.deref-in-Make.result.now packed ≡ asked_by c.args.command.now =
-    ap (λ (o : List ℕ). asks_for o packed) c.deref-in-Make.ensures ∙ ap (asks_for (string_bytes w.output)) c.deref-in-Make-2.ensures ∙ sym (ap asked_by w.is) in
+    ap (λ (o : List ℕ). asks_for o packed) c.deref-in-Make.ensures
+    ∙ ap (asks_for (string_bytes w.output)) c.deref-in-Make-2.ensures ∙ sym (ap asked_by w.is) in
     λ task taps said. by_task task _ _ _ c.make.result said asked (c.make.ensures.ends task.taps)
 
 pub returns-in-Las2las-clause-asks : goal.returns-in-Las2las-clause-asks
 returns-in-Las2las-clause-asks g c =
     let w = c.in-Las2las in
-    let conversion : Conversion = record { packing = w.packing; workers = w.workers; start = w.start; stop = w.stop; step = w.step; pick = w.pick; unique = w.unique } in
+    let conversion : Conversion = record {
+      packing = w.packing;
+      start = w.start;
+      stop = w.stop;
+      step = w.step;
+      pick = w.pick;
+      unique = w.unique;
+    } in
     let asks_for : (input output : List ℕ) (tallies : List (List ℕ)) → Asked = λ input output tallies.
-    record { work = reads input (las2las (las2las_options output (steps_of w.plan) conversion tallies)); workers = w.workers } in
-    let asked : asks_for c.deref-in-Las2las.result.now c.deref-in-Las2las-2.result.now (texts c.deref-in-Las2las-3.result.now) ≡ asked_by c.args.command.now =
-    ap (λ (i : List ℕ). asks_for i c.deref-in-Las2las-2.result.now (texts c.deref-in-Las2las-3.result.now)) c.deref-in-Las2las.ensures
-    ∙ ap (λ (o : List ℕ). asks_for (string_bytes w.input) o (texts c.deref-in-Las2las-3.result.now)) c.deref-in-Las2las-2.ensures
+    record {
+      work = reads input (las2las (las2las_options output (steps_of w.plan) conversion tallies));
+      workers = w.workers;
+    } in
+    let asked : asks_for c.deref-in-Las2las.result.now c.deref-in-Las2las-2.result.now
+    (texts c.deref-in-Las2las-3.result.now) ≡ asked_by c.args.command.now =
+    ap (λ (i : List ℕ). asks_for i c.deref-in-Las2las-2.result.now (texts c.deref-in-Las2las-3.result.now))
+    c.deref-in-Las2las.ensures
+    ∙ ap (λ (o : List ℕ). asks_for (string_bytes w.input) o (texts c.deref-in-Las2las-3.result.now))
+    c.deref-in-Las2las-2.ensures
     ∙ ap (λ ts. asks_for (string_bytes w.input) (string_bytes w.output) (texts ts)) c.deref-in-Las2las-3.ensures.value
     ∙ sym (ap asked_by w.is) in
-    subst (λ (a : Asked). WorkAsks a.work (g.F.Files.seen c.args.files.now) (g.F.Files.seen c.las2las.new.files)) asked c.las2las.ensures.asks
+    subst (λ (a : Asked). WorkAsks a.work (g.F.Files.seen c.args.files.now) (g.F.Files.seen c.las2las.new.files)) asked
+    c.las2las.ensures.asks
 
 pub returns-in-Laszip-clause-asks : goal.returns-in-Laszip-clause-asks
 returns-in-Laszip-clause-asks g c =
     let w = c.in-Laszip in
-    let asks_for : (input output : List ℕ) → Asked = λ input output. record { work = reads input (laszip (record { output = output; chunk = w.chunk })); workers = w.workers } in
+    let asks_for : (input output : List ℕ) → Asked =
+    λ input output. record {
+      work = reads input (laszip (record { output = output; chunk = w.chunk }));
+      workers = w.workers;
+    } in
     let asked : asks_for c.deref.result.now c.deref-in-Laszip.result.now ≡ asked_by c.args.command.now =
-    ap (λ (i : List ℕ). asks_for i c.deref-in-Laszip.result.now) c.deref.ensures ∙ ap (asks_for (string_bytes w.input)) c.deref-in-Laszip.ensures ∙ sym (ap asked_by w.is) in
-    subst (λ (a : Asked). WorkAsks a.work (g.F.Files.seen c.args.files.now) (g.F.Files.seen c.laszip.new.files)) asked c.laszip.ensures.asks
+    ap (λ (i : List ℕ). asks_for i c.deref-in-Laszip.result.now) c.deref.ensures
+    ∙ ap (asks_for (string_bytes w.input)) c.deref-in-Laszip.ensures ∙ sym (ap asked_by w.is) in
+    subst (λ (a : Asked). WorkAsks a.work (g.F.Files.seen c.args.files.now) (g.F.Files.seen c.laszip.new.files)) asked
+    c.laszip.ensures.asks
 
 pub returns-in-Lasinfo-clause-asks : goal.returns-in-Lasinfo-clause-asks
 returns-in-Lasinfo-clause-asks g c =
     let w = c.in-Lasinfo in
-    let asks_for : (input : List ℕ) (tallies : List (List ℕ)) → Asked = λ input tallies. record { work = reads input (lasinfo (record { tallies = tallies })); workers = w.workers } in
-    let asked : asks_for c.deref-in-Lasinfo.result.now (texts c.deref-in-Lasinfo-2.result.now) ≡ asked_by c.args.command.now =
+    let asks_for : (input : List ℕ) (tallies : List (List ℕ))
+    → Asked = λ input tallies. record {
+      work = reads input (lasinfo (record { tallies = tallies }));
+      workers = w.workers;
+    } in
+    let asked : asks_for c.deref-in-Lasinfo.result.now (texts c.deref-in-Lasinfo-2.result.now) ≡ asked_by
+    c.args.command.now =
     ap (λ (i : List ℕ). asks_for i (texts c.deref-in-Lasinfo-2.result.now)) c.deref-in-Lasinfo.ensures
     ∙ ap (λ ts. asks_for (string_bytes w.input) (texts ts)) c.deref-in-Lasinfo-2.ensures.value
     ∙ sym (ap asked_by w.is) in
-    subst (λ (a : Asked). WorkAsks a.work (g.F.Files.seen c.args.files.now) (g.F.Files.seen c.lasinfo.new.files)) asked c.lasinfo.ensures.asks
+    subst (λ (a : Asked). WorkAsks a.work (g.F.Files.seen c.args.files.now) (g.F.Files.seen c.lasinfo.new.files)) asked
+    c.lasinfo.ensures.asks
 
 pub returns-in-Lassplit-clause-asks : goal.returns-in-Lassplit-clause-asks
 returns-in-Lassplit-clause-asks g c =
     let w = c.in-Lassplit in
     let stem = c.deref-in-Lassplit-2.result.now in
     let end = c.deref-in-Lassplit-3.result.now in
-    let asks_for : (input stem end : List ℕ) → Asked = λ input stem end. record { work = reads input (lassplit (record { stem = stem; end = end; rule = w.rule })); workers = w.workers } in
+    let asks_for : (input stem end : List ℕ) → Asked =
+    λ input stem end. record {
+      work = reads input (lassplit (record { stem = stem; end = end; rule = w.rule }));
+      workers = w.workers;
+    } in
     let asked : asks_for c.deref-in-Lassplit.result.now stem end ≡ asked_by c.args.command.now =
     ap (λ (i : List ℕ). asks_for i stem end) c.deref-in-Lassplit.ensures
     ∙ ap (λ (s : List ℕ). asks_for (string_bytes w.input) s end) c.deref-in-Lassplit-2.ensures
     ∙ ap (asks_for (string_bytes w.input) (string_bytes w.stem)) c.deref-in-Lassplit-3.ensures
     ∙ sym (ap asked_by w.is) in
-    subst (λ (a : Asked). WorkAsks a.work (g.F.Files.seen c.args.files.now) (g.F.Files.seen c.lassplit.new.files)) asked c.lassplit.ensures.asks
+    subst (λ (a : Asked). WorkAsks a.work (g.F.Files.seen c.args.files.now) (g.F.Files.seen c.lassplit.new.files)) asked
+    c.lassplit.ensures.asks
 
 pub returns-in-Lasmerge-clause-asks : goal.returns-in-Lasmerge-clause-asks
-returns-in-Lasmerge-clause-asks g c = subst (λ (command : Command). WorkAsks (work_by command) (g.F.Files.seen c.args.files.now) (g.F.Files.seen c.lasmerge.new.files)) (sym c.in-Lasmerge.is) tt
+returns-in-Lasmerge-clause-asks g c = subst (λ (command : Command). WorkAsks (work_by command)
+    (g.F.Files.seen c.args.files.now) (g.F.Files.seen c.lasmerge.new.files)) (sym c.in-Lasmerge.is) tt
 
 pub returns-in-Make-clause-asks : goal.returns-in-Make-clause-asks
-returns-in-Make-clause-asks g c = subst (λ (command : Command). WorkAsks (work_by command) (g.F.Files.seen c.args.files.now) (g.F.Files.seen c.make.new.files)) (sym c.in-Make.is) tt
+returns-in-Make-clause-asks g c = subst (λ (command : Command). WorkAsks (work_by command)
+    (g.F.Files.seen c.args.files.now) (g.F.Files.seen c.make.new.files)) (sym c.in-Make.is) tt
 
 pub lasmerge-requires-clause-names : goal.lasmerge-requires-clause-names
 lasmerge-requires-clause-names g c =
     let w = c.in-Lasmerge in
-    let names : List (List ℕ) = map (λ tap. ((goal.Tap-dyn g (tap.vtable, tap.value)).tap_seen tap.value).name) c.args.taps.items in
+    let names : List (List ℕ) = map (λ tap. ((goal.Tap-dyn g (tap.vtable, tap.value)).tap_seen tap.value).name)
+    c.args.taps.items in
     let sound = subst (λ (command : Command). IsSound names (asked_by command)) w.is c.requires.sound in
     let others = All-unmap (λ (n : List ℕ). n ≢ string_bytes w.output) string_bytes w.inputs.items sound.0.0.others in
     rw (c.deref-in-Lasmerge.ensures.value, c.deref-in-Lasmerge-2.ensures) (λ lifetimes outlive. others)

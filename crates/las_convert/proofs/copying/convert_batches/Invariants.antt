@@ -9,7 +9,7 @@ use Rattle.laz_file.specs.Copying.{CanTake}
 use Rattle.laz_file.specs.Reading.{IsCrewOf, StandsFor}
 use Rattle.laz_file.proofs.Copies.{HasRead}
 use Rattle.las_convert.specs.Adding.{Goes, HaveCounted, IsAfter, cut_all, kept_by}
-use Rattle.las_convert.proofs.copying.convert_records.Given as goal
+use Rattle.las_convert.proofs.copying.convert_batches.Given as goal
 
 abbrev pub invariant-batches : goal.invariant-batches
 invariant-batches g l = record {
@@ -18,16 +18,20 @@ invariant-batches g l = record {
   reads : WhereKnown (g.F.Files.seen l.files).held l.reader.name (StandsFor l.reader);
   can : CanTake l.reader l.writer;
   settings : l.passage.sieve.settings ≡ l.fn.passage.sieve.settings;
-  counted : HaveCounted l.passage.read (map (λ tap. (goal.Tap-dyn g (tap.vtable, tap.value)).tap_seen tap.value) l.passage.taps.items);
+  counted : HaveCounted l.passage.read (map (λ tap. (goal.Tap-dyn g (tap.vtable, tap.value)).tap_seen tap.value)
+      l.passage.taps.items);
   converted : (looked : List Placed) → IsAfter (steps_of l.plan) looked [] l.fn.passage.sieve l.fn.passage.read
       → (n : ℕ) × (blocks : List (List ℕ)) × HasRead (g.F.Files.seen l.fn.files).held l.fn.reader l.reader n blocks
-      × Goes (kept_by l.fn.passage.sieve.settings looked (steps_of l.plan)) [] l.fn.writer.size (concat blocks) (g.F.Files.seen l.fn.files) (g.F.Files.seen l.files) l.fn.writer l.writer
-      (map (λ tap. (goal.Tap-dyn g (tap.vtable, tap.value)).tap_seen tap.value) l.fn.passage.taps.items) (map (λ tap. (goal.Tap-dyn g (tap.vtable, tap.value)).tap_seen tap.value) l.passage.taps.items) l.kept false
+      × Goes (kept_by l.fn.passage.sieve.settings looked (steps_of l.plan)) [] l.fn.writer.size (concat blocks)
+      (g.F.Files.seen l.fn.files) (g.F.Files.seen l.files) l.fn.writer l.writer
+      (map (λ tap. (goal.Tap-dyn g (tap.vtable, tap.value)).tap_seen tap.value) l.fn.passage.taps.items)
+      (map (λ tap. (goal.Tap-dyn g (tap.vtable, tap.value)).tap_seen tap.value) l.passage.taps.items) l.kept false
       × IsAfter (steps_of l.plan) looked (cut_all l.fn.writer.size (concat blocks)) l.passage.sieve l.passage.read;
   reads_calm : (g.F.Files.seen l.files).read_faults ≡ (g.F.Files.seen l.fn.files).read_faults;
   writes_calm : (g.F.Files.seen l.files).write_faults ≡ (g.F.Files.seen l.fn.files).write_faults;
   later : Later (g.F.Files.seen l.fn.files) (g.F.Files.seen l.files);
-  asked : (g.F.Files.seen l.files).asked + bytes_left l.reader ≤ (g.F.Files.seen l.fn.files).asked + bytes_left l.fn.reader;
+  asked : (g.F.Files.seen l.files).asked + bytes_left l.reader ≤ (g.F.Files.seen l.fn.files).asked + bytes_left
+      l.fn.reader;
 }
 
 abbrev pub decreases-batches : goal.decreases-batches
