@@ -8,7 +8,7 @@ ghost use Rattle.las_outside.specs.Files.{WhereKnown};
 ghost use Rattle.las_outside.specs.Frames.{IsCalm};
 ghost use Rattle.las_outside.specs.Outside.{Later};
 ghost use Rattle.las_thin.specs.Placed.{Placed};
-ghost use Rattle.laz_file.specs.Copying.{CanTake, HasCause, end_of};
+ghost use Rattle.laz_file.specs.Copying.{CanTake, HasCause};
 ghost use Rattle.laz_file.specs.Asking.{AsksAtMost, bytes_left};
 ghost use Rattle.laz_file.specs.Reading.{IsCrewOf, StandsFor};
 ghost use Rattle.laz_file.specs.Writing.{IsBegun};
@@ -149,18 +149,6 @@ fn push_batch<R: Threads + Sync, F: Files, G: Gate>(
     })
 }
 
-// A refusal ends the records that are copied, and any other fault the call.
-fn end_of(fault: Fault) -> Result<Option<Refusal>, Fault>
-    ensures { result ≡ end_of fault }
-{
-    match fault {
-        Fault::Refused(cause) => Ok(Some(cause)),
-        Fault::Read => Err(Fault::Read),
-        Fault::Write => Err(Fault::Write),
-        Fault::Memory => Err(Fault::Memory),
-    }
-}
-
 // Copies the records that a plan keeps and a sieve lets pass, changed, from a reader into a writer, batch by batch: up
 // to the end of the records, or up to the first bad chunk or the first record whose change is refused, which is the
 // answer. The taps see what is written.
@@ -199,7 +187,7 @@ fn convert_batches<R: Threads + Sync, F: Files, G: Gate>(
     'batches: loop {
         let count = match reader.next_batch(machine.rt, machine.alloc, files, machine.gate, crew) {
             Ok(count) => count,
-            Err(fault) => return end_of(fault),
+            Err(fault) => return fault.into_end(),
         };
         if count == 0 {
             return Ok(None);

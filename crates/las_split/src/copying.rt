@@ -10,7 +10,7 @@ ghost use Rattle.las_outside.specs.Files.{FileMap, WhereKnown};
 ghost use Rattle.las_outside.specs.Outside.{Later};
 ghost use Rattle.laz_file.specs.declared.fault.Fault.TheVariants.{Write};
 ghost use Rattle.laz_file.specs.Asking.{AsksAtMost, bytes_left};
-ghost use Rattle.laz_file.specs.Copying.{HasCause, HoldFirst, end_of};
+ghost use Rattle.laz_file.specs.Copying.{HasCause, HoldFirst};
 ghost use Rattle.laz_file.specs.Reading.{IsCrewOf, Lends, StandsFor, records_in};
 ghost use Rattle.laz_file.specs.Writing.{SameFaults};
 ghost use Rattle.las_split.specs.Sorting.{EndsSplitting, HasRoom, IsPlainFor, LeavesBlock, TakesBlock};
@@ -142,18 +142,6 @@ fn split_batch<R: Threads + Sync, F: Files, G: Gate>(
     Ok(Some(next))
 }
 
-// A refusal ends the records that are split, and any other fault the call.
-fn end_of(fault: Fault) -> Result<Option<Refusal>, Fault>
-    ensures { result ≡ end_of fault }
-{
-    match fault {
-        Fault::Refused(cause) => Ok(Some(cause)),
-        Fault::Read => Err(Fault::Read),
-        Fault::Write => Err(Fault::Write),
-        Fault::Memory => Err(Fault::Memory),
-    }
-}
-
 /// Takes all records that a reader has left into parts, batch by batch: up to the end of the records, or up to the
 /// first bad chunk or the first record that would open one part too many, which is the answer beside the parts.
 pub(crate) fn split_records<R: Threads + Sync, F: Files, G: Gate>(
@@ -200,7 +188,7 @@ pub(crate) fn split_records<R: Threads + Sync, F: Files, G: Gate>(
         let count = match reader.next_batch(machine.rt, machine.alloc, files, machine.gate, crew) {
             Ok(count) => count,
             Err(fault) => {
-                let end = end_of(fault)?;
+                let end = fault.into_end()?;
                 return Ok((parts, end));
             }
         };

@@ -71,7 +71,7 @@ returns-in-Err-clause-converted g c looked is =
     let some : 0 < w.size = omega (arith, s.3.size, record_least s.1.head s.3.head) in
     let read = goes_read keeping [] w.size some (concat done.1) old now later w v c.batches.kept false
     c.next_batch.ensures.held c.next_batch.ensures.writes done.3 in
-    end_ok c.in-Err.fault c.end_of.result _ c.end_of.ensures
+    end_ok c.in-Err.fault c.into_end.result _ c.into_end.ensures
     (λ cause eq.
     let bad = c.in-Err.ensures.bad cause (ap Err eq) in
     let known = (known_taken old now w v (concat done.3.ones) s.0 s.1 s.2 s.3 done.3.takes reader.name
@@ -101,7 +101,7 @@ returns-in-Err-clause-left g c looked is =
     let s = c.requires.stands in
     let done = c.batches.invariant.converted looked is in
     let some : 0 < w.size = omega (arith, s.3.size, record_least s.1.head s.3.head) in
-    on_err c.end_of.result (
+    on_err c.into_end.result (
       done.0,
       done.1,
       done.2.hold,
@@ -112,15 +112,15 @@ returns-in-Err-clause-left g c looked is =
 
 pub returns-in-Err-clause-cause : goal.returns-in-Err-clause-cause
 returns-in-Err-clause-cause g c =
-    end_err c.in-Err.fault c.end_of.result (g.F.Files.seen c.args.files.now) (g.F.Files.seen c.batches.files)
-    (g.F.Files.seen c.next_batch.new.files) c.end_of.ensures c.in-Err.ensures.ends c.batches.invariant.reads_calm
+    end_err c.in-Err.fault c.into_end.result (g.F.Files.seen c.args.files.now) (g.F.Files.seen c.batches.files)
+    (g.F.Files.seen c.next_batch.new.files) c.into_end.ensures c.in-Err.ensures.ends c.batches.invariant.reads_calm
 
 pub returns-in-Err-clause-calm : goal.returns-in-Err-clause-calm
 returns-in-Err-clause-calm g c =
-    ok_then c.end_of.result
+    ok_then c.into_end.result
     (λ reads. record { reads = reads; writes = c.next_batch.ensures.writes ∙ c.batches.invariant.writes_calm })
-    (calm_ok c.in-Err.fault c.end_of.result (g.F.Files.seen c.args.files.now) (g.F.Files.seen c.batches.files)
-    (g.F.Files.seen c.next_batch.new.files) c.end_of.ensures c.in-Err.ensures.ends c.batches.invariant.reads_calm)
+    (calm_ok c.in-Err.fault c.into_end.result (g.F.Files.seen c.args.files.now) (g.F.Files.seen c.batches.files)
+    (g.F.Files.seen c.next_batch.new.files) c.into_end.ensures c.in-Err.ensures.ends c.batches.invariant.reads_calm)
 
 pub returns-then-count-eq0-clause-converted : goal.returns-then-count-eq0-clause-converted
 returns-then-count-eq0-clause-converted g c looked is =
