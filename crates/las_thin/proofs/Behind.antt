@@ -41,24 +41,24 @@ numbered-push n [] point = ap (λ (k : ℕ). placed k point ∷ []) (omega arith
 numbered-push n (p ∷ records) point =
     ap (λ (xs : List Placed). placed n p ∷ xs)
     (numbered-push (suc n) records point ∙ ap (λ (k : ℕ). numbered (suc n) records ++ placed k point ∷ [])
-        (omega arith))
+    (omega arith))
 
 -- one that passes the filters more, or one that does not
 pub passing-push : (plan : Steps) (records : Points) (point : List ℕ)
     → passing plan (records ++ point ∷ []) ≡ passing plan records ++ cond (keeps_all plan.keeps point)
-        (placed (length records) point ∷ []) []
+    (placed (length records) point ∷ []) []
 passing-push plan records point =
     let test = λ (a : Placed). keeps_all plan.keeps a.point in
     ap (filter test) (numbered-push 0 records point
-        ∙ ap (λ (k : ℕ). numbered 0 records ++ placed k point ∷ []) (omega arith))
+    ∙ ap (λ (k : ℕ). numbered 0 records ++ placed k point ∷ []) (omega arith))
     ∙ filter-append test (numbered 0 records) (placed (length records) point ∷ [])
 
 -- ---- without a sieve
 
 outcomes_of : (plan : Steps) (n : ℕ) (records : Points)
     → map (λ (a : Placed). changed plan.changes a.point)
-        (filter (λ a. keeps_all plan.keeps a.point) (numbered n records)) ≡ map (changed plan.changes)
-        (filter (keeps_all plan.keeps) records)
+    (filter (λ a. keeps_all plan.keeps a.point) (numbered n records)) ≡ map (changed plan.changes)
+    (filter (keeps_all plan.keeps) records)
 outcomes_of plan n [] = refl
 outcomes_of plan n (p ∷ records) = by_bool (keeps_all plan.keeps p)
     (λ t. rw t (ap (λ (xs : List (Option (List ℕ))). changed plan.changes p ∷ xs) (outcomes_of plan (suc n) records)))
@@ -79,13 +79,13 @@ both_pass test plan a = keeps_all plan.keeps a.point && test a
 filtered-push : (test : Placed → Bool) (plan : Steps) (records : Points) (point : List ℕ)
     → filter test (passing plan (records ++ point ∷ []))
     ≡ filter test (passing plan records) ++ cond (both_pass test plan (placed (length records) point))
-        (placed (length records) point ∷ []) []
+    (placed (length records) point ∷ []) []
 filtered-push test plan records point =
     ap (filter test) (passing-push plan records point)
     ∙ filter-append test (passing plan records) (cond (keeps_all plan.keeps point) (placed (length records) point ∷ [])
-        [])
+    [])
     ∙ ap (λ (xs : List Placed). filter test (passing plan records) ++ xs)
-        (by_bool (keeps_all plan.keeps point) (λ t. rw t refl) (λ f. rw f refl))
+    (by_bool (keeps_all plan.keeps point) (λ t. rw t refl) (λ f. rw f refl))
 
 -- the plan with its changes alone keeps all records
 abbrev changing : Steps → Steps
@@ -93,7 +93,7 @@ changing plan = record { keeps = []; changes = plan.changes }
 
 all_pass : (plan : Steps) (records : List Placed)
     → map (changed plan.changes) (filter (keeps_all []) (map (λ (a : Placed). a.point) records)) ≡ map
-        (λ (a : Placed). changed plan.changes a.point) records
+    (λ (a : Placed). changed plan.changes a.point) records
 all_pass plan [] = refl
 all_pass plan (a ∷ records) = ap (λ (xs : List (Option (List ℕ))). changed plan.changes a.point ∷ xs)
     (all_pass plan records)
@@ -105,24 +105,24 @@ kept_points plan records = ap kept_of (all_pass plan records)
 pushed : (plan : Steps) (before : List Placed) (a : Placed) (passes : Bool)
     → kept_of_placed plan (before ++ cond passes (a ∷ []) [])
     ≡ cond (is_some (kept_of_placed plan before).raw_range || not passes) (kept_of_placed plan before)
-        (kept_and (kept_of_placed plan before) (changed plan.changes a.point))
+    (kept_and (kept_of_placed plan before) (changed plan.changes a.point))
 pushed plan before a true =
     sym (kept_points plan (before ++ a ∷ []))
     ∙ ap (kept (changing plan)) (map-append (λ (b : Placed). b.point) before (a ∷ []))
     ∙ grows (changing plan) (map (λ (b : Placed). b.point) before) a.point
     ∙ ap (λ (k : Kept). cond (is_some k.raw_range || false) k (kept_and k (changed plan.changes a.point)))
-        (kept_points plan before)
+    (kept_points plan before)
 pushed plan before a false =
     ap (kept_of_placed plan) (append-nil before)
     ∙ ap (λ (b : Bool). cond b (kept_of_placed plan before)
-        (kept_and (kept_of_placed plan before) (changed plan.changes a.point)))
-        (sym (or_true (is_some (kept_of_placed plan before).raw_range)))
+    (kept_and (kept_of_placed plan before) (changed plan.changes a.point)))
+    (sym (or_true (is_some (kept_of_placed plan before).raw_range)))
 
 pub keeps_one_by_one : KeepsOneByOne
 keeps_one_by_one test plan records point =
     ap (kept_of_placed plan) (filtered-push test plan records point)
     ∙ pushed plan (filter test (passing plan records)) (placed (length records) point)
-        (both_pass test plan (placed (length records) point))
+    (both_pass test plan (placed (length records) point))
 
 -- ---- with the first of a cell
 
@@ -161,7 +161,7 @@ later_changes_nothing settings before after a first up =
     let one : (before ++ a ∷ []) ++ after ≡ before ++ a ∷ after = append_assoc before (a ∷ []) after in
     ap (λ (xs : List Placed). stays settings xs a) (sym one)
     ∙ stays_further settings after (before ++ a ∷ []) a first (subst AreAscending (sym one) up)
-        (append_right-In before (a ∷ []) a (inl refl))
+    (append_right-In before (a ∷ []) a (inl refl))
 
 -- ---- kept one by one
 
@@ -170,7 +170,7 @@ first_if : (settings : Settings) (plan : Steps) (before : List Placed) (a : Plac
     → (keeps ≡ true → AreAscending (before ++ a ∷ []))
     → kept_of_placed plan (sifted settings (before ++ cond keeps (a ∷ []) []))
     ≡ cond (is_some (kept_of_placed plan (sifted settings before)).raw_range || not
-        (keeps && stays settings (before ++ a ∷ []) a))
+    (keeps && stays settings (before ++ a ∷ []) a))
     (kept_of_placed plan (sifted settings before))
     (kept_and (kept_of_placed plan (sifted settings before)) (changed plan.changes a.point))
 first_if settings plan before a true first up =
@@ -179,7 +179,7 @@ first_if settings plan before a true first up =
 first_if settings plan before a false first up =
     ap (λ (xs : List Placed). kept_of_placed plan (sifted settings xs)) (append-nil before)
     ∙ ap (λ (b : Bool). cond b (kept_of_placed plan (sifted settings before))
-        (kept_and (kept_of_placed plan (sifted settings before)) (changed plan.changes a.point)))
+    (kept_and (kept_of_placed plan (sifted settings before)) (changed plan.changes a.point)))
     (sym (or_true (is_some (kept_of_placed plan (sifted settings before)).raw_range)))
 
 pub first_keeps_one_by_one : FirstKeepsOneByOne
@@ -188,4 +188,4 @@ first_keeps_one_by_one settings plan records point first =
     ap (λ (xs : List Placed). kept_of_placed plan (sifted settings xs)) (passing-push plan records point)
     ∙ first_if settings plan (passing plan records) a (keeps_all plan.keeps point) first
     (λ t. subst AreAscending (passing-push plan records point
-        ∙ ap (λ (b : Bool). passing plan records ++ cond b (a ∷ []) []) t) (places_ascend plan (records ++ point ∷ [])))
+    ∙ ap (λ (b : Bool). passing plan records ++ cond b (a ∷ []) []) t) (places_ascend plan (records ++ point ∷ [])))
