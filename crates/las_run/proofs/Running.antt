@@ -24,6 +24,10 @@ use Rattle.laz_file.specs.Records.{AreRead, AreRecordsIn, AreRecordsOf, HoldBloc
 use Rattle.laz_file.specs.Refusing.{IsRefusal, chunk_causes, tested_causes}
 use Rattle.laz_file.proofs.Whole.{hold-plain}
 use Rattle.laz_file.proofs.Packed.{packed_accepted, unpacks_again}
+use Rattle.las_convert.specs.Adding.{Keeping}
+use Rattle.las_convert.specs.Converting.{ConvertsBy, ConvertsOnce, ConvertsTwice}
+use Rattle.las_thin.specs.declared.pick.Pick.{Pick}
+use Rattle.las_thin.specs.declared.pick.Pick.TheVariants.{First, Lowest, Highest}
 use Rattle.las_thin.specs.Kept.{kept_behind}
 use Rattle.las_run.specs.Endings.{ComesAtOpening, ComesFirst, Ending, Refused, Unread, Usage, ends_at_once}
 use Rattle.las_filter.specs.declared.rule.Rule.{Rule}
