@@ -314,6 +314,9 @@ def on_terminal(line, environment, folder, kill=None, typed=None):
     if pid == 0:
         try:
             os.chdir(folder)
+            # as a shell on a terminal starts it, also if the gate itself is run in the background
+            for number in (signal.SIGHUP, signal.SIGINT, signal.SIGQUIT):
+                signal.signal(number, signal.SIG_DFL)
             os.execve(line[0], line, environment)
         finally:
             os._exit(99)
