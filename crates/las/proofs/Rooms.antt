@@ -4,7 +4,7 @@ use Rattle.std.specs.Prelude.{All}
 use Rattle.std.specs.FinMap as map
 use Rattle.std.proofs.lemmas.List.Elements.{All-cons, All-nil}
 use Rattle.las_info.specs.Tallies.{Tally, TapSeen, count_at}
-use Rattle.las_info.proofs.Counting.{count-none}
+use Rattle.las_info.proofs.Public.{count-none}
 
 empty_room : (tally : Tally) (bin : ℕ) → tally ≡ map.empty → count_at tally bin ≤ 2 ^ 63
 empty_room tally bin is = subst (λ (t : Tally). count_at t bin ≤ 2 ^ 63) (sym is) (omega (arith, count-none bin))

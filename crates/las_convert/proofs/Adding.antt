@@ -5,7 +5,7 @@ use Rattle.std.proofs.lemmas.List.{append-nil}
 use Rattle.las_filter.specs.Kept.{Kept, Steps, kept, kept_and}
 use Rattle.las_filter.specs.Filters.{keeps_all}
 use Rattle.las_filter.specs.Changes.{changed}
-use Rattle.las_filter.proofs.Keeping.{grows}
+use Rattle.las_filter.proofs.Public.{grows}
 use Rattle.las_convert.specs.Adding.{Adds, Keeping}
 
 -- what is kept, of its two parts

@@ -5,7 +5,7 @@ use Rattle.laz_file.specs.declared.fault.Fault.{Fault}
 use Rattle.laz_file.specs.declared.fault.Fault.TheVariants.{Refused, Read, Write, Memory}
 use Rattle.laz_file.specs.Outputs.{Output}
 use Rattle.laz_file.specs.Writing.{SameFaults, Stands, Stops, WriterSeen}
-use Rattle.laz_file.proofs.Arms.{held_text}
+use Rattle.laz_file.proofs.Public.{held_text}
 
 pub stops_asked : (fault : Fault) (made now : Outside) → Stops fault made now → now.asked ≡ made.asked
 stops_asked (Refused cause) made now s = absurd s

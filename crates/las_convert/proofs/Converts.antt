@@ -16,11 +16,7 @@ use Rattle.laz_file.specs.Pieces.{ArePieces, Piece}
 use Rattle.laz_file.specs.Reading.{AreWholeBlocks, ReaderSeen, StandsFor}
 use Rattle.laz_file.specs.Ranges.{Range, first_of, parts_of}
 use Rattle.laz_file.specs.Records.{AreRead, AreRecordsIn, HoldBlocks, HoldOnly, IsBadPiece, moved}
-use Rattle.laz_file.proofs.Copies.{even_whole}
-use Rattle.laz_file.proofs.FirstPieces.{fewer_first, hold_length, inside, more_first, no_length}
-use Rattle.laz_file.proofs.OneAnswer.{one_pieces}
-use Rattle.laz_file.proofs.Putting.{concat-append}
-use Rattle.laz_file.proofs.Whole.{not_bad_before}
+use Rattle.laz_file.proofs.Public.{even_whole, fewer_first, hold_length, inside, more_first, no_length, one_pieces, concat-append, not_bad_before}
 use Rattle.las_convert.specs.Adding.{Adds, Keeping, cut_all}
 use Rattle.las_convert.specs.Converting.{ConvertsOnce, ConvertsTwice, Keeps, kept_in}
 use Rattle.las_convert.specs.Laws.{raw_record}

@@ -19,9 +19,7 @@ use Rattle.laz_file.specs.Copying.{HasCause, HoldFirst, LeavesUnfinished, with_r
 use Rattle.laz_file.specs.Outputs.{Output, draft_of, finished, front, patches_of, stopped}
 use Rattle.laz_file.specs.Reading.{ReaderSeen}
 use Rattle.laz_file.specs.Writing.{Stands, Stops, WriterSeen}
-use Rattle.laz_file.proofs.Endings.{leaves_end, leaves_part}
-use Rattle.laz_file.proofs.Taking.{held_after}
-use Rattle.laz_file.proofs.WholeOutputs.{create_left}
+use Rattle.laz_file.proofs.Public.{leaves_end, leaves_part, held_after, create_left}
 use Rattle.las_convert.specs.Adding.{Adds, EndsKeeping, Goes, Keeping, LeavesKept, cut_all}
 use Rattle.las_convert.specs.Converting.{EndsConverting, FinishesKept, LeavesConverting, RefusesKept, output_of}
 use Rattle.las_convert.proofs.Adding.{on_err_from}

@@ -8,7 +8,7 @@ use Rattle.laz_file.specs.Existing.{HasSomeInRange}
 use Rattle.laz_file.specs.Pieces.{Piece}
 use Rattle.laz_file.specs.Ranges.{Range, first_of, parts_of}
 use Rattle.laz_file.specs.Records.{AreRead, AreRecordsIn, HoldBlocks, moved}
-use Rattle.laz_file.proofs.Existing.{and_then, there}
+use Rattle.laz_file.proofs.Public.{and_then, there}
 use Rattle.las_thin.specs.declared.pick.Pick.{Pick}
 use Rattle.las_thin.specs.declared.pick.Pick.TheVariants.{First, Lowest, Highest}
 use Rattle.las_thin.specs.Kept.{kept_behind}

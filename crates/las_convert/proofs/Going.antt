@@ -18,10 +18,7 @@ use Rattle.laz_file.specs.Outputs.{Output}
 use Rattle.laz_file.specs.Pieces.{Piece}
 use Rattle.laz_file.specs.Reading.{ReaderSeen, records_in}
 use Rattle.laz_file.specs.Writing.{Stands, WriterSeen}
-use Rattle.laz_file.proofs.Copies.{HasRead, ReadsMore, concat_more, concat_rest, even_for, even_whole, length_whole, read_more, records-append}
-use Rattle.laz_file.proofs.Putting.{concat-append}
-use Rattle.laz_file.proofs.Pushing.{cut-append, whole_both}
-use Rattle.laz_file.proofs.Taking.{part_stands, part_then, takes_none, takes_read, takes_then}
+use Rattle.laz_file.proofs.Public.{HasRead, ReadsMore, concat_more, concat_rest, even_for, even_whole, length_whole, read_more, records-append, concat-append, cut-append, whole_both, part_stands, part_then, takes_none, takes_read, takes_then}
 use Rattle.las_convert.specs.Adding.{Adds, Goes, HaveCounted, IsAfter, Keeping, LeavesKept, cut_all}
 use Rattle.las_convert.proofs.Cuts.{length_cut}
 use Rattle.las_convert.proofs.Shown.{counted_more, cut_none, seen_by, shown_none, shown_then}

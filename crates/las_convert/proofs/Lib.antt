@@ -1,17 +1,18 @@
-pub mod Adding
-pub mod Passing
-pub mod Cuts
-pub mod Shown
-pub mod Going
-pub mod Unchanged
-pub mod Only
-pub mod Endings
-pub mod Converts
-pub mod Readings
-pub mod Looks
-pub mod Wholes
-pub mod Asked
-pub mod AllPlaces
-pub mod OneWay
-pub mod Existing
+mod Adding
+mod Passing
+mod Cuts
+mod Shown
+mod Going
+mod Unchanged
+mod Only
+mod Endings
+mod Converts
+mod Readings
+mod Looks
+mod Wholes
+mod Asked
+mod AllPlaces
+mod OneWay
+mod Existing
 mod Examples
+pub mod Public

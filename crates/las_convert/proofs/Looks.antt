@@ -18,9 +18,7 @@ use Rattle.laz_file.specs.Outputs.{records_after}
 use Rattle.laz_file.specs.Ranges.{Range}
 use Rattle.laz_file.specs.Reading.{ReaderSeen, StandsFor}
 use Rattle.laz_file.specs.Records.{HoldOnly, IsBadPiece}
-use Rattle.laz_file.proofs.Knowing.{known_both, known_then}
-use Rattle.laz_file.proofs.RangeLaws.{all_records_in, records_in_before}
-use Rattle.laz_file.proofs.WholeOutputs.{stands_ready}
+use Rattle.laz_file.proofs.Public.{known_both, known_then, all_records_in, records_in_before, stands_ready}
 use Rattle.las_convert.specs.Adding.{Keeping}
 use Rattle.las_convert.specs.Converting.{AreLooked, ConvertsTwice, IsReady, OnlyConverts}
 use Rattle.las_convert.proofs.Converts.{OnlyTwice}

@@ -16,11 +16,7 @@ use Rattle.laz_file.specs.Pieces.{Piece}
 use Rattle.laz_file.specs.Ranges.{Range, parts_of}
 use Rattle.laz_file.specs.Records.{AreRead, AreRecordsIn, HoldBlocks, HoldOnly}
 use Rattle.laz_file.specs.Refusing.{IsAcceptedFile}
-use Rattle.laz_file.proofs.Accepted.{accepted_is_head}
-use Rattle.laz_file.proofs.EvenBlocks.{even_in}
-use Rattle.laz_file.proofs.OneAnswer.{one_pieces}
-use Rattle.laz_file.proofs.OneBlock.{begins-with, only-blocks}
-use Rattle.laz_file.proofs.Whole.{none_some, some_same}
+use Rattle.laz_file.proofs.Public.{accepted_is_head, even_in, one_pieces, begins-with, only-blocks, none_some, some_same}
 use Rattle.las_convert.specs.Adding.{Keeping, kept_by}
 use Rattle.las_convert.specs.Converting.{AreFirstRecords, ConvertsBy, ConvertsOnce, ConvertsTwice, Keeps, kept_in}
 use Rattle.las_convert.specs.Laws.{ConvertsInOneWay}

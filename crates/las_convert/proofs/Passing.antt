@@ -13,8 +13,7 @@ use Rattle.las_thin.specs.Placed.{Placed, placed, last_place}
 use Rattle.las_thin.specs.Kept.{numbered, passing, kept_behind, kept_of_placed, kept_where}
 use Rattle.las_thin.specs.Sieving.{Settings, Sieving, IsFirst, all_pass, dropped_to, judged_by, picks_first, sifted, stays, thinned_to}
 use Rattle.las_thin.specs.Sieving as sieve
-use Rattle.las_thin.proofs.Members.{by_bool}
-use Rattle.las_thin.proofs.Behind.{passing-push, first_keeps_one_by_one, keeps_as_the_plan, keeps_one_by_one, keeps_what_stays}
+use Rattle.las_thin.proofs.Public.{by_bool, passing-push, first_keeps_one_by_one, keeps_as_the_plan, keeps_one_by_one, keeps_what_stays}
 use Rattle.las_convert.specs.Adding.{IsAfter, kept_by}
 use Rattle.las_convert.specs.Passing.{KeepsOneMore, passes_after}
 use Rattle.las_convert.proofs.Adding.{IsKeeping}

@@ -18,11 +18,7 @@ use Rattle.laz_file.specs.Pieces.{Piece}
 use Rattle.laz_file.specs.Reading.{ReaderSeen, StandsFor}
 use Rattle.laz_file.specs.Records.{HoldOnly, IsBadPiece}
 use Rattle.laz_file.specs.Writing.{Stands, WriterSeen}
-use Rattle.laz_file.proofs.Arms.{held_text}
-use Rattle.laz_file.proofs.Knowing.{known_both}
-use Rattle.laz_file.proofs.Pushing.{record_least}
-use Rattle.laz_file.proofs.Taking.{known_after, known_before}
-use Rattle.laz_file.proofs.WholeOutputs.{hold_ready}
+use Rattle.laz_file.proofs.Public.{held_text, known_both, record_least, known_after, known_before, hold_ready}
 use Rattle.las_convert.specs.Adding.{Adds, EndsKeeping, Keeping, cut_all, kept_by}
 use Rattle.las_convert.specs.Converting.{AreLooked, ConvertsTo, FinishesKept, LeavesConverting, OnlyConverts, RefusesKept, converted_output, output_of}
 use Rattle.las_convert.proofs.Readings.{bad_once, settled_all, settled_bad, settled_left, settled_raw}

@@ -1,3 +1,4 @@
-pub mod Keeping
-pub mod PartNaming
-pub mod Examples
+mod Keeping
+mod PartNaming
+mod Examples
+pub mod Public

@@ -1,10 +1,11 @@
-pub mod NumberLemmas
-pub mod VlrLemmas
-pub mod CauseLemmas
-pub mod CountLemmas
-pub mod LayoutLemmas
-pub mod PackingLemmas
-pub mod UnpackingLemmas
-pub mod ConditionLemmas
-pub mod Examples
-pub mod Cutting
+mod NumberLemmas
+mod VlrLemmas
+mod CauseLemmas
+mod CountLemmas
+mod LayoutLemmas
+mod PackingLemmas
+mod UnpackingLemmas
+mod ConditionLemmas
+mod Examples
+mod Cutting
+pub mod Public

@@ -1,4 +1,4 @@
-pub mod Counting
+mod Counting
 mod Cuts
 mod Examples
 mod Finding
@@ -11,4 +11,5 @@ mod Tallying
 mod Texts
 mod Widening
 mod Zips
-pub mod Shown
+mod Shown
+pub mod Public

@@ -3,7 +3,7 @@ use Rattle.std.proofs.Common.{ℕ, zero, suc, ◌+◌, ◌≤◌, List, length, 
 use Rattle.las_header.specs.Heads.{IsHead}
 use Rattle.las_header.specs.Fields.{vlr_count_of}
 use Rattle.las_header.specs.Vlrs.{first_vlrs, vlr_place, vlr_start, vlrs_of}
-use Rattle.las_header.proofs.VlrLemmas.{vlr_head_fits}
+use Rattle.las_header.proofs.Public.{vlr_head_fits}
 use Rattle.std.proofs.lemmas.List.Elements.{All-push}
 
 before : (n m : ℕ) (head : List ℕ) → n ≤ m → All (λ place. place.start + 54 ≤ vlr_start m head) (first_vlrs n head)

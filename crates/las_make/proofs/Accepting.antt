@@ -9,19 +9,14 @@ use Rattle.las_header.specs.Counting.{counts_bytes, long_counts_bytes, with_coun
 use Rattle.las_header.specs.Fields.{head_of, is_packed, point_offset_of, points_of, record_length_of}
 use Rattle.las_header.specs.Plain.{cut_records, plain_head}
 use Rattle.las_header.specs.Refusals.{causes_of, first_cause, front_causes, head_causes}
-use Rattle.las_header.proofs.ConditionLemmas.{first_is_tested}
+use Rattle.las_header.proofs.Public.{first_is_tested}
 use Rattle.las_points.specs.Tally.{counts_of}
 use Rattle.laz_table.specs.VlrCauses.{vlr_causes}
-use Rattle.laz_table.proofs.TableBytes.{IsBytes-append}
+use Rattle.laz_table.proofs.Public.{IsBytes-append}
 use Rattle.laz_file.specs.Laws.{AreHeadAndRecords, CanBePacked}
 use Rattle.laz_file.specs.Outputs.{records_after}
 use Rattle.laz_file.specs.Refusing.{IsAcceptedFile, chunk_causes, has_bad_pointer, tested_causes}
-use Rattle.laz_file.proofs.Accepted.{IsFirst-none, both_none}
-use Rattle.laz_file.proofs.Counted.{length-counted}
-use Rattle.laz_file.proofs.Finished.{long-size, short-size}
-use Rattle.laz_file.proofs.CountedForms.{are_counted}
-use Rattle.laz_file.proofs.Packed.{packed_accepted, plain-is, unpacks_again}
-use Rattle.laz_file.proofs.PlainForms.{accepted_plain, head-is, offset-is, plain-kept, records-is}
+use Rattle.laz_file.proofs.Public.{IsFirst-none, both_none, length-counted, long-size, short-size, are_counted, packed_accepted, plain-is, unpacks_again, accepted_plain, head-is, offset-is, plain-kept, records-is}
 use Rattle.las_make.specs.declared.settings.Settings.{Settings}
 use Rattle.las_make.specs.Laws.{CanPackMade, UnpacksMade}
 use Rattle.las_make.specs.Made.{IsInRange, blank_head, made_file, made_head, made_length, made_records}

@@ -6,7 +6,7 @@ use Rattle.las_header.specs.Fields.{format_of, format_size, is_packed, points_of
 use Rattle.las_header.specs.Heads.{IsHead}
 use Rattle.las_header.specs.Numbers.{number_at}
 use Rattle.las_header.specs.Vlrs.{laszip_vlrs_of}
-use Rattle.las_header.proofs.NumberLemmas.{number_at-drop, reads_back}
+use Rattle.las_header.proofs.Public.{number_at-drop, reads_back}
 use Rattle.las_make.specs.declared.settings.Settings.{Settings}
 use Rattle.las_make.specs.Made.{IsInRange, blank_head, made_length, scale_bytes}
 

@@ -1,11 +1,12 @@
-pub mod Drawn
-pub mod Examples
-pub mod Blank
-pub mod Bytes
-pub mod MadeBytes
-pub mod Accepting
-pub mod Written
-pub mod Reread
-pub mod Ended
-pub mod Placed
-pub mod Steps
+mod Drawn
+mod Examples
+mod Blank
+mod Bytes
+mod MadeBytes
+mod Accepting
+mod Written
+mod Reread
+mod Ended
+mod Placed
+mod Steps
+pub mod Public

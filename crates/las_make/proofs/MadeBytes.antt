@@ -7,7 +7,7 @@ use Rattle.std.proofs.lemmas.List.{get_or_past}
 use Rattle.std.proofs.lemmas.List.Sums.{AllPass-from_list_all}
 use Rattle.byteorder.specs.Endian.{little_bytes}
 use Rattle.laz_range.specs.Span.{IsBytes}
-use Rattle.laz_table.proofs.TableBytes.{IsBytes-append, IsBytes-little}
+use Rattle.laz_table.proofs.Public.{IsBytes-append, IsBytes-little}
 use Rattle.las_make.specs.declared.drawing.Draws.{Draws}
 use Rattle.las_make.specs.declared.settings.Settings.{Settings}
 use Rattle.las_make.specs.Drawing.{has_colours, has_time}

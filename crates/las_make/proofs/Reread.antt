@@ -15,9 +15,7 @@ use Rattle.laz_file.specs.Laws.{CanBePacked}
 use Rattle.laz_file.specs.Reading.{EndsReading, ReaderSeen, ReadsAll, StandsFor, chunk_of}
 use Rattle.laz_file.specs.Sizes.{points_size}
 use Rattle.laz_file.specs.Refusing.{IsRefusal}
-use Rattle.laz_file.proofs.Knowing.{known_both, known_then}
-use Rattle.laz_file.proofs.LeftSizes.{left_size}
-use Rattle.laz_file.proofs.OneAnswer.{refused_once}
+use Rattle.laz_file.proofs.Public.{known_both, known_then, left_size, refused_once}
 use Rattle.las_make.specs.Making.{FailsPacking, LeavesForm, LeavesFormInPart, fault_of}
 
 no_such : (o : Option (List ℕ)) (P : List ℕ → Type 0) → o ≡ None → IsSomeAnd o P → ⊥

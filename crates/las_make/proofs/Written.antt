@@ -20,9 +20,7 @@ use Rattle.laz_file.specs.declared.fault.Fault.TheVariants.{Refused, Read, Write
 use Rattle.laz_file.specs.Copying.{LeavesUnfinished}
 use Rattle.laz_file.specs.Outputs.{Output, draft_of, patches_of, stopped}
 use Rattle.laz_file.specs.Writing.{SameFaults, Stands, Stops, WriterSeen}
-use Rattle.laz_file.proofs.Endings.{leaves_part}
-use Rattle.laz_file.proofs.Taking.{held_after}
-use Rattle.laz_file.proofs.Unasked.{stops_asked}
+use Rattle.laz_file.proofs.Public.{leaves_part, held_after, stops_asked}
 use Rattle.las_make.specs.declared.settings.Settings.{Settings}
 use Rattle.las_make.specs.Made.{IsInRange, blank_head, made_head, made_length, made_record, made_records, records_from}
 use Rattle.las_make.specs.Making.{FailsWriting}

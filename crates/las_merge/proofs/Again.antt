@@ -15,10 +15,7 @@ use Rattle.laz_file.specs.Copying.{CanTake, HasCause, LeavesPart, Takes}
 use Rattle.laz_file.specs.Reading.{AgreesWithHead, EndsReading, IsNewReader, ReaderSeen, StandsFor}
 use Rattle.laz_file.specs.Refusing.{IsRefusal}
 use Rattle.laz_file.specs.Writing.{WriterSeen}
-use Rattle.laz_file.proofs.Knowing.{known_then}
-use Rattle.laz_file.proofs.OneAnswer.{refused_once}
-use Rattle.laz_file.proofs.Opened.{all_points}
-use Rattle.laz_file.proofs.Taking.{part_stands, part_then, takes_none, takes_read, takes_then}
+use Rattle.laz_file.proofs.Public.{known_then, refused_once, all_points, part_stands, part_then, takes_none, takes_read, takes_then}
 use Rattle.las_merge.specs.declared.fault.MergeFault.{MergeFault}
 use Rattle.las_merge.specs.declared.fault.MergeFault.TheVariants.{At, Unequal, TooManyPoints, TooManyChunks, Write, Memory}
 use Rattle.las_merge.specs.Copying.{BeginsWith, HasRoom, IsFaultOf}

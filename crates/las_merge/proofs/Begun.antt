@@ -9,7 +9,7 @@ use Rattle.laz_file.specs.declared.fault.Fault.{Fault}
 use Rattle.laz_file.specs.declared.fault.Fault.TheVariants as fault
 use Rattle.laz_file.specs.Outputs.{Output, front}
 use Rattle.laz_file.specs.Writing.{Stops}
-use Rattle.laz_file.proofs.WholeOutputs.{create_left}
+use Rattle.laz_file.proofs.Public.{create_left}
 use Rattle.las_merge.specs.declared.fault.MergeFault.{MergeFault}
 use Rattle.las_merge.specs.declared.fault.MergeFault.TheVariants.{Write, Memory}
 use Rattle.las_merge.specs.Copying.{FailsBeginning, output_under, output_with}

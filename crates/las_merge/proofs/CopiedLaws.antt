@@ -11,12 +11,10 @@ use Rattle.laz_range.specs.Span.{IsBytes}
 use Rattle.laz_file.specs.Outputs.{finished, records_after}
 use Rattle.laz_file.specs.Records.{Unpacks}
 use Rattle.laz_file.specs.Refusing.{IsAcceptedFile}
-use Rattle.laz_file.proofs.Finished.{counted_file_is}
-use Rattle.laz_file.proofs.Putting.{concat-append}
+use Rattle.laz_file.proofs.Public.{counted_file_is, concat-append}
 use Rattle.laz_copied.specs.Copied.{Chunk, all_of, copied_file, first_head, points_in}
 use Rattle.laz_copied.specs.Laws.{AreRight, CanBeCopied, CanCopy, HaveBlocks}
-use Rattle.laz_copied.proofs.Copies.{accepted, records}
-use Rattle.laz_copied.proofs.Merged.{merged, plain_head_is, records_whole}
+use Rattle.laz_copied.proofs.Public.{accepted, records, merged, plain_head_is, records_whole}
 use Rattle.las_merge.specs.declared.field.Field.{Field}
 use Rattle.las_merge.specs.declared.field.Field.TheVariants.{Format, Length, Scales, Offsets, Bounds}
 use Rattle.las_merge.specs.CopiedLaws.{AreAcceptedAsOne, AreCopied, HasRightHead, HaveMergedRecords, UnpackToMerged}

@@ -12,7 +12,7 @@ use Rattle.laz_file.specs.declared.fault.Fault.TheVariants as fault
 use Rattle.laz_file.specs.Copying.{LeavesUnfinished}
 use Rattle.laz_file.specs.Outputs.{Output}
 use Rattle.laz_file.specs.Refusing.{IsAcceptedFile, IsRefusal}
-use Rattle.laz_file.proofs.Taking.{known_before}
+use Rattle.laz_file.proofs.Public.{known_before}
 use Rattle.las_merge.specs.declared.field.Field.{Field}
 use Rattle.las_merge.specs.declared.fault.MergeFault.TheVariants.{At, Unequal, TooManyPoints}
 use Rattle.las_merge.specs.Copying.{AreCopied, BeginsWith, CopiesAll, CopiesInto, CopiesTo, LeavesMid, OnlyRecords}

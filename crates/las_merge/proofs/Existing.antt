@@ -17,7 +17,7 @@ use Rattle.laz_file.specs.declared.fault.Fault.TheVariants as fault
 use Rattle.laz_file.specs.Existing.{HasAnAnswer, HasPieces, HasSomeRecords, IsNotNone}
 use Rattle.laz_file.specs.Records.{AreRecordsOf}
 use Rattle.laz_file.specs.Refusing.{IsAcceptedFile, IsRefusal}
-use Rattle.laz_file.proofs.Existing.{and_then, there}
+use Rattle.laz_file.proofs.Public.{and_then, there}
 use Rattle.las_merge.specs.declared.field.Field.{Field}
 use Rattle.las_merge.specs.declared.fault.MergeFault.{MergeFault}
 use Rattle.las_merge.specs.declared.fault.MergeFault.TheVariants.{At, Unequal, TooManyPoints, TooManyChunks}

@@ -12,9 +12,7 @@ use Rattle.laz_file.specs.declared.fault.Fault.TheVariants as fault
 use Rattle.laz_file.specs.Copying.{LeavesPart, with_reads}
 use Rattle.laz_file.specs.Outputs.{Output, draft_of, patches_of, stopped}
 use Rattle.laz_file.specs.Writing.{Stands, Stops, WriterSeen}
-use Rattle.laz_file.proofs.Endings.{leaves_part}
-use Rattle.laz_file.proofs.Knowing.{known_then}
-use Rattle.laz_file.proofs.Taking.{held_after}
+use Rattle.laz_file.proofs.Public.{leaves_part, known_then, held_after}
 use Rattle.las_merge.specs.declared.fault.MergeFault.{MergeFault}
 use Rattle.las_merge.specs.declared.fault.MergeFault.TheVariants.{At, Unequal, TooManyPoints, TooManyChunks, Write, Memory}
 use Rattle.las_merge.specs.Inputs.{item_at}

@@ -11,7 +11,7 @@ use Rattle.laz_file.specs.declared.fault.Fault.{Fault}
 use Rattle.laz_file.specs.declared.fault.Fault.TheVariants as fault
 use Rattle.laz_file.specs.Refusing.{IsRefusal}
 use Rattle.laz_file.specs.Reading.{EndsReading}
-use Rattle.laz_file.proofs.Knowing.{known_then}
+use Rattle.laz_file.proofs.Public.{known_then}
 use Rattle.las_merge.specs.declared.field.Field.{Field}
 use Rattle.las_merge.specs.declared.fault.MergeFault.{MergeFault}
 use Rattle.las_merge.specs.declared.fault.MergeFault.TheVariants.{At, Unequal, TooManyPoints, TooManyChunks, Write, Memory}

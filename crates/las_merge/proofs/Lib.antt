@@ -1,22 +1,23 @@
-pub mod Examples
-pub mod Kept
-pub mod Merges
-pub mod Taken
-pub mod Copied
-pub mod Again
-pub mod Asked
-pub mod Opened
-pub mod Begun
-pub mod Filled
-pub mod Known
-pub mod Ends
-pub mod Whole
-pub mod Parts
-pub mod Appended
-pub mod Listed
-pub mod KeptPacked
-pub mod CopiedOnce
-pub mod CopiedLaws
-pub mod CopiedWhole
-pub mod OneWay
-pub mod Existing
+mod Examples
+mod Kept
+mod Merges
+mod Taken
+mod Copied
+mod Again
+mod Asked
+mod Opened
+mod Begun
+mod Filled
+mod Known
+mod Ends
+mod Whole
+mod Parts
+mod Appended
+mod Listed
+mod KeptPacked
+mod CopiedOnce
+mod CopiedLaws
+mod CopiedWhole
+mod OneWay
+mod Existing
+pub mod Public

@@ -19,13 +19,10 @@ use Rattle.laz_file.specs.Packing.{packed_head, table_after}
 use Rattle.laz_file.specs.Pieces.{ArePieces, Piece}
 use Rattle.laz_file.specs.Reading.{AgreesWithHead, ReaderSeen, StandsFor, chunks_in}
 use Rattle.laz_file.specs.Refusing.{IsAcceptedFile, chunks_place}
-use Rattle.laz_file.proofs.Chunked.{sum-lengths}
-use Rattle.laz_file.proofs.Knowing.{known_both, known_then}
-use Rattle.laz_file.proofs.Putting.{concat-append}
+use Rattle.laz_file.proofs.Public.{sum-lengths, known_both, known_then, concat-append}
 use Rattle.laz_copied.specs.Copied as copied
 use Rattle.laz_copied.specs.Copied.{Chunk, HaveChunks, all_of, chunk_at, copied_file, copied_head, counts_in, first_head, points_in, returns_to_15}
-use Rattle.laz_copied.proofs.Chunks.{piece_counts}
-use Rattle.laz_copied.proofs.PackedFiles.{IsChunked, chunked, packed_front_known}
+use Rattle.laz_copied.proofs.Public.{piece_counts, IsChunked, chunked, packed_front_known}
 use Rattle.las_merge.specs.Appending.{LiesIn, SourceSeen, part_of}
 use Rattle.las_merge.specs.Listing.{AddsChunks, IsListed, IsPackedInput, ListedInput, ListsChunks, all_pieces, asked_to_list, bytes_in, source_of}
 use Rattle.las_merge.specs.Opening.{InputSeen, IsItsFile, IsOpen, first_read, names_read, points_read}

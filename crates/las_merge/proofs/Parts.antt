@@ -15,20 +15,15 @@ use Rattle.las_header.specs.Fields.{format_of, has_long_counts, head_of, is_pack
 use Rattle.las_header.specs.Heads.{IsHead}
 use Rattle.las_header.specs.Plain.{cut_records, plain_of}
 use Rattle.las_header.specs.Vlrs.{laszip_vlrs_of}
-use Rattle.las_header.proofs.NumberLemmas.{drop-splice, length-splice, slice_index-splice, take-splice}
+use Rattle.las_header.proofs.Public.{drop-splice, length-splice, slice_index-splice, take-splice}
 use Rattle.las_outside.specs.Files.{FileMap}
 use Rattle.las_points.specs.Tally.{counts_of}
 use Rattle.laz_range.specs.Span.{IsBytes}
-use Rattle.laz_table.proofs.TableBytes.{IsBytes-append}
+use Rattle.laz_table.proofs.Public.{IsBytes-append}
 use Rattle.laz_file.specs.Laws.{AreHeadAndRecords, file_of}
 use Rattle.laz_file.specs.Outputs.{finished, records_after}
 use Rattle.laz_file.specs.Refusing.{IsAcceptedFile}
-use Rattle.laz_file.proofs.Counted.{counted_format, counted_lengths}
-use Rattle.laz_file.proofs.CountedForms.{are_counted}
-use Rattle.laz_file.proofs.Finished.{finished_is, long-size, short-size}
-use Rattle.laz_file.proofs.PlainForms.{accepted_plain, head-is, plain-kept, records-is}
-use Rattle.laz_file.proofs.Splices.{splice-again, splice-splice}
-use Rattle.laz_file.proofs.Whole.{is_plain_form, reads_plain}
+use Rattle.laz_file.proofs.Public.{counted_format, counted_lengths, are_counted, finished_is, long-size, short-size, accepted_plain, head-is, plain-kept, records-is, splice-again, splice-splice, is_plain_form, reads_plain}
 use Rattle.las_merge.specs.Copying.{output_with}
 use Rattle.las_merge.specs.declared.field.Field.{Field}
 use Rattle.las_merge.specs.declared.field.Field.TheVariants.{Format, Length, Scales, Offsets, Bounds}

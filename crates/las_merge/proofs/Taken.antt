@@ -14,12 +14,7 @@ use Rattle.laz_file.specs.Pieces.{Piece}
 use Rattle.laz_file.specs.Reading.{ReaderSeen, ReadsAll, StandsFor, records_in}
 use Rattle.laz_file.specs.Records.{AreRead, HoldOnly, IsBadPiece}
 use Rattle.laz_file.specs.Writing.{WriterSeen}
-use Rattle.laz_file.proofs.Copies.{length_whole, read_begins}
-use Rattle.laz_file.proofs.Knowing.{known_as, known_both, known_then, known_three}
-use Rattle.laz_file.proofs.OneAnswer.{one_pieces}
-use Rattle.laz_file.proofs.Putting.{if_err_weaker, if_ok_weaker}
-use Rattle.laz_file.proofs.Taking.{part_stands, takes_none}
-use Rattle.laz_file.proofs.WholeOutputs.{all_records, left_is as whole_left, records_before, stands_ready}
+use Rattle.laz_file.proofs.Public.{length_whole, read_begins, known_as, known_both, known_then, known_three, one_pieces, if_err_weaker, if_ok_weaker, part_stands, takes_none, all_records, left_is as whole_left, records_before, stands_ready}
 use Rattle.las_merge.specs.Copying.{BeginsWith, CopiesTo, OnlyRecords}
 
 module _ (held : Option FileMap) (first : ReaderSeen) (buffers : ℕ) (new : ReadsAll first) (stands : WhereKnown held first.name (StandsFor first)) (n : ℕ) (blocks : List (List ℕ)) (hold : HoldFirst held (record first { buffers = buffers }) n blocks) where

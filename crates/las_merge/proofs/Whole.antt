@@ -13,9 +13,7 @@ use Rattle.laz_file.specs.declared.fault.Fault.TheVariants as fault
 use Rattle.laz_file.specs.Copying.{LeavesUnfinished}
 use Rattle.laz_file.specs.Outputs.{Output, finished, stopped}
 use Rattle.laz_file.specs.Writing.{Stands, WriterSeen}
-use Rattle.laz_file.proofs.Arms.{held_text}
-use Rattle.laz_file.proofs.Endings.{leaves_part}
-use Rattle.laz_file.proofs.Taking.{known_after}
+use Rattle.laz_file.proofs.Public.{held_text, leaves_part, known_after}
 use Rattle.las_merge.specs.declared.fault.MergeFault.{MergeFault}
 use Rattle.las_merge.specs.declared.fault.MergeFault.TheVariants.{At, Unequal, TooManyPoints, TooManyChunks, Write, Memory}
 use Rattle.las_merge.specs.Copying.{CopiesAll, CopiesInto, CopiesTo, EndsMerging, FailsBeginning, LeavesMid, output_under}

@@ -1,6 +1,7 @@
-pub mod ByName
+mod ByName
 mod Examples
-pub mod FileLaws
-pub mod Frames
-pub mod Rooms
-pub mod Texts
+mod FileLaws
+mod Frames
+mod Rooms
+mod Texts
+pub mod Public

@@ -5,7 +5,7 @@ use Rattle.std.specs.Prelude.{FitsSigned}
 use Rattle.std.specs.Int.{w32, cast_signed, cast_unsigned}
 use mir.Facts.{to_z-of_z}
 use Rattle.las_header.specs.Numbers.{number_at, with_number_at}
-use Rattle.las_header.proofs.NumberLemmas.{number_at-with_number_at}
+use Rattle.las_header.proofs.Public.{number_at-with_number_at}
 
 pub signed_again : (at : ℕ) (z : ℤ) (n : ℕ) (bytes : List ℕ) → at ≤ length bytes → n < 2 ^ 32 → FitsSigned w32 z → n ≡ cast_unsigned w32 (cast_signed w32 (cast_unsigned w32 z))
     → cast_signed w32 (number_at 4 at (with_number_at 4 at n bytes)) ≡ z

@@ -17,8 +17,7 @@ use Rattle.laz_file.specs.Asking.{AsksAtMost, asked_to_open, bytes_left}
 use Rattle.laz_file.specs.Pieces.{ArePieces, Piece}
 use Rattle.laz_file.specs.Ranges.{Range, parts_of}
 use Rattle.laz_file.specs.Reading.{IsNewReader, ReaderSeen, StandsFor}
-use Rattle.laz_file.proofs.Knowing.{known_three}
-use Rattle.laz_file.proofs.OneAnswer.{one_pieces, refused_once}
+use Rattle.laz_file.proofs.Public.{known_three, one_pieces, refused_once}
 use Rattle.las_run.specs.Asking.{AsksFor, AsksOf, AsksWhole, TakesAll, WorkAsks, bytes_in, in_first_reading, in_readings}
 use Rattle.las_run.specs.Ends.{IsRead}
 use Rattle.las_run.specs.Tools.{range_in}

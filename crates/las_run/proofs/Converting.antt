@@ -19,7 +19,7 @@ use Rattle.las_outside.specs.Faults.{Rose}
 use Rattle.las_outside.specs.Files.{FileMap, WhereKnown, with_file}
 use Rattle.las_outside.specs.Outside.{Outside}
 use Rattle.las_outside.specs.Sinks.{SinkView, with_fault, with_more}
-use Rattle.las_outside.proofs.Texts.{with_more-none}
+use Rattle.las_outside.proofs.Public.{with_more-none}
 use Rattle.las_thin.specs.declared.pick.Pick.{Pick}
 use Rattle.las_thin.specs.declared.pick.Pick.TheVariants.{First, Lowest, Highest}
 use Rattle.las_thin.specs.Kept.{kept_behind}
@@ -32,8 +32,7 @@ use Rattle.laz_file.specs.Outputs as points
 use Rattle.laz_file.specs.Ranges.{Range}
 use Rattle.laz_file.specs.Reading.{ReaderSeen, StandsFor}
 use Rattle.laz_file.specs.Refusing.{IsRefusal}
-use Rattle.laz_file.proofs.Knowing.{known_three}
-use Rattle.laz_file.proofs.OneAnswer.{refused_once}
+use Rattle.laz_file.proofs.Public.{known_three, refused_once}
 use Rattle.las_run.specs.declared.stop.Stop.{Stop}
 use Rattle.las_run.specs.declared.stop.Stop.TheVariants as stop
 use Rattle.las_run.specs.Endings.{ComesAtOpening, Done, Refused, Ending, IsLeft, Output, files_of}

@@ -9,7 +9,7 @@ use Rattle.las_outside.specs.Faults.{Rose}
 use Rattle.las_outside.specs.Files.{FileMap, IsMissing, with_file}
 use Rattle.las_outside.specs.Outside.{Later, Outside}
 use Rattle.las_outside.specs.Sinks.{SinkView}
-use Rattle.las_outside.proofs.Texts.{with_more-none}
+use Rattle.las_outside.proofs.Public.{with_more-none}
 use Rattle.las_words.specs.Asked.{LasmergeOptions, lasmerge}
 use Rattle.laz_copied.specs.Copied.{Chunk, all_of, copied_file}
 use Rattle.laz_file.specs.declared.fault.Fault.{Fault}
@@ -19,7 +19,7 @@ use Rattle.las_merge.specs.declared.fault.MergeFault.TheVariants as merge
 use Rattle.las_merge.specs.declared.field.Field.{Field}
 use Rattle.las_merge.specs.Inputs.{IfKnown, item_at}
 use Rattle.las_merge.specs.Packed.{AreFirstPacked, CanCopyFrom, IsKeptFromCopying, IsNoFault}
-use Rattle.las_merge.proofs.CopiedOnce.{copied_by_one, copied_once, kept_or_copied}
+use Rattle.las_merge.proofs.Public.{copied_by_one, copied_once, kept_or_copied}
 use Rattle.las_run.specs.Endings.{Done, Unread, Ending, IsLeft, ends_at_once, files_of}
 use Rattle.las_run.specs.Runs.{Task, task_with}
 use Rattle.las_run.specs.Tools.{CopiesIn, cause_of_fault, copies}

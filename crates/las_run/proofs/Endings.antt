@@ -7,7 +7,7 @@ use Rattle.las_outside.specs.Faults.{Rose}
 use Rattle.las_outside.specs.Files.{FileMap, IsMissing, with_patch}
 use Rattle.las_outside.specs.Outside.{Outside}
 use Rattle.las_outside.specs.Sinks.{SinkView, Puts, with_fault, with_more, written_after}
-use Rattle.las_outside.proofs.Texts.{with_more-none}
+use Rattle.las_outside.proofs.Public.{with_more-none}
 use Rattle.las_words.specs.Says.{usage}
 use Rattle.las_run.specs.declared.stop.Stop.{Stop}
 use Rattle.las_run.specs.Endings.{Output, Cause, Done, Memory, Usage, Unread, Unwritten, Refused, Differs, HasTooMany, Ending, ends_at_once, status_of, at_end, with_all, files_of, AreUnfinished, named, IsLeft}

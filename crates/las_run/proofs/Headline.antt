@@ -12,9 +12,7 @@ use Rattle.laz_file.specs.Laws.{CanBePacked}
 use Rattle.laz_file.specs.Outputs as points
 use Rattle.laz_file.specs.Packing.{pack, packed_file}
 use Rattle.laz_file.specs.Refusing.{IsAcceptedFile, IsRefusal}
-use Rattle.laz_file.proofs.Accepted.{plain_file}
-use Rattle.laz_file.proofs.Finished.{finished_is}
-use Rattle.laz_file.proofs.Packed.{packed-is, packed_accepted, plain-is, unpacks_again}
+use Rattle.laz_file.proofs.Public.{plain_file, finished_is, packed-is, packed_accepted, plain-is, unpacks_again}
 use Rattle.las_run.specs.Endings.{AreUnfinished, Cause, Done, Refused, Ending, IsLeft, Output, ends_at_once, files_of, named, with_all}
 use Rattle.las_run.specs.Tools.{Zips, ZipsIf, cause_by, output_of, writes}
 use Rattle.las_run.specs.Headline.{CanMissOutput, CanMissRefusal, ChangesOutput, IsLaszip, IsPackedOf, Refuses, Writes, unpacked}

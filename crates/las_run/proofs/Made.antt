@@ -10,7 +10,7 @@ use Rattle.las_make.specs.declared.making.Sizes.{Sizes}
 use Rattle.las_make.specs.declared.settings.Settings.{Settings}
 use Rattle.las_make.specs.Made.{IsInRange, made_file, made_records}
 use Rattle.las_make.specs.Making.{FailsMaking, LeavesMade, LeavesPacked, LeavesPlain, with_made}
-use Rattle.las_make.proofs.Ended.{faults_left, whole_form}
+use Rattle.las_make.proofs.Public.{faults_left, whole_form}
 use Rattle.las_outside.specs.Faults.{Rose}
 use Rattle.las_outside.specs.Files.{FileMap, with_file}
 use Rattle.las_outside.specs.Outside.{Outside}

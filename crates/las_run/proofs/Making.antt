@@ -13,7 +13,7 @@ use Rattle.las_outside.specs.Faults.{Rose}
 use Rattle.las_outside.specs.Files.{FileMap, WhereKnown, with_file}
 use Rattle.las_outside.specs.Outside.{Outside}
 use Rattle.las_outside.specs.Sinks.{SinkView}
-use Rattle.las_outside.proofs.Texts.{with_more-none}
+use Rattle.las_outside.proofs.Public.{with_more-none}
 use Rattle.laz_table.specs.VlrCauses.{chunk_size_of}
 use Rattle.laz_file.specs.declared.fault.Fault.{Fault}
 use Rattle.laz_file.specs.declared.fault.Fault.TheVariants as file
@@ -21,8 +21,7 @@ use Rattle.laz_file.specs.Copying.{AreOnlyRecords, LeavesRecords, LeavesUnfinish
 use Rattle.laz_file.specs.Outputs as points
 use Rattle.laz_file.specs.Packing.{packed_file}
 use Rattle.laz_file.specs.Reading.{ReaderSeen, StandsFor}
-use Rattle.laz_file.proofs.Finished.{finished_is}
-use Rattle.laz_file.proofs.Packed.{plain-is}
+use Rattle.laz_file.proofs.Public.{finished_is, plain-is}
 use Rattle.las_run.specs.Endings.{ComesAtOpening, Done, Refused, Ending, IsLeft, files_of}
 use Rattle.las_run.specs.Tools.{Zips, ZipsIf, output_of, writes}
 use Rattle.las_run.specs.Ends.{EndsMaking, IsOnlyEnding, LeavesOf, MakesAs, MakesOutput, quiet, stopped_by}

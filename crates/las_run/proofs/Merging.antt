@@ -11,12 +11,12 @@ use Rattle.las_merge.specs.declared.fault.MergeFault.TheVariants as merge
 use Rattle.las_merge.specs.declared.field.Field.{Field}
 use Rattle.las_merge.specs.Inputs.{AreFirst, CanMerge, IfKnown, IsKeptBy, item_at}
 use Rattle.las_merge.specs.Merging.{BadPlace, LeavesMerged, MergesTo, OnlyMerges, merged_output}
-use Rattle.las_merge.proofs.Kept.{kept_by_one, kept_or_merged, merged_once}
+use Rattle.las_merge.proofs.Public.{kept_by_one, kept_or_merged, merged_once}
 use Rattle.las_outside.specs.Faults.{Rose}
 use Rattle.las_outside.specs.Files.{FileMap, IsMissing, with_file}
 use Rattle.las_outside.specs.Outside.{Later, Outside}
 use Rattle.las_outside.specs.Sinks.{SinkView, with_more}
-use Rattle.las_outside.proofs.Texts.{with_more-none}
+use Rattle.las_outside.proofs.Public.{with_more-none}
 use Rattle.las_words.specs.Asked.{LasmergeOptions, lasmerge}
 use Rattle.laz_file.specs.declared.fault.Fault.{Fault}
 use Rattle.laz_file.specs.declared.fault.Fault.TheVariants as file

@@ -17,7 +17,7 @@ use Rattle.laz_file.specs.Copying.{plain_output}
 use Rattle.laz_file.specs.Laws.{HasOneRecords}
 use Rattle.laz_file.specs.Ranges.{Range}
 use Rattle.laz_file.specs.Refusing.{IsAcceptedFile}
-use Rattle.laz_file.proofs.OneAnswer.{refused_once}
+use Rattle.laz_file.proofs.Public.{refused_once}
 use Rattle.las_convert.specs.Laws.{ConvertsInOneWay}
 use Rattle.las_merge.specs.Existing.{HoldBytes}
 use Rattle.las_merge.specs.Inputs.{CanMerge, item_at}
@@ -27,7 +27,7 @@ use Rattle.las_run.specs.Endings.{Ending, Refused, ends_at_once}
 use Rattle.las_run.specs.EndingLaws.{EndsInOneWay}
 use Rattle.las_run.specs.Runs.{Accepts, Does, Makes, Opens, RunsAs}
 use Rattle.las_run.specs.Tools.{MergesIf, ZipsIf, chosen_taps, chunk_if, range_in, writes}
-use Rattle.las_merge.proofs.Existing.{bytes_of_first}
+use Rattle.las_merge.proofs.Public.{bytes_of_first}
 use Rattle.las_run.proofs.Converting.{only_conversion}
 use Rattle.las_run.proofs.Copying as copying
 use Rattle.las_run.proofs.Merging as merging

@@ -11,14 +11,13 @@ use Rattle.las_filter.specs.declared.rule.Rule.{Rule}
 use Rattle.las_filter.specs.declared.rule.Rule.TheVariants.{Every}
 use Rattle.las_header.specs.Fields.{record_length_of}
 use Rattle.las_outside.specs.Files.{FileMap}
-use Rattle.las_outside.proofs.ByName.{get-insert_same, get-with_value, same_other}
+use Rattle.las_outside.proofs.Public.{get-insert_same, get-with_value, same_other}
 use Rattle.laz_range.specs.Span.{IsBytes}
-use Rattle.laz_table.proofs.TableBytes.{IsBytes-append}
+use Rattle.laz_table.proofs.Public.{IsBytes-append}
 use Rattle.las_merge.specs.Inputs.{item_at}
 use Rattle.las_merge.specs.Parts.{IsPart}
 use Rattle.las_split.specs.Parts.{firsts, number_by, numbers_from, part_from}
-use Rattle.las_split.proofs.Opening.{not_there}
-use Rattle.las_split.proofs.PuttingFiles.{AreDistinct, IsAbsent}
+use Rattle.las_split.proofs.Public.{not_there, AreDistinct, IsAbsent}
 use Rattle.las_run.specs.Endings.{with_all}
 
 -- ---- numbers

@@ -13,13 +13,11 @@ use Rattle.laz_file.specs.Outputs as points
 use Rattle.las_merge.specs.Copying.{output_with}
 use Rattle.las_merge.specs.Inputs.{item_at}
 use Rattle.las_merge.specs.Parts as merging
-use Rattle.las_merge.proofs.Parts.{parts_merge}
+use Rattle.las_merge.proofs.Public.{parts_merge}
 use Rattle.las_split.specs.Outputs.{PartFile, output_under}
 use Rattle.las_split.specs.Parts.{firsts, numbers_from, part}
 use Rattle.las_split.specs.Sorting as sorting
-use Rattle.las_split.proofs.BatchesTaken.{head_some}
-use Rattle.las_split.proofs.Changing.{distinct, firsts_once}
-use Rattle.las_split.proofs.PuttingFiles.{AreDistinct}
+use Rattle.las_split.proofs.Public.{head_some, distinct, firsts_once, AreDistinct}
 use Rattle.las_run.specs.Endings.{Done, Ending, at_end, files_of, with_all}
 use Rattle.las_run.specs.EndingLaws.{AreWhole, MergesWhole, PartsOfSplitMerge, split_ending, whole_output}
 use Rattle.las_run.specs.Tools.{MergesIn, merges, output_of}

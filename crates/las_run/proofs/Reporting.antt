@@ -16,16 +16,16 @@ use Rattle.las_info.specs.Report.{report_text, tally_text}
 use Rattle.las_info.specs.Summaries.{SummarySeen, summary_of}
 use Rattle.las_info.specs.Surveys.{IsShown, SurveySeen}
 use Rattle.las_info.specs.Tallies.{TapSeen, shown_all}
-use Rattle.las_info.proofs.Shown.{all_seen}
+use Rattle.las_info.proofs.Public.{all_seen}
 use Rattle.las_outside.specs.Faults.{Rose}
 use Rattle.las_outside.specs.Files.{FileMap, WhereKnown}
 use Rattle.las_outside.specs.Sinks.{SinkView, with_fault, with_more}
-use Rattle.las_outside.proofs.Texts.{with_more-none}
+use Rattle.las_outside.proofs.Public.{with_more-none}
 use Rattle.laz_file.specs.Copying.{AreOnlyRecords}
 use Rattle.laz_file.specs.Outputs.{records_after}
 use Rattle.laz_file.specs.Pieces.{ArePieces, Piece}
 use Rattle.laz_file.specs.Reading.{ReaderSeen, StandsFor, chunks_in}
-use Rattle.laz_file.proofs.OneAnswer.{one_pieces}
+use Rattle.laz_file.proofs.Public.{one_pieces}
 use Rattle.laz_file.specs.declared.fault.Fault.{Fault}
 use Rattle.laz_file.specs.declared.fault.Fault.TheVariants as file
 use Rattle.laz_table.specs.VlrCauses.{chunk_size_of}

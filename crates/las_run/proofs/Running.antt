@@ -8,7 +8,7 @@ use Rattle.las_header.specs.declared.refusal.Refusal.TheVariants.{BadChunk, RawR
 use Rattle.las_header.specs.Conditions.{IsFirst, conditions}
 use Rattle.las_header.specs.Fields.{head_of, is_packed, point_offset_of}
 use Rattle.las_header.specs.Refusals.{first_cause}
-use Rattle.las_header.proofs.ConditionLemmas.{IsFirst-append_none, IsFirst-append_some, IsFirst-tests}
+use Rattle.las_header.proofs.Public.{IsFirst-append_none, IsFirst-append_some, IsFirst-tests}
 use Rattle.las_outside.specs.Files.{FileMap}
 use Rattle.las_info.specs.Tallies.{TapSeen}
 use Rattle.las_words.specs.Asked.{Asked, Las2lasOptions, LasmergeOptions, OneInput, Work, laszip, las2las, lasinfo, lassplit, lasmerge, make, reads}
@@ -22,8 +22,7 @@ use Rattle.laz_file.specs.Packing.{record_layout}
 use Rattle.laz_file.specs.Ranges.{Range, first_of, part_in, parts_if, parts_in, parts_of, taken_of}
 use Rattle.laz_file.specs.Records.{AreRead, AreRecordsIn, AreRecordsOf, HoldBlocks, HoldsBlock, HoldsIf, cut_block, moved}
 use Rattle.laz_file.specs.Refusing.{IsRefusal, chunk_causes, tested_causes}
-use Rattle.laz_file.proofs.Whole.{hold-plain}
-use Rattle.laz_file.proofs.Packed.{packed_accepted, unpacks_again}
+use Rattle.laz_file.proofs.Public.{hold-plain, packed_accepted, unpacks_again}
 use Rattle.las_convert.specs.Adding.{Keeping}
 use Rattle.las_convert.specs.Converting.{ConvertsBy, ConvertsOnce, ConvertsTwice}
 use Rattle.las_thin.specs.declared.pick.Pick.{Pick}
@@ -34,8 +33,8 @@ use Rattle.las_filter.specs.declared.rule.Rule.{Rule}
 use Rattle.las_merge.specs.Merging.{BadPlace}
 use Rattle.las_split.specs.Outputs.{part_files}
 use Rattle.las_split.specs.Splitting.{SplitsTo}
-use Rattle.las_convert.proofs.Existing.{converts_some}
-use Rattle.las_split.proofs.SomeSplits.{splits_some}
+use Rattle.las_convert.proofs.Public.{converts_some}
+use Rattle.las_split.proofs.Public.{splits_some}
 use Rattle.las_run.specs.Tools.{Converts, range_in, MergesIf, Reports, Splits, ZipsIf, cause_at, cause_by, chosen_taps, chunk_if, converted, part_outputs, report_of, reports, writes}
 use Rattle.las_run.specs.Runs.{Accepts, Does, Makes, Opens, OpensIn, RunOf, RunsAs, Task}
 use Rattle.las_run.specs.EndingLaws.{MissingInputsEnd, PackedFormsEnd, PlainInputsEnd, WorkersDoNotMatter, WrongWordsEnd, input_of, with_one_worker}

@@ -15,13 +15,13 @@ use Rattle.laz_file.specs.Copying.{packed_output, plain_output}
 use Rattle.laz_file.specs.Existing.{HasAnAnswer, HasSomeRecords, IsNotNone}
 use Rattle.laz_file.specs.Outputs.{records_after}
 use Rattle.laz_file.specs.Refusing.{IsAcceptedFile, IsRefusal}
-use Rattle.laz_file.proofs.Existing.{and_then, there}
+use Rattle.laz_file.proofs.Public.{and_then, there}
 use Rattle.las_convert.specs.Laws.{ConvertsToSomething}
 use Rattle.las_merge.specs.declared.fault.MergeFault.{MergeFault}
 use Rattle.las_merge.specs.Existing.{AreKeptOrCopied, AreKeptOrMerged, HoldBytes, MergesToSomething}
 use Rattle.las_merge.specs.Inputs.{CanMerge, IsKeptBy}
 use Rattle.las_merge.specs.Packed.{CanCopyFrom, IsKeptFromCopying}
-use Rattle.las_merge.proofs.Existing.{bytes_of_first}
+use Rattle.las_merge.proofs.Public.{bytes_of_first}
 use Rattle.las_split.specs.Laws.{SplitsToSomething}
 use Rattle.las_split.specs.Outputs.{part_files}
 use Rattle.laz_copied.specs.Copied.{Chunk, all_of, copied_file}

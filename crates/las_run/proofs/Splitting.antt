@@ -10,11 +10,11 @@ use Rattle.las_outside.specs.Faults.{Rose}
 use Rattle.las_outside.specs.Files.{FileMap, WhereKnown}
 use Rattle.las_outside.specs.Outside.{Outside}
 use Rattle.las_outside.specs.Sinks.{SinkView}
-use Rattle.las_outside.proofs.Texts.{with_more-none}
+use Rattle.las_outside.proofs.Public.{with_more-none}
 use Rattle.laz_file.specs.declared.fault.Fault.{Fault}
 use Rattle.laz_file.specs.declared.fault.Fault.TheVariants as file
 use Rattle.laz_file.specs.Outputs as points
-use Rattle.laz_file.proofs.Patching.{all_patched}
+use Rattle.laz_file.proofs.Public.{all_patched}
 use Rattle.las_split.specs.Files.{with_files}
 use Rattle.las_split.specs.Outputs as split
 use Rattle.las_split.specs.Outputs.{LeavesParts, PartFile, all_finished, all_stopped, part_files}

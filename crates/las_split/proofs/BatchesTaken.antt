@@ -10,10 +10,7 @@ use Rattle.las_header.specs.Heads.{HeadView, IsHead}
 use Rattle.las_outside.specs.Files.{FileMap, WhereKnown, with_file}
 use Rattle.laz_file.specs.Reading.{AreWholeBlocks, ReaderSeen, records_in}
 use Rattle.laz_file.specs.Writing.{WriterSeen}
-use Rattle.laz_file.proofs.Copies.{HasRead, even_whole, length_whole, records-append}
-use Rattle.laz_file.proofs.Putting.{concat-append}
-use Rattle.laz_file.proofs.Pushing.{cut-append}
-use Rattle.laz_file.proofs.Taking.{known_after, known_before}
+use Rattle.laz_file.proofs.Public.{HasRead, even_whole, length_whole, records-append, concat-append, cut-append, known_after, known_before}
 use Rattle.las_split.specs.Files.{with_files}
 use Rattle.las_split.specs.Sorting.{HasRoom, InParts, IsPlainFor, LeavesBlock, Task, bytes_at, cut_all, standing}
 use Rattle.las_split.proofs.Blocks.{cut_none, even_all}

@@ -10,8 +10,7 @@ use Rattle.las_header.specs.Fields.{points_of}
 use Rattle.las_header.specs.Plain.{cut_records}
 use Rattle.las_outside.specs.Files.{FileMap}
 use Rattle.laz_file.specs.Writing.{WriterSeen}
-use Rattle.laz_file.proofs.Copies.{concat_more, concat_rest}
-use Rattle.laz_file.proofs.Pushing.{cut-append, whole_both}
+use Rattle.laz_file.proofs.Public.{concat_more, concat_rest, cut-append, whole_both}
 use Rattle.las_split.specs.Sorting.{FitAfter, HasRoom, InParts, LeavesBlock, LeavesPrefixes, SortsBlock, TakesBlock, Task, cut_all}
 use Rattle.las_split.specs.Splitting.{OpensTooMany}
 use Rattle.las_split.proofs.SortingPoints.{all_bytes, cut_length}

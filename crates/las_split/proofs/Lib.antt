@@ -1,22 +1,23 @@
-pub mod Buffers
-pub mod PartNaming
-pub mod PartLists
-pub mod PuttingFiles
-pub mod Changing
-pub mod Standing
-pub mod Opening
-pub mod Placing
-pub mod SortingPoints
-pub mod Runs
-pub mod PushedParts
-pub mod Blocks
-pub mod Splits
-pub mod Leaving
-pub mod EndingParts
-pub mod BatchesTaken
-pub mod WholeSplits
-pub mod Joining
-pub mod Examples
-pub mod SomeSplits
-pub mod SomeRecords
-pub mod OneWay
+mod Buffers
+mod PartNaming
+mod PartLists
+mod PuttingFiles
+mod Changing
+mod Standing
+mod Opening
+mod Placing
+mod SortingPoints
+mod Runs
+mod PushedParts
+mod Blocks
+mod Splits
+mod Leaving
+mod EndingParts
+mod BatchesTaken
+mod WholeSplits
+mod Joining
+mod Examples
+mod SomeSplits
+mod SomeRecords
+mod OneWay
+pub mod Public

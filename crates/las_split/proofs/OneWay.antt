@@ -10,12 +10,7 @@ use Rattle.laz_file.specs.Laws.{HasOneBlock, HasOneRecords}
 use Rattle.laz_file.specs.Pieces.{Piece}
 use Rattle.laz_file.specs.Records.{AreRead, AreRecordsOf, HoldBlocks}
 use Rattle.laz_file.specs.Refusing.{IsAcceptedFile}
-use Rattle.laz_file.proofs.Accepted.{accepted_is_head}
-use Rattle.laz_file.proofs.EvenBlocks.{even_of}
-use Rattle.laz_file.proofs.FirstPieces.{more_first}
-use Rattle.laz_file.proofs.OneAnswer.{one_pieces}
-use Rattle.laz_file.proofs.OneBlock.{begins-with, only-blocks}
-use Rattle.laz_file.proofs.Whole.{none_some, some_same}
+use Rattle.laz_file.proofs.Public.{accepted_is_head, even_of, more_first, one_pieces, begins-with, only-blocks, none_some, some_same}
 use Rattle.las_split.specs.Laws.{SplitsInOneWay}
 use Rattle.las_split.specs.Splitting.{EndsTooMany, HaveParts, SplitsTo, records_in_blocks}
 use Rattle.las_split.proofs.BatchesTaken.{head_some}

@@ -7,7 +7,7 @@ use Rattle.las_outside.specs.Outside.{Outside, with_bytes}
 use Rattle.laz_file.specs.declared.fault.Fault.{Fault}
 use Rattle.laz_file.specs.Outputs.{Output, front}
 use Rattle.laz_file.specs.Writing.{Stands, Stops, WriterSeen}
-use Rattle.laz_file.proofs.Taking.{held_after}
+use Rattle.laz_file.proofs.Public.{held_after}
 use Rattle.las_filter.specs.declared.rule.Rule.TheVariants.{Class}
 use Rattle.las_filter.specs.Parts.{part_name}
 use Rattle.las_split.specs.Outputs.{output_under}

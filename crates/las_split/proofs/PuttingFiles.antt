@@ -2,8 +2,7 @@
 use Rattle.std.proofs.Common.{◌≡◌, ◌≢◌, inl, inr, ℕ, Bool, true, false, cond, List, [], ◌∷◌, ◌++◌, Option, Some, None, refl, sym, ◌∙◌, ap}
 use Rattle.std.specs.FinMap as maps
 use Rattle.las_outside.specs.Files.{FileMap, with_file}
-use Rattle.las_outside.proofs.ByName.{get-with_value, same, same_named, same_or_not, same_other}
-use Rattle.las_outside.proofs.FileLaws.{with_file-twice}
+use Rattle.las_outside.proofs.Public.{get-with_value, same, same_named, same_or_not, same_other, with_file-twice}
 use Rattle.las_split.specs.Files.{with_files}
 
 -- no pair has this name

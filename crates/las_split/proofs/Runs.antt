@@ -9,8 +9,7 @@ use Rattle.las_filter.specs.declared.rule.Rule.{Rule}
 use Rattle.las_split.proofs.PartLists.{numbers-append}
 use Rattle.las_outside.specs.Files.{FileMap}
 use Rattle.laz_file.specs.Writing.{WriterSeen}
-use Rattle.laz_file.proofs.Blocks.{cut-joined}
-use Rattle.laz_file.proofs.Pushing.{cut-append}
+use Rattle.laz_file.proofs.Public.{cut-joined, cut-append}
 use Rattle.las_split.specs.declared.parts.Parts.{Parts}
 use Rattle.las_split.specs.Parts.{number_by, numbers_from}
 use Rattle.las_split.specs.Sorting.{AreGathered, HasRoom, InParts, LeavesBlock, LeavesPrefixes, SortsBlock, SortsPoint, Task, cut_all, text_of}

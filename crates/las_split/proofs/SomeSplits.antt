@@ -8,7 +8,7 @@ use Rattle.las_header.specs.declared.refusal.Refusal.TheVariants.{BadChunk, TooM
 use Rattle.laz_file.specs.Existing.{HasSomeRecords}
 use Rattle.laz_file.specs.Pieces.{Piece}
 use Rattle.laz_file.specs.Records.{AreRead, AreRecordsOf, HoldBlocks}
-use Rattle.laz_file.proofs.Existing.{and_then, there}
+use Rattle.laz_file.proofs.Public.{and_then, there}
 use Rattle.las_split.specs.Laws.{SplitsToSomething}
 use Rattle.las_split.specs.declared.limits.TheConstants.{MAX_PARTS}
 use Rattle.las_split.specs.Parts.{number_by, numbers_of_parts}

@@ -14,13 +14,7 @@ use Rattle.laz_file.specs.Copying.{AreOnlyRecords}
 use Rattle.laz_file.specs.Pieces.{ArePieces, Piece}
 use Rattle.laz_file.specs.Reading.{AreWholeBlocks, ReaderSeen, ReadsAll, StandsFor}
 use Rattle.laz_file.specs.Records.{AreRead, HoldBlocks, HoldOnly, IsBadPiece}
-use Rattle.laz_file.proofs.Copies.{even_whole}
-use Rattle.laz_file.proofs.FirstPieces.{fewer_first, hold_length, inside, more_first, no_length}
-use Rattle.laz_file.proofs.OneAnswer.{one_pieces}
-use Rattle.laz_file.proofs.Putting.{concat-append}
-use Rattle.laz_file.proofs.Pushing.{cut-append}
-use Rattle.laz_file.proofs.Whole.{not_bad_before}
-use Rattle.laz_file.proofs.WholeOutputs.{all_records, left_is as whole_left, records_before}
+use Rattle.laz_file.proofs.Public.{even_whole, fewer_first, hold_length, inside, more_first, no_length, one_pieces, concat-append, cut-append, not_bad_before, all_records, left_is as whole_left, records_before}
 use Rattle.las_split.specs.declared.limits.TheConstants.{MAX_PARTS}
 use Rattle.las_split.specs.Parts.{numbers_of_parts}
 use Rattle.las_split.specs.Sorting.{cut_all}

@@ -14,7 +14,7 @@ use Rattle.laz_file.specs.Copying.{HoldFirst}
 use Rattle.laz_file.specs.Reading.{ReaderSeen, ReadsAll, StandsFor}
 use Rattle.laz_file.specs.Records.{HoldOnly, IsBadPiece}
 use Rattle.laz_file.specs.Writing.{WriterSeen}
-use Rattle.laz_file.proofs.Knowing.{known_both, known_then}
+use Rattle.laz_file.proofs.Public.{known_both, known_then}
 use Rattle.las_split.specs.declared.limits.TheConstants.{MAX_PARTS}
 use Rattle.las_split.specs.Files.{with_files}
 use Rattle.las_split.specs.Outputs.{LeavesParts, all_stopped, outputs_under, part_files}

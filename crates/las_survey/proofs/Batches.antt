@@ -15,15 +15,10 @@ use Rattle.laz_file.specs.Reading.{ReaderSeen, ReadsAll, StandsFor, records_in}
 use Rattle.laz_file.specs.Records.{HoldOnly, IsBadPiece}
 use Rattle.laz_file.specs.Copying.{AreOnlyRecords, EndsAfter, HoldFirst}
 use Rattle.laz_file.specs.Outputs.{records_after}
-use Rattle.laz_file.proofs.Finishing.{no_records}
-use Rattle.laz_file.proofs.Knowing.{known_both}
-use Rattle.laz_file.proofs.WholeOutputs.{all_records, records_before, stands_ready}
+use Rattle.laz_file.proofs.Public.{no_records, known_both, all_records, records_before, stands_ready, HasRead, ReadsMore, concat_more, concat_rest, length_whole, read_more, records-append, cut-append, length-cut, concat-append}
 use Rattle.las_header.specs.declared.refusal.Refusal.{Refusal}
 use Rattle.las_header.specs.declared.refusal.Refusal.TheVariants.{BadChunk}
 use Rattle.las_header.specs.Heads.{HeadView}
-use Rattle.laz_file.proofs.Copies.{HasRead, ReadsMore, concat_more, concat_rest, length_whole, read_more, records-append}
-use Rattle.laz_file.proofs.Pushing.{cut-append, length-cut}
-use Rattle.laz_file.proofs.Putting.{concat-append}
 
 -- how many records bytes are
 abbrev pub count : (size : ℕ) → List ℕ → ℕ

@@ -8,7 +8,7 @@ use Rattle.std.proofs.lemmas.List.Folds.{list_any-append}
 use Rattle.las_filter.specs.Filters.{keeps_all}
 use Rattle.las_filter.specs.Changes.{changed}
 use Rattle.las_filter.specs.Kept.{Kept, Steps, kept, kept_of, kept_and}
-use Rattle.las_filter.proofs.Keeping.{grows}
+use Rattle.las_filter.proofs.Public.{grows}
 use Rattle.las_thin.specs.Placed.{Placed, placed, AreAscending}
 use Rattle.las_thin.specs.Sieving.{Settings, IsFirst, sifted, stays}
 use Rattle.las_thin.specs.Laws.{LaterChangesNothing}

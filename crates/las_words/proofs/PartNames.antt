@@ -11,7 +11,7 @@ use Rattle.std.proofs.lemmas.Slice.Eq.{bytes_eq-Decides, ends_is}
 use Rattle.std.proofs.lemmas.Str.{IsUtf8-from_ascii}
 use Rattle.std.proofs.lemmas.Bool.Decides.{Decides-eqb, nat_tests}
 use Rattle.las_filter.specs.Parts.{in_seven_digits, part_name}
-use Rattle.las_filter.proofs.PartNaming.{value_is}
+use Rattle.las_filter.proofs.Public.{value_is}
 use Rattle.las_words.specs.Numbers.{is_number, number_or_zero}
 use Rattle.las_words.specs.Names.{end_of, stem_of, number_within, is_part_name}
 use Rattle.las_words.proofs.Parsing.{own}

@@ -5,17 +5,15 @@ use Rattle.std.proofs.lemmas.List.{drop_at, length-drop, length-take-le, take_at
 use Rattle.laz_range.specs.Cut.{AreCuts}
 use Rattle.laz_range.specs.Span.{Fits, bytes_of, initial_span, span}
 use Rattle.laz_range.specs.Choice.{AllAsked}
-use Rattle.laz_range.proofs.Reach.{after-IsSpan, bytes-fit, initial_span-IsSpan}
-use Rattle.laz_range.proofs.Streams.{IsBytes-drop, IsBytes-take, after-few}
+use Rattle.laz_range.proofs.Public.{after-IsSpan, bytes-fit, initial_span-IsSpan, IsBytes-drop, IsBytes-take, after-few}
 use Rattle.laz_integer.specs.Events.{cuts_of}
-use Rattle.laz_integer.proofs.Bounds.{length-cuts}
+use Rattle.laz_integer.proofs.Public.{length-cuts, next_suc}
 use Rattle.laz_rgb.specs.Items.{latest_extra}
 use Rattle.laz_chunk.specs.Layouts.{Layout, most_events, record_length, room_for}
 use Rattle.laz_chunk.specs.Records.{Record, extras_of, records_in}
 use Rattle.laz_chunk.specs.Chunks.{AreRecords, History, Holds, IsSpelled, Spelling, chunk_bytes, count_of, first_of, further, grown, initial_history, joined, spelled_records, written}
 use Rattle.laz_chunk.proofs.Ends.{count-is, length-records, length-spelled, less-one}
 use Rattle.laz_chunk.proofs.Fields.{part-lengths}
-use Rattle.laz_integer.proofs.Products.{next_suc}
 use Rattle.laz_chunk.proofs.Lawful.{AreCuts-asked, cuts-joined, record-few}
 use Rattle.laz_chunk.proofs.Written.{points-first, written-records, written-spelled}
 

@@ -6,7 +6,7 @@ use Rattle.laz_range.specs.Choice.{AreAsked, all_cuts}
 use Rattle.laz_range.specs.Decoding.{Decoding, HasRead, Refuses, Takes}
 use Rattle.laz_range.specs.Span.{Begins, IsBytes, Span, after, bytes_of, span}
 use Rattle.laz_range.specs.Cut.{Cut, AreCuts}
-use Rattle.laz_range.proofs.Streams.{IsBytes-take}
+use Rattle.laz_range.proofs.Public.{IsBytes-take}
 use Rattle.laz_integer.specs.Events.{cuts_of}
 use Rattle.laz_chunk.specs.declared.items.Items.{Items}
 use Rattle.laz_chunk.specs.Layouts.{Layout, record_length}
@@ -16,7 +16,7 @@ use Rattle.laz_chunk.specs.Chunks.{AreRecords, History, Holds, IsSpelled, Spelli
 use Rattle.laz_chunk.proofs.Ends.{Streamed, holds-made, none-opened, none-read, one-read, only-made, read-streamed, streamed}
 use Rattle.laz_chunk.proofs.Lawful.{cuts-joined}
 use Rattle.laz_chunk.proofs.Written.{points-first}
-use Rattle.laz_integer.proofs.Lists.{two_lists}
+use Rattle.laz_integer.proofs.Public.{two_lists}
 
 -- The items stand for a first record.
 abbrev pub Started : Layout → List ℕ → Items → Type 0

@@ -1,11 +1,11 @@
 -- A record coded and read, part by part.
 use Rattle.std.proofs.Common.{◌≡◌, ℕ, ◌≤◌, List, ◌∷◌, ◌++◌, Option, length, take, drop, sym, subst}
 use Rattle.laz_range.specs.Coding.{Coding, Codes}
-use Rattle.laz_range.proofs.Whole.{Codes-append}
+use Rattle.laz_range.proofs.Public.{Codes-append}
 use Rattle.laz_range.specs.Decoding.{Decoding, Refuses}
 use Rattle.laz_range.specs.Span.{IsBytes}
 use Rattle.laz_integer.specs.Events.{Event, cuts_after}
-use Rattle.laz_integer.proofs.Named.{cuts_after-append}
+use Rattle.laz_integer.proofs.Public.{cuts_after-append}
 use Rattle.laz_point10.specs.declared.point.Point.{Point}
 use Rattle.laz_point10.specs.Points.{point_at}
 use Rattle.laz_point10.specs.PointEvents.{point_events}

@@ -7,12 +7,12 @@ use Rattle.laz_range.specs.Cut.{Cut, AreCuts}
 use Rattle.laz_range.specs.Span.{Begins, Fits, IsBytes, span}
 use Rattle.laz_range.specs.Choice.{AllAsked, AreAsked, all_cuts}
 use Rattle.laz_range.specs.Decoding.{Decoding, HasRead, Refuses, Takes}
-use Rattle.laz_range.proofs.Streams.{IsBytes-drop, none-fits, one-fits, read-fits, unopened-fits}
+use Rattle.laz_range.proofs.Public.{IsBytes-drop, none-fits, one-fits, read-fits, unopened-fits}
 use Rattle.laz_chunk.specs.Layouts.{Layout, record_length}
 use Rattle.laz_chunk.specs.Records.{Record, record_at, records_in}
 use Rattle.laz_chunk.specs.Chunks.{AreRecords, Holds, IsSpelled, Spelling, count_of, first_of, further, grown, initial_history, record_cuts, spelled_records}
 use Rattle.laz_chunk.proofs.Fields.{records-one}
-use Rattle.laz_integer.proofs.Lists.{by-parts}
+use Rattle.laz_integer.proofs.Public.{by-parts}
 use Rattle.laz_chunk.proofs.Lawful.{AreCuts-asked, cuts-joined}
 
 pub count-is : (l : Layout) (count : ℕ) (records : List ℕ) → length records ≡ record_length l * count → count_of l records ≡ count

@@ -8,16 +8,15 @@ use Rattle.byteorder.specs.Numbers.{little_from-lt}
 use Rattle.byteorder.proofs.Bytes.{from_le_bytes-put_mid8}
 use Rattle.las_header.specs.Numbers.{number_at}
 use Rattle.laz_range.specs.Span.{IsBytes}
-use Rattle.laz_range.proofs.Streams.{IsBytes-drop, IsBytes-take}
+use Rattle.laz_range.proofs.Public.{IsBytes-drop, IsBytes-take}
 use Rattle.laz_point10.specs.Points.{IsPoint, point_at}
-use Rattle.laz_point10.proofs.Parts.{parts-of-points}
+use Rattle.laz_point10.proofs.Public.{parts-of-points}
 use Rattle.laz_gpstime.specs.Times.{time_at}
 use Rattle.laz_rgb.specs.Colours.{colour_at, colour_bytes}
 use Rattle.laz_chunk.specs.Layouts.{Layout, colour_length, record_length, time_length}
 use Rattle.laz_chunk.specs.Records.{Record, colour_in, colour_part, extra_part, point_part, record_at, records_in, time_in, time_part}
 use Rattle.laz_chunk.specs.Stands.{IsRecord}
-use Rattle.laz_integer.proofs.Lists.{by-parts, no-elements}
-use Rattle.laz_integer.proofs.Products.{next_suc}
+use Rattle.laz_integer.proofs.Public.{by-parts, no-elements, next_suc}
 
 -- ---- what bytes give
 point-fits : (a : List ℕ) → IsBytes a → IsPoint (point_at a)

@@ -3,22 +3,21 @@ use Rattle.std.proofs.Common.{◌≡◌, ℕ, ◌^◌, ◌≤◌, if◌then◌el
 use Rattle.std.proofs.lemmas.Bool.{ne_eqb}
 use Rattle.laz_range.specs.Cut.{AreCuts}
 use Rattle.laz_range.specs.Choice.{AllAsked, all_cuts}
-use Rattle.laz_range.proofs.Decodings.{AreCuts-append}
+use Rattle.laz_range.proofs.Public.{AreCuts-append}
 use Rattle.laz_integer.specs.Events.{Event, Name, Role, Own, Width, ZeroOrOne, High, cuts_after, same_text}
 use Rattle.laz_integer.specs.Ranged.{AreRanged}
-use Rattle.laz_integer.proofs.Named.{cuts_after-append}
-use Rattle.laz_integer.proofs.Ranges.{AreCuts-ranged, AreRanged-append}
+use Rattle.laz_integer.proofs.Public.{cuts_after-append, AreCuts-ranged, AreRanged-append}
 use Rattle.laz_point10.specs.PointEvents.{changes_kind, intensity_kind, point_source_kind}
 use Rattle.laz_point10.specs.Items.{HasPointSizes}
-use Rattle.laz_point10.proofs.Lawful.{points-lawful}
+use Rattle.laz_point10.proofs.Public.{points-lawful}
 use Rattle.laz_gpstime.specs.Sequences as sequences
 use Rattle.laz_gpstime.specs.Meanings.{time_kind}
 use Rattle.laz_gpstime.specs.Items.{HasTimeSizes}
-use Rattle.laz_gpstime.proofs.Lawful.{times-lawful}
+use Rattle.laz_gpstime.proofs.Public.{times-lawful}
 use Rattle.laz_rgb.specs.declared.colour.Colour.{Colour}
 use Rattle.laz_rgb.specs.Colours.{rgb_kind}
 use Rattle.laz_rgb.specs.Items.{HasExtraSizes, HasRgbSizes, latest_colour, latest_extra}
-use Rattle.laz_rgb.proofs.Proved.{colours-lawful, extras-lawful}
+use Rattle.laz_rgb.proofs.Public.{colours-lawful, extras-lawful}
 use Rattle.laz_chunk.specs.Layouts.{Layout, most_events}
 use Rattle.laz_chunk.specs.Records.{ChunkPoint, Record, SpellsColourIf, SpellsRecord, SpellsTimeIf, extras_of}
 use Rattle.laz_chunk.specs.Chunks.{History, IsSpelled, Spelling, grown, joined, record_cuts}

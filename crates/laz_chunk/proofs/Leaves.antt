@@ -2,22 +2,22 @@
 use Rattle.std.proofs.Common.{◌≡◌, ℕ, Bool, true, false, List, [], ◌∷◌, ◌++◌, Option, Some, None, refl, sym, subst, ◌∙◌, append_assoc}
 use Rattle.laz_integer.specs.Events.{Event, same_text}
 use Rattle.laz_integer.specs.Uses.{AllSilent, Silent}
-use Rattle.laz_integer.proofs.Uses.{Silent-append, Silent-none, all-silent, first-other}
+use Rattle.laz_integer.proofs.Public.{Silent-append, Silent-none, all-silent, first-other}
 use Rattle.laz_point10.specs.Laws.{point_kinds}
 use Rattle.laz_point10.specs.PointEvents.{SpellsPoint}
 use Rattle.laz_point10.specs.Items.{PointStands}
 use Rattle.laz_point10.specs.declared.point.Point.{Point}
-use Rattle.laz_point10.proofs.Lawful.{others-leave_points, points-lawful}
+use Rattle.laz_point10.proofs.Public.{others-leave_points, points-lawful}
 use Rattle.laz_gpstime.specs.Sequences as sequences
 use Rattle.laz_gpstime.specs.Meanings.{time_kind}
 use Rattle.laz_gpstime.specs.Items.{point_with}
 use Rattle.laz_gpstime.specs.Slots.{TimeState}
-use Rattle.laz_gpstime.proofs.Lawful.{others-leave, points-hold, times-lawful}
+use Rattle.laz_gpstime.proofs.Public.{others-leave, points-hold, times-lawful}
 use Rattle.laz_rgb.specs.declared.colour.Colour.{Colour}
 use Rattle.laz_rgb.specs.Colours.{rgb_kind}
 use Rattle.laz_rgb.specs.Extra.{SpellsExtra, byte_kind}
 use Rattle.laz_rgb.specs.Items.{ExtraState, RgbState, latest_extra}
-use Rattle.laz_rgb.proofs.Proved.{colours-lawful, extras-lawful, others-leave_colours, others-leave_extras}
+use Rattle.laz_rgb.proofs.Public.{colours-lawful, extras-lawful, others-leave_colours, others-leave_extras}
 use Rattle.laz_chunk.specs.declared.items.Items.{Items}
 use Rattle.laz_chunk.specs.Records.{ChunkPoint, Record, SpellsColourIf, SpellsTimeIf, colours_of, extras_of, points_of, times_of}
 use Rattle.laz_chunk.specs.Stands.{ColoursStand, ExtrasStand, ItemsStand, TimesStand}

@@ -1,15 +1,16 @@
-pub mod Leaves
-pub mod Reading
-pub mod Whole
-pub mod Fields
-pub mod Written
-pub mod Lists
-pub mod Lawful
-pub mod Ends
-pub mod Coding
-pub mod Steps
-pub mod Chunk
-pub mod Bounds
-pub mod Lengths
+mod Leaves
+mod Reading
+mod Whole
+mod Fields
+mod Written
+mod Lists
+mod Lawful
+mod Ends
+mod Coding
+mod Steps
+mod Chunk
+mod Bounds
+mod Lengths
 mod Parting
 mod Examples
+pub mod Public

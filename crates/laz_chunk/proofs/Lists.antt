@@ -4,14 +4,12 @@ use Rattle.std.proofs.lemmas.List.{drop-drop, drop-take, drop_at, length-take-le
 use borrow.Rule.Slice.PartMut.{put_mid}
 use Rattle.laz_range.specs.Coding.{Coding, Codes}
 use Rattle.laz_range.specs.Choice.{all_cuts, state_after}
-use Rattle.laz_range.proofs.Loops.{all_cuts-push, state_after-push}
-use Rattle.laz_range.proofs.Whole.{Codes-append}
+use Rattle.laz_range.proofs.Public.{all_cuts-push, state_after-push, Codes-append}
 use Rattle.laz_chunk.specs.Layouts.{Layout, record_length}
 use Rattle.laz_chunk.specs.Records.{Record, record_at, records_in}
 use Rattle.laz_chunk.specs.Chunks.{History, Spelling, grown, record_cuts, spelled_records, writing, written}
-use Rattle.laz_integer.proofs.Products.{next_suc}
+use Rattle.laz_integer.proofs.Public.{next_suc, cons_same, take-front, two_lists}
 use Rattle.laz_chunk.proofs.Written.{written-push}
-use Rattle.laz_integer.proofs.Lists.{cons_same, take-front, two_lists}
 
 -- ---- the records in bytes
 pub records-more : (l : Layout) (i : ℕ) (a : List ℕ) → records_in l (suc i) a ≡ records_in l i a ++ record_at l (take (record_length l) (drop (record_length l * i) a)) ∷ []

@@ -4,15 +4,14 @@ use Rattle.std.proofs.lemmas.List.{take-append-drop, take_all}
 use Rattle.laz_range.specs.Span.{Begins, Fits, IsBytes, Span, span}
 use Rattle.laz_integer.specs.Events.{Event, cuts_of}
 use Rattle.laz_integer.specs.Ranged.{AreOneKind, AreRanged, IsRanged}
-use Rattle.laz_integer.proofs.Parting.{One, Part, as-one, made-one, none-one, then}
-use Rattle.laz_integer.proofs.Ranges.{AreRanged-append, AreRanged-front}
+use Rattle.laz_integer.proofs.Public.{One, Part, as-one, made-one, none-one, then, AreRanged-append, AreRanged-front}
 use Rattle.laz_point10.specs.declared.point.Point.{Point}
-use Rattle.laz_point10.proofs.Parting.{point-one}
+use Rattle.laz_point10.proofs.Public.{point-one}
 use Rattle.laz_gpstime.specs.Sequences as sequences
-use Rattle.laz_gpstime.proofs.Parting.{time-one}
+use Rattle.laz_gpstime.proofs.Public.{time-one}
 use Rattle.laz_rgb.specs.declared.colour.Colour.{Colour}
 use Rattle.laz_rgb.specs.Items.{latest_colour, latest_extra}
-use Rattle.laz_rgb.proofs.Parting.{colour-one, extra-one}
+use Rattle.laz_rgb.proofs.Public.{colour-one, extra-one}
 use Rattle.laz_chunk.specs.Layouts.{Layout, record_length}
 use Rattle.laz_chunk.specs.Records.{ChunkPoint, Record, SpellsColourIf, SpellsRecord, SpellsTimeIf, colours_of, extras_of, points_of, record_at, records_in, times_of}
 use Rattle.laz_chunk.specs.Chunks.{AreRecords, History, Holds, IsSpelled, Spelling, first_of, further, grown, initial_history, joined, spelled_records}

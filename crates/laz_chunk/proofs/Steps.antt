@@ -5,16 +5,14 @@ use Rattle.laz_range.specs.Coding.{Coding, Codes}
 use Rattle.laz_range.specs.Choice.{AreAsked, all_cuts, state_after}
 use Rattle.laz_range.specs.Decoding.{Decoding, Takes}
 use Rattle.laz_range.specs.Span.{IsBytes}
-use Rattle.laz_range.proofs.Composition.{Takes-step}
-use Rattle.laz_range.proofs.Loops.{state_after-push}
-use Rattle.laz_range.proofs.Streams.{IsBytes-drop, IsBytes-take}
+use Rattle.laz_range.proofs.Public.{Takes-step, state_after-push, IsBytes-drop, IsBytes-take}
 use Rattle.laz_chunk.specs.declared.items.Items.{Items}
 use Rattle.laz_chunk.specs.Layouts.{Layout, record_length}
 use Rattle.laz_chunk.specs.Records.{Record, record_at, records_in}
 use Rattle.laz_chunk.specs.Stands.{AreChunkPoints, ItemsStand, ReadsPart}
 use Rattle.laz_chunk.specs.Chunks.{History, IsSpelled, Spelling, grown, record_cuts, spelled_records, writing, written}
 use Rattle.laz_chunk.proofs.Lists.{after-push, codes-push, read-push, records-next}
-use Rattle.laz_integer.proofs.Products.{place-is, place-within}
+use Rattle.laz_integer.proofs.Public.{place-is, place-within}
 use Rattle.laz_chunk.proofs.Written.{points-more}
 
 abbrev pub part : ℕ → ℕ → List ℕ → List ℕ

@@ -2,8 +2,7 @@
 use Rattle.std.proofs.Common.{◌≡◌, ℕ, Bool, List, ◌++◌, length, take, drop, refl, sym, ap, ◌∙◌}
 use Rattle.std.proofs.lemmas.List.{drop_at, take_at}
 use Rattle.laz_range.specs.Decoding.{Decoding, Refuses, Takes}
-use Rattle.laz_range.proofs.Composition.{Takes-through}
-use Rattle.laz_range.proofs.Refusals.{Refuses-through}
+use Rattle.laz_range.proofs.Public.{Takes-through, Refuses-through}
 use Rattle.laz_integer.specs.Events.{Event}
 use Rattle.laz_point10.specs.declared.point.Point.{Point}
 use Rattle.laz_point10.specs.Points.{point_at}
@@ -14,7 +13,7 @@ use Rattle.laz_rgb.specs.Items.{latest_extra}
 use Rattle.laz_chunk.specs.Layouts.{Layout, colour_length, time_length}
 use Rattle.laz_chunk.specs.Records.{ChunkPoint, Record, SpellsColourIf, SpellsTimeIf, colour_in, colours_of, extras_of, points_of, record_at, time_in, times_of}
 use Rattle.laz_chunk.specs.Chunks.{History, IsSpelled, Spelling, record_cuts}
-use Rattle.laz_integer.proofs.Joins.{Both, both-first, both-second, both-takes}
+use Rattle.laz_integer.proofs.Public.{Both, both-first, both-second, both-takes}
 use Rattle.laz_integer.specs.Spelled.{spelled_cuts}
 
 -- ---- what spells each part

@@ -4,27 +4,27 @@ use Rattle.std.specs.Prelude.{All}
 use Rattle.std.proofs.lemmas.List.Elements.{All-cons, All-head, All-map, All-nil, All-weaker}
 use Rattle.laz_range.specs.Choice.{AllAsked, state_after}
 use Rattle.laz_range.specs.Span.{IsBytes}
-use Rattle.laz_range.proofs.Streams.{IsBytes-drop, IsBytes-take}
+use Rattle.laz_range.proofs.Public.{IsBytes-drop, IsBytes-take}
 use Rattle.std.proofs.lemmas.List.{length-drop, length-take-le}
 use Rattle.laz_integer.specs.Events.{Event}
 use Rattle.laz_point10.specs.Points.{IsPoint}
 use Rattle.laz_point10.specs.PointEvents.{point_events}
-use Rattle.laz_point10.proofs.Written.{points-spelled}
+use Rattle.laz_point10.proofs.Public.{points-spelled}
 use Rattle.laz_gpstime.specs.Sequences as sequences
 use Rattle.laz_gpstime.specs.Laws.{AreTimes}
 use Rattle.laz_gpstime.specs.Items.{point_with}
-use Rattle.laz_gpstime.proofs.Spelled.{times-spelled}
+use Rattle.laz_gpstime.proofs.Public.{times-spelled}
 use Rattle.laz_rgb.specs.declared.colour.Colour.{Colour}
 use Rattle.laz_rgb.specs.Colours.{colour_at, colour_bytes}
 use Rattle.laz_rgb.specs.Extra.{extra_events}
 use Rattle.laz_rgb.specs.Items.{latest_colour, latest_extra}
-use Rattle.laz_rgb.proofs.Proved.{colours-spelled, extras-spelled}
+use Rattle.laz_rgb.proofs.Public.{colours-spelled, extras-spelled}
 use Rattle.laz_chunk.specs.Layouts.{Layout, record_length}
 use Rattle.laz_chunk.specs.Records.{ChunkPoint, Record, SpellsColourIf, SpellsTimeIf, colour_events_if, colours_of, extras_of, points_of, record_at, records_in, time_events_if, times_of}
 use Rattle.laz_chunk.specs.Stands.{AreChunkPoints, IsRecord}
 use Rattle.laz_chunk.specs.Chunks.{History, IsSpelled, grown, initial_history, spelled_records, writing, written}
 use Rattle.laz_chunk.proofs.Fields.{part-lengths, record-fits}
-use Rattle.laz_integer.proofs.Products.{next_suc}
+use Rattle.laz_integer.proofs.Public.{next_suc}
 use Rattle.laz_chunk.proofs.Leaves.{Parts}
 
 -- ---- a record

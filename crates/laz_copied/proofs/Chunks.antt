@@ -12,8 +12,7 @@ use Rattle.laz_file.specs.Packing.{record_layout}
 use Rattle.laz_file.specs.Pieces.{ArePieces, ArePiecesIf, Piece, piece_bytes, pieces_from, whole_piece}
 use Rattle.laz_file.specs.Records.{HoldBlocks, HoldsBlock, HoldsChunk, HoldsIf}
 use Rattle.laz_file.specs.Refusing.{chunks_place}
-use Rattle.laz_file.proofs.Chunked.{whole_cut}
-use Rattle.laz_file.proofs.Sums.{sum-first}
+use Rattle.laz_file.proofs.Public.{whole_cut, sum-first}
 use Rattle.laz_copied.specs.Copied.{Chunk, bytes_in, chunk_at, counts_in}
 
 -- ---- chunks that hold blocks

@@ -14,7 +14,7 @@ use Rattle.laz_file.specs.Pieces.{ArePiecesIf, Piece, pieces_from}
 use Rattle.las_header.specs.Plain.{plain_head}
 use Rattle.laz_file.specs.Records.{AreRecordsOf, HoldBlocks}
 use Rattle.laz_file.specs.Refusing.{IsAcceptedFile, blocks_in, chunks_place}
-use Rattle.laz_file.proofs.OneAnswer.{one_pieces}
+use Rattle.laz_file.proofs.Public.{one_pieces}
 use Rattle.laz_copied.specs.Copied.{AreChunks, Chunk, HaveChunks, all_of, bytes_in, chunk_at, copied_file, copied_head, counts_in, points_in}
 use Rattle.laz_copied.specs.Laws.{CanBeCopied, CanCopy, HasTheirRecords, HaveBlocks, IsCopiedAccepted}
 use Rattle.laz_copied.proofs.Chunks.{AreGoodChunks, ChunksHold, counts_listed, good-append, hold-append, hold_in_file, hold_of_pieces, length_bytes, length_bytes_in, length_counts, no_chunks, sizes_listed, sum_counts-append}

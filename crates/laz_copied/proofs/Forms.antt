@@ -12,9 +12,7 @@ use Rattle.las_header.specs.Heads.{PacksHead}
 use Rattle.las_header.specs.Numbers.{number_at}
 use Rattle.las_header.specs.Plain.{plain_head, plain_of}
 use Rattle.las_header.specs.Refusals.{causes_of, first_cause, front_causes, head_causes}
-use Rattle.las_header.proofs.CauseLemmas.{front_decides, front_is_fine, packed_is_fine}
-use Rattle.las_header.proofs.ConditionLemmas.{IsFirst-append_none, IsFirst-tests}
-use Rattle.las_header.proofs.NumberLemmas.{number_at-drop, number_at-take, reads_back}
+use Rattle.las_header.proofs.Public.{front_decides, front_is_fine, packed_is_fine, IsFirst-append_none, IsFirst-tests, number_at-drop, number_at-take, reads_back}
 use Rattle.laz_table.specs.Chunks.{IsAccepted}
 use Rattle.laz_table.specs.Laws.{AreWords}
 use Rattle.laz_table.specs.Payload.{laszip_payload}
@@ -23,9 +21,7 @@ use Rattle.laz_table.specs.VlrCauses.{extra_of, vlr_causes}
 use Rattle.laz_file.specs.Packing.{packed_head, table_after}
 use Rattle.laz_file.specs.Pieces.{ArePieces, ArePiecesIf, pieces_from}
 use Rattle.laz_file.specs.Refusing.{IsAcceptedFile, blocks_in, chunk_causes, chunks_place, has_bad_pointer, has_last_pointer, table_end, table_part, table_place, tested_causes}
-use Rattle.laz_file.proofs.Chunked.{sum-lengths}
-use Rattle.laz_file.proofs.Packed.{both-fine, neither, not-below}
-use Rattle.laz_file.proofs.Payloads.{skip}
+use Rattle.laz_file.proofs.Public.{sum-lengths, both-fine, neither, not-below, skip}
 use Rattle.laz_copied.specs.Forms.{packed_form}
 
 -- some lists are not too long in all

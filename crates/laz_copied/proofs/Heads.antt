@@ -11,21 +11,15 @@ use Rattle.las_header.specs.Heads.{IsPlainOf, PacksHead}
 use Rattle.las_header.specs.Plain.{laszip_vlr, plain_of, without_vlr}
 use Rattle.las_header.specs.Refusals.{first_cause}
 use Rattle.las_header.specs.Vlrs.{laszip_vlrs_of, vlr_size, vlrs_end}
-use Rattle.las_header.proofs.CauseLemmas.{least_any}
-use Rattle.las_header.proofs.CountLemmas.{IsCounted, counted_head}
-use Rattle.las_header.proofs.LayoutLemmas.{IsRelaid, after_relaid, drop_part, front_relaid, layout_bytes, size_relaid}
-use Rattle.las_header.proofs.PackingLemmas.{CanPack, packs}
-use Rattle.las_header.proofs.UnpackingLemmas.{can_unpack, plains}
-use Rattle.las_header.proofs.VlrLemmas.{found_within, header_before}
+use Rattle.las_header.proofs.Public.{least_any, IsCounted, counted_head, IsRelaid, after_relaid, drop_part, front_relaid, layout_bytes, size_relaid, CanPack, packs, can_unpack, plains, found_within, header_before}
 use Rattle.laz_range.specs.Span.{IsBytes}
-use Rattle.laz_range.proofs.Streams.{IsBytes-drop, IsBytes-take}
+use Rattle.laz_range.proofs.Public.{IsBytes-drop, IsBytes-take}
 use Rattle.laz_table.specs.Payload.{laszip_payload}
 use Rattle.laz_table.specs.VlrCauses.{chunk_size_in, chunk_size_of, extra_of, payload_at, payload_causes, payload_of, vlr_causes}
-use Rattle.laz_table.proofs.TableBytes.{IsBytes-append, IsBytes-little}
-use Rattle.laz_table.proofs.VlrCauseLemmas.{payload-decides, payload-is, payload_within}
+use Rattle.laz_table.proofs.Public.{IsBytes-append, IsBytes-little, payload-decides, payload-is, payload_within}
 use Rattle.laz_chunk.specs.Layouts.{layout_of}
 use Rattle.laz_file.specs.Packing.{packed_head, record_layout}
-use Rattle.laz_file.proofs.Payloads.{payload-short}
+use Rattle.laz_file.proofs.Public.{payload-short}
 use Rattle.laz_copied.specs.Copied.{first_head, long_returns_in, points_in, returns_in}
 use Rattle.laz_copied.proofs.PackedFiles.{IsPackedFile}
 use Rattle.laz_copied.proofs.Payloads.{counted-chunk, counted-fine}

@@ -1,9 +1,10 @@
-pub mod Forms
-pub mod Tables
-pub mod Payloads
-pub mod Chunks
-pub mod PackedFiles
-pub mod Heads
-pub mod Copies
-pub mod Merged
+mod Forms
+mod Tables
+mod Payloads
+mod Chunks
+mod PackedFiles
+mod Heads
+mod Copies
+mod Merged
 mod Examples
+pub mod Public

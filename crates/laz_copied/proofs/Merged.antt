@@ -14,10 +14,7 @@ use Rattle.laz_chunk.specs.Layouts.{Layout, record_length}
 use Rattle.laz_file.specs.Outputs.{records_after}
 use Rattle.laz_file.specs.Packing.{record_layout}
 use Rattle.laz_file.specs.Records.{AreRecordsOf, Unpacks}
-use Rattle.laz_file.proofs.Blocks.{cut-joined, cut-length}
-use Rattle.laz_file.proofs.Fronts.{layout-length}
-use Rattle.laz_file.proofs.Pushing.{cut-append}
-use Rattle.laz_file.proofs.Putting.{concat-append}
+use Rattle.laz_file.proofs.Public.{cut-joined, cut-length, layout-length, cut-append, concat-append, sum-first}
 use Rattle.laz_table.specs.VlrCauses.{extra_of}
 use Rattle.laz_copied.specs.Copied.{AreChunks, Chunk, HaveChunks, all_of, copied_file, copied_head, counts_in, first_head, long_returns_in, points_in, returns_in, returns_to_15}
 use Rattle.laz_copied.specs.Laws.{AreRight, CanBeCopied, CanCopy, HasRightCounts, HaveBlocks, HaveBothSets, UnpacksToMerged}
@@ -25,7 +22,6 @@ use Rattle.laz_copied.proofs.Chunks.{ChunksHold}
 use Rattle.laz_copied.proofs.Copies.{copied_plain, copied_records, good_of_file, hold_one, layout_of_file}
 use Rattle.laz_copied.proofs.Heads.{plain_known}
 use Rattle.laz_copied.proofs.PackedFiles.{IsPackedFile, packed_file_known}
-use Rattle.laz_file.proofs.Sums.{sum-first}
 
 -- ---- the records of a file are as many as it counts
 hold-length : (l : Layout) (chunks : List Chunk) (blocks : List (List ℕ)) → ChunksHold l chunks blocks → length (concat blocks) ≡ record_length l * sum (counts_in chunks)

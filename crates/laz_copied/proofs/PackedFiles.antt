@@ -10,11 +10,9 @@ use Rattle.las_header.specs.Fields.{format_of, head_of, is_packed, minor_of, poi
 use Rattle.las_header.specs.Heads.{IsHead}
 use Rattle.las_header.specs.Refusals.{causes_of, first_cause, front_causes, head_causes}
 use Rattle.las_header.specs.Vlrs.{laszip_vlrs_of}
-use Rattle.las_header.proofs.CauseLemmas.{accepted_front, accepted_head, can_read, front_decides, is_head, least_any, none_first, points_fit}
-use Rattle.las_header.proofs.ConditionLemmas.{first_is_tested}
-use Rattle.las_header.proofs.NumberLemmas.{number_at-take}
+use Rattle.las_header.proofs.Public.{accepted_front, accepted_head, can_read, front_decides, is_head, least_any, none_first, points_fit, first_is_tested, number_at-take}
 use Rattle.laz_range.specs.Span.{IsBytes}
-use Rattle.laz_range.proofs.Streams.{IsBytes-take}
+use Rattle.laz_range.proofs.Public.{IsBytes-take}
 use Rattle.laz_table.specs.declared.chunks.Blocks.{Blocks}
 use Rattle.laz_table.specs.declared.chunks.Blocks.TheVariants.{Fixed, Counted}
 use Rattle.laz_table.specs.Chunks.{HasChunkSize, IsAccepted, IsChunkSize}
@@ -23,9 +21,7 @@ use Rattle.laz_table.specs.VlrCauses.{chunk_count, chunk_size_of, extra_of, is_b
 use Rattle.laz_file.specs.Pieces.{ArePieces, ArePiecesIf, Piece}
 use Rattle.laz_file.specs.Reading.{AreFewChunks, points_in}
 use Rattle.laz_file.specs.Refusing.{IsAcceptedFile, blocks_in, chunk_causes, chunks_place, has_bad_pointer, has_last_pointer, table_end, table_part, table_place, tested_causes}
-use Rattle.laz_file.proofs.Accepted.{IsFirst-none, both_none}
-use Rattle.laz_file.proofs.Accepting.{one_vlr}
-use Rattle.laz_file.proofs.TableFront.{accepted_lists, accepted_points}
+use Rattle.laz_file.proofs.Public.{IsFirst-none, both_none, one_vlr, accepted_lists, accepted_points}
 use Rattle.laz_copied.specs.Copied.{bytes_in, chunk_at}
 use Rattle.laz_copied.proofs.Chunks.{chunks_joined, piece_sizes, sizes_listed}
 use Rattle.laz_copied.proofs.Payloads.{IsPayload, payload_known}

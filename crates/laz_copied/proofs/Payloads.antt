@@ -9,11 +9,10 @@ use Rattle.byteorder.specs.Endian.{little_bytes}
 use Rattle.las_header.specs.declared.refusal.Refusal.TheVariants as cause
 use Rattle.las_header.specs.Numbers.{number_at}
 use Rattle.las_header.specs.Refusals.{first_cause}
-use Rattle.las_header.proofs.CauseLemmas.{none_first}
-use Rattle.las_header.proofs.NumberLemmas.{number_at-drop, reads_back}
+use Rattle.las_header.proofs.Public.{none_first, number_at-drop, reads_back}
 use Rattle.laz_table.specs.Payload.{Item, all_item_bytes, item_bytes, items_of, items_part, laszip_payload, payload_start}
 use Rattle.laz_table.specs.VlrCauses.{chunk_size_in, has_other_compressor, has_other_items, has_other_shape, is_bad_chunk_size, makes_many_chunks, payload_causes}
-use Rattle.laz_file.proofs.Payloads.{payload-short, skip}
+use Rattle.laz_file.proofs.Public.{payload-short, skip}
 
 length-items : (items : List Item) → length (all_item_bytes items) ≡ 6 * length items
 length-items [] = refl

@@ -8,7 +8,7 @@ use Rattle.byteorder.specs.Endian.{little_bytes}
 use Rattle.las_header.specs.declared.refusal.Refusal.{Refusal}
 use Rattle.las_header.specs.Conditions.{IsFirst}
 use Rattle.laz_range.specs.Span.{IsBytes, Span, initial_span, span}
-use Rattle.laz_range.proofs.Reach.{after-IsSpan, initial_span-IsSpan, last-within}
+use Rattle.laz_range.proofs.Public.{after-IsSpan, initial_span-IsSpan, last-within}
 use Rattle.laz_integer.specs.Events.{Event, cuts_of}
 use Rattle.laz_table.specs.declared.chunks.Blocks.{Blocks}
 use Rattle.laz_table.specs.declared.chunks.Blocks.TheVariants.{Fixed, Counted}
@@ -17,10 +17,8 @@ use Rattle.laz_table.specs.Entries.{Entry, Latest, SpellsEntries, after_entry, e
 use Rattle.laz_table.specs.Laws.{AreWords}
 use Rattle.laz_table.specs.Table.{HoldsEntries, TableHolds, stream_of, table_bytes}
 use Rattle.laz_table.specs.VlrCauses.{chunk_count}
-use Rattle.laz_table.proofs.TableBytes.{IsBytes-append, IsBytes-digits, IsBytes-little}
-use Rattle.laz_table.proofs.TableLaws.{AreEntries, cuts-lawful, entries-ranged, entries-spelled, holds-counted, one-held}
-use Rattle.laz_file.proofs.Blocks.{count-few}
-use Rattle.laz_file.proofs.Sums.{sum-first}
+use Rattle.laz_table.proofs.Public.{IsBytes-append, IsBytes-digits, IsBytes-little, AreEntries, cuts-lawful, entries-ranged, entries-spelled, holds-counted, one-held}
+use Rattle.laz_file.proofs.Public.{count-few, sum-first}
 
 -- ---- a table that is written has bytes
 counted-entries : (sizes counts : List ℕ) → length sizes ≡ length counts → AreWords sizes → AreWords counts → AreEntries (entries_of sizes counts)

@@ -8,11 +8,9 @@ use Rattle.las_header.specs.Fields.{head_of, is_packed, minor_of, point_offset_o
 use Rattle.las_header.specs.Heads.{IsHead}
 use Rattle.las_header.specs.Refusals.{causes_of, counted_size, first_cause, front_causes, head_causes, or_else}
 use Rattle.las_header.specs.Vlrs.{laszip_vlrs_of}
-use Rattle.las_header.proofs.CauseLemmas.{accepted_front, accepted_head, can_read, first_of_both, front_decides, is_head, least_any, points_fit}
-use Rattle.las_header.proofs.ConditionLemmas.{first_is_tested}
-use Rattle.las_header.proofs.NumberLemmas.{number_at-take}
+use Rattle.las_header.proofs.Public.{accepted_front, accepted_head, can_read, first_of_both, front_decides, is_head, least_any, points_fit, first_is_tested, number_at-take}
 use Rattle.laz_range.specs.Span.{IsBytes}
-use Rattle.laz_range.proofs.Streams.{IsBytes-drop, IsBytes-take}
+use Rattle.laz_range.proofs.Public.{IsBytes-drop, IsBytes-take}
 use Rattle.laz_table.specs.VlrCauses.{vlr_causes}
 use Rattle.laz_file.specs.Refusing.{IsAcceptedFile, has_bad_pointer, chunk_causes, tested_causes}
 

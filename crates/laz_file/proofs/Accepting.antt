@@ -8,9 +8,7 @@ use Rattle.las_header.specs.Conditions.{Condition, IsFirst, conditions}
 use Rattle.las_header.specs.Fields.{format_of, head_of, is_packed, minor_of, point_offset_of, points_of, record_length_of}
 use Rattle.las_header.specs.Heads.{HeadView}
 use Rattle.las_header.specs.Refusals.{causes_of, counted_size, first_cause, front_causes, head_causes, or_else}
-use Rattle.las_header.proofs.CauseLemmas.{IsAcceptedHead, IsFront, accepted_front, accepted_head, first_of_both, least_any, none_first}
-use Rattle.las_header.proofs.ConditionLemmas.{IsFirst-append_none, IsFirst-append_some, IsFirst-tests}
-use Rattle.las_header.proofs.NumberLemmas.{number_at-take}
+use Rattle.las_header.proofs.Public.{IsAcceptedHead, IsFront, accepted_front, accepted_head, first_of_both, least_any, none_first, IsFirst-append_none, IsFirst-append_some, IsFirst-tests, number_at-take}
 use Rattle.laz_table.specs.declared.chunks.Blocks.{Blocks}
 use Rattle.laz_table.specs.Chunks.{IsAccepted, table_causes}
 use Rattle.laz_table.specs.VlrCauses.{chunk_size_of, extra_of, is_counted, lacks_vlr, payload_causes, payload_of, vlr_causes}

@@ -8,13 +8,13 @@ use Rattle.laz_workers.specs.Numbers.{HoldsBelow, one_if}
 use Rattle.std.proofs.lemmas.Bool.Decides.{nat_tests}
 use Rattle.std.specs.Prelude.{nat_lt}
 use Rattle.std.proofs.Common.{true}
-use Rattle.las_header.proofs.NumberLemmas.{length_part}
+use Rattle.las_header.proofs.Public.{length_part}
 use Rattle.laz_file.proofs.InputLists.{lies_at, piece_at}
 use Rattle.laz_file.specs.Reading.{LiesIn}
 use Rattle.laz_workers.specs.Rooms.{RoomSeen, StandsIn, answer_in, number_of, numbers_in}
 use Rattle.laz_workers.specs.Run.{EveryInputFits}
 use Rattle.laz_workers.specs.Work.{HoldsAnswer}
-use Rattle.laz_workers.proofs.Standing.{answer_there}
+use Rattle.laz_workers.proofs.Public.{answer_there}
 use Rattle.laz_file.specs.Pieces.{Piece, piece_bytes, pieces_from, whole_piece}
 use Rattle.laz_file.specs.Reading.{StandInRooms}
 use Rattle.laz_file.specs.Unpacking.{FitsUnpacked, HoldsNone, HoldsOnly, IsInput, UnpackAnswer, chunk_in, count_in, unpack_input}

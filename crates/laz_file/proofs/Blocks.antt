@@ -6,7 +6,7 @@ use Rattle.std.proofs.Math.Nat.{div-eq_of_lt-le, lt-mul-div-succ, min-eq_left, m
 use Rattle.std.specs.List.{concat, range_with_len}
 use Rattle.las_header.specs.Plain.{cut_records}
 use Rattle.laz_range.specs.Span.{IsBytes}
-use Rattle.laz_range.proofs.Streams.{IsBytes-drop, IsBytes-take}
+use Rattle.laz_range.proofs.Public.{IsBytes-drop, IsBytes-take}
 use Rattle.laz_chunk.specs.Chunks.{AreRecords}
 use Rattle.laz_chunk.specs.Layouts.{Layout, record_length}
 use Rattle.laz_table.specs.Chunks.{fixed_sizes}

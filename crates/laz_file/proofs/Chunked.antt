@@ -10,14 +10,13 @@ use Rattle.las_header.specs.Conditions.{IsFirst}
 use Rattle.las_header.specs.Fields.{head_of, is_packed}
 use Rattle.laz_chunk.specs.Chunks.{AreRecords, Holds, chunk_bytes}
 use Rattle.laz_chunk.specs.Layouts.{Layout, most_events, record_length, room_for}
-use Rattle.laz_chunk.proofs.Bounds.{chunk-holds, chunk-most}
+use Rattle.laz_chunk.proofs.Public.{chunk-holds, chunk-most}
 use Rattle.laz_table.specs.declared.chunks.Blocks.TheVariants.{Fixed}
 use Rattle.laz_table.specs.Chunks.{HasTable, IsAccepted, fixed_sizes, table_causes}
 use Rattle.laz_table.specs.Laws.{AreWords}
 use Rattle.laz_table.specs.Table.{TableHolds, table_bytes}
 use Rattle.laz_table.specs.VlrCauses.{chunk_count}
-use Rattle.laz_table.proofs.TableBytes.{fixed-bytes}
-use Rattle.laz_table.proofs.TableLaws.{holds-fixed, one-held}
+use Rattle.laz_table.proofs.Public.{fixed-bytes, holds-fixed, one-held}
 use Rattle.laz_file.specs.Packing.{record_layout}
 use Rattle.laz_file.specs.Pieces.{piece_bytes, pieces_from, whole_piece}
 use Rattle.laz_file.specs.Records.{HoldBlocks, HoldsBlock, HoldsChunk, HoldsIf, cut_block}

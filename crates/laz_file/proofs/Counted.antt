@@ -8,11 +8,7 @@ use Rattle.las_header.specs.Fields.{format_byte_of, has_long_counts, format_of, 
 use Rattle.las_header.specs.Heads.{IsHead}
 use Rattle.las_header.specs.Plain.{laszip_vlr, with_layout, with_vlr}
 use Rattle.las_header.specs.Vlrs.{vlr_start, vlrs_end}
-use Rattle.las_header.proofs.CauseLemmas.{least_any, least_block}
-use Rattle.las_header.proofs.CountLemmas.{splice-layout}
-use Rattle.las_header.proofs.LayoutLemmas.{layout_bytes}
-use Rattle.las_header.proofs.NumberLemmas.{length-splice, number_at-splice, slice_index-splice}
-use Rattle.las_header.proofs.VlrLemmas.{SameIn-tail, header_before, vlr_start-same}
+use Rattle.las_header.proofs.Public.{least_any, least_block, splice-layout, layout_bytes, length-splice, number_at-splice, slice_index-splice, SameIn-tail, header_before, vlr_start-same}
 use Rattle.laz_file.proofs.Splices.{splice-splice}
 
 -- a part of a head after its layout and within its header

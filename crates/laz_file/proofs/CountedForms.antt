@@ -7,11 +7,11 @@ use Rattle.byteorder.specs.Endian.{little_bytes}
 use Rattle.las_header.specs.declared.counts.Counts.{Counts}
 use Rattle.las_header.specs.Counting.{counts_bytes, long_bytes, long_counts_bytes, long_returns, short_bytes, with_counts}
 use Rattle.las_header.specs.Fields.{has_long_counts, points_of, record_length_of}
-use Rattle.las_header.proofs.CountLemmas.{counted_head}
+use Rattle.las_header.proofs.Public.{counted_head}
 use Rattle.las_points.specs.Tally.{counts_of}
 use Rattle.laz_range.specs.Span.{IsBytes}
-use Rattle.laz_range.proofs.Streams.{IsBytes-drop, IsBytes-take}
-use Rattle.laz_table.proofs.TableBytes.{IsBytes-append, IsBytes-little}
+use Rattle.laz_range.proofs.Public.{IsBytes-drop, IsBytes-take}
+use Rattle.laz_table.proofs.Public.{IsBytes-append, IsBytes-little}
 use Rattle.laz_file.specs.Laws.{AreCounted}
 use Rattle.laz_file.specs.Outputs.{records_after}
 use Rattle.laz_file.proofs.Blocks.{cut-length}

@@ -8,7 +8,7 @@ use Rattle.std.proofs.lemmas.Bool.Decides.{nat_tests}
 use Rattle.las_header.specs.Fields.{record_length_of}
 use Rattle.laz_workers.specs.Numbers.{one_if, times}
 use Rattle.laz_workers.specs.Rooms.{RoomSeen, StandsIn, answer_in, number_of}
-use Rattle.laz_workers.proofs.RoomLists.{contains_head, contains_tail}
+use Rattle.laz_workers.proofs.Public.{contains_head, contains_tail}
 use Rattle.std.proofs.Math.Nat.{mul-le-mul_left}
 use Rattle.laz_file.specs.Pieces.{Piece, pieces_from, whole_piece}
 use Rattle.laz_file.specs.Reading.{AreCutFrom, HaveRoom, LendsIf, ReaderSeen, StandInRooms}

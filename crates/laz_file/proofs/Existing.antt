@@ -5,7 +5,7 @@ use Rattle.las_header.specs.declared.refusal.Refusal.{Refusal}
 use Rattle.las_header.specs.Conditions.{Condition, IsFirst, conditions}
 use Rattle.las_header.specs.Fields.{head_of, is_packed}
 use Rattle.laz_range.specs.Span.{IsBytes}
-use Rattle.laz_range.proofs.Streams.{IsBytes-drop, IsBytes-take}
+use Rattle.laz_range.proofs.Public.{IsBytes-drop, IsBytes-take}
 use Rattle.laz_table.specs.declared.chunks.Blocks.{Blocks}
 use Rattle.laz_table.specs.Chunks.{HasTable, IsAccepted, LacksTable, are_counted, sizes_of, table_causes}
 use Rattle.laz_table.specs.Laws.{IsOnlyOne}

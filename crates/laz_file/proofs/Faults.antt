@@ -4,7 +4,7 @@ use Rattle.std.specs.Prelude.{IsErrAnd}
 use Rattle.las_outside.specs.Faults.{Rose, count_after}
 use Rattle.las_outside.specs.Frames.{IsCalm}
 use Rattle.las_outside.specs.Outside.{Outside, with_bytes}
-pub use Rattle.las_outside.proofs.Frames.{later-trans}
+pub use Rattle.las_outside.proofs.Public.{later-trans}
 use Rattle.laz_file.specs.declared.fault.Fault.{Fault}
 use Rattle.laz_file.specs.declared.fault.Fault.TheVariants.{Refused, Read, Write, Memory}
 use Rattle.laz_file.specs.Writing.{SameFaults, Stops}

@@ -8,7 +8,7 @@ use Rattle.las_header.specs.Counting.{counts_bytes, long_counts_bytes, short_byt
 use Rattle.las_header.specs.Fields.{format_of, format_size, has_long_counts, record_length_of}
 use Rattle.las_header.specs.Heads.{IsHead}
 use Rattle.las_header.specs.Plain.{with_vlr}
-use Rattle.las_header.proofs.NumberLemmas.{length-splice}
+use Rattle.las_header.proofs.Public.{length-splice}
 use Rattle.las_points.specs.Tally.{counts_of}
 use Rattle.las_outside.specs.Files.{with_patch}
 use Rattle.las_outside.specs.Drafts.{Patch, with_patches}

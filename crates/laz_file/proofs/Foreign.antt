@@ -12,9 +12,9 @@ use Rattle.las_header.specs.declared.refusal.Refusal.TheVariants as cause
 use Rattle.las_header.specs.Conditions.{conditions}
 use Rattle.las_header.specs.Fields.{head_of}
 use Rattle.las_header.specs.Numbers.{number_at}
-use Rattle.las_header.proofs.ConditionLemmas.{IsFirst-append_none, IsFirst-tests}
+use Rattle.las_header.proofs.Public.{IsFirst-append_none, IsFirst-tests}
 use Rattle.laz_table.specs.Chunks.{IsAccepted, LacksTable}
-use Rattle.laz_chunk.proofs.Bounds.{chunk-least}
+use Rattle.laz_chunk.proofs.Public.{chunk-least}
 use Rattle.laz_file.specs.Pieces.{Piece, pieces_from, whole_piece}
 use Rattle.laz_file.specs.Records.{AreRecordsOf, HoldBlocks, HoldsBlock, Unpacks}
 use Rattle.laz_file.specs.Refusing.{IsAcceptedFile, IsRefusal, blocks_in, chunk_causes, chunks_place, table_part, table_place, tested_causes}

@@ -7,13 +7,10 @@ use Rattle.las_header.specs.Heads.{PacksHead}
 use Rattle.las_header.specs.Plain.{laszip_vlr}
 use Rattle.las_header.specs.Refusals.{first_cause}
 use Rattle.las_header.specs.Vlrs.{vlrs_end}
-use Rattle.las_header.proofs.CauseLemmas.{least_any}
-use Rattle.las_header.proofs.LayoutLemmas.{IsRelaid, after_relaid, drop_part}
-use Rattle.las_header.proofs.PackingLemmas.{CanPack, packs}
-use Rattle.las_header.proofs.VlrLemmas.{header_before}
+use Rattle.las_header.proofs.Public.{least_any, IsRelaid, after_relaid, drop_part, CanPack, packs, header_before}
 use Rattle.laz_table.specs.Payload.{laszip_payload}
 use Rattle.laz_table.specs.VlrCauses.{chunk_size_in, chunk_size_of, extra_of, payload_at, payload_causes, vlr_causes}
-use Rattle.laz_table.proofs.VlrCauseLemmas.{payload-decides, payload-is}
+use Rattle.laz_table.proofs.Public.{payload-decides, payload-is}
 use Rattle.laz_chunk.specs.Layouts.{layout_of, record_length}
 use Rattle.laz_file.specs.Packing.{packed_head, record_layout}
 use Rattle.laz_file.proofs.Accepted.{IsPlainFile}

@@ -9,8 +9,7 @@ use Rattle.las_header.specs.declared.vlrs.VlrPlace.{VlrPlace}
 use Rattle.las_header.specs.Vlrs.{laszip_vlrs_of}
 use Rattle.las_header.specs.Heads.{HeadView}
 use Rattle.las_header.specs.Refusals.{causes_of, first_cause, front_causes, head_causes, or_else}
-use Rattle.las_header.proofs.CauseLemmas.{accepted_head, first_of_both, front_decides}
-use Rattle.las_header.proofs.NumberLemmas.{number_at-take}
+use Rattle.las_header.proofs.Public.{accepted_head, first_of_both, front_decides, number_at-take}
 use Rattle.las_outside.specs.Files.{FileMap, WhereKnown}
 use Rattle.las_outside.specs.Outside.{Outside}
 use Rattle.laz_file.proofs.Knowing.{known_three}

@@ -6,9 +6,9 @@ use Rattle.std.proofs.lemmas.List.{get_or-set_same, get_or-set_other}
 use Rattle.std.proofs.lemmas.List.Sums.{sum_by-take-drop, sum_by_more}
 use Rattle.byteorder.specs.Endian.{little_bytes}
 use Rattle.las_header.specs.Numbers.{number_at}
-use Rattle.las_header.proofs.NumberLemmas.{reads_back}
+use Rattle.las_header.proofs.Public.{reads_back}
 use Rattle.laz_workers.specs.Work.{texts}
-use Rattle.laz_workers.proofs.Texts.{length-texts}
+use Rattle.laz_workers.proofs.Public.{length-texts}
 use Rattle.laz_file.specs.Pieces.{Piece, pieces_from, whole_piece}
 use Rattle.laz_file.specs.Reading.{LiesIn}
 use Rattle.laz_file.specs.Unpacking.{IsInput}

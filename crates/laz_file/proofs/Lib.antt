@@ -1,60 +1,61 @@
-pub mod Examples
-pub mod Splices
-pub mod Counted
-pub mod Blocks
-pub mod Sums
-pub mod Finished
-pub mod OneAnswer
-pub mod Existing
-pub mod Accepted
-pub mod Payloads
-pub mod Fronts
-pub mod Chunked
-pub mod Packed
-pub mod Whole
-pub mod PlainForms
-pub mod CountedForms
-pub mod Foreign
-pub mod Putting
-pub mod Rooms
-pub mod Cutting
-pub mod Standing
-pub mod Ending
-pub mod Faults
-pub mod Pushing
-pub mod Tallying
-pub mod Patching
-pub mod Finishing
-pub mod Arms
-pub mod Unasked
-pub mod Stopping
-pub mod Unpacking
-pub mod Knowing
-pub mod Filling
-pub mod Heads
-pub mod TableFront
-pub mod OpeningAsks
-pub mod PieceLists
-pub mod Kept
-pub mod Parts
-pub mod AllParts
-pub mod Opened
-pub mod Sought
-pub mod Asking
-pub mod LeftSizes
-pub mod Accepting
-pub mod Joins
-pub mod InputLists
-pub mod BatchAnswers
-pub mod Crews
-pub mod Taking
-pub mod FirstPieces
-pub mod Copies
-pub mod Endings
-pub mod Batches
-pub mod WholeOutputs
-pub mod RangeLaws
-pub mod Slices
-pub mod SliceLaw
-pub mod OneBlock
-pub mod EvenBlocks
+mod Examples
+mod Splices
+mod Counted
+mod Blocks
+mod Sums
+mod Finished
+mod OneAnswer
+mod Existing
+mod Accepted
+mod Payloads
+mod Fronts
+mod Chunked
+mod Packed
+mod Whole
+mod PlainForms
+mod CountedForms
+mod Foreign
+mod Putting
+mod Rooms
+mod Cutting
+mod Standing
+mod Ending
+mod Faults
+mod Pushing
+mod Tallying
+mod Patching
+mod Finishing
+mod Arms
+mod Unasked
+mod Stopping
+mod Unpacking
+mod Knowing
+mod Filling
+mod Heads
+mod TableFront
+mod OpeningAsks
+mod PieceLists
+mod Kept
+mod Parts
+mod AllParts
+mod Opened
+mod Sought
+mod Asking
+mod LeftSizes
+mod Accepting
+mod Joins
+mod InputLists
+mod BatchAnswers
+mod Crews
+mod Taking
+mod FirstPieces
+mod Copies
+mod Endings
+mod Batches
+mod WholeOutputs
+mod RangeLaws
+mod Slices
+mod SliceLaw
+mod OneBlock
+mod EvenBlocks
+pub mod Public

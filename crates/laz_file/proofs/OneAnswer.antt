@@ -2,7 +2,7 @@
 use Rattle.std.proofs.Common.{◌≡◌, ℕ, Bool, true, false, List, ◌++◌, sym, ap, ◌∙◌}
 use Rattle.las_header.specs.Conditions.{conditions}
 use Rattle.las_header.specs.Fields.{head_of, is_packed}
-use Rattle.las_header.proofs.ConditionLemmas.{IsFirst-one}
+use Rattle.las_header.proofs.Public.{IsFirst-one}
 use Rattle.laz_table.specs.Chunks.{sizes_of}
 use Rattle.laz_file.specs.Laws.{HasOnePieces, IsRefusedOnce}
 use Rattle.laz_file.specs.Pieces.{ArePiecesIf, Piece, pieces_from}

@@ -4,7 +4,7 @@ use Rattle.std.proofs.lemmas.Bool.{cases_lt}
 use Rattle.std.proofs.lemmas.List.{append-nil, take_all}
 use Rattle.las_header.specs.Fields.{head_of, is_packed}
 use Rattle.laz_range.specs.Span.{IsBytes}
-use Rattle.laz_range.proofs.Streams.{IsBytes-drop, IsBytes-take}
+use Rattle.laz_range.proofs.Public.{IsBytes-drop, IsBytes-take}
 use Rattle.laz_chunk.specs.Chunks.{AreRecords, Holds}
 use Rattle.laz_chunk.specs.Layouts.{Layout, record_length}
 use Rattle.laz_file.specs.Packing.{record_layout}

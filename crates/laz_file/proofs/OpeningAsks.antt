@@ -2,7 +2,7 @@
 use Rattle.std.proofs.Common.{◌≡◌, ℕ, ◌+◌, ◌-◌, ◌≤◌, min, List, [], length, take, drop, Option, refl, sym, ◌∙◌, ap, arith}
 use Rattle.std.specs.Prelude.{max}
 use Rattle.las_header.specs.Fields.{point_offset_of}
-use Rattle.las_header.proofs.NumberLemmas.{number_at-take}
+use Rattle.las_header.proofs.Public.{number_at-take}
 use Rattle.las_outside.specs.Files.{FileMap, WhereKnown}
 use Rattle.laz_file.specs.Asking.{asked_for_head}
 use Rattle.laz_file.specs.Reading.{table_size}

@@ -13,9 +13,7 @@ use Rattle.las_header.specs.Numbers.{number_at}
 use Rattle.las_header.specs.Plain.{cut_records, plain_head, plain_of, without_first}
 use Rattle.las_header.specs.Vlrs.{laszip_vlrs_of}
 use Rattle.las_header.specs.Refusals.{causes_of, first_cause, front_causes, head_causes, or_else}
-use Rattle.las_header.proofs.CauseLemmas.{first_of_both, front_decides, front_is_fine, packed_is_fine}
-use Rattle.las_header.proofs.ConditionLemmas.{IsFirst-append_none, IsFirst-tests}
-use Rattle.las_header.proofs.NumberLemmas.{number_at-drop, number_at-take, reads_back}
+use Rattle.las_header.proofs.Public.{first_of_both, front_decides, front_is_fine, packed_is_fine, IsFirst-append_none, IsFirst-tests, number_at-drop, number_at-take, reads_back}
 use Rattle.laz_chunk.specs.Chunks.{chunk_bytes}
 use Rattle.laz_chunk.specs.Layouts.{Layout, record_length}
 use Rattle.laz_table.specs.declared.chunks.Blocks.{Blocks}

@@ -10,7 +10,7 @@ use Rattle.las_header.specs.declared.refusal.Refusal.{Refusal}
 use Rattle.las_header.specs.declared.refusal.Refusal.TheVariants as cause
 use Rattle.las_header.specs.Numbers.{number_at}
 use Rattle.las_header.specs.Refusals.{first_cause}
-use Rattle.las_header.proofs.NumberLemmas.{number_at-drop, reads_back}
+use Rattle.las_header.proofs.Public.{number_at-drop, reads_back}
 use Rattle.laz_table.specs.Payload.{Item, all_item_bytes, item_bytes, item_if, items_of, items_part, laszip_payload, payload_start}
 use Rattle.laz_table.specs.VlrCauses.{chunk_count, chunk_size_in, has_other_compressor, has_other_items, has_other_shape, is_bad_chunk_size, is_counted, makes_many_chunks, payload_causes}
 

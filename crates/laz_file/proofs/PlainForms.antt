@@ -10,11 +10,9 @@ use Rattle.las_header.specs.Heads.{IsHead}
 use Rattle.las_header.specs.Numbers.{number_at}
 use Rattle.las_header.specs.Refusals.{causes_of, counted_size, ends_early, first_cause, front_causes, goes_on, has_bad_counts, has_bad_record_length, has_extended_vlrs, has_long_vlrs, has_other_format, has_stray_vlr, head_causes}
 use Rattle.las_header.specs.Vlrs.{laszip_vlrs_of, vlrs_end}
-use Rattle.las_header.proofs.CauseLemmas.{front_decides, front_is_fine}
-use Rattle.las_header.proofs.ConditionLemmas.{IsFirst-append_none, IsFirst-tests}
-use Rattle.las_header.proofs.NumberLemmas.{number_at-take}
+use Rattle.las_header.proofs.Public.{front_decides, front_is_fine, IsFirst-append_none, IsFirst-tests, number_at-take}
 use Rattle.laz_table.specs.VlrCauses.{vlr_causes}
-use Rattle.laz_table.proofs.TableBytes.{IsBytes-append}
+use Rattle.laz_table.proofs.Public.{IsBytes-append}
 use Rattle.laz_file.specs.Laws.{AreHeadAndRecords, CanBePacked, IsAcceptedPack, IsAcceptedPlain}
 use Rattle.laz_file.specs.Packing.{pack, packed_file}
 use Rattle.laz_file.specs.Records.{Unpacks}

@@ -6,7 +6,7 @@ use Rattle.std.proofs.lemmas.Bool.{ne_eqb}
 use Rattle.std.proofs.lemmas.List.Elements.{All-map, All-weaker}
 use Rattle.laz_chunk.specs.Layouts.{Format, Layout, colour_length, layout, most_events, record_length, room_for, time_length}
 use Rattle.laz_chunk.specs.Chunks.{count_of}
-use Rattle.laz_chunk.proofs.Ends.{count-is}
+use Rattle.laz_chunk.proofs.Public.{count-is}
 use Rattle.laz_workers.specs.Rooms.{HandSeen, lengths_of, rooms_of}
 use Rattle.laz_workers.specs.Run.{EveryInputFits}
 use Rattle.laz_file.specs.Writing.{CanPack, FitsRoom, IsBlock, Plan}

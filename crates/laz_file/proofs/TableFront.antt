@@ -7,12 +7,12 @@ use Rattle.std.proofs.lemmas.Bool.{cases_lt, cases_eq}
 use Rattle.las_header.specs.declared.refusal.Refusal.{Refusal}
 use Rattle.las_header.specs.Conditions.{IsFirst}
 use Rattle.las_header.specs.Numbers.{number_at}
-use Rattle.las_header.proofs.NumberLemmas.{number_at-take}
+use Rattle.las_header.proofs.Public.{number_at-take}
 use Rattle.laz_table.specs.declared.chunks.Blocks.{Blocks}
 use Rattle.laz_table.specs.declared.chunks.Blocks.TheVariants.{Fixed, Counted}
 use Rattle.laz_table.specs.Chunks.{HasChunkSize, HasOtherBytes, HasOtherPoints, HasTable, IsAccepted, IsChunkCount, are_counted, sizes_of, table_causes}
 use Rattle.laz_table.specs.Table.{TableHolds}
-use Rattle.laz_table.proofs.TableLaws.{front-holds}
+use Rattle.laz_table.proofs.Public.{front-holds}
 use Rattle.laz_file.specs.Reading.{AreChunkLists, AreFewChunks, points_in, table_size}
 use Rattle.laz_file.proofs.Sums.{sum-sizes}
 

@@ -8,7 +8,7 @@ use Rattle.las_header.specs.Fields.{record_length_of}
 use Rattle.las_outside.specs.Faults.{Rose}
 use Rattle.las_outside.specs.Files.{FileMap, WhereKnown, with_file}
 use Rattle.las_outside.specs.Outside.{Outside, with_bytes}
-use Rattle.las_outside.proofs.ByName.{get-with_value, same_other}
+use Rattle.las_outside.proofs.Public.{get-with_value, same_other}
 use Rattle.laz_chunk.specs.Chunks.{chunk_bytes}
 use Rattle.laz_file.specs.declared.fault.Fault.{Fault}
 use Rattle.laz_file.specs.declared.fault.Fault.TheVariants.{Refused, Read, Write, Memory}

@@ -4,10 +4,10 @@ use Rattle.std.specs.Int.{w32, cast_signed}
 use Rattle.std.proofs.lemmas.Bool.{cases_eq, cond-true, cond-false, eq-eqb, ne_eqb}
 use Rattle.laz_range.specs.Cut.{Cut, raw_cuts}
 use Rattle.laz_range.specs.Coding.{Coding, Codes}
-use Rattle.laz_range.proofs.Whole.{Codes-append}
+use Rattle.laz_range.proofs.Public.{Codes-append}
 use Rattle.laz_integer.specs.Events.{Event, cuts_after, raw_events}
 use Rattle.laz_integer.specs.Integer.{IntEvents}
-use Rattle.laz_integer.proofs.Named.{cuts_after-append, cuts-raw}
+use Rattle.laz_integer.proofs.Public.{cuts_after-append, cuts-raw}
 use Rattle.laz_gpstime.specs.Meanings.{time_kind}
 use Rattle.laz_gpstime.specs.Sequences.{time_difference}
 use Rattle.laz_gpstime.specs.Slots.{ModelsStand, TimeState}

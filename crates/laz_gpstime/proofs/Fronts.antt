@@ -4,7 +4,7 @@ use Rattle.std.proofs.lemmas.Bool.{cases_eq, cond-false, eq-eqb, ne_eqb}
 use Rattle.laz_range.specs.Cut.{Cut}
 use Rattle.laz_range.specs.Reading.{Reading, follow_all}
 use Rattle.laz_range.specs.Decoding.{Decoding, Refuses, Takes, TakesNone, reading_of}
-use Rattle.laz_range.proofs.Chain.{follows_both, follows_front, some_injective}
+use Rattle.laz_range.proofs.Public.{follows_both, follows_front, some_injective}
 use Rattle.laz_models.specs.Counting.{Counting}
 use Rattle.laz_integer.specs.Integer.{IntState}
 use Rattle.laz_gpstime.specs.declared.sequences.Sequences.{Sequences}

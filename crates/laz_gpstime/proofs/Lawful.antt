@@ -5,9 +5,7 @@ use Rattle.std.proofs.lemmas.List.{append-nil, length-append}
 use Rattle.laz_integer.specs.Events.{Event, Name, Own, Symbol, Flag, Bits, raw_events, same_name, same_text, symbols_under}
 use Rattle.laz_integer.specs.Ranged.{AreRanged, IsRanged}
 use Rattle.laz_integer.specs.Uses.{Silent, own_name}
-use Rattle.laz_integer.proofs.Bounds.{int-few, raw-few}
-use Rattle.laz_integer.proofs.Ranges.{AreRanged-append, int-ranged, raw-ranged}
-use Rattle.laz_integer.proofs.Uses.{Silent-append, Silent-int, Silent-none, Silent-other, Silent-raws}
+use Rattle.laz_integer.proofs.Public.{int-few, raw-few, AreRanged-append, int-ranged, raw-ranged, Silent-append, Silent-int, Silent-none, Silent-other, Silent-raws}
 use Rattle.laz_gpstime.specs.Items.{HasTimeSizes}
 use Rattle.laz_gpstime.specs.Laws.{OthersLeaveTimes, PointsHoldRecords, TimesAreLawful}
 use Rattle.laz_gpstime.specs.Meanings.{Meaning, extremes_after, is_new, meaning_in, meanings, meaning, sets, switch_in, time_kind}

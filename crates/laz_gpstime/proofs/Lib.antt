@@ -1,16 +1,17 @@
-pub mod Examples
-pub mod Meanings
-pub mod Slots
-pub mod Points
-pub mod Models
-pub mod Fronts
-pub mod Rests
-pub mod Coded
-pub mod Written
-pub mod Starts
-pub mod Lawful
-pub mod Spelled
-pub mod Spellings
-pub mod SpelledRests
+mod Examples
+mod Meanings
+mod Slots
+mod Points
+mod Models
+mod Fronts
+mod Rests
+mod Coded
+mod Written
+mod Starts
+mod Lawful
+mod Spelled
+mod Spellings
+mod SpelledRests
 mod Extremes
-pub mod Parting
+mod Parting
+pub mod Public

@@ -2,13 +2,10 @@ use Rattle.std.proofs.Common.{◌≡◌, ℕ, ◌+◌, ◌-◌, ◌%◌, ◌^◌
 use Rattle.std.proofs.lemmas.Bool.{cases_lt, cases_eq, cond-true, eq-eqb, ne_eqb, and_from, lt-ltb}
 use Rattle.laz_integer.specs.Events.{Event, Own, Symbol, Flag, Bits, symbols_under, same_name, raw_events}
 use Rattle.laz_integer.specs.Integer.{rest_events, corrector_events}
-use Rattle.laz_integer.proofs.Named.{same_text-refl, symbols_under-append, raw-wide, raw-short}
-use Rattle.laz_integer.proofs.Uses.{Silent-raws}
-use Rattle.laz_integer.proofs.Cases.{events-zero, events-most, events-narrow, events-wide}
+use Rattle.laz_integer.proofs.Public.{same_text-refl, symbols_under-append, raw-wide, raw-short, Silent-raws, events-zero, events-most, events-narrow, events-wide, cond-append}
 use Rattle.laz_gpstime.specs.Meanings.{Meaning, Multiple, Switch, meaning, meanings, meaning_in, switch_in, time_kind}
 use Rattle.laz_integer.specs.Uses.{own_name}
 use Rattle.laz_gpstime.specs.Times.{model_of, new_symbol, switch_events, time_symbol}
-use Rattle.laz_integer.proofs.Lists.{cond-append}
 
 -- ---- names
 pub same-time : (m : ℕ) → same_name (own_name time_kind m) (own_name time_kind m) ≡ true

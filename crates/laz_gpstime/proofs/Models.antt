@@ -13,9 +13,7 @@ use Rattle.laz_integer.specs.Events.{Event, raw_events, symbols_under}
 use Rattle.laz_integer.specs.Fields.{BankStands}
 use Rattle.laz_integer.specs.Integer.{IntEvents, IntSpell, IntState, IntStands, IsCorrector, bit_name, corrector_events, high_name, int_cuts, int_next, width_name}
 use Rattle.laz_integer.specs.Uses.{AllSilent, own_name}
-use Rattle.laz_integer.proofs.Named.{bits-symbol, cuts-raw, symbols-without, symbols_under-append}
-use Rattle.laz_integer.proofs.Pieces.{Piece, Piece-int, Piece-symbol}
-use Rattle.laz_integer.proofs.Uses.{Silent-raws, bank-silent, int-silent}
+use Rattle.laz_integer.proofs.Public.{bits-symbol, cuts-raw, symbols-without, symbols_under-append, Piece, Piece-int, Piece-symbol, Silent-raws, bank-silent, int-silent}
 use Rattle.laz_gpstime.specs.Choices.{symbol_next, time_symbol_cuts}
 use Rattle.laz_gpstime.specs.Meanings.{time_kind}
 use Rattle.laz_gpstime.specs.Slots.{IsTimeState, ModelsStand, TimeState, difference_of, symbols_after}

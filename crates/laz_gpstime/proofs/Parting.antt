@@ -5,7 +5,7 @@ use Rattle.std.specs.Int.{w32, cast_signed, cast_unsigned}
 use Rattle.laz_integer.specs.Events.{Event, raw_events}
 use Rattle.laz_integer.specs.Integer.{IntSpell}
 use Rattle.laz_integer.specs.Uses.{own_name}
-use Rattle.laz_integer.proofs.Parting.{One, as-one, int-one, made-one, raw-one, symbol-one, symbols-apart, then}
+use Rattle.laz_integer.proofs.Public.{One, as-one, int-one, made-one, raw-one, symbol-one, symbols-apart, then}
 use Rattle.laz_gpstime.specs.Meanings.{time_kind}
 use Rattle.laz_gpstime.specs.Sequences.{Point}
 use Rattle.laz_gpstime.specs.Spelling.{SpellsNear, SpellsNew, SpellsSame, SpellsTime, time_plus}

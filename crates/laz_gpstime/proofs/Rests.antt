@@ -7,18 +7,17 @@ use Rattle.std.proofs.lemmas.Int.{of_z-to_z}
 use Rattle.std.proofs.lemmas.List.{append-nil}
 use Rattle.laz_range.specs.Cut.{Cut, raw_cuts}
 use Rattle.laz_range.specs.Decoding.{Decoding, Refuses, Takes, TakesNone}
-use Rattle.laz_range.proofs.Composition.{Takes-empty, Takes-then, TakesNone-first, TakesNone-second}
+use Rattle.laz_range.proofs.Public.{Takes-empty, Takes-then, TakesNone-first, TakesNone-second, Refuses-none, Refuses-second}
 use Rattle.laz_models.specs.Counting.{Counting}
 use Rattle.laz_integer.specs.Corrector.{corrected, corrector}
 use Rattle.laz_integer.specs.Integer.{IntState, IsCorrector, int_cuts, int_next}
-use Rattle.laz_integer.proofs.Choices.{Takes-onto, TakesNone-onto}
+use Rattle.laz_integer.proofs.Public.{Takes-onto, TakesNone-onto}
 use Rattle.laz_gpstime.specs.Choices.{Choice, IsChoice, IsFront, IsRest, Front, Rest, choice_cuts, choice_next, choice_time, front_cuts, front_next, no_rest, rest_cuts, rest_next, rest_time, word_context, word_read}
 use Rattle.laz_gpstime.specs.Meanings.{New, meaning}
 use Rattle.laz_gpstime.specs.Spelling.{time_plus}
 use Rattle.laz_gpstime.specs.Slots.{TimeState, difference_of, slot_of, after_point}
 use Rattle.laz_gpstime.specs.Times.{context, model_of, new_symbol, predicted, same_symbol}
 use Rattle.laz_gpstime.specs.declared.sequences.Sequences.{Sequences}
-use Rattle.laz_range.proofs.Refusals.{Refuses-none, Refuses-second}
 use Rattle.laz_gpstime.proofs.Points.{new-is}
 
 -- ---- a word that is read

@@ -9,7 +9,7 @@ use Rattle.std.proofs.lemmas.Bool.{cases_lt, cases_eq, cond-true, cond-false, eq
 use Rattle.std.proofs.lemmas.Int.{of_z-to_z}
 use Rattle.std.proofs.lemmas.List.Elements.{All-head, All-tail}
 use Rattle.laz_integer.specs.Integer.{IntEvents, IntSpell, int_width}
-use Rattle.laz_integer.proofs.Writing.{spells-written}
+use Rattle.laz_integer.proofs.Public.{spells-written}
 use Rattle.laz_gpstime.specs.Laws.{AreTimes, TimesAreSpelled}
 use Rattle.laz_gpstime.specs.Meanings.{time_kind}
 use Rattle.laz_gpstime.specs.Sequences.{Point, time_difference, last_time, sequence}

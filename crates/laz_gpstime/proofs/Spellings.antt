@@ -3,15 +3,12 @@ use Rattle.std.proofs.Common.{◌≡◌, ℕ, ◌+◌, ◌<◌, ◌≤◌, List,
 use Rattle.std.proofs.lemmas.Bool.{cases_eq, cond-false, cond-true, eq-eqb, ne_eqb}
 use Rattle.laz_range.specs.Cut.{AreCuts, Cut, raw_cuts}
 use Rattle.laz_range.specs.Decoding.{Decoding, NoneBegins, Refuses, Takes}
-use Rattle.laz_range.proofs.Composition.{Takes-through}
-use Rattle.laz_range.proofs.Decodings.{Takes-ReadsOn, Takes-begins}
-use Rattle.laz_range.proofs.Refusals.{Refuses-NoneBegins, Refuses-through}
-use Rattle.laz_models.proofs.Banks.{sizes-set}
+use Rattle.laz_range.proofs.Public.{Takes-through, Takes-ReadsOn, Takes-begins, Refuses-NoneBegins, Refuses-through}
+use Rattle.laz_models.proofs.Public.{sizes-set}
 use Rattle.laz_integer.specs.Events.{Event, Name, raw_events}
 use Rattle.laz_integer.specs.Integer.{corrector_events, int_cuts, int_next}
 use Rattle.laz_integer.specs.Ranged.{AreRanged}
-use Rattle.laz_integer.proofs.Pieces.{Piece, Piece-none, Piece-then}
-use Rattle.laz_integer.proofs.Ranges.{AreCuts-ranged}
+use Rattle.laz_integer.proofs.Public.{Piece, Piece-none, Piece-then, AreCuts-ranged}
 use Rattle.laz_gpstime.specs.Choices.{Choice, IsChoice, IsRest, Rest, choice_cuts, choice_next, choice_time, rest_cuts, rest_next, state_on, switch_cuts, switch_next, symbol_next, time_symbol_cuts}
 use Rattle.laz_gpstime.specs.Items.{HasTimeSizes, IsSpelledTime, ReadsTime, TimeStands, point_with}
 use Rattle.laz_integer.specs.Spelled.{OneBegins, spelled_cuts}

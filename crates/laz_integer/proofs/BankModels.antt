@@ -5,7 +5,7 @@ use Rattle.laz_range.specs.Decoding.{Decoding, TakesNone}
 use Rattle.laz_models.specs.Counting.{Counting}
 use Rattle.laz_models.specs.Dist.{StandsFor, alphabet_size}
 use Rattle.laz_models.specs.Bank.{model_at, alphabet_sizes}
-use Rattle.laz_models.proofs.Banks.{size-at}
+use Rattle.laz_models.proofs.Public.{size-at}
 use Rattle.laz_integer.specs.Bytes.{AreByteModels, byte_difference, byte_plus}
 use Rattle.laz_integer.specs.Integer.{symbol_cut}
 

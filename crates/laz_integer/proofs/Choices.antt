@@ -7,8 +7,7 @@ use mir.Val.{bool_byte}
 use Rattle.laz_range.specs.Cut.{Cut, Bit, raw_cuts}
 use Rattle.laz_range.specs.Reading.{follow_all}
 use Rattle.laz_range.specs.Decoding.{Decoding, Takes, TakesNone, Reads, reading_of}
-use Rattle.laz_range.proofs.Chain.{same_pair}
-use Rattle.laz_range.proofs.Composition.{Takes-then, TakesNone-first, TakesNone-second, Takes-empty}
+use Rattle.laz_range.proofs.Public.{same_pair, Takes-then, TakesNone-first, TakesNone-second, Takes-empty}
 use Rattle.laz_integer.specs.Corrector.{choices}
 use Rattle.laz_integer.specs.Integer.{digit_cuts, digit_next, IntState, symbol_cut, high_at, symbol_next, flag_next, events_cuts, events_next}
 use Rattle.laz_integer.proofs.Cases.{events-zero, events-most, events-narrow, events-wide}

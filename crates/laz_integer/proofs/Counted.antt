@@ -3,7 +3,7 @@ use Rattle.std.proofs.Common.{◌≡◌, ℕ, ◌+◌, ◌-◌, ◌%◌, ◌^◌
 use Rattle.std.proofs.lemmas.Bool.{cases_lt}
 use Rattle.std.specs.List.{AllByRecursion}
 use Rattle.laz_range.specs.Cut.{AreCuts, IsCut}
-use Rattle.laz_range.proofs.Cuts.{raw_high}
+use Rattle.laz_range.proofs.Public.{raw_high}
 use Rattle.laz_models.specs.Bank.{model_at}
 use Rattle.laz_models.specs.Dist.{alphabet_size}
 use Rattle.laz_integer.specs.Corrector.{choices}

@@ -1,8 +1,7 @@
 -- Two spelled parts of a record, one after another, as one. Meant for the crates of chunks.
 use Rattle.std.proofs.Common.{◌≡◌, List, ◌++◌, refl, ap}
 use Rattle.laz_range.specs.Decoding.{Decoding, Refuses, Takes}
-use Rattle.laz_range.proofs.Composition.{Takes-then, Takes-through}
-use Rattle.laz_range.proofs.Refusals.{Refuses-first, Refuses-second, Refuses-through}
+use Rattle.laz_range.proofs.Public.{Takes-then, Takes-through, Refuses-first, Refuses-second, Refuses-through}
 use Rattle.laz_integer.specs.Events.{Event, cuts_after}
 use Rattle.laz_integer.specs.Spelled.{spelled_cuts}
 use Rattle.laz_integer.proofs.Named.{cuts_after-append}

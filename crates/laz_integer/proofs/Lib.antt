@@ -1,23 +1,24 @@
-pub mod SymbolParts
-pub mod Nears
-pub mod Cases
-pub mod Named
-pub mod Choices
-pub mod Correctors
-pub mod States
-pub mod Sounds
-pub mod Counted
-pub mod Uses
-pub mod Stood
-pub mod Bounds
-pub mod Spellings
-pub mod Pieces
-pub mod Ranges
-pub mod Writing
-pub mod Words
-pub mod Examples
-pub mod Lists
-pub mod Products
-pub mod BankModels
-pub mod Joins
-pub mod Parting
+mod SymbolParts
+mod Nears
+mod Cases
+mod Named
+mod Choices
+mod Correctors
+mod States
+mod Sounds
+mod Counted
+mod Uses
+mod Stood
+mod Bounds
+mod Spellings
+mod Pieces
+mod Ranges
+mod Writing
+mod Words
+mod Examples
+mod Lists
+mod Products
+mod BankModels
+mod Joins
+mod Parting
+pub mod Public

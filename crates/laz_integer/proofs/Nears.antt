@@ -5,13 +5,13 @@ use Rattle.std.proofs.lemmas.List.{get_or_default, get_or_past}
 use mir.Val.{bool_byte}
 use Rattle.laz_range.specs.Cut.{Cut, Part, symbol}
 use Rattle.laz_range.specs.Search.{AreTwo, part_of_two}
-use Rattle.laz_range.proofs.Distributions.{end-last, end-more, symbol-le}
+use Rattle.laz_range.proofs.Public.{end-last, end-more, symbol-le}
 use Rattle.laz_integer.proofs.SymbolParts.{IsDistribution-starts}
 use Rattle.laz_models.specs.Counting.{AreStarts}
 use Rattle.laz_models.specs.Lookup.{IsLastAt, start_or_guard}
 use Rattle.laz_models.specs.Near.{IsNear}
 use Rattle.laz_models.specs.declared.near.Near.{Near}
-use Rattle.laz_models.proofs.Lookups.{last_at}
+use Rattle.laz_models.proofs.Public.{last_at}
 
 inner : (n : ℕ) (starts : List ℕ) (k : ℕ) → AreStarts n starts → k < n → start_or_guard starts k ≡ get_or starts k 0
 inner n starts k are below = get_or_default starts k 65535 0 (omega (arith, are.length))

@@ -7,7 +7,7 @@ use Rattle.laz_range.specs.Cut.{Cut}
 use Rattle.laz_models.specs.Counting.{Counting, after_symbol, new_model}
 use Rattle.laz_models.specs.Dist.{alphabet_size}
 use Rattle.laz_models.specs.Bank.{model_at}
-use Rattle.laz_models.proofs.Banks.{StandsFor-push}
+use Rattle.laz_models.proofs.Public.{StandsFor-push}
 use Rattle.laz_integer.specs.Events.{Event, Symbol, same_text, same_name, symbols_under, cuts_after}
 use Rattle.laz_integer.specs.Integer.{IsInts, IntState, IsIntState, IntStands, IsCorrector, corrector_events, int_cuts, int_next, symbol_cut}
 use Rattle.laz_integer.specs.Uses.{own_name, Silent, AllSilent, absent, apart}

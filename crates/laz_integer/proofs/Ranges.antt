@@ -3,11 +3,10 @@ use Rattle.std.proofs.Common.{◌≡◌, ℕ, ◌+◌, ◌^◌, ◌<◌, ◌≤�
 use Rattle.std.proofs.lemmas.Bool.{cases_lt, eqb-true}
 use Rattle.laz_range.specs.Cut.{Cut, Bit, Raw, AreCuts, AreAlike, IsCut, symbol}
 use Rattle.laz_range.specs.Span.{Begins, span}
-use Rattle.laz_range.proofs.Distributions.{AreAlike-symbols}
-use Rattle.laz_range.proofs.Cuts.{raw_high}
+use Rattle.laz_range.proofs.Public.{AreAlike-symbols, raw_high}
 use Rattle.laz_models.specs.Counting.{AreStarts}
 use Rattle.laz_models.specs.Dist.{AreSymbols, dist}
-use Rattle.laz_models.proofs.Lists.{dist-AreStarts, p0-some, p0-below}
+use Rattle.laz_models.proofs.Public.{dist-AreStarts, p0-some, p0-below}
 use Rattle.laz_models.specs.BitDist.{p0_of}
 use Rattle.laz_integer.specs.Corrector.{choices}
 use Rattle.laz_integer.specs.Events.{Event, Symbol, Flag, Bits, Name, Role, Own, Width, ZeroOrOne, High, same_role, same_text, same_name, symbols_under, bits_under, cut_after, cuts_after, cuts_of, raw_events}

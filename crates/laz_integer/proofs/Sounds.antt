@@ -1,13 +1,11 @@
 use Rattle.std.proofs.Common.{◌≡◌, ℕ, ◌+◌, ◌-◌, ◌^◌, ◌<◌, ◌≤◌, min, List, length, map, sym, ◌∙◌, arith, subst, Bool, Result, Ok, Err, IfOk, OnErr}
 use Rattle.laz_models.specs.Counting.{Counting, new_model}
 use Rattle.laz_models.specs.BitCounting.{BitCounting, IsBitCounting, after_bit, new_bit_model}
-use Rattle.laz_models.proofs.Banks.{sizes-set}
+use Rattle.laz_models.proofs.Public.{sizes-set, AreSound-set, AreSound-new_model, IsBitCounting-after_bit, IsBitCounting-new_bit_model, sizes-new_model}
 use Rattle.laz_range.specs.Cut.{Cut}
 use Rattle.laz_range.specs.Decoding.{Decoding, Reads}
 use Rattle.laz_models.specs.Sound.{AreSound}
-use Rattle.laz_models.proofs.Sounds.{AreSound-set, AreSound-new_model, IsBitCounting-after_bit, IsBitCounting-new_bit_model}
 use Rattle.laz_integer.specs.Integer.{IntState, IsIntState, int_sizes, symbol_next, flag_next}
-use Rattle.laz_models.proofs.Layouts.{sizes-new_model}
 use Rattle.laz_integer.proofs.States.{models-count, width-size, high-size, high-in, sizes-range}
 
 -- ---- the models of an integer

@@ -7,7 +7,7 @@ use Rattle.laz_range.specs.Cut.{Cut, AreCuts}
 use Rattle.laz_range.specs.Span.{Begins, span}
 use Rattle.laz_range.specs.Coding.{Coding, Codes}
 use Rattle.laz_range.specs.Decoding.{Decoding, ReadsOn, Takes, TakesNone}
-use Rattle.laz_range.proofs.Decodings.{Takes-ReadsOn, TakesNone-NoneBegins, Takes-begins}
+use Rattle.laz_range.proofs.Public.{Takes-ReadsOn, TakesNone-NoneBegins, Takes-begins}
 use Rattle.laz_integer.specs.Corrector.{choices, corrected, corrector, difference, HasBits, width_of, corrector_index}
 use Rattle.laz_integer.specs.Events.{Event, cuts_after}
 use Rattle.laz_integer.specs.Integer.{IntState, IsIntState, IntStands, IntSpell, IntEvents, IsCorrector, ReadsCorrector, ReadsInt, NoInt, corrector_events, int_cuts, int_next}

@@ -8,8 +8,7 @@ use Rattle.laz_models.specs.BitCounting.{BitCounting, after_bit, new_bit_model}
 use Rattle.laz_models.specs.Dist.{StandsFor, alphabet_size}
 use Rattle.laz_models.specs.BitDist.{BitStandsFor}
 use Rattle.laz_models.specs.Bank.{model_at}
-use Rattle.laz_models.proofs.Banks.{StandsFor-push, StandsFor-new_model}
-use Rattle.laz_models.proofs.BitStand.{BitStandsFor-push, BitStandsFor-new_bit_model}
+use Rattle.laz_models.proofs.Public.{StandsFor-push, StandsFor-new_model, BitStandsFor-push, BitStandsFor-new_bit_model}
 use Rattle.laz_integer.specs.Corrector.{choices}
 use Rattle.laz_integer.specs.Events.{Event, Symbol, Flag, Name, Bits, Role, Own, Width, ZeroOrOne, High, symbols_under, bits_under, cut_after, cuts_after}
 use Rattle.laz_integer.specs.Integer.{IntState, IsInts, IsIntState, IntStands, width_name, bit_name, high_name, corrector_events, symbol_cut, high_at, symbol_next, flag_next, event_cut, event_next, events_cuts, events_next, int_cuts, int_next, int_sizes}

@@ -5,9 +5,7 @@ use Rattle.std.proofs.lemmas.List.Sums.{count_by_more_no, count_by_more_yes}
 use Rattle.std.proofs.Math.Seq.{take-length}
 use Rattle.laz_range.specs.Cut.{Part, AreCuts, IsLike, IsDistribution, one_event, symbol}
 use Rattle.laz_range.specs.Decoding.{Decoding, Takes, TakesNone, ReadsOn, NoneBegins}
-use Rattle.laz_range.proofs.Distributions.{IsLike-symbols, IsCut-symbol}
-use Rattle.laz_range.proofs.Events.{Takes-pull, TakesNone-pull}
-use Rattle.laz_range.proofs.Decodings.{Takes-ReadsOn, TakesNone-NoneBegins}
+use Rattle.laz_range.proofs.Public.{IsLike-symbols, IsCut-symbol, Takes-pull, TakesNone-pull, Takes-ReadsOn, TakesNone-NoneBegins}
 use Rattle.laz_models.specs.Counting.{Counting, AreStarts}
 use Rattle.laz_models.specs.Dist.{StandsFor, dist, alphabet_size}
 use Rattle.laz_models.specs.Lookup.{IsLastAt}

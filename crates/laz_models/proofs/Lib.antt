@@ -1,14 +1,15 @@
-pub mod BitParts
-pub mod BitStand
-pub mod Banks
-pub mod Cycling
+mod BitParts
+mod BitStand
+mod Banks
+mod Cycling
 mod Examples
-pub mod Layouts
-pub mod Lists
-pub mod Lookups
-pub mod Models
-pub mod Parts
-pub mod Places
-pub mod Sounds
-pub mod Stand
-pub mod Tables
+mod Layouts
+mod Lists
+mod Lookups
+mod Models
+mod Parts
+mod Places
+mod Sounds
+mod Stand
+mod Tables
+pub mod Public

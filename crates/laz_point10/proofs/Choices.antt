@@ -6,7 +6,7 @@ use Rattle.laz_integer.specs.Events.{Event, Symbol}
 use Rattle.laz_integer.specs.Uses.{own_name}
 use Rattle.laz_integer.specs.Integer.{corrector_events}
 use Rattle.laz_integer.specs.Fields.{IsByte, IsWord, SpellsByte, SpellsWord, byte_events, if_marked, word_value}
-use Rattle.laz_integer.proofs.Words.{word-made}
+use Rattle.laz_integer.proofs.Public.{word-made}
 use Rattle.laz_point10.specs.declared.point.Point.{Point}
 use Rattle.laz_point10.specs.declared.history.History.{History}
 use Rattle.laz_point10.specs.Points.{direction_bit, one_return}

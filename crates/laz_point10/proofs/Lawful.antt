@@ -5,9 +5,7 @@ use Rattle.laz_integer.specs.Events.{Event, Name, Symbol, same_text}
 use Rattle.laz_integer.specs.Uses.{Silent, absent, own_name}
 use Rattle.laz_integer.specs.Ranged.{AreRanged}
 use Rattle.laz_integer.specs.Fields.{SpellsByte, SpellsWord, byte_events}
-use Rattle.laz_integer.proofs.Bounds.{byte-few, int-few, word-few}
-use Rattle.laz_integer.proofs.Ranges.{AreRanged-append, byte-ranged, int-ranged, word-ranged}
-use Rattle.laz_integer.proofs.Uses.{Silent-append, Silent-int, Silent-none, Silent-other, bank-silent, first-other, int-silent}
+use Rattle.laz_integer.proofs.Public.{byte-few, int-few, word-few, AreRanged-append, byte-ranged, int-ranged, word-ranged, Silent-append, Silent-int, Silent-none, Silent-other, bank-silent, first-other, int-silent}
 use Rattle.laz_point10.specs.declared.point.Point.{Point}
 use Rattle.laz_point10.specs.PointEvents.{SpellsPoint, changes_kind, classification_kind, flags_kind, intensity_kind, point_source_kind, scan_angle_kind, user_data_kind, x_kind, y_kind, z_kind}
 use Rattle.laz_point10.specs.Items.{HasPointSizes}

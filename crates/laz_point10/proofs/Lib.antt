@@ -1,13 +1,14 @@
-pub mod Maps
-pub mod Medians
-pub mod Histories
-pub mod Parts
-pub mod Takings
-pub mod PointTakings
-pub mod PointPieces
-pub mod Choices
-pub mod Lawful
-pub mod Standing
-pub mod Written
-pub mod Examples
-pub mod Parting
+mod Maps
+mod Medians
+mod Histories
+mod Parts
+mod Takings
+mod PointTakings
+mod PointPieces
+mod Choices
+mod Lawful
+mod Standing
+mod Written
+mod Examples
+mod Parting
+pub mod Public

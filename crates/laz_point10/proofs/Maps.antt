@@ -1,7 +1,7 @@
 -- The map of returns: where it has a flag byte, and that its numbers are below 16.
 use Rattle.std.proofs.Common.{◌≡◌, ℕ, zero, suc, ◌+◌, ◌*◌, ◌/◌, ◌%◌, ◌<◌, ltb, Bool, true, ◌&&◌, List, [], ◌∷◌, length, get_or, refl, ap, arith, ltb-true}
 use Rattle.laz_point10.specs.Points.{return_level, return_map, map_rows}
-use Rattle.laz_integer.proofs.Uses.{both_true}
+use Rattle.laz_integer.proofs.Public.{both_true}
 
 all_below : ℕ → List ℕ → Bool
 all_below n [] = true

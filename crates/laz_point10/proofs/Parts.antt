@@ -7,12 +7,11 @@ use Rattle.std.proofs.lemmas.Bool.{cases_eq}
 use Rattle.std.proofs.lemmas.List.{append-nil}
 use Rattle.byteorder.specs.Endian.{little_from}
 use Rattle.byteorder.specs.Numbers.{little_number-reads_back, little_from-lt}
-use Rattle.laz_integer.proofs.Spellings.{word_of}
+use Rattle.laz_integer.proofs.Public.{word_of, cons_same}
 use Rattle.las_header.specs.Numbers.{number_at}
 use Rattle.laz_point10.specs.declared.point.Point.{Point}
 use Rattle.laz_point10.specs.Points.{point_at}
 use Rattle.laz_point10.specs.Laws.{ArePart, PartsAreOfPoints}
-use Rattle.laz_integer.proofs.Lists.{cons_same}
 
 same-fields : (x x2 y y2 z z2 : ℤ) (a a2 b b2 c c2 d d2 e e2 f f2 : ℕ) → x ≡ x2 → y ≡ y2 → z ≡ z2 → a ≡ a2 → b ≡ b2 → c ≡ c2 → d ≡ d2 → e ≡ e2 → f ≡ f2
     → (let q : Point = record { x = x; y = y; z = z; intensity = a; flags = b; classification = c; scan_angle = d; user_data = e; point_source = f } in q)

@@ -4,8 +4,7 @@ use Rattle.std.specs.Int.{w32, int_wrapping_sub}
 use Rattle.laz_models.specs.Counting.{Counting}
 use Rattle.laz_integer.specs.Integer.{IntState, IntStands, IsCorrector, IsInts, corrector_events}
 use Rattle.laz_integer.specs.Fields.{BankStands, IsByte, IsWord, byte_cuts, byte_events, byte_next, if_marked, word_corrector, word_cuts, word_next}
-use Rattle.laz_integer.proofs.Pieces.{Piece, Piece-both, Piece-byte, Piece-int, Piece-symbol, Piece-word}
-use Rattle.laz_integer.proofs.Writing.{IsCorrector-written}
+use Rattle.laz_integer.proofs.Public.{Piece, Piece-both, Piece-byte, Piece-int, Piece-symbol, Piece-word, IsCorrector-written, byte-model, first-model}
 use Rattle.laz_point10.specs.declared.point.Point.{Point}
 use Rattle.laz_point10.specs.declared.history.Predictions.{Predictions}
 use Rattle.laz_point10.specs.declared.history.History.{History}
@@ -21,7 +20,6 @@ use Rattle.laz_point10.specs.Groups.{HeadChoice, head_cuts, head_next, AreHeadMo
 use Rattle.laz_integer.specs.Bytes.{AreByteModels}
 use Rattle.laz_point10.specs.Coded.{AreModels, HeadStands, SurfaceStands, ScanStands, PlaceStands, ModelsStand, PointChoice, IsPointChoice, choice_cuts, choice_events, choice_next, head_events, surface_events, scan_events, place_events, predicted, choice_written}
 use Rattle.laz_point10.specs.Laws.{point_kinds}
-use Rattle.laz_integer.proofs.BankModels.{byte-model, first-model}
 
 -- ---- a field that is coded if it is marked: what can be coded of it
 abbrev pub MayByte : Bool → ℕ → Type 0

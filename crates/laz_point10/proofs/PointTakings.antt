@@ -2,7 +2,7 @@
 use Rattle.std.proofs.Common.{◌≡◌, List, ◌++◌}
 use Rattle.laz_range.specs.Cut.{Cut}
 use Rattle.laz_range.specs.Decoding.{Decoding, Takes, TakesNone}
-use Rattle.laz_range.proofs.Composition.{Takes-then, TakesNone-first, TakesNone-second}
+use Rattle.laz_range.proofs.Public.{Takes-then, TakesNone-first, TakesNone-second}
 use Rattle.laz_point10.specs.declared.history.History.{History}
 use Rattle.laz_point10.specs.declared.models.HeadModels.{HeadModels}
 use Rattle.laz_point10.specs.declared.models.SurfaceModels.{SurfaceModels}

@@ -4,13 +4,10 @@ use Rattle.std.proofs.Common.{◌≡◌, ℕ, List, ◌∷◌, ◌++◌, sym, ap
 use Rattle.laz_range.specs.Coding.{Coding, Codes}
 use Rattle.laz_range.specs.Cut.{AreCuts, Cut}
 use Rattle.laz_range.specs.Decoding.{Decoding, NoneBegins, Refuses, Takes, TakesNone}
-use Rattle.laz_range.proofs.Composition.{Takes-through, TakesNone-through}
-use Rattle.laz_range.proofs.Decodings.{Takes-ReadsOn, Takes-begins}
-use Rattle.laz_range.proofs.Refusals.{Refuses-none, Refuses-NoneBegins}
+use Rattle.laz_range.proofs.Public.{Takes-through, TakesNone-through, Takes-ReadsOn, Takes-begins, Refuses-none, Refuses-NoneBegins}
 use Rattle.laz_integer.specs.Events.{Event, Name, cuts_after}
 use Rattle.laz_integer.specs.Ranged.{AreRanged}
-use Rattle.laz_integer.proofs.Pieces.{Piece}
-use Rattle.laz_integer.proofs.Ranges.{AreCuts-ranged}
+use Rattle.laz_integer.proofs.Public.{Piece, AreCuts-ranged}
 use Rattle.laz_point10.specs.declared.point.Point.{Point}
 use Rattle.laz_point10.specs.declared.history.Predictions.{Predictions}
 use Rattle.laz_point10.specs.declared.history.History.{History}

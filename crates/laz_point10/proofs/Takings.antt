@@ -5,11 +5,11 @@ use Rattle.std.specs.Int.{w32, cast_signed, cast_unsigned}
 use Rattle.laz_range.specs.Cut.{Cut}
 use Rattle.laz_range.specs.Coding.{Coding, Codes}
 use Rattle.laz_range.specs.Decoding.{Decoding, Takes, TakesNone}
-use Rattle.laz_range.proofs.Composition.{Takes-then, TakesNone-first, TakesNone-second}
+use Rattle.laz_range.proofs.Public.{Takes-then, TakesNone-first, TakesNone-second}
 use Rattle.laz_models.specs.Counting.{Counting}
 use Rattle.laz_integer.specs.Corrector.{corrected}
 use Rattle.laz_integer.specs.Integer.{IntState, IsCorrector, int_cuts, int_next, int_width}
-use Rattle.laz_integer.proofs.Spellings.{corrected-passed}
+use Rattle.laz_integer.proofs.Public.{corrected-passed}
 use Rattle.laz_point10.specs.declared.history.Predictions.{Predictions}
 use Rattle.laz_point10.specs.declared.models.SurfaceModels.{SurfaceModels}
 use Rattle.laz_point10.specs.declared.models.ScanModels.{ScanModels}

@@ -8,9 +8,7 @@ use Rattle.std.proofs.lemmas.Bool.{cases_eq, eq-eqb}
 use Rattle.std.proofs.Math.Facts.{sfits_to_z}
 use Rattle.laz_integer.specs.Integer.{IntEvents, IntSpell, int_width}
 use Rattle.laz_integer.specs.Fields.{SpellsByte, SpellsWord, byte_events, if_marked, word_events}
-use Rattle.laz_integer.proofs.Spellings.{word_of}
-use Rattle.laz_integer.proofs.Words.{word-bits, word-fits}
-use Rattle.laz_integer.proofs.Writing.{spells-written}
+use Rattle.laz_integer.proofs.Public.{word_of, word-bits, word-fits, spells-written}
 use Rattle.laz_point10.specs.declared.point.Point.{Point}
 use Rattle.laz_point10.specs.declared.median.Median.{Median}
 use Rattle.laz_point10.specs.declared.history.Predictions.{Predictions}

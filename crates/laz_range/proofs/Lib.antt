@@ -1,25 +1,26 @@
-pub mod Numbers
-pub mod Spans
-pub mod Cuts
-pub mod Reach
-pub mod Refills
-pub mod Begin
-pub mod Other
-pub mod Whole
-pub mod Chain
-pub mod Loops
-pub mod Decodings
-pub mod Ahead
-pub mod Ends
-pub mod Reciprocals
-pub mod Events
-pub mod Distributions
-pub mod Choosing
-pub mod Renewals
-pub mod Examples
-pub mod Composition
-pub mod Refusals
-pub mod Streams
-pub mod Fronts
-pub mod Windows
-pub mod LastWords
+mod Numbers
+mod Spans
+mod Cuts
+mod Reach
+mod Refills
+mod Begin
+mod Other
+mod Whole
+mod Chain
+mod Loops
+mod Decodings
+mod Ahead
+mod Ends
+mod Reciprocals
+mod Events
+mod Distributions
+mod Choosing
+mod Renewals
+mod Examples
+mod Composition
+mod Refusals
+mod Streams
+mod Fronts
+mod Windows
+mod LastWords
+pub mod Public

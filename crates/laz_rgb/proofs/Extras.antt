@@ -7,11 +7,7 @@ use Rattle.laz_range.specs.Reading.{Reading}
 use Rattle.laz_range.specs.Choice.{AllAsked, AreAsked, Only, all_cuts, state_after}
 use Rattle.laz_range.specs.Coding.{Coding, Codes}
 use Rattle.laz_range.specs.Decoding.{Decoding, NoneBegins, Refuses, Takes, TakesNone, reading_of}
-use Rattle.laz_range.proofs.Loops.{Nothing-more, Nothing-push, Only-push, all_cuts-push, state_after-push}
-use Rattle.laz_range.proofs.Composition.{Takes-step, Takes-through}
-use Rattle.laz_range.proofs.Decodings.{Takes-ReadsOn, Takes-begins}
-use Rattle.laz_range.proofs.Refusals.{Refuses-NoneBegins, Refuses-none, Refuses-step, Refuses-through}
-use Rattle.laz_range.proofs.Whole.{Codes-append}
+use Rattle.laz_range.proofs.Public.{Nothing-more, Nothing-push, Only-push, all_cuts-push, state_after-push, Takes-step, Takes-through, Takes-ReadsOn, Takes-begins, Refuses-NoneBegins, Refuses-none, Refuses-step, Refuses-through, Codes-append}
 use Rattle.laz_models.specs.Counting.{Counting}
 use Rattle.laz_models.specs.Dist.{alphabet_size}
 use Rattle.laz_models.specs.Bank.{model_at, alphabet_sizes}
@@ -19,8 +15,7 @@ use Rattle.laz_integer.specs.Events.{Event, Name, cuts_after}
 use Rattle.laz_integer.specs.Ranged.{AreRanged}
 use Rattle.laz_integer.specs.Fields.{BankStands, IsByte, byte_cuts, byte_next}
 use Rattle.laz_integer.specs.Uses.{own_name}
-use Rattle.laz_integer.proofs.Ranges.{AreCuts-ranged}
-use Rattle.laz_integer.proofs.Pieces.{Piece}
+use Rattle.laz_integer.proofs.Public.{AreCuts-ranged, Piece}
 use Rattle.laz_rgb.specs.Rows.{AreRowModels, IsNext, IsRow, Row, byte_of, first_mark, next_cuts, next_row, row_at, row_events}
 use Rattle.laz_integer.specs.Bytes.{byte_difference}
 use Rattle.laz_rgb.specs.Extra.{SpellsExtra, all_marked, byte_kind, extra_events, extra_made, extra_symbols}

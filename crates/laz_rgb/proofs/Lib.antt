@@ -1,10 +1,11 @@
-pub mod Examples
-pub mod Walks
-pub mod Takings
-pub mod Made
-pub mod Rowed
-pub mod Spelled
-pub mod Extras
-pub mod Written
-pub mod Proved
-pub mod Parting
+mod Examples
+mod Walks
+mod Takings
+mod Made
+mod Rowed
+mod Spelled
+mod Extras
+mod Written
+mod Proved
+mod Parting
+pub mod Public

@@ -3,7 +3,7 @@ use Rattle.std.proofs.Common.{◌≡◌, ℕ, ◌+◌, Bool, true, false, List, 
 use Rattle.laz_integer.specs.Events.{Event}
 use Rattle.laz_integer.specs.Fields.{IsByte, byte_events, if_marked}
 use Rattle.laz_integer.specs.Uses.{own_name}
-use Rattle.laz_integer.proofs.Parting.{One, as-one, made-one, none-one, symbol-one, then}
+use Rattle.laz_integer.proofs.Public.{One, as-one, made-one, none-one, symbol-one, then}
 use Rattle.laz_rgb.specs.declared.colour.Colour.{Colour}
 use Rattle.laz_rgb.specs.Colours.{SpellsColour, changes_event, colour_made, colour_marks, rgb_kind}
 use Rattle.laz_rgb.specs.Extra.{SpellsExtra, all_marked, byte_kind, extra_made}

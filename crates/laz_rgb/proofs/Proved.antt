@@ -5,7 +5,7 @@ use Rattle.std.proofs.lemmas.List.{length-replicate}
 use Rattle.laz_integer.specs.Events.{same_text}
 use Rattle.laz_integer.specs.Uses.{Silent}
 use Rattle.laz_integer.specs.Fields.{byte_events, if_marked}
-use Rattle.laz_integer.proofs.Uses.{Silent-append, Silent-none, Silent-other, bank-silent}
+use Rattle.laz_integer.proofs.Public.{Silent-append, Silent-none, Silent-other, bank-silent, difference-back}
 use Rattle.laz_rgb.specs.declared.colour.Colour.{Colour}
 use Rattle.laz_rgb.specs.Rows.{byte_of, row_events}
 use Rattle.laz_integer.specs.Bytes.{byte_difference, byte_plus}
@@ -19,7 +19,6 @@ use Rattle.laz_rgb.proofs.Spelled.{colour-ranged, row-six, writer-row}
 use Rattle.laz_rgb.proofs.Extras.{extra-ranged, row-length, symbols-row}
 use Rattle.std.proofs.lemmas.Bool.Decides.{nat_tests}
 use Rattle.laz_rgb.proofs.Written.{Bits, bit-most, bits-of, byte-back, half-small, moved-small}
-use Rattle.laz_integer.proofs.BankModels.{difference-back}
 
 -- ---- events of one use
 byte-silent : (other kind : List ℕ) (t : Bool) (m s : ℕ) → same_text other kind ≡ false → Silent other (if_marked t (byte_events kind m s))

@@ -5,13 +5,12 @@ use Rattle.laz_range.specs.Choice.{all_cuts, state_after}
 use Rattle.laz_models.specs.Counting.{Counting}
 use Rattle.laz_models.specs.Dist.{alphabet_size}
 use Rattle.laz_models.specs.Bank.{model_at, alphabet_sizes}
-use Rattle.laz_models.proofs.Banks.{sizes-set}
+use Rattle.laz_models.proofs.Public.{sizes-set}
 use Rattle.laz_integer.specs.Events.{Name}
 use Rattle.laz_integer.specs.Uses.{own_name}
 use Rattle.laz_integer.specs.Ranged.{AreRanged}
 use Rattle.laz_integer.specs.Fields.{BankStands, IsByte, byte_cuts, byte_events, byte_next, if_marked}
-use Rattle.laz_integer.proofs.Pieces.{Piece, Piece-byte, Piece-none, Piece-then, frame-bank}
-use Rattle.laz_integer.proofs.Ranges.{AreRanged-append}
+use Rattle.laz_integer.proofs.Public.{Piece, Piece-byte, Piece-none, Piece-then, frame-bank, AreRanged-append}
 use Rattle.laz_rgb.specs.Rows.{AreRowModels, IsRow, next_cuts, next_row, row_at, row_events}
 use Rattle.laz_rgb.proofs.Walks.{row-models}
 

@@ -6,18 +6,15 @@ use Rattle.std.proofs.Math.Nat.{mod-lt}
 use Rattle.laz_range.specs.Choice.{all_cuts}
 use Rattle.laz_range.specs.Coding.{Coding, Codes}
 use Rattle.laz_range.specs.Decoding.{Decoding, NoneBegins, Refuses, Takes, TakesNone}
-use Rattle.laz_range.proofs.Composition.{Takes-through, TakesNone-through}
-use Rattle.laz_range.proofs.Decodings.{Takes-ReadsOn, Takes-begins}
-use Rattle.laz_range.proofs.Refusals.{Refuses-none, Refuses-NoneBegins}
+use Rattle.laz_range.proofs.Public.{Takes-through, TakesNone-through, Takes-ReadsOn, Takes-begins, Refuses-none, Refuses-NoneBegins}
 use Rattle.laz_models.specs.Counting.{Counting}
 use Rattle.laz_models.specs.Bank.{model_at, alphabet_sizes}
-use Rattle.laz_models.proofs.Banks.{sizes-set}
+use Rattle.laz_models.proofs.Public.{sizes-set}
 use Rattle.laz_integer.specs.Events.{Event, Name, cuts_after}
 use Rattle.laz_integer.specs.Ranged.{AreRanged}
 use Rattle.laz_integer.specs.Fields.{BankStands, IsByte, byte_cuts, byte_next}
 use Rattle.laz_integer.specs.Integer.{symbol_cut}
-use Rattle.laz_integer.proofs.Pieces.{Piece, Piece-symbol, Piece-then}
-use Rattle.laz_integer.proofs.Ranges.{AreCuts-ranged}
+use Rattle.laz_integer.proofs.Public.{Piece, Piece-symbol, Piece-then, AreCuts-ranged, first-model}
 use Rattle.laz_rgb.specs.declared.colour.Colour.{Colour}
 use Rattle.laz_rgb.specs.Rows.{AreRowModels, IsRow, next_cuts, next_row, row_at, row_events}
 use Rattle.laz_rgb.specs.Colours.{SpellsColour, changes, changes_event, colour_events, colour_made, colour_marks, colour_symbols, rgb_kind, symbol_if}
@@ -25,7 +22,6 @@ use Rattle.laz_rgb.specs.Coded.{ColourChoice, IsColourChoice, after_low, after_r
 use Rattle.laz_rgb.specs.Items.{HasRgbSizes, IsRgbState, IsSpelledColour, ReadsColour, RgbStands, RgbState, latest_colour}
 use Rattle.laz_integer.specs.Spelled.{OneBegins, spelled_cuts}
 use Rattle.laz_rgb.proofs.Walks.{sized-rows}
-use Rattle.laz_integer.proofs.BankModels.{first-model}
 use Rattle.laz_rgb.proofs.Rowed.{RowSizes, row-piece, row-ranged, row-sizes}
 
 -- ---- events and parts, of a symbol of changes and the symbols of a row

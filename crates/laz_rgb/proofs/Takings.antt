@@ -2,7 +2,7 @@
 use Rattle.std.proofs.Common.{◌≡◌, ℕ, ◌+◌, ◌<◌, Bool, List, [], ◌∷◌, ◌++◌, subst}
 use Rattle.laz_range.specs.Cut.{Cut}
 use Rattle.laz_range.specs.Decoding.{Decoding, Takes, TakesNone}
-use Rattle.laz_range.proofs.Composition.{Takes-then, TakesNone-first, TakesNone-second}
+use Rattle.laz_range.proofs.Public.{Takes-then, TakesNone-first, TakesNone-second}
 use Rattle.laz_models.specs.Counting.{Counting}
 use Rattle.laz_models.specs.Bank.{model_at}
 use Rattle.laz_integer.specs.Fields.{IsByte, byte_cuts, byte_next}

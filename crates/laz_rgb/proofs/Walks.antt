@@ -4,12 +4,11 @@ use Rattle.std.proofs.lemmas.List.{get_or-append-add, get_or-replicate, length-a
 use Rattle.laz_range.specs.Cut.{Cut}
 use Rattle.laz_range.specs.Coding.{Coding, Codes}
 use Rattle.laz_range.specs.Choice.{all_cuts, state_after}
-use Rattle.laz_range.proofs.Loops.{all_cuts-push, state_after-push}
-use Rattle.laz_range.proofs.Whole.{Codes-append}
+use Rattle.laz_range.proofs.Public.{all_cuts-push, state_after-push, Codes-append}
 use Rattle.laz_models.specs.Counting.{Counting}
 use Rattle.laz_models.specs.Dist.{alphabet_size}
 use Rattle.laz_models.specs.Bank.{model_at, alphabet_sizes}
-use Rattle.laz_models.proofs.Banks.{size-at}
+use Rattle.laz_models.proofs.Public.{size-at}
 use Rattle.laz_integer.specs.Fields.{byte_cuts, byte_next}
 use Rattle.laz_rgb.specs.Rows.{AreRowModels, Row, first_mark, more_marks, next_cuts, next_row}
 

@@ -4,7 +4,7 @@ use Rattle.std.specs.Prelude.{◌==◌}
 use Rattle.laz_rgb.specs.Rows.{byte_of}
 use Rattle.laz_rgb.specs.Colours.{bit_if, half_moved, moved, symbol_if}
 use Rattle.laz_integer.specs.Bytes.{has_bit}
-use Rattle.laz_integer.proofs.BankModels.{difference-back}
+use Rattle.laz_integer.proofs.Public.{difference-back}
 
 -- ---- the bits of the symbol of changes
 bit-times : (t : Bool) (k : ℕ) → bit_if t k ≡ k * bit_if t 1

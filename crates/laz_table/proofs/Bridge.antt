@@ -6,19 +6,15 @@ use Rattle.laz_range.specs.Cut.{Cut, AreCuts}
 use Rattle.laz_range.specs.Span.{Begins, span}
 use Rattle.laz_range.specs.Choice.{AllAsked, AreAsked, all_cuts}
 use Rattle.laz_range.specs.Decoding.{Decoding, HasRead}
-use Rattle.laz_range.proofs.Decodings.{AreCuts-append, Takes-ReadsOn, Takes-begins, TakesNone-NoneBegins}
+use Rattle.laz_range.proofs.Public.{AreCuts-append, Takes-ReadsOn, Takes-begins, TakesNone-NoneBegins}
 use Rattle.laz_integer.specs.Corrector.{corrected}
 use Rattle.laz_integer.specs.Events.{Event, cuts_after, cuts_of}
 use Rattle.laz_integer.specs.Integer.{IntStands, IntState, IsCorrector, IsInts, corrector_events, event_next, events_next, int_next}
-use Rattle.laz_integer.proofs.Counted.{AreIntEvents, IsInts-event, corrector-events}
-use Rattle.laz_integer.proofs.Named.{cuts_after-append}
-use Rattle.laz_integer.proofs.Pieces.{Piece-int}
-use Rattle.laz_integer.proofs.Spellings.{AreCuts-int}
+use Rattle.laz_integer.proofs.Public.{AreIntEvents, IsInts-event, corrector-events, cuts_after-append, Piece-int, AreCuts-int, two_lists}
 use Rattle.laz_table.specs.Entries.{Entry, SpellsEntries, SpellsEntry, after_entry, context_of, entries_of, no_entry, prediction, signed, table_use}
 use Rattle.laz_table.specs.Table.{HoldsEntries}
 use Rattle.laz_table.specs.Steps.{IsEntry, NoEntries, ReadsEntries, TableState, entries_made, entry_cuts, entry_made, entry_next, next_counts_points, number_made, table_start}
 use Rattle.laz_table.proofs.ReadingLemmas.{made-below, made-signed}
-use Rattle.laz_integer.proofs.Lists.{two_lists}
 
 -- ---- the models stay models of 32 bits with two contexts
 ints-events : (kind : List ℕ) (st : IntState) (bits contexts : ℕ) (events : List Event) → IsInts bits contexts st → AreIntEvents kind bits contexts events → IsInts bits contexts (events_next st events)

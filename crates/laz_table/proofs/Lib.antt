@@ -1,9 +1,10 @@
-pub mod VlrCauseLemmas
+mod VlrCauseLemmas
 mod Examples
-pub mod WritingLemmas
-pub mod ReadingLemmas
-pub mod Bridge
-pub mod TableLemmas
-pub mod OneSpelling
-pub mod TableLaws
-pub mod TableBytes
+mod WritingLemmas
+mod ReadingLemmas
+mod Bridge
+mod TableLemmas
+mod OneSpelling
+mod TableLaws
+mod TableBytes
+pub mod Public

@@ -6,15 +6,12 @@ use Rattle.std.specs.Int.{w32, cast_unsigned}
 use Rattle.std.proofs.lemmas.Int.{of_z-to_z}
 use Rattle.laz_range.specs.Span.{Begins, IsBytes, initial_span, span}
 use Rattle.laz_range.specs.Cut.{Cut, AreCuts}
-use Rattle.laz_range.proofs.Reach.{initial_span-IsSpan}
-use Rattle.laz_range.proofs.Whole.{fronts, one}
+use Rattle.laz_range.proofs.Public.{initial_span-IsSpan, fronts, one}
 use Rattle.laz_integer.specs.Corrector.{choices, corrected}
 use Rattle.laz_integer.specs.Events.{Event, Symbol, Flag, Bits, Name, cut_after, cuts_after, cuts_of, raw_events}
 use Rattle.laz_integer.specs.Integer.{IntSpell, bit_name, corrector_events, high_name, rest_events, width_name}
 use Rattle.laz_integer.specs.Ranged.{AreOneKind, AreRanged, IsRanged}
-use Rattle.laz_integer.proofs.Cases.{by-width}
-use Rattle.laz_integer.proofs.Named.{cuts_after-append, raw-short, raw-wide}
-use Rattle.laz_integer.proofs.Ranges.{AreAlike-ranged, AreCuts-ranged, AreRanged-append, Begins-more, IsCut-ranged, event-from_cut}
+use Rattle.laz_integer.proofs.Public.{by-width, cuts_after-append, raw-short, raw-wide, AreAlike-ranged, AreCuts-ranged, AreRanged-append, Begins-more, IsCut-ranged, event-from_cut}
 use Rattle.laz_table.specs.Entries.{Entry, Latest, SpellsEntries, SpellsEntry, after_entry, context_of, prediction, signed, table_use}
 use Rattle.laz_table.specs.Steps.{next_counts_points}
 use Rattle.laz_table.proofs.Bridge.{AreInTurn}

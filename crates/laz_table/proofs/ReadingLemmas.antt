@@ -4,8 +4,7 @@ use Rattle.std.specs.Int.{w32, cast_signed, cast_unsigned}
 use Rattle.std.proofs.lemmas.Int.{of_z-to_z}
 use Rattle.laz_range.specs.Choice.{state_after}
 use Rattle.laz_range.specs.Decoding.{Decoding, Takes, TakesNone}
-use Rattle.laz_range.proofs.Composition.{Takes-start, Takes-step, TakesNone-step}
-use Rattle.laz_range.proofs.Loops.{state_after-push}
+use Rattle.laz_range.proofs.Public.{Takes-start, Takes-step, TakesNone-step, state_after-push}
 use Rattle.laz_integer.specs.Corrector.{corrected, corrector}
 use Rattle.laz_integer.specs.Integer.{IntState, IsCorrector, ReadsCorrector, int_cuts, int_next}
 use Rattle.laz_table.specs.declared.chunks.TableFault.{TableFault}

@@ -4,7 +4,7 @@ use Rattle.std.proofs.Math.Nat.{div-lt_iff_lt-mul, mod-lt, pow-succ'}
 use Rattle.std.specs.Int.{bytes_low_first, byte_at}
 use Rattle.byteorder.specs.Endian.{little_bytes}
 use Rattle.laz_range.specs.Span.{IsBytes, Span, digits, initial_span, span}
-use Rattle.laz_range.proofs.Reach.{after-IsSpan, initial_span-IsSpan, last-within}
+use Rattle.laz_range.proofs.Public.{after-IsSpan, initial_span-IsSpan, last-within}
 use Rattle.laz_integer.specs.Events.{cuts_of}
 use Rattle.laz_table.specs.Entries.{Entry, SpellsEntries, entries_of, events_of, no_entry}
 use Rattle.laz_table.specs.Laws.{AreWords}

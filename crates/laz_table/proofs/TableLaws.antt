@@ -5,17 +5,14 @@ use Rattle.std.specs.Int.{w32}
 use Rattle.std.proofs.Math.Facts.{sfits_to_z}
 use mir.Val.{SFits, Fits}
 use Rattle.byteorder.specs.Endian.{little_bytes}
-use Rattle.las_header.proofs.NumberLemmas.{number_at-drop, number_at-take, reads_back}
+use Rattle.las_header.proofs.Public.{number_at-drop, number_at-take, reads_back}
 use Rattle.laz_range.specs.Cut.{AreCuts}
 use Rattle.laz_range.specs.Span.{Begins, IsBytes, Span, bytes_of, final_number, initial_span, number, span}
-use Rattle.laz_range.proofs.Reach.{after-IsSpan, bytes-fit, initial_span-IsSpan, length-digits}
-use Rattle.laz_range.proofs.Streams.{Fits-Begins, IsBytes-drop, after-few}
+use Rattle.laz_range.proofs.Public.{after-IsSpan, bytes-fit, initial_span-IsSpan, length-digits, Fits-Begins, IsBytes-drop, after-few}
 use Rattle.laz_integer.specs.Events.{Event, Name, Role, Own, Width, ZeroOrOne, High, cuts_of}
 use Rattle.laz_integer.specs.Integer.{int_width}
 use Rattle.laz_integer.specs.Ranged.{AreRanged, HasIntSizes}
-use Rattle.laz_integer.proofs.Bounds.{corrector-few, int-few, length-cuts}
-use Rattle.laz_integer.proofs.Ranges.{AreCuts-ranged, AreRanged-append, int-ranged}
-use Rattle.laz_integer.proofs.Writing.{IsCorrector-written, spells-written}
+use Rattle.laz_integer.proofs.Public.{corrector-few, int-few, length-cuts, AreCuts-ranged, AreRanged-append, int-ranged, IsCorrector-written, spells-written}
 use Rattle.laz_integer.specs.Fields.{int_corrector}
 use Rattle.laz_table.specs.Entries.{Entry, Latest, SpellsEntries, SpellsEntry, after_entry, context_of, entries_of, entry_events, events_of, no_entry, prediction, signed, table_use}
 use Rattle.laz_table.specs.Table.{HoldsEntries, TableHolds, stream_of, table_bytes}

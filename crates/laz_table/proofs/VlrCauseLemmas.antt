@@ -8,7 +8,7 @@ use Rattle.las_header.specs.declared.refusal.Refusal.TheVariants as cause
 use Rattle.las_header.specs.Fields.{format_of, points_of}
 use Rattle.las_header.specs.Vlrs.{laszip_vlrs_of, vlrs_end}
 use Rattle.las_header.specs.Refusals.{first_cause}
-use Rattle.las_header.proofs.VlrLemmas.{found_within}
+use Rattle.las_header.proofs.Public.{found_within}
 use Rattle.laz_table.specs.VlrCauses.{extra_of, first_payload, lacks_vlr, payload_at, payload_causes, payload_of, vlr_causes}
 
 some_is : (p q : VlrPlace) → Some p ≡ Some q → p ≡ q

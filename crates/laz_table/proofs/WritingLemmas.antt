@@ -8,11 +8,11 @@ use Rattle.laz_range.specs.Cut.{Cut}
 use Rattle.byteorder.specs.Endian.{little_bytes}
 use Rattle.laz_range.specs.Coding.{Coding, Codes}
 use Rattle.laz_range.specs.Span.{after, bytes_of, initial_span, span}
-use Rattle.laz_range.proofs.Whole.{Codes-append}
+use Rattle.laz_range.proofs.Public.{Codes-append}
 use Rattle.laz_integer.specs.Corrector.{HasBits}
 use Rattle.laz_integer.specs.Events.{Event, cuts_after, cuts_of}
 use Rattle.laz_integer.specs.Integer.{IntEvents, IntStands, IntState}
-use Rattle.laz_integer.proofs.Named.{cuts_after-append}
+use Rattle.laz_integer.proofs.Public.{cuts_after-append}
 use Rattle.laz_table.specs.Entries.{Entry, Latest, after_entry, bytes_entry, context_of, points_entry, entries_of, entry_events, events_of, no_entry, number_events, signed, table_use}
 use Rattle.laz_table.specs.Table.{stream_of, table_bytes}
 use Rattle.laz_table.specs.Steps.{Written, latest_after}

@@ -1,12 +1,13 @@
-pub mod Counting
-pub mod Rule
-pub mod Steps
-pub mod Runs
-pub mod Examples
-pub mod RoomLists
-pub mod Standing
-pub mod Texts
-pub mod Working
-pub mod Finish
-pub mod Lengths
-pub mod Spread
+mod Counting
+mod Rule
+mod Steps
+mod Runs
+mod Examples
+mod RoomLists
+mod Standing
+mod Texts
+mod Working
+mod Finish
+mod Lengths
+mod Spread
+pub mod Public

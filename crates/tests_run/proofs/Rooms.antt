@@ -4,7 +4,7 @@ use Rattle.std.specs.Prelude.{All}
 use Rattle.std.specs.FinMap as map
 use Rattle.std.proofs.lemmas.List.Elements.{All-cons, All-nil}
 use Rattle.las_info.specs.Tallies.{Tally, TapSeen, count_at, with_one}
-use Rattle.las_info.proofs.Counting.{count-none, count-more}
+use Rattle.las_info.proofs.Public.{count-none, count-more}
 
 -- no count is above this
 abbrev pub AreAtMost : Tally → (most : ℕ) → Type 0

@@ -7,7 +7,7 @@ use Rattle.las_thin.specs.Placed.{Placed}
 use Rattle.laz_file.specs.Asking.{bytes_left}
 use Rattle.laz_file.specs.Copying.{CanTake}
 use Rattle.laz_file.specs.Reading.{IsCrewOf, StandsFor}
-use Rattle.laz_file.proofs.Copies.{HasRead}
+use Rattle.laz_file.proofs.Public.{HasRead}
 use Rattle.las_convert.specs.Adding.{Goes, HaveCounted, IsAfter, cut_all, kept_by}
 use Rattle.las_convert.proofs.copying.convert_batches.Given as goal
 

@@ -4,7 +4,7 @@ use Rattle.las_filter.specs.Kept.{steps_of}
 use Rattle.las_header.specs.declared.refusal.Refusal.{Refusal}
 use Rattle.las_info.specs.Tallies.{TapSeen}
 use Rattle.laz_file.specs.Copying.{EndsAfter, HoldFirst, LeavesPart, Takes}
-use Rattle.laz_file.proofs.Putting.{if_ok_weaker}
+use Rattle.laz_file.proofs.Public.{if_ok_weaker}
 use Rattle.las_convert.specs.Adding.{EndsKeeping, Goes, LeavesKept, cut_all, kept_by}
 use Rattle.las_convert.proofs.Adding.{on_err_then}
 use Rattle.las_convert.proofs.Going.{even_read}

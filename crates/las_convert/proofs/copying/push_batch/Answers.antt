@@ -4,9 +4,9 @@ use Rattle.std.specs.List.{concat}
 use Rattle.std.proofs.lemmas.List.{take_all}
 use Rattle.las_filter.specs.Kept.{steps_of}
 use Rattle.las_thin.specs.Sieving.{Settings}
-use Rattle.las_outside.proofs.Frames.{calm-trans, later-refl, later-trans}
+use Rattle.las_outside.proofs.Public.{calm-trans, later-refl, later-trans}
 use Rattle.laz_file.specs.Copying.{with_reads}
-use Rattle.laz_file.proofs.Taking.{on_err}
+use Rattle.laz_file.proofs.Public.{on_err}
 use Rattle.las_convert.specs.Adding.{Goes, IsAfter, LeavesKept, cut_all, kept_by}
 use Rattle.las_convert.proofs.Going.{after_none, count_block, count_is, even_here, few_kept, goes_block, goes_counted}
 use Rattle.las_convert.proofs.Going.{goes_end, goes_none, leaves_block, records_block, room_kept}

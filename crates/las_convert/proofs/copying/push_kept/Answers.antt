@@ -4,7 +4,7 @@ use Rattle.std.proofs.lemmas.List.{append-nil}
 use Rattle.las_filter.specs.Kept.{steps_of}
 use Rattle.las_info.specs.Tallies.{TapSeen}
 use Rattle.laz_file.specs.Copying.{LeavesPart, Takes}
-use Rattle.laz_file.proofs.Taking.{on_err, part_push, takes_push}
+use Rattle.laz_file.proofs.Public.{on_err, part_push, takes_push}
 use Rattle.las_convert.specs.Adding.{HaveCounted, cut_all, kept_by}
 use Rattle.las_convert.proofs.Asked.{stands_asked, stops_asked}
 use Rattle.las_convert.proofs.Going.{few_ones, kept_even, kept_goes, leaves_none, leaves_taken}

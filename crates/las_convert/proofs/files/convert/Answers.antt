@@ -4,7 +4,7 @@ use Rattle.las_header.specs.declared.refusal.Refusal.TheVariants.{BadChunk}
 use Rattle.las_header.specs.Fields.{head_of}
 use Rattle.las_filter.specs.Kept.{steps_of}
 use Rattle.las_info.specs.Tallies.{TapSeen, shown_all}
-use Rattle.las_info.proofs.Shown.{mapped}
+use Rattle.las_info.proofs.Public.{mapped}
 use Rattle.las_outside.specs.Faults.{Rose}
 use Rattle.las_outside.specs.Files.{WhereKnown, with_file}
 use Rattle.las_thin.specs.Sieving.{Sieving}
@@ -13,9 +13,7 @@ use Rattle.laz_file.specs.Asking.{bytes_left}
 use Rattle.laz_file.specs.Copying.{LeavesUnfinished}
 use Rattle.laz_file.specs.Outputs.{Output, finished, records_after, stopped}
 use Rattle.laz_file.specs.Reading.{ReaderSeen, StandsFor}
-use Rattle.laz_file.proofs.Knowing.{known_both, known_then}
-use Rattle.laz_file.proofs.Taking.{on_err}
-use Rattle.laz_file.proofs.WholeOutputs.{err_at, ok_then, stands_ready}
+use Rattle.laz_file.proofs.Public.{known_both, known_then, on_err, err_at, ok_then, stands_ready}
 use Rattle.las_convert.specs.Adding.{HaveCounted, IsAfter, kept_by}
 use Rattle.las_convert.specs.Converting.{ConvertsTo, EndsConverting, FinishesKept, OnlyConverts, converted_output}
 use Rattle.las_convert.specs.Converting.{output_of}

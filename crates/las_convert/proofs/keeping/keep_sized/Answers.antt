@@ -2,7 +2,7 @@ use Rattle.std.proofs.Common.{◌≡◌, ◌+◌, ◌*◌, ◌-◌, ◌/◌, ◌
 use Rattle.las_filter.specs.Filters.{keeps_all}
 use Rattle.las_filter.specs.Changes.{changed}
 use Rattle.las_filter.specs.Kept.{kept, steps_of}
-use Rattle.las_filter.proofs.Keeping.{grows}
+use Rattle.las_filter.proofs.Public.{grows}
 use Rattle.las_header.specs.Plain.{cut_records}
 use Rattle.las_convert.specs.Adding.{AddsAlways}
 use Rattle.las_convert.proofs.Adding.{adds_none, plan_keeps}

@@ -12,8 +12,7 @@ use Rattle.laz_file.specs.declared.fault.Fault.TheVariants.{Refused}
 use Rattle.laz_file.specs.Copying.{HoldFirst}
 use Rattle.laz_file.specs.Reading.{ReaderSeen, StandsFor}
 use Rattle.laz_file.specs.Records.{HoldOnly, IsBadPiece}
-use Rattle.laz_file.proofs.Copies.{ReadsMore, end_all, end_bad, even_whole, read_more, read_none}
-use Rattle.laz_file.proofs.Faults.{later-trans}
+use Rattle.laz_file.proofs.Public.{ReadsMore, end_all, end_bad, even_whole, read_more, read_none, later-trans}
 use Rattle.las_convert.specs.Adding.{IsLent, cut_all}
 use Rattle.las_convert.proofs.Going.{even_all, few_batch, records_batch}
 use Rattle.las_convert.proofs.Shown.{cut_none}

@@ -7,7 +7,7 @@ use Rattle.las_thin.specs.Kept.{passing}
 use Rattle.las_thin.specs.Sieving as sieve
 use Rattle.laz_file.specs.Asking.{bytes_left}
 use Rattle.laz_file.specs.Reading.{IsCrewOf, StandsFor}
-use Rattle.laz_file.proofs.Copies.{HasRead}
+use Rattle.laz_file.proofs.Public.{HasRead}
 use Rattle.las_convert.specs.Adding.{cut_all}
 use Rattle.las_convert.proofs.looking.look_records.Given as goal
 

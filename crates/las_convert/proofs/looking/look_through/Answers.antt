@@ -2,8 +2,7 @@ use Rattle.std.proofs.Common.{◌*◌, ◌+◌, ℕ, List, sym, ap, subst}
 use Rattle.las_filter.specs.Kept.{steps_of}
 use Rattle.las_outside.specs.Files.{WhereKnown}
 use Rattle.laz_file.specs.Reading.{ReaderSeen, StandsFor}
-use Rattle.laz_file.proofs.Knowing.{known_then}
-use Rattle.laz_file.proofs.WholeOutputs.{ok_then, stands_ready}
+use Rattle.laz_file.proofs.Public.{known_then, ok_then, stands_ready}
 use Rattle.las_convert.proofs.Looks.{ready_here, refused_here}
 use Rattle.las_convert.proofs.looking.look_through.Goals as goal
 

@@ -1,6 +1,6 @@
 use Rattle.std.proofs.Common.{◌≡◌, ℕ, ◌+◌, ◌-◌, ◌*◌, ◌/◌, ◌<◌, ◌≤◌, ◌∷◌, ◌++◌, ◌∙◌, inl, inr, [], drop, length, ap, arith, refl, subst, sym}
 use Rattle.std.proofs.lemmas.List.{take_all}
-use Rattle.las_header.proofs.Cutting.{left_first, left_next}
+use Rattle.las_header.proofs.Public.{left_first, left_next}
 use Rattle.las_info.specs.Tallies.{count_at, tally_after, with_one}
 use Rattle.las_info.proofs.Counting.{one_counted, room_left, two_counted}
 use Rattle.las_info.proofs.Cuts.{Cuts, cuts_all, cuts_first, cuts_none, cuts_one}

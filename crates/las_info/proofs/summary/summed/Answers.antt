@@ -2,7 +2,7 @@ use Rattle.std.proofs.Common.{◌≡◌, ℕ, ◌+◌, ◌-◌, ◌*◌, ◌/◌
 use Rattle.std.proofs.lemmas.List.{take_all}
 use Rattle.las_header.specs.declared.counts.Counts.{Counts}
 use Rattle.las_header.specs.Plain.{cut_records}
-use Rattle.las_header.proofs.Cutting.{left_first, left_next}
+use Rattle.las_header.proofs.Public.{left_first, left_next}
 use Rattle.las_points.specs.Record.{return_number_of}
 use Rattle.las_info.specs.declared.extents.Extents.{Extents}
 use Rattle.las_info.proofs.Running.{RunOf, Running, length-cut_records, running_all, running_none, running_one, summary_of_run}

@@ -1,5 +1,5 @@
 use Rattle.std.proofs.Common.{◌≡◌, ◌+◌, ◌*◌, ◌-◌, ◌≤◌, length, ◌∙◌, arith}
-use Rattle.las_header.proofs.NumberLemmas.{length_part}
+use Rattle.las_header.proofs.Public.{length_part}
 use Rattle.las_make.specs.Drawing.{draws_each}
 use Rattle.las_make.specs.Made.{made_length}
 use Rattle.las_make.proofs.Steps.{filled_next, room_for, state_next}

@@ -5,7 +5,7 @@ use Rattle.laz_file.specs.Asking.{AsksAtMost, asked_to_open}
 use Rattle.laz_file.specs.Sizes.{points_size}
 use Rattle.laz_file.specs.Laws.{CanBePacked}
 use Rattle.laz_file.specs.Packing.{packed_file}
-use Rattle.laz_file.proofs.Putting.{if_err}
+use Rattle.laz_file.proofs.Public.{if_err}
 use Rattle.las_make.specs.Making.{FailsMaking}
 use Rattle.las_make.proofs.Ended.{form_whole, made_asked, made_known, packing_fails, size_asked, size_fails, size_is}
 use Rattle.las_make.proofs.making.make.Goals as goal

@@ -5,9 +5,7 @@ use Rattle.las_outside.specs.Outside.{with_bytes}
 use Rattle.laz_file.specs.Copying.{LeavesUnfinished}
 use Rattle.laz_file.specs.Outputs.{Output, draft_of, finished, patches_of}
 use Rattle.laz_file.specs.Writing.{Stops}
-use Rattle.laz_file.proofs.Taking.{on_err}
-use Rattle.laz_file.proofs.WholeOutputs.{create_left, ok_then}
-use Rattle.laz_file.proofs.Unasked.{created_asked}
+use Rattle.laz_file.proofs.Public.{on_err, create_left, ok_then, created_asked}
 use Rattle.las_make.specs.Made.{made_file, made_records}
 use Rattle.las_make.proofs.Written.{ended_asked, counted_none, counted_plain, counted_size, end_left, head_made}
 use Rattle.las_make.proofs.Written.{ok_with, on_err_from}

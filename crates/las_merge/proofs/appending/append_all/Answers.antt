@@ -1,8 +1,7 @@
 use Rattle.std.proofs.Common.{◌+◌, ◌-◌, ◌++◌, ℕ, List, min, take, drop, ◌∙◌, ap, append_assoc, arith}
 use Rattle.las_outside.specs.Outside.{with_bytes, with_write_fault}
-use Rattle.las_outside.proofs.FileLaws.{changed_after, failed_after, known_of}
-use Rattle.las_outside.proofs.Rooms.{on_err}
-use Rattle.laz_file.proofs.Faults.{later-trans}
+use Rattle.las_outside.proofs.Public.{changed_after, failed_after, known_of, on_err}
+use Rattle.laz_file.proofs.Public.{later-trans}
 use Rattle.las_merge.proofs.Appended.{slice_more, slice_part}
 use Rattle.las_merge.proofs.appending.append_all.Goals as goal
 

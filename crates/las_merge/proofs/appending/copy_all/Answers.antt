@@ -2,11 +2,9 @@ use Rattle.std.proofs.Common.{◌≡◌, ◌≢◌, ◌<◌, ◌+◌, ◌≤◌,
 use Rattle.std.specs.List.{concat}
 use Rattle.las_outside.specs.Files.{WhereKnown, with_file}
 use Rattle.las_outside.specs.Outside.{Outside, with_bytes}
-use Rattle.las_outside.proofs.Rooms.{on_err}
+use Rattle.las_outside.proofs.Public.{on_err}
 use Rattle.las_merge.specs.Appending.{LiesIn, SourceSeen, part_in, part_of, with_reads}
-use Rattle.laz_file.proofs.Faults.{later-trans}
-use Rattle.laz_file.proofs.Knowing.{known_then}
-use Rattle.laz_file.proofs.Putting.{if_err}
+use Rattle.laz_file.proofs.Public.{later-trans, known_then, if_err}
 use Rattle.las_merge.proofs.Appended.{copy_fault_since, in_part, joined_more, still_known, still_part, sum_more, sum_within}
 use Rattle.las_merge.proofs.appending.copy_all.Goals as goal
 

@@ -1,10 +1,9 @@
 use Rattle.std.proofs.Common.{◌≡◌, ◌+◌, ◌-◌, ◌≤◌, ◌++◌, ℕ, List, length, length-append, take, ◌∙◌, ap, append_assoc, arith}
 use Rattle.las_outside.specs.Files.{with_file}
 use Rattle.las_outside.specs.Outside.{Outside, with_bytes}
-use Rattle.las_outside.proofs.Rooms.{on_err}
+use Rattle.las_outside.proofs.Public.{on_err}
 use Rattle.las_merge.specs.Appending.{part_in, with_reads}
-use Rattle.laz_file.proofs.Faults.{later-trans}
-use Rattle.laz_file.proofs.Knowing.{known_then}
+use Rattle.laz_file.proofs.Public.{later-trans, known_then}
 use Rattle.las_merge.proofs.Appended.{part_more, part_prefix, still_known, still_part}
 use Rattle.las_merge.proofs.appending.copy_part.Goals as goal
 

@@ -1,6 +1,6 @@
 use Rattle.std.proofs.Common.{◌∙◌, ap}
 use Rattle.las_outside.specs.Outside.{Outside}
-use Rattle.las_outside.proofs.FileLaws.{known_after}
+use Rattle.las_outside.proofs.Public.{known_after}
 use Rattle.las_merge.proofs.Appended.{piece_copied, piece_left}
 use Rattle.las_merge.proofs.appending.copy_piece.Goals as goal
 

@@ -6,8 +6,8 @@ use Rattle.las_outside.specs.Files.{WhereKnown}
 use Rattle.laz_file.specs.Copying.{with_reads}
 use Rattle.std.specs.FinMap as finmap
 use Rattle.laz_file.specs.Asking.{AsksAtMost}
-use Rattle.laz_file.proofs.Sums.{sum-first}
-use Rattle.las_outside.proofs.Frames.{calm-refl, calm-trans, later-refl, later-trans}
+use Rattle.laz_file.proofs.Public.{sum-first}
+use Rattle.las_outside.proofs.Public.{calm-refl, calm-trans, later-refl, later-trans}
 use Rattle.las_merge.specs.Asking.{asked_of_all, asked_to_read}
 use Rattle.las_merge.specs.Copying.{BeginsWith, CopiesTo}
 use Rattle.las_merge.specs.Opening.{InputSeen, names_read, points_read}

@@ -4,8 +4,7 @@ use Rattle.laz_file.specs.Asking.{AsksAtMost, asked_to_open}
 use Rattle.laz_file.specs.Copying.{with_reads}
 use Rattle.laz_file.specs.Reading.{StandsFor}
 use Rattle.laz_file.specs.Sizes.{points_size}
-use Rattle.laz_file.proofs.Knowing.{known_then}
-use Rattle.laz_file.proofs.Taking.{stands_read}
+use Rattle.laz_file.proofs.Public.{known_then, stands_read}
 use Rattle.las_merge.specs.Copying.{BeginsWith, CopiesTo, IsFaultOf}
 use Rattle.las_merge.proofs.Asked.{asked_again}
 use Rattle.las_merge.proofs.Again.{back, fault_by, fault_since, leaves_after, new_again, none_begun, room_for}

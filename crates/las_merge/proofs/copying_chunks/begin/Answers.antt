@@ -4,7 +4,7 @@ use Rattle.std.proofs.Math.Seq.{take-append-add}
 use Rattle.byteorder.specs.Endian.{little_bytes}
 use Rattle.las_outside.specs.Files.{with_file}
 use Rattle.las_outside.specs.Outside.{Outside}
-use Rattle.las_outside.proofs.Rooms.{on_err}
+use Rattle.las_outside.proofs.Public.{on_err}
 use Rattle.las_merge.proofs.Appended.{leaves_more}
 use Rattle.las_merge.proofs.copying_chunks.begin.Goals as goal
 

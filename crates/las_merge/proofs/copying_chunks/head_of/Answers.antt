@@ -7,7 +7,7 @@ use Rattle.laz_table.specs.Payload.{laszip_payload}
 use Rattle.laz_table.specs.VlrCauses.{extra_of}
 use Rattle.laz_table.specs.declared.limits.TheConstants.{COUNTED_CHUNKS}
 use Rattle.laz_file.specs.Packing.{packed_head}
-use Rattle.laz_file.proofs.Putting.{if_ok_weaker}
+use Rattle.laz_file.proofs.Public.{if_ok_weaker}
 use Rattle.las_merge.specs.Opening.{first_read}
 use Rattle.las_merge.specs.Summing.{long_returns_in, returns_in, summed_head}
 use Rattle.las_merge.proofs.Whole.{head_first}

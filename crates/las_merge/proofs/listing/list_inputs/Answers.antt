@@ -4,8 +4,8 @@ use Rattle.std.specs.Prelude.{string_bytes}
 use Rattle.std.specs.declared.alloc.Global.{Global}
 use Rattle.std.proofs.lemmas.List.{get_or-map, length-map}
 use Rattle.las_outside.specs.Files.{FileMap}
-use Rattle.las_outside.proofs.Frames.{calm-trans, only_reads-trans}
-use Rattle.laz_file.proofs.Putting.{if_err}
+use Rattle.las_outside.proofs.Public.{calm-trans, only_reads-trans}
+use Rattle.laz_file.proofs.Public.{if_err}
 use Rattle.las_merge.specs.Inputs.{item_at, names_of}
 use Rattle.las_merge.specs.Listing.{ListsChunks}
 use Rattle.las_merge.specs.Opening.{AreOpen, InputSeen, IsNext}

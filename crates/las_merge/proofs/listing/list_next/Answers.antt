@@ -7,7 +7,7 @@ use Rattle.laz_table.specs.VlrCauses.{chunk_size_of}
 use Rattle.laz_file.specs.Asking.{asked_for_chunks, asked_for_list}
 use Rattle.std.proofs.Common.{◌+◌, ◌-◌, Bool, cond, Option, Some, None}
 use Rattle.laz_file.specs.Reading.{ReaderSeen, StandsFor}
-use Rattle.laz_file.proofs.Knowing.{known_then}
+use Rattle.laz_file.proofs.Public.{known_then}
 use Rattle.las_merge.specs.Appending.{SourceSeen}
 use Rattle.las_merge.specs.Fields.{first_difference}
 use Rattle.las_merge.specs.Listing.{FailsNextPacked, ListedInput, ListsChunks}

@@ -1,5 +1,5 @@
 use Rattle.std.proofs.Common.{Err, ap}
-use Rattle.laz_file.proofs.Unasked.{created_asked}
+use Rattle.laz_file.proofs.Public.{created_asked}
 use Rattle.las_merge.proofs.Begun.{fails_begin}
 use Rattle.las_merge.specs.Copying.{output_with}
 use Rattle.las_merge.proofs.merging.create.Goals as goal

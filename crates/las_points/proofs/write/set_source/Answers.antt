@@ -1,5 +1,5 @@
 use Rattle.std.proofs.Common.{ap, arith, ◌∙◌}
-use Rattle.las_header.proofs.NumberLemmas.{number_at-with_number_at}
+use Rattle.las_header.proofs.Public.{number_at-with_number_at}
 use Rattle.las_points.specs.Record.{source_of}
 use Rattle.las_points.proofs.write.set_source.Goals as goal
 

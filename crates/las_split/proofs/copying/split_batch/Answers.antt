@@ -1,10 +1,8 @@
 use Rattle.std.proofs.Common.{◌≡◌, ◌+◌, ◌<◌, ◌≤◌, ℕ, List, [], true, false, ◌++◌, length, take, drop, refl, sym, ◌∙◌, ap, subst, length-append, arith}
 use Rattle.std.specs.List.{concat}
 use Rattle.std.proofs.lemmas.List.{append-nil, take_all}
-use Rattle.laz_file.proofs.Faults.{later-trans}
+use Rattle.laz_file.proofs.Public.{later-trans, if_err, calm_trans, on_err}
 use Rattle.laz_file.specs.declared.fault.Fault.TheVariants.{Write}
-use Rattle.laz_file.proofs.Putting.{if_err}
-use Rattle.laz_file.proofs.Taking.{calm_trans, on_err}
 use Rattle.las_split.specs.Sorting.{InParts, LeavesBlock, TakesBlock, cut_all, task_in}
 use Rattle.las_split.proofs.Blocks.{cut_block, cut_none, cut_others, left_more_blocks, left_then, next_fits, next_place, room_next, takes_more, takes_then}
 use Rattle.las_split.proofs.SomeRecords.{some_among}

@@ -8,10 +8,7 @@ use Rattle.las_header.specs.Heads.{HeadView}
 use Rattle.las_outside.specs.Files.{WhereKnown}
 use Rattle.laz_file.specs.Reading.{ReaderSeen, StandsFor}
 use Rattle.laz_file.specs.Records.{HoldOnly, IsBadPiece}
-use Rattle.laz_file.proofs.Copies.{ReadsMore, calm_ok, end_all, end_bad, end_err, end_ok, read_more, read_none}
-use Rattle.laz_file.proofs.Faults.{later-trans}
-use Rattle.laz_file.proofs.Putting.{if_err}
-use Rattle.laz_file.proofs.Taking.{cause_since, on_err}
+use Rattle.laz_file.proofs.Public.{ReadsMore, calm_ok, end_all, end_bad, end_err, end_ok, read_more, read_none, later-trans, if_err, cause_since, on_err}
 use Rattle.laz_file.specs.Copying.{HoldFirst}
 use Rattle.las_header.specs.declared.refusal.Refusal.{Refusal}
 use Rattle.las_split.specs.Sorting.{EndsSplitting, HasRoom, InParts, LeavesBlock, TakesBlock, cut_all, task_of}

@@ -3,10 +3,7 @@ use Rattle.las_outside.specs.Outside.{Outside, with_bytes}
 use Rattle.laz_file.specs.Outputs.{finished}
 use Rattle.laz_file.specs.Writing.{WriterSeen}
 use Rattle.laz_file.specs.declared.fault.Fault.TheVariants.{Write}
-use Rattle.laz_file.proofs.Faults.{later-trans}
-use Rattle.laz_file.proofs.Putting.{if_err}
-use Rattle.laz_file.proofs.Taking.{calm_trans, held_after, on_err}
-use Rattle.laz_file.proofs.Unasked.{stops_asked}
+use Rattle.laz_file.proofs.Public.{later-trans, if_err, calm_trans, held_after, on_err, stops_asked}
 use Rattle.las_split.specs.Files.{with_files}
 use Rattle.las_split.specs.Parts.{numbers_of_parts}
 use Rattle.las_split.specs.Sorting.{bytes_at, output_at}

@@ -7,9 +7,7 @@ use Rattle.las_outside.specs.Files.{FileMap, WhereKnown}
 use Rattle.laz_file.specs.declared.fault.Fault.TheVariants.{Write}
 use Rattle.laz_file.specs.Asking.{bytes_left}
 use Rattle.laz_file.specs.Reading.{ReaderSeen, StandsFor}
-use Rattle.laz_file.proofs.Knowing.{known_both, known_then}
-use Rattle.laz_file.proofs.Putting.{if_err, if_ok_weaker}
-use Rattle.laz_file.proofs.WholeOutputs.{stands_ready}
+use Rattle.laz_file.proofs.Public.{known_both, known_then, if_err, if_ok_weaker, stands_ready}
 use Rattle.las_split.specs.Files.{with_files}
 use Rattle.las_split.specs.Outputs.{LeavesParts, PartFile, all_finished, all_stopped, outputs_under, part_files}
 use Rattle.las_split.specs.Parts.{numbers_of_parts}

@@ -1,6 +1,5 @@
 use Rattle.std.proofs.Common.{◌≤◌, ℕ, List, length, refl, sym, ◌∙◌, ap, subst, arith}
-use Rattle.laz_file.proofs.Faults.{later-trans}
-use Rattle.laz_file.proofs.Taking.{calm_trans, on_err}
+use Rattle.laz_file.proofs.Public.{later-trans, calm_trans, on_err}
 use Rattle.las_split.specs.Sorting.{AreGathered}
 use Rattle.las_header.specs.Fields.{record_length_of}
 use Rattle.las_split.proofs.PushedParts.{all_size, pushed_first, pushed_last}

@@ -1,8 +1,7 @@
 use Rattle.std.proofs.Common.{◌≡◌, ◌≤◌, ◌%◌, ◌+◌, ◌*◌, ℕ, List, [], ◌++◌, length, take, get_or, sym, ◌∙◌, ap, subst, arith}
 use Rattle.laz_file.specs.Outputs.{front, stopped}
 use Rattle.laz_file.specs.Writing.{WriterSeen}
-use Rattle.laz_file.proofs.Taking.{held_after, on_err}
-use Rattle.laz_file.proofs.Unasked.{stops_asked}
+use Rattle.laz_file.proofs.Public.{held_after, on_err, stops_asked}
 use Rattle.las_outside.specs.Files.{with_file}
 use Rattle.las_outside.specs.Outside.{with_bytes}
 use Rattle.las_split.specs.Sorting.{IsWriter, bytes_at, output_at, text_of}

@@ -1,6 +1,6 @@
 use Rattle.std.proofs.Common.{◌≡◌, inl, inr, ℕ, ◌<◌, ◌^◌, List, ◌++◌, ◌∷◌, [], append_assoc, length, map, slice_get, refl, sym, ◌∙◌, ap, subst, arith}
 use Rattle.laz_file.specs.Writing.{WriterSeen}
-use Rattle.laz_file.proofs.Taking.{on_err}
+use Rattle.laz_file.proofs.Public.{on_err}
 use Rattle.las_split.specs.declared.limits.TheConstants.{MAX_PARTS}
 use Rattle.las_split.specs.Sorting.{InParts, bytes_at, task_in}
 use Rattle.las_split.proofs.Placing.{at_end, in_new, leaves_here, left_new, text_new, too_many}

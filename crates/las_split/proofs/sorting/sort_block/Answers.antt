@@ -1,10 +1,7 @@
 use Rattle.std.proofs.Common.{◌≡◌, ℕ, List, [], ◌+◌, ◌*◌, ◌%◌, ◌<◌, ◌≤◌, ◌/◌, ◌++◌, length, refl, sym, ap, subst, ◌∙◌, append_assoc, length-append, arith}
 use Rattle.std.proofs.lemmas.List.{append-nil}
-use Rattle.laz_file.proofs.Faults.{later-trans}
+use Rattle.laz_file.proofs.Public.{later-trans, cut-append, whole_both, if_err, calm_trans, on_err}
 use Rattle.laz_file.specs.declared.fault.Fault.TheVariants.{Write}
-use Rattle.laz_file.proofs.Pushing.{cut-append, whole_both}
-use Rattle.laz_file.proofs.Putting.{if_err}
-use Rattle.laz_file.proofs.Taking.{calm_trans, on_err}
 use Rattle.las_split.specs.Sorting.{cut_all, task_in}
 use Rattle.las_split.specs.Steps.{AreSorted}
 use Rattle.las_split.proofs.BatchesTaken.{none_yet}

@@ -1,8 +1,6 @@
 use Rattle.std.proofs.Common.{◌≡◌, ℕ, ◌*◌, ◌<◌, ◌≤◌, ◌/◌, ◌++◌, true, false, length, take, drop, refl, sym, ap, subst, ◌∙◌, arith}
-use Rattle.laz_file.proofs.Faults.{later-trans}
+use Rattle.laz_file.proofs.Public.{later-trans, if_err, calm_trans, on_err}
 use Rattle.laz_file.specs.declared.fault.Fault.TheVariants.{Write}
-use Rattle.laz_file.proofs.Putting.{if_err}
-use Rattle.laz_file.proofs.Taking.{calm_trans, on_err}
 use Rattle.las_split.specs.Sorting.{SortsPoint, cut_all, task_in}
 use Rattle.las_split.specs.Steps.{SortsMore}
 use Rattle.las_split.proofs.Runs.{each_all, each_left, each_less, each_more, each_none, each_place}

@@ -1,4 +1,4 @@
-use Rattle.laz_file.proofs.Taking.{on_err}
+use Rattle.laz_file.proofs.Public.{on_err}
 use Rattle.las_split.specs.Sorting.{cut_all, task_in, text_of}
 use Rattle.las_split.proofs.Blocks.{next_fits}
 use Rattle.las_split.proofs.Runs.{group_unsorted, run_taken}

@@ -13,9 +13,8 @@ use Rattle.laz_file.specs.declared.fault.Fault.TheVariants.{Refused}
 use Rattle.laz_file.specs.Copying.{HoldFirst}
 use Rattle.laz_file.specs.Reading.{ReaderSeen, StandsFor}
 use Rattle.laz_file.specs.Records.{HoldOnly, IsBadPiece}
-use Rattle.laz_file.proofs.Copies.{ReadsMore, end_all, end_bad, even_whole, read_more, read_none}
-use Rattle.laz_file.proofs.Faults.{later-trans}
-use Rattle.las_info.proofs.Shown.{none_shown}
+use Rattle.laz_file.proofs.Public.{ReadsMore, end_all, end_bad, even_whole, read_more, read_none, later-trans}
+use Rattle.las_info.proofs.Public.{none_shown}
 use Rattle.las_survey.proofs.Batches.{batch_shown, block_shown, cut, even_concat, few_read, none_read, none_yet}
 use Rattle.las_survey.proofs.surveying.show_records.Goals as goal
 

@@ -6,7 +6,7 @@ use Rattle.las_outside.specs.Files.{WhereKnown}
 use Rattle.las_outside.specs.Outside.{Later}
 use Rattle.laz_file.specs.Asking.{bytes_left}
 use Rattle.laz_file.specs.Reading.{IsCrewOf, Lends, StandsFor}
-use Rattle.laz_file.proofs.Copies.{HasRead}
+use Rattle.laz_file.proofs.Public.{HasRead}
 use Rattle.las_info.specs.Surveys.{IsShown}
 use Rattle.las_survey.proofs.Batches.{cut}
 use Rattle.las_survey.proofs.surveying.show_records.Given as goal

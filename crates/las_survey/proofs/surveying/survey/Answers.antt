@@ -2,8 +2,7 @@ use Rattle.std.proofs.Common.{◌≡◌, ◌*◌, sym, ap, subst, arith}
 use Rattle.las_outside.specs.Files.{WhereKnown}
 use Rattle.laz_file.specs.Asking.{bytes_left}
 use Rattle.laz_file.specs.Reading.{ReaderSeen, StandsFor}
-use Rattle.laz_file.proofs.Knowing.{known_then}
-use Rattle.laz_file.proofs.WholeOutputs.{stands_ready}
+use Rattle.laz_file.proofs.Public.{known_then, stands_ready}
 use Rattle.std.proofs.Common.{List, ℕ}
 use Rattle.las_survey.proofs.Batches.{all_shown, bad_shown, if_ok_then}
 use Rattle.las_survey.proofs.surveying.survey.Goals as goal

@@ -1,5 +1,5 @@
 use Rattle.std.proofs.Common.{drop}
-use Rattle.laz_range.proofs.Streams.{IsBytes-drop}
+use Rattle.laz_range.proofs.Public.{IsBytes-drop}
 use Rattle.laz_chunk.specs.Layouts.{record_length}
 use Rattle.laz_chunk.proofs.Lawful.{sizes}
 use Rattle.laz_chunk.proofs.Parting.{one-held, whole-fits}

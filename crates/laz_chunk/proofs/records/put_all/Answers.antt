@@ -6,7 +6,7 @@ use Rattle.laz_chunk.specs.Records.{records_in}
 use Rattle.laz_chunk.specs.declared.items.Items.{Items}
 use Rattle.laz_chunk.specs.Stands.{AreChunkPoints, ItemsStand, items_of, layout_in}
 use Rattle.laz_chunk.specs.Chunks.{History, grown, record_cuts, written}
-use Rattle.laz_integer.proofs.Products.{place-within}
+use Rattle.laz_integer.proofs.Public.{place-within}
 use Rattle.laz_chunk.proofs.Steps.{Stand, part-length, put-step}
 use Rattle.laz_chunk.proofs.records.put_all.Goals as goal
 

@@ -2,15 +2,14 @@ use Rattle.std.proofs.Common.{◌≡◌, ℕ, ◌*◌, [], refl, sym, ap, subst,
 use Rattle.std.proofs.lemmas.Result.{err_from_is_err_and}
 use Rattle.laz_range.specs.Choice.{AreAsked, all_cuts, state_after}
 use Rattle.laz_range.specs.Decoding.{Refuses, Takes}
-use Rattle.laz_range.proofs.Composition.{Takes-start}
-use Rattle.laz_range.proofs.Refusals.{Refuses-step}
+use Rattle.laz_range.proofs.Public.{Takes-start, Refuses-step}
 use Rattle.laz_chunk.specs.Layouts.{Layout, record_length}
 use Rattle.laz_chunk.specs.Records.{record_at, records_in}
 use Rattle.laz_chunk.specs.declared.items.Items.{Items}
 use Rattle.laz_chunk.specs.Stands.{items_of, layout_in}
 use Rattle.laz_chunk.specs.Chunks.{History, IsSpelled, grown, record_cuts}
 use Rattle.laz_chunk.proofs.Lists.{records-set}
-use Rattle.laz_integer.proofs.Products.{place-is, place-within}
+use Rattle.laz_integer.proofs.Public.{place-is, place-within}
 use Rattle.laz_chunk.proofs.Steps.{ReadsRecord, part-length, take-step}
 use Rattle.laz_chunk.proofs.records.take_all.Goals as goal
 

@@ -1,7 +1,7 @@
 use Rattle.std.proofs.Common.{refl, subst, below_more, Option, List, ℕ}
 use Rattle.std.specs.Prelude.{IsSome}
 use Rattle.laz_workers.specs.Rooms.{rooms_of}
-use Rattle.laz_workers.proofs.Standing.{stands_below}
+use Rattle.laz_workers.proofs.Public.{stands_below}
 use Rattle.laz_file.proofs.answers.good_answers.Goals as goal
 
 pub result-requires : goal.result-requires

@@ -3,7 +3,7 @@ use Rattle.std.proofs.lemmas.Bool.{cases_lt}
 use Rattle.std.proofs.lemmas.Bool.Decides.{nat_tests}
 use Rattle.std.proofs.lemmas.List.{get_or-take, length-take-le}
 use Rattle.las_header.specs.declared.refusal.Refusal.TheVariants.{BadChunk}
-use Rattle.las_outside.proofs.Frames.{reads-more}
+use Rattle.las_outside.proofs.Public.{reads-more}
 use Rattle.laz_chunk.specs.Layouts.{layout, record_length}
 use Rattle.laz_file.specs.Unpacking.{HoldsNone}
 use Rattle.laz_file.proofs.Knowing.{known_then}

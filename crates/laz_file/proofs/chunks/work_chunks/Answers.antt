@@ -2,7 +2,7 @@ use Rattle.std.proofs.Common.{◌≡◌, ◌<◌, ◌≤◌, ◌∙◌, length, 
 use Rattle.laz_chunk.specs.Layouts.{layout}
 use Rattle.laz_workers.specs.Rooms.{lengths_of, rooms_of}
 use Rattle.laz_workers.specs.Work.{texts}
-use Rattle.laz_workers.proofs.Texts.{length-texts}
+use Rattle.laz_workers.proofs.Public.{length-texts}
 use Rattle.laz_file.specs.Pieces.{piece_bytes, pieces_from}
 use Rattle.laz_file.proofs.Knowing.{known_then}
 use Rattle.laz_file.proofs.BatchAnswers.{blocks_answered, inputs_fit, length_answered, none_in_chunk, only_in_chunk, refused_there}

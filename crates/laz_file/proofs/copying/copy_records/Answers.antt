@@ -1,7 +1,7 @@
 use Rattle.std.proofs.Common.{◌≡◌, ◌+◌, ℕ, List, Option, [], ◌++◌, take, refl, Err, sym, ◌∙◌, ap, subst, arith}
 use Rattle.std.specs.List.{concat}
 use Rattle.las_outside.specs.Files.{FileMap, WhereKnown}
-use Rattle.las_outside.proofs.Frames.{later-refl, later-trans}
+use Rattle.las_outside.proofs.Public.{later-refl, later-trans}
 use Rattle.laz_file.specs.Copying.{LeavesPart, Takes, with_reads}
 use Rattle.laz_file.specs.Reading.{ReaderSeen, StandsFor}
 use Rattle.laz_file.specs.Records.{HoldOnly, IsBadPiece}

@@ -1,7 +1,7 @@
 use Rattle.std.proofs.Common.{◌≡◌, Err, ◌+◌, ◌*◌, ◌%◌, ◌≤◌, ◌<◌, ℕ, List, ◌++◌, length, take, drop, refl, sym, ◌∙◌, ap, subst, arith}
 use Rattle.std.specs.List.{concat}
 use Rattle.std.proofs.lemmas.List.{take_all}
-use Rattle.las_outside.proofs.Frames.{calm-refl, calm-trans, only_writes-refl, only_writes-trans}
+use Rattle.las_outside.proofs.Public.{calm-refl, calm-trans, only_writes-refl, only_writes-trans}
 use Rattle.laz_file.specs.Copying.{LeavesPart, Takes, with_reads}
 use Rattle.laz_file.proofs.Copies.{concat_more, concat_rest, even_block, room_block}
 use Rattle.laz_file.proofs.Putting.{if_err}

@@ -1,5 +1,5 @@
 use Rattle.std.proofs.Common.{◌≡◌, ◌<◌, ℕ, length, take, drop, get_or, sym, ◌∙◌, ap, arith}
-use Rattle.las_outside.proofs.Frames.{calm-trans, reads-more, reads-trans}
+use Rattle.las_outside.proofs.Public.{calm-trans, reads-more, reads-trans}
 use Rattle.laz_file.specs.Pieces.{Piece, piece_bytes, pieces_from}
 use Rattle.laz_file.specs.Unpacking.{IsInput, unpack_input}
 use Rattle.laz_file.proofs.Knowing.{known_at, known_both, known_then}

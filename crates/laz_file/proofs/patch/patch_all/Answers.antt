@@ -3,7 +3,7 @@ use Rattle.std.proofs.lemmas.List.Elements.{All-take}
 use Rattle.las_outside.specs.Drafts.{IsPatchedInPart, Patch, with_patches}
 use Rattle.las_outside.specs.Files.{with_patch}
 use Rattle.las_outside.specs.Outside.{with_bytes}
-use Rattle.las_outside.proofs.Frames.{only_writes-trans}
+use Rattle.las_outside.proofs.Public.{only_writes-trans}
 use Rattle.laz_file.proofs.Patching.{LiesIn, length-with_patches, patched_part, with_patches-more}
 use Rattle.laz_file.proofs.Putting.{if_err}
 use Rattle.laz_file.proofs.patch.patch_all.Goals as goal

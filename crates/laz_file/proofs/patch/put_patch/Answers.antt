@@ -2,7 +2,7 @@ use Rattle.std.proofs.Common.{◌≡◌, ℕ, ◌+◌, ◌≤◌, List, length, 
 use Rattle.las_outside.specs.Drafts.{Patch}
 use Rattle.las_outside.specs.Files.{with_patch}
 use Rattle.las_outside.specs.Outside.{with_bytes, with_write_fault}
-use Rattle.las_outside.proofs.FileLaws.{changed_after, failed_after, known_of}
+use Rattle.las_outside.proofs.Public.{changed_after, failed_after, known_of}
 use Rattle.laz_file.proofs.patch.put_patch.Goals as goal
 
 -- the patch as it is passed on

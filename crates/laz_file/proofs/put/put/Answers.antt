@@ -1,5 +1,5 @@
 use Rattle.std.proofs.Common.{◌++◌, take}
-use Rattle.las_outside.proofs.FileLaws.{changed_after, failed_after, known_of}
+use Rattle.las_outside.proofs.Public.{changed_after, failed_after, known_of}
 use Rattle.laz_file.proofs.put.put.Goals as goal
 
 pub append-requires : goal.append-requires

@@ -1,13 +1,12 @@
 use Rattle.std.proofs.Common.{◌≡◌, ◌<◌, ℕ, List, [], ◌∷◌, ◌++◌, length, take, map, get_or, sym, ◌∙◌, ap, subst, append_assoc, arith}
 use Rattle.std.proofs.lemmas.List.{append-nil}
 use Rattle.las_outside.specs.Outside.{Outside, with_bytes}
-use Rattle.las_outside.proofs.Frames.{only_writes-trans}
+use Rattle.las_outside.proofs.Public.{only_writes-trans}
 use Rattle.laz_chunk.specs.Chunks.{chunk_bytes}
 use Rattle.laz_chunk.specs.Layouts.{layout}
 use Rattle.laz_workers.specs.Rooms.{rooms_of}
 use Rattle.laz_workers.specs.Work.{texts}
-use Rattle.laz_workers.proofs.Standing.{answer_there}
-use Rattle.laz_workers.proofs.Texts.{length-texts}
+use Rattle.laz_workers.proofs.Public.{answer_there, length-texts}
 use Rattle.laz_file.specs.Writing.{IsChunk, Stops, all_chunks, chunks}
 use Rattle.laz_file.proofs.Putting.{if_err, in_part, is_lent, joined_more, lent_is, lent_small, sizes_more}
 use Rattle.laz_file.proofs.put.put_chunks.Goals as goal

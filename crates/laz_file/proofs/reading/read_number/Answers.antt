@@ -1,6 +1,6 @@
 use Rattle.std.proofs.Common.{sym, ◌∙◌, ap}
 use Rattle.las_header.specs.Numbers.{number_at}
-use Rattle.las_header.proofs.NumberLemmas.{number_at-part}
+use Rattle.las_header.proofs.Public.{number_at-part}
 use Rattle.laz_file.proofs.Knowing.{known_then}
 use Rattle.laz_file.proofs.reading.read_number.Goals as goal
 

@@ -1,6 +1,6 @@
 use Rattle.std.proofs.Common.{◌/◌, length, ap, arith}
 use Rattle.las_header.specs.declared.counts.Counts.{Counts}
-use Rattle.las_header.proofs.Cutting.{left_first, left_next}
+use Rattle.las_header.proofs.Public.{left_first, left_next}
 use Rattle.laz_file.proofs.Tallying.{all_counted, none_counted, one_counted}
 use Rattle.laz_file.proofs.tally.count_all.Goals as goal
 

@@ -3,7 +3,7 @@ use Rattle.laz_gpstime.specs.Choices.{time_symbol_cuts}
 use Rattle.laz_gpstime.specs.State.{state_of}
 use Rattle.laz_gpstime.specs.Slots.{difference_of}
 use Rattle.laz_gpstime.specs.Times.{new_symbol, symbols_of}
-use Rattle.laz_range.proofs.Composition.{Takes-fewer}
+use Rattle.laz_range.proofs.Public.{Takes-fewer}
 use Rattle.laz_gpstime.proofs.Fronts.{symbols-are}
 use Rattle.laz_gpstime.proofs.reading.take_last_symbol.Goals as goal
 

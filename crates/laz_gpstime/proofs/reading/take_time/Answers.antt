@@ -3,7 +3,7 @@ use Rattle.laz_gpstime.specs.Choices.{IsFront, IsRest, Front, Rest, front_cuts, 
 use Rattle.laz_gpstime.specs.State.{state_of}
 use Rattle.laz_gpstime.specs.Slots.{difference_of}
 use Rattle.laz_gpstime.proofs.Rests.{all-after}
-use Rattle.laz_range.proofs.Refusals.{Refuses-first}
+use Rattle.laz_range.proofs.Public.{Refuses-first}
 use Rattle.laz_gpstime.proofs.reading.take_time.Goals as goal
 
 pub returns-in_err-symbol-clause-reads : goal.returns-in_err-symbol-clause-reads

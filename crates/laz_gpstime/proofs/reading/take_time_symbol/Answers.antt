@@ -1,7 +1,7 @@
 use Rattle.std.proofs.Common.{◌<◌, refl, arith}
 use Rattle.laz_models.specs.Bank.{model_at}
 use Rattle.laz_models.specs.Dist.{alphabet_size}
-use Rattle.laz_integer.proofs.Choices.{Reads-equal}
+use Rattle.laz_integer.proofs.Public.{Reads-equal}
 use Rattle.laz_gpstime.specs.Choices.{time_symbol_cuts}
 use Rattle.laz_gpstime.specs.State.{state_of}
 use Rattle.laz_gpstime.specs.Slots.{difference_of}

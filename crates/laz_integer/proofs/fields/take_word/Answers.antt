@@ -1,5 +1,5 @@
 use Rattle.std.proofs.Common.{false, refl}
-use Rattle.laz_range.proofs.Composition.{Takes-empty}
+use Rattle.laz_range.proofs.Public.{Takes-empty}
 use Rattle.laz_integer.specs.Fields.{IsWord, word_cuts}
 use Rattle.laz_integer.proofs.Spellings.{fixed-reads}
 use Rattle.laz_integer.proofs.Words.{word-pos, word-value}

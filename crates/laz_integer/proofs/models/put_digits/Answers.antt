@@ -1,7 +1,7 @@
 use Rattle.std.proofs.Common.{◌-◌, ◌/◌, ◌%◌, ◌^◌, [], ◌∷◌, arith}
 use Rattle.std.proofs.lemmas.Nat.{and_mask, one_shl}
 use Rattle.laz_range.specs.Cut.{raw_cuts}
-use Rattle.laz_range.proofs.Whole.{Codes-append}
+use Rattle.laz_range.proofs.Public.{Codes-append}
 use Rattle.laz_integer.specs.Integer.{symbol_cut, high_at}
 use Rattle.laz_integer.specs.Models.{state_of}
 use Rattle.laz_integer.proofs.Choices.{cuts-narrow, cuts-wide, next-narrow, next-wide}

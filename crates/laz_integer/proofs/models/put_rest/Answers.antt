@@ -1,5 +1,5 @@
 use Rattle.std.proofs.Common.{◌<◌, refl, arith}
-use Rattle.laz_range.proofs.Composition.{Codes-none}
+use Rattle.laz_range.proofs.Public.{Codes-none}
 use Rattle.laz_integer.specs.Models.{state_of}
 use Rattle.laz_integer.proofs.Correctors.{choices-more}
 use Rattle.laz_integer.proofs.Choices.{cuts-zero, cuts-most, next-zero, next-most}

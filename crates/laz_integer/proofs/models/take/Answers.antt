@@ -1,6 +1,6 @@
 use Rattle.std.proofs.Common.{◌<◌, ◌≤◌, [], ◌∷◌}
 use Rattle.std.proofs.lemmas.Result.{err_from_is_err_and}
-use Rattle.laz_range.proofs.Composition.{Takes-then, TakesNone-first, TakesNone-second}
+use Rattle.laz_range.proofs.Public.{Takes-then, TakesNone-first, TakesNone-second}
 use Rattle.laz_models.specs.Bank.{model_at}
 use Rattle.laz_integer.specs.Corrector.{choices}
 use Rattle.laz_integer.specs.Integer.{symbol_cut, symbol_next}

@@ -3,7 +3,7 @@ use Rattle.laz_range.specs.Decoding.{symbol_place}
 use Rattle.laz_models.specs.Bank.{model_at}
 use Rattle.laz_models.specs.Dist.{alphabet_size}
 use Rattle.laz_models.specs.Lookup.{search_bits}
-use Rattle.laz_models.proofs.Lookups.{step-below}
+use Rattle.laz_models.proofs.Public.{step-below}
 use Rattle.laz_integer.proofs.Nears.{near-small, reached-first, reached-more, reached-next}
 use Rattle.laz_integer.proofs.symbols.near_next_of.Goals as goal
 

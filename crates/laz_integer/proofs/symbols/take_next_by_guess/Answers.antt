@@ -6,7 +6,7 @@ use Rattle.laz_range.specs.Decoding.{Takes, TakesNone, RunsOut, symbol_place}
 use Rattle.laz_models.specs.Dist.{alphabet_size}
 use Rattle.laz_models.specs.Bank.{model_at}
 use Rattle.laz_models.specs.Lookup.{search_bits}
-use Rattle.laz_models.proofs.Lookups.{step-below}
+use Rattle.laz_models.proofs.Public.{step-below}
 use Rattle.laz_integer.proofs.Nears.{chosen-first}
 use Rattle.laz_integer.proofs.SymbolParts.{symbol_at-last, symbol-takes, symbol-none}
 use Rattle.laz_integer.proofs.symbols.take_next_by_guess.Goals as goal

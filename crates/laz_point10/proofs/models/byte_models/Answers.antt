@@ -1,4 +1,4 @@
-use Rattle.laz_integer.proofs.BankModels.{new-stands}
+use Rattle.laz_integer.proofs.Public.{new-stands}
 use Rattle.laz_point10.proofs.models.byte_models.Goals as goal
 
 pub returns-clause-stands : goal.returns-clause-stands

@@ -1,5 +1,5 @@
 use Rattle.laz_point10.specs.PointEvents.{intensity_kind, point_source_kind, x_kind, y_kind, z_kind}
-use Rattle.laz_integer.proofs.BankModels.{reset-stands}
+use Rattle.laz_integer.proofs.Public.{reset-stands}
 use Rattle.laz_point10.proofs.models.reset.Goals as goal
 
 pub returns-clause-stands : goal.returns-clause-stands

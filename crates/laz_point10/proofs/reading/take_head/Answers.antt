@@ -1,12 +1,11 @@
 use Rattle.std.proofs.Common.{ℕ, ◌<◌, [], ◌∷◌, rules}
 use Rattle.std.proofs.lemmas.Result.{err_from_is_err_and}
-use Rattle.laz_range.proofs.Composition.{Takes-then, TakesNone-first, TakesNone-second}
+use Rattle.laz_range.proofs.Public.{Takes-then, TakesNone-first, TakesNone-second}
 use Rattle.laz_models.specs.Bank.{model_at}
 use Rattle.laz_integer.specs.Integer.{symbol_cut}
 use Rattle.laz_integer.specs.Bytes.{has_bit}
 use Rattle.laz_integer.specs.Fields.{IsByte, byte_cuts}
-use Rattle.laz_integer.proofs.SymbolParts.{sized-takes}
-use Rattle.laz_integer.proofs.BankModels.{byte-model, first-model, sized-none}
+use Rattle.laz_integer.proofs.Public.{sized-takes, byte-model, first-model, sized-none}
 use Rattle.laz_point10.proofs.reading.take_head.Goals as goal
 
 pub returns-in_err-changes-clause-reads : goal.returns-in_err-changes-clause-reads

@@ -2,7 +2,7 @@ use Rattle.std.proofs.Common.{◌+◌, ◌/◌, rules}
 use Rattle.std.specs.Prelude.{FitsSigned}
 use Rattle.std.specs.Int.{w32}
 use Rattle.std.proofs.lemmas.Result.{err_from_is_err_and}
-use Rattle.laz_integer.proofs.Spellings.{fixed-none, fixed-reads}
+use Rattle.laz_integer.proofs.Public.{fixed-none, fixed-reads}
 use Rattle.laz_point10.specs.Points.{one_return}
 use Rattle.laz_point10.specs.PointEvents.{even_below}
 use Rattle.laz_point10.proofs.Takings.{int-counts, int-none, int-takes, int-value, place-none_first, place-none_second, place-none_third, place-takes, same-place, sum-is}

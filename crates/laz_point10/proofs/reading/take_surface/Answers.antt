@@ -1,7 +1,7 @@
 use Rattle.std.proofs.Common.{◌<◌, rules}
 use Rattle.std.proofs.lemmas.Result.{err_from_is_err_and}
 use Rattle.laz_point10.proofs.Takings.{same-surface, surface-none_first, surface-none_second, surface-takes}
-use Rattle.laz_integer.proofs.BankModels.{byte-model}
+use Rattle.laz_integer.proofs.Public.{byte-model}
 use Rattle.laz_point10.proofs.reading.take_surface.Goals as goal
 
 pub returns-in_err-intensity-clause-reads : goal.returns-in_err-intensity-clause-reads

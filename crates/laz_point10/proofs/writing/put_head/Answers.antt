@@ -1,5 +1,5 @@
 use Rattle.std.proofs.Common.{◌<◌, rules}
-use Rattle.laz_integer.proofs.BankModels.{byte-model}
+use Rattle.laz_integer.proofs.Public.{byte-model}
 use Rattle.laz_point10.proofs.writing.put_head.Goals as goal
 
 pub put_byte-requires-clause-size : goal.put_byte-requires-clause-size

@@ -2,7 +2,7 @@ use Rattle.std.proofs.Common.{refl, rules}
 use Rattle.std.specs.Prelude.{FitsSigned}
 use Rattle.std.specs.Int.{w32, int_wrapping_sub}
 use Rattle.std.proofs.lemmas.Int.{to_z-of_z}
-use Rattle.laz_range.proofs.Whole.{Codes-append}
+use Rattle.laz_range.proofs.Public.{Codes-append}
 use Rattle.laz_point10.proofs.Takings.{int-put, int-next, same-place, width-is, y-context-is, z-context-is}
 use Rattle.laz_point10.proofs.writing.put_place.Goals as goal
 

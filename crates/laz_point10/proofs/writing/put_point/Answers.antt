@@ -1,4 +1,4 @@
-use Rattle.laz_range.proofs.Whole.{Codes-append}
+use Rattle.laz_range.proofs.Public.{Codes-append}
 use Rattle.laz_point10.proofs.writing.put_point.Goals as goal
 
 pub returns-clause-codes : goal.returns-clause-codes

@@ -1,6 +1,6 @@
 use Rattle.std.proofs.Common.{◌<◌, rules}
-use Rattle.laz_range.proofs.Whole.{Codes-append}
-use Rattle.laz_integer.proofs.BankModels.{byte-model}
+use Rattle.laz_range.proofs.Public.{Codes-append}
+use Rattle.laz_integer.proofs.Public.{byte-model}
 use Rattle.laz_point10.proofs.writing.put_surface.Goals as goal
 
 pub returns-clause-codes : goal.returns-clause-codes

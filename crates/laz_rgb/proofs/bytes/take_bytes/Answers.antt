@@ -4,8 +4,7 @@ use Rattle.std.proofs.lemmas.Result.{err_from_is_err_and}
 use Rattle.laz_range.specs.Choice.{AreAsked, all_cuts}
 use Rattle.laz_range.specs.Decoding.{Takes}
 use Rattle.laz_models.specs.Bank.{model_at}
-use Rattle.laz_integer.proofs.SymbolParts.{sized-takes}
-use Rattle.laz_integer.proofs.BankModels.{sized-none}
+use Rattle.laz_integer.proofs.Public.{sized-takes, sized-none}
 use Rattle.laz_rgb.specs.Rows.{IsNext, next_cuts, next_row, row_at}
 use Rattle.laz_rgb.specs.Extra.{all_marked, extra_made}
 use Rattle.laz_rgb.proofs.Extras.{extra-model, extra-more, extra-none, first-none, first-takes, made-step, next-bank, none-made}

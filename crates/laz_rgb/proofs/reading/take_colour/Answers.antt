@@ -1,12 +1,10 @@
 use Rattle.std.proofs.Common.{◌∷◌, replicate, [], refl, ◌∙◌, arith}
 use Rattle.std.proofs.lemmas.Result.{err_from_is_err_and}
 use Rattle.laz_models.specs.Bank.{model_at}
-use Rattle.laz_integer.proofs.SymbolParts.{sized-takes}
+use Rattle.laz_integer.proofs.Public.{sized-takes, sized-none, first-model}
 use Rattle.laz_rgb.proofs.Made.{made-is}
 use Rattle.laz_rgb.proofs.Takings.{bank-high, none-changes, none-high, none-low, none-red, some-high}
-use Rattle.laz_integer.proofs.BankModels.{sized-none}
 use Rattle.laz_rgb.proofs.Walks.{sized-rows}
-use Rattle.laz_integer.proofs.BankModels.{first-model}
 use Rattle.laz_rgb.proofs.reading.take_colour.Goals as goal
 
 pub returns-in_err-symbol-clause-reads : goal.returns-in_err-symbol-clause-reads

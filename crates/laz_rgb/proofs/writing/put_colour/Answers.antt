@@ -1,6 +1,6 @@
 use Rattle.std.proofs.Common.{◌∷◌, replicate, [], length, refl, ap, ◌∙◌, arith}
 use Rattle.laz_rgb.proofs.Walks.{sized-rows}
-use Rattle.laz_integer.proofs.BankModels.{first-model}
+use Rattle.laz_integer.proofs.Public.{first-model}
 use Rattle.laz_rgb.proofs.writing.put_colour.Goals as goal
 
 pub put_symbol_of-requires-clause-symbol : goal.put_symbol_of-requires-clause-symbol

@@ -1,4 +1,4 @@
-use Rattle.laz_integer.proofs.Spellings.{fixed-reads}
+use Rattle.laz_integer.proofs.Public.{fixed-reads}
 use Rattle.laz_table.proofs.ReadingLemmas.{reads-number}
 use Rattle.laz_table.proofs.WritingLemmas.{passed-is}
 use Rattle.laz_table.proofs.reading.take_number.Goals as goal

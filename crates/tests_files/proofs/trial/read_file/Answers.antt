@@ -1,7 +1,6 @@
 use Rattle.std.proofs.Common.{◌≡◌, sym, ◌∙◌, ap}
 use Rattle.laz_file.specs.Reading.{ReaderSeen}
-use Rattle.laz_file.proofs.Knowing.{known_as, known_at, known_then}
-use Rattle.laz_file.proofs.WholeOutputs.{stands_ready}
+use Rattle.laz_file.proofs.Public.{known_as, known_at, known_then, stands_ready}
 use Rattle.tests_files.proofs.trial.read_file.Goals as goal
 
 pub read_on-requires-clause-stands : goal.read_on-requires-clause-stands

@@ -1,6 +1,6 @@
 use Rattle.std.proofs.Common.{ℕ, ◌≤◌, ◌^◌, [], map, ap, arith, ◌∙◌}
 use Rattle.std.proofs.lemmas.List.Elements.{All-nil}
-use Rattle.las_info.proofs.Shown.{none_shown}
+use Rattle.las_info.proofs.Public.{none_shown}
 use Rattle.las_info.specs.Tallies.{TapSeen, count_at}
 use Rattle.tests_parts.proofs.info.reported.Goals as goal
 

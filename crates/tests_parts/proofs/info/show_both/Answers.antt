@@ -1,7 +1,7 @@
 use Rattle.std.proofs.Common.{◌≡◌, ℕ, ◌+◌, ◌^◌, ◌<◌, ap, arith, ◌∙◌}
 use Rattle.std.specs.FinMap as map
 use Rattle.las_info.specs.Tallies.{Tally, count_at}
-use Rattle.las_info.proofs.Counting.{count-none}
+use Rattle.las_info.proofs.Public.{count-none}
 use Rattle.tests_parts.proofs.info.show_both.Goals as goal
 
 few : (tally : Tally) (bin : ℕ) → tally ≡ map.empty → count_at tally bin + 2 < 2 ^ 64

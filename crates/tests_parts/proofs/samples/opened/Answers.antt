@@ -2,7 +2,7 @@ use Rattle.std.proofs.Common.{◌≡◌, ℕ, List, length, take, None, sym, ap,
 use Rattle.std.proofs.lemmas.List.{take_min}
 use Rattle.las_header.specs.Fields.{point_offset_of}
 use Rattle.las_header.specs.Refusals.{first_cause, front_causes}
-use Rattle.las_header.proofs.CauseLemmas.{CanRead, can_read}
+use Rattle.las_header.proofs.Public.{CanRead, can_read}
 use Rattle.tests_parts.proofs.samples.opened.Goals as goal
 
 pub read-requires : goal.read-requires

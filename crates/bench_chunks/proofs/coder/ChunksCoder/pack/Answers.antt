@@ -1,7 +1,7 @@
 use Rattle.std.proofs.Common.{◌≡◌, ℕ, ◌/◌, ◌%◌, ◌≤◌, length, sym, ap, subst, ◌∙◌, arith}
 use Rattle.std.proofs.Math.Nat.{mul-mod_right}
 use Rattle.laz_chunk.specs.Layouts.{Format, layout, record_length, room_for}
-use Rattle.laz_chunk.proofs.Ends.{count-is}
+use Rattle.laz_chunk.proofs.Public.{count-is}
 use Rattle.bench_chunks.proofs.coder.ChunksCoder.pack.Goals as goal
 
 pub pack-requires-clause-whole : goal.pack-requires-clause-whole

@@ -1,5 +1,5 @@
 use Rattle.std.proofs.Common.{◌/◌, ◌∷◌, ◌++◌, ◌∙◌, [], length, ap, arith, refl}
-use Rattle.las_header.proofs.Cutting.{left_first, left_next}
+use Rattle.las_header.proofs.Public.{left_first, left_next}
 use Rattle.las_info.specs.Tallies.{shown_all}
 use Rattle.las_info.proofs.Counting.{same_parts, same_tap}
 use Rattle.las_info.proofs.Cuts.{cuts_all, cuts_first, cuts_none, cuts_one}

@@ -2,8 +2,7 @@ use Rattle.std.proofs.Common.{◌≡◌, ◌⊎◌, inr, ℕ, List, take, ◌∙
 use Rattle.std.specs.Prelude.{None, true, string_bytes}
 use Rattle.las_outside.specs.Files.{with_file}
 use Rattle.laz_file.specs.Outputs.{Output, front}
-use Rattle.laz_file.proofs.Taking.{on_err}
-use Rattle.laz_file.proofs.Unasked.{created_asked}
+use Rattle.laz_file.proofs.Public.{on_err, created_asked}
 use Rattle.las_split.proofs.Opening.{left_created, left_whole}
 use Rattle.las_split.proofs.parts.Parts.open.Goals as goal
 

@@ -1,7 +1,7 @@
 use Rattle.std.proofs.Common.{◌+◌, ◌-◌, ℕ, List, ◌++◌, length, take, drop, ◌∙◌, ap, subst, arith}
 use Rattle.std.proofs.lemmas.List.{length-drop, length-take}
 use Rattle.las_outside.specs.Outside.{with_bytes}
-use Rattle.las_outside.proofs.Frames.{only_writes-trans}
+use Rattle.las_outside.proofs.Public.{only_writes-trans}
 use Rattle.laz_file.specs.declared.fault.Fault.TheVariants.{Memory}
 use Rattle.laz_file.specs.Writing.{Plan, Stops, full_chunks}
 use Rattle.laz_file.proofs.Putting.{if_err}

@@ -1,7 +1,7 @@
 use Rattle.std.proofs.Common.{◌≡◌, ◌≤◌, ◌∙◌, ap, arith}
 use Rattle.std.proofs.lemmas.Bool.{leb-false}
 use Rattle.laz_chunk.specs.Layouts.{Format, layout, room_for}
-use Rattle.laz_chunk.proofs.Bounds.{chunk-most}
+use Rattle.laz_chunk.proofs.Public.{chunk-most}
 use Rattle.laz_file.proofs.unpack_job.UnpackJob.may_hold.Goals as goal
 
 pub returns-clause-none : goal.returns-clause-none

@@ -1,4 +1,4 @@
-use Rattle.laz_integer.proofs.BankModels.{reset-stands}
+use Rattle.laz_integer.proofs.Public.{reset-stands}
 use Rattle.laz_rgb.proofs.bytes.Bytes.start.Goals as goal
 
 pub returns : goal.returns

@@ -1,6 +1,6 @@
 use Rattle.std.proofs.Common.{◌≡◌, ◌*◌, length, rules, ◌∙◌}
 use Rattle.laz_chunk.specs.Layouts.{Format, layout, record_length}
-use Rattle.laz_chunk.proofs.Lengths.{are-enough, are-whole}
+use Rattle.laz_chunk.proofs.Public.{are-enough, are-whole}
 use Rattle.tests_coder.proofs.chunks.Trial.pack.Goals as goal
 
 pub pack-size-requires-clause-whole : goal.pack-size-requires-clause-whole
