@@ -10,6 +10,7 @@ use Rattle.las_header.specs.Fields.{head_of, is_packed, point_offset_of, points_
 use Rattle.las_header.specs.Plain.{cut_records, plain_head}
 use Rattle.las_header.specs.Refusals.{causes_of, first_cause, front_causes, head_causes}
 use Rattle.las_header.proofs.Public.{first_is_tested}
+use Rattle.las_outside.specs.Limits.{IsChunkSize}
 use Rattle.las_points.specs.Tally.{counts_of}
 use Rattle.laz_table.specs.VlrCauses.{vlr_causes}
 use Rattle.laz_table.proofs.Public.{IsBytes-append}
@@ -95,13 +96,12 @@ module _ (s : Settings) (range : IsInRange s) where
       (are_counted blank records s.points (blank-is_head s range) (blank-plain s range) (blank-laszip s range) (omega (arith, blank-length s range)) (blank-bytes s (omega (arith, range.format)))
       (records-bytes s 0 s.points) whole (omega (arith, range.points)))
 
-  pub made_can : (chunk : ℕ) → 256 ≤ chunk → chunk ≤ 250000 → CanBePacked (made_file s) chunk
-  made_can chunk least most = record {
+  pub made_can : (chunk : ℕ) → IsChunkSize chunk → CanBePacked (made_file s) chunk
+  made_can chunk size = record {
     accepted = accepted_plain (made_head s) records made_parts;
     plain = plain-kept (made_head s) records made_parts;
     bytes = IsBytes-append (made_head s) records made_parts.head_bytes made_parts.record_bytes;
-    least = least;
-    most = most;
+    size = size;
   }
 
   pub made_records-is : drop (point_offset_of (made_file s)) (made_file s) ≡ records
@@ -128,9 +128,9 @@ module _ (s : Settings) (range : IsInRange s) where
   made_plain_head = sym (plain-is (made_file s) (plain-kept (made_head s) records made_parts)) ∙ head-is (made_head s) records made_parts
 
 pub can_pack_made : CanPackMade
-can_pack_made s chunk range least most = made_can s range chunk least most
+can_pack_made s chunk range size = made_can s range chunk size
 
 pub unpacks_made : UnpacksMade
-unpacks_made s chunk range least most =
-    let can = made_can s range chunk least most in
+unpacks_made s chunk range size =
+    let can = made_can s range chunk size in
     (packed_accepted (made_file s) chunk can, unpacks_again (made_file s) chunk can)

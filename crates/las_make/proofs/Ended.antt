@@ -9,6 +9,7 @@ use Rattle.las_header.specs.Plain.{plain_head}
 use Rattle.las_outside.specs.Drafts.{IsPatchedInPart}
 use Rattle.las_outside.specs.Faults.{Rose}
 use Rattle.las_outside.specs.Files.{FileMap, IsMissing, WhereKnown, with_file}
+use Rattle.las_outside.specs.Limits.{IsChunkSize}
 use Rattle.las_outside.specs.Outside.{Outside, with_bytes, with_read_fault}
 use Rattle.las_outside.proofs.Public.{get-insert_same}
 use Rattle.laz_file.specs.Asking.{AsksAtMost, asked_to_open}
@@ -67,8 +68,8 @@ module _ (s : Settings) (range : IsInRange s) (plain packed : List ℕ) (chunk :
       let records = concat (made_records s) in
       inr (form, inr (subst (IsPatchedInPart (draft_of out records) (patches_of out records)) whole_form (all_patched (draft_of out records) (patches_of out records))), refl)
 
-  pub made_known : (held : Option FileMap) → 256 ≤ chunk → chunk ≤ 250000 → WhereKnown (with_file held plain made) plain (λ file. CanBePacked file chunk)
-  made_known held least most = known_here held plain made (λ file. CanBePacked file chunk) (made_can s range chunk least most)
+  pub made_known : (held : Option FileMap) → IsChunkSize chunk → WhereKnown (with_file held plain made) plain (λ file. CanBePacked file chunk)
+  made_known held size = known_here held plain made (λ file. CanBePacked file chunk) (made_can s range chunk size)
 
   -- what stands if packing ends
   pub form_whole : (held new : Option FileMap) → is_some new ≡ is_some held → WhereKnown (with_file held plain made) plain (λ file. new ≡ with_file (with_file held plain made) packed (packed_file file chunk)) → new ≡ with_made plain packed s chunk held

@@ -19,8 +19,8 @@ use Rattle.laz_file.specs.declared.fault.Fault.{Fault}
 use Rattle.laz_file.specs.declared.fault.Fault.TheVariants.{Refused, Read, Write, Memory}
 use Rattle.laz_file.specs.Copying.{LeavesUnfinished}
 use Rattle.laz_file.specs.Outputs.{Output, draft_of, patches_of, stopped}
-use Rattle.laz_file.specs.Writing.{SameFaults, Stands, Stops, WriterSeen}
-use Rattle.laz_file.proofs.Public.{leaves_part, held_after, stops_asked}
+use Rattle.laz_file.specs.Writing.{Stands, Stops, WriterSeen}
+use Rattle.laz_file.proofs.Public.{leaves_part, held_after}
 use Rattle.las_make.specs.declared.settings.Settings.{Settings}
 use Rattle.las_make.specs.Made.{IsInRange, blank_head, made_head, made_length, made_record, made_records, records_from}
 use Rattle.las_make.specs.Making.{FailsWriting}
@@ -170,11 +170,3 @@ on_err_from P (Err e) to p = to e p
 pub ok_with : {T E : Type 0} (P Q : T → Type 0) (r : Result T E) → ((x : T) → P x → Q x) → IfOk r P → IfOk r Q
 ok_with P Q (Ok x) to p = to x p
 ok_with P Q (Err e) to p = tt
-
--- no bytes are asked for while an output is finished
-pub ended_asked : {T : Type 0} (r : Result T Fault) (old mid new : Outside) (name : List ℕ) (P : List ℕ → Type 0)
-    → mid.asked ≡ old.asked → OnOk r (SameFaults mid new)
-    → IfErr r (λ fault. (left : List ℕ) × P left × Stops fault (with_bytes old name left) new) → new.asked ≡ old.asked
-ended_asked (Ok x) old mid new name P still calm stops = calm.asked ∙ still
-ended_asked (Err fault) old mid new name P still calm stops =
-    stops_asked fault (with_bytes old name stops.0) new stops.2

@@ -1,7 +1,7 @@
 -- Laws of made files.
-use Rattle.std.specs.Prelude.{ℕ, ◌≤◌, List}
+use Rattle.std.specs.Prelude.{ℕ, List}
+use Rattle.las_outside.specs.Limits.{IsChunkSize}
 use Rattle.las_outside.specs.Outside.{Outside}
-use Rattle.laz_table.specs.declared.limits.TheConstants.{MAX_CHUNK_POINTS}
 use Rattle.laz_file.specs.Laws.{CanBePacked}
 use Rattle.laz_file.specs.Packing.{packed_file}
 use Rattle.laz_file.specs.Records.{Unpacks}
@@ -13,12 +13,12 @@ use Rattle.las_make.specs.Making.{FailsMaking, LeavesMade}
 
 -- A made file is an accepted plain file that can be packed.
 abbrev pub CanPackMade : Type 0
-CanPackMade = (settings : Settings) (chunk : ℕ) → IsInRange settings → 256 ≤ chunk → chunk ≤ MAX_CHUNK_POINTS
+CanPackMade = (settings : Settings) (chunk : ℕ) → IsInRange settings → IsChunkSize chunk
     → CanBePacked (made_file settings) chunk
 
 -- Its packed form is accepted, and its plain form is the made file again.
 abbrev pub UnpacksMade : Type 0
-UnpacksMade = (settings : Settings) (chunk : ℕ) → IsInRange settings → 256 ≤ chunk → chunk ≤ MAX_CHUNK_POINTS
+UnpacksMade = (settings : Settings) (chunk : ℕ) → IsInRange settings → IsChunkSize chunk
     → IsAcceptedFile (packed_file (made_file settings) chunk)
     × Unpacks (packed_file (made_file settings) chunk) (made_file settings)
 

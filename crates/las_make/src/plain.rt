@@ -1,8 +1,9 @@
 //! The plain file: its head, with the counts of its records, and then the records, block by block.
-ghost use Rattle.std.specs.Prelude.{◌≡◌, ◌+◌, ◌*◌, ◌<◌, ◌≤◌, [], ℕ, false, min, length, vec_len, IfErr, IfOk};
+ghost use Rattle.std.specs.Prelude.{◌≡◌, ◌+◌, ◌*◌, ◌<◌, ◌≤◌, [], false, min, length, vec_len, IfErr, IfOk};
 ghost use Rattle.std.specs.Prelude.{OnErr, OnOk};
 ghost use Rattle.std.specs.List.{concat};
-ghost use Rattle.las_outside.specs.Outside.{Later, Outside, with_bytes};
+ghost use Rattle.las_outside.specs.Frames.{IsCalm, OnlyWrites};
+ghost use Rattle.las_outside.specs.Outside.{Outside, with_bytes};
 ghost use Rattle.laz_file.specs.Copying.{LeavesUnfinished};
 ghost use Rattle.laz_file.specs.Outputs.{Output};
 ghost use Rattle.laz_file.specs.Writing.{Stands};
@@ -56,14 +57,13 @@ fn push_block<R: Threads + Sync, F: Files, G: Gate>(
         (concat (records_from settings 0 next))) }
     ensures open { OnOk result (writer.new.failed ≡ false) }
     ensures most { writer.new.most ≡ writer.old.most }
-    ensures calm { OnOk result ((F.seen files.new).write_faults ≡ (F.seen files.old).write_faults) }
     ensures left { (before : Outside) (out : Output)
         → Stands before (F.seen files.old) writer.old out (concat (records_from settings 0 from))
         → OnErr result (LeavesUnfinished out (concat (made_records settings)) before.held
         (F.seen files.new).held) }
     ensures cause { IfErr result (FailsWriting (F.seen files.old) (F.seen files.new)) }
-    ensures asked { (F.seen files.new).asked ≡ (F.seen files.old).asked }
-    ensures later { Later (F.seen files.old) (F.seen files.new) }
+    ensures calm { OnOk result (IsCalm (F.seen files.old) (F.seen files.new)) }
+    ensures writes { OnlyWrites (F.seen files.old) (F.seen files.new) }
 {
     let count = PLAIN_BLOCK.min(settings.points - from);
     let end = record_length(settings) * count as usize;
@@ -99,8 +99,7 @@ fn push_records<R: Threads + Sync, F: Files, G: Gate>(
         → OnErr result (LeavesUnfinished out (concat (made_records settings)) before.held
         (F.seen files.new).held) }
     ensures cause { IfErr result (FailsWriting (F.seen files.old) (F.seen files.new)) }
-    ensures asked { (F.seen files.new).asked ≡ (F.seen files.old).asked }
-    ensures later { Later (F.seen files.old) (F.seen files.new) }
+    ensures writes { OnlyWrites (F.seen files.old) (F.seen files.new) }
 {
     let mut generator = Generator::new(settings.seed);
     let mut from = 0;
@@ -130,8 +129,7 @@ pub(crate) fn write_plain<R: Threads + Sync, F: Files, G: Gate>(
     ensures length { IfOk result (λ size. size ≡ length (made_file settings)) }
     ensures left { OnErr result (LeavesPlain output.now settings (F.seen files.old).held (F.seen files.new).held) }
     ensures cause { IfErr result (FailsWriting (F.seen files.old) (F.seen files.new)) }
-    ensures asked { (F.seen files.new).asked ≡ (F.seen files.old).asked }
-    ensures later { Later (F.seen files.old) (F.seen files.new) }
+    ensures writes { OnlyWrites (F.seen files.old) (F.seen files.new) }
 {
     let alloc = machine.alloc;
     let head = blank_head(alloc, settings)?.with_counts(count_records(settings));

@@ -57,10 +57,6 @@ pub on_err_from : {T E Q : Type 0} (P : E → Type 0) (r : Result T E) → ((e :
 on_err_from P (Ok x) to p = tt
 on_err_from P (Err e) to p = to e p
 
-pub on_ok_both : {T E P Q R : Type 0} (r : Result T E) → (P → Q → R) → OnOk r P → OnOk r Q → OnOk r R
-on_ok_both (Ok x) to p q = to p q
-on_ok_both (Err e) to p q = tt
-
 pub on_ok_any : {T E P : Type 0} (r : Result T E) → P → OnOk r P
 on_ok_any (Ok x) p = p
 on_ok_any (Err e) p = tt

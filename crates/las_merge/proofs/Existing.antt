@@ -1,5 +1,5 @@
 -- Something comes of a merge: a cause that keeps inputs from being merged or copied, or records and chunks.
-use Rattle.std.proofs.Common.{◌≡◌, ◌⊎◌, inl, inr, ℕ, zero, suc, ◌+◌, ◌<◌, ◌≤◌, ◌^◌, Bool, true, false, List, [], ◌∷◌, ◌++◌, length, map, take, Option, Some, None, refl, sym, ◌∙◌, ap, subst, length-append, arith}
+use Rattle.std.proofs.Common.{◌≡◌, ◌⊎◌, inl, inr, ℕ, zero, suc, ◌+◌, ◌<◌, ◌≤◌, ◌^◌, Bool, true, false, List, [], ◌∷◌, ◌++◌, length, map, Option, Some, None, refl, sym, ◌∙◌, ap, subst, length-append, arith}
 use Rattle.std.specs.Prelude.{All}
 use Rattle.std.specs.FinMap as finmap
 use Rattle.std.specs.List.{concat}
@@ -12,7 +12,7 @@ use Rattle.las_header.specs.Fields.{head_of, is_packed}
 use Rattle.las_outside.specs.Files.{FileMap}
 use Rattle.laz_range.specs.Span.{IsBytes}
 use Rattle.laz_table.specs.declared.limits.TheConstants.{MAX_CHUNKS}
-use Rattle.laz_copied.specs.Copied.{AreChunks, Chunk, HaveChunks, all_of, chunk_at, first_head, points_in}
+use Rattle.laz_copied.specs.Copied.{Chunk, HaveChunks, all_of, chunk_at, first_head, points_in}
 use Rattle.laz_file.specs.declared.fault.Fault.TheVariants as fault
 use Rattle.laz_file.specs.Existing.{HasAnAnswer, HasPieces, HasSomeRecords, IsNotNone}
 use Rattle.laz_file.specs.Records.{AreRecordsOf}
@@ -24,7 +24,7 @@ use Rattle.las_merge.specs.declared.fault.MergeFault.TheVariants.{At, Unequal, T
 use Rattle.las_merge.specs.Existing.{AreKeptOrCopied, AreKeptOrMerged, HoldBytes, MergesToSomething}
 use Rattle.las_merge.specs.Fields.{first_difference}
 use Rattle.las_merge.specs.Inputs.{AreFirst, CanMerge, IsKeptBy, Reaches, item_at}
-use Rattle.las_merge.specs.Merging.{AreBefore, BadPlace, HasRecords, HaveRecords, MergesTo}
+use Rattle.las_merge.specs.Merging.{BadPlace, HasRecords, MergesTo}
 use Rattle.las_merge.specs.Packed.{AreFirstPacked, CanCopyFrom, IsKeptFromCopying, IsPacked, ReachesPacked}
 use Rattle.las_merge.proofs.Opened.{no_difference}
 

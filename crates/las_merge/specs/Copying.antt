@@ -13,7 +13,7 @@ use Rattle.laz_file.specs.declared.fault.Fault.TheVariants as fault
 use Rattle.laz_file.specs.Copying.{AreOnlyRecords, LeavesPart, LeavesUnfinished}
 use Rattle.laz_file.specs.Outputs.{Output, stopped}
 use Rattle.laz_file.specs.Records.{AreRecordsOf}
-use Rattle.laz_file.specs.Writing.{Stands, WriterSeen}
+use Rattle.laz_file.specs.Writing.{WriterSeen}
 use Rattle.las_merge.specs.declared.copying.BadInput.{BadInput}
 use Rattle.las_merge.specs.declared.fault.MergeFault.{MergeFault}
 use Rattle.las_merge.specs.declared.fault.MergeFault.TheVariants.{At, Unequal, TooManyPoints, TooManyChunks, Write}

@@ -1,4 +1,5 @@
--- That something comes of a merge, whatever the inputs are: a cause that keeps them from being merged, or their records.
+-- That something comes of a merge, whatever the inputs are: a cause that keeps them from being merged, or their
+-- records.
 use Rattle.std.specs.Prelude.{◌≡◌, ◌⊎◌, ℕ, All, List, Option, Some}
 use Rattle.std.specs.FinMap as finmap
 use Rattle.las_outside.specs.Files.{FileMap}

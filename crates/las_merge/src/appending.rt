@@ -3,7 +3,9 @@ ghost use Rattle.std.specs.Prelude.{◌≡◌, ◌≢◌, ◌+◌, ◌++◌, ◌
 ghost use Rattle.std.specs.Prelude.{IfErr, OnErr, OnOk};
 ghost use Rattle.std.specs.List.{concat};
 ghost use Rattle.las_outside.specs.Files.{WhereKnown, with_file};
-ghost use Rattle.las_outside.specs.Outside.{Later, Outside, with_bytes, with_write_fault};
+ghost use Rattle.las_outside.specs.Frames.{IsCalm, OnlyWrites};
+ghost use Rattle.las_outside.specs.Outside.{Outside, with_bytes, with_write_fault};
+ghost use Rattle.laz_file.specs.Asking.{ReadsAndWrites};
 ghost use Rattle.las_merge.specs.Appending.{IsCopyFault, LiesIn, part_in, part_of, with_reads};
 
 use crate::MergeFault;
@@ -22,7 +24,7 @@ pub(crate) fn append_all<F: Files>(files: &mut F, name: &str, bytes: &[u8]) -> R
     ensures stopped { (before : Outside) (text : List ℕ) → F.seen files.old ≡ with_bytes before name.now text
         → OnErr result ((n : ℕ) × (F.seen files.new
         ≡ with_write_fault (with_bytes before name.now (text ++ take n bytes.now)))) }
-    ensures later { Later (F.seen files.old) (F.seen files.new) }
+    ensures writes { OnlyWrites (F.seen files.old) (F.seen files.new) }
 {
     let mut done = 0;
     'pieces: while done < bytes.len() {
@@ -52,10 +54,9 @@ fn copy_piece<F: Files>(
         → OnErr result ((n : ℕ) × ((F.seen files.new).held ≡ with_file before.held output.now
         (text ++ take n (part_in (F.seen files.old).held input.now place (length buffer.old))))) }
     ensures cause { IfErr result (IsCopyFault (λ n. n ≡ number) (F.seen files.old) (F.seen files.new)) }
-    ensures reads_calm { OnOk result ((F.seen files.new).read_faults ≡ (F.seen files.old).read_faults) }
-    ensures asked { (F.seen files.new).asked ≤ (F.seen files.old).asked + length buffer.old }
     ensures room { length buffer.new ≡ length buffer.old }
-    ensures later { Later (F.seen files.old) (F.seen files.new) }
+    ensures calm { OnOk result (IsCalm (F.seen files.old) (F.seen files.new)) }
+    ensures frame { ReadsAndWrites (length buffer.old) (F.seen files.old) (F.seen files.new) }
 {
     match files.read_at(input, place, buffer) {
         Ok(()) => {}
@@ -89,10 +90,9 @@ fn copy_part<F: Files>(
         → OnErr result ((n : ℕ) × ((F.seen files.new).held ≡ with_file before.held output.now
         (text ++ take n (part_in (F.seen files.old).held input.now place size)))) }
     ensures cause { IfErr result (IsCopyFault (λ n. n ≡ number) (F.seen files.old) (F.seen files.new)) }
-    ensures reads_calm { OnOk result ((F.seen files.new).read_faults ≡ (F.seen files.old).read_faults) }
-    ensures asked { (F.seen files.new).asked ≤ (F.seen files.old).asked + size }
     ensures room { length buffer.new ≡ length buffer.old }
-    ensures later { Later (F.seen files.old) (F.seen files.new) }
+    ensures calm { OnOk result (IsCalm (F.seen files.old) (F.seen files.new)) }
+    ensures frame { ReadsAndWrites size (F.seen files.old) (F.seen files.new) }
 {
     let mut done = 0;
     'pieces: while done < size {
@@ -124,10 +124,9 @@ pub(crate) fn copy_all<F: Files>(
         (text ++ take n (concat (map (part_of (F.seen files.old).held) sources.now))))) }
     ensures cause { IfErr result
         (IsCopyFault (λ n. n < length sources.now) (F.seen files.old) (F.seen files.new)) }
-    ensures reads_calm { OnOk result ((F.seen files.new).read_faults ≡ (F.seen files.old).read_faults) }
-    ensures asked { (F.seen files.new).asked
-        ≤ (F.seen files.old).asked + sum_by (λ source. source.size) sources.now }
-    ensures later { Later (F.seen files.old) (F.seen files.new) }
+    ensures calm { OnOk result (IsCalm (F.seen files.old) (F.seen files.new)) }
+    ensures frame { ReadsAndWrites (sum_by (λ source. source.size) sources.now)
+        (F.seen files.old) (F.seen files.new) }
 {
     'sources: for i in 0..sources.len() {
         let source = &sources[i];

@@ -1,20 +1,20 @@
 //! The records of the inputs, which go one input after another into the output.
-ghost use Rattle.std.specs.Prelude.{◌≡◌, ◌≢◌, ◌*◌, ◌+◌, ◌<◌, ◌≤◌, ◌^◌, ℕ, List, All, None, Some, false, length, sum_by};
+ghost use Rattle.std.specs.Prelude.{◌≡◌, ◌≢◌, ◌*◌, ◌+◌, ◌<◌, ◌≤◌, ℕ, List, All, None, Some, false, length};
 ghost use Rattle.std.specs.Prelude.{IfErr, IfOk, OnErr, OnOk};
 ghost use Rattle.las_header.specs.Fields.{points_of, record_length_of};
 ghost use Rattle.las_outside.specs.Files.{WhereKnown};
 ghost use Rattle.las_outside.specs.Frames.{IsCalm};
 ghost use Rattle.las_outside.specs.Limits.{AreWorkers};
 ghost use Rattle.las_outside.specs.Outside.{Later};
-ghost use Rattle.laz_file.specs.Asking.{AsksAtMost, bytes_left};
+ghost use Rattle.laz_file.specs.Asking.{AsksAtMost, ReadsAndWrites, bytes_left};
 ghost use Rattle.laz_file.specs.Copying.{CanTake, HasCause, LeavesPart, Takes};
-ghost use Rattle.laz_file.specs.Reading.{IsNewReader, ReaderSeen, StandsFor, records_in};
+ghost use Rattle.laz_file.specs.Reading.{IsNewReader, StandsFor, records_in};
 ghost use Rattle.laz_file.specs.Writing.{IsBegun};
 ghost use Rattle.las_merge.specs.Asking.{asked_of_all, asked_to_read};
 ghost use Rattle.las_merge.specs.Inputs.{IfKnown};
 ghost use Rattle.las_merge.specs.Copying.{BeginsWith, CopiesTo, CopiesUpTo, FailsCopying, HasRoom};
 ghost use Rattle.las_merge.specs.Copying.{IsFaultOf};
-ghost use Rattle.las_merge.specs.Opening.{InputSeen, IsOpen, fault_of, names_read, points_read};
+ghost use Rattle.las_merge.specs.Opening.{IsOpen, fault_of, names_read, points_read};
 
 use crate::MergeFault;
 use crate::input::Input;
@@ -57,8 +57,7 @@ fn copy_input<R: Threads + Sync, F: Files, G: Gate>(
     ensures most { OnOk result (writer.new.most ≡ writer.old.most) }
     ensures cause { IfErr result (HasCause (F.seen files.old) (F.seen files.new)) }
     ensures calm { OnOk result (IsCalm (F.seen files.old) (F.seen files.new)) }
-    ensures asked { AsksAtMost (bytes_left reader) (F.seen files.old) (F.seen files.new) }
-    ensures later { Later (F.seen files.old) (F.seen files.new) }
+    ensures frame { ReadsAndWrites (bytes_left reader) (F.seen files.old) (F.seen files.new) }
 {
     let mut reader = reader;
     let hands = reader.hands(machine.workers);

@@ -1,18 +1,18 @@
 //! Packed files that are merged by copying their chunks.
-ghost use Rattle.std.specs.Prelude.{◌≡◌, ◌≢◌, ◌⊎◌, ◌+◌, ◌++◌, ◌^◌, ◌<◌, ◌≤◌, ℕ, List, All, true, length, map, sum};
+ghost use Rattle.std.specs.Prelude.{◌≡◌, ◌≢◌, ◌+◌, ◌++◌, ◌<◌, ◌≤◌, ℕ, List, All, true, length, sum};
 ghost use Rattle.std.specs.Prelude.{sum_by};
 ghost use Rattle.std.specs.Prelude.{IfErr, IfOk, IsErrOf, OnErr, OnOk, string_bytes};
 ghost use Rattle.byteorder.specs.Endian.{little_bytes};
 ghost use Rattle.las_header.specs.Fields.{is_packed};
 ghost use Rattle.las_header.specs.Vlrs.{laszip_vlrs_of};
 ghost use Rattle.las_outside.specs.Faults.{Rose};
-ghost use Rattle.las_outside.specs.Frames.{IsCalm};
+ghost use Rattle.las_outside.specs.Frames.{IsCalm, OnlyWrites};
 ghost use Rattle.las_outside.specs.Outside.{Later, with_bytes};
 ghost use Rattle.laz_table.specs.declared.limits.TheConstants.{COUNTED_CHUNKS, MAX_CHUNKS};
 ghost use Rattle.laz_table.specs.Table.{table_bytes};
 ghost use Rattle.laz_file.specs.declared.fault.Fault.{Fault};
 ghost use Rattle.laz_file.specs.declared.fault.Fault.TheVariants as file;
-ghost use Rattle.laz_file.specs.Asking.{AsksAtMost};
+ghost use Rattle.laz_file.specs.Asking.{AsksAtMost, ReadsAndWrites};
 ghost use Rattle.laz_file.specs.Packing.{packed_head};
 ghost use Rattle.laz_copied.specs.Copied.{Chunk};
 ghost use Rattle.las_merge.specs.declared.fault.MergeFault.{MergeFault};
@@ -108,8 +108,7 @@ fn begin<F: Files>(files: &mut F, output: &str, head: &[u8], place: u64) -> Resu
     ensures left { OnErr result (LeavesPrefix (F.seen files.old).held (F.seen files.new).held output.now
         (head.now ++ little_bytes 8 place)) }
     ensures rose { OnErr result (Rose (F.seen files.old).write_faults (F.seen files.new).write_faults) }
-    ensures asked { (F.seen files.new).asked ≡ (F.seen files.old).asked }
-    ensures later { Later (F.seen files.old) (F.seen files.new) }
+    ensures writes { OnlyWrites (F.seen files.old) (F.seen files.new) }
 {
     files.create(output)?;
     append_all(files, output, head)?;
@@ -135,10 +134,9 @@ fn write<F: Files>(
         (copied_text (F.seen files.old).held frame.old.head.bytes frame.old.place sources.now frame.old.table.items)) }
     ensures cause { IfErr result
         (IsCopyFault (λ n. n < length sources.now) (F.seen files.old) (F.seen files.new)) }
-    ensures reads_calm { OnOk result ((F.seen files.new).read_faults ≡ (F.seen files.old).read_faults) }
-    ensures asked { (F.seen files.new).asked
-        ≤ (F.seen files.old).asked + sum_by (λ source. source.size) sources.now }
-    ensures later { Later (F.seen files.old) (F.seen files.new) }
+    ensures calm { OnOk result (IsCalm (F.seen files.old) (F.seen files.new)) }
+    ensures frame { ReadsAndWrites (sum_by (λ source. source.size) sources.now)
+        (F.seen files.old) (F.seen files.new) }
 {
     match begin(files, output, frame.head.bytes(), frame.place) {
         Ok(()) => {}

@@ -44,7 +44,8 @@ pub fn copied_inputs_are_merged()
 {}
 
 /// Something comes of a merge, whatever the inputs are: that nothing keeps them from being merged, or their chunks from
-/// being copied, and that they can't be merged or copied, is refuted. So it is that merging accepted files gives nothing.
+/// being copied, and that they can't be merged or copied, is refuted. So it is that merging accepted files gives
+/// nothing.
 pub fn merging_gives_something()
     ensures merged { AreKeptOrMerged }
     ensures records { MergesToSomething }

@@ -1,11 +1,9 @@
 //! Packed inputs whose chunks are copied: opened one after another, with what their tables say of their chunks.
-ghost use Rattle.std.specs.Prelude.{◌≡◌, ◌+◌, ◌-◌, ◌*◌, ◌^◌, ◌<◌, ◌≤◌, ◌++◌, ◌∷◌, ℕ, List, [], length, sum, map};
+ghost use Rattle.std.specs.Prelude.{◌≡◌, ◌+◌, ◌-◌, ◌*◌, ◌^◌, ◌<◌, ◌≤◌, ◌++◌, ◌∷◌, ℕ, [], length, sum, map};
 ghost use Rattle.std.specs.Prelude.{vec_len};
-ghost use Rattle.std.specs.Prelude.{true, false, IfErr, IfOk, OnOk, string_bytes};
-ghost use Rattle.las_header.specs.Fields.{is_packed};
+ghost use Rattle.std.specs.Prelude.{true, false, IfErr, IfOk, OnOk};
 ghost use Rattle.las_outside.specs.Frames.{IsCalm, OnlyReads};
 ghost use Rattle.laz_table.specs.declared.limits.TheConstants.{MAX_CHUNKS};
-ghost use Rattle.laz_file.specs.Reading.{IsNewReader};
 ghost use Rattle.las_merge.specs.Inputs.{names_of};
 ghost use Rattle.las_merge.specs.Listing.{AddsChunks, EndsListing, FailsNextPacked, Lists, input_of};
 ghost use Rattle.las_merge.specs.Listing.{listed_as, source_of};

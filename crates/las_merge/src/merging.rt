@@ -7,7 +7,7 @@ ghost use Rattle.las_header.specs.Fields.{is_packed, record_length_of};
 ghost use Rattle.las_header.specs.Vlrs.{laszip_vlrs_of};
 ghost use Rattle.las_outside.specs.Faults.{Rose};
 ghost use Rattle.las_outside.specs.Files.{with_file};
-ghost use Rattle.las_outside.specs.Frames.{IsCalm};
+ghost use Rattle.las_outside.specs.Frames.{IsCalm, OnlyWrites};
 ghost use Rattle.las_outside.specs.Limits.{AreWorkers, IsChunkSize};
 ghost use Rattle.las_outside.specs.Outside.{Later, Outside};
 ghost use Rattle.laz_file.specs.declared.fault.Fault.{Fault};
@@ -68,8 +68,7 @@ fn create<F: Files>(
     ensures ends { IfErr result (FailsBeginning (F.seen files.old) (F.seen files.new)
         (output_with output.now head.now.bytes chunk)) }
     ensures calm { OnOk result (IsCalm (F.seen files.old) (F.seen files.new)) }
-    ensures asked { (F.seen files.new).asked ≡ (F.seen files.old).asked }
-    ensures later { Later (F.seen files.old) (F.seen files.new) }
+    ensures writes { OnlyWrites (F.seen files.old) (F.seen files.new) }
 {
     let hands = Writer::hands(chunk, most, workers);
     match Writer::create(alloc, files, output, head, chunk, true, most, hands) {
@@ -99,8 +98,7 @@ fn begin<F: Files>(
     ensures ends { IfErr result (FailsBeginning (F.seen files.old) (F.seen files.new)
         (output_under output.now head.now.bytes chunk)) }
     ensures calm { OnOk result (IsCalm (F.seen files.old) (F.seen files.new)) }
-    ensures asked { (F.seen files.new).asked ≡ (F.seen files.old).asked }
-    ensures later { Later (F.seen files.old) (F.seen files.new) }
+    ensures writes { OnlyWrites (F.seen files.old) (F.seen files.new) }
 {
     if !head.packed() {
         return create(alloc, files, head, output, chunk, most, workers);

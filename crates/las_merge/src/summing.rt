@@ -1,5 +1,5 @@
 //! The numbers of points by return of all inputs, added up.
-ghost use Rattle.std.specs.Prelude.{◌≡◌, ◌-◌, ◌^◌, ◌<◌, ◌≤◌, min, length, slice_index, sum_by};
+ghost use Rattle.std.specs.Prelude.{◌≡◌, ◌-◌, ◌^◌, ◌<◌, min, slice_index, sum_by};
 ghost use Rattle.las_header.specs.Fields.{returns_of};
 ghost use Rattle.laz_copied.specs.Copied as copied;
 ghost use Rattle.las_merge.specs.Summing as sums;

@@ -65,8 +65,8 @@ abbrev pub HaveBothSets : (files : List (List ℕ)) → Type 0
 HaveBothSets files = has_long_counts (first_head files) ≡ true
     → AllByRecursion (λ file. has_long_counts (head_of file) ≡ true) files
 
--- Then, if all heads have the right counts, the one file unpacks to what merging gives: the first file's plain head with
--- the counts of all records, and the records.
+-- Then, if all heads have the right counts, the one file unpacks to what merging gives: the first file's plain head
+-- with the counts of all records, and the records.
 abbrev pub UnpacksToMerged : Type 0
 UnpacksToMerged = (files : List (List ℕ)) (parts : List (List Chunk)) (blocks : List (List (List ℕ)))
     → CanCopy files parts → HaveBlocks files blocks → AreRight files blocks → HaveBothSets files

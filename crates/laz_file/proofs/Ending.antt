@@ -133,7 +133,7 @@ module _ (before now : Outside) (name front : List ℕ) (p : PackingSeen) (recor
       let turned : k * block_size p.plan ≡ record_size p.plan * (k * p.plan.chunk) = omega arith in
       let under : record_size p.plan * (k * p.plan.chunk) ≤ record_size p.plan * p.plan.most = omega (arith, turned, sized, s.within) in
       let fewer : k * p.plan.chunk ≤ p.plan.most = le_of_mul-le-mul_left under (omega arith) in
-      let least : k * 256 ≤ k * p.plan.chunk = mul-le-mul_left k s.numbers.least in
+      let least : k * 256 ≤ k * p.plan.chunk = mul-le-mul_left k s.numbers.size.0 in
       let all : length (blocks_of (block_size p.plan) records) ≡ k + length (blocks_of (block_size p.plan) p.rest) =
       ap (λ (bs : List (List ℕ)). length bs) (blocks_are (block_size p.plan) records (s.done ++ p.kept) p.rest (split before now name front p records s)) ∙ length-append (s.done ++ p.kept) (blocks_of (block_size p.plan) p.rest) in
       omega (arith, length_sizes p.plan.format (blocks_of (block_size p.plan) records), all, few_rest (block_size p.plan) p.rest s.short, fewer, least, s.numbers.most)

@@ -22,7 +22,7 @@ some_chunk before now w out bytes s = by out.chunk w.packing s.points
     by : (c : Option ℕ) (p : Option PackingSeen) → PointsStand c before now out w.most p bytes → ForSome c (λ chunk. 0 < chunk)
     by None p points = λ k e. absurd (let clash : None ≡ Some k = e in cc)
     by (Some c) None points = absurd points
-    by (Some c) (Some p) points = λ k e. let same : c ≡ k = cc in omega (arith, same, points.stands.numbers.least, points.plan.chunk_is)
+    by (Some c) (Some p) points = λ k e. let same : c ≡ k = cc in omega (arith, same, points.stands.numbers.size.0, points.plan.chunk_is)
 
 -- a prefix of what stands if an output is stopped is unfinished, whatever records come after
 pub leaves_part : (before old : Outside) (w : WriterSeen) (out : Output) (bytes : List ℕ) → Stands before old w out bytes → (records more : List ℕ) (held : Option FileMap) (n : ℕ) → held ≡ with_file before.held out.name (take n (stopped out (bytes ++ records)))

@@ -7,7 +7,7 @@ use Rattle.las_outside.specs.Outside.{Outside, with_bytes}
 pub use Rattle.las_outside.proofs.Public.{later-trans}
 use Rattle.laz_file.specs.declared.fault.Fault.{Fault}
 use Rattle.laz_file.specs.declared.fault.Fault.TheVariants.{Refused, Read, Write, Memory}
-use Rattle.laz_file.specs.Writing.{SameFaults, Stops}
+use Rattle.laz_file.specs.Writing.{Stops}
 
 -- a call ends with one of two faults
 pub stops_kind : (fault : Fault) (made now : Outside) → Stops fault made now → (fault ≡ Memory) ⊎ (fault ≡ Write)
@@ -24,13 +24,6 @@ stops_rose old made now Read same s is = absurd s
 stops_rose old made now (Refused cause) same s is = absurd s
 
 -- bytes put under a name change no count
-pub same_faults : (before old new : Outside) (name xs ys : List ℕ) → old ≡ with_bytes before name xs → new ≡ with_bytes before name ys → SameFaults old new
-same_faults before old new name xs ys was is = record {
-  reads = ap (λ (o : Outside). o.read_faults) is ∙ sym (ap (λ (o : Outside). o.read_faults) was);
-  writes = ap (λ (o : Outside). o.write_faults) is ∙ sym (ap (λ (o : Outside). o.write_faults) was);
-  asked = ap (λ (o : Outside). o.asked) is ∙ sym (ap (λ (o : Outside). o.asked) was);
-}
-
 pub calm_text : (before old new : Outside) (name xs ys : List ℕ) → old ≡ with_bytes before name xs → new ≡ with_bytes before name ys → IsCalm old new
 calm_text before old new name xs ys was is = record {
   reads = ap (λ (o : Outside). o.read_faults) is ∙ sym (ap (λ (o : Outside). o.read_faults) was);

@@ -14,6 +14,7 @@ use Rattle.las_header.specs.Counting.{counts_bytes, long_counts_bytes, with_coun
 use Rattle.las_header.specs.Fields.{format_of, has_long_counts}
 use Rattle.las_header.specs.Heads.{IsHead}
 use Rattle.las_outside.specs.Drafts.{Patch}
+use Rattle.las_outside.specs.Limits.{IsChunkSize}
 use Rattle.las_points.specs.Tally.{counts_of}
 use Rattle.laz_chunk.specs.Layouts.{Format}
 use Rattle.laz_table.specs.Payload.{laszip_payload}
@@ -126,18 +127,18 @@ list_is before now w v out records list pointer s same is there =
 
 -- An output that begins stands for no records.
 pub begins : (before new : Outside) (out : Output) (most pointer workers : ℕ) (packing : Option PackingSeen) → IsHead out.head → new ≡ with_bytes before out.name (front out) → packing ≡ first_packing out.head most pointer workers out.chunk
-    → pointer ≡ length (written_head out.chunk (first_head out)) → ForSome out.chunk (λ n. (256 ≤ n) × (n ≤ 250000)) → most < 2 ^ 32 → pointer < 2 ^ 32 → 0 < workers → PointsStand out.chunk before new out most packing []
+    → pointer ≡ length (written_head out.chunk (first_head out)) → ForSome out.chunk IsChunkSize → most < 2 ^ 32 → pointer < 2 ^ 32 → 0 < workers → PointsStand out.chunk before new out most packing []
 begins before new out most pointer workers packing is file kept place sizes few near hands = by out.chunk refl kept place sizes
   where
     held : new ≡ with_bytes before out.name (front out ++ [])
     held = file ∙ ap (with_bytes before out.name) (sym (append-nil (front out)))
 
-    by : (k : Option ℕ) → out.chunk ≡ k → packing ≡ first_packing out.head most pointer workers k → pointer ≡ length (written_head k (first_head out)) → ForSome k (λ n. (256 ≤ n) × (n ≤ 250000)) → PointsStand k before new out most packing []
+    by : (k : Option ℕ) → out.chunk ≡ k → packing ≡ first_packing out.head most pointer workers k → pointer ≡ length (written_head k (first_head out)) → ForSome k IsChunkSize → PointsStand k before new out most packing []
     by None form p at sizes = subst (λ (q : Option PackingSeen). PointsStand None before new out most q []) (sym p) held
     by (Some k) form p at sizes =
         let plan : Plan = record { format = format_in out.head; chunk = k; most = most; pointer = pointer; workers = workers } in
         let q : PackingSeen = record { plan = plan; lengths = []; kept = []; rest = [] } in
-        let range = sizes_of_form k sizes in
+        let range : IsChunkSize k = sizes k refl in
         let long : 1 ≤ record_size plan * k = one-le-mul (omega arith) (omega (arith, range.0)) in
         let stands : ChunksStand before new out k most q [] = record {
           plan = record { format = refl; chunk_is = refl; most_is = refl; pointer = at ∙ first_packed_size out.head k out.counted is };
@@ -150,13 +151,10 @@ begins before new out most pointer workers packing is file kept place sizes few 
             short = omega (arith, long);
             lengths = refl;
             within = omega arith;
-            numbers = record { least = range.0; small = range.1; most = few; near = near };
+            numbers = record { size = range; most = few; near = near };
           };
         } in
         subst (λ (x : Option PackingSeen). PointsStand (Some k) before new out most x []) (sym p) stands
-      where
-        sizes_of_form : (n : ℕ) → ForSome (Some n) (λ (m : ℕ). (256 ≤ m) × (m ≤ 250000)) → (256 ≤ n) × (n ≤ 250000)
-        sizes_of_form n s = s n refl
 
 -- no records are cut of nothing
 pub no_records : (size : ℕ) → 0 < size → cut_records size (0 / size) [] ≡ []

@@ -21,6 +21,7 @@ mod Cutting
 mod Standing
 mod Ending
 mod Faults
+mod Frames
 mod Pushing
 mod Tallying
 mod Patching

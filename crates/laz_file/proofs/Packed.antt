@@ -313,14 +313,14 @@ plain-is file plain = sym (cond-false (is_packed (head_of file)) (without_first 
 pub packed_accepted : IsPackedAccepted
 packed_accepted file chunk can =
     subst (λ (h : List ℕ). IsAcceptedFile (pack h (drop (point_offset_of file) file) chunk)) (plain-is file can.plain)
-    (form_accepted file chunk (known file chunk can) can.least can.most)
+    (form_accepted file chunk (known file chunk can) can.size.0 can.size.1)
 
 pub packed_chunks : ArePackedChunks
 packed_chunks file chunk can =
     subst (λ (h : List ℕ). HasItsChunks h (drop (point_offset_of file) file) chunk) (plain-is file can.plain)
-    (form_chunks file chunk (known file chunk can) can.least can.most)
+    (form_chunks file chunk (known file chunk can) can.size.0 can.size.1)
 
 pub unpacks_again : UnpacksAgain
 unpacks_again file chunk can =
     subst (λ (h : List ℕ). Unpacks (pack h (drop (point_offset_of file) file) chunk) file) (plain-is file can.plain)
-    (form_unpacks file chunk (known file chunk can) can.least can.most)
+    (form_unpacks file chunk (known file chunk can) can.size.0 can.size.1)

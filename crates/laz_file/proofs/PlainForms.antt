@@ -11,6 +11,7 @@ use Rattle.las_header.specs.Numbers.{number_at}
 use Rattle.las_header.specs.Refusals.{causes_of, counted_size, ends_early, first_cause, front_causes, goes_on, has_bad_counts, has_bad_record_length, has_extended_vlrs, has_long_vlrs, has_other_format, has_stray_vlr, head_causes}
 use Rattle.las_header.specs.Vlrs.{laszip_vlrs_of, vlrs_end}
 use Rattle.las_header.proofs.Public.{front_decides, front_is_fine, IsFirst-append_none, IsFirst-tests, number_at-take}
+use Rattle.las_outside.specs.Limits.{IsChunkSize}
 use Rattle.laz_table.specs.VlrCauses.{vlr_causes}
 use Rattle.laz_table.proofs.Public.{IsBytes-append}
 use Rattle.laz_file.specs.Laws.{AreHeadAndRecords, CanBePacked, IsAcceptedPack, IsAcceptedPlain}
@@ -96,13 +97,12 @@ module _ (head records : List ℕ) (p : AreHeadAndRecords head records) where
       (subst (λ (o : Option Refusal). IsFirst (conditions (tested_causes file)) o) tests-fine (IsFirst-tests (tested_causes file)))
       (subst (λ (b : Bool). IsFirst (chunk_causes b file) None) (sym plain-kept) refl)
 
-  can : (chunk : ℕ) → 256 ≤ chunk → chunk ≤ 250000 → CanBePacked file chunk
-  can chunk least most = record {
+  can : (chunk : ℕ) → IsChunkSize chunk → CanBePacked file chunk
+  can chunk size = record {
     accepted = plain_accepted;
     plain = plain-kept;
     bytes = IsBytes-append head records p.head_bytes p.record_bytes;
-    least = least;
-    most = most;
+    size = size;
   }
 
   form-is : (chunk : ℕ) → packed_file file chunk ≡ pack head records chunk
@@ -110,14 +110,14 @@ module _ (head records : List ℕ) (p : AreHeadAndRecords head records) where
       ap (λ (h : List ℕ). pack h (drop (point_offset_of file) file) chunk) (sym (plain-is file plain-kept) ∙ head-is)
       ∙ ap (λ (rs : List ℕ). pack head rs chunk) records-is
 
-  pub pack_accepted : (chunk : ℕ) → 256 ≤ chunk → chunk ≤ 250000 → IsAcceptedFile (pack head records chunk) × Unpacks (pack head records chunk) file
-  pack_accepted chunk least most = (
-    subst (λ (form : List ℕ). IsAcceptedFile form) (form-is chunk) (packed_accepted file chunk (can chunk least most)),
-    subst (λ (form : List ℕ). Unpacks form file) (form-is chunk) (unpacks_again file chunk (can chunk least most)),
+  pub pack_accepted : (chunk : ℕ) → IsChunkSize chunk → IsAcceptedFile (pack head records chunk) × Unpacks (pack head records chunk) file
+  pack_accepted chunk size = (
+    subst (λ (form : List ℕ). IsAcceptedFile form) (form-is chunk) (packed_accepted file chunk (can chunk size)),
+    subst (λ (form : List ℕ). Unpacks form file) (form-is chunk) (unpacks_again file chunk (can chunk size)),
   )
 
 pub accepted_plain : IsAcceptedPlain
 accepted_plain head records p = plain_accepted head records p
 
 pub accepted_pack : IsAcceptedPack
-accepted_pack head records chunk p least most = pack_accepted head records p chunk least most
+accepted_pack head records chunk p size = pack_accepted head records p chunk size

@@ -16,6 +16,7 @@ pub use Rattle.laz_file.proofs.Faults.{err_of, later-trans}
 pub use Rattle.laz_file.proofs.Finished.{counted_file_is, finished_is, long-size, short-size}
 pub use Rattle.laz_file.proofs.Finishing.{no_records}
 pub use Rattle.laz_file.proofs.FirstPieces.{fewer_first, hold_length, inside, more_first, no_length}
+pub use Rattle.laz_file.proofs.Frames.{after_writes, then_writes}
 pub use Rattle.laz_file.proofs.Fronts.{layout-length}
 pub use Rattle.laz_file.proofs.Heads.{head_given}
 pub use Rattle.laz_file.proofs.Knowing.{known_as, known_at, known_both, known_then, known_three}
@@ -34,6 +35,6 @@ pub use Rattle.laz_file.proofs.Splices.{splice-again, splice-splice}
 pub use Rattle.laz_file.proofs.Sums.{sum-first}
 pub use Rattle.laz_file.proofs.TableFront.{accepted_lists, accepted_points}
 pub use Rattle.laz_file.proofs.Taking.{calm_trans, cause_push, cause_since, held_after, known_after, known_before, known_taken, on_err, other_name, part_push, part_stands, part_then, stands_read, takes_none, takes_push, takes_read, takes_then}
-pub use Rattle.laz_file.proofs.Unasked.{created_asked, stands_asked, stops_asked}
+pub use Rattle.laz_file.proofs.Unasked.{stops_asked}
 pub use Rattle.laz_file.proofs.Whole.{hold-plain, is_plain_form, none_some, not_bad_before, reads_plain, some_same}
 pub use Rattle.laz_file.proofs.WholeOutputs.{all_records, create_left, err_at, err_then, hold_ready, left_is, ok_then, records_before, stands_ready}

@@ -4,6 +4,7 @@ use Rattle.std.specs.Prelude.{All}
 use Rattle.std.proofs.Math.Nat.{mul-le-mul, mul-le-mul_left, mul-mod_right}
 use Rattle.std.proofs.lemmas.Bool.{ne_eqb}
 use Rattle.std.proofs.lemmas.List.Elements.{All-map, All-weaker}
+use Rattle.las_outside.specs.Limits.{AreWorkers}
 use Rattle.laz_chunk.specs.Layouts.{Format, Layout, colour_length, layout, most_events, record_length, room_for, time_length}
 use Rattle.laz_chunk.specs.Chunks.{count_of}
 use Rattle.laz_chunk.proofs.Public.{count-is}
@@ -64,7 +65,7 @@ module _ (plan : Plan) (spaces : List Format) (rooms : List ℕ) (can : CanPack 
 
   pub small_rooms : All (λ (n : ℕ). n < 2 ^ 32) rooms
   small_rooms =
-      let small : room_for (layout plan.format) (min plan.chunk plan.most) < 2 ^ 32 = room_small plan.format (min plan.chunk plan.most) can.extra (omega (arith, can.numbers.small)) in
+      let small : room_for (layout plan.format) (min plan.chunk plan.most) < 2 ^ 32 = room_small plan.format (min plan.chunk plan.most) can.extra (omega (arith, can.numbers.size.1)) in
       All-weaker (λ (n : ℕ). n ≡ room_for (layout plan.format) (min plan.chunk plan.most)) (λ (n : ℕ). n < 2 ^ 32) (λ n is. omega (arith, is, small)) rooms can.rooms_are
 
 -- the plan of a crew
@@ -77,9 +78,8 @@ pub goes_on : (format : Format) (chunk most pointer : ℕ) (old new : List (Hand
 goes_on format chunk most pointer old new can hands rooms suits = record {
   known = can.known;
   extra = can.extra;
-  numbers = record { least = can.numbers.least; small = can.numbers.small; most = can.numbers.most; near = can.numbers.near };
-  hands = omega (arith, hands, can.hands);
-  few = omega (arith, hands, can.few);
+  numbers = record { size = can.numbers.size; most = can.numbers.most; near = can.numbers.near };
+  hands = subst AreWorkers (sym hands) can.hands;
   spaces_are = All-map (λ (s : Format). s ≡ format) (λ (h : HandSeen Format). h.space) new suits;
   rooms_are = subst (λ (ns : List ℕ). All (λ (n : ℕ). n ≡ room_for (layout format) (min chunk most)) ns) (sym rooms) can.rooms_are;
 }

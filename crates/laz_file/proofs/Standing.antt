@@ -93,7 +93,7 @@ module _ (before now : Outside) (name front : List ℕ) (p : PackingSeen) (recor
           let least : record_size p.plan * p.plan.chunk ≤ record_size p.plan * p.plan.most = omega (arith, first, size, s.within) in
           record {
             count = p.plan.chunk;
-            some = omega (arith, s.numbers.least);
+            some = omega (arith, s.numbers.size.0);
             few = omega arith;
             within = le_of_mul-le-mul_left least (omega arith);
             size = f.0;

@@ -1,29 +1,12 @@
--- While an output is written no bytes are asked for, also if a call fails.
-use Rattle.std.proofs.Common.{◌≡◌, ◌⊎◌, inl, inr, ℕ, List, take, Result, Ok, Err, IfErr, OnOk, sym, ◌∙◌, ap}
-use Rattle.las_outside.specs.Outside.{Outside, with_bytes}
+-- No bytes are asked for by a call that writes an output and fails.
+use Rattle.std.proofs.Common.{◌≡◌, ap}
+use Rattle.las_outside.specs.Outside.{Outside}
 use Rattle.laz_file.specs.declared.fault.Fault.{Fault}
 use Rattle.laz_file.specs.declared.fault.Fault.TheVariants.{Refused, Read, Write, Memory}
-use Rattle.laz_file.specs.Outputs.{Output}
-use Rattle.laz_file.specs.Writing.{SameFaults, Stands, Stops, WriterSeen}
-use Rattle.laz_file.proofs.Arms.{held_text}
+use Rattle.laz_file.specs.Writing.{Stops}
 
 pub stops_asked : (fault : Fault) (made now : Outside) → Stops fault made now → now.asked ≡ made.asked
 stops_asked (Refused cause) made now s = absurd s
 stops_asked Read made now s = absurd s
 stops_asked Write made now s = ap (λ (o : Outside). o.asked) s
 stops_asked Memory made now s = ap (λ (o : Outside). o.asked) s
-
--- a call of a writer asks for nothing, whatever it answers
-pub push_asked : {T : Type 0} (r : Result T Fault) (old new before : Outside) (name : List ℕ) (text : ℕ → List ℕ) → old.asked ≡ before.asked → OnOk r (SameFaults old new) → IfErr r (λ fault. (n : ℕ) × Stops fault (with_bytes before name (text n)) new) → new.asked ≡ old.asked
-push_asked (Ok x) old new before name text same calm stops = calm.asked
-push_asked (Err e) old new before name text same calm stops = stops_asked e (with_bytes before name (text stops.0)) new stops.1 ∙ sym same
-
-pub stands_asked : (before now : Outside) (w : WriterSeen) (out : Output) (bytes : List ℕ) → Stands before now w out bytes → now.asked ≡ before.asked
-stands_asked before now w out bytes s = ap (λ (o : Outside). o.asked) (held_text before now w out bytes s).1
-
--- an output that was created, or not
-pub created_asked : {T : Type 0} (r : Result T Fault) (old new : Outside) (name front : List ℕ) → OnOk r (SameFaults old new)
-    → IfErr r (λ fault. Stops fault old new ⊎ ((n : ℕ) × Stops fault (with_bytes old name (take n front)) new)) → new.asked ≡ old.asked
-created_asked (Ok writer) old new name front calm stopped = calm.asked
-created_asked (Err fault) old new name front calm (inl s) = stops_asked fault old new s
-created_asked (Err fault) old new name front calm (inr s) = stops_asked fault (with_bytes old name (take s.0 front)) new s.1

@@ -1,7 +1,7 @@
 -- How many bytes of a file calls ask for.
 use Rattle.std.specs.Prelude.{ℕ, ◌+◌, ◌*◌, ◌≤◌, max, if◌then◌else◌, List, map, sum, Option, Some, None}
 use Rattle.las_header.specs.Fields.{head_of, is_packed, point_offset_of}
-use Rattle.las_outside.specs.Outside.{Outside}
+use Rattle.las_outside.specs.Outside.{Later, Outside}
 use Rattle.laz_table.specs.declared.limits.TheConstants.{MAX_CHUNK_BYTES, MIN_TABLE_BYTES}
 use Rattle.laz_file.specs.Reading.{ReaderSeen, table_size}
 use Rattle.laz_file.specs.Refusing.{table_part}
@@ -9,6 +9,12 @@ use Rattle.laz_file.specs.Refusing.{table_part}
 -- A call asks for at most this many bytes.
 abbrev pub AsksAtMost : (most : ℕ) → (old new : Outside) → Type 0
 AsksAtMost most old new = new.asked ≤ old.asked + most
+
+-- Reads and writes were done, and the reads asked for at most this many bytes.
+pub record ReadsAndWrites (most : ℕ) (old new : Outside) : Type 0 where
+  pub asked : AsksAtMost most old new
+  -- no count fell
+  pub later : Later old new
 
 -- at most, of a packed file with this many chunks when it is opened, beside its head: the pointer, the pointer at the
 -- end, and the chunk table

@@ -27,7 +27,8 @@ pub record CanUnpack (format : Format) (run : ChunkRun) (crew : List (HandSeen F
       (lengths_of (rooms_of crew))
 
 -- The first n chunks of the run hold these blocks, and no others, and the blocks stand in a crew's rooms.
-pub record BlocksAre (l : Layout) (held : Option FileMap) (run : ChunkRun) (rooms : List RoomSeen) (n : ℕ) : Type 0 where
+pub record BlocksAre (l : Layout) (held : Option FileMap) (run : ChunkRun) (rooms : List RoomSeen) (n : ℕ)
+    : Type 0 where
   pub blocks : List (List ℕ)
   pub count : length blocks ≡ n
   pub in_rooms : StandInRooms rooms blocks

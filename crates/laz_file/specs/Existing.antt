@@ -1,5 +1,5 @@
--- That something is there: of each file an answer when it is opened, and records if it is accepted. Whether the bytes of
--- a chunk hold records is decided by reading them, and by no test. So these laws refute that there is none.
+-- That something is there: of each file an answer when it is opened, and records if it is accepted. Whether the bytes
+-- of a chunk hold records is decided by reading them, and by no test. So these laws refute that there is none.
 use Rattle.std.specs.Prelude.{ℕ, List, Option}
 use Rattle.las_header.specs.declared.refusal.Refusal.{Refusal}
 use Rattle.laz_range.specs.Span.{IsBytes}

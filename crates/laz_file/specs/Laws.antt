@@ -9,9 +9,9 @@ use Rattle.las_header.specs.Fields.{head_of, is_packed, point_offset_of, points_
 use Rattle.las_header.specs.Heads.{IsHead}
 use Rattle.las_header.specs.Plain.{plain_head}
 use Rattle.las_header.specs.Vlrs.{laszip_vlrs_of}
+use Rattle.las_outside.specs.Limits.{IsChunkSize}
 use Rattle.las_points.specs.Tally.{counted_file, counts_of}
 use Rattle.laz_range.specs.Span.{IsBytes}
-use Rattle.laz_table.specs.declared.limits.TheConstants.{MAX_CHUNK_POINTS}
 use Rattle.laz_table.specs.Chunks.{fixed_sizes}
 use Rattle.laz_file.specs.Outputs.{Output, finished, records_after}
 use Rattle.laz_file.specs.Packing.{chunk_blocks, chunks_of, pack, packed_file}
@@ -55,8 +55,7 @@ pub record CanBePacked (file : List ℕ) (chunk : ℕ) : Type 0 where
   pub accepted : IsAcceptedFile file
   pub plain : is_packed (head_of file) ≡ false
   pub bytes : IsBytes file
-  pub least : 256 ≤ chunk
-  pub most : chunk ≤ MAX_CHUNK_POINTS
+  pub size : IsChunkSize chunk
 
 -- The packed form of such a file is accepted.
 abbrev pub IsPackedAccepted : Type 0
@@ -186,8 +185,7 @@ abbrev pub IsAcceptedPlain : Type 0
 IsAcceptedPlain = (head records : List ℕ) → AreHeadAndRecords head records → IsAcceptedFile (head ++ records)
 
 abbrev pub IsAcceptedPack : Type 0
-IsAcceptedPack = (head records : List ℕ) (chunk : ℕ) → AreHeadAndRecords head records → 256 ≤ chunk
-    → chunk ≤ MAX_CHUNK_POINTS
+IsAcceptedPack = (head records : List ℕ) (chunk : ℕ) → AreHeadAndRecords head records → IsChunkSize chunk
     → IsAcceptedFile (pack head records chunk) × Unpacks (pack head records chunk) (head ++ records)
 
 -- A plain head with the counts of whole records, as that of a finished output has, is a head that counts them.

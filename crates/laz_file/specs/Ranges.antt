@@ -36,8 +36,8 @@ first_in range at [] = 0
 first_in range at (p ∷ pieces) =
     if nat_lt 0 (taken_of range at p.count) then 0 else 1 + first_in range (at + p.count) pieces
 
--- What is read of a file with these pieces for a range: of a packed file those of its chunks that meet the range, and of
--- a plain one blocks of 50,000 records, from the first of the range on.
+-- What is read of a file with these pieces for a range: of a packed file those of its chunks that meet the range, and
+-- of a plain one blocks of 50,000 records, from the first of the range on.
 abbrev pub parts_if : (packed : Bool) → (head : List ℕ) → (offset : ℕ) → Range → List Piece → List Piece
 parts_if true head offset range pieces = parts_in range 0 pieces
 parts_if false head offset range pieces =
@@ -54,7 +54,8 @@ first_if false range pieces = 0
 abbrev pub first_of : (file : List ℕ) → Range → List Piece → ℕ
 first_of file range pieces = first_if (is_packed (head_of file)) range pieces
 
--- ---- how a reader keeps a range of a packed file: which chunks it reads, and what is left out of the first and the last
+-- ---- how a reader keeps a range of a packed file: which chunks it reads, and what is left out of the first and the
+-- last
 
 -- how many records are left out at the front and at the end of the chunk of a number
 abbrev pub skip_at : Ends → (number : ℕ) → ℕ
@@ -88,8 +89,8 @@ cuts_from ends number [] = []
 cuts_from ends number (n ∷ points) =
     (skip_at ends number, taken_at ends number n) ∷ cuts_from ends (number + 1) points
 
--- What seeking finds among chunks, the first of which begins at `place`: from the first chunk that is read, which begins
--- at `at`, the pieces left are those of the range.
+-- What seeking finds among chunks, the first of which begins at `place`: from the first chunk that is read, which
+-- begins at `at`, the pieces left are those of the range.
 pub record IsSought (range : Range) (place : ℕ) (points bytes : List ℕ) (ends : Ends) (at : ℕ) : Type 0 where
   pub order : ends.first ≤ ends.last
   pub within : ends.last ≤ length points

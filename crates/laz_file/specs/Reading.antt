@@ -106,8 +106,8 @@ abbrev pub chunks_in : (chunk : Option ℕ) → (pieces : List Piece) → List P
 chunks_in None pieces = []
 chunks_in (Some chunk) pieces = pieces
 
--- What contracts see of a reader: the file's name, its head and its chunk size; all chunks of a packed file, and none of
--- a plain one; the places of the records that it reads, and the number of the first piece that has some of them; the
+-- What contracts see of a reader: the file's name, its head and its chunk size; all chunks of a packed file, and none
+-- of a plain one; the places of the records that it reads, and the number of the first piece that has some of them; the
 -- number of the next piece, and the pieces that are left to read; whether the next one is known to be bad, and whether
 -- the reader has failed; for how many inputs it has buffers; of each chunk of the last batch how many records are left
 -- out at its front, and how many are lent; and the block of a plain file that it lends.

@@ -11,6 +11,7 @@ use Rattle.las_header.specs.Fields.{has_long_counts, record_length_of}
 use Rattle.las_header.specs.Heads.{IsHead}
 use Rattle.las_header.specs.Plain.{cut_records}
 use Rattle.las_outside.specs.Drafts.{Patch}
+use Rattle.las_outside.specs.Limits.{AreWorkers, IsChunkSize}
 use Rattle.las_outside.specs.Outside.{Outside, with_bytes, with_write_fault}
 use Rattle.las_points.specs.Tally.{IsWithinPoints, counts_of}
 use Rattle.laz_chunk.specs.Chunks.{chunk_bytes, count_of}
@@ -118,8 +119,7 @@ AreFull size (block ∷ blocks) = (length block ≡ size) × AreFull size blocks
 
 -- The numbers of a plan are in range.
 pub record IsPlan (plan : Plan) : Type 0 where
-  pub least : 256 ≤ plan.chunk
-  pub small : plan.chunk ≤ 250000
+  pub size : IsChunkSize plan.chunk
   pub most : plan.most < 2 ^ 32
   pub near : plan.pointer < 2 ^ 32
 
@@ -128,8 +128,7 @@ pub record CanPack (plan : Plan) (spaces : List Format) (rooms : List ℕ) : Typ
   pub known : plan.format.format < 4
   pub extra : plan.format.extra < 193
   pub numbers : IsPlan plan
-  pub hands : 0 < plan.workers
-  pub few : plan.workers ≤ 8
+  pub hands : AreWorkers plan.workers
   pub spaces_are : All (λ space. space ≡ plan.format) spaces
   pub rooms_are : All (λ room. room ≡ room_for (layout plan.format) (min plan.chunk plan.most)) rooms
 

@@ -1,6 +1,6 @@
 //! The beginning of an output: its packing and its front.
-ghost use Rattle.std.specs.Prelude.{◌≡◌, ◌⊎◌, ◌+◌, ◌*◌, ◌<◌, ◌≤◌, ◌++◌, ◌^◌, [], ℕ, List, length, map, min, take};
-ghost use Rattle.std.specs.Prelude.{true, false, All};
+ghost use Rattle.std.specs.Prelude.{◌≡◌, ◌⊎◌, ◌+◌, ◌*◌, ◌<◌, ◌++◌, [], ℕ, length, min, take};
+ghost use Rattle.std.specs.Prelude.{false};
 ghost use Rattle.std.specs.Prelude.{OnOk, IfOk, IfErr, if◌then◌else◌};
 ghost use Rattle.byteorder.specs.Endian.{little_bytes};
 ghost use Rattle.las_header.specs.Counting.{with_counts};
@@ -10,11 +10,10 @@ ghost use Rattle.las_outside.specs.Limits.{AreWorkers, IsChunkSize};
 ghost use Rattle.las_outside.specs.Frames.{OnlyWrites};
 ghost use Rattle.las_outside.specs.Outside.{with_bytes};
 ghost use Rattle.las_points.specs.Tally.{counts_of};
-ghost use Rattle.laz_chunk.specs.Layouts.{layout, room_for};
+ghost use Rattle.laz_chunk.specs.Layouts.{room_for};
 ghost use Rattle.laz_file.specs.declared.fault.Fault.TheVariants.{Write};
-ghost use Rattle.laz_file.specs.Writing.{CanPack, IsTally, Plan, Stops, pointer_part, written_head};
+ghost use Rattle.laz_file.specs.Writing.{IsTally, Stops, pointer_part, written_head};
 ghost use Rattle.laz_file.specs.Packing.{format_in};
-ghost use Rattle.laz_workers.specs.Rooms.{lengths_of, rooms_of};
 
 use crate::Fault;
 use crate::crewing::{buffers_of, crew_of};

@@ -32,9 +32,9 @@ pub(crate) struct ChunkRun<'a> {
     pub(crate) bytes: &'a [u32],
 }
 
-/// Reads the first chunks of a run and unpacks them by the whole crew, in one `run_all`: as many as there are inputs, or
-/// as there are chunks. It gives how many of the first hold records of their count, and is `BadChunk` if not even the
-/// first does.
+/// Reads the first chunks of a run and unpacks them by the whole crew, in one `run_all`: as many as there are inputs,
+/// or as there are chunks. It gives how many of the first hold records of their count, and is `BadChunk` if not even
+/// the first does.
 pub(crate) fn next_chunks<R: Threads + Sync, F: Files, G: Gate>(
     machine: &Machine<'_, R, G>,
     files: &mut F,

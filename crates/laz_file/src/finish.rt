@@ -1,12 +1,12 @@
 //! The end of an output: it is finished, or stopped.
-ghost use Rattle.std.specs.Prelude.{◌≡◌, ◌⊎◌, ◌+◌, ◌≤◌, ◌++◌, ◌∷◌, [], ℕ, List, length, false};
+ghost use Rattle.std.specs.Prelude.{◌≡◌, ◌⊎◌, ◌+◌, ◌++◌, ℕ, List, length, false};
 ghost use Rattle.std.specs.Prelude.{OnOk, IfOk, IfErr, IsErrOf};
 ghost use Rattle.las_outside.specs.Drafts.{IsUnfinished};
 ghost use Rattle.las_outside.specs.Faults.{Rose};
 ghost use Rattle.las_outside.specs.Frames.{IsCalm, OnlyWrites};
-ghost use Rattle.las_outside.specs.Outside.{Later, with_bytes};
+ghost use Rattle.las_outside.specs.Outside.{with_bytes};
 ghost use Rattle.laz_file.specs.Outputs.{draft_of, finished, patches_of, pointer_patches, stopped};
-ghost use Rattle.laz_file.specs.Writing.{IsBegun, OfOutput, SameFaults, Stops, StopsIn, pointer_patch};
+ghost use Rattle.laz_file.specs.Writing.{IsBegun, OfOutput, Stops, StopsIn, pointer_patch};
 ghost use Rattle.laz_file.specs.Writing.{tally_patches};
 ghost use Rattle.laz_file.specs.declared.fault.Fault.TheVariants.{Memory, Write};
 
@@ -162,9 +162,8 @@ impl Writer {
             × Stops fault (with_bytes before out.name left) (F.seen files.new))) }
         ensures fault { IfErr result (λ fault. (fault ≡ Memory) ⊎ (fault ≡ Write)) }
         ensures write { IsErrOf result Write → Rose (F.seen files.old).write_faults (F.seen files.new).write_faults }
-        ensures calm { OnOk result (SameFaults (F.seen files.old) (F.seen files.new)) }
+        ensures calm { OnOk result (IsCalm (F.seen files.old) (F.seen files.new)) }
         ensures writes { OnlyWrites (F.seen files.old) (F.seen files.new) }
-        ensures later { Later (F.seen files.old) (F.seen files.new) }
     {
         let mut writer = self;
         writer.finish_all(rt, alloc, files, gate)
@@ -190,9 +189,8 @@ impl Writer {
             (λ before out records. IfErr result (StopsIn before (F.seen files.new) out.name (stopped out records))) }
         ensures fault { IfErr result (λ fault. (fault ≡ Memory) ⊎ (fault ≡ Write)) }
         ensures write { IsErrOf result Write → Rose (F.seen files.old).write_faults (F.seen files.new).write_faults }
-        ensures calm { OnOk result (SameFaults (F.seen files.old) (F.seen files.new)) }
+        ensures calm { OnOk result (IsCalm (F.seen files.old) (F.seen files.new)) }
         ensures writes { OnlyWrites (F.seen files.old) (F.seen files.new) }
-        ensures later { Later (F.seen files.old) (F.seen files.new) }
     {
         let mut writer = self;
         writer.append_full(rt, alloc, files, gate)

@@ -1,7 +1,6 @@
 //! The inputs of a batch of chunks.
-ghost use Rattle.std.specs.Prelude.{◌≡◌, ℕ, ◌+◌, ◌^◌, ◌<◌, ◌≤◌, ◌++◌, [], List, length, take, drop, min, sum, All};
-ghost use Rattle.std.specs.Prelude.{slice_index, slice_index_or, IfErr, IfOk, OnOk};
-ghost use Rattle.byteorder.specs.Endian.{little_bytes};
+ghost use Rattle.std.specs.Prelude.{◌≡◌, ℕ, ◌+◌, ◌^◌, ◌<◌, ◌≤◌, [], List, length, take, drop, min, sum, All};
+ghost use Rattle.std.specs.Prelude.{slice_index, slice_index_or, IfErr, OnOk};
 ghost use Rattle.las_outside.specs.Files.{WhereKnown};
 ghost use Rattle.las_outside.specs.Frames.{IsCalm, Reads};
 ghost use Rattle.laz_chunk.specs.Layouts.{layout};

@@ -18,8 +18,8 @@ pub fn files_have_one_answer()
     ensures records { IsReadOnce }
 {}
 
-/// Whatever the bytes of a file are, each piece of it holds at most one block of records. So the file has at most one list
-/// of records and one first bad piece, and so has each range of it.
+/// Whatever the bytes of a file are, each piece of it holds at most one block of records. So the file has at most one
+/// list of records and one first bad piece, and so has each range of it.
 pub fn records_have_one_answer()
     ensures blocks { HasOneBlock }
     ensures records { HasOneRecords }
@@ -28,8 +28,9 @@ pub fn records_have_one_answer()
     one_is_held();
 }
 
-/// No file is without an answer: that it is neither refused nor accepted is refuted, whatever its bytes are. So it is that an
-/// accepted file has no pieces, or no records before its end or its first bad chunk, and that a range of it has none.
+/// No file is without an answer: that it is neither refused nor accepted is refuted, whatever its bytes are. So it is
+/// that an accepted file has no pieces, or no records before its end or its first bad chunk, and that a range of it has
+/// none.
 pub fn no_file_is_without_an_answer()
     ensures answer { HasAnAnswer }
     ensures pieces { HasPieces }
@@ -39,9 +40,9 @@ pub fn no_file_is_without_an_answer()
     tables_hold_one_pair();
 }
 
-/// The records of the range of all places are those of the file. Records of a range that are read piece by piece, if each
-/// piece holds one block alone, are its only ones, and so is the first bad piece that meets it. An empty range meets no
-/// chunk. Of a file whose chunks all hold records, the records of a range are that slice of all records.
+/// The records of the range of all places are those of the file. Records of a range that are read piece by piece, if
+/// each piece holds one block alone, are its only ones, and so is the first bad piece that meets it. An empty range
+/// meets no chunk. Of a file whose chunks all hold records, the records of a range are that slice of all records.
 pub fn ranges_have_one_answer()
     ensures whole { IsWholeOfAll }
     ensures records { IsRangeReadOnce }

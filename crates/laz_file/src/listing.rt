@@ -1,5 +1,5 @@
 //! The chunks of a file, as a reader lists them.
-ghost use Rattle.std.specs.Prelude.{◌≡◌, ℕ, ◌+◌, ◌-◌, ◌^◌, ◌<◌, ◌≤◌, true, false, [], None, Some, length, sum};
+ghost use Rattle.std.specs.Prelude.{◌≡◌, ℕ, ◌+◌, ◌-◌, ◌^◌, ◌<◌, true, [], None, Some, length, sum};
 ghost use Rattle.std.specs.Prelude.{All, if◌then◌else◌};
 ghost use Rattle.std.specs.Prelude.{IfErr, IfOk, IsErrOf, OnOk};
 ghost use Rattle.las_header.specs.declared.refusal.Refusal.{Refusal};
@@ -7,7 +7,7 @@ ghost use Rattle.las_header.specs.Fields.{is_packed, points_of};
 ghost use Rattle.las_header.specs.Refusals.{first_cause};
 ghost use Rattle.las_header.specs.Vlrs.{laszip_vlrs_of};
 ghost use Rattle.las_outside.specs.Files.{WhereKnown};
-ghost use Rattle.las_outside.specs.Frames.{IsCalm, OnlyReads, Reads};
+ghost use Rattle.las_outside.specs.Frames.{IsCalm, OnlyReads};
 ghost use Rattle.laz_table.specs.declared.chunks.Blocks.TheVariants.{Fixed, Counted};
 ghost use Rattle.laz_table.specs.VlrCauses.{chunk_size_of, is_counted, vlr_causes};
 ghost use Rattle.laz_file.specs.Asking.{AsksAtMost, asked_for_chunks, asked_for_list, asked_for_table};

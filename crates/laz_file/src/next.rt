@@ -4,7 +4,7 @@ ghost use Rattle.std.specs.Prelude.{IfErr, IfOk, IsErrOf, IsSome, OnErr, OnOk};
 ghost use Rattle.las_header.specs.declared.refusal.Refusal.{Refusal};
 ghost use Rattle.las_header.specs.declared.refusal.Refusal.TheVariants.{BadChunk};
 ghost use Rattle.las_header.specs.Fields.{record_length_of};
-ghost use Rattle.las_outside.specs.Outside.{Later};
+ghost use Rattle.las_outside.specs.Frames.{IsCalm, Reads};
 ghost use Rattle.laz_file.specs.Asking.{bytes_left};
 ghost use Rattle.laz_file.specs.declared.fault.Fault.TheVariants.{Refused};
 ghost use Rattle.laz_file.specs.Reading.{AreWholeBlocks, EndsReading, IsCrewOf, Lends, OfFile, StandsFor, batch_size};
@@ -24,9 +24,9 @@ impl Reader {
     ///
     /// Of a packed file these are the next chunks, two for each hand or as many as are left, which the crew unpacks
     /// together. A chunk that holds no records of its count ends the batch before it, and is `BadChunk` with its number
-    /// in the file if the batch would begin with it; a chunk that has ended a batch is not read again. Of a plain file it
-    /// is one block of 50,000 records, or of all that are left. If a range was sought, these are its records alone: the
-    /// blocks of its first and its last chunk are cut.
+    /// in the file if the batch would begin with it; a chunk that has ended a batch is not read again. Of a plain file
+    /// it is one block of 50,000 records, or of all that are left. If a range was sought, these are its records alone:
+    /// the blocks of its first and its last chunk are cut.
     ///
     /// The answer is `Read` if a read failed, and never `Write`. After any `Err` the reader has failed.
     pub fn next_batch<R: Threads + Sync, F: Files, G: Gate>(
@@ -72,15 +72,12 @@ impl Reader {
         ensures failed { OnErr result (self.new.failed ≡ true) }
 
         // Nothing but reads is done, and a fault has its cause.
-        ensures faults { OnOk result ((F.seen files.new).read_faults ≡ (F.seen files.old).read_faults) }
+        ensures reads { Reads (bytes_left self.old) (F.seen files.old) (F.seen files.new) }
+        ensures calm { OnOk result (IsCalm (F.seen files.old) (F.seen files.new)) }
         ensures ends { IfErr result (EndsReading ⊥ (F.seen files.old) (F.seen files.new)) }
-        ensures held { (F.seen files.new).held ≡ (F.seen files.old).held }
-        ensures writes { (F.seen files.new).write_faults ≡ (F.seen files.old).write_faults }
         // No more bytes are asked for than those of the pieces that are read, and of one that ends the batch.
         ensures asked { OnOk result ((F.seen files.new).asked + bytes_left self.new
             ≤ (F.seen files.old).asked + bytes_left self.old) }
-        ensures asked_more { OnErr result ((F.seen files.new).asked ≤ (F.seen files.old).asked + bytes_left self.old) }
-        ensures later { Later (F.seen files.old) (F.seen files.new) }
     {
         match self.chunk {
             None => match self.next_plain(files) {

@@ -1,5 +1,6 @@
 //! The next block of a plain file.
-ghost use Rattle.std.specs.Prelude.{◌≡◌, ℕ, ◌+◌, ◌<◌, ◌≤◌, [], List, None, false, length, min, take, drop, IfErr, IfOk, OnErr, OnOk};
+ghost use Rattle.std.specs.Prelude.{◌≡◌, ℕ, ◌+◌, ◌<◌, ◌≤◌, [], List, None, false, length, min, take, drop};
+ghost use Rattle.std.specs.Prelude.{IfErr, IfOk, OnOk};
 ghost use Rattle.std.specs.Prelude.{slice_index_or};
 ghost use Rattle.las_header.specs.Fields.{record_length_of};
 ghost use Rattle.las_outside.specs.Frames.{IsCalm, Reads};

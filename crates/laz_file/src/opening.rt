@@ -7,7 +7,6 @@ ghost use Rattle.las_header.specs.declared.refusal.Refusal.{Refusal};
 ghost use Rattle.las_header.specs.declared.refusal.Refusal.TheVariants.{TablePointer};
 ghost use Rattle.las_header.specs.Conditions.{IsFirst};
 ghost use Rattle.las_header.specs.Fields.{is_packed, point_offset_of};
-ghost use Rattle.las_header.specs.Numbers.{number_at};
 ghost use Rattle.las_header.specs.Refusals.{causes_of, first_cause, front_causes};
 ghost use Rattle.las_header.specs.Vlrs.{laszip_vlrs_of};
 ghost use Rattle.las_outside.specs.Files.{IsMissing, WhereKnown};

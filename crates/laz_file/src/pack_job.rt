@@ -1,7 +1,5 @@
 //! The work of packing blocks of records into chunks.
 ghost use Rattle.std.specs.Prelude.{◌≡◌, Some};
-ghost use Rattle.laz_chunk.specs.Chunks.{chunk_bytes};
-ghost use Rattle.laz_chunk.specs.Layouts.{layout};
 
 use laz_chunk::Workspace;
 use laz_workers::Job;

@@ -3,8 +3,8 @@ ghost use Rattle.std.specs.Prelude.{◌≡◌, ◌+◌, ◌*◌, ◌<◌, ◌≤
 ghost use Rattle.std.specs.Prelude.{IfOk, IfErr, IsTrue, ◌↔◌};
 ghost use Rattle.las_outside.specs.Frames.{OnlyWrites};
 ghost use Rattle.las_outside.specs.Outside.{Outside, with_bytes};
-ghost use Rattle.laz_file.specs.Packing.{blocks_of};
-ghost use Rattle.laz_file.specs.Writing.{HasRoom, HasText, IsBlock, OfPacked, OfText, PackedStands, StopsAfter, StopsIn, Took};
+ghost use Rattle.laz_file.specs.Writing.{HasRoom, HasText, IsBlock, OfPacked, OfText, PackedStands, StopsAfter};
+ghost use Rattle.laz_file.specs.Writing.{StopsIn, Took};
 ghost use Rattle.laz_file.specs.Writing.{all_chunks, block_size, chunks, full_chunks};
 
 use crate::Fault;

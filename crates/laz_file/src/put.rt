@@ -1,9 +1,8 @@
 //! Bytes at the end of an output.
-ghost use Rattle.std.specs.Prelude.{◌≡◌, ◌^◌, ◌*◌, ◌<◌, ◌≤◌, ◌++◌, ℕ, length, map, All, Contains, OnOk};
+ghost use Rattle.std.specs.Prelude.{◌≡◌, ◌^◌, ◌<◌, ◌≤◌, ◌++◌, ℕ, length, map, All, Contains, OnOk};
 ghost use Rattle.std.specs.Prelude.{IfErr};
 ghost use Rattle.las_outside.specs.Frames.{OnlyWrites};
 ghost use Rattle.las_outside.specs.Outside.{with_bytes};
-ghost use Rattle.laz_chunk.specs.Layouts.{Format};
 ghost use Rattle.laz_file.specs.declared.fault.Fault.TheVariants.{Write};
 ghost use Rattle.laz_file.specs.Writing.{HasText, IsChunk, OfText, StopsAfter, all_chunks, chunks};
 ghost use Rattle.laz_workers.specs.Rooms.{lengths_of, numbers_in, rooms_of};

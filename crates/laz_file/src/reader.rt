@@ -1,10 +1,10 @@
 //! A reader of a file, plain or packed, block by block.
-ghost use Rattle.std.specs.Prelude.{◌≡◌, ℕ, ◌+◌, ◌*◌, ◌^◌, ◌<◌, ◌≤◌, [], false, All, None, Some, length, sum, string_bytes};
+ghost use Rattle.std.specs.Prelude.{◌≡◌, ℕ, ◌+◌, ◌^◌, ◌<◌, [], false, All, None, Some, length, sum, string_bytes};
 ghost use Rattle.std.specs.Prelude.{IfErr, IfOk, IsErrOf, OnOk};
 ghost use Rattle.las_header.specs.declared.refusal.Refusal.{Refusal};
 ghost use Rattle.las_header.specs.Fields.{points_of, record_length_of};
 ghost use Rattle.las_outside.specs.Files.{IsMissing, WhereKnown};
-ghost use Rattle.las_outside.specs.Outside.{Later};
+ghost use Rattle.las_outside.specs.Frames.{IsCalm, OnlyReads};
 ghost use Rattle.laz_file.specs.Asking.{AsksAtMost, asked_for_list, asked_to_open};
 ghost use Rattle.laz_file.specs.declared.fault.Fault.TheVariants.{Refused};
 ghost use Rattle.laz_file.specs.Pieces.{pieces_from};
@@ -87,7 +87,8 @@ impl Model for Reader {
       lent = r.block.items;
     } };
 
-    ghost invariant = { λ r. AreListed r.chunk (length r.head.bytes) (points_of r.head.bytes) r.points.items r.bytes.items
+    ghost invariant = { λ r. AreListed r.chunk (length r.head.bytes) (points_of r.head.bytes)
+        r.points.items r.bytes.items
         × IsInPlace (record_length_of r.head.bytes) (record {
           at = r.place;
           blocks = r.blocks;
@@ -113,20 +114,21 @@ impl Reader {
         // The reader agrees with its head, also if the files are not known.
         ensures whole { IfOk result AgreesWithHead }
         // Nothing but reads is done, and a fault has its cause.
-        ensures faults { OnOk result ((F.seen files.new).read_faults ≡ (F.seen files.old).read_faults) }
+        ensures reads { OnlyReads (F.seen files.old) (F.seen files.new) }
+        ensures calm { OnOk result (IsCalm (F.seen files.old) (F.seen files.new)) }
         ensures ends { IfErr result
             (EndsReading (IsMissing (F.seen files.old).held name.now) (F.seen files.old) (F.seen files.new)) }
-        ensures held { (F.seen files.new).held ≡ (F.seen files.old).held }
-        ensures writes { (F.seen files.new).write_faults ≡ (F.seen files.old).write_faults }
         // At most this many bytes are asked for: the head, and of a packed file two pointers and the table.
         ensures asked { IfOk result (λ reader. AsksAtMost
-            (length reader.head.bytes + asked_for_list reader.chunk (length reader.pieces)) (F.seen files.old) (F.seen files.new)) }
-        // If the files are known, and however the call ends: at most this much of the file, and nothing if there is none.
-        ensures asked_of { (IsMissing (F.seen files.old).held name.now → ⊥) → WhereKnown (F.seen files.old).held name.now
+            (length reader.head.bytes + asked_for_list reader.chunk (length reader.pieces))
+            (F.seen files.old) (F.seen files.new)) }
+        // If the files are known, and however the call ends: at most this much of the file, and nothing if there is
+        // none.
+        ensures asked_of { (IsMissing (F.seen files.old).held name.now → ⊥)
+            → WhereKnown (F.seen files.old).held name.now
             (λ file. AsksAtMost (asked_to_open file) (F.seen files.old) (F.seen files.new)) }
         ensures missing { IsMissing (F.seen files.old).held name.now
             → (F.seen files.new).asked ≡ (F.seen files.old).asked }
-        ensures later { Later (F.seen files.old) (F.seen files.new) }
     {
         let own = String::from_str(alloc, name)?;
         let (head, size) = read_head(alloc, files, name)?;

@@ -34,8 +34,8 @@ pub(crate) struct Sought {
     pub(crate) place: u64,
 }
 
-/// The chunks with records of the places from `start` on and before `stop`: none, if there are no such places. The first
-/// chunk of all begins at `place`.
+/// The chunks with records of the places from `start` on and before `stop`: none, if there are no such places. The
+/// first chunk of all begins at `place`.
 pub(crate) fn seek(points: &[u32], bytes: &[u32], place: u64, start: u32, stop: u32) -> Sought
     requires same { length points.now ≡ length bytes.now }
     requires few { length points.now < 2 ^ 32 }

@@ -1,5 +1,5 @@
 //! The counts of records that are handed over as their bytes.
-ghost use Rattle.std.specs.Prelude.{◌≡◌, ◌+◌, ◌*◌, ◌/◌, ◌%◌, ◌^◌, ◌<◌, ◌≤◌, ◌++◌, ℕ, List, length};
+ghost use Rattle.std.specs.Prelude.{◌≡◌, ◌+◌, ◌/◌, ◌%◌, ◌^◌, ◌<◌, ◌≤◌, ◌++◌, ℕ, List, length};
 ghost use Rattle.las_header.specs.Plain.{cut_records};
 ghost use Rattle.las_points.specs.Tally.{IsWithinPoints, counts_of};
 

@@ -1,5 +1,5 @@
 //! Whole files: packed and unpacked.
-ghost use Rattle.std.specs.Prelude.{◌≡◌, ◌≢◌, ◌++◌, ℕ, ◌≤◌, List, Some, None, drop, false, IfErr, IsErrOf, OnOk};
+ghost use Rattle.std.specs.Prelude.{◌≡◌, ◌≢◌, ◌++◌, ℕ, List, Some, None, drop, false, IfErr, IsErrOf, OnOk};
 ghost use Rattle.std.specs.Prelude.{IsSome};
 ghost use Rattle.std.specs.List.{concat};
 ghost use Rattle.las_header.specs.declared.refusal.Refusal.{Refusal};
@@ -8,10 +8,10 @@ ghost use Rattle.las_header.specs.Fields.{point_offset_of};
 ghost use Rattle.las_header.specs.Plain.{plain_head};
 ghost use Rattle.las_outside.specs.Faults.{Rose};
 ghost use Rattle.las_outside.specs.Files.{with_file};
+ghost use Rattle.las_outside.specs.Frames.{IsCalm};
 ghost use Rattle.las_outside.specs.Limits.{AreWorkers, IsChunkSize};
-ghost use Rattle.las_outside.specs.Outside.{Later};
 ghost use Rattle.laz_file.specs.declared.fault.Fault.TheVariants.{Read, Refused, Write};
-ghost use Rattle.laz_file.specs.Asking.{AsksAtMost, bytes_left};
+ghost use Rattle.laz_file.specs.Asking.{ReadsAndWrites, bytes_left};
 ghost use Rattle.laz_file.specs.Copying.{AreOnlyRecords, CanTake, EndsCopying, Finishes, LeavesInPart, LeavesRecords};
 ghost use Rattle.laz_file.specs.Copying.{LeavesUnfinished, packed_output, plain_output};
 ghost use Rattle.laz_file.specs.Outputs.{stopped};
@@ -51,10 +51,8 @@ fn fill<R: Threads + Sync, F: Files, G: Gate>(
     ensures ends { OfOutput (F.seen files.old) writer
         (λ before out bytes. IfErr result (EndsCopying (F.seen files.old).held before.held (F.seen files.old)
         (F.seen files.new) reader.old out bytes)) }
-    ensures reads_calm { OnOk result ((F.seen files.new).read_faults ≡ (F.seen files.old).read_faults) }
-    ensures writes_calm { OnOk result ((F.seen files.new).write_faults ≡ (F.seen files.old).write_faults) }
-    ensures asked { AsksAtMost (bytes_left reader.old) (F.seen files.old) (F.seen files.new) }
-    ensures later { Later (F.seen files.old) (F.seen files.new) }
+    ensures calm { OnOk result (IsCalm (F.seen files.old) (F.seen files.new)) }
+    ensures frame { ReadsAndWrites (bytes_left reader.old) (F.seen files.old) (F.seen files.new) }
 {
     let mut writer = writer;
     match copy_records(rt, alloc, files, gate, reader, crew, &mut writer)? {
@@ -105,12 +103,9 @@ pub fn pack<R: Threads + Sync, F: Files, G: Gate>(
     ensures never { (cause : Refusal) → IsErrOf result (Refused cause) → ⊥ }
     ensures read { IsErrOf result Read → Rose (F.seen files.old).read_faults (F.seen files.new).read_faults }
     ensures write { IsErrOf result Write → Rose (F.seen files.old).write_faults (F.seen files.new).write_faults }
-    ensures reads_calm { OnOk result ((F.seen files.new).read_faults ≡ (F.seen files.old).read_faults) }
-    ensures writes_calm { OnOk result ((F.seen files.new).write_faults ≡ (F.seen files.old).write_faults) }
-    ensures later { Later (F.seen files.old) (F.seen files.new) }
-
+    ensures calm { OnOk result (IsCalm (F.seen files.old) (F.seen files.new)) }
     // No more is asked for than the reader has left, however the call ends.
-    ensures asked { AsksAtMost (bytes_left reader) (F.seen files.old) (F.seen files.new) }
+    ensures frame { ReadsAndWrites (bytes_left reader) (F.seen files.old) (F.seen files.new) }
 {
     let mut reader = reader;
     let mut crew = reader.crew(alloc, 1)?;
@@ -157,12 +152,9 @@ pub fn unpack<R: Threads + Sync, F: Files, G: Gate>(
         LeavesRecords (plain_output output.now file) file (F.seen files.old).held (F.seen files.new).held)) }
     ensures read { IsErrOf result Read → Rose (F.seen files.old).read_faults (F.seen files.new).read_faults }
     ensures write { IsErrOf result Write → Rose (F.seen files.old).write_faults (F.seen files.new).write_faults }
-    ensures reads_calm { OnOk result ((F.seen files.new).read_faults ≡ (F.seen files.old).read_faults) }
-    ensures writes_calm { OnOk result ((F.seen files.new).write_faults ≡ (F.seen files.old).write_faults) }
-    ensures later { Later (F.seen files.old) (F.seen files.new) }
-
+    ensures calm { OnOk result (IsCalm (F.seen files.old) (F.seen files.new)) }
     // No more is asked for than the reader has left, however the call ends.
-    ensures asked { AsksAtMost (bytes_left reader) (F.seen files.old) (F.seen files.new) }
+    ensures frame { ReadsAndWrites (bytes_left reader) (F.seen files.old) (F.seen files.new) }
 {
     let mut reader = reader;
     let head = reader.head().without_vlr(alloc)?;

@@ -9,9 +9,9 @@ ghost use Rattle.las_header.specs.Vlrs.{laszip_vlrs_of};
 ghost use Rattle.las_outside.specs.Faults.{Rose};
 ghost use Rattle.las_outside.specs.Limits.{AreWorkers, IsChunkSize};
 ghost use Rattle.las_outside.specs.Frames.{IsCalm, OnlyWrites};
-ghost use Rattle.las_outside.specs.Outside.{Later, Outside, with_bytes};
+ghost use Rattle.las_outside.specs.Outside.{Outside, with_bytes};
 ghost use Rattle.laz_file.specs.Outputs.{Output, front, stopped};
-ghost use Rattle.laz_file.specs.Writing.{IsBegun, IsTally, OfOutput, PointsStand, SameFaults, Stands, Stops};
+ghost use Rattle.laz_file.specs.Writing.{IsBegun, IsTally, OfOutput, PointsStand, Stands, Stops};
 ghost use Rattle.laz_file.specs.Writing.{StopsIn, first_packing};
 ghost use Rattle.laz_file.specs.declared.fault.Fault.TheVariants.{Memory, Write};
 
@@ -123,9 +123,8 @@ impl Writer {
         ensures memory { IsErrOf result Memory → F.seen files.new ≡ F.seen files.old }
         ensures fault { IfErr result (λ fault. (fault ≡ Memory) ⊎ (fault ≡ Write)) }
         ensures write { IsErrOf result Write → Rose (F.seen files.old).write_faults (F.seen files.new).write_faults }
-        ensures calm { OnOk result (SameFaults (F.seen files.old) (F.seen files.new)) }
+        ensures calm { OnOk result (IsCalm (F.seen files.old) (F.seen files.new)) }
         ensures writes { OnlyWrites (F.seen files.old) (F.seen files.new) }
-        ensures later { Later (F.seen files.old) (F.seen files.new) }
     {
         // Its contract says what holds of every head.
         let _ = head.bytes();
@@ -265,9 +264,8 @@ impl Writer {
         ensures failed { OnErr result (self.new.failed ≡ true) }
         ensures fault { IfErr result (λ fault. (fault ≡ Memory) ⊎ (fault ≡ Write)) }
         ensures write { IsErrOf result Write → Rose (F.seen files.old).write_faults (F.seen files.new).write_faults }
-        ensures calm { OnOk result (SameFaults (F.seen files.old) (F.seen files.new)) }
+        ensures calm { OnOk result (IsCalm (F.seen files.old) (F.seen files.new)) }
         ensures writes { OnlyWrites (F.seen files.old) (F.seen files.new) }
-        ensures later { Later (F.seen files.old) (F.seen files.new) }
     {
         let counts = self.tallied(records);
         match self.append_points(rt, alloc, files, gate, records) {

@@ -16,7 +16,7 @@ pack_plain-requires-clause-accepted g c κs within =
     subst (λ (h : Option FileMap). WhereKnown h c.args.plain.now (λ file. CanBePacked file c.args.chunk))
     (sym (ap (λ (o : Outside). o.held) c.in-Ok.ensures.written))
     (made_known c.args.settings c.requires.range c.args.plain.now c.args.packed.now c.args.chunk old.held
-    c.requires.chunk.0 c.requires.chunk.1)
+    c.requires.chunk)
 
 pub returns-in_err-pack_plain-clause-fails : goal.returns-in_err-pack_plain-clause-fails
 returns-in_err-pack_plain-clause-fails g c =
@@ -27,7 +27,7 @@ returns-in_err-pack_plain-clause-fails g c =
     _ c.from_residual.ensures.1
     (packing_fails c.args.settings c.requires.range c.args.plain.now c.args.packed.now c.args.chunk old mid new
     c.in_err-pack_plain.field-0.0 c.in-Ok.ensures.written
-    (c.pack_plain.ensures.later.known ∙ c.write_plain.ensures.later.known) c.in_err-pack_plain.ensures.ends)
+    (c.pack_plain.ensures.later.known ∙ c.write_plain.ensures.writes.later.known) c.in_err-pack_plain.ensures.ends)
 
 pub returns-in-Ok-size-clause-made : goal.returns-in-Ok-size-clause-made
 returns-in-Ok-size-clause-made g c =
@@ -35,7 +35,7 @@ returns-in-Ok-size-clause-made g c =
     let pre = g.F.Files.seen c.pack_plain.new.files in
     ap (λ (o : Outside). o.held) c.in-Ok-size.ensures.ok
     ∙ form_whole c.args.settings c.requires.range c.args.plain.now c.args.packed.now c.args.chunk old.held pre.held
-    (c.pack_plain.ensures.later.known ∙ c.write_plain.ensures.later.known)
+    (c.pack_plain.ensures.later.known ∙ c.write_plain.ensures.writes.later.known)
     (subst (λ (h : Option FileMap). WhereKnown h c.args.plain.now
     (λ file. pre.held ≡ with_file h c.args.packed.now (packed_file file c.args.chunk)))
     (ap (λ (o : Outside). o.held) c.in-Ok.ensures.written) c.in_ok-pack_plain.ensures.packed)
@@ -45,7 +45,7 @@ returns-in-Ok-size-clause-packed_size g c some =
     let old = g.F.Files.seen c.args.files.now in
     let pre = g.F.Files.seen c.pack_plain.new.files in
     let whole = form_whole c.args.settings c.requires.range c.args.plain.now c.args.packed.now c.args.chunk old.held
-    pre.held (c.pack_plain.ensures.later.known ∙ c.write_plain.ensures.later.known)
+    pre.held (c.pack_plain.ensures.later.known ∙ c.write_plain.ensures.writes.later.known)
     (subst (λ (h : Option FileMap). WhereKnown h c.args.plain.now
     (λ file. pre.held ≡ with_file h c.args.packed.now (packed_file file c.args.chunk)))
     (ap (λ (o : Outside). o.held) c.in-Ok.ensures.written) c.in_ok-pack_plain.ensures.packed) in
@@ -58,7 +58,7 @@ returns-in-Err-size-clause-fails g c =
     let pre = g.F.Files.seen c.pack_plain.new.files in
     let new = g.F.Files.seen c.size.new.self in
     let whole = form_whole c.args.settings c.requires.range c.args.plain.now c.args.packed.now c.args.chunk old.held
-    pre.held (c.pack_plain.ensures.later.known ∙ c.write_plain.ensures.later.known)
+    pre.held (c.pack_plain.ensures.later.known ∙ c.write_plain.ensures.writes.later.known)
     (subst (λ (h : Option FileMap). WhereKnown h c.args.plain.now
     (λ file. pre.held ≡ with_file h c.args.packed.now (packed_file file c.args.chunk)))
     (ap (λ (o : Outside). o.held) c.in-Ok.ensures.written) c.in_ok-pack_plain.ensures.packed) in
@@ -67,7 +67,7 @@ returns-in-Err-size-clause-fails g c =
     c.in-Err-size.ensures.err
 
 pub returns-in-Err-clause-asked : goal.returns-in-Err-clause-asked
-returns-in-Err-clause-asked g c some = omega (arith, c.write_plain.ensures.asked)
+returns-in-Err-clause-asked g c some = omega (arith, c.write_plain.ensures.writes.asked)
 
 pub returns-in_err-pack_plain-clause-asked : goal.returns-in_err-pack_plain-clause-asked
 returns-in_err-pack_plain-clause-asked g c some =
@@ -79,7 +79,7 @@ returns-in_err-pack_plain-clause-asked g c some =
     (subst (λ (h : Option FileMap). WhereKnown h plain
     (λ file. AsksAtMost (asked_to_open file + points_size file) mid new))
     (ap (λ (o : Outside). o.held) c.in-Ok.ensures.written) c.pack_plain.ensures.asked) some in
-    omega (arith, c.write_plain.ensures.asked, most)
+    omega (arith, c.write_plain.ensures.writes.asked, most)
 
 pub returns-in-Ok-size-clause-asked : goal.returns-in-Ok-size-clause-asked
 returns-in-Ok-size-clause-asked g c some =
@@ -91,7 +91,7 @@ returns-in-Ok-size-clause-asked g c some =
     (subst (λ (h : Option FileMap). WhereKnown h plain
     (λ file. AsksAtMost (asked_to_open file + points_size file) mid new))
     (ap (λ (o : Outside). o.held) c.in-Ok.ensures.written) c.pack_plain.ensures.asked) some in
-    omega (arith, c.write_plain.ensures.asked, most, ap (λ (o : Outside). o.asked) c.in-Ok-size.ensures.ok)
+    omega (arith, c.write_plain.ensures.writes.asked, most, ap (λ (o : Outside). o.asked) c.in-Ok-size.ensures.ok)
 
 pub returns-in-Err-size-clause-asked : goal.returns-in-Err-size-clause-asked
 returns-in-Err-size-clause-asked g c some =
@@ -104,4 +104,4 @@ returns-in-Err-size-clause-asked g c some =
     (subst (λ (h : Option FileMap). WhereKnown h plain
     (λ file. AsksAtMost (asked_to_open file + points_size file) mid pre))
     (ap (λ (o : Outside). o.held) c.in-Ok.ensures.written) c.pack_plain.ensures.asked) some in
-    omega (arith, c.write_plain.ensures.asked, most, size_asked pre new c.args.packed.now c.in-Err-size.ensures.err)
+    omega (arith, c.write_plain.ensures.writes.asked, most, size_asked pre new c.args.packed.now c.in-Err-size.ensures.err)

@@ -1,7 +1,7 @@
 use Rattle.std.proofs.Common.{ℕ, ◌*◌, List, sym, ◌∙◌, ap, subst, arith}
 use Rattle.std.specs.List.{concat}
 use Rattle.laz_file.specs.Writing.{Stands}
-use Rattle.laz_file.proofs.Public.{on_err, stands_asked, stops_asked}
+use Rattle.laz_file.proofs.Public.{on_err}
 use Rattle.las_make.specs.Made.{records_from}
 use Rattle.las_make.proofs.Written.{block_fits, block_joined, block_left, block_whole, end_fits, part_long, put_block}
 use Rattle.las_make.proofs.Written.{put_fits, put_long, put_records}
@@ -72,14 +72,3 @@ returns-clause-stands g c before out s =
     subst (λ (t : List ℕ). Stands before (g.F.Files.seen c.push.new.files) c.push.new.self out t)
     (block_joined settings from c.min-count.result _ is)
     (c.in_ok-push.ensures.stands before out (concat (records_from settings 0 from)) s)
-
-pub returns-in_err-push-clause-asked : goal.returns-in_err-push-clause-asked
-returns-in_err-push-clause-asked g c =
-    let s = c.requires.stands in
-    let records = concat (records_from c.args.settings 0 c.args.from) in
-    let p = c.in_err-push.ensures.stopped s.0 s.1 records s.2 in
-    stops_asked c.in_err-push.field-0.0 _ (g.F.Files.seen c.push.new.files) p.1
-    ∙ sym (stands_asked s.0 (g.F.Files.seen c.args.files.now) c.args.writer.now s.1 records s.2)
-
-pub returns-clause-asked : goal.returns-clause-asked
-returns-clause-asked g c = c.in_ok-push.ensures.calm.asked

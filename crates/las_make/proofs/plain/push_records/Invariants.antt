@@ -1,6 +1,7 @@
 use Rattle.std.proofs.Common.{◌≡◌, ◌-◌, ◌≤◌, [], false}
 use Rattle.std.specs.List.{concat}
-use Rattle.las_outside.specs.Outside.{Later, Outside}
+use Rattle.las_outside.specs.Frames.{IsCalm, OnlyWrites}
+use Rattle.las_outside.specs.Outside.{Outside}
 use Rattle.laz_file.specs.Outputs.{Output}
 use Rattle.laz_file.specs.Writing.{Stands}
 use Rattle.las_make.specs.Made.{IsBefore, records_from}
@@ -14,9 +15,8 @@ invariant-loop-from g l = record {
   most : l.writer.most ≡ l.settings.points;
   stands : (before : Outside) (out : Output) → Stands before (g.F.Files.seen l.fn.files) l.fn.writer out []
       → Stands before (g.F.Files.seen l.files) l.writer out (concat (records_from l.settings 0 l.from));
-  calm : (g.F.Files.seen l.files).write_faults ≡ (g.F.Files.seen l.fn.files).write_faults;
-  asked : (g.F.Files.seen l.files).asked ≡ (g.F.Files.seen l.fn.files).asked;
-  later : Later (g.F.Files.seen l.fn.files) (g.F.Files.seen l.files);
+  calm : IsCalm (g.F.Files.seen l.fn.files) (g.F.Files.seen l.files);
+  writes : OnlyWrites (g.F.Files.seen l.fn.files) (g.F.Files.seen l.files);
 }
 
 abbrev pub decreases-loop-from : goal.decreases-loop-from

@@ -2,12 +2,13 @@ use Rattle.std.proofs.Common.{◌≡◌, ℕ, false, List, ◌++◌, length, Non
 use Rattle.std.specs.List.{concat}
 use Rattle.las_outside.specs.Drafts.{IsUnfinished}
 use Rattle.las_outside.specs.Outside.{with_bytes}
+use Rattle.las_outside.proofs.Public.{only_writes-trans}
 use Rattle.laz_file.specs.Copying.{LeavesUnfinished}
 use Rattle.laz_file.specs.Outputs.{Output, draft_of, finished, patches_of}
 use Rattle.laz_file.specs.Writing.{Stops}
-use Rattle.laz_file.proofs.Public.{on_err, create_left, ok_then, created_asked}
+use Rattle.laz_file.proofs.Public.{on_err, create_left, ok_then}
 use Rattle.las_make.specs.Made.{made_file, made_records}
-use Rattle.las_make.proofs.Written.{ended_asked, counted_none, counted_plain, counted_size, end_left, head_made}
+use Rattle.las_make.proofs.Written.{counted_none, counted_plain, counted_size, end_left, head_made}
 use Rattle.las_make.proofs.Written.{ok_with, on_err_from}
 use Rattle.las_make.proofs.plain.write_plain.Goals as goal
 
@@ -125,28 +126,11 @@ returns-clause-left g c =
     is (end_left old new out records fault l))
     (c.finish.ensures.stopped old out records stands)
 
-pub returns-in_err-writer-clause-asked : goal.returns-in_err-writer-clause-asked
-returns-in_err-writer-clause-asked g c =
-    created_asked c.create.result (g.F.Files.seen c.args.files.now) (g.F.Files.seen c.create.new.files)
-    c.args.output.now _ c.create.ensures.calm c.create.ensures.stopped
+pub returns-in_err-push_records-clause-writes : goal.returns-in_err-push_records-clause-writes
+returns-in_err-push_records-clause-writes g c =
+    only_writes-trans _ _ _ c.create.ensures.writes c.push_records.ensures.writes
 
-pub returns-in_err-push_records-clause-asked : goal.returns-in_err-push_records-clause-asked
-returns-in_err-push_records-clause-asked g c = c.push_records.ensures.asked ∙ c.in_ok-writer.ensures.calm.asked
-
-pub returns-clause-asked : goal.returns-clause-asked
-returns-clause-asked g c =
-    let old = g.F.Files.seen c.args.files.now in
-    let mid = g.F.Files.seen c.push_records.new.files in
-    let new = g.F.Files.seen c.finish.new.files in
-    let records = concat (made_records c.args.settings) in
-    let out : Output = record {
-      name = c.args.output.now;
-      head = c.with_counts-head.result.bytes;
-      chunk = None;
-      counted = false;
-    } in
-    let stands = c.in_ok-push_records.ensures.stands old out c.in_ok-writer.ensures.stands in
-    ended_asked c.finish.result old mid new c.args.output.now
-    (IsUnfinished (draft_of out records) (patches_of out records))
-    (c.push_records.ensures.asked ∙ c.in_ok-writer.ensures.calm.asked) c.finish.ensures.calm
-    (c.finish.ensures.stopped old out records stands)
+pub returns-clause-writes : goal.returns-clause-writes
+returns-clause-writes g c =
+    only_writes-trans _ _ _ c.create.ensures.writes
+    (only_writes-trans _ _ _ c.push_records.ensures.writes c.finish.ensures.writes)

@@ -2,9 +2,9 @@ use Rattle.std.proofs.Common.{◌≡◌, ◌≢◌, ◌<◌, ◌+◌, ◌≤◌,
 use Rattle.std.specs.List.{concat}
 use Rattle.las_outside.specs.Files.{WhereKnown, with_file}
 use Rattle.las_outside.specs.Outside.{Outside, with_bytes}
-use Rattle.las_outside.proofs.Public.{on_err}
+use Rattle.las_outside.proofs.Public.{calm-trans, later-trans, on_err}
 use Rattle.las_merge.specs.Appending.{LiesIn, SourceSeen, part_in, part_of, with_reads}
-use Rattle.laz_file.proofs.Public.{later-trans, known_then, if_err}
+use Rattle.laz_file.proofs.Public.{known_then, if_err}
 use Rattle.las_merge.proofs.Appended.{copy_fault_since, in_part, joined_more, still_known, still_part, sum_more, sum_within}
 use Rattle.las_merge.proofs.appending.copy_all.Goals as goal
 
@@ -75,25 +75,28 @@ sources-preserved g c =
           c.in_ok-copy_part.ensures.copied (with_reads before cur) (text ++ done) there
           ∙ ap (λ (t : List ℕ). with_bytes (with_reads before now) output t)
           (append_assoc text done _ ∙ ap (λ (t : List ℕ). text ++ (done ++ t)) part ∙ ap (λ (t : List ℕ). text ++ t) (sym (joined_more f sources i s c.sources-test.true)));
-      calm = c.in_ok-copy_part.ensures.reads_calm ∙ c.sources.invariant.calm;
-      asked = omega (arith, c.copy_part.ensures.asked, c.sources.invariant.asked, c.span-place.ensures.size, ap (λ (x : SourceSeen). x.size) c.index-sources-i.is, sum_more (λ (x : SourceSeen). x.size) sources i s c.sources-test.true);
-      later = later-trans _ _ _ c.sources.invariant.later c.in_ok-copy_part.ensures.later;
+      calm = calm-trans _ _ _ c.sources.invariant.calm c.in_ok-copy_part.ensures.calm;
+      frame = record {
+        asked = omega (arith, c.copy_part.ensures.frame.asked, c.sources.invariant.frame.asked, c.span-place.ensures.size, ap (λ (x : SourceSeen). x.size) c.index-sources-i.is, sum_more (λ (x : SourceSeen). x.size) sources i s c.sources-test.true);
+        later = later-trans _ _ _ c.sources.invariant.frame.later c.copy_part.ensures.frame.later;
+      };
     }
 
-pub returns-in_err-copy_part-clause-asked : goal.returns-in_err-copy_part-clause-asked
-returns-in_err-copy_part-clause-asked g c =
+pub returns-in_err-copy_part-clause-frame : goal.returns-in_err-copy_part-clause-frame
+returns-in_err-copy_part-clause-frame g c =
     let sources = c.args.sources.now in
     let i = c.sources.i in
     let s : SourceSeen = c.index-sources-i.result in
-    omega (arith, c.copy_part.ensures.asked, c.sources.invariant.asked, c.span-place.ensures.size, ap (λ (x : SourceSeen). x.size) c.index-sources-i.is, sum_more (λ (x : SourceSeen). x.size) sources i s c.sources-test.true, sum_within (λ (x : SourceSeen). x.size) sources (i + 1))
+    record {
+      asked = omega (arith, c.copy_part.ensures.frame.asked, c.sources.invariant.frame.asked, c.span-place.ensures.size, ap (λ (x : SourceSeen). x.size) c.index-sources-i.is, sum_more (λ (x : SourceSeen). x.size) sources i s c.sources-test.true, sum_within (λ (x : SourceSeen). x.size) sources (i + 1));
+      later = later-trans _ _ _ c.sources.invariant.frame.later c.copy_part.ensures.frame.later;
+    }
 
 pub returns-in_err-copy_part-clause-cause : goal.returns-in_err-copy_part-clause-cause
 returns-in_err-copy_part-clause-cause g c =
     let old = g.F.Files.seen c.args.files.now in
     let cur = g.F.Files.seen c.sources.files in
     let now = g.F.Files.seen c.copy_part.new.files in
-    let h = c.requires.held in
-    let there = c.sources.invariant.copied h.0 h.1 h.2 in
-    let writes : cur.write_faults ≡ old.write_faults = ap (λ (o : Outside). o.write_faults) there ∙ sym (ap (λ (o : Outside). o.write_faults) h.2) in
+    let calm = c.sources.invariant.calm in
     if_err _ c.from_residual.result _ c.from_residual.ensures.1
-    (copy_fault_since (λ n. n ≡ c.sources.i) (λ n. n < length c.args.sources.now) old cur now c.sources.invariant.calm writes (λ n e. omega (arith, e, c.sources-test.true)) c.in_err-copy_part.field-0.0 c.in_err-copy_part.ensures.cause)
+    (copy_fault_since (λ n. n ≡ c.sources.i) (λ n. n < length c.args.sources.now) old cur now calm.reads calm.writes (λ n e. omega (arith, e, c.sources-test.true)) c.in_err-copy_part.field-0.0 c.in_err-copy_part.ensures.cause)

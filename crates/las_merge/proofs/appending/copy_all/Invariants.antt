@@ -1,7 +1,9 @@
-use Rattle.std.proofs.Common.{◌≡◌, ◌+◌, ◌≤◌, ◌++◌, List, ℕ, length, map, take}
+use Rattle.std.proofs.Common.{◌≡◌, ◌++◌, List, ℕ, length, map, take}
 use Rattle.std.specs.Prelude.{sum_by}
 use Rattle.std.specs.List.{concat}
-use Rattle.las_outside.specs.Outside.{Later, Outside, with_bytes}
+use Rattle.las_outside.specs.Frames.{IsCalm}
+use Rattle.las_outside.specs.Outside.{Outside, with_bytes}
+use Rattle.laz_file.specs.Asking.{ReadsAndWrites}
 use Rattle.las_merge.specs.Appending.{part_of, with_reads}
 use Rattle.las_merge.proofs.appending.copy_all.Given as goal
 
@@ -10,7 +12,6 @@ invariant-sources g l = record {
   room : length l.buffer ≡ length l.fn.buffer;
   copied : (before : Outside) (text : List ℕ) → g.F.Files.seen l.fn.files ≡ with_bytes before l.output text
       → g.F.Files.seen l.files ≡ with_bytes (with_reads before (g.F.Files.seen l.files)) l.output (text ++ concat (map (part_of (g.F.Files.seen l.fn.files).held) (take l.i l.sources)));
-  calm : (g.F.Files.seen l.files).read_faults ≡ (g.F.Files.seen l.fn.files).read_faults;
-  asked : (g.F.Files.seen l.files).asked ≤ (g.F.Files.seen l.fn.files).asked + sum_by (λ source. source.size) (take l.i l.sources);
-  later : Later (g.F.Files.seen l.fn.files) (g.F.Files.seen l.files);
+  calm : IsCalm (g.F.Files.seen l.fn.files) (g.F.Files.seen l.files);
+  frame : ReadsAndWrites (sum_by (λ source. source.size) (take l.i l.sources)) (g.F.Files.seen l.fn.files) (g.F.Files.seen l.files);
 }

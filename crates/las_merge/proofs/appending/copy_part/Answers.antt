@@ -1,9 +1,9 @@
 use Rattle.std.proofs.Common.{◌≡◌, ◌+◌, ◌-◌, ◌≤◌, ◌++◌, ℕ, List, length, length-append, take, ◌∙◌, ap, append_assoc, arith}
 use Rattle.las_outside.specs.Files.{with_file}
 use Rattle.las_outside.specs.Outside.{Outside, with_bytes}
-use Rattle.las_outside.proofs.Public.{on_err}
+use Rattle.las_outside.proofs.Public.{calm-trans, later-trans, on_err}
 use Rattle.las_merge.specs.Appending.{part_in, with_reads}
-use Rattle.laz_file.proofs.Public.{later-trans, known_then}
+use Rattle.laz_file.proofs.Public.{known_then}
 use Rattle.las_merge.proofs.Appended.{part_more, part_prefix, still_known, still_part}
 use Rattle.las_merge.proofs.appending.copy_part.Goals as goal
 
@@ -71,7 +71,9 @@ pieces-preserved g c =
           (append_assoc text one (part_in cur.held input (place + done) n)
           ∙ ap (λ (t : List ℕ). text ++ (one ++ t)) same ∙ ap (λ (t : List ℕ). text ++ t) (part_more old.held input place done n)
           ∙ ap (λ (m : ℕ). text ++ part_in old.held input place (done + m)) long);
-      calm = ok.reads_calm ∙ inv.calm;
-      asked = omega (arith, ok.asked, inv.asked, long);
-      later = later-trans _ _ _ inv.later ok.later;
+      calm = calm-trans _ _ _ inv.calm ok.calm;
+      frame = record {
+        asked = omega (arith, ok.frame.asked, inv.frame.asked, long);
+        later = later-trans _ _ _ inv.frame.later ok.frame.later;
+      };
     }

@@ -1,5 +1,7 @@
 use Rattle.std.proofs.Common.{◌≡◌, ◌+◌, ◌-◌, ◌≤◌, ◌++◌, List, ℕ, length}
-use Rattle.las_outside.specs.Outside.{Later, Outside, with_bytes}
+use Rattle.las_outside.specs.Frames.{IsCalm}
+use Rattle.las_outside.specs.Outside.{Outside, with_bytes}
+use Rattle.laz_file.specs.Asking.{ReadsAndWrites}
 use Rattle.las_merge.specs.Appending.{part_in, with_reads}
 use Rattle.las_merge.proofs.appending.copy_part.Given as goal
 
@@ -9,9 +11,8 @@ invariant-pieces g l = record {
   room : length l.buffer ≡ length l.fn.buffer;
   copied : (before : Outside) (text : List ℕ) → g.F.Files.seen l.fn.files ≡ with_bytes before l.output text
       → g.F.Files.seen l.files ≡ with_bytes (with_reads before (g.F.Files.seen l.files)) l.output (text ++ part_in (g.F.Files.seen l.fn.files).held l.input l.place l.done);
-  calm : (g.F.Files.seen l.files).read_faults ≡ (g.F.Files.seen l.fn.files).read_faults;
-  asked : (g.F.Files.seen l.files).asked ≤ (g.F.Files.seen l.fn.files).asked + l.done;
-  later : Later (g.F.Files.seen l.fn.files) (g.F.Files.seen l.files);
+  calm : IsCalm (g.F.Files.seen l.fn.files) (g.F.Files.seen l.files);
+  frame : ReadsAndWrites l.done (g.F.Files.seen l.fn.files) (g.F.Files.seen l.files);
 }
 
 abbrev pub decreases-pieces : goal.decreases-pieces

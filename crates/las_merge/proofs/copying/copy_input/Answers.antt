@@ -22,7 +22,10 @@ pub returns-clause-left : goal.returns-clause-left
 returns-clause-left g c =
     failed_input (g.F.Files.seen c.args.files.now) (g.F.Files.seen c.copy_records.new.files) c.args.reader c.crew.new.self (2 * c.hands-hands.result) c.in_ok-crew.ensures.kept c.requires.fresh.whole c.requires.reads c.args.writer.now c.copy_records.new.writer c.copy_records.result c.copy_records.ensures.part
 
-pub returns-clause-asked : goal.returns-clause-asked
-returns-clause-asked g c =
+pub returns-clause-frame : goal.returns-clause-frame
+returns-clause-frame g c =
     let same : bytes_left c.crew.new.self ≡ bytes_left c.args.reader = ap bytes_left c.in_ok-crew.ensures.kept in
-    omega (arith, same, c.copy_records.ensures.asked)
+    record {
+      asked = omega (arith, same, c.copy_records.ensures.asked);
+      later = c.copy_records.ensures.later;
+    }

@@ -100,11 +100,11 @@ returns-in-Ok-copy_input-clause-asked g c =
     asked_again (g.F.Files.seen c.args.files.now).held c.args.input.now.name c.in-Ok.reader
     (g.F.Files.seen c.args.files.now) (g.F.Files.seen c.open_again.new.files)
     (g.F.Files.seen c.copy_input.new.files) c.in-Ok.ensures.again.fresh.whole c.in-Ok.ensures.again.stands
-    c.open_again.ensures.asked c.copy_input.ensures.asked
+    c.open_again.ensures.asked c.copy_input.ensures.frame.asked
 
 pub returns-in-Err-copy_input-clause-asked : goal.returns-in-Err-copy_input-clause-asked
 returns-in-Err-copy_input-clause-asked g c =
     asked_again (g.F.Files.seen c.args.files.now).held c.args.input.now.name c.in-Ok.reader
     (g.F.Files.seen c.args.files.now) (g.F.Files.seen c.open_again.new.files)
     (g.F.Files.seen c.copy_input.new.files) c.in-Ok.ensures.again.fresh.whole c.in-Ok.ensures.again.stands
-    c.open_again.ensures.asked c.copy_input.ensures.asked
+    c.open_again.ensures.asked c.copy_input.ensures.frame.asked

@@ -2,9 +2,11 @@ use Rattle.std.proofs.Common.{◌≡◌, ◌≢◌, OnErr, OnOk, ℕ, ◌^◌, �
 use Rattle.std.specs.Prelude.{All, string_bytes, sum_by}
 use Rattle.std.specs.declared.alloc.Global.{Global}
 use Rattle.std.proofs.lemmas.List.{length-map}
+use Rattle.std.proofs.lemmas.Result.{on_ok_weaker}
 use Rattle.las_outside.specs.Faults.{Rose}
 use Rattle.las_outside.specs.Files.{FileMap, with_file}
 use Rattle.las_outside.specs.Outside.{Outside, with_bytes}
+use Rattle.las_outside.proofs.Public.{calm-trans}
 use Rattle.laz_file.proofs.Public.{err_of, if_err, err_at, err_then, ok_then}
 use Rattle.las_merge.specs.declared.fault.MergeFault.TheVariants.{At, Write}
 use Rattle.las_merge.specs.Appending.{IsCopyFault, LeavesPrefix, LiesIn, SourceSeen, with_reads}
@@ -18,7 +20,6 @@ use Rattle.las_merge.proofs.CopiedWhole.{asked_few, before_copied, can_copy, cop
 use Rattle.las_merge.proofs.CopiedWhole.{head_one, head_packed, left_by, many_chunks, many_points, on_err_then}
 use Rattle.las_merge.proofs.CopiedWhole.{on_ok_any, parts, sources_lie, sources_long, sources_other, text_is}
 use Rattle.las_merge.proofs.KeptPacked.{before_packed, kept_by_ends}
-use Rattle.las_merge.proofs.CopiedWhole.{on_ok_both}
 use Rattle.las_merge.proofs.Whole.{other_names}
 use Rattle.las_merge.proofs.copying_chunks.merge_copied.Goals as goal
 
@@ -307,16 +308,8 @@ pub returns-clause-calm : goal.returns-clause-calm
 returns-clause-calm g c =
     let mid = g.F.Files.seen c.list_inputs.new.files in
     let new = g.F.Files.seen c.write.new.files in
-    let frame = c.in-Ok.frame in
-    let written : OnOk c.write.result (new ≡ with_bytes (with_reads mid new) c.args.output.now
-    (copied_text mid.held frame.head.bytes frame.place c.deref-2.result.now frame.table.items)) =
-    c.write.ensures.written in
-    on_ok_both c.write.result
-    (λ reads put. record {
-      reads = reads ∙ c.in_ok-listed.ensures.calm.reads;
-      writes = ap (λ (o : Outside). o.write_faults) put ∙ c.list_inputs.ensures.reads.writes;
-    })
-    c.write.ensures.reads_calm written
+    on_ok_weaker c.write.result (calm-trans (g.F.Files.seen c.args.files.now) mid new c.in_ok-listed.ensures.calm)
+    c.write.ensures.calm
 
 pub returns-clause-asked : goal.returns-clause-asked
 returns-clause-asked g c =
@@ -344,7 +337,7 @@ returns-clause-asked g c =
     omega (
       arith,
       bound,
-      c.write.ensures.asked,
+      c.write.ensures.frame.asked,
       ap (sum_by size) c.deref-2.ensures.value,
       c.list_inputs.ensures.reads.later.asked,
       ap (λ (fs : List (List ℕ)). asked_to_copy fs chunks) once.0,

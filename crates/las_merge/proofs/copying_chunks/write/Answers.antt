@@ -6,7 +6,7 @@ use Rattle.byteorder.specs.Endian.{little_bytes}
 use Rattle.las_outside.specs.Files.{FileMap, with_file}
 use Rattle.las_outside.specs.Outside.{Outside, with_bytes}
 use Rattle.las_outside.proofs.Public.{on_err}
-use Rattle.laz_file.proofs.Public.{known_after}
+use Rattle.laz_file.proofs.Public.{after_writes, known_after, then_writes}
 use Rattle.las_merge.specs.Appending.{LeavesPrefix, LiesIn, SourceSeen, part_of, with_reads}
 use Rattle.las_merge.proofs.Appended.{leaves_more, parts_after, prefix_of, reads_now}
 use Rattle.las_merge.proofs.copying_chunks.write.Goals as goal
@@ -75,21 +75,20 @@ returns-in-Ok-append_all-clause-written g c =
     (λ i. (same i ++ parts_are i) ++ c.deref.ensures.value i) ∙ append_assoc front parts frame.table.items in
     reads_now old (with_reads old cur) now name (text ++ table) put refl refl ∙ ap (λ (t : List ℕ). with_bytes (with_reads old now) name t) text_is
 
-pub returns-in-Ok-append_all-clause-reads_calm : goal.returns-in-Ok-append_all-clause-reads_calm
-returns-in-Ok-append_all-clause-reads_calm g c =
+pub returns-in-Ok-append_all-clause-calm : goal.returns-in-Ok-append_all-clause-calm
+returns-in-Ok-append_all-clause-calm g c =
     let old = g.F.Files.seen c.args.files.now in
     let cur = g.F.Files.seen c.copy_all.new.files in
     let begun = c.bytes.result.now ++ little_bytes 8 c.args.frame.now.place in
     let put = c.in-Ok-append_all.ensures.added (with_reads old cur) _ (c.in_ok-copy_all.ensures.copied old begun c.in-Ok.ensures.begun) in
-    ap (λ (o : Outside). o.read_faults) put ∙ c.in_ok-copy_all.ensures.reads_calm ∙ ap (λ (o : Outside). o.read_faults) c.in-Ok.ensures.begun
+    record {
+      reads = c.append_all.ensures.writes.reads ∙ c.in_ok-copy_all.ensures.calm.reads ∙ c.begin.ensures.writes.reads;
+      writes = ap (λ (o : Outside). o.write_faults) put;
+    }
 
-pub returns-in-Ok-append_all-clause-asked : goal.returns-in-Ok-append_all-clause-asked
-returns-in-Ok-append_all-clause-asked g c =
-    let old = g.F.Files.seen c.args.files.now in
-    let cur = g.F.Files.seen c.copy_all.new.files in
-    let begun = c.bytes.result.now ++ little_bytes 8 c.args.frame.now.place in
-    let put = c.in-Ok-append_all.ensures.added (with_reads old cur) _ (c.in_ok-copy_all.ensures.copied old begun c.in-Ok.ensures.begun) in
-    omega (arith, ap (λ (o : Outside). o.asked) put, c.copy_all.ensures.asked, c.begin.ensures.asked)
+pub returns-in-Ok-append_all-clause-frame : goal.returns-in-Ok-append_all-clause-frame
+returns-in-Ok-append_all-clause-frame g c =
+    then_writes _ _ _ _ (after_writes _ _ _ _ c.begin.ensures.writes c.copy_all.ensures.frame) c.append_all.ensures.writes
 
 pub returns-in-Err-append_all-clause-left : goal.returns-in-Err-append_all-clause-left
 returns-in-Err-append_all-clause-left g c =
@@ -122,10 +121,6 @@ returns-in-Err-append_all-clause-cause g c =
     let left = c.in-Err-append_all.ensures.stopped (with_reads old cur) _ (c.in_ok-copy_all.ensures.copied old begun c.in-Ok.ensures.begun) in
     omega (arith, ap (λ (o : Outside). o.write_faults) left.1)
 
-pub returns-in-Err-append_all-clause-asked : goal.returns-in-Err-append_all-clause-asked
-returns-in-Err-append_all-clause-asked g c =
-    let old = g.F.Files.seen c.args.files.now in
-    let cur = g.F.Files.seen c.copy_all.new.files in
-    let begun = c.bytes.result.now ++ little_bytes 8 c.args.frame.now.place in
-    let left = c.in-Err-append_all.ensures.stopped (with_reads old cur) _ (c.in_ok-copy_all.ensures.copied old begun c.in-Ok.ensures.begun) in
-    omega (arith, ap (λ (o : Outside). o.asked) left.1, c.copy_all.ensures.asked, c.begin.ensures.asked)
+pub returns-in-Err-append_all-clause-frame : goal.returns-in-Err-append_all-clause-frame
+returns-in-Err-append_all-clause-frame g c =
+    then_writes _ _ _ _ (after_writes _ _ _ _ c.begin.ensures.writes c.copy_all.ensures.frame) c.append_all.ensures.writes

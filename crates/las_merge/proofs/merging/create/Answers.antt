@@ -1,5 +1,4 @@
 use Rattle.std.proofs.Common.{Err, ap}
-use Rattle.laz_file.proofs.Public.{created_asked}
 use Rattle.las_merge.proofs.Begun.{fails_begin}
 use Rattle.las_merge.specs.Copying.{output_with}
 use Rattle.las_merge.proofs.merging.create.Goals as goal
@@ -9,7 +8,3 @@ returns-in-Err-clause-ends g c =
     let old = g.F.Files.seen c.args.files.now in
     let new = g.F.Files.seen c.create.new.files in
     fails_begin old new (output_with c.args.output.now c.args.head.now.bytes c.args.chunk) c.in-Err.fault c.fault_of_output.result c.fault_of_output.ensures.memory c.fault_of_output.ensures.write c.in-Err.ensures.fault (λ e. c.in-Err.ensures.write (ap Err e)) c.in-Err.ensures.stopped
-
-pub returns-in-Err-clause-asked : goal.returns-in-Err-clause-asked
-returns-in-Err-clause-asked g c =
-    created_asked c.create.result (g.F.Files.seen c.args.files.now) (g.F.Files.seen c.create.new.files) c.args.output.now _ c.create.ensures.calm c.create.ensures.stopped

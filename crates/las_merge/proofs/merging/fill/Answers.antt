@@ -1,7 +1,7 @@
 use Rattle.std.proofs.Common.{inl, [], ◌++◌, Option, Err, ap, subst, arith}
 use Rattle.las_outside.specs.Outside.{Outside}
 use Rattle.laz_file.specs.Copying.{with_reads}
-use Rattle.laz_file.proofs.Public.{if_err, stops_asked}
+use Rattle.laz_file.proofs.Public.{if_err}
 use Rattle.las_merge.specs.declared.copying.BadInput.{BadInput}
 use Rattle.las_merge.specs.Copying.{CopiesUpTo}
 use Rattle.las_merge.specs.Opening.{names_read}
@@ -89,27 +89,17 @@ pub returns-in-Ok-clause-asked : goal.returns-in-Ok-clause-asked
 returns-in-Ok-clause-asked g c known is = omega (
   arith,
   c.copy_inputs.ensures.asked known is,
-  c.in-Ok.ensures.calm.asked,
+  c.finish.ensures.writes.asked,
 )
 
 pub returns-in-Err-clause-asked : goal.returns-in-Err-clause-asked
-returns-in-Err-clause-asked g c known is =
-    let s = c.requires.stands in
-    let mid = g.F.Files.seen c.copy_inputs.new.files in
-    let d = c.in_ok-copy_inputs.ensures.copied in
-    let p = c.in-Err.ensures.stopped (with_reads s.0 mid) s.1 ([] ++ d.0) (d.2 s.0 s.1 [] s.2) in
-    let same = stops_asked c.in-Err.fault _ (g.F.Files.seen c.finish.new.files) p.2 in
-    omega (arith, same, c.copy_inputs.ensures.asked known is)
+returns-in-Err-clause-asked g c known is = omega
+    (arith, c.copy_inputs.ensures.asked known is, c.finish.ensures.writes.asked)
 
 pub returns-in-Ok-stop-clause-asked : goal.returns-in-Ok-stop-clause-asked
 returns-in-Ok-stop-clause-asked g c known is = omega
-    (arith, c.copy_inputs.ensures.asked known is, c.in-Ok-stop.ensures.calm.asked)
+    (arith, c.copy_inputs.ensures.asked known is, c.stop.ensures.writes.asked)
 
 pub returns-in-Err-stop-clause-asked : goal.returns-in-Err-stop-clause-asked
-returns-in-Err-stop-clause-asked g c known is =
-    let s = c.requires.stands in
-    let mid = g.F.Files.seen c.copy_inputs.new.files in
-    let d = c.in_ok-copy_inputs.ensures.copied in
-    let p = c.in-Err-stop.ensures.broken (with_reads s.0 mid) s.1 ([] ++ d.0) (d.2 s.0 s.1 [] s.2) in
-    let same = stops_asked c.in-Err-stop.fault _ (g.F.Files.seen c.stop.new.files) p.1 in
-    omega (arith, same, c.copy_inputs.ensures.asked known is)
+returns-in-Err-stop-clause-asked g c known is = omega
+    (arith, c.copy_inputs.ensures.asked known is, c.stop.ensures.writes.asked)

@@ -1,4 +1,4 @@
-use Rattle.std.proofs.Common.{◌≡◌, ◌⊎◌, inl, inr, is_some, ℕ, ◌<◌, ◌≤◌, ◌^◌, List, [], Option, Some, length, ◌∙◌, ap}
+use Rattle.std.proofs.Common.{◌≡◌, inl, inr, is_some, ℕ, ◌<◌, ◌≤◌, ◌^◌, List, [], Option, Some, length, ◌∙◌, ap}
 use Rattle.std.proofs.Common.{subst, arith}
 use Rattle.std.specs.Prelude.{string_bytes}
 use Rattle.std.specs.declared.alloc.Global.{Global}
@@ -14,7 +14,6 @@ use Rattle.las_merge.specs.declared.fault.MergeFault.TheVariants.{At, Unequal, T
 use Rattle.las_merge.specs.Asking.{asked_of_all, asked_to_read}
 use Rattle.las_merge.specs.Copying.{EndsMerging, FailsBeginning, output_under}
 use Rattle.las_merge.specs.Inputs.{names_of}
-use Rattle.las_merge.specs.Merging.{merged_output}
 use Rattle.las_merge.specs.Opening.{EndsOpening, InputSeen, names_read, points_read}
 use Rattle.las_merge.proofs.Asked.{other_asked}
 use Rattle.las_merge.proofs.CopiedWhole.{on_err_from}
@@ -250,7 +249,7 @@ returns-clause-refused g c number cause is known holds =
     (At number (fault.Refused cause)) ends is) [
       | inl e ↦ inr (merged_bad old.held names readers opened all name head chunk some head_is other mid now w same s
           known holds few number cause e.0 new.held e.1 e.2)
-      | inr e ↦ absurd (never_known old.held now.held known holds (c.begin.ensures.later.known ∙ ap is_some same) e.1)
+      | inr e ↦ absurd (never_known old.held now.held known holds (c.begin.ensures.writes.later.known ∙ ap is_some same) e.1)
     ]
 
 pub returns-clause-unequal : goal.returns-clause-unequal
@@ -268,7 +267,7 @@ returns-clause-unequal g c number field is =
     let same = c.open_inputs.ensures.reads.held in
     let new = g.F.Files.seen c.fill.new.files in
     let out = output_under name head c.args.chunk in
-    let known_now = c.begin.ensures.later.known ∙ ap is_some same in
+    let known_now = c.begin.ensures.writes.later.known ∙ ap is_some same in
     let ends = c.fill.ensures.ends mid out c.in_ok-writer.ensures.stands in
     let e = err_at (EndsMerging now.held mid.held now new (names_read readers) out) c.fill.result (Unequal number field)
     ends is in
@@ -403,7 +402,7 @@ returns-in_err-most-clause-asked g c known is = omega (arith, c.open_inputs.ensu
 
 pub returns-in_err-writer-clause-asked : goal.returns-in_err-writer-clause-asked
 returns-in_err-writer-clause-asked g c known is =
-    omega (arith, c.open_inputs.ensures.asked known is, c.begin.ensures.asked)
+    omega (arith, c.open_inputs.ensures.asked known is, c.begin.ensures.writes.asked)
 
 pub returns-clause-asked : goal.returns-clause-asked
 returns-clause-asked g c known is =
@@ -425,4 +424,4 @@ returns-clause-asked g c known is =
     ap (asked_of_all asked_to_read (finmap.insert known name written.0))
     (names_are old.held names readers c.in_ok-opened.ensures.opened all)
     ∙ other_asked asked_to_read known name written.0 names (other_names c.args.inputs.now name c.requires.names) in
-    omega (arith, c.open_inputs.ensures.asked known is, c.begin.ensures.asked, filled, same)
+    omega (arith, c.open_inputs.ensures.asked known is, c.begin.ensures.writes.asked, filled, same)

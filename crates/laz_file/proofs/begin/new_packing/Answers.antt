@@ -18,13 +18,14 @@ invariant_of-result c =
         known = omega (arith, c.format-format.ensures.known);
         extra = omega (arith, c.extra-extra.ensures.known);
         numbers = record {
-          least = c.requires.chunk.0;
-          small = c.requires.chunk.1;
+          size = c.requires.chunk;
           most = omega (arith, c.ranges.most.fits);
           near = omega (arith, c.from.ensures, c.ranges.pointer.fits);
         };
-        hands = omega (arith, c.in_ok-crew.ensures.hands, c.requires.workers.0);
-        few = omega (arith, c.in_ok-crew.ensures.hands, c.requires.workers.1);
+        hands = (
+          omega (arith, c.in_ok-crew.ensures.hands, c.requires.workers.0),
+          omega (arith, c.in_ok-crew.ensures.hands, c.requires.workers.1),
+        );
         spaces_are = All-map (λ (s : Format). s ≡ f) (λ (x : HandSeen Format). x.space) c.in_ok-crew.crew c.in_ok-crew.ensures.spaces;
         rooms_are = All-weaker (λ (n : ℕ). n ≡ c.room_for-room.result) (λ (n : ℕ). n ≡ room_for (layout f) (min c.args.chunk c.args.most)) (λ n is. is ∙ room) (lengths_of (rooms_of c.in_ok-crew.crew)) c.in_ok-crew.ensures.rooms;
       },

@@ -47,7 +47,7 @@ returns-in-Err-clause-copied g c =
       done.1,
       done.2.hold,
       end_bad old.held first c.batches.reader done.0 done.1 cause done.2 bad.0 (c.in-Err.ensures.packed cause (ap Err is)) known,
-      takes_read old now later w v (concat done.1) c.next_batch.ensures.held c.next_batch.ensures.writes done.3,
+      takes_read old now later w v (concat done.1) c.next_batch.ensures.reads.only.held c.next_batch.ensures.reads.only.writes done.3,
     ))
 
 pub returns-in-Err-clause-part : goal.returns-in-Err-clause-part
@@ -56,7 +56,7 @@ returns-in-Err-clause-part g c =
     let now = g.F.Files.seen c.batches.files in
     let later = g.F.Files.seen c.next_batch.new.files in
     let done = c.batches.invariant.copied in
-    on_err c.into_end.result (done.0, done.1, done.2.hold, part_stands old now later c.args.writer.now c.batches.writer (concat done.1) c.next_batch.ensures.held done.3)
+    on_err c.into_end.result (done.0, done.1, done.2.hold, part_stands old now later c.args.writer.now c.batches.writer (concat done.1) c.next_batch.ensures.reads.only.held done.3)
 
 pub returns-in-Err-clause-cause : goal.returns-in-Err-clause-cause
 returns-in-Err-clause-cause g c =
@@ -76,7 +76,7 @@ returns-then-count-eq0-clause-copied g c =
       done.1,
       done.2.hold,
       end_all old.held c.args.reader.now c.batches.reader done.0 done.1 done.2 (c.in-Ok.ensures.end c.if-count-eq0.true),
-      takes_read old now later c.args.writer.now c.batches.writer (concat done.1) c.next_batch.ensures.held c.next_batch.ensures.writes done.3,
+      takes_read old now later c.args.writer.now c.batches.writer (concat done.1) c.next_batch.ensures.reads.only.held c.next_batch.ensures.reads.only.writes done.3,
     )
 
 pub push_batch-requires-clause-lent : goal.push_batch-requires-clause-lent
@@ -97,7 +97,7 @@ push_batch-requires-clause-stands g c κs within =
     let later = g.F.Files.seen c.next_batch.new.files in
     let s = c.requires.stands in
     let done = c.batches.invariant.copied in
-    let t = takes_read old now later c.args.writer.now c.batches.writer (concat done.1) c.next_batch.ensures.held c.next_batch.ensures.writes done.3 in
+    let t = takes_read old now later c.args.writer.now c.batches.writer (concat done.1) c.next_batch.ensures.reads.only.held c.next_batch.ensures.reads.only.writes done.3 in
     (with_reads s.0 later, s.1, s.2 ++ concat done.1, t s.0 s.1 s.2 s.3)
 
 pub batches-preserved : goal.batches-preserved
@@ -121,7 +121,7 @@ batches-preserved g c =
     let other = other_name reader first w.name done.2.named c.requires.names in
     let hold = (known_taken old now w v (concat done.1) s.0 s.1 s.2 s.3 done.3 reader.name other (λ file. HoldOnly file (take n reader.left) b.0)).1 b.4 in
     let more : ReadsMore old.held reader next n b.0 = record { within = omega (arith, c.in-Ok.ensures.most); whole = b.3; hold = hold; moved = moved_lent mid next lent reader n c.in-Ok.ensures.moved } in
-    let read = takes_read old now later w v (concat done.1) c.next_batch.ensures.held c.next_batch.ensures.writes done.3 in
+    let read = takes_read old now later w v (concat done.1) c.next_batch.ensures.reads.only.held c.next_batch.ensures.reads.only.writes done.3 in
     let here = c.in_ok-push_batch.ensures.takes b.0 b.2 b.1 in
     let all = takes_then old later new w v u (concat done.1) (concat b.0) read here in
     let takes = subst (Takes old new w u) (sym (concat-append done.1 b.0)) all in
@@ -132,14 +132,14 @@ batches-preserved g c =
       crew = crew_lent mid next lent c.next_batch.new.crew c.in-Ok.ensures.crew;
       reads = subst (λ (name : List ℕ). WhereKnown new.held name (StandsFor next)) (sym named)
           ((known_taken later new v u (concat b.0) (with_reads s.0 later) s.1 (s.2 ++ concat done.1) (read s.0 s.1 s.2 s.3) here reader.name (λ e. other (e ∙ (t.named ∙ sym s.3.named))) (StandsFor next)).0
-          (subst (λ (h : Option FileMap). WhereKnown h reader.name (StandsFor next)) (sym c.next_batch.ensures.held)
+          (subst (λ (h : Option FileMap). WhereKnown h reader.name (StandsFor next)) (sym c.next_batch.ensures.reads.only.held)
           (known_then now.held reader.name (StandsFor mid) (StandsFor next) (stands_lent mid next lent) c.in-Ok.ensures.stands)));
       can = room_after later new reader next old.held v u n b.0 (with_reads s.0 later) s.1 (s.2 ++ concat done.1) (read s.0 s.1 s.2 s.3) c.batches.invariant.can more here c.push_batch.ensures.most c.in_ok-push_batch.ensures.open;
       most = c.push_batch.ensures.most ∙ c.batches.invariant.most;
       copied = (done.0 + n, done.1 ++ b.0, read_more old.held first reader next done.0 n done.1 b.0 done.2 more, takes);
-      reads_calm = c.in_ok-push_batch.ensures.calm.reads ∙ c.in-Ok.ensures.faults ∙ c.batches.invariant.reads_calm;
-      writes_calm = c.in_ok-push_batch.ensures.calm.writes ∙ c.next_batch.ensures.writes ∙ c.batches.invariant.writes_calm;
-      later = later-trans _ _ _ c.batches.invariant.later (later-trans _ _ _ c.next_batch.ensures.later c.push_batch.ensures.writes.later);
+      reads_calm = c.in_ok-push_batch.ensures.calm.reads ∙ c.in-Ok.ensures.calm.reads ∙ c.batches.invariant.reads_calm;
+      writes_calm = c.in_ok-push_batch.ensures.calm.writes ∙ c.next_batch.ensures.reads.only.writes ∙ c.batches.invariant.writes_calm;
+      later = later-trans _ _ _ c.batches.invariant.later (later-trans _ _ _ c.next_batch.ensures.reads.only.later c.push_batch.ensures.writes.later);
       asked = omega (arith, c.batches.invariant.asked, c.in-Ok.ensures.asked, c.push_batch.ensures.writes.asked, ap bytes_left lent);
     }
 
@@ -163,7 +163,7 @@ returns-in_err-push_batch-clause-part g c =
     let other = other_name reader first w.name done.2.named c.requires.names in
     let hold = (known_taken old now w v (concat done.1) s.0 s.1 s.2 s.3 done.3 reader.name other (λ file. HoldOnly file (take n reader.left) b.0)).1 b.4 in
     let more : ReadsMore old.held reader next n b.0 = record { within = omega (arith, c.in-Ok.ensures.most); whole = b.3; hold = hold; moved = moved_lent mid next lent reader n c.in-Ok.ensures.moved } in
-    let read = takes_read old now later w v (concat done.1) c.next_batch.ensures.held c.next_batch.ensures.writes done.3 in
+    let read = takes_read old now later w v (concat done.1) c.next_batch.ensures.reads.only.held c.next_batch.ensures.reads.only.writes done.3 in
     let part = part_then old later new w v (concat done.1) (concat b.0) read (c.in_err-push_batch.ensures.part b.0 b.2 b.1) in
     on_err c.from_residual.result (
       done.0 + n,
@@ -178,10 +178,10 @@ returns-in_err-push_batch-clause-cause g c =
     let later = g.F.Files.seen c.next_batch.new.files in
     let new = g.F.Files.seen c.push_batch.new.files in
     if_err _ c.from_residual.result _ c.from_residual.ensures.1
-    (cause_since old later new c.in_err-push_batch.field-0.0 (c.in-Ok.ensures.faults ∙ c.batches.invariant.reads_calm) (c.next_batch.ensures.writes ∙ c.batches.invariant.writes_calm) c.in_err-push_batch.ensures.cause)
+    (cause_since old later new c.in_err-push_batch.field-0.0 (c.in-Ok.ensures.calm.reads ∙ c.batches.invariant.reads_calm) (c.next_batch.ensures.reads.only.writes ∙ c.batches.invariant.writes_calm) c.in_err-push_batch.ensures.cause)
 
 pub returns-in-Err-clause-asked : goal.returns-in-Err-clause-asked
-returns-in-Err-clause-asked g c = omega (arith, c.batches.invariant.asked, c.in-Err.ensures.asked_more)
+returns-in-Err-clause-asked g c = omega (arith, c.batches.invariant.asked, c.next_batch.ensures.reads.asked)
 
 pub returns-then-count-eq0-clause-asked : goal.returns-then-count-eq0-clause-asked
 returns-then-count-eq0-clause-asked g c = omega (arith, c.batches.invariant.asked, c.in-Ok.ensures.asked)

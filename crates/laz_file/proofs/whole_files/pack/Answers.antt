@@ -5,12 +5,13 @@ use Rattle.las_header.specs.Heads.{HeadView, IsHead}
 use Rattle.las_outside.specs.Faults.{Rose}
 use Rattle.las_outside.specs.Files.{WhereKnown, with_file}
 use Rattle.laz_file.specs.declared.fault.Fault.TheVariants.{Refused, Read, Write}
-use Rattle.laz_file.specs.Asking.{bytes_left}
+use Rattle.laz_file.specs.Asking.{ReadsAndWrites, bytes_left}
 use Rattle.laz_file.specs.Copying.{AreOnlyRecords, EndsCopying, LeavesInPart, LeavesRecords, LeavesUnfinished, packed_output}
 use Rattle.laz_file.specs.Outputs.{Output, finished}
 use Rattle.laz_file.specs.Packing.{packed_file}
 use Rattle.laz_file.specs.Reading.{ReaderSeen, StandsFor}
 use Rattle.laz_file.specs.Records.{AreRecordsOf}
+use Rattle.laz_file.proofs.Frames.{after_writes}
 use Rattle.laz_file.proofs.Knowing.{known_both, known_then}
 use Rattle.laz_file.proofs.Putting.{if_err}
 use Rattle.laz_file.proofs.WholeOutputs.{create_left, ends_left, err_at, err_then, finishes, known_reader, leaves, leaves_plain, leaves_short, no_chunk, ok_then, packed_out, packs, plain_kind, stands_ready}
@@ -105,10 +106,11 @@ returns-clause-write g c is =
     let e = err_at (EndsCopying mid.held old.held mid new c.crew.new.self out []) c.fill.result Write (c.fill.ensures.ends old out [] c.in_ok-writer.ensures.stands) is in
     subst (λ (n : ℕ). Rose n new.write_faults) c.in_ok-writer.ensures.calm.writes e.0
 
-pub returns-clause-asked : goal.returns-clause-asked
-returns-clause-asked g c =
+pub returns-clause-frame : goal.returns-clause-frame
+returns-clause-frame g c =
     let same : bytes_left c.crew.new.self ≡ bytes_left c.args.reader = ap bytes_left c.in_ok-crew.ensures.kept in
-    omega (arith, same, c.create.ensures.writes.asked, c.fill.ensures.asked)
+    subst (λ (n : ℕ). ReadsAndWrites n (g.F.Files.seen c.args.files.now) (g.F.Files.seen c.fill.new.files)) same
+    (after_writes _ _ _ _ c.create.ensures.writes c.fill.ensures.frame)
 
 pub returns-clause-in_part : goal.returns-clause-in_part
 returns-clause-in_part g c is =

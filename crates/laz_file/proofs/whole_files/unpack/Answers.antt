@@ -6,10 +6,11 @@ use Rattle.las_header.specs.Plain.{plain_head, plain_of}
 use Rattle.las_outside.specs.Faults.{Rose}
 use Rattle.las_outside.specs.Files.{WhereKnown, with_file}
 use Rattle.laz_file.specs.declared.fault.Fault.TheVariants.{Refused, Read, Write}
-use Rattle.laz_file.specs.Asking.{bytes_left}
+use Rattle.laz_file.specs.Asking.{ReadsAndWrites, bytes_left}
 use Rattle.laz_file.specs.Copying.{AreOnlyRecords, EndsCopying, LeavesRecords, LeavesUnfinished, plain_output}
 use Rattle.laz_file.specs.Outputs.{Output, finished, stopped}
 use Rattle.laz_file.specs.Reading.{StandsFor}
+use Rattle.laz_file.proofs.Frames.{after_writes}
 use Rattle.laz_file.proofs.Knowing.{known_both, known_then}
 use Rattle.laz_file.proofs.Putting.{if_err}
 use Rattle.laz_file.proofs.WholeOutputs.{create_left, ends_left, err_at, err_then, finishes, known_reader, leaves, ok_then, plain_out, refuses, stands_ready}
@@ -118,7 +119,8 @@ returns-clause-write g c is =
     let e = err_at (EndsCopying mid.held old.held mid new c.crew.new.self out []) c.fill.result Write (c.fill.ensures.ends old out [] c.in_ok-writer.ensures.stands) is in
     subst (λ (n : ℕ). Rose n new.write_faults) c.in_ok-writer.ensures.calm.writes e.0
 
-pub returns-clause-asked : goal.returns-clause-asked
-returns-clause-asked g c =
+pub returns-clause-frame : goal.returns-clause-frame
+returns-clause-frame g c =
     let same : bytes_left c.crew.new.self ≡ bytes_left c.args.reader = ap bytes_left c.in_ok-crew.ensures.kept in
-    omega (arith, same, c.create.ensures.writes.asked, c.fill.ensures.asked)
+    subst (λ (n : ℕ). ReadsAndWrites n (g.F.Files.seen c.args.files.now) (g.F.Files.seen c.fill.new.files)) same
+    (after_writes _ _ _ _ c.create.ensures.writes c.fill.ensures.frame)

@@ -4,7 +4,7 @@ use Rattle.laz_file.specs.Outputs.{records_after}
 use Rattle.laz_file.specs.declared.fault.Fault.TheVariants.{Write}
 use Rattle.laz_file.specs.Writing.{WriterSeen}
 use Rattle.laz_file.proofs.Arms.{held_text}
-use Rattle.laz_file.proofs.Faults.{same_faults, stops_rose}
+use Rattle.laz_file.proofs.Faults.{calm_text, stops_rose}
 use Rattle.laz_file.proofs.Pushing.{few_taken, pushed, text_of}
 use Rattle.laz_file.proofs.writer.Writer.push.Goals as goal
 
@@ -45,4 +45,4 @@ returns-clause-calm g c =
     let room : length h.2 + length c.args.records.now ≤ w.size * w.most = omega (arith, c.requires.most, h.3.taken) in
     let held = held_text h.0 _ w h.1 h.2 h.3 in
     let now = text_of h.1.chunk h.0 _ h.1 w.most _ _ (c.in-Ok.ensures.points h.0 h.1 h.2 h.3 room) in
-    same_faults h.0 _ _ h.1.name held.0 now.0 held.1 now.1
+    calm_text h.0 _ _ h.1.name held.0 now.0 held.1 now.1
