@@ -11,9 +11,6 @@ use Rattle.las_header.specs.Fields.{head_of, record_length_of}
 use Rattle.las_info.specs.Surveys.{IsShown, SurveySeen}
 use Rattle.las_info.specs.Tallies.{TapSeen}
 use Rattle.las_outside.specs.Files.{FileMap, WhereKnown}
-use Rattle.las_outside.specs.Frames.{OnlyReads, Reads}
-use Rattle.las_outside.specs.Outside.{Outside}
-use Rattle.las_outside.proofs.Public.{only_reads-trans}
 use Rattle.laz_file.specs.Reading.{ReaderSeen, ReadsAll, StandsFor, records_in}
 use Rattle.laz_file.specs.Records.{HoldOnly, IsBadPiece}
 use Rattle.laz_file.specs.Copying.{AreOnlyRecords, EndsAfter, HoldFirst}
@@ -98,13 +95,6 @@ none_read size taps survey some is = subst (λ (rs : List (List ℕ)). IsShown t
 pub if_ok_then : {T E : Type 0} (P Q : T → Type 0) (r : Result T E) → ((x : T) → P x → Q x) → IfOk r P → IfOk r Q
 if_ok_then P Q (Ok x) to p = to x p
 if_ok_then P Q (Err e) to p = tt
-
--- reads that ask for no more than was left to ask for
-pub reads_on : (left most : ℕ) (old mid new : Outside) → OnlyReads old mid → mid.asked + left ≤ old.asked + most → Reads left mid new → Reads most old new
-reads_on left most old mid new before asked reads = record {
-  only = only_reads-trans old mid new before reads.only;
-  asked = omega (arith, asked, reads.asked);
-}
 
 -- ---- the whole file
 -- a reader with a crew reads what it would have read without

@@ -1,12 +1,11 @@
 //! The records of a file, shown to a survey.
-ghost use Rattle.std.specs.Prelude.{◌≡◌, ◌%◌, ◌/◌, ◌+◌, ◌^◌, ◌≤◌, ◌<◌, ◌++◌, ℕ, List, length, map, All, None, Some};
+ghost use Rattle.std.specs.Prelude.{◌≡◌, ◌/◌, ◌+◌, ◌^◌, ◌≤◌, ◌<◌, ℕ, List, length, map, All, None, Some};
 ghost use Rattle.std.specs.Prelude.{IfErr, IfOk, IsErrOf, OnOk, false};
 ghost use Rattle.std.specs.List.{concat};
 ghost use Rattle.las_header.specs.declared.refusal.Refusal.{Refusal};
 ghost use Rattle.las_header.specs.declared.refusal.Refusal.TheVariants.{BadChunk};
 ghost use Rattle.las_header.specs.Fields.{head_of};
-ghost use Rattle.las_header.specs.Plain.{cut_records};
-ghost use Rattle.las_info.specs.Tallies.{TapSeen, count_at};
+ghost use Rattle.las_info.specs.Tallies.{count_at};
 ghost use Rattle.las_outside.specs.Faults.{Rose};
 ghost use Rattle.las_outside.specs.Files.{WhereKnown};
 ghost use Rattle.las_outside.specs.Frames.{IsCalm, Reads};

@@ -16,7 +16,7 @@ use Rattle.laz_file.specs.Reading.{ReaderSeen, StandsFor}
 use Rattle.laz_file.specs.Records.{HoldOnly, IsBadPiece}
 use Rattle.laz_file.proofs.Public.{ReadsMore, end_all, end_bad, even_whole, read_more, read_none}
 use Rattle.las_info.proofs.Public.{none_shown}
-use Rattle.las_survey.proofs.Batches.{batch_shown, block_shown, cut, even_concat, few_read, none_read, none_yet, reads_on}
+use Rattle.las_survey.proofs.Batches.{batch_shown, block_shown, cut, even_concat, few_read, none_read, none_yet}
 use Rattle.las_survey.proofs.surveying.show_records.Goals as goal
 
 pub batches-init : goal.batches-init
@@ -154,12 +154,3 @@ loop-i-preserved g c =
     let seen = c.in_ok-see_all.ensures taps (before ++ cut s (concat (take c.loop-i.i blocks))) (c.loop-i.invariant blocks lends all even taps before is) in
     block_shown s blocks c.loop-i.i taps before (record { summary = c.see_all.new.self.summary; taps = map (λ tap. (goal.Tap-dyn g (tap.vtable, tap.value)).tap_seen tap.value) c.see_all.new.self.taps.items }) some lt even
     (subst (λ (block : List ℕ). IsShown taps ((before ++ cut s (concat (take c.loop-i.i blocks))) ++ cut s block) (record { summary = c.see_all.new.self.summary; taps = map (λ tap. (goal.Tap-dyn g (tap.vtable, tap.value)).tap_seen tap.value) c.see_all.new.self.taps.items })) (c.block.ensures blocks lends lt) seen)
-
-pub returns-in_err-count-clause-reads : goal.returns-in_err-count-clause-reads
-returns-in_err-count-clause-reads g c = reads_on _ _ _ _ _ c.batches.invariant.only c.batches.invariant.asked c.next_batch.ensures.reads
-
-pub returns-then-count-eq0-clause-reads : goal.returns-then-count-eq0-clause-reads
-returns-then-count-eq0-clause-reads g c = reads_on _ _ _ _ _ c.batches.invariant.only c.batches.invariant.asked c.next_batch.ensures.reads
-
-pub returns-in_err-see_all-clause-reads : goal.returns-in_err-see_all-clause-reads
-returns-in_err-see_all-clause-reads g c = reads_on _ _ _ _ _ c.batches.invariant.only c.batches.invariant.asked c.next_batch.ensures.reads
