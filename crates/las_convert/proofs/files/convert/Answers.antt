@@ -6,7 +6,7 @@ use Rattle.las_filter.specs.Kept.{steps_of}
 use Rattle.las_info.specs.Tallies.{TapSeen, shown_all}
 use Rattle.las_info.proofs.Public.{mapped}
 use Rattle.las_outside.specs.Faults.{Rose}
-use Rattle.las_outside.specs.Files.{WhereKnown, with_file}
+use Rattle.las_outside.specs.Files.{with_file}
 use Rattle.las_thin.specs.Sieving.{Sieving}
 use Rattle.laz_file.specs.declared.fault.Fault.TheVariants.{Refused, Read, Write}
 use Rattle.laz_file.specs.Asking.{ReadsAndWrites, bytes_left}
