@@ -1,13 +1,13 @@
 -- What is kept of the records of a range is something, also if a chunk is bad.
-use Rattle.std.proofs.Common.{◌≡◌, ℕ, Bool, List, [], length, take, Option, Some, None, refl, sym, subst, arith}
+use Rattle.std.proofs.Common.{◌≡◌, ℕ, List, [], length, take, Option, Some, None, refl, sym, subst, arith}
 use Rattle.std.specs.List.{concat}
 use Rattle.std.proofs.lemmas.List.{take_all}
 use Rattle.las_header.specs.declared.refusal.Refusal.{Refusal}
 use Rattle.las_header.specs.declared.refusal.Refusal.TheVariants.{BadChunk, RawRange}
 use Rattle.laz_file.specs.Existing.{HasSomeInRange}
 use Rattle.laz_file.specs.Pieces.{Piece}
-use Rattle.laz_file.specs.Ranges.{Range, first_of, parts_of}
-use Rattle.laz_file.specs.Records.{AreRead, AreRecordsIn, HoldBlocks, moved}
+use Rattle.laz_file.specs.Ranges.{Range, parts_of}
+use Rattle.laz_file.specs.Records.{AreRead, AreRecordsIn, HoldBlocks}
 use Rattle.laz_file.proofs.Public.{and_then, there}
 use Rattle.las_thin.specs.declared.pick.Pick.{Pick}
 use Rattle.las_thin.specs.declared.pick.Pick.TheVariants.{First, Lowest, Highest}

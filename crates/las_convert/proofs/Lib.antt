@@ -10,7 +10,6 @@ mod Converts
 mod Readings
 mod Looks
 mod Wholes
-mod Asked
 mod AllPlaces
 mod OneWay
 mod Existing

@@ -5,11 +5,10 @@ ghost use Rattle.std.specs.List.{concat};
 ghost use Rattle.las_filter.specs.Changes.{HasClass};
 ghost use Rattle.las_filter.specs.Kept.{steps_of};
 ghost use Rattle.las_outside.specs.Files.{WhereKnown};
-ghost use Rattle.las_outside.specs.Frames.{IsCalm};
-ghost use Rattle.las_outside.specs.Outside.{Later};
+ghost use Rattle.las_outside.specs.Frames.{IsCalm, OnlyWrites};
 ghost use Rattle.las_thin.specs.Placed.{Placed};
 ghost use Rattle.laz_file.specs.Copying.{CanTake, HasCause};
-ghost use Rattle.laz_file.specs.Asking.{AsksAtMost, bytes_left};
+ghost use Rattle.laz_file.specs.Asking.{ReadsAndWrites, bytes_left};
 ghost use Rattle.laz_file.specs.Reading.{IsCrewOf, StandsFor};
 ghost use Rattle.laz_file.specs.Writing.{IsBegun};
 ghost use Rattle.las_convert.specs.Adding.{AfterAny, AfterNone, AfterSome, BeforeAll, Goes, GoesToEnd, HaveCounted};
@@ -69,8 +68,7 @@ fn push_kept<R: Threads + Sync, F: Files, G: Gate>(
     ensures open { OnOk result (writer.new.failed ≡ false) }
     ensures cause { IfErr result (HasCause (F.seen files.old) (F.seen files.new)) }
     ensures calm { OnOk result (IsCalm (F.seen files.old) (F.seen files.new)) }
-    ensures later { Later (F.seen files.old) (F.seen files.new) }
-    ensures asked { (F.seen files.new).asked ≡ (F.seen files.old).asked }
+    ensures writes { OnlyWrites (F.seen files.old) (F.seen files.new) }
 {
     let part = passage.keep(plan, size, block)?;
     writer.push(
@@ -128,8 +126,7 @@ fn push_batch<R: Threads + Sync, F: Files, G: Gate>(
     ensures open { OnOk result (writer.new.failed ≡ false) }
     ensures cause { IfErr result (HasCause (F.seen files.old) (F.seen files.new)) }
     ensures calm { OnOk result (IsCalm (F.seen files.old) (F.seen files.new)) }
-    ensures later { Later (F.seen files.old) (F.seen files.new) }
-    ensures asked { (F.seen files.new).asked ≡ (F.seen files.old).asked }
+    ensures writes { OnlyWrites (F.seen files.old) (F.seen files.new) }
 {
     let mut kept = 0;
     for i in 0..batch.count {
@@ -179,8 +176,7 @@ fn convert_batches<R: Threads + Sync, F: Files, G: Gate>(
     ensures open { OnOk result (writer.new.failed ≡ false) }
     ensures cause { IfErr result (HasCause (F.seen files.old) (F.seen files.new)) }
     ensures calm { OnOk result (IsCalm (F.seen files.old) (F.seen files.new)) }
-    ensures later { Later (F.seen files.old) (F.seen files.new) }
-    ensures asked { AsksAtMost (bytes_left reader.old) (F.seen files.old) (F.seen files.new) }
+    ensures frame { ReadsAndWrites (bytes_left reader.old) (F.seen files.old) (F.seen files.new) }
 {
     let size = usize::from(reader.head().record_length());
     let mut kept = 0;
@@ -235,8 +231,7 @@ pub(crate) fn convert_records<R: Threads + Sync, F: Files, G: Gate>(
     ensures open { OnOk result (writer.new.failed ≡ false) }
     ensures cause { IfErr result (HasCause (F.seen files.old) (F.seen files.new)) }
     ensures calm { OnOk result (IsCalm (F.seen files.old) (F.seen files.new)) }
-    ensures later { Later (F.seen files.old) (F.seen files.new) }
-    ensures asked { AsksAtMost (bytes_left reader.old) (F.seen files.old) (F.seen files.new) }
+    ensures frame { ReadsAndWrites (bytes_left reader.old) (F.seen files.old) (F.seen files.new) }
 {
     if passage.changes_nothing(plan) {
         return copy_records(

@@ -11,12 +11,12 @@ ghost use Rattle.las_info.specs.Tallies.{count_at, shown_all};
 ghost use Rattle.las_thin.specs.Sieving.{IsFirst};
 ghost use Rattle.las_outside.specs.Faults.{Rose};
 ghost use Rattle.las_outside.specs.Files.{WhereKnown};
-ghost use Rattle.las_outside.specs.Frames.{IsCalm};
+ghost use Rattle.las_outside.specs.Frames.{IsCalm, OnlyWrites};
 ghost use Rattle.las_outside.specs.Limits.{AreWorkers, IsChunkSize};
-ghost use Rattle.las_outside.specs.Outside.{Later, Outside};
+ghost use Rattle.las_outside.specs.Outside.{Outside};
 ghost use Rattle.laz_file.specs.declared.fault.Fault.TheVariants.{Read, Refused, Write};
 ghost use Rattle.laz_file.specs.Copying.{CanTake, HasCause, LeavesUnfinished};
-ghost use Rattle.laz_file.specs.Asking.{AsksAtMost, bytes_left};
+ghost use Rattle.laz_file.specs.Asking.{ReadsAndWrites, bytes_left};
 ghost use Rattle.laz_file.specs.Outputs.{Output, records_after};
 ghost use Rattle.laz_file.specs.Reading.{AgreesWithHead, IsCrewOf, IsFreshReader, StandsFor};
 ghost use Rattle.laz_file.specs.Writing.{IsBegun, Stands};
@@ -53,8 +53,7 @@ fn begin<F: Files>(
         records (F.seen files.old).held (F.seen files.new).held) }
     ensures cause { IfErr result (HasCause (F.seen files.old) (F.seen files.new)) }
     ensures calm { OnOk result (IsCalm (F.seen files.old) (F.seen files.new)) }
-    ensures later { Later (F.seen files.old) (F.seen files.new) }
-    ensures asked { (F.seen files.new).asked ≡ (F.seen files.old).asked }
+    ensures writes { OnlyWrites (F.seen files.old) (F.seen files.new) }
 {
     let head = reader.head();
     let most = head.points();
@@ -106,8 +105,7 @@ fn fill<R: Threads + Sync, F: Files, G: Gate>(
         → IfErr result (EndsConverting (F.seen files.old).held before.held (F.seen files.old) (F.seen files.new)
         keeping reader.old out bytes)) }
     ensures calm { OnOk result (IsCalm (F.seen files.old) (F.seen files.new)) }
-    ensures later { Later (F.seen files.old) (F.seen files.new) }
-    ensures asked { AsksAtMost (bytes_left reader.old) (F.seen files.old) (F.seen files.new) }
+    ensures frame { ReadsAndWrites (bytes_left reader.old) (F.seen files.old) (F.seen files.new) }
 {
     let mut writer = writer;
     match convert_records(machine, files, plan, reader, crew, passage, &mut writer)? {
@@ -177,9 +175,8 @@ pub fn convert<R: Threads + Sync, F: Files, G: Gate>(
     ensures read { IsErrOf result Read → Rose (F.seen files.old).read_faults (F.seen files.new).read_faults }
     ensures write { IsErrOf result Write → Rose (F.seen files.old).write_faults (F.seen files.new).write_faults }
     ensures calm { OnOk result (IsCalm (F.seen files.old) (F.seen files.new)) }
-    ensures later { Later (F.seen files.old) (F.seen files.new) }
     // No more is asked for than the reader has left, however the call ends.
-    ensures asked { AsksAtMost (bytes_left reader) (F.seen files.old) (F.seen files.new) }
+    ensures frame { ReadsAndWrites (bytes_left reader) (F.seen files.old) (F.seen files.new) }
 {
     let mut reader = reader;
     passage.grow(block_bytes(&reader))?;

@@ -10,6 +10,8 @@ use Rattle.las_header.specs.Heads.{HeadView, IsHead}
 use Rattle.las_header.specs.Plain.{plain_of}
 use Rattle.las_filter.specs.declared.rule.Rule.{Rule}
 use Rattle.las_outside.specs.Files.{FileMap, WhereKnown}
+use Rattle.las_outside.specs.Outside.{Outside}
+use Rattle.laz_file.specs.Asking.{ReadsAndWrites, bytes_left}
 use Rattle.laz_file.specs.Copying.{HoldFirst}
 use Rattle.laz_file.specs.Reading.{ReaderSeen, ReadsAll, StandsFor}
 use Rattle.laz_file.specs.Records.{HoldOnly, IsBadPiece}
@@ -142,3 +144,7 @@ files_are task first file records same st = ap (λ (h : List ℕ). outputs_under
 pub err_if : {T E P : Type 0} (Q : E → Type 0) (r : Result T E) → ((e : E) → P → Q e) → OnErr r P → IfErr r Q
 err_if Q (Ok x) to p = tt
 err_if Q (Err e) to p = to e p
+
+-- a reader with a crew has left what it would have left without
+pub left_frame : (first ready : ReaderSeen) (buffers : ℕ) (old new : Outside) → ready ≡ record first { buffers = buffers } → ReadsAndWrites (bytes_left ready) old new → ReadsAndWrites (bytes_left first) old new
+left_frame first ready buffers old new is frame = subst (λ (n : ℕ). ReadsAndWrites n old new) (ap bytes_left is) frame

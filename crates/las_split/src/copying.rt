@@ -7,12 +7,11 @@ ghost use Rattle.las_header.specs.Heads.{IsHead};
 ghost use Rattle.las_header.specs.Vlrs.{laszip_vlrs_of};
 ghost use Rattle.las_filter.specs.Parts.{IsRule, part_name};
 ghost use Rattle.las_outside.specs.Files.{FileMap, WhereKnown};
-ghost use Rattle.las_outside.specs.Outside.{Later};
+ghost use Rattle.las_outside.specs.Frames.{IsCalm, OnlyWrites};
 ghost use Rattle.laz_file.specs.declared.fault.Fault.TheVariants.{Write};
-ghost use Rattle.laz_file.specs.Asking.{AsksAtMost, bytes_left};
+ghost use Rattle.laz_file.specs.Asking.{ReadsAndWrites, bytes_left};
 ghost use Rattle.laz_file.specs.Copying.{HasCause, HoldFirst};
 ghost use Rattle.laz_file.specs.Reading.{IsCrewOf, Lends, StandsFor, records_in};
-ghost use Rattle.laz_file.specs.Writing.{SameFaults};
 ghost use Rattle.las_split.specs.Sorting.{EndsSplitting, HasRoom, IsPlainFor, LeavesBlock, TakesBlock};
 ghost use Rattle.las_split.specs.Sorting.{cut_all, task_in, task_of};
 ghost use Rattle.las_split.specs.Steps.{AreIn, TakesBatch};
@@ -63,9 +62,8 @@ fn split_block<R: Threads + Sync, F: Files, G: Gate>(
         → index ≡ length records
         → IfErr result (λ fault. fault ≡ Write → 1 ≤ length records + length (cut_all splitter.now.size block.now)) }
     ensures cause { IfErr result (HasCause (F.seen files.old) (F.seen files.new)) }
-    ensures calm { OnOk result (SameFaults (F.seen files.old) (F.seen files.new)) }
-    ensures asked { (F.seen files.new).asked ≡ (F.seen files.old).asked }
-    ensures later { Later (F.seen files.old) (F.seen files.new) }
+    ensures calm { OnOk result (IsCalm (F.seen files.old) (F.seen files.new)) }
+    ensures writes { OnlyWrites (F.seen files.old) (F.seen files.new) }
 {
     let taken = sort_block(machine.alloc, files, splitter, index, block, parts)?;
     push_parts(machine, files, parts)?;
@@ -127,9 +125,8 @@ fn split_batch<R: Threads + Sync, F: Files, G: Gate>(
         → IfErr result (λ fault. fault ≡ Write
         → 1 ≤ length records + length (cut_all splitter.now.size (concat blocks))) }
     ensures cause { IfErr result (HasCause (F.seen files.old) (F.seen files.new)) }
-    ensures calm { OnOk result (SameFaults (F.seen files.old) (F.seen files.new)) }
-    ensures asked { (F.seen files.new).asked ≡ (F.seen files.old).asked }
-    ensures later { Later (F.seen files.old) (F.seen files.new) }
+    ensures calm { OnOk result (IsCalm (F.seen files.old) (F.seen files.new)) }
+    ensures writes { OnlyWrites (F.seen files.old) (F.seen files.new) }
 {
     let mut next = splitter.index;
     for i in 0..count {
@@ -176,10 +173,8 @@ pub(crate) fn split_records<R: Threads + Sync, F: Files, G: Gate>(
         × HoldFirst (F.seen files.old).held reader.old n blocks
         × (1 ≤ length (cut_all (record_length_of reader.old.head.bytes) (concat blocks)))) }
     ensures cause { IfErr result (HasCause (F.seen files.old) (F.seen files.new)) }
-    ensures reads_calm { OnOk result ((F.seen files.new).read_faults ≡ (F.seen files.old).read_faults) }
-    ensures writes_calm { OnOk result ((F.seen files.new).write_faults ≡ (F.seen files.old).write_faults) }
-    ensures asked { AsksAtMost (bytes_left reader.old) (F.seen files.old) (F.seen files.new) }
-    ensures later { Later (F.seen files.old) (F.seen files.new) }
+    ensures calm { OnOk result (IsCalm (F.seen files.old) (F.seen files.new)) }
+    ensures frame { ReadsAndWrites (bytes_left reader.old) (F.seen files.old) (F.seen files.new) }
 {
     let size = usize::from(reader.head().record_length());
     let mut parts = Parts::new(machine.alloc);

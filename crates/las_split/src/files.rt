@@ -7,12 +7,12 @@ ghost use Rattle.las_header.specs.Heads.{IsHead};
 ghost use Rattle.las_filter.specs.Parts.{IsRule, part_name};
 ghost use Rattle.las_outside.specs.Faults.{Rose};
 ghost use Rattle.las_outside.specs.Files.{FileMap, WhereKnown};
-ghost use Rattle.las_outside.specs.Outside.{Later};
+ghost use Rattle.las_outside.specs.Frames.{IsCalm, OnlyWrites};
+ghost use Rattle.las_outside.specs.Limits.{AreWorkers};
 ghost use Rattle.laz_file.specs.declared.fault.Fault.TheVariants.{Read, Refused, Write};
-ghost use Rattle.laz_file.specs.Asking.{AsksAtMost, bytes_left};
+ghost use Rattle.laz_file.specs.Asking.{ReadsAndWrites, bytes_left};
 ghost use Rattle.laz_file.specs.Copying.{HasCause};
 ghost use Rattle.laz_file.specs.Reading.{AgreesWithHead, IsNewReader, StandsFor};
-ghost use Rattle.laz_file.specs.Writing.{SameFaults};
 ghost use Rattle.las_split.specs.Files.{with_files};
 ghost use Rattle.las_split.specs.Outputs.{LeavesParts, all_finished, all_stopped, outputs_under, part_files};
 ghost use Rattle.las_split.specs.Parts.{numbers_of_parts};
@@ -67,9 +67,8 @@ fn finish_all<R: Threads + Sync, F: Files, G: Gate>(
         → AreIn task was (F.seen files.old).held parts records records
         → IfErr result (λ fault. fault ≡ Write → 1 ≤ length records) }
     ensures cause { IfErr result (HasCause (F.seen files.old) (F.seen files.new)) }
-    ensures calm { OnOk result (SameFaults (F.seen files.old) (F.seen files.new)) }
-    ensures asked { (F.seen files.new).asked ≡ (F.seen files.old).asked }
-    ensures later { Later (F.seen files.old) (F.seen files.new) }
+    ensures calm { OnOk result (IsCalm (F.seen files.old) (F.seen files.new)) }
+    ensures writes { OnlyWrites (F.seen files.old) (F.seen files.new) }
 {
     let Parts {
         numbers,
@@ -103,9 +102,8 @@ fn stop_all<R: Threads + Sync, F: Files, G: Gate>(
         → AreIn task was (F.seen files.old).held parts records records
         → IfErr result (λ fault. fault ≡ Write → 1 ≤ length records) }
     ensures cause { IfErr result (HasCause (F.seen files.old) (F.seen files.new)) }
-    ensures calm { OnOk result (SameFaults (F.seen files.old) (F.seen files.new)) }
-    ensures asked { (F.seen files.new).asked ≡ (F.seen files.old).asked }
-    ensures later { Later (F.seen files.old) (F.seen files.new) }
+    ensures calm { OnOk result (IsCalm (F.seen files.old) (F.seen files.new)) }
+    ensures writes { OnlyWrites (F.seen files.old) (F.seen files.new) }
 {
     let Parts {
         numbers: _,
@@ -142,7 +140,7 @@ pub fn split<R: Threads + Sync, F: Files, G: Gate>(
 ) -> Result<Vec<u32>, Fault>
     requires new { IsNewReader reader.name reader }
     requires rule { IsRule rule.now }
-    requires workers { (1 ≤ workers) × (workers ≤ 8) }
+    requires workers { AreWorkers workers }
     requires names { (number : ℕ) → number < 2 ^ 32
         → part_name (string_bytes output.now.stem) (string_bytes output.now.end) number ≢ reader.name }
     requires stands { WhereKnown (F.seen files.old).held reader.name (StandsFor reader) }
@@ -169,12 +167,9 @@ pub fn split<R: Threads + Sync, F: Files, G: Gate>(
     ensures some { IsErrOf result Write → WhereKnown (F.seen files.old).held reader.name (λ file.
         (records : List (List ℕ)) (refusal : Option Refusal) → SplitsTo rule.now file records refusal
         → records ≢ []) }
-    ensures reads_calm { OnOk result ((F.seen files.new).read_faults ≡ (F.seen files.old).read_faults) }
-    ensures writes_calm { OnOk result ((F.seen files.new).write_faults ≡ (F.seen files.old).write_faults) }
-    ensures later { Later (F.seen files.old) (F.seen files.new) }
-
+    ensures calm { OnOk result (IsCalm (F.seen files.old) (F.seen files.new)) }
     // No more is asked for than the reader has left, however the call ends.
-    ensures asked { AsksAtMost (bytes_left reader) (F.seen files.old) (F.seen files.new) }
+    ensures frame { ReadsAndWrites (bytes_left reader) (F.seen files.old) (F.seen files.new) }
 {
     let mut reader = reader;
     let hands = reader.hands(workers);

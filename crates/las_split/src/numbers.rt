@@ -1,5 +1,5 @@
 //! The numbers of parts, and where each of them stands.
-ghost use Rattle.std.specs.Prelude.{◌≡◌, ◌++◌, ◌∷◌, ◌<◌, ◌^◌, [], false, Some, length, slice_get, IfNone, IfSome, OnOk};
+ghost use Rattle.std.specs.Prelude.{◌≡◌, ◌++◌, ◌∷◌, ◌<◌, ◌^◌, [], false, Some, slice_get, IfNone, IfSome, OnOk};
 ghost use Rattle.las_split.specs.Sorting.{has};
 
 use std::alloc::{AllocError, Global};

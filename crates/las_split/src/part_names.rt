@@ -1,5 +1,5 @@
 //! The names of parts.
-ghost use Rattle.std.specs.Prelude.{◌≡◌, ◌^◌, ◌<◌, IfOk, string_bytes};
+ghost use Rattle.std.specs.Prelude.{◌≡◌, ◌<◌, IfOk, string_bytes};
 ghost use Rattle.las_filter.specs.Parts.{part_name};
 
 use las_filter::part_name;

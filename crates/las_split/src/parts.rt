@@ -3,10 +3,10 @@ ghost use Rattle.std.specs.Prelude.{◌≡◌, ◌⊎◌, ◌++◌, ◌∷◌, [
 ghost use Rattle.las_header.specs.Fields.{is_packed, points_of};
 ghost use Rattle.las_header.specs.Vlrs.{laszip_vlrs_of};
 ghost use Rattle.las_outside.specs.Files.{with_file};
-ghost use Rattle.las_outside.specs.Outside.{Later};
+ghost use Rattle.las_outside.specs.Frames.{IsCalm, OnlyWrites};
 ghost use Rattle.laz_file.specs.Copying.{HasCause};
 ghost use Rattle.laz_file.specs.Outputs.{front};
-ghost use Rattle.laz_file.specs.Writing.{SameFaults, Stands, WriterSeen};
+ghost use Rattle.laz_file.specs.Writing.{Stands, WriterSeen};
 ghost use Rattle.las_split.specs.Splitters.{output_of};
 
 use crate::gathering::Gathered;
@@ -58,9 +58,8 @@ impl Parts {
             ⊎ ((n : ℕ) × ((F.seen files.new).held ≡ with_file (F.seen files.old).held
             (output_of splitter.now number).name (take n (front (output_of splitter.now number)))))) }
         ensures cause { IfErr result (HasCause (F.seen files.old) (F.seen files.new)) }
-        ensures calm { OnOk result (SameFaults (F.seen files.old) (F.seen files.new)) }
-        ensures asked { (F.seen files.new).asked ≡ (F.seen files.old).asked }
-        ensures later { Later (F.seen files.old) (F.seen files.new) }
+        ensures calm { OnOk result (IsCalm (F.seen files.old) (F.seen files.new)) }
+        ensures writes { OnlyWrites (F.seen files.old) (F.seen files.new) }
     {
         let head = splitter.head;
         let name = splitter.names.name_of(alloc, number)?;

@@ -1,10 +1,9 @@
 //! The records of a block on their way into the parts.
 ghost use Rattle.std.specs.Prelude.{◌≡◌, ◌+◌, ◌++◌, ◌<◌, ◌≤◌, ℕ, List, length, IfErr, OnErr, OnOk, Option};
 ghost use Rattle.las_outside.specs.Files.{FileMap};
-ghost use Rattle.las_outside.specs.Outside.{Later};
+ghost use Rattle.las_outside.specs.Frames.{IsCalm, OnlyWrites};
 ghost use Rattle.laz_file.specs.declared.fault.Fault.TheVariants.{Write};
 ghost use Rattle.laz_file.specs.Copying.{HasCause};
-ghost use Rattle.laz_file.specs.Writing.{SameFaults};
 ghost use Rattle.las_split.specs.Sorting.{AreGathered, FitAfter, LeavesPrefixes, PushedSo, Task};
 ghost use Rattle.las_split.specs.Steps.{AreIn, AreSorted};
 
@@ -37,9 +36,8 @@ fn push_place<R: Threads + Sync, F: Files, G: Gate>(
     ensures numbers { parts.new.numbers ≡ parts.old.numbers }
     ensures gathered { parts.new.gathered ≡ parts.old.gathered }
     ensures cause { IfErr result (HasCause (F.seen files.old) (F.seen files.new)) }
-    ensures calm { OnOk result (SameFaults (F.seen files.old) (F.seen files.new)) }
-    ensures asked { (F.seen files.new).asked ≡ (F.seen files.old).asked }
-    ensures later { Later (F.seen files.old) (F.seen files.new) }
+    ensures calm { OnOk result (IsCalm (F.seen files.old) (F.seen files.new)) }
+    ensures writes { OnlyWrites (F.seen files.old) (F.seen files.new) }
 {
     let text = parts.gathered.text(place);
     if text.is_empty() {
@@ -66,9 +64,8 @@ pub(crate) fn push_parts<R: Threads + Sync, F: Files, G: Gate>(
         → OnErr result (LeavesPrefixes task was (F.seen files.new).held (records ++ block)) }
     ensures some { IfErr result (λ fault. fault ≡ Write → 1 ≤ length parts.old.writers.items) }
     ensures cause { IfErr result (HasCause (F.seen files.old) (F.seen files.new)) }
-    ensures calm { OnOk result (SameFaults (F.seen files.old) (F.seen files.new)) }
-    ensures asked { (F.seen files.new).asked ≡ (F.seen files.old).asked }
-    ensures later { Later (F.seen files.old) (F.seen files.new) }
+    ensures calm { OnOk result (IsCalm (F.seen files.old) (F.seen files.new)) }
+    ensures writes { OnlyWrites (F.seen files.old) (F.seen files.new) }
 {
     for place in 0..parts.writers.len() {
         push_place(machine, files, place, parts)?;

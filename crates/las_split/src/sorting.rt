@@ -1,14 +1,13 @@
 //! The records of a block by the parts that they belong to.
-ghost use Rattle.std.specs.Prelude.{◌≡◌, ◌+◌, ◌++◌, ◌∷◌, ◌%◌, ◌<◌, ◌≤◌, ◌^◌, ℕ, List, [], Option};
+ghost use Rattle.std.specs.Prelude.{◌≡◌, ◌+◌, ◌++◌, ◌%◌, ◌<◌, ◌≤◌, ◌^◌, ℕ, List, [], Option};
 ghost use Rattle.std.specs.Prelude.{false, length, IfErr, IfOk, OnErr, OnOk, map};
 ghost use Rattle.las_header.specs.Fields.{is_packed};
 ghost use Rattle.las_header.specs.Vlrs.{laszip_vlrs_of};
 ghost use Rattle.las_filter.specs.Parts.{IsRule};
 ghost use Rattle.las_outside.specs.Files.{FileMap};
-ghost use Rattle.las_outside.specs.Outside.{Later};
+ghost use Rattle.las_outside.specs.Frames.{IsCalm, OnlyWrites};
 ghost use Rattle.laz_file.specs.declared.fault.Fault.TheVariants.{Write};
 ghost use Rattle.laz_file.specs.Copying.{HasCause};
-ghost use Rattle.laz_file.specs.Writing.{SameFaults};
 ghost use Rattle.las_split.specs.Parts.{number_by};
 ghost use Rattle.las_split.specs.Sorting.{HasRoom, LeavesBlock, SortsBlock, SortsPoint, cut_all, has, task_in};
 ghost use Rattle.las_split.specs.Steps.{AreIn, AreSorted, LeavesMore, LeavesRecord, OpensOrRefuses, SortsMore};
@@ -52,9 +51,8 @@ fn open_place<F: Files>(
         → opened ≡ written ++ more
         → OnErr result (LeavesRecord (task_in splitter.now) was (F.seen files.new).held opened point) }
     ensures cause { IfErr result (HasCause (F.seen files.old) (F.seen files.new)) }
-    ensures calm { OnOk result (SameFaults (F.seen files.old) (F.seen files.new)) }
-    ensures asked { (F.seen files.new).asked ≡ (F.seen files.old).asked }
-    ensures later { Later (F.seen files.old) (F.seen files.new) }
+    ensures calm { OnOk result (IsCalm (F.seen files.old) (F.seen files.new)) }
+    ensures writes { OnlyWrites (F.seen files.old) (F.seen files.new) }
 {
     let place = parts.writers.len();
     if place >= MAX_PARTS {
@@ -92,9 +90,8 @@ fn place_of<F: Files>(
         → opened ≡ written ++ more
         → OnErr result (LeavesRecord (task_in splitter.now) was (F.seen files.new).held opened point) }
     ensures cause { IfErr result (HasCause (F.seen files.old) (F.seen files.new)) }
-    ensures calm { OnOk result (SameFaults (F.seen files.old) (F.seen files.new)) }
-    ensures asked { (F.seen files.new).asked ≡ (F.seen files.old).asked }
-    ensures later { Later (F.seen files.old) (F.seen files.new) }
+    ensures calm { OnOk result (IsCalm (F.seen files.old) (F.seen files.new)) }
+    ensures writes { OnlyWrites (F.seen files.old) (F.seen files.new) }
 {
     if let Some(place) = parts.numbers.find(number) {
         return Ok(Some(place));
@@ -131,9 +128,8 @@ fn sort_point<F: Files>(
         → index ≡ length records + length block
         → OnErr result (LeavesRecord (task_in splitter.now) was (F.seen files.new).held (records ++ block) point.now) }
     ensures cause { IfErr result (HasCause (F.seen files.old) (F.seen files.new)) }
-    ensures calm { OnOk result (SameFaults (F.seen files.old) (F.seen files.new)) }
-    ensures asked { (F.seen files.new).asked ≡ (F.seen files.old).asked }
-    ensures later { Later (F.seen files.old) (F.seen files.new) }
+    ensures calm { OnOk result (IsCalm (F.seen files.old) (F.seen files.new)) }
+    ensures writes { OnlyWrites (F.seen files.old) (F.seen files.new) }
 {
     let number = part_of(splitter.rule, index, point);
     let found = place_of(alloc, files, splitter, number, parts)?;
@@ -176,9 +172,8 @@ fn sort_each<F: Files>(
         (cut_all splitter.now.size group.now)) }
     ensures some { IfErr result (λ fault. fault ≡ Write → 1 ≤ length (cut_all splitter.now.size group.now)) }
     ensures cause { IfErr result (HasCause (F.seen files.old) (F.seen files.new)) }
-    ensures calm { OnOk result (SameFaults (F.seen files.old) (F.seen files.new)) }
-    ensures asked { (F.seen files.new).asked ≡ (F.seen files.old).asked }
-    ensures later { Later (F.seen files.old) (F.seen files.new) }
+    ensures calm { OnOk result (IsCalm (F.seen files.old) (F.seen files.new)) }
+    ensures writes { OnlyWrites (F.seen files.old) (F.seen files.new) }
 {
     let size = splitter.size;
     let mut rest = group;
@@ -224,9 +219,8 @@ fn sort_group<F: Files>(
         (cut_all splitter.now.size group.now)) }
     ensures some { IfErr result (λ fault. fault ≡ Write → 1 ≤ length (cut_all splitter.now.size group.now)) }
     ensures cause { IfErr result (HasCause (F.seen files.old) (F.seen files.new)) }
-    ensures calm { OnOk result (SameFaults (F.seen files.old) (F.seen files.new)) }
-    ensures asked { (F.seen files.new).asked ≡ (F.seen files.old).asked }
-    ensures later { Later (F.seen files.old) (F.seen files.new) }
+    ensures calm { OnOk result (IsCalm (F.seen files.old) (F.seen files.new)) }
+    ensures writes { OnlyWrites (F.seen files.old) (F.seen files.new) }
 {
     let size = splitter.size;
     let number = part_of(splitter.rule, index, group);
@@ -269,9 +263,8 @@ pub(crate) fn sort_block<F: Files>(
         (cut_all splitter.now.size block.now)) }
     ensures some { IfErr result (λ fault. fault ≡ Write → 1 ≤ length (cut_all splitter.now.size block.now)) }
     ensures cause { IfErr result (HasCause (F.seen files.old) (F.seen files.new)) }
-    ensures calm { OnOk result (SameFaults (F.seen files.old) (F.seen files.new)) }
-    ensures asked { (F.seen files.new).asked ≡ (F.seen files.old).asked }
-    ensures later { Later (F.seen files.old) (F.seen files.new) }
+    ensures calm { OnOk result (IsCalm (F.seen files.old) (F.seen files.new)) }
+    ensures writes { OnlyWrites (F.seen files.old) (F.seen files.new) }
 {
     let size = splitter.size;
     let open = parts.writers.len();

@@ -1,17 +1,17 @@
 //! The records of a file, shown to a survey.
-ghost use Rattle.std.specs.Prelude.{◌≡◌, ◌%◌, ◌/◌, ◌+◌, ◌^◌, ◌≤◌, ◌<◌, ◌++◌, ℕ, List, length, map, All, None, Some};
+ghost use Rattle.std.specs.Prelude.{◌≡◌, ◌/◌, ◌+◌, ◌^◌, ◌≤◌, ◌<◌, ℕ, List, length, map, All, None, Some};
 ghost use Rattle.std.specs.Prelude.{IfErr, IfOk, IsErrOf, OnOk, false};
 ghost use Rattle.std.specs.List.{concat};
 ghost use Rattle.las_header.specs.declared.refusal.Refusal.{Refusal};
 ghost use Rattle.las_header.specs.declared.refusal.Refusal.TheVariants.{BadChunk};
 ghost use Rattle.las_header.specs.Fields.{head_of};
-ghost use Rattle.las_header.specs.Plain.{cut_records};
-ghost use Rattle.las_info.specs.Tallies.{TapSeen, count_at};
+ghost use Rattle.las_info.specs.Tallies.{count_at};
 ghost use Rattle.las_outside.specs.Faults.{Rose};
 ghost use Rattle.las_outside.specs.Files.{WhereKnown};
-ghost use Rattle.las_outside.specs.Outside.{Later};
+ghost use Rattle.las_outside.specs.Frames.{IsCalm, Reads};
+ghost use Rattle.las_outside.specs.Limits.{AreWorkers};
 ghost use Rattle.laz_file.specs.declared.fault.Fault.TheVariants.{Read, Refused, Write};
-ghost use Rattle.laz_file.specs.Asking.{AsksAtMost, bytes_left};
+ghost use Rattle.laz_file.specs.Asking.{bytes_left};
 ghost use Rattle.laz_file.specs.Copying.{AreOnlyRecords, EndsAfter, HoldFirst};
 ghost use Rattle.laz_file.specs.Outputs.{records_after};
 ghost use Rattle.laz_file.specs.Reading.{AgreesWithHead, EndsReading, IsCrewOf, IsNewReader, StandsFor, records_in};
@@ -51,11 +51,8 @@ fn show_records<R: Threads + Sync, F: Files, G: Gate>(
         × EndsAfter (F.seen files.old).held reader.old n (Some cause) }
     ensures cause { IfErr result (EndsReading ⊥ (F.seen files.old) (F.seen files.new)) }
     ensures head { OnOk result (reader.new.head ≡ reader.old.head) }
-    ensures held { (F.seen files.new).held ≡ (F.seen files.old).held }
-    ensures writes { (F.seen files.new).write_faults ≡ (F.seen files.old).write_faults }
-    ensures reads_calm { OnOk result ((F.seen files.new).read_faults ≡ (F.seen files.old).read_faults) }
-    ensures asked { AsksAtMost (bytes_left reader.old) (F.seen files.old) (F.seen files.new) }
-    ensures later { Later (F.seen files.old) (F.seen files.new) }
+    ensures reads { Reads (bytes_left reader.old) (F.seen files.old) (F.seen files.new) }
+    ensures calm { OnOk result (IsCalm (F.seen files.old) (F.seen files.new)) }
 {
     let size = usize::from(reader.head().record_length());
     let mut survey = Survey::new(taps);
@@ -86,7 +83,7 @@ pub fn survey<R: Threads + Sync, F: Files, G: Gate>(
 ) -> Result<Survey, Fault>
     requires new { IsNewReader reader.old.name reader.old }
     requires whole { AgreesWithHead reader.old }
-    requires workers { (1 ≤ workers) × (workers ≤ 8) }
+    requires workers { AreWorkers workers }
     requires room { All (λ tap. (bin : ℕ) → count_at (tap_seen tap).tally bin ≤ 2 ^ 63) taps.items }
     requires stands { WhereKnown (F.seen files.old).held reader.old.name (StandsFor reader.old) }
 
@@ -103,13 +100,9 @@ pub fn survey<R: Threads + Sync, F: Files, G: Gate>(
     ensures read { IsErrOf result Read → Rose (F.seen files.old).read_faults (F.seen files.new).read_faults }
     ensures never { IsErrOf result Write → ⊥ }
     ensures head { OnOk result (reader.new.head ≡ reader.old.head) }
-    ensures held { (F.seen files.new).held ≡ (F.seen files.old).held }
-    ensures writes { (F.seen files.new).write_faults ≡ (F.seen files.old).write_faults }
-    ensures reads_calm { OnOk result ((F.seen files.new).read_faults ≡ (F.seen files.old).read_faults) }
-    ensures later { Later (F.seen files.old) (F.seen files.new) }
-
     // No more is asked for than the reader has left, however the call ends.
-    ensures asked { AsksAtMost (bytes_left reader.old) (F.seen files.old) (F.seen files.new) }
+    ensures reads { Reads (bytes_left reader.old) (F.seen files.old) (F.seen files.new) }
+    ensures calm { OnOk result (IsCalm (F.seen files.old) (F.seen files.new)) }
 {
     let _ = reader.head().points();
     let hands = reader.hands(workers);

@@ -7,10 +7,11 @@ use Rattle.las_header.specs.Heads.{HeadView}
 use Rattle.las_filter.specs.Kept.{steps_of}
 use Rattle.las_outside.specs.Files.{FileMap, WhereKnown}
 use Rattle.las_thin.specs.Sieving.{Settings}
+use Rattle.las_outside.proofs.Public.{calm-refl, calm-trans, later-refl, later-trans}
 use Rattle.laz_file.specs.Copying.{with_reads}
 use Rattle.laz_file.specs.Reading.{ReaderSeen, StandsFor}
 use Rattle.laz_file.specs.Records.{HoldOnly, IsBadPiece}
-use Rattle.laz_file.proofs.Public.{ReadsMore, calm_ok, end_all, end_bad, end_err, end_ok, even_for, read_more, read_none, room_for, later-trans, record_least, concat-append, if_err, cause_since, known_taken, on_err, other_name, ok_then}
+use Rattle.laz_file.proofs.Public.{ReadsMore, calm_ok, end_all, end_bad, end_err, end_ok, even_for, read_more, read_none, room_for, record_least, concat-append, if_err, cause_since, known_taken, on_err, other_name, ok_then}
 use Rattle.las_convert.specs.Adding.{Goes, HaveCounted, IsAfter, IsLent, LeavesKept, cut_all, kept_by}
 use Rattle.las_convert.proofs.Going.{after_none, count_is, even_read, few_batch, few_kept, few_left, goes_counted}
 use Rattle.las_convert.proofs.Going.{goes_none, goes_read, goes_then, leaves_now, leaves_then, records_batch}
@@ -42,9 +43,8 @@ batches-init g c =
             (map (λ tap. (goal.Tap-dyn g (tap.vtable, tap.value)).tap_seen tap.value) c.args.passage.now.taps.items),
         after_none plan looked [] c.args.passage.now.sieve c.args.passage.now.read w.size some is,
       );
-      reads_calm = refl;
-      writes_calm = refl;
-      later = record { known = refl; reads = omega arith; writes = omega arith; asked = omega arith };
+      calm = calm-refl _;
+      later = later-refl _;
       asked = omega arith;
     }
 
@@ -64,7 +64,7 @@ returns-in-Err-clause-converted g c looked is =
     let done = c.batches.invariant.converted looked is in
     let some : 0 < w.size = omega (arith, s.3.size, record_least s.1.head s.3.head) in
     let read = goes_read keeping [] w.size some (concat done.1) old now later w v c.batches.kept false
-    c.next_batch.ensures.held c.next_batch.ensures.writes done.3 in
+    c.next_batch.ensures.reads.only.held c.next_batch.ensures.reads.only.writes done.3 in
     end_ok c.in-Err.fault c.into_end.result _ c.into_end.ensures
     (λ cause eq.
     let bad = c.in-Err.ensures.bad cause (ap Err eq) in
@@ -101,20 +101,20 @@ returns-in-Err-clause-left g c looked is =
       done.2.hold,
       leaves_now keeping [] w.size some (concat done.1) old now later
           w v c.batches.kept (even_read old.held first w done.0 done.1 c.requires.room done.2.hold)
-          c.next_batch.ensures.held done.3,
+          c.next_batch.ensures.reads.only.held done.3,
     )
 
 pub returns-in-Err-clause-cause : goal.returns-in-Err-clause-cause
 returns-in-Err-clause-cause g c =
     end_err c.in-Err.fault c.into_end.result (g.F.Files.seen c.args.files.now) (g.F.Files.seen c.batches.files)
-    (g.F.Files.seen c.next_batch.new.files) c.into_end.ensures c.in-Err.ensures.ends c.batches.invariant.reads_calm
+    (g.F.Files.seen c.next_batch.new.files) c.into_end.ensures c.in-Err.ensures.ends c.batches.invariant.calm.reads
 
 pub returns-in-Err-clause-calm : goal.returns-in-Err-clause-calm
 returns-in-Err-clause-calm g c =
     ok_then c.into_end.result
-    (λ reads. record { reads = reads; writes = c.next_batch.ensures.writes ∙ c.batches.invariant.writes_calm })
+    (λ reads. record { reads = reads; writes = c.next_batch.ensures.reads.only.writes ∙ c.batches.invariant.calm.writes })
     (calm_ok c.in-Err.fault c.into_end.result (g.F.Files.seen c.args.files.now) (g.F.Files.seen c.batches.files)
-    (g.F.Files.seen c.next_batch.new.files) c.into_end.ensures c.in-Err.ensures.ends c.batches.invariant.reads_calm)
+    (g.F.Files.seen c.next_batch.new.files) c.into_end.ensures c.in-Err.ensures.ends c.batches.invariant.calm.reads)
 
 pub returns-then-count-eq0-clause-converted : goal.returns-then-count-eq0-clause-converted
 returns-then-count-eq0-clause-converted g c looked is =
@@ -132,7 +132,7 @@ returns-then-count-eq0-clause-converted g c looked is =
     let done = c.batches.invariant.converted looked is in
     let some : 0 < w.size = omega (arith, s.3.size, record_least s.1.head s.3.head) in
     let read = goes_read keeping [] w.size some (concat done.1) old now later w v c.batches.kept false
-    c.next_batch.ensures.held c.next_batch.ensures.writes done.3 in (
+    c.next_batch.ensures.reads.only.held c.next_batch.ensures.reads.only.writes done.3 in (
       done.0,
       done.1,
       c.batches.kept,
@@ -204,7 +204,7 @@ push_batch-requires-clause-stands g c κs within =
     let done = c.batches.invariant.converted c.requires.after.0 c.requires.after.1 in
     let some : 0 < w.size = omega (arith, s.3.size, record_least s.1.head s.3.head) in
     let read = goes_read keeping [] w.size some (concat done.1) old now later w v c.batches.kept false
-    c.next_batch.ensures.held c.next_batch.ensures.writes done.3 in
+    c.next_batch.ensures.reads.only.held c.next_batch.ensures.reads.only.writes done.3 in
     (with_reads s.0 later, s.1, s.2 ++ concat read.ones, read.takes s.0 s.1 s.2 s.3)
 
 pub returns-in_err-taken-clause-left : goal.returns-in_err-taken-clause-left
@@ -223,7 +223,7 @@ returns-in_err-taken-clause-left g c looked is =
     let done = c.batches.invariant.converted looked is in
     let some : 0 < w.size = omega (arith, s.3.size, record_least s.1.head s.3.head) in
     let read = goes_read keeping [] w.size some (concat done.1) old now later w v c.batches.kept false
-    c.next_batch.ensures.held c.next_batch.ensures.writes done.3 in
+    c.next_batch.ensures.reads.only.held c.next_batch.ensures.reads.only.writes done.3 in
     let same : c.from-size.result ≡ w.size = c.from-size.ensures ∙ c.record_length.ensures.field
     ∙ ap (λ (h : HeadView). record_length_of h.bytes) c.head.ensures ∙ sym c.requires.room.size in
     let wide : v.size ≡ w.size = c.batches.invariant.can.size
@@ -267,8 +267,8 @@ returns-in_err-taken-clause-cause g c =
     let later = g.F.Files.seen c.next_batch.new.files in
     let new = g.F.Files.seen c.push_batch.new.files in
     if_err _ c.from_residual.result _ c.from_residual.ensures.1
-    (cause_since old later new c.in_err-taken.field-0.0 (c.in-Ok.ensures.faults ∙ c.batches.invariant.reads_calm)
-    (c.next_batch.ensures.writes ∙ c.batches.invariant.writes_calm) c.in_err-taken.ensures.cause)
+    (cause_since old later new c.in_err-taken.field-0.0 (c.in-Ok.ensures.calm.reads ∙ c.batches.invariant.calm.reads)
+    (c.in-Ok.ensures.calm.writes ∙ c.batches.invariant.calm.writes) c.in_err-taken.ensures.cause)
 
 pub overflow_add-kept : goal.overflow_add-kept
 overflow_add-kept g c =
@@ -286,7 +286,7 @@ overflow_add-kept g c =
     let done = c.batches.invariant.converted c.requires.after.0 c.requires.after.1 in
     let some : 0 < w.size = omega (arith, s.3.size, record_least s.1.head s.3.head) in
     let read = goes_read keeping [] w.size some (concat done.1) old now later w v c.batches.kept false
-    c.next_batch.ensures.held c.next_batch.ensures.writes done.3 in
+    c.next_batch.ensures.reads.only.held c.next_batch.ensures.reads.only.writes done.3 in
     let same : c.from-size.result ≡ w.size = c.from-size.ensures ∙ c.record_length.ensures.field
     ∙ ap (λ (h : HeadView). record_length_of h.bytes) c.head.ensures ∙ sym c.requires.room.size in
     let wide : v.size ≡ w.size = c.batches.invariant.can.size
@@ -341,7 +341,7 @@ returns-then-taken-clause-converted g c looked is =
     let done = c.batches.invariant.converted looked is in
     let some : 0 < w.size = omega (arith, s.3.size, record_least s.1.head s.3.head) in
     let read = goes_read keeping [] w.size some (concat done.1) old now later w v c.batches.kept false
-    c.next_batch.ensures.held c.next_batch.ensures.writes done.3 in
+    c.next_batch.ensures.reads.only.held c.next_batch.ensures.reads.only.writes done.3 in
     let same : c.from-size.result ≡ w.size = c.from-size.ensures ∙ c.record_length.ensures.field
     ∙ ap (λ (h : HeadView). record_length_of h.bytes) c.head.ensures ∙ sym c.requires.room.size in
     let wide : v.size ≡ w.size = c.batches.invariant.can.size
@@ -413,7 +413,7 @@ batches-preserved g c =
     let done = c.batches.invariant.converted c.requires.after.0 c.requires.after.1 in
     let some : 0 < w.size = omega (arith, s.3.size, record_least s.1.head s.3.head) in
     let read = goes_read keeping [] w.size some (concat done.1) old now later w v c.batches.kept false
-    c.next_batch.ensures.held c.next_batch.ensures.writes done.3 in
+    c.next_batch.ensures.reads.only.held c.next_batch.ensures.reads.only.writes done.3 in
     let same : c.from-size.result ≡ w.size = c.from-size.ensures ∙ c.record_length.ensures.field
     ∙ ap (λ (h : HeadView). record_length_of h.bytes) c.head.ensures ∙ sym c.requires.room.size in
     let wide : v.size ≡ w.size = c.batches.invariant.can.size
@@ -483,7 +483,7 @@ batches-preserved g c =
       reads = subst (λ (name : List ℕ). WhereKnown new.held name (StandsFor next)) (sym named)
           ((known_taken later new v u (concat here.ones) (with_reads s.0 later) s.1 (s.2 ++ concat read.ones) mine
           here.takes reader.name (λ e. other (e ∙ (t.named ∙ sym s.3.named))) (StandsFor next)).0
-          (subst (λ (h : Option FileMap). WhereKnown h reader.name (StandsFor next)) (sym c.next_batch.ensures.held)
+          (subst (λ (h : Option FileMap). WhereKnown h reader.name (StandsFor next)) (sym c.next_batch.ensures.reads.only.held)
           c.in-Ok.ensures.stands));
       can = room_going keeping past later new reader next old.held v u n k r b.0 (with_reads s.0 later) s.1
           (s.2 ++ concat read.ones) mine c.batches.invariant.can more wider c.push_batch.ensures.most
@@ -505,7 +505,7 @@ batches-preserved g c =
           let done = c.batches.invariant.converted looked is in
           let some : 0 < w.size = omega (arith, s.3.size, record_least s.1.head s.3.head) in
           let read = goes_read keeping [] w.size some (concat done.1) old now later w v c.batches.kept false
-          c.next_batch.ensures.held c.next_batch.ensures.writes done.3 in
+          c.next_batch.ensures.reads.only.held c.next_batch.ensures.reads.only.writes done.3 in
           let same : c.from-size.result ≡ w.size = c.from-size.ensures ∙ c.record_length.ensures.field
           ∙ ap (λ (h : HeadView). record_length_of h.bytes) c.head.ensures ∙ sym c.requires.room.size in
           let wide : v.size ≡ w.size = c.batches.invariant.can.size
@@ -562,31 +562,9 @@ batches-preserved g c =
                 c.push_batch.new.passage.sieve c.push_batch.new.passage.read) same
                 (c.in_ok-taken.ensures.after looked past b.0 done.4 lent c.if-taken.false)),
           );
-      reads_calm = c.in_ok-taken.ensures.calm.reads ∙ c.in-Ok.ensures.faults ∙ c.batches.invariant.reads_calm;
-      writes_calm = c.in_ok-taken.ensures.calm.writes ∙ c.next_batch.ensures.writes ∙ c.batches.invariant.writes_calm;
+      calm = calm-trans _ _ _ c.batches.invariant.calm
+          (calm-trans _ _ _ c.in-Ok.ensures.calm c.in_ok-taken.ensures.calm);
       later = later-trans _ _ _ c.batches.invariant.later
-          (later-trans _ _ _ c.next_batch.ensures.later c.push_batch.ensures.later);
-      asked = omega (arith, c.batches.invariant.asked, c.in-Ok.ensures.asked, c.push_batch.ensures.asked);
+          (later-trans _ _ _ c.next_batch.ensures.reads.only.later c.push_batch.ensures.writes.later);
+      asked = omega (arith, c.batches.invariant.asked, c.in-Ok.ensures.asked, c.push_batch.ensures.writes.asked);
     }
-
-pub returns-in-Err-clause-asked : goal.returns-in-Err-clause-asked
-returns-in-Err-clause-asked g c = omega (arith, c.batches.invariant.asked, c.in-Err.ensures.asked_more)
-
-pub returns-then-count-eq0-clause-asked : goal.returns-then-count-eq0-clause-asked
-returns-then-count-eq0-clause-asked g c = omega (arith, c.batches.invariant.asked, c.in-Ok.ensures.asked)
-
-pub returns-in_err-taken-clause-asked : goal.returns-in_err-taken-clause-asked
-returns-in_err-taken-clause-asked g c = omega (
-  arith,
-  c.batches.invariant.asked,
-  c.in-Ok.ensures.asked,
-  c.push_batch.ensures.asked,
-)
-
-pub returns-then-taken-clause-asked : goal.returns-then-taken-clause-asked
-returns-then-taken-clause-asked g c = omega (
-  arith,
-  c.batches.invariant.asked,
-  c.in-Ok.ensures.asked,
-  c.push_batch.ensures.asked,
-)

@@ -2,6 +2,7 @@ use Rattle.std.proofs.Common.{◌≡◌, false, ℕ, List, [], length, map, ◌+
 use Rattle.std.specs.List.{concat}
 use Rattle.las_filter.specs.Kept.{steps_of}
 use Rattle.las_outside.specs.Files.{WhereKnown}
+use Rattle.las_outside.specs.Frames.{IsCalm}
 use Rattle.las_outside.specs.Outside.{Later}
 use Rattle.las_thin.specs.Placed.{Placed}
 use Rattle.laz_file.specs.Asking.{bytes_left}
@@ -27,8 +28,7 @@ invariant-batches g l = record {
       (map (λ tap. (goal.Tap-dyn g (tap.vtable, tap.value)).tap_seen tap.value) l.fn.passage.taps.items)
       (map (λ tap. (goal.Tap-dyn g (tap.vtable, tap.value)).tap_seen tap.value) l.passage.taps.items) l.kept false
       × IsAfter (steps_of l.plan) looked (cut_all l.fn.writer.size (concat blocks)) l.passage.sieve l.passage.read;
-  reads_calm : (g.F.Files.seen l.files).read_faults ≡ (g.F.Files.seen l.fn.files).read_faults;
-  writes_calm : (g.F.Files.seen l.files).write_faults ≡ (g.F.Files.seen l.fn.files).write_faults;
+  calm : IsCalm (g.F.Files.seen l.fn.files) (g.F.Files.seen l.files);
   later : Later (g.F.Files.seen l.fn.files) (g.F.Files.seen l.files);
   asked : (g.F.Files.seen l.files).asked + bytes_left l.reader ≤ (g.F.Files.seen l.fn.files).asked + bytes_left
       l.fn.reader;

@@ -1,11 +1,10 @@
-use Rattle.std.proofs.Common.{◌≡◌, ℕ, Bool, false, List, [], Option, length, map, ap}
+use Rattle.std.proofs.Common.{◌≡◌, ℕ, Bool, false, List, [], length, map, ap}
 use Rattle.std.specs.List.{concat}
 use Rattle.las_filter.specs.Kept.{steps_of}
-use Rattle.las_header.specs.declared.refusal.Refusal.{Refusal}
 use Rattle.las_info.specs.Tallies.{TapSeen}
 use Rattle.laz_file.specs.Copying.{EndsAfter, HoldFirst, LeavesPart, Takes}
 use Rattle.laz_file.proofs.Public.{if_ok_weaker}
-use Rattle.las_convert.specs.Adding.{EndsKeeping, Goes, LeavesKept, cut_all, kept_by}
+use Rattle.las_convert.specs.Adding.{EndsKeeping, Goes, cut_all, kept_by}
 use Rattle.las_convert.proofs.Adding.{on_err_then}
 use Rattle.las_convert.proofs.Going.{even_read}
 use Rattle.las_convert.proofs.Unchanged.{goes_unchanged, keeps_unchanged, leaves_unchanged}

@@ -4,7 +4,7 @@ use Rattle.std.specs.List.{concat}
 use Rattle.std.proofs.lemmas.List.{take_all}
 use Rattle.las_filter.specs.Kept.{steps_of}
 use Rattle.las_thin.specs.Sieving.{Settings}
-use Rattle.las_outside.proofs.Public.{calm-trans, later-refl, later-trans}
+use Rattle.las_outside.proofs.Public.{calm-refl, calm-trans, only_writes-refl, only_writes-trans}
 use Rattle.laz_file.specs.Copying.{with_reads}
 use Rattle.laz_file.proofs.Public.{on_err}
 use Rattle.las_convert.specs.Adding.{Goes, IsAfter, LeavesKept, cut_all, kept_by}
@@ -27,9 +27,8 @@ loop-i-init g c =
           (map (λ tap. (goal.Tap-dyn g (tap.vtable, tap.value)).tap_seen tap.value) c.args.passage.now.taps.items);
       after = λ looked before blocks is lent. after_none plan looked before c.args.passage.now.sieve
           c.args.passage.now.read c.args.size some is;
-      calm = record { reads = refl; writes = refl };
-      later = later-refl _;
-      asked = refl;
+      calm = calm-refl _;
+      writes = only_writes-refl _;
     }
 
 pub push_kept-requires-clause-whole : goal.push_kept-requires-clause-whole
@@ -247,8 +246,7 @@ loop-i-preserved g c =
           (c.in_ok-taken.ensures.after looked past (c.loop-i.invariant.after looked before blocks after lent)
           c.if-taken.false);
       calm = calm-trans old mid new c.loop-i.invariant.calm c.in_ok-taken.ensures.calm;
-      later = later-trans _ _ _ c.loop-i.invariant.later c.push_kept.ensures.later;
-      asked = c.push_kept.ensures.asked ∙ c.loop-i.invariant.asked;
+      writes = only_writes-trans _ _ _ c.loop-i.invariant.writes c.push_kept.ensures.writes;
     }
 
 pub returns-clause-goes : goal.returns-clause-goes

@@ -1,8 +1,7 @@
 use Rattle.std.proofs.Common.{◌≡◌, ◌++◌, false, ℕ, List, map, take}
 use Rattle.std.specs.List.{concat}
 use Rattle.las_filter.specs.Kept.{steps_of}
-use Rattle.las_outside.specs.Frames.{IsCalm}
-use Rattle.las_outside.specs.Outside.{Later}
+use Rattle.las_outside.specs.Frames.{IsCalm, OnlyWrites}
 use Rattle.las_thin.specs.Placed.{Placed}
 use Rattle.las_convert.specs.Adding.{Goes, HaveCounted, IsAfter, IsLent, cut_all, kept_by}
 use Rattle.las_convert.proofs.copying.push_batch.Given as goal
@@ -27,6 +26,5 @@ invariant-loop-i g l = record {
       → IsAfter (steps_of l.plan) looked (before ++ cut_all l.size (concat (take l.i blocks))) l.passage.sieve
       l.passage.read;
   calm : IsCalm (g.F.Files.seen l.fn.files) (g.F.Files.seen l.files);
-  later : Later (g.F.Files.seen l.fn.files) (g.F.Files.seen l.files);
-  asked : (g.F.Files.seen l.files).asked ≡ (g.F.Files.seen l.fn.files).asked;
+  writes : OnlyWrites (g.F.Files.seen l.fn.files) (g.F.Files.seen l.files);
 }

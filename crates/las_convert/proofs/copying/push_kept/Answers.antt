@@ -6,7 +6,6 @@ use Rattle.las_info.specs.Tallies.{TapSeen}
 use Rattle.laz_file.specs.Copying.{LeavesPart, Takes}
 use Rattle.laz_file.proofs.Public.{on_err, part_push, takes_push}
 use Rattle.las_convert.specs.Adding.{HaveCounted, cut_all, kept_by}
-use Rattle.las_convert.proofs.Asked.{stands_asked, stops_asked}
 use Rattle.las_convert.proofs.Going.{few_ones, kept_even, kept_goes, leaves_none, leaves_taken}
 use Rattle.las_convert.proofs.Shown.{room_seen, seen_by, shown_as}
 use Rattle.las_convert.proofs.copying.push_kept.Goals as goal
@@ -38,13 +37,6 @@ returns-in_err-push-clause-left g c looked before is =
       adds = k.3;
       part = subst (LeavesPart old new c.args.writer.now) (ap (take len) c.deref.ensures.value ∙ k.1) (part_push old new c.args.writer.now pushed c.in_err-push.field-0.0 c.in_err-push.ensures.stopped);
     })
-
-pub returns-in_err-push-clause-asked : goal.returns-in_err-push-clause-asked
-returns-in_err-push-clause-asked g c =
-    let old = g.F.Files.seen c.args.files.now in
-    let s = c.requires.stands in
-    let stops = c.in_err-push.ensures.stopped s.0 s.1 s.2 s.3 in
-    stops_asked c.in_err-push.field-0.0 _ (g.F.Files.seen c.push.new.files) stops.1 ∙ sym (stands_asked s.0 old c.args.writer.now s.1 s.2 s.3)
 
 pub show-requires-clause-whole : goal.show-requires-clause-whole
 show-requires-clause-whole g c =

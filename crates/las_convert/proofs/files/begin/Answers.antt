@@ -2,7 +2,6 @@ use Rattle.std.proofs.Common.{◌≡◌, false, sym, ◌∙◌, ap}
 use Rattle.las_header.specs.Fields.{is_packed}
 use Rattle.las_header.specs.Heads.{HeadView}
 use Rattle.las_header.specs.Plain.{plain_of}
-use Rattle.las_convert.proofs.Asked.{created_asked}
 use Rattle.las_convert.proofs.Endings.{begin_left, plain_itself}
 use Rattle.las_convert.proofs.files.begin.Goals as goal
 
@@ -15,11 +14,3 @@ returns-clause-left g c =
     let head = c.head-head.result.now.bytes in
     let plain : is_packed head ≡ false = sym c.packed.ensures ∙ c.if-packed.false in
     begin_left c.create-2.result (g.F.Files.seen c.args.files.now) (g.F.Files.seen c.create-2.new.files) c.args.reader.now c.args.output.now head c.args.chunk (plain_itself head plain ∙ ap (λ (h : HeadView). plain_of h.bytes) c.head-head.ensures) c.create-2.ensures.stopped
-
-pub returns-then-packed-clause-asked : goal.returns-then-packed-clause-asked
-returns-then-packed-clause-asked g c =
-    created_asked c.create.result (g.F.Files.seen c.args.files.now) (g.F.Files.seen c.create.new.files) c.args.output.now _ c.create.ensures.calm c.create.ensures.stopped
-
-pub returns-clause-asked : goal.returns-clause-asked
-returns-clause-asked g c =
-    created_asked c.create-2.result (g.F.Files.seen c.args.files.now) (g.F.Files.seen c.create-2.new.files) c.args.output.now _ c.create-2.ensures.calm c.create-2.ensures.stopped

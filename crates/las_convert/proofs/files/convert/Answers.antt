@@ -1,4 +1,4 @@
-use Rattle.std.proofs.Common.{◌≡◌, ℕ, ◌*◌, List, [], Option, Some, None, IfErr, OnOk, map, sym, ◌∙◌, ap, subst, arith}
+use Rattle.std.proofs.Common.{◌≡◌, ℕ, ◌*◌, List, [], Option, Some, None, IfErr, OnOk, map, sym, ◌∙◌, ap, subst}
 use Rattle.las_header.specs.declared.refusal.Refusal.{Refusal}
 use Rattle.las_header.specs.declared.refusal.Refusal.TheVariants.{BadChunk}
 use Rattle.las_header.specs.Fields.{head_of}
@@ -6,14 +6,14 @@ use Rattle.las_filter.specs.Kept.{steps_of}
 use Rattle.las_info.specs.Tallies.{TapSeen, shown_all}
 use Rattle.las_info.proofs.Public.{mapped}
 use Rattle.las_outside.specs.Faults.{Rose}
-use Rattle.las_outside.specs.Files.{WhereKnown, with_file}
+use Rattle.las_outside.specs.Files.{with_file}
 use Rattle.las_thin.specs.Sieving.{Sieving}
 use Rattle.laz_file.specs.declared.fault.Fault.TheVariants.{Refused, Read, Write}
-use Rattle.laz_file.specs.Asking.{bytes_left}
+use Rattle.laz_file.specs.Asking.{ReadsAndWrites, bytes_left}
 use Rattle.laz_file.specs.Copying.{LeavesUnfinished}
 use Rattle.laz_file.specs.Outputs.{Output, finished, records_after, stopped}
 use Rattle.laz_file.specs.Reading.{ReaderSeen, StandsFor}
-use Rattle.laz_file.proofs.Public.{known_both, known_then, on_err, err_at, ok_then, stands_ready}
+use Rattle.laz_file.proofs.Public.{after_writes, known_both, known_then, on_err, err_at, ok_then, stands_ready}
 use Rattle.las_convert.specs.Adding.{HaveCounted, IsAfter, kept_by}
 use Rattle.las_convert.specs.Converting.{ConvertsTo, EndsConverting, FinishesKept, OnlyConverts, converted_output}
 use Rattle.las_convert.specs.Converting.{output_of}
@@ -362,10 +362,8 @@ returns-clause-write g c is =
     let e = err_at (EndsConverting mid.held old.held mid new keeping reader out []) c.fill.result Write ends is in
     subst (λ (n : ℕ). Rose n new.write_faults) c.in_ok-writer.ensures.calm.writes e.0
 
-pub returns-in_err-writer-clause-asked : goal.returns-in_err-writer-clause-asked
-returns-in_err-writer-clause-asked g c = omega (arith, c.begin.ensures.asked)
-
-pub returns-clause-asked : goal.returns-clause-asked
-returns-clause-asked g c =
-    let same : bytes_left c.crew.new.self ≡ bytes_left c.args.reader = ap bytes_left c.in_ok-crew.ensures.kept in
-    omega (arith, same, c.begin.ensures.asked, c.fill.ensures.asked)
+pub returns-clause-frame : goal.returns-clause-frame
+returns-clause-frame g c =
+    after_writes _ _ _ _ c.begin.ensures.writes
+    (subst (λ (n : ℕ). ReadsAndWrites n (g.F.Files.seen c.begin.new.files) (g.F.Files.seen c.fill.new.files))
+    (ap bytes_left c.in_ok-crew.ensures.kept) c.fill.ensures.frame)

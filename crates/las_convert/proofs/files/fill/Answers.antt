@@ -1,4 +1,4 @@
-use Rattle.std.proofs.Common.{◌++◌, Err, List, map, ap, subst, arith}
+use Rattle.std.proofs.Common.{◌++◌, Err, List, map, ap, subst}
 use Rattle.std.specs.List.{concat}
 use Rattle.las_filter.specs.Kept.{steps_of}
 use Rattle.las_outside.specs.Outside.{Outside}
@@ -6,7 +6,6 @@ use Rattle.laz_file.specs.Copying.{with_reads}
 use Rattle.laz_file.proofs.Public.{if_err, cause_push}
 use Rattle.las_info.specs.Tallies.{TapSeen}
 use Rattle.las_convert.specs.Adding.{EndsKeeping, kept_by}
-use Rattle.las_convert.proofs.Asked.{stops_asked}
 use Rattle.las_convert.proofs.Endings.{ends_all, ends_with, finished_all, left_finish, left_part, left_stop}
 use Rattle.las_convert.proofs.Endings.{refused_here}
 use Rattle.las_convert.proofs.files.fill.Goals as goal
@@ -129,31 +128,3 @@ returns-in_ok-stop-in-Some-clause-ends g c looked is before out bytes s =
     c.convert_records.new.writer old_taps new_taps d.2 d.3 d.5 c.in-Some.cause new.held end
     (ap (λ (o : Outside). o.held) (c.in_ok-stop-in-Some.ensures.stopped (with_reads before mid) out
     (bytes ++ concat d.5.ones) (d.5.takes before out bytes s)))
-
-pub returns-in_err-finish-in-None-clause-asked : goal.returns-in_err-finish-in-None-clause-asked
-returns-in_err-finish-in-None-clause-asked g c =
-    let s = c.requires.stands in
-    let mid = g.F.Files.seen c.convert_records.new.files in
-    let d = c.in_ok-convert_records.ensures.converted c.requires.after.0 c.requires.after.1 in
-    let p = c.in_err-finish-in-None.ensures.stopped (with_reads s.0 mid) s.1 (s.2 ++ concat d.5.ones)
-    (d.5.takes s.0 s.1 s.2 s.3) in
-    let same = stops_asked c.in_err-finish-in-None.field-0.0 _ (g.F.Files.seen c.finish.new.files) p.2 in
-    omega (arith, same, c.convert_records.ensures.asked)
-
-pub returns-in_err-stop-in-Some-clause-asked : goal.returns-in_err-stop-in-Some-clause-asked
-returns-in_err-stop-in-Some-clause-asked g c =
-    let s = c.requires.stands in
-    let mid = g.F.Files.seen c.convert_records.new.files in
-    let d = c.in_ok-convert_records.ensures.converted c.requires.after.0 c.requires.after.1 in
-    let p = c.in_err-stop-in-Some.ensures.broken (with_reads s.0 mid) s.1 (s.2 ++ concat d.5.ones)
-    (d.5.takes s.0 s.1 s.2 s.3) in
-    let same = stops_asked c.in_err-stop-in-Some.field-0.0 _ (g.F.Files.seen c.stop.new.files) p.1 in
-    omega (arith, same, c.convert_records.ensures.asked)
-
-pub returns-in_ok-finish-in-None-clause-asked : goal.returns-in_ok-finish-in-None-clause-asked
-returns-in_ok-finish-in-None-clause-asked g c = omega
-    (arith, c.in_ok-finish-in-None.ensures.calm.asked, c.convert_records.ensures.asked)
-
-pub returns-in_ok-stop-in-Some-clause-asked : goal.returns-in_ok-stop-in-Some-clause-asked
-returns-in_ok-stop-in-Some-clause-asked g c = omega
-    (arith, c.in_ok-stop-in-Some.ensures.calm.asked, c.convert_records.ensures.asked)

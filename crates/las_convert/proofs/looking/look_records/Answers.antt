@@ -6,13 +6,14 @@ use Rattle.las_filter.specs.Kept.{steps_of}
 use Rattle.las_header.specs.Fields.{record_length_of}
 use Rattle.las_header.specs.Heads.{HeadView}
 use Rattle.las_outside.specs.Files.{FileMap, WhereKnown}
+use Rattle.las_outside.proofs.Public.{calm-refl, calm-trans, later-refl, only_reads-trans}
 use Rattle.las_thin.specs.Kept.{passing}
 use Rattle.las_thin.specs.Sieving as sieve
 use Rattle.laz_file.specs.declared.fault.Fault.TheVariants.{Refused}
 use Rattle.laz_file.specs.Copying.{HoldFirst}
 use Rattle.laz_file.specs.Reading.{ReaderSeen, StandsFor}
 use Rattle.laz_file.specs.Records.{HoldOnly, IsBadPiece}
-use Rattle.laz_file.proofs.Public.{ReadsMore, end_all, end_bad, even_whole, read_more, read_none, later-trans}
+use Rattle.laz_file.proofs.Public.{ReadsMore, end_all, end_bad, even_whole, read_more, read_none}
 use Rattle.las_convert.specs.Adding.{IsLent, cut_all}
 use Rattle.las_convert.proofs.Going.{even_all, few_batch, records_batch}
 use Rattle.las_convert.proofs.Shown.{cut_none}
@@ -28,7 +29,7 @@ batches-init g c =
     record {
       sound = c.requires.open;
       crew = c.requires.crew;
-      held = refl;
+      only = record { held = refl; writes = refl; later = later-refl _ };
       reads = c.requires.stands;
       settings = refl;
       looked = (
@@ -38,9 +39,7 @@ batches-init g c =
         ap (λ (rs : List (List ℕ)). length rs) none,
         subst (λ (rs : List (List ℕ)). sieve.StandsFor (passing (steps_of c.args.plan.now) rs) [] c.args.sieve.now) (sym none) c.requires.unlooked,
       );
-      reads_calm = refl;
-      writes_calm = refl;
-      later = record { known = refl; reads = omega arith; writes = omega arith; asked = omega arith };
+      calm = calm-refl _;
       asked = omega arith;
     }
 
@@ -54,7 +53,7 @@ returns-in_err-count-clause-bad g c =
     rw (p.1, p.2) (λ cause is.
     let same : c.in_err-count.field-0.0 ≡ Refused cause = cc in
     let bad = c.in_err-count.ensures.bad cause (ap Err same) in
-    let here = subst (λ (h : Option FileMap). WhereKnown h reader.name (λ file. IsBadPiece file reader.left 0)) c.batches.invariant.held bad.2 in
+    let here = subst (λ (h : Option FileMap). WhereKnown h reader.name (λ file. IsBadPiece file reader.left 0)) c.batches.invariant.only.held bad.2 in
     (done.0, done.1, done.2.hold, end_bad old.held first reader done.0 done.1 cause done.2 bad.0 (c.in_err-count.ensures.packed cause (ap Err same)) here))
 
 pub returns-then-count-eq0-clause-looked : goal.returns-then-count-eq0-clause-looked
@@ -88,7 +87,7 @@ look_batch-requires-clause-lent g c =
     let more : ReadsMore old.held reader next n b.0 = record {
       within = omega (arith, h.most);
       whole = b.3;
-      hold = subst (λ (m : Option FileMap). WhereKnown m reader.name (λ file. HoldOnly file (take n reader.left) b.0)) c.batches.invariant.held b.4;
+      hold = subst (λ (m : Option FileMap). WhereKnown m reader.name (λ file. HoldOnly file (take n reader.left) b.0)) c.batches.invariant.only.held b.4;
       moved = h.moved;
     } in
     let few = few_batch old.held first reader next s done.0 n done.1 b.0 some size done.2 more c.requires.few in
@@ -113,7 +112,7 @@ batches-preserved g c =
     let more : ReadsMore old.held reader next n b.0 = record {
       within = omega (arith, h.most);
       whole = b.3;
-      hold = subst (λ (m : Option FileMap). WhereKnown m reader.name (λ file. HoldOnly file (take n reader.left) b.0)) c.batches.invariant.held b.4;
+      hold = subst (λ (m : Option FileMap). WhereKnown m reader.name (λ file. HoldOnly file (take n reader.left) b.0)) c.batches.invariant.only.held b.4;
       moved = h.moved;
     } in
     let new = g.F.Files.seen c.next_batch.new.files in
@@ -123,8 +122,8 @@ batches-preserved g c =
     record {
       sound = ap (λ (r : ReaderSeen). r.failed) h.moved ∙ c.batches.invariant.sound;
       crew = h.crew;
-      held = c.next_batch.ensures.held ∙ c.batches.invariant.held;
-      reads = subst (λ (name : List ℕ). WhereKnown new.held name (StandsFor next)) (sym (ap (λ (r : ReaderSeen). r.name) h.moved)) (subst (λ (m : Option FileMap). WhereKnown m reader.name (StandsFor next)) (sym c.next_batch.ensures.held) h.stands);
+      only = only_reads-trans _ _ _ c.batches.invariant.only c.next_batch.ensures.reads.only;
+      reads = subst (λ (name : List ℕ). WhereKnown new.held name (StandsFor next)) (sym (ap (λ (r : ReaderSeen). r.name) h.moved)) (subst (λ (m : Option FileMap). WhereKnown m reader.name (StandsFor next)) (sym c.next_batch.ensures.reads.only.held) h.stands);
       settings = c.look_batch.ensures.settings ∙ c.batches.invariant.settings;
       looked = (
         done.0 + n,
@@ -133,8 +132,6 @@ batches-preserved g c =
         subst (λ (rs : List (List ℕ)). length rs ≡ c.in_ok-read.read) batch seen.0,
         subst (λ (rs : List (List ℕ)). sieve.StandsFor (passing (steps_of c.args.plan.now) rs) [] c.look_batch.new.sieve) batch seen.1,
       );
-      reads_calm = h.faults ∙ c.batches.invariant.reads_calm;
-      writes_calm = c.next_batch.ensures.writes ∙ c.batches.invariant.writes_calm;
-      later = later-trans _ _ _ c.batches.invariant.later c.next_batch.ensures.later;
+      calm = calm-trans _ _ _ c.batches.invariant.calm h.calm;
       asked = omega (arith, c.batches.invariant.asked, h.asked);
     }

@@ -61,7 +61,7 @@ returns-in-Ok-survey-clause-ends g c =
     (chosen (λ tap. (goal.Tap-dyn g (tap.vtable, tap.value)).tap_seen tap.value) string_bytes c.args.taps.items c.args.tallies.now c.in-Ok.chosen.items c.in-Ok.ensures)
     h.surveyed in
     subst (EndsMaking (Reports taps reader.name tallies) reader.name change) (sym c.put.ensures)
-    (ends_reporting taps tallies reader change c.requires.stands h.held survey text c.report.result surveyed is (some_text c.head.result.now.bytes chunks survey.summary lines)
+    (ends_reporting taps tallies reader change c.requires.stands h.reads.only.held survey text c.report.result surveyed is (some_text c.head.result.now.bytes chunks survey.summary lines)
     c.report.ensures.put c.report.ensures.failed c.report.ensures.memory)
 
 pub returns-clause-ends : goal.returns-clause-ends
@@ -77,7 +77,7 @@ returns-clause-ends g c =
       out_now = g.O.Sink.seen c.args.out.now;
     } in
     subst (λ (s : Stop). EndsMaking (Reports taps reader.name tallies) reader.name change (Err s)) (sym c.stop.ensures)
-    (ends_surveying taps tallies reader change c.requires.stands h.held c.in-Err-survey.fault
+    (ends_surveying taps tallies reader change c.requires.stands h.reads.only.held c.in-Err-survey.fault
     (λ cause is. h.refused cause (c.in-Err-survey.is ∙ ap Err is))
     (λ cause is. h.bad cause (c.in-Err-survey.is ∙ ap Err is))
     (λ is. h.read (c.in-Err-survey.is ∙ ap Err is))

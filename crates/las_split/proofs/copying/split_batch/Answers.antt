@@ -1,7 +1,8 @@
-use Rattle.std.proofs.Common.{◌≡◌, ◌+◌, ◌<◌, ◌≤◌, ℕ, List, [], true, false, ◌++◌, length, take, drop, refl, sym, ◌∙◌, ap, subst, length-append, arith}
+use Rattle.std.proofs.Common.{◌≡◌, ◌+◌, ◌<◌, ◌≤◌, ℕ, List, [], true, false, ◌++◌, length, take, drop, sym, ◌∙◌, ap, subst, length-append, arith}
 use Rattle.std.specs.List.{concat}
 use Rattle.std.proofs.lemmas.List.{append-nil, take_all}
-use Rattle.laz_file.proofs.Public.{later-trans, if_err, calm_trans, on_err}
+use Rattle.las_outside.proofs.Public.{calm-refl, calm-trans, only_writes-refl, only_writes-trans}
+use Rattle.laz_file.proofs.Public.{if_err, on_err}
 use Rattle.laz_file.specs.declared.fault.Fault.TheVariants.{Write}
 use Rattle.las_split.specs.Sorting.{InParts, LeavesBlock, TakesBlock, cut_all, task_in}
 use Rattle.las_split.proofs.Blocks.{cut_block, cut_none, cut_others, left_more_blocks, left_then, next_fits, next_place, room_next, takes_more, takes_then}
@@ -16,8 +17,8 @@ loop-i-init g c = record {
         subst (λ (b : List (List ℕ)). InParts (task_in c.args.splitter.now) was (g.F.Files.seen c.args.files.now).held c.args.parts.now.numbers c.args.parts.now.writers.items b b) (sym none) parts,
         (let zero : length (cut_all c.args.splitter.now.size []) ≡ 0 = ap (λ (b : List (List ℕ)). length b) (cut_none c.args.splitter.now.size some) in let e : c.args.splitter.now.index ≡ length records + length (cut_all c.args.splitter.now.size []) = omega (arith, at, zero) in e),
       );
-  calm = record { reads = refl; writes = refl; asked = refl };
-  later = record { known = refl; reads = omega arith; writes = omega arith; asked = omega arith };
+  calm = calm-refl _;
+  writes = only_writes-refl _;
 }
 
 pub split_block-requires-clause-room : goal.split_block-requires-clause-room
@@ -161,8 +162,8 @@ loop-i-preserved g c = record {
             (takes_then task was new after.parts.numbers after.parts.writers.items records done (cut_all size block) true t),
         next_place size some blocks even i lt block is records c.loop-i.next so.1,
       );
-  calm = calm_trans (g.F.Files.seen c.args.files.now) (g.F.Files.seen c.loop-i.files) (g.F.Files.seen c.split_block.new.files) c.loop-i.invariant.calm c.in_ok-split_block.ensures.calm;
-  later = later-trans (g.F.Files.seen c.args.files.now) (g.F.Files.seen c.loop-i.files) (g.F.Files.seen c.split_block.new.files) c.loop-i.invariant.later c.split_block.ensures.later;
+  calm = calm-trans _ _ _ c.loop-i.invariant.calm c.in_ok-split_block.ensures.calm;
+  writes = only_writes-trans _ _ _ c.loop-i.invariant.writes c.split_block.ensures.writes;
 }
 
 pub returns-clause-takes : goal.returns-clause-takes
@@ -189,12 +190,3 @@ returns-in_err-split_block-clause-some g c blocks was records lends all even par
     let place : c.loop-i.next ≡ length (records ++ done) = so.1 ∙ sym (length-append records done) in
     if_err (λ fault. fault ≡ Write → 1 ≤ length records + length (cut_all size (concat blocks))) c.from_residual.result _ c.from_residual.ensures.1
     (λ is_write. some_among size some blocks even i lt block is records (c.in_err-split_block.ensures.some was (records ++ done) here place is_write))
-
-pub returns-in_err-split_block-clause-asked : goal.returns-in_err-split_block-clause-asked
-returns-in_err-split_block-clause-asked g c = c.split_block.ensures.asked ∙ c.loop-i.invariant.calm.asked
-
-pub returns-then-not-branch-clause-asked : goal.returns-then-not-branch-clause-asked
-returns-then-not-branch-clause-asked g c = c.split_block.ensures.asked ∙ c.loop-i.invariant.calm.asked
-
-pub returns-clause-asked : goal.returns-clause-asked
-returns-clause-asked g c = c.loop-i.invariant.calm.asked

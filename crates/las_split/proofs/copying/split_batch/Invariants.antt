@@ -2,9 +2,8 @@ use Rattle.std.proofs.Common.{◌≡◌, ◌+◌, ◌%◌, ◌++◌, ℕ, List, 
 use Rattle.std.specs.Prelude.{All}
 use Rattle.std.specs.List.{concat}
 use Rattle.las_outside.specs.Files.{FileMap}
-use Rattle.las_outside.specs.Outside.{Later}
+use Rattle.las_outside.specs.Frames.{IsCalm, OnlyWrites}
 use Rattle.laz_file.specs.Reading.{Lends}
-use Rattle.laz_file.specs.Writing.{SameFaults}
 use Rattle.las_split.specs.Sorting.{InParts, cut_all, task_in}
 use Rattle.las_split.proofs.copying.split_batch.Given as goal
 
@@ -16,6 +15,6 @@ invariant-loop-i g l = record {
       → l.splitter.index ≡ length records
       → InParts (task_in l.splitter) was (g.F.Files.seen l.files).held l.parts.numbers l.parts.writers.items (records ++ cut_all l.splitter.size (concat (take l.i blocks))) (records ++ cut_all l.splitter.size (concat (take l.i blocks)))
       × (l.next ≡ length records + length (cut_all l.splitter.size (concat (take l.i blocks))));
-  calm : SameFaults (g.F.Files.seen l.fn.files) (g.F.Files.seen l.files);
-  later : Later (g.F.Files.seen l.fn.files) (g.F.Files.seen l.files);
+  calm : IsCalm (g.F.Files.seen l.fn.files) (g.F.Files.seen l.files);
+  writes : OnlyWrites (g.F.Files.seen l.fn.files) (g.F.Files.seen l.files);
 }

@@ -8,7 +8,8 @@ use Rattle.las_header.specs.Heads.{HeadView}
 use Rattle.las_outside.specs.Files.{WhereKnown}
 use Rattle.laz_file.specs.Reading.{ReaderSeen, StandsFor}
 use Rattle.laz_file.specs.Records.{HoldOnly, IsBadPiece}
-use Rattle.laz_file.proofs.Public.{ReadsMore, calm_ok, end_all, end_bad, end_err, end_ok, read_more, read_none, later-trans, if_err, cause_since, on_err}
+use Rattle.las_outside.proofs.Public.{calm-refl, calm-trans, later-refl, later-trans}
+use Rattle.laz_file.proofs.Public.{ReadsMore, calm_ok, end_all, end_bad, end_err, end_ok, read_more, read_none, if_err, cause_since, on_err}
 use Rattle.laz_file.specs.Copying.{HoldFirst}
 use Rattle.las_header.specs.declared.refusal.Refusal.{Refusal}
 use Rattle.las_split.specs.Sorting.{EndsSplitting, HasRoom, InParts, LeavesBlock, TakesBlock, cut_all, task_of}
@@ -29,9 +30,8 @@ batches-init g c =
       crew = c.requires.crew;
       reads = c.requires.reads;
       taken = (0, [], read_none old.held first (StandsFor first) c.requires.reads, parts_none task old.held c.new-parts.result.numbers c.new-parts.result.writers.items s some c.new-parts.ensures.numbers c.new-parts.ensures.writers, none_yet s some);
-      reads_calm = refl;
-      writes_calm = refl;
-      later = record { known = refl; reads = omega arith; writes = omega arith; asked = omega arith };
+      calm = calm-refl _;
+      later = later-refl _;
       asked = omega arith;
     }
 
@@ -50,7 +50,7 @@ returns-in-Err-clause-takes g c =
     let done = c.batches.invariant.taken in
     let x = cut_all s (concat done.1) in
     let apart : (n : ℕ) → n < 2 ^ 32 → part_name (task used).stem (task used).end n ≢ reader.name = λ n lt e. c.requires.names n lt (e ∙ done.2.named) in
-    let here = parts_held (task used) old.held now.held later.held ns ws x x c.next_batch.ensures.held done.3 in
+    let here = parts_held (task used) old.held now.held later.held ns ws x x c.next_batch.ensures.reads.only.held done.3 in
     end_ok c.in-Err.fault (Ok c.in_ok-end-in-Err.end)
     (λ (e : Option Refusal). (n : ℕ) × (blocks : List (List ℕ)) × (all : Bool) × HoldFirst old.held first n blocks
     × TakesBlock (task used) old.held later.held ns ws [] (cut_all s (concat blocks)) all × EndsSplitting old.held first n all e)
@@ -75,17 +75,19 @@ returns-in_err-end-in-Err-clause-left g c =
     let done = c.batches.invariant.taken in
     let x = cut_all s (concat done.1) in
     let apart : (n : ℕ) → n < 2 ^ 32 → part_name (task used).stem (task used).end n ≢ reader.name = λ n lt e. c.requires.names n lt (e ∙ done.2.named) in
-    let here = parts_held (task used) old.held now.held later.held ns ws x x c.next_batch.ensures.held done.3 in
+    let here = parts_held (task used) old.held now.held later.held ns ws x x c.next_batch.ensures.reads.only.held done.3 in
     on_err c.from_residual.result (done.0, done.1, done.2.hold, left_whole (task used) old.held later.held ns ws x here)
 
 pub returns-in_err-end-in-Err-clause-cause : goal.returns-in_err-end-in-Err-clause-cause
 returns-in_err-end-in-Err-clause-cause g c =
     if_err _ c.from_residual.result _ c.from_residual.ensures.1
-    (end_err c.in-Err.fault (Err c.in_err-end-in-Err.field-0.0) (g.F.Files.seen c.args.files.now) (g.F.Files.seen c.batches.files) (g.F.Files.seen c.next_batch.new.files) c.in_err-end-in-Err.ensures c.in-Err.ensures.ends c.batches.invariant.reads_calm)
+    (end_err c.in-Err.fault (Err c.in_err-end-in-Err.field-0.0) (g.F.Files.seen c.args.files.now) (g.F.Files.seen c.batches.files) (g.F.Files.seen c.next_batch.new.files) c.in_err-end-in-Err.ensures c.in-Err.ensures.ends c.batches.invariant.calm.reads)
 
-pub returns-in-Err-clause-reads_calm : goal.returns-in-Err-clause-reads_calm
-returns-in-Err-clause-reads_calm g c =
-    calm_ok c.in-Err.fault (Ok c.in_ok-end-in-Err.end) (g.F.Files.seen c.args.files.now) (g.F.Files.seen c.batches.files) (g.F.Files.seen c.next_batch.new.files) c.in_ok-end-in-Err.ensures c.in-Err.ensures.ends c.batches.invariant.reads_calm
+pub returns-in-Err-clause-calm : goal.returns-in-Err-clause-calm
+returns-in-Err-clause-calm g c = record {
+  reads = calm_ok c.in-Err.fault (Ok c.in_ok-end-in-Err.end) (g.F.Files.seen c.args.files.now) (g.F.Files.seen c.batches.files) (g.F.Files.seen c.next_batch.new.files) c.in_ok-end-in-Err.ensures c.in-Err.ensures.ends c.batches.invariant.calm.reads;
+  writes = c.next_batch.ensures.reads.only.writes ∙ c.batches.invariant.calm.writes;
+}
 
 pub returns-then-count-eq0-clause-takes : goal.returns-then-count-eq0-clause-takes
 returns-then-count-eq0-clause-takes g c =
@@ -102,7 +104,7 @@ returns-then-count-eq0-clause-takes g c =
     let done = c.batches.invariant.taken in
     let x = cut_all s (concat done.1) in
     let apart : (n : ℕ) → n < 2 ^ 32 → part_name (task used).stem (task used).end n ≢ reader.name = λ n lt e. c.requires.names n lt (e ∙ done.2.named) in
-    let here = parts_held (task used) old.held now.held later.held ns ws x x c.next_batch.ensures.held done.3 in
+    let here = parts_held (task used) old.held now.held later.held ns ws x x c.next_batch.ensures.reads.only.held done.3 in
     (done.0, done.1, true, done.2.hold, here, end_all old.held first reader done.0 done.1 done.2 (c.in-Ok.ensures.end c.if-count-eq0.true))
 
 pub split_batch-requires-clause-plain : goal.split_batch-requires-clause-plain
@@ -120,7 +122,7 @@ split_batch-requires-clause-plain g c κs lives =
     let done = c.batches.invariant.taken in
     let x = cut_all s (concat done.1) in
     let apart : (n : ℕ) → n < 2 ^ 32 → part_name (task used).stem (task used).end n ≢ reader.name = λ n lt e. c.requires.names n lt (e ∙ done.2.named) in
-    let here = parts_held (task used) old.held now.held later.held ns ws x x c.next_batch.ensures.held done.3 in
+    let here = parts_held (task used) old.held now.held later.held ns ws x x c.next_batch.ensures.reads.only.held done.3 in
     let b = c.in-Ok.ensures.blocks in
     let m = c.in-Ok.count in
     let y = cut_all s (concat b.0) in
@@ -151,7 +153,7 @@ split_batch-requires-clause-none g c κs lives =
     let done = c.batches.invariant.taken in
     let x = cut_all s (concat done.1) in
     let apart : (n : ℕ) → n < 2 ^ 32 → part_name (task used).stem (task used).end n ≢ reader.name = λ n lt e. c.requires.names n lt (e ∙ done.2.named) in
-    let here = parts_held (task used) old.held now.held later.held ns ws x x c.next_batch.ensures.held done.3 in
+    let here = parts_held (task used) old.held now.held later.held ns ws x x c.next_batch.ensures.reads.only.held done.3 in
     let b = c.in-Ok.ensures.blocks in
     let m = c.in-Ok.count in
     let y = cut_all s (concat b.0) in
@@ -182,7 +184,7 @@ split_batch-requires-clause-lent g c κs lives =
     let done = c.batches.invariant.taken in
     let x = cut_all s (concat done.1) in
     let apart : (n : ℕ) → n < 2 ^ 32 → part_name (task used).stem (task used).end n ≢ reader.name = λ n lt e. c.requires.names n lt (e ∙ done.2.named) in
-    let here = parts_held (task used) old.held now.held later.held ns ws x x c.next_batch.ensures.held done.3 in
+    let here = parts_held (task used) old.held now.held later.held ns ws x x c.next_batch.ensures.reads.only.held done.3 in
     let b = c.in-Ok.ensures.blocks in
     let m = c.in-Ok.count in
     let y = cut_all s (concat b.0) in
@@ -214,7 +216,7 @@ split_batch-requires-clause-parts g c κs lives =
     let done = c.batches.invariant.taken in
     let x = cut_all s (concat done.1) in
     let apart : (n : ℕ) → n < 2 ^ 32 → part_name (task used).stem (task used).end n ≢ reader.name = λ n lt e. c.requires.names n lt (e ∙ done.2.named) in
-    let here = parts_held (task used) old.held now.held later.held ns ws x x c.next_batch.ensures.held done.3 in
+    let here = parts_held (task used) old.held now.held later.held ns ws x x c.next_batch.ensures.reads.only.held done.3 in
     let b = c.in-Ok.ensures.blocks in
     let m = c.in-Ok.count in
     let y = cut_all s (concat b.0) in
@@ -245,7 +247,7 @@ returns-in_err-after-clause-left g c =
     let done = c.batches.invariant.taken in
     let x = cut_all s (concat done.1) in
     let apart : (n : ℕ) → n < 2 ^ 32 → part_name (task used).stem (task used).end n ≢ reader.name = λ n lt e. c.requires.names n lt (e ∙ done.2.named) in
-    let here = parts_held (task used) old.held now.held later.held ns ws x x c.next_batch.ensures.held done.3 in
+    let here = parts_held (task used) old.held now.held later.held ns ws x x c.next_batch.ensures.reads.only.held done.3 in
     let b = c.in-Ok.ensures.blocks in
     let m = c.in-Ok.count in
     let y = cut_all s (concat b.0) in
@@ -274,7 +276,7 @@ returns-in_err-after-clause-cause g c =
     let later = g.F.Files.seen c.next_batch.new.files in
     let new = g.F.Files.seen c.split_batch.new.files in
     if_err _ c.from_residual-in_err-after.result _ c.from_residual-in_err-after.ensures.1
-    (cause_since old later new c.in_err-after.field-0.0 (c.in-Ok.ensures.faults ∙ c.batches.invariant.reads_calm) (c.next_batch.ensures.writes ∙ c.batches.invariant.writes_calm) c.in_err-after.ensures.cause)
+    (cause_since old later new c.in_err-after.field-0.0 (c.in-Ok.ensures.calm.reads ∙ c.batches.invariant.calm.reads) (c.in-Ok.ensures.calm.writes ∙ c.batches.invariant.calm.writes) c.in_err-after.ensures.cause)
 
 pub returns-in_default-clause-takes : goal.returns-in_default-clause-takes
 returns-in_default-clause-takes g c =
@@ -291,7 +293,7 @@ returns-in_default-clause-takes g c =
     let done = c.batches.invariant.taken in
     let x = cut_all s (concat done.1) in
     let apart : (n : ℕ) → n < 2 ^ 32 → part_name (task used).stem (task used).end n ≢ reader.name = λ n lt e. c.requires.names n lt (e ∙ done.2.named) in
-    let here = parts_held (task used) old.held now.held later.held ns ws x x c.next_batch.ensures.held done.3 in
+    let here = parts_held (task used) old.held now.held later.held ns ws x x c.next_batch.ensures.reads.only.held done.3 in
     let b = c.in-Ok.ensures.blocks in
     let m = c.in-Ok.count in
     let y = cut_all s (concat b.0) in
@@ -330,7 +332,7 @@ batches-preserved g c =
     let done = c.batches.invariant.taken in
     let x = cut_all s (concat done.1) in
     let apart : (n : ℕ) → n < 2 ^ 32 → part_name (task used).stem (task used).end n ≢ reader.name = λ n lt e. c.requires.names n lt (e ∙ done.2.named) in
-    let here = parts_held (task used) old.held now.held later.held ns ws x x c.next_batch.ensures.held done.3 in
+    let here = parts_held (task used) old.held now.held later.held ns ws x x c.next_batch.ensures.reads.only.held done.3 in
     let b = c.in-Ok.ensures.blocks in
     let m = c.in-Ok.count in
     let y = cut_all s (concat b.0) in
@@ -362,10 +364,9 @@ batches-preserved g c =
       crew = c.in-Ok.ensures.crew;
       reads = (known_parts (task used) old.held new.held us vs z z all next.name next_apart (StandsFor next)).0 (subst (λ (name : List ℕ). WhereKnown old.held name (StandsFor next)) (sym named) was);
       taken = (done.0 + m, done.1 ++ b.0, has, all, t.1 ∙ ap (λ (k : ℕ). length x + length (cut_all k (concat b.0))) same ∙ sym (length-append x y) ∙ ap (λ (l : List (List ℕ)). length l) (sym joined));
-      reads_calm = c.in_ok-after.ensures.calm.reads ∙ c.in-Ok.ensures.faults ∙ c.batches.invariant.reads_calm;
-      writes_calm = c.in_ok-after.ensures.calm.writes ∙ c.next_batch.ensures.writes ∙ c.batches.invariant.writes_calm;
-      later = later-trans _ _ _ c.batches.invariant.later (later-trans _ _ _ c.next_batch.ensures.later c.split_batch.ensures.later);
-      asked = omega (arith, c.batches.invariant.asked, c.in-Ok.ensures.asked, c.split_batch.ensures.asked);
+      calm = calm-trans _ _ _ c.batches.invariant.calm (calm-trans _ _ _ c.in-Ok.ensures.calm c.in_ok-after.ensures.calm);
+      later = later-trans _ _ _ c.batches.invariant.later (later-trans _ _ _ c.next_batch.ensures.reads.only.later c.split_batch.ensures.writes.later);
+      asked = omega (arith, c.batches.invariant.asked, c.in-Ok.ensures.asked, c.split_batch.ensures.writes.asked);
     }
 
 pub returns-in_err-end-in-Err-clause-some : goal.returns-in_err-end-in-Err-clause-some
@@ -388,7 +389,7 @@ returns-in_err-after-clause-some g c =
     let done = c.batches.invariant.taken in
     let x = cut_all s (concat done.1) in
     let apart : (n : ℕ) → n < 2 ^ 32 → part_name (task used).stem (task used).end n ≢ reader.name = λ n lt e. c.requires.names n lt (e ∙ done.2.named) in
-    let here = parts_held (task used) old.held now.held later.held ns ws x x c.next_batch.ensures.held done.3 in
+    let here = parts_held (task used) old.held now.held later.held ns ws x x c.next_batch.ensures.reads.only.held done.3 in
     let b = c.in-Ok.ensures.blocks in
     let m = c.in-Ok.count in
     let y = cut_all s (concat b.0) in
@@ -408,18 +409,3 @@ returns-in_err-after-clause-some g c =
     let there = subst (λ (k : ℕ). 1 ≤ length x + length (cut_all k (concat b.0))) same (e is) in
     let every : length (cut_all s (concat (done.1 ++ b.0))) ≡ length x + length y = ap (λ (l : List (List ℕ)). length l) joined ∙ length-append x y in
     (done.0 + m, done.1 ++ b.0, has.hold, omega (arith, there, every)))
-
-pub returns-in-Err-clause-asked : goal.returns-in-Err-clause-asked
-returns-in-Err-clause-asked g c = omega (arith, c.batches.invariant.asked, c.in-Err.ensures.asked_more)
-
-pub returns-in_err-end-in-Err-clause-asked : goal.returns-in_err-end-in-Err-clause-asked
-returns-in_err-end-in-Err-clause-asked g c = omega (arith, c.batches.invariant.asked, c.in-Err.ensures.asked_more)
-
-pub returns-then-count-eq0-clause-asked : goal.returns-then-count-eq0-clause-asked
-returns-then-count-eq0-clause-asked g c = omega (arith, c.batches.invariant.asked, c.in-Ok.ensures.asked)
-
-pub returns-in_err-after-clause-asked : goal.returns-in_err-after-clause-asked
-returns-in_err-after-clause-asked g c = omega (arith, c.batches.invariant.asked, c.in-Ok.ensures.asked, c.split_batch.ensures.asked)
-
-pub returns-in_default-clause-asked : goal.returns-in_default-clause-asked
-returns-in_default-clause-asked g c = omega (arith, c.batches.invariant.asked, c.in-Ok.ensures.asked, c.split_batch.ensures.asked)

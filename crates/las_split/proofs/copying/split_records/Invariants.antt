@@ -3,6 +3,7 @@ use Rattle.std.specs.Prelude.{unwrap_or}
 use Rattle.std.specs.List.{concat}
 use Rattle.las_header.specs.Fields.{record_length_of}
 use Rattle.las_outside.specs.Files.{WhereKnown}
+use Rattle.las_outside.specs.Frames.{IsCalm}
 use Rattle.las_outside.specs.Outside.{Later}
 use Rattle.laz_file.specs.Asking.{bytes_left}
 use Rattle.laz_file.specs.Reading.{IsCrewOf, StandsFor}
@@ -18,8 +19,7 @@ invariant-batches g l = record {
   taken : (n : ℕ) × (blocks : List (List ℕ)) × HasRead (g.F.Files.seen l.fn.files).held l.fn.reader l.reader n blocks
       × InParts (task_of l.names (unwrap_or l.plain l.fn.reader.head) l.rule) (g.F.Files.seen l.fn.files).held (g.F.Files.seen l.files).held l.parts.numbers l.parts.writers.items (cut_all (record_length_of l.fn.reader.head.bytes) (concat blocks)) (cut_all (record_length_of l.fn.reader.head.bytes) (concat blocks))
       × (l.index ≡ length (cut_all (record_length_of l.fn.reader.head.bytes) (concat blocks)));
-  reads_calm : (g.F.Files.seen l.files).read_faults ≡ (g.F.Files.seen l.fn.files).read_faults;
-  writes_calm : (g.F.Files.seen l.files).write_faults ≡ (g.F.Files.seen l.fn.files).write_faults;
+  calm : IsCalm (g.F.Files.seen l.fn.files) (g.F.Files.seen l.files);
   later : Later (g.F.Files.seen l.fn.files) (g.F.Files.seen l.files);
   asked : (g.F.Files.seen l.files).asked + bytes_left l.reader ≤ (g.F.Files.seen l.fn.files).asked + bytes_left l.fn.reader;
 }

@@ -1,19 +1,18 @@
-use Rattle.std.proofs.Common.{◌≡◌, ℕ, ◌*◌, ◌≤◌, inl, List, [], length, Option, Some, None, refl, sym, ◌∙◌, ap, subst, arith}
+use Rattle.std.proofs.Common.{◌≡◌, ℕ, ◌*◌, ◌≤◌, inl, List, [], length, Option, Some, None, refl, sym, ◌∙◌, ap, subst}
 use Rattle.std.specs.Prelude.{unwrap_or, string_bytes}
 use Rattle.las_header.specs.declared.refusal.Refusal.{Refusal}
 use Rattle.las_header.specs.Heads.{HeadView, IsHead}
 use Rattle.las_header.specs.Plain.{plain_of}
 use Rattle.las_outside.specs.Files.{FileMap, WhereKnown}
 use Rattle.laz_file.specs.declared.fault.Fault.TheVariants.{Write}
-use Rattle.laz_file.specs.Asking.{bytes_left}
 use Rattle.laz_file.specs.Reading.{ReaderSeen, StandsFor}
-use Rattle.laz_file.proofs.Public.{known_both, known_then, if_err, if_ok_weaker, stands_ready}
+use Rattle.laz_file.proofs.Public.{known_both, known_then, if_err, if_ok_weaker, stands_ready, then_writes}
 use Rattle.las_split.specs.Files.{with_files}
 use Rattle.las_split.specs.Outputs.{LeavesParts, PartFile, all_finished, all_stopped, outputs_under, part_files}
 use Rattle.las_split.specs.Parts.{numbers_of_parts}
 use Rattle.las_split.specs.Sorting.{EndsSplitting, task_of}
 use Rattle.las_split.specs.Splitting.{OnlySplits, SplitsTo}
-use Rattle.las_split.proofs.WholeSplits.{files_are, leaves_splits, only_leaves, only_some, prefixes_leave, splits_end, splits_one, stopped_leave, err_if}
+use Rattle.las_split.proofs.WholeSplits.{files_are, left_frame, leaves_splits, only_leaves, only_some, prefixes_leave, splits_end, splits_one, stopped_leave, err_if}
 use Rattle.las_split.proofs.SomeRecords.{of_fault}
 use Rattle.las_split.proofs.files.split.Goals as goal
 
@@ -310,22 +309,18 @@ returns-in_err-stop_all-in-Some-clause-some g c is =
     let made = if_err (λ f. f ≡ Write → 1 ≤ length e.0) c.from_residual-in_err-stop_all-in-Some.result _ c.from_residual-in_err-stop_all-in-Some.ensures.1 (c.in_err-stop_all-in-Some.ensures.some task old e.0 e.1) in
     only_some rule old first.name e.0 (Some c.in-Some.cause) e.2 (of_fault c.from_residual-in_err-stop_all-in-Some.result Write (1 ≤ length e.0) made is)
 
-pub returns-in_err-parts-clause-asked : goal.returns-in_err-parts-clause-asked
-returns-in_err-parts-clause-asked g c =
-    let same : bytes_left c.crew.new.self ≡ bytes_left c.args.reader = ap bytes_left c.in_ok-crew.ensures.kept in
-    omega (arith, same, c.split_records.ensures.asked)
+pub returns-in_err-parts-clause-frame : goal.returns-in_err-parts-clause-frame
+returns-in_err-parts-clause-frame g c =
+    left_frame c.args.reader c.crew.new.self (2 * c.hands-hands.result) _ _ c.in_ok-crew.ensures.kept c.split_records.ensures.frame
 
-pub returns-in-None-clause-asked : goal.returns-in-None-clause-asked
-returns-in-None-clause-asked g c =
-    let same : bytes_left c.crew.new.self ≡ bytes_left c.args.reader = ap bytes_left c.in_ok-crew.ensures.kept in
-    omega (arith, same, c.split_records.ensures.asked, c.finish_all.ensures.asked)
+pub returns-in-None-clause-frame : goal.returns-in-None-clause-frame
+returns-in-None-clause-frame g c =
+    then_writes _ _ _ _ (left_frame c.args.reader c.crew.new.self (2 * c.hands-hands.result) _ _ c.in_ok-crew.ensures.kept c.split_records.ensures.frame) c.finish_all.ensures.writes
 
-pub returns-in_err-stop_all-in-Some-clause-asked : goal.returns-in_err-stop_all-in-Some-clause-asked
-returns-in_err-stop_all-in-Some-clause-asked g c =
-    let same : bytes_left c.crew.new.self ≡ bytes_left c.args.reader = ap bytes_left c.in_ok-crew.ensures.kept in
-    omega (arith, same, c.split_records.ensures.asked, c.stop_all.ensures.asked)
+pub returns-in_err-stop_all-in-Some-clause-frame : goal.returns-in_err-stop_all-in-Some-clause-frame
+returns-in_err-stop_all-in-Some-clause-frame g c =
+    then_writes _ _ _ _ (left_frame c.args.reader c.crew.new.self (2 * c.hands-hands.result) _ _ c.in_ok-crew.ensures.kept c.split_records.ensures.frame) c.stop_all.ensures.writes
 
-pub returns-clause-asked : goal.returns-clause-asked
-returns-clause-asked g c =
-    let same : bytes_left c.crew.new.self ≡ bytes_left c.args.reader = ap bytes_left c.in_ok-crew.ensures.kept in
-    omega (arith, same, c.split_records.ensures.asked, c.stop_all.ensures.asked)
+pub returns-clause-frame : goal.returns-clause-frame
+returns-clause-frame g c =
+    then_writes _ _ _ _ (left_frame c.args.reader c.crew.new.self (2 * c.hands-hands.result) _ _ c.in_ok-crew.ensures.kept c.split_records.ensures.frame) c.stop_all.ensures.writes

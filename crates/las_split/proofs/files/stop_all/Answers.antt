@@ -1,9 +1,10 @@
-use Rattle.std.proofs.Common.{◌≡◌, ℕ, ◌≤◌, List, get_or, ◌++◌, length, reverse, drop, take, map, refl, sym, ◌∙◌, ap, arith}
+use Rattle.std.proofs.Common.{◌≡◌, ℕ, ◌≤◌, List, get_or, ◌++◌, length, reverse, drop, take, map, sym, ◌∙◌, ap, arith}
 use Rattle.las_outside.specs.Outside.{Outside, with_bytes}
 use Rattle.laz_file.specs.Outputs.{stopped}
 use Rattle.laz_file.specs.Writing.{WriterSeen}
 use Rattle.laz_file.specs.declared.fault.Fault.TheVariants.{Write}
-use Rattle.laz_file.proofs.Public.{later-trans, if_err, calm_trans, held_after, on_err, stops_asked}
+use Rattle.las_outside.proofs.Public.{calm-refl, calm-trans, only_writes-refl, only_writes-trans}
+use Rattle.laz_file.proofs.Public.{if_err, held_after, on_err}
 use Rattle.las_split.specs.Files.{with_files}
 use Rattle.las_split.specs.Parts.{numbers_of_parts}
 use Rattle.las_split.specs.Sorting.{bytes_at, output_at}
@@ -23,8 +24,8 @@ loop-writer-init g c = record {
       let same : length turned ≡ length ws = c.reverse.ensures.len ∙ ap (λ (t : List WriterSeen). length t) value in
       ended_first task (λ (n : ℕ). stopped (output_at task n) (bytes_at task records n)) was (g.F.Files.seen c.args.files.now).held c.args.parts.numbers ws records (take c.args.parts.writers.len (turned ++ drop (length turned) ws)) i
       (put_back ws turned c.args.parts.writers.len len same ∙ c.reverse.ensures.after ∙ ap reverse value);
-  calm = record { reads = refl; writes = refl; asked = refl };
-  later = record { known = refl; reads = omega arith; writes = omega arith; asked = omega arith };
+  calm = calm-refl _;
+  writes = only_writes-refl _;
 }
 
 pub stop-requires-clause-open : goal.stop-requires-clause-open
@@ -87,8 +88,8 @@ loop-writer-preserved g c = record {
       let new = g.F.Files.seen c.stop.new.files in
       let to = ap (λ (o : Outside). o.held) (c.in_ok-stop.ensures.stopped now (output_at task n) (bytes_at task records n) here) in
       ended_more task done was now.held ns ws records rest others w e popped new.held to;
-  calm = calm_trans (g.F.Files.seen c.args.files.now) (g.F.Files.seen c.loop-writer.files) (g.F.Files.seen c.stop.new.files) c.loop-writer.invariant.calm c.in_ok-stop.ensures.calm;
-  later = later-trans (g.F.Files.seen c.args.files.now) (g.F.Files.seen c.loop-writer.files) (g.F.Files.seen c.stop.new.files) c.loop-writer.invariant.later c.stop.ensures.later;
+  calm = calm-trans _ _ _ c.loop-writer.invariant.calm c.in_ok-stop.ensures.calm;
+  writes = only_writes-trans _ _ _ c.loop-writer.invariant.writes c.stop.ensures.writes;
 }
 
 pub returns-in_err-stop-clause-left : goal.returns-in_err-stop-clause-left
@@ -131,27 +132,3 @@ returns-in_err-stop-clause-some g c task was records i =
     let count : 1 ≤ length ws = omega (arith, past, writers_length task (bytes_at task records) ns ws i.writers_are) in
     if_err (λ fault. fault ≡ Write → 1 ≤ length records) c.from_residual.result _ c.from_residual.ensures.1
     (λ is. some_opened task was (g.F.Files.seen c.args.files.now).held ns ws records records i count)
-
-pub returns-in_err-stop-clause-asked : goal.returns-in_err-stop-clause-asked
-returns-in_err-stop-clause-asked g c =
-    let now = g.F.Files.seen c.loop-writer.files in
-    let ns = c.args.parts.numbers in
-    let ws = c.args.parts.writers.items in
-    let w = c.in-Some.writer in
-    let q = c.requires.parts in
-    let task = q.0 in
-    let was = q.1 in
-    let records = q.2 in
-    let done = λ (n : ℕ). stopped (output_at task n) (bytes_at task records n) in
-    let e = c.loop-writer.invariant.ended task was records q.3 in
-    let rest = c.loop-writer.rest.items in
-    let others = c.pop.new.self.items in
-    let popped = c.in-Some.ensures.items in
-    let n = get_or ns e.place 0 in
-    let is = next_is task done was now.held ns ws records rest others w e popped in
-    let here = stands_here task n w (bytes_at task records n) now is (next_held task done was now.held ns ws records rest others w e popped) in
-    let p = c.in_err-stop.ensures.broken now (output_at task n) (bytes_at task records n) here in
-    stops_asked c.in_err-stop.field-0.0 _ (g.F.Files.seen c.stop.new.files) p.1 ∙ c.loop-writer.invariant.calm.asked
-
-pub returns-clause-asked : goal.returns-clause-asked
-returns-clause-asked g c = c.loop-writer.invariant.calm.asked

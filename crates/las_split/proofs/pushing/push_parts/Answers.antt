@@ -1,5 +1,6 @@
 use Rattle.std.proofs.Common.{◌≤◌, ℕ, List, length, refl, sym, ◌∙◌, ap, subst, arith}
-use Rattle.laz_file.proofs.Public.{later-trans, calm_trans, on_err}
+use Rattle.las_outside.proofs.Public.{calm-refl, calm-trans, only_writes-refl, only_writes-trans}
+use Rattle.laz_file.proofs.Public.{on_err}
 use Rattle.las_split.specs.Sorting.{AreGathered}
 use Rattle.las_header.specs.Fields.{record_length_of}
 use Rattle.las_split.proofs.PushedParts.{all_size, pushed_first, pushed_last}
@@ -10,8 +11,8 @@ loop-place-init g c = record {
   numbers = refl;
   gathered = refl;
   pushed = λ task was records block i s. pushed_first task was (g.F.Files.seen c.args.files.now).held c.args.parts.now.numbers c.args.parts.now.writers.items records block i;
-  calm = record { reads = refl; writes = refl; asked = refl };
-  later = record { known = refl; reads = omega arith; writes = omega arith; asked = omega arith };
+  calm = calm-refl _;
+  writes = only_writes-refl _;
 }
 
 pub push_place-requires-clause-place : goal.push_place-requires-clause-place
@@ -34,8 +35,8 @@ loop-place-preserved g c = record {
   pushed = λ task was records block i s.
       let gathered = subst (λ (ns : List ℕ). AreGathered task ns c.args.parts.now.gathered records block) (sym c.loop-place.invariant.numbers) s in
       c.in_ok-push_place.ensures.pushed task was records block (c.loop-place.invariant.pushed task was records block i s) (subst (λ (ts : List (List ℕ)). AreGathered task c.loop-place.parts.numbers ts records block) (sym c.loop-place.invariant.gathered) gathered);
-  calm = calm_trans (g.F.Files.seen c.args.files.now) (g.F.Files.seen c.loop-place.files) (g.F.Files.seen c.push_place.new.files) c.loop-place.invariant.calm c.in_ok-push_place.ensures.calm;
-  later = later-trans (g.F.Files.seen c.args.files.now) (g.F.Files.seen c.loop-place.files) (g.F.Files.seen c.push_place.new.files) c.loop-place.invariant.later c.push_place.ensures.later;
+  calm = calm-trans _ _ _ c.loop-place.invariant.calm c.in_ok-push_place.ensures.calm;
+  writes = only_writes-trans _ _ _ c.loop-place.invariant.writes c.push_place.ensures.writes;
 }
 
 pub returns-in_err-push_place-clause-left : goal.returns-in_err-push_place-clause-left
@@ -53,9 +54,3 @@ returns-clause-pushed g c task was records block both fit =
     let first = pushed_first task was (g.F.Files.seen c.args.files.now).held c.args.parts.now.numbers c.args.parts.now.writers.items records block i in
     let end : length c.loop-place.parts.numbers ≤ c.loop-place.place = omega (arith, c.loop-place-test.false, c.len-place-end.ensures, first.same, ap (λ (t : List ℕ). length t) c.loop-place.invariant.numbers) in
     pushed_last task was (g.F.Files.seen c.loop-place.files).held c.loop-place.parts.numbers c.loop-place.parts.writers.items records block c.loop-place.place end (all_size (record_length_of task.head) block fit.whole) p
-
-pub returns-in_err-push_place-clause-asked : goal.returns-in_err-push_place-clause-asked
-returns-in_err-push_place-clause-asked g c = c.push_place.ensures.asked ∙ c.loop-place.invariant.calm.asked
-
-pub returns-clause-asked : goal.returns-clause-asked
-returns-clause-asked g c = c.loop-place.invariant.calm.asked

@@ -1,7 +1,6 @@
 use Rattle.std.proofs.Common.{◌≡◌, ◌++◌, List, ℕ, Option}
 use Rattle.las_outside.specs.Files.{FileMap}
-use Rattle.las_outside.specs.Outside.{Later}
-use Rattle.laz_file.specs.Writing.{SameFaults}
+use Rattle.las_outside.specs.Frames.{IsCalm, OnlyWrites}
 use Rattle.las_split.specs.Sorting.{AreGathered, InParts, PushedSo, Task}
 use Rattle.las_split.proofs.pushing.push_parts.Given as goal
 
@@ -13,6 +12,6 @@ invariant-loop-place g l = record {
       → InParts task was (g.F.Files.seen l.fn.files).held l.fn.parts.numbers l.fn.parts.writers.items (records ++ block) records
       → AreGathered task l.fn.parts.numbers l.fn.parts.gathered records block
       → PushedSo task was (g.F.Files.seen l.files).held l.parts.numbers l.parts.writers.items l.place records block;
-  calm : SameFaults (g.F.Files.seen l.fn.files) (g.F.Files.seen l.files);
-  later : Later (g.F.Files.seen l.fn.files) (g.F.Files.seen l.files);
+  calm : IsCalm (g.F.Files.seen l.fn.files) (g.F.Files.seen l.files);
+  writes : OnlyWrites (g.F.Files.seen l.fn.files) (g.F.Files.seen l.files);
 }

@@ -1,7 +1,7 @@
 use Rattle.std.proofs.Common.{◌≡◌, ◌≤◌, ◌%◌, ◌+◌, ◌*◌, ℕ, List, [], ◌++◌, length, take, get_or, sym, ◌∙◌, ap, subst, arith}
 use Rattle.laz_file.specs.Outputs.{front, stopped}
 use Rattle.laz_file.specs.Writing.{WriterSeen}
-use Rattle.laz_file.proofs.Public.{held_after, on_err, stops_asked}
+use Rattle.laz_file.proofs.Public.{held_after, on_err}
 use Rattle.las_outside.specs.Files.{with_file}
 use Rattle.las_outside.specs.Outside.{with_bytes}
 use Rattle.las_split.specs.Sorting.{IsWriter, bytes_at, output_at, text_of}
@@ -148,19 +148,3 @@ returns-clause-pushed g c task was records block p s =
     let more : bytes_at task (records ++ block) n ≡ bytes ++ c.text-text.result.now = bytes_more task records block n ∙ ap (λ (b : List ℕ). bytes ++ b) (sym same) in
     let both = took task n now new c.push.new.self bytes c.text-text.result.now (c.in_ok-push.ensures.stands now out bytes here) c.in_ok-push.ensures.open (c.push.ensures.most ∙ is.most) (bytes_at task (records ++ block) n) more in
     pushed_one task was now.held ns ws records block place p c.requires.place new.held c.push.new.self both.0 both.1
-
-pub returns-in_err-push-clause-asked : goal.returns-in_err-push-clause-asked
-returns-in_err-push-clause-asked g c =
-    let q = c.requires.parts in
-    let task = q.0 in
-    let now = g.F.Files.seen c.args.files.now in
-    let place = c.args.place in
-    let ns = c.args.parts.now.numbers in
-    let ws = c.args.parts.now.writers.items in
-    let n = get_or ns place 0 in
-    let w = c.index_mut-writer.result.now in
-    let bytes = bytes_at task q.2 n in
-    let is : IsWriter task n w bytes = subst (λ (x : WriterSeen). IsWriter task n x bytes) (sym c.index_mut-writer.ensures.value) (next_writer task q.1 now.held ns ws q.2 q.3 place q.4 c.requires.place w) in
-    let here = stands_here task n w bytes now is (next_here task q.1 now.held ns ws q.2 q.3 place q.4 c.requires.place) in
-    let e = c.in_err-push.ensures.stopped now (output_at task n) bytes here in
-    stops_asked c.in_err-push.field-0.0 _ (g.F.Files.seen c.push.new.files) e.1

@@ -1,6 +1,7 @@
 use Rattle.std.proofs.Common.{◌≡◌, ℕ, List, [], ◌+◌, ◌*◌, ◌%◌, ◌<◌, ◌≤◌, ◌/◌, ◌++◌, length, refl, sym, ap, subst, ◌∙◌, append_assoc, length-append, arith}
 use Rattle.std.proofs.lemmas.List.{append-nil}
-use Rattle.laz_file.proofs.Public.{later-trans, cut-append, whole_both, if_err, calm_trans, on_err}
+use Rattle.las_outside.proofs.Public.{calm-refl, calm-trans, only_writes-refl, only_writes-trans}
+use Rattle.laz_file.proofs.Public.{cut-append, whole_both, if_err, on_err}
 use Rattle.laz_file.specs.declared.fault.Fault.TheVariants.{Write}
 use Rattle.las_split.specs.Sorting.{cut_all, task_in}
 use Rattle.las_split.specs.Steps.{AreSorted}
@@ -34,8 +35,8 @@ groups-init g c =
             let z = sorted_none task was held parts.numbers parts.writers.items c.begin.new.self c.len-open.result records [] i count c.in_ok-begin.ensures in
             subst (λ (b : List (List ℕ)). AreSorted task was held (record { numbers = parts.numbers; writers = parts.writers; gathered = c.begin.new.self }) records b) (sym (cut_none size some)) (z.parts, z.gathered),
       );
-      calm = record { reads = refl; writes = refl; asked = refl };
-      later = record { known = refl; reads = omega arith; writes = omega arith; asked = omega arith };
+      calm = calm-refl _;
+      writes = only_writes-refl _;
     }
 
 pub overflow_add-place : goal.overflow_add-place
@@ -186,8 +187,8 @@ groups-preserved g c =
             let place : c.args.index + c.groups.taken ≡ length records + length xs = omega (arith, at, d.3) in
             group_done task was new.held c.sort_group.new.parts records size some d.0 group m d.2 end (c.in_ok-more.ensures.sorts was records xs (d.4 was records i at) place),
       );
-      calm = calm_trans old mid new c.groups.invariant.calm c.in_ok-more.ensures.calm;
-      later = later-trans old mid new c.groups.invariant.later c.sort_group.ensures.later;
+      calm = calm-trans _ _ _ c.groups.invariant.calm c.in_ok-more.ensures.calm;
+      writes = only_writes-trans _ _ _ c.groups.invariant.writes c.sort_group.ensures.writes;
     }
 
 pub returns-clause-sorts : goal.returns-clause-sorts
@@ -196,12 +197,3 @@ returns-clause-sorts g c was records i at =
     let none : c.groups.rest.now ≡ [] = no_bytes c.groups.rest.now (sym c.is_empty.ensures ∙ c.groups-test.false) in
     let all : c.args.block.now ≡ d.0 = d.1 ∙ ap (λ (b : List ℕ). d.0 ++ b) none ∙ append-nil d.0 in
     block_done (task_in c.args.splitter.now) was (g.F.Files.seen c.groups.files).held c.groups.parts records c.args.splitter.now.size c.groups.taken c.args.block.now d.0 all d.3 (d.4 was records i at)
-
-pub returns-in_err-more-clause-asked : goal.returns-in_err-more-clause-asked
-returns-in_err-more-clause-asked g c = c.sort_group.ensures.asked ∙ c.groups.invariant.calm.asked
-
-pub returns-then-more-group-clause-asked : goal.returns-then-more-group-clause-asked
-returns-then-more-group-clause-asked g c = c.sort_group.ensures.asked ∙ c.groups.invariant.calm.asked
-
-pub returns-clause-asked : goal.returns-clause-asked
-returns-clause-asked g c = c.groups.invariant.calm.asked

@@ -1,7 +1,6 @@
 use Rattle.std.proofs.Common.{◌≡◌, ◌%◌, ◌++◌, ℕ, List, Option, length}
 use Rattle.las_outside.specs.Files.{FileMap}
-use Rattle.las_outside.specs.Outside.{Later}
-use Rattle.laz_file.specs.Writing.{SameFaults}
+use Rattle.las_outside.specs.Frames.{IsCalm, OnlyWrites}
 use Rattle.las_split.specs.Sorting.{cut_all, task_in}
 use Rattle.las_split.specs.Steps.{AreIn, AreSorted}
 use Rattle.las_split.proofs.sorting.sort_block.Given as goal
@@ -14,8 +13,8 @@ invariant-groups g l = record {
       → AreIn (task_in l.splitter) was (g.F.Files.seen l.fn.files).held l.fn.parts records records
       → l.index ≡ length records
       → AreSorted (task_in l.splitter) was (g.F.Files.seen l.files).held l.parts records (cut_all l.splitter.size done));
-  calm : SameFaults (g.F.Files.seen l.fn.files) (g.F.Files.seen l.files);
-  later : Later (g.F.Files.seen l.fn.files) (g.F.Files.seen l.files);
+  calm : IsCalm (g.F.Files.seen l.fn.files) (g.F.Files.seen l.files);
+  writes : OnlyWrites (g.F.Files.seen l.fn.files) (g.F.Files.seen l.files);
 }
 
 abbrev pub decreases-groups : goal.decreases-groups

@@ -1,5 +1,6 @@
-use Rattle.std.proofs.Common.{◌≡◌, ℕ, ◌*◌, ◌<◌, ◌≤◌, ◌/◌, ◌++◌, true, false, length, take, drop, refl, sym, ap, subst, ◌∙◌, arith}
-use Rattle.laz_file.proofs.Public.{later-trans, if_err, calm_trans, on_err}
+use Rattle.std.proofs.Common.{◌≡◌, ℕ, ◌*◌, ◌<◌, ◌≤◌, ◌/◌, ◌++◌, true, false, length, take, drop, sym, ap, subst, arith}
+use Rattle.las_outside.proofs.Public.{calm-refl, calm-trans, only_writes-refl, only_writes-trans}
+use Rattle.laz_file.proofs.Public.{if_err, on_err}
 use Rattle.laz_file.specs.declared.fault.Fault.TheVariants.{Write}
 use Rattle.las_split.specs.Sorting.{SortsPoint, cut_all, task_in}
 use Rattle.las_split.specs.Steps.{SortsMore}
@@ -11,8 +12,8 @@ pub loop-turn-init : goal.loop-turn-init
 loop-turn-init g c = record {
   rest = (let none : c.args.splitter.now.size * 0 ≡ 0 = omega arith in ap (λ (k : ℕ). drop k c.args.group.now) (sym none));
   sorts = λ was records block s at. each_none (task_in c.args.splitter.now) was (g.F.Files.seen c.args.files.now).held c.args.parts.now records block (cut_all c.args.splitter.now.size c.args.group.now) s;
-  calm = record { reads = refl; writes = refl; asked = refl };
-  later = record { known = refl; reads = omega arith; writes = omega arith; asked = omega arith };
+  calm = calm-refl _;
+  writes = only_writes-refl _;
 }
 
 pub overflow_add-place : goal.overflow_add-place
@@ -72,8 +73,8 @@ loop-turn-preserved g c =
           let goes : c.in_ok-sort_point.field-0 ≡ true = c.if-not-branch.false in
           let e = subst (SortsPoint task was new.held after.parts.numbers after.parts.writers.items after.parts.gathered records before c.split_at.result.0.now) goes (c.in_ok-sort_point.ensures.sorts was records before s here) in
           each_more task was records block c.args.splitter.now.size c.loop-turn.turn c.args.group.now c.split_at.result.0.now c.loop-turn.rest.now more c.loop-turn.invariant.rest c.split_at.ensures.front new.held after.parts e;
-      calm = calm_trans old mid new c.loop-turn.invariant.calm c.in_ok-sort_point.ensures.calm;
-      later = later-trans old mid new c.loop-turn.invariant.later c.sort_point.ensures.later;
+      calm = calm-trans _ _ _ c.loop-turn.invariant.calm c.in_ok-sort_point.ensures.calm;
+      writes = only_writes-trans _ _ _ c.loop-turn.invariant.writes c.sort_point.ensures.writes;
     }
 
 pub returns-clause-sorts : goal.returns-clause-sorts
@@ -94,12 +95,3 @@ returns-in_err-sort_point-clause-some g c =
     let bytes = c.args.group.now in
     let there : 1 ≤ length (cut_all size bytes) = omega (arith, c.loop-turn-test.true, cut_length size (length bytes / size) bytes) in
     if_err (λ fault. fault ≡ Write → 1 ≤ length (cut_all size bytes)) c.from_residual.result _ c.from_residual.ensures.1 (λ is. there)
-
-pub returns-in_err-sort_point-clause-asked : goal.returns-in_err-sort_point-clause-asked
-returns-in_err-sort_point-clause-asked g c = c.sort_point.ensures.asked ∙ c.loop-turn.invariant.calm.asked
-
-pub returns-then-not-branch-clause-asked : goal.returns-then-not-branch-clause-asked
-returns-then-not-branch-clause-asked g c = c.sort_point.ensures.asked ∙ c.loop-turn.invariant.calm.asked
-
-pub returns-clause-asked : goal.returns-clause-asked
-returns-clause-asked g c = c.loop-turn.invariant.calm.asked

@@ -1,7 +1,6 @@
 use Rattle.std.proofs.Common.{◌≡◌, ◌+◌, ◌*◌, ◌++◌, ℕ, List, Option, drop, length, take}
 use Rattle.las_outside.specs.Files.{FileMap}
-use Rattle.las_outside.specs.Outside.{Later}
-use Rattle.laz_file.specs.Writing.{SameFaults}
+use Rattle.las_outside.specs.Frames.{IsCalm, OnlyWrites}
 use Rattle.las_split.specs.Sorting.{cut_all, task_in}
 use Rattle.las_split.specs.Steps.{AreSorted}
 use Rattle.las_split.proofs.sorting.sort_each.Given as goal
@@ -13,6 +12,6 @@ invariant-loop-turn g l = record {
       → AreSorted (task_in l.splitter) was (g.F.Files.seen l.fn.files).held l.fn.parts records block
       → l.index ≡ length records + length block
       → AreSorted (task_in l.splitter) was (g.F.Files.seen l.files).held l.parts records (block ++ take l.turn (cut_all l.splitter.size l.group));
-  calm : SameFaults (g.F.Files.seen l.fn.files) (g.F.Files.seen l.files);
-  later : Later (g.F.Files.seen l.fn.files) (g.F.Files.seen l.files);
+  calm : IsCalm (g.F.Files.seen l.fn.files) (g.F.Files.seen l.files);
+  writes : OnlyWrites (g.F.Files.seen l.fn.files) (g.F.Files.seen l.files);
 }

@@ -9,11 +9,12 @@ use Rattle.las_header.specs.Heads.{HeadView}
 use Rattle.las_info.specs.Surveys.{IsShown}
 use Rattle.las_info.specs.Tallies.{TapSeen, count_at}
 use Rattle.las_outside.specs.Files.{FileMap, WhereKnown}
+use Rattle.las_outside.proofs.Public.{calm-refl, calm-trans, later-refl, only_reads-trans}
 use Rattle.laz_file.specs.declared.fault.Fault.TheVariants.{Refused}
 use Rattle.laz_file.specs.Copying.{HoldFirst}
 use Rattle.laz_file.specs.Reading.{ReaderSeen, StandsFor}
 use Rattle.laz_file.specs.Records.{HoldOnly, IsBadPiece}
-use Rattle.laz_file.proofs.Public.{ReadsMore, end_all, end_bad, even_whole, read_more, read_none, later-trans}
+use Rattle.laz_file.proofs.Public.{ReadsMore, end_all, end_bad, even_whole, read_more, read_none}
 use Rattle.las_info.proofs.Public.{none_shown}
 use Rattle.las_survey.proofs.Batches.{batch_shown, block_shown, cut, even_concat, few_read, none_read, none_yet}
 use Rattle.las_survey.proofs.surveying.show_records.Goals as goal
@@ -26,12 +27,10 @@ batches-init g c =
     record {
       sound = c.requires.open;
       crew = c.requires.crew;
-      held = refl;
+      only = record { held = refl; writes = refl; later = later-refl _ };
       reads = c.requires.stands;
       shown = (0, [], read_none old.held reader (StandsFor reader) c.requires.stands, none_read c.from-size.result _ _ some (none_shown _ _ c.new-survey.ensures.none (ap (map (λ tap. (goal.Tap-dyn g (tap.vtable, tap.value)).tap_seen tap.value)) c.new-survey.ensures.taps)));
-      reads_calm = refl;
-      writes_calm = refl;
-      later = record { known = refl; reads = omega arith; writes = omega arith; asked = omega arith };
+      calm = calm-refl _;
       asked = omega arith;
     }
 
@@ -45,7 +44,7 @@ returns-in_err-count-clause-bad g c =
     rw (p.1, p.2) (λ cause is.
     let same : c.in_err-count.field-0.0 ≡ Refused cause = cc in
     let bad = c.in_err-count.ensures.bad cause (ap Err same) in
-    let here = subst (λ (h : Option FileMap). WhereKnown h reader.name (λ file. IsBadPiece file reader.left 0)) c.batches.invariant.held bad.2 in
+    let here = subst (λ (h : Option FileMap). WhereKnown h reader.name (λ file. IsBadPiece file reader.left 0)) c.batches.invariant.only.held bad.2 in
     (done.0, done.1, done.2.hold, end_bad old.held first reader done.0 done.1 cause done.2 bad.0 (c.in_err-count.ensures.packed cause (ap Err same)) here))
 
 pub returns-then-count-eq0-clause-shown : goal.returns-then-count-eq0-clause-shown
@@ -80,11 +79,10 @@ batches-preserved g c =
     let same : s ≡ record_length_of reader.head.bytes = size ∙ ap (λ (v : HeadView). record_length_of v.bytes) (sym done.2.head) in
     let even = subst (λ (k : ℕ). All (λ block. length block % k ≡ 0) b.0) (sym same) (even_whole (record_length_of reader.head.bytes) (take n reader.left) b.0 b.3) in
     let before = subst (λ (k : ℕ). All (λ block. length block % k ≡ 0) done.1) (sym size) (even_whole (record_length_of first.head.bytes) (take done.0 first.left) done.1 done.2.hold.whole) in
-    let held : new.held ≡ old.held = c.next_batch.ensures.held ∙ c.batches.invariant.held in
     let more : ReadsMore old.held reader next n b.0 = record {
       within = omega (arith, h.most);
       whole = b.3;
-      hold = subst (λ (m : Option FileMap). WhereKnown m reader.name (λ file. HoldOnly file (take n reader.left) b.0)) c.batches.invariant.held b.4;
+      hold = subst (λ (m : Option FileMap). WhereKnown m reader.name (λ file. HoldOnly file (take n reader.left) b.0)) c.batches.invariant.only.held b.4;
       moved = h.moved;
     } in
     let end : length b.0 ≤ c.loop-i.i = omega (arith, b.1, c.loop-i-test.false) in
@@ -92,17 +90,15 @@ batches-preserved g c =
     record {
       sound = ap (λ (r : ReaderSeen). r.failed) h.moved ∙ c.batches.invariant.sound;
       crew = h.crew;
-      held = held;
-      reads = subst (λ (name : List ℕ). WhereKnown new.held name (StandsFor next)) (sym (ap (λ (r : ReaderSeen). r.name) h.moved)) (subst (λ (m : Option FileMap). WhereKnown m reader.name (StandsFor next)) (sym c.next_batch.ensures.held) h.stands);
+      only = only_reads-trans _ _ _ c.batches.invariant.only c.next_batch.ensures.reads.only;
+      reads = subst (λ (name : List ℕ). WhereKnown new.held name (StandsFor next)) (sym (ap (λ (r : ReaderSeen). r.name) h.moved)) (subst (λ (m : Option FileMap). WhereKnown m reader.name (StandsFor next)) (sym c.next_batch.ensures.reads.only.held) h.stands);
       shown = (
         done.0 + n,
         done.1 ++ b.0,
         read_more old.held first reader next done.0 n done.1 b.0 done.2 more,
         batch_shown s done.1 b.0 (map (λ tap. (goal.Tap-dyn g (tap.vtable, tap.value)).tap_seen tap.value) c.args.taps.items) (record { summary = c.loop-i.survey.summary; taps = map (λ tap. (goal.Tap-dyn g (tap.vtable, tap.value)).tap_seen tap.value) c.loop-i.survey.taps.items }) some (even_concat s done.1 some before) (subst (λ (bs : List (List ℕ)). IsShown (map (λ tap. (goal.Tap-dyn g (tap.vtable, tap.value)).tap_seen tap.value) c.args.taps.items) (cut s (concat done.1) ++ cut s (concat bs)) (record { summary = c.loop-i.survey.summary; taps = map (λ tap. (goal.Tap-dyn g (tap.vtable, tap.value)).tap_seen tap.value) c.loop-i.survey.taps.items })) (take_all c.loop-i.i b.0 end) last),
       );
-      reads_calm = h.faults ∙ c.batches.invariant.reads_calm;
-      writes_calm = c.next_batch.ensures.writes ∙ c.batches.invariant.writes_calm;
-      later = later-trans _ _ _ c.batches.invariant.later c.next_batch.ensures.later;
+      calm = calm-trans _ _ _ c.batches.invariant.calm h.calm;
       asked = omega (arith, c.batches.invariant.asked, h.asked);
     }
 
@@ -138,7 +134,7 @@ see_all-requires-clause-shown g c =
     let more : ReadsMore old.held reader next n b.0 = record {
       within = omega (arith, h.most);
       whole = b.3;
-      hold = subst (λ (m : Option FileMap). WhereKnown m reader.name (λ file. HoldOnly file (take n reader.left) b.0)) c.batches.invariant.held b.4;
+      hold = subst (λ (m : Option FileMap). WhereKnown m reader.name (λ file. HoldOnly file (take n reader.left) b.0)) c.batches.invariant.only.held b.4;
       moved = h.moved;
     } in
     let few = few_read old.held first reader next s done.0 n c.loop-i.i done.1 b.0 some size done.2 more c.requires.few lt in (
@@ -158,12 +154,3 @@ loop-i-preserved g c =
     let seen = c.in_ok-see_all.ensures taps (before ++ cut s (concat (take c.loop-i.i blocks))) (c.loop-i.invariant blocks lends all even taps before is) in
     block_shown s blocks c.loop-i.i taps before (record { summary = c.see_all.new.self.summary; taps = map (λ tap. (goal.Tap-dyn g (tap.vtable, tap.value)).tap_seen tap.value) c.see_all.new.self.taps.items }) some lt even
     (subst (λ (block : List ℕ). IsShown taps ((before ++ cut s (concat (take c.loop-i.i blocks))) ++ cut s block) (record { summary = c.see_all.new.self.summary; taps = map (λ tap. (goal.Tap-dyn g (tap.vtable, tap.value)).tap_seen tap.value) c.see_all.new.self.taps.items })) (c.block.ensures blocks lends lt) seen)
-
-pub returns-in_err-count-clause-asked : goal.returns-in_err-count-clause-asked
-returns-in_err-count-clause-asked g c = omega (arith, c.batches.invariant.asked, c.in_err-count.ensures.asked_more)
-
-pub returns-then-count-eq0-clause-asked : goal.returns-then-count-eq0-clause-asked
-returns-then-count-eq0-clause-asked g c = omega (arith, c.batches.invariant.asked, c.in_ok-count.ensures.asked)
-
-pub returns-in_err-see_all-clause-asked : goal.returns-in_err-see_all-clause-asked
-returns-in_err-see_all-clause-asked g c = omega (arith, c.batches.invariant.asked, c.in_ok-count.ensures.asked)

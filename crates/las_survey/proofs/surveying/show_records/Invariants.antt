@@ -3,7 +3,7 @@ use Rattle.std.specs.Prelude.{All}
 use Rattle.std.specs.List.{concat}
 use Rattle.las_info.specs.Tallies.{TapSeen}
 use Rattle.las_outside.specs.Files.{WhereKnown}
-use Rattle.las_outside.specs.Outside.{Later}
+use Rattle.las_outside.specs.Frames.{IsCalm, OnlyReads}
 use Rattle.laz_file.specs.Asking.{bytes_left}
 use Rattle.laz_file.specs.Reading.{IsCrewOf, Lends, StandsFor}
 use Rattle.laz_file.proofs.Public.{HasRead}
@@ -15,13 +15,11 @@ abbrev pub invariant-batches : goal.invariant-batches
 invariant-batches g l = record {
   sound : l.reader.failed ≡ false;
   crew : IsCrewOf l.reader l.crew;
-  held : (g.F.Files.seen l.files).held ≡ (g.F.Files.seen l.fn.files).held;
+  only : OnlyReads (g.F.Files.seen l.fn.files) (g.F.Files.seen l.files);
   reads : WhereKnown (g.F.Files.seen l.files).held l.reader.name (StandsFor l.reader);
   shown : (n : ℕ) × (blocks : List (List ℕ)) × HasRead (g.F.Files.seen l.fn.files).held l.fn.reader l.reader n blocks
       × IsShown (map (λ tap. (goal.Tap-dyn g (tap.vtable, tap.value)).tap_seen tap.value) l.fn.taps.items) (cut l.size (concat blocks)) (record { summary = l.survey.summary; taps = map (λ tap. (goal.Tap-dyn g (tap.vtable, tap.value)).tap_seen tap.value) l.survey.taps.items });
-  reads_calm : (g.F.Files.seen l.files).read_faults ≡ (g.F.Files.seen l.fn.files).read_faults;
-  writes_calm : (g.F.Files.seen l.files).write_faults ≡ (g.F.Files.seen l.fn.files).write_faults;
-  later : Later (g.F.Files.seen l.fn.files) (g.F.Files.seen l.files);
+  calm : IsCalm (g.F.Files.seen l.fn.files) (g.F.Files.seen l.files);
   asked : (g.F.Files.seen l.files).asked + bytes_left l.reader ≤ (g.F.Files.seen l.fn.files).asked + bytes_left l.fn.reader;
 }
 

@@ -1,5 +1,6 @@
-use Rattle.std.proofs.Common.{◌≡◌, ◌*◌, sym, ap, subst, arith}
+use Rattle.std.proofs.Common.{◌*◌, sym, ap, subst}
 use Rattle.las_outside.specs.Files.{WhereKnown}
+use Rattle.las_outside.specs.Frames.{Reads}
 use Rattle.laz_file.specs.Asking.{bytes_left}
 use Rattle.laz_file.specs.Reading.{ReaderSeen, StandsFor}
 use Rattle.laz_file.proofs.Public.{known_then, stands_ready}
@@ -27,7 +28,7 @@ returns-clause-refused g c = λ cause is.
     let h = c.show_records.ensures.bad cause is in
     bad_shown old.held c.args.reader.now c.crew.new.self (2 * c.hands-hands.result) h.0 h.1 cause c.requires.new.whole c.in_ok-crew.ensures.kept c.requires.stands h.2 h.3
 
-pub returns-clause-asked : goal.returns-clause-asked
-returns-clause-asked g c =
-    let same : bytes_left c.crew.new.self ≡ bytes_left c.args.reader.now = ap bytes_left c.in_ok-crew.ensures.kept in
-    omega (arith, same, c.show_records.ensures.asked)
+pub returns-clause-reads : goal.returns-clause-reads
+returns-clause-reads g c =
+    subst (λ (n : ℕ). Reads n (g.F.Files.seen c.args.files.now) (g.F.Files.seen c.show_records.new.files))
+    (ap bytes_left c.in_ok-crew.ensures.kept) c.show_records.ensures.reads

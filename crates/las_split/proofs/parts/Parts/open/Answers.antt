@@ -2,7 +2,7 @@ use Rattle.std.proofs.Common.{◌≡◌, ◌⊎◌, inr, ℕ, List, take, ◌∙
 use Rattle.std.specs.Prelude.{None, true, string_bytes}
 use Rattle.las_outside.specs.Files.{with_file}
 use Rattle.laz_file.specs.Outputs.{Output, front}
-use Rattle.laz_file.proofs.Public.{on_err, created_asked}
+use Rattle.laz_file.proofs.Public.{on_err}
 use Rattle.las_split.proofs.Opening.{left_created, left_whole}
 use Rattle.las_split.proofs.parts.Parts.open.Goals as goal
 
@@ -26,7 +26,3 @@ pub returns-clause-left : goal.returns-clause-left
 returns-clause-left g c =
     let names = c.args.splitter.now.names.now in
     inr (left_whole (g.F.Files.seen c.args.files.now) (g.F.Files.seen c.create.new.files) (string_bytes names.stem) (string_bytes names.end) c.args.splitter.now.head.now.bytes c.args.number c.in_ok-writer.writer c.deref.result.now (c.deref.ensures ∙ c.in_ok-name.ensures) c.in_ok-writer.ensures.stands)
-
-pub returns-in_err-writer-clause-asked : goal.returns-in_err-writer-clause-asked
-returns-in_err-writer-clause-asked g c =
-    created_asked c.create.result (g.F.Files.seen c.args.files.now) (g.F.Files.seen c.create.new.files) c.deref.result.now _ c.create.ensures.calm c.create.ensures.stopped
