@@ -17,10 +17,14 @@ pub struct Items {
 impl Drop for Items {
     fn drop(self) {
         let Items {
-            point10: _,
-            gps_time: _,
-            rgb: _,
-            extra: _,
+            point10,
+            gps_time,
+            rgb,
+            extra,
         } = self;
+        drop(point10);
+        drop(gps_time);
+        drop(rgb);
+        drop(extra);
     }
 }
