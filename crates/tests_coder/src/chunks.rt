@@ -122,8 +122,8 @@ struct Worked {
     stream: &'static [u8],
 }
 
-// The last three have two colours: from 0x1010 to 0x2020 in all; from 0x2020 in all to 0x2030, 0x2020, 0x2010; and green
-// as high as it can be. The bytes of these are those of another coder.
+// The last three have two colours: from 0x1010 to 0x2020 in all; from 0x2020 in all to 0x2030, 0x2020, 0x2010; and
+// green as high as it can be. The bytes of these are those of another coder.
 static WORKED: [Worked; 7] = [
     Worked {
         format: 0,
@@ -273,7 +273,8 @@ fn drawn_records_go_both_ways(rt: HostRuntime) -> Result<(), Fail> {
     Ok(())
 }
 
-// The greatest chunk that `las` makes unasked has 50,000 points; this one has five times as many, of the longest records.
+// The greatest chunk that `las` makes unasked has 50,000 points; this one has five times as many, of the longest
+// records.
 #[test]
 fn long_chunk_goes_both_ways(rt: HostRuntime) -> Result<(), Fail> {
     assert!(rt; go_both_ways(rt.alloc(), 3, 192, 250_000)?);

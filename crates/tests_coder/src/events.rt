@@ -17,8 +17,8 @@ fn put_values(encoder: &mut Encoder, values: &[u8])
     }
 }
 
-// Values of 8 bits, and the bytes that they become. In the last row the carry comes after 40 bytes of 255. The bytes are
-// computed apart, from the exact interval.
+// Values of 8 bits, and the bytes that they become. In the last row the carry comes after 40 bytes of 255. The bytes
+// are computed apart, from the exact interval.
 static RAW: [(&[u8], &[u8]); 4] = [
     (&[], &[1, 0, 0, 0]),
     (&[0], &[0, 1, 0, 0, 0]),

@@ -258,7 +258,8 @@ fn cuts_are_refused(alloc: Global, bytes: &[u8], chunk: u32, points: u32, total:
     true
 }
 
-// Whether a table of these lists is read as these lists, with bytes after it too, and each cut of a short one is refused.
+// Whether a table of these lists is read as these lists, with bytes after it too, and each cut of a short one is
+// refused.
 fn is_kept(alloc: Global, chunk: u32, sizes: &[u32], counts: &[u32]) -> Result<bool, AllocError> {
     let points = u32::try_from(sum_of(sizes)).unwrap_or(0);
     let blocks = blocks_of(chunk, points);
@@ -493,8 +494,8 @@ fn items_of_another_record_are_refused(rt: HostRuntime) -> Result<(), Fail> {
     Ok(())
 }
 
-// The VLR stands at 227 and its payload at 281. Each change is the number of a place after 100, and the byte that is put
-// there.
+// The VLR stands at 227 and its payload at 281. Each change is the number of a place after 100, and the byte that is
+// put there.
 static CHANGES: [(&[u8], Result<u32, Refusal>); 7] = [
     (
         &[
