@@ -3,64 +3,89 @@
 use crate::coder::Coder;
 use crate::draws::checksum;
 use anyhow::{Result, bail};
-use std::alloc::Global;
+use std::alloc::{AllocError, Global};
 use std::rt::Clock;
 use std::time::{Duration, Instant};
 
-/// Blocks one after another.
+/// Blocks one after another, each of `sizes` bytes, room for one more, and what they hold.
 #[derive(Drop)]
-struct Packed {
+struct Blocks {
     bytes: Vec<u8>,
     sizes: Vec<usize>,
+    room: Vec<u8>,
+    back: Vec<u8>,
 }
 
+impl Blocks {
+    fn new(alloc: Global, room: usize, length: usize) -> Result<Self, AllocError> {
+        Ok(Blocks {
+            room: vec![in alloc; 0; room]?,
+            back: vec![in alloc; 0; length]?,
+            bytes: Vec::new(alloc),
+            sizes: Vec::new(alloc),
+        })
+    }
+
+    fn push(&mut self, size: usize) -> Result<(), AllocError> {
+        let size = size.min(self.room.len());
+        self.sizes.push(size)?;
+        self.bytes.extend_from_slice(&self.room[..size])
+    }
+}
+
+/// Packs records in blocks, and answers whether they are blocks.
 fn pack_all<C: Coder>(
     coder: &mut C,
     records: &[u8],
     block: usize,
-    room: &mut Vec<u8>,
-    packed: &mut Packed,
-) -> Result<()> {
+    blocks: &mut Blocks,
+) -> Result<bool, AllocError> {
     let mut rest = records;
     while rest.len() > 0 {
         let (block, others) = rest.split_at(block.max(1).min(rest.len()));
-        let size = coder.pack(block, room)?.min(room.len());
-        packed.bytes.extend_from_slice(&room[..size])?;
-        packed.sizes.push(size)?;
+        match coder.pack(block, &mut blocks.room) {
+            Some(size) => blocks.push(size)?,
+            None => return Ok(false),
+        }
         rest = others;
     }
-    Ok(())
+    Ok(true)
 }
 
+/// Unpacks blocks of these sizes, and answers whether each holds its records.
 fn unpack_all<C: Coder>(
     coder: &mut C,
-    packed: &Packed,
+    bytes: &[u8],
+    sizes: &[usize],
     records: &mut [u8],
     block: usize,
-) -> Result<()> {
-    let mut rest = packed.bytes.as_slice();
+) -> bool {
+    let mut rest = bytes;
     let mut at = 0;
-    for size in &packed.sizes {
+    for size in sizes {
         let (bytes, others) = rest.split_at((*size).min(rest.len()));
         let end = at + block.min(records.len() - at);
-        coder.unpack(bytes, &mut records[at..end])?;
+        if !coder.unpack(bytes, &mut records[at..end]) {
+            return false;
+        }
         rest = others;
         at = end;
     }
-    Ok(())
+    true
 }
 
 #[inline(never)]
 fn pack<C: Coder>(
-    rt: &(impl Clock + Alloc<A = Global>),
+    rt: &impl Clock,
     coder: &mut C,
     records: &[u8],
     block: usize,
-    packed: &mut Packed,
+    blocks: &mut Blocks,
 ) -> Result<Duration> {
-    let mut room = vec![in rt.alloc(); 0; coder.room(block)]?;
     let start = Instant::now(rt)?;
-    pack_all(coder, records, block, &mut room, packed)?;
+    if !pack_all(coder, records, block, blocks)? {
+        bail!("no blocks");
+    }
     Ok(start.elapsed(rt)?)
 }
 
@@ -68,12 +93,13 @@ fn pack<C: Coder>(
 fn unpack<C: Coder>(
     rt: &impl Clock,
     coder: &mut C,
-    packed: &Packed,
-    records: &mut [u8],
+    blocks: &mut Blocks,
     block: usize,
 ) -> Result<Duration> {
     let start = Instant::now(rt)?;
-    unpack_all(coder, packed, records, block)?;
+    if !unpack_all(coder, &blocks.bytes, &blocks.sizes, &mut blocks.back, block) {
+        bail!("no records");
+    }
     Ok(start.elapsed(rt)?)
 }
 
@@ -85,36 +111,26 @@ pub fn run<C: Coder>(
     records: &[u8],
     block: usize,
 ) -> Result<()> {
-    let alloc = rt.alloc();
-    let mut packed = Packed {
-        bytes: Vec::new(alloc),
-        sizes: Vec::new(alloc),
-    };
-    let code = pack(rt, coder, records, block, &mut packed)?;
-    let mut back = vec![in alloc; 0; records.len()]?;
-    let read = unpack(rt, coder, &packed, &mut back, block)?;
-    if back.as_slice() != records {
-        bail!("{name}: what was read back differs from what was written");
-    }
-    print(rt, name, &packed, code, read)
+    let mut blocks = Blocks::new(rt.alloc(), coder.room(block), records.len())?;
+    let code = pack(rt, coder, records, block, &mut blocks)?;
+    let read = unpack(rt, coder, &mut blocks, block)?;
+    print(rt, name, &blocks, records, (code, read))
 }
 
 fn print(
     rt: &(impl Print + Eprint),
     name: &str,
-    packed: &Packed,
-    code: Duration,
-    read: Duration,
+    blocks: &Blocks,
+    records: &[u8],
+    (code, read): (Duration, Duration),
 ) -> Result<()> {
-    let sum = checksum(&packed.bytes);
-    println!(rt;
-        "{name}: {} bytes, checksum {sum}, read back the same",
-        packed.bytes.len()
-    )?;
-    eprintln!(rt;
-        "{name}: code {} ns, read {} ns",
-        code.as_nanos(),
-        read.as_nanos()
-    )?;
+    if blocks.back.as_slice() != records {
+        bail!("{name}: what was read back differs from what was written");
+    }
+    let sum = checksum(&blocks.bytes);
+    let bytes = blocks.bytes.len();
+    println!(rt; "{name}: {bytes} bytes, checksum {sum}, read back the same")?;
+    let (code, read) = (code.as_nanos(), read.as_nanos());
+    eprintln!(rt; "{name}: code {code} ns, read {read} ns")?;
     Ok(())
 }

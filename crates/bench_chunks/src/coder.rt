@@ -3,7 +3,6 @@ ghost use Rattle.std.specs.Prelude.{◌≡◌, ◌*◌, ◌<◌, ◌≤◌, leng
 
 use crate::items::Item;
 use crate::records::Layout;
-use anyhow::{Result, bail};
 use laz_chunk::{Workspace, room_for};
 use laz_range::{Bad, Decoder, Encoder};
 use std::alloc::Global;
@@ -14,11 +13,11 @@ pub trait Coder: Drop {
     /// How many bytes are enough for a block of `length` bytes.
     fn room(&self, length: usize) -> usize;
 
-    /// Packs a block to the front of `room`, and answers how many bytes that are.
-    fn pack(&mut self, block: &[u8], room: &mut Vec<u8>) -> Result<usize>;
+    /// Packs a block to the front of `room`, and answers how many bytes that are, if it is a block that fits.
+    fn pack(&mut self, block: &[u8], room: &mut Vec<u8>) -> Option<usize>;
 
-    /// Unpacks a block that is as long as `block`.
-    fn unpack(&mut self, bytes: &[u8], block: &mut [u8]) -> Result<()>;
+    /// Unpacks a block that is as long as `block`, and answers whether the bytes hold one.
+    fn unpack(&mut self, bytes: &[u8], block: &mut [u8]) -> bool;
 }
 
 /// Codes one part of each record, all but the first in a stream.
@@ -73,10 +72,10 @@ impl<I: Item> Coder for Stream<I> {
         length.saturating_mul(4).saturating_add(4)
     }
 
-    fn pack(&mut self, block: &[u8], room: &mut Vec<u8>) -> Result<usize> {
+    fn pack(&mut self, block: &[u8], room: &mut Vec<u8>) -> Option<usize> {
         let size = self.item.size();
         if block.len() < size || room.len() < 4 || (room.len() - 4) / 4 < block.len() {
-            bail!("no block");
+            return None;
         }
         let (first, others) = block.split_at(size);
         self.item.start(first);
@@ -85,24 +84,21 @@ impl<I: Item> Coder for Stream<I> {
         code_all(&mut self.item, &mut encoder, others, size);
         let (bytes, count) = encoder.finish();
         *room = bytes;
-        Ok(size + count)
+        Some(size + count)
     }
 
-    fn unpack(&mut self, bytes: &[u8], block: &mut [u8]) -> Result<()> {
+    fn unpack(&mut self, bytes: &[u8], block: &mut [u8]) -> bool {
         let size = self.item.size();
         if bytes.len() < size || block.len() < size {
-            bail!("no block");
+            return false;
         }
         let (first, stream) = bytes.split_at(size);
         let (front, others) = block.split_at_mut(size);
         self.item.start(first);
         front.copy_from_slice(first);
-        let Ok(mut decoder) = Decoder::new(stream) else {
-            bail!("no stream");
-        };
-        match read_all(&mut self.item, &mut decoder, others, size) {
-            Ok(()) => Ok(()),
-            Err(_) => bail!("the bytes run out"),
+        match Decoder::new(stream) {
+            Ok(mut decoder) => read_all(&mut self.item, &mut decoder, others, size).is_ok(),
+            Err(_) => false,
         }
     }
 }
@@ -123,23 +119,20 @@ impl Coder for Chunks {
         }
     }
 
-    fn pack(&mut self, block: &[u8], room: &mut Vec<u8>) -> Result<usize> {
+    fn pack(&mut self, block: &[u8], room: &mut Vec<u8>) -> Option<usize> {
         let Some(count) = self.layout.count(block.len()) else {
-            bail!("no whole records");
+            return None;
         };
         if room_for(self.layout.format, self.layout.extra, count) > room.len() as u64 {
-            bail!("no room");
+            return None;
         }
-        Ok(self.workspace.pack(block, room))
+        Some(self.workspace.pack(block, room))
     }
 
-    fn unpack(&mut self, bytes: &[u8], block: &mut [u8]) -> Result<()> {
-        let Some(count) = self.layout.count(block.len()) else {
-            bail!("no whole records");
-        };
-        match self.workspace.unpack(bytes, count, block) {
-            Ok(()) => Ok(()),
-            Err(_) => bail!("no chunk"),
+    fn unpack(&mut self, bytes: &[u8], block: &mut [u8]) -> bool {
+        match self.layout.count(block.len()) {
+            Some(count) => self.workspace.unpack(bytes, count, block).is_ok(),
+            None => false,
         }
     }
 }

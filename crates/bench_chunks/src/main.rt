@@ -23,11 +23,20 @@ const USAGE: &str = "usage: bench_chunks items|chunks|all COUNT CHUNK";
 fn main(rt: HostRuntime) -> Result<()> {
     let mut words = env::args(&rt)?;
     let _name = words.next();
-    let (Some(mode), Some(count), Some(chunk)) = (words.next(), words.next(), words.next()) else {
-        bail!("{USAGE}");
-    };
-    let (count, chunk) = (count.as_str().parse()?, chunk.as_str().parse()?);
-    run_mode(&rt, mode.as_str(), count, chunk)
+    let mode = words.next();
+    let count = number(words.next())?;
+    let chunk = number(words.next())?;
+    match mode {
+        Some(mode) => run_mode(&rt, mode.as_str(), count, chunk),
+        None => bail!("{USAGE}"),
+    }
+}
+
+fn number(word: Option<String>) -> Result<u32> {
+    match word {
+        Some(word) => Ok(word.as_str().parse()?),
+        None => bail!("{USAGE}"),
+    }
 }
 
 fn run_mode(

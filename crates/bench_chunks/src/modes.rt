@@ -72,55 +72,26 @@ fn run_layout(
     run(rt, name, &mut coder, &records, block)
 }
 
+static LAYOUTS: [(&str, u8, u16); 5] = [
+    ("format 0", 0, 0),
+    ("format 1", 1, 0),
+    ("format 2", 2, 0),
+    ("format 3", 3, 0),
+    ("format 3 with 4 extra bytes", 3, 4),
+];
+
 /// Whole records of each format, in chunks of `chunk` points.
 pub fn run_chunks(
     rt: &(impl Print + Eprint + Clock + Alloc<A = Global>),
     count: u32,
     chunk: u32,
 ) -> Result<()> {
-    run_layout(
-        rt,
-        "format 0",
-        Layout {
-            format: 0,
-            extra: 0,
-        },
-        count,
-        chunk,
-    )?;
-    run_layout(
-        rt,
-        "format 1",
-        Layout {
-            format: 1,
-            extra: 0,
-        },
-        count,
-        chunk,
-    )?;
-    run_layout(
-        rt,
-        "format 2",
-        Layout {
-            format: 2,
-            extra: 0,
-        },
-        count,
-        chunk,
-    )?;
-    run_layout(
-        rt,
-        "format 3",
-        Layout {
-            format: 3,
-            extra: 0,
-        },
-        count,
-        chunk,
-    )?;
-    let extra = Layout {
-        format: 3,
-        extra: 4,
-    };
-    run_layout(rt, "format 3 with 4 extra bytes", extra, count, chunk)
+    for (name, format, extra) in &LAYOUTS {
+        let layout = Layout {
+            format: (*format).min(3),
+            extra: (*extra).min(192),
+        };
+        run_layout(rt, name, layout, count, chunk)?;
+    }
+    Ok(())
 }

@@ -116,19 +116,23 @@ pub fn draw_records(alloc: Global, layout: Layout, count: u32) -> Result<Vec<u8>
     Ok(records)
 }
 
+fn push_part(parts: &mut Vec<u8>, part: Part, k: u32, state: &mut u64) -> Result<(), AllocError> {
+    let point = point_of(k, state);
+    let colour = colour_of(state);
+    match part {
+        Part::Point => parts.extend_from_slice(&point),
+        Part::Time => parts.extend_from_slice(&time_of(k)),
+        Part::Colour => parts.extend_from_slice(&colour),
+        Part::Extra => parts.extend_from_slice(&[0, 1, 2, 3].map(|j| extra_of(k, j))),
+    }
+}
+
 /// Draws a part of this many records.
 pub fn draw_parts(alloc: Global, part: Part, count: u32) -> Result<Vec<u8>, AllocError> {
     let mut parts = Vec::new(alloc);
     let mut state: u64 = 1;
     for k in 0..count {
-        let point = point_of(k, &mut state);
-        let colour = colour_of(&mut state);
-        match part {
-            Part::Point => parts.extend_from_slice(&point)?,
-            Part::Time => parts.extend_from_slice(&time_of(k))?,
-            Part::Colour => parts.extend_from_slice(&colour)?,
-            Part::Extra => parts.extend_from_slice(&[0, 1, 2, 3].map(|j| extra_of(k, j)))?,
-        }
+        push_part(&mut parts, part, k, &mut state)?;
     }
     Ok(parts)
 }

@@ -22,11 +22,16 @@ use std::env;
 fn main(rt: HostRuntime) -> Result<()> {
     let mut words = env::args(&rt)?;
     let _name = words.next();
-    let (Some(seed), Some(count)) = (words.next(), words.next()) else {
-        bail!("usage: fuzz_chunks SEED COUNT");
-    };
-    let mut draws = Draws::new(seed.as_str().parse()?);
-    try_layouts(&rt, &mut draws, count.as_str().parse()?)
+    let seed = number(words.next())?;
+    let count = number(words.next())?;
+    try_layouts(&rt, &mut Draws::new(u64::from(seed)), count)
+}
+
+fn number(word: Option<String>) -> Result<u32> {
+    match word {
+        Some(word) => Ok(word.as_str().parse()?),
+        None => bail!("usage: fuzz_chunks SEED COUNT"),
+    }
 }
 
 fn try_layouts(rt: &(impl Print + Alloc<A = Global>), draws: &mut Draws, count: u32) -> Result<()> {

@@ -109,10 +109,10 @@ impl Workspace {
         requires few { extra < 193 }
         ensures { IfOk result (λ w. w ≡ record { format = format; extra = extra }) }
     {
-        let point10 = Point10::new(alloc)?;
-        let gps_time = new_times(alloc, format)?;
-        let rgb = new_colours(alloc, format)?;
         let extra_bytes = new_extra(alloc, extra)?;
+        let rgb = new_colours(alloc, format)?;
+        let gps_time = new_times(alloc, format)?;
+        let point10 = Point10::new(alloc)?;
         Ok(Workspace {
             format,
             extra,

@@ -74,6 +74,22 @@ impl Trial {
     }
 }
 
+// Whether these bytes but the last hold these records, and neither all of them nor all but the last two hold any.
+fn holds_but_last(
+    trial: &mut Trial,
+    bytes: &[u8],
+    count: u32,
+    records: &[u8],
+) -> Result<bool, AllocError> {
+    let length = bytes.len().saturating_sub(1);
+    let shorter = length.saturating_sub(1);
+    Ok(
+        trial.refuses(bytes, count)?
+            && trial.refuses(&bytes[..shorter], count)?
+            && trial.holds(&bytes[..length], count, records)?,
+    )
+}
+
 // Whether a chunk holds these records, and holds none with a byte fewer or with a byte more.
 fn holds_exactly(
     trial: &mut Trial,
@@ -81,122 +97,130 @@ fn holds_exactly(
     count: u32,
     records: &[u8],
 ) -> Result<bool, AllocError> {
-    let mut longer = chunk.to_vec(trial.alloc)?;
-    longer.push(0)?;
-    let shorter = &chunk[..chunk.len().saturating_sub(1)];
-    if !trial.refuses(shorter, count)? || !trial.refuses(&longer, count)? {
-        return Ok(false);
+    let mut longer = vec![in trial.alloc; 0; chunk.len().saturating_add(1)]?;
+    put(&mut longer, 0, chunk);
+    holds_but_last(trial, &longer, count, records)
+}
+
+// Writes bytes as far as they fit.
+fn put(records: &mut [u8], at: usize, bytes: &[u8]) {
+    for (i, byte) in bytes.iter().enumerate() {
+        if let Some(place) = records.get_mut(at.saturating_add(i)) {
+            *place = *byte;
+        }
     }
-    trial.holds(chunk, count, records)
 }
 
-// The first bytes of records, and a stream after them.
-fn with_stream(alloc: Global, first: &[u8], stream: &[u8]) -> Result<Vec<u8>, AllocError> {
-    let mut chunk = first.to_vec(alloc)?;
-    chunk.extend_from_slice(stream)?;
-    Ok(chunk)
-}
-
-// A record of equal bytes, but for its intensity and its return numbers.
-fn record_of(
-    alloc: Global,
-    size: usize,
+// Records that are worked by hand: they consist of one byte, but for what stands at some places. Their chunk is the
+// first of them and a stream.
+struct Worked {
+    format: u8,
+    extra: u16,
+    count: u32,
     byte: u8,
-    intensity: u8,
-    returns: u8,
-) -> Result<Vec<u8>, AllocError> {
-    let mut record = vec![in alloc; byte; size]?;
-    if let Some(place) = record.get_mut(12) {
-        *place = intensity;
-    }
-    if let Some(place) = record.get_mut(14) {
-        *place = returns;
-    }
-    Ok(record)
+    places: &'static [(usize, &'static [u8])],
+    stream: &'static [u8],
 }
 
-// Whether two of a record, or one, become the record and this stream, and come back from it.
-fn is_worked(
+// The last three have two colours: from 0x1010 to 0x2020 in all; from 0x2020 in all to 0x2030, 0x2020, 0x2010; and
+// green as high as it can be. The bytes of these are those of another coder.
+static WORKED: [Worked; 7] = [
+    Worked {
+        format: 0,
+        extra: 0,
+        count: 2,
+        byte: 0,
+        places: &[(12, &[7]), (14, &[9]), (32, &[7]), (34, &[9])],
+        stream: &[0x40, 0xe1, 0xa3, 0x6a, 0x80, 0, 0],
+    },
+    Worked {
+        format: 0,
+        extra: 0,
+        count: 2,
+        byte: 0,
+        places: &[],
+        stream: &[0, 0, 0, 1, 0, 0, 0],
+    },
+    Worked {
+        format: 0,
+        extra: 0,
+        count: 1,
+        byte: 5,
+        places: &[],
+        stream: &[1, 0, 0, 0],
+    },
+    Worked {
+        format: 3,
+        extra: 2,
+        count: 1,
+        byte: 5,
+        places: &[],
+        stream: &[1, 0, 0, 0],
+    },
+    Worked {
+        format: 2,
+        extra: 0,
+        count: 2,
+        byte: 0,
+        places: &[(20, &[16; 6]), (46, &[32; 6])],
+        stream: &[0, 0, 0, 114, 148, 13, 144, 0, 0],
+    },
+    Worked {
+        format: 2,
+        extra: 0,
+        count: 2,
+        byte: 0,
+        places: &[(20, &[32; 6]), (46, &[48, 32, 32, 32, 16, 32])],
+        stream: &[0, 0, 0, 147, 73, 213, 232, 0, 0],
+    },
+    Worked {
+        format: 2,
+        extra: 0,
+        count: 2,
+        byte: 0,
+        places: &[(20, &[240, 0, 248]), (46, &[255, 0, 255])],
+        stream: &[0, 0, 0, 125, 120, 223, 128, 0, 0],
+    },
+];
+
+// The records of a row.
+fn records_of(alloc: Global, size: usize, row: &Worked) -> Result<Vec<u8>, AllocError>
+    requires { size < 256 }
+{
+    let mut records = vec![in alloc; row.byte; size * row.count as usize]?;
+    for (at, bytes) in row.places {
+        put(&mut records, *at, bytes);
+    }
+    Ok(records)
+}
+
+// Whether the chunk of records is the first of them and this stream, and holds them exactly.
+fn becomes(
     trial: &mut Trial,
-    point: &[u8],
-    twice: bool,
+    records: &[u8],
+    count: u32,
     stream: &[u8],
 ) -> Result<bool, AllocError> {
-    let mut records = point.to_vec(trial.alloc)?;
-    if twice {
-        records.extend_from_slice(point)?;
-    }
-    let count = 1 + u32::from(twice);
-    let chunk = trial.pack(&records, count)?;
-    if chunk != with_stream(trial.alloc, point, stream)? {
-        return Ok(false);
-    }
-    holds_exactly(trial, &chunk, count, &records)
+    let chunk = trial.pack(records, count)?;
+    let size = trial.size().min(records.len());
+    Ok(
+        chunk.len() == size + stream.len()
+            && chunk.starts_with(&records[..size])
+            && chunk.ends_with(stream)
+            && holds_exactly(trial, &chunk, count, records)?,
+    )
+}
+
+fn is_as_worked(alloc: Global, row: &Worked) -> Result<bool, AllocError> {
+    let mut trial = Trial::new(alloc, row.format.min(3), row.extra.min(192))?;
+    let records = records_of(alloc, trial.size(), row)?;
+    becomes(&mut trial, &records, row.count, row.stream)
 }
 
 #[test]
 fn chunks_worked_by_hand(rt: HostRuntime) -> Result<(), Fail> {
-    // Point format, extra bytes, whether there are two records, their bytes, their intensity and return numbers, and the
-    // bytes after the first record.
-    let rows: [(u8, u16, bool, u8, u8, u8, &[u8]); 4] = [
-        (0, 0, true, 0, 7, 9, &[0x40, 0xe1, 0xa3, 0x6a, 0x80, 0, 0]),
-        (0, 0, true, 0, 0, 0, &[0, 0, 0, 1, 0, 0, 0]),
-        (0, 0, false, 5, 5, 5, &[1, 0, 0, 0]),
-        (3, 2, false, 5, 5, 5, &[1, 0, 0, 0]),
-    ];
-    for (format, extra, twice, byte, intensity, returns, stream) in rows {
-        let mut trial = Trial::new(rt.alloc(), format.min(3), extra.min(192))?;
-        let record = record_of(rt.alloc(), trial.size(), byte, intensity, returns)?;
-        assert!(rt;
-            is_worked(&mut trial, &record, twice, stream)?,
-            "{format} {byte}"
-        );
-    }
-    Ok(())
-}
-
-// Whether a record of zeros with this colour, and then one with that, become the first of them and this stream, and come
-// back from it.
-fn are_coded(
-    trial: &mut Trial,
-    last: &[u8],
-    now: &[u8],
-    stream: &[u8],
-) -> Result<bool, AllocError> {
-    let first = with_stream(trial.alloc, &[0; 20], last)?;
-    let mut records = with_stream(trial.alloc, &first, &[0; 20])?;
-    records.extend_from_slice(now)?;
-    let chunk = trial.pack(&records, 2)?;
-    if chunk != with_stream(trial.alloc, &first, stream)? {
-        return Ok(false);
-    }
-    holds_exactly(trial, &chunk, 2, &records)
-}
-
-// From 0x1010 to 0x2020 in all; from 0x2020 in all to 0x2030, 0x2020, 0x2010; and green as high as it can be. The bytes
-// are those of another coder.
-#[test]
-fn colours_of_another_coder(rt: HostRuntime) -> Result<(), Fail> {
-    let rows = [
-        (
-            [16, 16, 16, 16, 16, 16],
-            [32, 32, 32, 32, 32, 32],
-            [0, 0, 0, 114, 148, 13, 144, 0, 0],
-        ),
-        (
-            [32, 32, 32, 32, 32, 32],
-            [48, 32, 32, 32, 16, 32],
-            [0, 0, 0, 147, 73, 213, 232, 0, 0],
-        ),
-        (
-            [240, 0, 248, 0, 0, 0],
-            [255, 0, 255, 0, 0, 0],
-            [0, 0, 0, 125, 120, 223, 128, 0, 0],
-        ),
-    ];
-    let mut trial = Trial::new(rt.alloc(), 2, 0)?;
-    for (last, now, stream) in rows {
-        assert!(rt; are_coded(&mut trial, &last, &now, &stream)?, "{last:?}");
+    for row in &WORKED {
+        assert!(rt; is_as_worked(rt.alloc(), row)?, "{:?}", row.stream);
     }
     Ok(())
 }
@@ -249,80 +273,116 @@ fn drawn_records_go_both_ways(rt: HostRuntime) -> Result<(), Fail> {
     Ok(())
 }
 
-// The greatest chunk that `las` makes unasked has 50,000 points; this one has five times as many, of the longest records.
+// The greatest chunk that `las` makes unasked has 50,000 points; this one has five times as many, of the longest
+// records.
 #[test]
 fn long_chunk_goes_both_ways(rt: HostRuntime) -> Result<(), Fail> {
     assert!(rt; go_both_ways(rt.alloc(), 3, 192, 250_000)?);
     Ok(())
 }
 
+// The low words of twelve times, and their high words, whose difference becomes 10 and then 5,000, then one in a new
+// sequence, and one in the first again. From 20 to 5,020 it is 499 times 10 and 10 more, in place of 500 times 10; all
+// else is as a writer spells it. The next four differences are extreme, so the last of them becomes the sequence's.
+const SEQUENCES: &[(u32, u32)] = &[
+    (0, 0x4000_0000),
+    (0, 0x4000_0000),
+    (10, 0x4000_0000),
+    (20, 0x4000_0000),
+    (20, 0x4000_0000),
+    (5_020, 0x4000_0000),
+    (10_020, 0x4000_0000),
+    (15_020, 0x4000_0000),
+    (20_020, 0x4000_0000),
+    (25_020, 0x4000_0000),
+    (25_020, 0x4000_0100),
+    (25_030, 0x4000_0000),
+];
+
+// What a stream spells: times, if it is good, and else nothing. No writer chooses its events.
+struct Spelling {
+    times: &'static [(u32, u32)],
+    stream: &'static [u8],
+    good: bool,
+}
+
+// The last three are a switch to the next sequence, and its time, 0; and a second switch, by 1 or by 3. The streams are
+// computed apart, from the exact interval.
+static SPELLINGS: [Spelling; 4] = [
+    Spelling {
+        times: SEQUENCES,
+        stream: &[
+            0, 0, 0, 0, 0, 0, 6, 174, 7, 250, 0, 1, 69, 149, 0, 4, 127, 55, 234, 9, 22, 95, 104,
+            141, 9, 32, 167, 225, 0, 74, 87, 106, 30, 2, 93, 154, 46, 0, 19, 69, 122, 113, 1, 91,
+            118, 113, 214, 5, 148, 0, 0, 0, 24, 170, 89, 156, 0, 0,
+        ],
+        good: true,
+    },
+    Spelling {
+        times: &[(7, 0), (0, 0)],
+        stream: &[0, 0, 0, 117, 0, 0, 0],
+        good: true,
+    },
+    Spelling {
+        times: &[(7, 0), (0, 0)],
+        stream: &[0, 0, 0, 136, 0, 0, 0],
+        good: false,
+    },
+    Spelling {
+        times: &[(7, 0), (0, 0)],
+        stream: &[0, 0, 0, 149, 0, 0, 0],
+        good: false,
+    },
+];
+
 // Records of format 1 with these times, each as its low and its high word, and zeros else.
 fn records_with(alloc: Global, times: &[(u32, u32)]) -> Result<Vec<u8>, AllocError> {
-    let mut records = Vec::new(alloc);
-    for (low, high) in times {
-        records.extend_from_slice(&[0; 20])?;
-        records.extend_from_slice(&low.to_le_bytes())?;
-        records.extend_from_slice(&high.to_le_bytes())?;
+    let mut records = vec![in alloc; 0; times.len().min(12) * 28]?;
+    for (i, (low, high)) in times.iter().enumerate() {
+        let at = i.saturating_mul(28);
+        put(&mut records, at.saturating_add(20), &low.to_le_bytes());
+        put(&mut records, at.saturating_add(24), &high.to_le_bytes());
     }
     Ok(records)
 }
 
-// Whether a stream after records with these times is none of a writer's, and holds them exactly if it is good, and else
-// none.
+// The first of some records of format 1, and a stream.
+fn with_stream(alloc: Global, records: &[u8], stream: &[u8]) -> Result<Vec<u8>, AllocError> {
+    let mut chunk = vec![in alloc; 0; stream.len().min(100) + 28]?;
+    put(&mut chunk, 0, records);
+    put(&mut chunk, 28, stream);
+    Ok(chunk)
+}
+
+// Whether a chunk is not that of these records, and holds them exactly if it is good, and else none.
 fn is_spelled(
     trial: &mut Trial,
-    times: &[(u32, u32)],
+    chunk: &[u8],
     count: u32,
-    stream: &[u8],
+    records: &[u8],
     good: bool,
 ) -> Result<bool, AllocError> {
-    let records = records_with(trial.alloc, times)?;
-    let first = &records[..28.min(records.len())];
-    let chunk = with_stream(trial.alloc, first, stream)?;
-    if trial.pack(&records, count)? == chunk {
+    if trial.pack(records, count)?.as_slice() == chunk {
         return Ok(false);
     }
     if good {
-        return holds_exactly(trial, &chunk, count, &records);
+        return holds_exactly(trial, chunk, count, records);
     }
-    trial.refuses(&chunk, count)
+    trial.refuses(chunk, count)
 }
 
-// The streams spell events that no writer chooses. They are computed apart, from the exact interval.
+fn is_as_spelled(alloc: Global, row: &Spelling) -> Result<bool, AllocError> {
+    let mut trial = Trial::new(alloc, 1, 0)?;
+    let records = records_with(alloc, row.times)?;
+    let chunk = with_stream(alloc, &records, row.stream)?;
+    let count = row.times.len().min(12) as u32;
+    is_spelled(&mut trial, &chunk, count, &records, row.good)
+}
+
 #[test]
 fn spellings_of_no_writer(rt: HostRuntime) -> Result<(), Fail> {
-    let mut trial = Trial::new(rt.alloc(), 1, 0)?;
-    // Times in one sequence, whose difference becomes 10 and then 5,000, then one in a new sequence, and one in the first
-    // again. From 20 to 5,020 it is 499 times 10 and 10 more, in place of 500 times 10; all else is as a writer spells
-    // it. The next four differences are extreme, so the last of them becomes the sequence's.
-    let high = 0x4000_0000;
-    let times = [
-        (0, high),
-        (0, high),
-        (10, high),
-        (20, high),
-        (20, high),
-        (5_020, high),
-        (10_020, high),
-        (15_020, high),
-        (20_020, high),
-        (25_020, high),
-        (25_020, 0x4000_0100),
-        (25_030, high),
-    ];
-    let stream = [
-        0, 0, 0, 0, 0, 0, 6, 174, 7, 250, 0, 1, 69, 149, 0, 4, 127, 55, 234, 9, 22, 95, 104, 141,
-        9, 32, 167, 225, 0, 74, 87, 106, 30, 2, 93, 154, 46, 0, 19, 69, 122, 113, 1, 91, 118, 113,
-        214, 5, 148, 0, 0, 0, 24, 170, 89, 156, 0, 0,
-    ];
-    assert!(rt; is_spelled(&mut trial, &times, 12, &stream, true)?);
-    // A switch to the next sequence, and its time, 0; or a second switch, by 1 or by 3.
-    for (byte, good) in [(117, true), (136, false), (149, false)] {
-        let stream = [0, 0, 0, byte, 0, 0, 0];
-        assert!(rt;
-            is_spelled(&mut trial, &[(7, 0), (0, 0)], 2, &stream, good)?,
-            "{byte}"
-        );
+    for row in &SPELLINGS {
+        assert!(rt; is_as_spelled(rt.alloc(), row)?, "{:?}", row.stream);
     }
     Ok(())
 }

@@ -1,7 +1,10 @@
 //! Models beside values of an independent coder of the same models, of 2 and 256 symbols, and of bits.
-ghost use Rattle.std.specs.Prelude.{◌<◌};
+ghost use Rattle.std.specs.Prelude.{◌≡◌, ◌<◌, ◌≤◌, IfOk};
+ghost use Rattle.laz_models.specs.Dist.{alphabet_size};
 
 use laz_models::{BitModel, SymbolModel};
+use std::alloc::{AllocError, Global};
+use std::test::Fail;
 
 // The next number of a fixed sequence.
 fn next(state: u32) -> u32 {
@@ -17,44 +20,62 @@ fn symbol(state: u32, n: u32) -> u32
     (a.wrapping_mul(a) >> 20) % n
 }
 
-#[test]
-fn values_of_another_coder(rt: HostRuntime) {
-    for (n, symbols, first, last) in [
-        (2, 5, 21845, 21845),
-        (2, 100_000, 16611, 16611),
-        (256, 1_000, 521, 32605),
-        (256, 100_000, 570, 32647),
-    ] {
-        let mut model = SymbolModel::new(rt.alloc(), n).expect(&rt, "memory");
-        let mut state = n;
-        for _ in 0..symbols {
-            state = next(state);
-            model.count(symbol(state, n));
-        }
-        assert_eq!(rt; model.part(1).0, first, "{n} symbols after {symbols}");
-        assert_eq!(rt;
-            model.part(n - 1),
-            (last, 32768),
-            "{n} symbols after {symbols}"
-        );
-        model.reset();
-        assert_eq!(rt; model.find(32767), n - 1, "{n} symbols after a reset");
+// The model of `n` symbols after this many of them.
+fn counted(alloc: Global, n: u32, symbols: u32) -> Result<SymbolModel, AllocError>
+    requires some { 2 ≤ n }
+    requires few { n ≤ 256 }
+    ensures { IfOk result (λ model. alphabet_size model ≡ n) }
+{
+    let mut model = SymbolModel::new(alloc, n)?;
+    let mut state = n;
+    for _ in 0..symbols {
+        state = next(state);
+        model.count(symbol(state, n));
     }
-    for (bits, p0) in [
-        (0, 4096),
-        (4, 4095),
-        (9, 5213),
-        (1_000, 6577),
-        (100_000, 6555),
-    ] {
+    Ok(model)
+}
+
+// A number of symbols, how many are counted, where the part of symbol 1 begins, and where that of the last one does.
+static COUNTED: [(u32, u32, u32, u32); 4] = [
+    (2, 5, 21845, 21845),
+    (2, 100_000, 16611, 16611),
+    (256, 1_000, 521, 32605),
+    (256, 100_000, 570, 32647),
+];
+
+#[test]
+fn symbols_of_another_coder(rt: HostRuntime) -> Result<(), Fail> {
+    for (n, symbols, first, last) in &COUNTED {
+        let n = (*n).max(2).min(256);
+        let mut model = counted(rt.alloc(), n, *symbols)?;
+        assert!(rt; model.part(1).0 == *first, "{n} {symbols}");
+        assert!(rt; model.part(n - 1) == (*last, 32768), "{n} {symbols}");
+        model.reset();
+        assert!(rt; model.find(32767) == n - 1, "{n} {symbols}");
+    }
+    Ok(())
+}
+
+// How many bits are counted, and the part of 0 after them.
+static BITS: [(u32, u32); 5] = [
+    (0, 4096),
+    (4, 4095),
+    (9, 5213),
+    (1_000, 6577),
+    (100_000, 6555),
+];
+
+#[test]
+fn bits_of_another_coder(rt: HostRuntime) {
+    for (bits, p0) in &BITS {
         let mut model = BitModel::new();
         let mut state = 7;
-        for _ in 0..bits {
+        for _ in 0..*bits {
             state = next(state);
             model.count((state >> 16) % 5 == 0);
         }
-        assert_eq!(rt; model.p0(), p0, "after {bits} bits");
+        assert!(rt; model.p0() == *p0, "{bits}");
         model.reset();
-        assert_eq!(rt; model.p0(), 4096, "after a reset");
+        assert!(rt; model.p0() == 4096, "{bits}");
     }
 }

@@ -8,7 +8,6 @@ use laz_table::{
     read_vlr, table_of, vlr_of,
 };
 use std::alloc::{AllocError, Global};
-use std::process::Abort;
 use std::test::Fail;
 
 // Chunks of this size, or with their own numbers of points for the chunk size 2^32 - 1.
@@ -44,37 +43,50 @@ fn sum_of(numbers: &[u32]) -> u64 {
 }
 
 // The bytes of the table with one chunk, of 24 bytes.
-const ONE_CHUNK: [u8; 13] = [0, 0, 0, 0, 1, 0, 0, 0, 0x2c, 0x5c, 0, 0, 0];
+const ONE_CHUNK: &[u8] = &[0, 0, 0, 0, 1, 0, 0, 0, 0x2c, 0x5c, 0, 0, 0];
 
 // The bytes of the table with one chunk, of one point and 24 bytes.
-const ONE_POINT: [u8; 14] = [0, 0, 0, 0, 1, 0, 0, 0, 4, 0x8b, 0xd3, 0, 0, 0];
+const ONE_POINT: &[u8] = &[0, 0, 0, 0, 1, 0, 0, 0, 4, 0x8b, 0xd3, 0, 0, 0];
 
 // The bytes of the table with two chunks, each of one point and 24 bytes.
-const TWO_POINTS: [u8; 15] = [0, 0, 0, 0, 2, 0, 0, 0, 4, 0x8b, 0xd2, 0x25, 0, 0, 0];
+const TWO_POINTS: &[u8] = &[0, 0, 0, 0, 2, 0, 0, 0, 4, 0x8b, 0xd2, 0x25, 0, 0, 0];
+
+// The chunk size, the number of points, those of the chunks, their bytes, and the bytes of their table.
+static WORKED: [(u32, u32, &[u32], &[u32], &[u8]); 6] = [
+    (50_000, 0, &[], &[], &[0; 8]),
+    (50_000, 1, &[1], &[24], ONE_CHUNK),
+    (
+        50_000,
+        50_000,
+        &[50_000],
+        &[23],
+        &[0, 0, 0, 0, 1, 0, 0, 0, 0x2c, 0x1d, 0, 0, 0],
+    ),
+    (COUNTED_CHUNKS, 0, &[], &[], &[0; 8]),
+    (COUNTED_CHUNKS, 1, &[1], &[24], ONE_POINT),
+    (COUNTED_CHUNKS, 2, &[1, 1], &[24, 24], TWO_POINTS),
+];
+
+// Whether bytes are read as this list.
+fn is_read(alloc: Global, bytes: &[u8], blocks: Blocks, sizes: &[u32], counts: &[u32]) -> bool
+    requires { HasChunkSize blocks }
+{
+    match read_table(alloc, bytes, blocks, sum_of(counts)) {
+        Ok(list) => list.sizes.as_slice() == sizes && list.counts.as_slice() == counts,
+        Err(_) => false,
+    }
+}
 
 #[test]
 fn tables_worked_by_hand(rt: HostRuntime) -> Result<(), Fail> {
-    let alloc = rt.alloc();
-    let rows: [(u32, u32, &[u32], &[u32], &[u8]); 6] = [
-        (50_000, 0, &[], &[], &[0; 8]),
-        (50_000, 1, &[1], &[24], &ONE_CHUNK),
-        (
-            50_000,
-            50_000,
-            &[50_000],
-            &[23],
-            &[0, 0, 0, 0, 1, 0, 0, 0, 0x2c, 0x1d, 0, 0, 0],
-        ),
-        (COUNTED_CHUNKS, 0, &[], &[], &[0; 8]),
-        (COUNTED_CHUNKS, 1, &[1], &[24], &ONE_POINT),
-        (COUNTED_CHUNKS, 2, &[1, 1], &[24, 24], &TWO_POINTS),
-    ];
-    for (chunk, points, sizes, counts, bytes) in rows {
-        let written = table(alloc, chunk, sizes, counts)?;
-        assert_eq!(rt; written.as_slice(), bytes, "{chunk} {points}");
-        let list = read_table(alloc, bytes, blocks_of(chunk, points), sum_of(counts))?;
-        assert_eq!(rt; list.sizes.as_slice(), sizes, "{chunk} {points}");
-        assert_eq!(rt; list.counts.as_slice(), counts, "{chunk} {points}");
+    for (chunk, points, sizes, counts, bytes) in &WORKED {
+        let written = table(rt.alloc(), *chunk, sizes, counts)?;
+        assert!(rt; written.as_slice() == *bytes, "{bytes:?}");
+        let blocks = blocks_of(*chunk, *points);
+        assert!(rt;
+            is_read(rt.alloc(), bytes, blocks, sizes, counts),
+            "{bytes:?}"
+        );
     }
     Ok(())
 }
@@ -90,63 +102,54 @@ fn fault_of(
     read_table(alloc, bytes, blocks_of(chunk, points), total).err()
 }
 
+const VERSION_ONE: &[u8] = &[1, 0, 0, 0, 1, 0, 0, 0, 0x2c, 0x5c, 0, 0, 0];
+
+const TWO_CLAIMED: &[u8] = &[0, 0, 0, 0, 2, 0, 0, 0, 4, 0x8b, 0xd3, 0, 0, 0];
+
+const WITH_MORE: &[u8] = &[0, 0, 0, 0, 1, 0, 0, 0, 0x2c, 0x5c, 0, 0, 0, 7, 255];
+
+// The bytes of a table, the chunk size, the number of points, the number of bytes of all chunks, and the fault.
+static FAULTS: [(&[u8], u32, u32, u64, Option<TableFault>); 20] = [
+    (ONE_CHUNK, 50_000, 50_000, 24, None),
+    (WITH_MORE, 50_000, 50_000, 24, None),
+    (ONE_CHUNK, 250_000, 1, 24, None),
+    (ONE_CHUNK, 4_294_967_294, 250_000, 24, None),
+    (ONE_CHUNK, 50_000, 50_001, 24, Some(TableFault::Table)),
+    (ONE_CHUNK, 50_000, 0, 24, Some(TableFault::Table)),
+    (VERSION_ONE, 50_000, 1, 24, Some(TableFault::Table)),
+    (&[0; 7], 50_000, 0, 0, Some(TableFault::Table)),
+    (&[0; 8], 50_000, 1, 0, Some(TableFault::Table)),
+    (&[], 50_000, 0, 0, Some(TableFault::Table)),
+    (ONE_CHUNK, 50_000, 1, 23, Some(TableFault::ChunkSum)),
+    (
+        ONE_CHUNK,
+        50_000,
+        1,
+        4_294_967_320,
+        Some(TableFault::ChunkSum),
+    ),
+    (&[0; 8], 50_000, 0, 1, Some(TableFault::ChunkSum)),
+    (ONE_POINT, COUNTED_CHUNKS, 2, 24, Some(TableFault::PointSum)),
+    (ONE_POINT, COUNTED_CHUNKS, 2, 25, Some(TableFault::ChunkSum)),
+    (TWO_CLAIMED, COUNTED_CHUNKS, 1, 24, Some(TableFault::Table)),
+    (TWO_CLAIMED, COUNTED_CHUNKS, 2, 24, Some(TableFault::Table)),
+    (ONE_POINT, COUNTED_CHUNKS, 0, 24, Some(TableFault::Table)),
+    (&[0; 8], COUNTED_CHUNKS, 1, 0, Some(TableFault::PointSum)),
+    (
+        TWO_POINTS,
+        COUNTED_CHUNKS,
+        3,
+        48,
+        Some(TableFault::PointSum),
+    ),
+];
+
 #[test]
-fn each_fault_of_a_table_is_named(rt: HostRuntime) -> Result<(), Fail> {
-    let alloc = rt.alloc();
-    let version_one = [1, 0, 0, 0, 1, 0, 0, 0, 0x2c, 0x5c, 0, 0, 0];
-    let two_claimed = [0, 0, 0, 0, 2, 0, 0, 0, 4, 0x8b, 0xd3, 0, 0, 0];
-    let with_more = [0, 0, 0, 0, 1, 0, 0, 0, 0x2c, 0x5c, 0, 0, 0, 7, 255];
-    let rows: [(&[u8], u32, u32, u64, Option<TableFault>); 20] = [
-        (&ONE_CHUNK, 50_000, 50_000, 24, None),
-        (&with_more, 50_000, 50_000, 24, None),
-        (&ONE_CHUNK, 250_000, 1, 24, None),
-        (&ONE_CHUNK, 4_294_967_294, 250_000, 24, None),
-        (&ONE_CHUNK, 50_000, 50_001, 24, Some(TableFault::Table)),
-        (&ONE_CHUNK, 50_000, 0, 24, Some(TableFault::Table)),
-        (&version_one, 50_000, 1, 24, Some(TableFault::Table)),
-        (&[0; 7], 50_000, 0, 0, Some(TableFault::Table)),
-        (&[0; 8], 50_000, 1, 0, Some(TableFault::Table)),
-        (&[], 50_000, 0, 0, Some(TableFault::Table)),
-        (&ONE_CHUNK, 50_000, 1, 23, Some(TableFault::ChunkSum)),
-        (
-            &ONE_CHUNK,
-            50_000,
-            1,
-            4_294_967_320,
-            Some(TableFault::ChunkSum),
-        ),
-        (&[0; 8], 50_000, 0, 1, Some(TableFault::ChunkSum)),
-        (
-            &ONE_POINT,
-            COUNTED_CHUNKS,
-            2,
-            24,
-            Some(TableFault::PointSum),
-        ),
-        (
-            &ONE_POINT,
-            COUNTED_CHUNKS,
-            2,
-            25,
-            Some(TableFault::ChunkSum),
-        ),
-        (&two_claimed, COUNTED_CHUNKS, 1, 24, Some(TableFault::Table)),
-        (&two_claimed, COUNTED_CHUNKS, 2, 24, Some(TableFault::Table)),
-        (&ONE_POINT, COUNTED_CHUNKS, 0, 24, Some(TableFault::Table)),
-        (&[0; 8], COUNTED_CHUNKS, 1, 0, Some(TableFault::PointSum)),
-        (
-            &TWO_POINTS,
-            COUNTED_CHUNKS,
-            3,
-            48,
-            Some(TableFault::PointSum),
-        ),
-    ];
-    for (bytes, chunk, points, total, fault) in rows {
-        let found = fault_of(alloc, bytes, chunk, points, total);
-        assert_eq!(rt; found, fault, "{chunk} {points} {total} {bytes:?}");
+fn each_fault_of_a_table_is_named(rt: HostRuntime) {
+    for (bytes, chunk, points, total, fault) in &FAULTS {
+        let found = fault_of(rt.alloc(), bytes, *chunk, *points, *total);
+        assert!(rt; found == *fault, "{chunk} {points} {total} {bytes:?}");
     }
-    Ok(())
 }
 
 // What the table of these chunks with their own numbers of points is refused for.
@@ -161,51 +164,51 @@ fn counted_fault(
     Ok(fault_of(alloc, &bytes, COUNTED_CHUNKS, points, total))
 }
 
+// The numbers of points and of bytes of chunks, the number of points and of bytes of all, and the fault.
+static COUNTED: [(&[u32], &[u32], u32, u64, Option<TableFault>); 7] = [
+    (&[250_000], &[4_294_967_295], 250_000, 4_294_967_295, None),
+    (&[250_001], &[24], 250_001, 24, Some(TableFault::PointSum)),
+    (&[0, 2], &[24, 44], 2, 68, Some(TableFault::PointSum)),
+    (&[2, 0], &[24, 44], 2, 68, Some(TableFault::PointSum)),
+    (&[3, 4], &[24, 44], 7, 68, None),
+    (
+        &[2, 1],
+        &[4_294_967_295, 4_294_967_295],
+        3,
+        8_589_934_590,
+        None,
+    ),
+    (
+        &[2, 1],
+        &[4_294_967_295, 4_294_967_295],
+        3,
+        4_294_967_294,
+        Some(TableFault::ChunkSum),
+    ),
+];
+
 #[test]
 fn numbers_of_points_are_checked(rt: HostRuntime) -> Result<(), Fail> {
-    let alloc = rt.alloc();
-    let rows: [(&[u32], &[u32], u32, u64, Option<TableFault>); 7] = [
-        (&[250_000], &[4_294_967_295], 250_000, 4_294_967_295, None),
-        (&[250_001], &[24], 250_001, 24, Some(TableFault::PointSum)),
-        (&[0, 2], &[24, 44], 2, 68, Some(TableFault::PointSum)),
-        (&[2, 0], &[24, 44], 2, 68, Some(TableFault::PointSum)),
-        (&[3, 4], &[24, 44], 7, 68, None),
-        (
-            &[2, 1],
-            &[4_294_967_295, 4_294_967_295],
-            3,
-            8_589_934_590,
-            None,
-        ),
-        (
-            &[2, 1],
-            &[4_294_967_295, 4_294_967_295],
-            3,
-            4_294_967_294,
-            Some(TableFault::ChunkSum),
-        ),
-    ];
-    for (sizes, counts, points, total, fault) in rows {
-        let found = counted_fault(alloc, sizes, counts, points, total)?;
-        assert_eq!(rt; found, fault, "{sizes:?} {counts:?} {points} {total}");
+    for (sizes, counts, points, total, fault) in &COUNTED {
+        let found = counted_fault(rt.alloc(), sizes, counts, *points, *total)?;
+        assert!(rt; found == *fault, "{sizes:?} {counts:?} {points} {total}");
     }
-    // 17,180 chunks of 250,000 points are 2^32 + 32,704 points.
-    let sizes = vec![in alloc; 250_000; 17_180]?;
-    let counts = vec![in alloc; 24; 17_180]?;
-    assert_eq!(rt;
-        counted_fault(alloc, &sizes, &counts, 32_704, 412_320)?,
-        Some(TableFault::PointSum)
-    );
-    assert_eq!(rt;
-        counted_fault(
-            alloc,
-            &sizes[..17_179],
-            &counts[..17_179],
-            4_294_750_000,
-            412_296
-        )?,
-        None
-    );
+    Ok(())
+}
+
+// What a table of this many chunks of 250,000 points and 24 bytes is refused for.
+fn full_fault(alloc: Global, chunks: usize, points: u32) -> Result<Option<TableFault>, AllocError> {
+    let sizes = vec![in alloc; 250_000; chunks]?;
+    let counts = vec![in alloc; 24; chunks]?;
+    counted_fault(alloc, &sizes, &counts, points, sum_of(&counts))
+}
+
+// 17,180 chunks of 250,000 points are 2^32 + 32,704 points.
+#[test]
+fn points_past_32_bits_are_refused(rt: HostRuntime) -> Result<(), Fail> {
+    let found = full_fault(rt.alloc(), 17_180, 32_704)?;
+    assert_eq!(rt; found, Some(TableFault::PointSum));
+    assert_eq!(rt; full_fault(rt.alloc(), 17_179, 4_294_750_000)?, None);
     Ok(())
 }
 
@@ -245,68 +248,81 @@ fn draw_lists(alloc: Global, chunks: u32) -> Result<(Vec<u32>, Vec<u32>), AllocE
     Ok((sizes, counts))
 }
 
-// A table is read as these lists, with bytes after it too, and each cut of it is refused if there are to be cuts.
-fn check_table(
-    rt: &impl Abort,
-    alloc: Global,
-    chunk: u32,
-    sizes: &[u32],
-    counts: &[u32],
-    with_cuts: bool,
-) -> Result<(), Fail> {
-    let mut bytes = table(alloc, chunk, sizes, counts)?;
-    let points = u32::try_from(sum_of(sizes)).unwrap_or(0);
-    let total = sum_of(counts);
-    let len = bytes.len();
-    if with_cuts {
-        for cut in 0..len {
-            let fault = fault_of(alloc, &bytes[..cut], chunk, points, total);
-            assert_eq!(rt; fault, Some(TableFault::Table), "{len} cut at {cut}");
+// Whether each cut of a table is refused.
+fn cuts_are_refused(alloc: Global, bytes: &[u8], chunk: u32, points: u32, total: u64) -> bool {
+    for cut in 0..bytes.len() {
+        if fault_of(alloc, &bytes[..cut], chunk, points, total) != Some(TableFault::Table) {
+            return false;
         }
     }
-    for _ in 0..2 {
-        let list = read_table(alloc, &bytes, blocks_of(chunk, points), total)?;
-        assert!(rt; list.sizes.as_slice() == sizes, "{len}");
-        assert!(rt; list.counts.as_slice() == counts, "{len}");
-        bytes.extend_from_slice(&[7, 255, 0])?;
+    true
+}
+
+// Whether a table of these lists is read as these lists, with bytes after it too, and each cut of a short one is
+// refused.
+fn is_kept(alloc: Global, chunk: u32, sizes: &[u32], counts: &[u32]) -> Result<bool, AllocError> {
+    let points = u32::try_from(sum_of(sizes)).unwrap_or(0);
+    let blocks = blocks_of(chunk, points);
+    let mut bytes = table(alloc, chunk, sizes, counts)?;
+    if !is_read(alloc, &bytes, blocks, sizes, counts)
+        || sizes.len() < 100 && !cuts_are_refused(alloc, &bytes, chunk, points, sum_of(counts))
+    {
+        return Ok(false);
     }
-    Ok(())
+    bytes.extend_from_slice(&[7, 255, 0])?;
+    Ok(is_read(alloc, &bytes, blocks, sizes, counts))
+}
+
+// The numbers of points of chunks of 300 points, the last of one point.
+fn fixed_sizes(alloc: Global, chunks: usize) -> Result<Vec<u32>, AllocError> {
+    let mut fixed = vec![in alloc; 300; chunks]?;
+    if let Some(last) = fixed.last_mut() {
+        *last = 1;
+    }
+    Ok(fixed)
+}
+
+fn drawn_is_kept(alloc: Global, chunks: u32) -> Result<bool, AllocError> {
+    let (sizes, counts) = draw_lists(alloc, chunks)?;
+    let fixed = fixed_sizes(alloc, counts.len())?;
+    Ok(is_kept(alloc, COUNTED_CHUNKS, &sizes, &counts)? && is_kept(alloc, 300, &fixed, &counts)?)
 }
 
 #[test]
 fn drawn_tables_are_read_again(rt: HostRuntime) -> Result<(), Fail> {
-    let alloc = rt.alloc();
-    for chunks in [1, 2, 7, 60, 2000] {
-        let (sizes, counts) = draw_lists(alloc, chunks)?;
-        let cuts = chunks < 100;
-        check_table(&rt, alloc, COUNTED_CHUNKS, &sizes, &counts, cuts)?;
-        let mut fixed = vec![in alloc; 300; counts.len()]?;
-        if let Some(last) = fixed.last_mut() {
-            *last = 1;
-        }
-        check_table(&rt, alloc, 300, &fixed, &counts, cuts)?;
+    for chunks in &[1, 2, 7, 60, 2000] {
+        assert!(rt; drawn_is_kept(rt.alloc(), *chunks)?, "{chunks}");
     }
     Ok(())
 }
 
 // Bytes that claim 2^24 chunks, and are 400.
+fn claim(alloc: Global) -> Result<Vec<u8>, AllocError> {
+    let mut bytes = vec![in alloc; 0; 400]?;
+    let mut state = 5;
+    for i in 7..400 {
+        bytes[i] = if i == 7 {
+            1
+        } else {
+            (draw(&mut state) >> 24) as u8
+        };
+    }
+    Ok(bytes)
+}
+
+static CLAIMED: [(u32, u32); 4] = [
+    (1, 16_777_216),
+    (256, u32::MAX),
+    (COUNTED_CHUNKS, 16_777_216),
+    (COUNTED_CHUNKS, u32::MAX),
+];
+
 #[test]
 fn claimed_chunks_are_not_there(rt: HostRuntime) -> Result<(), Fail> {
-    let alloc = rt.alloc();
-    let mut bytes = vec![in alloc; 0; 7]?;
-    bytes.push(1)?;
-    let mut state = 5;
-    for _ in 0..392 {
-        bytes.push((draw(&mut state) >> 24) as u8)?;
-    }
-    for (chunk, points) in [
-        (1, 16_777_216),
-        (256, u32::MAX),
-        (COUNTED_CHUNKS, 16_777_216),
-        (COUNTED_CHUNKS, u32::MAX),
-    ] {
-        let fault = fault_of(alloc, &bytes, chunk, points, 0);
-        assert_eq!(rt; fault, Some(TableFault::Table), "{chunk} {points}");
+    let bytes = claim(rt.alloc())?;
+    for (chunk, points) in &CLAIMED {
+        let fault = fault_of(rt.alloc(), &bytes, *chunk, *points, 0);
+        assert!(rt; fault == Some(TableFault::Table), "{chunk} {points}");
     }
     Ok(())
 }
@@ -367,8 +383,22 @@ fn packed_head(alloc: Global, plain: Vec<u8>, payload: &[u8]) -> Result<Vec<u8>,
     Ok(packed.bytes().to_vec(alloc)?)
 }
 
+// A head of this format with this payload of a laszip VLR, and with no other VLR.
+fn head_with(alloc: Global, format: u8, extra: u16, payload: &[u8]) -> Result<Vec<u8>, Fail> {
+    packed_head(alloc, plain_head(alloc, format, extra, 0, &[])?, payload)
+}
+
+// What the laszip VLR of a head is read as.
+fn answer_of(head: Vec<u8>) -> Result<u32, Refusal> {
+    let head = opened(head)?;
+    if !head.packed() {
+        return Err(Refusal::StrayVlr);
+    }
+    read_vlr(&head)
+}
+
 // What the laszip VLR of a head is read as, with these bytes at this place.
-fn answer_of(
+fn answer_with(
     alloc: Global,
     head: &[u8],
     at: usize,
@@ -376,26 +406,17 @@ fn answer_of(
 ) -> Result<Result<u32, Refusal>, AllocError> {
     let mut changed = head.to_vec(alloc)?;
     put(&mut changed, at, bytes);
-    Ok(match opened(changed) {
-        Ok(head) => {
-            if head.packed() {
-                read_vlr(&head)
-            } else {
-                Err(Refusal::StrayVlr)
-            }
-        }
-        Err(cause) => Err(cause),
-    })
+    Ok(answer_of(changed))
 }
 
 // The laszip payload of a file of format 0, with 50,000 points a chunk.
-const PAYLOAD: [u8; 40] = [
+const PAYLOAD: &[u8] = &[
     2, 0, 0, 0, 2, 2, 0, 0, 0, 0, 0, 0, 0x50, 0xc3, 0, 0, 0xff, 0xff, 0xff, 0xff, 0xff, 0xff, 0xff,
     0xff, 0xff, 0xff, 0xff, 0xff, 0xff, 0xff, 0xff, 0xff, 1, 0, 6, 0, 20, 0, 2, 0,
 ];
 
 // The number of items and the items of each format, without extra bytes and with some.
-const ITEMS: [(u8, u16, &[u8]); 8] = [
+static ITEMS: [(u8, u16, &[u8]); 8] = [
     (0, 0, &[1, 0, 6, 0, 20, 0, 2, 0]),
     (0, 8, &[2, 0, 6, 0, 20, 0, 2, 0, 0, 0, 8, 0, 2, 0]),
     (1, 0, &[2, 0, 6, 0, 20, 0, 2, 0, 7, 0, 8, 0, 2, 0]),
@@ -434,183 +455,203 @@ fn payload_with(alloc: Global, chunk: u32, items: &[u8]) -> Result<Vec<u8>, Allo
     Ok(payload)
 }
 
+// Whether a laszip payload has these items.
+fn has_items(alloc: Global, row: &(u8, u16, &[u8]), chunk: u32) -> Result<bool, AllocError> {
+    let (format, extra, items) = row;
+    let payload = vlr_of((*format).min(3), (*extra).min(192), chunk);
+    Ok(payload.as_slice() == payload_with(alloc, chunk, items)?.as_slice())
+}
+
 #[test]
 fn each_record_has_its_own_items(rt: HostRuntime) -> Result<(), Fail> {
-    let alloc = rt.alloc();
-    assert!(rt; vlr_of(0, 0, 50_000).as_slice() == PAYLOAD.as_slice());
-    for (format, extra, items) in ITEMS {
-        for chunk in [1, 50_000, COUNTED_CHUNKS] {
-            let payload = vlr_of(format.min(3), extra.min(192), chunk);
-            let expected = payload_with(alloc, chunk, items)?;
-            assert!(rt;
-                payload.as_slice() == expected.as_slice(),
-                "{format} {extra}"
-            );
+    assert!(rt; vlr_of(0, 0, 50_000).as_slice() == PAYLOAD);
+    for row in &ITEMS {
+        for chunk in &[1, 50_000, COUNTED_CHUNKS] {
+            assert!(rt; has_items(rt.alloc(), row, *chunk)?, "{row:?}");
         }
     }
     Ok(())
 }
 
-// What is read of a laszip VLR with these items in a head of this format.
-fn answer_to(
-    alloc: Global,
-    format: u8,
-    extra: u16,
-    items: &[u8],
-) -> Result<Result<u32, Refusal>, Fail> {
-    let payload = payload_with(alloc, 50_000, items)?;
-    let plain = plain_head(alloc, format, extra, 0, &[])?;
-    let head = packed_head(alloc, plain, &payload)?;
-    Ok(answer_of(alloc, &head, 0, &[])?)
+// Whether a laszip VLR with the items of a row is read in a head of the format of a row, if they are one, and refused
+// for its items else.
+fn is_told(alloc: Global, head: &(u8, u16, &[u8]), row: &(u8, u16, &[u8])) -> Result<bool, Fail> {
+    let payload = payload_with(alloc, 50_000, row.2)?;
+    let found = answer_of(head_with(alloc, head.0, head.1, &payload)?);
+    if head.0 == row.0 && head.1 == row.1 {
+        return Ok(found == Ok(50_000));
+    }
+    Ok(found == Err(Refusal::Items))
 }
 
 #[test]
 fn items_of_another_record_are_refused(rt: HostRuntime) -> Result<(), Fail> {
-    for (format, extra, _) in ITEMS {
-        for (other, more, items) in ITEMS {
-            let found = answer_to(rt.alloc(), format, extra, items)?;
-            if other == format && more == extra {
-                assert_eq!(rt; found, Ok(50_000), "{format} {extra}");
-            } else {
-                assert_eq!(rt;
-                    found,
-                    Err(Refusal::Items),
-                    "{format} {extra} {other} {more}"
-                );
-            }
+    for head in &ITEMS {
+        for row in &ITEMS {
+            assert!(rt; is_told(rt.alloc(), head, row)?, "{head:?} {row:?}");
         }
     }
     Ok(())
 }
 
-// Whether the laszip VLR of a head is read so with each of these changes: the number of a place after 100, and the byte
-// that is put there.
+// The VLR stands at 227 and its payload at 281. Each change is the number of a place after 100, and the byte that is
+// put there.
+static CHANGES: [(&[u8], Result<u32, Refusal>); 7] = [
+    (
+        &[
+            127, 1, 128, 9, 149, b'L', 180, 1, 185, 3, 186, 255, 187, 1, 188, 1, 189, 1, 192, 128,
+            197, 0, 204, 127, 205, 0, 212, 127,
+        ],
+        Ok(50_000),
+    ),
+    (&[193, 0x51], Ok(50_001)),
+    (&[195, 1], Ok(115_536)),
+    (&[129, b'L', 144, 1, 145, 0xbd, 146, 0], Err(Refusal::NoVlr)),
+    (
+        &[147, 39, 147, 34, 147, 33, 147, 0, 213, 0, 213, 2, 214, 1],
+        Err(Refusal::VlrShape),
+    ),
+    (
+        &[181, 1, 181, 3, 182, 1, 183, 1, 184, 1],
+        Err(Refusal::Compressor),
+    ),
+    (
+        &[
+            215, 7, 216, 1, 217, 21, 218, 1, 219, 1, 219, 3, 220, 1, 5, 21,
+        ],
+        Err(Refusal::Items),
+    ),
+];
+
+// Whether the laszip VLR of a head is read so with each of these changes.
 fn all_answer(
     alloc: Global,
     head: &[u8],
     changes: &[u8],
-    answer: Result<u32, Refusal>,
+    answer: &Result<u32, Refusal>,
 ) -> Result<bool, AllocError> {
     for change in changes.chunks_exact(2) {
-        let found = answer_of(alloc, head, 100 + usize::from(change[0]), &change[1..2])?;
-        if found != answer {
+        let found = answer_with(alloc, head, 100 + usize::from(change[0]), &change[1..2])?;
+        if found != *answer {
             return Ok(false);
         }
     }
     Ok(true)
 }
 
-// The VLR stands at 227 and its payload at 281.
 #[test]
 fn each_change_of_a_vlr_is_named(rt: HostRuntime) -> Result<(), Fail> {
-    let alloc = rt.alloc();
-    let plain = plain_head(alloc, 0, 0, 0, &[])?;
-    let head = packed_head(alloc, plain, &PAYLOAD)?;
-    let rows: [(&[u8], Result<u32, Refusal>); 7] = [
-        (
-            &[
-                127, 1, 128, 9, 149, b'L', 180, 1, 185, 3, 186, 255, 187, 1, 188, 1, 189, 1, 192,
-                128, 197, 0, 204, 127, 205, 0, 212, 127,
-            ],
-            Ok(50_000),
-        ),
-        (&[193, 0x51], Ok(50_001)),
-        (&[195, 1], Ok(115_536)),
-        (&[129, b'L', 144, 1, 145, 0xbd, 146, 0], Err(Refusal::NoVlr)),
-        (
-            &[147, 39, 147, 34, 147, 33, 147, 0, 213, 0, 213, 2, 214, 1],
-            Err(Refusal::VlrShape),
-        ),
-        (
-            &[181, 1, 181, 3, 182, 1, 183, 1, 184, 1],
-            Err(Refusal::Compressor),
-        ),
-        (
-            &[
-                215, 7, 216, 1, 217, 21, 218, 1, 219, 1, 219, 3, 220, 1, 5, 21,
-            ],
-            Err(Refusal::Items),
-        ),
-    ];
-    for (changes, answer) in rows {
-        assert!(rt; all_answer(alloc, &head, changes, answer)?, "{answer:?}");
+    let head = head_with(rt.alloc(), 0, 0, PAYLOAD)?;
+    for (changes, answer) in &CHANGES {
+        assert!(rt;
+            all_answer(rt.alloc(), &head, changes, answer)?,
+            "{answer:?}"
+        );
     }
     Ok(())
 }
+
+// A place, the byte that is put there, and what the head is read as from then on.
+type Step = (usize, u8, Result<u32, Refusal>);
+
+// Whether a head is read so after each of these steps.
+fn answers_in_turn(alloc: Global, head: Vec<u8>, steps: &[Step]) -> Result<bool, AllocError> {
+    let mut head = head;
+    for (at, byte, answer) in steps {
+        put(&mut head, *at, &[*byte]);
+        if answer_with(alloc, &head, 0, &[])? != *answer {
+            return Ok(false);
+        }
+    }
+    Ok(true)
+}
+
+static SEVERAL: [Step; 6] = [
+    (293, 0, Ok(49_920)),
+    (294, 0, Err(Refusal::ChunkSize)),
+    (319, 3, Err(Refusal::Items)),
+    (283, 1, Err(Refusal::Compressor)),
+    (313, 2, Err(Refusal::VlrShape)),
+    (229, b'L', Err(Refusal::NoVlr)),
+];
 
 #[test]
 fn first_of_several_changes_is_named(rt: HostRuntime) -> Result<(), Fail> {
-    let alloc = rt.alloc();
-    let plain = plain_head(alloc, 0, 0, 0, &[])?;
-    let mut head = packed_head(alloc, plain, &PAYLOAD)?;
-    for (at, byte, cause) in [
-        (294, 0, Refusal::ChunkSize),
-        (319, 3, Refusal::Items),
-        (283, 1, Refusal::Compressor),
-        (313, 2, Refusal::VlrShape),
-        (229, b'L', Refusal::NoVlr),
-    ] {
-        put(&mut head, 293, &[0]);
-        put(&mut head, at, &[byte]);
-        assert_eq!(rt; answer_of(alloc, &head, 0, &[])?, Err(cause), "{at}");
-    }
+    let head = head_with(rt.alloc(), 0, 0, PAYLOAD)?;
+    assert!(rt; answers_in_turn(rt.alloc(), head, &SEVERAL)?);
     Ok(())
 }
 
+// A head with a VLR that is like a laszip VLR but for a byte of its name, and with a laszip VLR.
+fn two_vlrs(alloc: Global) -> Result<Vec<u8>, Fail> {
+    let alone = head_with(alloc, 0, 0, &vlr_of(0, 0, 256))?;
+    let mut plain = plain_head(alloc, 0, 0, 1, &alone[alone.len().min(227)..])?;
+    put(&mut plain, 229, b"L");
+    packed_head(alloc, plain, PAYLOAD)
+}
+
 // Of two VLRs each may be the laszip VLR, but not both.
+static TWO_VLRS: [Step; 3] = [
+    (229, b'L', Ok(50_000)),
+    (229, b'l', Err(Refusal::NoVlr)),
+    (323, b'L', Ok(256)),
+];
+
 #[test]
 fn one_vlr_of_several_is_read(rt: HostRuntime) -> Result<(), Fail> {
-    let alloc = rt.alloc();
-    let plain = plain_head(alloc, 0, 0, 0, &[])?;
-    let alone = packed_head(alloc, plain, &vlr_of(0, 0, 256))?;
-    assert_eq!(rt; alone.len(), 321);
-    let mut vlr = alone[227..].to_vec(alloc)?;
-    put(&mut vlr, 2, b"L");
-    let plain = plain_head(alloc, 0, 0, 1, &vlr)?;
-    let mut head = packed_head(alloc, plain, &PAYLOAD)?;
-    assert_eq!(rt; answer_of(alloc, &head, 0, &[])?, Ok(50_000));
-    put(&mut head, 229, b"l");
-    assert_eq!(rt; answer_of(alloc, &head, 0, &[])?, Err(Refusal::NoVlr));
-    put(&mut head, 323, b"L");
-    assert_eq!(rt; answer_of(alloc, &head, 0, &[])?, Ok(256));
+    let head = two_vlrs(rt.alloc())?;
+    assert_eq!(rt; head.len(), 415);
+    assert!(rt; answers_in_turn(rt.alloc(), head, &TWO_VLRS)?);
     Ok(())
+}
+
+// A chunk size, a number of points, and what a head with them is read as.
+static SIZES: [(u32, u32, Result<u32, Refusal>); 16] = [
+    (0, 0, Err(Refusal::ChunkSize)),
+    (0, 16_777_217, Err(Refusal::ChunkSize)),
+    (1, 0, Ok(1)),
+    (1, 16_777_216, Ok(1)),
+    (1, 16_777_217, Err(Refusal::TooManyChunks)),
+    (255, 4_278_190_080, Ok(255)),
+    (255, 4_278_190_081, Err(Refusal::TooManyChunks)),
+    (256, 4_294_967_295, Ok(256)),
+    (250_000, 4_294_967_295, Ok(250_000)),
+    (250_001, 250_000, Ok(250_001)),
+    (250_001, 250_001, Err(Refusal::ChunkSize)),
+    (4_294_967_294, 250_000, Ok(4_294_967_294)),
+    (4_294_967_294, 250_001, Err(Refusal::ChunkSize)),
+    (4_294_967_295, 0, Ok(4_294_967_295)),
+    (4_294_967_295, 250_001, Ok(4_294_967_295)),
+    (4_294_967_295, 4_294_967_295, Ok(4_294_967_295)),
+];
+
+fn answer_at(alloc: Global, chunk: u32, points: u32) -> Result<Result<u32, Refusal>, Fail> {
+    let mut head = head_with(alloc, 0, 0, &vlr_of(0, 0, chunk))?;
+    put(&mut head, 107, &points.to_le_bytes());
+    Ok(answer_of(head))
 }
 
 #[test]
 fn chunk_sizes_fit_the_points(rt: HostRuntime) -> Result<(), Fail> {
-    let alloc = rt.alloc();
-    let plain = plain_head(alloc, 0, 0, 0, &[])?;
-    let rows = [
-        (0, 0, Err(Refusal::ChunkSize)),
-        (0, 16_777_217, Err(Refusal::ChunkSize)),
-        (1, 0, Ok(1)),
-        (1, 16_777_216, Ok(1)),
-        (1, 16_777_217, Err(Refusal::TooManyChunks)),
-        (255, 4_278_190_080, Ok(255)),
-        (255, 4_278_190_081, Err(Refusal::TooManyChunks)),
-        (256, 4_294_967_295, Ok(256)),
-        (250_000, 4_294_967_295, Ok(250_000)),
-        (250_001, 250_000, Ok(250_001)),
-        (250_001, 250_001, Err(Refusal::ChunkSize)),
-        (4_294_967_294, 250_000, Ok(4_294_967_294)),
-        (4_294_967_294, 250_001, Err(Refusal::ChunkSize)),
-        (4_294_967_295, 0, Ok(4_294_967_295)),
-        (4_294_967_295, 250_001, Ok(4_294_967_295)),
-        (4_294_967_295, 4_294_967_295, Ok(4_294_967_295)),
-    ];
-    for (chunk, points, answer) in rows {
-        let head = packed_head(alloc, plain.clone()?, &vlr_of(0, 0, chunk))?;
-        let points: u32 = points;
-        let found = answer_of(alloc, &head, 107, &points.to_le_bytes())?;
-        assert_eq!(rt; found, answer, "{chunk} {points}");
-    }
-    for (points, chunk, count) in [
-        (0, 1, 0),
-        (256, 256, 1),
-        (257, 256, 2),
-        (u32::MAX, 1, u32::MAX),
-    ] {
-        assert_eq!(rt; chunk_count(points, chunk), count, "{points} {chunk}");
+    for (chunk, points, answer) in &SIZES {
+        let found = answer_at(rt.alloc(), *chunk, *points)?;
+        assert!(rt; found == *answer, "{chunk} {points}");
     }
     Ok(())
+}
+
+// A number of points, a chunk size, and the number of chunks.
+static COUNTS: [(u32, u32, u32); 4] = [
+    (0, 1, 0),
+    (256, 256, 1),
+    (257, 256, 2),
+    (u32::MAX, 1, u32::MAX),
+];
+
+#[test]
+fn chunks_are_counted(rt: HostRuntime) {
+    for (points, chunk, count) in &COUNTS {
+        let found = chunk_count(*points, (*chunk).max(1));
+        assert!(rt; found == *count, "{points} {chunk}");
+    }
 }

@@ -1,6 +1,6 @@
 use Rattle.std.proofs.Common.{◌≡◌}
 use Rattle.laz_models.specs.Dist.{alphabet_size}
-use Rattle.tests_coder.proofs.models.values_of_another_coder.Given as goal
+use Rattle.tests_coder.proofs.models.counted.Given as goal
 
 abbrev pub invariant-loop : goal.invariant-loop
-invariant-loop g l = alphabet_size l.model ≡ l.n
+invariant-loop l = alphabet_size l.model ≡ l.n
