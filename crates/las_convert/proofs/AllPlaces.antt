@@ -8,10 +8,11 @@ use Rattle.las_thin.specs.declared.pick.Pick.TheVariants.{First, Lowest, Highest
 use Rattle.las_thin.specs.Kept.{kept_behind}
 use Rattle.las_thin.specs.Sieving.{IsFirst, all_pass}
 use Rattle.las_thin.proofs.Public.{keeps_as_the_plan}
-use Rattle.laz_file.specs.Pieces.{Piece}
-use Rattle.laz_file.specs.Ranges.{whole_range}
-use Rattle.laz_file.specs.Records.{AreRecordsOf, HoldBlocks}
-use Rattle.laz_file.proofs.Public.{all_of, whole_of_all}
+use Rattle.laz_forms.specs.Pieces.{Piece}
+use Rattle.laz_forms.specs.Ranges.{whole_range}
+use Rattle.laz_forms.specs.Records.{AreRecordsOf, HoldBlocks}
+use Rattle.laz_reader.proofs.Public.{all_of}
+use Rattle.laz_file.proofs.Public.{whole_of_all}
 use Rattle.las_convert.specs.Adding.{Keeping}
 use Rattle.las_convert.specs.Converting.{AreFirstRecords, ConvertsBy, ConvertsOnce, ConvertsTwice, Keeps}
 use Rattle.las_convert.specs.Laws.{ConvertsAllRecords, ConvertsAsThePlan, ConvertsFirstRecords, ConvertsWholeFiles, bad_chunk, raw_record}

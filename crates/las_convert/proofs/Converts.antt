@@ -11,12 +11,14 @@ use Rattle.las_header.specs.Heads.{HeadView}
 use Rattle.las_filter.specs.Kept.{Kept}
 use Rattle.las_outside.specs.Files.{FileMap}
 use Rattle.laz_file.specs.Copying.{AreOnlyRecordsIn, LeavesUnfinished}
-use Rattle.laz_file.specs.Outputs.{Output}
-use Rattle.laz_file.specs.Pieces.{ArePieces, Piece}
-use Rattle.laz_file.specs.Reading.{AreWholeBlocks, ReaderSeen, StandsFor}
-use Rattle.laz_file.specs.Ranges.{Range, first_of, parts_of}
-use Rattle.laz_file.specs.Records.{AreRead, AreRecordsIn, HoldBlocks, HoldOnly, IsBadPiece, moved}
-use Rattle.laz_file.proofs.Public.{even_whole, fewer_first, hold_length, inside, more_first, no_length, one_pieces, concat-append, not_bad_before}
+use Rattle.laz_forms.specs.Outputs.{Output}
+use Rattle.laz_forms.specs.Pieces.{ArePieces, Piece}
+use Rattle.laz_reader.specs.Reading.{AreWholeBlocks, ReaderSeen, StandsFor}
+use Rattle.laz_forms.specs.Ranges.{Range, first_of, parts_of}
+use Rattle.laz_forms.specs.Records.{AreRead, AreRecordsIn, HoldBlocks, HoldOnly, IsBadPiece, moved}
+use Rattle.laz_forms.proofs.Public.{one_pieces, concat-append, not_bad_before}
+use Rattle.laz_reader.proofs.Public.{fewer_first, hold_length, inside, more_first, no_length}
+use Rattle.laz_file.proofs.Public.{even_whole}
 use Rattle.las_convert.specs.Adding.{Adds, Keeping, cut_all}
 use Rattle.las_convert.specs.Converting.{ConvertsOnce, ConvertsTwice, Keeps, kept_in}
 use Rattle.las_convert.specs.Laws.{raw_record}

@@ -13,12 +13,13 @@ use Rattle.las_info.specs.Tallies.{TapSeen}
 use Rattle.las_outside.specs.Drafts.{IsUnfinished}
 use Rattle.las_outside.specs.Files.{FileMap, with_file}
 use Rattle.las_outside.specs.Outside.{Outside, with_bytes}
-use Rattle.laz_file.specs.declared.fault.Fault.{Fault}
-use Rattle.laz_file.specs.declared.fault.Fault.TheVariants.{Refused, Read, Write, Memory}
-use Rattle.laz_file.specs.Copying.{HasCause, HoldFirst, LeavesUnfinished, with_reads}
-use Rattle.laz_file.specs.Outputs.{Output, draft_of, finished, front, patches_of, stopped}
-use Rattle.laz_file.specs.Reading.{ReaderSeen}
-use Rattle.laz_file.specs.Writing.{Stands, Stops, WriterSeen}
+use Rattle.laz_forms.specs.declared.fault.Fault.{Fault}
+use Rattle.laz_forms.specs.declared.fault.Fault.TheVariants.{Refused, Read, Write, Memory}
+use Rattle.laz_file.specs.Copying.{HoldFirst, LeavesUnfinished, with_reads}
+use Rattle.laz_forms.specs.FileFaults.{HasCause}
+use Rattle.laz_forms.specs.Outputs.{Output, draft_of, finished, front, patches_of, stopped}
+use Rattle.laz_reader.specs.Reading.{ReaderSeen}
+use Rattle.laz_writer.specs.Writing.{Stands, Stops, WriterSeen}
 use Rattle.laz_file.proofs.Public.{leaves_end, leaves_part, held_after, create_left}
 use Rattle.las_convert.specs.Adding.{Adds, EndsKeeping, Goes, Keeping, LeavesKept, cut_all}
 use Rattle.las_convert.specs.Converting.{EndsConverting, FinishesKept, LeavesConverting, RefusesKept, output_of}

@@ -12,7 +12,7 @@ use Rattle.las_thin.specs.declared.pick.Pick.TheVariants.{First, Lowest, Highest
 use Rattle.las_thin.specs.Kept.{kept_behind}
 use Rattle.las_thin.specs.Sieving.{Settings}
 use Rattle.las_header.specs.declared.refusal.Refusal.TheVariants.{BadChunk, RawRange}
-use Rattle.laz_file.specs.Outputs.{finished, stopped}
+use Rattle.laz_forms.specs.Outputs.{finished, stopped}
 use Rattle.las_convert.specs.Converting.{converted_output, has_output, kept_in}
 
 -- a LAS 1.2 head of 227 bytes and format 0, with this number of points, all of them first returns

@@ -4,11 +4,11 @@ use Rattle.std.specs.List.{concat}
 use Rattle.std.proofs.lemmas.List.{take_all}
 use Rattle.las_header.specs.declared.refusal.Refusal.{Refusal}
 use Rattle.las_header.specs.declared.refusal.Refusal.TheVariants.{BadChunk, RawRange}
-use Rattle.laz_file.specs.Existing.{HasSomeInRange}
-use Rattle.laz_file.specs.Pieces.{Piece}
-use Rattle.laz_file.specs.Ranges.{Range, parts_of}
-use Rattle.laz_file.specs.Records.{AreRead, AreRecordsIn, HoldBlocks}
-use Rattle.laz_file.proofs.Public.{and_then, there}
+use Rattle.laz_forms.specs.Existing.{HasSomeInRange}
+use Rattle.laz_forms.specs.Pieces.{Piece}
+use Rattle.laz_forms.specs.Ranges.{Range, parts_of}
+use Rattle.laz_forms.specs.Records.{AreRead, AreRecordsIn, HoldBlocks}
+use Rattle.laz_forms.proofs.Public.{and_then, there}
 use Rattle.las_thin.specs.declared.pick.Pick.{Pick}
 use Rattle.las_thin.specs.declared.pick.Pick.TheVariants.{First, Lowest, Highest}
 use Rattle.las_thin.specs.Kept.{kept_behind}

@@ -14,11 +14,13 @@ use Rattle.las_thin.specs.Sieving.{Sieving}
 use Rattle.las_outside.specs.Outside.{Outside}
 use Rattle.las_outside.specs.Files.{FileMap}
 use Rattle.laz_file.specs.Copying.{CanTake, HoldFirst, LeavesPart, Takes}
-use Rattle.laz_file.specs.Outputs.{Output}
-use Rattle.laz_file.specs.Pieces.{Piece}
-use Rattle.laz_file.specs.Reading.{ReaderSeen, records_in}
-use Rattle.laz_file.specs.Writing.{Stands, WriterSeen}
-use Rattle.laz_file.proofs.Public.{HasRead, ReadsMore, concat_more, concat_rest, even_for, even_whole, length_whole, read_more, records-append, concat-append, cut-append, whole_both, part_stands, part_then, takes_none, takes_read, takes_then}
+use Rattle.laz_forms.specs.Outputs.{Output}
+use Rattle.laz_forms.specs.Pieces.{Piece}
+use Rattle.laz_reader.specs.Reading.{ReaderSeen, records_in}
+use Rattle.laz_writer.specs.Writing.{Stands, WriterSeen}
+use Rattle.laz_forms.proofs.Public.{concat-append, whole_both}
+use Rattle.laz_writer.proofs.Public.{cut-append}
+use Rattle.laz_file.proofs.Public.{HasRead, ReadsMore, concat_more, concat_rest, even_for, even_whole, length_whole, read_more, records-append, part_stands, part_then, takes_none, takes_read, takes_then}
 use Rattle.las_convert.specs.Adding.{Adds, Goes, HaveCounted, IsAfter, Keeping, LeavesKept, cut_all}
 use Rattle.las_convert.proofs.Cuts.{length_cut}
 use Rattle.las_convert.proofs.Shown.{counted_more, cut_none, seen_by, shown_none, shown_then}

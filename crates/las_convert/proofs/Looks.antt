@@ -14,11 +14,12 @@ use Rattle.las_thin.specs.Placed.{Placed}
 use Rattle.las_thin.specs.Sieving.{IsFirst, Settings, Sieving}
 use Rattle.las_thin.specs.Sieving as sieve
 use Rattle.laz_file.specs.Copying.{AreOnlyRecordsIn, EndsAfter, HoldFirst}
-use Rattle.laz_file.specs.Outputs.{records_after}
-use Rattle.laz_file.specs.Ranges.{Range}
-use Rattle.laz_file.specs.Reading.{ReaderSeen, StandsFor}
-use Rattle.laz_file.specs.Records.{HoldOnly, IsBadPiece}
-use Rattle.laz_file.proofs.Public.{known_both, known_then, all_records_in, records_in_before, stands_ready}
+use Rattle.laz_forms.specs.Outputs.{records_after}
+use Rattle.laz_forms.specs.Ranges.{Range}
+use Rattle.laz_reader.specs.Reading.{ReaderSeen, StandsFor}
+use Rattle.laz_forms.specs.Records.{HoldOnly, IsBadPiece}
+use Rattle.laz_forms.proofs.Public.{known_both, known_then}
+use Rattle.laz_file.proofs.Public.{all_records_in, records_in_before, stands_ready}
 use Rattle.las_convert.specs.Adding.{Keeping}
 use Rattle.las_convert.specs.Converting.{AreLooked, ConvertsTwice, IsReady, OnlyConverts}
 use Rattle.las_convert.proofs.Converts.{OnlyTwice}

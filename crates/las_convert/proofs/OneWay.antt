@@ -11,12 +11,13 @@ use Rattle.las_thin.specs.declared.pick.Pick.TheVariants.{First, Lowest, Highest
 use Rattle.las_thin.specs.Kept.{kept_behind}
 use Rattle.las_thin.specs.Sieving.{IsFirst}
 use Rattle.laz_range.specs.Span.{IsBytes}
-use Rattle.laz_file.specs.Laws.{HasOneBlock, HasOneInRange}
-use Rattle.laz_file.specs.Pieces.{Piece}
-use Rattle.laz_file.specs.Ranges.{Range, parts_of}
-use Rattle.laz_file.specs.Records.{AreRead, AreRecordsIn, HoldBlocks, HoldOnly}
-use Rattle.laz_file.specs.Refusing.{IsAcceptedFile}
-use Rattle.laz_file.proofs.Public.{accepted_is_head, even_in, one_pieces, begins-with, only-blocks, none_some, some_same}
+use Rattle.laz_forms.specs.Laws.{HasOneBlock, HasOneInRange}
+use Rattle.laz_forms.specs.Pieces.{Piece}
+use Rattle.laz_forms.specs.Ranges.{Range, parts_of}
+use Rattle.laz_forms.specs.Records.{AreRead, AreRecordsIn, HoldBlocks, HoldOnly}
+use Rattle.laz_forms.specs.Refusing.{IsAcceptedFile}
+use Rattle.laz_forms.proofs.Public.{accepted_is_head, one_pieces, none_some, some_same}
+use Rattle.laz_file.proofs.Public.{even_in, begins-with, only-blocks}
 use Rattle.las_convert.specs.Adding.{Keeping, kept_by}
 use Rattle.las_convert.specs.Converting.{AreFirstRecords, ConvertsBy, ConvertsOnce, ConvertsTwice, Keeps, kept_in}
 use Rattle.las_convert.specs.Laws.{ConvertsInOneWay}

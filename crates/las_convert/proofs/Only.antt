@@ -6,9 +6,11 @@ use Rattle.std.proofs.lemmas.Bool.{cases_lt}
 use Rattle.std.proofs.lemmas.List.{append-nil}
 use Rattle.las_header.specs.Fields.{head_of, record_length_of}
 use Rattle.las_filter.specs.Kept.{Kept, kept_and}
-use Rattle.laz_file.specs.Pieces.{Piece}
-use Rattle.laz_file.specs.Records.{HoldBlocks, HoldOnly}
-use Rattle.laz_file.proofs.Public.{fewer_first, more_first, concat-append, cut-append}
+use Rattle.laz_forms.specs.Pieces.{Piece}
+use Rattle.laz_forms.specs.Records.{HoldBlocks, HoldOnly}
+use Rattle.laz_forms.proofs.Public.{concat-append}
+use Rattle.laz_reader.proofs.Public.{fewer_first, more_first}
+use Rattle.laz_writer.proofs.Public.{cut-append}
 use Rattle.las_convert.specs.Adding.{Adds, Keeping, cut_all}
 use Rattle.las_convert.specs.Converting.{kept_in}
 use Rattle.las_convert.proofs.Adding.{IsKeeping, adds_all, stays_all}

@@ -12,10 +12,10 @@ use Rattle.las_thin.specs.Kept.{kept_behind, passing}
 use Rattle.las_thin.specs.Placed.{Placed}
 use Rattle.las_thin.specs.Sieving.{IsFirst, Settings}
 use Rattle.laz_file.specs.Copying.{LeavesUnfinished}
-use Rattle.laz_file.specs.Outputs.{Output, records_after}
-use Rattle.laz_file.specs.Ranges.{Range}
-use Rattle.laz_file.specs.Reading.{AreWholeBlocks, ReaderSeen, StandsFor}
-use Rattle.laz_file.specs.Records.{HoldOnly, IsBadPiece}
+use Rattle.laz_forms.specs.Outputs.{Output, records_after}
+use Rattle.laz_forms.specs.Ranges.{Range}
+use Rattle.laz_reader.specs.Reading.{AreWholeBlocks, ReaderSeen, StandsFor}
+use Rattle.laz_forms.specs.Records.{HoldOnly, IsBadPiece}
 use Rattle.las_convert.specs.Adding.{Adds, Keeping, cut_all, kept_by}
 use Rattle.las_convert.specs.Converting.{AreLooked, ConvertsBy, ConvertsOnce, ConvertsTo, Keeps, OnlyConverts, kept_in}
 use Rattle.las_convert.proofs.Converts.{OnlyOnce, OnlyTwice, converts_all, converts_bad, converts_left, converts_raw, twice_all, twice_good, twice_left, twice_raw}

@@ -6,7 +6,7 @@ use Rattle.std.proofs.Math.Nat.{zero-div}
 use Rattle.las_header.specs.Plain.{cut_records}
 use Rattle.las_info.specs.Tallies.{TapSeen, count_at, shown_all}
 use Rattle.las_info.proofs.Public.{shown-few, all_seen, mapped, none_taps, taps-both}
-use Rattle.laz_file.proofs.Public.{cut-append}
+use Rattle.laz_writer.proofs.Public.{cut-append}
 use Rattle.las_convert.specs.Adding.{HaveCounted, cut_all}
 use Rattle.las_convert.proofs.Cuts.{length_cut}
 

@@ -16,8 +16,8 @@ use Rattle.las_outside.specs.Outside.{Outside}
 use Rattle.las_thin.specs.Placed.{Placed}
 use Rattle.las_thin.specs.Sieving.{Settings}
 use Rattle.laz_file.specs.Copying.{LeavesPart, Takes}
-use Rattle.laz_file.specs.Writing.{WriterSeen}
-use Rattle.laz_file.proofs.Public.{cut-joined}
+use Rattle.laz_writer.specs.Writing.{WriterSeen}
+use Rattle.laz_forms.proofs.Public.{cut-joined}
 use Rattle.las_convert.specs.Adding.{Adds, ChangesNothing, Goes, Keeping, LeavesKept, cut_all, kept_by}
 use Rattle.las_convert.proofs.Adding.{kept_from}
 use Rattle.las_convert.proofs.Cuts.{length_cut}

@@ -13,12 +13,14 @@ use Rattle.las_thin.specs.Sieving.{IsFirst, Settings}
 use Rattle.las_outside.specs.Files.{FileMap, WhereKnown, with_file}
 use Rattle.las_outside.specs.Outside.{Outside}
 use Rattle.laz_file.specs.Copying.{HoldFirst, LeavesUnfinished}
-use Rattle.laz_file.specs.Outputs.{Output, finished, records_after, stopped}
-use Rattle.laz_file.specs.Pieces.{Piece}
-use Rattle.laz_file.specs.Reading.{ReaderSeen, StandsFor}
-use Rattle.laz_file.specs.Records.{HoldOnly, IsBadPiece}
-use Rattle.laz_file.specs.Writing.{Stands, WriterSeen}
-use Rattle.laz_file.proofs.Public.{held_text, known_both, record_least, known_after, known_before, hold_ready}
+use Rattle.laz_forms.specs.Outputs.{Output, finished, records_after, stopped}
+use Rattle.laz_forms.specs.Pieces.{Piece}
+use Rattle.laz_reader.specs.Reading.{ReaderSeen, StandsFor}
+use Rattle.laz_forms.specs.Records.{HoldOnly, IsBadPiece}
+use Rattle.laz_writer.specs.Writing.{Stands, WriterSeen}
+use Rattle.laz_forms.proofs.Public.{known_both, record_least}
+use Rattle.laz_writer.proofs.Public.{held_text}
+use Rattle.laz_file.proofs.Public.{known_after, known_before, hold_ready}
 use Rattle.las_convert.specs.Adding.{Adds, EndsKeeping, Keeping, cut_all, kept_by}
 use Rattle.las_convert.specs.Converting.{AreLooked, ConvertsTo, FinishesKept, LeavesConverting, OnlyConverts, RefusesKept, converted_output, output_of}
 use Rattle.las_convert.proofs.Readings.{bad_once, settled_all, settled_bad, settled_left, settled_raw}

@@ -15,8 +15,8 @@ use Rattle.las_thin.specs.Sieving.{Settings, Sieving, all_pass, picks_first, sta
 use Rattle.las_thin.specs.Sieving as sieve
 use Rattle.laz_file.specs.Copying.{EndsAfter, HoldFirst, LeavesPart, Takes}
 use Rattle.laz_chunk.specs.Layouts.{Format}
-use Rattle.laz_file.specs.Reading.{Lends, ReaderSeen}
-use Rattle.laz_file.specs.Writing.{WriterSeen}
+use Rattle.laz_reader.specs.Reading.{Lends, ReaderSeen}
+use Rattle.laz_writer.specs.Writing.{WriterSeen}
 use Rattle.laz_workers.specs.Rooms.{HandSeen}
 
 -- what is kept of a list of records

@@ -18,14 +18,14 @@ use Rattle.las_thin.specs.Kept.{kept_behind, passing}
 use Rattle.las_thin.specs.Placed.{Placed}
 use Rattle.las_thin.specs.Sieving.{Settings, Sieving}
 use Rattle.las_thin.specs.Sieving as sieve
-use Rattle.laz_file.specs.declared.fault.Fault.{Fault}
-use Rattle.laz_file.specs.declared.fault.Fault.TheVariants.{Refused, Read, Write, Memory}
+use Rattle.laz_forms.specs.declared.fault.Fault.{Fault}
+use Rattle.laz_forms.specs.declared.fault.Fault.TheVariants.{Refused, Read, Write, Memory}
 use Rattle.laz_file.specs.Copying.{AreOnlyRecordsIn, HoldFirst, LeavesUnfinished}
-use Rattle.laz_file.specs.Outputs.{Output, finished, records_after, stopped}
-use Rattle.laz_file.specs.Pieces.{ArePieces, Piece}
-use Rattle.laz_file.specs.Reading.{ReaderSeen}
-use Rattle.laz_file.specs.Ranges.{Range, parts_of}
-use Rattle.laz_file.specs.Records.{AreRecordsIn, HoldBlocks}
+use Rattle.laz_forms.specs.Outputs.{Output, finished, records_after, stopped}
+use Rattle.laz_forms.specs.Pieces.{ArePieces, Piece}
+use Rattle.laz_reader.specs.Reading.{ReaderSeen}
+use Rattle.laz_forms.specs.Ranges.{Range, parts_of}
+use Rattle.laz_forms.specs.Records.{AreRecordsIn, HoldBlocks}
 use Rattle.las_convert.specs.Adding.{Adds, EndsKeeping, Keeping, cut_all}
 
 -- the output: under the plain head of the file, and its records are counted

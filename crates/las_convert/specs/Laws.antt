@@ -7,11 +7,11 @@ use Rattle.las_filter.specs.Kept.{Steps, kept}
 use Rattle.las_thin.specs.Kept.{kept_behind}
 use Rattle.las_thin.specs.Sieving.{IsFirst, Settings, all_pass}
 use Rattle.laz_range.specs.Span.{IsBytes}
-use Rattle.laz_file.specs.Existing.{IsNotNone}
-use Rattle.laz_file.specs.Pieces.{ArePieces, Piece}
-use Rattle.laz_file.specs.Ranges.{Range, whole_range}
-use Rattle.laz_file.specs.Records.{AreRecordsOf, HoldBlocks}
-use Rattle.laz_file.specs.Refusing.{IsAcceptedFile}
+use Rattle.laz_forms.specs.Existing.{IsNotNone}
+use Rattle.laz_forms.specs.Pieces.{ArePieces, Piece}
+use Rattle.laz_forms.specs.Ranges.{Range, whole_range}
+use Rattle.laz_forms.specs.Records.{AreRecordsOf, HoldBlocks}
+use Rattle.laz_forms.specs.Refusing.{IsAcceptedFile}
 use Rattle.las_convert.specs.Converting.{ConvertsOnce, ConvertsTo, Keeps, OnlyConverts}
 
 -- a bad chunk as a refusal

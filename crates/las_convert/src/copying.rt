@@ -7,10 +7,11 @@ ghost use Rattle.las_filter.specs.Kept.{steps_of};
 ghost use Rattle.las_outside.specs.Files.{WhereKnown};
 ghost use Rattle.las_outside.specs.Frames.{IsCalm, OnlyWrites};
 ghost use Rattle.las_thin.specs.Placed.{Placed};
-ghost use Rattle.laz_file.specs.Copying.{CanTake, HasCause};
-ghost use Rattle.laz_file.specs.Asking.{ReadsAndWrites, bytes_left};
-ghost use Rattle.laz_file.specs.Reading.{IsCrewOf, StandsFor};
-ghost use Rattle.laz_file.specs.Writing.{IsBegun};
+ghost use Rattle.laz_file.specs.Copying.{CanTake};
+ghost use Rattle.laz_forms.specs.FileFaults.{HasCause};
+ghost use Rattle.laz_reader.specs.Asking.{ReadsAndWrites, bytes_left};
+ghost use Rattle.laz_reader.specs.Reading.{IsCrewOf, StandsFor};
+ghost use Rattle.laz_writer.specs.Writing.{IsBegun};
 ghost use Rattle.las_convert.specs.Adding.{AfterAny, AfterNone, AfterSome, BeforeAll, Goes, GoesToEnd, HaveCounted};
 ghost use Rattle.las_convert.specs.Adding.{IsAfter, IsLent, LeavesKeeping, LeavesKept, cut_all};
 

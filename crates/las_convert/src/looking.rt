@@ -12,12 +12,12 @@ ghost use Rattle.las_outside.specs.Limits.{AreWorkers};
 ghost use Rattle.las_thin.specs.Kept.{passing};
 ghost use Rattle.las_thin.specs.Sieving.{IsFirst};
 ghost use Rattle.las_thin.specs.Sieving as sifting;
-ghost use Rattle.laz_file.specs.declared.fault.Fault.TheVariants.{Read, Refused, Write};
-ghost use Rattle.laz_file.specs.Asking.{bytes_left};
+ghost use Rattle.laz_forms.specs.declared.fault.Fault.TheVariants.{Read, Refused, Write};
+ghost use Rattle.laz_reader.specs.Asking.{bytes_left};
 ghost use Rattle.laz_file.specs.Copying.{EndsAfter, HoldFirst};
-ghost use Rattle.laz_file.specs.Outputs.{records_after};
-ghost use Rattle.laz_file.specs.Reading.{AgreesWithHead, EndsReading, IsCrewOf, IsFreshReader, StandsFor};
-ghost use Rattle.laz_file.specs.Reading.{records_in};
+ghost use Rattle.laz_forms.specs.Outputs.{records_after};
+ghost use Rattle.laz_reader.specs.Reading.{AgreesWithHead, EndsReading, IsCrewOf, IsFreshReader, StandsFor};
+ghost use Rattle.laz_reader.specs.Reading.{records_in};
 ghost use Rattle.las_convert.specs.Adding.{IsLent, cut_all};
 ghost use Rattle.las_convert.specs.Converting.{IsReady, OnlyConverts};
 

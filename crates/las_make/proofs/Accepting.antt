@@ -14,10 +14,10 @@ use Rattle.las_outside.specs.Limits.{IsChunkSize}
 use Rattle.las_points.specs.Tally.{counts_of}
 use Rattle.laz_table.specs.VlrCauses.{vlr_causes}
 use Rattle.laz_table.proofs.Public.{IsBytes-append}
-use Rattle.laz_file.specs.Laws.{AreHeadAndRecords, CanBePacked}
-use Rattle.laz_file.specs.Outputs.{records_after}
-use Rattle.laz_file.specs.Refusing.{IsAcceptedFile, chunk_causes, has_bad_pointer, tested_causes}
-use Rattle.laz_file.proofs.Public.{IsFirst-none, both_none, length-counted, long-size, short-size, are_counted, packed_accepted, plain-is, unpacks_again, accepted_plain, head-is, offset-is, plain-kept, records-is}
+use Rattle.laz_forms.specs.Laws.{AreHeadAndRecords, CanBePacked}
+use Rattle.laz_forms.specs.Outputs.{records_after}
+use Rattle.laz_forms.specs.Refusing.{IsAcceptedFile, chunk_causes, has_bad_pointer, tested_causes}
+use Rattle.laz_forms.proofs.Public.{IsFirst-none, both_none, length-counted, long-size, short-size, are_counted, packed_accepted, plain-is, unpacks_again, accepted_plain, head-is, offset-is, plain-kept, records-is}
 use Rattle.las_make.specs.declared.settings.Settings.{Settings}
 use Rattle.las_make.specs.Laws.{CanPackMade, UnpacksMade}
 use Rattle.las_make.specs.Made.{IsInRange, blank_head, made_file, made_head, made_length, made_records}

@@ -12,15 +12,16 @@ use Rattle.las_outside.specs.Files.{FileMap, IsMissing, WhereKnown, with_file}
 use Rattle.las_outside.specs.Limits.{IsChunkSize}
 use Rattle.las_outside.specs.Outside.{Outside, with_bytes, with_read_fault}
 use Rattle.las_outside.proofs.Public.{get-insert_same}
-use Rattle.laz_file.specs.Asking.{AsksAtMost, asked_to_open}
-use Rattle.laz_file.specs.Reading.{table_size}
-use Rattle.laz_file.specs.Refusing.{chunks_place, table_part, table_place}
-use Rattle.laz_file.specs.Sizes.{points_size}
+use Rattle.laz_reader.specs.Asking.{AsksAtMost, asked_to_open}
+use Rattle.laz_reader.specs.Reading.{table_size}
+use Rattle.laz_forms.specs.Refusing.{chunks_place, table_part, table_place}
+use Rattle.laz_forms.specs.Sizes.{points_size}
 use Rattle.laz_file.specs.Copying.{LeavesInPart, LeavesUnfinished, packed_output}
-use Rattle.laz_file.specs.Laws.{CanBePacked}
-use Rattle.laz_file.specs.Outputs.{draft_of, finished, patches_of}
-use Rattle.laz_file.specs.Packing.{pack, packed_file}
-use Rattle.laz_file.proofs.Public.{part_unfinished, finished_is, all_patched}
+use Rattle.laz_forms.specs.Laws.{CanBePacked}
+use Rattle.laz_forms.specs.Outputs.{draft_of, finished, patches_of}
+use Rattle.laz_forms.specs.Packing.{pack, packed_file}
+use Rattle.laz_forms.proofs.Public.{finished_is, all_patched}
+use Rattle.laz_file.proofs.Public.{part_unfinished}
 use Rattle.las_make.specs.declared.fault.MakeFault.{MakeFault}
 use Rattle.las_make.specs.declared.fault.MakeFault.TheVariants.{ReadPlain, Changed, ReadPacked, Write, Memory}
 use Rattle.las_make.specs.declared.settings.Settings.{Settings}

@@ -7,15 +7,16 @@ use Rattle.las_outside.specs.Faults.{Rose}
 use Rattle.las_outside.specs.Files.{FileMap, IsMissing, WhereKnown}
 use Rattle.las_outside.specs.Outside.{Outside}
 use Rattle.laz_table.specs.VlrCauses.{chunk_size_of}
-use Rattle.laz_file.specs.declared.fault.Fault.{Fault}
-use Rattle.laz_file.specs.declared.fault.Fault.TheVariants.{Refused, Read, Write, Memory}
-use Rattle.laz_file.specs.Asking.{AsksAtMost, asked_to_open, bytes_left}
+use Rattle.laz_forms.specs.declared.fault.Fault.{Fault}
+use Rattle.laz_forms.specs.declared.fault.Fault.TheVariants.{Refused, Read, Write, Memory}
+use Rattle.laz_reader.specs.Asking.{AsksAtMost, asked_to_open, bytes_left}
 use Rattle.laz_file.specs.Copying.{LeavesInPart, LeavesUnfinished, packed_output}
-use Rattle.laz_file.specs.Laws.{CanBePacked}
-use Rattle.laz_file.specs.Reading.{EndsReading, ReaderSeen, ReadsAll, StandsFor, chunk_of}
-use Rattle.laz_file.specs.Sizes.{points_size}
-use Rattle.laz_file.specs.Refusing.{IsRefusal}
-use Rattle.laz_file.proofs.Public.{known_both, known_then, left_size, refused_once}
+use Rattle.laz_forms.specs.Laws.{CanBePacked}
+use Rattle.laz_reader.specs.Reading.{EndsReading, ReaderSeen, ReadsAll, StandsFor, chunk_of}
+use Rattle.laz_forms.specs.Sizes.{points_size}
+use Rattle.laz_forms.specs.Refusing.{IsRefusal}
+use Rattle.laz_forms.proofs.Public.{known_both, known_then, refused_once}
+use Rattle.laz_reader.proofs.Public.{left_size}
 use Rattle.las_make.specs.Making.{FailsPacking, LeavesForm, LeavesFormInPart, fault_of}
 
 no_such : (o : Option (List ℕ)) (P : List ℕ → Type 0) → o ≡ None → IsSomeAnd o P → ⊥

@@ -15,11 +15,11 @@ use Rattle.las_outside.specs.Drafts.{IsUnfinished}
 use Rattle.las_outside.specs.Faults.{Rose}
 use Rattle.las_outside.specs.Outside.{Outside, with_bytes}
 use Rattle.las_points.specs.Tally.{counts_of}
-use Rattle.laz_file.specs.declared.fault.Fault.{Fault}
-use Rattle.laz_file.specs.declared.fault.Fault.TheVariants.{Refused, Read, Write, Memory}
+use Rattle.laz_forms.specs.declared.fault.Fault.{Fault}
+use Rattle.laz_forms.specs.declared.fault.Fault.TheVariants.{Refused, Read, Write, Memory}
 use Rattle.laz_file.specs.Copying.{LeavesUnfinished}
-use Rattle.laz_file.specs.Outputs.{Output, draft_of, patches_of, stopped}
-use Rattle.laz_file.specs.Writing.{Stands, Stops, WriterSeen}
+use Rattle.laz_forms.specs.Outputs.{Output, draft_of, patches_of, stopped}
+use Rattle.laz_writer.specs.Writing.{Stands, Stops, WriterSeen}
 use Rattle.laz_file.proofs.Public.{leaves_part, held_after}
 use Rattle.las_make.specs.declared.settings.Settings.{Settings}
 use Rattle.las_make.specs.Made.{IsInRange, blank_head, made_head, made_length, made_record, made_records, records_from}

@@ -2,10 +2,10 @@
 use Rattle.std.specs.Prelude.{ℕ, List}
 use Rattle.las_outside.specs.Limits.{IsChunkSize}
 use Rattle.las_outside.specs.Outside.{Outside}
-use Rattle.laz_file.specs.Laws.{CanBePacked}
-use Rattle.laz_file.specs.Packing.{packed_file}
-use Rattle.laz_file.specs.Records.{Unpacks}
-use Rattle.laz_file.specs.Refusing.{IsAcceptedFile}
+use Rattle.laz_forms.specs.Laws.{CanBePacked}
+use Rattle.laz_forms.specs.Packing.{packed_file}
+use Rattle.laz_forms.specs.Records.{Unpacks}
+use Rattle.laz_forms.specs.Refusing.{IsAcceptedFile}
 use Rattle.las_make.specs.declared.settings.Settings.{Settings}
 use Rattle.las_make.specs.declared.fault.MakeFault.{MakeFault}
 use Rattle.las_make.specs.Made.{IsInRange, made_file}

@@ -5,11 +5,11 @@ use Rattle.las_header.specs.Fields.{point_offset_of}
 use Rattle.las_outside.specs.Faults.{Rose}
 use Rattle.las_outside.specs.Files.{FileMap, WhereKnown, with_file}
 use Rattle.las_outside.specs.Outside.{Outside}
-use Rattle.laz_file.specs.declared.fault.Fault.{Fault}
-use Rattle.laz_file.specs.declared.fault.Fault.TheVariants as file
+use Rattle.laz_forms.specs.declared.fault.Fault.{Fault}
+use Rattle.laz_forms.specs.declared.fault.Fault.TheVariants as file
 use Rattle.laz_file.specs.Copying.{LeavesInPart, LeavesUnfinished, packed_output}
-use Rattle.laz_file.specs.Outputs.{Output}
-use Rattle.laz_file.specs.Packing.{packed_file}
+use Rattle.laz_forms.specs.Outputs.{Output}
+use Rattle.laz_forms.specs.Packing.{packed_file}
 use Rattle.las_make.specs.declared.fault.MakeFault.{MakeFault}
 use Rattle.las_make.specs.declared.fault.MakeFault.TheVariants.{ReadPlain, Changed, ReadPacked, Write, Memory}
 use Rattle.las_make.specs.declared.settings.Settings.{Settings}

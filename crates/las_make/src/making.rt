@@ -3,8 +3,8 @@ ghost use Rattle.std.specs.Prelude.{◌≡◌, ◌≢◌, IfErr, IfOk, IsSome, O
 ghost use Rattle.las_outside.specs.Frames.{IsCalm};
 ghost use Rattle.las_outside.specs.Limits.{AreWorkers, IsChunkSize};
 ghost use Rattle.las_outside.specs.Outside.{Later};
-ghost use Rattle.laz_file.specs.Asking.{AsksAtMost};
-ghost use Rattle.laz_file.specs.Packing.{packed_file};
+ghost use Rattle.laz_reader.specs.Asking.{AsksAtMost};
+ghost use Rattle.laz_forms.specs.Packing.{packed_file};
 ghost use Rattle.las_make.specs.Made.{IsInRange, made_file};
 ghost use Rattle.las_make.specs.Making.{FailsMaking, with_made};
 

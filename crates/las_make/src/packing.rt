@@ -4,10 +4,10 @@ ghost use Rattle.las_outside.specs.Files.{WhereKnown, with_file};
 ghost use Rattle.las_outside.specs.Frames.{IsCalm};
 ghost use Rattle.las_outside.specs.Limits.{AreWorkers, IsChunkSize};
 ghost use Rattle.las_outside.specs.Outside.{Later};
-ghost use Rattle.laz_file.specs.Asking.{AsksAtMost, asked_to_open};
-ghost use Rattle.laz_file.specs.Sizes.{points_size};
-ghost use Rattle.laz_file.specs.Laws.{CanBePacked};
-ghost use Rattle.laz_file.specs.Packing.{packed_file};
+ghost use Rattle.laz_reader.specs.Asking.{AsksAtMost, asked_to_open};
+ghost use Rattle.laz_forms.specs.Sizes.{points_size};
+ghost use Rattle.laz_forms.specs.Laws.{CanBePacked};
+ghost use Rattle.laz_forms.specs.Packing.{packed_file};
 ghost use Rattle.las_make.specs.Making.{FailsPacking, fault_of};
 
 use crate::MakeFault;

@@ -5,8 +5,8 @@ ghost use Rattle.std.specs.List.{concat};
 ghost use Rattle.las_outside.specs.Frames.{IsCalm, OnlyWrites};
 ghost use Rattle.las_outside.specs.Outside.{Outside, with_bytes};
 ghost use Rattle.laz_file.specs.Copying.{LeavesUnfinished};
-ghost use Rattle.laz_file.specs.Outputs.{Output};
-ghost use Rattle.laz_file.specs.Writing.{Stands};
+ghost use Rattle.laz_forms.specs.Outputs.{Output};
+ghost use Rattle.laz_writer.specs.Writing.{Stands};
 ghost use Rattle.las_make.specs.Made.{IsBefore, IsInRange, made_file, made_length, made_records, records_from};
 ghost use Rattle.las_make.specs.Making.{FailsWriting, LeavesPlain};
 

@@ -9,13 +9,16 @@ use Rattle.las_header.specs.Heads.{HeadView}
 use Rattle.las_outside.specs.Faults.{Rose}
 use Rattle.las_outside.specs.Files.{FileMap, IsMissing, WhereKnown}
 use Rattle.las_outside.specs.Outside.{Outside}
-use Rattle.laz_file.specs.declared.fault.Fault.{Fault}
-use Rattle.laz_file.specs.declared.fault.Fault.TheVariants as fault
-use Rattle.laz_file.specs.Copying.{CanTake, HasCause, LeavesPart, Takes}
-use Rattle.laz_file.specs.Reading.{AgreesWithHead, EndsReading, IsNewReader, ReaderSeen, StandsFor}
-use Rattle.laz_file.specs.Refusing.{IsRefusal}
-use Rattle.laz_file.specs.Writing.{WriterSeen}
-use Rattle.laz_file.proofs.Public.{known_then, refused_once, all_points, part_stands, part_then, takes_none, takes_read, takes_then}
+use Rattle.laz_forms.specs.declared.fault.Fault.{Fault}
+use Rattle.laz_forms.specs.declared.fault.Fault.TheVariants as fault
+use Rattle.laz_file.specs.Copying.{CanTake, LeavesPart, Takes}
+use Rattle.laz_forms.specs.FileFaults.{HasCause}
+use Rattle.laz_reader.specs.Reading.{AgreesWithHead, EndsReading, IsNewReader, ReaderSeen, StandsFor}
+use Rattle.laz_forms.specs.Refusing.{IsRefusal}
+use Rattle.laz_writer.specs.Writing.{WriterSeen}
+use Rattle.laz_forms.proofs.Public.{known_then, refused_once}
+use Rattle.laz_reader.proofs.Public.{all_points}
+use Rattle.laz_file.proofs.Public.{part_stands, part_then, takes_none, takes_read, takes_then}
 use Rattle.las_merge.specs.declared.fault.MergeFault.{MergeFault}
 use Rattle.las_merge.specs.declared.fault.MergeFault.TheVariants.{At, Unequal, TooManyPoints, TooManyChunks, Write, Memory}
 use Rattle.las_merge.specs.Copying.{BeginsWith, HasRoom, IsFaultOf}

@@ -6,10 +6,11 @@ use Rattle.std.proofs.lemmas.List.Elements.{All-head, All-tail}
 use Rattle.las_outside.specs.Files.{FileMap, IsMissing, WhereKnown}
 use Rattle.las_outside.specs.Outside.{Outside}
 use Rattle.las_outside.proofs.Public.{get-with_value, same_other}
-use Rattle.laz_file.specs.Asking.{AsksAtMost, asked_to_open, bytes_left}
-use Rattle.laz_file.specs.Reading.{ReaderSeen, ReadsAll, StandsFor}
-use Rattle.laz_file.specs.Sizes.{points_size}
-use Rattle.laz_file.proofs.Public.{known_both, left_size, sum-first}
+use Rattle.laz_reader.specs.Asking.{AsksAtMost, asked_to_open, bytes_left}
+use Rattle.laz_reader.specs.Reading.{ReaderSeen, ReadsAll, StandsFor}
+use Rattle.laz_forms.specs.Sizes.{points_size}
+use Rattle.laz_forms.proofs.Public.{known_both, sum-first}
+use Rattle.laz_reader.proofs.Public.{left_size}
 use Rattle.las_merge.specs.Asking.{asked_of_all}
 use Rattle.las_merge.specs.Inputs.{IfKnown, item_at}
 

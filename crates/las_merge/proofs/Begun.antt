@@ -5,10 +5,10 @@ use Rattle.las_header.specs.Plain.{plain_of, without_first}
 use Rattle.las_header.specs.Vlrs.{laszip_vlrs_of}
 use Rattle.las_outside.specs.Faults.{Rose}
 use Rattle.las_outside.specs.Outside.{Outside, with_bytes}
-use Rattle.laz_file.specs.declared.fault.Fault.{Fault}
-use Rattle.laz_file.specs.declared.fault.Fault.TheVariants as fault
-use Rattle.laz_file.specs.Outputs.{Output, front}
-use Rattle.laz_file.specs.Writing.{Stops}
+use Rattle.laz_forms.specs.declared.fault.Fault.{Fault}
+use Rattle.laz_forms.specs.declared.fault.Fault.TheVariants as fault
+use Rattle.laz_forms.specs.Outputs.{Output, front}
+use Rattle.laz_writer.specs.Writing.{Stops}
 use Rattle.laz_file.proofs.Public.{create_left}
 use Rattle.las_merge.specs.declared.fault.MergeFault.{MergeFault}
 use Rattle.las_merge.specs.declared.fault.MergeFault.TheVariants.{Write, Memory}

@@ -10,9 +10,10 @@ use Rattle.las_header.specs.Fields.{points_of, record_length_of}
 use Rattle.las_outside.specs.Files.{FileMap, WhereKnown}
 use Rattle.las_outside.specs.Outside.{Outside}
 use Rattle.laz_file.specs.Copying.{LeavesPart, Takes, with_reads}
-use Rattle.laz_file.specs.Outputs.{Output}
-use Rattle.laz_file.specs.Writing.{Stands, WriterSeen}
-use Rattle.laz_file.proofs.Public.{concat-append, known_taken, part_then, takes_none, takes_then}
+use Rattle.laz_forms.specs.Outputs.{Output}
+use Rattle.laz_writer.specs.Writing.{Stands, WriterSeen}
+use Rattle.laz_forms.proofs.Public.{concat-append}
+use Rattle.laz_file.proofs.Public.{known_taken, part_then, takes_none, takes_then}
 use Rattle.las_merge.specs.Copying.{AreCopied, CopiesAll, CopiesInto, CopiesTo, HasRoom, OnlyRecords}
 use Rattle.las_merge.specs.Inputs.{item_at}
 use Rattle.las_merge.specs.Opening.{InputSeen, IsItsFile, IsOpen, names_read, points_read}

@@ -8,10 +8,10 @@ use Rattle.las_header.specs.Plain.{plain_of}
 use Rattle.las_outside.specs.Files.{FileMap}
 use Rattle.las_points.specs.Tally.{counted_file}
 use Rattle.laz_range.specs.Span.{IsBytes}
-use Rattle.laz_file.specs.Outputs.{finished, records_after}
-use Rattle.laz_file.specs.Records.{Unpacks}
-use Rattle.laz_file.specs.Refusing.{IsAcceptedFile}
-use Rattle.laz_file.proofs.Public.{counted_file_is, concat-append}
+use Rattle.laz_forms.specs.Outputs.{finished, records_after}
+use Rattle.laz_forms.specs.Records.{Unpacks}
+use Rattle.laz_forms.specs.Refusing.{IsAcceptedFile}
+use Rattle.laz_forms.proofs.Public.{counted_file_is, concat-append}
 use Rattle.laz_copied.specs.Copied.{Chunk, all_of, copied_file, first_head, points_in}
 use Rattle.laz_copied.specs.Laws.{AreRight, CanBeCopied, CanCopy, HaveBlocks}
 use Rattle.laz_copied.proofs.Public.{accepted, records, merged, plain_head_is, records_whole}

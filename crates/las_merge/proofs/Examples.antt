@@ -2,7 +2,7 @@
 use Rattle.std.proofs.Common.{◌≡◌, ℕ, List, Some, None, refl}
 use Rattle.std.specs.Prelude.{replicate, slice_set}
 use Rattle.las_header.specs.Numbers.{number_at}
-use Rattle.laz_file.specs.declared.fault.Fault.TheVariants as fault
+use Rattle.laz_forms.specs.declared.fault.Fault.TheVariants as fault
 use Rattle.las_merge.specs.declared.field.Field.TheVariants.{Format, Length, Scales, Offsets, Bounds}
 use Rattle.las_merge.specs.declared.fault.MergeFault.TheVariants.{At, Write}
 use Rattle.las_merge.specs.Fields.{first_difference}

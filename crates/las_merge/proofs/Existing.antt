@@ -13,11 +13,11 @@ use Rattle.las_outside.specs.Files.{FileMap}
 use Rattle.laz_range.specs.Span.{IsBytes}
 use Rattle.laz_table.specs.declared.limits.TheConstants.{MAX_CHUNKS}
 use Rattle.laz_copied.specs.Copied.{Chunk, HaveChunks, all_of, chunk_at, first_head, points_in}
-use Rattle.laz_file.specs.declared.fault.Fault.TheVariants as fault
-use Rattle.laz_file.specs.Existing.{HasAnAnswer, HasPieces, HasSomeRecords, IsNotNone}
-use Rattle.laz_file.specs.Records.{AreRecordsOf}
-use Rattle.laz_file.specs.Refusing.{IsAcceptedFile, IsRefusal}
-use Rattle.laz_file.proofs.Public.{and_then, there}
+use Rattle.laz_forms.specs.declared.fault.Fault.TheVariants as fault
+use Rattle.laz_forms.specs.Existing.{HasAnAnswer, HasPieces, HasSomeRecords, IsNotNone}
+use Rattle.laz_forms.specs.Records.{AreRecordsOf}
+use Rattle.laz_forms.specs.Refusing.{IsAcceptedFile, IsRefusal}
+use Rattle.laz_forms.proofs.Public.{and_then, there}
 use Rattle.las_merge.specs.declared.field.Field.{Field}
 use Rattle.las_merge.specs.declared.fault.MergeFault.{MergeFault}
 use Rattle.las_merge.specs.declared.fault.MergeFault.TheVariants.{At, Unequal, TooManyPoints, TooManyChunks}

@@ -7,12 +7,13 @@ use Rattle.las_outside.specs.Drafts.{IsUnfinished}
 use Rattle.las_outside.specs.Faults.{Rose}
 use Rattle.las_outside.specs.Files.{FileMap}
 use Rattle.las_outside.specs.Outside.{Outside, with_bytes}
-use Rattle.laz_file.specs.declared.fault.Fault.{Fault}
-use Rattle.laz_file.specs.declared.fault.Fault.TheVariants as fault
+use Rattle.laz_forms.specs.declared.fault.Fault.{Fault}
+use Rattle.laz_forms.specs.declared.fault.Fault.TheVariants as fault
 use Rattle.laz_file.specs.Copying.{LeavesPart, with_reads}
-use Rattle.laz_file.specs.Outputs.{Output, draft_of, patches_of, stopped}
-use Rattle.laz_file.specs.Writing.{Stands, Stops, WriterSeen}
-use Rattle.laz_file.proofs.Public.{leaves_part, known_then, held_after}
+use Rattle.laz_forms.specs.Outputs.{Output, draft_of, patches_of, stopped}
+use Rattle.laz_writer.specs.Writing.{Stands, Stops, WriterSeen}
+use Rattle.laz_forms.proofs.Public.{known_then}
+use Rattle.laz_file.proofs.Public.{leaves_part, held_after}
 use Rattle.las_merge.specs.declared.fault.MergeFault.{MergeFault}
 use Rattle.las_merge.specs.declared.fault.MergeFault.TheVariants.{At, Unequal, TooManyPoints, TooManyChunks, Write, Memory}
 use Rattle.las_merge.specs.Inputs.{item_at}

@@ -7,11 +7,11 @@ use Rattle.las_header.specs.Fields.{head_of, is_packed}
 use Rattle.las_outside.specs.Faults.{Rose}
 use Rattle.las_outside.specs.Files.{FileMap, IsMissing, WhereKnown}
 use Rattle.las_outside.specs.Outside.{Outside}
-use Rattle.laz_file.specs.declared.fault.Fault.{Fault}
-use Rattle.laz_file.specs.declared.fault.Fault.TheVariants as fault
-use Rattle.laz_file.specs.Refusing.{IsRefusal}
-use Rattle.laz_file.specs.Reading.{EndsReading}
-use Rattle.laz_file.proofs.Public.{known_then}
+use Rattle.laz_forms.specs.declared.fault.Fault.{Fault}
+use Rattle.laz_forms.specs.declared.fault.Fault.TheVariants as fault
+use Rattle.laz_forms.specs.Refusing.{IsRefusal}
+use Rattle.laz_reader.specs.Reading.{EndsReading}
+use Rattle.laz_forms.proofs.Public.{known_then}
 use Rattle.las_merge.specs.declared.field.Field.{Field}
 use Rattle.las_merge.specs.declared.fault.MergeFault.{MergeFault}
 use Rattle.las_merge.specs.declared.fault.MergeFault.TheVariants.{At, Unequal, TooManyPoints, TooManyChunks, Write, Memory}

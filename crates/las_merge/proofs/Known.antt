@@ -7,7 +7,7 @@ use Rattle.std.proofs.lemmas.List.Sums.{sum_by-cons}
 use Rattle.las_header.specs.Fields.{head_of, points_of}
 use Rattle.las_header.specs.Heads.{HeadView}
 use Rattle.las_outside.specs.Files.{FileMap, WhereKnown, bytes_of}
-use Rattle.laz_file.specs.Refusing.{IsAcceptedFile}
+use Rattle.laz_forms.specs.Refusing.{IsAcceptedFile}
 use Rattle.las_merge.specs.Copying.{AreCopied, OnlyRecords}
 use Rattle.las_merge.specs.Fields.{first_difference}
 use Rattle.laz_copied.specs.Copied.{first_head, points_in}

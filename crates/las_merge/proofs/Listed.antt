@@ -14,12 +14,12 @@ use Rattle.las_outside.specs.Files.{FileMap, WhereKnown}
 use Rattle.laz_table.specs.declared.limits.TheConstants.{MAX_CHUNKS}
 use Rattle.laz_table.specs.Table.{table_bytes}
 use Rattle.laz_table.specs.VlrCauses.{chunk_size_of}
-use Rattle.laz_file.specs.Asking.{asked_for_chunks}
-use Rattle.laz_file.specs.Packing.{packed_head, table_after}
-use Rattle.laz_file.specs.Pieces.{ArePieces, Piece}
-use Rattle.laz_file.specs.Reading.{AgreesWithHead, ReaderSeen, StandsFor, chunks_in}
-use Rattle.laz_file.specs.Refusing.{IsAcceptedFile, chunks_place}
-use Rattle.laz_file.proofs.Public.{sum-lengths, known_both, known_then, concat-append}
+use Rattle.laz_reader.specs.Asking.{asked_for_chunks}
+use Rattle.laz_forms.specs.Packing.{packed_head, table_after}
+use Rattle.laz_forms.specs.Pieces.{ArePieces, Piece}
+use Rattle.laz_reader.specs.Reading.{AgreesWithHead, ReaderSeen, StandsFor, chunks_in}
+use Rattle.laz_forms.specs.Refusing.{IsAcceptedFile, chunks_place}
+use Rattle.laz_forms.proofs.Public.{sum-lengths, known_both, known_then, concat-append}
 use Rattle.laz_copied.specs.Copied as copied
 use Rattle.laz_copied.specs.Copied.{Chunk, HaveChunks, all_of, chunk_at, copied_file, copied_head, counts_in, first_head, points_in, returns_to_15}
 use Rattle.laz_copied.proofs.Public.{piece_counts, IsChunked, chunked, packed_front_known}

@@ -1,7 +1,7 @@
 -- What merging files gives, one file after another.
 use Rattle.std.proofs.Common.{◌≡◌, ℕ, zero, suc, ◌<◌, List, [], ◌∷◌, ◌++◌, length, take, Option, Some, None, refl, sym, ◌∙◌, ap, append_assoc, arith}
 use Rattle.std.specs.List.{concat}
-use Rattle.laz_file.specs.Records.{AreRecordsOf}
+use Rattle.laz_forms.specs.Records.{AreRecordsOf}
 use Rattle.las_merge.specs.Copying.{BeginsWith, OnlyRecords}
 use Rattle.las_merge.specs.Inputs.{item_at}
 use Rattle.las_merge.specs.Merging.{BadPlace, HasRecords, HaveRecords, MergesTo, OnlyMerges}

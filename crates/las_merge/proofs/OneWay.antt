@@ -4,8 +4,8 @@ use Rattle.std.specs.Prelude.{All}
 use Rattle.std.specs.List.{concat}
 use Rattle.std.proofs.lemmas.List.{take_all}
 use Rattle.laz_range.specs.Span.{IsBytes}
-use Rattle.laz_file.specs.Laws.{HasOneRecords}
-use Rattle.laz_file.specs.Records.{AreRecordsOf}
+use Rattle.laz_forms.specs.Laws.{HasOneRecords}
+use Rattle.laz_forms.specs.Records.{AreRecordsOf}
 use Rattle.las_merge.specs.Copying.{OnlyRecords}
 use Rattle.las_merge.specs.Inputs.{item_at}
 use Rattle.las_merge.specs.Laws.{MergesInOneWay}

@@ -20,10 +20,10 @@ use Rattle.las_outside.specs.Files.{FileMap}
 use Rattle.las_points.specs.Tally.{counts_of}
 use Rattle.laz_range.specs.Span.{IsBytes}
 use Rattle.laz_table.proofs.Public.{IsBytes-append}
-use Rattle.laz_file.specs.Laws.{AreHeadAndRecords, file_of}
-use Rattle.laz_file.specs.Outputs.{finished, records_after}
-use Rattle.laz_file.specs.Refusing.{IsAcceptedFile}
-use Rattle.laz_file.proofs.Public.{counted_format, counted_lengths, are_counted, finished_is, long-size, short-size, accepted_plain, head-is, plain-kept, records-is, splice-again, splice-splice, is_plain_form, reads_plain}
+use Rattle.laz_forms.specs.Laws.{AreHeadAndRecords, file_of}
+use Rattle.laz_forms.specs.Outputs.{finished, records_after}
+use Rattle.laz_forms.specs.Refusing.{IsAcceptedFile}
+use Rattle.laz_forms.proofs.Public.{counted_format, counted_lengths, are_counted, finished_is, long-size, short-size, accepted_plain, head-is, plain-kept, records-is, splice-again, splice-splice, is_plain_form, reads_plain}
 use Rattle.las_merge.specs.Copying.{output_with}
 use Rattle.las_merge.specs.declared.field.Field.{Field}
 use Rattle.las_merge.specs.declared.field.Field.TheVariants.{Format, Length, Scales, Offsets, Bounds}

@@ -8,13 +8,14 @@ use Rattle.las_header.specs.declared.refusal.Refusal.TheVariants.{BadChunk}
 use Rattle.las_header.specs.Fields.{record_length_of}
 use Rattle.las_outside.specs.Files.{FileMap, WhereKnown}
 use Rattle.las_outside.specs.Outside.{Outside}
-use Rattle.laz_file.specs.declared.fault.Fault.{Fault}
+use Rattle.laz_forms.specs.declared.fault.Fault.{Fault}
 use Rattle.laz_file.specs.Copying.{EndsAfter, HoldFirst, LeavesPart, Takes}
-use Rattle.laz_file.specs.Pieces.{Piece}
-use Rattle.laz_file.specs.Reading.{ReaderSeen, ReadsAll, StandsFor, records_in}
-use Rattle.laz_file.specs.Records.{AreRead, HoldOnly, IsBadPiece}
-use Rattle.laz_file.specs.Writing.{WriterSeen}
-use Rattle.laz_file.proofs.Public.{length_whole, read_begins, known_as, known_both, known_then, known_three, one_pieces, if_err_weaker, if_ok_weaker, part_stands, takes_none, all_records, left_is as whole_left, records_before, stands_ready}
+use Rattle.laz_forms.specs.Pieces.{Piece}
+use Rattle.laz_reader.specs.Reading.{ReaderSeen, ReadsAll, StandsFor, records_in}
+use Rattle.laz_forms.specs.Records.{AreRead, HoldOnly, IsBadPiece}
+use Rattle.laz_writer.specs.Writing.{WriterSeen}
+use Rattle.laz_forms.proofs.Public.{known_as, known_both, known_then, known_three, one_pieces, if_err_weaker, if_ok_weaker}
+use Rattle.laz_file.proofs.Public.{length_whole, read_begins, part_stands, takes_none, all_records, left_is as whole_left, records_before, stands_ready}
 use Rattle.las_merge.specs.Copying.{BeginsWith, CopiesTo, OnlyRecords}
 
 module _ (held : Option FileMap) (first : ReaderSeen) (buffers : ℕ) (new : ReadsAll first) (stands : WhereKnown held first.name (StandsFor first)) (n : ℕ) (blocks : List (List ℕ)) (hold : HoldFirst held (record first { buffers = buffers }) n blocks) where

@@ -8,12 +8,13 @@ use Rattle.las_header.specs.declared.refusal.Refusal.{Refusal}
 use Rattle.las_header.specs.declared.refusal.Refusal.TheVariants.{BadChunk}
 use Rattle.las_outside.specs.Files.{FileMap, WhereKnown, with_file}
 use Rattle.las_outside.specs.Outside.{Outside}
-use Rattle.laz_file.specs.declared.fault.Fault.{Fault}
-use Rattle.laz_file.specs.declared.fault.Fault.TheVariants as fault
+use Rattle.laz_forms.specs.declared.fault.Fault.{Fault}
+use Rattle.laz_forms.specs.declared.fault.Fault.TheVariants as fault
 use Rattle.laz_file.specs.Copying.{LeavesUnfinished}
-use Rattle.laz_file.specs.Outputs.{Output, finished, stopped}
-use Rattle.laz_file.specs.Writing.{Stands, WriterSeen}
-use Rattle.laz_file.proofs.Public.{held_text, leaves_part, known_after}
+use Rattle.laz_forms.specs.Outputs.{Output, finished, stopped}
+use Rattle.laz_writer.specs.Writing.{Stands, WriterSeen}
+use Rattle.laz_writer.proofs.Public.{held_text}
+use Rattle.laz_file.proofs.Public.{leaves_part, known_after}
 use Rattle.las_merge.specs.declared.fault.MergeFault.{MergeFault}
 use Rattle.las_merge.specs.declared.fault.MergeFault.TheVariants.{At, Unequal, TooManyPoints, TooManyChunks, Write, Memory}
 use Rattle.las_merge.specs.Copying.{CopiesAll, CopiesInto, CopiesTo, EndsMerging, FailsBeginning, LeavesMid, output_under}

@@ -2,8 +2,8 @@
 use Rattle.std.specs.Prelude.{ℕ, ◌+◌, List, map, sum, Option, Some, None}
 use Rattle.std.specs.FinMap as finmap
 use Rattle.las_outside.specs.Files.{FileMap}
-use Rattle.laz_file.specs.Asking.{asked_to_open}
-use Rattle.laz_file.specs.Sizes.{points_size}
+use Rattle.laz_reader.specs.Asking.{asked_to_open}
+use Rattle.laz_forms.specs.Sizes.{points_size}
 
 -- at most, of an input: nothing if it is not held; else what opening it takes, and then also what its records take
 abbrev pub asked_to_compare : Option (List ℕ) → ℕ

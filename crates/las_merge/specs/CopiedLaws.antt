@@ -3,9 +3,9 @@ use Rattle.std.specs.Prelude.{◌≡◌, ℕ, ◌≤◌, List, length, None, All
 use Rattle.las_header.specs.Fields.{head_of}
 use Rattle.las_outside.specs.Files.{FileMap}
 use Rattle.laz_range.specs.Span.{IsBytes}
-use Rattle.laz_file.specs.Outputs.{finished}
-use Rattle.laz_file.specs.Records.{Unpacks}
-use Rattle.laz_file.specs.Refusing.{IsAcceptedFile}
+use Rattle.laz_forms.specs.Outputs.{finished}
+use Rattle.laz_forms.specs.Records.{Unpacks}
+use Rattle.laz_forms.specs.Refusing.{IsAcceptedFile}
 use Rattle.laz_copied.specs.Copied.{Chunk, all_of, copied_file}
 use Rattle.laz_copied.specs.Laws.{HasRightCounts, HaveBothSets}
 use Rattle.las_merge.specs.declared.fault.MergeFault.{MergeFault}

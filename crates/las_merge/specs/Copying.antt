@@ -9,11 +9,11 @@ use Rattle.las_header.specs.Plain.{plain_of}
 use Rattle.las_outside.specs.Faults.{Rose}
 use Rattle.las_outside.specs.Files.{FileMap, WhereKnown, with_file}
 use Rattle.las_outside.specs.Outside.{Outside}
-use Rattle.laz_file.specs.declared.fault.Fault.TheVariants as fault
+use Rattle.laz_forms.specs.declared.fault.Fault.TheVariants as fault
 use Rattle.laz_file.specs.Copying.{AreOnlyRecords, LeavesPart, LeavesUnfinished}
-use Rattle.laz_file.specs.Outputs.{Output, stopped}
-use Rattle.laz_file.specs.Records.{AreRecordsOf}
-use Rattle.laz_file.specs.Writing.{WriterSeen}
+use Rattle.laz_forms.specs.Outputs.{Output, stopped}
+use Rattle.laz_forms.specs.Records.{AreRecordsOf}
+use Rattle.laz_writer.specs.Writing.{WriterSeen}
 use Rattle.las_merge.specs.declared.copying.BadInput.{BadInput}
 use Rattle.las_merge.specs.declared.fault.MergeFault.{MergeFault}
 use Rattle.las_merge.specs.declared.fault.MergeFault.TheVariants.{At, Unequal, TooManyPoints, TooManyChunks, Write}

@@ -5,8 +5,8 @@ use Rattle.std.specs.FinMap as finmap
 use Rattle.las_outside.specs.Files.{FileMap}
 use Rattle.laz_range.specs.Span.{IsBytes}
 use Rattle.laz_copied.specs.Copied.{Chunk}
-use Rattle.laz_file.specs.Existing.{IsNotNone}
-use Rattle.laz_file.specs.Refusing.{IsAcceptedFile}
+use Rattle.laz_forms.specs.Existing.{IsNotNone}
+use Rattle.laz_forms.specs.Refusing.{IsAcceptedFile}
 use Rattle.las_merge.specs.declared.fault.MergeFault.{MergeFault}
 use Rattle.las_merge.specs.Inputs.{CanMerge, IsKeptBy}
 use Rattle.las_merge.specs.Merging.{BadPlace, MergesTo}

@@ -7,8 +7,8 @@ use Rattle.las_header.specs.Fields.{head_of}
 use Rattle.las_outside.specs.Faults.{Rose}
 use Rattle.las_outside.specs.Files.{FileMap, IsMissing}
 use Rattle.las_outside.specs.Outside.{Outside}
-use Rattle.laz_file.specs.declared.fault.Fault.TheVariants as fault
-use Rattle.laz_file.specs.Refusing.{IsAcceptedFile, IsRefusal}
+use Rattle.laz_forms.specs.declared.fault.Fault.TheVariants as fault
+use Rattle.laz_forms.specs.Refusing.{IsAcceptedFile, IsRefusal}
 use Rattle.laz_copied.specs.Copied.{first_head, points_in}
 use Rattle.las_merge.specs.declared.fault.MergeFault.{MergeFault}
 use Rattle.las_merge.specs.declared.fault.MergeFault.TheVariants.{At, Unequal, TooManyPoints, TooManyChunks, Write}

@@ -8,11 +8,11 @@ use Rattle.las_outside.specs.Faults.{Rose}
 use Rattle.las_outside.specs.Files.{FileMap, IsMissing, WhereKnown}
 use Rattle.las_outside.specs.Outside.{Outside}
 use Rattle.laz_table.specs.declared.limits.TheConstants.{MAX_CHUNKS}
-use Rattle.laz_file.specs.declared.fault.Fault.{Fault}
-use Rattle.laz_file.specs.declared.fault.Fault.TheVariants as fault
-use Rattle.laz_file.specs.Asking.{asked_for_chunks}
-use Rattle.laz_file.specs.Pieces.{ArePieces, Piece}
-use Rattle.laz_file.specs.Reading.{ReaderSeen}
+use Rattle.laz_forms.specs.declared.fault.Fault.{Fault}
+use Rattle.laz_forms.specs.declared.fault.Fault.TheVariants as fault
+use Rattle.laz_reader.specs.Asking.{asked_for_chunks}
+use Rattle.laz_forms.specs.Pieces.{ArePieces, Piece}
+use Rattle.laz_reader.specs.Reading.{ReaderSeen}
 use Rattle.laz_copied.specs.Copied.{all_of}
 use Rattle.las_merge.specs.declared.fault.MergeFault.{MergeFault}
 use Rattle.las_merge.specs.declared.fault.MergeFault.TheVariants.{At, Unequal, TooManyPoints, TooManyChunks, Write}

@@ -6,10 +6,10 @@ use Rattle.las_header.specs.declared.refusal.Refusal.{Refusal}
 use Rattle.las_header.specs.declared.refusal.Refusal.TheVariants.{BadChunk}
 use Rattle.las_header.specs.Plain.{plain_of}
 use Rattle.las_outside.specs.Files.{FileMap, with_file}
-use Rattle.laz_file.specs.declared.fault.Fault.TheVariants as fault
+use Rattle.laz_forms.specs.declared.fault.Fault.TheVariants as fault
 use Rattle.laz_file.specs.Copying.{LeavesUnfinished}
-use Rattle.laz_file.specs.Outputs.{Output, finished, stopped}
-use Rattle.laz_file.specs.Records.{AreRecordsOf}
+use Rattle.laz_forms.specs.Outputs.{Output, finished, stopped}
+use Rattle.laz_forms.specs.Records.{AreRecordsOf}
 use Rattle.laz_copied.specs.Copied.{first_head}
 use Rattle.las_merge.specs.declared.fault.MergeFault.TheVariants.{At}
 use Rattle.las_merge.specs.Inputs.{CanMerge, IsKeptBy, item_at}

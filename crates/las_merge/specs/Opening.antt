@@ -7,10 +7,10 @@ use Rattle.las_header.specs.Vlrs.{laszip_vlrs_of}
 use Rattle.las_outside.specs.Faults.{Rose}
 use Rattle.las_outside.specs.Files.{FileMap, IsMissing, WhereKnown}
 use Rattle.las_outside.specs.Outside.{Outside}
-use Rattle.laz_file.specs.declared.fault.Fault.{Fault}
-use Rattle.laz_file.specs.declared.fault.Fault.TheVariants as fault
-use Rattle.laz_file.specs.Reading.{IsNewReader, ReaderSeen, StandsFor, records_in}
-use Rattle.laz_file.specs.Refusing.{IsAcceptedFile, IsRefusal}
+use Rattle.laz_forms.specs.declared.fault.Fault.{Fault}
+use Rattle.laz_forms.specs.declared.fault.Fault.TheVariants as fault
+use Rattle.laz_reader.specs.Reading.{IsNewReader, ReaderSeen, StandsFor, records_in}
+use Rattle.laz_forms.specs.Refusing.{IsAcceptedFile, IsRefusal}
 use Rattle.las_merge.specs.declared.fault.MergeFault.{MergeFault}
 use Rattle.las_merge.specs.declared.fault.MergeFault.TheVariants.{At, Unequal, TooManyPoints, TooManyChunks, Write}
 use Rattle.las_merge.specs.declared.fault.MergeFault.TheVariants.{Memory}

@@ -8,9 +8,9 @@ use Rattle.las_header.specs.declared.refusal.Refusal.TheVariants.{NotPacked}
 use Rattle.las_header.specs.Fields.{head_of, is_packed}
 use Rattle.las_outside.specs.Files.{FileMap, with_file}
 use Rattle.laz_table.specs.declared.limits.TheConstants.{MAX_CHUNKS}
-use Rattle.laz_file.specs.declared.fault.Fault.TheVariants as fault
-use Rattle.laz_file.specs.Asking.{asked_for_chunks}
-use Rattle.laz_file.specs.Refusing.{IsAcceptedFile, IsRefusal}
+use Rattle.laz_forms.specs.declared.fault.Fault.TheVariants as fault
+use Rattle.laz_reader.specs.Asking.{asked_for_chunks}
+use Rattle.laz_forms.specs.Refusing.{IsAcceptedFile, IsRefusal}
 use Rattle.laz_copied.specs.Copied.{Chunk, HaveChunks, bytes_in, copied_file, first_head, all_of, points_in}
 use Rattle.las_merge.specs.declared.fault.MergeFault.{MergeFault}
 use Rattle.las_merge.specs.declared.fault.MergeFault.TheVariants.{At, Unequal, TooManyPoints, TooManyChunks, Write}

@@ -8,7 +8,7 @@ use Rattle.las_header.specs.Heads.{IsHead}
 use Rattle.las_header.specs.Vlrs.{laszip_vlrs_of}
 use Rattle.las_outside.specs.Files.{FileMap}
 use Rattle.laz_range.specs.Span.{IsBytes}
-use Rattle.laz_file.specs.Outputs.{finished}
+use Rattle.laz_forms.specs.Outputs.{finished}
 use Rattle.las_merge.specs.Copying.{output_with}
 use Rattle.las_merge.specs.Inputs.{CanMerge, item_at}
 use Rattle.las_merge.specs.Merging.{MergesTo, merged_output}

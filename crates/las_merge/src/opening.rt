@@ -3,7 +3,7 @@ ghost use Rattle.std.specs.Prelude.{◌≡◌, ◌^◌, ◌<◌, ◌≤◌, ◌+
 ghost use Rattle.std.specs.FinMap as finmap;
 ghost use Rattle.las_outside.specs.Files.{WhereKnown};
 ghost use Rattle.las_outside.specs.Frames.{IsCalm, OnlyReads};
-ghost use Rattle.laz_file.specs.Asking.{AsksAtMost, asked_to_open};
+ghost use Rattle.laz_reader.specs.Asking.{AsksAtMost, asked_to_open};
 ghost use Rattle.las_merge.specs.declared.fault.MergeFault.TheVariants.{TooManyPoints};
 ghost use Rattle.las_merge.specs.declared.field.Field.{Field};
 ghost use Rattle.las_merge.specs.Fields.{first_difference};

@@ -13,11 +13,11 @@ use Rattle.las_words.specs.declared.command.WordFault.{WordFault}
 use Rattle.las_words.specs.declared.command.WordFault.TheVariants as fault
 use Rattle.las_words.specs.Asked.{Asked, Las2lasOptions, OneInput, Work, asked_by, las2las, lasinfo, lassplit, laszip, reads, work_by}
 use Rattle.las_words.specs.Says.{Said, asks, usage}
-use Rattle.laz_file.specs.Asking.{AsksAtMost, asked_to_open, bytes_left}
-use Rattle.laz_file.specs.Pieces.{ArePieces, Piece}
-use Rattle.laz_file.specs.Ranges.{Range, parts_of}
-use Rattle.laz_file.specs.Reading.{IsNewReader, ReaderSeen, StandsFor}
-use Rattle.laz_file.proofs.Public.{known_three, one_pieces, refused_once}
+use Rattle.laz_reader.specs.Asking.{AsksAtMost, asked_to_open, bytes_left}
+use Rattle.laz_forms.specs.Pieces.{ArePieces, Piece}
+use Rattle.laz_forms.specs.Ranges.{Range, parts_of}
+use Rattle.laz_reader.specs.Reading.{IsNewReader, ReaderSeen, StandsFor}
+use Rattle.laz_forms.proofs.Public.{known_three, one_pieces, refused_once}
 use Rattle.las_run.specs.Asking.{AsksFor, AsksOf, AsksWhole, TakesAll, WorkAsks, bytes_in, in_first_reading, in_readings}
 use Rattle.las_run.specs.Ends.{IsRead}
 use Rattle.las_run.specs.Tools.{range_in}

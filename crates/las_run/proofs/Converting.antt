@@ -25,14 +25,14 @@ use Rattle.las_thin.specs.declared.pick.Pick.TheVariants.{First, Lowest, Highest
 use Rattle.las_thin.specs.Kept.{kept_behind}
 use Rattle.las_thin.specs.Placed.{Placed}
 use Rattle.las_thin.specs.Sieving.{IsFirst, Settings, Sieving}
-use Rattle.laz_file.specs.declared.fault.Fault.{Fault}
-use Rattle.laz_file.specs.declared.fault.Fault.TheVariants as file
+use Rattle.laz_forms.specs.declared.fault.Fault.{Fault}
+use Rattle.laz_forms.specs.declared.fault.Fault.TheVariants as file
 use Rattle.laz_file.specs.Copying.{LeavesUnfinished}
-use Rattle.laz_file.specs.Outputs as points
-use Rattle.laz_file.specs.Ranges.{Range}
-use Rattle.laz_file.specs.Reading.{ReaderSeen, StandsFor}
-use Rattle.laz_file.specs.Refusing.{IsRefusal}
-use Rattle.laz_file.proofs.Public.{known_three, refused_once}
+use Rattle.laz_forms.specs.Outputs as points
+use Rattle.laz_forms.specs.Ranges.{Range}
+use Rattle.laz_reader.specs.Reading.{ReaderSeen, StandsFor}
+use Rattle.laz_forms.specs.Refusing.{IsRefusal}
+use Rattle.laz_forms.proofs.Public.{known_three, refused_once}
 use Rattle.las_run.specs.declared.stop.Stop.{Stop}
 use Rattle.las_run.specs.declared.stop.Stop.TheVariants as stop
 use Rattle.las_run.specs.Endings.{ComesAtOpening, Done, Refused, Ending, IsLeft, Output, files_of}

@@ -12,8 +12,8 @@ use Rattle.las_outside.specs.Sinks.{SinkView}
 use Rattle.las_outside.proofs.Public.{with_more-none}
 use Rattle.las_words.specs.Asked.{LasmergeOptions, lasmerge}
 use Rattle.laz_copied.specs.Copied.{Chunk, all_of, copied_file}
-use Rattle.laz_file.specs.declared.fault.Fault.{Fault}
-use Rattle.laz_file.specs.declared.fault.Fault.TheVariants as file
+use Rattle.laz_forms.specs.declared.fault.Fault.{Fault}
+use Rattle.laz_forms.specs.declared.fault.Fault.TheVariants as file
 use Rattle.las_merge.specs.declared.fault.MergeFault.{MergeFault}
 use Rattle.las_merge.specs.declared.fault.MergeFault.TheVariants as merge
 use Rattle.las_merge.specs.declared.field.Field.{Field}

@@ -4,7 +4,7 @@ use Rattle.std.specs.Fmt.{digits}
 use Rattle.las_header.specs.declared.refusal.Refusal.TheVariants.{BadChunk, NotPacked, RawRange, Trailing}
 use Rattle.las_merge.specs.declared.fault.MergeFault.TheVariants.{At, Unequal}
 use Rattle.las_merge.specs.declared.field.Field.TheVariants.{Format, Length, Scales, Offsets, Bounds}
-use Rattle.laz_file.specs.declared.fault.Fault.TheVariants as file
+use Rattle.laz_forms.specs.declared.fault.Fault.TheVariants as file
 use Rattle.las_run.specs.declared.stop.Surplus.TheVariants.{Chunks, Points}
 use Rattle.las_thin.specs.declared.pick.Pick.TheVariants.{First, Lowest, Highest}
 use Rattle.las_run.specs.Asking.{in_readings}

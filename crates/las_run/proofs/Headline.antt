@@ -8,11 +8,11 @@ use Rattle.las_header.specs.Fields.{head_of, is_packed, point_offset_of}
 use Rattle.las_header.specs.Heads.{IsHead}
 use Rattle.las_outside.specs.Files.{FileMap}
 use Rattle.laz_file.specs.Copying.{packed_output, plain_output}
-use Rattle.laz_file.specs.Laws.{CanBePacked}
-use Rattle.laz_file.specs.Outputs as points
-use Rattle.laz_file.specs.Packing.{pack, packed_file}
-use Rattle.laz_file.specs.Refusing.{IsAcceptedFile, IsRefusal}
-use Rattle.laz_file.proofs.Public.{plain_file, finished_is, packed-is, packed_accepted, plain-is, unpacks_again}
+use Rattle.laz_forms.specs.Laws.{CanBePacked}
+use Rattle.laz_forms.specs.Outputs as points
+use Rattle.laz_forms.specs.Packing.{pack, packed_file}
+use Rattle.laz_forms.specs.Refusing.{IsAcceptedFile, IsRefusal}
+use Rattle.laz_forms.proofs.Public.{plain_file, finished_is, packed-is, packed_accepted, plain-is, unpacks_again}
 use Rattle.las_run.specs.Endings.{AreUnfinished, Cause, Done, Refused, Ending, IsLeft, Output, ends_at_once, files_of, named, with_all}
 use Rattle.las_run.specs.Tools.{Zips, ZipsIf, cause_by, output_of, writes}
 use Rattle.las_run.specs.Headline.{CanMissOutput, CanMissRefusal, ChangesOutput, IsLaszip, IsPackedOf, Refuses, Writes, unpacked}
@@ -50,7 +50,7 @@ finished_form file output chunk can =
 pub is_packed_form : (file : List ℕ) (chunk : ℕ) → CanBePacked file chunk → is_packed (head_of (packed_file file chunk)) ≡ true
 is_packed_form file chunk can =
     subst (λ (h : List ℕ). is_packed (head_of (pack h (drop (point_offset_of file) file) chunk)) ≡ true) (plain-is file can.plain)
-    (packed-is file chunk (plain_file file can.accepted can.plain can.bytes) can.least can.most)
+    (packed-is file chunk (plain_file file can.accepted can.plain can.bytes) can.size.0 can.size.1)
 
 -- what can keep `laszip` from its ending
 can_miss_output : (ending : Ending) (excuse : Excuse) → ending.text ≡ [] → CanMiss ending excuse → CanMissOutput excuse

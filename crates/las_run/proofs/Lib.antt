@@ -1,21 +1,21 @@
-pub mod Asking
-pub mod Commands
-pub mod Converting
-pub mod Endings
+mod Asking
+mod Commands
+mod Converting
+mod Endings
 mod Examples
-pub mod Headline
-pub mod Keeping
-pub mod Made
-pub mod Making
-pub mod Merging
-pub mod Copying
-pub mod Opening
-pub mod Parting
-pub mod Rejoining
-pub mod Reporting
-pub mod Running
-pub mod OneEnding
-pub mod SomeEnding
-pub mod Saying
-pub mod Splitting
-pub mod Wholes
+mod Headline
+mod Keeping
+mod Made
+mod Making
+mod Merging
+mod Copying
+mod Opening
+mod Parting
+mod Rejoining
+mod Reporting
+mod Running
+mod OneEnding
+mod SomeEnding
+mod Saying
+mod Splitting
+mod Wholes

@@ -16,7 +16,7 @@ use Rattle.las_outside.specs.Files.{FileMap, with_file}
 use Rattle.las_outside.specs.Outside.{Outside}
 use Rattle.las_outside.specs.Sinks.{SinkView, with_fault, with_more}
 use Rattle.las_words.specs.Asked.{Asked, make}
-use Rattle.laz_file.specs.Packing.{packed_file}
+use Rattle.laz_forms.specs.Packing.{packed_file}
 use Rattle.las_run.specs.Endings.{Done, Ending, IsLeft, files_of}
 use Rattle.las_run.specs.declared.stop.Stop.TheVariants as stop
 use Rattle.las_run.specs.Runs.{Task, task_with}

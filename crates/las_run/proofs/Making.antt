@@ -15,13 +15,13 @@ use Rattle.las_outside.specs.Outside.{Outside}
 use Rattle.las_outside.specs.Sinks.{SinkView}
 use Rattle.las_outside.proofs.Public.{with_more-none}
 use Rattle.laz_table.specs.VlrCauses.{chunk_size_of}
-use Rattle.laz_file.specs.declared.fault.Fault.{Fault}
-use Rattle.laz_file.specs.declared.fault.Fault.TheVariants as file
+use Rattle.laz_forms.specs.declared.fault.Fault.{Fault}
+use Rattle.laz_forms.specs.declared.fault.Fault.TheVariants as file
 use Rattle.laz_file.specs.Copying.{AreOnlyRecords, LeavesRecords, LeavesUnfinished, packed_output, plain_output}
-use Rattle.laz_file.specs.Outputs as points
-use Rattle.laz_file.specs.Packing.{packed_file}
-use Rattle.laz_file.specs.Reading.{ReaderSeen, StandsFor}
-use Rattle.laz_file.proofs.Public.{finished_is, plain-is}
+use Rattle.laz_forms.specs.Outputs as points
+use Rattle.laz_forms.specs.Packing.{packed_file}
+use Rattle.laz_reader.specs.Reading.{ReaderSeen, StandsFor}
+use Rattle.laz_forms.proofs.Public.{finished_is, plain-is}
 use Rattle.las_run.specs.Endings.{ComesAtOpening, Done, Refused, Ending, IsLeft, files_of}
 use Rattle.las_run.specs.Tools.{Zips, ZipsIf, output_of, writes}
 use Rattle.las_run.specs.Ends.{EndsMaking, IsOnlyEnding, LeavesOf, MakesAs, MakesOutput, quiet, stopped_by}

@@ -18,9 +18,9 @@ use Rattle.las_outside.specs.Outside.{Later, Outside}
 use Rattle.las_outside.specs.Sinks.{SinkView, with_more}
 use Rattle.las_outside.proofs.Public.{with_more-none}
 use Rattle.las_words.specs.Asked.{LasmergeOptions, lasmerge}
-use Rattle.laz_file.specs.declared.fault.Fault.{Fault}
-use Rattle.laz_file.specs.declared.fault.Fault.TheVariants as file
-use Rattle.laz_file.specs.Outputs as points
+use Rattle.laz_forms.specs.declared.fault.Fault.{Fault}
+use Rattle.laz_forms.specs.declared.fault.Fault.TheVariants as file
+use Rattle.laz_forms.specs.Outputs as points
 use Rattle.las_run.specs.Endings.{ComesAtOpening, Done, Refused, Unread, Ending, IsLeft, ends_at_once, files_of}
 use Rattle.las_run.specs.Tools.{MergesIn, cause_of_fault, chunk_if, merges}
 use Rattle.las_run.specs.Runs.{Task, task_with}

@@ -14,10 +14,10 @@ use Rattle.las_words.specs.Asked.{LasmergeOptions, OneInput, Work, laszip, las2l
 use Rattle.las_words.specs.Says.{Said, asks, usage}
 use Rattle.laz_range.specs.Span.{IsBytes}
 use Rattle.laz_file.specs.Copying.{plain_output}
-use Rattle.laz_file.specs.Laws.{HasOneRecords}
-use Rattle.laz_file.specs.Ranges.{Range}
-use Rattle.laz_file.specs.Refusing.{IsAcceptedFile}
-use Rattle.laz_file.proofs.Public.{refused_once}
+use Rattle.laz_forms.specs.Laws.{HasOneRecords}
+use Rattle.laz_forms.specs.Ranges.{Range}
+use Rattle.laz_forms.specs.Refusing.{IsAcceptedFile}
+use Rattle.laz_forms.proofs.Public.{refused_once}
 use Rattle.las_convert.specs.Laws.{ConvertsInOneWay}
 use Rattle.las_merge.specs.Existing.{HoldBytes}
 use Rattle.las_merge.specs.Inputs.{CanMerge, item_at}

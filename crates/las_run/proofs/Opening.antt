@@ -7,8 +7,8 @@ use Rattle.las_outside.specs.Files.{FileMap, IsMissing, WhereKnown}
 use Rattle.las_outside.specs.Outside.{Outside}
 use Rattle.las_outside.specs.Sinks.{SinkView, with_fault, with_more}
 use Rattle.las_outside.proofs.Public.{with_more-none}
-use Rattle.laz_file.specs.Refusing.{IsAcceptedFile, IsRefusal}
-use Rattle.laz_file.proofs.Public.{refused_once}
+use Rattle.laz_forms.specs.Refusing.{IsAcceptedFile, IsRefusal}
+use Rattle.laz_forms.proofs.Public.{refused_once}
 use Rattle.las_run.specs.declared.stop.Stop.{Stop}
 use Rattle.las_run.specs.declared.stop.Stop.TheVariants as stop
 use Rattle.las_run.specs.Endings.{Cause, Done, Unread, Refused, Ending, Output, ends_at_once, files_of}

@@ -9,7 +9,7 @@ use Rattle.las_filter.specs.Parts.{part_name}
 use Rattle.las_header.specs.Fields.{record_length_of}
 use Rattle.las_header.specs.Plain.{plain_head}
 use Rattle.las_outside.specs.Files.{FileMap}
-use Rattle.laz_file.specs.Outputs as points
+use Rattle.laz_forms.specs.Outputs as points
 use Rattle.las_merge.specs.Copying.{output_with}
 use Rattle.las_merge.specs.Inputs.{item_at}
 use Rattle.las_merge.specs.Parts as merging

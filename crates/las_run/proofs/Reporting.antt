@@ -22,12 +22,12 @@ use Rattle.las_outside.specs.Files.{FileMap, WhereKnown}
 use Rattle.las_outside.specs.Sinks.{SinkView, with_fault, with_more}
 use Rattle.las_outside.proofs.Public.{with_more-none}
 use Rattle.laz_file.specs.Copying.{AreOnlyRecords}
-use Rattle.laz_file.specs.Outputs.{records_after}
-use Rattle.laz_file.specs.Pieces.{ArePieces, Piece}
-use Rattle.laz_file.specs.Reading.{ReaderSeen, StandsFor, chunks_in}
-use Rattle.laz_file.proofs.Public.{one_pieces}
-use Rattle.laz_file.specs.declared.fault.Fault.{Fault}
-use Rattle.laz_file.specs.declared.fault.Fault.TheVariants as file
+use Rattle.laz_forms.specs.Outputs.{records_after}
+use Rattle.laz_forms.specs.Pieces.{ArePieces, Piece}
+use Rattle.laz_reader.specs.Reading.{ReaderSeen, StandsFor, chunks_in}
+use Rattle.laz_forms.proofs.Public.{one_pieces}
+use Rattle.laz_forms.specs.declared.fault.Fault.{Fault}
+use Rattle.laz_forms.specs.declared.fault.Fault.TheVariants as file
 use Rattle.laz_table.specs.VlrCauses.{chunk_size_of}
 use Rattle.las_run.specs.Endings.{ComesAtOpening, Done, Refused, Ending, Output, at_end, files_of, with_all}
 use Rattle.las_run.specs.Ends.{Change, EndsMaking, IsOnlyEnding, LeavesOf, MakesOne, stop_by, stopped_report}

@@ -14,15 +14,15 @@ use Rattle.las_info.specs.Tallies.{TapSeen}
 use Rattle.las_words.specs.Asked.{Asked, Las2lasOptions, LasmergeOptions, OneInput, Work, laszip, las2las, lasinfo, lassplit, lasmerge, make, reads}
 use Rattle.las_words.specs.Says.{Said, asks, usage}
 use Rattle.laz_file.specs.Copying.{packed_output, plain_output}
-use Rattle.laz_file.specs.Outputs.{records_after}
-use Rattle.laz_file.specs.Packing.{packed_file}
-use Rattle.laz_file.specs.Pieces.{ArePieces, ArePiecesIf, Piece, piece_bytes, plain_pieces}
+use Rattle.laz_forms.specs.Outputs.{records_after}
+use Rattle.laz_forms.specs.Packing.{packed_file}
+use Rattle.laz_forms.specs.Pieces.{ArePieces, ArePiecesIf, Piece, piece_bytes, plain_pieces}
 use Rattle.laz_chunk.specs.Layouts.{record_length}
-use Rattle.laz_file.specs.Packing.{record_layout}
-use Rattle.laz_file.specs.Ranges.{Range, first_of, part_in, parts_if, parts_in, parts_of, taken_of}
-use Rattle.laz_file.specs.Records.{AreRead, AreRecordsIn, AreRecordsOf, HoldBlocks, HoldsBlock, HoldsIf, cut_block, moved}
-use Rattle.laz_file.specs.Refusing.{IsRefusal, chunk_causes, tested_causes}
-use Rattle.laz_file.proofs.Public.{hold-plain, packed_accepted, unpacks_again}
+use Rattle.laz_forms.specs.Packing.{record_layout}
+use Rattle.laz_forms.specs.Ranges.{Range, first_of, part_in, parts_if, parts_in, parts_of, taken_of}
+use Rattle.laz_forms.specs.Records.{AreRead, AreRecordsIn, AreRecordsOf, HoldBlocks, HoldsBlock, HoldsIf, cut_block, moved}
+use Rattle.laz_forms.specs.Refusing.{IsRefusal, chunk_causes, tested_causes}
+use Rattle.laz_forms.proofs.Public.{hold-plain, packed_accepted, unpacks_again}
 use Rattle.las_convert.specs.Adding.{Keeping}
 use Rattle.las_convert.specs.Converting.{ConvertsBy, ConvertsOnce, ConvertsTwice}
 use Rattle.las_thin.specs.declared.pick.Pick.{Pick}

@@ -12,10 +12,10 @@ use Rattle.las_words.specs.Asked.{LasmergeOptions, OneInput, Work, laszip, las2l
 use Rattle.las_words.specs.Says.{Said, asks, usage}
 use Rattle.laz_range.specs.Span.{IsBytes}
 use Rattle.laz_file.specs.Copying.{packed_output, plain_output}
-use Rattle.laz_file.specs.Existing.{HasAnAnswer, HasSomeRecords, IsNotNone}
-use Rattle.laz_file.specs.Outputs.{records_after}
-use Rattle.laz_file.specs.Refusing.{IsAcceptedFile, IsRefusal}
-use Rattle.laz_file.proofs.Public.{and_then, there}
+use Rattle.laz_forms.specs.Existing.{HasAnAnswer, HasSomeRecords, IsNotNone}
+use Rattle.laz_forms.specs.Outputs.{records_after}
+use Rattle.laz_forms.specs.Refusing.{IsAcceptedFile, IsRefusal}
+use Rattle.laz_forms.proofs.Public.{and_then, there}
 use Rattle.las_convert.specs.Laws.{ConvertsToSomething}
 use Rattle.las_merge.specs.declared.fault.MergeFault.{MergeFault}
 use Rattle.las_merge.specs.Existing.{AreKeptOrCopied, AreKeptOrMerged, HoldBytes, MergesToSomething}

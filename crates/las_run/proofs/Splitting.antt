@@ -11,10 +11,10 @@ use Rattle.las_outside.specs.Files.{FileMap, WhereKnown}
 use Rattle.las_outside.specs.Outside.{Outside}
 use Rattle.las_outside.specs.Sinks.{SinkView}
 use Rattle.las_outside.proofs.Public.{with_more-none}
-use Rattle.laz_file.specs.declared.fault.Fault.{Fault}
-use Rattle.laz_file.specs.declared.fault.Fault.TheVariants as file
-use Rattle.laz_file.specs.Outputs as points
-use Rattle.laz_file.proofs.Public.{all_patched}
+use Rattle.laz_forms.specs.declared.fault.Fault.{Fault}
+use Rattle.laz_forms.specs.declared.fault.Fault.TheVariants as file
+use Rattle.laz_forms.specs.Outputs as points
+use Rattle.laz_forms.proofs.Public.{all_patched}
 use Rattle.las_split.specs.Files.{with_files}
 use Rattle.las_split.specs.Outputs as split
 use Rattle.las_split.specs.Outputs.{LeavesParts, PartFile, all_finished, all_stopped, part_files}

@@ -8,8 +8,8 @@ use Rattle.las_header.specs.Fields.{head_of, point_offset_of, points_of, record_
 use Rattle.las_header.specs.Plain.{cut_records, plain_head}
 use Rattle.laz_range.specs.Span.{IsBytes}
 use Rattle.laz_range.proofs.Public.{IsBytes-take, IsBytes-drop}
-use Rattle.laz_file.specs.Outputs.{records_after}
-use Rattle.laz_file.proofs.Public.{plain_file, cut-length, plain-is, reads_plain}
+use Rattle.laz_forms.specs.Outputs.{records_after}
+use Rattle.laz_forms.proofs.Public.{plain_file, cut-length, plain-is, reads_plain}
 use Rattle.las_run.specs.EndingLaws.{AreWhole, PlainRecordsAreWhole}
 
 cut_each : (size n : ℕ) (bytes : List ℕ) → size * n ≤ length bytes → All (λ r. length r ≡ size) (cut_records size n bytes)

@@ -7,10 +7,10 @@ use Rattle.las_outside.specs.Outside.{Outside}
 use Rattle.las_thin.specs.declared.pick.Pick.{Pick}
 use Rattle.las_thin.specs.declared.pick.Pick.TheVariants.{First, Lowest, Highest}
 use Rattle.las_words.specs.Asked.{OneInput, Work, las2las, lasinfo, lassplit, laszip, reads}
-use Rattle.laz_file.specs.Asking.{AsksAtMost, asked_to_open}
-use Rattle.laz_file.specs.Pieces.{ArePieces, Piece}
-use Rattle.laz_file.specs.Ranges.{parts_of}
-use Rattle.laz_file.specs.Refusing.{IsRefusal}
+use Rattle.laz_reader.specs.Asking.{AsksAtMost, asked_to_open}
+use Rattle.laz_forms.specs.Pieces.{ArePieces, Piece}
+use Rattle.laz_forms.specs.Ranges.{parts_of}
+use Rattle.laz_forms.specs.Refusing.{IsRefusal}
 use Rattle.las_run.specs.declared.conversion.Conversion.{Conversion}
 use Rattle.las_run.specs.Tools.{range_in}
 

@@ -17,11 +17,11 @@ use Rattle.las_merge.specs.Existing.{HoldBytes}
 use Rattle.las_split.specs.Outputs.{part_files}
 use Rattle.las_split.specs.Splitting.{SplitsTo}
 use Rattle.laz_range.specs.Span.{IsBytes}
-use Rattle.laz_file.specs.Existing.{IsNotNone}
-use Rattle.laz_file.specs.Laws.{CanBePacked}
-use Rattle.laz_file.specs.Outputs.{finished}
-use Rattle.laz_file.specs.Packing.{packed_file}
-use Rattle.laz_file.specs.Refusing.{IsAcceptedFile}
+use Rattle.laz_forms.specs.Existing.{IsNotNone}
+use Rattle.laz_forms.specs.Laws.{CanBePacked}
+use Rattle.laz_forms.specs.Outputs.{finished}
+use Rattle.laz_forms.specs.Packing.{packed_file}
+use Rattle.laz_forms.specs.Refusing.{IsAcceptedFile}
 use Rattle.las_run.specs.Endings.{Done, Ending, files_of}
 use Rattle.las_run.specs.Runs.{RunOf, Task}
 use Rattle.las_run.specs.Tools.{MergesIn, Splits, part_outputs}

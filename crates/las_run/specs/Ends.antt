@@ -11,9 +11,9 @@ use Rattle.las_words.specs.declared.command.WordFault.{WordFault}
 use Rattle.las_words.specs.declared.command.WordFault.TheVariants as fault
 use Rattle.las_words.specs.Asked.{Work, asked_by, lasmerge, make, reads, work_by}
 use Rattle.las_words.specs.Says.{Said, asks, usage}
-use Rattle.laz_file.specs.declared.fault.Fault.{Fault}
-use Rattle.laz_file.specs.declared.fault.Fault.TheVariants as file
-use Rattle.laz_file.specs.Refusing.{IsRefusal}
+use Rattle.laz_forms.specs.declared.fault.Fault.{Fault}
+use Rattle.laz_forms.specs.declared.fault.Fault.TheVariants as file
+use Rattle.laz_forms.specs.Refusing.{IsRefusal}
 use Rattle.las_make.specs.declared.fault.MakeFault.{MakeFault}
 use Rattle.las_make.specs.declared.fault.MakeFault.TheVariants as made
 use Rattle.las_make.specs.declared.settings.Settings.{Settings}

@@ -8,8 +8,8 @@ use Rattle.las_header.specs.Plain.{plain_head}
 use Rattle.las_outside.specs.Files.{FileMap}
 use Rattle.las_words.specs.Asked.{laszip, reads}
 use Rattle.las_words.specs.Says.{asks}
-use Rattle.laz_file.specs.Records.{AreRecordsOf}
-use Rattle.laz_file.specs.Refusing.{IsAcceptedFile}
+use Rattle.laz_forms.specs.Records.{AreRecordsOf}
+use Rattle.laz_forms.specs.Refusing.{IsAcceptedFile}
 use Rattle.las_run.specs.Endings.{Cause, Refused}
 use Rattle.las_run.specs.Seen.{EndsWith, Excuse, NoMemory, FailedRead, FailedWrite, FailedOut, IsExcused, RunSeen}
 

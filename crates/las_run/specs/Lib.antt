@@ -5,10 +5,10 @@ pub use Rattle.las_outside.specs.Outside
 pub use Rattle.las_outside.specs.Sinks
 pub use Rattle.las_words.specs.Says
 pub use Rattle.las_words.specs.Texts
-pub use Rattle.laz_file.specs.Laws
-pub use Rattle.laz_file.specs.Packing
-pub use Rattle.laz_file.specs.Records
-pub use Rattle.laz_file.specs.Refusing
+pub use Rattle.laz_forms.specs.Laws
+pub use Rattle.laz_forms.specs.Packing
+pub use Rattle.laz_forms.specs.Records
+pub use Rattle.laz_forms.specs.Refusing
 pub mod Endings
 pub mod Lines
 pub mod Tools

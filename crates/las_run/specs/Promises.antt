@@ -8,9 +8,9 @@ use Rattle.las_outside.specs.Outside.{Later}
 use Rattle.las_outside.specs.Sinks.{Puts, written_after}
 use Rattle.las_words.specs.Asked.{Las2lasOptions, OneInput, las2las, reads}
 use Rattle.las_words.specs.Says as words
-use Rattle.laz_file.specs.Laws.{CanBePacked}
-use Rattle.laz_file.specs.Packing.{packed_file}
-use Rattle.laz_file.specs.Refusing.{IsRefusal}
+use Rattle.laz_forms.specs.Laws.{CanBePacked}
+use Rattle.laz_forms.specs.Packing.{packed_file}
+use Rattle.laz_forms.specs.Refusing.{IsRefusal}
 use Rattle.las_run.specs.Asking.{AsksFor, AsksWhole, TakesAll}
 use Rattle.las_run.specs.Endings.{Cause, ComesFirst, Done, Refused, Ending, status_of}
 use Rattle.las_run.specs.Ends.{Ends, IsTheEnding}

@@ -7,7 +7,7 @@ use Rattle.las_info.specs.Tallies.{TapSeen}
 use Rattle.las_outside.specs.Files.{FileMap}
 use Rattle.las_words.specs.Asked.{Asked, OneInput, Work, laszip, las2las, lasinfo, lassplit, lasmerge, make, reads}
 use Rattle.las_words.specs.Says.{Said, asks, says, usage}
-use Rattle.laz_file.specs.Refusing.{IsAcceptedFile, IsRefusal}
+use Rattle.laz_forms.specs.Refusing.{IsAcceptedFile, IsRefusal}
 use Rattle.las_run.specs.Endings.{Usage, Unread, Refused, Ending, ends_at_once}
 use Rattle.las_run.specs.Tools.{Zips, Converts, Reports, Splits, Merges, makes, settings_of}
 

@@ -13,14 +13,14 @@ use Rattle.las_header.specs.declared.refusal.Refusal.{Refusal}
 use Rattle.las_header.specs.declared.refusal.Refusal.TheVariants.{BadChunk}
 use Rattle.las_header.specs.Fields.{head_of, is_packed, point_offset_of, points_of}
 use Rattle.laz_file.specs.Copying.{packed_output, plain_output}
-use Rattle.laz_file.specs.Outputs as points
-use Rattle.laz_file.specs.Packing.{packed_file}
-use Rattle.laz_file.specs.Ranges.{Range}
-use Rattle.laz_file.specs.Records.{AreRecordsOf}
+use Rattle.laz_forms.specs.Outputs as points
+use Rattle.laz_forms.specs.Packing.{packed_file}
+use Rattle.laz_forms.specs.Ranges.{Range}
+use Rattle.laz_forms.specs.Records.{AreRecordsOf}
 use Rattle.las_info.specs.Report.{report_text, tally_text}
 use Rattle.las_info.specs.Summaries.{summary_of}
 use Rattle.las_info.specs.Tallies.{TapSeen, shown_all}
-use Rattle.laz_file.specs.Pieces.{ArePieces, Piece}
+use Rattle.laz_forms.specs.Pieces.{ArePieces, Piece}
 use Rattle.laz_table.specs.VlrCauses.{chunk_size_of}
 use Rattle.las_filter.specs.declared.rule.Rule.{Rule}
 use Rattle.las_merge.specs.declared.fault.MergeFault.{MergeFault}
@@ -36,7 +36,7 @@ use Rattle.las_make.specs.Making.{made_output}
 use Rattle.las_outside.specs.Files.{FileMap}
 use Rattle.las_split.specs.Outputs.{PartFile, part_files}
 use Rattle.las_split.specs.Splitting.{SplitsTo}
-use Rattle.laz_file.specs.declared.fault.Fault.TheVariants as file
+use Rattle.laz_forms.specs.declared.fault.Fault.TheVariants as file
 use Rattle.las_words.specs.declared.command.Packing.{Packing}
 use Rattle.las_words.specs.Asked.{Las2lasOptions, LasmergeOptions, MakeOptions}
 use Rattle.las_run.specs.declared.conversion.Conversion.{Conversion}

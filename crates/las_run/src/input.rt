@@ -3,8 +3,8 @@ ghost use Rattle.std.specs.Prelude.{◌≡◌, IfErr, IfOk, OnOk};
 ghost use Rattle.las_header.specs.Heads.{IsHead};
 ghost use Rattle.las_outside.specs.Files.{IsMissing, WhereKnown};
 ghost use Rattle.las_outside.specs.Frames.{IsCalm, OnlyReads};
-ghost use Rattle.laz_file.specs.Asking.{AsksAtMost, asked_to_open};
-ghost use Rattle.laz_file.specs.Reading.{AgreesWithHead, IsNewReader, StandsFor};
+ghost use Rattle.laz_reader.specs.Asking.{AsksAtMost, asked_to_open};
+ghost use Rattle.laz_reader.specs.Reading.{AgreesWithHead, IsNewReader, StandsFor};
 ghost use Rattle.las_run.specs.Ends.{StopsOpening, stop_by, stopped_by};
 
 use crate::stop::Stop;

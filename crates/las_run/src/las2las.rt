@@ -13,8 +13,8 @@ ghost use Rattle.las_outside.specs.Sinks.{SinkView};
 ghost use Rattle.las_thin.specs.Sieving.{HasItsStep, IsStep, StandsFor as SievesFor};
 ghost use Rattle.las_words.specs.Asked.{AreChosen, las2las, reads};
 ghost use Rattle.las_words.specs.Texts.{texts};
-ghost use Rattle.laz_file.specs.Asking.{AsksAtMost, asked_to_open, bytes_left};
-ghost use Rattle.laz_file.specs.Reading.{AgreesWithHead, IsFreshReader, IsNewReader, StandsFor};
+ghost use Rattle.laz_reader.specs.Asking.{AsksAtMost, ReadsAndWrites, asked_to_open, bytes_left};
+ghost use Rattle.laz_reader.specs.Reading.{AgreesWithHead, IsFreshReader, IsNewReader, StandsFor};
 ghost use Rattle.las_run.specs.Asking.{AsksAfterOpening, AsksFor, AsksToLook};
 ghost use Rattle.las_run.specs.Ends.{Ends, EndsMaking, StopsOpening, cause_of, changes, quiet};
 ghost use Rattle.las_run.specs.Runs.{task_for};
@@ -213,8 +213,7 @@ fn write_kept<R: Threads + Sync, F: Files, O: Sink, G: Gate>(
         sieve.settings in
         EndsMaking Makes reader.name (changes (F.seen files.old) (F.seen files.new) (O.seen out.old) (O.seen out.new))
         result }
-    ensures later { Later (F.seen files.old) (F.seen files.new) }
-    ensures asked { AsksAtMost (bytes_left reader) (F.seen files.old) (F.seen files.new) }
+    ensures frame { ReadsAndWrites (bytes_left reader) (F.seen files.old) (F.seen files.new) }
 {
     let Request { output, plan, .. } = *request;
     let mut passage = Passage::new(machine.alloc, sieve, chosen);

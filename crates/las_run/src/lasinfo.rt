@@ -4,11 +4,12 @@ ghost use Rattle.las_header.specs.Heads.{IsHead};
 ghost use Rattle.las_info.specs.Tallies.{count_at};
 ghost use Rattle.las_outside.specs.Files.{WhereKnown};
 ghost use Rattle.las_outside.specs.Limits.{AreWorkers};
+ghost use Rattle.las_outside.specs.Frames.{Reads};
 ghost use Rattle.las_outside.specs.Outside.{Later};
 ghost use Rattle.las_words.specs.Asked.{AreChosen, lasinfo, reads};
 ghost use Rattle.las_words.specs.Texts.{texts};
-ghost use Rattle.laz_file.specs.Asking.{AsksAtMost, bytes_left};
-ghost use Rattle.laz_file.specs.Reading.{AgreesWithHead, IsNewReader, StandsFor};
+ghost use Rattle.laz_reader.specs.Asking.{bytes_left};
+ghost use Rattle.laz_reader.specs.Reading.{AgreesWithHead, IsNewReader, StandsFor};
 ghost use Rattle.std.specs.Option.{option_map};
 ghost use Rattle.las_run.specs.Asking.{AsksWhole};
 ghost use Rattle.las_run.specs.Ends.{Ends, EndsMaking, cause_of, changes, stopped_report};
@@ -65,8 +66,7 @@ fn inform<R: Threads + Sync, F: Files, O: Sink, G: Gate>(
     requires stands { WhereKnown (F.seen files.old).held reader.name (StandsFor reader) }
     ensures ends { EndsMaking (Reports (map (λ tap. tap_seen tap) taps.items) reader.name (texts tallies.now))
         reader.name (changes (F.seen files.old) (F.seen files.new) (O.seen out.old) (O.seen out.new)) result }
-    ensures asked { AsksAtMost (bytes_left reader) (F.seen files.old) (F.seen files.new) }
-    ensures later { Later (F.seen files.old) (F.seen files.new) }
+    ensures reads { Reads (bytes_left reader) (F.seen files.old) (F.seen files.new) }
 {
     let mut reader = reader;
     let chunks = chunks_of(&reader);

@@ -6,8 +6,8 @@ ghost use Rattle.las_outside.specs.Limits.{AreWorkers};
 ghost use Rattle.las_outside.specs.Outside.{Later};
 ghost use Rattle.las_outside.specs.Sinks.{SinkView};
 ghost use Rattle.las_words.specs.Asked.{lassplit, reads};
-ghost use Rattle.laz_file.specs.Asking.{AsksAtMost, bytes_left};
-ghost use Rattle.laz_file.specs.Reading.{AgreesWithHead, IsNewReader, StandsFor};
+ghost use Rattle.laz_reader.specs.Asking.{ReadsAndWrites, bytes_left};
+ghost use Rattle.laz_reader.specs.Reading.{AgreesWithHead, IsNewReader, StandsFor};
 ghost use Rattle.las_info.specs.Tallies.{TapSeen};
 ghost use Rattle.las_run.specs.Asking.{AsksWhole};
 ghost use Rattle.las_run.specs.Ends.{Ends, EndsMaking, cause_of, quiet, stopped_by};
@@ -80,8 +80,7 @@ fn write_parts<R: Threads + Sync, F: Files, G: Gate>(
     ensures ends { (out : SinkView) → EndsMaking
         (Splits reader.name (string_bytes names.now.stem) (string_bytes names.now.end) rule.now)
         reader.name (quiet (F.seen files.old) (F.seen files.new) out) (stopped_by 0 result) }
-    ensures asked { AsksAtMost (bytes_left reader) (F.seen files.old) (F.seen files.new) }
-    ensures later { Later (F.seen files.old) (F.seen files.new) }
+    ensures frame { ReadsAndWrites (bytes_left reader) (F.seen files.old) (F.seen files.new) }
 {
     match split(
         machine.rt,

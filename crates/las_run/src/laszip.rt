@@ -6,8 +6,8 @@ ghost use Rattle.las_outside.specs.Limits.{AreWorkers, IsChunkSize};
 ghost use Rattle.las_outside.specs.Outside.{Later};
 ghost use Rattle.las_outside.specs.Sinks.{SinkView};
 ghost use Rattle.las_words.specs.Asked.{laszip, reads};
-ghost use Rattle.laz_file.specs.Asking.{AsksAtMost, bytes_left};
-ghost use Rattle.laz_file.specs.Reading.{AgreesWithHead, IsNewReader, StandsFor};
+ghost use Rattle.laz_reader.specs.Asking.{ReadsAndWrites, bytes_left};
+ghost use Rattle.laz_reader.specs.Reading.{AgreesWithHead, IsNewReader, StandsFor};
 ghost use Rattle.las_info.specs.Tallies.{TapSeen};
 ghost use Rattle.las_run.specs.Asking.{AsksWhole};
 ghost use Rattle.las_run.specs.Ends.{Ends, EndsMaking, cause_of, quiet, stopped_by};
@@ -59,8 +59,7 @@ fn zip<R: Threads + Sync, F: Files, G: Gate>(
     requires stands { WhereKnown (F.seen files.old).held reader.name (StandsFor reader) }
     ensures ends { (out : SinkView) → EndsMaking (Zips reader.name output.now chunk) reader.name
         (quiet (F.seen files.old) (F.seen files.new) out) (stopped_by 0 result) }
-    ensures asked { AsksAtMost (bytes_left reader) (F.seen files.old) (F.seen files.new) }
-    ensures later { Later (F.seen files.old) (F.seen files.new) }
+    ensures frame { ReadsAndWrites (bytes_left reader) (F.seen files.old) (F.seen files.new) }
 {
     let Machine {
         rt,

@@ -19,8 +19,8 @@ pub fn one_ending()
 }
 
 /// That no ending is defined for a task is refuted, for every command and whatever the bytes of the files are: also for
-/// packed files of other writers, and for merges. Together with `one_ending`, each run has its one ending. Which one it is
-/// can be told of a packed file only by reading it, so this law names none.
+/// packed files of other writers, and for merges. Together with `one_ending`, each run has its one ending. Which one it
+/// is can be told of a packed file only by reading it, so this law names none.
 pub fn no_task_is_without_an_ending()
     ensures { SomeEndingIsDefined }
 {
@@ -30,8 +30,8 @@ pub fn no_task_is_without_an_ending()
     merging_gives_something();
 }
 
-/// Which tasks and files have an ending that is known before they are read: wrong words, and commands with one input if it
-/// is missing, plain, or the packed form of an accepted plain file.
+/// Which tasks and files have an ending that is known before they are read: wrong words, and commands with one input if
+/// it is missing, plain, or the packed form of an accepted plain file.
 pub fn endings_are_defined()
     ensures wrong { WrongWordsEnd }
     ensures missing { MissingInputsEnd }

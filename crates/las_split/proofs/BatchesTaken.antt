@@ -8,9 +8,11 @@ use Rattle.las_filter.specs.Parts.{part_name}
 use Rattle.las_header.specs.Fields.{points_of, record_length_of}
 use Rattle.las_header.specs.Heads.{HeadView, IsHead}
 use Rattle.las_outside.specs.Files.{FileMap, WhereKnown, with_file}
-use Rattle.laz_file.specs.Reading.{AreWholeBlocks, ReaderSeen, records_in}
-use Rattle.laz_file.specs.Writing.{WriterSeen}
-use Rattle.laz_file.proofs.Public.{HasRead, even_whole, length_whole, records-append, concat-append, cut-append, known_after, known_before}
+use Rattle.laz_reader.specs.Reading.{AreWholeBlocks, ReaderSeen, records_in}
+use Rattle.laz_writer.specs.Writing.{WriterSeen}
+use Rattle.laz_forms.proofs.Public.{concat-append}
+use Rattle.laz_writer.proofs.Public.{cut-append}
+use Rattle.laz_file.proofs.Public.{HasRead, even_whole, length_whole, records-append, known_after, known_before}
 use Rattle.las_split.specs.Files.{with_files}
 use Rattle.las_split.specs.Sorting.{HasRoom, InParts, IsPlainFor, LeavesBlock, Task, bytes_at, cut_all, standing}
 use Rattle.las_split.proofs.Blocks.{cut_none, even_all}

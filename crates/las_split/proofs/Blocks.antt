@@ -9,8 +9,10 @@ use Rattle.std.proofs.Math.Seq.{drop-cons}
 use Rattle.las_header.specs.Fields.{points_of}
 use Rattle.las_header.specs.Plain.{cut_records}
 use Rattle.las_outside.specs.Files.{FileMap}
-use Rattle.laz_file.specs.Writing.{WriterSeen}
-use Rattle.laz_file.proofs.Public.{concat_more, concat_rest, cut-append, whole_both}
+use Rattle.laz_writer.specs.Writing.{WriterSeen}
+use Rattle.laz_forms.proofs.Public.{whole_both}
+use Rattle.laz_writer.proofs.Public.{cut-append}
+use Rattle.laz_file.proofs.Public.{concat_more, concat_rest}
 use Rattle.las_split.specs.Sorting.{FitAfter, HasRoom, InParts, LeavesBlock, LeavesPrefixes, SortsBlock, TakesBlock, Task, cut_all}
 use Rattle.las_split.specs.Splitting.{OpensTooMany}
 use Rattle.las_split.proofs.SortingPoints.{all_bytes, cut_length}

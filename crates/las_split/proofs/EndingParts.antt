@@ -4,8 +4,8 @@ use Rattle.std.proofs.lemmas.List.{append-nil, drop_all, length-drop, length-rev
 use Rattle.std.proofs.Math.Seq.{drop-cons}
 use Rattle.las_outside.specs.Drafts.{IsUnfinished}
 use Rattle.las_outside.specs.Files.{FileMap, with_file}
-use Rattle.laz_file.specs.Outputs.{draft_of, finished, front, patches_of, stopped}
-use Rattle.laz_file.specs.Writing.{WriterSeen}
+use Rattle.laz_forms.specs.Outputs.{draft_of, finished, front, patches_of, stopped}
+use Rattle.laz_writer.specs.Writing.{WriterSeen}
 use Rattle.las_split.specs.declared.limits.TheConstants.{MAX_PARTS}
 use Rattle.las_split.specs.Files.{with_files}
 use Rattle.las_split.specs.Outputs.{AreDrafts, AreEnding, LeavesParts, PartFile, named, outputs_under}

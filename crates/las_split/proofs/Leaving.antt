@@ -2,7 +2,7 @@
 use Rattle.std.proofs.Common.{◌≡◌, inl, ℕ, map, List, [], ◌∷◌, ◌++◌, length, take, Option, refl, sym, ◌∙◌, ap, subst, append_assoc}
 use Rattle.std.specs.List.{concat}
 use Rattle.las_outside.specs.Files.{FileMap}
-use Rattle.laz_file.specs.Outputs.{finished, stopped}
+use Rattle.laz_forms.specs.Outputs.{finished, stopped}
 use Rattle.las_split.specs.Files.{with_files}
 use Rattle.las_split.specs.Outputs.{AreBegun, LeavesParts, PartFile, all_finished, all_stopped, named, output_under, outputs_under}
 use Rattle.las_split.specs.Parts.{numbers_of_parts, part}

@@ -6,11 +6,13 @@ use Rattle.las_header.specs.declared.refusal.Refusal.{Refusal}
 use Rattle.las_header.specs.declared.refusal.Refusal.TheVariants.{BadChunk, TooManyParts}
 use Rattle.las_header.specs.Fields.{head_of, record_length_of}
 use Rattle.laz_range.specs.Span.{IsBytes}
-use Rattle.laz_file.specs.Laws.{HasOneBlock, HasOneRecords}
-use Rattle.laz_file.specs.Pieces.{Piece}
-use Rattle.laz_file.specs.Records.{AreRead, AreRecordsOf, HoldBlocks}
-use Rattle.laz_file.specs.Refusing.{IsAcceptedFile}
-use Rattle.laz_file.proofs.Public.{accepted_is_head, even_of, more_first, one_pieces, begins-with, only-blocks, none_some, some_same}
+use Rattle.laz_forms.specs.Laws.{HasOneBlock, HasOneRecords}
+use Rattle.laz_forms.specs.Pieces.{Piece}
+use Rattle.laz_forms.specs.Records.{AreRead, AreRecordsOf, HoldBlocks}
+use Rattle.laz_forms.specs.Refusing.{IsAcceptedFile}
+use Rattle.laz_forms.proofs.Public.{accepted_is_head, one_pieces, none_some, some_same}
+use Rattle.laz_reader.proofs.Public.{more_first}
+use Rattle.laz_file.proofs.Public.{even_of, begins-with, only-blocks}
 use Rattle.las_split.specs.Laws.{SplitsInOneWay}
 use Rattle.las_split.specs.Splitting.{EndsTooMany, HaveParts, SplitsTo, records_in_blocks}
 use Rattle.las_split.proofs.BatchesTaken.{head_some}

@@ -4,9 +4,9 @@ use borrow.Author.Tests.{eqb-true}
 use Rattle.std.proofs.lemmas.List.{append-nil, take_all, take_more}
 use Rattle.las_outside.specs.Files.{with_file}
 use Rattle.las_outside.specs.Outside.{Outside, with_bytes}
-use Rattle.laz_file.specs.declared.fault.Fault.{Fault}
-use Rattle.laz_file.specs.Outputs.{Output, front}
-use Rattle.laz_file.specs.Writing.{Stands, Stops, WriterSeen}
+use Rattle.laz_forms.specs.declared.fault.Fault.{Fault}
+use Rattle.laz_forms.specs.Outputs.{Output, front}
+use Rattle.laz_writer.specs.Writing.{Stands, Stops, WriterSeen}
 use Rattle.laz_file.proofs.Public.{held_after}
 use Rattle.las_filter.specs.declared.rule.Rule.TheVariants.{Class}
 use Rattle.las_filter.specs.Parts.{part_name}

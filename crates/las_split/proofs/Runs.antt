@@ -8,8 +8,9 @@ use Rattle.std.proofs.Math.Nat.{add-mul-mod_self_left, mul-mod_right}
 use Rattle.las_filter.specs.declared.rule.Rule.{Rule}
 use Rattle.las_split.proofs.PartLists.{numbers-append}
 use Rattle.las_outside.specs.Files.{FileMap}
-use Rattle.laz_file.specs.Writing.{WriterSeen}
-use Rattle.laz_file.proofs.Public.{cut-joined, cut-append}
+use Rattle.laz_writer.specs.Writing.{WriterSeen}
+use Rattle.laz_forms.proofs.Public.{cut-joined}
+use Rattle.laz_writer.proofs.Public.{cut-append}
 use Rattle.las_split.specs.declared.parts.Parts.{Parts}
 use Rattle.las_split.specs.Parts.{number_by, numbers_from}
 use Rattle.las_split.specs.Sorting.{AreGathered, HasRoom, InParts, LeavesBlock, LeavesPrefixes, SortsBlock, SortsPoint, Task, cut_all, text_of}

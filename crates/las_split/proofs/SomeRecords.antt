@@ -6,11 +6,11 @@ use Rattle.std.proofs.lemmas.List.{length-take-le}
 use Rattle.las_header.specs.declared.refusal.Refusal.{Refusal}
 use Rattle.las_outside.specs.Files.{FileMap}
 use Rattle.las_outside.specs.Outside.{Outside}
-use Rattle.laz_file.specs.declared.fault.Fault.{Fault}
-use Rattle.laz_file.specs.declared.fault.Fault.TheVariants.{Refused, Read, Write, Memory}
-use Rattle.laz_file.specs.Copying.{end_of}
-use Rattle.laz_file.specs.Reading.{EndsReading}
-use Rattle.laz_file.specs.Writing.{WriterSeen}
+use Rattle.laz_forms.specs.declared.fault.Fault.{Fault}
+use Rattle.laz_forms.specs.declared.fault.Fault.TheVariants.{Refused, Read, Write, Memory}
+use Rattle.laz_forms.specs.FileFaults.{end_of}
+use Rattle.laz_reader.specs.Reading.{EndsReading}
+use Rattle.laz_writer.specs.Writing.{WriterSeen}
 use Rattle.las_split.specs.Sorting.{InParts, SortsBlock, Task, bytes_at, cut_all}
 use Rattle.las_split.proofs.Blocks.{cut_block, cut_others}
 use Rattle.las_split.proofs.Standing.{writers_length}

@@ -5,10 +5,10 @@ use Rattle.std.proofs.lemmas.List.{append-nil, take_all}
 use Rattle.las_filter.specs.declared.rule.Rule.{Rule}
 use Rattle.las_header.specs.declared.refusal.Refusal.{Refusal}
 use Rattle.las_header.specs.declared.refusal.Refusal.TheVariants.{BadChunk, TooManyParts}
-use Rattle.laz_file.specs.Existing.{HasSomeRecords}
-use Rattle.laz_file.specs.Pieces.{Piece}
-use Rattle.laz_file.specs.Records.{AreRead, AreRecordsOf, HoldBlocks}
-use Rattle.laz_file.proofs.Public.{and_then, there}
+use Rattle.laz_forms.specs.Existing.{HasSomeRecords}
+use Rattle.laz_forms.specs.Pieces.{Piece}
+use Rattle.laz_forms.specs.Records.{AreRead, AreRecordsOf, HoldBlocks}
+use Rattle.laz_forms.proofs.Public.{and_then, there}
 use Rattle.las_split.specs.Laws.{SplitsToSomething}
 use Rattle.las_split.specs.declared.limits.TheConstants.{MAX_PARTS}
 use Rattle.las_split.specs.Parts.{number_by, numbers_of_parts}

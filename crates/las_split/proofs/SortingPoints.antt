@@ -3,10 +3,10 @@ use Rattle.std.proofs.Common.{◌≡◌, ◌≢◌, ◌⊎◌, inl, inr, ℕ, ze
 use Rattle.std.proofs.lemmas.List.{append-nil, drop-drop, length-take-le, take-append-drop, take_more}
 use Rattle.std.proofs.Math.Nat.{div-add-mod, le_of_mul-le-mul_left, mul-le-mul_left}
 use Rattle.std.specs.List.{concat}
-use Rattle.laz_file.proofs.Public.{concat-append}
+use Rattle.laz_forms.proofs.Public.{concat-append}
 use Rattle.las_header.specs.Plain.{cut_records}
 use Rattle.las_outside.specs.Files.{FileMap}
-use Rattle.laz_file.specs.Writing.{WriterSeen}
+use Rattle.laz_writer.specs.Writing.{WriterSeen}
 use Rattle.las_header.specs.Fields.{points_of}
 use Rattle.las_split.proofs.Standing.{writers_length}
 use Rattle.las_split.specs.Sorting.{bytes_at}

@@ -11,10 +11,13 @@ use Rattle.las_header.specs.declared.refusal.Refusal.TheVariants.{BadChunk, TooM
 use Rattle.las_header.specs.Fields.{head_of, record_length_of}
 use Rattle.las_header.specs.Heads.{HeadView}
 use Rattle.laz_file.specs.Copying.{AreOnlyRecords}
-use Rattle.laz_file.specs.Pieces.{ArePieces, Piece}
-use Rattle.laz_file.specs.Reading.{AreWholeBlocks, ReaderSeen, ReadsAll, StandsFor}
-use Rattle.laz_file.specs.Records.{AreRead, HoldBlocks, HoldOnly, IsBadPiece}
-use Rattle.laz_file.proofs.Public.{even_whole, fewer_first, hold_length, inside, more_first, no_length, one_pieces, concat-append, cut-append, not_bad_before, all_records, left_is as whole_left, records_before}
+use Rattle.laz_forms.specs.Pieces.{ArePieces, Piece}
+use Rattle.laz_reader.specs.Reading.{AreWholeBlocks, ReaderSeen, ReadsAll, StandsFor}
+use Rattle.laz_forms.specs.Records.{AreRead, HoldBlocks, HoldOnly, IsBadPiece}
+use Rattle.laz_forms.proofs.Public.{one_pieces, concat-append, not_bad_before}
+use Rattle.laz_reader.proofs.Public.{fewer_first, hold_length, inside, more_first, no_length}
+use Rattle.laz_writer.proofs.Public.{cut-append}
+use Rattle.laz_file.proofs.Public.{even_whole, all_records, left_is as whole_left, records_before}
 use Rattle.las_split.specs.declared.limits.TheConstants.{MAX_PARTS}
 use Rattle.las_split.specs.Parts.{numbers_of_parts}
 use Rattle.las_split.specs.Sorting.{cut_all}

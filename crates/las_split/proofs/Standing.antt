@@ -2,8 +2,8 @@
 use Rattle.std.proofs.Common.{◌≡◌, ℕ, zero, suc, ◌+◌, ◌<◌, List, [], ◌∷◌, ◌++◌, length, take, drop, get_or, set, Option, Some, None, refl, sym, ap, subst, arith}
 use Rattle.las_outside.specs.Files.{FileMap, with_file}
 use Rattle.las_outside.specs.Outside.{Outside, with_bytes}
-use Rattle.laz_file.specs.Outputs.{front}
-use Rattle.laz_file.specs.Writing.{PackingSeen, PointsStand, Stands, WriterSeen}
+use Rattle.laz_forms.specs.Outputs.{front}
+use Rattle.laz_writer.specs.Writing.{PackingSeen, PointsStand, Stands, WriterSeen}
 use Rattle.las_split.specs.Sorting.{AreWriters, IsWriter, Task, output_at}
 
 -- ---- one writer

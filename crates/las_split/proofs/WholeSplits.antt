@@ -11,12 +11,12 @@ use Rattle.las_header.specs.Plain.{plain_of}
 use Rattle.las_filter.specs.declared.rule.Rule.{Rule}
 use Rattle.las_outside.specs.Files.{FileMap, WhereKnown}
 use Rattle.las_outside.specs.Outside.{Outside}
-use Rattle.laz_file.specs.Asking.{ReadsAndWrites, bytes_left}
+use Rattle.laz_reader.specs.Asking.{ReadsAndWrites, bytes_left}
 use Rattle.laz_file.specs.Copying.{HoldFirst}
-use Rattle.laz_file.specs.Reading.{ReaderSeen, ReadsAll, StandsFor}
-use Rattle.laz_file.specs.Records.{HoldOnly, IsBadPiece}
-use Rattle.laz_file.specs.Writing.{WriterSeen}
-use Rattle.laz_file.proofs.Public.{known_both, known_then}
+use Rattle.laz_reader.specs.Reading.{ReaderSeen, ReadsAll, StandsFor}
+use Rattle.laz_forms.specs.Records.{HoldOnly, IsBadPiece}
+use Rattle.laz_writer.specs.Writing.{WriterSeen}
+use Rattle.laz_forms.proofs.Public.{known_both, known_then}
 use Rattle.las_split.specs.declared.limits.TheConstants.{MAX_PARTS}
 use Rattle.las_split.specs.Files.{with_files}
 use Rattle.las_split.specs.Outputs.{LeavesParts, all_stopped, outputs_under, part_files}

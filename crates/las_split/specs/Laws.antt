@@ -3,8 +3,8 @@ use Rattle.std.specs.Prelude.{ℕ, List, Option}
 use Rattle.las_filter.specs.declared.rule.Rule.{Rule}
 use Rattle.las_header.specs.declared.refusal.Refusal.{Refusal}
 use Rattle.laz_range.specs.Span.{IsBytes}
-use Rattle.laz_file.specs.Existing.{IsNotNone}
-use Rattle.laz_file.specs.Refusing.{IsAcceptedFile}
+use Rattle.laz_forms.specs.Existing.{IsNotNone}
+use Rattle.laz_forms.specs.Refusing.{IsAcceptedFile}
 use Rattle.las_split.specs.Splitting.{OnlySplits, SplitsTo}
 
 -- Whatever the bytes of an accepted file are, what splitting it gives is the only thing that it can give.

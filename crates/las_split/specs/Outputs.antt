@@ -6,7 +6,7 @@ use Rattle.las_filter.specs.declared.rule.Rule.{Rule}
 use Rattle.las_filter.specs.Parts.{part_name}
 use Rattle.las_outside.specs.Drafts.{IsUnfinished}
 use Rattle.las_outside.specs.Files.{FileMap}
-use Rattle.laz_file.specs.Outputs.{Output, draft_of, finished, patches_of, stopped}
+use Rattle.laz_forms.specs.Outputs.{Output, draft_of, finished, patches_of, stopped}
 use Rattle.las_split.specs.Files.{with_files}
 use Rattle.las_split.specs.Parts.{numbers_of_parts, part}
 

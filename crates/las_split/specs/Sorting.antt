@@ -12,10 +12,10 @@ use Rattle.las_header.specs.Vlrs.{laszip_vlrs_of}
 use Rattle.las_filter.specs.declared.rule.Rule.{Rule}
 use Rattle.las_outside.specs.Files.{FileMap}
 use Rattle.las_outside.specs.Outside.{Outside, with_bytes}
-use Rattle.laz_file.specs.Outputs.{Output, front}
+use Rattle.laz_forms.specs.Outputs.{Output, front}
 use Rattle.laz_file.specs.Copying.{EndsAfter}
-use Rattle.laz_file.specs.Reading.{ReaderSeen}
-use Rattle.laz_file.specs.Writing.{Stands, WriterSeen}
+use Rattle.laz_reader.specs.Reading.{ReaderSeen}
+use Rattle.laz_writer.specs.Writing.{Stands, WriterSeen}
 use Rattle.las_split.specs.declared.limits.TheConstants.{MAX_PARTS}
 use Rattle.las_split.specs.declared.part_names.PartNames.{PartNames}
 use Rattle.las_split.specs.declared.splitter.Splitter.{Splitter}

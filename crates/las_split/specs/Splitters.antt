@@ -1,6 +1,6 @@
 -- What is fixed while the records of a batch are split.
 use Rattle.std.specs.Prelude.{ℕ, string_bytes}
-use Rattle.laz_file.specs.Outputs.{Output}
+use Rattle.laz_forms.specs.Outputs.{Output}
 use Rattle.las_split.specs.declared.splitter.Splitter.{Splitter}
 use Rattle.las_split.specs.Outputs.{output_under}
 

@@ -6,9 +6,9 @@ use Rattle.las_header.specs.declared.refusal.Refusal.{Refusal}
 use Rattle.las_header.specs.declared.refusal.Refusal.TheVariants.{BadChunk, TooManyParts}
 use Rattle.las_header.specs.Fields.{head_of}
 use Rattle.las_filter.specs.declared.rule.Rule.{Rule}
-use Rattle.laz_file.specs.Outputs.{records_after}
-use Rattle.laz_file.specs.Pieces.{ArePieces, Piece}
-use Rattle.laz_file.specs.Records.{AreRecordsOf, HoldBlocks}
+use Rattle.laz_forms.specs.Outputs.{records_after}
+use Rattle.laz_forms.specs.Pieces.{ArePieces, Piece}
+use Rattle.laz_forms.specs.Records.{AreRecordsOf, HoldBlocks}
 use Rattle.las_split.specs.declared.limits.TheConstants.{MAX_PARTS}
 use Rattle.las_split.specs.Parts.{numbers_of_parts}
 

@@ -4,9 +4,9 @@ ghost use Rattle.las_header.specs.Fields.{is_packed, points_of};
 ghost use Rattle.las_header.specs.Vlrs.{laszip_vlrs_of};
 ghost use Rattle.las_outside.specs.Files.{with_file};
 ghost use Rattle.las_outside.specs.Frames.{IsCalm, OnlyWrites};
-ghost use Rattle.laz_file.specs.Copying.{HasCause};
-ghost use Rattle.laz_file.specs.Outputs.{front};
-ghost use Rattle.laz_file.specs.Writing.{Stands, WriterSeen};
+ghost use Rattle.laz_forms.specs.FileFaults.{HasCause};
+ghost use Rattle.laz_forms.specs.Outputs.{front};
+ghost use Rattle.laz_writer.specs.Writing.{Stands, WriterSeen};
 ghost use Rattle.las_split.specs.Splitters.{output_of};
 
 use crate::gathering::Gathered;

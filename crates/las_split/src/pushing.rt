@@ -2,8 +2,8 @@
 ghost use Rattle.std.specs.Prelude.{◌≡◌, ◌+◌, ◌++◌, ◌<◌, ◌≤◌, ℕ, List, length, IfErr, OnErr, OnOk, Option};
 ghost use Rattle.las_outside.specs.Files.{FileMap};
 ghost use Rattle.las_outside.specs.Frames.{IsCalm, OnlyWrites};
-ghost use Rattle.laz_file.specs.declared.fault.Fault.TheVariants.{Write};
-ghost use Rattle.laz_file.specs.Copying.{HasCause};
+ghost use Rattle.laz_forms.specs.declared.fault.Fault.TheVariants.{Write};
+ghost use Rattle.laz_forms.specs.FileFaults.{HasCause};
 ghost use Rattle.las_split.specs.Sorting.{AreGathered, FitAfter, LeavesPrefixes, PushedSo, Task};
 ghost use Rattle.las_split.specs.Steps.{AreIn, AreSorted};
 

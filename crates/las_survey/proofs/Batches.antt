@@ -11,11 +11,13 @@ use Rattle.las_header.specs.Fields.{head_of, record_length_of}
 use Rattle.las_info.specs.Surveys.{IsShown, SurveySeen}
 use Rattle.las_info.specs.Tallies.{TapSeen}
 use Rattle.las_outside.specs.Files.{FileMap, WhereKnown}
-use Rattle.laz_file.specs.Reading.{ReaderSeen, ReadsAll, StandsFor, records_in}
-use Rattle.laz_file.specs.Records.{HoldOnly, IsBadPiece}
+use Rattle.laz_reader.specs.Reading.{ReaderSeen, ReadsAll, StandsFor, records_in}
+use Rattle.laz_forms.specs.Records.{HoldOnly, IsBadPiece}
 use Rattle.laz_file.specs.Copying.{AreOnlyRecords, EndsAfter, HoldFirst}
-use Rattle.laz_file.specs.Outputs.{records_after}
-use Rattle.laz_file.proofs.Public.{no_records, known_both, all_records, records_before, stands_ready, HasRead, ReadsMore, concat_more, concat_rest, length_whole, read_more, records-append, cut-append, length-cut, concat-append}
+use Rattle.laz_forms.specs.Outputs.{records_after}
+use Rattle.laz_forms.proofs.Public.{known_both, length-cut, concat-append}
+use Rattle.laz_writer.proofs.Public.{no_records, cut-append}
+use Rattle.laz_file.proofs.Public.{all_records, records_before, stands_ready, HasRead, ReadsMore, concat_more, concat_rest, length_whole, read_more, records-append}
 use Rattle.las_header.specs.declared.refusal.Refusal.{Refusal}
 use Rattle.las_header.specs.declared.refusal.Refusal.TheVariants.{BadChunk}
 use Rattle.las_header.specs.Heads.{HeadView}

@@ -10,11 +10,11 @@ ghost use Rattle.las_outside.specs.Faults.{Rose};
 ghost use Rattle.las_outside.specs.Files.{WhereKnown};
 ghost use Rattle.las_outside.specs.Frames.{IsCalm, Reads};
 ghost use Rattle.las_outside.specs.Limits.{AreWorkers};
-ghost use Rattle.laz_file.specs.declared.fault.Fault.TheVariants.{Read, Refused, Write};
-ghost use Rattle.laz_file.specs.Asking.{bytes_left};
+ghost use Rattle.laz_forms.specs.declared.fault.Fault.TheVariants.{Read, Refused, Write};
+ghost use Rattle.laz_reader.specs.Asking.{bytes_left};
 ghost use Rattle.laz_file.specs.Copying.{AreOnlyRecords, EndsAfter, HoldFirst};
-ghost use Rattle.laz_file.specs.Outputs.{records_after};
-ghost use Rattle.laz_file.specs.Reading.{AgreesWithHead, EndsReading, IsCrewOf, IsNewReader, StandsFor, records_in};
+ghost use Rattle.laz_forms.specs.Outputs.{records_after};
+ghost use Rattle.laz_reader.specs.Reading.{AgreesWithHead, EndsReading, IsCrewOf, IsNewReader, StandsFor, records_in};
 ghost use Rattle.las_info.specs.Surveys.{IsShown};
 
 use las_info::{Survey, Tap};

@@ -1,11 +1,11 @@
-pub mod Parsing
-pub mod Cutting
-pub mod Wrong
-pub mod Ranges
-pub mod Chosen
-pub mod PartNames
+mod Parsing
+mod Cutting
+mod Wrong
+mod Ranges
+mod Chosen
+mod PartNames
 mod Inputs
 mod Places
 mod Sieves
 mod Saying
-pub mod Examples
+mod Examples

@@ -8,11 +8,11 @@ use Rattle.laz_table.specs.Chunks.{IsChunkSize}
 use Rattle.laz_table.specs.Laws.{AreWords}
 use Rattle.laz_chunk.specs.Chunks.{AreRecords, Holds}
 use Rattle.laz_chunk.specs.Layouts.{Layout, record_length}
-use Rattle.laz_file.specs.Packing.{record_layout}
-use Rattle.laz_file.specs.Pieces.{ArePieces, ArePiecesIf, Piece, piece_bytes, pieces_from, whole_piece}
-use Rattle.laz_file.specs.Records.{HoldBlocks, HoldsBlock, HoldsChunk, HoldsIf}
-use Rattle.laz_file.specs.Refusing.{chunks_place}
-use Rattle.laz_file.proofs.Public.{whole_cut, sum-first}
+use Rattle.laz_forms.specs.Packing.{record_layout}
+use Rattle.laz_forms.specs.Pieces.{ArePieces, ArePiecesIf, Piece, piece_bytes, pieces_from, whole_piece}
+use Rattle.laz_forms.specs.Records.{HoldBlocks, HoldsBlock, HoldsChunk, HoldsIf}
+use Rattle.laz_forms.specs.Refusing.{chunks_place}
+use Rattle.laz_forms.proofs.Public.{whole_cut, sum-first}
 use Rattle.laz_copied.specs.Copied.{Chunk, bytes_in, chunk_at, counts_in}
 
 -- ---- chunks that hold blocks

@@ -9,12 +9,12 @@ use Rattle.laz_table.specs.Chunks.{IsAccepted, IsChunkSize}
 use Rattle.laz_table.specs.Table.{table_bytes}
 use Rattle.laz_table.specs.VlrCauses.{chunk_size_of, extra_of, is_counted}
 use Rattle.laz_chunk.specs.Layouts.{Layout, layout_of}
-use Rattle.laz_file.specs.Packing.{packed_head, record_layout}
-use Rattle.laz_file.specs.Pieces.{ArePiecesIf, Piece, pieces_from}
+use Rattle.laz_forms.specs.Packing.{packed_head, record_layout}
+use Rattle.laz_forms.specs.Pieces.{ArePiecesIf, Piece, pieces_from}
 use Rattle.las_header.specs.Plain.{plain_head}
-use Rattle.laz_file.specs.Records.{AreRecordsOf, HoldBlocks}
-use Rattle.laz_file.specs.Refusing.{IsAcceptedFile, blocks_in, chunks_place}
-use Rattle.laz_file.proofs.Public.{one_pieces}
+use Rattle.laz_forms.specs.Records.{AreRecordsOf, HoldBlocks}
+use Rattle.laz_forms.specs.Refusing.{IsAcceptedFile, blocks_in, chunks_place}
+use Rattle.laz_forms.proofs.Public.{one_pieces}
 use Rattle.laz_copied.specs.Copied.{AreChunks, Chunk, HaveChunks, all_of, bytes_in, chunk_at, copied_file, copied_head, counts_in, points_in}
 use Rattle.laz_copied.specs.Laws.{CanBeCopied, CanCopy, HasTheirRecords, HaveBlocks, IsCopiedAccepted}
 use Rattle.laz_copied.proofs.Chunks.{AreGoodChunks, ChunksHold, counts_listed, good-append, hold-append, hold_in_file, hold_of_pieces, length_bytes, length_bytes_in, length_counts, no_chunks, sizes_listed, sum_counts-append}

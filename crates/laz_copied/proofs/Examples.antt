@@ -10,7 +10,7 @@ use Rattle.laz_integer.specs.Corrector.{digits_within, width_of, corrector_index
 use Rattle.laz_integer.specs.Integer.{rest_events}
 use Rattle.las_header.specs.Counting.{short_bytes, long_bytes}
 use Rattle.las_header.specs.Numbers.{number_at}
-use Rattle.laz_file.proofs.Public.{chunk, head, one_packed, pointer}
+use Rattle.laz_forms.proofs.Public.{chunk, head, one_packed, pointer}
 use Rattle.laz_copied.specs.Copied.{Chunk, all_of, copied_file, copied_head, long_returns_in, returns_in}
 
 -- ---- the file twice, as one

@@ -18,10 +18,10 @@ use Rattle.laz_table.specs.Laws.{AreWords}
 use Rattle.laz_table.specs.Payload.{laszip_payload}
 use Rattle.laz_table.specs.Table.{table_bytes}
 use Rattle.laz_table.specs.VlrCauses.{extra_of, vlr_causes}
-use Rattle.laz_file.specs.Packing.{packed_head, table_after}
-use Rattle.laz_file.specs.Pieces.{ArePieces, ArePiecesIf, pieces_from}
-use Rattle.laz_file.specs.Refusing.{IsAcceptedFile, blocks_in, chunk_causes, chunks_place, has_bad_pointer, has_last_pointer, table_end, table_part, table_place, tested_causes}
-use Rattle.laz_file.proofs.Public.{sum-lengths, both-fine, neither, not-below, skip}
+use Rattle.laz_forms.specs.Packing.{packed_head, table_after}
+use Rattle.laz_forms.specs.Pieces.{ArePieces, ArePiecesIf, pieces_from}
+use Rattle.laz_forms.specs.Refusing.{IsAcceptedFile, blocks_in, chunk_causes, chunks_place, has_bad_pointer, has_last_pointer, table_end, table_part, table_place, tested_causes}
+use Rattle.laz_forms.proofs.Public.{sum-lengths, both-fine, neither, not-below, skip}
 use Rattle.laz_copied.specs.Forms.{packed_form}
 
 -- some lists are not too long in all

@@ -18,8 +18,8 @@ use Rattle.laz_table.specs.Payload.{laszip_payload}
 use Rattle.laz_table.specs.VlrCauses.{chunk_size_in, chunk_size_of, extra_of, payload_at, payload_causes, payload_of, vlr_causes}
 use Rattle.laz_table.proofs.Public.{IsBytes-append, IsBytes-little, payload-decides, payload-is, payload_within}
 use Rattle.laz_chunk.specs.Layouts.{layout_of}
-use Rattle.laz_file.specs.Packing.{packed_head, record_layout}
-use Rattle.laz_file.proofs.Public.{payload-short}
+use Rattle.laz_forms.specs.Packing.{packed_head, record_layout}
+use Rattle.laz_forms.proofs.Public.{payload-short}
 use Rattle.laz_copied.specs.Copied.{first_head, long_returns_in, points_in, returns_in}
 use Rattle.laz_copied.proofs.PackedFiles.{IsPackedFile}
 use Rattle.laz_copied.proofs.Payloads.{counted-chunk, counted-fine}

@@ -11,10 +11,11 @@ use Rattle.las_header.specs.Plain.{cut_records, plain_of}
 use Rattle.las_points.specs.Record.{return_number_of}
 use Rattle.las_points.specs.Tally.{count_of_return, counted_file, counts_of}
 use Rattle.laz_chunk.specs.Layouts.{Layout, record_length}
-use Rattle.laz_file.specs.Outputs.{records_after}
-use Rattle.laz_file.specs.Packing.{record_layout}
-use Rattle.laz_file.specs.Records.{AreRecordsOf, Unpacks}
-use Rattle.laz_file.proofs.Public.{cut-joined, cut-length, layout-length, cut-append, concat-append, sum-first}
+use Rattle.laz_forms.specs.Outputs.{records_after}
+use Rattle.laz_forms.specs.Packing.{record_layout}
+use Rattle.laz_forms.specs.Records.{AreRecordsOf, Unpacks}
+use Rattle.laz_forms.proofs.Public.{cut-joined, cut-length, layout-length, concat-append, sum-first}
+use Rattle.laz_writer.proofs.Public.{cut-append}
 use Rattle.laz_table.specs.VlrCauses.{extra_of}
 use Rattle.laz_copied.specs.Copied.{AreChunks, Chunk, HaveChunks, all_of, copied_file, copied_head, counts_in, first_head, long_returns_in, points_in, returns_in, returns_to_15}
 use Rattle.laz_copied.specs.Laws.{AreRight, CanBeCopied, CanCopy, HasRightCounts, HaveBlocks, HaveBothSets, UnpacksToMerged}

@@ -18,10 +18,11 @@ use Rattle.laz_table.specs.declared.chunks.Blocks.TheVariants.{Fixed, Counted}
 use Rattle.laz_table.specs.Chunks.{HasChunkSize, IsAccepted, IsChunkSize}
 use Rattle.laz_table.specs.Laws.{AreWords}
 use Rattle.laz_table.specs.VlrCauses.{chunk_count, chunk_size_of, extra_of, is_bad_chunk_size, is_counted, lacks_vlr, makes_many_chunks, payload_causes, payload_of, vlr_causes}
-use Rattle.laz_file.specs.Pieces.{ArePieces, ArePiecesIf, Piece}
-use Rattle.laz_file.specs.Reading.{AreFewChunks, points_in}
-use Rattle.laz_file.specs.Refusing.{IsAcceptedFile, blocks_in, chunk_causes, chunks_place, has_bad_pointer, has_last_pointer, table_end, table_part, table_place, tested_causes}
-use Rattle.laz_file.proofs.Public.{IsFirst-none, both_none, one_vlr, accepted_lists, accepted_points}
+use Rattle.laz_forms.specs.Pieces.{ArePieces, ArePiecesIf, Piece}
+use Rattle.laz_reader.specs.Reading.{AreFewChunks, points_in}
+use Rattle.laz_forms.specs.Refusing.{IsAcceptedFile, blocks_in, chunk_causes, chunks_place, has_bad_pointer, has_last_pointer, table_end, table_part, table_place, tested_causes}
+use Rattle.laz_forms.proofs.Public.{IsFirst-none, both_none}
+use Rattle.laz_reader.proofs.Public.{one_vlr, accepted_lists, accepted_points}
 use Rattle.laz_copied.specs.Copied.{bytes_in, chunk_at}
 use Rattle.laz_copied.proofs.Chunks.{chunks_joined, piece_sizes, sizes_listed}
 use Rattle.laz_copied.proofs.Payloads.{IsPayload, payload_known}

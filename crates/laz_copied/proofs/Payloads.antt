@@ -12,7 +12,7 @@ use Rattle.las_header.specs.Refusals.{first_cause}
 use Rattle.las_header.proofs.Public.{none_first, number_at-drop, reads_back}
 use Rattle.laz_table.specs.Payload.{Item, all_item_bytes, item_bytes, items_of, items_part, laszip_payload, payload_start}
 use Rattle.laz_table.specs.VlrCauses.{chunk_size_in, has_other_compressor, has_other_items, has_other_shape, is_bad_chunk_size, makes_many_chunks, payload_causes}
-use Rattle.laz_file.proofs.Public.{payload-short, skip}
+use Rattle.laz_forms.proofs.Public.{payload-short, skip}
 
 length-items : (items : List Item) → length (all_item_bytes items) ≡ 6 * length items
 length-items [] = refl

@@ -18,7 +18,7 @@ use Rattle.laz_table.specs.Laws.{AreWords}
 use Rattle.laz_table.specs.Table.{HoldsEntries, TableHolds, stream_of, table_bytes}
 use Rattle.laz_table.specs.VlrCauses.{chunk_count}
 use Rattle.laz_table.proofs.Public.{IsBytes-append, IsBytes-digits, IsBytes-little, AreEntries, cuts-lawful, entries-ranged, entries-spelled, holds-counted, one-held}
-use Rattle.laz_file.proofs.Public.{count-few, sum-first}
+use Rattle.laz_forms.proofs.Public.{count-few, sum-first}
 
 -- ---- a table that is written has bytes
 counted-entries : (sizes counts : List ℕ) → length sizes ≡ length counts → AreWords sizes → AreWords counts → AreEntries (entries_of sizes counts)

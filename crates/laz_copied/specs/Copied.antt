@@ -6,7 +6,7 @@ use Rattle.las_header.specs.Counting.{with_sums}
 use Rattle.las_header.specs.Fields.{has_long_counts, head_of, long_returns_of, points_of, returns_of}
 use Rattle.las_header.specs.Plain.{plain_of}
 use Rattle.laz_table.specs.declared.limits.TheConstants.{COUNTED_CHUNKS}
-use Rattle.laz_file.specs.Pieces.{ArePieces, Piece, piece_bytes}
+use Rattle.laz_forms.specs.Pieces.{ArePieces, Piece, piece_bytes}
 use Rattle.laz_copied.specs.Forms.{packed_form}
 
 -- a chunk of a packed file: its number of records, and its bytes

@@ -8,9 +8,9 @@ use Rattle.las_header.specs.Plain.{plain_of}
 use Rattle.las_points.specs.Tally.{counted_file, counts_of}
 use Rattle.laz_range.specs.Span.{IsBytes}
 use Rattle.laz_table.specs.declared.limits.TheConstants.{MAX_CHUNKS}
-use Rattle.laz_file.specs.Outputs.{records_after}
-use Rattle.laz_file.specs.Records.{AreRecordsOf, Unpacks}
-use Rattle.laz_file.specs.Refusing.{IsAcceptedFile}
+use Rattle.laz_forms.specs.Outputs.{records_after}
+use Rattle.laz_forms.specs.Records.{AreRecordsOf, Unpacks}
+use Rattle.laz_forms.specs.Refusing.{IsAcceptedFile}
 use Rattle.laz_copied.specs.Copied.{Chunk, HaveChunks, all_of, copied_file, first_head, points_in}
 
 -- a packed file that is accepted, with records as the first file has them

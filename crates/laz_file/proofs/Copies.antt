@@ -17,19 +17,21 @@ use Rattle.las_outside.specs.Files.{FileMap, WhereKnown}
 use Rattle.las_outside.specs.Outside.{Outside}
 use Rattle.laz_chunk.specs.Layouts.{Format}
 use Rattle.laz_workers.specs.Rooms.{HandSeen, rooms_of}
-use Rattle.laz_file.specs.declared.fault.Fault.{Fault}
-use Rattle.laz_file.specs.declared.fault.Fault.TheVariants.{Refused, Read, Write, Memory}
-use Rattle.laz_file.specs.Copying.{CanTake, EndsAfter, HasCause, HoldFirst, Takes, end_of}
-use Rattle.laz_file.specs.Outputs.{Output}
-use Rattle.laz_file.specs.Pieces.{Piece}
-use Rattle.laz_file.specs.Reading.{AreWholeBlocks, EndsReading, IsCrewOf, Lends, LendsIf, ReaderSeen, StandsFor, records_in}
-use Rattle.laz_file.specs.Records.{AreRead, HoldBlocks, HoldOnly, IsBadPiece}
-use Rattle.laz_file.specs.Writing.{Stands, WriterSeen}
-use Rattle.laz_file.proofs.FirstPieces.{hold_split}
-use Rattle.laz_file.proofs.Joins.{hold-append}
-use Rattle.laz_file.proofs.Knowing.{known_both, known_then}
-use Rattle.laz_file.proofs.Putting.{concat-append}
-use Rattle.laz_file.proofs.Whole.{not_bad_before}
+use Rattle.laz_forms.specs.declared.fault.Fault.{Fault}
+use Rattle.laz_forms.specs.declared.fault.Fault.TheVariants.{Refused, Read, Write, Memory}
+use Rattle.laz_file.specs.Copying.{CanTake, EndsAfter, HoldFirst, Takes}
+use Rattle.laz_forms.specs.FileFaults.{HasCause, end_of}
+use Rattle.laz_forms.specs.Outputs.{Output}
+use Rattle.laz_forms.specs.Pieces.{Piece}
+use Rattle.laz_reader.specs.Reading.{AreWholeBlocks, EndsReading, IsCrewOf, Lends, LendsIf, ReaderSeen, StandsFor, records_in}
+use Rattle.laz_forms.specs.Records.{AreRead, HoldBlocks, HoldOnly, IsBadPiece}
+use Rattle.laz_writer.specs.Writing.{Stands, WriterSeen}
+use Rattle.laz_reader.proofs.Public.{slice_get-first}
+use Rattle.laz_reader.proofs.Public.{hold_split}
+use Rattle.laz_reader.proofs.Public.{hold-append}
+use Rattle.laz_forms.proofs.Public.{known_both, known_then}
+use Rattle.laz_forms.proofs.Public.{concat-append}
+use Rattle.laz_forms.proofs.Public.{not_bad_before}
 
 -- ---- pieces and their blocks
 
@@ -224,11 +226,6 @@ read_more held first old new n m xs ys r s =
 pub end_all : (held : Option FileMap) (first reader : ReaderSeen) (n : ℕ) (blocks : List (List ℕ)) → HasRead held first reader n blocks → reader.left ≡ [] → EndsAfter held first n None
 end_all held first reader n blocks r none = omega (arith, ap (λ (ps : List Piece). length ps) (sym r.left ∙ none), length-drop n first.left, r.hold.within)
 
-pub slice_get-drop : (n : ℕ) (ps : List Piece) → slice_get (drop n ps) 0 ≡ slice_get ps n
-slice_get-drop zero ps = refl
-slice_get-drop (suc n) [] = refl
-slice_get-drop (suc n) (p ∷ ps) = slice_get-drop n ps
-
 pub end_bad : (held : Option FileMap) (first reader : ReaderSeen) (n : ℕ) (blocks : List (List ℕ)) (cause : Refusal) → HasRead held first reader n blocks → cause ≡ BadChunk reader.next → IsSome reader.chunk
     → WhereKnown held reader.name (λ file. IsBadPiece file reader.left 0) → EndsAfter held first n (Some cause)
 end_bad held first reader n blocks cause r is packed bad = (
@@ -236,7 +233,7 @@ end_bad held first reader n blocks cause r is packed bad = (
   subst (λ (o : Option ℕ). IsSome o) r.chunk packed,
   subst (λ (name : List ℕ). WhereKnown held name (λ file. IsBadPiece file first.left n)) r.named
       (known_then held reader.name (λ file. IsBadPiece file reader.left 0) (λ file. IsBadPiece file first.left n)
-      (λ file b. (b.0, sym (ap (λ (ps : List Piece). slice_get ps 0) r.left ∙ slice_get-drop n first.left) ∙ b.1, b.2)) bad),
+      (λ file b. (b.0, sym (ap (λ (ps : List Piece). slice_get ps 0) r.left ∙ slice_get-first n first.left) ∙ b.1, b.2)) bad),
 )
 
 -- ---- a writer that takes the blocks

@@ -6,13 +6,14 @@ use Rattle.std.proofs.lemmas.List.{append-nil}
 use Rattle.las_outside.specs.Drafts.{IsUnfinished}
 use Rattle.las_outside.specs.Files.{FileMap, with_file}
 use Rattle.las_outside.specs.Outside.{Outside, with_bytes}
-use Rattle.laz_file.specs.declared.fault.Fault.{Fault}
-use Rattle.laz_file.specs.declared.fault.Fault.TheVariants.{Refused, Read, Write, Memory}
-use Rattle.laz_file.specs.Copying.{EndsCopying, HasCause, HoldFirst, LeavesFirst, LeavesInPart, LeavesPart, LeavesUnfinished, with_reads}
-use Rattle.laz_file.specs.Outputs.{Output, draft_of, patches_of, stopped}
-use Rattle.laz_file.specs.Reading.{ReaderSeen}
-use Rattle.laz_file.specs.Writing.{PackingSeen, PointsStand, Stands, Stops, WriterSeen}
-use Rattle.laz_file.proofs.Stopping.{stopped_short, stopped_unfinished}
+use Rattle.laz_forms.specs.declared.fault.Fault.{Fault}
+use Rattle.laz_forms.specs.declared.fault.Fault.TheVariants.{Refused, Read, Write, Memory}
+use Rattle.laz_file.specs.Copying.{EndsCopying, HoldFirst, LeavesFirst, LeavesInPart, LeavesPart, LeavesUnfinished, with_reads}
+use Rattle.laz_forms.specs.FileFaults.{HasCause}
+use Rattle.laz_forms.specs.Outputs.{Output, draft_of, patches_of, stopped}
+use Rattle.laz_reader.specs.Reading.{ReaderSeen}
+use Rattle.laz_writer.specs.Writing.{PackingSeen, PointsStand, Stands, Stops, WriterSeen}
+use Rattle.laz_writer.proofs.Public.{stopped_short, stopped_unfinished}
 use Rattle.laz_file.proofs.Taking.{held_after}
 
 -- a packed output has chunks of some points

@@ -9,14 +9,14 @@ use Rattle.las_header.specs.Fields.{head_of, is_packed, point_offset_of, points_
 use Rattle.laz_range.specs.Span.{IsBytes}
 use Rattle.laz_chunk.specs.Layouts.{record_length}
 use Rattle.laz_table.specs.Chunks.{fixed_sizes}
-use Rattle.laz_file.specs.Packing.{record_layout}
-use Rattle.laz_file.specs.Pieces.{ArePieces, Piece, pieces_from, whole_piece}
-use Rattle.laz_file.specs.Ranges.{Range, parts_if, parts_of, whole_range}
-use Rattle.laz_file.specs.Records.{HoldBlocks, HoldsBlock, HoldsIf}
-use Rattle.laz_file.specs.Refusing.{IsAcceptedFile}
-use Rattle.laz_file.proofs.Accepted.{accepted_is_head, plain_records}
-use Rattle.laz_file.proofs.AllParts.{all_of}
-use Rattle.laz_file.proofs.Pushing.{record_is}
+use Rattle.laz_forms.specs.Packing.{record_layout}
+use Rattle.laz_forms.specs.Pieces.{ArePieces, Piece, pieces_from, whole_piece}
+use Rattle.laz_forms.specs.Ranges.{Range, parts_if, parts_of, whole_range}
+use Rattle.laz_forms.specs.Records.{HoldBlocks, HoldsBlock, HoldsIf}
+use Rattle.laz_forms.specs.Refusing.{IsAcceptedFile}
+use Rattle.laz_forms.proofs.Public.{accepted_is_head, plain_records}
+use Rattle.laz_reader.proofs.Public.{all_of}
+use Rattle.laz_forms.proofs.Public.{record_is}
 
 -- what is taken of whole records is whole records
 taken : (size some all skip : ℕ) → (k : ℕ) × (min (size * some) (size * all - size * skip) ≡ size * k)

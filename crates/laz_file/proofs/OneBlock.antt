@@ -7,13 +7,13 @@ use Rattle.laz_range.specs.Span.{IsBytes}
 use Rattle.laz_range.proofs.Public.{IsBytes-drop, IsBytes-take}
 use Rattle.laz_chunk.specs.Chunks.{AreRecords, Holds}
 use Rattle.laz_chunk.specs.Layouts.{Layout, record_length}
-use Rattle.laz_file.specs.Packing.{record_layout}
-use Rattle.laz_file.specs.Pieces.{ArePieces, Piece, piece_bytes}
-use Rattle.laz_file.specs.Ranges.{Range, first_of, parts_of}
-use Rattle.laz_file.specs.Records.{AreRead, AreRecordsIn, AreRecordsOf, HoldBlocks, HoldOnly, HoldsBlock, HoldsIf, cut_block, moved}
-use Rattle.laz_file.proofs.FirstPieces.{more_first}
+use Rattle.laz_forms.specs.Packing.{record_layout}
+use Rattle.laz_forms.specs.Pieces.{ArePieces, Piece, piece_bytes}
+use Rattle.laz_forms.specs.Ranges.{Range, first_of, parts_of}
+use Rattle.laz_forms.specs.Records.{AreRead, AreRecordsIn, AreRecordsOf, HoldBlocks, HoldOnly, HoldsBlock, HoldsIf, cut_block, moved}
+use Rattle.laz_reader.proofs.Public.{more_first}
 use Rattle.laz_file.proofs.RangeLaws.{range_once}
-use Rattle.laz_file.proofs.Whole.{not_bad_before, read_once}
+use Rattle.laz_forms.proofs.Public.{not_bad_before, read_once}
 
 -- At most one list of records is held by a chunk's bytes: a law of chunks.
 abbrev pub OneIsHeld : Type 0

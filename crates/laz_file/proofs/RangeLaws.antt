@@ -2,16 +2,16 @@
 use Rattle.std.proofs.Common.{◌≡◌, ℕ, ◌+◌, ◌-◌, ◌*◌, ◌≤◌, Bool, true, false, List, [], ◌∷◌, length, take, drop, Option, Some, None, refl, sym, ◌∙◌, ap, subst, arith}
 use Rattle.las_header.specs.Fields.{head_of, is_packed, point_offset_of, record_length_of}
 use Rattle.laz_file.specs.Copying.{AreOnlyRecordsIn}
-use Rattle.laz_file.specs.Laws.{IsEmptyRange, IsRangeReadOnce, IsWholeOfAll}
-use Rattle.laz_file.specs.Pieces.{Piece, plain_from}
-use Rattle.laz_file.specs.Ranges.{Range, first_of, parts_if, parts_of, whole_range}
-use Rattle.laz_file.specs.Reading.{ReaderSeen, StandsFor}
-use Rattle.laz_file.specs.Records.{AreRead, AreRecordsIn, AreRecordsOf, HoldOnly, IsBadPiece, moved}
-use Rattle.laz_file.proofs.AllParts.{all_of}
-use Rattle.laz_file.proofs.FirstPieces.{inside}
-use Rattle.laz_file.proofs.OneAnswer.{one_pieces}
-use Rattle.laz_file.proofs.Parts.{empty_parts}
-use Rattle.laz_file.proofs.Whole.{once}
+use Rattle.laz_forms.specs.Laws.{IsEmptyRange, IsRangeReadOnce, IsWholeOfAll}
+use Rattle.laz_forms.specs.Pieces.{Piece, plain_from}
+use Rattle.laz_forms.specs.Ranges.{Range, first_of, parts_if, parts_of, whole_range}
+use Rattle.laz_reader.specs.Reading.{ReaderSeen, StandsFor}
+use Rattle.laz_forms.specs.Records.{AreRead, AreRecordsIn, AreRecordsOf, HoldOnly, IsBadPiece, moved}
+use Rattle.laz_reader.proofs.Public.{all_of}
+use Rattle.laz_reader.proofs.Public.{inside}
+use Rattle.laz_forms.proofs.Public.{one_pieces}
+use Rattle.laz_reader.proofs.Public.{empty_parts}
+use Rattle.laz_forms.proofs.Public.{once}
 use Rattle.std.proofs.lemmas.List.{take_all}
 
 moved_none : (o : Option ℕ) → moved 0 o ≡ o

@@ -6,19 +6,19 @@ use Rattle.std.proofs.Math.Nat.{mul-le-mul_left}
 use Rattle.las_header.specs.Fields.{head_of, is_packed, point_offset_of, points_of, record_length_of}
 use Rattle.las_header.specs.Heads.{IsHead}
 use Rattle.laz_chunk.specs.Layouts.{record_length}
-use Rattle.laz_file.specs.Laws.{IsSliceOfRecords}
-use Rattle.laz_file.specs.Packing.{record_layout}
-use Rattle.laz_file.specs.Pieces.{ArePiecesIf, Piece, piece_bytes, pieces_from, plain_from, whole_piece}
-use Rattle.laz_file.specs.Ranges.{Range, part_in, parts_if, parts_in, taken_of}
-use Rattle.laz_file.specs.Records.{HoldBlocks, HoldsBlock, HoldsChunk, HoldsIf, cut_block}
-use Rattle.laz_file.specs.Refusing.{chunks_place}
+use Rattle.laz_forms.specs.Laws.{IsSliceOfRecords}
+use Rattle.laz_forms.specs.Packing.{record_layout}
+use Rattle.laz_forms.specs.Pieces.{ArePiecesIf, Piece, piece_bytes, pieces_from, plain_from, whole_piece}
+use Rattle.laz_forms.specs.Ranges.{Range, part_in, parts_if, parts_in, taken_of}
+use Rattle.laz_forms.specs.Records.{HoldBlocks, HoldsBlock, HoldsChunk, HoldsIf, cut_block}
+use Rattle.laz_forms.specs.Refusing.{chunks_place}
 use Rattle.laz_table.specs.Chunks.{fixed_sizes}
-use Rattle.laz_file.proofs.Accepted.{accepted_is_head}
-use Rattle.laz_file.proofs.Chunked.{whole_cut}
-use Rattle.laz_file.proofs.PieceLists.{summed}
-use Rattle.laz_file.proofs.Pushing.{record_is}
-use Rattle.laz_file.proofs.Slices.{AreWhole, parts_cut, slice}
-use Rattle.laz_file.proofs.Whole.{hold-plain, only-plain, pieces-joined}
+use Rattle.laz_forms.proofs.Public.{accepted_is_head}
+use Rattle.laz_forms.proofs.Public.{whole_cut}
+use Rattle.laz_reader.proofs.Public.{summed}
+use Rattle.laz_forms.proofs.Public.{record_is}
+use Rattle.laz_forms.proofs.Public.{AreWhole, parts_cut, slice}
+use Rattle.laz_forms.proofs.Public.{hold-plain, only-plain, pieces-joined}
 
 -- ---- packed files
 module _ (file : List ℕ) (packed : is_packed (head_of file) ≡ true) where

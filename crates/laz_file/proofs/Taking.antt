@@ -10,17 +10,18 @@ use Rattle.las_outside.specs.Files.{FileMap, WhereKnown, with_file}
 use Rattle.las_outside.specs.Outside.{Outside, with_bytes}
 use Rattle.las_outside.proofs.Public.{get-with_value, same_other}
 use Rattle.laz_chunk.specs.Chunks.{chunk_bytes}
-use Rattle.laz_file.specs.declared.fault.Fault.{Fault}
-use Rattle.laz_file.specs.declared.fault.Fault.TheVariants.{Refused, Read, Write, Memory}
-use Rattle.laz_file.specs.Copying.{HasCause, LeavesPart, Takes, with_reads}
-use Rattle.laz_file.specs.Outputs.{Output, front, full_points, stopped}
-use Rattle.laz_file.specs.Packing.{record_layout}
-use Rattle.laz_file.specs.Reading.{ReaderSeen}
-use Rattle.laz_file.specs.Writing.{PackingSeen, PointsStand, SameFaults, Stands, Stops, WriterSeen, all_chunks, full_blocks}
-use Rattle.laz_file.proofs.Arms.{held_text, kept_part, packed_form, plain_stopped}
-use Rattle.laz_file.proofs.Cutting.{full_blocks_more, rest_of}
-use Rattle.laz_file.proofs.Putting.{joined-append, prefix_append}
-use Rattle.laz_file.proofs.Pushing.{block_size_is}
+use Rattle.laz_forms.specs.declared.fault.Fault.{Fault}
+use Rattle.laz_forms.specs.declared.fault.Fault.TheVariants.{Refused, Read, Write, Memory}
+use Rattle.laz_file.specs.Copying.{LeavesPart, Takes, with_reads}
+use Rattle.laz_forms.specs.FileFaults.{HasCause}
+use Rattle.laz_forms.specs.Outputs.{Output, front, full_points, stopped}
+use Rattle.laz_forms.specs.Packing.{record_layout}
+use Rattle.laz_reader.specs.Reading.{ReaderSeen}
+use Rattle.laz_writer.specs.Writing.{PackingSeen, PointsStand, SameFaults, Stands, Stops, WriterSeen, all_chunks, full_blocks}
+use Rattle.laz_writer.proofs.Public.{held_text, kept_part, packed_form, plain_stopped}
+use Rattle.laz_writer.proofs.Public.{full_blocks_more, rest_of}
+use Rattle.laz_forms.proofs.Public.{joined-append, prefix_append}
+use Rattle.laz_writer.proofs.Public.{block_size_is}
 
 -- ---- reads between writes
 

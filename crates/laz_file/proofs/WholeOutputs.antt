@@ -10,28 +10,28 @@ use Rattle.las_header.specs.Heads.{HeadView, IsHead}
 use Rattle.las_header.specs.Plain.{plain_head, plain_of}
 use Rattle.las_outside.specs.Files.{FileMap, WhereKnown, with_file}
 use Rattle.las_outside.specs.Outside.{Outside, with_bytes}
-use Rattle.laz_file.specs.declared.fault.Fault.{Fault}
-use Rattle.laz_file.specs.declared.fault.Fault.TheVariants.{Refused, Read, Write, Memory}
+use Rattle.laz_forms.specs.declared.fault.Fault.{Fault}
+use Rattle.laz_forms.specs.declared.fault.Fault.TheVariants.{Refused, Read, Write, Memory}
 use Rattle.laz_file.specs.Copying.{AreOnlyRecords, EndsCopying, Finishes, HoldFirst, LeavesFirst, LeavesInPart, LeavesRecords, LeavesStopped, LeavesUnfinished, Refuses, packed_output, plain_output}
-use Rattle.laz_file.specs.Outputs.{Output, finished, front, stopped}
-use Rattle.laz_file.specs.Packing.{pack, packed_file}
-use Rattle.laz_file.specs.Pieces.{Piece, piece_bytes}
-use Rattle.laz_file.specs.Reading.{ReaderSeen, ReadsAll, StandsFor}
-use Rattle.laz_file.specs.Ranges.{Range, parts_of, whole_range}
-use Rattle.laz_file.specs.Records.{AreRead, AreRecordsOf, HoldOnly, IsBadPiece}
-use Rattle.laz_file.specs.Writing.{Stands, Stops, WriterSeen}
-use Rattle.laz_file.proofs.Accepted.{plain_records}
-use Rattle.laz_file.proofs.AllParts.{all_of}
-use Rattle.laz_file.proofs.Arms.{held_text}
+use Rattle.laz_forms.specs.Outputs.{Output, finished, front, stopped}
+use Rattle.laz_forms.specs.Packing.{pack, packed_file}
+use Rattle.laz_forms.specs.Pieces.{Piece, piece_bytes}
+use Rattle.laz_reader.specs.Reading.{ReaderSeen, ReadsAll, StandsFor}
+use Rattle.laz_forms.specs.Ranges.{Range, parts_of, whole_range}
+use Rattle.laz_forms.specs.Records.{AreRead, AreRecordsOf, HoldOnly, IsBadPiece}
+use Rattle.laz_writer.specs.Writing.{Stands, Stops, WriterSeen}
+use Rattle.laz_forms.proofs.Public.{plain_records}
+use Rattle.laz_reader.proofs.Public.{all_of}
+use Rattle.laz_writer.proofs.Public.{held_text}
 use Rattle.laz_file.proofs.Copies.{read_begins}
 use Rattle.laz_file.proofs.Endings.{leaves_part, short_part}
-use Rattle.laz_file.proofs.Finished.{finished_is}
-use Rattle.laz_file.proofs.Knowing.{known_both}
-use Rattle.laz_file.proofs.OneAnswer.{one_pieces}
-use Rattle.laz_file.proofs.Packed.{plain-is}
-use Rattle.laz_file.proofs.Stopping.{front_unfinished}
+use Rattle.laz_forms.proofs.Public.{finished_is}
+use Rattle.laz_forms.proofs.Public.{known_both}
+use Rattle.laz_forms.proofs.Public.{one_pieces}
+use Rattle.laz_forms.proofs.Public.{plain-is}
+use Rattle.laz_writer.proofs.Public.{front_unfinished}
 use Rattle.laz_file.proofs.Taking.{held_after, known_after, known_before}
-use Rattle.laz_file.proofs.Whole.{hold-plain, plain_read, read_once}
+use Rattle.laz_forms.proofs.Public.{hold-plain, plain_read, read_once}
 
 -- ---- a new reader, and its file
 

@@ -11,13 +11,13 @@ use Rattle.las_outside.specs.Drafts.{IsUnfinished}
 use Rattle.las_outside.specs.Faults.{Rose}
 use Rattle.las_outside.specs.Files.{FileMap, WhereKnown, with_file}
 use Rattle.las_outside.specs.Outside.{Outside}
-use Rattle.laz_file.specs.declared.fault.Fault.{Fault}
-use Rattle.laz_file.specs.declared.fault.Fault.TheVariants.{Refused, Read, Write, Memory}
-use Rattle.laz_file.specs.Outputs.{Output, draft_of, finished, patches_of, stopped}
-use Rattle.laz_file.specs.Reading.{AreWholeBlocks, ReaderSeen, records_in}
-use Rattle.laz_file.specs.Ranges.{Range}
-use Rattle.laz_file.specs.Records.{AreRecordsIn, AreRecordsOf, HoldOnly, IsBadPiece}
-use Rattle.laz_file.specs.Writing.{Stands, WriterSeen}
+use Rattle.laz_forms.specs.declared.fault.Fault.{Fault}
+use Rattle.laz_forms.specs.declared.fault.Fault.TheVariants.{Refused, Read, Write, Memory}
+use Rattle.laz_forms.specs.Outputs.{Output, draft_of, finished, patches_of, stopped}
+use Rattle.laz_reader.specs.Reading.{AreWholeBlocks, ReaderSeen, records_in}
+use Rattle.laz_forms.specs.Ranges.{Range}
+use Rattle.laz_forms.specs.Records.{AreRecordsIn, AreRecordsOf, HoldOnly, IsBadPiece}
+use Rattle.laz_writer.specs.Writing.{Stands, WriterSeen}
 
 -- the packed form of a plain file as an output, and the plain form of a packed one: the records are not counted, since
 -- the head has their counts
@@ -96,18 +96,6 @@ EndsAfter held reader n None = n ≡ length reader.left
 EndsAfter held reader n (Some cause) =
     (cause ≡ BadChunk (reader.next + n)) × IsSome reader.chunk
     × WhereKnown held reader.name (λ file. IsBadPiece file reader.left n)
-
--- how copying goes on after a fault of a reader: a refusal ends the records, and any other fault the call
-abbrev pub end_of : Fault → Result (Option Refusal) Fault
-end_of (Refused cause) = Ok (Some cause)
-end_of fault = Err fault
-
--- A call that reads and writes ends with a fault that has its cause, and never with a refusal.
-abbrev pub HasCause : (old now : Outside) → Fault → Type 0
-HasCause old now (Refused cause) = ⊥
-HasCause old now Read = Rose old.read_faults now.read_faults
-HasCause old now Write = Rose old.write_faults now.write_faults
-HasCause old now Memory = Unit {0}
 
 -- All records that a reader has left were copied into an output, after these bytes of records, and it was finished.
 abbrev pub Finishes : (known was now : Option FileMap) → ReaderSeen → Output → (bytes : List ℕ) → Type 0

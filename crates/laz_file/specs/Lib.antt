@@ -11,20 +11,4 @@ pub use Rattle.laz_workers.specs.Work
 pub use Rattle.laz_chunk.specs.Layouts
 pub use Rattle.laz_chunk.specs.Chunks
 pub use Rattle.laz_table.specs.Chunks as TableChunks
-pub mod Packing
-pub mod Outputs
-pub mod Refusing
-pub mod Pieces
-pub mod Ranges
-pub mod Records
-pub mod Laws
-pub mod Existing
-pub mod Writing
-pub mod Stopping
-pub mod Unpacking
-pub mod Reading
-pub mod Batches
 pub mod Copying
-pub mod Hands
-pub mod Asking
-pub mod Sizes

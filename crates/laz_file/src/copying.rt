@@ -6,19 +6,20 @@ ghost use Rattle.std.specs.List.{concat};
 ghost use Rattle.las_outside.specs.Faults.{Rose};
 ghost use Rattle.las_outside.specs.Frames.{IsCalm, OnlyWrites};
 ghost use Rattle.las_outside.specs.Outside.{Later};
-ghost use Rattle.laz_file.specs.declared.fault.Fault.TheVariants.{Memory, Write};
-ghost use Rattle.laz_file.specs.Asking.{AsksAtMost, bytes_left};
-ghost use Rattle.laz_file.specs.Copying.{CanTake, EndsAfter, HasCause, HoldFirst, LeavesPart, Takes, end_of};
-ghost use Rattle.laz_file.specs.Reading.{IsCrewOf, Lends, OfFile, StandsFor};
-ghost use Rattle.laz_file.specs.Writing.{IsBegun};
+ghost use Rattle.laz_forms.specs.declared.fault.Fault.TheVariants.{Memory, Write};
+ghost use Rattle.laz_reader.specs.Asking.{AsksAtMost, bytes_left};
+ghost use Rattle.laz_file.specs.Copying.{CanTake, EndsAfter, HoldFirst, LeavesPart, Takes};
+ghost use Rattle.laz_forms.specs.FileFaults.{HasCause, end_of};
+ghost use Rattle.laz_reader.specs.Reading.{IsCrewOf, Lends, OfFile, StandsFor};
+ghost use Rattle.laz_writer.specs.Writing.{IsBegun};
 
-use crate::Fault;
-use crate::reader::Reader;
-use crate::writer::Writer;
 use las_header::Refusal;
 use las_outside::{Files, Gate};
 use laz_chunk::Workspace;
+use laz_forms::Fault;
+use laz_reader::Reader;
 use laz_workers::{Crew, Machine};
+use laz_writer::Writer;
 use std::alloc::Global;
 use std::thread::Threads;
 
@@ -58,6 +59,33 @@ fn push_lent<R: Threads + Sync, F: Files, G: Gate>(
     Ok(())
 }
 
+// Pushes the block of a plain file. The writer may keep the block itself, and the reader has another buffer in its place.
+fn push_plain<R: Threads + Sync, F: Files, G: Gate>(
+    machine: &Machine<'_, R, G>,
+    files: &mut F,
+    reader: &mut Reader,
+    writer: &mut Writer,
+) -> Result<(), Fault>
+    requires open { writer.old.failed ≡ false }
+    requires whole { length reader.old.lent % writer.old.size ≡ 0 }
+    requires most { writer.old.taken + length reader.old.lent ≤ writer.old.size * writer.old.most }
+    requires stands { IsBegun (F.seen files.old) writer.old }
+    ensures takes { OnOk result (Takes (F.seen files.old) (F.seen files.new) writer.old writer.new reader.old.lent) }
+    ensures part { OnErr result (LeavesPart (F.seen files.old) (F.seen files.new) writer.old reader.old.lent) }
+    ensures most { writer.new.most ≡ writer.old.most }
+    ensures open { OnOk result (writer.new.failed ≡ false) }
+    ensures cause { IfErr result (HasCause (F.seen files.old) (F.seen files.new)) }
+    ensures calm { OnOk result (IsCalm (F.seen files.old) (F.seen files.new)) }
+    ensures writes { OnlyWrites (F.seen files.old) (F.seen files.new) }
+    ensures reader { reader.new ≡ record reader.old { lent = reader.new.lent } }
+{
+    let mut block = Vec::new(machine.alloc);
+    reader.swap_block(&mut block);
+    let pushed = writer.push_block(machine.rt, machine.alloc, files, machine.gate, &mut block);
+    reader.swap_block(&mut block);
+    pushed
+}
+
 // Pushes the blocks of a batch, in order. Of a plain file the writer may keep the block itself, and the reader has
 // another buffer in its place.
 fn push_batch<R: Threads + Sync, F: Files, G: Gate>(
@@ -85,29 +113,9 @@ fn push_batch<R: Threads + Sync, F: Files, G: Gate>(
     ensures writes { OnlyWrites (F.seen files.old) (F.seen files.new) }
     ensures reader { reader.new ≡ record reader.old { lent = reader.new.lent } }
 {
-    match reader.chunk {
-        None => writer.push_block(
-            machine.rt,
-            machine.alloc,
-            files,
-            machine.gate,
-            &mut reader.block,
-        ),
+    match reader.chunk() {
+        None => push_plain(machine, files, reader, writer),
         Some(_) => push_lent(machine, files, reader, crew, count, writer),
-    }
-}
-
-impl Fault {
-    /// What a fault of a reader ends: a refusal the records, and any other fault the call.
-    pub fn into_end(self) -> Result<Option<Refusal>, Fault>
-        ensures { result ≡ end_of self }
-    {
-        match self {
-            Fault::Refused(cause) => Ok(Some(cause)),
-            Fault::Read => Err(Fault::Read),
-            Fault::Write => Err(Fault::Write),
-            Fault::Memory => Err(Fault::Memory),
-        }
     }
 }
 

@@ -1,11 +1,11 @@
 //! Laws of files, as contracts of functions that do nothing.
 
-ghost use Rattle.laz_file.specs.Laws.{AreCounted, ArePackedChunks, HasNoBadPiece, HasOneBlock, HasOneInRange};
-ghost use Rattle.laz_file.specs.Laws.{HasOnePieces, HasOneRecords, IsAcceptedPack};
-ghost use Rattle.laz_file.specs.Laws.{IsAcceptedPlain, IsCountedFile, IsFinished, IsItsPlainForm, IsPackedAccepted};
-ghost use Rattle.laz_file.specs.Laws.{IsEmptyRange, IsRangeReadOnce, IsSliceOfRecords, IsWholeOfAll};
-ghost use Rattle.laz_file.specs.Existing.{HasAnAnswer, HasPieces, HasSomeRecords, HasSomeInRange};
-ghost use Rattle.laz_file.specs.Laws.{IsReadOnce, IsRefusedOnce, ReadsBack, ReadsPlain, UnpacksAgain};
+ghost use Rattle.laz_forms.specs.Laws.{AreCounted, ArePackedChunks, HasNoBadPiece, HasOneBlock, HasOneInRange};
+ghost use Rattle.laz_forms.specs.Laws.{HasOnePieces, HasOneRecords, IsAcceptedPack};
+ghost use Rattle.laz_forms.specs.Laws.{IsAcceptedPlain, IsCountedFile, IsFinished, IsItsPlainForm, IsPackedAccepted};
+ghost use Rattle.laz_forms.specs.Laws.{IsEmptyRange, IsRangeReadOnce, IsSliceOfRecords, IsWholeOfAll};
+ghost use Rattle.laz_forms.specs.Existing.{HasAnAnswer, HasPieces, HasSomeRecords, HasSomeInRange};
+ghost use Rattle.laz_forms.specs.Laws.{IsReadOnce, IsRefusedOnce, ReadsBack, ReadsPlain, UnpacksAgain};
 
 use laz_chunk::one_is_held;
 use laz_table::tables_hold_one_pair;

@@ -1,6 +1,7 @@
 //! Workers: numbers that threads claim, and a crew of hands that works inputs by claimed number.
 #![tactic(auto)]
 
+mod batch;
 mod claims;
 mod crew;
 mod hand;
@@ -13,6 +14,7 @@ mod room;
 mod run;
 mod view;
 
+pub use batch::work_batch;
 pub use claims::Claims;
 pub use crew::Crew;
 pub use hand::Hand;

@@ -5,9 +5,9 @@ ghost use Rattle.las_header.specs.Fields.{is_packed};
 ghost use Rattle.las_header.specs.Vlrs.{laszip_vlrs_of};
 ghost use Rattle.las_outside.specs.Files.{WhereKnown};
 ghost use Rattle.las_outside.specs.Outside.{Outside};
-ghost use Rattle.laz_file.specs.Outputs.{Output};
-ghost use Rattle.laz_file.specs.Reading.{IsCrewOf, Lends, StandsFor};
-ghost use Rattle.laz_file.specs.Writing.{Stands};
+ghost use Rattle.laz_forms.specs.Outputs.{Output};
+ghost use Rattle.laz_reader.specs.Reading.{IsCrewOf, Lends, StandsFor};
+ghost use Rattle.laz_writer.specs.Writing.{Stands};
 
 use las_header::Head;
 use las_outside::{Files, Gate, MemFiles, OpenGate};

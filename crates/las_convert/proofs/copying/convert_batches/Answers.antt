@@ -9,9 +9,10 @@ use Rattle.las_outside.specs.Files.{FileMap, WhereKnown}
 use Rattle.las_thin.specs.Sieving.{Settings}
 use Rattle.las_outside.proofs.Public.{calm-refl, calm-trans, later-refl, later-trans}
 use Rattle.laz_file.specs.Copying.{with_reads}
-use Rattle.laz_file.specs.Reading.{ReaderSeen, StandsFor}
-use Rattle.laz_file.specs.Records.{HoldOnly, IsBadPiece}
-use Rattle.laz_file.proofs.Public.{ReadsMore, calm_ok, end_all, end_bad, end_err, end_ok, even_for, read_more, read_none, room_for, record_least, concat-append, if_err, cause_since, known_taken, on_err, other_name, ok_then}
+use Rattle.laz_reader.specs.Reading.{ReaderSeen, StandsFor}
+use Rattle.laz_forms.specs.Records.{HoldOnly, IsBadPiece}
+use Rattle.laz_forms.proofs.Public.{record_least, concat-append, if_err}
+use Rattle.laz_file.proofs.Public.{ReadsMore, calm_ok, end_all, end_bad, end_err, end_ok, even_for, read_more, read_none, room_for, cause_since, known_taken, on_err, other_name, ok_then}
 use Rattle.las_convert.specs.Adding.{Goes, HaveCounted, IsAfter, IsLent, LeavesKept, cut_all, kept_by}
 use Rattle.las_convert.proofs.Going.{after_none, count_is, even_read, few_batch, few_kept, few_left, goes_counted}
 use Rattle.las_convert.proofs.Going.{goes_none, goes_read, goes_then, leaves_now, leaves_then, records_batch}

@@ -5,9 +5,9 @@ use Rattle.las_outside.specs.Files.{WhereKnown}
 use Rattle.las_outside.specs.Frames.{IsCalm}
 use Rattle.las_outside.specs.Outside.{Later}
 use Rattle.las_thin.specs.Placed.{Placed}
-use Rattle.laz_file.specs.Asking.{bytes_left}
+use Rattle.laz_reader.specs.Asking.{bytes_left}
 use Rattle.laz_file.specs.Copying.{CanTake}
-use Rattle.laz_file.specs.Reading.{IsCrewOf, StandsFor}
+use Rattle.laz_reader.specs.Reading.{IsCrewOf, StandsFor}
 use Rattle.laz_file.proofs.Public.{HasRead}
 use Rattle.las_convert.specs.Adding.{Goes, HaveCounted, IsAfter, cut_all, kept_by}
 use Rattle.las_convert.proofs.copying.convert_batches.Given as goal

@@ -3,7 +3,7 @@ use Rattle.std.specs.List.{concat}
 use Rattle.las_filter.specs.Kept.{steps_of}
 use Rattle.las_info.specs.Tallies.{TapSeen}
 use Rattle.laz_file.specs.Copying.{EndsAfter, HoldFirst, LeavesPart, Takes}
-use Rattle.laz_file.proofs.Public.{if_ok_weaker}
+use Rattle.laz_forms.proofs.Public.{if_ok_weaker}
 use Rattle.las_convert.specs.Adding.{EndsKeeping, Goes, cut_all, kept_by}
 use Rattle.las_convert.proofs.Adding.{on_err_then}
 use Rattle.las_convert.proofs.Going.{even_read}

@@ -8,12 +8,14 @@ use Rattle.las_info.proofs.Public.{mapped}
 use Rattle.las_outside.specs.Faults.{Rose}
 use Rattle.las_outside.specs.Files.{with_file}
 use Rattle.las_thin.specs.Sieving.{Sieving}
-use Rattle.laz_file.specs.declared.fault.Fault.TheVariants.{Refused, Read, Write}
-use Rattle.laz_file.specs.Asking.{ReadsAndWrites, bytes_left}
+use Rattle.laz_forms.specs.declared.fault.Fault.TheVariants.{Refused, Read, Write}
+use Rattle.laz_reader.specs.Asking.{ReadsAndWrites, bytes_left}
 use Rattle.laz_file.specs.Copying.{LeavesUnfinished}
-use Rattle.laz_file.specs.Outputs.{Output, finished, records_after, stopped}
-use Rattle.laz_file.specs.Reading.{ReaderSeen, StandsFor}
-use Rattle.laz_file.proofs.Public.{after_writes, known_both, known_then, on_err, err_at, ok_then, stands_ready}
+use Rattle.laz_forms.specs.Outputs.{Output, finished, records_after, stopped}
+use Rattle.laz_reader.specs.Reading.{ReaderSeen, StandsFor}
+use Rattle.laz_forms.proofs.Public.{known_both, known_then}
+use Rattle.laz_reader.proofs.Public.{after_writes}
+use Rattle.laz_file.proofs.Public.{on_err, err_at, ok_then, stands_ready}
 use Rattle.las_convert.specs.Adding.{HaveCounted, IsAfter, kept_by}
 use Rattle.las_convert.specs.Converting.{ConvertsTo, EndsConverting, FinishesKept, OnlyConverts, converted_output}
 use Rattle.las_convert.specs.Converting.{output_of}

@@ -3,7 +3,8 @@ use Rattle.std.specs.List.{concat}
 use Rattle.las_filter.specs.Kept.{steps_of}
 use Rattle.las_outside.specs.Outside.{Outside}
 use Rattle.laz_file.specs.Copying.{with_reads}
-use Rattle.laz_file.proofs.Public.{if_err, cause_push}
+use Rattle.laz_forms.proofs.Public.{if_err}
+use Rattle.laz_file.proofs.Public.{cause_push}
 use Rattle.las_info.specs.Tallies.{TapSeen}
 use Rattle.las_convert.specs.Adding.{EndsKeeping, kept_by}
 use Rattle.las_convert.proofs.Endings.{ends_all, ends_with, finished_all, left_finish, left_part, left_stop}

@@ -9,10 +9,10 @@ use Rattle.las_outside.specs.Files.{FileMap, WhereKnown}
 use Rattle.las_outside.proofs.Public.{calm-refl, calm-trans, later-refl, only_reads-trans}
 use Rattle.las_thin.specs.Kept.{passing}
 use Rattle.las_thin.specs.Sieving as sieve
-use Rattle.laz_file.specs.declared.fault.Fault.TheVariants.{Refused}
+use Rattle.laz_forms.specs.declared.fault.Fault.TheVariants.{Refused}
 use Rattle.laz_file.specs.Copying.{HoldFirst}
-use Rattle.laz_file.specs.Reading.{ReaderSeen, StandsFor}
-use Rattle.laz_file.specs.Records.{HoldOnly, IsBadPiece}
+use Rattle.laz_reader.specs.Reading.{ReaderSeen, StandsFor}
+use Rattle.laz_forms.specs.Records.{HoldOnly, IsBadPiece}
 use Rattle.laz_file.proofs.Public.{ReadsMore, end_all, end_bad, even_whole, read_more, read_none}
 use Rattle.las_convert.specs.Adding.{IsLent, cut_all}
 use Rattle.las_convert.proofs.Going.{even_all, few_batch, records_batch}

@@ -5,8 +5,8 @@ use Rattle.las_outside.specs.Files.{WhereKnown}
 use Rattle.las_outside.specs.Frames.{IsCalm, OnlyReads}
 use Rattle.las_thin.specs.Kept.{passing}
 use Rattle.las_thin.specs.Sieving as sieve
-use Rattle.laz_file.specs.Asking.{bytes_left}
-use Rattle.laz_file.specs.Reading.{IsCrewOf, StandsFor}
+use Rattle.laz_reader.specs.Asking.{bytes_left}
+use Rattle.laz_reader.specs.Reading.{IsCrewOf, StandsFor}
 use Rattle.laz_file.proofs.Public.{HasRead}
 use Rattle.las_convert.specs.Adding.{cut_all}
 use Rattle.las_convert.proofs.looking.look_records.Given as goal

@@ -1,8 +1,9 @@
 use Rattle.std.proofs.Common.{◌*◌, ◌+◌, ℕ, List, sym, ap, subst}
 use Rattle.las_filter.specs.Kept.{steps_of}
 use Rattle.las_outside.specs.Files.{WhereKnown}
-use Rattle.laz_file.specs.Reading.{ReaderSeen, StandsFor}
-use Rattle.laz_file.proofs.Public.{known_then, ok_then, stands_ready}
+use Rattle.laz_reader.specs.Reading.{ReaderSeen, StandsFor}
+use Rattle.laz_forms.proofs.Public.{known_then}
+use Rattle.laz_file.proofs.Public.{ok_then, stands_ready}
 use Rattle.las_convert.proofs.Looks.{ready_here, refused_here}
 use Rattle.las_convert.proofs.looking.look_through.Goals as goal
 

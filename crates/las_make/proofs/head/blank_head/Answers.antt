@@ -1,6 +1,6 @@
 use Rattle.std.proofs.Common.{◌∙◌, ap}
 use Rattle.las_header.specs.Heads.{HeadView}
-use Rattle.laz_file.proofs.Public.{head_given}
+use Rattle.laz_reader.proofs.Public.{head_given}
 use Rattle.las_make.proofs.Accepting.{blank_causes, blank_read}
 use Rattle.las_make.proofs.head.blank_head.Goals as goal
 

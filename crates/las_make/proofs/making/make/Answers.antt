@@ -1,11 +1,11 @@
 use Rattle.std.proofs.Common.{◌≡◌, ◌+◌, Option, sym, ◌∙◌, ap, subst, arith}
 use Rattle.las_outside.specs.Files.{FileMap, WhereKnown, with_file}
 use Rattle.las_outside.specs.Outside.{Outside}
-use Rattle.laz_file.specs.Asking.{AsksAtMost, asked_to_open}
-use Rattle.laz_file.specs.Sizes.{points_size}
-use Rattle.laz_file.specs.Laws.{CanBePacked}
-use Rattle.laz_file.specs.Packing.{packed_file}
-use Rattle.laz_file.proofs.Public.{if_err}
+use Rattle.laz_reader.specs.Asking.{AsksAtMost, asked_to_open}
+use Rattle.laz_forms.specs.Sizes.{points_size}
+use Rattle.laz_forms.specs.Laws.{CanBePacked}
+use Rattle.laz_forms.specs.Packing.{packed_file}
+use Rattle.laz_forms.proofs.Public.{if_err}
 use Rattle.las_make.specs.Making.{FailsMaking}
 use Rattle.las_make.proofs.Ended.{form_whole, made_asked, made_known, packing_fails, size_asked, size_fails, size_is}
 use Rattle.las_make.proofs.making.make.Goals as goal

@@ -1,6 +1,6 @@
 use Rattle.std.proofs.Common.{ℕ, ◌*◌, List, sym, ◌∙◌, ap, subst, arith}
 use Rattle.std.specs.List.{concat}
-use Rattle.laz_file.specs.Writing.{Stands}
+use Rattle.laz_writer.specs.Writing.{Stands}
 use Rattle.laz_file.proofs.Public.{on_err}
 use Rattle.las_make.specs.Made.{records_from}
 use Rattle.las_make.proofs.Written.{block_fits, block_joined, block_left, block_whole, end_fits, part_long, put_block}

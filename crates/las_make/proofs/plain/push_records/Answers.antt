@@ -1,6 +1,6 @@
 use Rattle.std.proofs.Common.{◌≡◌, ℕ, subst, arith}
 use Rattle.std.specs.List.{concat}
-use Rattle.laz_file.specs.Writing.{Stands}
+use Rattle.laz_writer.specs.Writing.{Stands}
 use Rattle.las_make.specs.Made.{records_from}
 use Rattle.las_make.proofs.plain.push_records.Goals as goal
 

@@ -2,8 +2,8 @@ use Rattle.std.proofs.Common.{◌≡◌, ◌-◌, ◌≤◌, [], false}
 use Rattle.std.specs.List.{concat}
 use Rattle.las_outside.specs.Frames.{IsCalm, OnlyWrites}
 use Rattle.las_outside.specs.Outside.{Outside}
-use Rattle.laz_file.specs.Outputs.{Output}
-use Rattle.laz_file.specs.Writing.{Stands}
+use Rattle.laz_forms.specs.Outputs.{Output}
+use Rattle.laz_writer.specs.Writing.{Stands}
 use Rattle.las_make.specs.Made.{IsBefore, records_from}
 use Rattle.las_make.proofs.plain.push_records.Given as goal
 

@@ -4,8 +4,8 @@ use Rattle.las_outside.specs.Drafts.{IsUnfinished}
 use Rattle.las_outside.specs.Outside.{with_bytes}
 use Rattle.las_outside.proofs.Public.{only_writes-trans}
 use Rattle.laz_file.specs.Copying.{LeavesUnfinished}
-use Rattle.laz_file.specs.Outputs.{Output, draft_of, finished, patches_of}
-use Rattle.laz_file.specs.Writing.{Stops}
+use Rattle.laz_forms.specs.Outputs.{Output, draft_of, finished, patches_of}
+use Rattle.laz_writer.specs.Writing.{Stops}
 use Rattle.laz_file.proofs.Public.{on_err, create_left, ok_then}
 use Rattle.las_make.specs.Made.{made_file, made_records}
 use Rattle.las_make.proofs.Written.{counted_none, counted_plain, counted_size, end_left, head_made}

@@ -3,7 +3,7 @@ use Rattle.std.specs.Prelude.{sum_by}
 use Rattle.std.specs.List.{concat}
 use Rattle.las_outside.specs.Frames.{IsCalm}
 use Rattle.las_outside.specs.Outside.{Outside, with_bytes}
-use Rattle.laz_file.specs.Asking.{ReadsAndWrites}
+use Rattle.laz_reader.specs.Asking.{ReadsAndWrites}
 use Rattle.las_merge.specs.Appending.{part_of, with_reads}
 use Rattle.las_merge.proofs.appending.copy_all.Given as goal
 

@@ -1,7 +1,7 @@
 use Rattle.std.proofs.Common.{◌≡◌, ◌+◌, ◌-◌, ◌≤◌, ◌++◌, List, ℕ, length}
 use Rattle.las_outside.specs.Frames.{IsCalm}
 use Rattle.las_outside.specs.Outside.{Outside, with_bytes}
-use Rattle.laz_file.specs.Asking.{ReadsAndWrites}
+use Rattle.laz_reader.specs.Asking.{ReadsAndWrites}
 use Rattle.las_merge.specs.Appending.{part_in, with_reads}
 use Rattle.las_merge.proofs.appending.copy_part.Given as goal
 

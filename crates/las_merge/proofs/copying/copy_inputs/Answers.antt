@@ -5,8 +5,8 @@ use Rattle.las_header.specs.declared.refusal.Refusal.{Refusal}
 use Rattle.las_outside.specs.Files.{WhereKnown}
 use Rattle.laz_file.specs.Copying.{with_reads}
 use Rattle.std.specs.FinMap as finmap
-use Rattle.laz_file.specs.Asking.{AsksAtMost}
-use Rattle.laz_file.proofs.Public.{sum-first}
+use Rattle.laz_reader.specs.Asking.{AsksAtMost}
+use Rattle.laz_forms.proofs.Public.{sum-first}
 use Rattle.las_outside.proofs.Public.{calm-refl, calm-trans, later-refl, later-trans}
 use Rattle.las_merge.specs.Asking.{asked_of_all, asked_to_read}
 use Rattle.las_merge.specs.Copying.{BeginsWith, CopiesTo}

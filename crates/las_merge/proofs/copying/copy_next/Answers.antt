@@ -1,10 +1,11 @@
 use Rattle.std.proofs.Common.{◌+◌, ◌*◌, ℕ, sym, ◌∙◌, ap, subst, arith}
 use Rattle.las_outside.specs.Files.{WhereKnown}
-use Rattle.laz_file.specs.Asking.{AsksAtMost, asked_to_open}
+use Rattle.laz_reader.specs.Asking.{AsksAtMost, asked_to_open}
 use Rattle.laz_file.specs.Copying.{with_reads}
-use Rattle.laz_file.specs.Reading.{StandsFor}
-use Rattle.laz_file.specs.Sizes.{points_size}
-use Rattle.laz_file.proofs.Public.{known_then, stands_read}
+use Rattle.laz_reader.specs.Reading.{StandsFor}
+use Rattle.laz_forms.specs.Sizes.{points_size}
+use Rattle.laz_forms.proofs.Public.{known_then}
+use Rattle.laz_file.proofs.Public.{stands_read}
 use Rattle.las_merge.specs.Copying.{BeginsWith, CopiesTo, IsFaultOf}
 use Rattle.las_merge.proofs.Asked.{asked_again}
 use Rattle.las_merge.proofs.Again.{back, fault_by, fault_since, leaves_after, new_again, none_begun, room_for}

@@ -1,6 +1,6 @@
 use Rattle.std.proofs.Common.{◌∙◌, ap}
 use Rattle.laz_table.specs.declared.limits.TheConstants.{COUNTED_CHUNKS}
-use Rattle.laz_file.specs.Packing.{packed_head}
+use Rattle.laz_forms.specs.Packing.{packed_head}
 use Rattle.las_merge.specs.Summing.{summed_head}
 use Rattle.las_merge.proofs.copying_chunks.frame_of.Goals as goal
 

@@ -6,8 +6,8 @@ use Rattle.las_header.specs.Plain.{plain_of, with_vlr}
 use Rattle.laz_table.specs.Payload.{laszip_payload}
 use Rattle.laz_table.specs.VlrCauses.{extra_of}
 use Rattle.laz_table.specs.declared.limits.TheConstants.{COUNTED_CHUNKS}
-use Rattle.laz_file.specs.Packing.{packed_head}
-use Rattle.laz_file.proofs.Public.{if_ok_weaker}
+use Rattle.laz_forms.specs.Packing.{packed_head}
+use Rattle.laz_forms.proofs.Public.{if_ok_weaker}
 use Rattle.las_merge.specs.Opening.{first_read}
 use Rattle.las_merge.specs.Summing.{long_returns_in, returns_in, summed_head}
 use Rattle.las_merge.proofs.Whole.{head_first}

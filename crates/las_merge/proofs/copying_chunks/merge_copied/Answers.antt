@@ -7,7 +7,9 @@ use Rattle.las_outside.specs.Faults.{Rose}
 use Rattle.las_outside.specs.Files.{FileMap, with_file}
 use Rattle.las_outside.specs.Outside.{Outside, with_bytes}
 use Rattle.las_outside.proofs.Public.{calm-trans}
-use Rattle.laz_file.proofs.Public.{err_of, if_err, err_at, err_then, ok_then}
+use Rattle.laz_forms.proofs.Public.{if_err}
+use Rattle.laz_writer.proofs.Public.{err_of}
+use Rattle.laz_file.proofs.Public.{err_at, err_then, ok_then}
 use Rattle.las_merge.specs.declared.fault.MergeFault.TheVariants.{At, Write}
 use Rattle.las_merge.specs.Appending.{IsCopyFault, LeavesPrefix, LiesIn, SourceSeen, with_reads}
 use Rattle.las_merge.specs.Inputs.{names_of}

@@ -4,10 +4,10 @@ use Rattle.las_header.specs.Fields.{is_packed}
 use Rattle.las_header.specs.Heads.{HeadView}
 use Rattle.laz_table.specs.declared.limits.TheConstants.{MAX_CHUNKS}
 use Rattle.laz_table.specs.VlrCauses.{chunk_size_of}
-use Rattle.laz_file.specs.Asking.{asked_for_chunks, asked_for_list}
+use Rattle.laz_reader.specs.Asking.{asked_for_chunks, asked_for_list}
 use Rattle.std.proofs.Common.{◌+◌, ◌-◌, Bool, cond, Option, Some, None}
-use Rattle.laz_file.specs.Reading.{ReaderSeen, StandsFor}
-use Rattle.laz_file.proofs.Public.{known_then}
+use Rattle.laz_reader.specs.Reading.{ReaderSeen, StandsFor}
+use Rattle.laz_forms.proofs.Public.{known_then}
 use Rattle.las_merge.specs.Appending.{SourceSeen}
 use Rattle.las_merge.specs.Fields.{first_difference}
 use Rattle.las_merge.specs.Listing.{FailsNextPacked, ListedInput, ListsChunks}

@@ -1,7 +1,7 @@
 use Rattle.std.proofs.Common.{inl, [], ◌++◌, Option, Err, ap, subst, arith}
 use Rattle.las_outside.specs.Outside.{Outside}
 use Rattle.laz_file.specs.Copying.{with_reads}
-use Rattle.laz_file.proofs.Public.{if_err}
+use Rattle.laz_forms.proofs.Public.{if_err}
 use Rattle.las_merge.specs.declared.copying.BadInput.{BadInput}
 use Rattle.las_merge.specs.Copying.{CopiesUpTo}
 use Rattle.las_merge.specs.Opening.{names_read}

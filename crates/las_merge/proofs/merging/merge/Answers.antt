@@ -8,8 +8,9 @@ use Rattle.std.specs.FinMap as finmap
 use Rattle.las_outside.specs.Faults.{Rose}
 use Rattle.las_outside.specs.Files.{FileMap, with_file}
 use Rattle.las_outside.specs.Outside.{Outside}
-use Rattle.laz_file.specs.declared.fault.Fault.TheVariants as fault
-use Rattle.laz_file.proofs.Public.{held_text, err_of, on_err, err_at, ok_then}
+use Rattle.laz_forms.specs.declared.fault.Fault.TheVariants as fault
+use Rattle.laz_writer.proofs.Public.{held_text, err_of}
+use Rattle.laz_file.proofs.Public.{on_err, err_at, ok_then}
 use Rattle.las_merge.specs.declared.fault.MergeFault.TheVariants.{At, Unequal, TooManyPoints, Write}
 use Rattle.las_merge.specs.Asking.{asked_of_all, asked_to_read}
 use Rattle.las_merge.specs.Copying.{EndsMerging, FailsBeginning, output_under}

@@ -2,9 +2,9 @@ use Rattle.std.proofs.Common.{◌≡◌, ℕ, List, Err, refl, sym, ◌∙◌, a
 use Rattle.las_header.specs.Fields.{points_of}
 use Rattle.las_header.specs.Heads.{HeadView}
 use Rattle.las_outside.specs.Files.{IsMissing, WhereKnown}
-use Rattle.laz_file.specs.Asking.{AsksAtMost, asked_to_open}
-use Rattle.laz_file.specs.Reading.{EndsReading, IsNewReader, ReaderSeen, StandsFor}
-use Rattle.laz_file.specs.Refusing.{IsRefusal}
+use Rattle.laz_reader.specs.Asking.{AsksAtMost, asked_to_open}
+use Rattle.laz_reader.specs.Reading.{EndsReading, IsNewReader, ReaderSeen, StandsFor}
+use Rattle.laz_forms.specs.Refusing.{IsRefusal}
 use Rattle.std.specs.Prelude.{Some}
 use Rattle.las_merge.specs.Copying.{IsFaultOf}
 use Rattle.las_merge.specs.Fields.{first_difference}

@@ -5,7 +5,7 @@ use Rattle.std.specs.declared.alloc.Global.{Global}
 use Rattle.std.proofs.lemmas.List.{get_or-map, length-map}
 use Rattle.las_outside.specs.Files.{FileMap}
 use Rattle.las_outside.proofs.Public.{calm-trans, only_reads-trans}
-use Rattle.laz_file.proofs.Public.{if_err}
+use Rattle.laz_forms.proofs.Public.{if_err}
 use Rattle.std.specs.FinMap as finmap
 use Rattle.las_merge.specs.Asking.{asked_of_all, asked_to_compare}
 use Rattle.las_merge.specs.Inputs.{item_at, names_of}

@@ -1,6 +1,6 @@
 use Rattle.std.proofs.Common.{◌≡◌, length, take}
 use Rattle.las_outside.specs.Frames.{IsCalm, OnlyReads}
-use Rattle.laz_file.specs.Asking.{AsksAtMost}
+use Rattle.laz_reader.specs.Asking.{AsksAtMost}
 use Rattle.las_merge.specs.Asking.{asked_of_all, asked_to_compare}
 use Rattle.las_merge.specs.Inputs.{IfKnown, names_of}
 use Rattle.las_merge.specs.Opening.{AreOpen}

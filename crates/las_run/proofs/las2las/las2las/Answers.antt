@@ -6,11 +6,11 @@ use Rattle.las_words.specs.Asked.{Asked, las2las, reads}
 use Rattle.las_words.specs.Texts.{texts}
 use Rattle.las_filter.specs.Kept.{steps_of}
 use Rattle.las_outside.specs.Files.{FileMap, WhereKnown}
-use Rattle.laz_file.specs.Asking.{AsksAtMost, asked_to_open}
-use Rattle.laz_file.specs.Pieces.{ArePieces, Piece}
-use Rattle.laz_file.specs.Ranges.{parts_of}
-use Rattle.laz_file.specs.Reading.{StandsFor}
-use Rattle.laz_file.specs.Refusing.{IsAcceptedFile}
+use Rattle.laz_reader.specs.Asking.{AsksAtMost, asked_to_open}
+use Rattle.laz_forms.specs.Pieces.{ArePieces, Piece}
+use Rattle.laz_forms.specs.Ranges.{parts_of}
+use Rattle.laz_reader.specs.Reading.{StandsFor}
+use Rattle.laz_forms.specs.Refusing.{IsAcceptedFile}
 use Rattle.las_run.specs.Asking.{bytes_in, in_first_reading}
 use Rattle.las_run.specs.Ends.{Change, EndsMaking, quiet}
 use Rattle.las_run.specs.Runs.{task_with}

@@ -4,7 +4,7 @@ use Rattle.las_filter.specs.Kept.{steps_of}
 use Rattle.las_header.specs.declared.refusal.Refusal.{Refusal}
 use Rattle.las_outside.specs.Files.{WhereKnown}
 use Rattle.las_thin.specs.Sieving.{Settings}
-use Rattle.laz_file.specs.declared.fault.Fault.TheVariants.{Refused}
+use Rattle.laz_forms.specs.declared.fault.Fault.TheVariants.{Refused}
 use Rattle.las_run.specs.declared.stop.Stop.{Stop}
 use Rattle.las_run.specs.Ends.{EndsMaking, quiet, stop_by}
 use Rattle.las_run.specs.Tools.{ConvertsIn, chunk_for, range_in, sieve_in}

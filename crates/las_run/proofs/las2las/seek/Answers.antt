@@ -1,5 +1,5 @@
 use Rattle.std.proofs.Common.{refl, sym, subst}
-use Rattle.laz_file.specs.Reading.{IsFreshReader, ReaderSeen}
+use Rattle.laz_reader.specs.Reading.{IsFreshReader, ReaderSeen}
 use Rattle.las_run.proofs.las2las.seek.Goals as goal
 
 pub returns-clause-fresh : goal.returns-clause-fresh

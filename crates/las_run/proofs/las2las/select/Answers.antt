@@ -4,9 +4,9 @@ use Rattle.las_filter.specs.Kept.{steps_of}
 use Rattle.las_info.specs.Tallies.{TapSeen}
 use Rattle.las_outside.specs.Files.{FileMap, WhereKnown}
 use Rattle.las_thin.specs.Sieving.{Settings}
-use Rattle.laz_file.specs.Asking.{asked_to_open}
-use Rattle.laz_file.specs.Ranges.{parts_of}
-use Rattle.laz_file.specs.Reading.{StandsFor}
+use Rattle.laz_reader.specs.Asking.{asked_to_open}
+use Rattle.laz_forms.specs.Ranges.{parts_of}
+use Rattle.laz_reader.specs.Reading.{StandsFor}
 use Rattle.las_run.specs.Asking.{bytes_in, in_first_reading}
 use Rattle.las_run.specs.Ends.{Change, EndsMaking}
 use Rattle.las_run.specs.Tools.{ConvertsIn, chunk_if, range_in, sieve_in}
@@ -68,4 +68,4 @@ returns-clause-asked g c =
     (g.F.Files.seen c.prepare.new.files) (g.F.Files.seen c.write_kept.new.files)
     (λ file pieces. in_first_reading places.pick
     (asked_to_open file + bytes_in (parts_of file (range_in places.start places.stop file) pieces))) h.asked
-    c.write_kept.ensures.asked
+    c.write_kept.ensures.frame.asked

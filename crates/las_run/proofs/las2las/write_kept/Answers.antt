@@ -8,7 +8,7 @@ use Rattle.las_info.specs.Tallies.{TapSeen}
 use Rattle.las_outside.specs.Files.{WhereKnown, with_file}
 use Rattle.las_thin.specs.Sieving.{Settings, Sieving}
 use Rattle.laz_file.specs.Copying.{LeavesUnfinished}
-use Rattle.laz_file.specs.Outputs as points
+use Rattle.laz_forms.specs.Outputs as points
 use Rattle.las_run.specs.declared.stop.Stop.{Stop}
 use Rattle.las_run.specs.Ends.{Change, EndsMaking}
 use Rattle.las_run.specs.Tools.{ConvertsIn, chunk_if}

@@ -4,7 +4,7 @@ use Rattle.std.specs.List.{concat, flat_map}
 use Rattle.std.specs.Option.{option_map}
 use Rattle.las_outside.specs.Files.{WhereKnown}
 use Rattle.laz_file.specs.Copying.{AreOnlyRecords}
-use Rattle.laz_file.specs.Outputs.{records_after}
+use Rattle.laz_forms.specs.Outputs.{records_after}
 use Rattle.las_run.specs.declared.stop.Stop.{Stop}
 use Rattle.las_run.specs.Tools.{Reports}
 use Rattle.las_header.specs.Fields.{head_of}

@@ -3,8 +3,8 @@ use Rattle.std.proofs.lemmas.Result.{err_from_is_err_and}
 use Rattle.las_thin.specs.declared.pick.Pick.TheVariants.{First}
 use Rattle.las_words.specs.Asked.{Asked, lasinfo, reads}
 use Rattle.las_words.specs.Texts.{texts}
-use Rattle.laz_file.specs.Reading.{StandsFor}
-use Rattle.laz_file.specs.Refusing.{IsAcceptedFile}
+use Rattle.laz_reader.specs.Reading.{StandsFor}
+use Rattle.laz_forms.specs.Refusing.{IsAcceptedFile}
 use Rattle.las_run.specs.Ends.{Change, EndsMaking}
 use Rattle.las_run.specs.Runs.{task_with}
 use Rattle.las_run.specs.Tools.{Reports}
@@ -67,4 +67,4 @@ returns-clause-asks g c =
     let h = c.in_ok-reader.ensures in
     asks_all c.in_ok-reader.reader c.args.input.now (g.F.Files.seen c.args.files.now)
     (g.F.Files.seen c.open_input.new.files) (g.F.Files.seen c.inform.new.files) h.fresh h.head h.stands h.asked_of
-    c.inform.ensures.asked
+    c.inform.ensures.reads.asked

@@ -1,6 +1,6 @@
 use Rattle.std.proofs.Common.{Result, ap, subst, sym, Err}
 use Rattle.std.specs.Prelude.{string_bytes}
-use Rattle.laz_file.specs.declared.fault.Fault.{Fault}
+use Rattle.laz_forms.specs.declared.fault.Fault.{Fault}
 use Rattle.las_run.specs.Ends.{EndsMaking, quiet, stopped_by}
 use Rattle.las_run.specs.Tools.{Splits}
 use Rattle.las_run.proofs.Opening.{known_more}

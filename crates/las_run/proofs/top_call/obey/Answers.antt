@@ -6,7 +6,7 @@ use Rattle.las_words.specs.declared.command.Command.{Command}
 use Rattle.las_words.specs.Asked.{Asked, IsSound, asked_by, las2las, lasinfo, lasmerge, lassplit, laszip, make, reads}
 use Rattle.las_words.specs.Asked.{work_by}
 use Rattle.las_words.specs.Texts.{texts}
-use Rattle.laz_file.proofs.Public.{All-unmap}
+use Rattle.laz_forms.proofs.Public.{All-unmap}
 use Rattle.las_make.specs.declared.settings.Settings.{Settings}
 use Rattle.las_run.specs.Ends.{Change, Ends, cause_of}
 use Rattle.las_run.specs.Asking.{WorkAsks}

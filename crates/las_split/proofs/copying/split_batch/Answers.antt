@@ -2,8 +2,9 @@ use Rattle.std.proofs.Common.{◌≡◌, ◌+◌, ◌<◌, ◌≤◌, ℕ, List,
 use Rattle.std.specs.List.{concat}
 use Rattle.std.proofs.lemmas.List.{append-nil, take_all}
 use Rattle.las_outside.proofs.Public.{calm-refl, calm-trans, only_writes-refl, only_writes-trans}
-use Rattle.laz_file.proofs.Public.{if_err, on_err}
-use Rattle.laz_file.specs.declared.fault.Fault.TheVariants.{Write}
+use Rattle.laz_forms.proofs.Public.{if_err}
+use Rattle.laz_file.proofs.Public.{on_err}
+use Rattle.laz_forms.specs.declared.fault.Fault.TheVariants.{Write}
 use Rattle.las_split.specs.Sorting.{InParts, LeavesBlock, TakesBlock, cut_all, task_in}
 use Rattle.las_split.proofs.Blocks.{cut_block, cut_none, cut_others, left_more_blocks, left_then, next_fits, next_place, room_next, takes_more, takes_then}
 use Rattle.las_split.proofs.SomeRecords.{some_among}

@@ -3,7 +3,7 @@ use Rattle.std.specs.Prelude.{All}
 use Rattle.std.specs.List.{concat}
 use Rattle.las_outside.specs.Files.{FileMap}
 use Rattle.las_outside.specs.Frames.{IsCalm, OnlyWrites}
-use Rattle.laz_file.specs.Reading.{Lends}
+use Rattle.laz_reader.specs.Reading.{Lends}
 use Rattle.las_split.specs.Sorting.{InParts, cut_all, task_in}
 use Rattle.las_split.proofs.copying.split_batch.Given as goal
 

@@ -1,6 +1,7 @@
 use Rattle.std.proofs.Common.{◌≡◌, ◌+◌, ◌≤◌, length, take, arith}
-use Rattle.laz_file.specs.declared.fault.Fault.TheVariants.{Write}
-use Rattle.laz_file.proofs.Public.{if_err, on_err}
+use Rattle.laz_forms.specs.declared.fault.Fault.TheVariants.{Write}
+use Rattle.laz_forms.proofs.Public.{if_err}
+use Rattle.laz_file.proofs.Public.{on_err}
 use Rattle.las_split.specs.Sorting.{cut_all, task_in}
 use Rattle.las_split.proofs.Blocks.{fit_here, left_first, takes_all, takes_some}
 use Rattle.las_split.proofs.SomeRecords.{some_pushed}

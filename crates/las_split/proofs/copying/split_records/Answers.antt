@@ -6,10 +6,11 @@ use Rattle.las_header.specs.Fields.{is_packed, record_length_of}
 use Rattle.las_header.specs.Vlrs.{laszip_vlrs_of}
 use Rattle.las_header.specs.Heads.{HeadView}
 use Rattle.las_outside.specs.Files.{WhereKnown}
-use Rattle.laz_file.specs.Reading.{ReaderSeen, StandsFor}
-use Rattle.laz_file.specs.Records.{HoldOnly, IsBadPiece}
+use Rattle.laz_reader.specs.Reading.{ReaderSeen, StandsFor}
+use Rattle.laz_forms.specs.Records.{HoldOnly, IsBadPiece}
 use Rattle.las_outside.proofs.Public.{calm-refl, calm-trans, later-refl, later-trans}
-use Rattle.laz_file.proofs.Public.{ReadsMore, calm_ok, end_all, end_bad, end_err, end_ok, read_more, read_none, if_err, cause_since, on_err}
+use Rattle.laz_forms.proofs.Public.{if_err}
+use Rattle.laz_file.proofs.Public.{ReadsMore, calm_ok, end_all, end_bad, end_err, end_ok, read_more, read_none, cause_since, on_err}
 use Rattle.laz_file.specs.Copying.{HoldFirst}
 use Rattle.las_header.specs.declared.refusal.Refusal.{Refusal}
 use Rattle.las_split.specs.Sorting.{EndsSplitting, HasRoom, InParts, LeavesBlock, TakesBlock, cut_all, task_of}

@@ -5,8 +5,8 @@ use Rattle.las_header.specs.Fields.{record_length_of}
 use Rattle.las_outside.specs.Files.{WhereKnown}
 use Rattle.las_outside.specs.Frames.{IsCalm}
 use Rattle.las_outside.specs.Outside.{Later}
-use Rattle.laz_file.specs.Asking.{bytes_left}
-use Rattle.laz_file.specs.Reading.{IsCrewOf, StandsFor}
+use Rattle.laz_reader.specs.Asking.{bytes_left}
+use Rattle.laz_reader.specs.Reading.{IsCrewOf, StandsFor}
 use Rattle.laz_file.proofs.Public.{HasRead}
 use Rattle.las_split.specs.Sorting.{InParts, cut_all, task_of}
 use Rattle.las_split.proofs.copying.split_records.Given as goal

@@ -1,10 +1,11 @@
 use Rattle.std.proofs.Common.{◌≡◌, ℕ, ◌≤◌, List, get_or, ◌++◌, length, reverse, drop, take, map, refl, sym, ◌∙◌, ap, arith}
 use Rattle.las_outside.specs.Outside.{Outside, with_bytes}
-use Rattle.laz_file.specs.Outputs.{finished}
-use Rattle.laz_file.specs.Writing.{WriterSeen}
-use Rattle.laz_file.specs.declared.fault.Fault.TheVariants.{Write}
+use Rattle.laz_forms.specs.Outputs.{finished}
+use Rattle.laz_writer.specs.Writing.{WriterSeen}
+use Rattle.laz_forms.specs.declared.fault.Fault.TheVariants.{Write}
 use Rattle.las_outside.proofs.Public.{calm-refl, calm-trans, only_writes-refl, only_writes-trans}
-use Rattle.laz_file.proofs.Public.{if_err, held_after, on_err}
+use Rattle.laz_forms.proofs.Public.{if_err}
+use Rattle.laz_file.proofs.Public.{held_after, on_err}
 use Rattle.las_split.specs.Files.{with_files}
 use Rattle.las_split.specs.Parts.{numbers_of_parts}
 use Rattle.las_split.specs.Sorting.{bytes_at, output_at}

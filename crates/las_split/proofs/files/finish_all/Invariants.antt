@@ -1,7 +1,7 @@
 use Rattle.std.proofs.Common.{List, ℕ, Option, vec_len}
 use Rattle.las_outside.specs.Files.{FileMap}
 use Rattle.las_outside.specs.Frames.{IsCalm, OnlyWrites}
-use Rattle.laz_file.specs.Outputs.{finished}
+use Rattle.laz_forms.specs.Outputs.{finished}
 use Rattle.las_split.specs.Sorting.{InParts, Task, bytes_at, output_at}
 use Rattle.las_split.proofs.EndingParts.{EndedSo}
 use Rattle.las_split.proofs.files.finish_all.Given as goal

@@ -4,9 +4,11 @@ use Rattle.las_header.specs.declared.refusal.Refusal.{Refusal}
 use Rattle.las_header.specs.Heads.{HeadView, IsHead}
 use Rattle.las_header.specs.Plain.{plain_of}
 use Rattle.las_outside.specs.Files.{FileMap, WhereKnown}
-use Rattle.laz_file.specs.declared.fault.Fault.TheVariants.{Write}
-use Rattle.laz_file.specs.Reading.{ReaderSeen, StandsFor}
-use Rattle.laz_file.proofs.Public.{known_both, known_then, if_err, if_ok_weaker, stands_ready, then_writes}
+use Rattle.laz_forms.specs.declared.fault.Fault.TheVariants.{Write}
+use Rattle.laz_reader.specs.Reading.{ReaderSeen, StandsFor}
+use Rattle.laz_forms.proofs.Public.{known_both, known_then, if_err, if_ok_weaker}
+use Rattle.laz_reader.proofs.Public.{then_writes}
+use Rattle.laz_file.proofs.Public.{stands_ready}
 use Rattle.las_split.specs.Files.{with_files}
 use Rattle.las_split.specs.Outputs.{LeavesParts, PartFile, all_finished, all_stopped, outputs_under, part_files}
 use Rattle.las_split.specs.Parts.{numbers_of_parts}

@@ -1,6 +1,6 @@
 use Rattle.std.proofs.Common.{◌≡◌, ◌≤◌, ◌%◌, ◌+◌, ◌*◌, ℕ, List, [], ◌++◌, length, take, get_or, sym, ◌∙◌, ap, subst, arith}
-use Rattle.laz_file.specs.Outputs.{front, stopped}
-use Rattle.laz_file.specs.Writing.{WriterSeen}
+use Rattle.laz_forms.specs.Outputs.{front, stopped}
+use Rattle.laz_writer.specs.Writing.{WriterSeen}
 use Rattle.laz_file.proofs.Public.{held_after, on_err}
 use Rattle.las_outside.specs.Files.{with_file}
 use Rattle.las_outside.specs.Outside.{with_bytes}

@@ -1,5 +1,5 @@
 use Rattle.std.proofs.Common.{◌≡◌, inl, inr, ℕ, ◌<◌, ◌^◌, List, ◌++◌, ◌∷◌, [], append_assoc, length, map, slice_get, refl, sym, ◌∙◌, ap, subst, arith}
-use Rattle.laz_file.specs.Writing.{WriterSeen}
+use Rattle.laz_writer.specs.Writing.{WriterSeen}
 use Rattle.laz_file.proofs.Public.{on_err}
 use Rattle.las_split.specs.declared.limits.TheConstants.{MAX_PARTS}
 use Rattle.las_split.specs.Sorting.{InParts, bytes_at, task_in}

@@ -1,8 +1,10 @@
 use Rattle.std.proofs.Common.{◌≡◌, ℕ, List, [], ◌+◌, ◌*◌, ◌%◌, ◌<◌, ◌≤◌, ◌/◌, ◌++◌, length, refl, sym, ap, subst, ◌∙◌, append_assoc, length-append, arith}
 use Rattle.std.proofs.lemmas.List.{append-nil}
 use Rattle.las_outside.proofs.Public.{calm-refl, calm-trans, only_writes-refl, only_writes-trans}
-use Rattle.laz_file.proofs.Public.{cut-append, whole_both, if_err, on_err}
-use Rattle.laz_file.specs.declared.fault.Fault.TheVariants.{Write}
+use Rattle.laz_forms.proofs.Public.{whole_both, if_err}
+use Rattle.laz_writer.proofs.Public.{cut-append}
+use Rattle.laz_file.proofs.Public.{on_err}
+use Rattle.laz_forms.specs.declared.fault.Fault.TheVariants.{Write}
 use Rattle.las_split.specs.Sorting.{cut_all, task_in}
 use Rattle.las_split.specs.Steps.{AreSorted}
 use Rattle.las_split.proofs.BatchesTaken.{none_yet}

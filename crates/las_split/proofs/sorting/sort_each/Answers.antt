@@ -1,7 +1,8 @@
 use Rattle.std.proofs.Common.{◌≡◌, ℕ, ◌*◌, ◌<◌, ◌≤◌, ◌/◌, ◌++◌, true, false, length, take, drop, sym, ap, subst, arith}
 use Rattle.las_outside.proofs.Public.{calm-refl, calm-trans, only_writes-refl, only_writes-trans}
-use Rattle.laz_file.proofs.Public.{if_err, on_err}
-use Rattle.laz_file.specs.declared.fault.Fault.TheVariants.{Write}
+use Rattle.laz_forms.proofs.Public.{if_err}
+use Rattle.laz_file.proofs.Public.{on_err}
+use Rattle.laz_forms.specs.declared.fault.Fault.TheVariants.{Write}
 use Rattle.las_split.specs.Sorting.{SortsPoint, cut_all, task_in}
 use Rattle.las_split.specs.Steps.{SortsMore}
 use Rattle.las_split.proofs.Runs.{each_all, each_left, each_less, each_more, each_none, each_place}

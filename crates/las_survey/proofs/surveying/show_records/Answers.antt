@@ -10,10 +10,10 @@ use Rattle.las_info.specs.Surveys.{IsShown}
 use Rattle.las_info.specs.Tallies.{TapSeen, count_at}
 use Rattle.las_outside.specs.Files.{FileMap, WhereKnown}
 use Rattle.las_outside.proofs.Public.{calm-refl, calm-trans, later-refl, only_reads-trans}
-use Rattle.laz_file.specs.declared.fault.Fault.TheVariants.{Refused}
+use Rattle.laz_forms.specs.declared.fault.Fault.TheVariants.{Refused}
 use Rattle.laz_file.specs.Copying.{HoldFirst}
-use Rattle.laz_file.specs.Reading.{ReaderSeen, StandsFor}
-use Rattle.laz_file.specs.Records.{HoldOnly, IsBadPiece}
+use Rattle.laz_reader.specs.Reading.{ReaderSeen, StandsFor}
+use Rattle.laz_forms.specs.Records.{HoldOnly, IsBadPiece}
 use Rattle.laz_file.proofs.Public.{ReadsMore, end_all, end_bad, even_whole, read_more, read_none}
 use Rattle.las_info.proofs.Public.{none_shown}
 use Rattle.las_survey.proofs.Batches.{batch_shown, block_shown, cut, even_concat, few_read, none_read, none_yet}

@@ -4,8 +4,8 @@ use Rattle.std.specs.List.{concat}
 use Rattle.las_info.specs.Tallies.{TapSeen}
 use Rattle.las_outside.specs.Files.{WhereKnown}
 use Rattle.las_outside.specs.Frames.{IsCalm, OnlyReads}
-use Rattle.laz_file.specs.Asking.{bytes_left}
-use Rattle.laz_file.specs.Reading.{IsCrewOf, Lends, StandsFor}
+use Rattle.laz_reader.specs.Asking.{bytes_left}
+use Rattle.laz_reader.specs.Reading.{IsCrewOf, Lends, StandsFor}
 use Rattle.laz_file.proofs.Public.{HasRead}
 use Rattle.las_info.specs.Surveys.{IsShown}
 use Rattle.las_survey.proofs.Batches.{cut}

@@ -1,9 +1,10 @@
 use Rattle.std.proofs.Common.{◌*◌, sym, ap, subst}
 use Rattle.las_outside.specs.Files.{WhereKnown}
 use Rattle.las_outside.specs.Frames.{Reads}
-use Rattle.laz_file.specs.Asking.{bytes_left}
-use Rattle.laz_file.specs.Reading.{ReaderSeen, StandsFor}
-use Rattle.laz_file.proofs.Public.{known_then, stands_ready}
+use Rattle.laz_reader.specs.Asking.{bytes_left}
+use Rattle.laz_reader.specs.Reading.{ReaderSeen, StandsFor}
+use Rattle.laz_forms.proofs.Public.{known_then}
+use Rattle.laz_file.proofs.Public.{stands_ready}
 use Rattle.std.proofs.Common.{List, ℕ}
 use Rattle.las_survey.proofs.Batches.{all_shown, bad_shown, if_ok_then}
 use Rattle.las_survey.proofs.surveying.survey.Goals as goal

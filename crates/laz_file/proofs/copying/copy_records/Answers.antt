@@ -3,12 +3,12 @@ use Rattle.std.specs.List.{concat}
 use Rattle.las_outside.specs.Files.{FileMap, WhereKnown}
 use Rattle.las_outside.proofs.Public.{later-refl, later-trans}
 use Rattle.laz_file.specs.Copying.{LeavesPart, Takes, with_reads}
-use Rattle.laz_file.specs.Reading.{ReaderSeen, StandsFor}
-use Rattle.laz_file.specs.Records.{HoldOnly, IsBadPiece}
-use Rattle.laz_file.specs.Asking.{bytes_left}
-use Rattle.laz_file.proofs.Knowing.{known_then}
+use Rattle.laz_reader.specs.Reading.{ReaderSeen, StandsFor}
+use Rattle.laz_forms.specs.Records.{HoldOnly, IsBadPiece}
+use Rattle.laz_reader.specs.Asking.{bytes_left}
+use Rattle.laz_forms.proofs.Public.{known_then}
 use Rattle.laz_file.proofs.Copies.{ReadsMore, calm_ok, crew_lent, end_all, end_bad, end_err, end_ok, even_for, moved_lent, read_more, read_none, room_after, room_for, stands_lent}
-use Rattle.laz_file.proofs.Putting.{concat-append, if_err}
+use Rattle.laz_forms.proofs.Public.{concat-append, if_err}
 use Rattle.laz_file.proofs.Taking.{cause_since, known_taken, on_err, other_name, part_stands, part_then, takes_none, takes_read, takes_then}
 use Rattle.laz_file.proofs.copying.copy_records.Goals as goal
 

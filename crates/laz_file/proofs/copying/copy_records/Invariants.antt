@@ -2,9 +2,9 @@ use Rattle.std.proofs.Common.{◌≡◌, ◌+◌, ◌≤◌, false, ℕ, List, l
 use Rattle.std.specs.List.{concat}
 use Rattle.las_outside.specs.Files.{WhereKnown}
 use Rattle.las_outside.specs.Outside.{Later}
-use Rattle.laz_file.specs.Asking.{bytes_left}
+use Rattle.laz_reader.specs.Asking.{bytes_left}
 use Rattle.laz_file.specs.Copying.{CanTake, Takes}
-use Rattle.laz_file.specs.Reading.{IsCrewOf, StandsFor}
+use Rattle.laz_reader.specs.Reading.{IsCrewOf, StandsFor}
 use Rattle.laz_file.proofs.Copies.{HasRead}
 use Rattle.laz_file.proofs.copying.copy_records.Given as goal
 

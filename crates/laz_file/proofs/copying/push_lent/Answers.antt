@@ -4,7 +4,7 @@ use Rattle.std.proofs.lemmas.List.{take_all}
 use Rattle.las_outside.proofs.Public.{calm-refl, calm-trans, only_writes-refl, only_writes-trans}
 use Rattle.laz_file.specs.Copying.{LeavesPart, Takes, with_reads}
 use Rattle.laz_file.proofs.Copies.{concat_more, concat_rest, even_block, room_block}
-use Rattle.laz_file.proofs.Putting.{if_err}
+use Rattle.laz_forms.proofs.Public.{if_err}
 use Rattle.laz_file.proofs.Taking.{cause_push, on_err, part_more, part_push, part_then, takes_none, takes_push, takes_then}
 use Rattle.laz_file.proofs.copying.push_lent.Goals as goal
 

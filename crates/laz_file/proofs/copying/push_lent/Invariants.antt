@@ -2,7 +2,7 @@ use Rattle.std.proofs.Common.{◌≡◌, false, ℕ, List, length, take}
 use Rattle.std.specs.List.{concat}
 use Rattle.las_outside.specs.Frames.{IsCalm, OnlyWrites}
 use Rattle.laz_file.specs.Copying.{Takes}
-use Rattle.laz_file.specs.Reading.{Lends}
+use Rattle.laz_reader.specs.Reading.{Lends}
 use Rattle.laz_file.proofs.copying.push_lent.Given as goal
 
 abbrev pub invariant-loop-i : goal.invariant-loop-i

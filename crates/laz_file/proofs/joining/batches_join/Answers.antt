@@ -1,4 +1,4 @@
-use Rattle.laz_file.proofs.Joins.{joined}
+use Rattle.laz_reader.proofs.Public.{joined}
 use Rattle.laz_file.proofs.joining.batches_join.Goals as goal
 
 pub returns : goal.returns

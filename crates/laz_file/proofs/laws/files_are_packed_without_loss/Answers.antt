@@ -1,4 +1,4 @@
-use Rattle.laz_file.proofs.Packed.{packed_accepted, packed_chunks, unpacks_again}
+use Rattle.laz_forms.proofs.Public.{packed_accepted, packed_chunks, unpacks_again}
 use Rattle.laz_file.proofs.laws.files_are_packed_without_loss.Goals as goal
 
 pub returns-clause-accepted : goal.returns-clause-accepted

@@ -1,4 +1,4 @@
-use Rattle.laz_file.proofs.Whole.{is_plain_form, no_bad_piece, reads_back, reads_plain}
+use Rattle.laz_forms.proofs.Public.{is_plain_form, no_bad_piece, reads_back, reads_plain}
 use Rattle.laz_file.proofs.laws.files_are_read_whole.Goals as goal
 
 pub returns-clause-none_bad : goal.returns-clause-none_bad

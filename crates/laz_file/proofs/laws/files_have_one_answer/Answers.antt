@@ -1,5 +1,5 @@
-use Rattle.laz_file.proofs.Whole.{read_once}
-use Rattle.laz_file.proofs.OneAnswer.{one_pieces, refused_once}
+use Rattle.laz_forms.proofs.Public.{read_once}
+use Rattle.laz_forms.proofs.Public.{one_pieces, refused_once}
 use Rattle.laz_file.proofs.laws.files_have_one_answer.Goals as goal
 
 pub returns-clause-refusal : goal.returns-clause-refusal

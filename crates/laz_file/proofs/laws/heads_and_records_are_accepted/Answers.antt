@@ -1,5 +1,5 @@
-use Rattle.laz_file.proofs.CountedForms.{are_counted}
-use Rattle.laz_file.proofs.PlainForms.{accepted_pack, accepted_plain}
+use Rattle.laz_forms.proofs.Public.{are_counted}
+use Rattle.laz_forms.proofs.Public.{accepted_pack, accepted_plain}
 use Rattle.laz_file.proofs.laws.heads_and_records_are_accepted.Goals as goal
 
 pub returns-clause-plain : goal.returns-clause-plain

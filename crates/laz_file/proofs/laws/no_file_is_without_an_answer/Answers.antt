@@ -1,4 +1,4 @@
-use Rattle.laz_file.proofs.Existing.{has_an_answer, has_pieces, has_records, has_records_in}
+use Rattle.laz_forms.proofs.Public.{has_an_answer, has_pieces, has_records, has_records_in}
 use Rattle.laz_file.proofs.laws.no_file_is_without_an_answer.Goals as goal
 
 pub returns-clause-answer : goal.returns-clause-answer

@@ -1,4 +1,4 @@
-use Rattle.laz_file.proofs.Finished.{counted_file_is, finished_is}
+use Rattle.laz_forms.proofs.Public.{counted_file_is, finished_is}
 use Rattle.laz_file.proofs.laws.outputs_are_finished.Goals as goal
 
 pub returns-clause-finished : goal.returns-clause-finished

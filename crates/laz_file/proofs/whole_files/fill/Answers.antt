@@ -3,7 +3,7 @@ use Rattle.std.specs.List.{concat}
 use Rattle.las_outside.specs.Outside.{Outside}
 use Rattle.laz_file.specs.Copying.{EndsAfter, with_reads}
 use Rattle.laz_file.proofs.Endings.{ends_part, ends_with, first_finish, first_stop, hold_all}
-use Rattle.laz_file.proofs.Putting.{if_err}
+use Rattle.laz_forms.proofs.Public.{if_err}
 use Rattle.laz_file.proofs.Taking.{cause_push}
 use Rattle.laz_file.proofs.whole_files.fill.Goals as goal
 

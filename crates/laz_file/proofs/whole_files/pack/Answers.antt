@@ -4,16 +4,16 @@ use Rattle.las_header.specs.Fields.{is_packed, point_offset_of}
 use Rattle.las_header.specs.Heads.{HeadView, IsHead}
 use Rattle.las_outside.specs.Faults.{Rose}
 use Rattle.las_outside.specs.Files.{WhereKnown, with_file}
-use Rattle.laz_file.specs.declared.fault.Fault.TheVariants.{Refused, Read, Write}
-use Rattle.laz_file.specs.Asking.{ReadsAndWrites, bytes_left}
+use Rattle.laz_forms.specs.declared.fault.Fault.TheVariants.{Refused, Read, Write}
+use Rattle.laz_reader.specs.Asking.{ReadsAndWrites, bytes_left}
 use Rattle.laz_file.specs.Copying.{AreOnlyRecords, EndsCopying, LeavesInPart, LeavesRecords, LeavesUnfinished, packed_output}
-use Rattle.laz_file.specs.Outputs.{Output, finished}
-use Rattle.laz_file.specs.Packing.{packed_file}
-use Rattle.laz_file.specs.Reading.{ReaderSeen, StandsFor}
-use Rattle.laz_file.specs.Records.{AreRecordsOf}
-use Rattle.laz_file.proofs.Frames.{after_writes}
-use Rattle.laz_file.proofs.Knowing.{known_both, known_then}
-use Rattle.laz_file.proofs.Putting.{if_err}
+use Rattle.laz_forms.specs.Outputs.{Output, finished}
+use Rattle.laz_forms.specs.Packing.{packed_file}
+use Rattle.laz_reader.specs.Reading.{ReaderSeen, StandsFor}
+use Rattle.laz_forms.specs.Records.{AreRecordsOf}
+use Rattle.laz_reader.proofs.Public.{after_writes}
+use Rattle.laz_forms.proofs.Public.{known_both, known_then}
+use Rattle.laz_forms.proofs.Public.{if_err}
 use Rattle.laz_file.proofs.WholeOutputs.{create_left, ends_left, err_at, err_then, finishes, known_reader, leaves, leaves_plain, leaves_short, no_chunk, ok_then, packed_out, packs, plain_kind, stands_ready}
 use Rattle.laz_file.proofs.whole_files.pack.Goals as goal
 

@@ -5,14 +5,14 @@ use Rattle.las_header.specs.Heads.{HeadView}
 use Rattle.las_header.specs.Plain.{plain_head, plain_of}
 use Rattle.las_outside.specs.Faults.{Rose}
 use Rattle.las_outside.specs.Files.{WhereKnown, with_file}
-use Rattle.laz_file.specs.declared.fault.Fault.TheVariants.{Refused, Read, Write}
-use Rattle.laz_file.specs.Asking.{ReadsAndWrites, bytes_left}
+use Rattle.laz_forms.specs.declared.fault.Fault.TheVariants.{Refused, Read, Write}
+use Rattle.laz_reader.specs.Asking.{ReadsAndWrites, bytes_left}
 use Rattle.laz_file.specs.Copying.{AreOnlyRecords, EndsCopying, LeavesRecords, LeavesUnfinished, plain_output}
-use Rattle.laz_file.specs.Outputs.{Output, finished, stopped}
-use Rattle.laz_file.specs.Reading.{StandsFor}
-use Rattle.laz_file.proofs.Frames.{after_writes}
-use Rattle.laz_file.proofs.Knowing.{known_both, known_then}
-use Rattle.laz_file.proofs.Putting.{if_err}
+use Rattle.laz_forms.specs.Outputs.{Output, finished, stopped}
+use Rattle.laz_reader.specs.Reading.{StandsFor}
+use Rattle.laz_reader.proofs.Public.{after_writes}
+use Rattle.laz_forms.proofs.Public.{known_both, known_then}
+use Rattle.laz_forms.proofs.Public.{if_err}
 use Rattle.laz_file.proofs.WholeOutputs.{create_left, ends_left, err_at, err_then, finishes, known_reader, leaves, ok_then, plain_out, refuses, stands_ready}
 use Rattle.laz_file.proofs.whole_files.unpack.Goals as goal
 

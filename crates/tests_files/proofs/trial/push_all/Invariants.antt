@@ -1,7 +1,7 @@
 use Rattle.std.proofs.Common.{◌≡◌, ◌*◌, ◌≤◌, ℕ, List, length, false}
 use Rattle.las_outside.specs.Outside.{Outside}
-use Rattle.laz_file.specs.Outputs.{Output}
-use Rattle.laz_file.specs.Writing.{Stands}
+use Rattle.laz_forms.specs.Outputs.{Output}
+use Rattle.laz_writer.specs.Writing.{Stands}
 use Rattle.tests_files.proofs.trial.push_all.Given as goal
 
 abbrev pub invariant-loop-i : goal.invariant-loop-i

@@ -1,6 +1,7 @@
 use Rattle.std.proofs.Common.{◌≡◌, sym, ◌∙◌, ap}
-use Rattle.laz_file.specs.Reading.{ReaderSeen}
-use Rattle.laz_file.proofs.Public.{known_as, known_at, known_then, stands_ready}
+use Rattle.laz_reader.specs.Reading.{ReaderSeen}
+use Rattle.laz_forms.proofs.Public.{known_as, known_at, known_then}
+use Rattle.laz_file.proofs.Public.{stands_ready}
 use Rattle.tests_files.proofs.trial.read_file.Goals as goal
 
 pub read_on-requires-clause-stands : goal.read_on-requires-clause-stands

@@ -1,6 +1,6 @@
 use Rattle.std.proofs.Common.{sym, ◌∙◌, ap}
-use Rattle.laz_file.specs.Reading.{ReaderSeen}
-use Rattle.laz_file.proofs.Public.{known_as, known_at}
+use Rattle.laz_reader.specs.Reading.{ReaderSeen}
+use Rattle.laz_forms.proofs.Public.{known_as, known_at}
 use Rattle.tests_files.proofs.trial.read_on.Goals as goal
 
 pub loop-batch-preserved : goal.loop-batch-preserved

@@ -1,6 +1,6 @@
 use Rattle.std.proofs.Common.{◌≡◌, false}
 use Rattle.las_outside.specs.Files.{WhereKnown}
-use Rattle.laz_file.specs.Reading.{IsCrewOf, StandsFor}
+use Rattle.laz_reader.specs.Reading.{IsCrewOf, StandsFor}
 use Rattle.tests_files.proofs.trial.read_on.Given as goal
 
 abbrev pub invariant-loop-batch : goal.invariant-loop-batch

@@ -1,5 +1,5 @@
 use Rattle.std.proofs.Common.{◌∙◌, sym}
-use Rattle.laz_file.specs.Outputs.{Output}
+use Rattle.laz_forms.specs.Outputs.{Output}
 use Rattle.tests_files.proofs.trial.write_as.Goals as goal
 
 pub push_all-requires-clause-size : goal.push_all-requires-clause-size

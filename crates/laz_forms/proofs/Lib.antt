@@ -1,0 +1,25 @@
+mod Examples
+mod Splices
+mod Counted
+mod Blocks
+mod Sums
+mod Finished
+mod OneAnswer
+mod Existing
+mod Accepted
+mod Payloads
+mod Fronts
+mod Chunked
+mod Packed
+mod Whole
+mod PlainForms
+mod CountedForms
+mod Foreign
+mod Putting
+mod RecordLengths
+mod Tallying
+mod Patching
+mod Knowing
+mod Filling
+mod Slices
+pub mod Public

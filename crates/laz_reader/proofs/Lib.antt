@@ -1,0 +1,22 @@
+mod AskingExamples
+mod Frames
+mod Unpacking
+mod Heads
+mod TableFront
+mod OpeningAsks
+mod PieceLists
+mod Kept
+mod Parts
+mod AllParts
+mod Opened
+mod Sought
+mod Asking
+mod LeftSizes
+mod Accepting
+mod Joins
+mod InputLists
+mod BatchAnswers
+mod Crews
+mod FirstPieces
+mod Batches
+pub mod Public

@@ -1,0 +1,41 @@
+use Rattle.std.proofs.Common.{sym, ◌∙◌, subst, List, [], ℕ}
+use Rattle.std.specs.Prelude.{Some, None}
+use Rattle.las_header.specs.declared.refusal.Refusal.{Refusal}
+use Rattle.laz_forms.specs.Refusing.{IsRefusal}
+use Rattle.laz_reader.specs.Reading.{ListsPieces}
+use Rattle.las_header.specs.Refusals.{first_cause}
+use Rattle.laz_table.specs.VlrCauses.{chunk_size_of, vlr_causes}
+use Rattle.laz_forms.proofs.Public.{if_ok, known_then}
+use Rattle.laz_reader.proofs.Heads.{cause_of_err, none_of_ok, same_cause}
+use Rattle.laz_reader.proofs.Accepting.{accepted_plain, one_vlr, plain_lies, refused_vlr}
+use Rattle.laz_reader.proofs.listing.read_list.Goals as goal
+
+pub returns-then-not-packed-clause-stands : goal.returns-then-not-packed-clause-stands
+returns-then-not-packed-clause-stands g c =
+    let plain = sym c.packed.ensures ∙ c.if-not-packed.true in
+    let head = c.args.head.now in
+    known_then _ _ _ _ (λ file h.
+    let both = accepted_plain file head h plain in
+    let lists : ListsPieces file None head.bytes [] [] = record { accepted = both.0; are = both.1; lie = plain_lies file head h plain } in
+    subst (λ (l : List ℕ). ListsPieces file None head.bytes l c.new-then-not-packed.result.items) (sym c.new.ensures.items) (subst (λ (l : List ℕ). ListsPieces file None head.bytes [] l) (sym c.new-then-not-packed.ensures.items) lists)) c.requires.head
+
+pub read_packed-requires-clause-chunk : goal.read_packed-requires-clause-chunk
+read_packed-requires-clause-chunk g c =
+    (none_of_ok (first_cause (vlr_causes c.args.head.now.bytes)) c.read_vlr.result (chunk_size_of c.args.head.now.bytes) c.in-Ok.chunk c.read_vlr.ensures.chunk c.read_vlr.ensures.refused c.in-Ok.is).1
+
+pub returns-in-Err-clause-refused : goal.returns-in-Err-clause-refused
+returns-in-Err-clause-refused g c = λ cause is.
+    let packed = sym c.packed.ensures ∙ c.if-not-packed.false in
+    known_then _ _ _ _ (λ file h. subst (λ (x : Refusal). IsRefusal file (Some x)) (same_cause c.in-Err.cause cause is) (refused_vlr file c.args.head.now h c.in-Err.cause packed
+    (cause_of_err (first_cause (vlr_causes c.args.head.now.bytes)) c.read_vlr.result (chunk_size_of c.args.head.now.bytes) c.in-Err.cause c.read_vlr.ensures.chunk c.read_vlr.ensures.refused c.in-Err.is))) c.requires.head
+
+pub returns-then-not-packed-clause-vlr : goal.returns-then-not-packed-clause-vlr
+returns-then-not-packed-clause-vlr g c = λ packed.
+    let plain = sym c.packed.ensures ∙ c.if-not-packed.true in
+    absurd (cc)
+
+pub returns-in-Ok-clause-vlr : goal.returns-in-Ok-clause-vlr
+returns-in-Ok-clause-vlr g c =
+    let head = c.args.head.now.bytes in
+    let none = none_of_ok (first_cause (vlr_causes head)) c.read_vlr.result (chunk_size_of head) c.in-Ok.chunk c.read_vlr.ensures.chunk c.read_vlr.ensures.refused c.in-Ok.is in
+    if_ok c.read_packed.result (λ _. one_vlr head none.0)

@@ -1,0 +1,48 @@
+use Rattle.std.proofs.Common.{◌+◌, ◌≤◌, ℕ, sym, ap, subst, length, Err, arith}
+use Rattle.laz_forms.specs.declared.fault.Fault.{Fault}
+use Rattle.laz_reader.specs.Reading.{AgreesWithHead, ReaderSeen, StandsFor}
+use Rattle.laz_reader.proofs.Opened.{new_stands}
+use Rattle.laz_reader.specs.Asking.{AsksAtMost, asked_for_head, asked_for_list, asked_for_table, asked_to_open}
+use Rattle.laz_reader.proofs.PieceLists.{length-pieces, new_agrees}
+use Rattle.laz_forms.proofs.Public.{known_at, known_both, known_then}
+use Rattle.laz_reader.proofs.Heads.{residual_is}
+use Rattle.laz_reader.proofs.Accepting.{refused_head}
+use Rattle.laz_reader.proofs.reader.Reader.open.Goals as goal
+
+pub returns-in_err-head-clause-refused : goal.returns-in_err-head-clause-refused
+returns-in_err-head-clause-refused g c = λ cause is.
+    let same = residual_is c.from_residual-in_err-head.result c.in_err-head.field-0.0 cause c.from_residual-in_err-head.ensures.1 is in
+    known_then _ _ _ _ (λ file none. refused_head file cause none) (c.in_err-head.ensures.refused cause (ap (λ (f : Fault). Err f) same))
+
+pub returns-clause-stands : goal.returns-clause-stands
+returns-clause-stands g c =
+    let head = c.in_ok-head.head in
+    let list = c.in_ok-list.list in
+    known_both _ _ _ _ _ (λ file h lists. subst (λ (r : ReaderSeen). StandsFor r file) (sym c.of.ensures)
+    (new_stands file _ head list.chunk list.points.items list.bytes.items h c.in_ok-list.ensures.chunk lists c.in_ok-list.ensures.plain)) c.in_ok-head.ensures.head (known_at _ _ _ _ c.in_ok-head.ensures.reads.held c.in_ok-list.ensures.stands)
+
+pub returns-clause-whole : goal.returns-clause-whole
+returns-clause-whole g c =
+    let list = c.in_ok-list.list in
+    let e = c.in_ok-list.ensures in
+    subst AgreesWithHead (sym c.of.ensures) (new_agrees _ c.in_ok-head.head list.chunk list.points.items list.bytes.items e.chunk e.vlr c.in_ok-head.ensures.plain e.lists.same e.points)
+
+pub returns-clause-asked : goal.returns-clause-asked
+returns-clause-asked g c =
+    let head = c.in_ok-head.head in
+    let list = c.in_ok-list.list in
+    let e = c.in_ok-list.ensures in
+    let old = (g.F.Files.seen c.args.files.now).asked in
+    let new = (g.F.Files.seen c.read_list.new.files).asked in
+    let asked : new ≤ old + (length head.bytes + asked_for_list list.chunk (length list.points.items)) = omega (arith, c.in_ok-head.ensures.asked, e.asked) in
+    let chunks = length-pieces (length head.bytes + 8) list.points.items list.bytes.items e.lists.same in
+    subst (λ (r : ReaderSeen). new ≤ old + (length r.head.bytes + asked_for_list r.chunk (length r.pieces))) (sym c.of.ensures)
+    (subst (λ (n : ℕ). new ≤ old + (length head.bytes + asked_for_list list.chunk n)) (sym chunks) asked)
+
+pub returns-clause-asked_of : goal.returns-clause-asked_of
+returns-clause-asked_of g c = λ there.
+    let old = g.F.Files.seen c.args.files.now in
+    let mid = g.F.Files.seen c.read_head.new.files in
+    let new = g.F.Files.seen c.read_list.new.files in
+    known_both old.held c.args.name.now (λ file. AsksAtMost (asked_for_head file) old mid) (λ file. AsksAtMost (asked_for_table file) mid new) (λ file. AsksAtMost (asked_to_open file) old new)
+    (λ file head table. omega (arith, head, table)) (c.in_ok-head.ensures.asked_of there) (known_at _ _ _ _ c.in_ok-head.ensures.reads.held c.in_ok-list.ensures.asked_of)

@@ -1,0 +1,11 @@
+mod Rooms
+mod Cutting
+mod Standing
+mod Ending
+mod Faults
+mod Pushing
+mod Finishing
+mod Arms
+mod Unasked
+mod Stopping
+pub mod Public
