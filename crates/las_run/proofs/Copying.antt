@@ -139,7 +139,7 @@ module _ (taps : List TapSeen) (options : LasmergeOptions) (workers : ℕ) where
           finmap.insert files options.output part,
           l.3.1 ∙ ap (λ (h : Option FileMap). with_file h options.output part) known,
           subst (λ (e : Ending). IsLeft e.outputs files (finmap.insert files options.output part)) (sym is)
-              (1, part ∷ [], (inl (l.3.0, refl), tt), refl),
+              (1, part ∷ [], inl ((l.3.0, refl), tt), refl),
         )
 
     left_by : IfKnown old.held (Leaves options.inputs options.output old new) → IsLeftBy task (quiet old new out)

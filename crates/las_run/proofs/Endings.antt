@@ -2,35 +2,30 @@
 use Rattle.std.proofs.Common.{◌≡◌, ◌⊎◌, inl, inr, ℕ, zero, suc, List, [], ◌∷◌, length, take, map, Some, Result, Ok, Err, refl, sym, ◌∙◌, ap, subst, arith}
 use Rattle.std.specs.Prelude.{Any, Contains}
 use Rattle.std.proofs.lemmas.List.{take_all}
-use Rattle.las_outside.specs.Drafts.{Patch, with_patches, IsPatchedInPart}
+use Rattle.las_outside.specs.Drafts.{with_patches}
 use Rattle.las_outside.specs.Faults.{Rose}
-use Rattle.las_outside.specs.Files.{FileMap, IsMissing, with_patch}
+use Rattle.las_outside.specs.Files.{FileMap, IsMissing}
 use Rattle.las_outside.specs.Outside.{Outside}
 use Rattle.las_outside.specs.Sinks.{SinkView, Puts, with_fault, with_more, written_after}
 use Rattle.las_outside.proofs.Public.{with_more-none}
 use Rattle.las_words.specs.Says.{usage}
 use Rattle.las_run.specs.declared.stop.Stop.{Stop}
-use Rattle.las_run.specs.Endings.{Output, Cause, Done, Memory, Usage, Unread, Unwritten, Refused, Differs, HasTooMany, Ending, ends_at_once, status_of, at_end, with_all, files_of, AreUnfinished, named, IsLeft}
+use Rattle.las_run.specs.Endings.{Output, Cause, Done, Memory, Usage, Unread, Unwritten, Refused, Differs, HasTooMany, Ending, ends_at_once, status_of, at_end, with_all, files_of, AreEnding, AreLeft, named, IsLeft}
 use Rattle.las_run.specs.Runs.{RunOf, Task, inputs_of}
 use Rattle.las_run.specs.Ends.{Change, EndsAs, IsLeftBy, IsQuiet, IsTheEnding, Ends, cause_of}
 use Rattle.las_run.specs.Lines.{line_of}
 
 -- nothing was created
 pub nothing_left : (outputs : List Output) (files : FileMap) → IsLeft outputs files files
-nothing_left outputs files = (0, [], tt, refl)
-
--- a draft with all of its patches
-all_patches : (draft : List ℕ) (patches : List Patch) → IsPatchedInPart draft patches (with_patches draft patches)
-all_patches draft [] = refl
-all_patches draft (p ∷ ps) = inr (all_patches (with_patch draft p.0 p.1) ps)
+nothing_left outputs files = (0, [], inl tt, refl)
 
 done_texts : List Output → List (List ℕ)
 done_texts outputs = map (λ o. with_patches o.draft o.patches) outputs
 
-all_done : (outputs : List Output) → AreUnfinished outputs (done_texts outputs)
+all_done : (outputs : List Output) → AreEnding outputs (done_texts outputs)
 unfolding done_texts
 all_done [] = tt
-all_done (o ∷ os) = (inr (all_patches o.draft o.patches), all_done os)
+all_done (o ∷ os) = inl (refl, all_done os)
 
 named_done : (outputs : List Output) → map (at_end Done) outputs ≡ named outputs (done_texts outputs)
 unfolding done_texts
@@ -43,7 +38,7 @@ left_if_done ending files is =
     let all : take (length ending.outputs) ending.outputs ≡ ending.outputs = take_all (length ending.outputs) ending.outputs (omega arith) in (
       length ending.outputs,
       done_texts ending.outputs,
-      subst (λ (os : List Output). AreUnfinished os (done_texts ending.outputs)) (sym all) (all_done ending.outputs),
+      inr (subst (λ (os : List Output). AreEnding os (done_texts ending.outputs)) (sym all) (all_done ending.outputs)),
       ap (λ (c : Cause). with_all files (map (at_end c) ending.outputs)) is
           ∙ ap (with_all files) (named_done ending.outputs)
           ∙ ap (λ (os : List Output). with_all files (named os (done_texts ending.outputs))) (sym all),
@@ -58,7 +53,7 @@ left_of_none outputs files now none left =
     take_none zero = refl
     take_none (suc k) = refl
 
-    go : (os : List Output) (texts : List (List ℕ)) → os ≡ [] → AreUnfinished os texts → now ≡ with_all files (named os texts) → now ≡ files
+    go : (os : List Output) (texts : List (List ℕ)) → os ≡ [] → AreLeft os texts → now ≡ with_all files (named os texts) → now ≡ files
     go [] texts is are stands = stands
     go (o ∷ os) texts is are stands = absurd (cc)
 

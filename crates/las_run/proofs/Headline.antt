@@ -13,7 +13,7 @@ use Rattle.laz_forms.specs.Outputs as points
 use Rattle.laz_forms.specs.Packing.{pack, packed_file}
 use Rattle.laz_forms.specs.Refusing.{IsAcceptedFile, IsRefusal}
 use Rattle.laz_forms.proofs.Public.{plain_file, finished_is, packed-is, packed_accepted, plain-is, unpacks_again}
-use Rattle.las_run.specs.Endings.{AreUnfinished, Cause, Done, Refused, Ending, IsLeft, Output, ends_at_once, files_of, named, with_all}
+use Rattle.las_run.specs.Endings.{AreLeft, Cause, Done, Refused, Ending, IsLeft, Output, ends_at_once, files_of, named, with_all}
 use Rattle.las_run.specs.Tools.{Zips, ZipsIf, cause_by, output_of, writes}
 use Rattle.las_run.specs.Headline.{CanMissOutput, CanMissRefusal, ChangesOutput, IsLaszip, IsPackedOf, Refuses, Writes, unpacked}
 use Rattle.las_run.specs.Seen.{CanMiss, EndsUnlessExcused, EndsWith, Excuse, NoMemory, FailedRead, FailedWrite, FailedOut, IsDue, IsExcused, Leaves, RunSeen}
@@ -77,13 +77,14 @@ left_of_one o known now left = go (take left.0 (o ∷ [])) left.1 (take_one left
     take_one zero = inl refl
     take_one (suc k) = inr (ap (λ (os : List Output). o ∷ os) (take_none k))
 
-    one : (texts : List (List ℕ)) → AreUnfinished (o ∷ []) texts → now ≡ with_all known (named (o ∷ []) texts) → (now ≡ known) ⊎ ((bytes : List ℕ) × (now ≡ finmap.insert known o.name bytes))
-    one [] are is = absurd are
+    one : (texts : List (List ℕ)) → AreLeft (o ∷ []) texts → now ≡ with_all known (named (o ∷ []) texts) → (now ≡ known) ⊎ ((bytes : List ℕ) × (now ≡ finmap.insert known o.name bytes))
+    one [] (inl are) is = absurd are
+    one [] (inr are) is = absurd are
     one (t ∷ texts) are is = inr (t, is)
 
-    go : (os : List Output) (texts : List (List ℕ)) → (os ≡ []) ⊎ (os ≡ o ∷ []) → AreUnfinished os texts → now ≡ with_all known (named os texts) → (now ≡ known) ⊎ ((bytes : List ℕ) × (now ≡ finmap.insert known o.name bytes))
+    go : (os : List Output) (texts : List (List ℕ)) → (os ≡ []) ⊎ (os ≡ o ∷ []) → AreLeft os texts → now ≡ with_all known (named os texts) → (now ≡ known) ⊎ ((bytes : List ℕ) × (now ≡ finmap.insert known o.name bytes))
     go os texts (inl e) are is = inl (subst (λ (xs : List Output). now ≡ with_all known (named xs texts)) e is)
-    go os texts (inr e) are is = one texts (subst (λ (xs : List Output). AreUnfinished xs texts) e are) (subst (λ (xs : List Output). now ≡ with_all known (named xs texts)) e is)
+    go os texts (inr e) are is = one texts (subst (λ (xs : List Output). AreLeft xs texts) e are) (subst (λ (xs : List Output). now ≡ with_all known (named xs texts)) e is)
 
 -- a run that ends as every ending that is due says, and leaves what it says
 module _ (run : RunSeen) (complete : (known : FileMap) (ending : Ending) → IsDue run known ending → EndsUnlessExcused run known ending)

@@ -6,11 +6,13 @@ use Rattle.las_outside.specs.Sinks.{Puts}
 use Rattle.las_words.specs.Asked.{Las2lasOptions, OneInput, las2las, reads}
 use Rattle.las_words.specs.Says as words
 use Rattle.las_run.specs.Asking.{AsksFor, AsksWhole, TakesAll}
+use Rattle.las_run.specs.EndingLaws.{SomeEndingIsDefined}
 use Rattle.las_run.specs.Endings.{Cause, Done, Memory, Usage, Unread, Unwritten, Refused, Differs, HasTooMany, Ending, status_of}
 use Rattle.las_run.specs.Ends.{Ends, EndsAs, IsTheEnding}
 use Rattle.las_run.specs.Lines.{line_of}
 use Rattle.las_run.specs.Promises.{KeepsPromises}
 use Rattle.las_run.specs.Seen.{EndsAsDefined, EndsUnlessExcused, NoMemory, FailedRead, FailedWrite, FailedOut, IsDecided, IsDue, Leaves, RunSeen, change_of}
+use Rattle.las_run.proofs.Elsewhere as elsewhere
 use Rattle.las_run.proofs.Endings.{left, left_of_none, put_of, quiet_but, read_cause, write_cause, wrong_words}
 use Rattle.las_run.proofs.Headline as headline
 use Rattle.las_run.proofs.Running.{no_outputs_first}
@@ -97,8 +99,8 @@ module _ (run : RunSeen) where
   AsksAll = (input : List ℕ) (own : OneInput) (workers : ℕ) → run.task.said ≡ words.asks (record { work = reads input own; workers = workers })
       → TakesAll own → AsksWhole input run.files run.files_now
 
-  pub keeps : (cause : Cause) → run.status ≡ status_of cause → Puts (line_of cause) run.err run.err_now → Ends run.task (change_of run) cause → EndsUnasked → Asks → AsksAll → Later run.files run.files_now → run.status ≤ 6 → KeepsPromises run
-  keeps cause is line e unasked asks whole later few =
+  pub keeps : (cause : Cause) → run.status ≡ status_of cause → Puts (line_of cause) run.err run.err_now → Ends run.task (change_of run) cause → EndsUnasked → Asks → AsksAll → Later run.files run.files_now → run.status ≤ 6 → SomeEndingIsDefined → KeepsPromises run
+  keeps cause is line e unasked asks whole later few some =
       let all : (known : FileMap) (ending : Ending) → IsDue run known ending → EndsUnlessExcused run known ending = λ known ending due. complete cause known ending (is, line) e due in
       let all_left : (known : FileMap) (ending : Ending) → IsDue run known ending → Leaves run known ending = λ known ending due. left run.task (change_of run) cause e known ending due.known_is due.defined in
       record {
@@ -117,6 +119,8 @@ module _ (run : RunSeen) where
         read = λ three. read_cause run.task (change_of run) cause e (sym is ∙ three);
         write = λ four. write_cause run.task (change_of run) cause e (sym is ∙ four);
         left = all_left;
+        left_always = λ known held bytes. elsewhere.left_always run known some all_left held bytes;
+        others = λ known name held bytes not. elsewhere.others run known some all_left held bytes name later not;
         unchanged = λ known ending due first. untouched cause known ending e due (no_outputs_first run.task known ending due.defined first);
         untouched = λ known ending due none. untouched cause known ending e due none;
         out = quiet cause is e;

@@ -4,6 +4,7 @@ mod Converting
 mod Endings
 mod Examples
 mod Headline
+mod Elsewhere
 mod Keeping
 mod Made
 mod Making

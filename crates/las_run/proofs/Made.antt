@@ -49,12 +49,12 @@ module _ (taps : List TapSeen) (output packed : List ℕ) (s : Settings) (range 
 
   -- ---- what is left
   whole_plain : (files now : FileMap) → now ≡ finmap.insert files output (made_file s) → IsLeft ending.outputs files now
-  whole_plain files now is = (1, made_file s ∷ [], (inr refl, tt), is)
+  whole_plain files now is = (1, made_file s ∷ [], inr (inl (refl, tt)), is)
 
   left_plain : (old new : Option FileMap) (files : FileMap) → LeavesPlain output s old new → old ≡ Some files → (after : FileMap) × (new ≡ Some after) × IsLeft ending.outputs files after
   left_plain old new files (inl same) known = (files, same ∙ known, nothing_left ending.outputs files)
   left_plain old new files (inr left) known =
-      (finmap.insert files output left.0, left.2 ∙ ap (λ (h : Option FileMap). with_file h output left.0) known, (1, left.0 ∷ [], (left.1, tt), refl))
+      (finmap.insert files output left.0, left.2 ∙ ap (λ (h : Option FileMap). with_file h output left.0) known, (1, left.0 ∷ [], inr (inr (left.1, tt)), refl))
 
   left_packed : (old new : Option FileMap) (files : FileMap) → LeavesPacked output packed s chunk old new → old ≡ Some files → (after : FileMap) × (new ≡ Some after) × IsLeft ending.outputs files after
   left_packed old new files (inl same) known =
@@ -62,7 +62,7 @@ module _ (taps : List TapSeen) (output packed : List ℕ) (s : Settings) (range 
       (after, same ∙ ap (λ (h : Option FileMap). with_file h output (made_file s)) known, whole_plain files after refl)
   left_packed old new files (inr left) known =
       let after = finmap.insert (finmap.insert files output (made_file s)) packed left.0 in
-      (after, left.2 ∙ ap (λ (h : Option FileMap). with_file (with_file h output (made_file s)) packed left.0) known, (2, made_file s ∷ left.0 ∷ [], (inr refl, (left.1, tt)), refl))
+      (after, left.2 ∙ ap (λ (h : Option FileMap). with_file (with_file h output (made_file s)) packed left.0) known, (2, made_file s ∷ left.0 ∷ [], inr (inl (refl, inr (left.1, tt))), refl))
 
   left_made : (old new : Option FileMap) (files : FileMap) → LeavesMade output packed s chunk old new → old ≡ Some files → (after : FileMap) × (new ≡ Some after) × IsLeft ending.outputs files after
   left_made old new files (inl left) known = left_plain old new files left known

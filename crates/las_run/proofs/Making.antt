@@ -33,7 +33,7 @@ use Rattle.las_run.proofs.Opening.{both_known, known_more, some_outputs}
 -- what stands of an output that was left unfinished
 pub left_of_output : (out : points.Output) (records : List ℕ) (held now : Option FileMap) (files : FileMap) → LeavesUnfinished out records held now → held ≡ Some files → (after : FileMap) × (now ≡ Some after) × IsLeft (output_of out records ∷ []) files after
 left_of_output out records held now files (inl same) known = (files, same ∙ known, nothing_left (output_of out records ∷ []) files)
-left_of_output out records held now files (inr left) known = (map.insert files out.name left.0, left.2 ∙ ap (λ (h : Option FileMap). with_file h out.name left.0) known, (1, left.0 ∷ [], (left.1, tt), refl))
+left_of_output out records held now files (inr left) known = (map.insert files out.name left.0, left.2 ∙ ap (λ (h : Option FileMap). with_file h out.name left.0) known, (1, left.0 ∷ [], inr (inr (left.1, tt)), refl))
 
 pub left_of_one : (out : points.Output) (records : List ℕ) (held now : Option FileMap) (files : FileMap) (input : List ℕ) (refusal : Option Refusal) (ending : Ending) → LeavesUnfinished out records held now → held ≡ Some files → ending ≡ writes input out records refusal
     → (after : FileMap) × (now ≡ Some after) × IsLeft ending.outputs files after

@@ -19,7 +19,7 @@ use Rattle.las_split.specs.Files.{with_files}
 use Rattle.las_split.specs.Outputs as split
 use Rattle.las_split.specs.Outputs.{LeavesParts, PartFile, all_finished, all_stopped, part_files}
 use Rattle.las_split.specs.Splitting.{OnlySplits, SplitsTo}
-use Rattle.las_run.specs.Endings.{AreUnfinished, ComesAtOpening, Done, Refused, Ending, IsLeft, Output, at_end, files_of, named, with_all}
+use Rattle.las_run.specs.Endings.{AreBegun, AreDrafts, AreEnding, AreLeft, ComesAtOpening, Done, Refused, Ending, IsLeft, Output, at_end, files_of, named, with_all}
 use Rattle.las_run.specs.Tools.{Splits, cause_by, output_of, part_outputs}
 use Rattle.las_run.specs.Ends.{EndsMaking, IsOnlyEnding, LeavesOf, MakesAs, MakesOutput, quiet, stopped_by}
 use Rattle.las_run.proofs.Endings.{left_if_done}
@@ -47,32 +47,27 @@ first_outputs zero parts = refl
 first_outputs (suc k) [] = refl
 first_outputs (suc k) (p ∷ ps) = ap (λ (rest : List Output). output_of p.output p.records ∷ rest) (first_outputs k ps)
 
-begun_parts : (parts : List PartFile) (texts : List (List ℕ)) → split.AreBegun parts texts → AreUnfinished (part_outputs parts) texts
+begun_parts : (parts : List PartFile) (texts : List (List ℕ)) → split.AreBegun parts texts → AreBegun (part_outputs parts) texts
 begun_parts [] [] are = tt
 begun_parts [] (t ∷ ts) are = are
 begun_parts (p ∷ ps) [] are = are
-begun_parts (p ∷ ps) (t ∷ ts) are = (inl are.0, begun_parts ps ts are.1)
+begun_parts (p ∷ ps) (t ∷ ts) are = (are.0, begun_parts ps ts are.1)
 
-draft_parts : (parts : List PartFile) (texts : List (List ℕ)) → split.AreDrafts parts texts → AreUnfinished (part_outputs parts) texts
+draft_parts : (parts : List PartFile) (texts : List (List ℕ)) → split.AreDrafts parts texts → AreDrafts (part_outputs parts) texts
 draft_parts [] [] are = tt
 draft_parts [] (t ∷ ts) are = are
 draft_parts (p ∷ ps) [] are = are
-draft_parts (p ∷ ps) (t ∷ ts) are =
-    let draft = points.draft_of p.output p.records in
-    (inl (length draft, are.0 ∙ sym (take_all (length draft) draft (omega arith))), draft_parts ps ts are.1)
+draft_parts (p ∷ ps) (t ∷ ts) are = (are.0, draft_parts ps ts are.1)
 
-ending_parts : (parts : List PartFile) (texts : List (List ℕ)) → split.AreEnding parts texts → AreUnfinished (part_outputs parts) texts
+ending_parts : (parts : List PartFile) (texts : List (List ℕ)) → split.AreEnding parts texts → AreEnding (part_outputs parts) texts
 ending_parts [] ts are = absurd are
 ending_parts (p ∷ ps) [] are = are
-ending_parts (p ∷ ps) (t ∷ ts) (inl are) =
-    let draft = points.draft_of p.output p.records in
-    let patches = points.patches_of p.output p.records in
-    (inr (subst (IsPatchedInPart draft patches) (sym are.0) (all_patched draft patches)), ending_parts ps ts are.1)
-ending_parts (p ∷ ps) (t ∷ ts) (inr are) = (are.0, draft_parts ps ts are.1)
+ending_parts (p ∷ ps) (t ∷ ts) (inl are) = inl (are.0, ending_parts ps ts are.1)
+ending_parts (p ∷ ps) (t ∷ ts) (inr are) = inr (are.0, draft_parts ps ts are.1)
 
-unfinished_parts : (parts : List PartFile) (k : ℕ) (texts : List (List ℕ)) → split.AreBegun (take k parts) texts ⊎ ((length parts ≤ k) × split.AreEnding (take k parts) texts) → AreUnfinished (part_outputs (take k parts)) texts
-unfinished_parts parts k texts (inl are) = begun_parts (take k parts) texts are
-unfinished_parts parts k texts (inr are) = ending_parts (take k parts) texts are.1
+left_parts : (parts : List PartFile) (k : ℕ) (texts : List (List ℕ)) → split.AreBegun (take k parts) texts ⊎ ((length parts ≤ k) × split.AreEnding (take k parts) texts) → AreLeft (part_outputs (take k parts)) texts
+left_parts parts k texts (inl are) = inl (begun_parts (take k parts) texts are)
+left_parts parts k texts (inr are) = inr (ending_parts (take k parts) texts are.1)
 
 named_parts : (parts : List PartFile) (texts : List (List ℕ)) → split.named parts texts ≡ named (part_outputs parts) texts
 named_parts [] ts = refl
@@ -90,7 +85,7 @@ left_of_parts parts held now files left known =
       (
         left.0,
         left.1,
-        subst (λ (os : List Output). AreUnfinished os left.1) first (unfinished_parts parts left.0 left.1 left.2),
+        subst (λ (os : List Output). AreLeft os left.1) first (left_parts parts left.0 left.1 left.2),
         ap (λ (os : List Output). with_all files (named os left.1)) first,
       ),
     )

@@ -1,5 +1,5 @@
 -- How a run ends: for which cause, with which outputs and which text; the files that this leaves, and its status.
-use Rattle.std.specs.Prelude.{◌≡◌, ℕ, List, [], ◌∷◌, take, map}
+use Rattle.std.specs.Prelude.{◌≡◌, ◌⊎◌, ℕ, List, [], ◌∷◌, take, map}
 use Rattle.std.specs.FinMap as finmap
 use Rattle.las_header.specs.declared.refusal.Refusal.{Refusal}
 use Rattle.las_header.specs.declared.refusal.Refusal.TheVariants as refusal
@@ -84,12 +84,32 @@ at_end _ output = (output.name, output.stopped)
 abbrev pub files_of : Ending → FileMap → FileMap
 files_of ending files = with_all files (map (at_end ending.cause) ending.outputs)
 
--- these texts are the outputs', each of them unfinished
-abbrev pub AreUnfinished : List Output → List (List ℕ) → Type 0
-AreUnfinished [] [] = Unit {0}
-AreUnfinished [] (t ∷ ts) = ⊥
-AreUnfinished (o ∷ os) [] = ⊥
-AreUnfinished (o ∷ os) (t ∷ ts) = IsUnfinished o.draft o.patches t × AreUnfinished os ts
+-- these texts are the outputs', each of them a prefix of its draft
+abbrev pub AreBegun : List Output → List (List ℕ) → Type 0
+AreBegun [] [] = Unit {0}
+AreBegun [] (t ∷ ts) = ⊥
+AreBegun (o ∷ os) [] = ⊥
+AreBegun (o ∷ os) (t ∷ ts) = ((n : ℕ) × (t ≡ take n o.draft)) × AreBegun os ts
+
+-- these texts are the outputs', each of them its draft
+abbrev pub AreDrafts : List Output → List (List ℕ) → Type 0
+AreDrafts [] [] = Unit {0}
+AreDrafts [] (t ∷ ts) = ⊥
+AreDrafts (o ∷ os) [] = ⊥
+AreDrafts (o ∷ os) (t ∷ ts) = (t ≡ o.draft) × AreDrafts os ts
+
+-- these texts are the outputs' while one after another is finished: the first are, the next is a prefix of its draft, or
+-- its draft after some of its patches, and each other one is its draft
+abbrev pub AreEnding : List Output → List (List ℕ) → Type 0
+AreEnding [] [] = Unit {0}
+AreEnding [] (t ∷ ts) = ⊥
+AreEnding (o ∷ os) [] = ⊥
+AreEnding (o ∷ os) (t ∷ ts) =
+    ((t ≡ with_patches o.draft o.patches) × AreEnding os ts) ⊎ (IsUnfinished o.draft o.patches t × AreDrafts os ts)
+
+-- these texts are left of the outputs, in the order of the work
+abbrev pub AreLeft : List Output → List (List ℕ) → Type 0
+AreLeft outputs texts = AreBegun outputs texts ⊎ AreEnding outputs texts
 
 -- outputs' names with texts
 abbrev pub named : List Output → List (List ℕ) → List (List ℕ × List ℕ)
@@ -97,9 +117,9 @@ named [] ts = []
 named (o ∷ os) [] = []
 named (o ∷ os) (t ∷ ts) = (o.name, t) ∷ named os ts
 
--- What a run leaves of files whatever ended it: the first of the outputs were created, each is a prefix of its draft or
--- its draft after some of its patches, and every other name is as before.
+-- What a run leaves of files whatever ended it: the first of the outputs were created, each is a prefix of its draft, or
+-- they were being finished one after another; and every other name is as before.
 abbrev pub IsLeft : List Output → FileMap → FileMap → Type 0
 IsLeft outputs files now =
-    (k : ℕ) × (texts : List (List ℕ)) × AreUnfinished (take k outputs) texts
+    (k : ℕ) × (texts : List (List ℕ)) × AreLeft (take k outputs) texts
     × (now ≡ with_all files (named (take k outputs) texts))

@@ -8,6 +8,8 @@ use Rattle.las_outside.specs.Outside.{Later}
 use Rattle.las_outside.specs.Sinks.{Puts, written_after}
 use Rattle.las_words.specs.Asked.{Las2lasOptions, OneInput, las2las, reads}
 use Rattle.las_words.specs.Says as words
+use Rattle.las_merge.specs.Existing.{HoldBytes}
+use Rattle.laz_forms.specs.Existing.{IsNotNone}
 use Rattle.laz_forms.specs.Laws.{CanBePacked}
 use Rattle.laz_forms.specs.Packing.{packed_file}
 use Rattle.laz_forms.specs.Refusing.{IsRefusal}
@@ -16,8 +18,9 @@ use Rattle.las_run.specs.Endings.{Cause, ComesFirst, Done, Refused, Ending, stat
 use Rattle.las_run.specs.Ends.{Ends, IsTheEnding}
 use Rattle.las_run.specs.Headline.{IsLaszip, IsPackedOf, Refuses, Writes, unpacked}
 use Rattle.las_run.specs.Lines.{line_of}
-use Rattle.las_run.specs.Runs.{inputs_of}
-use Rattle.las_run.specs.Seen.{EndsAsDefined, EndsUnlessExcused, IsDecided, IsDue, Leaves, RunSeen, change_of}
+use Rattle.las_run.specs.Runs.{IsWritten, inputs_of}
+use Rattle.las_run.specs.Seen.{EndsAsDefined, EndsUnlessExcused, IsAsBefore, IsDecided, IsDue, Leaves, RunSeen}
+use Rattle.las_run.specs.Seen.{change_of}
 
 pub record KeepsPromises (run : RunSeen) : Type 0 where
   -- ---- `laszip` over known files, whatever its input holds
@@ -67,6 +70,13 @@ pub record KeepsPromises (run : RunSeen) : Type 0 where
       ⊎ Rose run.out.faults run.out_now.faults
   -- Over known files, whatever ended the run: each output is unfinished or not there, and all else is as before.
   pub left : (known : FileMap) (ending : Ending) → IsDue run known ending → Leaves run known ending
+  -- The same without an ending that is given, for files of bytes: that nothing is so left of an ending which is defined
+  -- is refuted.
+  pub left_always : (known : FileMap) → run.files.held ≡ Some known → HoldBytes known
+      → IsNotNone ((ending : Ending) × IsDue run known ending × Leaves run known ending)
+  -- Every name that the command does not write is as before.
+  pub others : (known : FileMap) (name : List ℕ) → run.files.held ≡ Some known → HoldBytes known
+      → (IsWritten run.task.said name → ⊥) → IsAsBefore run known name
   -- Nothing has changed if the words are wrong, an input is missing or refused when it is opened, or the inputs can't
   -- be merged;
   pub unchanged : (known : FileMap) (ending : Ending) → IsDue run known ending → ComesFirst ending.cause

@@ -3,6 +3,7 @@
 use Rattle.std.specs.Prelude.{◌≡◌, ◌⊎◌, ℕ, List, [], ◌∷◌, map, Option, Some, None}
 use Rattle.std.specs.FinMap as finmap
 use Rattle.las_header.specs.declared.refusal.Refusal.{Refusal}
+use Rattle.las_filter.specs.Parts.{part_name}
 use Rattle.las_info.specs.Tallies.{TapSeen}
 use Rattle.las_outside.specs.Files.{FileMap}
 use Rattle.las_words.specs.Asked.{Asked, OneInput, Work, laszip, las2las, lasinfo, lassplit, lasmerge, make, reads}
@@ -48,6 +49,20 @@ files_read (make options) = options.output ∷ options.packed ∷ []
 abbrev pub files_read_by : Said → List (List ℕ)
 files_read_by (asks asked) = files_read asked.work
 files_read_by (usage index) = []
+
+-- A command writes a file of this name, if it creates its outputs.
+abbrev pub IsWrittenBy : Work → (name : List ℕ) → Type 0
+IsWrittenBy (reads input (laszip options)) name = name ≡ options.output
+IsWrittenBy (reads input (las2las options)) name = name ≡ options.output
+IsWrittenBy (reads input (lasinfo options)) name = ⊥
+IsWrittenBy (reads input (lassplit options)) name =
+    (number : ℕ) × (name ≡ part_name options.stem options.end number)
+IsWrittenBy (lasmerge options) name = name ≡ options.output
+IsWrittenBy (make options) name = (name ≡ options.output) ⊎ (name ≡ options.packed)
+
+abbrev pub IsWritten : Said → (name : List ℕ) → Type 0
+IsWritten (asks asked) name = IsWrittenBy asked.work name
+IsWritten (usage index) name = ⊥
 
 -- A file is refused by its first cause, or accepted, and then a command makes something of it.
 abbrev pub Accepts : (name file : List ℕ) → (Makes : Ending → Type 0) → Ending → Type 0

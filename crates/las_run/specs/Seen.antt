@@ -1,5 +1,6 @@
 -- What is seen of a run, and the ways in which it can have ended.
 use Rattle.std.specs.Prelude.{◌≡◌, ◌≢◌, ◌⊎◌, ℕ, List, [], Some}
+use Rattle.std.specs.FinMap as finmap
 use Rattle.las_outside.specs.Faults.{Rose}
 use Rattle.las_outside.specs.Files.{FileMap}
 use Rattle.las_outside.specs.Outside.{Outside}
@@ -76,6 +77,11 @@ EndsUnlessExcused run known ending = EndsAsDefined run known ending ⊎ IsExcuse
 abbrev pub Leaves : RunSeen → FileMap → Ending → Type 0
 Leaves run known ending =
     (now : FileMap) × (run.files_now.held ≡ Some now) × IsLeft ending.outputs known now
+
+-- The files are known, and what they have of this name is what they had.
+abbrev pub IsAsBefore : RunSeen → FileMap → (name : List ℕ) → Type 0
+IsAsBefore run known name =
+    (now : FileMap) × (run.files_now.held ≡ Some now) × (finmap.get now name ≡ finmap.get known name)
 
 -- Neither memory nor a failure ended a run with this status.
 abbrev pub IsDecided : (status : ℕ) → Type 0

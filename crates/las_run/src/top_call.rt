@@ -19,6 +19,7 @@ use crate::lasinfo::lasinfo;
 use crate::lasmerge::lasmerge;
 use crate::lassplit::lassplit;
 use crate::laszip::laszip;
+use crate::laws::no_task_is_without_an_ending;
 use crate::make::make;
 use crate::report::{report, status};
 use crate::stop::Stop;
@@ -68,6 +69,7 @@ pub fn run<R: Threads + Sync, F: Files, O: Sink, E: Sink, G: Gate>(
     let said = read_words(alloc, words, &taps);
     let outcome = work(rt, alloc, files, out, gate, taps, &said);
     let _ = report(err, &said, &outcome);
+    no_task_is_without_an_ending();
     status(&outcome)
 }
 

@@ -36,4 +36,4 @@ returns g c =
     asks_read task.said said input options workers run.files run.files_now read asked (λ f unread. (c.work-outcome.ensures.unread f unread).1) c.work-outcome.ensures.asks in
     let whole : AsksAll run = λ input own workers asked.
     asks_whole task.said said input own workers run.files run.files_now read asked (λ f unread. (c.work-outcome.ensures.unread f unread).1) c.work-outcome.ensures.asks in
-    keeps run (cause_of names c.work-outcome.result) is c.report.ensures.line (c.work-outcome.ensures.ends task refl read) unasked asks whole c.work-outcome.ensures.later c.status.ensures.known
+    keeps run (cause_of names c.work-outcome.result) is c.report.ensures.line (c.work-outcome.ensures.ends task refl read) unasked asks whole c.work-outcome.ensures.later c.status.ensures.known c.no_task_is_without_an_ending.ensures
