@@ -9,4 +9,4 @@ read_on-requires-clause-stands g c κs within =
     let e = c.in_ok-reader.ensures in
     let kept = c.in_ok-crew.ensures.kept in
     known_as _ _ _ _ (sym (ap (λ (r : ReaderSeen). r.name) kept ∙ e.fresh.named))
-    (known_at _ _ _ _ (sym e.held) (known_then _ _ _ _ (λ file s. stands_ready c.in_ok-reader.reader c.crew.new.self _ file kept s) e.stands))
+    (known_at _ _ _ _ (sym e.reads.held) (known_then _ _ _ _ (λ file s. stands_ready c.in_ok-reader.reader c.crew.new.self _ file kept s) e.stands))

@@ -9,5 +9,5 @@ loop-batch-preserved g c =
     record {
       sound = ap (λ (r : ReaderSeen). r.failed) e.moved ∙ c.loop-batch.invariant.sound;
       crew = e.crew;
-      stands = known_as _ _ _ _ (sym (ap (λ (r : ReaderSeen). r.name) e.moved)) (known_at _ _ _ _ (sym e.held) e.stands);
+      stands = known_as _ _ _ _ (sym (ap (λ (r : ReaderSeen). r.name) e.moved)) (known_at _ _ _ _ (sym e.reads.only.held) e.stands);
     }

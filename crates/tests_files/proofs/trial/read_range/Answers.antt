@@ -10,4 +10,4 @@ read_on-requires-clause-stands g c κs within =
     let s = c.seek_record.ensures in
     let kept = c.in_ok-crew.ensures.kept in
     known_as _ _ _ _ (sym (ap (λ (r : ReaderSeen). r.name) kept ∙ ap (λ (r : ReaderSeen). r.name) s.sought ∙ e.fresh.named))
-    (known_at _ _ _ _ (sym e.held) (known_then _ _ _ _ (λ file st. stands_ready c.seek_record.new.self c.crew.new.self _ file kept (s.stands file st)) e.stands))
+    (known_at _ _ _ _ (sym e.reads.held) (known_then _ _ _ _ (λ file st. stands_ready c.seek_record.new.self c.crew.new.self _ file kept (s.stands file st)) e.stands))
