@@ -98,8 +98,8 @@ AreDrafts [] (t ∷ ts) = ⊥
 AreDrafts (o ∷ os) [] = ⊥
 AreDrafts (o ∷ os) (t ∷ ts) = (t ≡ o.draft) × AreDrafts os ts
 
--- these texts are the outputs' while one after another is finished: the first are, the next is a prefix of its draft, or
--- its draft after some of its patches, and each other one is its draft
+-- these texts are the outputs' while one after another is finished: the first are, the next is a prefix of its draft,
+-- or its draft after some of its patches, and each other one is its draft
 abbrev pub AreEnding : List Output → List (List ℕ) → Type 0
 AreEnding [] [] = Unit {0}
 AreEnding [] (t ∷ ts) = ⊥
@@ -117,8 +117,8 @@ named [] ts = []
 named (o ∷ os) [] = []
 named (o ∷ os) (t ∷ ts) = (o.name, t) ∷ named os ts
 
--- What a run leaves of files whatever ended it: the first of the outputs were created, each is a prefix of its draft, or
--- they were being finished one after another; and every other name is as before.
+-- What a run leaves of files whatever ended it: the first of the outputs were created, each is a prefix of its draft,
+-- or they were being finished one after another; and every other name is as before.
 abbrev pub IsLeft : List Output → FileMap → FileMap → Type 0
 IsLeft outputs files now =
     (k : ℕ) × (texts : List (List ℕ)) × AreLeft (take k outputs) texts
