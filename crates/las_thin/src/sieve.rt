@@ -22,7 +22,6 @@ use std::marker::Model;
 ///
 /// Contracts see a sieve as its settings, the last place looked at, the last place asked for, and what it keeps. It
 /// stands for two lists: the records that it looked at and those that it was asked for, each with its place.
-#[derive(Drop)]
 pub struct Sieve {
     step: Option<u32>,
     pick: Pick,
@@ -32,6 +31,25 @@ pub struct Sieve {
     cells: HashSet<(i32, i32)>,
     positions: HashSet<(i32, i32, i32)>,
     winners: HashMap<(i32, i32), Winner>,
+}
+
+// Written out, so that letting a sieve go is one call in each caller.
+impl Drop for Sieve {
+    fn drop(self) {
+        let Sieve {
+            step: _,
+            pick: _,
+            unique: _,
+            looked: _,
+            asked: _,
+            cells,
+            positions,
+            winners,
+        } = self;
+        drop(cells);
+        drop(positions);
+        drop(winners);
+    }
 }
 
 impl Model for Sieve {

@@ -22,9 +22,16 @@ use std::marker::Model;
 ///
 /// It stands for the events that it has coded or read since it was made or reset: each of its models for the events
 /// under the model's name. Only `new` allocates.
-#[derive(Drop)]
 pub struct IntModel {
     models: Models,
+}
+
+// Written out, so that letting models go is one call in each caller.
+impl Drop for IntModel {
+    fn drop(self) {
+        let IntModel { models } = self;
+        drop(models);
+    }
 }
 
 impl Model for IntModel {

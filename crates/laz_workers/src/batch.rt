@@ -1,5 +1,5 @@
 //! Inputs that a crew works together.
-ghost use Rattle.std.specs.Prelude.{◌≡◌, ℕ, ◌*◌, ◌<◌, ◌≤◌, length, All, Contains, OnOk};
+ghost use Rattle.std.specs.Prelude.{◌≡◌, ℕ, ◌*◌, ◌<◌, ◌≤◌, length, All, Contains, OnErr, OnOk};
 ghost use Rattle.laz_workers.specs.Numbers.{HoldsBelow};
 ghost use Rattle.laz_workers.specs.Rooms.{lengths_of, numbers_in, rooms_of};
 ghost use Rattle.laz_workers.specs.Run.{EveryInputFits};
@@ -31,6 +31,8 @@ pub fn work_batch<R: Threads + Sync, J: Job, G: Gate>(
     ensures stand { OnOk result
         ((number : ℕ) → number < length inputs.now → Contains (numbers_in (rooms_of crew.new)) number) }
     ensures answers { OnOk result (All (HoldsAnswer (J.answer job.now) (texts inputs.now)) (rooms_of crew.new)) }
+    // No input was worked.
+    ensures unworked { OnErr result (crew.new ≡ crew.old) }
     ensures few { length inputs.now ≤ 16 }
     ensures hands { length crew.new ≡ length crew.old }
     ensures lengths { lengths_of (rooms_of crew.new) ≡ lengths_of (rooms_of crew.old) }

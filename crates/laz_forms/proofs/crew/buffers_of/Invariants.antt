@@ -1,5 +1,9 @@
-use Rattle.std.proofs.Common.{◌≡◌, vec_len}
+use Rattle.std.proofs.Common.{◌≡◌, [], vec_len}
+use Rattle.std.specs.Prelude.{All}
 use Rattle.laz_forms.proofs.crew.buffers_of.Given as goal
 
 abbrev pub invariant-loop-buffer : goal.invariant-loop-buffer
-invariant-loop-buffer l = vec_len l.buffers ≡ l._buffer
+invariant-loop-buffer l = record {
+  count : vec_len l.buffers ≡ l._buffer;
+  empty : All (λ buffer. buffer.items ≡ []) l.buffers.items;
+}
