@@ -19,4 +19,6 @@ mod BatchAnswers
 mod Crews
 mod FirstPieces
 mod Batches
+mod PiecesRead
+mod Turns
 pub mod Public

@@ -15,4 +15,5 @@ pub mod Keeping
 pub mod Unpacking
 pub mod Reading
 pub mod Batches
+pub mod Turns
 pub mod Asking

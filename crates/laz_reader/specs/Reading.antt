@@ -1,9 +1,7 @@
 -- What contracts see of a reader, for which file it stands, and what calls that read leave.
 use Rattle.std.specs.Prelude.{◌≡◌, ◌⊎◌, ℕ, ◌+◌, ◌-◌, ◌*◌, ◌≤◌, ◌<◌, ◌^◌, Bool, true, false, if◌then◌else◌, List, []}
-use Rattle.std.specs.Prelude.{◌∷◌, ◌++◌}
-use Rattle.std.specs.Prelude.{length}
-use Rattle.std.specs.Prelude.{map, drop}
-use Rattle.std.specs.Prelude.{min, sum, take, Option, Some, None, All, slice_index_or}
+use Rattle.std.specs.Prelude.{◌∷◌, ◌++◌, drop, length, map, min, sum, take, Option, Some, None, All, slice_index_or}
+use Rattle.std.specs.Option.{is_some}
 use Rattle.las_header.specs.Heads.{HeadView}
 use Rattle.las_header.specs.Fields.{head_of, is_packed, points_of, record_length_of}
 use Rattle.las_header.specs.Refusals.{causes_of, first_cause}
@@ -24,7 +22,7 @@ use Rattle.laz_forms.specs.declared.fault.Fault.{Fault}
 use Rattle.laz_forms.specs.declared.fault.Fault.TheVariants.{Refused, Read, Write, Memory}
 use Rattle.laz_forms.specs.Packing.{format_in, record_layout}
 use Rattle.laz_forms.specs.Pieces.{ArePieces, Piece, pieces_from, plain_from}
-use Rattle.laz_forms.specs.Ranges.{Range, first_of, parts_of, whole_range}
+use Rattle.laz_forms.specs.Ranges.{Range, first_if, first_of, parts_if, parts_of, whole_range}
 use Rattle.laz_reader.specs.Keeping.{left_of}
 use Rattle.laz_reader.specs.declared.seeking.Ends.{Ends}
 use Rattle.laz_forms.specs.Records.{AreRead, HoldBlocks, IsBadPiece, moved}
@@ -126,6 +124,43 @@ pub record ReaderSeen : Type 0 where
   pub buffers : ℕ
   pub cuts : List (ℕ × ℕ)
   pub lent : List ℕ
+
+-- a new reader of a file with this head, in which a packed file lists its chunks so
+abbrev pub new_reader : (name : List ℕ) → HeadView → (chunk : Option ℕ) → (points bytes : List ℕ) → ReaderSeen
+new_reader name head chunk points bytes = record {
+  name = name;
+  head = head;
+  chunk = chunk;
+  pieces = pieces_from (length head.bytes + 8) points bytes;
+  range = whole_range head.bytes;
+  first = 0;
+  next = 0;
+  left = pieces_listed chunk head.bytes points bytes;
+  bad = false;
+  failed = false;
+  buffers = 0;
+  cuts = [];
+  lent = [];
+}
+
+-- a reader that reads a range of its file
+abbrev pub with_range : ReaderSeen → Range → ReaderSeen
+with_range reader range = record reader {
+  range = range;
+  first = first_if (is_some reader.chunk) range reader.pieces;
+  next = first_if (is_some reader.chunk) range reader.pieces;
+  left = parts_if (is_some reader.chunk) reader.head.bytes (length reader.head.bytes) range reader.pieces;
+}
+
+-- a reader that has read n pieces more; of what it is now it has what it lends, and whether the next piece is bad
+abbrev pub moved_by : ReaderSeen → (n : ℕ) → (now : ReaderSeen) → ReaderSeen
+moved_by reader n now = record reader {
+  next = reader.next + n;
+  left = drop n reader.left;
+  bad = now.bad;
+  cuts = now.cuts;
+  lent = now.lent;
+}
 
 -- The chunks of a reader: their lists, after a head that ends at `offset`. A packed file has as many points in them as
 -- its head counts, and a plain file has none.

@@ -17,7 +17,9 @@ mod reader;
 mod reading;
 mod seeking;
 mod spans;
+mod turn;
 mod unpack_job;
 
 pub use reader::Reader;
+pub use turn::Turn;
 pub use unpack_job::UnpackJob;

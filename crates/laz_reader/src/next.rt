@@ -1,5 +1,5 @@
 //! The next blocks of a reader.
-ghost use Rattle.std.specs.Prelude.{◌≡◌, ℕ, ◌+◌, ◌<◌, ◌≤◌, [], List, false, true, length, min, take, drop};
+ghost use Rattle.std.specs.Prelude.{◌≡◌, ℕ, ◌+◌, ◌<◌, ◌≤◌, [], List, false, true, length, min, take};
 ghost use Rattle.std.specs.Prelude.{IfErr, IfOk, IsErrOf, IsSome, OnErr, OnOk};
 ghost use Rattle.las_header.specs.declared.refusal.Refusal.{Refusal};
 ghost use Rattle.las_header.specs.declared.refusal.Refusal.TheVariants.{BadChunk};
@@ -8,6 +8,7 @@ ghost use Rattle.las_outside.specs.Frames.{IsCalm, Reads};
 ghost use Rattle.laz_reader.specs.Asking.{bytes_left};
 ghost use Rattle.laz_forms.specs.declared.fault.Fault.TheVariants.{Refused};
 ghost use Rattle.laz_reader.specs.Reading.{AreWholeBlocks, EndsReading, IsCrewOf, Lends, OfFile, StandsFor, batch_size};
+ghost use Rattle.laz_reader.specs.Reading.{moved_by};
 ghost use Rattle.laz_forms.specs.Records.{HoldOnly, IsBadPiece};
 
 use crate::reader::Reader;
@@ -53,13 +54,7 @@ impl Reader {
         ensures most { IfOk result (λ n. n ≤ min (batch_size self.old.chunk (length crew.old)) (length self.old.left)) }
         ensures cut { IfOk result (λ n. n < min (batch_size self.old.chunk (length crew.old)) (length self.old.left)
             → OfFile self.old (F.seen files.old) (λ file. IsBadPiece file self.old.left n)) }
-        ensures moved { IfOk result (λ n. self.new ≡ record self.old {
-          next = self.old.next + n;
-          left = drop n self.old.left;
-          bad = self.new.bad;
-          cuts = self.new.cuts;
-          lent = self.new.lent;
-        }) }
+        ensures moved { IfOk result (λ n. self.new ≡ moved_by self.old n self.new) }
         ensures stands { OnOk result (OfFile self.old (F.seen files.old) (StandsFor self.new)) }
         ensures crew { OnOk result (IsCrewOf self.new crew.new) }
         ensures hands { length crew.new ≡ length crew.old }

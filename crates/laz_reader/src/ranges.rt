@@ -1,11 +1,9 @@
 //! A range of the records of a file.
-ghost use Rattle.std.specs.Prelude.{◌≡◌, ℕ, ◌≤◌, false, length, List};
-ghost use Rattle.std.specs.Option.{is_some};
+ghost use Rattle.std.specs.Prelude.{◌≡◌, ℕ, ◌≤◌, false, List};
 ghost use Rattle.las_header.specs.Fields.{points_of};
 ghost use Rattle.laz_chunk.specs.Layouts.{Format};
 ghost use Rattle.laz_workers.specs.Rooms.{HandSeen};
-ghost use Rattle.laz_forms.specs.Ranges.{first_if, parts_if};
-ghost use Rattle.laz_reader.specs.Reading.{AgreesWithHead, IsCrewOf, StandsFor};
+ghost use Rattle.laz_reader.specs.Reading.{AgreesWithHead, IsCrewOf, StandsFor, with_range};
 
 use crate::reader::Reader;
 use crate::seeking::seek;
@@ -20,13 +18,7 @@ impl Reader {
         requires within { stop ≤ points_of self.old.head.bytes }
 
         // Nothing but the range, the pieces that are left, and the number of the first of them changes.
-        ensures sought { self.new ≡ record self.old {
-          range = record { start = start; stop = stop };
-          first = first_if (is_some self.old.chunk) (record { start = start; stop = stop }) self.old.pieces;
-          next = first_if (is_some self.old.chunk) (record { start = start; stop = stop }) self.old.pieces;
-          left = parts_if (is_some self.old.chunk) self.old.head.bytes (length self.old.head.bytes)
-              (record { start = start; stop = stop }) self.old.pieces;
-        } }
+        ensures sought { self.new ≡ with_range self.old (record { start = start; stop = stop }) }
         ensures stands { (file : List ℕ) → StandsFor self.old file → StandsFor self.new file }
         ensures whole { AgreesWithHead self.old → AgreesWithHead self.new }
         ensures crew { (crew : List (HandSeen Format)) → IsCrewOf self.old crew → IsCrewOf self.new crew }

@@ -1,16 +1,14 @@
 //! A reader of a file, plain or packed, block by block.
 ghost use Rattle.std.specs.Prelude.{◌≡◌, ℕ, ◌+◌, ◌^◌, ◌<◌, [], false, All, None, Some, length, sum, string_bytes};
-ghost use Rattle.std.specs.Prelude.{IfErr, IfOk, IsErrOf, OnOk};
+ghost use Rattle.std.specs.Prelude.{IfErr, IfOk, IsErrOf, OnOk, map};
 ghost use Rattle.las_header.specs.declared.refusal.Refusal.{Refusal};
 ghost use Rattle.las_header.specs.Fields.{points_of, record_length_of};
 ghost use Rattle.las_outside.specs.Files.{IsMissing, WhereKnown};
 ghost use Rattle.las_outside.specs.Frames.{IsCalm, OnlyReads};
 ghost use Rattle.laz_reader.specs.Asking.{AsksAtMost, asked_for_list, asked_to_open};
 ghost use Rattle.laz_forms.specs.declared.fault.Fault.TheVariants.{Refused};
-ghost use Rattle.laz_forms.specs.Pieces.{pieces_from};
-ghost use Rattle.laz_forms.specs.Ranges.{whole_range};
 ghost use Rattle.laz_reader.specs.Reading.{AgreesWithHead, AreChunkLists, EndsReading, IsNewReader, StandsFor};
-ghost use Rattle.laz_reader.specs.Reading.{pieces_listed};
+ghost use Rattle.laz_reader.specs.Reading.{new_reader};
 ghost use Rattle.laz_forms.specs.Refusing.{IsRefusal};
 
 use crate::listing::{Listing, read_list};
@@ -26,7 +24,6 @@ use std::marker::Model;
 ///
 /// Contracts see it as its head, the chunks of a packed file, the pieces of the file that are left to read, and the
 /// number of the first of them.
-#[derive(Drop)]
 pub struct Reader {
     pub(crate) name: String,
     pub(crate) head: Head,
@@ -52,6 +49,37 @@ pub struct Reader {
     // The block of a plain file that was read last.
     pub(crate) block: Vec<u8>,
     pub(crate) failed: bool,
+}
+
+// Written out, so that letting a reader go is one call in each caller.
+impl Drop for Reader {
+    fn drop(self) {
+        let Reader {
+            name,
+            head,
+            chunk: _,
+            start: _,
+            stop: _,
+            points,
+            bytes,
+            ends: _,
+            next: _,
+            batch: _,
+            bad: _,
+            blocks: _,
+            records: _,
+            place: _,
+            inputs,
+            block,
+            failed: _,
+        } = self;
+        drop(name);
+        drop(head);
+        drop(points);
+        drop(bytes);
+        drop(inputs);
+        drop(block);
+    }
 }
 
 impl Model for Reader {
@@ -143,21 +171,7 @@ impl Reader {
         requires some { All (λ n. 0 < n) list.points.items }
         requires points { (chunk : ℕ) → list.chunk ≡ Some chunk → sum list.points.items ≡ points_of head.bytes }
         requires plain { list.chunk ≡ None → list.points.items ≡ [] }
-        ensures { result ≡ record {
-          name = string_bytes name;
-          head = head;
-          chunk = list.chunk;
-          pieces = pieces_from (length head.bytes + 8) list.points.items list.bytes.items;
-          range = whole_range head.bytes;
-          first = 0;
-          next = 0;
-          left = pieces_listed list.chunk head.bytes list.points.items list.bytes.items;
-          bad = false;
-          failed = false;
-          buffers = 0;
-          cuts = [];
-          lent = [];
-        } }
+        ensures { result ≡ new_reader (string_bytes name) head list.chunk list.points.items list.bytes.items }
     {
         let offset = head.bytes().len() as u64;
         let points = head.points();
@@ -198,7 +212,36 @@ impl Reader {
     pub fn into_head(self) -> Head
         ensures { result ≡ self.head }
     {
-        self.head
+        let (head, _points, _bytes) = self.into_chunks();
+        head
+    }
+
+    /// The head, and the numbers of points and of bytes of all chunks: no chunks, if the file is plain.
+    pub fn into_chunks(self) -> (Head, Vec<u32>, Vec<u32>)
+        ensures head { result.0 ≡ self.head }
+        ensures points { result.1.items ≡ map (λ piece. piece.count) self.pieces }
+        ensures bytes { result.2.items ≡ map (λ piece. piece.size) self.pieces }
+    {
+        let Reader {
+            name: _,
+            head,
+            chunk: _,
+            start: _,
+            stop: _,
+            points,
+            bytes,
+            ends: _,
+            next: _,
+            batch: _,
+            bad: _,
+            blocks: _,
+            records: _,
+            place: _,
+            inputs: _,
+            block: _,
+            failed: _,
+        } = self;
+        (head, points, bytes)
     }
 
     /// The chunk size: `None` exactly if the file is plain, and 2^32 - 1 if each chunk has a number of points of its

@@ -1,9 +1,8 @@
 //! Where the chunks of a packed file are.
-ghost use Rattle.std.specs.Prelude.{◌≡◌, ◌^◌, ◌<◌, length, map, slice_index_or, sum};
+ghost use Rattle.std.specs.Prelude.{◌≡◌, ◌^◌, ◌<◌, length, slice_index_or, sum};
 ghost use Rattle.laz_forms.specs.Pieces.{Piece};
 
 use crate::reader::Reader;
-use las_header::Head;
 
 /// How many bytes some chunks have, in all.
 pub(crate) fn total(bytes: &[u32]) -> u64
@@ -36,14 +35,5 @@ impl Reader {
         let i = i as usize;
         let offset = self.head.bytes().len() as u64;
         (offset + 8 + total(&self.bytes[..i]), self.bytes[i])
-    }
-
-    /// The head, and the numbers of points and of bytes of all chunks: no chunks, if the file is plain.
-    pub fn into_chunks(self) -> (Head, Vec<u32>, Vec<u32>)
-        ensures head { result.0 ≡ self.head }
-        ensures points { result.1.items ≡ map (λ piece. piece.count) self.pieces }
-        ensures bytes { result.2.items ≡ map (λ piece. piece.size) self.pieces }
-    {
-        (self.head, self.points, self.bytes)
     }
 }
