@@ -1,7 +1,6 @@
 -- What a writer of an output stands for, from call to call.
-use Rattle.std.specs.Prelude.{◌≡◌, ℕ, ◌+◌, ◌*◌, ◌/◌, ◌%◌, ◌^◌, ◌<◌, ◌≤◌, min, Bool, true, false, if◌then◌else◌, List}
-use Rattle.std.specs.Prelude.{[]}
-use Rattle.std.specs.Prelude.{◌∷◌, ◌++◌, length, map, take, Option, Some, None, All}
+use Rattle.std.specs.Prelude.{◌≡◌, ◌⊎◌, ℕ, ◌+◌, ◌*◌, ◌/◌, ◌%◌, ◌^◌, ◌<◌, ◌≤◌, min, Bool, true, false, if◌then◌else◌}
+use Rattle.std.specs.Prelude.{List, [], ◌∷◌, ◌++◌, length, map, take, Option, Some, None, All}
 use Rattle.std.specs.List.{concat}
 use Rattle.byteorder.specs.Endian.{little_bytes}
 use Rattle.las_header.specs.declared.counts.Counts.{Counts}
@@ -10,7 +9,7 @@ use Rattle.las_header.specs.Counting.{counts_bytes, long_counts_bytes}
 use Rattle.las_header.specs.Fields.{has_long_counts, record_length_of}
 use Rattle.las_header.specs.Heads.{IsHead}
 use Rattle.las_header.specs.Plain.{cut_records}
-use Rattle.las_outside.specs.Drafts.{Patch}
+use Rattle.las_outside.specs.Drafts.{IsUnfinished, Patch}
 use Rattle.las_outside.specs.Limits.{AreWorkers, IsChunkSize}
 use Rattle.las_outside.specs.Outside.{Outside, with_bytes, with_write_fault}
 use Rattle.las_points.specs.Tally.{IsWithinPoints, counts_of}
@@ -18,7 +17,7 @@ use Rattle.laz_chunk.specs.Chunks.{chunk_bytes, count_of}
 use Rattle.laz_chunk.specs.Layouts.{Format, layout, record_length, room_for}
 use Rattle.laz_forms.specs.declared.fault.Fault.{Fault}
 use Rattle.laz_forms.specs.declared.fault.Fault.TheVariants.{Refused, Read, Write, Memory}
-use Rattle.laz_forms.specs.Outputs.{Output, front, records_after}
+use Rattle.laz_forms.specs.Outputs.{Output, draft_of, front, patches_of, records_after}
 use Rattle.laz_forms.specs.Packing.{format_in, blocks_of, packed_head, packed_points}
 
 -- the answer to a block: its chunk, and never none
@@ -46,6 +45,14 @@ StopsIn before now name text fault = (n : ℕ) × Stops fault (with_bytes before
 -- The same, and a text stands before the prefix of another.
 abbrev pub StopsAfter : (before now : Outside) → (name text more : List ℕ) → Fault → Type 0
 StopsAfter before now name text more fault = (n : ℕ) × Stops fault (with_bytes before name (text ++ take n more)) now
+
+-- An output could not be begun: the outside is as before, or it is but for the output, which holds the first of a text.
+abbrev pub StopsBeginning : (old now : Outside) → (name text : List ℕ) → Fault → Type 0
+StopsBeginning old now name text fault = Stops fault old now ⊎ StopsIn old now name text fault
+
+-- Patches lie in a text.
+abbrev pub FitIn : (text : List ℕ) → List Patch → Type 0
+FitIn text patches = All (λ patch. patch.0 + length patch.1 ≤ length text) patches
 
 -- The outside is another one with some text under the name.
 abbrev pub HasText : (now : Outside) → (name : List ℕ) → Type 0
@@ -189,6 +196,10 @@ pub record SameFaults (old new : Outside) : Type 0 where
   pub writes : new.write_faults ≡ old.write_faults
   pub asked : new.asked ≡ old.asked
 
+-- A writer has room for more bytes of records after some.
+abbrev pub HasRoomFor : WriterSeen → (bytes more : List ℕ) → Type 0
+HasRoomFor writer bytes more = length bytes + length more ≤ writer.size * writer.most
+
 -- a head in the form in which it is written: with a laszip VLR, if the points are packed
 abbrev pub written_head : Option ℕ → (head : List ℕ) → List ℕ
 written_head None head = head
@@ -265,6 +276,12 @@ abbrev pub OfOutput : (now : Outside) → WriterSeen → (P : Outside → Output
 OfOutput now writer P =
     (before : Outside) (out : Output) (records : List ℕ) → Stands before now writer out records
     → P before out records
+
+-- An output of these records is left unfinished.
+abbrev pub StopsUnfinished : (before now : Outside) → Output → (records : List ℕ) → Fault → Type 0
+StopsUnfinished before now out records fault =
+    (left : List ℕ) × IsUnfinished (draft_of out records) (patches_of out records) left
+    × Stops fault (with_bytes before out.name left) now
 
 -- ---- the patches that finish an output, as a writer makes them
 

@@ -1,5 +1,5 @@
 //! The beginning of an output: its packing and its front.
-ghost use Rattle.std.specs.Prelude.{◌≡◌, ◌⊎◌, ◌+◌, ◌*◌, ◌<◌, ◌++◌, [], ℕ, length, min, take};
+ghost use Rattle.std.specs.Prelude.{◌≡◌, ◌+◌, ◌*◌, ◌<◌, ◌++◌, [], length, min};
 ghost use Rattle.std.specs.Prelude.{false};
 ghost use Rattle.std.specs.Prelude.{OnOk, IfOk, IfErr, if◌then◌else◌};
 ghost use Rattle.byteorder.specs.Endian.{little_bytes};
@@ -12,7 +12,7 @@ ghost use Rattle.las_outside.specs.Outside.{with_bytes};
 ghost use Rattle.las_points.specs.Tally.{counts_of};
 ghost use Rattle.laz_chunk.specs.Layouts.{room_for};
 ghost use Rattle.laz_forms.specs.declared.fault.Fault.TheVariants.{Write};
-ghost use Rattle.laz_writer.specs.Writing.{IsTally, Stops, pointer_part, written_head};
+ghost use Rattle.laz_writer.specs.Writing.{IsTally, StopsBeginning, pointer_part, written_head};
 ghost use Rattle.laz_forms.specs.Packing.{format_in};
 
 use crate::pack_job::PackJob;
@@ -107,9 +107,8 @@ pub(crate) fn put_front<F: Files>(
 ) -> Result<(), Fault>
     ensures begun { OnOk result (F.seen files.new
         ≡ with_bytes (F.seen files.old) name.now (head.now ++ pointer_part packed head.now)) }
-    ensures stopped { IfErr result (λ fault. Stops fault (F.seen files.old) (F.seen files.new)
-        ⊎ ((n : ℕ) × Stops fault (with_bytes (F.seen files.old) name.now
-        (take n (head.now ++ pointer_part packed head.now))) (F.seen files.new))) }
+    ensures stopped { IfErr result (StopsBeginning (F.seen files.old) (F.seen files.new) name.now
+        (head.now ++ pointer_part packed head.now)) }
     ensures fault { IfErr result (λ fault. fault ≡ Write) }
     ensures writes { OnlyWrites (F.seen files.old) (F.seen files.new) }
 {

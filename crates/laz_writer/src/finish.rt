@@ -1,12 +1,11 @@
 //! The end of an output: it is finished, or stopped.
-ghost use Rattle.std.specs.Prelude.{◌≡◌, ◌⊎◌, ◌+◌, ◌++◌, ℕ, List, length, false};
+ghost use Rattle.std.specs.Prelude.{◌≡◌, ◌⊎◌, ◌+◌, ◌++◌, length, false};
 ghost use Rattle.std.specs.Prelude.{OnOk, IfOk, IfErr, IsErrOf};
-ghost use Rattle.las_outside.specs.Drafts.{IsUnfinished};
 ghost use Rattle.las_outside.specs.Faults.{Rose};
 ghost use Rattle.las_outside.specs.Frames.{IsCalm, OnlyWrites};
 ghost use Rattle.las_outside.specs.Outside.{with_bytes};
-ghost use Rattle.laz_forms.specs.Outputs.{draft_of, finished, patches_of, pointer_patches, stopped};
-ghost use Rattle.laz_writer.specs.Writing.{IsBegun, OfOutput, Stops, StopsIn, pointer_patch};
+ghost use Rattle.laz_forms.specs.Outputs.{draft_of, finished, pointer_patches, stopped};
+ghost use Rattle.laz_writer.specs.Writing.{IsBegun, OfOutput, StopsIn, StopsUnfinished, pointer_patch};
 ghost use Rattle.laz_writer.specs.Writing.{tally_patches};
 ghost use Rattle.laz_forms.specs.declared.fault.Fault.TheVariants.{Memory, Write};
 
@@ -125,8 +124,7 @@ impl Writer {
         ensures length { OfOutput (F.seen files.old) self.old (λ before out records. IfOk result
             (λ n. n ≡ length (finished out records))) }
         ensures stopped { OfOutput (F.seen files.old) self.old (λ before out records. IfErr result
-            (λ fault. (left : List ℕ) × IsUnfinished (draft_of out records) (patches_of out records) left
-            × Stops fault (with_bytes before out.name left) (F.seen files.new))) }
+            (StopsUnfinished before (F.seen files.new) out records)) }
         ensures fault { IfErr result (λ fault. (fault ≡ Memory) ⊎ (fault ≡ Write)) }
         ensures write { IsErrOf result Write → Rose (F.seen files.old).write_faults (F.seen files.new).write_faults }
         ensures calm { OnOk result (IsCalm (F.seen files.old) (F.seen files.new)) }
@@ -158,8 +156,7 @@ impl Writer {
 
         // After an error the output is unfinished.
         ensures stopped { OfOutput (F.seen files.old) self (λ before out records. IfErr result
-            (λ fault. (left : List ℕ) × IsUnfinished (draft_of out records) (patches_of out records) left
-            × Stops fault (with_bytes before out.name left) (F.seen files.new))) }
+            (StopsUnfinished before (F.seen files.new) out records)) }
         ensures fault { IfErr result (λ fault. (fault ≡ Memory) ⊎ (fault ≡ Write)) }
         ensures write { IsErrOf result Write → Rose (F.seen files.old).write_faults (F.seen files.new).write_faults }
         ensures calm { OnOk result (IsCalm (F.seen files.old) (F.seen files.new)) }

@@ -19,7 +19,6 @@ use std::mem;
 use std::thread::Threads;
 
 /// What packs the records of an output, block by block.
-#[derive(Drop)]
 pub(crate) struct Packing {
     pub(crate) job: PackJob,
     // How many points a chunk has, and how many there are at most in all.
@@ -38,6 +37,29 @@ pub(crate) struct Packing {
     pub(crate) rest: Vec<u8>,
     // Buffers that held blocks, or will.
     pub(crate) spare: Vec<Vec<u8>>,
+}
+
+// Written out, so that letting a packing go is one call in each caller.
+impl Drop for Packing {
+    fn drop(self) {
+        let Packing {
+            job: _,
+            chunk: _,
+            most: _,
+            pointer: _,
+            block: _,
+            crew,
+            lengths,
+            kept,
+            rest,
+            spare,
+        } = self;
+        drop(crew);
+        drop(lengths);
+        drop(kept);
+        drop(rest);
+        drop(spare);
+    }
 }
 
 impl Model for Packing {

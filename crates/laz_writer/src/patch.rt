@@ -1,10 +1,10 @@
 //! Bytes of an output that are replaced.
-ghost use Rattle.std.specs.Prelude.{◌≡◌, ◌+◌, ◌≤◌, ◌++◌, ◌∷◌, [], ℕ, List, length, take, All, OnOk, IfErr};
+ghost use Rattle.std.specs.Prelude.{◌≡◌, ◌+◌, ◌≤◌, ◌++◌, ◌∷◌, [], ℕ, List, length, take, OnOk, IfErr};
 ghost use Rattle.las_outside.specs.Drafts.{IsPatchedInPart, with_patches};
 ghost use Rattle.las_outside.specs.Files.{with_patch};
 ghost use Rattle.las_outside.specs.Frames.{OnlyWrites};
 ghost use Rattle.las_outside.specs.Outside.{Outside, with_bytes};
-ghost use Rattle.laz_writer.specs.Writing.{OfText, Stops};
+ghost use Rattle.laz_writer.specs.Writing.{FitIn, OfText, Stops};
 
 use las_outside::Files;
 use laz_forms::Fault;
@@ -63,12 +63,12 @@ fn put_patch<F: Files>(files: &mut F, name: &str, patch: &Patch) -> Result<(), F
 /// Patches an output that holds some text, in order, in one call each.
 pub(crate) fn patch_all<F: Files>(files: &mut F, name: &str, patches: &[Patch]) -> Result<(), Fault>
     requires held { (before : Outside) × (text : List ℕ) × (F.seen files.old ≡ with_bytes before name.now text)
-        × All (λ patch. patch.0 + length patch.1 ≤ length text) patches.now }
+        × FitIn text patches.now }
     ensures patched { OfText (F.seen files.old) name.now (λ before text.
-        All (λ patch. patch.0 + length patch.1 ≤ length text) patches.now
+        FitIn text patches.now
         → OnOk result (F.seen files.new ≡ with_bytes before name.now (with_patches text patches.now))) }
     ensures stopped { OfText (F.seen files.old) name.now (λ before text.
-        All (λ patch. patch.0 + length patch.1 ≤ length text) patches.now
+        FitIn text patches.now
         → IfErr result (λ fault. (left : List ℕ) × IsPatchedInPart text patches.now left
         × Stops fault (with_bytes before name.now left) (F.seen files.new))) }
     ensures writes { OnlyWrites (F.seen files.old) (F.seen files.new) }

@@ -11,7 +11,7 @@ ghost use Rattle.las_outside.specs.Limits.{AreWorkers, IsChunkSize};
 ghost use Rattle.las_outside.specs.Frames.{IsCalm, OnlyWrites};
 ghost use Rattle.las_outside.specs.Outside.{Outside, with_bytes};
 ghost use Rattle.laz_forms.specs.Outputs.{Output, front, stopped};
-ghost use Rattle.laz_writer.specs.Writing.{IsBegun, IsTally, OfOutput, PointsStand, Stands, Stops};
+ghost use Rattle.laz_writer.specs.Writing.{HasRoomFor, IsBegun, IsTally, OfOutput, PointsStand, Stands, Stops};
 ghost use Rattle.laz_writer.specs.Writing.{StopsIn, first_packing};
 ghost use Rattle.laz_forms.specs.declared.fault.Fault.TheVariants.{Memory, Write};
 
@@ -30,7 +30,6 @@ use std::thread::Threads;
 ///
 /// A packed output is packed by workers, side by side. What is written does not depend on them. After any `Err` the
 /// writer has failed: no record can be pushed and the output cannot be finished.
-#[derive(Drop)]
 pub struct Writer {
     pub(crate) name: String,
     // The length of the plain head, and of a record.
@@ -44,6 +43,25 @@ pub struct Writer {
     pub(crate) counts: Option<Counts>,
     pub(crate) packing: Option<Packing>,
     pub(crate) failed: bool,
+}
+
+// Written out, so that letting a writer go is one call in each caller.
+impl Drop for Writer {
+    fn drop(self) {
+        let Writer {
+            name,
+            start: _,
+            size: _,
+            most: _,
+            taken: _,
+            long_counts: _,
+            counts: _,
+            packing,
+            failed: _,
+        } = self;
+        drop(name);
+        drop(packing);
+    }
 }
 
 impl Model for Writer {
@@ -169,13 +187,13 @@ impl Writer {
     ) -> Result<(), Fault>
         requires points { (before : Outside) × (out : Output) × (bytes : List ℕ)
             × Stands before (F.seen files.old) self.old out bytes
-            × (length bytes + length records.now ≤ self.old.size * self.old.most) }
+            × HasRoomFor self.old bytes records.now }
         ensures points { OfOutput (F.seen files.old) self.old
-            (λ before out bytes. length bytes + length records.now ≤ self.old.size * self.old.most
+            (λ before out bytes. HasRoomFor self.old bytes records.now
             → OnOk result (PointsStand out.chunk before (F.seen files.new) out self.old.most self.new.packing
             (bytes ++ records.now))) }
         ensures stopped { OfOutput (F.seen files.old) self.old
-            (λ before out bytes. length bytes + length records.now ≤ self.old.size * self.old.most
+            (λ before out bytes. HasRoomFor self.old bytes records.now
             → IfErr result (StopsIn before (F.seen files.new) out.name (stopped out (bytes ++ records.now)))) }
         ensures same { self.new ≡ record self.old { packing = self.new.packing } }
         ensures writes { OnlyWrites (F.seen files.old) (F.seen files.new) }
@@ -199,13 +217,13 @@ impl Writer {
     ) -> Result<(), Fault>
         requires points { (before : Outside) × (out : Output) × (bytes : List ℕ)
             × Stands before (F.seen files.old) self.old out bytes
-            × (length bytes + length block.old.items ≤ self.old.size * self.old.most) }
+            × HasRoomFor self.old bytes block.old.items }
         ensures points { OfOutput (F.seen files.old) self.old
-            (λ before out bytes. length bytes + length block.old.items ≤ self.old.size * self.old.most
+            (λ before out bytes. HasRoomFor self.old bytes block.old.items
             → OnOk result (PointsStand out.chunk before (F.seen files.new) out self.old.most self.new.packing
             (bytes ++ block.old.items))) }
         ensures stopped { OfOutput (F.seen files.old) self.old
-            (λ before out bytes. length bytes + length block.old.items ≤ self.old.size * self.old.most
+            (λ before out bytes. HasRoomFor self.old bytes block.old.items
             → IfErr result (StopsIn before (F.seen files.new) out.name (stopped out (bytes ++ block.old.items)))) }
         ensures same { self.new ≡ record self.old { packing = self.new.packing } }
         ensures writes { OnlyWrites (F.seen files.old) (F.seen files.new) }
