@@ -1,242 +1,27 @@
--- Blocks of records that are copied, batch after batch.
-use Rattle.std.proofs.Common.{◌≡◌, inl, inr, ℕ, zero, suc, ◌+◌, ◌*◌, ◌-◌, ◌%◌, ◌<◌, ◌≤◌, false, Bool, List, [], ◌∷◌, ◌++◌, length, take, drop, get_or, slice_get, Option, Some, None, Result, IfOk, IfErr, OnOk, refl, sym, ◌∙◌, ap, subst, length-append, arith}
-use Rattle.std.specs.Prelude.{All, IsSome, slice_index_or}
+-- Blocks of records that are copied, one after another.
+use Rattle.std.proofs.Common.{◌≡◌, inl, inr, ℕ, ◌+◌, ◌*◌, ◌/◌, ◌%◌, ◌^◌, ◌<◌, ◌≤◌, List, [], ◌∷◌, ◌++◌, length, take, drop, get_or, Option, Some, Result, IfOk, IfErr, OnOk, refl, sym, ◌∙◌, ap, subst, arith}
+use Rattle.std.specs.Prelude.{All}
 use Rattle.std.specs.List.{concat}
-use Rattle.std.proofs.lemmas.List.{append-nil, drop-drop, length-drop, take-append-drop, take_more}
-use Rattle.std.proofs.lemmas.List.Elements.{All-cons, All-nil}
-use Rattle.std.proofs.lemmas.List.Sums.{sum-map, sum_by-cons}
-use Rattle.std.proofs.Math.Nat.{mul-mod_right}
-use Rattle.std.proofs.Math.Seq.{take-add}
 use Rattle.std.proofs.lemmas.Bool.{cases_lt}
+use Rattle.std.proofs.lemmas.List.{append-nil, take-append-drop, take_more}
+use Rattle.std.proofs.Math.Nat.{div-add-mod, mul-le-mul_left}
 use Rattle.las_header.specs.declared.refusal.Refusal.{Refusal}
-use Rattle.las_header.specs.declared.refusal.Refusal.TheVariants.{BadChunk}
 use Rattle.las_header.specs.Fields.{record_length_of}
-use Rattle.las_header.specs.Heads.{HeadView}
+use Rattle.las_header.specs.Plain.{cut_records}
 use Rattle.las_outside.specs.Faults.{Rose}
-use Rattle.las_outside.specs.Files.{FileMap, WhereKnown}
 use Rattle.las_outside.specs.Outside.{Outside}
-use Rattle.laz_chunk.specs.Layouts.{Format}
-use Rattle.laz_workers.specs.Rooms.{HandSeen, rooms_of}
 use Rattle.laz_forms.specs.declared.fault.Fault.{Fault}
 use Rattle.laz_forms.specs.declared.fault.Fault.TheVariants.{Refused, Read, Write, Memory}
-use Rattle.laz_file.specs.Copying.{CanTake, EndsAfter, HoldFirst, Takes}
 use Rattle.laz_forms.specs.FileFaults.{HasCause, end_of}
-use Rattle.laz_forms.specs.Outputs.{Output}
-use Rattle.laz_forms.specs.Pieces.{Piece}
-use Rattle.laz_reader.specs.Reading.{AreWholeBlocks, EndsReading, IsCrewOf, Lends, LendsIf, ReaderSeen, StandsFor, records_in}
-use Rattle.laz_forms.specs.Records.{AreRead, HoldBlocks, HoldOnly, IsBadPiece}
-use Rattle.laz_writer.specs.Writing.{Stands, WriterSeen}
-use Rattle.laz_reader.proofs.Public.{slice_get-first}
-use Rattle.laz_reader.proofs.Public.{hold_split}
-use Rattle.laz_reader.proofs.Public.{hold-append}
-use Rattle.laz_forms.proofs.Public.{known_both, known_then}
-use Rattle.laz_forms.proofs.Public.{concat-append}
-use Rattle.laz_forms.proofs.Public.{not_bad_before}
+use Rattle.laz_file.specs.Copying.{CanTake}
+use Rattle.laz_reader.specs.Reading.{AreWholeBlocks, EndsReading, ReaderSeen, records_in}
+use Rattle.laz_reader.specs.Turns.{MayCome}
+use Rattle.laz_writer.specs.Writing.{WriterSeen}
+use Rattle.laz_forms.proofs.Public.{concat-append, length-cut}
+use Rattle.laz_reader.proofs.Public.{concat_last, even_whole, length_whole, records-append}
+use Rattle.laz_writer.proofs.Public.{cut-append}
 
--- ---- pieces and their blocks
-
-pub hold_only_both : (file : List ℕ) (ps qs : List Piece) (xs ys : List (List ℕ)) → HoldOnly file ps xs → HoldOnly file qs ys → HoldOnly file (ps ++ qs) (xs ++ ys)
-hold_only_both file ps qs xs ys one two = record {
-  hold = hold-append file ps qs xs ys one.hold two.hold;
-  only = λ others h.
-      let s = hold_split file ps qs others h in
-      sym (take-append-drop (length ps) others)
-      ∙ ap (λ (t : List (List ℕ)). t ++ drop (length ps) others) (one.only (take (length ps) others) s.0)
-      ∙ ap (λ (t : List (List ℕ)). xs ++ t) (two.only (drop (length ps) others) s.1);
-}
-
-pub hold_only_none : (file : List ℕ) → HoldOnly file [] []
-hold_only_none file = record { hold = tt; only = λ others h. none others h }
-  where
-    none : (others : List (List ℕ)) → HoldBlocks file [] others → others ≡ []
-    none [] h = refl
-    none (b ∷ blocks) h = absurd h
-
-pub whole_both : (size : ℕ) (ps qs : List Piece) (xs ys : List (List ℕ)) → AreWholeBlocks size ps xs → AreWholeBlocks size qs ys → AreWholeBlocks size (ps ++ qs) (xs ++ ys)
-whole_both size [] qs [] ys one two = two
-whole_both size [] qs (x ∷ xs) ys one two = absurd one
-whole_both size (p ∷ ps) qs [] ys one two = absurd one
-whole_both size (p ∷ ps) qs (x ∷ xs) ys one two = (one.0, whole_both size ps qs xs ys one.1 two)
-
-pub records-cons : (p : Piece) (ps : List Piece) → records_in (p ∷ ps) ≡ p.taken + records_in ps
-records-cons p ps =
-    let f = λ (q : Piece). q.taken in
-    sum-map f (p ∷ ps) ∙ sum_by-cons f p ps ∙ ap (λ (n : ℕ). p.taken + n) (sym (sum-map f ps))
-
-pub records-append : (ps qs : List Piece) → records_in (ps ++ qs) ≡ records_in ps + records_in qs
-records-append [] qs = omega arith
-records-append (p ∷ ps) qs = omega (arith, records-cons p (ps ++ qs), records-cons p ps, records-append ps qs)
-
-pub length_whole : (size : ℕ) (ps : List Piece) (xs : List (List ℕ)) → AreWholeBlocks size ps xs → length (concat xs) ≡ size * records_in ps
-length_whole size [] [] w = omega arith
-length_whole size [] (x ∷ xs) w = absurd w
-length_whole size (p ∷ ps) [] w = absurd w
-length_whole size (p ∷ ps) (x ∷ xs) w =
-    omega (arith, length-append x (concat xs), w.0, length_whole size ps xs w.1, ap (λ (n : ℕ). size * n) (records-cons p ps))
-
-pub even_whole : (size : ℕ) (ps : List Piece) (xs : List (List ℕ)) → AreWholeBlocks size ps xs → All (λ block. length block % size ≡ 0) xs
-even_whole size [] [] w = All-nil (λ (block : List ℕ). length block % size ≡ 0)
-even_whole size [] (x ∷ xs) w = absurd w
-even_whole size (p ∷ ps) [] w = absurd w
-even_whole size (p ∷ ps) (x ∷ xs) w =
-    All-cons (λ (block : List ℕ). length block % size ≡ 0) x xs (ap (λ (n : ℕ). n % size) w.0 ∙ mul-mod_right size p.taken) (even_whole size ps xs w.1)
-
--- records that are read first, and all that are read of the file: these begin with those
-pub read_begins : (file : List ℕ) (pieces : List Piece) (n : ℕ) (blocks others : List (List ℕ)) (bad : Option ℕ) → n ≤ length pieces → HoldOnly file (take n pieces) blocks → AreRead file pieces others bad
-    → (more : List ℕ) × (concat others ≡ concat blocks ++ more) × (n ≡ length pieces → more ≡ [])
-read_begins file pieces n blocks others None within first read =
-    let whole = subst (λ (ps : List Piece). HoldBlocks file ps others) (sym (take-append-drop n pieces)) read in
-    let s = hold_split file (take n pieces) (drop n pieces) others whole in
-    let k = length (take n pieces) in
-    let same : take k others ≡ blocks = first.only (take k others) s.0 in (
-      concat (drop k others),
-      ap concat (sym (take-append-drop k others)) ∙ concat-append (take k others) (drop k others) ∙ ap (λ (t : List (List ℕ)). concat t ++ concat (drop k others)) same,
-      λ all. none (drop n pieces) (drop k others) (omega (arith, length-drop n pieces, all)) s.1,
-    )
-  where
-    none : (qs : List Piece) (rest : List (List ℕ)) → length qs ≡ 0 → HoldBlocks file qs rest → concat rest ≡ []
-    none [] [] e h = refl
-    none [] (b ∷ rest) e h = absurd h
-    none (q ∷ qs) rest e h = absurd (omega (arith, e))
-read_begins file pieces n blocks others (Some i) within first read = elim (cases_lt i n) [
-  | inl less ↦ absurd (not_bad_before file pieces blocks i n less first.hold read.1)
-  | inr more ↦
-      let split : take i pieces ≡ take n pieces ++ take (i - n) (drop n pieces) =
-      ap (λ (k : ℕ). take k pieces) (let e : i ≡ n + (i - n) = omega (arith, more) in e) ∙ take-add n (i - n) pieces in
-      let whole = subst (λ (ps : List Piece). HoldBlocks file ps others) split read.0 in
-      let s = hold_split file (take n pieces) (take (i - n) (drop n pieces)) others whole in
-      let k = length (take n pieces) in
-      let same : take k others ≡ blocks = first.only (take k others) s.0 in
-      let inside : i < length pieces = found pieces i read.1.0 read.1.1 in (
-        concat (drop k others),
-        ap concat (sym (take-append-drop k others)) ∙ concat-append (take k others) (drop k others) ∙ ap (λ (t : List (List ℕ)). concat t ++ concat (drop k others)) same,
-        λ all. absurd (omega (arith, all, inside, more)),
-      )
-]
-  where
-    found : (ps : List Piece) (j : ℕ) (p : Piece) → slice_get ps j ≡ Some p → j < length ps
-    found [] j p e = absurd (cc)
-    found (q ∷ ps) zero p e = omega arith
-    found (q ∷ ps) (suc j) p e = omega (arith, found ps j p e)
-
--- ---- a plain file's batch
-
--- The only block of a batch is the block in the reader.
-pub whole_lent : (reader : ReaderSeen) (crew : List (HandSeen Format)) (blocks : List (List ℕ)) → reader.chunk ≡ None → Lends reader crew blocks → length blocks ≡ 1 → blocks ≡ reader.lent ∷ []
-whole_lent reader crew [] none lends one = absurd (omega (arith, one))
-whole_lent reader crew (b ∷ []) none lends one =
-    let is : (k : ℕ) → k < 1 → slice_index_or (b ∷ []) k [] ≡ reader.lent = subst (λ (c : Option ℕ). LendsIf c reader (rooms_of crew) (b ∷ [])) none lends in
-    ap (λ (x : List ℕ). x ∷ []) (is 0 (omega arith))
-whole_lent reader crew (b ∷ d ∷ bs) none lends one = absurd (omega (arith, one))
-
--- A reader that lends another block is as before.
-module _ (old new : ReaderSeen) (is : new ≡ record old { lent = new.lent }) where
-  pub crew_lent : (crew : List (HandSeen Format)) → IsCrewOf old crew → IsCrewOf new crew
-  crew_lent crew s =
-      let other : ReaderSeen = record old { lent = new.lent } in
-      let same : IsCrewOf other crew = record { hands = s.hands; buffers = s.buffers; spaces = s.spaces; rooms = s.rooms } in
-      subst (λ (r : ReaderSeen). IsCrewOf r crew) (sym is) same
-
-  pub stands_lent : (file : List ℕ) → StandsFor old file → StandsFor new file
-  stands_lent file s =
-      let other : ReaderSeen = record old { lent = new.lent } in
-      let same : StandsFor other file = record {
-        accepted = s.accepted;
-        head = s.head;
-        chunk = s.chunk;
-        pieces = s.pieces;
-        are = s.are;
-        chunks = s.chunks;
-        all_lie = s.all_lie;
-        begun = s.begun;
-        first = s.first;
-        left = s.left;
-        lie = s.lie;
-        bad = s.bad;
-      } in
-      subst (λ (r : ReaderSeen). StandsFor r file) (sym is) same
-
-  pub moved_lent : (first : ReaderSeen) (n : ℕ) → old ≡ record first { next = first.next + n; left = drop n first.left; bad = old.bad; cuts = old.cuts; lent = old.lent }
-      → new ≡ record first { next = first.next + n; left = drop n first.left; bad = new.bad; cuts = new.cuts; lent = new.lent }
-  moved_lent first n moved =
-      let bad : old.bad ≡ new.bad = sym (ap (λ (r : ReaderSeen). r.bad) is) in
-      let cuts : old.cuts ≡ new.cuts = sym (ap (λ (r : ReaderSeen). r.cuts) is) in
-      is ∙ ap (λ (r : ReaderSeen). let x : ReaderSeen = record r { lent = new.lent } in x) moved
-      ∙ ap (λ (b : Bool). let x : ReaderSeen = record first { next = first.next + n; left = drop n first.left; bad = b; cuts = old.cuts; lent = new.lent } in x) bad
-      ∙ ap (λ (cs : List (ℕ × ℕ)). let x : ReaderSeen = record first { next = first.next + n; left = drop n first.left; bad = new.bad; cuts = cs; lent = new.lent } in x) cuts
-
--- ---- what was read so far
-
--- A reader has read its first pieces: they hold these blocks.
-pub record HasRead (held : Option FileMap) (first reader : ReaderSeen) (n : ℕ) (blocks : List (List ℕ)) : Type 0 where
-  pub hold : HoldFirst held first n blocks
-  pub named : reader.name ≡ first.name
-  pub head : reader.head ≡ first.head
-  pub chunk : reader.chunk ≡ first.chunk
-  pub left : reader.left ≡ drop n first.left
-  pub next : reader.next ≡ first.next + n
-
-pub hold_none : (held : Option FileMap) (reader : ReaderSeen) (P : List ℕ → Type 0) → WhereKnown held reader.name P → HoldFirst held reader 0 []
-hold_none held reader P known = record {
-  within = omega arith;
-  whole = tt;
-  hold = known_then held reader.name P (λ file. HoldOnly file [] []) (λ file p. hold_only_none file) known;
-}
-
-pub read_none : (held : Option FileMap) (reader : ReaderSeen) (P : List ℕ → Type 0) → WhereKnown held reader.name P → HasRead held reader reader 0 []
-read_none held reader P known = record {
-  hold = hold_none held reader P known;
-  named = refl;
-  head = refl;
-  chunk = refl;
-  left = refl;
-  next = omega arith;
-}
-
--- what a batch reads
-pub record ReadsMore (held : Option FileMap) (old new : ReaderSeen) (n : ℕ) (blocks : List (List ℕ)) : Type 0 where
-  pub within : n ≤ length old.left
-  pub whole : AreWholeBlocks (record_length_of old.head.bytes) (take n old.left) blocks
-  pub hold : WhereKnown held old.name (λ file. HoldOnly file (take n old.left) blocks)
-  pub moved : new ≡ record old { next = old.next + n; left = drop n old.left; bad = new.bad; cuts = new.cuts; lent = new.lent }
-
-pub read_more : (held : Option FileMap) (first old new : ReaderSeen) (n m : ℕ) (xs ys : List (List ℕ)) → HasRead held first old n xs → ReadsMore held old new m ys → HasRead held first new (n + m) (xs ++ ys)
-read_more held first old new n m xs ys r s =
-    let both : take n first.left ++ take m (drop n first.left) ≡ take (n + m) first.left = sym (take-add n m first.left) in
-    let size = record_length_of first.head.bytes in
-    let whole : AreWholeBlocks size (take m (drop n first.left)) ys =
-    subst (λ (h : HeadView). AreWholeBlocks (record_length_of h.bytes) (take m (drop n first.left)) ys) r.head (subst (λ (ps : List Piece). AreWholeBlocks (record_length_of old.head.bytes) (take m ps) ys) r.left s.whole) in
-    let hold : WhereKnown held first.name (λ file. HoldOnly file (take m (drop n first.left)) ys) =
-    subst (λ (name : List ℕ). WhereKnown held name (λ file. HoldOnly file (take m (drop n first.left)) ys)) r.named (subst (λ (ps : List Piece). WhereKnown held old.name (λ file. HoldOnly file (take m ps) ys)) r.left s.hold) in
-    record {
-      hold = record {
-        within = omega (arith, r.hold.within, s.within, ap (λ (ps : List Piece). length ps) r.left, length-drop n first.left);
-        whole = subst (λ (ps : List Piece). AreWholeBlocks size ps (xs ++ ys)) both (whole_both size (take n first.left) (take m (drop n first.left)) xs ys r.hold.whole whole);
-        hold = known_both held first.name (λ file. HoldOnly file (take n first.left) xs) (λ file. HoldOnly file (take m (drop n first.left)) ys) (λ file. HoldOnly file (take (n + m) first.left) (xs ++ ys))
-            (λ file a b. subst (λ (ps : List Piece). HoldOnly file ps (xs ++ ys)) both (hold_only_both file (take n first.left) (take m (drop n first.left)) xs ys a b)) r.hold.hold hold;
-      };
-      named = ap (λ (x : ReaderSeen). x.name) s.moved ∙ r.named;
-      head = ap (λ (x : ReaderSeen). x.head) s.moved ∙ r.head;
-      chunk = ap (λ (x : ReaderSeen). x.chunk) s.moved ∙ r.chunk;
-      left = ap (λ (x : ReaderSeen). x.left) s.moved ∙ ap (λ (ps : List Piece). drop m ps) r.left ∙ drop-drop m n first.left;
-      next = ap (λ (x : ReaderSeen). x.next) s.moved ∙ (let e : old.next + m ≡ first.next + (n + m) = omega (arith, r.next) in e);
-    }
-
--- the records end after the pieces that were read
-pub end_all : (held : Option FileMap) (first reader : ReaderSeen) (n : ℕ) (blocks : List (List ℕ)) → HasRead held first reader n blocks → reader.left ≡ [] → EndsAfter held first n None
-end_all held first reader n blocks r none = omega (arith, ap (λ (ps : List Piece). length ps) (sym r.left ∙ none), length-drop n first.left, r.hold.within)
-
-pub end_bad : (held : Option FileMap) (first reader : ReaderSeen) (n : ℕ) (blocks : List (List ℕ)) (cause : Refusal) → HasRead held first reader n blocks → cause ≡ BadChunk reader.next → IsSome reader.chunk
-    → WhereKnown held reader.name (λ file. IsBadPiece file reader.left 0) → EndsAfter held first n (Some cause)
-end_bad held first reader n blocks cause r is packed bad = (
-  is ∙ ap BadChunk r.next,
-  subst (λ (o : Option ℕ). IsSome o) r.chunk packed,
-  subst (λ (name : List ℕ). WhereKnown held name (λ file. IsBadPiece file first.left n)) r.named
-      (known_then held reader.name (λ file. IsBadPiece file reader.left 0) (λ file. IsBadPiece file first.left n)
-      (λ file b. (b.0, sym (ap (λ (ps : List Piece). slice_get ps 0) r.left ∙ slice_get-first n first.left) ∙ b.1, b.2)) bad),
-)
-
--- ---- a writer that takes the blocks
+-- ---- some blocks
 
 -- one block more
 pub concat_more : (blocks : List (List ℕ)) (i : ℕ) → i < length blocks → concat (take (i + 1) blocks) ≡ concat (take i blocks) ++ get_or blocks i []
@@ -245,22 +30,6 @@ concat_more blocks i within =
 
 pub concat_rest : (blocks : List (List ℕ)) (i : ℕ) → concat blocks ≡ concat (take i blocks) ++ concat (drop i blocks)
 concat_rest blocks i = ap concat (sym (take-append-drop i blocks)) ∙ concat-append (take i blocks) (drop i blocks)
-
--- there is room for each block of a batch
-module _ (old now : Outside) (w v : WriterSeen) (blocks : List (List ℕ)) (i : ℕ) (before : Outside) (out : Output) (bytes : List ℕ) (s : Stands before old w out bytes) (t : Takes old now w v (concat (take i blocks))) (within : i < length blocks) where
-  pub same_size : v.size ≡ w.size
-  same_size = (t before out bytes s).size ∙ sym s.size
-
-  pub even_block : All (λ block. length block % w.size ≡ 0) blocks → length (get_or blocks i []) % v.size ≡ 0
-  even_block all = subst (λ (n : ℕ). length (get_or blocks i []) % n ≡ 0) (sym same_size) (all i [] within)
-
-  pub room_block : w.taken + length (concat blocks) ≤ w.size * w.most → v.most ≡ w.most → v.taken + length (get_or blocks i []) ≤ v.size * v.most
-  room_block room most =
-      let taken : v.taken ≡ w.taken + length (concat (take i blocks)) = (t before out bytes s).taken ∙ length-append bytes (concat (take i blocks)) ∙ ap (λ (n : ℕ). n + length (concat (take i blocks))) (sym s.taken) in
-      let all : length (concat blocks) ≡ length (concat (take (i + 1) blocks)) + length (concat (drop (i + 1) blocks)) = ap (λ (x : List ℕ). length x) (concat_rest blocks (i + 1)) ∙ length-append (concat (take (i + 1) blocks)) (concat (drop (i + 1) blocks)) in
-      let one : length (concat (take (i + 1) blocks)) ≡ length (concat (take i blocks)) + length (get_or blocks i []) = ap (λ (x : List ℕ). length x) (concat_more blocks i within) ∙ length-append (concat (take i blocks)) (get_or blocks i []) in
-      let size : v.size * v.most ≡ w.size * w.most = ap (λ (n : ℕ). n * v.most) same_size ∙ ap (λ (n : ℕ). w.size * n) most in
-      omega (arith, taken, all, one, size, room)
 
 -- there is room for a batch
 pub room_for : (reader : ReaderSeen) (v : WriterSeen) (m : ℕ) (ys : List (List ℕ)) → CanTake reader v → AreWholeBlocks (record_length_of reader.head.bytes) (take m reader.left) ys → v.taken + length (concat ys) ≤ v.size * v.most
@@ -275,22 +44,29 @@ pub even_for : (reader : ReaderSeen) (v : WriterSeen) (m : ℕ) (ys : List (List
 even_for reader v m ys can whole =
     subst (λ (n : ℕ). All (λ block. length block % n ≡ 0) ys) (sym can.size) (even_whole (record_length_of reader.head.bytes) (take m reader.left) ys whole)
 
--- and for those after it
-pub room_after : (old new : Outside) (reader next : ReaderSeen) (held : Option FileMap) (v u : WriterSeen) (m : ℕ) (ys : List (List ℕ)) (before : Outside) (out : Output) (bytes : List ℕ) → Stands before old v out bytes → CanTake reader v
-    → ReadsMore held reader next m ys → Takes old new v u (concat ys) → u.most ≡ v.most → u.failed ≡ false → CanTake next u
-room_after old new reader next held v u m ys before out bytes s can more t most sound =
-    let after = t before out bytes s in
-    let size : u.size ≡ v.size = after.size ∙ sym s.size in
-    let all : records_in reader.left ≡ records_in (take m reader.left) + records_in next.left =
-    ap records_in (sym (take-append-drop m reader.left)) ∙ records-append (take m reader.left) (drop m reader.left) ∙ ap (λ (ps : List Piece). records_in (take m reader.left) + records_in ps) (sym (ap (λ (x : ReaderSeen). x.left) more.moved)) in
-    let length_is : length (concat ys) ≡ v.size * records_in (take m reader.left) = length_whole (record_length_of reader.head.bytes) (take m reader.left) ys more.whole ∙ ap (λ (n : ℕ). n * records_in (take m reader.left)) (sym can.size) in
-    let taken : u.taken ≡ v.taken + length (concat ys) = after.taken ∙ length-append bytes (concat ys) ∙ ap (λ (n : ℕ). n + length (concat ys)) (sym s.taken) in
-    let room : u.taken + v.size * records_in next.left ≤ v.size * v.most = omega (arith, can.room, length_is, taken, ap (λ (n : ℕ). v.size * n) all) in
-    record {
-      sound = sound;
-      size = size ∙ can.size ∙ sym (ap (λ (x : ReaderSeen). record_length_of x.head.bytes) more.moved);
-      room = subst (λ (n : ℕ). u.taken + n * records_in next.left ≤ n * u.most) (sym size) (subst (λ (k : ℕ). u.taken + v.size * records_in next.left ≤ v.size * k) (sym most) room);
-    }
+-- ---- the records of the blocks that come
+
+-- whole numbers of times that a size fits into parts fit into the whole
+two_fit : (size a b k : ℕ) → 0 < size → a + b ≤ size * k → a / size + b / size ≤ k
+two_fit size a b k some all = elim (cases_lt k (a / size + b / size)) [
+  | inr fits ↦ fits
+  | inl past ↦
+      let more : k + 1 ≤ a / size + b / size = omega (arith, past) in
+      absurd (omega (arith, mul-le-mul_left size more, div-add-mod a size, div-add-mod b size))
+]
+
+-- how many records there are with a block more: no more than the reader has
+pub few_come : (reader : ReaderSeen) (size : ℕ) (records block : List ℕ) → 0 < size → size ≡ record_length_of reader.head.bytes → MayCome reader records block → records_in reader.left < 2 ^ 32 → length (cut_records size (length records / size) records) + length block / size < 2 ^ 32
+few_come reader size records block some is come few =
+    let all = subst (λ (k : ℕ). length records + length block ≤ k * records_in reader.left) (sym is) come.within in
+    omega (arith, two_fit size (length records) (length block) (records_in reader.left) some all, length-cut size (length records / size) records, few)
+
+-- the records with those of a block more
+pub records_come : (reader : ReaderSeen) (size : ℕ) (xs : List (List ℕ)) (block : List ℕ) → 0 < size → size ≡ record_length_of reader.head.bytes → MayCome reader (concat xs) block
+    → cut_records size (length (concat (xs ++ block ∷ [])) / size) (concat (xs ++ block ∷ [])) ≡ cut_records size (length (concat xs) / size) (concat xs) ++ cut_records size (length block / size) block
+records_come reader size xs block some is come =
+    let even = subst (λ (k : ℕ). length (concat xs) % k ≡ 0) (sym is) come.before in
+    ap (λ (t : List ℕ). cut_records size (length t / size) t) (concat_last xs block) ∙ cut-append size (concat xs) block some even
 
 -- how copying ends if a reader does
 pub end_ok : (fault : Fault) (r : Result (Option Refusal) Fault) (P : Option Refusal → Type 0) → r ≡ end_of fault → ((cause : Refusal) → fault ≡ Refused cause → P (Some cause)) → IfOk r P

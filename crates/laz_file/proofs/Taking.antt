@@ -17,6 +17,7 @@ use Rattle.laz_forms.specs.FileFaults.{HasCause}
 use Rattle.laz_forms.specs.Outputs.{Output, front, full_points, stopped}
 use Rattle.laz_forms.specs.Packing.{record_layout}
 use Rattle.laz_reader.specs.Reading.{ReaderSeen}
+use Rattle.laz_reader.specs.Turns.{file_at}
 use Rattle.laz_writer.specs.Writing.{PackingSeen, PointsStand, SameFaults, Stands, Stops, WriterSeen, all_chunks, full_blocks}
 use Rattle.laz_writer.proofs.Public.{held_text, kept_part, packed_form, plain_stopped}
 use Rattle.laz_writer.proofs.Public.{full_blocks_more, rest_of}
@@ -207,6 +208,10 @@ push_part (Err e) old new w records to = part_push old new w records e to
 known_beside : (files : FileMap) (other text name : List ℕ) → name ≢ other → maps.get (maps.insert files other text) name ≡ maps.get files name
 known_beside files other text name ne =
     get-with_value files other (Some text) name ∙ ap (λ (b : Bool). cond b (Some text) (maps.get files name)) (same_other name other ne)
+
+pub file_beside : (held : Option FileMap) (other text name : List ℕ) → name ≢ other → file_at (with_file held other text) name ≡ file_at held name
+file_beside None other text name ne = refl
+file_beside (Some files) other text name ne = ap Some (known_beside files other text name ne)
 
 pub known_before : (held : Option FileMap) (other text name : List ℕ) (P : List ℕ → Type 0) → name ≢ other → WhereKnown (with_file held other text) name P → WhereKnown held name P
 known_before None other text name P ne k = tt

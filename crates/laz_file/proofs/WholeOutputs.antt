@@ -23,7 +23,7 @@ use Rattle.laz_writer.specs.Writing.{Stands, Stops, WriterSeen}
 use Rattle.laz_forms.proofs.Public.{plain_records}
 use Rattle.laz_reader.proofs.Public.{all_of}
 use Rattle.laz_writer.proofs.Public.{held_text}
-use Rattle.laz_file.proofs.Copies.{read_begins}
+use Rattle.laz_reader.proofs.Public.{read_begins}
 use Rattle.laz_file.proofs.Endings.{leaves_part, short_part}
 use Rattle.laz_forms.proofs.Public.{finished_is}
 use Rattle.laz_forms.proofs.Public.{known_both}
@@ -204,7 +204,7 @@ module _ (first : ReaderSeen) (file : List ℕ) (s : StandsFor first file) (plai
   bytes_is : first.head.bytes ≡ head_of file
   bytes_is = ap (λ (h : HeadView). h.bytes) s.head
 
-  is_plain : is_packed (head_of file) ≡ false
+  pub is_plain : is_packed (head_of file) ≡ false
   is_plain = ap is_packed (sym bytes_is) ∙ plain
 
   records_is : length (drop (point_offset_of file) file) ≡ record_length_of (head_of file) * points_of (head_of file)

@@ -1,23 +1,26 @@
 -- Whole files: records that go from a reader to a writer, what packs a plain file and what unpacks a packed one, and
 -- what such calls leave.
-use Rattle.std.specs.Prelude.{◌≡◌, ◌⊎◌, ℕ, ◌+◌, ◌*◌, ◌≤◌, ◌<◌, false, List, [], ◌++◌, length, take}
-use Rattle.std.specs.Prelude.{Option, Some, None, IsSome, Result, Ok, Err}
+use Rattle.std.specs.Prelude.{◌≡◌, ◌⊎◌, ℕ, ◌+◌, ◌*◌, ◌%◌, ◌≤◌, ◌<◌, false, List, [], ◌++◌, drop, length, take}
+use Rattle.std.specs.Prelude.{Option, Some, None}
 use Rattle.std.specs.List.{concat}
+use Rattle.std.specs.Option.{option_map}
 use Rattle.las_header.specs.declared.refusal.Refusal.{Refusal}
 use Rattle.las_header.specs.declared.refusal.Refusal.TheVariants.{BadChunk}
-use Rattle.las_header.specs.Fields.{record_length_of}
+use Rattle.las_header.specs.Fields.{point_offset_of, record_length_of}
 use Rattle.las_header.specs.Plain.{plain_head}
 use Rattle.las_outside.specs.Drafts.{IsUnfinished}
 use Rattle.las_outside.specs.Faults.{Rose}
-use Rattle.las_outside.specs.Files.{FileMap, WhereKnown, with_file}
+use Rattle.las_outside.specs.Files.{FileMap, with_file}
 use Rattle.las_outside.specs.Outside.{Outside}
 use Rattle.laz_forms.specs.declared.fault.Fault.{Fault}
 use Rattle.laz_forms.specs.declared.fault.Fault.TheVariants.{Refused, Read, Write, Memory}
 use Rattle.laz_forms.specs.Outputs.{Output, draft_of, finished, patches_of, stopped}
-use Rattle.laz_reader.specs.Reading.{AreWholeBlocks, ReaderSeen, records_in}
+use Rattle.laz_reader.specs.Reading.{ReaderSeen, records_in}
+pub use Rattle.laz_reader.specs.Turns.{EndsAfter, HoldFirst}
 use Rattle.laz_forms.specs.Ranges.{Range}
-use Rattle.laz_forms.specs.Records.{AreRecordsIn, AreRecordsOf, HoldOnly, IsBadPiece}
-use Rattle.laz_writer.specs.Writing.{Stands, WriterSeen}
+use Rattle.laz_forms.specs.Records.{AreRecordsIn, AreRecordsOf}
+use Rattle.laz_writer.specs.Writing.{IsBegun, Stands, WriterSeen}
+use Rattle.laz_file.specs.Endings.{Product, writes}
 
 -- the packed form of a plain file as an output, and the plain form of a packed one: the records are not counted, since
 -- the head has their counts
@@ -26,6 +29,17 @@ packed_output name file chunk = record { name = name; head = plain_head file; ch
 
 abbrev pub plain_output : (name file : List ℕ) → Output
 plain_output name file = record { name = name; head = plain_head file; chunk = None; counted = false }
+
+-- Packing a plain file writes its packed form, of all of its records.
+abbrev pub Packs : (output : List ℕ) → (chunk : ℕ) → (file : List ℕ) → Product → Type 0
+Packs output chunk file product =
+    product ≡ writes (packed_output output file chunk) (drop (point_offset_of file) file) None
+
+-- Unpacking a packed file writes its plain form, of its records up to the first bad chunk, if there is one.
+abbrev pub Unpacks : (output : List ℕ) → (file : List ℕ) → Product → Type 0
+Unpacks output file product =
+    (blocks : List (List ℕ)) × (bad : Option ℕ) × AreRecordsOf file blocks bad
+    × (product ≡ writes (plain_output output file) (concat blocks) (option_map BadChunk bad))
 
 -- The files are as before, or the output is unfinished, with these records, and every other file is as before.
 abbrev pub LeavesUnfinished : Output → (records : List ℕ) → (old new : Option FileMap) → Type 0
@@ -78,24 +92,23 @@ LeavesPart old now writer records =
     (before : Outside) (out : Output) (bytes : List ℕ) → Stands before old writer out bytes
     → (n : ℕ) × (now.held ≡ with_file before.held out.name (take n (stopped out (bytes ++ records))))
 
+-- A writer has taken these records, and can take more.
+pub record HasTaken (writer new : WriterSeen) (old now : Outside) (records : List ℕ) : Type 0 where
+  pub begun : IsBegun old writer
+  pub sound : new.failed ≡ false
+  pub most : new.most ≡ writer.most
+  pub takes : Takes old now writer new records
+
+-- A writer has room for a block after these records.
+pub record HasRoomFor (writer : WriterSeen) (records block : List ℕ) : Type 0 where
+  pub whole : length block % writer.size ≡ 0
+  pub room : writer.taken + (length records + length block) ≤ writer.size * writer.most
+
 -- The writer can take all records that a reader has left: it has not failed, records are as long, and there is room.
 pub record CanTake (reader : ReaderSeen) (writer : WriterSeen) : Type 0 where
   pub sound : writer.failed ≡ false
   pub size : writer.size ≡ record_length_of reader.head.bytes
   pub room : writer.taken + writer.size * records_in reader.left ≤ writer.size * writer.most
-
--- The first n pieces that a reader has left hold these blocks of records, and no others.
-pub record HoldFirst (held : Option FileMap) (reader : ReaderSeen) (n : ℕ) (blocks : List (List ℕ)) : Type 0 where
-  pub within : n ≤ length reader.left
-  pub whole : AreWholeBlocks (record_length_of reader.head.bytes) (take n reader.left) blocks
-  pub hold : WhereKnown held reader.name (λ file. HoldOnly file (take n reader.left) blocks)
-
--- The records of a reader end after n pieces: these are all, or the next chunk is the first bad one.
-abbrev pub EndsAfter : (held : Option FileMap) → ReaderSeen → (n : ℕ) → Option Refusal → Type 0
-EndsAfter held reader n None = n ≡ length reader.left
-EndsAfter held reader n (Some cause) =
-    (cause ≡ BadChunk (reader.next + n)) × IsSome reader.chunk
-    × WhereKnown held reader.name (λ file. IsBadPiece file reader.left n)
 
 -- All records that a reader has left were copied into an output, after these bytes of records, and it was finished.
 abbrev pub Finishes : (known was now : Option FileMap) → ReaderSeen → Output → (bytes : List ℕ) → Type 0

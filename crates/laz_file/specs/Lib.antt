@@ -12,3 +12,4 @@ pub use Rattle.laz_chunk.specs.Layouts
 pub use Rattle.laz_chunk.specs.Chunks
 pub use Rattle.laz_table.specs.Chunks as TableChunks
 pub mod Copying
+pub mod Endings

@@ -1,63 +1,28 @@
 //! Records that go from a reader to a writer.
-ghost use Rattle.std.specs.Prelude.{◌≡◌, ◌≢◌, ◌⊎◌, ◌%◌, ◌*◌, ◌+◌, ◌≤◌, ℕ, List, length, All, false, IfErr, IfOk};
-ghost use Rattle.std.specs.Prelude.{IsErrOf};
+ghost use Rattle.std.specs.Prelude.{◌≡◌, ◌≢◌, ◌⊎◌, ◌%◌, ◌*◌, ◌+◌, ◌≤◌, ◌++◌, ℕ, List, length, false, IfErr, IfOk};
+ghost use Rattle.std.specs.Prelude.{IsErrOf, IsSome};
 ghost use Rattle.std.specs.Prelude.{OnErr, OnOk};
 ghost use Rattle.std.specs.List.{concat};
 ghost use Rattle.las_outside.specs.Faults.{Rose};
 ghost use Rattle.las_outside.specs.Frames.{IsCalm, OnlyWrites};
-ghost use Rattle.las_outside.specs.Outside.{Later};
+ghost use Rattle.las_outside.specs.Outside.{Later, Outside};
 ghost use Rattle.laz_forms.specs.declared.fault.Fault.TheVariants.{Memory, Write};
 ghost use Rattle.laz_reader.specs.Asking.{AsksAtMost, bytes_left};
-ghost use Rattle.laz_file.specs.Copying.{CanTake, EndsAfter, HoldFirst, LeavesPart, Takes};
+ghost use Rattle.laz_file.specs.Copying.{CanTake, HasRoomFor, HasTaken, LeavesPart, Takes};
 ghost use Rattle.laz_forms.specs.FileFaults.{HasCause, end_of};
-ghost use Rattle.laz_reader.specs.Reading.{IsCrewOf, Lends, OfFile, StandsFor};
-ghost use Rattle.laz_writer.specs.Writing.{IsBegun};
+ghost use Rattle.laz_reader.specs.Reading.{IsCrewOf, OfFile, StandsFor};
+ghost use Rattle.laz_reader.specs.Turns.{EndsAfter, HoldFirst, LendsAt};
+ghost use Rattle.laz_writer.specs.Writing.{IsBegun, WriterSeen};
 
 use las_header::Refusal;
 use las_outside::{Files, Gate};
 use laz_chunk::Workspace;
 use laz_forms::Fault;
-use laz_reader::Reader;
+use laz_reader::{Reader, Turn};
 use laz_workers::{Crew, Machine};
 use laz_writer::Writer;
 use std::alloc::Global;
 use std::thread::Threads;
-
-// Pushes the blocks of a batch, which a reader and its crew lend, in order.
-fn push_lent<R: Threads + Sync, F: Files, G: Gate>(
-    machine: &Machine<'_, R, G>,
-    files: &mut F,
-    reader: &Reader,
-    crew: &Crew<Workspace>,
-    count: u32,
-    writer: &mut Writer,
-) -> Result<(), Fault>
-    requires lent { (blocks : List (List ℕ)) × Lends reader.now crew.now blocks × (length blocks ≡ count)
-        × All (λ block. length block % writer.old.size ≡ 0) blocks
-        × (writer.old.taken + length (concat blocks) ≤ writer.old.size * writer.old.most) }
-    requires open { writer.old.failed ≡ false }
-    requires stands { IsBegun (F.seen files.old) writer.old }
-    ensures takes { (blocks : List (List ℕ)) → Lends reader.now crew.now blocks → length blocks ≡ count
-        → OnOk result (Takes (F.seen files.old) (F.seen files.new) writer.old writer.new (concat blocks)) }
-    ensures part { (blocks : List (List ℕ)) → Lends reader.now crew.now blocks → length blocks ≡ count
-        → OnErr result (LeavesPart (F.seen files.old) (F.seen files.new) writer.old (concat blocks)) }
-    ensures most { writer.new.most ≡ writer.old.most }
-    ensures open { OnOk result (writer.new.failed ≡ false) }
-    ensures cause { IfErr result (HasCause (F.seen files.old) (F.seen files.new)) }
-    ensures calm { OnOk result (IsCalm (F.seen files.old) (F.seen files.new)) }
-    ensures writes { OnlyWrites (F.seen files.old) (F.seen files.new) }
-{
-    for i in 0..count {
-        writer.push(
-            machine.rt,
-            machine.alloc,
-            files,
-            machine.gate,
-            reader.block(crew, i),
-        )?;
-    }
-    Ok(())
-}
 
 // Pushes the block of a plain file. The writer may keep the block itself, and the reader has another buffer in its place.
 fn push_plain<R: Threads + Sync, F: Files, G: Gate>(
@@ -86,40 +51,45 @@ fn push_plain<R: Threads + Sync, F: Files, G: Gate>(
     pushed
 }
 
-// Pushes the blocks of a batch, in order. Of a plain file the writer may keep the block itself, and the reader has
-// another buffer in its place.
-fn push_batch<R: Threads + Sync, F: Files, G: Gate>(
+// Pushes the block that a reader and its crew lend under this number. Of a plain file the writer may keep the block
+// itself, and the reader has another buffer in its place.
+fn push_lent<R: Threads + Sync, F: Files, G: Gate>(
     machine: &Machine<'_, R, G>,
     files: &mut F,
     reader: &mut Reader,
     crew: &Crew<Workspace>,
-    count: u32,
+    number: u32,
     writer: &mut Writer,
 ) -> Result<(), Fault>
-    requires one { reader.old.chunk ≡ None → count ≡ 1 }
-    requires lent { (blocks : List (List ℕ)) × Lends reader.old crew.now blocks × (length blocks ≡ count)
-        × All (λ block. length block % writer.old.size ≡ 0) blocks
-        × (writer.old.taken + length (concat blocks) ≤ writer.old.size * writer.old.most) }
-    requires open { writer.old.failed ≡ false }
-    requires stands { IsBegun (F.seen files.old) writer.old }
-    ensures takes { (blocks : List (List ℕ)) → Lends reader.old crew.now blocks → length blocks ≡ count
-        → OnOk result (Takes (F.seen files.old) (F.seen files.new) writer.old writer.new (concat blocks)) }
-    ensures part { (blocks : List (List ℕ)) → Lends reader.old crew.now blocks → length blocks ≡ count
-        → OnErr result (LeavesPart (F.seen files.old) (F.seen files.new) writer.old (concat blocks)) }
+    requires fits { (first : WriterSeen) × (old : Outside) × (records block : List ℕ)
+        × HasTaken first writer.old old (F.seen files.old) records × LendsAt reader.old crew.now number block
+        × HasRoomFor first records block }
+    ensures takes { (first : WriterSeen) (old : Outside) (records block : List ℕ)
+        → HasTaken first writer.old old (F.seen files.old) records → LendsAt reader.old crew.now number block
+        → OnOk result (HasTaken first writer.new old (F.seen files.new) (records ++ block)) }
+    ensures part { (first : WriterSeen) (old : Outside) (records block : List ℕ)
+        → HasTaken first writer.old old (F.seen files.old) records → LendsAt reader.old crew.now number block
+        → OnErr result (LeavesPart old (F.seen files.new) first (records ++ block)) }
     ensures most { writer.new.most ≡ writer.old.most }
-    ensures open { OnOk result (writer.new.failed ≡ false) }
     ensures cause { IfErr result (HasCause (F.seen files.old) (F.seen files.new)) }
     ensures calm { OnOk result (IsCalm (F.seen files.old) (F.seen files.new)) }
     ensures writes { OnlyWrites (F.seen files.old) (F.seen files.new) }
     ensures reader { reader.new ≡ record reader.old { lent = reader.new.lent } }
+    ensures packed { IsSome reader.old.chunk → reader.new ≡ reader.old }
 {
     match reader.chunk() {
         None => push_plain(machine, files, reader, writer),
-        Some(_) => push_lent(machine, files, reader, crew, count, writer),
+        Some(_) => writer.push(
+            machine.rt,
+            machine.alloc,
+            files,
+            machine.gate,
+            reader.block(crew, number),
+        ),
     }
 }
 
-/// Copies all records that a reader has left into a writer of another name, batch by batch: up to the end of the records,
+/// Copies all records that a reader has left into a writer of another name, block by block: up to the end of the records,
 /// or up to the first bad chunk, which is the answer `Some`.
 ///
 /// The crew is one of this reader, and the writer has room for all of the records. `Err` is `Read` or `Write` if such a
@@ -161,14 +131,15 @@ pub fn copy_records<R: Threads + Sync, F: Files, G: Gate>(
         gate,
         workers: crew.hands() as u32,
     };
-    'batches: loop {
-        let count = match reader.next_batch(rt, alloc, files, gate, crew) {
-            Ok(count) => count,
+    let mut turn = Turn::first();
+    'turns: loop {
+        let next = match reader.next_block(&machine, files, crew, &mut turn) {
+            Ok(next) => next,
             Err(fault) => return fault.into_end(),
         };
-        if count == 0 {
-            return Ok(None);
+        match next {
+            None => return Ok(None),
+            Some(number) => push_lent(&machine, files, reader, crew, number, writer)?,
         }
-        push_batch(&machine, files, reader, crew, count, writer)?;
     }
 }

@@ -17,6 +17,6 @@ pub use laws::{
     ranges_have_one_answer, records_have_one_answer,
 };
 pub use laz_forms::{Fault, PLAIN_BLOCK};
-pub use laz_reader::{Reader, UnpackJob};
+pub use laz_reader::{Reader, Turn, UnpackJob};
 pub use laz_writer::{Writer, stopped_outputs_are_unfinished};
 pub use whole_files::{pack, unpack};

@@ -1,23 +1,17 @@
 //! Whole files: packed and unpacked.
-ghost use Rattle.std.specs.Prelude.{◌≡◌, ◌≢◌, ◌++◌, ℕ, List, Some, None, drop, false, IfErr, IsErrOf, OnOk};
+ghost use Rattle.std.specs.Prelude.{◌≡◌, ◌≢◌, ℕ, None, drop, false, IfErr, IsErrOf, OnOk};
 ghost use Rattle.std.specs.Prelude.{IsSome};
-ghost use Rattle.std.specs.List.{concat};
 ghost use Rattle.las_header.specs.declared.refusal.Refusal.{Refusal};
 ghost use Rattle.las_header.specs.declared.refusal.Refusal.TheVariants.{BadChunk};
 ghost use Rattle.las_header.specs.Fields.{point_offset_of};
-ghost use Rattle.las_header.specs.Plain.{plain_head};
-ghost use Rattle.las_outside.specs.Faults.{Rose};
-ghost use Rattle.las_outside.specs.Files.{with_file};
 ghost use Rattle.las_outside.specs.Frames.{IsCalm};
 ghost use Rattle.las_outside.specs.Limits.{AreWorkers, IsChunkSize};
-ghost use Rattle.laz_forms.specs.declared.fault.Fault.TheVariants.{Read, Refused, Write};
+ghost use Rattle.laz_forms.specs.declared.fault.Fault.TheVariants.{Read, Refused};
 ghost use Rattle.laz_reader.specs.Asking.{ReadsAndWrites, bytes_left};
-ghost use Rattle.laz_file.specs.Copying.{AreOnlyRecords, CanTake, EndsCopying, Finishes, LeavesInPart, LeavesRecords};
-ghost use Rattle.laz_file.specs.Copying.{LeavesUnfinished, packed_output, plain_output};
-ghost use Rattle.laz_forms.specs.Outputs.{stopped};
-ghost use Rattle.laz_forms.specs.Packing.{packed_file};
 ghost use Rattle.laz_reader.specs.Reading.{AgreesWithHead, IsCrewOf, IsNewReader, OfFile, StandsFor};
 ghost use Rattle.laz_writer.specs.Writing.{IsBegun, OfOutput};
+ghost use Rattle.laz_file.specs.Copying.{CanTake, EndsCopying, Finishes, LeavesInPart, Packs, Unpacks, packed_output};
+ghost use Rattle.laz_file.specs.Endings.{EndsMaking};
 
 use crate::copying::copy_records;
 use las_outside::{Files, Gate};
@@ -91,19 +85,12 @@ pub fn pack<R: Threads + Sync, F: Files, G: Gate>(
     requires stands { OfFile reader (F.seen files.old) (StandsFor reader) }
     requires whole { AgreesWithHead reader }
 
-    ensures packed { OnOk result (OfFile reader (F.seen files.old) (λ file.
-        (F.seen files.new).held ≡ with_file (F.seen files.old).held output.now (packed_file file chunk))) }
-    ensures left { IfErr result (λ fault. OfFile reader (F.seen files.old) (λ file.
-        LeavesUnfinished (packed_output output.now file chunk) (drop (point_offset_of file) file)
-        (F.seen files.old).held (F.seen files.new).held)) }
+    ensures ends { EndsMaking (Packs output.now chunk) reader.name (F.seen files.old) (F.seen files.new) result }
     // After a read that failed the output does not stand whole.
     ensures in_part { IsErrOf result Read → OfFile reader (F.seen files.old) (λ file.
         LeavesInPart (packed_output output.now file chunk) (drop (point_offset_of file) file)
         (F.seen files.old).held (F.seen files.new).held) }
     ensures never { (cause : Refusal) → IsErrOf result (Refused cause) → ⊥ }
-    ensures read { IsErrOf result Read → Rose (F.seen files.old).read_faults (F.seen files.new).read_faults }
-    ensures write { IsErrOf result Write → Rose (F.seen files.old).write_faults (F.seen files.new).write_faults }
-    ensures calm { OnOk result (IsCalm (F.seen files.old) (F.seen files.new)) }
     // No more is asked for than the reader has left, however the call ends.
     ensures frame { ReadsAndWrites (bytes_left reader) (F.seen files.old) (F.seen files.new) }
 {
@@ -138,21 +125,8 @@ pub fn unpack<R: Threads + Sync, F: Files, G: Gate>(
     requires stands { OfFile reader (F.seen files.old) (StandsFor reader) }
     requires whole { AgreesWithHead reader }
 
-    ensures unpacked { OnOk result (OfFile reader (F.seen files.old) (λ file.
-        (blocks : List (List ℕ)) × AreOnlyRecords file blocks None
-        × ((F.seen files.new).held
-        ≡ with_file (F.seen files.old).held output.now (plain_head file ++ concat blocks)))) }
-    ensures refused { (cause : Refusal) → IsErrOf result (Refused cause)
-        → OfFile reader (F.seen files.old) (λ file.
-        (blocks : List (List ℕ)) × (i : ℕ) × (cause ≡ BadChunk i) × AreOnlyRecords file blocks (Some i)
-        × ((F.seen files.new).held ≡ with_file (F.seen files.old).held output.now
-        (stopped (plain_output output.now file) (concat blocks)))) }
+    ensures ends { EndsMaking (Unpacks output.now) reader.name (F.seen files.old) (F.seen files.new) result }
     ensures bad { (cause : Refusal) → IsErrOf result (Refused cause) → (i : ℕ) × (cause ≡ BadChunk i) }
-    ensures left { IfErr result (λ fault. OfFile reader (F.seen files.old) (λ file.
-        LeavesRecords (plain_output output.now file) file (F.seen files.old).held (F.seen files.new).held)) }
-    ensures read { IsErrOf result Read → Rose (F.seen files.old).read_faults (F.seen files.new).read_faults }
-    ensures write { IsErrOf result Write → Rose (F.seen files.old).write_faults (F.seen files.new).write_faults }
-    ensures calm { OnOk result (IsCalm (F.seen files.old) (F.seen files.new)) }
     // No more is asked for than the reader has left, however the call ends.
     ensures frame { ReadsAndWrites (bytes_left reader) (F.seen files.old) (F.seen files.new) }
 {
