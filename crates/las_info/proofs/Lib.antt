@@ -5,6 +5,7 @@ mod Finding
 mod Lanes
 mod Maps
 mod Parts
+mod Pieces
 mod Places
 mod Running
 mod Tallying

@@ -7,9 +7,9 @@ use Rattle.std.specs.FinMap as map
 use Rattle.std.specs.FinMap.{entries-from_sorted, get-from_sorted, get-insert, same_map, nat_cmp-IsAntisymmetric, len-entries, empty_of_len}
 use Rattle.std.specs.FinMap.Entries.{find, is_sorted, below_all}
 use Rattle.std.proofs.lemmas.Bool.{cases_lt, cases_eq, eqb-false, eqb-true}
-use Rattle.std.proofs.lemmas.List.{get_or-set_other, get_or-set_same}
+use Rattle.std.proofs.lemmas.List.{get_or-set_other, get_or-set_same, set-get_or}
 use Rattle.las_info.specs.Cells.{bins_from}
-use Rattle.las_info.specs.Tallies.{Tally, count_at, with_one}
+use Rattle.las_info.specs.Tallies.{Tally, count_at, with_more, with_one}
 
 less : (x y : ℕ) → x < y → nat_cmp x y ≡ Less
 less x y lt = sym (nat_cmp_is x y Less lt)
@@ -121,6 +121,24 @@ made-set xs ys bin lt is =
     (λ q. get-made (set xs bin (n + 1)) q ∙ one_set xs bin n q lt
     ∙ sym (get-insert nat_cmp_total (made xs) bin (n + 1) q ∙ ap (cond (eq_by_cmp nat_cmp q bin) (Some (n + 1))) (get-made xs q)))
     ∙ ap (λ (k : ℕ). map.insert (made xs) bin (k + 1)) (sym (count-made xs bin))
+
+set-twice : (xs : List ℕ) (i a b : ℕ) → set (set xs i a) i b ≡ set xs i b
+set-twice [] i a b = refl
+set-twice (x ∷ xs) zero a b = refl
+set-twice (x ∷ xs) (suc i) a b = ap (λ (t : List ℕ). x ∷ t) (set-twice xs i a b)
+
+-- a number more in a bin
+pub made-more : (more : ℕ) (xs ys : List ℕ) (bin : ℕ) → bin < length xs → ys ≡ set xs bin (get_or xs bin 0 + more) → made ys ≡ with_more (made xs) bin more
+made-more zero xs ys bin lt is =
+    let none : get_or xs bin 0 + 0 ≡ get_or xs bin 0 = omega arith in
+    ap made (is ∙ ap (λ (n : ℕ). set xs bin n) none ∙ set-get_or xs bin 0)
+made-more (suc more) xs ys bin lt is =
+    let one = set xs bin (get_or xs bin 0 + 1) in
+    let here : get_or one bin 0 + more ≡ get_or xs bin 0 + suc more = omega (arith, get_or-set_same xs bin (get_or xs bin 0 + 1) 0 lt) in
+    let long : bin < length one = omega (arith, lt, length-set xs bin (get_or xs bin 0 + 1)) in
+    made-more more one ys bin long
+    (is ∙ ap (λ (n : ℕ). set xs bin n) (sym here) ∙ sym (set-twice xs bin (get_or xs bin 0 + 1) (get_or one bin 0 + more)))
+    ∙ ap (λ t. with_more t bin more) (made-set xs one bin lt refl)
 
 -- one more in a bin, and then one more in another or the same: both counts are read before either is written
 get_after : (b : Bool) (xs : List ℕ) (i j : ℕ) → (i == j) ≡ b → i < length xs → get_or (set xs i (get_or xs i 0 + 1)) j 0 ≡ get_or xs j 0 + cond b 1 0

@@ -43,7 +43,7 @@ all_seen f P [] all = All-nil (λ x. P (f x))
 all_seen f P (x ∷ xs) all = All-cons (λ x. P (f x)) x xs (All-head P (f x) (map f xs) all) (all_seen f P xs (All-tail P (f x) (map f xs) all))
 
 -- a tap that was shown some records, and then others
-tally-both : (bin_of : List ℕ → ℕ) (tally : Tally) (some more : List (List ℕ)) → tally_after bin_of (tally_after bin_of tally some) more ≡ tally_after bin_of tally (some ++ more)
+pub tally-both : (bin_of : List ℕ → ℕ) (tally : Tally) (some more : List (List ℕ)) → tally_after bin_of (tally_after bin_of tally some) more ≡ tally_after bin_of tally (some ++ more)
 tally-both bin_of tally [] more = refl
 tally-both bin_of tally (r ∷ some) more = tally-both bin_of (with_one tally (bin_of r)) some more
 

@@ -1,5 +1,5 @@
 -- Tallies of records: how many of them have each bin.
-use Rattle.std.specs.Prelude.{◌≡◌, ℕ, ◌+◌, ◌^◌, ◌<◌, ◌≤◌, List, [], ◌∷◌, ◌++◌, fold, take, unwrap_or}
+use Rattle.std.specs.Prelude.{◌≡◌, ℕ, zero, suc, ◌+◌, ◌^◌, ◌<◌, ◌≤◌, List, [], ◌∷◌, ◌++◌, fold, take, unwrap_or}
 use Rattle.std.specs.Ordering.{nat_cmp}
 use Rattle.std.specs.FinMap as map
 
@@ -14,6 +14,11 @@ count_at tally bin = unwrap_or (map.get tally bin) 0
 -- a tally with one record more in a bin
 abbrev pub with_one : Tally → (bin : ℕ) → Tally
 with_one tally bin = map.insert tally bin (count_at tally bin + 1)
+
+-- a tally with a number of records more in a bin, one after another
+abbrev pub with_more : Tally → (bin more : ℕ) → Tally
+with_more tally bin zero = tally
+with_more tally bin (suc more) = with_more (with_one tally bin) bin more
 
 -- a tally after records, each counted in its bin
 abbrev pub tally_after : (bin_of : List ℕ → ℕ) → Tally → (records : List (List ℕ)) → Tally

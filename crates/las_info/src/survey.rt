@@ -8,6 +8,7 @@ ghost use Rattle.las_info.specs.Tallies.{HasRoomFor, IsShownSome, TapSeen, count
 ghost use Rattle.las_info.specs.Surveys.{IsShown};
 ghost use Rattle.las_header.specs.Plain.{cut_records};
 
+use crate::limits::PIECE;
 use crate::summary::Summary;
 use crate::tap::Tap;
 use std::alloc::AllocError;
@@ -111,6 +112,56 @@ impl Survey {
     ///
     /// With them the survey counts fewer than 2^32, and no tap had counted more than 2^63 in a bin before the first.
     pub fn see_all(&mut self, size: usize, block: &[u8]) -> Result<(), AllocError>
+        requires size { POINT_RECORD ≤ size }
+        requires whole { length block.now % size ≡ 0 }
+        requires shown { (taps : List TapSeen) × (before : List (List ℕ)) × IsShown taps before (record {
+          summary = self.old.summary;
+          taps = map (λ tap. tap_seen tap) self.old.taps.items;
+        })
+            × All (λ tap. (bin : ℕ) → count_at tap.tally bin ≤ 2 ^ 63) taps
+            × (length before + length block.now / size < 2 ^ 32) }
+        ensures { (taps : List TapSeen) (before : List (List ℕ)) → IsShown taps before (record {
+          summary = self.old.summary;
+          taps = map (λ tap. tap_seen tap) self.old.taps.items;
+        }) → OnOk result (IsShown taps (before ++ cut_records size (length block.now / size) block.now) (record {
+          summary = self.new.summary;
+          taps = map (λ tap. tap_seen tap) self.new.taps.items;
+        })) }
+    {
+        self.see_pieces(size, PIECE, block)
+    }
+
+    // The same in pieces of this many records, so that each stays in a cache until the last tap has seen it.
+    fn see_pieces(&mut self, size: usize, each: usize, block: &[u8]) -> Result<(), AllocError>
+        requires some { 1 ≤ each }
+        requires size { POINT_RECORD ≤ size }
+        requires whole { length block.now % size ≡ 0 }
+        requires shown { (taps : List TapSeen) × (before : List (List ℕ)) × IsShown taps before (record {
+          summary = self.old.summary;
+          taps = map (λ tap. tap_seen tap) self.old.taps.items;
+        })
+            × All (λ tap. (bin : ℕ) → count_at tap.tally bin ≤ 2 ^ 63) taps
+            × (length before + length block.now / size < 2 ^ 32) }
+        ensures { (taps : List TapSeen) (before : List (List ℕ)) → IsShown taps before (record {
+          summary = self.old.summary;
+          taps = map (λ tap. tap_seen tap) self.old.taps.items;
+        }) → OnOk result (IsShown taps (before ++ cut_records size (length block.now / size) block.now) (record {
+          summary = self.new.summary;
+          taps = map (λ tap. tap_seen tap) self.new.taps.items;
+        })) }
+    {
+        let count = block.len() / size;
+        let mut rest = block;
+        for _piece in 0..count / each {
+            let (piece, further) = rest.split_at(size * each);
+            self.see_piece(size, piece)?;
+            rest = further;
+        }
+        self.see_piece(size, rest)
+    }
+
+    // The same for a piece.
+    fn see_piece(&mut self, size: usize, block: &[u8]) -> Result<(), AllocError>
         requires size { POINT_RECORD ≤ size }
         requires whole { length block.now % size ≡ 0 }
         requires shown { (taps : List TapSeen) × (before : List (List ℕ)) × IsShown taps before (record {

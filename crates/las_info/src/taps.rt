@@ -4,6 +4,7 @@ ghost use Rattle.std.specs.FinMap as map;
 
 use crate::bins::{Bins, Classes, Intensities, ReturnNumbers, Sources};
 use crate::block_count::count_block;
+use crate::runs::count_runs;
 use crate::tally::Counted;
 use crate::tap::Tap;
 use std::alloc::{AllocError, Global};
@@ -229,7 +230,7 @@ impl Tap for SourceTap {
     }
 
     fn see_block(&mut self, size: usize, block: &[u8]) -> Result<(), AllocError> {
-        count_block::<Sources>(&mut self.counted, size, block)
+        count_runs::<Sources>(&mut self.counted, size, block)
     }
 
     fn rows(&self) -> Result<Vec<(u32, u64)>, AllocError> {

@@ -1,7 +1,7 @@
 use Rattle.std.proofs.Common.{◌/◌, ◌∙◌, length, arith}
 use Rattle.las_header.specs.Plain.{cut_records}
 use Rattle.las_info.proofs.Shown.{block_shown, points_counted, room_block}
-use Rattle.las_info.proofs.survey.Survey.see_all.Goals as goal
+use Rattle.las_info.proofs.survey.Survey.see_piece.Goals as goal
 
 pub add_all-requires-clause-fewer : goal.add_all-requires-clause-fewer
 add_all-requires-clause-fewer g c =
