@@ -1,12 +1,10 @@
 -- Records that are kept, taken and seen, some after others.
-use Rattle.std.proofs.Common.{◌≡◌, inl, inr, ℕ, suc, ◌+◌, ◌*◌, ◌/◌, ◌%◌, ◌<◌, ◌≤◌, ◌^◌, Bool, true, false, List, [], ◌∷◌, ◌++◌, length, take, drop, get_or, Option, refl, sym, ◌∙◌, ap, subst, append_assoc, length-append, arith}
+use Rattle.std.proofs.Common.{◌≡◌, inl, inr, ℕ, suc, ◌+◌, ◌*◌, ◌/◌, ◌%◌, ◌<◌, ◌≤◌, ◌^◌, Bool, false, List, [], ◌∷◌, ◌++◌, length, take, Option, refl, sym, ◌∙◌, ap, subst, append_assoc, length-append, arith}
 use Rattle.std.specs.Prelude.{All}
 use Rattle.std.specs.List.{concat}
-use Rattle.std.proofs.lemmas.List.{append-nil, length-take-le, take-append-drop}
-use Rattle.std.proofs.lemmas.List.Elements.{All-take}
+use Rattle.std.proofs.lemmas.List.{append-nil, length-take-le}
 use Rattle.std.proofs.Math.Nat.{div-add-mod, le_of_mul-le-mul_left, mod-lt, mul-div_right, mul-le-mul_left, mul-mod_right}
 use Rattle.std.proofs.lemmas.Bool.{cases_lt}
-use Rattle.las_header.specs.Fields.{record_length_of}
 use Rattle.las_filter.specs.Kept.{Steps}
 use Rattle.las_info.specs.Tallies.{TapSeen}
 use Rattle.las_thin.specs.Placed.{Placed}
@@ -15,16 +13,15 @@ use Rattle.las_outside.specs.Outside.{Outside}
 use Rattle.las_outside.specs.Files.{FileMap}
 use Rattle.laz_file.specs.Copying.{CanTake, HoldFirst, LeavesPart, Takes}
 use Rattle.laz_forms.specs.Outputs.{Output}
-use Rattle.laz_forms.specs.Pieces.{Piece}
 use Rattle.laz_reader.specs.Reading.{ReaderSeen, records_in}
 use Rattle.laz_writer.specs.Writing.{Stands, WriterSeen}
 use Rattle.laz_forms.proofs.Public.{concat-append, whole_both}
 use Rattle.laz_writer.proofs.Public.{cut-append}
-use Rattle.laz_file.proofs.Public.{HasRead, ReadsMore, concat_more, concat_rest, even_for, even_whole, length_whole, read_more, records-append, part_stands, part_then, takes_none, takes_read, takes_then}
+use Rattle.laz_file.proofs.Public.{even_for, part_stands, part_then, takes_none, takes_read, takes_then}
 use Rattle.las_convert.specs.Adding.{Adds, Goes, HaveCounted, IsAfter, Keeping, LeavesKept, cut_all}
 use Rattle.las_convert.proofs.Cuts.{length_cut}
 use Rattle.las_convert.proofs.Shown.{counted_more, cut_none, seen_by, shown_none, shown_then}
-use Rattle.las_convert.proofs.Adding.{IsKeeping, adds_more, adds_none, adds_then}
+use Rattle.las_convert.proofs.Adding.{adds_none, adds_then}
 
 -- ---- whole records
 
@@ -32,9 +29,6 @@ pub even_all : (size : ℕ) (blocks : List (List ℕ)) → All (λ block. length
 even_all size [] all = ap (λ (n : ℕ). n % size) (let e : 0 ≡ size * 0 = omega arith in e) ∙ mul-mod_right size 0
 even_all size (b ∷ blocks) all =
     ap (λ (n : ℕ). n % size) (length-append b (concat blocks)) ∙ whole_both size (length b) (length (concat blocks)) (all 0 [] (omega arith)) (even_all size blocks (λ k d lt. all (suc k) d (omega (arith, lt))))
-
-pub even_first : (size n : ℕ) (blocks : List (List ℕ)) → All (λ block. length block % size ≡ 0) blocks → length (concat (take n blocks)) % size ≡ 0
-even_first size n blocks all = even_all size (take n blocks) (All-take (λ (block : List ℕ). length block % size ≡ 0) n blocks all)
 
 -- ---- what goes into a writer, some after others
 
@@ -72,18 +66,6 @@ module _ (keeping : Keeping) (past : List (List ℕ)) (size : ℕ) (some : 0 < s
         shown = subst (λ (t : List ℕ). last ≡ seen_by size t taps) (sym both) (shown_then size (concat one.ones) (concat two.ones) taps seen last some whole one.shown two.shown);
       }
 
-  -- after a record that is refused no other is kept
-  pub goes_more : {taps seen : List TapSeen} → IsKeeping keeping → (xs ys : List ℕ) (old new : Outside) (w v : WriterSeen) (n : ℕ) → length xs % size ≡ 0 → Goes keeping past size xs old new w v taps seen n true → Goes keeping past size (xs ++ ys) old new w v taps seen n true
-  goes_more keeps xs ys old new w v n even g = record {
-    ones = g.ones;
-    adds = subst (λ (rs : List (List ℕ)). Adds keeping past rs g.ones true) (sym (cut-append size xs ys some even)) (adds_more keeping keeps past (cut_all size xs) (cut_all size ys) g.ones g.adds);
-    count_is = g.count_is;
-    bytes = g.bytes;
-    less = omega (arith, g.less, length-append xs ys);
-    takes = g.takes;
-    shown = g.shown;
-  }
-
   -- what a failed call leaves
   pub leaves_then : {taps seen : List TapSeen} (xs ys : List ℕ) (old mid new : Outside) (w v : WriterSeen) (m : ℕ) → length xs % size ≡ 0 → Goes keeping past size xs old mid w v taps seen m false → LeavesKept keeping (past ++ cut_all size xs) size ys mid new v → LeavesKept keeping past size (xs ++ ys) old new w
   leaves_then xs ys old mid new w v m even one two = record {
@@ -110,17 +92,6 @@ module _ (keeping : Keeping) (past : List (List ℕ)) (size : ℕ) (some : 0 < s
   pub leaves_now : {taps seen : List TapSeen} (xs : List ℕ) (old now later : Outside) (w v : WriterSeen) (m : ℕ) → length xs % size ≡ 0 → later.held ≡ now.held → Goes keeping past size xs old now w v taps seen m false → LeavesKept keeping past size xs old later w
   leaves_now xs old now later w v m even held g =
       subst (λ (t : List ℕ). LeavesKept keeping past size t old later w) (append-nil xs) (leaves_goes xs [] old now later w v m even held g)
-
-  pub leaves_more : (xs ys : List ℕ) (old new : Outside) (w : WriterSeen) → length xs % size ≡ 0 → LeavesKept keeping past size xs old new w → LeavesKept keeping past size (xs ++ ys) old new w
-  leaves_more xs ys old new w even l = record {
-    first = l.first;
-    rest = l.rest ++ cut_all size ys;
-    ones = l.ones;
-    refused = l.refused;
-    split = cut-append size xs ys some even ∙ ap (λ (rs : List (List ℕ)). rs ++ cut_all size ys) l.split ∙ append_assoc l.first l.rest (cut_all size ys);
-    adds = l.adds;
-    part = l.part;
-  }
 
 -- how many records bytes are
 pub count_is : (size : ℕ) (bytes : List ℕ) → length (cut_all size bytes) ≡ length bytes / size
@@ -195,66 +166,7 @@ leaves_none keeping past size block now w = record {
   part = part_stands now now now w w [] refl (takes_none now w);
 }
 
--- ---- the blocks of a batch
-
-module _ (size : ℕ) (some : 0 < size) (blocks : List (List ℕ)) (all : All (λ block. length block % size ≡ 0) blocks) (i : ℕ) (within : i < length blocks) where
-  pub even_so_far : length (concat (take i blocks)) % size ≡ 0
-  even_so_far = even_first size i blocks all
-
-  pub even_here : length (get_or blocks i []) % size ≡ 0
-  even_here = all i [] within
-
-  pub goes_block : {taps seen last : List TapSeen} (keeping : Keeping) (past : List (List ℕ)) (old mid new : Outside) (w v u : WriterSeen) (m n : ℕ) (refused : Bool) (block : List ℕ) → block ≡ get_or blocks i [] → Goes keeping past size (concat (take i blocks)) old mid w v taps seen m false → Goes keeping (past ++ cut_all size (concat (take i blocks))) size block mid new v u seen last n refused
-      → Goes keeping past size (concat (take (i + 1) blocks)) old new w u taps last (m + n) refused
-  goes_block {taps} {seen} {last} keeping past old mid new w v u m n refused block is one two =
-      subst (λ (t : List ℕ). Goes keeping past size t old new w u taps last (m + n) refused) (ap (λ (b : List ℕ). concat (take i blocks) ++ b) is ∙ sym (concat_more blocks i within))
-      (goes_then keeping past size some (concat (take i blocks)) block old mid new w v u m n refused even_so_far one two)
-
-  pub goes_end : {taps seen : List TapSeen} (keeping : Keeping) → IsKeeping keeping → (past : List (List ℕ)) (old new : Outside) (w u : WriterSeen) (n : ℕ) → Goes keeping past size (concat (take (i + 1) blocks)) old new w u taps seen n true → Goes keeping past size (concat blocks) old new w u taps seen n true
-  goes_end {taps} {seen} keeping keeps past old new w u n g =
-      subst (λ (t : List ℕ). Goes keeping past size t old new w u taps seen n true) (sym (concat_rest blocks (i + 1)))
-      (goes_more keeping past size some keeps (concat (take (i + 1) blocks)) (concat (drop (i + 1) blocks)) old new w u n (even_first size (i + 1) blocks all) g)
-
-  pub leaves_block : {taps seen : List TapSeen} (keeping : Keeping) (past : List (List ℕ)) (old mid new : Outside) (w v : WriterSeen) (m : ℕ) (block : List ℕ) → block ≡ get_or blocks i [] → Goes keeping past size (concat (take i blocks)) old mid w v taps seen m false → LeavesKept keeping (past ++ cut_all size (concat (take i blocks))) size block mid new v → LeavesKept keeping past size (concat blocks) old new w
-  leaves_block keeping past old mid new w v m block is one two =
-      subst (λ (t : List ℕ). LeavesKept keeping past size t old new w) (sym (concat_rest blocks (i + 1)))
-      (leaves_more keeping past size some (concat (take (i + 1) blocks)) (concat (drop (i + 1) blocks)) old new w (even_first size (i + 1) blocks all)
-      (subst (λ (t : List ℕ). LeavesKept keeping past size t old new w) (ap (λ (b : List ℕ). concat (take i blocks) ++ b) is ∙ sym (concat_more blocks i within))
-      (leaves_then keeping past size some (concat (take i blocks)) block old mid new w v m even_so_far one two)))
-
-  pub leaves_before : {taps seen : List TapSeen} (keeping : Keeping) (past : List (List ℕ)) (old mid : Outside) (w v : WriterSeen) (m : ℕ) → Goes keeping past size (concat (take i blocks)) old mid w v taps seen m false → LeavesKept keeping past size (concat blocks) old mid w
-  leaves_before keeping past old mid w v m g =
-      subst (λ (t : List ℕ). LeavesKept keeping past size t old mid w) (sym (concat_rest blocks i))
-      (leaves_goes keeping past size some (concat (take i blocks)) (concat (drop i blocks)) old mid mid w v m even_so_far refl g)
-
-  -- the records of the batch up to the block, and with it
-  pub records_block : (past : List (List ℕ)) (block : List ℕ) → block ≡ get_or blocks i [] → (past ++ cut_all size (concat (take i blocks))) ++ cut_all size block ≡ past ++ cut_all size (concat (take (i + 1) blocks))
-  records_block past block is =
-      append_assoc past (cut_all size (concat (take i blocks))) (cut_all size block)
-      ∙ ap (λ (rs : List (List ℕ)). past ++ rs)
-      (sym (cut-append size (concat (take i blocks)) block some even_so_far)
-      ∙ ap (cut_all size) (ap (λ (b : List ℕ). concat (take i blocks) ++ b) is ∙ sym (concat_more blocks i within)))
-
-  pub count_block : (block : List ℕ) → block ≡ get_or blocks i [] → length (concat (take i blocks)) / size + length block / size ≤ length (concat blocks) / size
-  count_block block is =
-      let one = ap (λ (rs : List (List ℕ)). length rs) (records_block [] block is) in
-      let here = length-append (cut_all size (concat (take i blocks))) (cut_all size block) in
-      let rest = ap (λ (b : List ℕ). length (cut_all size b)) (concat_rest blocks (i + 1))
-      ∙ ap (λ (rs : List (List ℕ)). length rs) (cut-append size (concat (take (i + 1) blocks)) (concat (drop (i + 1) blocks)) some (even_first size (i + 1) blocks all))
-      ∙ length-append (cut_all size (concat (take (i + 1) blocks))) (cut_all size (concat (drop (i + 1) blocks))) in
-      omega (arith, one, here, rest, count_is size (concat (take i blocks)), count_is size block, count_is size (concat blocks))
-
-  -- there is room for the block
-  pub room_kept : {taps seen : List TapSeen} (keeping : Keeping) (past : List (List ℕ)) (old mid : Outside) (w v : WriterSeen) (m : ℕ) (before : Outside) (out : Output) (bytes : List ℕ) → Stands before old w out bytes → Goes keeping past size (concat (take i blocks)) old mid w v taps seen m false → w.taken + length (concat blocks) ≤ w.size * w.most → v.most ≡ w.most
-      → (v.size ≡ w.size) × (v.taken + length (get_or blocks i []) ≤ v.size * v.most)
-  room_kept keeping past old mid w v m before out bytes s g room most =
-      let t = g.takes before out bytes s in
-      let size_is : v.size ≡ w.size = t.size ∙ sym s.size in
-      let taken : v.taken ≡ w.taken + length (concat g.ones) = t.taken ∙ length-append bytes (concat g.ones) ∙ ap (λ (n : ℕ). n + length (concat g.ones)) (sym s.taken) in
-      let whole : length (concat blocks) ≡ length (concat (take (i + 1) blocks)) + length (concat (drop (i + 1) blocks)) = ap (λ (x : List ℕ). length x) (concat_rest blocks (i + 1)) ∙ length-append (concat (take (i + 1) blocks)) (concat (drop (i + 1) blocks)) in
-      let one : length (concat (take (i + 1) blocks)) ≡ length (concat (take i blocks)) + length (get_or blocks i []) = ap (λ (x : List ℕ). length x) (concat_more blocks i within) ∙ length-append (concat (take i blocks)) (get_or blocks i []) in
-      let limit : v.size * v.most ≡ w.size * w.most = ap (λ (n : ℕ). n * v.most) size_is ∙ ap (λ (n : ℕ). w.size * n) most in
-      (size_is, omega (arith, taken, whole, one, limit, room, g.less))
+-- ---- some blocks
 
 -- fewer records are kept than a number of 32 bits has values
 pub few_kept : {taps seen : List TapSeen} (keeping : Keeping) (past : List (List ℕ)) (size : ℕ) (records : List ℕ) (old now : Outside) (w v : WriterSeen) (n : ℕ) (refused : Bool) (before : Outside) (out : Output) (bytes : List ℕ) → 0 < size → w.size ≡ size → Stands before old w out bytes → Goes keeping past size records old now w v taps seen n refused → n < 2 ^ 32
@@ -264,25 +176,6 @@ few_kept keeping past size records old now w v n refused before out bytes some s
     let total : length (bytes ++ concat g.ones) ≤ size * v.most = subst (λ (k : ℕ). length (bytes ++ concat g.ones) ≤ k * v.most) (sym t.size ∙ wide) t.within in
     let less : size * length g.ones ≤ size * v.most = omega (arith, total, length-append bytes (concat g.ones), g.bytes) in
     omega (arith, le_of_mul-le-mul_left less some, t.few, g.count_is)
-
--- ---- batches of a reader
-
--- there is room for what comes after a batch
-pub room_going : {taps seen : List TapSeen} (keeping : Keeping) (past : List (List ℕ)) (old new : Outside) (reader next : ReaderSeen) (held : Option FileMap) (v u : WriterSeen) (m count : ℕ) (refused : Bool) (ys : List (List ℕ)) (before : Outside) (out : Output) (bytes : List ℕ) → Stands before old v out bytes → CanTake reader v
-    → ReadsMore held reader next m ys → Goes keeping past v.size (concat ys) old new v u taps seen count refused → u.most ≡ v.most → u.failed ≡ false → CanTake next u
-room_going keeping past old new reader next held v u m count refused ys before out bytes s can more g most sound =
-    let after = g.takes before out bytes s in
-    let size : u.size ≡ v.size = after.size ∙ sym s.size in
-    let all : records_in reader.left ≡ records_in (take m reader.left) + records_in next.left =
-    ap records_in (sym (take-append-drop m reader.left)) ∙ records-append (take m reader.left) (drop m reader.left) ∙ ap (λ (ps : List Piece). records_in (take m reader.left) + records_in ps) (sym (ap (λ (x : ReaderSeen). x.left) more.moved)) in
-    let length_is : length (concat ys) ≡ v.size * records_in (take m reader.left) = length_whole (record_length_of reader.head.bytes) (take m reader.left) ys more.whole ∙ ap (λ (n : ℕ). n * records_in (take m reader.left)) (sym can.size) in
-    let taken : u.taken ≡ v.taken + length (concat g.ones) = after.taken ∙ length-append bytes (concat g.ones) ∙ ap (λ (n : ℕ). n + length (concat g.ones)) (sym s.taken) in
-    let room : u.taken + v.size * records_in next.left ≤ v.size * v.most = omega (arith, can.room, length_is, taken, g.less, ap (λ (n : ℕ). v.size * n) all) in
-    record {
-      sound = sound;
-      size = size ∙ can.size ∙ sym (ap (λ (x : ReaderSeen). record_length_of x.head.bytes) more.moved);
-      room = subst (λ (n : ℕ). u.taken + n * records_in next.left ≤ n * u.most) (sym size) (subst (λ (k : ℕ). u.taken + v.size * records_in next.left ≤ v.size * k) (sym most) room);
-    }
 
 -- the blocks that were read are whole records
 pub even_read : (held : Option FileMap) (first : ReaderSeen) (w : WriterSeen) (n : ℕ) (blocks : List (List ℕ)) → CanTake first w → HoldFirst held first n blocks → length (concat blocks) % w.size ≡ 0
@@ -294,20 +187,3 @@ pub few_left : (first : ReaderSeen) (w : WriterSeen) → 0 < w.size → CanTake 
 few_left first w some can few =
     let less : w.size * records_in first.left ≤ w.size * w.most = omega (arith, can.room) in
     omega (arith, le_of_mul-le-mul_left less some, few)
-
--- how many were read with a batch
-pub few_batch : (held : Option FileMap) (first reader next : ReaderSeen) (size n m : ℕ) (xs ys : List (List ℕ)) → 0 < size → size ≡ record_length_of first.head.bytes → HasRead held first reader n xs → ReadsMore held reader next m ys → records_in first.left < 2 ^ 32
-    → length (cut_all size (concat xs)) + length (concat ys) / size < 2 ^ 32
-few_batch held first reader next size n m xs ys some is r s less =
-    let both = read_more held first reader next n m xs ys r s in
-    let k = records_in (take (n + m) first.left) in
-    let whole : length (concat (xs ++ ys)) ≡ size * k = length_whole (record_length_of first.head.bytes) (take (n + m) first.left) (xs ++ ys) both.hold.whole ∙ ap (λ (z : ℕ). z * k) (sym is) in
-    let few : k ≤ records_in first.left = omega (arith, ap records_in (take-append-drop (n + m) first.left), records-append (take (n + m) first.left) (drop (n + m) first.left)) in
-    let even = subst (λ (z : ℕ). All (λ block. length block % z ≡ 0) xs) (sym is) (even_whole (record_length_of first.head.bytes) (take n first.left) xs r.hold.whole) in
-    let cut = ap (λ (b : List ℕ). length (cut_all size b)) (concat-append xs ys) ∙ ap (λ (rs : List (List ℕ)). length rs) (cut-append size (concat xs) (concat ys) some (even_all size xs even)) ∙ length-append (cut_all size (concat xs)) (cut_all size (concat ys)) in
-    let total : length (concat (xs ++ ys)) / size ≡ k = ap (λ (z : ℕ). z / size) whole ∙ mul-div_right k some in
-    omega (arith, cut, total, few, less, count_is size (concat (xs ++ ys)), count_is size (concat ys))
-
--- the records of the blocks that were read before and of those of a batch
-pub records_batch : (size : ℕ) (xs ys : List (List ℕ)) → 0 < size → length (concat xs) % size ≡ 0 → cut_all size (concat xs) ++ cut_all size (concat ys) ≡ cut_all size (concat (xs ++ ys))
-records_batch size xs ys some even = sym (ap (cut_all size) (concat-append xs ys) ∙ cut-append size (concat xs) (concat ys) some even)

@@ -1,6 +1,6 @@
 -- Records that are kept, some after others, and that a writer takes and taps see.
-use Rattle.std.specs.Prelude.{◌≡◌, ℕ, ◌+◌, ◌*◌, ◌/◌, ◌%◌, ◌^◌, ◌≤◌, Bool, true, false, if◌then◌else◌, List, []}
-use Rattle.std.specs.Prelude.{◌++◌, length, map, All, Option, Some, None}
+use Rattle.std.specs.Prelude.{◌≡◌, ℕ, ◌+◌, ◌*◌, ◌/◌, ◌^◌, ◌≤◌, Bool, true, false, if◌then◌else◌, List, []}
+use Rattle.std.specs.Prelude.{◌++◌, length, map, take, All, Option, Some, None}
 use Rattle.std.specs.List.{concat}
 use Rattle.las_header.specs.declared.refusal.Refusal.{Refusal}
 use Rattle.las_header.specs.declared.refusal.Refusal.TheVariants.{RawRange}
@@ -14,10 +14,9 @@ use Rattle.las_thin.specs.Placed.{Placed}
 use Rattle.las_thin.specs.Sieving.{Settings, Sieving, all_pass, picks_first, stays}
 use Rattle.las_thin.specs.Sieving as sieve
 use Rattle.laz_file.specs.Copying.{EndsAfter, HoldFirst, LeavesPart, Takes}
-use Rattle.laz_chunk.specs.Layouts.{Format}
-use Rattle.laz_reader.specs.Reading.{Lends, ReaderSeen}
+use Rattle.laz_reader.specs.Reading.{ReaderSeen}
 use Rattle.laz_writer.specs.Writing.{WriterSeen}
-use Rattle.laz_workers.specs.Rooms.{HandSeen}
+use Rattle.las_convert.specs.declared.keeping.Part.{Part}
 
 -- what is kept of a list of records
 abbrev pub Keeping : Type 0
@@ -47,6 +46,13 @@ AddsAlways plan records ones refused = (before : List (List ℕ)) → Adds (kept
 abbrev pub cut_all : (size : ℕ) → List ℕ → List (List ℕ)
 cut_all size bytes = cut_records size (length bytes / size) bytes
 
+-- The front of a buffer has these records of a block, up to the first that is refused, if there is one.
+abbrev pub HoldsKept : (Are : (ones : List (List ℕ)) → (refused : Bool) → Type 0) → (buffer : List ℕ) → (size : ℕ)
+    → Part → Type 0
+HoldsKept Are buffer size part =
+    (ones : List (List ℕ)) × (take part.length buffer ≡ concat ones) × (part.length ≡ size * length ones)
+    × Are ones part.refused
+
 -- Each record is written as it was read, and no tap sees it: there is no filter and no change, every record passes the
 -- sieve, and there is no tap.
 pub record ChangesNothing {Tap : Type 0} (plan : Steps) (settings : Settings) (taps : List Tap) : Type 0 where
@@ -54,6 +60,13 @@ pub record ChangesNothing {Tap : Type 0} (plan : Steps) (settings : Settings) (t
   pub no_change : plan.changes ≡ []
   pub all_pass_it : settings ≡ all_pass
   pub no_tap : taps ≡ []
+
+-- P of each list of records that a sieve can have looked at, and of each that may have come by it: so many.
+abbrev pub OfSieve : Steps → Sieving → (place : ℕ) → (P : (looked : List Placed) → (before : List (List ℕ)) → Type 0)
+    → Type 0
+OfSieve plan sieving place P =
+    (looked : List Placed) (before : List (List ℕ)) → length before ≡ place
+    → sieve.StandsFor looked (passing plan before) sieving → P looked before
 
 -- A sieve has looked at these records, and was asked for those of some records that pass the filters; if all records
 -- pass it, it need not be asked. `read` is the number of these records.
@@ -70,6 +83,12 @@ AfterSome plan sieving read =
 abbrev pub BeforeAll : Steps → Sieving → (read : ℕ) → Type 0
 BeforeAll plan sieving read = (looked : List Placed) × IsAfter plan looked [] sieving read
 
+-- P of each list of records that a sieve can have looked at, and of each that may have come by it, or by no sieve.
+abbrev pub OfAfter : Steps → Sieving → (read : ℕ) → (P : (looked : List Placed) → (before : List (List ℕ)) → Type 0)
+    → Type 0
+OfAfter plan sieving read P =
+    (looked : List Placed) (before : List (List ℕ)) → IsAfter plan looked before sieving read → P looked before
+
 -- What is kept by the sieve after any records that may have passed by it, and after none, is such.
 abbrev pub AfterAny : Steps → Sieving → (read : ℕ) → (Keeping → (before : List (List ℕ)) → Type 0) → Type 0
 AfterAny plan sieving read Is = (looked : List Placed) (before : List (List ℕ))
@@ -78,13 +97,6 @@ AfterAny plan sieving read Is = (looked : List Placed) (before : List (List ℕ)
 abbrev pub AfterNone : Steps → Sieving → (read : ℕ) → (Keeping → Type 0) → Type 0
 AfterNone plan sieving read Is = (looked : List Placed)
     → IsAfter plan looked [] sieving read → Is (kept_by sieving.settings looked plan)
-
--- A reader and its crew lend these blocks. `count` is their number, and each has whole records.
-pub record IsLent (reader : ReaderSeen) (crew : List (HandSeen Format)) (size count : ℕ) (blocks : List (List ℕ))
-    : Type 0 where
-  pub lends : Lends reader crew blocks
-  pub count_is : length blocks ≡ count
-  pub whole : All (λ block. length block % size ≡ 0) blocks
 
 -- No tap has counted more in a bin than 2^63 and one for each of some records.
 abbrev pub HaveCounted : (records : ℕ) → List TapSeen → Type 0

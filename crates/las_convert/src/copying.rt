@@ -1,7 +1,6 @@
 //! Records that go from a reader into a writer: filtered, thinned, changed, and shown to taps.
 ghost use Rattle.std.specs.Prelude.{◌≡◌, ◌≢◌, ◌%◌, ◌*◌, ◌+◌, ◌/◌, ◌^◌, ◌≤◌, ◌<◌, ◌++◌, ℕ, List};
 ghost use Rattle.std.specs.Prelude.{All, IfErr, IfOk, OnErr, OnOk, false, length, map};
-ghost use Rattle.std.specs.List.{concat};
 ghost use Rattle.las_filter.specs.Changes.{HasClass};
 ghost use Rattle.las_filter.specs.Kept.{steps_of};
 ghost use Rattle.las_outside.specs.Files.{WhereKnown};
@@ -13,15 +12,14 @@ ghost use Rattle.laz_reader.specs.Asking.{ReadsAndWrites, bytes_left};
 ghost use Rattle.laz_reader.specs.Reading.{IsCrewOf, StandsFor};
 ghost use Rattle.laz_writer.specs.Writing.{IsBegun};
 ghost use Rattle.las_convert.specs.Adding.{AfterAny, AfterNone, AfterSome, BeforeAll, Goes, GoesToEnd, HaveCounted};
-ghost use Rattle.las_convert.specs.Adding.{IsAfter, IsLent, LeavesKeeping, LeavesKept, cut_all};
+ghost use Rattle.las_convert.specs.Adding.{IsAfter, LeavesKeeping, LeavesKept, cut_all};
 
-use crate::batch::Batch;
 use crate::passage::Passage;
 use las_filter::Plan;
 use las_header::{POINT_RECORD, Refusal};
 use las_outside::{Files, Gate};
 use laz_chunk::Workspace;
-use laz_file::{Fault, Reader, Writer, copy_records};
+use laz_file::{Fault, Reader, Turn, Writer, copy_records};
 use laz_workers::{Crew, Machine};
 use std::thread::Threads;
 
@@ -86,71 +84,10 @@ fn push_kept<R: Threads + Sync, F: Files, G: Gate>(
     })
 }
 
-// Filters, thins, changes, pushes and shows the records of a batch, in order, up to the first whose change is refused.
-fn push_batch<R: Threads + Sync, F: Files, G: Gate>(
-    machine: Machine<'_, R, G>,
-    files: &mut F,
-    plan: &Plan,
-    size: usize,
-    batch: &Batch<'_>,
-    passage: &mut Passage,
-    writer: &mut Writer,
-) -> Result<Taken, Fault>
-    requires size { POINT_RECORD ≤ size }
-    requires classes { All HasClass plan.now.changes.items }
-    requires lent { (blocks : List (List ℕ))
-        × IsLent batch.now.reader.now batch.now.crew.now size batch.now.count blocks
-        × (writer.old.taken + length (concat blocks) ≤ writer.old.size * writer.old.most)
-        × (passage.old.read + length (concat blocks) / size < 2 ^ 32) }
-    requires after { AfterSome (steps_of plan.now) passage.old.sieve passage.old.read }
-    requires counted { HaveCounted passage.old.read (map (λ tap. tap_seen tap) passage.old.taps.items) }
-    requires open { writer.old.failed ≡ false }
-    requires same { writer.old.size ≡ size }
-    requires stands { IsBegun (F.seen files.old) writer.old }
-    ensures goes { let taps = map (λ tap. tap_seen tap) passage.old.taps.items in
-        let seen = map (λ tap. tap_seen tap) passage.new.taps.items in
-        AfterAny (steps_of plan.now) passage.old.sieve passage.old.read (λ keeping before. (blocks : List (List ℕ))
-        → IsLent batch.now.reader.now batch.now.crew.now size batch.now.count blocks → IfOk result (λ taken.
-        Goes keeping before size (concat blocks) (F.seen files.old) (F.seen files.new) writer.old writer.new taps seen
-        taken.kept taken.refused)) }
-    ensures after { (looked : List Placed) (before blocks : List (List ℕ))
-        → IsAfter (steps_of plan.now) looked before passage.old.sieve passage.old.read
-        → IsLent batch.now.reader.now batch.now.crew.now size batch.now.count blocks
-        → IfOk result (λ taken. taken.refused ≡ false → IsAfter (steps_of plan.now) looked
-        (before ++ cut_all size (concat blocks)) passage.new.sieve passage.new.read) }
-    ensures left { AfterAny (steps_of plan.now) passage.old.sieve passage.old.read (λ keeping before.
-        (blocks : List (List ℕ)) → IsLent batch.now.reader.now batch.now.crew.now size batch.now.count blocks
-        → OnErr result (LeavesKept keeping before size (concat blocks) (F.seen files.old) (F.seen files.new)
-        writer.old)) }
-    ensures settings { passage.new.sieve.settings ≡ passage.old.sieve.settings }
-    ensures most { writer.new.most ≡ writer.old.most }
-    ensures open { OnOk result (writer.new.failed ≡ false) }
-    ensures cause { IfErr result (HasCause (F.seen files.old) (F.seen files.new)) }
-    ensures calm { OnOk result (IsCalm (F.seen files.old) (F.seen files.new)) }
-    ensures writes { OnlyWrites (F.seen files.old) (F.seen files.new) }
-{
-    let mut kept = 0;
-    for i in 0..batch.count {
-        let block = batch.reader.block(batch.crew, i);
-        let taken = push_kept(machine, files, plan, size, block, passage, writer)?;
-        kept += taken.kept;
-        if taken.refused {
-            return Ok(Taken {
-                kept,
-                refused: true,
-            });
-        }
-    }
-    Ok(Taken {
-        kept,
-        refused: false,
-    })
-}
-
-// Copies the records that a plan keeps and a sieve lets pass, changed, from a reader into a writer, batch by batch: up
+// Copies the records that a plan keeps and a sieve lets pass, changed, from a reader into a writer, block by block: up
 // to the end of the records, or up to the first bad chunk or the first record whose change is refused, which is the
 // answer. The taps see what is written.
-fn convert_batches<R: Threads + Sync, F: Files, G: Gate>(
+fn convert_blocks<R: Threads + Sync, F: Files, G: Gate>(
     machine: Machine<'_, R, G>,
     files: &mut F,
     plan: &Plan,
@@ -180,21 +117,18 @@ fn convert_batches<R: Threads + Sync, F: Files, G: Gate>(
     ensures frame { ReadsAndWrites (bytes_left reader.old) (F.seen files.old) (F.seen files.new) }
 {
     let size = usize::from(reader.head().record_length());
+    let mut turn = Turn::first();
     let mut kept = 0;
-    'batches: loop {
-        let count = match reader.next_batch(machine.rt, machine.alloc, files, machine.gate, crew) {
-            Ok(count) => count,
+    'turns: loop {
+        let next = match reader.next_block(&machine, files, crew, &mut turn) {
+            Ok(next) => next,
             Err(fault) => return fault.into_end(),
         };
-        if count == 0 {
+        let Some(number) = next else {
             return Ok(None);
-        }
-        let batch = Batch {
-            reader,
-            crew,
-            count,
         };
-        let taken = push_batch(machine, files, plan, size, &batch, passage, writer)?;
+        let block = reader.block(crew, number);
+        let taken = push_kept(machine, files, plan, size, block, passage, writer)?;
         kept += taken.kept;
         if taken.refused {
             return Ok(Some(Refusal::RawRange(kept)));
@@ -245,5 +179,5 @@ pub(crate) fn convert_records<R: Threads + Sync, F: Files, G: Gate>(
             writer,
         );
     }
-    convert_batches(machine, files, plan, reader, crew, passage, writer)
+    convert_blocks(machine, files, plan, reader, crew, passage, writer)
 }

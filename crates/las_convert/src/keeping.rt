@@ -1,14 +1,13 @@
 //! The records of one block that are kept.
-ghost use Rattle.std.specs.Prelude.{◌≡◌, ◌↔◌, ◌+◌, ◌*◌, ◌/◌, ◌%◌, ◌^◌, ◌≤◌, ◌<◌, ◌++◌, ◌∷◌, [], ℕ, List};
-ghost use Rattle.std.specs.Prelude.{All, IfOk, IsErr, OnOk, None, Some, false, length, take};
-ghost use Rattle.std.specs.List.{concat};
+ghost use Rattle.std.specs.Prelude.{◌≡◌, ◌↔◌, ◌+◌, ◌/◌, ◌%◌, ◌^◌, ◌≤◌, ◌<◌, ◌++◌, ◌∷◌, [], ℕ, List};
+ghost use Rattle.std.specs.Prelude.{All, IfOk, IsErr, OnOk, None, Some, false, length};
 ghost use Rattle.las_filter.specs.Changes.{HasClass, changed};
 ghost use Rattle.las_filter.specs.Kept.{steps_of};
 ghost use Rattle.las_thin.specs.Kept.{passing};
 ghost use Rattle.las_thin.specs.Placed.{Placed};
 ghost use Rattle.las_thin.specs.Sieving.{StandsFor};
-ghost use Rattle.las_convert.specs.Adding.{Adds, AddsAlways, AfterAny, AfterSome, IsAfter, cut_all};
-ghost use Rattle.las_convert.specs.Adding.{kept_by};
+ghost use Rattle.las_convert.specs.Adding.{Adds, AddsAlways, AfterAny, AfterSome, HoldsKept, IsAfter, OfAfter, OfSieve};
+ghost use Rattle.las_convert.specs.Adding.{cut_all, kept_by};
 ghost use Rattle.las_convert.specs.Passing.{passes_after};
 
 use las_filter::{Plan, RawRange};
@@ -45,9 +44,7 @@ fn keep_sized(plan: &Plan, size: usize, block: &[u8], buffer: &mut [u8]) -> Part
     requires room { length block.now ≤ length buffer.old }
     requires classes { All HasClass plan.now.changes.items }
     ensures within { result.length ≤ length block.now }
-    ensures kept { (ones : List (List ℕ)) × (take result.length buffer.new ≡ concat ones)
-        × (result.length ≡ size * length ones)
-        × AddsAlways (steps_of plan.now) (cut_all size block.now) ones result.refused }
+    ensures kept { HoldsKept (AddsAlways (steps_of plan.now) (cut_all size block.now)) buffer.new size result }
 {
     let mut rest = block;
     let mut at = 0;
@@ -79,9 +76,7 @@ fn keep_plain(plan: &Plan, size: usize, block: &[u8], buffer: &mut [u8]) -> Part
     requires room { length block.now ≤ length buffer.old }
     requires classes { All HasClass plan.now.changes.items }
     ensures within { result.length ≤ length block.now }
-    ensures kept { (ones : List (List ℕ)) × (take result.length buffer.new ≡ concat ones)
-        × (result.length ≡ size * length ones)
-        × AddsAlways (steps_of plan.now) (cut_all size block.now) ones result.refused }
+    ensures kept { HoldsKept (AddsAlways (steps_of plan.now) (cut_all size block.now)) buffer.new size result }
 {
     match size {
         20 => keep_sized(plan, 20, block, buffer),
@@ -99,12 +94,10 @@ fn passes(plan: &Plan, sieve: &mut Sieve, place: u64, point: &[u8]) -> Result<bo
     requires asked { (looked : List Placed) × (before : List (List ℕ)) × (length before ≡ place)
         × StandsFor looked (passing (steps_of plan.now) before) sieve.old }
     ensures settings { sieve.new.settings ≡ sieve.old.settings }
-    ensures answer { (looked : List Placed) (before : List (List ℕ)) → length before ≡ place
-        → StandsFor looked (passing (steps_of plan.now) before) sieve.old
-        → IfOk result (λ passes. passes ≡ passes_after sieve.old.settings looked (steps_of plan.now) before point.now) }
-    ensures stands { (looked : List Placed) (before : List (List ℕ)) → length before ≡ place
-        → StandsFor looked (passing (steps_of plan.now) before) sieve.old
-        → OnOk result (StandsFor looked (passing (steps_of plan.now) (before ++ point.now ∷ [])) sieve.new) }
+    ensures answer { OfSieve (steps_of plan.now) sieve.old place (λ looked before. IfOk result
+        (λ passes. passes ≡ passes_after sieve.old.settings looked (steps_of plan.now) before point.now)) }
+    ensures stands { OfSieve (steps_of plan.now) sieve.old place (λ looked before. OnOk result
+        (StandsFor looked (passing (steps_of plan.now) (before ++ point.now ∷ [])) sieve.new)) }
 {
     if plan.keeps(point) {
         return sieve.passes(place, point);
@@ -131,16 +124,12 @@ fn keep_sifted(
         × StandsFor looked (passing (steps_of plan.now) before) sieve.old }
     ensures settings { sieve.new.settings ≡ sieve.old.settings }
     ensures within { IfOk result (λ part. part.length ≤ length block.now) }
-    ensures kept { (looked : List Placed) (before : List (List ℕ)) → length before ≡ read
-        → StandsFor looked (passing (steps_of plan.now) before) sieve.old
-        → IfOk result (λ part. (ones : List (List ℕ)) × (take part.length buffer.new ≡ concat ones)
-        × (part.length ≡ size * length ones)
-        × Adds (kept_by sieve.old.settings looked (steps_of plan.now)) before (cut_all size block.now) ones
-        part.refused) }
-    ensures stands { (looked : List Placed) (before : List (List ℕ)) → length before ≡ read
-        → StandsFor looked (passing (steps_of plan.now) before) sieve.old
-        → IfOk result (λ part. part.refused ≡ false
-        → StandsFor looked (passing (steps_of plan.now) (before ++ cut_all size block.now)) sieve.new) }
+    ensures kept { OfSieve (steps_of plan.now) sieve.old read (λ looked before. IfOk result (HoldsKept
+        (Adds (kept_by sieve.old.settings looked (steps_of plan.now)) before (cut_all size block.now)) buffer.new
+        size)) }
+    ensures stands { OfSieve (steps_of plan.now) sieve.old read (λ looked before. IfOk result (λ part.
+        part.refused ≡ false
+        → StandsFor looked (passing (steps_of plan.now) (before ++ cut_all size block.now)) sieve.new)) }
 {
     let mut rest = block;
     let mut at = 0;
@@ -186,13 +175,11 @@ pub(crate) fn keep_records(
     requires after { AfterSome (steps_of plan.now) sieve.old read }
     ensures settings { sieve.new.settings ≡ sieve.old.settings }
     ensures within { IfOk result (λ part. part.length ≤ length block.now) }
-    ensures kept { AfterAny (steps_of plan.now) sieve.old read (λ keeping before. IfOk result (λ part.
-        (ones : List (List ℕ)) × (take part.length buffer.new ≡ concat ones) × (part.length ≡ size * length ones)
-        × Adds keeping before (cut_all size block.now) ones part.refused)) }
-    ensures after { (looked : List Placed) (before : List (List ℕ))
-        → IsAfter (steps_of plan.now) looked before sieve.old read
-        → IfOk result (λ part. part.refused ≡ false → IsAfter (steps_of plan.now) looked
-        (before ++ cut_all size block.now) sieve.new (read + length block.now / size)) }
+    ensures kept { AfterAny (steps_of plan.now) sieve.old read (λ keeping before. IfOk result
+        (HoldsKept (Adds keeping before (cut_all size block.now)) buffer.new size)) }
+    ensures after { OfAfter (steps_of plan.now) sieve.old read (λ looked before. IfOk result (λ part.
+        part.refused ≡ false → IsAfter (steps_of plan.now) looked (before ++ cut_all size block.now) sieve.new
+        (read + length block.now / size))) }
 {
     if sieve.passes_all() {
         return Ok(keep_plain(plan, size, block, buffer));

@@ -2,7 +2,6 @@
 //! output under the file's plain head, with counts of their own, plain or packed. Taps see what is written.
 #![tactic(auto)]
 
-mod batch;
 mod copying;
 mod files;
 mod keeping;

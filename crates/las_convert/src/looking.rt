@@ -1,6 +1,6 @@
 //! The first of two readings: all records of a range are looked at, to find the lowest or the highest of each cell.
 ghost use Rattle.std.specs.Prelude.{◌≡◌, ◌%◌, ◌+◌, ◌/◌, ◌^◌, ◌≤◌, ◌<◌, ◌++◌, ◌∷◌, [], ℕ, List, length};
-ghost use Rattle.std.specs.Prelude.{IfErr, IfOk, IsErrOf, OnOk, Some, false};
+ghost use Rattle.std.specs.Prelude.{IfErr, IsErrOf, OnOk, Some, false};
 ghost use Rattle.std.specs.List.{concat};
 ghost use Rattle.las_header.specs.declared.refusal.Refusal.{Refusal};
 ghost use Rattle.las_header.specs.declared.refusal.Refusal.TheVariants.{BadChunk};
@@ -18,16 +18,15 @@ ghost use Rattle.laz_file.specs.Copying.{EndsAfter, HoldFirst};
 ghost use Rattle.laz_forms.specs.Outputs.{records_after};
 ghost use Rattle.laz_reader.specs.Reading.{AgreesWithHead, EndsReading, IsCrewOf, IsFreshReader, StandsFor};
 ghost use Rattle.laz_reader.specs.Reading.{records_in};
-ghost use Rattle.las_convert.specs.Adding.{IsLent, cut_all};
+ghost use Rattle.las_convert.specs.Adding.{cut_all};
 ghost use Rattle.las_convert.specs.Converting.{IsReady, OnlyConverts};
 
-use crate::batch::Batch;
 use las_filter::Plan;
 use las_header::POINT_RECORD;
 use las_outside::{Files, Gate};
 use las_thin::Sieve;
 use laz_chunk::Workspace;
-use laz_file::{Fault, Reader};
+use laz_file::{Fault, Reader, Turn};
 use laz_workers::{Crew, Machine};
 use std::alloc::AllocError;
 use std::thread::Threads;
@@ -82,39 +81,7 @@ fn look_block(
     Ok(())
 }
 
-// A sieve looks at the records of a batch that pass the filters of a plan. `read` is the number of the records before
-// them, and the answer is that number with them.
-fn look_batch(
-    plan: &Plan,
-    sieve: &mut Sieve,
-    read: u64,
-    size: usize,
-    batch: &Batch<'_>,
-) -> Result<u64, AllocError>
-    requires size { POINT_RECORD ≤ size }
-    requires pick { ¬ IsFirst sieve.old.settings.pick }
-    requires lent { (blocks : List (List ℕ))
-        × IsLent batch.now.reader.now batch.now.crew.now size batch.now.count blocks
-        × (read + length (concat blocks) / size < 2 ^ 32) }
-    requires looked { (before : List (List ℕ)) × (length before ≡ read)
-        × sifting.StandsFor (passing (steps_of plan.now) before) [] sieve.old }
-    ensures settings { sieve.new.settings ≡ sieve.old.settings }
-    ensures stands { (before blocks : List (List ℕ)) → length before ≡ read
-        → sifting.StandsFor (passing (steps_of plan.now) before) [] sieve.old
-        → IsLent batch.now.reader.now batch.now.crew.now size batch.now.count blocks → IfOk result (λ now.
-        (length (before ++ cut_all size (concat blocks)) ≡ now) × sifting.StandsFor
-        (passing (steps_of plan.now) (before ++ cut_all size (concat blocks))) [] sieve.new) }
-{
-    let mut now = read;
-    for i in 0..batch.count {
-        let block = batch.reader.block(batch.crew, i);
-        look_block(plan, sieve, now, size, block)?;
-        now += (block.len() / size) as u64;
-    }
-    Ok(now)
-}
-
-// A sieve looks at all records that a reader has left and that pass the filters of a plan, batch by batch.
+// A sieve looks at all records that a reader has left and that pass the filters of a plan, block by block.
 fn look_records<R: Threads + Sync, F: Files, G: Gate>(
     machine: Machine<'_, R, G>,
     files: &mut F,
@@ -142,18 +109,16 @@ fn look_records<R: Threads + Sync, F: Files, G: Gate>(
     ensures calm { OnOk result (IsCalm (F.seen files.old) (F.seen files.new)) }
 {
     let size = usize::from(reader.head().record_length());
+    let mut turn = Turn::first();
     let mut read = 0;
-    'batches: loop {
-        let count = reader.next_batch(machine.rt, machine.alloc, files, machine.gate, crew)?;
-        if count == 0 {
+    'turns: loop {
+        let next = reader.next_block(&machine, files, crew, &mut turn)?;
+        let Some(number) = next else {
             return Ok(());
-        }
-        let batch = Batch {
-            reader,
-            crew,
-            count,
         };
-        read = look_batch(plan, sieve, read, size, &batch)?;
+        let block = reader.block(crew, number);
+        look_block(plan, sieve, read, size, block)?;
+        read += (block.len() / size) as u64;
     }
 }
 

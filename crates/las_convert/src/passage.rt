@@ -1,12 +1,11 @@
 //! What records pass on their way to an output.
-ghost use Rattle.std.specs.Prelude.{◌≡◌, ◌+◌, ◌*◌, ◌/◌, ◌%◌, ◌^◌, ◌≤◌, ◌<◌, ◌++◌, ℕ, List, length, take, map};
+ghost use Rattle.std.specs.Prelude.{◌≡◌, ◌+◌, ◌/◌, ◌%◌, ◌^◌, ◌≤◌, ◌<◌, ◌++◌, ℕ, length, take, map};
 ghost use Rattle.std.specs.Prelude.{All, IfOk, OnOk, false, true, vec_len};
-ghost use Rattle.std.specs.List.{concat};
 ghost use Rattle.las_filter.specs.Changes.{HasClass};
 ghost use Rattle.las_filter.specs.Kept.{steps_of};
 ghost use Rattle.las_info.specs.Tallies.{count_at, shown_all};
-ghost use Rattle.las_thin.specs.Placed.{Placed};
-ghost use Rattle.las_convert.specs.Adding.{Adds, AfterAny, AfterSome, ChangesNothing, IsAfter, cut_all};
+ghost use Rattle.las_convert.specs.Adding.{Adds, AfterAny, AfterSome, ChangesNothing, HoldsKept, IsAfter, OfAfter};
+ghost use Rattle.las_convert.specs.Adding.{cut_all};
 
 use crate::keeping::{Part, keep_records};
 use las_filter::Plan;
@@ -17,7 +16,6 @@ use std::alloc::{AllocError, Global};
 
 /// What the records that a plan keeps pass on their way to an output: a sieve, and taps that see each record which is
 /// written, as it is written.
-#[derive(Drop)]
 pub struct Passage {
     pub(crate) sieve: Sieve,
     pub(crate) taps: Vec<Box<dyn Tap>>,
@@ -25,6 +23,21 @@ pub struct Passage {
     pub(crate) read: u64,
     // A buffer for what is kept of a block.
     pub(crate) buffer: Vec<u8>,
+}
+
+// Written out, so that letting a passage go is one call in each caller.
+impl Drop for Passage {
+    fn drop(self) {
+        let Passage {
+            sieve,
+            taps,
+            read: _,
+            buffer,
+        } = self;
+        drop(sieve);
+        drop(taps);
+        drop(buffer);
+    }
 }
 
 impl Passage {
@@ -91,14 +104,11 @@ impl Passage {
         ensures within { IfOk result (λ part. part.length ≤ length block.now) }
         ensures long { IfOk result (λ part. part.length ≤ vec_len self.new.buffer) }
         ensures read { OnOk result (self.new.read ≡ self.old.read + length block.now / size) }
-        ensures kept { AfterAny (steps_of plan.now) self.old.sieve self.old.read (λ keeping before.
-            IfOk result (λ part. (ones : List (List ℕ)) × (take part.length self.new.buffer.items ≡ concat ones)
-            × (part.length ≡ size * length ones)
-            × Adds keeping before (cut_all size block.now) ones part.refused)) }
-        ensures after { (looked : List Placed) (before : List (List ℕ))
-            → IsAfter (steps_of plan.now) looked before self.old.sieve self.old.read
-            → IfOk result (λ part. part.refused ≡ false → IsAfter (steps_of plan.now) looked
-            (before ++ cut_all size block.now) self.new.sieve self.new.read) }
+        ensures kept { AfterAny (steps_of plan.now) self.old.sieve self.old.read (λ keeping before. IfOk result
+            (HoldsKept (Adds keeping before (cut_all size block.now)) self.new.buffer.items size)) }
+        ensures after { OfAfter (steps_of plan.now) self.old.sieve self.old.read (λ looked before.
+            IfOk result (λ part. part.refused ≡ false → IsAfter (steps_of plan.now) looked
+            (before ++ cut_all size block.now) self.new.sieve self.new.read)) }
     {
         self.grow(block.len())?;
         let part = keep_records(

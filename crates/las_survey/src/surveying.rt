@@ -20,17 +20,15 @@ ghost use Rattle.las_info.specs.Surveys.{IsShown};
 use las_info::{Survey, Tap};
 use las_outside::{Files, Gate};
 use laz_chunk::Workspace;
-use laz_file::{Fault, Reader};
-use laz_workers::Crew;
+use laz_file::{Fault, Reader, Turn};
+use laz_workers::{Crew, Machine};
 use std::alloc::Global;
 use std::thread::Threads;
 
-// Shows all records that a reader has left to a survey with these taps, batch by batch.
+// Shows all records that a reader has left to a survey with these taps, block by block.
 fn show_records<R: Threads + Sync, F: Files, G: Gate>(
-    rt: &R,
-    alloc: Global,
+    machine: &Machine<'_, R, G>,
     files: &mut F,
-    gate: &G,
     reader: &mut Reader,
     crew: &mut Crew<Workspace>,
     taps: Vec<Box<dyn Tap>>,
@@ -56,13 +54,12 @@ fn show_records<R: Threads + Sync, F: Files, G: Gate>(
 {
     let size = usize::from(reader.head().record_length());
     let mut survey = Survey::new(taps);
-    'batches: loop {
-        let count = reader.next_batch(rt, alloc, files, gate, crew)?;
-        if count == 0 {
-            return Ok(survey);
-        }
-        for i in 0..count {
-            survey.see_all(size, reader.block(crew, i))?;
+    let mut turn = Turn::first();
+    'turns: loop {
+        let next = reader.next_block(machine, files, crew, &mut turn)?;
+        match next {
+            None => return Ok(survey),
+            Some(number) => survey.see_all(size, reader.block(crew, number))?,
         }
     }
 }
@@ -107,5 +104,11 @@ pub fn survey<R: Threads + Sync, F: Files, G: Gate>(
     let _ = reader.head().points();
     let hands = reader.hands(workers);
     let mut crew = reader.crew(alloc, hands)?;
-    show_records(rt, alloc, files, gate, reader, &mut crew, taps)
+    let machine = Machine {
+        rt,
+        alloc,
+        gate,
+        workers,
+    };
+    show_records(&machine, files, reader, &mut crew, taps)
 }
