@@ -1,5 +1,5 @@
 -- Buffers seen as texts.
-use Rattle.std.proofs.Common.{◌≡◌, ℕ, ◌<◌, cond, map, List, [], ◌++◌, length, get_or, set, OnOk, Result, Ok, Err, is_ok, sym, ◌∙◌, ap, arith}
+use Rattle.std.proofs.Common.{◌≡◌, ℕ, ◌<◌, map, List, [], ◌++◌, length, get_or, set, OnOk, Result, Ok, Err, sym, ◌∙◌, ap, arith}
 use Rattle.std.specs.Prelude.{Vec}
 use Rattle.std.proofs.lemmas.List.{get_or-map, length-map, map-set}
 
@@ -8,7 +8,7 @@ abbrev pub texts : {A : Type 0} → List (Vec ℕ A) → List (List ℕ)
 texts buffers = map (λ v. v.items) buffers
 
 -- a record was added to one of them
-pub one_added : {A T E : Type 0} (r : Result T E) (vs : List (Vec ℕ A)) (now : List (List ℕ)) (place : ℕ) (old new : Vec ℕ A) (point : List ℕ) → texts vs ≡ now → place < length now → old ≡ get_or vs place old → new.items ≡ cond (is_ok r) (old.items ++ point) old.items
+pub one_added : {A T E : Type 0} (r : Result T E) (vs : List (Vec ℕ A)) (now : List (List ℕ)) (place : ℕ) (old new : Vec ℕ A) (point : List ℕ) → texts vs ≡ now → place < length now → old ≡ get_or vs place old → OnOk r (new.items ≡ old.items ++ point)
     → OnOk r (texts (set vs place new) ≡ set now place (get_or now place [] ++ point))
 one_added {A = A} (Ok x) vs now place old new point is within here added =
     let few : place < length vs = omega (arith, within, ap (λ (t : List (List ℕ)). length t) is, length-map vs (λ (v : Vec ℕ A). v.items)) in

@@ -8,7 +8,8 @@ use Rattle.laz_forms.specs.Outputs.{draft_of, finished, front, patches_of, stopp
 use Rattle.laz_writer.specs.Writing.{WriterSeen}
 use Rattle.las_split.specs.declared.limits.TheConstants.{MAX_PARTS}
 use Rattle.las_split.specs.Files.{with_files}
-use Rattle.las_split.specs.Outputs.{AreDrafts, AreEnding, LeavesParts, PartFile, named, outputs_under}
+use Rattle.laz_file.specs.Endings.{AreDrafts, AreEnding, OutputFile, named}
+use Rattle.las_split.specs.Outputs.{LeavesParts, outputs_under}
 use Rattle.las_split.specs.Parts.{numbers_from, numbers_of_parts}
 use Rattle.las_split.specs.Sorting.{ArePrefixes, AreWriters, InParts, IsWriter, LeavesPrefixes, Task, bytes_at, output_at, standing}
 use Rattle.las_split.proofs.Changing.{AreOnce, firsts_once, next_done, next_part, next_stands, texts}
@@ -115,11 +116,11 @@ module _ (task : Task) (done : ℕ → List ℕ) (was now : Option FileMap) (ns 
         let count : length (map f (numbers_of_parts task.rule records)) ≡ length ns = length-map f (numbers_of_parts task.rule records) ∙ ap (λ (ms : List ℕ). length ms) (sym e.began.numbers_are) in (
           length ns,
           ts,
-          inr (omega (arith, count), subst (λ (ps : List PartFile). AreEnding ps ts) (sym every) (ending (take e.place ns) n (drop (suc e.place) ns) text half)),
-          ended_part new text to ∙ ap (with_files was) (sym (names (take e.place ns) n (drop (suc e.place) ns) text)) ∙ ap (λ (ps : List PartFile). with_files was (named ps ts)) (sym every),
+          inr (omega (arith, count), subst (λ (ps : List OutputFile). AreEnding ps ts) (sym every) (ending (take e.place ns) n (drop (suc e.place) ns) text half)),
+          ended_part new text to ∙ ap (with_files was) (sym (names (take e.place ns) n (drop (suc e.place) ns) text)) ∙ ap (λ (ps : List OutputFile). with_files was (named ps ts)) (sym every),
         )
       where
-        length-map : (f : ℕ → PartFile) (ms : List ℕ) → length (map f ms) ≡ length ms
+        length-map : (f : ℕ → OutputFile) (ms : List ℕ) → length (map f ms) ≡ length ms
         length-map f [] = refl
         length-map f (m ∷ ms) = ap suc (length-map f ms)
 

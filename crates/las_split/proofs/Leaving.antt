@@ -4,19 +4,20 @@ use Rattle.std.specs.List.{concat}
 use Rattle.las_outside.specs.Files.{FileMap}
 use Rattle.laz_forms.specs.Outputs.{finished, stopped}
 use Rattle.las_split.specs.Files.{with_files}
-use Rattle.las_split.specs.Outputs.{AreBegun, LeavesParts, PartFile, all_finished, all_stopped, named, output_under, outputs_under}
+use Rattle.laz_file.specs.Endings.{AreBegun, OutputFile, named, output_file}
+use Rattle.las_split.specs.Outputs.{LeavesParts, all_finished, all_stopped, output_under, outputs_under}
 use Rattle.las_split.specs.Parts.{numbers_of_parts, part}
 use Rattle.las_split.specs.Sorting.{ArePrefixes, LeavesPrefixes, Task, bytes_at, output_at}
 use Rattle.las_split.proofs.PartLists.{parts_begin}
 use Rattle.las_split.proofs.Placing.{prefix_more}
 
 -- an output of a part, and its records
-abbrev pub file_at : Task → (records : List (List ℕ)) → ℕ → PartFile
-file_at task records n = record { output = output_under task.stem task.end task.head n; records = concat (part task.rule records n) }
+abbrev pub file_at : Task → (records : List (List ℕ)) → ℕ → OutputFile
+file_at task records n = output_file (output_under task.stem task.end task.head n) (concat (part task.rule records n))
 
-take_map : (f : ℕ → PartFile) (ns ms : List ℕ) → take (length ns) (map f (ns ++ ms)) ≡ map f ns
+take_map : (f : ℕ → OutputFile) (ns ms : List ℕ) → take (length ns) (map f (ns ++ ms)) ≡ map f ns
 take_map f [] ms = refl
-take_map f (n ∷ ns) ms = ap (λ (t : List PartFile). f n ∷ t) (take_map f ns ms)
+take_map f (n ∷ ns) ms = ap (λ (t : List OutputFile). f n ∷ t) (take_map f ns ms)
 
 texts_of : List (List ℕ × List ℕ) → List (List ℕ)
 texts_of ps = map (λ p. p.1) ps
@@ -45,8 +46,8 @@ leaves_parts task was now xs more l =
     let u = begun task xs more l.numbers l.texts l.are in (
       length l.numbers,
       texts_of l.texts,
-      inl (subst (λ (ps : List PartFile). AreBegun ps (texts_of l.texts)) (sym first) u.0),
-      l.held ∙ ap (with_files was) (sym u.1) ∙ ap (λ (ps : List PartFile). with_files was (named ps (texts_of l.texts))) (sym first),
+      inl (subst (λ (ps : List OutputFile). AreBegun ps (texts_of l.texts)) (sym first) u.0),
+      l.held ∙ ap (with_files was) (sym u.1) ∙ ap (λ (ps : List OutputFile). with_files was (named ps (texts_of l.texts))) (sym first),
     )
 
 -- what parts hold when they are finished, and when they are stopped

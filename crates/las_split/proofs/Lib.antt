@@ -15,6 +15,7 @@ mod Leaving
 mod EndingParts
 mod BatchesTaken
 mod WholeSplits
+mod Making
 mod Joining
 mod Examples
 mod SomeSplits

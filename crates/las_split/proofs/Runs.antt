@@ -3,9 +3,11 @@ use Rattle.std.proofs.Common.{◌≡◌, inl, inr, ℕ, zero, suc, ◌+◌, ◌*
 use Rattle.std.specs.Prelude.{All}
 use Rattle.std.specs.List.{concat}
 use Rattle.std.proofs.lemmas.List.{append-nil, get_or-set_same, length-take-le, set-get_or, take-append-drop, take_all, take_more}
-use Rattle.std.proofs.lemmas.List.Elements.{All-push}
+use Rattle.std.proofs.lemmas.List.Elements.{All-cons, All-nil, All-push}
+use Rattle.std.proofs.lemmas.Nat.{div-add-mod', div-mul-add}
 use Rattle.std.proofs.Math.Nat.{add-mul-mod_self_left, mul-mod_right}
 use Rattle.las_filter.specs.declared.rule.Rule.{Rule}
+use Rattle.las_filter.specs.declared.rule.Rule.TheVariants.{Every}
 use Rattle.las_split.proofs.PartLists.{numbers-append}
 use Rattle.las_outside.specs.Files.{FileMap}
 use Rattle.laz_writer.specs.Writing.{WriterSeen}
@@ -59,6 +61,25 @@ module _ (task : Task) (was now : Option FileMap) (numbers : List ℕ) (writers 
         sym (grown texts place p (concat run) (place_within texts (text_of task records block) numbers place number s there)) ∙ rest.1
             ∙ ap (λ (b : List (List ℕ)). map (text_of task records b) numbers) all_of,
       )
+
+-- ---- parts of a number of records each
+
+-- places that lie in one part
+pub in_one : (n index count number k : ℕ) → index / n ≡ number → index % n + count ≤ n → k < count → (index + k) / n ≡ number
+in_one n index count number k is within lt =
+    let here : index + k ≡ index / n * n + (index % n + k) = omega (arith, div-add-mod' index n) in
+    ap (λ (m : ℕ). m / n) here ∙ div-mul-add (index / n) n (index % n + k) (omega (arith, within, lt)) ∙ is
+
+-- records at places that lie in one part
+pub every_all : (n index number : ℕ) (records : List (List ℕ)) → ((k : ℕ) → k < length records → (index + k) / n ≡ number)
+    → All (λ m. m ≡ number) (numbers_from (Every n) index records)
+every_all n index number [] all = All-nil (λ (m : ℕ). m ≡ number)
+every_all n index number (p ∷ records) all =
+    let here : index ≡ index + 0 = omega arith in
+    All-cons (λ (m : ℕ). m ≡ number) (index / n) (numbers_from (Every n) (index + 1) records)
+    (ap (λ (m : ℕ). m / n) here ∙ all 0 (omega arith))
+    (every_all n (index + 1) number records (λ k lt.
+    (let next : index + 1 + k ≡ index + suc k = omega arith in ap (λ (m : ℕ). m / n) next ∙ all (suc k) (omega (arith, lt)))))
 
 -- ---- lists of records, some done, some of a group, and others
 

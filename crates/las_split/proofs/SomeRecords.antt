@@ -1,7 +1,6 @@
 -- A write that failed is of a part: there is a record.
-use Rattle.std.proofs.Common.{◌≡◌, ℕ, ◌+◌, ◌%◌, ◌<◌, ◌≤◌, List, [], ◌∷◌, ◌++◌, length, take, drop, Option, Result, Ok, Err, IfErr, get_or, sym, ap, subst, length-append, arith}
-use Rattle.std.specs.Prelude.{All, IsErrOf}
-use Rattle.std.specs.List.{concat}
+use Rattle.std.proofs.Common.{◌≡◌, ℕ, ◌+◌, ◌≤◌, List, [], ◌∷◌, ◌++◌, length, take, Option, Result, Ok, Err, IfErr, sym, ap, subst, length-append, arith}
+use Rattle.std.specs.Prelude.{IsErrOf}
 use Rattle.std.proofs.lemmas.List.{length-take-le}
 use Rattle.las_header.specs.declared.refusal.Refusal.{Refusal}
 use Rattle.las_outside.specs.Files.{FileMap}
@@ -11,8 +10,7 @@ use Rattle.laz_forms.specs.declared.fault.Fault.TheVariants.{Refused, Read, Writ
 use Rattle.laz_forms.specs.FileFaults.{end_of}
 use Rattle.laz_reader.specs.Reading.{EndsReading}
 use Rattle.laz_writer.specs.Writing.{WriterSeen}
-use Rattle.las_split.specs.Sorting.{InParts, SortsBlock, Task, bytes_at, cut_all}
-use Rattle.las_split.proofs.Blocks.{cut_block, cut_others}
+use Rattle.las_split.specs.Sorting.{InParts, SortsBlock, Task, bytes_at}
 use Rattle.las_split.proofs.Standing.{writers_length}
 
 -- what is said of a fault, if the call ended with it
@@ -31,25 +29,6 @@ pub some_pushed : (task : Task) (was now : Option FileMap) (ns : List ℕ) (ws :
     → 1 ≤ length records + length block
 some_pushed task was now ns ws texts records block taken s some =
     omega (arith, some_opened task was now ns ws (records ++ take taken block) records s.parts some, length-append records (take taken block), length-take-le taken block s.within, s.within)
-
--- there is a record among some blocks, if there is one before a block or in it
-pub some_among : (size : ℕ) (some : 0 < size) (blocks : List (List ℕ)) (all : All (λ block. length block % size ≡ 0) blocks) (i : ℕ) (within : i < length blocks) (block : List ℕ) → block ≡ get_or blocks i [] → (records : List (List ℕ))
-    → 1 ≤ length (records ++ cut_all size (concat (take i blocks))) + length (cut_all size block) → 1 ≤ length records + length (cut_all size (concat blocks))
-some_among size some blocks all i within block is records there =
-    let done = cut_all size (concat (take i blocks)) in
-    let rest = cut_all size (concat (drop (i + 1) blocks)) in
-    let one = ap (λ (b : List (List ℕ)). length b) (cut_block size some blocks all i within) in
-    let every = ap (λ (b : List (List ℕ)). length b) (cut_others size some blocks all i within (i + 1)) in
-    omega (
-      arith,
-      there,
-      one,
-      every,
-      length-append records done,
-      length-append done (cut_all size (get_or blocks i [])),
-      length-append (cut_all size (concat (take (i + 1) blocks))) rest,
-      ap (λ (b : List ℕ). length (cut_all size b)) is,
-    )
 
 -- no call that reads ends with a write that failed
 pub never_write : (fault : Fault) (r : Result (Option Refusal) Fault) (P : Type 0) (old new : Outside) → r ≡ end_of fault → EndsReading ⊥ old new fault → IfErr r (λ f. f ≡ Write → P)

@@ -44,7 +44,7 @@ abbrev pub task_of : PartNames → HeadView → Rule → Task
 task_of names head rule =
     record { stem = string_bytes names.stem; end = string_bytes names.end; head = head.bytes; rule = rule }
 
--- that of the records of a batch
+-- that of the records of a block
 abbrev pub task_in : Splitter → Task
 task_in splitter = task_of splitter.names.now splitter.head.now splitter.rule.now
 

@@ -1,9 +1,11 @@
 -- What the steps of splitting do to parts.
-use Rattle.std.specs.Prelude.{◌≡◌, ◌⊎◌, ℕ, ◌+◌, ◌<◌, ◌≤◌, true, false, List, [], ◌∷◌, ◌++◌, length, take, slice_get}
+use Rattle.std.specs.Prelude.{◌≡◌, ◌⊎◌, ℕ, ◌+◌, ◌<◌, ◌≤◌, List, [], ◌∷◌, ◌++◌, length, take, slice_get}
 use Rattle.std.specs.Prelude.{slice_index_or, Option, Some, None}
 use Rattle.las_outside.specs.Files.{FileMap}
 use Rattle.las_split.specs.declared.parts.Parts.{Parts}
-use Rattle.las_split.specs.Sorting.{AreGathered, InParts, LeavesPrefixes, TakesBlock, Task}
+use Rattle.las_split.specs.declared.splitter.Splitter.{Splitter}
+use Rattle.las_split.specs.Parts.{number_by}
+use Rattle.las_split.specs.Sorting.{AreGathered, FitAfter, InParts, LeavesPrefixes, PushedSo, Task, task_in}
 use Rattle.las_split.specs.Splitting.{OpensTooMany}
 
 -- The parts of some records are opened, and some of the records are in them.
@@ -14,6 +16,59 @@ AreIn task was now parts opened written = InParts task was now parts.numbers par
 abbrev pub AreSorted : Task → (was now : Option FileMap) → Parts → (records block : List (List ℕ)) → Type 0
 AreSorted task was now parts records block =
     AreIn task was now parts (records ++ block) records × AreGathered task parts.numbers parts.gathered records block
+
+-- ---- all that parts can stand for
+
+-- P of each state in which parts stand before a record that has this number: the files before all of them, the records
+-- whose parts are opened, those that are written, and the record.
+abbrev pub OfRecord : Splitter → (held : Option FileMap) → Parts → (number : ℕ)
+    → (P : Option FileMap → (opened written : List (List ℕ)) → (point : List ℕ) → Type 0) → Type 0
+OfRecord splitter held parts number P =
+    (was : Option FileMap) (opened written more : List (List ℕ)) (point : List ℕ)
+    → AreIn (task_in splitter) was held parts opened written
+    → number ≡ number_by splitter.rule.now (length opened) point → opened ≡ written ++ more
+    → P was opened written point
+
+-- The same after some records, if the next has this index, and after some of a block beside them.
+abbrev pub OfRecords : Splitter → (held : Option FileMap) → Parts → (index : ℕ)
+    → (P : Option FileMap → (records : List (List ℕ)) → Type 0) → Type 0
+OfRecords splitter held parts index P =
+    (was : Option FileMap) (records : List (List ℕ)) → AreIn (task_in splitter) was held parts records records
+    → index ≡ length records → P was records
+
+abbrev pub OfBlock : Splitter → (held : Option FileMap) → Parts → (index : ℕ)
+    → (P : Option FileMap → (records block : List (List ℕ)) → Type 0) → Type 0
+OfBlock splitter held parts index P =
+    (was : Option FileMap) (records block : List (List ℕ))
+    → AreSorted (task_in splitter) was held parts records block → index ≡ length records + length block
+    → P was records block
+
+-- There is such a state.
+abbrev pub HaveRecords : Splitter → (held : Option FileMap) → Parts → (index : ℕ) → Type 0
+HaveRecords splitter held parts index =
+    (was : Option FileMap) × (records : List (List ℕ))
+    × AreIn (task_in splitter) was held parts records records × (index ≡ length records)
+
+abbrev pub HaveBlock : Splitter → (held : Option FileMap) → Parts → (index : ℕ) → Type 0
+HaveBlock splitter held parts index =
+    (was : Option FileMap) × (records : List (List ℕ)) × (block : List (List ℕ))
+    × AreSorted (task_in splitter) was held parts records block × (index ≡ length records + length block)
+
+-- P of each state in which the records of a block are gathered, and the first of the parts have theirs, or none has yet.
+abbrev pub OfPushed : (held : Option FileMap) → Parts → (place : ℕ)
+    → (P : Task → Option FileMap → (records block : List (List ℕ)) → Type 0) → Type 0
+OfPushed held parts place P =
+    (task : Task) (was : Option FileMap) (records block : List (List ℕ))
+    → PushedSo task was held parts.numbers parts.writers.items place records block
+    → AreGathered task parts.numbers parts.gathered records block → P task was records block
+
+abbrev pub OfSorted : (held : Option FileMap) → Parts
+    → (P : Task → Option FileMap → (records block : List (List ℕ)) → Type 0) → Type 0
+OfSorted held parts P =
+    (task : Task) (was : Option FileMap) (records block : List (List ℕ))
+    → AreSorted task was held parts records block → FitAfter task records block → P task was records block
+
+-- ---- what a step does
 
 -- The part of the next record is opened if it was not, and stands at a place. There is no place if that would be one
 -- part too many, and nothing has changed.
@@ -29,16 +84,6 @@ OpensOrRefuses task was now old new opened written number point (Some place) =
 abbrev pub LeavesRecord : Task → (was now : Option FileMap) → (opened : List (List ℕ)) → (point : List ℕ) → Type 0
 LeavesRecord task was now opened point =
     LeavesPrefixes task was now opened ⊎ LeavesPrefixes task was now (opened ++ point ∷ [])
-
--- The records of a batch after some records were taken: then the next has a place. Or one of them would open one part
--- too many; then those before it were taken.
-abbrev pub TakesBatch : Task → (was now : Option FileMap) → Parts → (records batch : List (List ℕ)) → (next : Option ℕ)
-    → Type 0
-TakesBatch task was now parts records batch None =
-    TakesBlock task was now parts.numbers parts.writers.items records batch false
-TakesBatch task was now parts records batch (Some next) =
-    TakesBlock task was now parts.numbers parts.writers.items records batch true
-    × (next ≡ length records + length batch)
 
 -- The first of more records after a block were sorted: all of them, or those before one that opens one part too many.
 pub record SortsMore (task : Task) (was now : Option FileMap) (parts : Parts) (records block more : List (List ℕ))

@@ -1,5 +1,5 @@
 //! Records that go from a reader into the parts.
-ghost use Rattle.std.specs.Prelude.{◌≡◌, ◌≢◌, ◌%◌, ◌+◌, ◌≤◌, ◌<◌, ◌^◌, ℕ, All, Bool, List, Option, [], length};
+ghost use Rattle.std.specs.Prelude.{◌≡◌, ◌≢◌, ◌%◌, ◌+◌, ◌≤◌, ◌<◌, ◌^◌, ℕ, Bool, List, Option, [], length};
 ghost use Rattle.std.specs.Prelude.{IfErr, IfOk, false, OnErr, OnOk, string_bytes, true, unwrap_or};
 ghost use Rattle.std.specs.List.{concat};
 ghost use Rattle.las_header.specs.Fields.{is_packed, points_of, record_length_of};
@@ -12,10 +12,10 @@ ghost use Rattle.laz_forms.specs.declared.fault.Fault.TheVariants.{Write};
 ghost use Rattle.laz_reader.specs.Asking.{ReadsAndWrites, bytes_left};
 ghost use Rattle.laz_file.specs.Copying.{HoldFirst};
 ghost use Rattle.laz_forms.specs.FileFaults.{HasCause};
-ghost use Rattle.laz_reader.specs.Reading.{IsCrewOf, Lends, StandsFor, records_in};
+ghost use Rattle.laz_reader.specs.Reading.{IsCrewOf, StandsFor, records_in};
 ghost use Rattle.las_split.specs.Sorting.{EndsSplitting, HasRoom, IsPlainFor, LeavesBlock, TakesBlock};
 ghost use Rattle.las_split.specs.Sorting.{cut_all, task_in, task_of};
-ghost use Rattle.las_split.specs.Steps.{AreIn, TakesBatch};
+ghost use Rattle.las_split.specs.Steps.{AreIn};
 
 use crate::part_names::PartNames;
 use crate::parts::Parts;
@@ -26,7 +26,7 @@ use las_filter::Rule;
 use las_header::{Head, Refusal};
 use las_outside::{Files, Gate};
 use laz_chunk::Workspace;
-use laz_file::{Fault, Reader};
+use laz_file::{Fault, Reader, Turn};
 use laz_workers::{Crew, Machine};
 use std::thread::Threads;
 
@@ -84,63 +84,7 @@ fn plain_of<'a>(plain: &'a Option<Head>, reader: &'a Reader) -> &'a Head
     }
 }
 
-// Takes the records of a batch, which a reader and its crew lend, into their parts, in order. The answer is the place
-// of the next record, or none if a record would open one part too many; then those before it were taken.
-fn split_batch<R: Threads + Sync, F: Files, G: Gate>(
-    machine: &Machine<R, G>,
-    files: &mut F,
-    splitter: &Splitter,
-    reader: &Reader,
-    crew: &Crew<Workspace>,
-    count: u32,
-    parts: &mut Parts,
-) -> Result<Option<u64>, Fault>
-    requires plain { is_packed splitter.now.head.now.bytes ≡ false }
-    requires none { laszip_vlrs_of splitter.now.head.now.bytes ≡ [] }
-    requires rule { IsRule splitter.now.rule.now }
-    requires lent { (blocks : List (List ℕ)) × Lends reader.now crew.now blocks × (length blocks ≡ count)
-        × All (λ block. length block % splitter.now.size ≡ 0) blocks
-        × HasRoom (task_in splitter.now) splitter.now.size splitter.now.index (length (concat blocks)) }
-    requires parts { (was : Option FileMap) × (records : List (List ℕ))
-        × AreIn (task_in splitter.now) was (F.seen files.old).held parts.old records records
-        × (splitter.now.index ≡ length records) }
-    ensures takes { (blocks : List (List ℕ)) (was : Option FileMap) (records : List (List ℕ))
-        → Lends reader.now crew.now blocks → length blocks ≡ count
-        → All (λ block. length block % splitter.now.size ≡ 0) blocks
-        → AreIn (task_in splitter.now) was (F.seen files.old).held parts.old records records
-        → splitter.now.index ≡ length records
-        → IfOk result (TakesBatch (task_in splitter.now) was (F.seen files.new).held parts.new records
-        (cut_all splitter.now.size (concat blocks))) }
-    ensures left { (blocks : List (List ℕ)) (was : Option FileMap) (records : List (List ℕ))
-        → Lends reader.now crew.now blocks → length blocks ≡ count
-        → All (λ block. length block % splitter.now.size ≡ 0) blocks
-        → AreIn (task_in splitter.now) was (F.seen files.old).held parts.old records records
-        → splitter.now.index ≡ length records
-        → OnErr result (LeavesBlock (task_in splitter.now) was (F.seen files.new).held records
-        (cut_all splitter.now.size (concat blocks))) }
-    ensures some { (blocks : List (List ℕ)) (was : Option FileMap) (records : List (List ℕ))
-        → Lends reader.now crew.now blocks → length blocks ≡ count
-        → All (λ block. length block % splitter.now.size ≡ 0) blocks
-        → AreIn (task_in splitter.now) was (F.seen files.old).held parts.old records records
-        → splitter.now.index ≡ length records
-        → IfErr result (λ fault. fault ≡ Write
-        → 1 ≤ length records + length (cut_all splitter.now.size (concat blocks))) }
-    ensures cause { IfErr result (HasCause (F.seen files.old) (F.seen files.new)) }
-    ensures calm { OnOk result (IsCalm (F.seen files.old) (F.seen files.new)) }
-    ensures writes { OnlyWrites (F.seen files.old) (F.seen files.new) }
-{
-    let mut next = splitter.index;
-    for i in 0..count {
-        let block = reader.block(crew, i);
-        if !split_block(machine, files, splitter, next, block, parts)? {
-            return Ok(None);
-        }
-        next += (block.len() / splitter.size) as u64;
-    }
-    Ok(Some(next))
-}
-
-/// Takes all records that a reader has left into parts, batch by batch: up to the end of the records, or up to the
+/// Takes all records that a reader has left into parts, block by block: up to the end of the records, or up to the
 /// first bad chunk or the first record that would open one part too many, which is the answer beside the parts.
 pub(crate) fn split_records<R: Threads + Sync, F: Files, G: Gate>(
     machine: &Machine<R, G>,
@@ -180,29 +124,29 @@ pub(crate) fn split_records<R: Threads + Sync, F: Files, G: Gate>(
     let size = usize::from(reader.head().record_length());
     let mut parts = Parts::new(machine.alloc);
     let mut index = 0;
-    'batches: loop {
-        let count = match reader.next_batch(machine.rt, machine.alloc, files, machine.gate, crew) {
-            Ok(count) => count,
+    let mut turn = Turn::first();
+    'turns: loop {
+        let next = match reader.next_block(machine, files, crew, &mut turn) {
+            Ok(next) => next,
             Err(fault) => {
                 let end = fault.into_end()?;
                 return Ok((parts, end));
             }
         };
-        if count == 0 {
+        let Some(number) = next else {
             return Ok((parts, None));
-        }
+        };
         let head = plain_of(plain, reader);
         let splitter = Splitter {
             names,
             head,
             rule,
             size,
-            index,
         };
-        let after = split_batch(machine, files, &splitter, reader, crew, count, &mut parts)?;
-        let Some(next) = after else {
+        let block = reader.block(crew, number);
+        if !split_block(machine, files, &splitter, index, block, &mut parts)? {
             return Ok((parts, Some(Refusal::TooManyParts)));
-        };
-        index = next;
+        }
+        index += (block.len() / size) as u64;
     }
 }

@@ -1,24 +1,24 @@
 //! Whole files into parts.
-ghost use Rattle.std.specs.Prelude.{◌≡◌, ◌≢◌, ◌⊎◌, ◌^◌, ◌≤◌, ◌<◌, ℕ, List, [], Option, None, Some};
+ghost use Rattle.std.specs.Prelude.{◌≡◌, ◌≢◌, ◌⊎◌, ◌^◌, ◌≤◌, ◌<◌, ℕ, List, Option, None};
 ghost use Rattle.std.specs.Prelude.{IfErr, IfOk, IsErrOf, OnErr, OnOk, length, string_bytes, unwrap_or};
 ghost use Rattle.las_header.specs.declared.refusal.Refusal.{Refusal};
 ghost use Rattle.las_header.specs.declared.refusal.Refusal.TheVariants.{BadChunk, TooManyParts};
 ghost use Rattle.las_header.specs.Heads.{IsHead};
 ghost use Rattle.las_filter.specs.Parts.{IsRule, part_name};
-ghost use Rattle.las_outside.specs.Faults.{Rose};
 ghost use Rattle.las_outside.specs.Files.{FileMap, WhereKnown};
 ghost use Rattle.las_outside.specs.Frames.{IsCalm, OnlyWrites};
 ghost use Rattle.las_outside.specs.Limits.{AreWorkers};
-ghost use Rattle.laz_forms.specs.declared.fault.Fault.TheVariants.{Read, Refused, Write};
+ghost use Rattle.laz_forms.specs.declared.fault.Fault.TheVariants.{Refused, Write};
 ghost use Rattle.laz_reader.specs.Asking.{ReadsAndWrites, bytes_left};
 ghost use Rattle.laz_forms.specs.FileFaults.{HasCause};
 ghost use Rattle.laz_reader.specs.Reading.{AgreesWithHead, IsNewReader, StandsFor};
+ghost use Rattle.laz_file.specs.Endings.{EndsMaking};
 ghost use Rattle.las_split.specs.Files.{with_files};
-ghost use Rattle.las_split.specs.Outputs.{LeavesParts, all_finished, all_stopped, outputs_under, part_files};
+ghost use Rattle.las_split.specs.Outputs.{LeavesParts, Splits, all_finished, all_stopped, outputs_under};
 ghost use Rattle.las_split.specs.Parts.{numbers_of_parts};
 ghost use Rattle.las_split.specs.Sorting.{IsPlainFor, LeavesPrefixes, Task};
 ghost use Rattle.las_split.specs.Steps.{AreIn};
-ghost use Rattle.las_split.specs.Splitting.{OnlySplits, SplitsTo};
+ghost use Rattle.las_split.specs.Splitting.{OnlySplits};
 
 use crate::copying::split_records;
 use crate::part_names::PartNames;
@@ -146,28 +146,13 @@ pub fn split<R: Threads + Sync, F: Files, G: Gate>(
     requires stands { WhereKnown (F.seen files.old).held reader.name (StandsFor reader) }
     requires whole { AgreesWithHead reader }
 
-    ensures split { IfOk result (λ numbers. WhereKnown (F.seen files.old).held reader.name (λ file.
+    ensures ends { EndsMaking (Splits (string_bytes output.now.stem) (string_bytes output.now.end) rule.now)
+        reader.name (F.seen files.old) (F.seen files.new) result }
+    ensures numbers { IfOk result (λ numbers. WhereKnown (F.seen files.old).held reader.name (λ file.
         (records : List (List ℕ)) × OnlySplits rule.now file records None
-        × (numbers.items ≡ numbers_of_parts rule.now records)
-        × ((F.seen files.new).held ≡ with_files (F.seen files.old).held (all_finished
-        (part_files (string_bytes output.now.stem) (string_bytes output.now.end) rule.now file records))))) }
-    ensures refused { (cause : Refusal) → IsErrOf result (Refused cause)
-        → WhereKnown (F.seen files.old).held reader.name (λ file.
-        (records : List (List ℕ)) × OnlySplits rule.now file records (Some cause)
-        × ((F.seen files.new).held ≡ with_files (F.seen files.old).held (all_stopped
-        (part_files (string_bytes output.now.stem) (string_bytes output.now.end) rule.now file records)))) }
+        × (numbers.items ≡ numbers_of_parts rule.now records))) }
     ensures bad { (cause : Refusal) → IsErrOf result (Refused cause)
         → ((i : ℕ) × (cause ≡ BadChunk i)) ⊎ (cause ≡ TooManyParts) }
-    ensures left { IfErr result (λ fault. WhereKnown (F.seen files.old).held reader.name (λ file.
-        (records : List (List ℕ)) (refusal : Option Refusal) → SplitsTo rule.now file records refusal
-        → LeavesParts (part_files (string_bytes output.now.stem) (string_bytes output.now.end) rule.now file records)
-        (F.seen files.old).held (F.seen files.new).held)) }
-    ensures read { IsErrOf result Read → Rose (F.seen files.old).read_faults (F.seen files.new).read_faults }
-    ensures write { IsErrOf result Write → Rose (F.seen files.old).write_faults (F.seen files.new).write_faults }
-    ensures some { IsErrOf result Write → WhereKnown (F.seen files.old).held reader.name (λ file.
-        (records : List (List ℕ)) (refusal : Option Refusal) → SplitsTo rule.now file records refusal
-        → records ≢ []) }
-    ensures calm { OnOk result (IsCalm (F.seen files.old) (F.seen files.new)) }
     // No more is asked for than the reader has left, however the call ends.
     ensures frame { ReadsAndWrites (bytes_left reader) (F.seen files.old) (F.seen files.new) }
 {

@@ -7,11 +7,19 @@ use std::marker::Model;
 
 /// Numbers of parts in the order in which they were added. A number is looked up where it was added last under its low
 /// bits: a rule gives numbers below 2^16, or the numbers of no more parts than there may be, so this is its place.
-#[derive(Drop)]
 pub(crate) struct Numbers {
     list: Vec<u32>,
     // By the low bits of a number, the place of the number that was added last with these.
     hints: Vec<u16>,
+}
+
+// Written out, so that letting numbers go is one call in each caller.
+impl Drop for Numbers {
+    fn drop(self) {
+        let Numbers { list, hints } = self;
+        drop(list);
+        drop(hints);
+    }
 }
 
 impl Model for Numbers {

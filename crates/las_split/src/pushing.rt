@@ -5,7 +5,7 @@ ghost use Rattle.las_outside.specs.Frames.{IsCalm, OnlyWrites};
 ghost use Rattle.laz_forms.specs.declared.fault.Fault.TheVariants.{Write};
 ghost use Rattle.laz_forms.specs.FileFaults.{HasCause};
 ghost use Rattle.las_split.specs.Sorting.{AreGathered, FitAfter, LeavesPrefixes, PushedSo, Task};
-ghost use Rattle.las_split.specs.Steps.{AreIn, AreSorted};
+ghost use Rattle.las_split.specs.Steps.{AreIn, AreSorted, OfPushed, OfSorted};
 
 use crate::parts::Parts;
 use las_outside::{Files, Gate};
@@ -24,15 +24,11 @@ fn push_place<R: Threads + Sync, F: Files, G: Gate>(
     requires parts { (task : Task) × (was : Option FileMap) × (records : List (List ℕ)) × (block : List (List ℕ))
         × PushedSo task was (F.seen files.old).held parts.old.numbers parts.old.writers.items place records block
         × AreGathered task parts.old.numbers parts.old.gathered records block × FitAfter task records block }
-    ensures pushed { (task : Task) (was : Option FileMap) (records block : List (List ℕ))
-        → PushedSo task was (F.seen files.old).held parts.old.numbers parts.old.writers.items place records block
-        → AreGathered task parts.old.numbers parts.old.gathered records block
-        → OnOk result (PushedSo task was (F.seen files.new).held parts.new.numbers parts.new.writers.items (place + 1)
-        records block) }
-    ensures left { (task : Task) (was : Option FileMap) (records block : List (List ℕ))
-        → PushedSo task was (F.seen files.old).held parts.old.numbers parts.old.writers.items place records block
-        → AreGathered task parts.old.numbers parts.old.gathered records block
-        → OnErr result (LeavesPrefixes task was (F.seen files.new).held (records ++ block)) }
+    ensures pushed { OfPushed (F.seen files.old).held parts.old place (λ task was records block.
+        OnOk result (PushedSo task was (F.seen files.new).held parts.new.numbers parts.new.writers.items (place + 1)
+        records block)) }
+    ensures left { OfPushed (F.seen files.old).held parts.old place (λ task was records block.
+        OnErr result (LeavesPrefixes task was (F.seen files.new).held (records ++ block))) }
     ensures numbers { parts.new.numbers ≡ parts.old.numbers }
     ensures gathered { parts.new.gathered ≡ parts.old.gathered }
     ensures cause { IfErr result (HasCause (F.seen files.old) (F.seen files.new)) }
@@ -56,12 +52,10 @@ pub(crate) fn push_parts<R: Threads + Sync, F: Files, G: Gate>(
 ) -> Result<(), Fault>
     requires parts { (task : Task) × (was : Option FileMap) × (records : List (List ℕ)) × (block : List (List ℕ))
         × AreSorted task was (F.seen files.old).held parts.old records block × FitAfter task records block }
-    ensures pushed { (task : Task) (was : Option FileMap) (records block : List (List ℕ))
-        → AreSorted task was (F.seen files.old).held parts.old records block → FitAfter task records block
-        → OnOk result (AreIn task was (F.seen files.new).held parts.new (records ++ block) (records ++ block)) }
-    ensures left { (task : Task) (was : Option FileMap) (records block : List (List ℕ))
-        → AreSorted task was (F.seen files.old).held parts.old records block → FitAfter task records block
-        → OnErr result (LeavesPrefixes task was (F.seen files.new).held (records ++ block)) }
+    ensures pushed { OfSorted (F.seen files.old).held parts.old (λ task was records block.
+        OnOk result (AreIn task was (F.seen files.new).held parts.new (records ++ block) (records ++ block))) }
+    ensures left { OfSorted (F.seen files.old).held parts.old (λ task was records block.
+        OnErr result (LeavesPrefixes task was (F.seen files.new).held (records ++ block))) }
     ensures some { IfErr result (λ fault. fault ≡ Write → 1 ≤ length parts.old.writers.items) }
     ensures cause { IfErr result (HasCause (F.seen files.old) (F.seen files.new)) }
     ensures calm { OnOk result (IsCalm (F.seen files.old) (F.seen files.new)) }

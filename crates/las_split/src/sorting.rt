@@ -4,13 +4,12 @@ ghost use Rattle.std.specs.Prelude.{false, length, IfErr, IfOk, OnErr, OnOk, map
 ghost use Rattle.las_header.specs.Fields.{is_packed};
 ghost use Rattle.las_header.specs.Vlrs.{laszip_vlrs_of};
 ghost use Rattle.las_filter.specs.Parts.{IsRule};
-ghost use Rattle.las_outside.specs.Files.{FileMap};
 ghost use Rattle.las_outside.specs.Frames.{IsCalm, OnlyWrites};
 ghost use Rattle.laz_forms.specs.declared.fault.Fault.TheVariants.{Write};
 ghost use Rattle.laz_forms.specs.FileFaults.{HasCause};
-ghost use Rattle.las_split.specs.Parts.{number_by};
 ghost use Rattle.las_split.specs.Sorting.{HasRoom, LeavesBlock, SortsBlock, SortsPoint, cut_all, has, task_in};
-ghost use Rattle.las_split.specs.Steps.{AreIn, AreSorted, LeavesMore, LeavesRecord, OpensOrRefuses, SortsMore};
+ghost use Rattle.las_split.specs.Steps.{HaveBlock, HaveRecords, LeavesMore, LeavesRecord, OfBlock, OfRecord, OfRecords};
+ghost use Rattle.las_split.specs.Steps.{OpensOrRefuses, SortsMore};
 
 use crate::limits::{GROUP, MAX_PARTS};
 use crate::numbering::part_of;
@@ -37,19 +36,13 @@ fn open_place<F: Files>(
     requires other { has number parts.old.numbers ≡ false }
 
     // The part was opened after others, at the first record that has its number.
-    ensures opened { (was : Option FileMap) (opened written more : List (List ℕ)) (point : List ℕ)
-        → AreIn (task_in splitter.now) was (F.seen files.old).held parts.old opened written
-        → number ≡ number_by splitter.now.rule.now (length opened) point
-        → opened ≡ written ++ more
-        → IfOk result (OpensOrRefuses (task_in splitter.now) was (F.seen files.new).held parts.old parts.new opened
-        written number point) }
+    ensures opened { OfRecord splitter.now (F.seen files.old).held parts.old number (λ was opened written point.
+        IfOk result (OpensOrRefuses (task_in splitter.now) was (F.seen files.new).held parts.old parts.new opened
+        written number point)) }
     ensures gathered { (text : ℕ → List ℕ) → parts.old.gathered ≡ map text parts.old.numbers → text number ≡ []
         → IfOk result (λ found. parts.new.gathered ≡ map text parts.new.numbers) }
-    ensures left { (was : Option FileMap) (opened written more : List (List ℕ)) (point : List ℕ)
-        → AreIn (task_in splitter.now) was (F.seen files.old).held parts.old opened written
-        → number ≡ number_by splitter.now.rule.now (length opened) point
-        → opened ≡ written ++ more
-        → OnErr result (LeavesRecord (task_in splitter.now) was (F.seen files.new).held opened point) }
+    ensures left { OfRecord splitter.now (F.seen files.old).held parts.old number (λ was opened written point.
+        OnErr result (LeavesRecord (task_in splitter.now) was (F.seen files.new).held opened point)) }
     ensures cause { IfErr result (HasCause (F.seen files.old) (F.seen files.new)) }
     ensures calm { OnOk result (IsCalm (F.seen files.old) (F.seen files.new)) }
     ensures writes { OnlyWrites (F.seen files.old) (F.seen files.new) }
@@ -75,20 +68,14 @@ fn place_of<F: Files>(
 ) -> Result<Option<usize>, Fault>
     requires plain { is_packed splitter.now.head.now.bytes ≡ false }
     requires none { laszip_vlrs_of splitter.now.head.now.bytes ≡ [] }
-    ensures opened { (was : Option FileMap) (opened written more : List (List ℕ)) (point : List ℕ)
-        → AreIn (task_in splitter.now) was (F.seen files.old).held parts.old opened written
-        → number ≡ number_by splitter.now.rule.now (length opened) point
-        → opened ≡ written ++ more
-        → IfOk result (OpensOrRefuses (task_in splitter.now) was (F.seen files.new).held parts.old parts.new opened
-        written number point) }
+    ensures opened { OfRecord splitter.now (F.seen files.old).held parts.old number (λ was opened written point.
+        IfOk result (OpensOrRefuses (task_in splitter.now) was (F.seen files.new).held parts.old parts.new opened
+        written number point)) }
     ensures gathered { (text : ℕ → List ℕ) → parts.old.gathered ≡ map text parts.old.numbers
         → (has number parts.old.numbers ≡ false → text number ≡ [])
         → IfOk result (λ found. parts.new.gathered ≡ map text parts.new.numbers) }
-    ensures left { (was : Option FileMap) (opened written more : List (List ℕ)) (point : List ℕ)
-        → AreIn (task_in splitter.now) was (F.seen files.old).held parts.old opened written
-        → number ≡ number_by splitter.now.rule.now (length opened) point
-        → opened ≡ written ++ more
-        → OnErr result (LeavesRecord (task_in splitter.now) was (F.seen files.new).held opened point) }
+    ensures left { OfRecord splitter.now (F.seen files.old).held parts.old number (λ was opened written point.
+        OnErr result (LeavesRecord (task_in splitter.now) was (F.seen files.new).held opened point)) }
     ensures cause { IfErr result (HasCause (F.seen files.old) (F.seen files.new)) }
     ensures calm { OnOk result (IsCalm (F.seen files.old) (F.seen files.new)) }
     ensures writes { OnlyWrites (F.seen files.old) (F.seen files.new) }
@@ -115,18 +102,12 @@ fn sort_point<F: Files>(
     requires rule { IsRule splitter.now.rule.now }
     requires index { index < 2 ^ 32 }
     requires long { POINT_RECORD ≤ length point.now }
-    requires parts { (was : Option FileMap) × (records : List (List ℕ)) × (block : List (List ℕ))
-        × AreSorted (task_in splitter.now) was (F.seen files.old).held parts.old records block
-        × (index ≡ length records + length block) }
-    ensures sorts { (was : Option FileMap) (records block : List (List ℕ))
-        → AreSorted (task_in splitter.now) was (F.seen files.old).held parts.old records block
-        → index ≡ length records + length block
-        → IfOk result (SortsPoint (task_in splitter.now) was (F.seen files.new).held parts.new.numbers
-        parts.new.writers.items parts.new.gathered records block point.now) }
-    ensures left { (was : Option FileMap) (records block : List (List ℕ))
-        → AreSorted (task_in splitter.now) was (F.seen files.old).held parts.old records block
-        → index ≡ length records + length block
-        → OnErr result (LeavesRecord (task_in splitter.now) was (F.seen files.new).held (records ++ block) point.now) }
+    requires parts { HaveBlock splitter.now (F.seen files.old).held parts.old index }
+    ensures sorts { OfBlock splitter.now (F.seen files.old).held parts.old index (λ was records block.
+        IfOk result (SortsPoint (task_in splitter.now) was (F.seen files.new).held parts.new.numbers
+        parts.new.writers.items parts.new.gathered records block point.now)) }
+    ensures left { OfBlock splitter.now (F.seen files.old).held parts.old index (λ was records block.
+        OnErr result (LeavesRecord (task_in splitter.now) was (F.seen files.new).held (records ++ block) point.now)) }
     ensures cause { IfErr result (HasCause (F.seen files.old) (F.seen files.new)) }
     ensures calm { OnOk result (IsCalm (F.seen files.old) (F.seen files.new)) }
     ensures writes { OnlyWrites (F.seen files.old) (F.seen files.new) }
@@ -157,19 +138,13 @@ fn sort_each<F: Files>(
     requires rule { IsRule splitter.now.rule.now }
     requires room { HasRoom (task_in splitter.now) splitter.now.size index (length group.now) }
     requires whole { length group.now % splitter.now.size ≡ 0 }
-    requires parts { (was : Option FileMap) × (records : List (List ℕ)) × (block : List (List ℕ))
-        × AreSorted (task_in splitter.now) was (F.seen files.old).held parts.old records block
-        × (index ≡ length records + length block) }
-    ensures sorts { (was : Option FileMap) (records block : List (List ℕ))
-        → AreSorted (task_in splitter.now) was (F.seen files.old).held parts.old records block
-        → index ≡ length records + length block
-        → IfOk result (SortsMore (task_in splitter.now) was (F.seen files.new).held parts.new records block
-        (cut_all splitter.now.size group.now)) }
-    ensures left { (was : Option FileMap) (records block : List (List ℕ))
-        → AreSorted (task_in splitter.now) was (F.seen files.old).held parts.old records block
-        → index ≡ length records + length block
-        → OnErr result (LeavesMore (task_in splitter.now) was (F.seen files.new).held records block
-        (cut_all splitter.now.size group.now)) }
+    requires parts { HaveBlock splitter.now (F.seen files.old).held parts.old index }
+    ensures sorts { OfBlock splitter.now (F.seen files.old).held parts.old index (λ was records block.
+        IfOk result (SortsMore (task_in splitter.now) was (F.seen files.new).held parts.new records block
+        (cut_all splitter.now.size group.now))) }
+    ensures left { OfBlock splitter.now (F.seen files.old).held parts.old index (λ was records block.
+        OnErr result (LeavesMore (task_in splitter.now) was (F.seen files.new).held records block
+        (cut_all splitter.now.size group.now))) }
     ensures some { IfErr result (λ fault. fault ≡ Write → 1 ≤ length (cut_all splitter.now.size group.now)) }
     ensures cause { IfErr result (HasCause (F.seen files.old) (F.seen files.new)) }
     ensures calm { OnOk result (IsCalm (F.seen files.old) (F.seen files.new)) }
@@ -204,19 +179,13 @@ fn sort_group<F: Files>(
     requires room { HasRoom (task_in splitter.now) splitter.now.size index (length group.now) }
     requires whole { length group.now % splitter.now.size ≡ 0 }
     requires one { splitter.now.size ≤ length group.now }
-    requires parts { (was : Option FileMap) × (records : List (List ℕ)) × (block : List (List ℕ))
-        × AreSorted (task_in splitter.now) was (F.seen files.old).held parts.old records block
-        × (index ≡ length records + length block) }
-    ensures sorts { (was : Option FileMap) (records block : List (List ℕ))
-        → AreSorted (task_in splitter.now) was (F.seen files.old).held parts.old records block
-        → index ≡ length records + length block
-        → IfOk result (SortsMore (task_in splitter.now) was (F.seen files.new).held parts.new records block
-        (cut_all splitter.now.size group.now)) }
-    ensures left { (was : Option FileMap) (records block : List (List ℕ))
-        → AreSorted (task_in splitter.now) was (F.seen files.old).held parts.old records block
-        → index ≡ length records + length block
-        → OnErr result (LeavesMore (task_in splitter.now) was (F.seen files.new).held records block
-        (cut_all splitter.now.size group.now)) }
+    requires parts { HaveBlock splitter.now (F.seen files.old).held parts.old index }
+    ensures sorts { OfBlock splitter.now (F.seen files.old).held parts.old index (λ was records block.
+        IfOk result (SortsMore (task_in splitter.now) was (F.seen files.new).held parts.new records block
+        (cut_all splitter.now.size group.now))) }
+    ensures left { OfBlock splitter.now (F.seen files.old).held parts.old index (λ was records block.
+        OnErr result (LeavesMore (task_in splitter.now) was (F.seen files.new).held records block
+        (cut_all splitter.now.size group.now))) }
     ensures some { IfErr result (λ fault. fault ≡ Write → 1 ≤ length (cut_all splitter.now.size group.now)) }
     ensures cause { IfErr result (HasCause (F.seen files.old) (F.seen files.new)) }
     ensures calm { OnOk result (IsCalm (F.seen files.old) (F.seen files.new)) }
@@ -248,19 +217,13 @@ pub(crate) fn sort_block<F: Files>(
     requires rule { IsRule splitter.now.rule.now }
     requires room { HasRoom (task_in splitter.now) splitter.now.size index (length block.now) }
     requires whole { length block.now % splitter.now.size ≡ 0 }
-    requires parts { (was : Option FileMap) × (records : List (List ℕ))
-        × AreIn (task_in splitter.now) was (F.seen files.old).held parts.old records records
-        × (index ≡ length records) }
-    ensures sorts { (was : Option FileMap) (records : List (List ℕ))
-        → AreIn (task_in splitter.now) was (F.seen files.old).held parts.old records records
-        → index ≡ length records
-        → IfOk result (SortsBlock (task_in splitter.now) was (F.seen files.new).held parts.new.numbers
-        parts.new.writers.items parts.new.gathered records (cut_all splitter.now.size block.now)) }
-    ensures left { (was : Option FileMap) (records : List (List ℕ))
-        → AreIn (task_in splitter.now) was (F.seen files.old).held parts.old records records
-        → index ≡ length records
-        → OnErr result (LeavesBlock (task_in splitter.now) was (F.seen files.new).held records
-        (cut_all splitter.now.size block.now)) }
+    requires parts { HaveRecords splitter.now (F.seen files.old).held parts.old index }
+    ensures sorts { OfRecords splitter.now (F.seen files.old).held parts.old index (λ was records.
+        IfOk result (SortsBlock (task_in splitter.now) was (F.seen files.new).held parts.new.numbers
+        parts.new.writers.items parts.new.gathered records (cut_all splitter.now.size block.now))) }
+    ensures left { OfRecords splitter.now (F.seen files.old).held parts.old index (λ was records.
+        OnErr result (LeavesBlock (task_in splitter.now) was (F.seen files.new).held records
+        (cut_all splitter.now.size block.now))) }
     ensures some { IfErr result (λ fault. fault ≡ Write → 1 ≤ length (cut_all splitter.now.size block.now)) }
     ensures cause { IfErr result (HasCause (F.seen files.old) (F.seen files.new)) }
     ensures calm { OnOk result (IsCalm (F.seen files.old) (F.seen files.new)) }

@@ -1,44 +1,44 @@
-use Rattle.std.proofs.Common.{◌≡◌, ℕ, ◌*◌, ◌≤◌, inl, List, [], length, Option, Some, None, refl, sym, ◌∙◌, ap, subst}
+use Rattle.std.proofs.Common.{◌≡◌, ℕ, ◌*◌, List, Option, Some, None, refl, sym, ◌∙◌, ap, subst}
 use Rattle.std.specs.Prelude.{unwrap_or, string_bytes}
 use Rattle.las_header.specs.declared.refusal.Refusal.{Refusal}
 use Rattle.las_header.specs.Heads.{HeadView, IsHead}
 use Rattle.las_header.specs.Plain.{plain_of}
 use Rattle.las_outside.specs.Files.{FileMap, WhereKnown}
-use Rattle.laz_forms.specs.declared.fault.Fault.TheVariants.{Write}
+use Rattle.las_outside.specs.Frames.{IsCalm}
+use Rattle.laz_forms.specs.declared.fault.Fault.TheVariants.{Memory}
 use Rattle.laz_reader.specs.Reading.{ReaderSeen, StandsFor}
-use Rattle.laz_forms.proofs.Public.{known_both, known_then, if_err, if_ok_weaker}
+use Rattle.laz_forms.proofs.Public.{known_both, known_then, if_err_weaker, if_ok_weaker}
 use Rattle.laz_reader.proofs.Public.{then_writes}
-use Rattle.laz_file.proofs.Public.{stands_ready}
+use Rattle.laz_file.specs.Endings.{OutputFile}
+use Rattle.laz_file.proofs.Public.{cause_since, ends_err, left_before, ok_then, stands_ready}
 use Rattle.las_split.specs.Files.{with_files}
-use Rattle.las_split.specs.Outputs.{LeavesParts, PartFile, all_finished, all_stopped, outputs_under, part_files}
+use Rattle.las_split.specs.Outputs.{LeavesParts, Splits, all_finished, all_stopped, outputs_under, part_files}
 use Rattle.las_split.specs.Parts.{numbers_of_parts}
 use Rattle.las_split.specs.Sorting.{EndsSplitting, task_of}
 use Rattle.las_split.specs.Splitting.{OnlySplits, SplitsTo}
+use Rattle.las_split.proofs.Making.{ends_fault, ends_finishing, ends_refused}
 use Rattle.las_split.proofs.WholeSplits.{files_are, left_frame, leaves_splits, only_leaves, only_some, prefixes_leave, splits_end, splits_one, stopped_leave, err_if}
-use Rattle.las_split.proofs.SomeRecords.{of_fault}
 use Rattle.las_split.proofs.files.split.Goals as goal
 
-pub returns-in_err-crew-clause-left : goal.returns-in_err-crew-clause-left
-returns-in_err-crew-clause-left g c =
-    let old = (g.F.Files.seen c.args.files.now).held in
+pub returns-in_err-crew-clause-ends : goal.returns-in_err-crew-clause-ends
+returns-in_err-crew-clause-ends g c =
+    let files = g.F.Files.seen c.args.files.now in
     let first = c.args.reader in
     let rule = c.args.rule.now in
     let stem = string_bytes c.args.output.now.stem in
     let end = string_bytes c.args.output.now.end in
-    if_err _ c.from_residual.result _ c.from_residual.ensures.1
-    (known_then old first.name (StandsFor first) (λ file. (records : List (List ℕ)) (refusal : Option Refusal) → SplitsTo rule file records refusal → LeavesParts (part_files stem end rule file records) old old)
-    (λ file st. λ records refusal to. (0, [], inl tt, refl)) c.requires.stands)
+    ends_err (Splits stem end rule) first.name files files _ c.from_residual.result Memory c.from_residual.ensures.1
+    (left_before (Splits stem end rule) first.name files files (StandsFor first) c.requires.stands refl)
 
-pub returns-in_err-plain-clause-left : goal.returns-in_err-plain-clause-left
-returns-in_err-plain-clause-left g c =
-    let old = (g.F.Files.seen c.args.files.now).held in
+pub returns-in_err-plain-clause-ends : goal.returns-in_err-plain-clause-ends
+returns-in_err-plain-clause-ends g c =
+    let files = g.F.Files.seen c.args.files.now in
     let first = c.args.reader in
     let rule = c.args.rule.now in
     let stem = string_bytes c.args.output.now.stem in
     let end = string_bytes c.args.output.now.end in
-    if_err _ c.from_residual-in_err-plain.result _ c.from_residual-in_err-plain.ensures.1
-    (known_then old first.name (StandsFor first) (λ file. (records : List (List ℕ)) (refusal : Option Refusal) → SplitsTo rule file records refusal → LeavesParts (part_files stem end rule file records) old old)
-    (λ file st. λ records refusal to. (0, [], inl tt, refl)) c.requires.stands)
+    ends_err (Splits stem end rule) first.name files files _ c.from_residual-in_err-plain.result Memory c.from_residual-in_err-plain.ensures.1
+    (left_before (Splits stem end rule) first.name files files (StandsFor first) c.requires.stands refl)
 
 pub split_records-requires-clause-reads : goal.split_records-requires-clause-reads
 split_records-requires-clause-reads g c κs lives =
@@ -52,9 +52,10 @@ split_records-requires-clause-reads g c κs lives =
     subst (λ (name : List ℕ). WhereKnown old name (StandsFor reader)) (sym (ap (λ (r : ReaderSeen). r.name) ready))
     (known_then old first.name (StandsFor first) (StandsFor reader) (λ file st. stands_ready first reader (2 * c.hands-hands.result) file ready st) c.requires.stands)
 
-pub returns-in_err-parts-clause-left : goal.returns-in_err-parts-clause-left
-returns-in_err-parts-clause-left g c =
-    let old = (g.F.Files.seen c.args.files.now).held in
+pub returns-in_err-parts-clause-ends : goal.returns-in_err-parts-clause-ends
+returns-in_err-parts-clause-ends g c =
+    let before = g.F.Files.seen c.args.files.now in
+    let old = before.held in
     let first = c.args.reader in
     let rule = c.args.rule.now in
     let stem = string_bytes c.args.output.now.stem in
@@ -66,14 +67,17 @@ returns-in_err-parts-clause-left g c =
     let task = task_of c.args.output.now (unwrap_or plain reader.head) rule in
     let head : IsHead first.head.bytes = subst (λ (h : HeadView). IsHead h.bytes) heads c.plain_head.ensures.head in
     let same : task.head ≡ plain_of first.head.bytes = c.in_ok-plain.ensures.plain.bytes ∙ ap (λ (h : HeadView). plain_of h.bytes) heads in
-    let mid = (g.F.Files.seen c.split_records.new.files).held in
+    let between = g.F.Files.seen c.split_records.new.files in
+    let mid = between.held in
     let turn = λ (now : Option FileMap) (k : WhereKnown old first.name (λ file. (records : List (List ℕ)) (refusal : Option Refusal) → SplitsTo rule file records refusal → LeavesParts (outputs_under stem end task.head rule records) old now)).
     known_both old first.name (StandsFor first) (λ file. (records : List (List ℕ)) (refusal : Option Refusal) → SplitsTo rule file records refusal → LeavesParts (outputs_under stem end task.head rule records) old now)
     (λ file. (records : List (List ℕ)) (refusal : Option Refusal) → SplitsTo rule file records refusal → LeavesParts (part_files stem end rule file records) old now)
-    (λ file st l. λ records refusal to. subst (λ (ps : List PartFile). LeavesParts ps old now) (files_are task first file records same st) (l records refusal to)) c.requires.stands k in
-    let p = c.in_err-parts.ensures.left in
-    if_err _ c.from_residual-in_err-parts.result _ c.from_residual-in_err-parts.ensures.1
+    (λ file st l. λ records refusal to. subst (λ (ps : List OutputFile). LeavesParts ps old now) (files_are task first file records same st) (l records refusal to)) c.requires.stands k in
+    let h = c.in_err-parts.ensures in
+    let p = h.left in
+    ends_fault stem end rule first.name before between _ c.from_residual-in_err-parts.result c.in_err-parts.field-0.0 c.from_residual-in_err-parts.ensures.1 h.cause
     (turn mid (leaves_splits task old first reader (2 * c.hands-hands.result) ready c.requires.new.whole head c.requires.stands p.0 p.1 p.2 mid p.3))
+    (λ is. let q = h.some is in splits_one task old first reader (2 * c.hands-hands.result) ready c.requires.new.whole head c.requires.stands q.0 q.1 q.2 q.3)
 
 pub finish_all-requires-clause-parts : goal.finish_all-requires-clause-parts
 finish_all-requires-clause-parts g c κs lives =
@@ -97,9 +101,10 @@ finish_all-requires-clause-parts g c κs lives =
     let e = splits_end task old first reader (2 * c.hands-hands.result) ready c.requires.new.whole head c.requires.stands d.0 d.1 d.3 mid ns ws d.2 None d.4 ends in
     (task, old, e.0, e.1)
 
-pub returns-in-None-clause-split : goal.returns-in-None-clause-split
-returns-in-None-clause-split g c =
-    let old = (g.F.Files.seen c.args.files.now).held in
+pub returns-in-None-clause-ends : goal.returns-in-None-clause-ends
+returns-in-None-clause-ends g c =
+    let before = g.F.Files.seen c.args.files.now in
+    let old = before.held in
     let first = c.args.reader in
     let rule = c.args.rule.now in
     let stem = string_bytes c.args.output.now.stem in
@@ -111,46 +116,61 @@ returns-in-None-clause-split g c =
     let task = task_of c.args.output.now (unwrap_or plain reader.head) rule in
     let head : IsHead first.head.bytes = subst (λ (h : HeadView). IsHead h.bytes) heads c.plain_head.ensures.head in
     let same : task.head ≡ plain_of first.head.bytes = c.in_ok-plain.ensures.plain.bytes ∙ ap (λ (h : HeadView). plain_of h.bytes) heads in
-    let mid = (g.F.Files.seen c.split_records.new.files).held in
-    let ns = c.in_ok-parts.parts.numbers in
-    let ws = c.in_ok-parts.parts.writers.items in
-    let d = c.in_ok-parts.ensures.takes in
-    let ends = subst (EndsSplitting old reader d.0 d.2) c.in-None.is d.5 in
-    let e = splits_end task old first reader (2 * c.hands-hands.result) ready c.requires.new.whole head c.requires.stands d.0 d.1 d.3 mid ns ws d.2 None d.4 ends in
-    let new = (g.F.Files.seen c.finish_all.new.files).held in
-    if_ok_weaker _ _ c.finish_all.result
-    (λ numbers x.
-    known_both old first.name (StandsFor first) (λ file. OnlySplits rule file e.0 None)
-    (λ file. (records : List (List ℕ)) × OnlySplits rule file records None × (numbers.items ≡ numbers_of_parts rule records) × (new ≡ with_files old (all_finished (part_files stem end rule file records))))
-    (λ file st o. (e.0, o, x.0, x.1 ∙ ap (λ (ps : List PartFile). with_files old (all_finished ps)) (files_are task first file e.0 same st))) c.requires.stands e.2)
-    (c.finish_all.ensures.finished task old e.0 e.1)
-
-pub returns-in-None-clause-left : goal.returns-in-None-clause-left
-returns-in-None-clause-left g c =
-    let old = (g.F.Files.seen c.args.files.now).held in
-    let first = c.args.reader in
-    let rule = c.args.rule.now in
-    let stem = string_bytes c.args.output.now.stem in
-    let end = string_bytes c.args.output.now.end in
-    let reader = c.crew.new.self in
-    let ready = c.in_ok-crew.ensures.kept in
-    let heads : reader.head ≡ first.head = ap (λ (r : ReaderSeen). r.head) ready in
-    let plain = c.in_ok-plain.plain in
-    let task = task_of c.args.output.now (unwrap_or plain reader.head) rule in
-    let head : IsHead first.head.bytes = subst (λ (h : HeadView). IsHead h.bytes) heads c.plain_head.ensures.head in
-    let same : task.head ≡ plain_of first.head.bytes = c.in_ok-plain.ensures.plain.bytes ∙ ap (λ (h : HeadView). plain_of h.bytes) heads in
-    let mid = (g.F.Files.seen c.split_records.new.files).held in
-    let ns = c.in_ok-parts.parts.numbers in
-    let ws = c.in_ok-parts.parts.writers.items in
+    let between = g.F.Files.seen c.split_records.new.files in
+    let mid = between.held in
     let turn = λ (now : Option FileMap) (k : WhereKnown old first.name (λ file. (records : List (List ℕ)) (refusal : Option Refusal) → SplitsTo rule file records refusal → LeavesParts (outputs_under stem end task.head rule records) old now)).
     known_both old first.name (StandsFor first) (λ file. (records : List (List ℕ)) (refusal : Option Refusal) → SplitsTo rule file records refusal → LeavesParts (outputs_under stem end task.head rule records) old now)
     (λ file. (records : List (List ℕ)) (refusal : Option Refusal) → SplitsTo rule file records refusal → LeavesParts (part_files stem end rule file records) old now)
-    (λ file st l. λ records refusal to. subst (λ (ps : List PartFile). LeavesParts ps old now) (files_are task first file records same st) (l records refusal to)) c.requires.stands k in
+    (λ file st l. λ records refusal to. subst (λ (ps : List OutputFile). LeavesParts ps old now) (files_are task first file records same st) (l records refusal to)) c.requires.stands k in
+    let ns = c.in_ok-parts.parts.numbers in
+    let ws = c.in_ok-parts.parts.writers.items in
     let d = c.in_ok-parts.ensures.takes in
     let ends = subst (EndsSplitting old reader d.0 d.2) c.in-None.is d.5 in
     let e = splits_end task old first reader (2 * c.hands-hands.result) ready c.requires.new.whole head c.requires.stands d.0 d.1 d.3 mid ns ws d.2 None d.4 ends in
-    let new = (g.F.Files.seen c.finish_all.new.files).held in
-    err_if _ c.finish_all.result (λ fault l. turn new (only_leaves task old new first.name e.0 None e.2 l)) (c.finish_all.ensures.left task old e.0 e.1)
+    let after = g.F.Files.seen c.finish_all.new.files in
+    let new = after.held in
+    let h = c.finish_all.ensures in
+    let calm = c.in_ok-parts.ensures.calm in
+    ends_finishing stem end rule first.name before after _ c.finish_all.result
+    (if_ok_weaker _ _ c.finish_all.result
+    (λ numbers x.
+    known_both old first.name (StandsFor first) (λ file. OnlySplits rule file e.0 None)
+    (λ file. (records : List (List ℕ)) × OnlySplits rule file records None × (new ≡ with_files old (all_finished (part_files stem end rule file records))))
+    (λ file st o. (e.0, o, x.1 ∙ ap (λ (ps : List OutputFile). with_files old (all_finished ps)) (files_are task first file e.0 same st))) c.requires.stands e.2)
+    (h.finished task old e.0 e.1))
+    (ok_then c.finish_all.result (λ (k : IsCalm between after). record { reads = k.reads ∙ calm.reads; writes = k.writes ∙ calm.writes }) h.calm)
+    (if_err_weaker _ _ c.finish_all.result (λ fault k. cause_since before between after fault calm.reads calm.writes k) h.cause)
+    (err_if _ c.finish_all.result (λ fault l. turn new (only_leaves task old new first.name e.0 None e.2 l)) (h.left task old e.0 e.1))
+    (if_err_weaker _ _ c.finish_all.result (λ fault k is. only_some rule old first.name e.0 None e.2 (k is)) (h.some task old e.0 e.1))
+
+pub returns-in-None-clause-numbers : goal.returns-in-None-clause-numbers
+returns-in-None-clause-numbers g c =
+    let before = g.F.Files.seen c.args.files.now in
+    let old = before.held in
+    let first = c.args.reader in
+    let rule = c.args.rule.now in
+    let stem = string_bytes c.args.output.now.stem in
+    let end = string_bytes c.args.output.now.end in
+    let reader = c.crew.new.self in
+    let ready = c.in_ok-crew.ensures.kept in
+    let heads : reader.head ≡ first.head = ap (λ (r : ReaderSeen). r.head) ready in
+    let plain = c.in_ok-plain.plain in
+    let task = task_of c.args.output.now (unwrap_or plain reader.head) rule in
+    let head : IsHead first.head.bytes = subst (λ (h : HeadView). IsHead h.bytes) heads c.plain_head.ensures.head in
+    let same : task.head ≡ plain_of first.head.bytes = c.in_ok-plain.ensures.plain.bytes ∙ ap (λ (h : HeadView). plain_of h.bytes) heads in
+    let between = g.F.Files.seen c.split_records.new.files in
+    let mid = between.held in
+    let ns = c.in_ok-parts.parts.numbers in
+    let ws = c.in_ok-parts.parts.writers.items in
+    let d = c.in_ok-parts.ensures.takes in
+    let ends = subst (EndsSplitting old reader d.0 d.2) c.in-None.is d.5 in
+    let e = splits_end task old first reader (2 * c.hands-hands.result) ready c.requires.new.whole head c.requires.stands d.0 d.1 d.3 mid ns ws d.2 None d.4 ends in
+    if_ok_weaker _ _ c.finish_all.result
+    (λ numbers x.
+    known_then old first.name (λ file. OnlySplits rule file e.0 None)
+    (λ file. (records : List (List ℕ)) × OnlySplits rule file records None × (numbers.items ≡ numbers_of_parts rule records))
+    (λ file o. (e.0, o, x.0)) e.2)
+    (c.finish_all.ensures.finished task old e.0 e.1)
 
 pub stop_all-requires-clause-parts : goal.stop_all-requires-clause-parts
 stop_all-requires-clause-parts g c κs lives =
@@ -174,9 +194,10 @@ stop_all-requires-clause-parts g c κs lives =
     let e = splits_end task old first reader (2 * c.hands-hands.result) ready c.requires.new.whole head c.requires.stands d.0 d.1 d.3 mid ns ws d.2 (Some c.in-Some.cause) d.4 ends in
     (task, old, e.0, e.1)
 
-pub returns-in_err-stop_all-in-Some-clause-left : goal.returns-in_err-stop_all-in-Some-clause-left
-returns-in_err-stop_all-in-Some-clause-left g c =
-    let old = (g.F.Files.seen c.args.files.now).held in
+pub returns-in_err-stop_all-in-Some-clause-ends : goal.returns-in_err-stop_all-in-Some-clause-ends
+returns-in_err-stop_all-in-Some-clause-ends g c =
+    let before = g.F.Files.seen c.args.files.now in
+    let old = before.held in
     let first = c.args.reader in
     let rule = c.args.rule.now in
     let stem = string_bytes c.args.output.now.stem in
@@ -188,23 +209,31 @@ returns-in_err-stop_all-in-Some-clause-left g c =
     let task = task_of c.args.output.now (unwrap_or plain reader.head) rule in
     let head : IsHead first.head.bytes = subst (λ (h : HeadView). IsHead h.bytes) heads c.plain_head.ensures.head in
     let same : task.head ≡ plain_of first.head.bytes = c.in_ok-plain.ensures.plain.bytes ∙ ap (λ (h : HeadView). plain_of h.bytes) heads in
-    let mid = (g.F.Files.seen c.split_records.new.files).held in
-    let ns = c.in_ok-parts.parts.numbers in
-    let ws = c.in_ok-parts.parts.writers.items in
+    let between = g.F.Files.seen c.split_records.new.files in
+    let mid = between.held in
     let turn = λ (now : Option FileMap) (k : WhereKnown old first.name (λ file. (records : List (List ℕ)) (refusal : Option Refusal) → SplitsTo rule file records refusal → LeavesParts (outputs_under stem end task.head rule records) old now)).
     known_both old first.name (StandsFor first) (λ file. (records : List (List ℕ)) (refusal : Option Refusal) → SplitsTo rule file records refusal → LeavesParts (outputs_under stem end task.head rule records) old now)
     (λ file. (records : List (List ℕ)) (refusal : Option Refusal) → SplitsTo rule file records refusal → LeavesParts (part_files stem end rule file records) old now)
-    (λ file st l. λ records refusal to. subst (λ (ps : List PartFile). LeavesParts ps old now) (files_are task first file records same st) (l records refusal to)) c.requires.stands k in
+    (λ file st l. λ records refusal to. subst (λ (ps : List OutputFile). LeavesParts ps old now) (files_are task first file records same st) (l records refusal to)) c.requires.stands k in
+    let ns = c.in_ok-parts.parts.numbers in
+    let ws = c.in_ok-parts.parts.writers.items in
     let d = c.in_ok-parts.ensures.takes in
     let ends = subst (EndsSplitting old reader d.0 d.2) c.in-Some.is d.5 in
     let e = splits_end task old first reader (2 * c.hands-hands.result) ready c.requires.new.whole head c.requires.stands d.0 d.1 d.3 mid ns ws d.2 (Some c.in-Some.cause) d.4 ends in
-    let new = (g.F.Files.seen c.stop_all.new.files).held in
-    let l = prefixes_leave task old new e.0 (c.in_err-stop_all-in-Some.ensures.left task old e.0 e.1) in
-    if_err _ c.from_residual-in_err-stop_all-in-Some.result _ c.from_residual-in_err-stop_all-in-Some.ensures.1 (turn new (only_leaves task old new first.name e.0 (Some c.in-Some.cause) e.2 l))
+    let after = g.F.Files.seen c.stop_all.new.files in
+    let new = after.held in
+    let h = c.in_err-stop_all-in-Some.ensures in
+    let calm = c.in_ok-parts.ensures.calm in
+    let fault = c.in_err-stop_all-in-Some.field-0.0 in
+    ends_fault stem end rule first.name before after _ c.from_residual-in_err-stop_all-in-Some.result fault c.from_residual-in_err-stop_all-in-Some.ensures.1
+    (cause_since before between after fault calm.reads calm.writes h.cause)
+    (turn new (only_leaves task old new first.name e.0 (Some c.in-Some.cause) e.2 (prefixes_leave task old new e.0 (h.left task old e.0 e.1))))
+    (λ is. only_some rule old first.name e.0 (Some c.in-Some.cause) e.2 (h.some task old e.0 e.1 is))
 
-pub returns-clause-refused : goal.returns-clause-refused
-returns-clause-refused g c cause is =
-    let old = (g.F.Files.seen c.args.files.now).held in
+pub returns-clause-ends : goal.returns-clause-ends
+returns-clause-ends g c =
+    let before = g.F.Files.seen c.args.files.now in
+    let old = before.held in
     let first = c.args.reader in
     let rule = c.args.rule.now in
     let stem = string_bytes c.args.output.now.stem in
@@ -216,100 +245,25 @@ returns-clause-refused g c cause is =
     let task = task_of c.args.output.now (unwrap_or plain reader.head) rule in
     let head : IsHead first.head.bytes = subst (λ (h : HeadView). IsHead h.bytes) heads c.plain_head.ensures.head in
     let same : task.head ≡ plain_of first.head.bytes = c.in_ok-plain.ensures.plain.bytes ∙ ap (λ (h : HeadView). plain_of h.bytes) heads in
-    let mid = (g.F.Files.seen c.split_records.new.files).held in
-    let ns = c.in_ok-parts.parts.numbers in
-    let ws = c.in_ok-parts.parts.writers.items in
-    let d = c.in_ok-parts.ensures.takes in
-    let ends = subst (EndsSplitting old reader d.0 d.2) c.in-Some.is d.5 in
-    let e = splits_end task old first reader (2 * c.hands-hands.result) ready c.requires.new.whole head c.requires.stands d.0 d.1 d.3 mid ns ws d.2 (Some c.in-Some.cause) d.4 ends in
-    let new = (g.F.Files.seen c.stop_all.new.files).held in
-    let is_cause : c.in-Some.cause ≡ cause = cc in
-    let s = c.in_ok-stop_all-in-Some.ensures.stopped task old e.0 e.1 in
-    known_both old first.name (StandsFor first) (λ file. OnlySplits rule file e.0 (Some c.in-Some.cause))
-    (λ file. (records : List (List ℕ)) × OnlySplits rule file records (Some cause) × (new ≡ with_files old (all_stopped (part_files stem end rule file records))))
-    (λ file st o. (e.0, subst (λ (x : Refusal). OnlySplits rule file e.0 (Some x)) is_cause o, s ∙ ap (λ (ps : List PartFile). with_files old (all_stopped ps)) (files_are task first file e.0 same st))) c.requires.stands e.2
-
-pub returns-clause-left : goal.returns-clause-left
-returns-clause-left g c =
-    let old = (g.F.Files.seen c.args.files.now).held in
-    let first = c.args.reader in
-    let rule = c.args.rule.now in
-    let stem = string_bytes c.args.output.now.stem in
-    let end = string_bytes c.args.output.now.end in
-    let reader = c.crew.new.self in
-    let ready = c.in_ok-crew.ensures.kept in
-    let heads : reader.head ≡ first.head = ap (λ (r : ReaderSeen). r.head) ready in
-    let plain = c.in_ok-plain.plain in
-    let task = task_of c.args.output.now (unwrap_or plain reader.head) rule in
-    let head : IsHead first.head.bytes = subst (λ (h : HeadView). IsHead h.bytes) heads c.plain_head.ensures.head in
-    let same : task.head ≡ plain_of first.head.bytes = c.in_ok-plain.ensures.plain.bytes ∙ ap (λ (h : HeadView). plain_of h.bytes) heads in
-    let mid = (g.F.Files.seen c.split_records.new.files).held in
-    let ns = c.in_ok-parts.parts.numbers in
-    let ws = c.in_ok-parts.parts.writers.items in
+    let between = g.F.Files.seen c.split_records.new.files in
+    let mid = between.held in
     let turn = λ (now : Option FileMap) (k : WhereKnown old first.name (λ file. (records : List (List ℕ)) (refusal : Option Refusal) → SplitsTo rule file records refusal → LeavesParts (outputs_under stem end task.head rule records) old now)).
     known_both old first.name (StandsFor first) (λ file. (records : List (List ℕ)) (refusal : Option Refusal) → SplitsTo rule file records refusal → LeavesParts (outputs_under stem end task.head rule records) old now)
     (λ file. (records : List (List ℕ)) (refusal : Option Refusal) → SplitsTo rule file records refusal → LeavesParts (part_files stem end rule file records) old now)
-    (λ file st l. λ records refusal to. subst (λ (ps : List PartFile). LeavesParts ps old now) (files_are task first file records same st) (l records refusal to)) c.requires.stands k in
+    (λ file st l. λ records refusal to. subst (λ (ps : List OutputFile). LeavesParts ps old now) (files_are task first file records same st) (l records refusal to)) c.requires.stands k in
+    let ns = c.in_ok-parts.parts.numbers in
+    let ws = c.in_ok-parts.parts.writers.items in
     let d = c.in_ok-parts.ensures.takes in
     let ends = subst (EndsSplitting old reader d.0 d.2) c.in-Some.is d.5 in
     let e = splits_end task old first reader (2 * c.hands-hands.result) ready c.requires.new.whole head c.requires.stands d.0 d.1 d.3 mid ns ws d.2 (Some c.in-Some.cause) d.4 ends in
-    let new = (g.F.Files.seen c.stop_all.new.files).held in
+    let after = g.F.Files.seen c.stop_all.new.files in
+    let new = after.held in
     let s = c.in_ok-stop_all-in-Some.ensures.stopped task old e.0 e.1 in
-    turn new (only_leaves task old new first.name e.0 (Some c.in-Some.cause) e.2 (stopped_leave task old mid new ns ws e.0 e.1 s))
-
-pub returns-in_err-parts-clause-some : goal.returns-in_err-parts-clause-some
-returns-in_err-parts-clause-some g c is =
-    let old = (g.F.Files.seen c.args.files.now).held in
-    let first = c.args.reader in
-    let rule = c.args.rule.now in
-    let reader = c.crew.new.self in
-    let ready = c.in_ok-crew.ensures.kept in
-    let heads : reader.head ≡ first.head = ap (λ (r : ReaderSeen). r.head) ready in
-    let plain = c.in_ok-plain.plain in
-    let task = task_of c.args.output.now (unwrap_or plain reader.head) rule in
-    let head : IsHead first.head.bytes = subst (λ (h : HeadView). IsHead h.bytes) heads c.plain_head.ensures.head in
-    let made = if_err _ c.from_residual-in_err-parts.result _ c.from_residual-in_err-parts.ensures.1 c.in_err-parts.ensures.some in
-    let p = of_fault c.from_residual-in_err-parts.result Write _ made is in
-    splits_one task old first reader (2 * c.hands-hands.result) ready c.requires.new.whole head c.requires.stands p.0 p.1 p.2 p.3
-
-pub returns-in-None-clause-some : goal.returns-in-None-clause-some
-returns-in-None-clause-some g c is =
-    let old = (g.F.Files.seen c.args.files.now).held in
-    let first = c.args.reader in
-    let rule = c.args.rule.now in
-    let reader = c.crew.new.self in
-    let ready = c.in_ok-crew.ensures.kept in
-    let heads : reader.head ≡ first.head = ap (λ (r : ReaderSeen). r.head) ready in
-    let plain = c.in_ok-plain.plain in
-    let task = task_of c.args.output.now (unwrap_or plain reader.head) rule in
-    let head : IsHead first.head.bytes = subst (λ (h : HeadView). IsHead h.bytes) heads c.plain_head.ensures.head in
-    let mid = (g.F.Files.seen c.split_records.new.files).held in
-    let ns = c.in_ok-parts.parts.numbers in
-    let ws = c.in_ok-parts.parts.writers.items in
-    let d = c.in_ok-parts.ensures.takes in
-    let ends = subst (EndsSplitting old reader d.0 d.2) c.in-None.is d.5 in
-    let e = splits_end task old first reader (2 * c.hands-hands.result) ready c.requires.new.whole head c.requires.stands d.0 d.1 d.3 mid ns ws d.2 None d.4 ends in
-    only_some rule old first.name e.0 None e.2 (of_fault c.finish_all.result Write (1 ≤ length e.0) (c.finish_all.ensures.some task old e.0 e.1) is)
-
-pub returns-in_err-stop_all-in-Some-clause-some : goal.returns-in_err-stop_all-in-Some-clause-some
-returns-in_err-stop_all-in-Some-clause-some g c is =
-    let old = (g.F.Files.seen c.args.files.now).held in
-    let first = c.args.reader in
-    let rule = c.args.rule.now in
-    let reader = c.crew.new.self in
-    let ready = c.in_ok-crew.ensures.kept in
-    let heads : reader.head ≡ first.head = ap (λ (r : ReaderSeen). r.head) ready in
-    let plain = c.in_ok-plain.plain in
-    let task = task_of c.args.output.now (unwrap_or plain reader.head) rule in
-    let head : IsHead first.head.bytes = subst (λ (h : HeadView). IsHead h.bytes) heads c.plain_head.ensures.head in
-    let mid = (g.F.Files.seen c.split_records.new.files).held in
-    let ns = c.in_ok-parts.parts.numbers in
-    let ws = c.in_ok-parts.parts.writers.items in
-    let d = c.in_ok-parts.ensures.takes in
-    let ends = subst (EndsSplitting old reader d.0 d.2) c.in-Some.is d.5 in
-    let e = splits_end task old first reader (2 * c.hands-hands.result) ready c.requires.new.whole head c.requires.stands d.0 d.1 d.3 mid ns ws d.2 (Some c.in-Some.cause) d.4 ends in
-    let made = if_err (λ f. f ≡ Write → 1 ≤ length e.0) c.from_residual-in_err-stop_all-in-Some.result _ c.from_residual-in_err-stop_all-in-Some.ensures.1 (c.in_err-stop_all-in-Some.ensures.some task old e.0 e.1) in
-    only_some rule old first.name e.0 (Some c.in-Some.cause) e.2 (of_fault c.from_residual-in_err-stop_all-in-Some.result Write (1 ≤ length e.0) made is)
+    ends_refused stem end rule first.name before after (Unit {0}) c.in-Some.cause
+    (known_both old first.name (StandsFor first) (λ file. OnlySplits rule file e.0 (Some c.in-Some.cause))
+    (λ file. (records : List (List ℕ)) × OnlySplits rule file records (Some c.in-Some.cause) × (new ≡ with_files old (all_stopped (part_files stem end rule file records))))
+    (λ file st o. (e.0, o, s ∙ ap (λ (ps : List OutputFile). with_files old (all_stopped ps)) (files_are task first file e.0 same st))) c.requires.stands e.2)
+    (turn new (only_leaves task old new first.name e.0 (Some c.in-Some.cause) e.2 (stopped_leave task old mid new ns ws e.0 e.1 s)))
 
 pub returns-in_err-parts-clause-frame : goal.returns-in_err-parts-clause-frame
 returns-in_err-parts-clause-frame g c =

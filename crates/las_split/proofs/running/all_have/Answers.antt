@@ -1,21 +1,16 @@
-use Rattle.std.proofs.Common.{◌≡◌, ◌+◌, ◌∙◌, sym, arith}
-use Rattle.las_split.specs.Parts.{number_by}
-use Rattle.las_split.proofs.Runs.{number_all, number_more}
-use Rattle.las_split.proofs.SortingPoints.{rest_next}
+use Rattle.std.proofs.Common.{◌≡◌, sym, subst, arith, ◌/◌, length}
+use Rattle.std.specs.Prelude.{All}
+use Rattle.las_filter.specs.declared.rule.Rule.{Rule}
+use Rattle.las_split.specs.Parts.{numbers_from}
+use Rattle.las_split.specs.Sorting.{cut_all}
+use Rattle.las_split.proofs.Runs.{every_all}
+use Rattle.las_split.proofs.SortingPoints.{cut_length}
 use Rattle.las_split.proofs.running.all_have.Goals as goal
 
-pub loop-turn-preserved : goal.loop-turn-preserved
-loop-turn-preserved c =
-    let t = c.loop-turn.turn in
+pub returns-in-Every : goal.returns-in-Every
+returns-in-Every c holds =
+    let size = c.args.size in
     let group = c.args.group.now in
-    let rest = c.loop-turn.rest.now in
-    let point = c.split_at.result.0.now in
-    let is : number_by c.args.rule.now (c.args.index + t) point ≡ c.args.number = sym c.part_of.ensures ∙ omega (arith, c.if-part_of-number.false) in
-    record {
-      rest = rest_next c.args.size t group rest c.split_at.result.1.now c.loop-turn.invariant.rest c.split_at.ensures.back;
-      all = number_more c.args.rule.now c.args.index c.args.size t group point rest c.args.number c.loop-turn-test.true c.loop-turn.invariant.rest c.split_at.ensures.front is c.loop-turn.invariant.all;
-    }
-
-pub returns : goal.returns
-returns c holds =
-    number_all c.args.rule.now c.args.index c.args.size c.loop-turn.turn c.args.group.now c.args.number (omega (arith, c.loop-turn-test.false)) c.loop-turn.invariant.all
+    subst (λ (rule : Rule). All (λ n. n ≡ c.args.number) (numbers_from rule c.args.index (cut_all size group))) (sym c.in-Every.is)
+    (every_all c.in-Every.n c.args.index c.args.number (cut_all size group)
+    (λ k lt. c.lie_in.ensures holds k (omega (arith, lt, cut_length size (length group / size) group))))

@@ -2,7 +2,7 @@ use Rattle.std.proofs.Common.{◌≡◌, ◌*◌, drop, take}
 use Rattle.std.specs.Prelude.{All}
 use Rattle.las_split.specs.Parts.{numbers_from}
 use Rattle.las_split.specs.Sorting.{cut_all}
-use Rattle.las_split.proofs.running.all_have.Given as goal
+use Rattle.las_split.proofs.running.each_has.Given as goal
 
 abbrev pub invariant-loop-turn : goal.invariant-loop-turn
 invariant-loop-turn l = record {
