@@ -13,9 +13,10 @@ use Rattle.las_outside.specs.Files.{FileMap, WhereKnown, bytes_of, with_file}
 use Rattle.las_outside.specs.Outside.{Outside, with_asked, with_bytes, with_write_fault}
 use Rattle.las_outside.proofs.Public.{get-with_value, same_other, after, changed_after}
 use Rattle.laz_forms.specs.declared.fault.Fault.TheVariants as fault
+use Rattle.laz_file.specs.Copying.{with_reads}
 use Rattle.las_merge.specs.declared.fault.MergeFault.{MergeFault}
 use Rattle.las_merge.specs.declared.fault.MergeFault.TheVariants.{At, Unequal, TooManyPoints, TooManyChunks, Write, Memory}
-use Rattle.las_merge.specs.Appending.{IsCopyFault, LeavesPrefix, SourceSeen, part_in, part_of, with_reads}
+use Rattle.las_merge.specs.Appending.{IsCopyFault, LeavesPrefix, SourceSeen, part_in, part_of}
 
 -- bytes that were read are the part, if the files are known
 some_bytes : (o : Option (List ℕ)) (P : List ℕ → Type 0) → IsSomeAnd o P → P (unwrap_or o [])

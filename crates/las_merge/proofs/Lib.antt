@@ -18,6 +18,8 @@ mod KeptPacked
 mod CopiedOnce
 mod CopiedLaws
 mod CopiedWhole
+mod MergeOutcomes
+mod CopyOutcomes
 mod OneWay
 mod Existing
 pub mod Public

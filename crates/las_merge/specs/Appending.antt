@@ -25,10 +25,6 @@ part_of held source = part_in held source.name source.place source.size
 abbrev pub LiesIn : Option FileMap → SourceSeen → Type 0
 LiesIn held source = WhereKnown held source.name (λ file. source.place + source.size ≤ length file)
 
--- the outside as it was, but with the counts of reads that it has now
-abbrev pub with_reads : (before now : Outside) → Outside
-with_reads before now = record before { read_faults = now.read_faults; asked = now.asked }
-
 -- A fault while inputs are copied has its cause: a read of an input failed, or a write of the output.
 abbrev pub IsCopyFault : (IsInput : ℕ → Type 0) → (old new : Outside) → MergeFault → Type 0
 IsCopyFault IsInput old new (At number (fault.Refused cause)) = ⊥

@@ -12,3 +12,4 @@ pub mod Laws
 pub mod Existing
 pub mod Parts
 pub mod CopiedLaws
+pub mod Outcomes

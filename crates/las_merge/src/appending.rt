@@ -6,7 +6,8 @@ ghost use Rattle.las_outside.specs.Files.{WhereKnown, with_file};
 ghost use Rattle.las_outside.specs.Frames.{IsCalm, OnlyWrites};
 ghost use Rattle.las_outside.specs.Outside.{Outside, with_bytes, with_write_fault};
 ghost use Rattle.laz_reader.specs.Asking.{ReadsAndWrites};
-ghost use Rattle.las_merge.specs.Appending.{IsCopyFault, LiesIn, part_in, part_of, with_reads};
+ghost use Rattle.laz_file.specs.Copying.{with_reads};
+ghost use Rattle.las_merge.specs.Appending.{IsCopyFault, LiesIn, part_in, part_of};
 
 use crate::MergeFault;
 use crate::source::Source;

@@ -1,28 +1,25 @@
 //! Packed files that are merged by copying their chunks.
 ghost use Rattle.std.specs.Prelude.{◌≡◌, ◌≢◌, ◌+◌, ◌++◌, ◌<◌, ◌≤◌, ℕ, List, All, true, length, sum};
-ghost use Rattle.std.specs.Prelude.{sum_by};
-ghost use Rattle.std.specs.Prelude.{IfErr, IfOk, IsErrOf, OnErr, OnOk, string_bytes};
+ghost use Rattle.std.specs.Prelude.{IfErr, IfOk, OnErr, OnOk, string_bytes, sum_by};
 ghost use Rattle.byteorder.specs.Endian.{little_bytes};
 ghost use Rattle.las_header.specs.Fields.{is_packed};
 ghost use Rattle.las_header.specs.Vlrs.{laszip_vlrs_of};
 ghost use Rattle.las_outside.specs.Faults.{Rose};
 ghost use Rattle.las_outside.specs.Frames.{IsCalm, OnlyWrites};
-ghost use Rattle.las_outside.specs.Outside.{Later, with_bytes};
+ghost use Rattle.las_outside.specs.Outside.{with_bytes};
 ghost use Rattle.laz_table.specs.declared.limits.TheConstants.{COUNTED_CHUNKS, MAX_CHUNKS};
 ghost use Rattle.laz_table.specs.Table.{table_bytes};
-ghost use Rattle.laz_forms.specs.declared.fault.Fault.{Fault};
-ghost use Rattle.laz_forms.specs.declared.fault.Fault.TheVariants as file;
 ghost use Rattle.laz_reader.specs.Asking.{AsksAtMost, ReadsAndWrites};
 ghost use Rattle.laz_forms.specs.Packing.{packed_head};
 ghost use Rattle.laz_copied.specs.Copied.{Chunk};
+ghost use Rattle.laz_file.specs.Copying.{with_reads};
 ghost use Rattle.las_merge.specs.declared.fault.MergeFault.{MergeFault};
-ghost use Rattle.las_merge.specs.declared.fault.MergeFault.TheVariants.{At, Unequal, Write};
-ghost use Rattle.las_merge.specs.declared.field.Field.{Field};
-ghost use Rattle.las_merge.specs.Appending.{IsCopyFault, LeavesPrefix, LiesIn, with_reads};
-ghost use Rattle.las_merge.specs.Inputs.{IfKnown, IsUnread, item_at, names_of};
+ghost use Rattle.las_merge.specs.declared.fault.MergeFault.TheVariants.{Write};
+ghost use Rattle.las_merge.specs.Appending.{IsCopyFault, LeavesPrefix, LiesIn};
+ghost use Rattle.las_merge.specs.Inputs.{IfKnown, names_of};
 ghost use Rattle.las_merge.specs.Opening.{first_read, points_read};
-ghost use Rattle.las_merge.specs.Packed.{CanBeCopied, CanCopyFrom, IsCopied, IsKeptFromCopying, IsLeftOfCopy};
-ghost use Rattle.las_merge.specs.Packed.{IsNoFault, IsReachedPacked, asked_to_copy};
+ghost use Rattle.las_merge.specs.Outcomes.{SaysCopying};
+ghost use Rattle.las_merge.specs.Packed.{CanCopyFrom, asked_to_copy};
 ghost use Rattle.las_merge.specs.Summing.{copied_text, summed_head};
 
 use crate::MergeFault;
@@ -39,13 +36,27 @@ use laz_table::{COUNTED_CHUNKS, counted_table_of, vlr_of};
 use std::alloc::{AllocError, Global};
 
 /// What is written before the chunks and after them, and a buffer for these.
-#[derive(Drop)]
 struct Frame {
     head: Head,
     // Where the table stands.
     place: u64,
     table: Vec<u8>,
     buffer: Vec<u8>,
+}
+
+// Written out, so that letting them go is one call in each caller.
+impl Drop for Frame {
+    fn drop(self) {
+        let Frame {
+            head,
+            place: _,
+            table,
+            buffer,
+        } = self;
+        drop(head);
+        drop(table);
+        drop(buffer);
+    }
 }
 
 // The head of the output: the first input's, for chunks that each have a number of points of their own, with the sums
@@ -174,37 +185,11 @@ pub fn merge_copied<F: Files>(
     requires few { length inputs.now ≤ 32 }
     requires names { All (λ name. string_bytes name ≢ output.now) inputs.now }
 
-    ensures copied { OnOk result (IfKnown (F.seen files.old).held (λ known.
-        (merged : List (List ℕ)) × (parts : List (List Chunk)) × CanCopyFrom known (names_of inputs.now) merged parts
-        × IsCopied output.now merged parts (F.seen files.old).held (F.seen files.new).held)) }
-
-    // What keeps the inputs from being copied: then no file has changed.
-    ensures kept { IfErr result (λ cause. IsNoFault cause
-        → ((F.seen files.new).held ≡ (F.seen files.old).held)
-        × IfKnown (F.seen files.old).held (λ known. IsKeptFromCopying known (names_of inputs.now) cause)) }
-
-    // A read that failed is an input's, and so is a missing input: those before it are held, accepted when they are
-    // opened, packed, and like the first.
-    ensures at { (number : ℕ) (cause : Fault) → IsErrOf result (At number cause)
-        → (number < length inputs.now) × IfKnown (F.seen files.old).held (λ known.
-        IsReachedPacked known (names_of inputs.now) number) }
-    ensures read { (number : ℕ) → IsErrOf result (At number file.Read)
-        → IsUnread (item_at (names_of inputs.now) number) (F.seen files.old) (F.seen files.new) }
-    ensures write { IsErrOf result Write → Rose (F.seen files.old).write_faults (F.seen files.new).write_faults
-        × IfKnown (F.seen files.old).held (λ known. CanBeCopied known (names_of inputs.now)) }
-    ensures unequal { (number : ℕ) (field : Field) → IsErrOf result (Unequal number field)
-        → number < length inputs.now }
-    ensures never { (number : ℕ) → IsErrOf result (At number file.Write) → ⊥ }
-
-    // The output is begun only if the inputs can be copied, and then a prefix of it is left.
-    ensures left { OnErr result (IfKnown (F.seen files.old).held (λ known.
-        IsLeftOfCopy known (names_of inputs.now) output.now (F.seen files.old).held (F.seen files.new).held)) }
+    ensures says { SaysCopying (names_of inputs.now) output.now (F.seen files.old) (F.seen files.new) result }
     // Each input is asked once for what is read of it.
     ensures asked { OnOk result (IfKnown (F.seen files.old).held (λ known.
         (merged : List (List ℕ)) (parts : List (List Chunk)) → CanCopyFrom known (names_of inputs.now) merged parts
         → AsksAtMost (asked_to_copy merged parts) (F.seen files.old) (F.seen files.new))) }
-    ensures calm { OnOk result (IsCalm (F.seen files.old) (F.seen files.new)) }
-    ensures later { Later (F.seen files.old) (F.seen files.new) }
 {
     let listed = list_inputs(alloc, files, inputs)?;
     let points = count_points(&listed.inputs)?;

@@ -30,11 +30,24 @@ pub(crate) struct ChunkLists {
 
 /// Packed inputs that were opened and closed again: of all of them the heads, where their chunks stand, and the numbers
 /// of points and of bytes of these.
-#[derive(Drop)]
 pub(crate) struct Listed {
     pub(crate) inputs: Vec<Input>,
     pub(crate) sources: Vec<Source>,
     pub(crate) lists: ChunkLists,
+}
+
+// Written out, so that letting the lists go is one call in each caller.
+impl Drop for Listed {
+    fn drop(self) {
+        let Listed {
+            inputs,
+            sources,
+            lists,
+        } = self;
+        drop(inputs);
+        drop(sources);
+        drop(lists);
+    }
 }
 
 /// The sum of some numbers of bytes.

@@ -1,11 +1,9 @@
 //! Whole files that are merged.
 ghost use Rattle.std.specs.Prelude.{◌≡◌, ◌≢◌, ◌⊎◌, ◌*◌, ◌<◌, ◌≤◌, ℕ, List, [], All, true, false, length};
-ghost use Rattle.std.specs.Prelude.{IfErr, IfOk, IsErrOf, OnErr, OnOk, string_bytes};
+ghost use Rattle.std.specs.Prelude.{IfErr, IfOk, OnOk, string_bytes};
 ghost use Rattle.std.specs.Option.{ForSome};
-ghost use Rattle.las_header.specs.declared.refusal.Refusal.{Refusal};
 ghost use Rattle.las_header.specs.Fields.{is_packed, record_length_of};
 ghost use Rattle.las_header.specs.Vlrs.{laszip_vlrs_of};
-ghost use Rattle.las_outside.specs.Faults.{Rose};
 ghost use Rattle.las_outside.specs.Files.{with_file};
 ghost use Rattle.las_outside.specs.Frames.{IsCalm, OnlyWrites};
 ghost use Rattle.las_outside.specs.Limits.{AreWorkers, IsChunkSize};
@@ -15,15 +13,12 @@ ghost use Rattle.laz_forms.specs.declared.fault.Fault.TheVariants as file;
 ghost use Rattle.laz_reader.specs.Asking.{AsksAtMost};
 ghost use Rattle.laz_forms.specs.Outputs.{Output, finished};
 ghost use Rattle.laz_writer.specs.Writing.{Stands};
-ghost use Rattle.las_merge.specs.declared.fault.MergeFault.TheVariants.{At, Memory, TooManyChunks, TooManyPoints};
-ghost use Rattle.las_merge.specs.declared.fault.MergeFault.TheVariants.{Unequal, Write};
-ghost use Rattle.las_merge.specs.declared.field.Field.{Field};
+ghost use Rattle.las_merge.specs.declared.fault.MergeFault.TheVariants.{Memory, Write};
 ghost use Rattle.las_merge.specs.Asking.{asked_of_all, asked_to_merge, asked_to_read};
 ghost use Rattle.las_merge.specs.Copying.{CopiesAll, EndsMerging, FailsBeginning, output_under, output_with};
-ghost use Rattle.las_merge.specs.Inputs.{CanBeMerged, IfKnown, IsKeptBy, IsReached, IsUnread};
-ghost use Rattle.las_merge.specs.Inputs.{item_at, names_of};
+ghost use Rattle.las_merge.specs.Inputs.{IfKnown, names_of};
 ghost use Rattle.las_merge.specs.Opening.{IsOpen, names_read, points_read};
-ghost use Rattle.las_merge.specs.Merging.{IsLeftIn, IsMerged, IsRefusedIn};
+ghost use Rattle.las_merge.specs.Outcomes.{SaysMerging};
 
 use crate::MergeFault;
 use crate::copying::copy_inputs;
@@ -182,41 +177,10 @@ pub fn merge<R: Threads + Sync, F: Files, G: Gate>(
     requires workers { AreWorkers machine.workers }
     requires names { All (λ name. string_bytes name ≢ output.now) inputs.now }
 
-    ensures merged { OnOk result (IfKnown (F.seen files.old).held (λ known.
-        IsMerged known (names_of inputs.now) output.now chunk (F.seen files.old).held (F.seen files.new).held)) }
-
-    // An input is refused when it is opened, or a chunk of it is bad.
-    ensures refused { (number : ℕ) (cause : Refusal) → IsErrOf result (At number (file.Refused cause))
-        → IfKnown (F.seen files.old).held (λ known.
-        IsRefusedIn known (names_of inputs.now) output.now chunk number cause (F.seen files.old).held
-        (F.seen files.new).held) }
-    ensures unequal { (number : ℕ) (field : Field) → IsErrOf result (Unequal number field)
-        → (number < length inputs.now) × ((F.seen files.new).held ≡ (F.seen files.old).held)
-        × IfKnown (F.seen files.old).held (λ known. IsKeptBy known (names_of inputs.now) (Unequal number field)) }
-    ensures too_many { IsErrOf result TooManyPoints
-        → ((F.seen files.new).held ≡ (F.seen files.old).held)
-        × IfKnown (F.seen files.old).held (λ known. IsKeptBy known (names_of inputs.now) TooManyPoints) }
-
-    // A read that failed is an input's, and so is a missing input: those before it are held, accepted when they are
-    // opened, and like the first.
-    ensures at { (number : ℕ) (cause : Fault) → IsErrOf result (At number cause)
-        → (number < length inputs.now) × IfKnown (F.seen files.old).held (λ known.
-        IsReached known (names_of inputs.now) number) }
-    ensures read { (number : ℕ) → IsErrOf result (At number file.Read)
-        → IsUnread (item_at (names_of inputs.now) number) (F.seen files.old) (F.seen files.new) }
-    ensures write { IsErrOf result Write → Rose (F.seen files.old).write_faults (F.seen files.new).write_faults
-        × IfKnown (F.seen files.old).held (λ known. CanBeMerged known (names_of inputs.now)) }
-    ensures never { (number : ℕ) → IsErrOf result (At number file.Write) → ⊥ }
-    ensures few_chunks { IsErrOf result TooManyChunks → ⊥ }
-
-    // The output is begun only if the inputs can be merged, and then it is left unfinished.
-    ensures left { OnErr result (IfKnown (F.seen files.old).held (λ known.
-        IsLeftIn known (names_of inputs.now) output.now chunk (F.seen files.old).held (F.seen files.new).held)) }
+    ensures says { SaysMerging (names_of inputs.now) output.now chunk (F.seen files.old) (F.seen files.new) result }
     // However the call ends, no more is asked for than what opening each input twice and reading it once takes.
     ensures asked { IfKnown (F.seen files.old).held (λ known.
         AsksAtMost (asked_to_merge known (names_of inputs.now)) (F.seen files.old) (F.seen files.new)) }
-    ensures calm { OnOk result (IsCalm (F.seen files.old) (F.seen files.new)) }
-    ensures later { Later (F.seen files.old) (F.seen files.new) }
 {
     let alloc = machine.alloc;
     let opened = open_inputs(alloc, files, inputs)?;

@@ -3,7 +3,8 @@ use Rattle.std.specs.List.{concat}
 use Rattle.las_outside.specs.Files.{WhereKnown, with_file}
 use Rattle.las_outside.specs.Outside.{Outside, with_bytes}
 use Rattle.las_outside.proofs.Public.{calm-trans, later-trans, on_err}
-use Rattle.las_merge.specs.Appending.{LiesIn, SourceSeen, part_in, part_of, with_reads}
+use Rattle.laz_file.specs.Copying.{with_reads}
+use Rattle.las_merge.specs.Appending.{LiesIn, SourceSeen, part_in, part_of}
 use Rattle.laz_forms.proofs.Public.{known_then, if_err}
 use Rattle.las_merge.proofs.Appended.{copy_fault_since, in_part, joined_more, still_known, still_part, sum_more, sum_within}
 use Rattle.las_merge.proofs.appending.copy_all.Goals as goal

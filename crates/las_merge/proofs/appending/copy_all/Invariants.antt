@@ -4,7 +4,8 @@ use Rattle.std.specs.List.{concat}
 use Rattle.las_outside.specs.Frames.{IsCalm}
 use Rattle.las_outside.specs.Outside.{Outside, with_bytes}
 use Rattle.laz_reader.specs.Asking.{ReadsAndWrites}
-use Rattle.las_merge.specs.Appending.{part_of, with_reads}
+use Rattle.laz_file.specs.Copying.{with_reads}
+use Rattle.las_merge.specs.Appending.{part_of}
 use Rattle.las_merge.proofs.appending.copy_all.Given as goal
 
 abbrev pub invariant-sources : goal.invariant-sources

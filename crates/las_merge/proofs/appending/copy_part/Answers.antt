@@ -2,7 +2,8 @@ use Rattle.std.proofs.Common.{◌≡◌, ◌+◌, ◌-◌, ◌≤◌, ◌++◌, 
 use Rattle.las_outside.specs.Files.{with_file}
 use Rattle.las_outside.specs.Outside.{Outside, with_bytes}
 use Rattle.las_outside.proofs.Public.{calm-trans, later-trans, on_err}
-use Rattle.las_merge.specs.Appending.{part_in, with_reads}
+use Rattle.laz_file.specs.Copying.{with_reads}
+use Rattle.las_merge.specs.Appending.{part_in}
 use Rattle.laz_forms.proofs.Public.{known_then}
 use Rattle.las_merge.proofs.Appended.{part_more, part_prefix, still_known, still_part}
 use Rattle.las_merge.proofs.appending.copy_part.Goals as goal

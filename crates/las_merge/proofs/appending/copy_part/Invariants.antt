@@ -1,8 +1,9 @@
-use Rattle.std.proofs.Common.{◌≡◌, ◌+◌, ◌-◌, ◌≤◌, ◌++◌, List, ℕ, length}
+use Rattle.std.proofs.Common.{◌≡◌, ◌-◌, ◌≤◌, ◌++◌, List, ℕ, length}
 use Rattle.las_outside.specs.Frames.{IsCalm}
 use Rattle.las_outside.specs.Outside.{Outside, with_bytes}
 use Rattle.laz_reader.specs.Asking.{ReadsAndWrites}
-use Rattle.las_merge.specs.Appending.{part_in, with_reads}
+use Rattle.laz_file.specs.Copying.{with_reads}
+use Rattle.las_merge.specs.Appending.{part_in}
 use Rattle.las_merge.proofs.appending.copy_part.Given as goal
 
 abbrev pub invariant-pieces : goal.invariant-pieces

@@ -6,7 +6,7 @@ use Rattle.laz_table.specs.declared.limits.TheConstants.{MAX_CHUNKS}
 use Rattle.laz_table.specs.VlrCauses.{chunk_size_of}
 use Rattle.laz_reader.specs.Asking.{asked_for_chunks, asked_for_list}
 use Rattle.std.proofs.Common.{◌+◌, ◌-◌, Bool, cond, Option, Some, None}
-use Rattle.laz_reader.specs.Reading.{ReaderSeen, StandsFor}
+use Rattle.laz_reader.specs.Reading.{StandsFor}
 use Rattle.laz_forms.proofs.Public.{known_then}
 use Rattle.las_merge.specs.Appending.{SourceSeen}
 use Rattle.las_merge.specs.Fields.{first_difference}
@@ -33,7 +33,7 @@ returns-then-not-packed-clause-ends g c =
     let held = (g.F.Files.seen c.args.files.now).held in
     let reader = c.in-Ok.reader in
     let number : c.len-number.result ≡ length c.args.listed.now.inputs.items = search rules in
-    let head : c.head.result.now.bytes ≡ reader.head.bytes = cc (ap (λ (h : HeadView). h.bytes) c.head.ensures, ap (λ (r : ReaderSeen). r.head.bytes) c.reader.view_is) in
+    let head : c.head.result.now.bytes ≡ reader.head.bytes = ap (λ (h : HeadView). h.bytes) c.head.ensures in
     let plain : is_packed reader.head.bytes ≡ false = ap is_packed (sym head) ∙ sym c.packed.ensures ∙ c.if-not-packed.true in (
       number,
       known_then held c.args.name.now (StandsFor reader) (λ file. IsRefusedToCopy file NotPacked)
@@ -47,8 +47,8 @@ returns-in-Some-clause-ends g c =
     let name = c.args.name.now in
     let inputs = c.args.listed.now.inputs.items in
     let number : c.len-number.result ≡ length inputs = search rules in
-    let head : c.head.result.now.bytes ≡ reader.head.bytes = cc (ap (λ (h : HeadView). h.bytes) c.head.ensures, ap (λ (r : ReaderSeen). r.head.bytes) c.reader.view_is) in
-    let other : c.head-2.result.now.bytes ≡ reader.head.bytes = cc (ap (λ (h : HeadView). h.bytes) c.head-2.ensures, ap (λ (r : ReaderSeen). r.head.bytes) c.reader.view_is) in
+    let head : c.head.result.now.bytes ≡ reader.head.bytes = ap (λ (h : HeadView). h.bytes) c.head.ensures in
+    let other : c.head-2.result.now.bytes ≡ reader.head.bytes = ap (λ (h : HeadView). h.bytes) c.head-2.ensures in
     let packed : is_packed reader.head.bytes ≡ true = ap is_packed (sym head) ∙ sym c.packed.ensures ∙ c.if-not-packed.false in
     let d = c.in-Some.ensures.other c.in-Some.field refl in
     let first = ap first_read c.deref.ensures.value in (
@@ -69,7 +69,7 @@ returns-in-Ok-add-clause-next g c =
     let reader = c.in-Ok.reader in
     let name = c.args.name.now in
     let inputs = c.args.listed.now.inputs.items in
-    let other : c.head-2.result.now.bytes ≡ reader.head.bytes = cc (ap (λ (h : HeadView). h.bytes) c.head-2.ensures, ap (λ (r : ReaderSeen). r.head.bytes) c.reader.view_is) in
+    let other : c.head-2.result.now.bytes ≡ reader.head.bytes = ap (λ (h : HeadView). h.bytes) c.head-2.ensures in
     let first = ap first_read c.deref.ensures.value in (
       record { name = name; head = reader.head },
       record {
@@ -88,7 +88,7 @@ returns-in-Ok-add-clause-lists g c asked lists =
     let was = c.args.listed.now in
     let now = c.add.new.self in
     let l : ListedInput = record { input = record { name = c.args.name.now; head = reader.head }; pieces = reader.pieces } in
-    let head : c.head.result.now.bytes ≡ reader.head.bytes = cc (ap (λ (h : HeadView). h.bytes) c.head.ensures, ap (λ (r : ReaderSeen). r.head.bytes) c.reader.view_is) in
+    let head : c.head.result.now.bytes ≡ reader.head.bytes = ap (λ (h : HeadView). h.bytes) c.head.ensures in
     let packed : is_packed reader.head.bytes ≡ true = ap is_packed (sym head) ∙ sym c.packed.ensures ∙ c.if-not-packed.false in
     let old = g.F.Files.seen c.args.files.now in
     let new = g.F.Files.seen c.open.new.files in

@@ -3,7 +3,7 @@ use Rattle.las_header.specs.Fields.{points_of}
 use Rattle.las_header.specs.Heads.{HeadView}
 use Rattle.las_outside.specs.Files.{IsMissing, WhereKnown}
 use Rattle.laz_reader.specs.Asking.{AsksAtMost, asked_to_open}
-use Rattle.laz_reader.specs.Reading.{EndsReading, IsNewReader, ReaderSeen, StandsFor}
+use Rattle.laz_reader.specs.Reading.{EndsReading, IsNewReader, StandsFor}
 use Rattle.laz_forms.specs.Refusing.{IsRefusal}
 use Rattle.std.specs.Prelude.{Some}
 use Rattle.las_merge.specs.Copying.{IsFaultOf}
@@ -31,7 +31,7 @@ returns-in-Some-clause-ends g c =
     let reader = c.in-Ok.reader in
     let named : c.deref.result.now ≡ input.name = cc (c.deref.ensures, ap (λ (i : InputSeen). i.name) c.input.view_is) in
     let mine : c.input.inside.head.bytes ≡ input.head.bytes = ap (λ (i : InputSeen). i.head.bytes) c.input.view_is in
-    let theirs : c.head.result.now.bytes ≡ reader.head.bytes = cc (ap (λ (h : HeadView). h.bytes) c.head.ensures, ap (λ (r : ReaderSeen). r.head.bytes) c.reader.view_is) in
+    let theirs : c.head.result.now.bytes ≡ reader.head.bytes = ap (λ (h : HeadView). h.bytes) c.head.ensures in
     let answer : c.first_difference.result ≡ first_difference input.head.bytes reader.head.bytes =
     c.first_difference.ensures
     ∙ ap (λ (h : List ℕ). first_difference h c.head.result.now.bytes) mine
@@ -48,7 +48,7 @@ returns-then-points-clause-ends g c =
     let reader = c.in-Ok.reader in
     let named : c.deref.result.now ≡ input.name = cc (c.deref.ensures, ap (λ (i : InputSeen). i.name) c.input.view_is) in
     let mine : points_of c.input.inside.head.bytes ≡ points_of input.head.bytes = ap (λ (i : InputSeen). points_of i.head.bytes) c.input.view_is in
-    let theirs : c.head-2.result.now.bytes ≡ reader.head.bytes = cc (ap (λ (h : HeadView). h.bytes) c.head-2.ensures, ap (λ (r : ReaderSeen). r.head.bytes) c.reader.view_is) in
+    let theirs : c.head-2.result.now.bytes ≡ reader.head.bytes = ap (λ (h : HeadView). h.bytes) c.head-2.ensures in
     let here : c.points.result ≡ points_of reader.head.bytes = c.points.ensures ∙ ap points_of theirs in
     let there : c.points-2.result ≡ points_of input.head.bytes = c.points-2.ensures ∙ mine in (
       refl,
@@ -63,8 +63,8 @@ returns-clause-again g c =
     let reader = c.in-Ok.reader in
     let named : c.deref.result.now ≡ input.name = cc (c.deref.ensures, ap (λ (i : InputSeen). i.name) c.input.view_is) in
     let mine : c.input.inside.head.bytes ≡ input.head.bytes = ap (λ (i : InputSeen). i.head.bytes) c.input.view_is in
-    let theirs : c.head.result.now.bytes ≡ reader.head.bytes = cc (ap (λ (h : HeadView). h.bytes) c.head.ensures, ap (λ (r : ReaderSeen). r.head.bytes) c.reader.view_is) in
-    let theirs_again : c.head-2.result.now.bytes ≡ reader.head.bytes = cc (ap (λ (h : HeadView). h.bytes) c.head-2.ensures, ap (λ (r : ReaderSeen). r.head.bytes) c.reader.view_is) in
+    let theirs : c.head.result.now.bytes ≡ reader.head.bytes = ap (λ (h : HeadView). h.bytes) c.head.ensures in
+    let theirs_again : c.head-2.result.now.bytes ≡ reader.head.bytes = ap (λ (h : HeadView). h.bytes) c.head-2.ensures in
     let answer : c.first_difference.result ≡ first_difference input.head.bytes reader.head.bytes =
     c.first_difference.ensures
     ∙ ap (λ (h : List ℕ). first_difference h c.head.result.now.bytes) mine
