@@ -33,10 +33,11 @@ use Rattle.laz_forms.specs.Ranges.{Range}
 use Rattle.laz_reader.specs.Reading.{ReaderSeen, StandsFor}
 use Rattle.laz_forms.specs.Refusing.{IsRefusal}
 use Rattle.laz_forms.proofs.Public.{known_three, refused_once}
+use Rattle.laz_file.specs.Endings.{OutputFile, output_file, writes}
 use Rattle.las_run.specs.declared.stop.Stop.{Stop}
 use Rattle.las_run.specs.declared.stop.Stop.TheVariants as stop
-use Rattle.las_run.specs.Endings.{ComesAtOpening, Done, Refused, Ending, IsLeft, Output, files_of}
-use Rattle.las_run.specs.Tools.{ConvertsIn, cause_by, converted, kept_text, output_of, range_in, tallies_text, writes}
+use Rattle.las_run.specs.Endings.{ComesAtOpening, Done, Refused, Ending, IsLeft, files_of}
+use Rattle.las_run.specs.Tools.{ConvertsIn, cause_by, converted, kept_text, range_in, tallies_text}
 use Rattle.las_run.specs.Ends.{Change, EndsMaking, FailsMaking, IsOnlyEnding, LeavesOf, MakesAs, MakesOne, MakesOutput}
 use Rattle.las_run.specs.Ends.{StopsOpening, quiet, stop_by, stopped_report}
 use Rattle.las_run.proofs.Asking.{not_missing}
@@ -112,7 +113,7 @@ module _ (size : Option ℕ) (range : List ℕ → Range) (chosen : List TapSeen
   abbrev ending_with : (some : Bool) (file records : List ℕ) → Option Refusal → Ending
   ending_with some file records refusal = record {
     cause = cause_by input refusal;
-    outputs = if some then output_of (converted_output output file size) records ∷ [] else [];
+    outputs = if some then output_file (converted_output output file size) records ∷ [] else [];
     text = kept_text chosen file records refusal;
   }
 
@@ -205,7 +206,7 @@ module _ (size : Option ℕ) (range : List ℕ → Range) (chosen : List TapSeen
       → ConvertsTo plan settings file (range file) records refusal → has_output settings.pick refusal ≡ true
 
   output_is : (file : List ℕ) (ending : Ending) → HasOutputs file → (makes : Makes file ending)
-      → ending.outputs ≡ output_of (converted_output output file size) makes.0 ∷ []
+      → ending.outputs ≡ output_file (converted_output output file size) makes.0 ∷ []
   output_is file ending has makes =
       ap (λ (e : Ending). e.outputs) makes.3 ∙ ap (λ (b : Bool). (ending_with b file makes.0 makes.1).outputs)
       (has makes.0 makes.1 makes.2)
@@ -217,7 +218,7 @@ module _ (size : Option ℕ) (range : List ℕ → Range) (chosen : List TapSeen
   left : WhereKnown held input HasOutputs → WhereKnown held input Leaves → LeavesOf Makes input change
   left has leaves = known_more held input (λ file. HasOutputs file × Leaves file) _ (λ file h files ending known makes.
       let l = left_of_output (kept_by file) makes.0 held now files (h.1 makes.0 makes.1 makes.2) known in
-      (l.0, l.1, subst (λ (os : List Output). IsLeft os files l.0) (sym (output_is file ending h.0 makes)) l.2))
+      (l.0, l.1, subst (λ (os : List OutputFile). IsLeft os files l.0) (sym (output_is file ending h.0 makes)) l.2))
       (both_known held input HasOutputs Leaves has leaves)
 
   not_first : (cause : Refusal) → ((i : ℕ) × (cause ≡ BadChunk i)) ⊎ ((k : ℕ) × (cause ≡ RawRange k))

@@ -1,24 +1,22 @@
 -- What the call that copies chunks says of its outcome, as how a run of `lasmerge` ends.
 use Rattle.std.proofs.Common.{◌≡◌, ◌≢◌, ◌⊎◌, inl, inr, ℕ, ◌<◌, true, List, [], ◌∷◌, length, take, Option, Some, Result}
 use Rattle.std.proofs.Common.{Ok, Err, refl, sym, ◌∙◌, ap, subst}
-use Rattle.std.specs.Prelude.{Contains, IfErr, IsErrOf, OnErr, OnOk}
+use Rattle.std.specs.Prelude.{Contains}
 use Rattle.std.specs.FinMap as finmap
 use Rattle.std.proofs.lemmas.List.{get_or_default}
 use Rattle.las_info.specs.Tallies.{TapSeen}
-use Rattle.las_outside.specs.Faults.{Rose}
 use Rattle.las_outside.specs.Files.{FileMap, IsMissing, with_file}
-use Rattle.las_outside.specs.Outside.{Later, Outside}
+use Rattle.las_outside.specs.Outside.{Outside}
 use Rattle.las_outside.specs.Sinks.{SinkView}
 use Rattle.las_outside.proofs.Public.{with_more-none}
 use Rattle.las_words.specs.Asked.{LasmergeOptions, lasmerge}
 use Rattle.laz_copied.specs.Copied.{Chunk, all_of, copied_file}
-use Rattle.laz_forms.specs.declared.fault.Fault.{Fault}
 use Rattle.laz_forms.specs.declared.fault.Fault.TheVariants as file
 use Rattle.las_merge.specs.declared.fault.MergeFault.{MergeFault}
 use Rattle.las_merge.specs.declared.fault.MergeFault.TheVariants as merge
-use Rattle.las_merge.specs.declared.field.Field.{Field}
 use Rattle.las_merge.specs.Inputs.{IfKnown, item_at}
-use Rattle.las_merge.specs.Packed.{AreFirstPacked, CanCopyFrom, IsKeptFromCopying, IsNoFault}
+use Rattle.las_merge.specs.Packed.{AreFirstPacked, CanCopyFrom, IsKeptFromCopying}
+use Rattle.las_merge.specs.Outcomes.{SaysCopying}
 use Rattle.las_merge.proofs.Public.{copied_by_one, copied_once, kept_or_copied}
 use Rattle.las_run.specs.Endings.{Done, Unread, Ending, IsLeft, ends_at_once, files_of}
 use Rattle.las_run.specs.Runs.{Task, task_with}
@@ -44,22 +42,6 @@ module _ (inputs : List (List ℕ)) (output : List ℕ) (old new : Outside) wher
 
   abbrev IsKept : MergeFault → Type 0
   IsKept fault = (new.held ≡ old.held) × IfKnown old.held (λ known. IsKeptFromCopying known inputs fault)
-
-  pub record SaysCopying (outcome : Result (Unit {0}) MergeFault) : Type 0 where
-    pub copied : OnOk outcome (IfKnown old.held IsCopiedNow)
-    pub kept : IfErr outcome (λ fault. IsNoFault fault → IsKept fault)
-    pub at : (number : ℕ) (cause : Fault) → IsErrOf outcome (merge.At number cause)
-        → (number < length inputs) × IfKnown old.held
-        (λ known. (before : List (List ℕ)) × AreFirstPacked known inputs before × (length before ≡ number))
-    pub unequal : (number : ℕ) (field : Field) → IsErrOf outcome (merge.Unequal number field) → number < length inputs
-    pub read : (number : ℕ) → IsErrOf outcome (merge.At number file.Read)
-        → (IsMissing old.held (item_at inputs number) × (new.held ≡ old.held)) ⊎ Rose old.read_faults new.read_faults
-    pub write : IsErrOf outcome merge.Write
-        → Rose old.write_faults new.write_faults × IfKnown old.held
-        (λ known. (merged : List (List ℕ)) × (parts : List (List Chunk)) × CanCopyFrom known inputs merged parts)
-    pub never : (number : ℕ) → IsErrOf outcome (merge.At number file.Write) → ⊥
-    pub left : OnErr outcome (IfKnown old.held Leaves)
-    pub later : Later old new
 
 -- ---- the endings of a copy
 module _ (taps : List TapSeen) (options : LasmergeOptions) (workers : ℕ) where

@@ -14,23 +14,24 @@ use Rattle.las_words.specs.Asked.{LasmergeOptions, OneInput, Work, laszip, las2l
 use Rattle.las_words.specs.Says.{Said, asks, usage}
 use Rattle.las_convert.specs.Converting.{converted_output, has_output}
 use Rattle.las_merge.specs.Existing.{HoldBytes}
-use Rattle.las_split.specs.Outputs.{PartFile, output_under}
+use Rattle.las_split.specs.Outputs.{output_under}
 use Rattle.las_split.specs.Parts.{numbers_of_parts, part}
 use Rattle.laz_forms.specs.Existing.{IsNotNone}
 use Rattle.laz_forms.proofs.Public.{and_then, there}
+use Rattle.laz_file.specs.Endings.{OutputFile, named, output_file, with_all, Product}
 use Rattle.las_run.specs.EndingLaws.{SomeEndingIsDefined}
-use Rattle.las_run.specs.Endings.{Ending, IsLeft, Output, named, with_all}
+use Rattle.las_run.specs.Endings.{Ending, IsLeft}
 use Rattle.las_run.specs.Runs.{Accepts, Does, IsWritten, IsWrittenBy, Makes, Opens, RunOf, RunsAs, Task}
 use Rattle.las_run.specs.Seen.{IsAsBefore, IsDue, Leaves, RunSeen}
-use Rattle.las_run.specs.Tools.{MergesIf, ZipsIf, chunk_if, output_of, part_outputs, reports}
+use Rattle.las_run.specs.Tools.{MergesIf, ZipsIf, chunk_if, reports}
 
 -- ---- the names of outputs
 -- P holds of the name of each output
-abbrev AreNamed : (P : List ℕ → Type 0) → List Output → Type 0
+abbrev AreNamed : (P : List ℕ → Type 0) → List OutputFile → Type 0
 AreNamed P [] = Unit {0}
 AreNamed P (o ∷ os) = P o.name × AreNamed P os
 
-first_named : (P : List ℕ → Type 0) (k : ℕ) (os : List Output) → AreNamed P os → AreNamed P (take k os)
+first_named : (P : List ℕ → Type 0) (k : ℕ) (os : List OutputFile) → AreNamed P os → AreNamed P (take k os)
 first_named P zero os all = tt
 first_named P (suc k) [] all = tt
 first_named P (suc k) (o ∷ os) all = (all.0, first_named P k os all.1)
@@ -39,18 +40,18 @@ first_named P (suc k) (o ∷ os) all = (all.0, first_named P k os all.1)
 beside : (files : FileMap) (name other bytes : List ℕ) → ((other ≡ name) → ⊥) → finmap.get (finmap.insert files name bytes) other ≡ finmap.get files other
 beside files name other bytes ne = get-with_value files name (Some bytes) other ∙ ap (λ (b : Bool). cond b (Some bytes) (finmap.get files other)) (same_other other name ne)
 
-stays : (P : List ℕ → Type 0) (os : List Output) (texts : List (List ℕ)) (files : FileMap) (name : List ℕ) → (P name → ⊥) → AreNamed P os → finmap.get (with_all files (named os texts)) name ≡ finmap.get files name
+stays : (P : List ℕ → Type 0) (os : List OutputFile) (texts : List (List ℕ)) (files : FileMap) (name : List ℕ) → (P name → ⊥) → AreNamed P os → finmap.get (with_all files (named os texts)) name ≡ finmap.get files name
 stays P [] texts files name not all = refl
 stays P (o ∷ os) [] files name not all = refl
 stays P (o ∷ os) (t ∷ ts) files name not all =
     stays P os ts (finmap.insert files o.name t) name not all.1 ∙ beside files o.name name t (λ e. not (subst P (sym e) all.0))
 
 -- ---- the outputs of each command have names that it writes
-numbers_named : (P : List ℕ → Type 0) (part_of : ℕ → PartFile) (numbers : List ℕ) → ((n : ℕ) → P (part_of n).output.name) → AreNamed P (part_outputs (map part_of numbers))
+numbers_named : (P : List ℕ → Type 0) (part_of : ℕ → OutputFile) (numbers : List ℕ) → ((n : ℕ) → P (part_of n).name) → AreNamed P (map part_of numbers)
 numbers_named P part_of [] is = tt
 numbers_named P part_of (n ∷ ns) is = (is n, numbers_named P part_of ns is)
 
-if_named : (P : List ℕ → Type 0) (b : Bool) (o : Output) → P o.name → AreNamed P (cond b (o ∷ []) [])
+if_named : (P : List ℕ → Type 0) (b : Bool) (o : OutputFile) → P o.name → AreNamed P (cond b (o ∷ []) [])
 if_named P true o p = (p, tt)
 if_named P false o p = tt
 
@@ -62,27 +63,27 @@ report_named P input report (Some i) = tt
 as_named : (P : List ℕ → Type 0) (one other : Ending) → one ≡ other → AreNamed P other.outputs → AreNamed P one.outputs
 as_named P one other is named = subst (λ (e : Ending). AreNamed P e.outputs) (sym is) named
 
-zips_named : (P : List ℕ → Type 0) (packed : Bool) (input output : List ℕ) (chunk : ℕ) (file : List ℕ) (ending : Ending) → P output → ZipsIf packed input output chunk file ending → AreNamed P ending.outputs
-zips_named P true input output chunk file ending p makes = as_named P ending _ makes.3 (p, tt)
-zips_named P false input output chunk file ending p makes = as_named P ending _ makes (p, tt)
+zips_named : (P : List ℕ → Type 0) (packed : Bool) (output : List ℕ) (chunk : ℕ) (file : List ℕ) (product : Product) → P output → ZipsIf packed output chunk file product → AreNamed P product.files
+zips_named P true output chunk file product p makes = subst (λ (x : Product). AreNamed P x.files) (sym makes.3) (p, tt)
+zips_named P false output chunk file product p makes = subst (λ (x : Product). AreNamed P x.files) (sym makes) (p, tt)
 
 makes_named : (taps : List TapSeen) (input : List ℕ) (own : OneInput) (file : List ℕ) (ending : Ending) → Makes taps input own file ending → AreNamed (IsWrittenBy (reads input own)) ending.outputs
 makes_named taps input (laszip options) file ending makes =
-    zips_named (IsWrittenBy (reads input (laszip options))) (is_packed (head_of file)) input options.output options.chunk file ending refl makes
+    let P = IsWrittenBy (reads input (laszip options)) in
+    as_named P ending _ makes.2 (zips_named P (is_packed (head_of file)) options.output options.chunk file makes.0 refl makes.1)
 makes_named taps input (las2las options) file ending makes =
     let P = IsWrittenBy (reads input (las2las options)) in
-    let out = output_of (converted_output options.output file (chunk_if options.packed options.chunk)) makes.0 in
+    let out = output_file (converted_output options.output file (chunk_if options.packed options.chunk)) makes.0 in
     as_named P ending _ makes.3 (if_named P (has_output options.sieve.pick makes.1) out refl)
 makes_named taps input (lasinfo options) file ending makes =
     let P = IsWrittenBy (reads input (lasinfo options)) in
     as_named P ending _ makes.5 (report_named P input _ makes.1)
 makes_named taps input (lassplit options) file ending makes =
     let P = IsWrittenBy (reads input (lassplit options)) in
-    let part_of : ℕ → PartFile = λ number. record {
-      output = output_under options.stem options.end (plain_head file) number;
-      records = concat (part options.rule makes.0 number);
-    } in
-    as_named P ending _ makes.3 (numbers_named P part_of (numbers_of_parts options.rule makes.0) (λ n. (n, refl)))
+    let parts = makes.1 in
+    let part_of : ℕ → OutputFile = λ number. output_file (output_under options.stem options.end (plain_head file) number) (concat (part options.rule parts.0 number)) in
+    as_named P ending _ makes.2
+    (subst (λ (p : Product). AreNamed P p.files) (sym parts.3) (numbers_named P part_of (numbers_of_parts options.rule parts.0) (λ n. (n, refl))))
 
 accepts_named : (P : List ℕ → Type 0) (input file : List ℕ) (Makes : Ending → Type 0) (ending : Ending) → ((e : Ending) → Makes e → AreNamed P e.outputs) → Accepts input file Makes ending → AreNamed P ending.outputs
 accepts_named P input file Makes ending named (inl refused) = as_named P ending _ refused.2 tt

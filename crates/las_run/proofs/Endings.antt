@@ -1,5 +1,5 @@
 -- What is left at an ending, and what a run says of its cause.
-use Rattle.std.proofs.Common.{◌≡◌, ◌⊎◌, inl, inr, ℕ, zero, suc, List, [], ◌∷◌, length, take, map, Some, Result, Ok, Err, refl, sym, ◌∙◌, ap, subst, arith}
+use Rattle.std.proofs.Common.{◌≡◌, ◌⊎◌, inl, inr, ℕ, zero, suc, true, List, [], ◌∷◌, length, take, map, Some, Result, Ok, Err, refl, sym, ◌∙◌, ap, subst, arith}
 use Rattle.std.specs.Prelude.{Any, Contains}
 use Rattle.std.proofs.lemmas.List.{take_all}
 use Rattle.las_outside.specs.Drafts.{with_patches}
@@ -9,28 +9,29 @@ use Rattle.las_outside.specs.Outside.{Outside}
 use Rattle.las_outside.specs.Sinks.{SinkView, Puts, with_fault, with_more, written_after}
 use Rattle.las_outside.proofs.Public.{with_more-none}
 use Rattle.las_words.specs.Says.{usage}
+use Rattle.laz_file.specs.Endings.{AreEnding, OutputFile, at_end, named, with_all}
 use Rattle.las_run.specs.declared.stop.Stop.{Stop}
-use Rattle.las_run.specs.Endings.{Output, Cause, Done, Memory, Usage, Unread, Unwritten, Refused, Differs, HasTooMany, Ending, ends_at_once, status_of, at_end, with_all, files_of, AreEnding, AreLeft, named, IsLeft}
+use Rattle.las_run.specs.Endings.{is_done, Cause, Done, Memory, Usage, Unread, Unwritten, Refused, Differs, HasTooMany, Ending, ends_at_once, status_of, files_of, AreLeft, IsLeft}
 use Rattle.las_run.specs.Runs.{RunOf, Task, inputs_of}
 use Rattle.las_run.specs.Ends.{Change, EndsAs, IsLeftBy, IsQuiet, IsTheEnding, Ends, cause_of}
 use Rattle.las_run.specs.Lines.{line_of}
 
 -- nothing was created
-pub nothing_left : (outputs : List Output) (files : FileMap) → IsLeft outputs files files
+pub nothing_left : (outputs : List OutputFile) (files : FileMap) → IsLeft outputs files files
 nothing_left outputs files = (0, [], inl tt, refl)
 
-done_texts : List Output → List (List ℕ)
+done_texts : List OutputFile → List (List ℕ)
 done_texts outputs = map (λ o. with_patches o.draft o.patches) outputs
 
-all_done : (outputs : List Output) → AreEnding outputs (done_texts outputs)
+all_done : (outputs : List OutputFile) → AreEnding outputs (done_texts outputs)
 unfolding done_texts
 all_done [] = tt
 all_done (o ∷ os) = inl (refl, all_done os)
 
-named_done : (outputs : List Output) → map (at_end Done) outputs ≡ named outputs (done_texts outputs)
+named_done : (outputs : List OutputFile) → map (at_end true) outputs ≡ named outputs (done_texts outputs)
 unfolding done_texts
 named_done [] = refl
-named_done (o ∷ os) = ap (λ (t : List (List ℕ × List ℕ)). at_end Done o ∷ t) (named_done os)
+named_done (o ∷ os) = ap (λ (t : List (List ℕ × List ℕ)). at_end true o ∷ t) (named_done os)
 
 -- what stands if all is done is left
 pub left_if_done : (ending : Ending) (files : FileMap) → ending.cause ≡ Done → IsLeft ending.outputs files (files_of ending files)
@@ -38,22 +39,22 @@ left_if_done ending files is =
     let all : take (length ending.outputs) ending.outputs ≡ ending.outputs = take_all (length ending.outputs) ending.outputs (omega arith) in (
       length ending.outputs,
       done_texts ending.outputs,
-      inr (subst (λ (os : List Output). AreEnding os (done_texts ending.outputs)) (sym all) (all_done ending.outputs)),
-      ap (λ (c : Cause). with_all files (map (at_end c) ending.outputs)) is
+      inr (subst (λ (os : List OutputFile). AreEnding os (done_texts ending.outputs)) (sym all) (all_done ending.outputs)),
+      ap (λ (c : Cause). with_all files (map (at_end (is_done c)) ending.outputs)) is
           ∙ ap (with_all files) (named_done ending.outputs)
-          ∙ ap (λ (os : List Output). with_all files (named os (done_texts ending.outputs))) (sym all),
+          ∙ ap (λ (os : List OutputFile). with_all files (named os (done_texts ending.outputs))) (sym all),
     )
 
 -- of an ending without outputs nothing is left
-pub left_of_none : (outputs : List Output) (files now : FileMap) → outputs ≡ [] → IsLeft outputs files now → now ≡ files
+pub left_of_none : (outputs : List OutputFile) (files now : FileMap) → outputs ≡ [] → IsLeft outputs files now → now ≡ files
 left_of_none outputs files now none left =
     go (take left.0 outputs) left.1 (ap (take left.0) none ∙ take_none left.0) left.2 left.3
   where
-    take_none : (k : ℕ) → take k (let xs : List Output = [] in xs) ≡ []
+    take_none : (k : ℕ) → take k (let xs : List OutputFile = [] in xs) ≡ []
     take_none zero = refl
     take_none (suc k) = refl
 
-    go : (os : List Output) (texts : List (List ℕ)) → os ≡ [] → AreLeft os texts → now ≡ with_all files (named os texts) → now ≡ files
+    go : (os : List OutputFile) (texts : List (List ℕ)) → os ≡ [] → AreLeft os texts → now ≡ with_all files (named os texts) → now ≡ files
     go [] texts is are stands = stands
     go (o ∷ os) texts is are stands = absurd (cc)
 

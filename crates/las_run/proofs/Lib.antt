@@ -8,6 +8,7 @@ mod Elsewhere
 mod Keeping
 mod Made
 mod Making
+mod Zipping
 mod Merging
 mod Copying
 mod Opening
@@ -18,5 +19,4 @@ mod Running
 mod OneEnding
 mod SomeEnding
 mod Saying
-mod Splitting
 mod Wholes

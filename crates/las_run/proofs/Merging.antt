@@ -1,24 +1,22 @@
 -- What the call that merges files says of its outcome, as how a run of `lasmerge` ends.
 use Rattle.std.proofs.Common.{◌≡◌, ◌≢◌, ◌⊎◌, inl, inr, ℕ, ◌<◌, false, List, [], length, Option, Some, None, Result, Ok}
 use Rattle.std.proofs.Common.{Err, refl, sym, ◌∙◌, ap, subst}
-use Rattle.std.specs.Prelude.{Contains, IsErrOf, OnErr, OnOk, is_some}
+use Rattle.std.specs.Prelude.{Contains, is_some}
 use Rattle.std.proofs.lemmas.List.{get_or_default}
 use Rattle.las_header.specs.declared.refusal.Refusal.{Refusal}
 use Rattle.las_header.specs.declared.refusal.Refusal.TheVariants.{BadChunk}
 use Rattle.las_info.specs.Tallies.{TapSeen}
 use Rattle.las_merge.specs.declared.fault.MergeFault.{MergeFault}
 use Rattle.las_merge.specs.declared.fault.MergeFault.TheVariants as merge
-use Rattle.las_merge.specs.declared.field.Field.{Field}
 use Rattle.las_merge.specs.Inputs.{AreFirst, CanMerge, IfKnown, IsKeptBy, item_at}
 use Rattle.las_merge.specs.Merging.{BadPlace, LeavesMerged, MergesTo, OnlyMerges, merged_output}
+use Rattle.las_merge.specs.Outcomes.{SaysMerging}
 use Rattle.las_merge.proofs.Public.{kept_by_one, kept_or_merged, merged_once}
-use Rattle.las_outside.specs.Faults.{Rose}
 use Rattle.las_outside.specs.Files.{FileMap, IsMissing, with_file}
 use Rattle.las_outside.specs.Outside.{Later, Outside}
 use Rattle.las_outside.specs.Sinks.{SinkView, with_more}
 use Rattle.las_outside.proofs.Public.{with_more-none}
 use Rattle.las_words.specs.Asked.{LasmergeOptions, lasmerge}
-use Rattle.laz_forms.specs.declared.fault.Fault.{Fault}
 use Rattle.laz_forms.specs.declared.fault.Fault.TheVariants as file
 use Rattle.laz_forms.specs.Outputs as points
 use Rattle.las_run.specs.Endings.{ComesAtOpening, Done, Refused, Unread, Ending, IsLeft, ends_at_once, files_of}
@@ -52,28 +50,6 @@ module _ (inputs : List (List ℕ)) (output : List ℕ) (size : Option ℕ) (old
       (new.held ≡ old.held)
       ⊎ ((merged : List (List ℕ)) × CanMerge known inputs merged
       × LeavesMerged (merged_output output merged size) merged old.held new.held)
-
-  pub record SaysMerging (outcome : Result (Unit {0}) MergeFault) : Type 0 where
-    pub merged : OnOk outcome (IfKnown old.held IsMerged)
-    pub refused : (number : ℕ) (cause : Refusal) → IsErrOf outcome (merge.At number (file.Refused cause))
-        → IfKnown old.held (IsRefused number cause)
-    pub unequal : (number : ℕ) (field : Field) → IsErrOf outcome (merge.Unequal number field)
-        → (number < length inputs) × (new.held ≡ old.held)
-        × IfKnown old.held (λ known. IsKeptBy known inputs (merge.Unequal number field))
-    pub few_chunks : IsErrOf outcome merge.TooManyChunks → ⊥
-    pub too_many : IsErrOf outcome merge.TooManyPoints
-        → (new.held ≡ old.held) × IfKnown old.held (λ known. IsKeptBy known inputs merge.TooManyPoints)
-    pub at : (number : ℕ) (cause : Fault) → IsErrOf outcome (merge.At number cause)
-        → (number < length inputs) × IfKnown old.held
-        (λ known. (before : List (List ℕ)) × AreFirst known inputs before × (length before ≡ number))
-    pub read : (number : ℕ) → IsErrOf outcome (merge.At number file.Read)
-        → (IsMissing old.held (item_at inputs number) × (new.held ≡ old.held)) ⊎ Rose old.read_faults new.read_faults
-    pub write : IsErrOf outcome merge.Write
-        → Rose old.write_faults new.write_faults × IfKnown old.held
-        (λ known. (merged : List (List ℕ)) × CanMerge known inputs merged)
-    pub never : (number : ℕ) → IsErrOf outcome (merge.At number file.Write) → ⊥
-    pub left : OnErr outcome (IfKnown old.held Leaves)
-    pub later : Later old new
 
 -- ---- the endings of a merge
 module _ (taps : List TapSeen) (options : LasmergeOptions) (workers : ℕ) where

@@ -23,16 +23,17 @@ use Rattle.las_merge.specs.Existing.{HoldBytes}
 use Rattle.las_merge.specs.Inputs.{CanMerge, item_at}
 use Rattle.las_merge.specs.Laws.{MergesInOneWay}
 use Rattle.las_split.specs.Laws.{SplitsInOneWay}
+use Rattle.laz_file.specs.Endings.{Product, writes}
 use Rattle.las_run.specs.Endings.{Ending, Refused, ends_at_once}
 use Rattle.las_run.specs.EndingLaws.{EndsInOneWay}
 use Rattle.las_run.specs.Runs.{Accepts, Does, Makes, Opens, RunsAs}
-use Rattle.las_run.specs.Tools.{MergesIf, ZipsIf, chosen_taps, chunk_if, range_in, writes}
+use Rattle.las_run.specs.Tools.{MergesIf, ZipsIf, chosen_taps, chunk_if, range_in, ending_of}
 use Rattle.las_merge.proofs.Public.{bytes_of_first}
+use Rattle.las_split.proofs.Public.{only_parts}
 use Rattle.las_run.proofs.Converting.{only_conversion}
 use Rattle.las_run.proofs.Copying as copying
 use Rattle.las_run.proofs.Merging as merging
 use Rattle.las_run.proofs.Reporting.{only_report}
-use Rattle.las_run.proofs.Splitting.{only_parts}
 
 -- ---- an input is opened in one way
 some_cause : (a b : Refusal) → ◌≡◌ {A = Option Refusal} (Some a) (Some b) → a ≡ b
@@ -52,16 +53,17 @@ one_opened name None Makes one other once is was = is ∙ sym was
 one_opened name (Some file) Makes one other once is was = one_accepted name file (Makes file) one other (once file refl) is was
 
 module _ (records : HasOneRecords) (converts : ConvertsInOneWay) (splits : SplitsInOneWay) (merges : MergesInOneWay) where
-  zips_once : (packed : Bool) (input output : List ℕ) (chunk : ℕ) (file : List ℕ) (one other : Ending) → IsBytes file → ZipsIf packed input output chunk file one → ZipsIf packed input output chunk file other → one ≡ other
-  zips_once true input output chunk file one other small is was =
+  zips_once : (packed : Bool) (output : List ℕ) (chunk : ℕ) (file : List ℕ) (one other : Product) → IsBytes file → ZipsIf packed output chunk file one → ZipsIf packed output chunk file other → one ≡ other
+  zips_once true output chunk file one other small is was =
       let same = records file was.0 is.0 was.1 is.1 small was.2 is.2 in
-      let ending : List (List ℕ) → Option ℕ → Ending = λ blocks bad. writes input (plain_output output file) (concat blocks) (option_map BadChunk bad) in
-      is.3 ∙ ap (λ (bs : List (List ℕ)). ending bs is.1) same.0 ∙ ap (ending was.0) same.1 ∙ sym was.3
-  zips_once false input output chunk file one other small is was = is ∙ sym was
+      let product : List (List ℕ) → Option ℕ → Product = λ blocks bad. writes (plain_output output file) (concat blocks) (option_map BadChunk bad) in
+      is.3 ∙ ap (λ (bs : List (List ℕ)). product bs is.1) same.0 ∙ ap (product was.0) same.1 ∙ sym was.3
+  zips_once false output chunk file one other small is was = is ∙ sym was
 
   -- a command with one input makes one thing of it
   makes_once : (taps : List TapSeen) (input : List ℕ) (own : OneInput) (file : List ℕ) (one other : Ending) → IsAcceptedFile file → IsBytes file → Makes taps input own file one → Makes taps input own file other → one ≡ other
-  makes_once taps input (laszip options) file one other accepted small is was = zips_once (is_packed (head_of file)) input options.output options.chunk file one other small is was
+  makes_once taps input (laszip options) file one other accepted small is was =
+      is.2 ∙ ap (ending_of input) (zips_once (is_packed (head_of file)) options.output options.chunk file is.0 was.0 small is.1 was.1) ∙ sym was.2
   makes_once taps input (las2las options) file one other accepted small is was =
       let range : List ℕ → Range = range_in options.start options.stop in
       let gives = converts options.plan options.sieve file (range file) is.0 is.1 accepted small is.2 in
@@ -71,8 +73,9 @@ module _ (records : HasOneRecords) (converts : ConvertsInOneWay) (splits : Split
       let only = only_report taps input options.tallies file is.0 is.1 is.2 (record { are = is.3; only = λ others worse of. records file is.0 others is.1 worse small is.3 of }) is.4 in
       is.5 ∙ sym (only.only other was)
   makes_once taps input (lassplit options) file one other accepted small is was =
-      let only = only_parts input options.stem options.end options.rule file is.0 is.1 (splits options.rule file is.0 is.1 accepted small is.2) in
-      is.3 ∙ sym (only.only other was)
+      let parts = is.1 in
+      let only = only_parts options.stem options.end options.rule file parts.0 parts.1 (splits options.rule file parts.0 parts.1 accepted small parts.2) in
+      is.2 ∙ ap (ending_of input) (parts.3 ∙ sym (only.only was.0 was.1)) ∙ sym was.2
 
   -- and so does a merge of its inputs
   merges_once : (taps : List TapSeen) (copy : Bool) (options : LasmergeOptions) (files : FileMap) (one other : Ending) → HoldBytes files → MergesIf copy options files one → MergesIf copy options files other → one ≡ other

@@ -9,9 +9,10 @@ use Rattle.las_outside.specs.Sinks.{SinkView, with_fault, with_more}
 use Rattle.las_outside.proofs.Public.{with_more-none}
 use Rattle.laz_forms.specs.Refusing.{IsAcceptedFile, IsRefusal}
 use Rattle.laz_forms.proofs.Public.{refused_once}
+use Rattle.laz_file.specs.Endings.{OutputFile}
 use Rattle.las_run.specs.declared.stop.Stop.{Stop}
 use Rattle.las_run.specs.declared.stop.Stop.TheVariants as stop
-use Rattle.las_run.specs.Endings.{Cause, Done, Unread, Refused, Ending, Output, ends_at_once, files_of}
+use Rattle.las_run.specs.Endings.{Cause, Done, Unread, Refused, Ending, ends_at_once, files_of}
 use Rattle.las_run.specs.Runs.{Accepts, Opens, OpensIn, RunOf, Task, files_read_by, inputs_of}
 use Rattle.las_run.specs.Ends.{Change, ComesTo, quiet, Ends, EndsAs, EndsMaking, FailsMaking, FailsToWrite, HasOutput, IsLeftBy, IsOnlyEnding, IsTheEnding, LeavesOf, MakesAs, MakesOne, MakesOutput, StopsOpening, cause_of}
 use Rattle.las_run.proofs.Endings.{left_before}
@@ -51,7 +52,7 @@ none_is_some : (c : Refusal) → ◌≡◌ {A = Option Refusal} None (Some c) �
 none_is_some c e = absurd (cc)
 
 -- ---- the first output of some
-pub some_outputs : (os : List Output) (o : Output) (rest : List Output) → os ≡ o ∷ rest → os ≢ []
+pub some_outputs : (os : List OutputFile) (o : OutputFile) (rest : List OutputFile) → os ≡ o ∷ rest → os ≢ []
 some_outputs os o rest is empty = absurd (cc)
 
 -- ---- what a command makes after calls that have changed no file and failed nowhere

@@ -18,7 +18,7 @@ use Rattle.las_merge.specs.Inputs.{item_at}
 use Rattle.las_merge.specs.Parts.{IsPart}
 use Rattle.las_split.specs.Parts.{firsts, number_by, numbers_from, part_from}
 use Rattle.las_split.proofs.Public.{not_there, AreDistinct, IsAbsent}
-use Rattle.las_run.specs.Endings.{with_all}
+use Rattle.laz_file.specs.Endings.{with_all}
 
 -- ---- numbers
 

@@ -1,5 +1,5 @@
 -- The parts of a split are merged to the whole again.
-use Rattle.std.proofs.Common.{◌≡◌, inr, ℕ, ◌+◌, ◌*◌, ◌^◌, ◌<◌, ◌≤◌, List, [], ◌∷◌, length, map, Option, Some, None, refl, sym, ◌∙◌, ap, subst, arith}
+use Rattle.std.proofs.Common.{◌≡◌, inr, ℕ, ◌+◌, ◌*◌, ◌^◌, ◌<◌, ◌≤◌, true, List, [], ◌∷◌, length, map, Option, Some, None, refl, sym, ◌∙◌, ap, subst, arith}
 use Rattle.std.specs.FinMap as finmap
 use Rattle.std.specs.List.{concat}
 use Rattle.std.proofs.lemmas.List.{get_or-map, length-map}
@@ -14,13 +14,14 @@ use Rattle.las_merge.specs.Copying.{output_with}
 use Rattle.las_merge.specs.Inputs.{item_at}
 use Rattle.las_merge.specs.Parts as merging
 use Rattle.las_merge.proofs.Public.{parts_merge}
-use Rattle.las_split.specs.Outputs.{PartFile, output_under}
+use Rattle.las_split.specs.Outputs.{output_under, part_files}
 use Rattle.las_split.specs.Parts.{firsts, numbers_from, part}
 use Rattle.las_split.specs.Sorting as sorting
 use Rattle.las_split.proofs.Public.{head_some, distinct, firsts_once, AreDistinct}
-use Rattle.las_run.specs.Endings.{Done, Ending, at_end, files_of, with_all}
+use Rattle.laz_file.specs.Endings.{at_end, output_file, with_all, Product}
+use Rattle.las_run.specs.Endings.{Done, Ending, files_of}
 use Rattle.las_run.specs.EndingLaws.{AreWhole, MergesWhole, PartsOfSplitMerge, split_ending, whole_output}
-use Rattle.las_run.specs.Tools.{MergesIn, merges, output_of}
+use Rattle.las_run.specs.Tools.{MergesIn, merges}
 use Rattle.las_run.proofs.Parting.{bytes_joined, join, length_whole, parts_are, parts_below, stands}
 
 module _ (known : FileMap) (stem end output file : List ℕ) (n : ℕ) (size : Option ℕ) (records : List (List ℕ)) (some : 0 < n) (one : 1 ≤ length records) (whole : AreWhole (plain_head file) records) where
@@ -58,11 +59,11 @@ module _ (known : FileMap) (stem end output file : List ℕ) (n : ℕ) (size : O
   names_are (k ∷ ns) = ap (λ (t : List (List ℕ)). part_name stem end k ∷ t) (names_are ns)
 
   -- what the split leaves, and under which names
-  left_are : (ns : List ℕ) → map (at_end Done) (map (λ (p : PartFile). output_of p.output p.records) (map (λ k. record { output = output_under stem end head k; records = bytes_of k }) ns)) ≡ pairs ns
+  left_are : (ns : List ℕ) → map (at_end true) (map (λ k. output_file (output_under stem end head k) (bytes_of k)) ns) ≡ pairs ns
   left_are [] = refl
   left_are (k ∷ ns) = ap (λ (t : List (List ℕ × List ℕ)). placed k ∷ t) (left_are ns)
 
-  made_are : (ns : List ℕ) → map (λ o. o.name) (map (λ (p : PartFile). output_of p.output p.records) (map (λ k. record { output = output_under stem end head k; records = bytes_of k }) ns)) ≡ map (λ p. p.0) (pairs ns)
+  made_are : (ns : List ℕ) → map (λ o. o.name) (map (λ k. output_file (output_under stem end head k) (bytes_of k)) ns) ≡ map (λ p. p.0) (pairs ns)
   made_are [] = refl
   made_are (k ∷ ns) = ap (λ (t : List (List ℕ)). part_name stem end k ∷ t) (made_are ns)
 
@@ -131,4 +132,5 @@ module _ (known : FileMap) (stem end output file : List ℕ) (n : ℕ) (size : O
 
 pub parts_of_split_merge : PartsOfSplitMerge
 parts_of_split_merge known input stem end output file n size records some one whole splits =
-    ((records, None, splits, refl), merges_whole known stem end output file n size records some one whole)
+    let product : Product = record { files = part_files stem end (Every n) file records; refusal = None } in
+    ((product, (records, None, splits, refl), refl), merges_whole known stem end output file n size records some one whole)

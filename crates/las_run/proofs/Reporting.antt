@@ -29,7 +29,8 @@ use Rattle.laz_forms.proofs.Public.{one_pieces}
 use Rattle.laz_forms.specs.declared.fault.Fault.{Fault}
 use Rattle.laz_forms.specs.declared.fault.Fault.TheVariants as file
 use Rattle.laz_table.specs.VlrCauses.{chunk_size_of}
-use Rattle.las_run.specs.Endings.{ComesAtOpening, Done, Refused, Ending, Output, at_end, files_of, with_all}
+use Rattle.laz_file.specs.Endings.{OutputFile, at_end, with_all}
+use Rattle.las_run.specs.Endings.{is_done, ComesAtOpening, Done, Refused, Ending, files_of}
 use Rattle.las_run.specs.Ends.{Change, EndsMaking, IsOnlyEnding, LeavesOf, MakesOne, stop_by, stopped_report}
 use Rattle.las_run.specs.Tools.{Reports, chosen_taps, chunks_line, report_of, reports, tallies_text}
 use Rattle.las_run.proofs.Endings.{nothing_left}
@@ -194,7 +195,7 @@ module _ (taps : List TapSeen) (tallies : List (List ℕ)) (reader : ReaderSeen)
 
     -- an ending without outputs has the files that were there
     files_same : (ending : Ending) → ending.outputs ≡ [] → (files : FileMap) → change.files.held ≡ Some files → change.files_now.held ≡ Some (files_of ending files)
-    files_same ending none files known = same ∙ known ∙ sym (ap (λ (os : List Output). Some (with_all files (map (at_end ending.cause) os))) none)
+    files_same ending none files known = same ∙ known ∙ sym (ap (λ (os : List OutputFile). Some (with_all files (map (at_end (is_done ending.cause)) os))) none)
 
     pub ends_reporting : (survey : SurveySeen) (text : List ℕ) (outcome : Result (Unit {0}) ReportFault) → WhereKnown change.files.held reader.name (IsSurveyed survey)
         → text ≡ survey_text reader.head.bytes reader.chunk (length reader.pieces) survey → text ≢ []

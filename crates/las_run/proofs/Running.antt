@@ -1,5 +1,5 @@
 -- Which words and files have an ending.
-use Rattle.std.proofs.Common.{◌≡◌, inl, inr, ℕ, ◌+◌, Bool, true, false, if◌then◌else◌, nat_lt, List, [], ◌∷◌, ◌++◌, drop, length, map, Option, Some, None, refl, sym, ap, subst, arith}
+use Rattle.std.proofs.Common.{◌∙◌, ◌≡◌, inl, inr, ℕ, ◌+◌, Bool, true, false, if◌then◌else◌, nat_lt, List, [], ◌∷◌, ◌++◌, drop, length, map, Option, Some, None, refl, sym, ap, subst, arith}
 use Rattle.std.specs.FinMap as finmap
 use Rattle.std.specs.List.{concat}
 use Rattle.std.specs.Option.{option_map}
@@ -28,6 +28,7 @@ use Rattle.las_convert.specs.Converting.{ConvertsBy, ConvertsOnce, ConvertsTwice
 use Rattle.las_thin.specs.declared.pick.Pick.{Pick}
 use Rattle.las_thin.specs.declared.pick.Pick.TheVariants.{First, Lowest, Highest}
 use Rattle.las_thin.specs.Kept.{kept_behind}
+use Rattle.laz_file.specs.Endings.{writes, Product}
 use Rattle.las_run.specs.Endings.{ComesAtOpening, ComesFirst, Ending, Refused, Unread, Usage, ends_at_once}
 use Rattle.las_filter.specs.declared.rule.Rule.{Rule}
 use Rattle.las_merge.specs.Merging.{BadPlace}
@@ -35,7 +36,7 @@ use Rattle.las_split.specs.Outputs.{part_files}
 use Rattle.las_split.specs.Splitting.{SplitsTo}
 use Rattle.las_convert.proofs.Public.{converts_some}
 use Rattle.las_split.proofs.Public.{splits_some}
-use Rattle.las_run.specs.Tools.{Converts, range_in, MergesIf, Reports, Splits, ZipsIf, cause_at, cause_by, chosen_taps, chunk_if, converted, part_outputs, report_of, reports, writes}
+use Rattle.las_run.specs.Tools.{Converts, range_in, MergesIf, Reports, Splits, ZipsIf, cause_at, cause_by, chosen_taps, chunk_if, converted, report_of, reports, Zips, ending_of}
 use Rattle.las_run.specs.Runs.{Accepts, Does, Makes, Opens, OpensIn, RunOf, RunsAs, Task}
 use Rattle.las_run.specs.EndingLaws.{MissingInputsEnd, PackedFormsEnd, PlainInputsEnd, WorkersDoNotMatter, WrongWordsEnd, input_of, with_one_worker}
 use Rattle.las_run.proofs.Headline.{is_packed_form}
@@ -84,8 +85,8 @@ pub accepts_by : (name file : List ℕ) (Makes : Ending → Type 0) (ending : En
 accepts_by name file Makes ending None is makes = (ending, inr (is, makes))
 accepts_by name file Makes ending (Some cause) is makes = (ends_at_once (Refused name cause), inl (cause, is, refl))
 
-pub zips_made : (packed : Bool) (input output : List ℕ) (chunk : ℕ) (file : List ℕ) (ending : Ending) → is_packed (head_of file) ≡ packed → ZipsIf packed input output chunk file ending → ZipsIf (is_packed (head_of file)) input output chunk file ending
-zips_made packed input output chunk file ending is makes = subst (λ (b : Bool). ZipsIf b input output chunk file ending) (sym is) makes
+pub zips_made : (packed : Bool) (input output : List ℕ) (chunk : ℕ) (file : List ℕ) (product : Product) → is_packed (head_of file) ≡ packed → ZipsIf packed output chunk file product → Zips input output chunk file (ending_of input product)
+zips_made packed input output chunk file product is makes = (product, subst (λ (b : Bool). ZipsIf b output chunk file product) (sym is) makes, refl)
 
 las2las_ending : (taps : List TapSeen) (input : List ℕ) (options : Las2lasOptions) (file : List ℕ) (blocks : List (List ℕ)) → AreRecordsIn file (range_in options.start options.stop file) blocks None → (ending : Ending) × Converts taps input options file ending
 las2las_ending taps input options file blocks are =
@@ -118,7 +119,8 @@ range_of_form file range blocks packed are =
 lassplit_ending : (input stem end : List ℕ) (rule : Rule) (file : List ℕ) (blocks : List (List ℕ)) → AreRecordsOf file blocks None → (ending : Ending) × Splits input stem end rule file ending
 lassplit_ending input stem end rule file blocks are =
     let h = splits_some rule file blocks None are in
-    (record { cause = cause_by input h.1; outputs = part_outputs (part_files stem end rule file h.0); text = [] }, (h.0, h.1, h.2, refl))
+    let product : Product = record { files = part_files stem end rule file h.0; refusal = h.1 } in
+    (ending_of input product, (product, (h.0, h.1, h.2, refl), refl))
 
 plain_records : (file : List ℕ) (packed : Bool) → packed ≡ false → ArePiecesIf packed file (plain_pieces file)
 plain_records file true plain = absurd (cc)
@@ -130,8 +132,8 @@ reported taps input tallies file blocks pieces are hold =
 
 some_plain : (taps : List TapSeen) (input : List ℕ) (own : OneInput) (file : List ℕ) → is_packed (head_of file) ≡ false → (ending : Ending) × Makes taps input own file ending
 some_plain taps input (laszip options) file plain =
-    let packing = writes input (packed_output options.output file options.chunk) (drop (point_offset_of file) file) None in
-    (packing, zips_made false input options.output options.chunk file packing plain refl)
+    let packing = writes (packed_output options.output file options.chunk) (drop (point_offset_of file) file) None in
+    (ending_of input packing, zips_made false input options.output options.chunk file packing plain refl)
 some_plain taps input (las2las options) file plain =
     let pieces = plain_pieces file in
     let parts = parts_of file (range_in options.start options.stop file) pieces in
@@ -145,8 +147,8 @@ some_plain taps input (lassplit options) file plain =
 
 some_form : (taps : List TapSeen) (input : List ℕ) (own : OneInput) (file : List ℕ) (blocks : List (List ℕ)) → is_packed (head_of file) ≡ true → AreRecordsOf file blocks None → (ending : Ending) × Makes taps input own file ending
 some_form taps input (laszip options) file blocks packed are =
-    let ending = writes input (plain_output options.output file) (concat blocks) None in
-    (ending, zips_made true input options.output options.chunk file ending packed (blocks, None, are, refl))
+    let unpacking = writes (plain_output options.output file) (concat blocks) None in
+    (ending_of input unpacking, zips_made true input options.output options.chunk file unpacking packed (blocks, None, are, refl))
 some_form taps input (las2las options) file blocks packed are =
     let h = range_of_form file (range_in options.start options.stop file) blocks packed are in
     las2las_ending taps input options file h.0 h.1
@@ -190,13 +192,13 @@ workers_do_not_matter task other files ending same taps run =
     (subst (λ (s : Said). RunsAs task.taps s files ending) same (one_worker task.taps task.said files ending run)))
 
 -- ---- endings before any output
-writes_some : (packed : Bool) (input output : List ℕ) (chunk : ℕ) (file : List ℕ) (ending : Ending) → ZipsIf packed input output chunk file ending → ComesFirst ending.cause → ending.outputs ≡ []
-writes_some true input output chunk file ending makes first = absurd (bad_chunks_late makes.1 input (subst ComesFirst (ap (λ (e : Ending). e.cause) makes.3) first))
+zips_late : (packed : Bool) (input output : List ℕ) (chunk : ℕ) (file : List ℕ) (product : Product) → ZipsIf packed output chunk file product → ComesFirst (cause_by input product.refusal) → ⊥
+zips_late true input output chunk file product makes first = bad_chunks_late makes.1 input (subst ComesFirst (ap (λ (p : Product). cause_by input p.refusal) makes.3) first)
   where
     bad_chunks_late : (bad : Option ℕ) (name : List ℕ) → ComesFirst (cause_by name (option_map BadChunk bad)) → ⊥
     bad_chunks_late None name first = first
     bad_chunks_late (Some i) name first = first
-writes_some false input output chunk file ending makes first = absurd (subst ComesFirst (ap (λ (e : Ending). e.cause) makes) first)
+zips_late false input output chunk file product makes first = subst ComesFirst (ap (λ (p : Product). cause_by input p.refusal) makes) first
 
 -- a refusal of records comes after the opening
 once_late : (keeping : Keeping) (file : List ℕ) (range : Range) (records : List ℕ) (cause : Refusal) → ConvertsOnce keeping file range records (Some cause) → ComesAtOpening cause → ⊥
@@ -250,12 +252,15 @@ merged_late inputs None first = first
 merged_late inputs (Some place) first = first
 
 makes_first : (taps : List TapSeen) (input : List ℕ) (own : OneInput) (file : List ℕ) → ComesWithout (Makes taps input own file)
-makes_first taps input (laszip options) file ending makes first = writes_some (is_packed (head_of file)) input options.output options.chunk file ending makes first
+makes_first taps input (laszip options) file ending makes first =
+    absurd (zips_late (is_packed (head_of file)) input options.output options.chunk file makes.0 makes.1 (subst ComesFirst (ap (λ (e : Ending). e.cause) makes.2) first))
 makes_first taps input (las2las options) file ending makes first =
     absurd (kept_late options.sieve.pick (kept_behind options.plan options.sieve) file (range_in options.start options.stop file) makes.0 input makes.1 makes.2 (subst ComesFirst (ap (λ (x : Ending). x.cause) makes.3) first))
 makes_first taps input (lasinfo options) file ending makes first = reports_first taps input options.tallies file ending makes first
 makes_first taps input (lassplit options) file ending makes first =
-    absurd (split_late options.rule file makes.0 input makes.1 makes.2 (subst ComesFirst (ap (λ (x : Ending). x.cause) makes.3) first))
+    let parts = makes.1 in
+    let cause : ending.cause ≡ cause_by input parts.1 = ap (λ (x : Ending). x.cause) makes.2 ∙ ap (λ (p : Product). cause_by input p.refusal) parts.3 in
+    absurd (split_late options.rule file parts.0 input parts.1 parts.2 (subst ComesFirst cause first))
 
 merges_first : (copy : Bool) (options : LasmergeOptions) (files : FileMap) → ComesWithout (MergesIf copy options files)
 merges_first true options files ending (inl kept) first = ap (λ (e : Ending). e.outputs) kept.2

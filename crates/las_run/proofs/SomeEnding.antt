@@ -25,10 +25,11 @@ use Rattle.las_merge.proofs.Public.{bytes_of_first}
 use Rattle.las_split.specs.Laws.{SplitsToSomething}
 use Rattle.las_split.specs.Outputs.{part_files}
 use Rattle.laz_copied.specs.Copied.{Chunk, all_of, copied_file}
+use Rattle.laz_file.specs.Endings.{Product, writes}
 use Rattle.las_run.specs.Endings.{Ending, Refused, Unread, Usage, ends_at_once}
 use Rattle.las_run.specs.EndingLaws.{SomeEndingIsDefined}
 use Rattle.las_run.specs.Runs.{Accepts, Does, Makes, Opens, RunsAs}
-use Rattle.las_run.specs.Tools.{CopiesIn, MergesIf, MergesIn, ZipsIf, cause_by, cause_of_fault, chosen_taps, chunk_if, converted, copies, makes, merges, part_outputs, range_in, report_of, reports, settings_of, writes}
+use Rattle.las_run.specs.Tools.{CopiesIn, MergesIf, MergesIn, ZipsIf, cause_of_fault, chosen_taps, chunk_if, converted, copies, makes, merges, range_in, report_of, reports, settings_of, ending_of}
 use Rattle.las_run.proofs.Running.{accepts_by}
 
 abbrev SomeIs : (Ending → Type 0) → Type 0
@@ -36,13 +37,14 @@ SomeIs Ends = IsNotNone ((ending : Ending) × Ends ending)
 
 module _ (answers : HasAnAnswer) (records : HasSomeRecords) (converts : ConvertsToSomething) (splits : SplitsToSomething) (merged : AreKeptOrMerged) (merging : MergesToSomething) (copied : AreKeptOrCopied) where
   -- a command with one input makes something of it
-  zips_some : (packed : Bool) (input output : List ℕ) (chunk : ℕ) (file : List ℕ) → IsAcceptedFile file → IsBytes file → SomeIs (ZipsIf packed input output chunk file)
-  zips_some true input output chunk file accepted small =
-      and_then (records file accepted small) (λ r. there (writes input (plain_output output file) (concat r.0) (option_map BadChunk r.1), (r.0, r.1, r.2, refl)))
-  zips_some false input output chunk file accepted small = there (writes input (packed_output output file chunk) (drop (point_offset_of file) file) None, refl)
+  zips_some : (packed : Bool) (output : List ℕ) (chunk : ℕ) (file : List ℕ) → IsAcceptedFile file → IsBytes file → IsNotNone ((product : Product) × ZipsIf packed output chunk file product)
+  zips_some true output chunk file accepted small =
+      and_then (records file accepted small) (λ r. there (writes (plain_output output file) (concat r.0) (option_map BadChunk r.1), (r.0, r.1, r.2, refl)))
+  zips_some false output chunk file accepted small = there (writes (packed_output output file chunk) (drop (point_offset_of file) file) None, refl)
 
   makes_some : (taps : List TapSeen) (input : List ℕ) (own : OneInput) (file : List ℕ) → IsAcceptedFile file → IsBytes file → SomeIs (Makes taps input own file)
-  makes_some taps input (laszip options) file accepted small = zips_some (is_packed (head_of file)) input options.output options.chunk file accepted small
+  makes_some taps input (laszip options) file accepted small =
+      and_then (zips_some (is_packed (head_of file)) options.output options.chunk file accepted small) (λ p. there (ending_of input p.0, (p.0, p.1, refl)))
   makes_some taps input (las2las options) file accepted small =
       and_then (converts options.plan options.sieve file (range_in options.start options.stop file) accepted small)
       (λ h. there (converted (chunk_if options.packed options.chunk) (chosen_taps taps options.tallies) input options.output options.sieve.pick file h.0 h.1, (h.0, h.1, h.2, refl)))
@@ -51,7 +53,7 @@ module _ (answers : HasAnAnswer) (records : HasSomeRecords) (converts : Converts
       (λ r. there (reports input (report_of (chosen_taps taps options.tallies) file r.2.0 (records_after (head_of file) (concat r.0))) r.1, (r.0, r.1, r.2.0, r.2, r.2.1, refl)))
   makes_some taps input (lassplit options) file accepted small =
       and_then (splits options.rule file accepted small)
-      (λ h. there (record { cause = cause_by input h.1; outputs = part_outputs (part_files options.stem options.end options.rule file h.0); text = [] }, (h.0, h.1, h.2, refl)))
+      (λ h. let product : Product = record { files = part_files options.stem options.end options.rule file h.0; refusal = h.1 } in there (ending_of input product, (product, (h.0, h.1, h.2, refl), refl)))
 
   accepts_some : (taps : List TapSeen) (input : List ℕ) (own : OneInput) (file : List ℕ) → IsBytes file → (answer : Option Refusal) → IsRefusal file answer → SomeIs (Accepts input file (Makes taps input own file))
   accepts_some taps input own file small None is = and_then (makes_some taps input own file is small) (λ e. there (accepts_by input file (Makes taps input own file) e.0 None is e.1))

@@ -24,7 +24,7 @@ use Rattle.laz_forms.specs.Packing.{packed_file}
 use Rattle.laz_forms.specs.Refusing.{IsAcceptedFile}
 use Rattle.las_run.specs.Endings.{Done, Ending, files_of}
 use Rattle.las_run.specs.Runs.{RunOf, Task}
-use Rattle.las_run.specs.Tools.{MergesIn, Splits, part_outputs}
+use Rattle.las_run.specs.Tools.{MergesIn, Splits}
 
 -- At most one ending is defined for a task, whatever the bytes of the files are.
 abbrev pub EndsInOneWay : Type 0
@@ -65,7 +65,7 @@ PackedFormsEnd = (task : Task) (files : FileMap) (asked : Asked) (name file : Li
 -- the ending of `lassplit` of a file with these records, if all of them are in parts
 abbrev pub split_ending : (stem end : List ℕ) → Rule → (file : List ℕ) → (records : List (List ℕ)) → Ending
 split_ending stem end rule file records =
-    record { cause = Done; outputs = part_outputs (part_files stem end rule file records); text = [] }
+    record { cause = Done; outputs = part_files stem end rule file records; text = [] }
 
 -- Whole records under a plain head: each has its length, and they are fewer than 2^32.
 pub record AreWhole (head : List ℕ) (records : List (List ℕ)) : Type 0 where

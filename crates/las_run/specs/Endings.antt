@@ -1,20 +1,11 @@
 -- How a run ends: for which cause, with which outputs and which text; the files that this leaves, and its status.
-use Rattle.std.specs.Prelude.{◌≡◌, ◌⊎◌, ℕ, List, [], ◌∷◌, take, map}
-use Rattle.std.specs.FinMap as finmap
+use Rattle.std.specs.Prelude.{◌≡◌, ◌⊎◌, ℕ, Bool, true, false, List, [], take, map}
 use Rattle.las_header.specs.declared.refusal.Refusal.{Refusal}
 use Rattle.las_header.specs.declared.refusal.Refusal.TheVariants as refusal
 use Rattle.las_merge.specs.declared.field.Field.{Field}
 use Rattle.las_outside.specs.Files.{FileMap}
-use Rattle.las_outside.specs.Drafts.{Patch, with_patches, IsUnfinished}
+use Rattle.laz_file.specs.Endings.{AreBegun, AreEnding, OutputFile, at_end, named, with_all}
 use Rattle.las_run.specs.declared.stop.Surplus.{Surplus}
-
--- An output of a run: its name, its draft, the patches of the draft in order, and what stands of it after a refusal
--- ended the run.
-pub record Output : Type 0 where
-  pub name : List ℕ
-  pub draft : List ℕ
-  pub patches : List Patch
-  pub stopped : List ℕ
 
 -- Why a run ends: all is done; memory is short; the word of this index is wrong; the file of this name is not held or
 -- could not be read; an output could not be written; the input of this name is refused; or inputs can't be merged,
@@ -41,6 +32,11 @@ status_of (Refused _ _) = 5
 status_of (Differs _ _) = 6
 status_of (HasTooMany _) = 6
 
+-- whether it is that all is done
+abbrev pub is_done : Cause → Bool
+is_done Done = true
+is_done _ = false
+
 -- An input is refused for this cause when it is opened, and not while its records are read.
 abbrev pub ComesAtOpening : Refusal → Type 0
 ComesAtOpening (refusal.BadChunk chunk) = ⊥
@@ -63,63 +59,24 @@ ComesFirst (HasTooMany _) = Unit {0}
 -- An ending: its cause, the outputs in the order in which they are created, and the text on standard output.
 pub record Ending : Type 0 where
   pub cause : Cause
-  pub outputs : List Output
+  pub outputs : List OutputFile
   pub text : List ℕ
 
 -- an ending that creates no output and puts no text
 abbrev pub ends_at_once : Cause → Ending
 ends_at_once cause = record { cause = cause; outputs = []; text = [] }
 
--- names with bytes put into files, one after another
-abbrev pub with_all : FileMap → List (List ℕ × List ℕ) → FileMap
-with_all files [] = files
-with_all files (p ∷ ps) = with_all (finmap.insert files p.0 p.1) ps
-
--- the name and the bytes of an output at the end: finished if all is done, and else as it was stopped
-abbrev pub at_end : Cause → Output → List ℕ × List ℕ
-at_end Done output = (output.name, with_patches output.draft output.patches)
-at_end _ output = (output.name, output.stopped)
-
 -- the files at an ending
 abbrev pub files_of : Ending → FileMap → FileMap
-files_of ending files = with_all files (map (at_end ending.cause) ending.outputs)
-
--- these texts are the outputs', each of them a prefix of its draft
-abbrev pub AreBegun : List Output → List (List ℕ) → Type 0
-AreBegun [] [] = Unit {0}
-AreBegun [] (t ∷ ts) = ⊥
-AreBegun (o ∷ os) [] = ⊥
-AreBegun (o ∷ os) (t ∷ ts) = ((n : ℕ) × (t ≡ take n o.draft)) × AreBegun os ts
-
--- these texts are the outputs', each of them its draft
-abbrev pub AreDrafts : List Output → List (List ℕ) → Type 0
-AreDrafts [] [] = Unit {0}
-AreDrafts [] (t ∷ ts) = ⊥
-AreDrafts (o ∷ os) [] = ⊥
-AreDrafts (o ∷ os) (t ∷ ts) = (t ≡ o.draft) × AreDrafts os ts
-
--- these texts are the outputs' while one after another is finished: the first are, the next is a prefix of its draft,
--- or its draft after some of its patches, and each other one is its draft
-abbrev pub AreEnding : List Output → List (List ℕ) → Type 0
-AreEnding [] [] = Unit {0}
-AreEnding [] (t ∷ ts) = ⊥
-AreEnding (o ∷ os) [] = ⊥
-AreEnding (o ∷ os) (t ∷ ts) =
-    ((t ≡ with_patches o.draft o.patches) × AreEnding os ts) ⊎ (IsUnfinished o.draft o.patches t × AreDrafts os ts)
+files_of ending files = with_all files (map (at_end (is_done ending.cause)) ending.outputs)
 
 -- these texts are left of the outputs, in the order of the work
-abbrev pub AreLeft : List Output → List (List ℕ) → Type 0
+abbrev pub AreLeft : List OutputFile → List (List ℕ) → Type 0
 AreLeft outputs texts = AreBegun outputs texts ⊎ AreEnding outputs texts
-
--- outputs' names with texts
-abbrev pub named : List Output → List (List ℕ) → List (List ℕ × List ℕ)
-named [] ts = []
-named (o ∷ os) [] = []
-named (o ∷ os) (t ∷ ts) = (o.name, t) ∷ named os ts
 
 -- What a run leaves of files whatever ended it: the first of the outputs were created, each is a prefix of its draft,
 -- or they were being finished one after another; and every other name is as before.
-abbrev pub IsLeft : List Output → FileMap → FileMap → Type 0
+abbrev pub IsLeft : List OutputFile → FileMap → FileMap → Type 0
 IsLeft outputs files now =
     (k : ℕ) × (texts : List (List ℕ)) × AreLeft (take k outputs) texts
     × (now ≡ with_all files (named (take k outputs) texts))

@@ -1,18 +1,18 @@
 -- What each command makes of an input that is accepted: how the run ends then.
-use Rattle.std.specs.Prelude.{◌≡◌, ◌⊎◌, ℕ, Bool, true, false, if◌then◌else◌, List, [], ◌∷◌, drop, find, length, map}
+use Rattle.std.specs.Prelude.{◌≡◌, ◌⊎◌, ℕ, Bool, true, false, if◌then◌else◌, List, [], ◌∷◌, find, length}
 use Rattle.std.specs.Prelude.{Option, Some, None, codes, min}
 use Rattle.std.specs.Fmt.{decimal}
 use Rattle.std.specs.List.{concat, filter_map, flat_map}
 use Rattle.std.specs.Str.{bytes_eq}
-use Rattle.std.specs.Option.{option_map}
 use Rattle.las_filter.specs.Kept.{Steps}
 use Rattle.las_convert.specs.Converting.{ConvertsTo, converted_output, has_output}
 use Rattle.las_thin.specs.declared.pick.Pick.{Pick}
 use Rattle.las_thin.specs.Sieving as sieve
 use Rattle.las_header.specs.declared.refusal.Refusal.{Refusal}
 use Rattle.las_header.specs.declared.refusal.Refusal.TheVariants.{BadChunk}
-use Rattle.las_header.specs.Fields.{head_of, is_packed, point_offset_of, points_of}
-use Rattle.laz_file.specs.Copying.{packed_output, plain_output}
+use Rattle.las_header.specs.Fields.{head_of, is_packed, points_of}
+use Rattle.laz_file.specs.Copying.{Packs, Unpacks, packed_output}
+use Rattle.laz_file.specs.Endings.{Product, output_file}
 use Rattle.laz_forms.specs.Outputs as points
 use Rattle.laz_forms.specs.Packing.{packed_file}
 use Rattle.laz_forms.specs.Ranges.{Range}
@@ -34,54 +34,42 @@ use Rattle.las_make.specs.declared.settings.Settings.{Settings}
 use Rattle.las_make.specs.Made.{made_file, made_records}
 use Rattle.las_make.specs.Making.{made_output}
 use Rattle.las_outside.specs.Files.{FileMap}
-use Rattle.las_split.specs.Outputs.{PartFile, part_files}
-use Rattle.las_split.specs.Splitting.{SplitsTo}
+use Rattle.las_split.specs.Outputs as parts
 use Rattle.laz_forms.specs.declared.fault.Fault.TheVariants as file
 use Rattle.las_words.specs.declared.command.Packing.{Packing}
 use Rattle.las_words.specs.Asked.{Las2lasOptions, LasmergeOptions, MakeOptions}
 use Rattle.las_run.specs.declared.conversion.Conversion.{Conversion}
 use Rattle.las_run.specs.declared.stop.Surplus.TheVariants.{Chunks, Points}
 use Rattle.las_run.specs.Endings.{Cause, Done, Memory, Unread, Unwritten, Refused, Differs, HasTooMany}
-use Rattle.las_run.specs.Endings.{Ending, Output, ends_at_once}
+use Rattle.las_run.specs.Endings.{Ending, ends_at_once}
 use Rattle.las_run.specs.Lines.{line_feed}
-
--- an output of point records as one of a run
-abbrev pub output_of : points.Output → (records : List ℕ) → Output
-output_of out records = record {
-  name = out.name;
-  draft = points.draft_of out records;
-  patches = points.patches_of out records;
-  stopped = points.stopped out records;
-}
 
 -- all is done, or the input is refused
 abbrev pub cause_by : (input : List ℕ) → Option Refusal → Cause
 cause_by input None = Done
 cause_by input (Some refusal) = Refused input refusal
 
--- the ending with one output: of all of its records, or of those before a refusal
-abbrev pub writes : (input : List ℕ) → points.Output → (records : List ℕ) → Option Refusal → Ending
-writes input out records refusal =
-    record { cause = cause_by input refusal; outputs = output_of out records ∷ []; text = [] }
+-- the ending of a run that makes this of its input, and puts no text
+abbrev pub ending_of : (input : List ℕ) → Product → Ending
+ending_of input product =
+    record { cause = cause_by input product.refusal; outputs = product.files; text = [] }
 
--- `laszip` of a plain input packs it.
-abbrev pub Packs : (input output : List ℕ) → (chunk : ℕ) → (file : List ℕ) → Ending → Type 0
-Packs input output chunk file ending =
-    ending ≡ writes input (packed_output output file chunk) (drop (point_offset_of file) file) None
+-- A run makes one of these products of its input.
+abbrev pub EndsBy : (Makes : (file : List ℕ) → Product → Type 0) → (input : List ℕ) → (file : List ℕ) → Ending → Type 0
+EndsBy Makes input file ending =
+    (product : Product) × Makes file product × (ending ≡ ending_of input product)
 
--- `laszip` of a packed input unpacks it, up to its first bad chunk.
-abbrev pub Unpacks : (input output file : List ℕ) → Ending → Type 0
-Unpacks input output file ending =
-    (blocks : List (List ℕ)) × (bad : Option ℕ) × AreRecordsOf file blocks bad
-    × (ending ≡ writes input (plain_output output file) (concat blocks) (option_map BadChunk bad))
+-- `laszip` packs a plain input, and unpacks a packed one up to its first bad chunk. It goes by the contents of its
+-- input, and not by the names.
+abbrev pub ZipsIf : (packed : Bool) → (output : List ℕ) → (chunk : ℕ) → (file : List ℕ) → Product → Type 0
+ZipsIf true output chunk file product = Unpacks output file product
+ZipsIf false output chunk file product = Packs output chunk file product
 
--- `laszip` goes by the contents of its input, and not by the names.
-abbrev pub ZipsIf : (packed : Bool) → (input output : List ℕ) → (chunk : ℕ) → (file : List ℕ) → Ending → Type 0
-ZipsIf true input output chunk file ending = Unpacks input output file ending
-ZipsIf false input output chunk file ending = Packs input output chunk file ending
+abbrev pub ZipsTo : (output : List ℕ) → (chunk : ℕ) → (file : List ℕ) → Product → Type 0
+ZipsTo output chunk file product = ZipsIf (is_packed (head_of file)) output chunk file product
 
 abbrev pub Zips : (input output : List ℕ) → (chunk : ℕ) → (file : List ℕ) → Ending → Type 0
-Zips input output chunk file ending = ZipsIf (is_packed (head_of file)) input output chunk file ending
+Zips input output chunk file ending = EndsBy (ZipsTo output chunk) input file ending
 
 -- the chunk size of an output, if it is packed
 abbrev pub chunk_if : (packed : Bool) → (chunk : ℕ) → Option ℕ
@@ -114,7 +102,7 @@ abbrev pub converted : (size : Option ℕ) → (chosen : List TapSeen) → (inpu
 converted size chosen input output pick file records refusal = record {
   cause = cause_by input refusal;
   outputs =
-      if has_output pick refusal then output_of (converted_output output file size) records ∷ [] else [];
+      if has_output pick refusal then output_file (converted_output output file size) records ∷ [] else [];
   text = kept_text chosen file records refusal;
 }
 
@@ -186,19 +174,9 @@ Reports taps input tallies file ending =
     × (ending ≡ reports input
     (report_of (chosen_taps taps tallies) file pieces (points.records_after (head_of file) (concat blocks))) bad)
 
--- the parts of a file as outputs of a run
-abbrev pub part_outputs : List PartFile → List Output
-part_outputs parts = map (λ part. output_of part.output part.records) parts
-
 -- `lassplit` writes each part that has a record, in the order of the parts' first records, up to the first refusal.
 abbrev pub Splits : (input stem end : List ℕ) → Rule → (file : List ℕ) → Ending → Type 0
-Splits input stem end rule file ending =
-    (records : List (List ℕ)) × (refusal : Option Refusal) × SplitsTo rule file records refusal
-    × (ending ≡ record {
-      cause = cause_by input refusal;
-      outputs = part_outputs (part_files stem end rule file records);
-      text = [];
-    })
+Splits input stem end rule file ending = EndsBy (parts.Splits stem end rule) input file ending
 
 -- the options of `lasmerge` with this packing
 abbrev pub merge_options : (inputs : List (List ℕ)) → (output : List ℕ) → Packing → (copy : Bool) → LasmergeOptions
@@ -227,7 +205,7 @@ abbrev pub merges : (inputs : List (List ℕ)) → (output : List ℕ) → (size
     → (records : List ℕ) → Option BadPlace → Ending
 merges inputs output size merged records bad = record {
   cause = cause_at inputs bad;
-  outputs = output_of (merged_output output merged size) records ∷ [];
+  outputs = output_file (merged_output output merged size) records ∷ [];
   text = [];
 }
 
@@ -291,8 +269,8 @@ makes output packed settings chunk =
     let records = concat (made_records settings) in
     record {
       cause = Done;
-      outputs = output_of (made_output output settings) records
-          ∷ output_of (packed_output packed (made_file settings) chunk) records ∷ [];
+      outputs = output_file (made_output output settings) records
+          ∷ output_file (packed_output packed (made_file settings) chunk) records ∷ [];
       text = made_text settings.points (length (made_file settings))
           (length (packed_file (made_file settings) chunk));
     }

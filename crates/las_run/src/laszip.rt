@@ -1,6 +1,5 @@
 //! The command `laszip`: a plain file is packed, and a packed one unpacked.
 ghost use Rattle.std.specs.Prelude.{◌≡◌, ◌≢◌, ◌∷◌, [], List};
-ghost use Rattle.las_header.specs.Heads.{IsHead};
 ghost use Rattle.las_outside.specs.Files.{WhereKnown};
 ghost use Rattle.las_outside.specs.Limits.{AreWorkers, IsChunkSize};
 ghost use Rattle.las_outside.specs.Outside.{Later};
@@ -52,7 +51,6 @@ fn zip<R: Threads + Sync, F: Files, G: Gate>(
 ) -> Result<(), Fault>
     requires new { IsNewReader reader.name reader }
     requires whole { AgreesWithHead reader }
-    requires head { IsHead reader.head.bytes }
     requires chunk { IsChunkSize chunk }
     requires workers { AreWorkers machine.workers }
     requires names { output.now ≢ reader.name }

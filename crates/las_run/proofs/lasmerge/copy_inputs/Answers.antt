@@ -1,34 +1,20 @@
-use Rattle.std.proofs.Common.{ℕ, ◌<◌, true, Result, string_bytes, sym, subst}
-use Rattle.std.proofs.lemmas.List.{length-map}
+use Rattle.std.proofs.Common.{true, Result, sym, subst}
 use Rattle.las_words.specs.Asked.{Asked, LasmergeOptions, lasmerge}
 use Rattle.las_words.specs.Texts.{texts}
 use Rattle.las_run.specs.declared.stop.Stop.{Stop}
 use Rattle.las_run.specs.Ends.{Ends, cause_of, quiet}
 use Rattle.las_run.specs.Runs.{task_with}
-use Rattle.las_run.proofs.Copying.{SaysCopying, ends_copying}
+use Rattle.las_run.proofs.Copying.{ends_copying}
 use Rattle.las_run.proofs.lasmerge.copy_inputs.Goals as goal
 
 pub returns-clause-ends : goal.returns-clause-ends
 returns-clause-ends g c =
-    let h = c.merge_copied.ensures in
     let packing = c.args.packing in
     let inputs = texts c.args.inputs.now in
     let output = c.args.output.now in
     let old = g.F.Files.seen c.args.files.now in
     let new = g.F.Files.seen c.merge_copied.new.files in
-    let long = length-map c.args.inputs.now string_bytes in
     let options : LasmergeOptions = record { inputs = inputs; output = output; packed = packing.packed; chunk = packing.chunk; copy = true } in
     let asked : Asked = record { work = lasmerge options; workers = c.args.workers } in
-    let says : SaysCopying inputs output old new c.merge_copied.result = record {
-      copied = h.copied;
-      kept = h.kept;
-      at = λ number cause is. let u = h.at number cause is in (subst (λ (n : ℕ). number < n) (sym long) u.0, u.1);
-      unequal = λ number field is. subst (λ (n : ℕ). number < n) (sym long) (h.unequal number field is);
-      read = h.read;
-      write = h.write;
-      never = h.never;
-      left = h.left;
-      later = h.later;
-    } in
     λ taps out. subst (λ (o : Result (Unit {0}) Stop). Ends (task_with taps asked) (quiet old new out) (cause_of inputs o)) (sym c.stopped_merge.ensures)
-    (ends_copying taps options c.args.workers old new out c.merge_copied.result says)
+    (ends_copying taps options c.args.workers old new out c.merge_copied.result c.merge_copied.ensures.says)
