@@ -1,6 +1,7 @@
 //! Plans over two records.
 
 use las_filter::{Change, Keep, Plan, RawRange};
+use std::alloc::{AllocError, Global};
 use std::test::Fail;
 
 // Class 2 and intensity 100, return 1 of 2.
@@ -13,29 +14,34 @@ const SECOND: [u8; 20] = [
     255, 255, 255, 127, 0, 0, 0, 0, 0, 0, 0, 0, 200, 0, 18, 101, 0, 0, 0, 0,
 ];
 
+// A filter, and whether it keeps the first record and the second.
+static ROWS: [(Keep, bool, bool); 9] = [
+    (Keep::Classes(1 << 2), true, false),
+    (Keep::DropClasses(1 << 5), true, false),
+    (Keep::Returns(1 << 2), false, true),
+    (Keep::DropReturns(1 << 1), false, true),
+    (Keep::First, true, false),
+    (Keep::Last, false, true),
+    (Keep::Intensity(100, 199), true, false),
+    (Keep::NotBelow(200), false, true),
+    (Keep::NotAbove(100), true, false),
+];
+
+// Whether a filter beside another one that keeps all keeps the records as a row says.
+fn keeps(alloc: Global, row: &(Keep, bool, bool)) -> Result<bool, AllocError> {
+    let (keep, first, second) = row;
+    let plan = Plan {
+        keeps: vec![in alloc; *keep, Keep::NotBelow(0)]?,
+        changes: Vec::new(alloc),
+    };
+    Ok(plan.keeps(&FIRST) == *first && plan.keeps(&SECOND) == *second)
+}
+
 #[test]
 fn filters_keep_records(rt: HostRuntime) -> Result<(), Fail> {
-    let table = [
-        (Keep::Classes(1 << 2), true, false),
-        (Keep::DropClasses(1 << 5), true, false),
-        (Keep::Returns(1 << 2), false, true),
-        (Keep::DropReturns(1 << 1), false, true),
-        (Keep::First, true, false),
-        (Keep::Last, false, true),
-        (Keep::Intensity(100, 199), true, false),
-        (Keep::NotBelow(200), false, true),
-        (Keep::NotAbove(100), true, false),
-    ];
-    for (keep, first, second) in table {
-        let plan = Plan {
-            keeps: vec![in rt.alloc(); keep, Keep::NotBelow(0)]?,
-            changes: Vec::new(rt.alloc()),
-        };
-        assert_eq!(rt;
-            (plan.keeps(&FIRST), plan.keeps(&SECOND)),
-            (first, second),
-            "{keep:?}"
-        );
+    for row in &ROWS {
+        let is_so = keeps(rt.alloc(), row)?;
+        assert!(rt; is_so, "{:?}", row.0);
     }
     Ok(())
 }

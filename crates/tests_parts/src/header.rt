@@ -7,12 +7,12 @@ use std::test::Fail;
 
 // A file of format 0 with one record: its version, its header size and its offset, and how long it is.
 struct Shape {
-    parts: [(usize, &'static [u8]); 4],
+    parts: &'static [(usize, &'static [u8])],
     length: usize,
 }
 
 const OF_1_2: Shape = Shape {
-    parts: [
+    parts: &[
         (24, &[1, 2]),
         (94, &[227, 0, 227, 0]),
         (105, &[20, 0, 1]),
@@ -23,7 +23,7 @@ const OF_1_2: Shape = Shape {
 
 // With a VLR of three bytes, and a gap of two.
 const OF_VLRS: Shape = Shape {
-    parts: [
+    parts: &[
         (24, &[1, 2]),
         (94, &[227, 0, 30, 1, 0, 0, 1]),
         (105, &[20, 0, 1]),
@@ -33,7 +33,7 @@ const OF_VLRS: Shape = Shape {
 };
 
 const OF_1_3: Shape = Shape {
-    parts: [
+    parts: &[
         (24, &[1, 3]),
         (94, &[235, 0, 235, 0]),
         (105, &[20, 0, 1]),
@@ -44,7 +44,7 @@ const OF_1_3: Shape = Shape {
 
 // With both counts.
 const OF_1_4: Shape = Shape {
-    parts: [
+    parts: &[
         (24, &[1, 4]),
         (94, &[119, 1, 119, 1]),
         (105, &[20, 0, 1]),
@@ -54,11 +54,19 @@ const OF_1_4: Shape = Shape {
 };
 
 fn file_of(alloc: Global, shape: &Shape) -> Result<Vec<u8>, AllocError> {
-    file_with(alloc, shape.length, &shape.parts)
+    file_with(alloc, shape.length, shape.parts)
 }
 
 // How long a file is made, a place, the byte that is put there, and what the file is refused for then.
 type Row = (usize, usize, u8, Option<Refusal>);
+
+// Whether a file is refused as a row says, once it is changed so.
+fn is_refused(alloc: Global, file: &mut Vec<u8>, row: &Row) -> Result<bool, AllocError> {
+    let (length, at, byte, cause) = row;
+    file.resize(*length, 0)?;
+    put(file, *at, &[*byte]);
+    Ok(opened(alloc, file)?.err() == *cause)
+}
 
 // The first row of some whose change of a file of this shape is not refused as it has to be. If `beside`, each change
 // is made beside the ones before it, and else to the whole file.
@@ -69,10 +77,8 @@ fn first_wrong(
     beside: bool,
 ) -> Result<Option<usize>, AllocError> {
     let mut file = file_of(alloc, shape)?;
-    for (i, (length, at, byte, cause)) in rows.iter().enumerate() {
-        file.resize(*length, 0)?;
-        put(&mut file, *at, &[*byte]);
-        if opened(alloc, &file)?.err() != *cause {
+    for (i, row) in rows.iter().enumerate() {
+        if !is_refused(alloc, &mut file, row)? {
             return Ok(Some(i));
         }
         if !beside {
@@ -129,21 +135,6 @@ const CHANGES_OF_1_4: [Row; 7] = [
     (395, 247, 0, None),
 ];
 
-#[test]
-fn each_condition_is_named(rt: HostRuntime) -> Result<(), Fail> {
-    let alloc = rt.alloc();
-    let files: [(&Shape, &[Row]); 4] = [
-        (&OF_1_2, &CHANGES_OF_1_2),
-        (&OF_VLRS, &CHANGES_OF_VLRS),
-        (&OF_1_3, &CHANGES_OF_1_3),
-        (&OF_1_4, &CHANGES_OF_1_4),
-    ];
-    for (shape, rows) in files {
-        assert_eq!(rt; first_wrong(alloc, shape, rows, false)?, None);
-    }
-    Ok(())
-}
-
 // The conditions of LAS 1.4 from the last to the first.
 const FROM_THE_LAST: [Row; 9] = [
     (395, 107, 3, Some(Refusal::PointCounts)),
@@ -157,9 +148,28 @@ const FROM_THE_LAST: [Row; 9] = [
     (395, 0, 0, Some(Refusal::Magic)),
 ];
 
+// Files, changes of them, and whether each change is made beside the ones before it.
+static FILES: [(Shape, &[Row], bool); 5] = [
+    (OF_1_2, &CHANGES_OF_1_2, false),
+    (OF_VLRS, &CHANGES_OF_VLRS, false),
+    (OF_1_3, &CHANGES_OF_1_3, false),
+    (OF_1_4, &CHANGES_OF_1_4, false),
+    (OF_1_4, &FROM_THE_LAST, true),
+];
+
+// The number of the first file of which a change is not refused as it has to be, and that of its row.
+fn wrong_change(alloc: Global) -> Result<Option<(usize, usize)>, AllocError> {
+    for (i, (shape, rows, beside)) in FILES.iter().enumerate() {
+        if let Some(row) = first_wrong(alloc, shape, rows, *beside)? {
+            return Ok(Some((i, row)));
+        }
+    }
+    Ok(None)
+}
+
 #[test]
-fn the_first_of_two_is_named(rt: HostRuntime) -> Result<(), Fail> {
-    let wrong = first_wrong(rt.alloc(), &OF_1_4, &FROM_THE_LAST, true)?;
-    assert_eq!(rt; wrong, None);
+fn each_condition_is_named(rt: HostRuntime) -> Result<(), Fail> {
+    let wrong = wrong_change(rt.alloc())?;
+    assert!(rt; wrong.is_none(), "{wrong:?}");
     Ok(())
 }

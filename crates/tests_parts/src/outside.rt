@@ -76,7 +76,7 @@ fn first_wrong(rt: &HostRuntime, steps: &[Step]) -> Result<Option<usize>, Fail> 
 }
 
 // A file of the system holds what was appended, with its patch, and says where it ends. A folder is no file.
-const FILE: [Step; 13] = [
+static FILE: [Step; 13] = [
     Create("las_outside_file"),
     Append("las_outside_file", "abcdef"),
     Append("las_outside_file", "gh"),
@@ -99,7 +99,7 @@ fn a_real_file(rt: HostRuntime) -> Result<(), Fail> {
 }
 
 // A file that was read is not made empty, by whatever name it is created.
-const INPUT: [Step; 12] = [
+static INPUT: [Step; 12] = [
     Write("las_outside_input", "abcdef"),
     Size("las_outside_input", Some(6)),
     HardLink("las_outside_input", "las_outside_hard"),
@@ -121,7 +121,7 @@ fn an_input_stays(rt: HostRuntime) -> Result<(), Fail> {
 }
 
 // An output is created under one name, and again under that one alone.
-const OUTPUT: [Step; 9] = [
+static OUTPUT: [Step; 9] = [
     Create("las_outside_output"),
     Append("las_outside_output", "abc"),
     NotCreate("./las_outside_output"),
@@ -140,7 +140,7 @@ fn an_output_has_one_name(rt: HostRuntime) -> Result<(), Fail> {
 }
 
 // What is no regular file is no output, and a file that is longer than what is written keeps nothing of its own.
-const STOOD: [Step; 11] = [
+static STOOD: [Step; 11] = [
     NotCreate("/dev/null"),
     NotCreate("/dev/full"),
     NotCreate("."),
@@ -197,6 +197,24 @@ fn append_many(
     Ok(())
 }
 
+// Whether the file of a number holds what was appended to it. It is removed.
+fn is_whole(rt: &HostRuntime, number: u32) -> Result<bool, Fail> {
+    let name = numbered(rt, number)?;
+    let text = fs::read_to_string(rt, name.as_str())?;
+    let wanted = format!(in rt.alloc(); "ab{name}cd{name}ef{name}")?;
+    fs::remove_file(rt, name.as_str())?;
+    Ok(text.as_str() == wanted.as_str())
+}
+
+// Whether each of many files does.
+fn are_whole(rt: &HostRuntime) -> Result<bool, Fail> {
+    let mut are_whole = true;
+    for number in 0..MANY {
+        are_whole = is_whole(rt, number)? && are_whole;
+    }
+    Ok(are_whole)
+}
+
 // More outputs than are open at a time each hold what was appended to them.
 #[test]
 fn many_outputs(rt: HostRuntime) -> Result<(), Fail> {
@@ -205,13 +223,8 @@ fn many_outputs(rt: HostRuntime) -> Result<(), Fail> {
     append_many(&rt, &mut files, 0, "ab")?;
     append_many(&rt, &mut files, 0, "cd")?;
     append_many(&rt, &mut files, 0, "ef")?;
-    for number in 0..MANY {
-        let name = numbered(&rt, number)?;
-        let text = fs::read_to_string(&rt, name.as_str())?;
-        let wanted = format!(in rt.alloc(); "ab{name}cd{name}ef{name}")?;
-        assert_eq!(rt; text.as_str(), wanted.as_str());
-        fs::remove_file(&rt, name.as_str())?;
-    }
+    let are_whole = are_whole(&rt)?;
+    assert!(rt; are_whole);
     Ok(())
 }
 

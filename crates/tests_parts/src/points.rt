@@ -5,7 +5,6 @@ use las_points::{
     angle, class, class_byte, count_in, direction, intensity, return_number, returns_of_pulse, rgb,
     set_class, set_y, source, time, user, x, y, z,
 };
-use std::test::Fail;
 
 const POINT: [u8; 20] = [
     5,
@@ -30,53 +29,46 @@ const POINT: [u8; 20] = [
     2,
 ];
 
-#[test]
-fn fields_are_read(rt: HostRuntime) -> Result<(), Fail> {
-    assert_eq!(rt; (x(&POINT), y(&POINT), z(&POINT)), (5, -2, 7));
-    assert_eq!(rt;
-        (intensity(&POINT), angle(&POINT), user(&POINT)),
-        (0x1234, -15, 9)
-    );
-    assert_eq!(rt;
-        (
-            return_number(&POINT),
-            returns_of_pulse(&POINT),
-            direction(&POINT)
-        ),
-        (2, 2, 1)
-    );
-    assert_eq!(rt; (class(&POINT), source(&POINT)), (2, 0x201));
-    Ok(())
+// Whether the fields of a record are read as they stand in it.
+fn are_read() -> bool {
+    let place = x(&POINT) == 5 && y(&POINT) == -2 && z(&POINT) == 7;
+    let seen = intensity(&POINT) == 0x1234 && angle(&POINT) == -15 && user(&POINT) == 9;
+    let pulse = return_number(&POINT) == 2 && returns_of_pulse(&POINT) == 2;
+    place
+        && seen
+        && pulse
+        && direction(&POINT) == 1
+        && class(&POINT) == 2
+        && source(&POINT) == 0x201
 }
 
 #[test]
-fn fields_are_changed(rt: HostRuntime) -> Result<(), Fail> {
+fn fields_are_read(rt: HostRuntime) {
+    assert!(rt; are_read());
+}
+
+#[test]
+fn fields_are_changed(rt: HostRuntime) {
     let mut point = POINT;
     set_class(&mut point, 31);
     set_y(&mut point, -3);
-    assert_eq!(rt;
-        (class_byte(&point), y(&point), x(&point)),
-        (0b1111_1111, -3, 5)
-    );
+    let is_changed = class_byte(&point) == 0b1111_1111 && y(&point) == -3 && x(&point) == 5;
     let mut counts = Counts {
         points: 0,
         returns: [0; 7],
     };
     count_in(&mut counts, &point);
-    assert_eq!(rt; (counts.points, counts.returns[1]), (1, 1));
-    Ok(())
+    assert!(rt; is_changed && counts.points == 1 && counts.returns[1] == 1);
 }
 
 #[test]
-fn times_and_colours_are_read(rt: HostRuntime) -> Result<(), Fail> {
+fn times_and_colours_are_read(rt: HostRuntime) {
     let mut point = [0; 34];
     point[20] = 1;
     point[27] = 64;
     point[28] = 2;
     point[31] = 3;
     point[32] = 4;
-    assert_eq!(rt; time(3, &point), (64 << 56) + 1);
-    assert_eq!(rt; rgb(3, &point), (2, 768, 4));
-    assert_eq!(rt; rgb(2, &point[..26]), (1, 0, 0));
-    Ok(())
+    let is_read = time(3, &point) == (64 << 56) + 1 && rgb(3, &point) == (2, 768, 4);
+    assert!(rt; is_read && rgb(2, &point[..26]) == (1, 0, 0));
 }

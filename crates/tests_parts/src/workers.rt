@@ -235,109 +235,188 @@ fn stands_by_number(crew: &Crew<()>, bytes: &[u8]) -> bool
     true
 }
 
-// Works bytes by a crew of 1 to 8 hands, at most two bytes for each. Whether each is worked once inside the gate, its
-// answer stands under its number, and no more is drawn than a number past the total by each hand; and how many numbers
-// were held to the last turn.
-fn crew_works<R: Threads + Sync>(
+// Whether each byte is worked once inside the gate, its answer stands under its number, and no more is drawn than a
+// number past the total by each hand.
+fn is_worked<R: Threads + Sync>(
     rt: &R,
     alloc: Global,
+    watch: &Watch,
     hands: u32,
     bytes: &[u8],
-    hold: Hold,
-) -> Result<(bool, u64), Fail> {
-    if hands == 0 || hands > 8 || bytes.len() > 2 * hands as usize {
-        return Ok((false, 0));
-    }
-    let watch = watch_of(alloc, bytes.len(), hold)?;
+) -> Result<bool, AllocError>
+    requires hands { (0 < hands) × (hands ≤ 8) }
+    requires few { length bytes.now ≤ 2 * hands }
+{
     let inputs = inputs_of(alloc, bytes)?;
-    let (crew, word) = worked(rt, alloc, &watch, hands, &inputs)?;
-    let right = crew.hands() == hands as usize
-        && stands_by_number(&crew, bytes)
-        && watch.saw_each_once()
-        && word >= bytes.len() as u64
-        && word <= bytes.len() as u64 + u64::from(hands);
-    Ok((right, watch.missed.load(Ordering::SeqCst)))
+    let (crew, word) = worked(rt, alloc, watch, hands, &inputs)?;
+    Ok(
+        crew.hands() == hands as usize
+            && stands_by_number(&crew, bytes)
+            && watch.saw_each_once()
+            && word >= bytes.len() as u64
+            && word <= bytes.len() as u64 + u64::from(hands),
+    )
 }
 
-// Number 0 is held until number 1 has entered.
-#[test]
-fn two_hands_meet(rt: HostRuntime) -> Result<(), Fail> {
-    let hold = Hold {
-        below: 1,
-        entered: 2,
-        ..OPEN
-    };
-    assert_eq!(rt; crew_works(&rt, rt.alloc(), 2, &[10, 20], hold)?, (true, 0));
-    Ok(())
+// A crew of 1 to 8 hands, at most two bytes for each, which numbers are held, and how many of them to the last turn.
+struct Row {
+    name: &'static str,
+    hands: u32,
+    bytes: &'static [u8],
+    hold: Hold,
+    missed: u64,
 }
 
-// Number 0 is held for a thousand turns, since no input leaves twice. Some inputs are refused.
-#[test]
-fn sixteen_inputs_stand_by_number(rt: HostRuntime) -> Result<(), Fail> {
-    let hold = Hold {
-        below: 1,
-        left: 17,
-        turns: 1000,
-        ..OPEN
-    };
-    let bytes = [3, 250, 5, 199, 200, 0, 1, 2, 77, 255, 100, 9, 8, 7, 6, 5];
-    assert_eq!(rt; crew_works(&rt, rt.alloc(), 8, &bytes, hold)?, (true, 1));
-    Ok(())
-}
+static ROWS: [Row; 14] = [
+    // number 0 is held until number 1 has entered
+    Row {
+        name: "two hands meet",
+        hands: 2,
+        bytes: &[10, 20],
+        hold: Hold {
+            below: 1,
+            entered: 2,
+            ..OPEN
+        },
+        missed: 0,
+    },
+    // number 0 is held for a thousand turns, since no input leaves twice; some inputs are refused
+    Row {
+        name: "sixteen inputs stand by number",
+        hands: 8,
+        bytes: &[3, 250, 5, 199, 200, 0, 1, 2, 77, 255, 100, 9, 8, 7, 6, 5],
+        hold: Hold {
+            below: 1,
+            left: 17,
+            turns: 1000,
+            ..OPEN
+        },
+        missed: 1,
+    },
+    Row {
+        name: "one hand works two inputs",
+        hands: 1,
+        bytes: &[201, 41],
+        hold: OPEN,
+        missed: 0,
+    },
+    Row {
+        name: "0 inputs and 1 hands",
+        hands: 1,
+        bytes: &[],
+        hold: OPEN,
+        missed: 0,
+    },
+    Row {
+        name: "1 inputs and 2 hands",
+        hands: 2,
+        bytes: &[1],
+        hold: OPEN,
+        missed: 0,
+    },
+    Row {
+        name: "2 inputs and 3 hands",
+        hands: 3,
+        bytes: &[1, 2],
+        hold: OPEN,
+        missed: 0,
+    },
+    Row {
+        name: "3 inputs and 4 hands",
+        hands: 4,
+        bytes: &[1, 2, 3],
+        hold: OPEN,
+        missed: 0,
+    },
+    Row {
+        name: "4 inputs and 5 hands",
+        hands: 5,
+        bytes: &[1, 2, 3, 204],
+        hold: OPEN,
+        missed: 0,
+    },
+    Row {
+        name: "5 inputs and 6 hands",
+        hands: 6,
+        bytes: &[1, 2, 3, 204, 5],
+        hold: OPEN,
+        missed: 0,
+    },
+    Row {
+        name: "6 inputs and 7 hands",
+        hands: 7,
+        bytes: &[1, 2, 3, 204, 5, 6],
+        hold: OPEN,
+        missed: 0,
+    },
+    Row {
+        name: "7 inputs and 8 hands",
+        hands: 8,
+        bytes: &[1, 2, 3, 204, 5, 6, 7],
+        hold: OPEN,
+        missed: 0,
+    },
+    // while one hand is held at number 0, the other works both other inputs: numbers that were dealt to hands before the
+    // fan-out would leave one of them with the held hand
+    Row {
+        name: "a free hand goes on",
+        hands: 2,
+        bytes: &[10, 20, 30],
+        hold: Hold {
+            below: 1,
+            left: 2,
+            ..OPEN
+        },
+        missed: 0,
+    },
+    Row {
+        name: "four inputs meet by four hands",
+        hands: 4,
+        bytes: &[1, 2, 3, 4],
+        hold: Hold {
+            below: 4,
+            entered: 4,
+            ..OPEN
+        },
+        missed: 0,
+    },
+    Row {
+        name: "four inputs meet by eight hands",
+        hands: 8,
+        bytes: &[1, 2, 3, 4],
+        hold: Hold {
+            below: 4,
+            entered: 4,
+            ..OPEN
+        },
+        missed: 0,
+    },
+];
 
-#[test]
-fn one_hand_works_two_inputs(rt: HostRuntime) -> Result<(), Fail> {
-    assert_eq!(rt;
-        crew_works(&rt, rt.alloc(), 1, &[201, 41], OPEN)?,
-        (true, 0)
-    );
-    Ok(())
-}
-
-#[test]
-fn some_hands_have_no_input(rt: HostRuntime) -> Result<(), Fail> {
-    let bytes = [1, 2, 3, 204, 5, 6, 7];
-    for hands in 1u32..9 {
-        let some = &bytes[..hands as usize - 1];
-        assert_eq!(rt;
-            crew_works(&rt, rt.alloc(), hands, some, OPEN)?,
-            (true, 0),
-            "at {hands}"
-        );
+// Whether a crew works as its row says.
+fn crew_works<R: Threads + Sync>(rt: &R, alloc: Global, row: &Row) -> Result<bool, AllocError> {
+    let (hands, bytes) = (row.hands, row.bytes);
+    if hands == 0 || hands > 8 || bytes.len() > 2 * hands as usize {
+        return Ok(false);
     }
-    Ok(())
+    let watch = watch_of(alloc, bytes.len(), row.hold)?;
+    let is_right = is_worked(rt, alloc, &watch, hands, bytes)?;
+    Ok(is_right && watch.missed.load(Ordering::SeqCst) == row.missed)
 }
 
-// While one hand is held at number 0, the other works both other inputs: numbers that were dealt to hands before the
-// fan-out would leave one of them with the held hand.
-#[test]
-fn a_free_hand_goes_on(rt: HostRuntime) -> Result<(), Fail> {
-    let hold = Hold {
-        below: 1,
-        left: 2,
-        ..OPEN
-    };
-    assert_eq!(rt;
-        crew_works(&rt, rt.alloc(), 2, &[10, 20, 30], hold)?,
-        (true, 0)
-    );
-    Ok(())
-}
-
-// Four inputs meet, by four hands and by eight.
-#[test]
-fn four_hands_meet(rt: HostRuntime) -> Result<(), Fail> {
-    let hold = Hold {
-        below: 4,
-        entered: 4,
-        ..OPEN
-    };
-    for hands in [4u32, 8] {
-        assert_eq!(rt;
-            crew_works(&rt, rt.alloc(), hands, &[1, 2, 3, 4], hold)?,
-            (true, 0),
-            "at {hands}"
-        );
+// The name of the first row whose crew does not, or none.
+fn first_wrong<R: Threads + Sync>(rt: &R, alloc: Global) -> Result<&'static str, AllocError> {
+    for row in &ROWS {
+        if !crew_works(rt, alloc, row)? {
+            return Ok(row.name);
+        }
     }
+    Ok("")
+}
+
+#[test]
+fn crews_work(rt: HostRuntime) -> Result<(), Fail> {
+    let wrong = first_wrong(&rt, rt.alloc())?;
+    assert!(rt; wrong.is_empty(), "{wrong}");
     Ok(())
 }
