@@ -156,7 +156,7 @@ def records_of(crate):
 def contracts(crate):
     """Each call of a crate with the names of its clauses, '' for one without a name; a call of a type is TYPE::CALL.
 
-    A clause without a name that is a record of the crate's definitions has the record's fields as its clauses, too.
+    A clause that is a record of the crate's definitions has the record's fields as its clauses, too.
     """
     found, records = {}, records_of(crate)
     folder = os.path.join(TOP, "crates", crate, "src")
@@ -171,7 +171,7 @@ def contracts(crate):
             clause = re.match(r"\s*ensures\*? (\w*) ?\{ *(\w*)", line)
             if clause:
                 clauses.add(clause.group(1))
-                clauses |= set() if clause.group(1) else records.get(clause.group(2), set())
+                clauses |= records.get(clause.group(2), set())
             elif line.strip() == "{":
                 clauses = set()
     return found
