@@ -2,6 +2,7 @@
 ghost use Rattle.std.specs.Prelude.{◌≡◌, ◌<◌, ◌≤◌, length};
 ghost use Rattle.laz_chunk.specs.Layouts.{layout_of, record_length};
 
+use crate::texts::{byte, bytes, number, numbers, pair, put, short_number, split};
 use laz_chunk::{Workspace, room_for};
 use std::alloc::{AllocError, Global};
 use std::test::Fail;
@@ -102,94 +103,37 @@ fn holds_exactly(
     holds_but_last(trial, &longer, count, records)
 }
 
-// Writes bytes as far as they fit.
-fn put(records: &mut [u8], at: usize, bytes: &[u8]) {
-    for (i, byte) in bytes.iter().enumerate() {
-        if let Some(place) = records.get_mut(at.saturating_add(i)) {
-            *place = *byte;
-        }
-    }
-}
-
-// Records that are worked by hand: they consist of one byte, but for what stands at some places. Their chunk is the
-// first of them and a stream.
-struct Worked {
-    format: u8,
-    extra: u16,
-    count: u32,
-    byte: u8,
-    places: &'static [(usize, &'static [u8])],
-    stream: &'static [u8],
-}
-
+// Records that are worked by hand, a line for each list of them: `FORMAT EXTRA COUNT BYTE = PLACES = STREAM`. They
+// consist of one byte, but for the bytes after each of some places. Their chunk is the first of them and a stream.
+// Bytes are hexadecimal digits.
+//
 // The last three have two colours: from 0x1010 to 0x2020 in all; from 0x2020 in all to 0x2030, 0x2020, 0x2010; and
 // green as high as it can be. The bytes of these are those of another coder.
-static WORKED: [Worked; 7] = [
-    Worked {
-        format: 0,
-        extra: 0,
-        count: 2,
-        byte: 0,
-        places: &[(12, &[7]), (14, &[9]), (32, &[7]), (34, &[9])],
-        stream: &[0x40, 0xe1, 0xa3, 0x6a, 0x80, 0, 0],
-    },
-    Worked {
-        format: 0,
-        extra: 0,
-        count: 2,
-        byte: 0,
-        places: &[],
-        stream: &[0, 0, 0, 1, 0, 0, 0],
-    },
-    Worked {
-        format: 0,
-        extra: 0,
-        count: 1,
-        byte: 5,
-        places: &[],
-        stream: &[1, 0, 0, 0],
-    },
-    Worked {
-        format: 3,
-        extra: 2,
-        count: 1,
-        byte: 5,
-        places: &[],
-        stream: &[1, 0, 0, 0],
-    },
-    Worked {
-        format: 2,
-        extra: 0,
-        count: 2,
-        byte: 0,
-        places: &[(20, &[16; 6]), (46, &[32; 6])],
-        stream: &[0, 0, 0, 114, 148, 13, 144, 0, 0],
-    },
-    Worked {
-        format: 2,
-        extra: 0,
-        count: 2,
-        byte: 0,
-        places: &[(20, &[32; 6]), (46, &[48, 32, 32, 32, 16, 32])],
-        stream: &[0, 0, 0, 147, 73, 213, 232, 0, 0],
-    },
-    Worked {
-        format: 2,
-        extra: 0,
-        count: 2,
-        byte: 0,
-        places: &[(20, &[240, 0, 248]), (46, &[255, 0, 255])],
-        stream: &[0, 0, 0, 125, 120, 223, 128, 0, 0],
-    },
-];
+const WORKED: &str = "\
+0 0 2 00 = 12 07, 14 09, 32 07, 34 09 = 40 E1 A3 6A 80 00 00
+0 0 2 00 = = 00 00 00 01 00 00 00
+0 0 1 05 = = 01 00 00 00
+3 2 1 05 = = 01 00 00 00
+2 0 2 00 = 20 10 10 10 10 10 10, 46 20 20 20 20 20 20 = 00 00 00 72 94 0D 90 00 00
+2 0 2 00 = 20 20 20 20 20 20 20, 46 30 20 20 20 10 20 = 00 00 00 93 49 D5 E8 00 00
+2 0 2 00 = 20 F0 00 F8, 46 FF 00 FF = 00 00 00 7D 78 DF 80 00 00
+";
 
-// The records of a row.
-fn records_of(alloc: Global, size: usize, row: &Worked) -> Result<Vec<u8>, AllocError>
+// Records of this byte, with others at the places of a text.
+fn records_of(
+    alloc: Global,
+    size: usize,
+    count: u32,
+    byte: u8,
+    places: &str,
+) -> Result<Vec<u8>, AllocError>
     requires { size < 256 }
 {
-    let mut records = vec![in alloc; row.byte; size * row.count as usize]?;
-    for (at, bytes) in row.places {
-        put(&mut records, *at, bytes);
+    let mut records = vec![in alloc; byte; size * count.min(1000) as usize]?;
+    for place in places.split(",") {
+        let (at, digits) = pair(place.trim());
+        let others = bytes(alloc, digits)?;
+        put(&mut records, number(at) as usize, &others);
     }
     Ok(records)
 }
@@ -211,17 +155,34 @@ fn becomes(
     )
 }
 
-fn is_as_worked(alloc: Global, row: &Worked) -> Result<bool, AllocError> {
-    let mut trial = Trial::new(alloc, row.format.min(3), row.extra.min(192))?;
-    let records = records_of(alloc, trial.size(), row)?;
-    becomes(&mut trial, &records, row.count, row.stream)
+// Whether the records of a line become the chunk that it says.
+fn is_as_worked(alloc: Global, line: &str) -> Result<bool, AllocError> {
+    let (shape, rest) = split(line);
+    let (places, stream) = split(rest);
+    let (format, shape) = pair(shape.trim_end());
+    let (extra, shape) = pair(shape);
+    let (count, digits) = pair(shape);
+    let count = number(count);
+    let mut trial = Trial::new(alloc, byte(format).min(3), short_number(extra).min(192))?;
+    let records = records_of(alloc, trial.size(), count, byte(digits), places)?;
+    let stream = bytes(alloc, stream)?;
+    becomes(&mut trial, &records, count, &stream)
+}
+
+// The first line that is not so, or none.
+fn first_unlike(alloc: Global) -> Result<Option<&'static str>, AllocError> {
+    for line in WORKED.lines() {
+        if !is_as_worked(alloc, line)? {
+            return Ok(Some(line));
+        }
+    }
+    Ok(None)
 }
 
 #[test]
 fn chunks_worked_by_hand(rt: HostRuntime) -> Result<(), Fail> {
-    for row in &WORKED {
-        assert!(rt; is_as_worked(rt.alloc(), row)?, "{:?}", row.stream);
-    }
+    let wrong = first_unlike(rt.alloc())?;
+    assert!(rt; wrong.is_none(), "{wrong:?}");
     Ok(())
 }
 
@@ -281,67 +242,31 @@ fn long_chunk_goes_both_ways(rt: HostRuntime) -> Result<(), Fail> {
     Ok(())
 }
 
-// The low words of twelve times, and their high words, whose difference becomes 10 and then 5,000, then one in a new
-// sequence, and one in the first again. From 20 to 5,020 it is 499 times 10 and 10 more, in place of 500 times 10; all
-// else is as a writer spells it. The next four differences are extreme, so the last of them becomes the sequence's.
-const SEQUENCES: &[(u32, u32)] = &[
-    (0, 0x4000_0000),
-    (0, 0x4000_0000),
-    (10, 0x4000_0000),
-    (20, 0x4000_0000),
-    (20, 0x4000_0000),
-    (5_020, 0x4000_0000),
-    (10_020, 0x4000_0000),
-    (15_020, 0x4000_0000),
-    (20_020, 0x4000_0000),
-    (25_020, 0x4000_0000),
-    (25_020, 0x4000_0100),
-    (25_030, 0x4000_0000),
-];
-
-// What a stream spells: times, if it is good, and else nothing. No writer chooses its events.
-struct Spelling {
-    times: &'static [(u32, u32)],
-    stream: &'static [u8],
-    good: bool,
-}
-
-// The last three are a switch to the next sequence, and its time, 0; and a second switch, by 1 or by 3. The streams are
-// computed apart, from the exact interval.
-static SPELLINGS: [Spelling; 4] = [
-    Spelling {
-        times: SEQUENCES,
-        stream: &[
-            0, 0, 0, 0, 0, 0, 6, 174, 7, 250, 0, 1, 69, 149, 0, 4, 127, 55, 234, 9, 22, 95, 104,
-            141, 9, 32, 167, 225, 0, 74, 87, 106, 30, 2, 93, 154, 46, 0, 19, 69, 122, 113, 1, 91,
-            118, 113, 214, 5, 148, 0, 0, 0, 24, 170, 89, 156, 0, 0,
-        ],
-        good: true,
-    },
-    Spelling {
-        times: &[(7, 0), (0, 0)],
-        stream: &[0, 0, 0, 117, 0, 0, 0],
-        good: true,
-    },
-    Spelling {
-        times: &[(7, 0), (0, 0)],
-        stream: &[0, 0, 0, 136, 0, 0, 0],
-        good: false,
-    },
-    Spelling {
-        times: &[(7, 0), (0, 0)],
-        stream: &[0, 0, 0, 149, 0, 0, 0],
-        good: false,
-    },
-];
+// What streams spell that no writer makes, a line for each: `held TIMES = STREAM`, records of format 1 with these times
+// and zeros else, or `none TIMES = STREAM`, no such records. Of each time its low 32 bits and its high ones are told,
+// in decimal digits.
+//
+// The first has twelve times, whose difference becomes 10 and then 5,000, then one in a new sequence, and one in the
+// first again. From 20 to 5,020 it is 499 times 10 and 10 more, in place of 500 times 10; all else is as a writer
+// spells it. The next four differences are extreme, so the last of them becomes the sequence's. The others are a switch
+// to the next sequence, and its time, 0; and a second switch, by 1 or by 3. The streams are computed apart, from the
+// exact interval.
+const SPELLINGS: &str = "\
+held 0 1073741824 0 1073741824 10 1073741824 20 1073741824 20 1073741824 5020 1073741824 10020 1073741824 \
+    15020 1073741824 20020 1073741824 25020 1073741824 25020 1073742080 25030 1073741824 = \
+    00 00 00 00 00 00 06 AE 07 FA 00 01 45 95 00 04 7F 37 EA 09 16 5F 68 8D 09 20 A7 E1 00 4A 57 6A \
+    1E 02 5D 9A 2E 00 13 45 7A 71 01 5B 76 71 D6 05 94 00 00 00 18 AA 59 9C 00 00
+held 7 0 0 0 = 00 00 00 75 00 00 00
+none 7 0 0 0 = 00 00 00 88 00 00 00
+none 7 0 0 0 = 00 00 00 95 00 00 00
+";
 
 // Records of format 1 with these times, each as its low and its high word, and zeros else.
-fn records_with(alloc: Global, times: &[(u32, u32)]) -> Result<Vec<u8>, AllocError> {
-    let mut records = vec![in alloc; 0; times.len().min(12) * 28]?;
-    for (i, (low, high)) in times.iter().enumerate() {
-        let at = i.saturating_mul(28);
-        put(&mut records, at.saturating_add(20), &low.to_le_bytes());
-        put(&mut records, at.saturating_add(24), &high.to_le_bytes());
+fn records_with(alloc: Global, times: &[u32]) -> Result<Vec<u8>, AllocError> {
+    let mut records = vec![in alloc; 0; times.len().min(24) / 2 * 28]?;
+    for (i, word) in times.iter().enumerate() {
+        let at = (i / 2).saturating_mul(28).saturating_add(20 + i % 2 * 4);
+        put(&mut records, at, &word.to_le_bytes());
     }
     Ok(records)
 }
@@ -371,18 +296,36 @@ fn is_spelled(
     trial.refuses(chunk, count)
 }
 
-fn is_as_spelled(alloc: Global, row: &Spelling) -> Result<bool, AllocError> {
+// Whether a line is so. It is not if its first word is another one.
+fn is_as_spelled(alloc: Global, line: &str) -> Result<bool, AllocError> {
+    let (times, stream) = split(line);
+    let (command, times) = pair(times);
+    let times = numbers(alloc, times)?;
+    let stream = bytes(alloc, stream)?;
+    let records = records_with(alloc, &times)?;
+    let chunk = with_stream(alloc, &records, &stream)?;
+    let count = times.len().min(24) as u32 / 2;
     let mut trial = Trial::new(alloc, 1, 0)?;
-    let records = records_with(alloc, row.times)?;
-    let chunk = with_stream(alloc, &records, row.stream)?;
-    let count = row.times.len().min(12) as u32;
-    is_spelled(&mut trial, &chunk, count, &records, row.good)
+    match command {
+        "held" => is_spelled(&mut trial, &chunk, count, &records, true),
+        "none" => is_spelled(&mut trial, &chunk, count, &records, false),
+        _ => Ok(false),
+    }
+}
+
+// The first line that is not so, or none.
+fn first_unspelled(alloc: Global) -> Result<Option<&'static str>, AllocError> {
+    for line in SPELLINGS.lines() {
+        if !is_as_spelled(alloc, line)? {
+            return Ok(Some(line));
+        }
+    }
+    Ok(None)
 }
 
 #[test]
 fn spellings_of_no_writer(rt: HostRuntime) -> Result<(), Fail> {
-    for row in &SPELLINGS {
-        assert!(rt; is_as_spelled(rt.alloc(), row)?, "{:?}", row.stream);
-    }
+    let wrong = first_unspelled(rt.alloc())?;
+    assert!(rt; wrong.is_none(), "{wrong:?}");
     Ok(())
 }

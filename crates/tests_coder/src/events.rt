@@ -99,25 +99,45 @@ fn fresh_models_make_these_bytes(rt: HostRuntime) -> Result<(), Fail> {
     Ok(())
 }
 
+// Whether a bit is read again, and nothing else.
+fn bit_is_read(alloc: Global) -> Result<bool, Fail> {
+    let mut model = BitModel::new();
+    let mut encoder = Encoder::with_room(vec![in alloc; 7; 20]?, 0);
+    put_bit(&mut encoder, &mut model, true);
+    let (room, count) = encoder.finish();
+    let mut decoder = Decoder::new(&room[..count])?;
+    model.reset();
+    Ok(take_bit(&mut decoder, &mut model)? && decoder.at_end())
+}
+
+// Whether a symbol is read again, and nothing else.
+fn symbol_is_read(alloc: Global) -> Result<bool, Fail> {
+    let mut model = SymbolModel::new(alloc, 300)?;
+    let mut encoder = Encoder::with_room(vec![in alloc; 7; 20]?, 0);
+    put_symbol(&mut encoder, &mut model, 299);
+    let (room, count) = encoder.finish();
+    let mut decoder = Decoder::new(&room[..count])?;
+    model.reset();
+    Ok(take_symbol(&mut decoder, &mut model)? == 299 && decoder.at_end())
+}
+
+// Whether a symbol of a bank's model is read again, and nothing else.
+fn symbol_of_is_read(alloc: Global) -> Result<bool, Fail> {
+    let mut bank = ModelBank::new(alloc, &[2, 17])?;
+    let mut encoder = Encoder::with_room(vec![in alloc; 7; 20]?, 0);
+    put_symbol_of(&mut encoder, &mut bank, 1, 9);
+    let (room, count) = encoder.finish();
+    let mut decoder = Decoder::new(&room[..count])?;
+    bank.reset();
+    Ok(take_symbol_of(&mut decoder, &mut bank, 1)? == 9 && decoder.at_end())
+}
+
 // Each call of a model once, with ample room, and back.
 #[test]
 fn symbols_and_bits_are_read_again(rt: HostRuntime) -> Result<(), Fail> {
-    let mut bit = BitModel::new();
-    let mut model = SymbolModel::new(rt.alloc(), 300)?;
-    let mut bank = ModelBank::new(rt.alloc(), &[2, 17])?;
-    let mut encoder = Encoder::with_room(vec![in rt.alloc(); 7; 20]?, 0);
-    put_bit(&mut encoder, &mut bit, true);
-    put_symbol(&mut encoder, &mut model, 299);
-    put_symbol_of(&mut encoder, &mut bank, 1, 9);
-    let (room, count) = encoder.finish();
-    assert!(rt; count <= room.len());
-    let mut decoder = Decoder::new(&room[..count])?;
-    bit.reset();
-    model.reset();
-    bank.reset();
-    assert!(rt; take_bit(&mut decoder, &mut bit)?);
-    assert_eq!(rt; take_symbol(&mut decoder, &mut model)?, 299);
-    assert_eq!(rt; take_symbol_of(&mut decoder, &mut bank, 1)?, 9);
-    assert!(rt; decoder.at_end());
+    let bit = bit_is_read(rt.alloc())?;
+    let symbol = symbol_is_read(rt.alloc())?;
+    let symbol_of = symbol_of_is_read(rt.alloc())?;
+    assert!(rt; bit && symbol && symbol_of, "{bit} {symbol} {symbol_of}");
     Ok(())
 }

@@ -9,3 +9,7 @@ mod events;
 mod models;
 #[cfg(test)]
 mod tables;
+#[cfg(test)]
+mod texts;
+#[cfg(test)]
+mod vlrs;

@@ -1,8 +1,7 @@
-//! Files of the tests, as bytes.
-use las_header::{set_u16_at, set_u32_at, set_u64_at};
-use std::alloc::{AllocError, Global};
+//! Bytes of the files of the tests.
+use std::alloc::AllocError;
 
-/// What a file is like: its minor version, its point data format, and the bytes of its VLRs, of four bytes each.
+/// What a file is like: its minor version, its point data format, and how many VLRs of four bytes each it has.
 #[derive(Clone, Copy)]
 pub(crate) struct Shape {
     pub(crate) minor: u8,
@@ -10,15 +9,8 @@ pub(crate) struct Shape {
     pub(crate) vlrs: u8,
 }
 
-/// LAS 1.2, format 0, and no VLR.
-pub(crate) const PLAIN: Shape = Shape {
-    minor: 2,
-    format: 0,
-    vlrs: 0,
-};
-
 impl Shape {
-    pub(crate) fn header_size(self) -> u16 {
+    fn header_size(self) -> u16 {
         match self.minor {
             3 => 235,
             4 => 375,
@@ -26,7 +18,7 @@ impl Shape {
         }
     }
 
-    pub(crate) fn record_length(self) -> u16 {
+    fn record_length(self) -> u16 {
         match self.format {
             1 => 28,
             2 => 26,
@@ -34,46 +26,76 @@ impl Shape {
             _ => 20,
         }
     }
-}
 
-// The fields of a head, with 7 in every byte that nothing reads. All points that it counts are first returns.
-fn fields(shape: Shape, points: u32) -> [u8; 375] {
-    let mut head = [7; 375];
-    let size = shape.header_size();
-    head[..4].copy_from_slice(b"LASF");
-    head[24..26].copy_from_slice(&[1, shape.minor]);
-    set_u16_at(&mut head, 94, size);
-    set_u32_at(&mut head, 96, u32::from(size) + 58 * u32::from(shape.vlrs));
-    set_u32_at(&mut head, 100, u32::from(shape.vlrs));
-    head[104] = shape.format;
-    set_u16_at(&mut head, 105, shape.record_length());
-    head[107..131].fill(0);
-    set_u32_at(&mut head, 107, points);
-    set_u32_at(&mut head, 111, points);
-    if shape.minor == 4 {
-        head[243..375].fill(0);
-        set_u64_at(&mut head, 247, u64::from(points));
-        set_u64_at(&mut head, 255, u64::from(points));
+    // Where the points begin.
+    fn offset(self) -> u32 {
+        u32::from(self.header_size()) + 58 * u32::from(self.vlrs)
     }
-    head
 }
 
-// A VLR with a payload of four bytes.
-fn vlr() -> [u8; 58] {
-    let mut vlr = [9; 58];
-    set_u16_at(&mut vlr, 18, 4);
-    set_u16_at(&mut vlr, 20, 4);
-    vlr
+// Writes bytes over those from a place on.
+fn put(file: &mut [u8], at: usize, bytes: &[u8]) {
+    for (place, byte) in file.iter_mut().skip(at).zip(bytes) {
+        *place = *byte;
+    }
 }
 
-/// The head of a file that counts this many points.
-pub(crate) fn head_of(alloc: Global, shape: Shape, points: u32) -> Result<Vec<u8>, AllocError> {
-    let fields = fields(shape, points);
-    let mut head = fields[..usize::from(shape.header_size()).min(375)].to_vec(alloc)?;
+/// The byte that two hexadecimal digits write.
+pub(crate) fn byte_of(word: &str) -> u8 {
+    u8::from_str_radix(word, 16).unwrap_or(0)
+}
+
+/// Writes the bytes of a text over those from a place on.
+pub(crate) fn put_hex(file: &mut [u8], at: usize, text: &str) {
+    for (place, word) in file.iter_mut().skip(at).zip(text.split_whitespace()) {
+        *place = byte_of(word);
+    }
+}
+
+/// Appends the bytes of a text.
+pub(crate) fn add_hex(file: &mut Vec<u8>, text: &str) -> Result<(), AllocError> {
+    for word in text.split_whitespace() {
+        file.push(byte_of(word))?;
+    }
+    Ok(())
+}
+
+// Sets the fields of a head in bytes that are as long as it.
+fn put_fields(head: &mut [u8], shape: Shape, points: u32) {
+    put(head, 0, b"LASF");
+    put(head, 24, &[1, shape.minor]);
+    put(head, 94, &shape.header_size().to_le_bytes());
+    put(head, 96, &shape.offset().to_le_bytes());
+    put(head, 100, &[shape.vlrs, 0, 0, 0, shape.format]);
+    put(head, 105, &shape.record_length().to_le_bytes());
+    put(head, 107, &[0; 24]);
+    put(head, 107, &points.to_le_bytes());
+    put(head, 111, &points.to_le_bytes());
+}
+
+// Sets the fields that LAS 1.4 alone has: no extended VLRs, and the second set of counts.
+fn put_long_fields(head: &mut [u8], points: u32) {
+    put(head, 243, &[0; 132]);
+    put(head, 247, &points.to_le_bytes());
+    put(head, 255, &points.to_le_bytes());
+}
+
+/// Appends a VLR of four bytes.
+pub(crate) fn add_vlr(file: &mut Vec<u8>) -> Result<(), AllocError> {
+    file.extend_from_slice(&[9; 18])?;
+    file.extend_from_slice(&[4, 0, 4, 0])?;
+    file.extend_from_slice(&[9; 36])
+}
+
+/// Appends a head, with 7 in every byte that nothing reads. It counts points, all of them first returns.
+pub(crate) fn add_head(file: &mut Vec<u8>, shape: Shape, points: u32) -> Result<(), AllocError> {
+    file.resize(usize::from(shape.header_size()), 7)?;
+    put_fields(file, shape, points);
+    put_long_fields(file, points);
     for _ in 0..shape.vlrs {
-        head.extend_from_slice(&vlr())?;
+        add_vlr(file)?;
     }
-    Ok(head)
+    Ok(())
 }
 
 // The next of a row of draws: the upper half of a linear congruence modulo 2^64.
@@ -84,64 +106,21 @@ fn draw(state: &mut u64) -> u32 {
     (*state >> 32) as u32
 }
 
-/// A plain file of this many points: places along a line, and drawn bytes after them.
-pub(crate) fn file_of(alloc: Global, shape: Shape, points: u32) -> Result<Vec<u8>, AllocError> {
-    let mut file = head_of(alloc, shape, points)?;
+// Appends drawn bytes below 7.
+fn add_drawn(file: &mut Vec<u8>, state: &mut u64, count: u16) -> Result<(), AllocError> {
+    for _ in 0..count {
+        file.push((draw(state) % 7) as u8)?;
+    }
+    Ok(())
+}
+
+/// Appends this many records: places along a line, and drawn bytes after them.
+pub(crate) fn add_records(file: &mut Vec<u8>, shape: Shape, points: u32) -> Result<(), AllocError> {
     let mut state = 7;
     for k in 0..points {
         file.extend_from_slice(&k.wrapping_mul(3).to_le_bytes())?;
         file.extend_from_slice(&(k / 100).to_le_bytes())?;
-        for _ in 8..shape.record_length() {
-            let byte = draw(&mut state) % 7;
-            file.push(byte as u8)?;
-        }
+        add_drawn(file, &mut state, shape.record_length().saturating_sub(8))?;
     }
-    Ok(file)
-}
-
-/// The one record of the smallest files.
-pub(crate) const ONE: [u8; 20] = [5, 0, 0, 0, 6, 0, 0, 0, 7, 0, 0, 0, 0, 0, 9, 0, 0, 0, 0, 0];
-
-/// A file of one record.
-pub(crate) fn one_point(alloc: Global, shape: Shape) -> Result<Vec<u8>, AllocError> {
-    let mut file = head_of(alloc, shape, 1)?;
-    file.extend_from_slice(&ONE)?;
-    Ok(file)
-}
-
-/// A copy with other bytes at a place, and of this length.
-pub(crate) fn changed(
-    alloc: Global,
-    file: &[u8],
-    at: u16,
-    bytes: &[u8],
-    length: usize,
-) -> Result<Vec<u8>, AllocError> {
-    let mut copy = file.to_vec(alloc)?;
-    put_at(&mut copy, usize::from(at), bytes);
-    copy.resize(length, 0)?;
-    Ok(copy)
-}
-
-// Puts bytes at a place, if they fit there.
-fn put_at(file: &mut [u8], at: usize, bytes: &[u8]) {
-    if at < file.len() && bytes.len() <= file.len() - at {
-        let (_, rest) = file.split_at_mut(at);
-        let (place, _) = rest.split_at_mut(bytes.len());
-        place.copy_from_slice(bytes);
-    }
-}
-
-/// The bytes from a place on, or none.
-pub(crate) fn after(bytes: &[u8], at: usize) -> &[u8] {
-    if at <= bytes.len() { &bytes[at..] } else { &[] }
-}
-
-/// The first bytes, as many as this, or all if there are fewer.
-pub(crate) fn front(bytes: &[u8], length: usize) -> &[u8] {
-    if length <= bytes.len() {
-        &bytes[..length]
-    } else {
-        bytes
-    }
+    Ok(())
 }

@@ -1,142 +1,138 @@
 //! Records of many chunks, written and read.
-use crate::samples::{PLAIN, Shape, after, changed, file_of, front};
-use crate::trial::{Form, PACKED, UNPACKED, reading_of, written};
-use las_header::{Refusal, u64_at};
-use laz_file::Fault;
-use laz_table::{Blocks, read_table};
-use std::alloc::{AllocError, Global};
+use crate::cases::{Script, first_wrong};
 use std::test::Fail;
 
-// Every format, packed and unpacked again with 1, 2 and 8 workers: the file does not depend on them.
+// Of each format.
+const FORMATS: &str = "\
+case format 0
+head 2 0 0 600
+records 2 0 0 600
+put a
+case format 1
+head 2 1 0 600
+records 2 1 0 600
+put a
+case format 2
+head 2 2 0 600
+records 2 2 0 600
+put a
+case format 3
+head 2 3 0 600
+records 2 3 0 600
+put a
+";
+
+// Packed and unpacked again with 1, 2 and 8 workers: the file does not depend on them.
+const BOTH_WAYS: &str = "\
+room z b c d e f g
+write a z 256 0 2
+write a b 256 0 1
+write a c 256 0 8
+write z d 0 0 1
+write z e 0 0 2
+write z f 0 0 8
+shorter z a 227
+same b z
+same c z
+same d a
+same e a
+same f a
+";
+
+const WHOLE: Script = Script {
+    before: "",
+    cases: FORMATS,
+    after: BOTH_WAYS,
+};
+
 #[test]
 fn files_go_both_ways(rt: HostRuntime) -> Result<(), Fail> {
-    let alloc = rt.alloc();
-    for format in 0..4 {
-        let shape = Shape { format, ..PLAIN };
-        let plain = file_of(alloc, shape, 600)?;
-        let small = Form {
-            chunk: 256,
-            ..PACKED
-        };
-        let packed = written(&rt, alloc, &plain, small)?;
-        assert!(rt; packed.len() > 227 && packed.len() < plain.len());
-        for workers in [1, 2, 8] {
-            let form = Form { workers, ..small };
-            assert_eq!(rt;
-                written(&rt, alloc, &plain, form)?.as_slice(),
-                packed.as_slice()
-            );
-            let back = Form {
-                workers,
-                ..UNPACKED
-            };
-            assert_eq!(rt;
-                written(&rt, alloc, &packed, back)?.as_slice(),
-                plain.as_slice()
-            );
-        }
-    }
+    let wrong = first_wrong(&rt, rt.alloc(), &WHOLE)?;
+    assert!(rt; wrong.is_none(), "{wrong:?}");
     Ok(())
 }
 
-// Records that are pushed in one piece, and in pieces of 1, 255, 256 and 768, plain and packed, counted or not.
+// Records that are pushed in one piece, and in several, plain and packed, counted or not. Chunks of 256 points: one for
+// 256 points, and a second one of 24 bytes for one point more. The fourth of five chunks, which begins at byte 8,286,
+// is bad: the records of three are read, whatever the workers.
+const CASES: &str = "\
+case pieces make one file
+head 2 0 0 1280
+records 2 0 0 1280
+put a
+room b b1 b2 b3 c c1 c2 c3 d d1 d2 d3 e e1 e2 e3
+write a b 256 0 2
+write a b1 256 0 2 1 255 256 768
+write a b2 256 0 2 768 256 255 1
+write a b3 256 0 2 0 0 640 0 639
+write a c 256 1 2
+write a c1 256 1 2 1 255 256 768
+write a c2 256 1 2 768 256 255 1
+write a c3 256 1 2 0 0 640 0 639
+write a d 0 0 2
+write a d1 0 0 2 1 255 256 768
+write a d2 0 0 2 768 256 255 1
+write a d3 0 0 2 0 0 640 0 639
+write a e 0 1 2
+write a e1 0 1 2 1 255 256 768
+write a e2 0 1 2 768 256 255 1
+write a e3 0 1 2 0 0 640 0 639
+same b1 b
+same b2 b
+same b3 b
+same c1 c
+same c2 c
+same c3 c
+same d1 d
+same d2 d
+same d3 d
+same e1 e
+same e2 e
+same e3 e
+shorter b a 227
+shorter c a 227
+same d a
+size e 25827
+case the last chunk has the rest
+head 2 0 0 256
+records 2 0 0 256
+put a
+head 2 0 0 257
+records 2 0 0 257
+put b
+room y z c
+write a y 256 0 2
+write b z 256 0 2
+write z c 0 0 2
+has y 321 A7 0B 00 00
+has y 2987 01 00 00 00
+has z 321 BF 0B 00 00
+has z 3011 02 00 00 00
+same c b
+case a bad chunk
+head 2 0 0 1280
+records 2 0 0 1280
+put a
+room z
+write a z 256 0 2
+take z
+set 8306 FF FF FF FF
+put bad
+read bad 1 BadChunk:3 a 227 15587
+read bad 2 BadChunk:3 a 227 15587
+read bad 3 BadChunk:3 a 227 15587
+read bad 8 BadChunk:3 a 227 15587
+";
+
+const CHUNKS: Script = Script {
+    before: "",
+    cases: CASES,
+    after: "",
+};
+
 #[test]
-fn pieces_make_one_file(rt: HostRuntime) -> Result<(), Fail> {
-    let alloc = rt.alloc();
-    let plain = file_of(alloc, PLAIN, 1280)?;
-    for chunk in [256, 0] {
-        for counted in [false, true] {
-            let form = Form {
-                chunk,
-                counted,
-                workers: 2,
-                cuts: &[],
-            };
-            let whole = written(&rt, alloc, &plain, form)?;
-            assert!(rt; whole.len() > 227);
-            for cuts in CUTS {
-                let file = written(&rt, alloc, &plain, Form { cuts, ..form })?;
-                assert_eq!(rt; file.as_slice(), whole.as_slice());
-            }
-        }
-    }
-    Ok(())
-}
-
-const CUTS: [&[u32]; 3] = [
-    &[1, 255, 256, 768],
-    &[768, 256, 255, 1],
-    &[0, 0, 640, 0, 639],
-];
-
-// Chunks of 256 points: one for 256 points, and a second one of 24 bytes for one point more.
-#[test]
-fn the_last_chunk_has_the_rest(rt: HostRuntime) -> Result<(), Fail> {
-    let alloc = rt.alloc();
-    let small = Form {
-        chunk: 256,
-        ..PACKED
-    };
-    let full = written(&rt, alloc, &file_of(alloc, PLAIN, 256)?, small)?;
-    assert_eq!(rt; chunk_sizes(alloc, &full, 256, 256)?.len(), 1);
-    let plain = file_of(alloc, PLAIN, 257)?;
-    let more = written(&rt, alloc, &plain, small)?;
-    let sizes = chunk_sizes(alloc, &more, 256, 257)?;
-    assert_eq!(rt; sizes.len(), 2);
-    assert_eq!(rt; sizes.get(1).copied(), Some(24));
-    assert_eq!(rt;
-        written(&rt, alloc, &more, UNPACKED)?.as_slice(),
-        plain.as_slice()
-    );
-    Ok(())
-}
-
-/// The lengths of the chunks of a packed file whose points begin at byte 321; none if its table is not read.
-pub(crate) fn chunk_sizes(
-    alloc: Global,
-    file: &[u8],
-    chunk: u32,
-    points: u32,
-) -> Result<Vec<u32>, AllocError> {
-    if file.len() < 329 || chunk == 0 {
-        return Ok(Vec::new(alloc));
-    }
-    let place = u64_at(file, 321);
-    if place < 329 {
-        return Ok(Vec::new(alloc));
-    }
-    let table = after(file, place as usize);
-    match read_table(alloc, table, Blocks::Fixed { chunk, points }, place - 329) {
-        Ok(list) => Ok(list.counts),
-        Err(_) => Ok(Vec::new(alloc)),
-    }
-}
-
-// The fourth of five chunks is bad: the records of three are read, and the answer names it, whatever the workers.
-#[test]
-fn a_bad_chunk_is_named(rt: HostRuntime) -> Result<(), Fail> {
-    let alloc = rt.alloc();
-    let plain = file_of(alloc, PLAIN, 1280)?;
-    let packed = written(
-        &rt,
-        alloc,
-        &plain,
-        Form {
-            chunk: 256,
-            ..PACKED
-        },
-    )?;
-    let mut place = 329usize;
-    for size in chunk_sizes(alloc, &packed, 256, 1280)?.iter().take(3) {
-        place = place.saturating_add(*size as usize);
-    }
-    let (good, rest) = packed.split_at(place.saturating_add(20).min(packed.len()));
-    let mut bad = good.to_vec(alloc)?;
-    bad.extend_from_slice(&changed(alloc, rest, 0, &[255; 4], rest.len())?)?;
-    for workers in [1, 2, 3, 8] {
-        let (records, ended) = reading_of(&rt, alloc, &bad, workers)?;
-        assert_eq!(rt; ended, Err(Fault::Refused(Refusal::BadChunk(3))));
-        assert_eq!(rt; records.as_slice(), front(after(&plain, 227), 15_360));
-    }
+fn chunks_are_written_and_read(rt: HostRuntime) -> Result<(), Fail> {
+    let wrong = first_wrong(&rt, rt.alloc(), &CHUNKS)?;
+    assert!(rt; wrong.is_none(), "{wrong:?}");
     Ok(())
 }

@@ -10,7 +10,7 @@ ghost use Rattle.laz_reader.specs.Reading.{IsCrewOf, Lends, StandsFor};
 ghost use Rattle.laz_writer.specs.Writing.{Stands};
 
 use las_header::Head;
-use las_outside::{Files, Gate, MemFiles, OpenGate};
+use las_outside::{Files, Gate, OpenGate};
 use laz_chunk::Workspace;
 use laz_file::{Fault, Reader, Writer};
 use laz_workers::Crew;
@@ -207,67 +207,9 @@ pub(crate) fn rewrite<R: Threads + Sync, F: Files>(
     write_file(rt, alloc, files, to, head, &records, form)
 }
 
-/// What is read of a file: its records, up to the fault that ends the reading, if one does.
-pub(crate) fn reading_of<R: Threads + Sync>(
-    rt: &R,
-    alloc: Global,
-    file: &[u8],
-    workers: u32,
-) -> Result<(Vec<u8>, Result<(), Fault>), AllocError> {
-    let mut files = MemFiles::new(alloc);
-    files.put_file("a.las", file)?;
-    let mut records = Vec::new(alloc);
-    let ended = read_file(rt, alloc, &mut files, "a.las", workers, &mut records);
-    Ok((records, ended))
-}
-
-/// What is read of a range of a file: its records, up to the fault that ends the reading, if one does; and how many bytes
-/// were asked for.
-pub(crate) fn range_of<R: Threads + Sync>(
-    rt: &R,
-    alloc: Global,
-    file: &[u8],
-    workers: u32,
-    range: (u32, u32),
-) -> Result<(Vec<u8>, Result<(), Fault>, u64), AllocError> {
-    let mut files = MemFiles::new(alloc);
-    files.put_file("a.las", file)?;
-    let mut records = Vec::new(alloc);
-    let ended = read_range(rt, alloc, &mut files, "a.las", workers, range, &mut records);
-    Ok((records, ended, files.asked()))
-}
-
-/// A file written in another form, or no bytes if a fault ended that.
-pub(crate) fn written<R: Threads + Sync>(
-    rt: &R,
-    alloc: Global,
-    file: &[u8],
-    form: Form,
-) -> Result<Vec<u8>, AllocError> {
-    let mut files = MemFiles::new(alloc);
-    files.put_file("a.las", file)?;
-    files.prepare("b.las", file.len() + 100_000)?;
-    match rewrite(rt, alloc, &mut files, "a.las", "b.las", form) {
-        Ok(_) => {}
-        Err(_) => return Ok(Vec::new(alloc)),
-    }
-    match files.get("b.las") {
-        Some(bytes) => bytes.to_vec(alloc),
-        None => Ok(Vec::new(alloc)),
-    }
-}
-
 /// Chunks of 50,000 points, uncounted, by two workers, all records in one push.
 pub(crate) const PACKED: Form = Form {
     chunk: 50_000,
-    counted: false,
-    workers: 2,
-    cuts: &[],
-};
-
-/// A plain file.
-pub(crate) const UNPACKED: Form = Form {
-    chunk: 0,
     counted: false,
     workers: 2,
     cuts: &[],

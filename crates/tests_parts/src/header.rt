@@ -1,167 +1,160 @@
 //! Heads as they stand in files: one change of a head for each condition, and heads of each version.
 
 use crate::samples::{file_with, opened, put};
-use las_header::Refusal;
 use std::alloc::{AllocError, Global};
 use std::test::Fail;
 
-// A file of format 0 with one record: its version, its header size and its offset, and how long it is.
-struct Shape {
-    parts: &'static [(usize, &'static [u8])],
-    length: usize,
+// A line for each:
+//
+// - `file LENGTH`: a file of LENGTH bytes: the signature, and zeros.
+// - `set AT BYTES`: from then on it has these bytes from a place on.
+// - `alone LENGTH AT BYTE CAUSE`: made so long and with this byte at a place, it is refused for this cause, or read if
+//   the cause is `none`.
+// - `then LENGTH AT BYTE CAUSE`: so it is, and it stays so.
+//
+// The files are of format 0, with one record each: of LAS 1.2, without VLRs, and with a VLR of three bytes and a gap of
+// two; of LAS 1.3; and of LAS 1.4, with both counts. The last rows are the conditions of LAS 1.4 from the last to the
+// first.
+const ROWS: &str = "\
+file 247
+set 24 01 02
+set 94 E3 00 E3 00
+set 105 14 00 01
+set 111 01
+alone 247 25 00 none
+alone 247 3 47 Magic
+alone 247 24 02 Version
+alone 247 25 05 Version
+alone 247 94 E2 HeaderSize
+alone 247 96 E2 Offset
+alone 247 94 E4 Offset
+alone 247 96 F8 Offset
+alone 247 100 01 Vlrs
+alone 247 104 04 Format
+alone 247 105 13 RecordLength
+alone 247 105 D5 RecordLength
+alone 247 107 02 Count
+alone 247 107 00 Trailing
+alone 248 0 4C Trailing
+alone 247 0 4C none
+alone 246 0 4C Count
+alone 227 0 4C Count
+alone 226 0 4C Short
+alone 0 0 4C Short
+file 306
+set 24 01 02
+set 94 E3 00 1E 01 00 00 01
+set 105 14 00 01
+set 247 03
+alone 306 100 01 none
+alone 306 247 05 none
+alone 306 247 06 Vlrs
+alone 306 248 FF Vlrs
+alone 306 100 02 Vlrs
+alone 306 103 FF Vlrs
+file 255
+set 24 01 03
+set 94 EB 00 EB 00
+set 105 14 00 01
+set 111 01
+alone 255 94 EB none
+alone 255 94 EA HeaderSize
+file 395
+set 24 01 04
+set 94 77 01 77 01
+set 105 14 00 01
+set 247 01 00 00 00 00 00 00 00 01
+alone 395 247 01 none
+alone 395 107 00 none
+alone 395 94 76 HeaderSize
+alone 395 243 01 Extended
+alone 395 247 02 PointCounts
+alone 395 251 01 PointCounts
+alone 395 247 00 none
+file 395
+set 24 01 04
+set 94 77 01 77 01
+set 105 14 00 01
+set 247 01 00 00 00 00 00 00 00 01
+then 395 107 03 PointCounts
+then 395 243 01 Extended
+then 395 105 13 RecordLength
+then 395 104 05 Format
+then 395 103 01 Vlrs
+then 395 99 09 Offset
+then 395 95 00 HeaderSize
+then 395 24 03 Version
+then 395 0 00 Magic
+";
+
+// The first word of a text, and what follows the blank after it.
+fn pair(text: &str) -> (&str, &str) {
+    text.split_once(" ").unwrap_or((text, ""))
 }
 
-const OF_1_2: Shape = Shape {
-    parts: &[
-        (24, &[1, 2]),
-        (94, &[227, 0, 227, 0]),
-        (105, &[20, 0, 1]),
-        (111, &[1]),
-    ],
-    length: 247,
-};
-
-// With a VLR of three bytes, and a gap of two.
-const OF_VLRS: Shape = Shape {
-    parts: &[
-        (24, &[1, 2]),
-        (94, &[227, 0, 30, 1, 0, 0, 1]),
-        (105, &[20, 0, 1]),
-        (247, &[3]),
-    ],
-    length: 306,
-};
-
-const OF_1_3: Shape = Shape {
-    parts: &[
-        (24, &[1, 3]),
-        (94, &[235, 0, 235, 0]),
-        (105, &[20, 0, 1]),
-        (111, &[1]),
-    ],
-    length: 255,
-};
-
-// With both counts.
-const OF_1_4: Shape = Shape {
-    parts: &[
-        (24, &[1, 4]),
-        (94, &[119, 1, 119, 1]),
-        (105, &[20, 0, 1]),
-        (247, &[1, 0, 0, 0, 0, 0, 0, 0, 1]),
-    ],
-    length: 395,
-};
-
-fn file_of(alloc: Global, shape: &Shape) -> Result<Vec<u8>, AllocError> {
-    file_with(alloc, shape.length, shape.parts)
+// A number in decimal digits, or 0.
+fn number(text: &str) -> usize {
+    u32::from_str_radix(text, 10).unwrap_or(0) as usize
 }
 
-// How long a file is made, a place, the byte that is put there, and what the file is refused for then.
-type Row = (usize, usize, u8, Option<Refusal>);
-
-// Whether a file is refused as a row says, once it is changed so.
-fn is_refused(alloc: Global, file: &mut Vec<u8>, row: &Row) -> Result<bool, AllocError> {
-    let (length, at, byte, cause) = row;
-    file.resize(*length, 0)?;
-    put(file, *at, &[*byte]);
-    Ok(opened(alloc, file)?.err() == *cause)
+// A byte in two hexadecimal digits, or 0.
+fn byte(text: &str) -> u8 {
+    u8::from_str_radix(text, 16).unwrap_or(0)
 }
 
-// The first row of some whose change of a file of this shape is not refused as it has to be. If `beside`, each change
-// is made beside the ones before it, and else to the whole file.
-fn first_wrong(
-    alloc: Global,
-    shape: &Shape,
-    rows: &[Row],
-    beside: bool,
-) -> Result<Option<usize>, AllocError> {
-    let mut file = file_of(alloc, shape)?;
-    for (i, row) in rows.iter().enumerate() {
-        if !is_refused(alloc, &mut file, row)? {
-            return Ok(Some(i));
-        }
-        if !beside {
-            file = file_of(alloc, shape)?;
-        }
+// Whether a file is refused for the cause of a name, or read if that is `none`.
+fn is_refused(alloc: Global, file: &[u8], name: &str) -> Result<bool, AllocError> {
+    Ok(match opened(alloc, file)?.err() {
+        Some(cause) => cause.name() == name,
+        None => name == "none",
+    })
+}
+
+// Changes a file as a text says, a length, a place and a byte, and gives the cause that follows them.
+fn change<'a>(file: &mut Vec<u8>, text: &'a str) -> Result<&'a str, AllocError> {
+    let (length, rest) = pair(text);
+    let (at, rest) = pair(rest);
+    let (digits, cause) = pair(rest);
+    file.resize(number(length), 0)?;
+    put(file, number(at), &[byte(digits)]);
+    Ok(cause)
+}
+
+// Writes the bytes of a text over those from a place on.
+fn set(file: &mut Vec<u8>, at: usize, text: &str) {
+    let mut at = at;
+    for word in text.split_whitespace() {
+        put(file, at, &[byte(word)]);
+        at = at.saturating_add(1);
     }
-    Ok(None)
 }
 
-const CHANGES_OF_1_2: [Row; 20] = [
-    (247, 25, 0, None),
-    (247, 3, b'G', Some(Refusal::Magic)),
-    (247, 24, 2, Some(Refusal::Version)),
-    (247, 25, 5, Some(Refusal::Version)),
-    (247, 94, 226, Some(Refusal::HeaderSize)),
-    (247, 96, 226, Some(Refusal::Offset)),
-    (247, 94, 228, Some(Refusal::Offset)),
-    (247, 96, 248, Some(Refusal::Offset)),
-    (247, 100, 1, Some(Refusal::Vlrs)),
-    (247, 104, 4, Some(Refusal::Format)),
-    (247, 105, 19, Some(Refusal::RecordLength)),
-    (247, 105, 213, Some(Refusal::RecordLength)),
-    (247, 107, 2, Some(Refusal::Count)),
-    (247, 107, 0, Some(Refusal::Trailing)),
-    (248, 0, b'L', Some(Refusal::Trailing)),
-    (247, 0, b'L', None),
-    (246, 0, b'L', Some(Refusal::Count)),
-    (227, 0, b'L', Some(Refusal::Count)),
-    (226, 0, b'L', Some(Refusal::Short)),
-    (0, 0, b'L', Some(Refusal::Short)),
-];
+// Whether a line is so. It is not if its first word is another one.
+fn is_so(alloc: Global, file: &mut Vec<u8>, line: &str) -> Result<bool, AllocError> {
+    let (command, rest) = pair(line);
+    match command {
+        "file" => *file = file_with(alloc, number(rest), &[])?,
+        "set" => set(file, number(pair(rest).0), pair(rest).1),
+        "alone" => {
+            let mut changed = file.to_vec(alloc)?;
+            let cause = change(&mut changed, rest)?;
+            return is_refused(alloc, &changed, cause);
+        }
+        "then" => {
+            let cause = change(file, rest)?;
+            return is_refused(alloc, file, cause);
+        }
+        _ => return Ok(false),
+    }
+    Ok(true)
+}
 
-const CHANGES_OF_VLRS: [Row; 6] = [
-    (306, 100, 1, None),
-    (306, 247, 5, None),
-    (306, 247, 6, Some(Refusal::Vlrs)),
-    (306, 248, 255, Some(Refusal::Vlrs)),
-    (306, 100, 2, Some(Refusal::Vlrs)),
-    (306, 103, 255, Some(Refusal::Vlrs)),
-];
-
-const CHANGES_OF_1_3: [Row; 2] = [
-    (255, 94, 235, None),
-    (255, 94, 234, Some(Refusal::HeaderSize)),
-];
-
-const CHANGES_OF_1_4: [Row; 7] = [
-    (395, 247, 1, None),
-    (395, 107, 0, None),
-    (395, 94, 0x76, Some(Refusal::HeaderSize)),
-    (395, 243, 1, Some(Refusal::Extended)),
-    (395, 247, 2, Some(Refusal::PointCounts)),
-    (395, 251, 1, Some(Refusal::PointCounts)),
-    (395, 247, 0, None),
-];
-
-// The conditions of LAS 1.4 from the last to the first.
-const FROM_THE_LAST: [Row; 9] = [
-    (395, 107, 3, Some(Refusal::PointCounts)),
-    (395, 243, 1, Some(Refusal::Extended)),
-    (395, 105, 19, Some(Refusal::RecordLength)),
-    (395, 104, 5, Some(Refusal::Format)),
-    (395, 103, 1, Some(Refusal::Vlrs)),
-    (395, 99, 9, Some(Refusal::Offset)),
-    (395, 95, 0, Some(Refusal::HeaderSize)),
-    (395, 24, 3, Some(Refusal::Version)),
-    (395, 0, 0, Some(Refusal::Magic)),
-];
-
-// Files, changes of them, and whether each change is made beside the ones before it.
-static FILES: [(Shape, &[Row], bool); 5] = [
-    (OF_1_2, &CHANGES_OF_1_2, false),
-    (OF_VLRS, &CHANGES_OF_VLRS, false),
-    (OF_1_3, &CHANGES_OF_1_3, false),
-    (OF_1_4, &CHANGES_OF_1_4, false),
-    (OF_1_4, &FROM_THE_LAST, true),
-];
-
-// The number of the first file of which a change is not refused as it has to be, and that of its row.
-fn wrong_change(alloc: Global) -> Result<Option<(usize, usize)>, AllocError> {
-    for (i, (shape, rows, beside)) in FILES.iter().enumerate() {
-        if let Some(row) = first_wrong(alloc, shape, rows, *beside)? {
-            return Ok(Some((i, row)));
+// The first line that is not so, or none.
+fn first_wrong(alloc: Global) -> Result<Option<&'static str>, AllocError> {
+    let mut file = Vec::new(alloc);
+    for line in ROWS.lines() {
+        if !is_so(alloc, &mut file, line)? {
+            return Ok(Some(line));
         }
     }
     Ok(None)
@@ -169,7 +162,7 @@ fn wrong_change(alloc: Global) -> Result<Option<(usize, usize)>, AllocError> {
 
 #[test]
 fn each_condition_is_named(rt: HostRuntime) -> Result<(), Fail> {
-    let wrong = wrong_change(rt.alloc())?;
+    let wrong = first_wrong(rt.alloc())?;
     assert!(rt; wrong.is_none(), "{wrong:?}");
     Ok(())
 }

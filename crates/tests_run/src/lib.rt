@@ -2,11 +2,11 @@
 #![tactic(auto)]
 
 #[cfg(test)]
+mod cases;
+#[cfg(test)]
 mod copied_rows;
 #[cfg(test)]
 mod faults;
-#[cfg(test)]
-mod fixtures;
 #[cfg(test)]
 mod las2las_rows;
 #[cfg(test)]
@@ -18,8 +18,8 @@ mod own_tap;
 #[cfg(test)]
 mod range_rows;
 #[cfg(test)]
-mod thin_rows;
+mod recipes;
 #[cfg(test)]
-mod tool_faults;
+mod thin_rows;
 #[cfg(test)]
 mod tool_rows;

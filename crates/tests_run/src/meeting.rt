@@ -1,9 +1,11 @@
 //! Two chunks are worked side by side.
-use crate::fixtures::{PLAIN, end_of, file_of, files_with, packed};
+use crate::cases::World;
 use las_outside::Gate;
+use std::alloc::AllocError;
 use std::hint::spin_loop;
 use std::sync::atomic::{AtomicU64, Ordering};
 use std::test::Fail;
+use std::thread::Threads;
 
 // Holds number 0 until number 1 has entered, for 200,000,000 turns at most.
 #[derive(Drop)]
@@ -31,23 +33,49 @@ impl Gate for Meeting {
     fn leave(&self, _number: u32) {}
 }
 
+// Whether two chunks meet in a run, which is done.
+fn meet<R: Threads + Sync + AllocGlobal>(
+    rt: &R,
+    world: &mut World,
+    line: &str,
+) -> Result<bool, AllocError> {
+    let gate = Meeting {
+        entered: AtomicU64::new(0),
+        missed: AtomicU64::new(0),
+    };
+    let status = world.obey(rt, line, "", &gate)?;
+    Ok(status == 0 && gate.missed.load(Ordering::SeqCst) == 0)
+}
+
+const INPUTS: &str = "\
+head 2 0 0 512
+records 2 0 0 0 512
+put a
+packed
+put w
+room b c
+";
+
+// Whether two chunks meet when they are packed, and when they are unpacked.
+fn both_meet<R: Threads + Sync + AllocGlobal>(
+    rt: &R,
+    world: &mut World,
+) -> Result<bool, AllocError> {
+    let is_put = world.does(rt, INPUTS)?;
+    let packed = meet(rt, world, "laszip -i a -o b -chunk_size 256 -cores 2")?;
+    let unpacked = meet(rt, world, "laszip -i w -o c -cores 2")?;
+    Ok(
+        packed
+            && unpacked
+            && world.bytes("b") == world.bytes("w")
+            && world.bytes("c") == world.bytes("a"),
+    )
+}
+
 #[test]
 fn two_chunks_meet(rt: HostRuntime) -> Result<(), Fail> {
-    let file = file_of(rt.alloc(), PLAIN, 512)?;
-    let form = packed(&rt, &file)?;
-    for (input, output, words) in [
-        (&file, &form, "laszip -i a -o b -chunk_size 256 -cores 2"),
-        (&form, &file, "laszip -i a -o b -cores 2"),
-    ] {
-        let gate = Meeting {
-            entered: AtomicU64::new(0),
-            missed: AtomicU64::new(0),
-        };
-        let mut files = files_with(rt.alloc(), input, "b")?;
-        let (status, _line) = end_of(&rt, words, &mut files, &gate)?;
-        assert_eq!(rt; status, 0, "{words}");
-        assert_eq!(rt; gate.missed.load(Ordering::SeqCst), 0, "{words}");
-        assert!(rt; files.get("b") == Some(output.as_slice()), "{words}");
-    }
+    let mut world = World::new(rt.alloc())?;
+    let is_so = both_meet(&rt, &mut world)?;
+    assert!(rt; is_so);
     Ok(())
 }

@@ -3,9 +3,9 @@ ghost use Rattle.std.specs.Prelude.{◌≡◌, ◌%◌, IfOk, slice_index};
 ghost use Rattle.std.specs.FinMap as map;
 ghost use Rattle.las_info.specs.Tallies.{with_one};
 
-use crate::fixtures::{PLAIN, head_of};
+use crate::cases::{World, after, words_of};
 use las_info::{ClassTap, Tap};
-use las_outside::{MemFiles, MemSink, OpenGate};
+use las_outside::OpenGate;
 use las_run::run;
 use std::alloc::{AllocError, Global};
 use std::test::Fail;
@@ -57,92 +57,117 @@ fn after_three(alloc: Global) -> Result<ParityTap, AllocError>
     Ok(tap)
 }
 
-// The status of a run with this tap alone, and what it puts on standard output.
+// The status of a run with this tap alone.
 fn told<R: Threads + Sync>(
     rt: &R,
     alloc: Global,
     words: &[String],
-    files: &mut MemFiles,
-    out: &mut MemSink,
+    world: &mut World,
 ) -> Result<u8, AllocError> {
-    let mut err = MemSink::with_room(alloc, 100)?;
     let tap: Box<dyn Tap> = Box::new(alloc, after_three(alloc)?)?;
     let taps = vec![in alloc; tap]?;
-    Ok(run(rt, alloc, words, files, out, &mut err, &OpenGate, taps))
+    let World {
+        files,
+        out,
+        err,
+        ..
+    } = world;
+    Ok(run(rt, alloc, words, files, out, err, &OpenGate, taps))
+}
+
+// Command lines, each with its status and what it puts on standard output.
+static ROWS: [(&str, u8, &str); 8] = [
+    (
+        "lasinfo -i a -tally parity -cores 2",
+        0,
+        "version 1.2\nheader 227\noffset 227\nvlrs 0\nformat 0\nlength 20\npoints 1\npacked no\n\
+         header returns 1 0 0 0 0\nrecord returns 1 0 0 0 0\nraw x 5 5\nraw y 6 6\nraw z 7 7\ntally parity\n1 4\n",
+    ),
+    ("las2las -i a -o b -tally parity", 0, "tally parity\n1 4\n"),
+    (
+        "las2las -i a -o b -translate_raw_x 1 -tally parity",
+        0,
+        "tally parity\n0 1\n1 3\n",
+    ),
+    (
+        "las2las -i a -o b -keep_class 5 -tally parity",
+        0,
+        "tally parity\n1 3\n",
+    ),
+    (
+        "las2las -i a -o b -thin_raw 9 -lowest -tally parity",
+        0,
+        "tally parity\n1 4\n",
+    ),
+    ("las2las -i a -o b -keep_first", 0, ""),
+    (
+        "las2las -i a -o b -translate_raw_x 2147483647 -tally parity",
+        5,
+        "",
+    ),
+    ("las2las -i a -o b -tally class", 2, ""),
+];
+
+// Whether a run with the tap has this status and puts this text.
+fn tells<R: Threads + Sync + AllocGlobal>(
+    rt: &R,
+    world: &mut World,
+    line: &str,
+    status: u8,
+    text: &str,
+) -> Result<bool, AllocError> {
+    let put = world.out.bytes().len();
+    let said = words_of(rt.alloc(), line, "")?;
+    let ended = told(rt, rt.alloc(), &said, world)?;
+    Ok(ended == status && after(world.out.bytes(), put) == text.as_bytes())
+}
+
+const INPUT: &str = "\
+head 2 0 0 1
+add 05 00 00 00 06 00 00 00 07 00 00 00 00 00 09 02 00 00 00 00
+put a
+room b
+";
+
+// The line of the first row that tells something else, or none.
+fn wrong_row<R: Threads + Sync + AllocGlobal>(
+    rt: &R,
+    world: &mut World,
+) -> Result<&'static str, AllocError> {
+    if !world.does(rt, INPUT)? {
+        return Ok("the input");
+    }
+    for (line, status, text) in &ROWS {
+        if !tells(rt, world, *line, *status, *text)? {
+            return Ok(*line);
+        }
+    }
+    Ok("")
 }
 
 #[test]
 fn a_tap_that_has_counted_before(rt: HostRuntime) -> Result<(), Fail> {
-    let alloc = rt.alloc();
-    let mut file = head_of(alloc, PLAIN, 1)?;
-    file.extend_from_slice(&ODD)?;
-    let mut files = MemFiles::new(alloc);
-    files.put_file("a", &file)?;
-    let mut out = MemSink::with_room(alloc, 1000)?;
-    let mut words = Vec::new(alloc);
-    for word in ["lasinfo", "-i", "a", "-tally", "parity", "-cores", "2"] {
-        words.push(String::from_str(alloc, word)?)?;
-    }
-    assert_eq!(rt; told(&rt, alloc, &words, &mut files, &mut out)?, 0);
-    assert!(rt; out.bytes().ends_with(b"tally parity\n1 4\n"));
-    files.prepare("b", 1000)?;
-    for (line, status, text) in [
-        ("las2las -i a -o b -tally parity", 0, "tally parity\n1 4\n"),
-        (
-            "las2las -i a -o b -translate_raw_x 1 -tally parity",
-            0,
-            "tally parity\n0 1\n1 3\n",
-        ),
-        (
-            "las2las -i a -o b -keep_class 5 -tally parity",
-            0,
-            "tally parity\n1 3\n",
-        ),
-        (
-            "las2las -i a -o b -thin_raw 9 -lowest -tally parity",
-            0,
-            "tally parity\n1 4\n",
-        ),
-        ("las2las -i a -o b -keep_first", 0, ""),
-        (
-            "las2las -i a -o b -translate_raw_x 2147483647 -tally parity",
-            5,
-            "",
-        ),
-        ("las2las -i a -o b -tally class", 2, ""),
-    ] {
-        let mut out = MemSink::with_room(alloc, 1000)?;
-        words.clear();
-        for word in line.split_whitespace() {
-            words.push(String::from_str(alloc, word)?)?;
-        }
-        assert_eq!(rt;
-            told(&rt, alloc, &words, &mut files, &mut out)?,
-            status,
-            "{line}"
-        );
-        assert!(rt; out.bytes() == text.as_bytes(), "{line}");
-    }
+    let mut world = World::new(rt.alloc())?;
+    let wrong = wrong_row(&rt, &mut world)?;
+    assert!(rt; wrong.is_empty(), "{wrong}");
     Ok(())
 }
 
-// Standard output fails: the output is whole.
+// Whether a run ends with a fault if its tallies can't be put, and its output is whole.
+fn ends_whole<R: Threads + Sync + AllocGlobal>(
+    rt: &R,
+    world: &mut World,
+) -> Result<bool, AllocError> {
+    let is_put = world.does(rt, INPUT)?;
+    world.out.fail_put(1)?;
+    let is_told = tells(rt, world, "las2las -i a -o b -tally parity", 4, "")?;
+    Ok(is_put && is_told && world.bytes("b") == world.bytes("a"))
+}
+
 #[test]
 fn tallies_that_are_not_put(rt: HostRuntime) -> Result<(), Fail> {
-    let alloc = rt.alloc();
-    let mut file = head_of(alloc, PLAIN, 1)?;
-    file.extend_from_slice(&ODD)?;
-    let mut files = MemFiles::new(alloc);
-    files.put_file("a", &file)?;
-    files.prepare("b", 1000)?;
-    let mut out = MemSink::with_room(alloc, 1000)?;
-    out.fail_put(1)?;
-    let mut words = Vec::new(alloc);
-    for word in ["las2las", "-i", "a", "-o", "b", "-tally", "parity"] {
-        words.push(String::from_str(alloc, word)?)?;
-    }
-    assert_eq!(rt; told(&rt, alloc, &words, &mut files, &mut out)?, 4);
-    assert!(rt; files.get("b") == Some(file.as_slice()));
-    assert!(rt; out.bytes().is_empty());
+    let mut world = World::new(rt.alloc())?;
+    let is_so = ends_whole(&rt, &mut world)?;
+    assert!(rt; is_so);
     Ok(())
 }

@@ -1,0 +1,380 @@
+//! Scripts, and what plays them: files in memory, what is read and written, and what is so at the end.
+//!
+//! A script is a text of cases, each of which begins with a line of `case` and its name. Each case has a world of its
+//! own, with no files and no bytes that are worked on. A line is a command: its first word says what is done with those
+//! that follow it, with one blank between two words. A line with another first word is wrong, and so is a case none of
+//! whose lines says what is so. Numbers are decimal, and bytes are two hexadecimal digits each; what is neither is 0.
+//!
+//! These commands change the bytes that are worked on. A shape is the minor version, the point data format, and the
+//! number of VLRs.
+//!
+//! - `head SHAPE COUNT`: they become a head that counts COUNT points.
+//! - `records SHAPE COUNT`, `vlr`, `add BYTES`: COUNT records, a VLR or bytes are appended.
+//! - `set AT BYTES`: bytes are written over those from a place on.
+//! - `length COUNT`: they are cut to this length, or get zeros up to it.
+//! - `take NAME`: they become those of a file, or none if there is no such file.
+//!
+//! These change files:
+//!
+//! - `put NAME`: a file gets the bytes that are worked on. `room NAMES`: these names get room for an output.
+//! - `write FROM TO CHUNK COUNTED WORKERS CUTS`: the records of a file are written to an output, in chunks of this
+//!   size, or plain for 0; with counts of the records for 1, and those of the head for 0; by WORKERS workers; and with
+//!   a push for each number of records of the cuts, and one for the rest. The line is wrong if that fails.
+//!
+//! These say what is so. Records are those bytes of a file from one place on, up to another.
+//!
+//! - `read NAME WORKERS END SOURCE FROM TO`: a file is read up to this end, and the records before it are these. The
+//!   end is `ok` or the name of a refusal, with the number of the chunk after a colon for `BadChunk`.
+//! - `range NAME WORKERS START STOP MOST END SOURCE FROM TO`: the same of a range of the records. At most MOST bytes are
+//!   asked for.
+//! - `refuse NAME END LENGTH AT BYTES`: a file of this length, with other bytes at a place, is refused, and no record
+//!   of it is read.
+//! - `same NAME OTHER`: two files are equal, and not empty. `size NAME COUNT`: a file has COUNT bytes.
+//! - `shorter NAME OTHER COUNT`: a file is shorter than another one, and has more than COUNT bytes.
+//! - `has NAME AT BYTES`: a file has these bytes from a place on.
+use crate::samples::{Shape, add_head, add_hex, add_records, add_vlr, byte_of, put_hex};
+use crate::trial::{Form, read_file, read_range, rewrite};
+use las_header::Refusal;
+use las_outside::MemFiles;
+use laz_file::Fault;
+use std::alloc::{AllocError, Global};
+use std::thread::Threads;
+
+/// How a reading ends.
+pub(crate) type Ended = Result<(), Fault>;
+
+/// Files in memory, and the bytes that are worked on.
+pub(crate) struct World {
+    pub(crate) files: MemFiles,
+    pub(crate) alloc: Global,
+    work: Vec<u8>,
+}
+
+// Written out, so that letting a world go is one call in each function that owns one.
+impl Drop for World {
+    fn drop(self) {
+        let World {
+            files,
+            alloc: _,
+            work,
+        } = self;
+        drop(files);
+        drop(work);
+    }
+}
+
+// The first word of a text, and what follows the blank after it.
+fn pair(text: &str) -> (&str, &str) {
+    text.split_once(" ").unwrap_or((text, ""))
+}
+
+// A number in decimal digits, or 0.
+fn count_of(text: &str) -> u32 {
+    u32::from_str_radix(text, 10).unwrap_or(0)
+}
+
+// A number in decimal digits, or 0.
+fn number(text: &str) -> usize {
+    count_of(text) as usize
+}
+
+// A number of eight bits.
+fn small(text: &str) -> u8 {
+    u8::from_str_radix(text, 10).unwrap_or(0)
+}
+
+// Whether a reading ends as a word says.
+fn is_end(ended: Ended, word: &str) -> bool {
+    let (name, chunk) = word.split_once(":").unwrap_or((word, ""));
+    match ended {
+        Ok(()) => word == "ok",
+        Err(Fault::Refused(Refusal::BadChunk(at))) => name == "BadChunk" && at == count_of(chunk),
+        Err(Fault::Refused(cause)) => cause.name() == word,
+        Err(_) => false,
+    }
+}
+
+// Whether bytes are those of a text, a place and then digits, from that place on.
+fn has_hex(bytes: &[u8], text: &str) -> bool {
+    let (at, digits) = pair(text);
+    let mut rest = bytes.get(number(at)..).unwrap_or(&[]).iter();
+    for word in digits.split_whitespace() {
+        if rest.next() != Some(&byte_of(word)) {
+            return false;
+        }
+    }
+    true
+}
+
+// A shape by the first three words of a text, and the number that follows them.
+fn shape_of(text: &str) -> (Shape, u32) {
+    let (minor, rest) = pair(text);
+    let (format, rest) = pair(rest);
+    let (vlrs, count) = pair(rest);
+    let shape = Shape {
+        minor: small(minor),
+        format: small(format),
+        vlrs: small(vlrs),
+    };
+    (shape, count_of(count))
+}
+
+// Changes bytes as a line says. The answer is false if the line is another one.
+fn change(file: &mut Vec<u8>, command: &str, rest: &str) -> Result<bool, AllocError> {
+    let (first, second) = pair(rest);
+    match command {
+        "head" => {
+            let (shape, points) = shape_of(rest);
+            file.clear();
+            add_head(file, shape, points)?;
+        }
+        "records" => {
+            let (shape, points) = shape_of(rest);
+            add_records(file, shape, points)?;
+        }
+        "vlr" => add_vlr(file)?,
+        "set" => put_hex(file, number(first), second),
+        "length" => file.resize(number(first), 0)?,
+        "add" => add_hex(file, rest)?,
+        _ => return Ok(false),
+    }
+    Ok(true)
+}
+
+impl World {
+    pub(crate) fn new(alloc: Global) -> World {
+        World {
+            files: MemFiles::new(alloc),
+            alloc,
+            work: Vec::new(alloc),
+        }
+    }
+
+    /// Gives names in memory room for an output.
+    pub(crate) fn give_room(&mut self, names: &str, room: usize) -> Result<(), AllocError> {
+        for name in names.split_whitespace() {
+            self.files.prepare(name, room)?;
+        }
+        Ok(())
+    }
+
+    /// The bytes of a file, or none.
+    pub(crate) fn bytes(&self, name: &str) -> &[u8] {
+        self.files.get(name).unwrap_or(&[])
+    }
+
+    /// Reads a file, or a range of its records.
+    pub(crate) fn read<R: Threads + Sync>(
+        &mut self,
+        rt: &R,
+        name: &str,
+        workers: u32,
+        range: Option<(u32, u32)>,
+        records: &mut Vec<u8>,
+    ) -> Ended {
+        let alloc = self.alloc;
+        match range {
+            Some(range) => read_range(rt, alloc, &mut self.files, name, workers, range, records),
+            None => read_file(rt, alloc, &mut self.files, name, workers, records),
+        }
+    }
+
+    // Whether the records are read that a text names, an end and bytes of a file, and the reading ends so.
+    fn reads<R: Threads + Sync>(
+        &mut self,
+        rt: &R,
+        name: &str,
+        workers: u32,
+        range: Option<(u32, u32)>,
+        wanted: &str,
+    ) -> bool {
+        let mut records = Vec::new(self.alloc);
+        let ended = self.read(rt, name, workers, range, &mut records);
+        let (end, rest) = pair(wanted);
+        let (source, rest) = pair(rest);
+        let (from, to) = pair(rest);
+        let bytes = self
+            .bytes(source)
+            .get(number(from)..number(to))
+            .unwrap_or(&[]);
+        is_end(ended, end) && records.as_slice() == bytes
+    }
+
+    // Whether a range is read as a line says.
+    fn reads_range<R: Threads + Sync>(&mut self, rt: &R, rest: &str) -> bool {
+        let (name, rest) = pair(rest);
+        let (workers, rest) = pair(rest);
+        let (start, rest) = pair(rest);
+        let (stop, rest) = pair(rest);
+        let (most, wanted) = pair(rest);
+        let before = self.files.asked();
+        let range = Some((count_of(start), count_of(stop)));
+        let is_read = self.reads(rt, name, count_of(workers), range, wanted);
+        is_read && self.files.asked().saturating_sub(before) <= u64::from(count_of(most))
+    }
+
+    // Whether a file with other bytes at a place, and of another length, is refused as a line says, and none of its
+    // records is read.
+    fn refuses<R: Threads + Sync>(&mut self, rt: &R, rest: &str) -> Result<bool, AllocError> {
+        let (name, rest) = pair(rest);
+        let (end, rest) = pair(rest);
+        let (length, rest) = pair(rest);
+        let (at, digits) = pair(rest);
+        self.take(name)?;
+        self.work.resize(number(length), 0)?;
+        put_hex(&mut self.work, number(at), digits);
+        self.files.put_file("changed", &self.work)?;
+        Ok(end != "ok" && self.reads(rt, "changed", 2, None, end))
+    }
+
+    // Has the bytes of a file worked on.
+    fn take(&mut self, name: &str) -> Result<(), AllocError> {
+        self.work.clear();
+        self.work
+            .extend_from_slice(self.files.get(name).unwrap_or(&[]))
+    }
+
+    // Whether the records of a file are written to another one as a line says.
+    fn writes<R: Threads + Sync>(&mut self, rt: &R, rest: &str) -> Result<bool, AllocError> {
+        let (from, rest) = pair(rest);
+        let (to, rest) = pair(rest);
+        let (chunk, rest) = pair(rest);
+        let (counted, rest) = pair(rest);
+        let (workers, rest) = pair(rest);
+        let cuts = cuts_of(self.alloc, rest)?;
+        let form = Form {
+            chunk: count_of(chunk),
+            counted: counted == "1",
+            workers: count_of(workers),
+            cuts: &cuts,
+        };
+        let alloc = self.alloc;
+        Ok(rewrite(rt, alloc, &mut self.files, from, to, form).is_ok())
+    }
+
+    // Whether the files are as a line says.
+    fn is_so(&self, command: &str, rest: &str) -> bool {
+        let (name, rest) = pair(rest);
+        let (other, more) = pair(rest);
+        let bytes = self.bytes(name);
+        match command {
+            "same" => !bytes.is_empty() && bytes == self.bytes(other),
+            "size" => bytes.len() == number(other),
+            "shorter" => bytes.len() < self.bytes(other).len() && bytes.len() > number(more),
+            "has" => has_hex(bytes, rest),
+            _ => false,
+        }
+    }
+
+    // Whether a line is done as it says.
+    fn play_line<R: Threads + Sync>(&mut self, rt: &R, line: &str) -> Result<bool, AllocError> {
+        let (command, rest) = pair(line);
+        match command {
+            "put" => self.files.put_file(rest, &self.work)?,
+            "take" => self.take(rest)?,
+            "room" => self.give_room(rest, 100_000)?,
+            "write" => return self.writes(rt, rest),
+            "read" => {
+                let (name, rest) = pair(rest);
+                let (workers, wanted) = pair(rest);
+                return Ok(self.reads(rt, name, count_of(workers), None, wanted));
+            }
+            "range" => return Ok(self.reads_range(rt, rest)),
+            "refuse" => return self.refuses(rt, rest),
+            _ => return Ok(change(&mut self.work, command, rest)? || self.is_so(command, rest)),
+        }
+        Ok(true)
+    }
+
+    /// The first line of a text that is not done as it says, or none.
+    pub(crate) fn first_wrong<R: Threads + Sync>(
+        &mut self,
+        rt: &R,
+        text: &'static str,
+    ) -> Result<Option<&'static str>, AllocError> {
+        for line in text.lines() {
+            if !self.play_line(rt, line)? {
+                return Ok(Some(line));
+            }
+        }
+        Ok(None)
+    }
+}
+
+// The numbers of a text.
+fn cuts_of(alloc: Global, text: &str) -> Result<Vec<u32>, AllocError> {
+    let mut cuts = Vec::new(alloc);
+    for word in text.split_whitespace() {
+        cuts.push(count_of(word))?;
+    }
+    Ok(cuts)
+}
+
+/// Cases, what is played before each of them, and what is played after it.
+pub(crate) struct Script {
+    pub(crate) before: &'static str,
+    pub(crate) cases: &'static str,
+    pub(crate) after: &'static str,
+}
+
+/// The name of a case, and its first line that is not done as it says; or its name alone if it says nothing.
+pub(crate) type Wrong = Option<(&'static str, &'static str)>;
+
+// Whether a command says what is so.
+fn says(command: &str) -> bool {
+    match command {
+        "read" | "range" | "refuse" | "same" | "size" | "shorter" | "has" => true,
+        _ => false,
+    }
+}
+
+// Whether a line of a text says what is so.
+fn says_something(text: &str) -> bool {
+    let mut is_said = false;
+    for line in text.lines() {
+        is_said = is_said || says(pair(line).0);
+    }
+    is_said
+}
+
+// What is wrong in a case of a script, which is its name and then its lines.
+fn wrong_in<R: Threads + Sync>(
+    rt: &R,
+    alloc: Global,
+    script: &Script,
+    case: &'static str,
+) -> Result<Wrong, AllocError> {
+    let (name, lines) = case.split_once("\n").unwrap_or((case, ""));
+    if !says_something(lines) && !says_something(script.after) {
+        return Ok(Some((name, "")));
+    }
+    let mut world = World::new(alloc);
+    for text in [script.before, lines, script.after] {
+        if let Some(wrong) = world.first_wrong(rt, text)? {
+            return Ok(Some((name, wrong)));
+        }
+    }
+    Ok(None)
+}
+
+/// What is wrong first in a script, or nothing.
+pub(crate) fn first_wrong<R: Threads + Sync>(
+    rt: &R,
+    alloc: Global,
+    script: &Script,
+) -> Result<Wrong, AllocError> {
+    let (front, cases) = script
+        .cases
+        .split_once("case ")
+        .unwrap_or((script.cases, ""));
+    if !front.is_empty() || cases.is_empty() {
+        return Ok(Some((front, "")));
+    }
+    for case in cases.split("\ncase ") {
+        let wrong = wrong_in(rt, alloc, script, case)?;
+        if wrong.is_some() {
+            return Ok(wrong);
+        }
+    }
+    Ok(None)
+}

@@ -1,0 +1,483 @@
+//! Scripts, and what plays them: files in memory, command lines with what they answer, and what is so at the end.
+//!
+//! A script is a text of cases, each of which begins with a line of `case` and its name. Each case has a world of its
+//! own, with no files and no bytes that are worked on. A line is a command: its first word says what is done with those
+//! that follow it, with one blank between two words. A line with another first word is wrong, and so is a case that has
+//! no run. Numbers are decimal, and bytes are two hexadecimal digits each; what is neither is 0.
+//!
+//! These commands change the bytes that are worked on. A shape is the minor version, the point data format, and how
+//! many bytes stand between a VLR and the points, or 0 for no VLR.
+//!
+//! - `head SHAPE COUNT`: they become a head that counts COUNT points.
+//! - `records SHAPE FROM TO`, `classtwo SHAPE TO`: the records of these numbers are appended, or those of class 2 among
+//!   the ones up to a number.
+//! - `point X Y Z`, `line COUNT`: a record of class 2 at a place is appended, or COUNT of them along a line.
+//! - `add BYTES`, `zeros COUNT`, `emptytable COUNT`: bytes are appended, or COUNT zeros, or the chunk table of COUNT
+//!   chunks without bytes.
+//! - `set AT BYTES`: bytes are written over those from a place on. `cut AT`: the bytes from a place on are cut.
+//! - `packed`: they become the packed form of the file that they are, in chunks of 256 points.
+//! - `take NAME`: they become those of a file, or none if there is no such file.
+//!
+//! These change files:
+//!
+//! - `put NAME`: a file gets the bytes that are worked on. `room NAMES`: these names get room for an output.
+//! - `failwrite CALL KEEP`: of the calls that write, the one of this number fails after KEEP bytes.
+//! - `failput CALL`: of the calls that put a text on standard output, the one of this number fails.
+//!
+//! These are runs of a command line. In all lines of a case `@` stands for the words of its line `with WORDS`.
+//!
+//! - `ends LINE = WORDS`: a run puts this line on standard error, has the status that goes with it, and puts nothing on
+//!   standard output. In a line `/` stands for the end of a line.
+//! - `done WORDS`: a run is done, and puts nothing on either. `tells TEXT = WORDS`: it puts this text on standard
+//!   output.
+//! - `asks COUNT = WORDS`: it is done, puts nothing, and asks the files for at most COUNT bytes.
+//!
+//! These say what is so:
+//!
+//! - `same NAME OTHER`: two files are there and equal. `absent NAME`: a file is not there.
+//! - `size NAME COUNT`, `above NAME COUNT`: a file has COUNT bytes, or more than COUNT.
+//! - `has NAME AT BYTES`: a file has these bytes from a place on.
+use crate::recipes::{
+    Shape, add_head, add_hex, add_line, add_point, add_records, add_second_class, byte_of, put_hex,
+};
+use las_outside::{Gate, MemFiles, MemSink, OpenGate};
+use las_run::run;
+use laz_table::table_of;
+use std::alloc::{AllocError, Global};
+use std::thread::Threads;
+
+/// Files and streams in memory, and the bytes that are worked on.
+pub struct World {
+    pub files: MemFiles,
+    pub out: MemSink,
+    pub err: MemSink,
+    pub work: Vec<u8>,
+}
+
+// Written out, so that letting a world go is one call in each function that owns one.
+impl Drop for World {
+    fn drop(self) {
+        let World {
+            files,
+            out,
+            err,
+            work,
+        } = self;
+        drop(files);
+        drop(out);
+        drop(err);
+        drop(work);
+    }
+}
+
+// Appends the words of a text.
+fn say(said: &mut Vec<String>, alloc: Global, text: &str) -> Result<(), AllocError> {
+    for word in text.split_whitespace() {
+        said.push(String::from_str(alloc, word)?)?;
+    }
+    Ok(())
+}
+
+/// The words of a command line, with others in the place of `@`.
+pub fn words_of(alloc: Global, line: &str, words: &str) -> Result<Vec<String>, AllocError> {
+    let mut said = Vec::new(alloc);
+    for word in line.split_whitespace() {
+        say(&mut said, alloc, if word == "@" { words } else { word })?;
+    }
+    Ok(said)
+}
+
+static STATUSES: [(&str, u8); 6] = [
+    ("usage", 2),
+    ("read fault", 3),
+    ("write fault", 4),
+    ("refused", 5),
+    ("unequal", 6),
+    ("too many points", 6),
+];
+
+// The status that goes with a line.
+fn status_of(line: &str) -> u8 {
+    for (start, status) in &STATUSES {
+        if line.starts_with(*start) {
+            return *status;
+        }
+    }
+    0
+}
+
+/// The bytes from a place on.
+pub fn after(bytes: &[u8], at: usize) -> &[u8] {
+    bytes.get(at..).unwrap_or(&[])
+}
+
+impl World {
+    pub fn new(alloc: Global) -> Result<World, AllocError> {
+        let out = MemSink::with_room(alloc, 10_000)?;
+        let err = MemSink::with_room(alloc, 1000)?;
+        let files = MemFiles::new(alloc);
+        let work = Vec::new(alloc);
+        Ok(World {
+            files,
+            out,
+            err,
+            work,
+        })
+    }
+
+    /// Gives names in memory room for an output.
+    pub fn give_room(&mut self, names: &str) -> Result<(), AllocError> {
+        for name in names.split_whitespace() {
+            self.files.prepare(name, 100_000)?;
+        }
+        Ok(())
+    }
+
+    /// The bytes of a file, or none.
+    pub fn bytes(&self, name: &str) -> &[u8] {
+        self.files.get(name).unwrap_or(&[])
+    }
+
+    /// The status of a run without taps.
+    pub fn run<R: Threads + Sync + AllocGlobal, G: Gate>(
+        &mut self,
+        rt: &R,
+        words: &[String],
+        gate: &G,
+    ) -> u8 {
+        let alloc = rt.alloc();
+        let taps = Vec::new(alloc);
+        run(
+            rt,
+            alloc,
+            words,
+            &mut self.files,
+            &mut self.out,
+            &mut self.err,
+            gate,
+            taps,
+        )
+    }
+
+    /// The status of a run of these words.
+    pub fn obey<R: Threads + Sync + AllocGlobal, G: Gate>(
+        &mut self,
+        rt: &R,
+        line: &str,
+        words: &str,
+        gate: &G,
+    ) -> Result<u8, AllocError> {
+        let said = words_of(rt.alloc(), line, words)?;
+        Ok(self.run(rt, &said, gate))
+    }
+
+    // Whether a run puts this line and this text, and has the status that goes with the line.
+    fn answers<R: Threads + Sync + AllocGlobal>(
+        &mut self,
+        rt: &R,
+        line: &str,
+        text: &str,
+        words: &str,
+        with: &str,
+    ) -> Result<bool, AllocError> {
+        let (put, said) = (self.out.bytes().len(), self.err.bytes().len());
+        let status = self.obey(rt, words, with, &OpenGate)?;
+        Ok(
+            status == status_of(line)
+                && is_text(after(self.err.bytes(), said), line)
+                && is_text(after(self.out.bytes(), put), text),
+        )
+    }
+
+    // Whether a run asks for at most `most` bytes.
+    fn asks<R: Threads + Sync + AllocGlobal>(
+        &mut self,
+        rt: &R,
+        most: u64,
+        words: &str,
+        with: &str,
+    ) -> Result<bool, AllocError> {
+        let before = self.files.asked();
+        let is_done = self.answers(rt, "", "", words, with)?;
+        Ok(is_done && self.files.asked().saturating_sub(before) <= most)
+    }
+
+    // Whether the files are as a line says.
+    fn is_so(&self, command: &str, rest: &str) -> bool {
+        let (name, other) = pair(rest);
+        match command {
+            "same" => {
+                self.files.get(name).is_some() && self.files.get(name) == self.files.get(other)
+            }
+            "absent" => self.files.get(name).is_none(),
+            "size" => self.bytes(name).len() == number(other),
+            "above" => self.bytes(name).len() > number(other),
+            "has" => has_hex(self.bytes(name), other),
+            _ => false,
+        }
+    }
+
+    // Does what a line says of files and of calls that fail. The answer is false if the line is another one.
+    fn prepare(&mut self, command: &str, rest: &str) -> Result<bool, AllocError> {
+        let (first, second) = pair(rest);
+        match command {
+            "put" => self.files.put_file(first, &self.work)?,
+            "take" => {
+                self.work.clear();
+                self.work
+                    .extend_from_slice(self.files.get(first).unwrap_or(&[]))?;
+            }
+            "room" => self.give_room(rest)?,
+            "failwrite" => self.files.fail_write(number(first) as u64, number(second))?,
+            "failput" => self.out.fail_put(number(first) as u64)?,
+            _ => return Ok(false),
+        }
+        Ok(true)
+    }
+
+    // Whether a line is done as it says.
+    fn play_line<R: Threads + Sync + AllocGlobal>(
+        &mut self,
+        rt: &R,
+        line: &str,
+        with: &str,
+    ) -> Result<bool, AllocError> {
+        let (command, rest) = pair(line);
+        let (wanted, words) = rest.split_once(" = ").unwrap_or(("", rest));
+        match command {
+            "done" => self.answers(rt, "", "", rest, with),
+            "ends" => self.answers(rt, wanted, "", words, with),
+            "tells" => self.answers(rt, "", wanted, words, with),
+            "asks" => self.asks(rt, number(wanted) as u64, words, with),
+            "packed" => {
+                pack(rt, &mut self.work)?;
+                Ok(true)
+            }
+            "with" => Ok(true),
+            _ => Ok(
+                self.prepare(command, rest)?
+                    || change(rt.alloc(), &mut self.work, command, rest)?
+                    || self.is_so(command, rest),
+            ),
+        }
+    }
+
+    /// Whether each line of a text is done as it says.
+    pub fn does<R: Threads + Sync + AllocGlobal>(
+        &mut self,
+        rt: &R,
+        text: &'static str,
+    ) -> Result<bool, AllocError> {
+        Ok(self.first_wrong(rt, text, "")?.is_none())
+    }
+
+    // The first line of a text that is not done as it says, or none.
+    fn first_wrong<R: Threads + Sync + AllocGlobal>(
+        &mut self,
+        rt: &R,
+        text: &'static str,
+        with: &str,
+    ) -> Result<Option<&'static str>, AllocError> {
+        for line in text.lines() {
+            if !self.play_line(rt, line, with)? {
+                return Ok(Some(line));
+            }
+        }
+        Ok(None)
+    }
+}
+
+// The first word of a text, and what follows the blank after it.
+fn pair(text: &str) -> (&str, &str) {
+    text.split_once(" ").unwrap_or((text, ""))
+}
+
+// A number in decimal digits, or 0.
+fn number(text: &str) -> usize {
+    u32::from_str_radix(text, 10).unwrap_or(0) as usize
+}
+
+// Whether bytes are a text with a `/` for each end of a line.
+fn is_text(bytes: &[u8], text: &str) -> bool {
+    bytes.len() == text.len()
+        && bytes.iter().zip(text.as_bytes()).all(|(byte, wanted)| *byte
+            == if *wanted == b'/' { b'\n' } else { *wanted })
+}
+
+// Whether bytes are those of a text, a place and then digits, from that place on.
+fn has_hex(bytes: &[u8], text: &str) -> bool {
+    let (at, digits) = pair(text);
+    let mut rest = after(bytes, number(at)).iter();
+    for word in digits.split_whitespace() {
+        if rest.next() != Some(&byte_of(word)) {
+            return false;
+        }
+    }
+    true
+}
+
+// A shape by the first three words of a text, and what follows them.
+fn shape_of(text: &str) -> (Shape, &str) {
+    let (minor, rest) = pair(text);
+    let (format, rest) = pair(rest);
+    let (gap, rest) = pair(rest);
+    let shape = Shape {
+        minor: small(minor),
+        format: small(format),
+        gap: small(gap),
+    };
+    (shape, rest)
+}
+
+// A number of eight bits.
+fn small(text: &str) -> u8 {
+    u8::from_str_radix(text, 10).unwrap_or(0)
+}
+
+// A signed number.
+fn signed(text: &str) -> i32 {
+    i32::from_str_radix(text, 10).unwrap_or(0)
+}
+
+// A number of 32 bits.
+fn count_of(text: &str) -> u32 {
+    u32::from_str_radix(text, 10).unwrap_or(0)
+}
+
+// Changes bytes as a line says. The answer is false if the line is another one.
+fn change(
+    alloc: Global,
+    file: &mut Vec<u8>,
+    command: &str,
+    rest: &str,
+) -> Result<bool, AllocError> {
+    let (first, second) = pair(rest);
+    match command {
+        "point" => add_place(file, rest)?,
+        "line" => add_line(file, count_of(first))?,
+        "zeros" => file.resize(file.len().saturating_add(number(first)), 0)?,
+        "emptytable" => add_empty_table(file, alloc, number(first))?,
+        "set" => put_hex(file, number(first), second),
+        "cut" => file.truncate(number(first)),
+        "add" => add_hex(file, rest)?,
+        _ => return add_shaped(file, command, rest),
+    }
+    Ok(true)
+}
+
+// Appends a record at a place.
+fn add_place(file: &mut Vec<u8>, rest: &str) -> Result<(), AllocError> {
+    let (x, rest) = pair(rest);
+    let (y, z) = pair(rest);
+    add_point(file, signed(x), signed(y), signed(z))
+}
+
+// Appends a head or records of a shape as a line says. The answer is false if the line is another one.
+fn add_shaped(file: &mut Vec<u8>, command: &str, rest: &str) -> Result<bool, AllocError> {
+    let (shape, rest) = shape_of(rest);
+    let (first, second) = pair(rest);
+    match command {
+        "head" => {
+            file.clear();
+            add_head(file, shape, count_of(first))?;
+        }
+        "records" => add_records(file, shape, count_of(first), count_of(second))?,
+        "classtwo" => add_second_class(file, shape, count_of(first))?,
+        _ => return Ok(false),
+    }
+    Ok(true)
+}
+
+// What `@` stands for in a case: the words of its line of `with`.
+fn with_of(case: &str) -> &str {
+    for line in case.lines() {
+        if let Some(words) = line.strip_prefix("with ") {
+            return words;
+        }
+    }
+    ""
+}
+
+/// Cases, what is played before each of them, and what is played after it.
+pub struct Script {
+    pub before: &'static str,
+    pub cases: &'static str,
+    pub after: &'static str,
+}
+
+/// The name of a case, and its first line that is not done as it says; or its name alone if it has no run.
+pub type Wrong = Option<(&'static str, &'static str)>;
+
+// Whether a command is a run.
+fn is_run(command: &str) -> bool {
+    match command {
+        "done" | "ends" | "tells" | "asks" => true,
+        _ => false,
+    }
+}
+
+// Whether a line of a text is a run.
+fn has_run(text: &str) -> bool {
+    let mut is_there = false;
+    for line in text.lines() {
+        is_there = is_there || is_run(pair(line).0);
+    }
+    is_there
+}
+
+// What is wrong in a case of a script, which is its name and then its lines.
+fn wrong_in<R: Threads + Sync + AllocGlobal>(
+    rt: &R,
+    script: &Script,
+    case: &'static str,
+) -> Result<Wrong, AllocError> {
+    let (name, lines) = case.split_once("\n").unwrap_or((case, ""));
+    if !has_run(lines) && !has_run(script.after) {
+        return Ok(Some((name, "")));
+    }
+    let mut world = World::new(rt.alloc())?;
+    for text in [script.before, lines, script.after] {
+        if let Some(wrong) = world.first_wrong(rt, text, with_of(lines))? {
+            return Ok(Some((name, wrong)));
+        }
+    }
+    Ok(None)
+}
+
+/// What is wrong first in a script, or nothing.
+pub fn first_wrong<R: Threads + Sync + AllocGlobal>(
+    rt: &R,
+    script: &Script,
+) -> Result<Wrong, AllocError> {
+    let (front, cases) = script
+        .cases
+        .split_once("case ")
+        .unwrap_or((script.cases, ""));
+    if !front.is_empty() || cases.is_empty() {
+        return Ok(Some((front, "")));
+    }
+    for case in cases.split("\ncase ") {
+        let wrong = wrong_in(rt, script, case)?;
+        if wrong.is_some() {
+            return Ok(wrong);
+        }
+    }
+    Ok(None)
+}
+
+// Appends the chunk table of chunks of no bytes, 65,535 at most.
+fn add_empty_table(file: &mut Vec<u8>, alloc: Global, chunks: usize) -> Result<(), AllocError> {
+    let counts = vec![in alloc; 0; chunks.min(65_535)]?;
+    let table = table_of(alloc, &counts)?;
+    file.extend_from_slice(&table)
+}
+
+// Makes a file its packed form.
+fn pack<R: Threads + Sync + AllocGlobal>(rt: &R, file: &mut Vec<u8>) -> Result<(), AllocError> {
+    let mut world = World::new(rt.alloc())?;
+    world.files.put_file("a", file)?;
+    world.files.prepare("b", 100_000)?;
+    let _status = world.obey(rt, "laszip -i a -o b -chunk_size 256", "", &OpenGate)?;
+    file.clear();
+    file.extend_from_slice(world.bytes("b"))
+}
