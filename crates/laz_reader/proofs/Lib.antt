@@ -1,4 +1,5 @@
 mod AskingExamples
+mod Examples
 mod Frames
 mod Unpacking
 mod Heads

@@ -1,4 +1,4 @@
--- What a reader has read, and which of its blocks were come to.
+-- What a reader has read, and which of its blocks were reached.
 use Rattle.std.specs.Prelude.{◌≡◌, ℕ, ◌+◌, ◌-◌, ◌*◌, ◌%◌, ◌<◌, ◌≤◌, false, List, [], ◌∷◌, ◌++◌, length, take, drop}
 use Rattle.std.specs.Prelude.{slice_index_or, Option, Some, None, IsSome}
 use Rattle.std.specs.FinMap as map
@@ -39,7 +39,7 @@ pub record HasRead (held : Option FileMap) (first reader : ReaderSeen) (n : ℕ)
   pub left : reader.left ≡ drop n first.left
   pub next : reader.next ≡ first.next + n
 
--- The first n pieces that a reader had left were come to, and hold these blocks; the others of the last batch are lent.
+-- The first n pieces that a reader had left were reached, and hold these blocks; the others of the last batch are lent.
 pub record HasComeTo (held : Option FileMap) (first reader : ReaderSeen) (crew : List (HandSeen Format)) (turn : Turn)
     (n : ℕ) (blocks : List (List ℕ)) : Type 0 where
   pub before : ℕ
@@ -54,6 +54,15 @@ pub record HasComeTo (held : Option FileMap) (first reader : ReaderSeen) (crew :
   pub sound : reader.failed ≡ false
   pub crew_is : IsCrewOf reader crew
   pub stands : WhereKnown held reader.name (StandsFor reader)
+
+-- P of each state in which blocks of a reader were reached, if its file is as it was then: the files then, the reader
+-- before its first block, and the blocks, with their number.
+abbrev pub OfReached : (now : Option FileMap) → ReaderSeen → List (HandSeen Format) → Turn
+    → (P : Option FileMap → (first : ReaderSeen) → (n : ℕ) → (blocks : List (List ℕ)) → Type 0) → Type 0
+OfReached now reader crew turn P =
+    (held : Option FileMap) (first : ReaderSeen) (n : ℕ) (blocks : List (List ℕ))
+    → HasComeTo held first reader crew turn n blocks → file_at now first.name ≡ file_at held first.name
+    → P held first n blocks
 
 -- A reader and its crew lend this block, under this number.
 abbrev pub LendsAt : ReaderSeen → List (HandSeen Format) → (number : ℕ) → (block : List ℕ) → Type 0

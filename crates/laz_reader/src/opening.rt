@@ -31,7 +31,7 @@ use laz_table::{
 use std::alloc::Global;
 
 /// Where the chunk table of a packed file begins, and the end of what it may take.
-#[derive(Clone, Copy, Debug, PartialEq, Eq)]
+#[derive(Clone, Copy)]
 pub(crate) struct TablePlace {
     pub(crate) start: u64,
     pub(crate) end: u64,

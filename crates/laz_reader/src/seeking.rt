@@ -4,7 +4,7 @@ ghost use Rattle.laz_reader.specs.Keeping.{IsSought};
 
 /// The chunks that are read: from the one of number `first` on and before the one of number `last`, without `skip`
 /// records at the front of the first and `tail` at the end of the last.
-#[derive(Clone, Copy, Debug, PartialEq, Eq)]
+#[derive(Clone, Copy)]
 pub(crate) struct Ends {
     pub(crate) first: u32,
     pub(crate) last: u32,
@@ -28,7 +28,7 @@ impl Ends {
 }
 
 /// Which chunks are read, and where the first of them begins.
-#[derive(Clone, Copy, Debug, PartialEq, Eq)]
+#[derive(Clone, Copy)]
 pub(crate) struct Sought {
     pub(crate) ends: Ends,
     pub(crate) place: u64,
