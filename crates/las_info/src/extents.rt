@@ -7,14 +7,14 @@ ghost use Rattle.las_info.specs.Extents.{extents_with, widened};
 use las_points::{x, y, z};
 
 /// The least and the greatest of some numbers.
-#[derive(Clone, Copy, Debug, PartialEq, Eq)]
+#[derive(Clone, Copy)]
 pub(crate) struct Range {
     pub(crate) low: i32,
     pub(crate) high: i32,
 }
 
 /// The least and the greatest of each raw coordinate of some records.
-#[derive(Clone, Copy, Debug, PartialEq, Eq)]
+#[derive(Clone, Copy)]
 pub(crate) struct Extents {
     pub(crate) x: Range,
     pub(crate) y: Range,

@@ -54,14 +54,20 @@ fn push_each(text: &mut Vec<u8>, counts: &[u32]) -> Result<(), AllocError>
     Ok(())
 }
 
+/// Adds a number.
+pub(crate) fn push_digits(text: &mut Vec<u8>, number: u64) -> Result<(), AllocError>
+    ensures { OnOk result (text.new.items ≡ text.old.items ++ decimal number) }
+{
+    let mut digits = Buffer::new();
+    text.extend_from_slice(digits.format(number).as_bytes())
+}
+
 /// Adds a number after a blank.
 pub(crate) fn push_number(text: &mut Vec<u8>, number: u64) -> Result<(), AllocError>
     ensures { OnOk result (text.new.items ≡ text.old.items ++ (codes " " ++ decimal number)) }
 {
-    let mut digits = Buffer::new();
     text.extend_from_slice(b" ")?;
-    text.extend_from_slice(digits.format(number).as_bytes())?;
-    Ok(())
+    push_digits(text, number)
 }
 
 /// Adds a line of a word and a text.
@@ -111,8 +117,7 @@ pub(crate) fn push_bin(text: &mut Vec<u8>, bin: u32, count: u64) -> Result<(), A
     if count == 0 {
         return Ok(());
     }
-    let mut digits = Buffer::new();
-    text.extend_from_slice(digits.format(bin).as_bytes())?;
+    push_digits(text, u64::from(bin))?;
     push_number(text, count)?;
     text.extend_from_slice(b"\n")?;
     Ok(())

@@ -12,11 +12,12 @@ ghost use Rattle.las_info.specs.Report.{report_text};
 ghost use Rattle.las_info.specs.Report.{bin_line, extents_text, number_line, summary_text, tally_text, vlr_line};
 
 use crate::extents::Extents;
-use crate::lines::{push_bin, push_counts, push_number, push_numbers, push_range, push_text};
+use crate::lines::{
+    push_bin, push_counts, push_digits, push_number, push_numbers, push_range, push_text,
+};
 use crate::summary::Summary;
 use crate::survey::Survey;
 use crate::tap::Tap;
-use itoa::Buffer;
 use las_header::{Head, VlrPlace, u16_at};
 use las_outside::Sink;
 use std::alloc::{AllocError, Global};
@@ -26,9 +27,8 @@ fn push_version(text: &mut Vec<u8>, head: &Head) -> Result<(), AllocError>
     ensures { OnOk result (text.new.items
         ≡ text.old.items ++ (codes "version 1." ++ decimal (minor_of head.now.bytes) ++ codes "\n")) }
 {
-    let mut digits = Buffer::new();
     text.extend_from_slice(b"version 1.")?;
-    text.extend_from_slice(digits.format(head.minor()).as_bytes())?;
+    push_digits(text, u64::from(head.minor()))?;
     text.extend_from_slice(b"\n")?;
     Ok(())
 }

@@ -19,7 +19,7 @@ const NONE_IN_SYSTEM: i32 = 23;
 const NONE_IN_PROCESS: i32 = 24;
 
 /// What a handle is for. A file that a run writes and reads has two.
-#[derive(Clone, Copy, Debug, PartialEq, Eq)]
+#[derive(Clone, Copy)]
 pub enum Access {
     Read,
     Write,

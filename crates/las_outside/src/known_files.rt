@@ -18,7 +18,11 @@ impl KnownFile {
     fn agrees(&self, name: &str, identity: FileIdentity) -> bool
         ensures { IsTrue result → string_bytes self.now.name ≡ name.now → self.now.identity ≡ identity }
     {
-        self.name.as_str() != name || self.identity == identity
+        if self.name.as_str() == name {
+            self.identity == identity
+        } else {
+            true
+        }
     }
 
     // Whether another name, or this one, may be made an empty output that leads to this file.

@@ -13,7 +13,7 @@ use crate::texts::word;
 use std::alloc::{AllocError, Global};
 
 /// A word that stands where an option should.
-#[derive(Clone, Copy, Debug, PartialEq, Eq)]
+#[derive(Clone, Copy)]
 pub struct Piece {
     /// The index of the word.
     pub at: usize,

@@ -6,7 +6,7 @@ ghost use Rattle.std.specs.Str.{bytes_eq};
 ghost use Rattle.las_words.specs.Table.{ways};
 
 /// A command.
-#[derive(Clone, Copy, Debug, PartialEq, Eq)]
+#[derive(Clone, Copy)]
 pub enum Tool {
     Laszip,
     Las2las,
@@ -17,7 +17,7 @@ pub enum Tool {
 }
 
 /// An option, named after its word.
-#[derive(Clone, Copy, Debug, PartialEq, Eq)]
+#[derive(Clone, Copy)]
 pub enum Flag {
     Input,
     /// `-i` of a command that takes several inputs.
@@ -64,7 +64,7 @@ pub enum Flag {
 }
 
 /// What values follow an option.
-#[derive(Clone, Copy, Debug, PartialEq, Eq)]
+#[derive(Clone, Copy)]
 pub enum Values {
     /// None.
     Nothing,
@@ -285,16 +285,14 @@ impl Flag {
         ensures { result ≡ list_any (bytes_eq name.now) (row_of self).rivals }
     {
         match self {
-            Flag::ChunkSize => name == "-chunk_size" || name == "-copy_chunks",
-            Flag::Olas => name == "-olas" || name == "-olaz" || name == "-copy_chunks",
-            Flag::Olaz => name == "-olas" || name == "-olaz",
-            Flag::CopyChunks => {
-                name == "-copy_chunks" || name == "-olas" || name == "-chunk_size"
-            }
+            Flag::ChunkSize => matches!(name, "-chunk_size" | "-copy_chunks"),
+            Flag::Olas => matches!(name, "-olas" | "-olaz" | "-copy_chunks"),
+            Flag::Olaz => matches!(name, "-olas" | "-olaz"),
+            Flag::CopyChunks => matches!(name, "-copy_chunks" | "-olas" | "-chunk_size"),
             Flag::Split | Flag::ByClassification | Flag::ByFlightline | Flag::ByReturn => {
                 is_way(name)
             }
-            Flag::Lowest | Flag::Highest => name == "-lowest" || name == "-highest",
+            Flag::Lowest | Flag::Highest => matches!(name, "-lowest" | "-highest"),
             Flag::Tally => false,
             _ => name == self.name(),
         }
@@ -315,8 +313,8 @@ impl Flag {
 fn is_way(name: &str) -> bool
     ensures { result ≡ list_any (bytes_eq name.now) ways }
 {
-    name == "-split"
-        || name == "-by_classification"
-        || name == "-by_flightline"
-        || name == "-by_return"
+    matches!(
+        name,
+        "-split" | "-by_classification" | "-by_flightline" | "-by_return"
+    )
 }
