@@ -1,6 +1,6 @@
 -- Records that are kept, some after others.
 use Rattle.std.proofs.Common.{◌≡◌, ℕ, Bool, true, false, cond, not, ◌||◌, List, [], ◌∷◌, ◌++◌, length, Option, Some}
-use Rattle.std.proofs.Common.{None, is_some, Result, Ok, Err, IfErr, IfOk, OnErr, refl, sym, ◌∙◌, ap, append_assoc}
+use Rattle.std.proofs.Common.{None, is_some, refl, sym, ◌∙◌, ap, append_assoc}
 use Rattle.std.proofs.lemmas.List.{append-nil}
 use Rattle.las_filter.specs.Kept.{Kept, Steps, kept, kept_and}
 use Rattle.las_filter.specs.Filters.{keeps_all}
@@ -129,15 +129,3 @@ adds_all keeping keeps xs os refused one =
 pub stays_all : (keeping : Keeping) → IsKeeping keeping → (xs ys : List (List ℕ)) (k : ℕ)
     → (keeping xs).raw_range ≡ Some k → keeping (xs ++ ys) ≡ keeping xs
 stays_all keeping keeps xs ys k is = stays keeping keeps xs k ys is
-
-pub on_err_from : {T E Q : Type 0} (P : E → Type 0) (r : Result T E) → ((e : E) → P e → Q) → IfErr r P → OnErr r Q
-on_err_from P (Ok x) to p = tt
-on_err_from P (Err e) to p = to e p
-
-pub on_err_then : {T E P Q : Type 0} (r : Result T E) → (P → Q) → OnErr r P → OnErr r Q
-on_err_then (Ok x) to p = tt
-on_err_then (Err e) to p = to p
-
-pub if_ok_then : {T E : Type 0} (P Q : T → Type 0) (r : Result T E) → ((x : T) → P x → Q x) → IfOk r P → IfOk r Q
-if_ok_then P Q (Ok x) to p = to x p
-if_ok_then P Q (Err e) to p = tt

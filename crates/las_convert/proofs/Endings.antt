@@ -3,6 +3,7 @@ use Rattle.std.proofs.Common.{◌≡◌, ◌⊎◌, ℕ, Bool, true, false, cond
 use Rattle.std.proofs.Common.{Result, IfErr, OnErr, refl, sym, ◌∙◌, ap, subst}
 use Rattle.std.specs.List.{concat}
 use Rattle.std.proofs.lemmas.List.{append-nil, take_all}
+use Rattle.std.proofs.lemmas.Result.{IfErr-weaker}
 use Rattle.std.proofs.Common.{arith}
 use Rattle.las_header.specs.declared.refusal.Refusal.{Refusal}
 use Rattle.las_header.specs.declared.refusal.Refusal.TheVariants.{RawRange}
@@ -23,7 +24,6 @@ use Rattle.laz_writer.specs.Writing.{Stands, Stops, WriterSeen}
 use Rattle.laz_file.proofs.Public.{leaves_end, leaves_part, held_after, create_left}
 use Rattle.las_convert.specs.Adding.{Adds, EndsKeeping, Goes, Keeping, LeavesKept, cut_all}
 use Rattle.las_convert.specs.Converting.{EndsConverting, FinishesKept, LeavesConverting, RefusesKept, output_of}
-use Rattle.las_convert.proofs.Adding.{on_err_from}
 use Rattle.las_convert.proofs.Shown.{seen_by}
 
 -- an output that could not be created
@@ -37,8 +37,9 @@ begin_left r old new reader name head chunk is =
     let out : Output = record { name = name; head = head; chunk = chunk; counted = true } in
     let same : out ≡ output_of reader name chunk =
     ap (λ (h : List ℕ). let o : Output = record { name = name; head = h; chunk = chunk; counted = true } in o) is in
-    on_err_from (λ fault. Stops fault old new ⊎ ((n : ℕ) × Stops fault (with_bytes old name (take n (front out))) new))
-    r
+    IfErr-weaker r (λ fault. Stops fault old new ⊎
+    ((n : ℕ) × Stops fault (with_bytes old name (take n (front out))) new))
+    _
     (λ fault stops records. subst (λ (o : Output). LeavesUnfinished o records old.held new.held) same
     (create_left old new out fault records stops))
 

@@ -1,5 +1,6 @@
 -- Values that compute: what plans keep of a file of three records, also behind sieves, and the outputs that they become.
 use Rattle.std.proofs.Common.{◌≡◌, ℕ, true, false, pos, List, [], ◌∷◌, ◌++◌, codes, replicate, Some, None, refl}
+use Rattle.std.specs.FinMap as finmap
 use Rattle.byteorder.specs.Endian.{little_bytes}
 use Rattle.las_filter.specs.declared.change.Change.TheVariants.{SetClass, Translate}
 use Rattle.las_filter.specs.declared.keep.Keep.TheVariants.{Classes}
@@ -12,8 +13,10 @@ use Rattle.las_thin.specs.declared.pick.Pick.TheVariants.{First, Lowest, Highest
 use Rattle.las_thin.specs.Kept.{kept_behind}
 use Rattle.las_thin.specs.Sieving.{Settings}
 use Rattle.las_header.specs.declared.refusal.Refusal.TheVariants.{BadChunk, RawRange}
+use Rattle.las_outside.specs.Files.{FileMap}
 use Rattle.laz_forms.specs.Outputs.{finished, stopped}
-use Rattle.las_convert.specs.Converting.{converted_output, has_output, kept_in}
+use Rattle.laz_file.specs.Endings.{files_after, writes}
+use Rattle.las_convert.specs.Converting.{converted_output, has_output, kept_in, writes_kept}
 
 -- a LAS 1.2 head of 227 bytes and format 0, with this number of points, all of them first returns
 abbrev head : (points : ℕ) → List ℕ
@@ -121,3 +124,31 @@ stopped_file : stopped (converted_output [] file None) (point (6 ∷ 0 ∷ 0 ∷
     (6 ∷ 0 ∷ 0 ∷ 0 ∷ []) 2
 unfolding number_at short_bytes long_bytes
 stopped_file = refl
+
+-- ---- the products
+-- all that is kept, in the order of the records, and the output's name and bytes at the end
+kept_product : writes_kept Lowest (converted_output [] file None) (point five 2) None
+    ≡ writes (converted_output [] file None) (point five 2) None
+kept_product = refl
+
+kept_after : (files : FileMap) → files_after
+    (writes_kept First (converted_output (1 ∷ []) file None) (point five 2) None)
+    files ≡ finmap.insert files (1 ∷ []) (head 1 ++ point five 2)
+unfolding number_at short_bytes long_bytes
+kept_after files = refl
+
+-- what is kept before a refusal, with counts of zero
+refused_after : (files : FileMap) → files_after
+    (writes_kept Highest (converted_output (1 ∷ []) file None) (point five 2) (Some (RawRange 1))) files
+    ≡ finmap.insert files (1 ∷ []) (head 0 ++ point five 2)
+unfolding number_at short_bytes long_bytes
+refused_after files = refl
+
+-- no output, if the first of two readings finds a bad chunk
+bad_product : writes_kept Lowest (converted_output [] file None) [] (Some (BadChunk 1))
+    ≡ record { files = []; refusal = Some (BadChunk 1) }
+bad_product = refl
+
+bad_after : (files : FileMap) → files_after
+    (writes_kept Lowest (converted_output [] file None) [] (Some (BadChunk 1))) files ≡ files
+bad_after files = refl

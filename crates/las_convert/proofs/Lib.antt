@@ -10,6 +10,7 @@ mod Converts
 mod Readings
 mod Looks
 mod Wholes
+mod Making
 mod AllPlaces
 mod OneWay
 mod Existing

@@ -18,21 +18,12 @@ use Rattle.laz_forms.specs.Outputs.{records_after}
 use Rattle.laz_forms.specs.Ranges.{Range}
 use Rattle.laz_reader.specs.Reading.{ReaderSeen, StandsFor}
 use Rattle.laz_forms.specs.Records.{HoldOnly, IsBadPiece}
-use Rattle.laz_forms.proofs.Public.{known_both, known_then}
+use Rattle.laz_forms.proofs.Public.{known_both}
 use Rattle.laz_file.proofs.Public.{all_records_in, records_in_before, stands_ready}
 use Rattle.las_convert.specs.Adding.{Keeping}
 use Rattle.las_convert.specs.Converting.{AreLooked, ConvertsTwice, IsReady, OnlyConverts}
 use Rattle.las_convert.proofs.Converts.{OnlyTwice}
 use Rattle.las_convert.proofs.Readings.{OnlyBy, only_by}
-
--- a sieve of the first of a cell is ready at once
-pub first_ready : (held : Option FileMap) (name : List ℕ) (plan : Steps) (range : Range) (sieving : Sieving) (P : List ℕ → Type 0) → IsFirst sieving.settings.pick → sieve.StandsFor [] [] sieving → WhereKnown held name P → IsReady held name plan range sieving
-first_ready held name plan range sieving P first stands known = ([], stands, known_then held name P (λ file. AreLooked sieving.settings.pick plan file range []) (λ file p. by file sieving.settings.pick first) known)
-  where
-    by : (file : List ℕ) (pick : Pick) → IsFirst pick → AreLooked pick plan file range []
-    by file First f = tt
-    by file Lowest f = absurd f
-    by file Highest f = absurd f
 
 looked_by : (pick : Pick) (plan : Steps) (file : List ℕ) (range : Range) (looked : List Placed) (blocks : List (List ℕ)) → AreOnlyRecordsIn file range blocks None → looked ≡ passing plan (records_after (head_of file) (concat blocks)) → AreLooked pick plan file range looked
 looked_by First plan file range looked blocks only is = tt

@@ -11,7 +11,8 @@ use Rattle.las_thin.specs.declared.pick.Pick.{Pick}
 use Rattle.las_thin.specs.declared.pick.Pick.TheVariants.{First, Lowest, Highest}
 use Rattle.las_thin.specs.Placed.{Placed, placed, last_place}
 use Rattle.las_thin.specs.Kept.{numbered, passing, kept_behind, kept_of_placed, kept_where}
-use Rattle.las_thin.specs.Sieving.{Settings, Sieving, IsFirst, all_pass, dropped_to, judged_by, picks_first, sifted, stays, thinned_to}
+use Rattle.las_thin.specs.Sieving.{Settings, Sieving, IsFirst, all_pass, dropped_to, picks_first, sifted, stays}
+use Rattle.las_thin.specs.Sieving.{thinned_to}
 use Rattle.las_thin.specs.Sieving as sieve
 use Rattle.las_thin.proofs.Public.{by_bool, passing-push, first_keeps_one_by_one, keeps_as_the_plan, keeps_one_by_one, keeps_what_stays}
 use Rattle.las_convert.specs.Adding.{IsAfter, kept_by}
@@ -134,14 +135,3 @@ passing_more plan before point place keeps is =
     passing-push plan before point
     ∙ ap (λ (b : Bool). passing plan before ++ cond b (placed (length before) point ∷ []) []) keeps
     ∙ ap (λ (n : ℕ). passing plan before ++ placed n point ∷ []) is
-
-pub passes_not : (settings : Settings) (looked : List Placed) (plan : Steps) (before : List (List ℕ)) (point : List ℕ) → keeps_all plan.keeps point ≡ false → false ≡ passes_after settings looked plan before point
-passes_not settings looked plan before point drops =
-    let a = placed (length before) point in
-    sym (ap (λ (b : Bool). b && stays settings (judged_by settings looked (passing plan before) a) a) drops)
-
-pub passes_as : (settings : Settings) (looked : List Placed) (plan : Steps) (before : List (List ℕ)) (point : List ℕ) (place : ℕ) → keeps_all plan.keeps point ≡ true → length before ≡ place
-    → stays settings (judged_by settings looked (passing plan before) (placed place point)) (placed place point) ≡ passes_after settings looked plan before point
-passes_as settings looked plan before point place keeps is =
-    ap (λ (n : ℕ). stays settings (judged_by settings looked (passing plan before) (placed n point)) (placed n point)) (sym is)
-    ∙ ap (λ (b : Bool). b && stays settings (judged_by settings looked (passing plan before) (placed (length before) point)) (placed (length before) point)) (sym keeps)

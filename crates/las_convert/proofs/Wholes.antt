@@ -39,72 +39,129 @@ refused_kind known was now keeping reader out bytes cause r = by r.refused r.end
     by true e = inr (length r.ones, some_same cause (RawRange (length r.ones)) e)
     by false e = inl (reader.next + r.n, e.0)
 
-module _ (old mid new : Outside) (plan : Steps) (settings : Settings) (looked : List Placed) (first reader : ReaderSeen) (buffers : ℕ) (ready_is : reader ≡ record first { buffers = buffers }) (new_one : first.next ≡ first.first) (w : WriterSeen) (wide : w.size ≡ record_length_of reader.head.bytes) (out : Output) (s : Stands old mid w out []) (ne : first.name ≢ out.name) (stands : WhereKnown old.held first.name (StandsFor first)) (ready : WhereKnown old.held first.name (λ file. AreLooked settings.pick plan file first.range looked)) where
+-- The output was begun for a fresh reader, with a sieve that has these settings and is ready.
+pub record IsBegunFor (old mid : Outside) (plan : Steps) (settings : Settings) (looked : List Placed) (first reader : ReaderSeen) (w : WriterSeen) (output : List ℕ) (chunk : Option ℕ) (now : Settings) : Type 0 where
+  pub buffers : ℕ
+  pub ready : reader ≡ record first { buffers = buffers }
+  pub unread : first.next ≡ first.first
+  pub wide : w.size ≡ record_length_of reader.head.bytes
+  pub begun : Stands old mid w (output_of reader output chunk) []
+  pub apart : output ≢ first.name
+  pub stands : WhereKnown old.held first.name (StandsFor first)
+  pub are_looked : WhereKnown old.held first.name (λ file. AreLooked settings.pick plan file first.range looked)
+  pub same : now ≡ settings
+
+module _ {old mid : Outside} {plan : Steps} {settings : Settings} {looked : List Placed} {first reader : ReaderSeen} {w : WriterSeen} {output : List ℕ} {chunk : Option ℕ} {now : Settings} (new : Outside) (start : IsBegunFor old mid plan settings looked first reader w output chunk now) where
+  abbrev out : Output
+  out = output_of reader output chunk
+
+  ne : first.name ≢ output
+  ne same = start.apart (sym same)
+
   abbrev keeping : Keeping
   keeping = kept_by settings looked plan
 
   both : WhereKnown old.held first.name (λ file. StandsFor first file × AreLooked settings.pick plan file first.range looked)
-  both = known_both old.held first.name (StandsFor first) (λ file. AreLooked settings.pick plan file first.range looked) (λ file. StandsFor first file × AreLooked settings.pick plan file first.range looked) (λ file st r. (st, r)) stands ready
+  both = known_both old.held first.name (StandsFor first) (λ file. AreLooked settings.pick plan file first.range looked)
+      (λ file. StandsFor first file × AreLooked settings.pick plan file first.range looked) (λ file st r. (st, r))
+      start.stands start.are_looked
 
   text : List ℕ
-  text = (held_text old mid w out [] s).0
+  text = (held_text old mid w out [] start.begun).0
 
   written : mid.held ≡ with_file old.held out.name text
   unfolding text
-  written = ap (λ (o : Outside). o.held) (held_text old mid w out [] s).1
+  written = ap (λ (o : Outside). o.held) (held_text old mid w out [] start.begun).1
 
   -- what is known of the file stays known while the output is written
   pub known_here : (P : List ℕ → Type 0) → WhereKnown old.held first.name P → WhereKnown mid.held reader.name P
   known_here P k =
-      subst (λ (name : List ℕ). WhereKnown mid.held name P) (sym (ap (λ (r : ReaderSeen). r.name) ready_is))
+      subst (λ (name : List ℕ). WhereKnown mid.held name P) (sym (ap (λ (r : ReaderSeen). r.name) start.ready))
       (subst (λ (h : Option FileMap). WhereKnown h first.name P) (sym written) (known_after old.held out.name text first.name P ne k))
 
   same_head : reader.head ≡ first.head
-  same_head = ap (λ (r : ReaderSeen). r.head) ready_is
+  same_head = ap (λ (r : ReaderSeen). r.head) start.ready
 
   same_left : reader.left ≡ first.left
-  same_left = ap (λ (r : ReaderSeen). r.left) ready_is
+  same_left = ap (λ (r : ReaderSeen). r.left) start.ready
 
   some : 0 < record_length_of first.head.bytes
-  some = subst (λ (h : HeadView). 0 < record_length_of h.bytes) same_head (omega (arith, wide, s.size, record_least out.head s.head))
+  some = subst (λ (h : HeadView). 0 < record_length_of h.bytes) same_head
+      (omega (arith, start.wide, start.begun.size, record_least out.head start.begun.head))
 
   first_hold : (n : ℕ) (blocks : List (List ℕ)) → HoldFirst mid.held reader n blocks → HoldFirst old.held first n blocks
-  first_hold n blocks h = hold_ready mid.held old.held first reader buffers out.name text n blocks ready_is written ne h
+  first_hold n blocks h = hold_ready mid.held old.held first reader start.buffers out.name text n blocks start.ready
+      written ne h
 
   first_adds : (blocks ones : List (List ℕ)) (refused : Bool) → Adds keeping [] (cut_all (record_length_of reader.head.bytes) (concat blocks)) ones refused → Adds keeping [] (cut_all (record_length_of first.head.bytes) (concat blocks)) ones refused
   first_adds blocks ones refused adds = subst (λ (h : HeadView). Adds keeping [] (cut_all (record_length_of h.bytes) (concat blocks)) ones refused) same_head adds
 
   pub finishes : {taps seen : List TapSeen} → FinishesKept mid.held old.held new.held keeping reader out [] taps seen
-      → WhereKnown old.held first.name (λ file. (records : List ℕ) × OnlyConverts plan settings file first.range records None × (new.held ≡ with_file old.held out.name (finished out records)) × (seen ≡ map (λ tap. shown_all tap (records_after (head_of file) records)) taps))
+      → WhereKnown old.held first.name
+      (λ file. (records : List ℕ) × OnlyConverts plan settings file first.range records None
+      × (new.held ≡ with_file old.held output (finished out records))
+      × (seen ≡ map (λ tap. shown_all tap (records_after (head_of file) records)) taps))
   finishes {taps} {seen} f =
       let n = length reader.left in
       let h = first_hold n f.blocks f.hold in
       known_both old.held first.name (λ file. StandsFor first file × AreLooked settings.pick plan file first.range looked) (λ file. HoldOnly file (take n first.left) f.blocks)
-      (λ file. (records : List ℕ) × OnlyConverts plan settings file first.range records None × (new.held ≡ with_file old.held out.name (finished out records)) × (seen ≡ map (λ tap. shown_all tap (records_after (head_of file) records)) taps))
+      (λ file. (records : List ℕ) × OnlyConverts plan settings file first.range records None
+      × (new.held ≡ with_file old.held output (finished out records))
+      × (seen ≡ map (λ tap. shown_all tap (records_after (head_of file) records)) taps))
       (λ file st ho. (
         concat f.ones,
-        settled_all plan settings looked first file st.0 new_one some n f.blocks h.within h.whole ho st.1 f.ones (first_adds f.blocks f.ones false f.adds) (ap (λ (ps : List Piece). length ps) same_left),
+        settled_all plan settings looked first file st.0 start.unread some n f.blocks h.within h.whole ho st.1 f.ones
+            (first_adds f.blocks f.ones false f.adds) (ap (λ (ps : List Piece). length ps) same_left),
         f.now_is,
         f.shown ∙ ap (λ (v : HeadView). map (λ tap. shown_all tap (cut_all (record_length_of v.bytes) (concat f.ones))) taps) (same_head ∙ st.0.head),
       )) both h.hold
 
-  pub refuses : (cause : Refusal) → RefusesKept mid.held old.held new.held keeping reader out [] cause → WhereKnown old.held first.name (λ file. (records : List ℕ) × OnlyConverts plan settings file first.range records (Some cause) × (new.held ≡ with_file old.held out.name (stopped out records)))
+  pub refuses : (cause : Refusal) → RefusesKept mid.held old.held new.held keeping reader out [] cause
+      → WhereKnown old.held first.name
+      (λ file. (records : List ℕ) × OnlyConverts plan settings file first.range records (Some cause)
+      × (new.held ≡ with_file old.held output (stopped out records)))
   refuses cause r = by r.refused r.ends r.adds
     where
-      by : (b : Bool) → EndsKeeping mid.held reader r.n (length r.ones) b (Some cause) → Adds keeping [] (cut_all (record_length_of reader.head.bytes) (concat r.blocks)) r.ones b → WhereKnown old.held first.name (λ file. (records : List ℕ) × OnlyConverts plan settings file first.range records (Some cause) × (new.held ≡ with_file old.held out.name (stopped out records)))
+      by : (b : Bool) → EndsKeeping mid.held reader r.n (length r.ones) b (Some cause)
+          → Adds keeping [] (cut_all (record_length_of reader.head.bytes) (concat r.blocks)) r.ones b
+          → WhereKnown old.held first.name
+          (λ file. (records : List ℕ) × OnlyConverts plan settings file first.range records (Some cause)
+          × (new.held ≡ with_file old.held output (stopped out records)))
       by true e adds =
           let h = first_hold r.n r.blocks r.hold in
-          known_both old.held first.name (λ file. StandsFor first file × AreLooked settings.pick plan file first.range looked) (λ file. HoldOnly file (take r.n first.left) r.blocks) (λ file. (records : List ℕ) × OnlyConverts plan settings file first.range records (Some cause) × (new.held ≡ with_file old.held out.name (stopped out records)))
-          (λ file st ho. (concat r.ones, settled_raw plan settings looked first file st.0 new_one some r.n r.blocks h.within h.whole ho st.1 r.ones (first_adds r.blocks r.ones true adds) cause (some_same cause (RawRange (length r.ones)) e), r.now_is)) both h.hold
+          known_both old.held first.name (λ file. StandsFor first file
+          × AreLooked settings.pick plan file first.range looked)
+          (λ file. HoldOnly file (take r.n first.left) r.blocks)
+          (λ file. (records : List ℕ) × OnlyConverts plan settings file first.range records (Some cause)
+          × (new.held ≡ with_file old.held output (stopped out records)))
+          (λ file st ho. (
+            concat r.ones,
+            settled_raw plan settings looked first file st.0 start.unread some r.n r.blocks
+                h.within h.whole ho st.1 r.ones (first_adds r.blocks r.ones true adds) cause
+                (some_same cause (RawRange (length r.ones)) e),
+            r.now_is,
+          )) both h.hold
       by false e adds =
           let h = first_hold r.n r.blocks r.hold in
           let bad : WhereKnown old.held first.name (λ file. IsBadPiece file first.left r.n) =
           known_before old.held out.name text first.name (λ file. IsBadPiece file first.left r.n) ne
           (subst (λ (k : Option FileMap). WhereKnown k first.name (λ file. IsBadPiece file first.left r.n)) written
-          (subst (λ (x : ReaderSeen). WhereKnown mid.held x.name (λ file. IsBadPiece file x.left r.n)) ready_is e.2)) in
-          let number : reader.next + r.n ≡ first.first + r.n = omega (arith, ap (λ (x : ReaderSeen). x.next) ready_is, new_one) in
-          known_both old.held first.name (λ file. (StandsFor first file × AreLooked settings.pick plan file first.range looked) × HoldOnly file (take r.n first.left) r.blocks) (λ file. IsBadPiece file first.left r.n) (λ file. (records : List ℕ) × OnlyConverts plan settings file first.range records (Some cause) × (new.held ≡ with_file old.held out.name (stopped out records)))
-          (λ file a b. (concat r.ones, settled_bad plan settings looked first file a.0.0 new_one some r.n r.blocks h.within h.whole a.1 a.0.1 r.ones (first_adds r.blocks r.ones false adds) cause (e.0 ∙ ap BadChunk number) b, r.now_is))
+          (subst (λ (x : ReaderSeen). WhereKnown mid.held x.name (λ file. IsBadPiece file x.left r.n)) start.ready e.2))
+          in
+          let number : reader.next + r.n ≡ first.first + r.n = omega
+          (arith, ap (λ (x : ReaderSeen). x.next) start.ready, start.unread) in
+          known_both old.held first.name (λ file.
+          (StandsFor first file × AreLooked settings.pick plan file first.range looked)
+          × HoldOnly file (take r.n first.left) r.blocks) (λ file. IsBadPiece file first.left r.n)
+          (λ file. (records : List ℕ) × OnlyConverts plan settings file first.range records (Some cause)
+          × (new.held ≡ with_file old.held output (stopped out records)))
+          (λ file a b. (
+            concat r.ones,
+            settled_bad plan settings looked first file a.0.0 start.unread some r.n r.blocks
+                h.within h.whole a.1 a.0.1 r.ones (first_adds r.blocks r.ones false adds) cause (e.0 ∙ ap BadChunk number)
+                b,
+            r.now_is,
+          ))
           (known_both old.held first.name (λ file. StandsFor first file × AreLooked settings.pick plan file first.range looked) (λ file. HoldOnly file (take r.n first.left) r.blocks) (λ file. (StandsFor first file × AreLooked settings.pick plan file first.range looked) × HoldOnly file (take r.n first.left) r.blocks) (λ file st ho. (st, ho)) both h.hold) bad
 
   -- a bad chunk comes in the only reading
@@ -118,9 +175,11 @@ module _ (old mid new : Outside) (plan : Steps) (settings : Settings) (looked : 
           let bad : WhereKnown old.held first.name (λ file. IsBadPiece file first.left r.n) =
           known_before old.held out.name text first.name (λ file. IsBadPiece file first.left r.n) ne
           (subst (λ (k : Option FileMap). WhereKnown k first.name (λ file. IsBadPiece file first.left r.n)) written
-          (subst (λ (x : ReaderSeen). WhereKnown mid.held x.name (λ file. IsBadPiece file x.left r.n)) ready_is e.2)) in
+          (subst (λ (x : ReaderSeen). WhereKnown mid.held x.name (λ file. IsBadPiece file x.left r.n)) start.ready e.2))
+          in
           known_both old.held first.name (λ file. (StandsFor first file × AreLooked settings.pick plan file first.range looked) × HoldOnly file (take r.n first.left) r.blocks) (λ file. IsBadPiece file first.left r.n) (λ file. IsFirst settings.pick)
-          (λ file a b. bad_once plan settings looked first file a.0.0 new_one some r.n r.blocks h.within h.whole a.1 a.0.1 b)
+          (λ file a b. bad_once plan settings looked first file a.0.0 start.unread some r.n r.blocks h.within h.whole
+          a.1 a.0.1 b)
           (known_both old.held first.name (λ file. StandsFor first file × AreLooked settings.pick plan file first.range looked) (λ file. HoldOnly file (take r.n first.left) r.blocks) (λ file. (StandsFor first file × AreLooked settings.pick plan file first.range looked) × HoldOnly file (take r.n first.left) r.blocks) (λ file st ho. (st, ho)) both h.hold) bad
 
   pub leaves : LeavesConverting mid.held old.held new.held keeping reader out [] → WhereKnown old.held first.name (λ file. (records : List ℕ) (refusal : Option Refusal) → ConvertsTo plan settings file first.range records refusal → LeavesUnfinished out records old.held new.held)
@@ -128,4 +187,7 @@ module _ (old mid new : Outside) (plan : Steps) (settings : Settings) (looked : 
       let h = first_hold l.n l.blocks l.hold in
       let split = subst (λ (v : HeadView). cut_all (record_length_of v.bytes) (concat l.blocks) ≡ l.first ++ l.rest) same_head l.split in
       known_both old.held first.name (λ file. StandsFor first file × AreLooked settings.pick plan file first.range looked) (λ file. HoldOnly file (take l.n first.left) l.blocks) (λ file. (records : List ℕ) (refusal : Option Refusal) → ConvertsTo plan settings file first.range records refusal → LeavesUnfinished out records old.held new.held)
-      (λ file st ho. settled_left plan settings looked first file st.0 new_one some l.n l.blocks h.within h.whole ho st.1 l.first l.rest l.ones l.refused split l.adds out old.held new.held (λ more none. l.left more (λ all empty. none (all ∙ ap (λ (ps : List Piece). length ps) same_left) empty))) both h.hold
+      (λ file st ho. settled_left plan settings looked first file st.0 start.unread some l.n l.blocks h.within h.whole
+      ho st.1 l.first l.rest l.ones l.refused split l.adds out old.held new.held
+      (λ more none. l.left more (λ all empty. none (all ∙ ap (λ (ps : List Piece). length ps) same_left) empty)))
+      both h.hold

@@ -1,7 +1,7 @@
 -- What converting a range of a file's records gives: those that stay of it when it is filtered and thinned, changed,
 -- under the plain head with counts of their own.
-use Rattle.std.specs.Prelude.{◌≡◌, ℕ, Bool, true, false, List, [], ◌++◌, length, map, take, Option, Some}
-use Rattle.std.specs.Prelude.{None}
+use Rattle.std.specs.Prelude.{◌≡◌, ℕ, Bool, true, false, if◌then◌else◌, List, [], ◌∷◌, ◌++◌, length, map, take}
+use Rattle.std.specs.Prelude.{Option, Some, None, Err}
 use Rattle.std.specs.List.{concat}
 use Rattle.las_header.specs.declared.refusal.Refusal.{Refusal}
 use Rattle.las_header.specs.declared.refusal.Refusal.TheVariants.{BadChunk, RawRange}
@@ -21,6 +21,7 @@ use Rattle.las_thin.specs.Sieving as sieve
 use Rattle.laz_forms.specs.declared.fault.Fault.{Fault}
 use Rattle.laz_forms.specs.declared.fault.Fault.TheVariants.{Refused, Read, Write, Memory}
 use Rattle.laz_file.specs.Copying.{AreOnlyRecordsIn, HoldFirst, LeavesUnfinished}
+use Rattle.laz_file.specs.Endings.{EndsMaking, Product, output_file}
 use Rattle.laz_forms.specs.Outputs.{Output, finished, records_after, stopped}
 use Rattle.laz_forms.specs.Pieces.{ArePieces, Piece}
 use Rattle.laz_reader.specs.Reading.{ReaderSeen}
@@ -112,7 +113,7 @@ IsReady held name plan range sieving =
     (looked : List Placed) × sieve.StandsFor looked [] sieving
     × WhereKnown held name (λ file. AreLooked sieving.settings.pick plan file range looked)
 
--- ---- what stands after a conversion
+-- ---- what a conversion makes
 
 -- what a conversion is asked for: a plan, how records are thinned, and a range
 pub record Wanted : Type 0 where
@@ -130,26 +131,27 @@ Gives wanted file records refusal = ConvertsTo wanted.plan wanted.settings file 
 abbrev pub GivesOnly : Wanted → (file : List ℕ) → (records : List ℕ) → Option Refusal → Type 0
 GivesOnly wanted file records refusal = OnlyConverts wanted.plan wanted.settings file wanted.range records refusal
 
--- The output has all records that it gives, and was finished.
-abbrev pub IsConverted : Wanted → (name : List ℕ) → (chunk : Option ℕ) → (file : List ℕ) → (was now : Option FileMap)
-    → Type 0
-IsConverted wanted name chunk file was now =
-    (records : List ℕ) × GivesOnly wanted file records None
-    × (now ≡ with_file was name (finished (converted_output name file chunk) records))
+-- One list of records is given of the file, up to this refusal, if there is one, and no other is.
+abbrev pub GivesOne : Wanted → Option Refusal → (file : List ℕ) → Type 0
+GivesOne wanted refusal file = (records : List ℕ) × GivesOnly wanted file records refusal
 
--- The output has the records before a refusal for this cause, and was stopped.
-abbrev pub IsStopped : Wanted → (name : List ℕ) → (chunk : Option ℕ) → Refusal → (file : List ℕ)
-    → (was now : Option FileMap) → Type 0
-IsStopped wanted name chunk cause file was now =
-    (records : List ℕ) × GivesOnly wanted file records (Some cause)
-    × (now ≡ with_file was name (stopped (converted_output name file chunk) records))
+-- what is written of the records that are kept: one output of them, if there is one
+abbrev pub writes_kept : Pick → Output → (records : List ℕ) → Option Refusal → Product
+writes_kept pick out records refusal = record {
+  files = if has_output pick refusal then output_file out records ∷ [] else [];
+  refusal = refusal;
+}
 
--- The output is unfinished, or not there, whatever is given of the file.
-abbrev pub IsLeftOf : Wanted → (name : List ℕ) → (chunk : Option ℕ) → (file : List ℕ) → (was now : Option FileMap)
-    → Type 0
-IsLeftOf wanted name chunk file was now =
-    (records : List ℕ) (refusal : Option Refusal) → Gives wanted file records refusal
-    → LeavesUnfinished (converted_output name file chunk) records was now
+-- Converting a file writes the records that it gives, up to the refusal that ends them, if there is one.
+abbrev pub Converts : Wanted → (output : List ℕ) → (chunk : Option ℕ) → (file : List ℕ) → Product → Type 0
+Converts wanted output chunk file product =
+    (records : List ℕ) × (refusal : Option Refusal) × Gives wanted file records refusal
+    × (product ≡ writes_kept wanted.settings.pick (converted_output output file chunk) records refusal)
+
+-- A first reading of two stops: converting the file then ends so, whatever its output.
+abbrev pub StopsLooking : Wanted → (name : List ℕ) → (old now : Outside) → Fault → Type 0
+StopsLooking wanted name old now fault = (output : List ℕ) (chunk : Option ℕ)
+    → EndsMaking {T = Unit {0}} (Converts wanted output chunk) name old now (Err fault)
 
 -- ---- how converting goes
 

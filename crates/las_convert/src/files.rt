@@ -1,6 +1,6 @@
 //! Ranges of records, or whole files, that are filtered, thinned and changed.
 ghost use Rattle.std.specs.Prelude.{◌≡◌, ◌≢◌, ◌⊎◌, ◌^◌, ◌≤◌, [], ℕ, List, All, IfErr, IfOk, IsErrOf, None, OnErr};
-ghost use Rattle.std.specs.Prelude.{OnOk, false, map};
+ghost use Rattle.std.specs.Prelude.{OnOk, Some, false, map};
 ghost use Rattle.std.specs.Option.{ForSome};
 ghost use Rattle.las_header.specs.declared.refusal.Refusal.{Refusal};
 ghost use Rattle.las_header.specs.declared.refusal.Refusal.TheVariants.{BadChunk, RawRange};
@@ -9,21 +9,21 @@ ghost use Rattle.las_filter.specs.Changes.{HasClass};
 ghost use Rattle.las_filter.specs.Kept.{steps_of};
 ghost use Rattle.las_info.specs.Tallies.{count_at, shown_all};
 ghost use Rattle.las_thin.specs.Sieving.{IsFirst};
-ghost use Rattle.las_outside.specs.Faults.{Rose};
 ghost use Rattle.las_outside.specs.Files.{WhereKnown};
 ghost use Rattle.las_outside.specs.Frames.{IsCalm, OnlyWrites};
 ghost use Rattle.las_outside.specs.Limits.{AreWorkers, IsChunkSize};
 ghost use Rattle.las_outside.specs.Outside.{Outside};
-ghost use Rattle.laz_forms.specs.declared.fault.Fault.TheVariants.{Read, Refused, Write};
+ghost use Rattle.laz_forms.specs.declared.fault.Fault.TheVariants.{Refused};
 ghost use Rattle.laz_file.specs.Copying.{CanTake, LeavesUnfinished};
+ghost use Rattle.laz_file.specs.Endings.{EndsMaking};
 ghost use Rattle.laz_forms.specs.FileFaults.{HasCause};
 ghost use Rattle.laz_reader.specs.Asking.{ReadsAndWrites, bytes_left};
 ghost use Rattle.laz_forms.specs.Outputs.{Output, records_after};
-ghost use Rattle.laz_reader.specs.Reading.{AgreesWithHead, IsCrewOf, IsFreshReader, StandsFor};
+ghost use Rattle.laz_reader.specs.Reading.{AgreesWithHead, IsCrewOf, IsFreshReader, OfFile, StandsFor};
 ghost use Rattle.laz_writer.specs.Writing.{IsBegun, Stands};
 ghost use Rattle.las_convert.specs.Adding.{AfterNone, BeforeAll, HaveCounted};
-ghost use Rattle.las_convert.specs.Converting.{EndsConverting, FinishesKept, Gives, IsConverted, IsLeftOf, IsReady};
-ghost use Rattle.las_convert.specs.Converting.{IsStopped, output_of, wanted_of};
+ghost use Rattle.las_convert.specs.Converting.{Converts, EndsConverting, FinishesKept, GivesOne, GivesOnly, IsReady};
+ghost use Rattle.las_convert.specs.Converting.{output_of, wanted_of};
 
 use crate::copying::convert_records;
 use crate::passage::Passage;
@@ -149,33 +149,27 @@ pub fn convert<R: Threads + Sync, F: Files, G: Gate>(
     requires classes { All HasClass plan.now.changes.items }
     requires workers { AreWorkers machine.workers }
     requires names { output.now ≢ reader.name }
-    requires stands { WhereKnown (F.seen files.old).held reader.name (StandsFor reader) }
+    requires stands { OfFile reader (F.seen files.old) (StandsFor reader) }
     requires whole { AgreesWithHead reader }
     requires unread { passage.old.read ≡ 0 }
     requires ready { IsReady (F.seen files.old).held reader.name (steps_of plan.now) reader.range passage.old.sieve }
     requires counted { All (λ tap. (bin : ℕ) → count_at (tap_seen tap).tally bin ≤ 2 ^ 63) passage.old.taps.items }
 
-    ensures converted { let wanted = wanted_of (steps_of plan.now) passage.old.sieve.settings reader.range in
-        OnOk result (WhereKnown (F.seen files.old).held reader.name (λ file.
-        IsConverted wanted output.now chunk file (F.seen files.old).held (F.seen files.new).held)) }
+    ensures ends { let wanted = wanted_of (steps_of plan.now) passage.old.sieve.settings reader.range in
+        EndsMaking (Converts wanted output.now chunk) reader.name (F.seen files.old) (F.seen files.new) result }
+    // The file gives one list of records alone, which each tap has seen.
     ensures tallied { let wanted = wanted_of (steps_of plan.now) passage.old.sieve.settings reader.range in
-        OnOk result (WhereKnown (F.seen files.old).held reader.name (λ file. (records : List ℕ)
-        → Gives wanted file records None → map (λ tap. tap_seen tap) passage.new.taps.items
-        ≡ map (λ tap. shown_all (tap_seen tap) (records_after (head_of file) records)) passage.old.taps.items)) }
-    ensures refused { let wanted = wanted_of (steps_of plan.now) passage.old.sieve.settings reader.range in
+        OnOk result (OfFile reader (F.seen files.old) (λ file. (records : List ℕ)
+        × GivesOnly wanted file records None × (map (λ tap. tap_seen tap) passage.new.taps.items
+        ≡ map (λ tap. shown_all (tap_seen tap) (records_after (head_of file) records)) passage.old.taps.items))) }
+    // So does a file that is refused, up to its refusal.
+    ensures given { let wanted = wanted_of (steps_of plan.now) passage.old.sieve.settings reader.range in
         (cause : Refusal) → IsErrOf result (Refused cause)
-        → WhereKnown (F.seen files.old).held reader.name (λ file.
-        IsStopped wanted output.now chunk cause file (F.seen files.old).held (F.seen files.new).held) }
+        → OfFile reader (F.seen files.old) (GivesOne wanted (Some cause)) }
     ensures bad { (cause : Refusal) → IsErrOf result (Refused cause)
         → ((i : ℕ) × (cause ≡ BadChunk i)) ⊎ ((k : ℕ) × (cause ≡ RawRange k)) }
     ensures looked { (i : ℕ) → IsErrOf result (Refused (BadChunk i))
-        → WhereKnown (F.seen files.old).held reader.name (λ file. IsFirst passage.old.sieve.settings.pick) }
-    ensures left { let wanted = wanted_of (steps_of plan.now) passage.old.sieve.settings reader.range in
-        OnErr result (WhereKnown (F.seen files.old).held reader.name (λ file.
-        IsLeftOf wanted output.now chunk file (F.seen files.old).held (F.seen files.new).held)) }
-    ensures read { IsErrOf result Read → Rose (F.seen files.old).read_faults (F.seen files.new).read_faults }
-    ensures write { IsErrOf result Write → Rose (F.seen files.old).write_faults (F.seen files.new).write_faults }
-    ensures calm { OnOk result (IsCalm (F.seen files.old) (F.seen files.new)) }
+        → OfFile reader (F.seen files.old) (λ file. IsFirst passage.old.sieve.settings.pick) }
     // No more is asked for than the reader has left, however the call ends.
     ensures frame { ReadsAndWrites (bytes_left reader) (F.seen files.old) (F.seen files.new) }
 {

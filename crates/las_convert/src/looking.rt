@@ -5,21 +5,20 @@ ghost use Rattle.std.specs.List.{concat};
 ghost use Rattle.las_header.specs.declared.refusal.Refusal.{Refusal};
 ghost use Rattle.las_header.specs.declared.refusal.Refusal.TheVariants.{BadChunk};
 ghost use Rattle.las_filter.specs.Kept.{steps_of};
-ghost use Rattle.las_outside.specs.Faults.{Rose};
 ghost use Rattle.las_outside.specs.Files.{WhereKnown};
 ghost use Rattle.las_outside.specs.Frames.{IsCalm, Reads};
 ghost use Rattle.las_outside.specs.Limits.{AreWorkers};
 ghost use Rattle.las_thin.specs.Kept.{passing};
 ghost use Rattle.las_thin.specs.Sieving.{IsFirst};
 ghost use Rattle.las_thin.specs.Sieving as sifting;
-ghost use Rattle.laz_forms.specs.declared.fault.Fault.TheVariants.{Read, Refused, Write};
+ghost use Rattle.laz_forms.specs.declared.fault.Fault.TheVariants.{Refused, Write};
 ghost use Rattle.laz_reader.specs.Asking.{bytes_left};
 ghost use Rattle.laz_file.specs.Copying.{EndsAfter, HoldFirst};
 ghost use Rattle.laz_forms.specs.Outputs.{records_after};
-ghost use Rattle.laz_reader.specs.Reading.{AgreesWithHead, EndsReading, IsCrewOf, IsFreshReader, StandsFor};
-ghost use Rattle.laz_reader.specs.Reading.{records_in};
+ghost use Rattle.laz_reader.specs.Reading.{AgreesWithHead, EndsReading, IsCrewOf, IsFreshReader, OfFile};
+ghost use Rattle.laz_reader.specs.Reading.{StandsFor, records_in};
 ghost use Rattle.las_convert.specs.Adding.{cut_all};
-ghost use Rattle.las_convert.specs.Converting.{IsReady, OnlyConverts};
+ghost use Rattle.las_convert.specs.Converting.{IsReady, StopsLooking, wanted_of};
 
 use las_filter::Plan;
 use las_header::POINT_RECORD;
@@ -140,16 +139,14 @@ pub fn look_through<R: Threads + Sync, F: Files, G: Gate>(
     requires workers { AreWorkers machine.workers }
     requires pick { ¬ IsFirst sieve.old.settings.pick }
     requires unlooked { sifting.StandsFor [] [] sieve.old }
-    requires stands { WhereKnown (F.seen files.old).held reader.name (StandsFor reader) }
+    requires stands { OfFile reader (F.seen files.old) (StandsFor reader) }
 
     ensures ready { OnOk result
         (IsReady (F.seen files.old).held reader.name (steps_of plan.now) reader.range sieve.new) }
-    ensures refused { (cause : Refusal) → IsErrOf result (Refused cause)
-        → WhereKnown (F.seen files.old).held reader.name (λ file.
-        OnlyConverts (steps_of plan.now) sieve.old.settings file reader.range [] (Some cause)) }
+    ensures stops { let wanted = wanted_of (steps_of plan.now) sieve.old.settings reader.range in
+        IfErr result (StopsLooking wanted reader.name (F.seen files.old) (F.seen files.new)) }
     ensures bad { (cause : Refusal) → IsErrOf result (Refused cause) → (i : ℕ) × (cause ≡ BadChunk i) }
     ensures settings { sieve.new.settings ≡ sieve.old.settings }
-    ensures read { IsErrOf result Read → Rose (F.seen files.old).read_faults (F.seen files.new).read_faults }
     ensures never { IsErrOf result Write → ⊥ }
     // No more is asked for than the reader has left, however the call ends.
     ensures reads { Reads (bytes_left reader) (F.seen files.old) (F.seen files.new) }

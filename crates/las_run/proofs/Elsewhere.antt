@@ -23,7 +23,7 @@ use Rattle.las_run.specs.EndingLaws.{SomeEndingIsDefined}
 use Rattle.las_run.specs.Endings.{Ending, IsLeft}
 use Rattle.las_run.specs.Runs.{Accepts, Does, IsWritten, IsWrittenBy, Makes, Opens, RunOf, RunsAs, Task}
 use Rattle.las_run.specs.Seen.{IsAsBefore, IsDue, Leaves, RunSeen}
-use Rattle.las_run.specs.Tools.{MergesIf, ZipsIf, chunk_if, reports}
+use Rattle.las_run.specs.Tools.{MergesIf, ZipsIf, chunk_if}
 
 -- ---- the names of outputs
 -- P holds of the name of each output
@@ -55,10 +55,6 @@ if_named : (P : List ℕ → Type 0) (b : Bool) (o : OutputFile) → P o.name �
 if_named P true o p = (p, tt)
 if_named P false o p = tt
 
-report_named : (P : List ℕ → Type 0) (input report : List ℕ) (bad : Option ℕ) → AreNamed P (reports input report bad).outputs
-report_named P input report None = tt
-report_named P input report (Some i) = tt
-
 -- an ending that is another one
 as_named : (P : List ℕ → Type 0) (one other : Ending) → one ≡ other → AreNamed P other.outputs → AreNamed P one.outputs
 as_named P one other is named = subst (λ (e : Ending). AreNamed P e.outputs) (sym is) named
@@ -77,7 +73,7 @@ makes_named taps input (las2las options) file ending makes =
     as_named P ending _ makes.3 (if_named P (has_output options.sieve.pick makes.1) out refl)
 makes_named taps input (lasinfo options) file ending makes =
     let P = IsWrittenBy (reads input (lasinfo options)) in
-    as_named P ending _ makes.5 (report_named P input _ makes.1)
+    as_named P ending _ makes.5 tt
 makes_named taps input (lassplit options) file ending makes =
     let P = IsWrittenBy (reads input (lassplit options)) in
     let parts = makes.1 in

@@ -14,7 +14,9 @@ use Rattle.las_run.specs.declared.stop.Stop.{Stop}
 use Rattle.las_run.specs.declared.stop.Stop.TheVariants as stop
 use Rattle.las_run.specs.Endings.{Cause, Done, Unread, Refused, Ending, ends_at_once, files_of}
 use Rattle.las_run.specs.Runs.{Accepts, Opens, OpensIn, RunOf, Task, files_read_by, inputs_of}
-use Rattle.las_run.specs.Ends.{Change, ComesTo, quiet, Ends, EndsAs, EndsMaking, FailsMaking, FailsToWrite, HasOutput, IsLeftBy, IsOnlyEnding, IsTheEnding, LeavesOf, MakesAs, MakesOne, MakesOutput, StopsOpening, cause_of}
+use Rattle.las_run.specs.Ends.{Change, ComesTo, quiet, Ends, EndsAs, EndsCommand, FailsMaking, FailsToWrite, HasOutput}
+use Rattle.las_run.specs.Ends.{IsLeftBy, IsOnlyEnding, IsTheEnding, LeavesEnding, MakesEnding, MakesOne}
+use Rattle.las_run.specs.Ends.{EndingsHaveOutput, StopsOpening, cause_of}
 use Rattle.las_run.proofs.Endings.{left_before}
 
 -- ---- what is known of an input
@@ -61,7 +63,9 @@ module _ (Makes : List ℕ → Ending → Type 0) (input : List ℕ) (new : Outs
   after files = record { files = files; files_now = new; out = out; out_now = out_now }
 
   -- how many bytes were asked for does not matter
-  asked_before : (old : Outside) (asked : ℕ) (outcome : Result (Unit {0}) Stop) → EndsMaking Makes input (after old) outcome → EndsMaking Makes input (after (record old { asked = asked })) outcome
+  asked_before : (old : Outside) (asked : ℕ) (outcome : Result (Unit {0}) Stop)
+      → EndsCommand Makes input (after old) outcome
+      → EndsCommand Makes input (after (record old { asked = asked })) outcome
   asked_before old asked (Ok done) ends = ends
   asked_before old asked (Err stop.Memory) ends = ends
   asked_before old asked (Err (stop.Usage index)) ends = ends
@@ -72,10 +76,12 @@ module _ (Makes : List ℕ → Ending → Type 0) (input : List ℕ) (new : Outs
   asked_before old asked (Err (stop.TooMany surplus)) ends = ends
 
   pub making_after : (old mid : Outside) → mid.held ≡ old.held → mid.read_faults ≡ old.read_faults → mid.write_faults ≡ old.write_faults
-      → (outcome : Result (Unit {0}) Stop) → EndsMaking Makes input (after mid) outcome → EndsMaking Makes input (after old) outcome
+      → (outcome : Result (Unit {0}) Stop) → EndsCommand Makes input (after mid) outcome
+      → EndsCommand Makes input (after old) outcome
   making_after old mid same reads writes outcome ends =
       let seen : Option FileMap → ℕ → ℕ → Type 0 = λ held read_faults write_faults.
-      EndsMaking Makes input (after (record { held = held; read_faults = read_faults; write_faults = write_faults; asked = old.asked })) outcome in
+      EndsCommand Makes input (after (record
+      { held = held; read_faults = read_faults; write_faults = write_faults; asked = old.asked })) outcome in
       subst (λ (h : Option FileMap). seen h old.read_faults old.write_faults) same
       (subst (λ (r : ℕ). seen mid.held r old.write_faults) reads
       (subst (λ (w : ℕ). seen mid.held mid.read_faults w) writes
@@ -185,17 +191,17 @@ module _ (task : Task) (name : List ℕ) (Makes : List ℕ → Ending → Type 0
         let e = h.3 in
         (e.0, accepted_ending files h.0 e.0 h.1 h.2 e.1, e.2, e.3 files known)
 
-    made_ends : (cause : Cause) → MakesAs Makes name change cause → EndsAs task change cause
+    made_ends : (cause : Cause) → MakesEnding Makes name change cause → EndsAs task change cause
     made_ends cause makes files known =
         let h = one_made (λ ending. (ending.cause ≡ cause) × (change.out_now ≡ with_more change.out ending.text)) makes files known in
         (h.0, h.1, h.2.0, h.3, h.2.1)
 
-    left_of : LeavesOf Makes name change → IsLeftBy task change
+    left_of : LeavesEnding Makes name change → IsLeftBy task change
     left_of leaves files ending known run =
         let h = known_of _ leaves files known in
         h.3 files ending known (accepted_makes h.0 ending h.2 (opened files (Some h.0) ending h.1 run))
 
-    outputs : MakesOutput Makes name change → HasOutput task change
+    outputs : EndingsHaveOutput Makes name change → HasOutput task change
     outputs some files ending known run =
         let h = known_of _ some files known in
         h.3 ending (accepted_makes h.0 ending h.2 (opened files (Some h.0) ending h.1 run))
@@ -209,7 +215,8 @@ module _ (task : Task) (name : List ℕ) (Makes : List ℕ → Ending → Type 0
           (h.0, h.1, h.2.0, h.2.1, h.3, h.2.2);
     })
 
-    pub ends_making : (outcome : Result (Unit {0}) Stop) → EndsMaking Makes name change outcome → Ends task change (cause_of (name ∷ []) outcome)
+    pub ends_making : (outcome : Result (Unit {0}) Stop) → EndsCommand Makes name change outcome
+        → Ends task change (cause_of (name ∷ []) outcome)
     ends_making (Ok done) ends = (made_ends Done ends.0, left_of ends.1)
     ends_making (Err stop.Memory) ends = (left_of ends.0, ends.1)
     ends_making (Err (stop.Usage index)) ends = absurd ends

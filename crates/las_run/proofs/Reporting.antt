@@ -1,13 +1,13 @@
 -- Taps that are chosen by their names, and what is reported of a file.
-use Rattle.std.proofs.Common.{◌≡◌, ◌≢◌, inr, ℕ, Bool, true, false, ◌||◌, cond, if◌then◌else◌, List, [], ◌∷◌, ◌++◌, length, take, map, get_or, Option, Some, None, find, refl, sym, ◌∙◌, ap, subst, arith}
-use Rattle.std.specs.Prelude.{All, Result, Ok, Err, IsErrOf, OnOk, IsSome}
+use Rattle.std.proofs.Common.{◌≡◌, ◌≢◌, ℕ, Bool, true, false, ◌||◌, cond, if◌then◌else◌, List, [], ◌∷◌, ◌++◌, length}
+use Rattle.std.proofs.Common.{take, map, get_or, Option, Some, None, find, refl, sym, ◌∙◌, ap, subst, arith}
+use Rattle.std.specs.Prelude.{All, Result, IsErrOf, OnOk, IsSome}
 use Rattle.std.specs.List.{AllPairs, AllZip, concat, cons_option, flat_map, list_any}
 use Rattle.std.specs.Option.{option_map}
 use Rattle.std.specs.Str.{bytes_eq}
 use Rattle.std.proofs.lemmas.List.{get_or-map, length-map}
 use Rattle.std.proofs.lemmas.List.Elements.{All-cons, All-head, All-nil, All-tail}
 use Rattle.std.proofs.lemmas.Slice.Eq.{bytes_eq-Decides}
-use Rattle.las_header.specs.declared.refusal.Refusal.{Refusal}
 use Rattle.las_header.specs.declared.refusal.Refusal.TheVariants.{BadChunk}
 use Rattle.las_header.specs.Fields.{head_of, is_packed}
 use Rattle.las_info.specs.declared.reporting.ReportFault.{ReportFault}
@@ -17,24 +17,21 @@ use Rattle.las_info.specs.Summaries.{SummarySeen, summary_of}
 use Rattle.las_info.specs.Surveys.{IsShown, SurveySeen}
 use Rattle.las_info.specs.Tallies.{TapSeen, shown_all}
 use Rattle.las_info.proofs.Public.{all_seen}
-use Rattle.las_outside.specs.Faults.{Rose}
-use Rattle.las_outside.specs.Files.{FileMap, WhereKnown}
-use Rattle.las_outside.specs.Sinks.{SinkView, with_fault, with_more}
-use Rattle.las_outside.proofs.Public.{with_more-none}
+use Rattle.las_outside.specs.Files.{WhereKnown}
+use Rattle.las_outside.specs.Sinks.{with_fault, with_more}
 use Rattle.laz_file.specs.Copying.{AreOnlyRecords}
 use Rattle.laz_forms.specs.Outputs.{records_after}
 use Rattle.laz_forms.specs.Pieces.{ArePieces, Piece}
 use Rattle.laz_reader.specs.Reading.{ReaderSeen, StandsFor, chunks_in}
-use Rattle.laz_forms.proofs.Public.{one_pieces}
-use Rattle.laz_forms.specs.declared.fault.Fault.{Fault}
-use Rattle.laz_forms.specs.declared.fault.Fault.TheVariants as file
+use Rattle.laz_forms.proofs.Public.{known_both, one_pieces}
 use Rattle.laz_table.specs.VlrCauses.{chunk_size_of}
-use Rattle.laz_file.specs.Endings.{OutputFile, at_end, with_all}
-use Rattle.las_run.specs.Endings.{is_done, ComesAtOpening, Done, Refused, Ending, files_of}
-use Rattle.las_run.specs.Ends.{Change, EndsMaking, IsOnlyEnding, LeavesOf, MakesOne, stop_by, stopped_report}
-use Rattle.las_run.specs.Tools.{Reports, chosen_taps, chunks_line, report_of, reports, tallies_text}
-use Rattle.las_run.proofs.Endings.{nothing_left}
-use Rattle.las_run.proofs.Opening.{both_known, known_more}
+use Rattle.laz_file.specs.Endings.{LeavesOf, Product}
+use Rattle.las_survey.specs.Surveying.{Surveys, surveyed}
+use Rattle.las_run.specs.Endings.{Ending}
+use Rattle.las_run.specs.Ends.{Change, EndsCommand, IsOnlyEnding, stopped_report}
+use Rattle.las_run.specs.Tools.{Reports, chosen_taps, chunks_line, ending_of, ending_with, report_if, report_of}
+use Rattle.las_run.specs.Tools.{reports, tallies_text}
+use Rattle.las_run.proofs.Making.{HasText, IsToldBy, ends_put, leaves}
 
 -- ---- names
 swapped : (a b : List ℕ) → bytes_eq a b ≡ false → bytes_eq b a ≡ false
@@ -135,20 +132,48 @@ chunks_are false size pieces chunk own is are = ap (option_map {U = ℕ × ℕ} 
 
 -- ---- the ending of a report
 module _ (taps : List TapSeen) (input : List ℕ) (tallies : List (List ℕ)) (file : List ℕ) where
-  abbrev ending_of : List (List ℕ) → Option ℕ → List Piece → Ending
-  ending_of blocks bad pieces = reports input (report_of (chosen_taps taps tallies) file pieces (records_after (head_of file) (concat blocks))) bad
+  abbrev report_ending : List (List ℕ) → Option ℕ → List Piece → Ending
+  report_ending blocks bad pieces = reports input
+      (report_of (chosen_taps taps tallies) file pieces (records_after (head_of file) (concat blocks))) bad
 
   pub only_report : (blocks : List (List ℕ)) (bad : Option ℕ) (pieces : List Piece) → AreOnlyRecords file blocks bad → ArePieces file pieces
-      → IsOnlyEnding (Reports taps input tallies file) (ending_of blocks bad pieces)
+      → IsOnlyEnding (Reports taps input tallies file) (report_ending blocks bad pieces)
   only_report blocks bad pieces are listed = record {
     makes = (blocks, bad, pieces, are.are, listed, refl);
     only = λ other makes.
         let same = are.only makes.0 makes.1 makes.3 in
         makes.5
-        ∙ ap (λ (bs : List (List ℕ)). ending_of bs makes.1 makes.2) same.0
-        ∙ ap (λ (worse : Option ℕ). ending_of blocks worse makes.2) same.1
-        ∙ ap (ending_of blocks bad) (one_pieces file makes.2 pieces makes.4 listed);
+        ∙ ap (λ (bs : List (List ℕ)). report_ending bs makes.1 makes.2) same.0
+        ∙ ap (λ (worse : Option ℕ). report_ending blocks worse makes.2) same.1
+        ∙ ap (report_ending blocks bad) (one_pieces file makes.2 pieces makes.4 listed);
   }
+
+-- no report is put after a refusal
+no_report : (report : List ℕ) (bad : Option ℕ) → IsSome (option_map BadChunk bad) → report_if report bad ≡ []
+no_report report None some = absurd (cc)
+no_report report (Some i) some = refl
+
+pub told : (taps : List TapSeen) (input : List ℕ) (tallies : List (List ℕ))
+    → IsToldBy Surveys input IsSome (Reports taps input tallies)
+told taps input tallies =
+    let report : (file : List ℕ) → List (List ℕ) → List Piece
+    → List ℕ = λ file blocks pieces. report_of (chosen_taps taps tallies) file pieces
+    (records_after (head_of file) (concat blocks)) in
+    record {
+      product = λ file ending ends. let text = report file ends.0 ends.2 in
+          (surveyed ends.1, report_if text ends.1, (ends.0, ends.1, ends.3, refl), ends.5, no_report text ends.1);
+      silent = λ file product makes some.
+          let text = report file makes.0 makes.2.0 in
+          let refused = subst (λ (p : Product). IsSome p.refusal) makes.3 some in (
+            makes.0,
+            makes.1,
+            makes.2.0,
+            makes.2,
+            makes.2.1,
+            ap (ending_of input) makes.3
+                ∙ ap (ending_with input (surveyed makes.1)) (sym (no_report text makes.1 refused)),
+          );
+    }
 
 -- what is put of a file that was surveyed
 module _ (taps : List TapSeen) (tallies : List (List ℕ)) (reader : ReaderSeen) where
@@ -174,94 +199,34 @@ module _ (taps : List TapSeen) (tallies : List (List ℕ)) (reader : ReaderSeen)
   IsSurveyed survey file = (blocks : List (List ℕ)) × AreOnlyRecords file blocks None
       × IsShown (chosen_taps taps tallies) (records_after (head_of file) (concat blocks)) survey
 
-  -- its ending has this text
-  abbrev HasText : (text : List ℕ) → (file : List ℕ) → Type 0
-  HasText text file = (ending : Ending) × IsOnlyEnding (Reports taps reader.name tallies file) ending × (ending.outputs ≡ []) × (ending.cause ≡ Done) × (ending.text ≡ text)
-
-  surveyed_text : (survey : SurveySeen) (file : List ℕ) → StandsFor reader file × IsSurveyed survey file → HasText (survey_text reader.head.bytes reader.chunk (length reader.pieces) survey) file
-  surveyed_text survey file k =
-      let s = k.0 in
-      let head : reader.head.bytes ≡ head_of file = ap (λ h. h.bytes) s.head in
-      let known = k.1 in
-      let line = chunks_are (is_packed (head_of file)) (chunk_size_of (head_of file)) s.pieces reader.chunk reader.pieces s.chunk s.chunks in
-      let shown = subst (λ (h : List ℕ). IsShown (chosen_taps taps tallies) (records_after h (concat known.0)) survey) (sym head) known.2 in
-      let text = survey_report file known.0 s.pieces survey head line shown in
-      (ending_of taps reader.name tallies file known.0 None s.pieces, only_report taps reader.name tallies file known.0 None s.pieces known.1 s.are, refl, refl, sym text)
-
   -- how the run ends then
   module _ (change : Change) (stands : WhereKnown change.files.held reader.name (StandsFor reader)) (same : change.files_now.held ≡ change.files.held) where
-    pub leaves : LeavesOf (Reports taps reader.name tallies) reader.name change
-    leaves = known_more change.files.held reader.name (StandsFor reader) _ (λ file s files ending known makes. (files, same ∙ known, nothing_left ending.outputs files)) stands
-
-    -- an ending without outputs has the files that were there
-    files_same : (ending : Ending) → ending.outputs ≡ [] → (files : FileMap) → change.files.held ≡ Some files → change.files_now.held ≡ Some (files_of ending files)
-    files_same ending none files known = same ∙ known ∙ sym (ap (λ (os : List OutputFile). Some (with_all files (map (at_end (is_done ending.cause)) os))) none)
+    surveyed_text : (survey : SurveySeen) (text : List ℕ)
+        → text ≡ survey_text reader.head.bytes reader.chunk (length reader.pieces) survey → (file : List ℕ)
+        → StandsFor reader file → IsSurveyed survey file
+        → HasText (Reports taps reader.name tallies) reader.name change text file
+    surveyed_text survey text is file s known =
+        let head : reader.head.bytes ≡ head_of file = ap (λ h. h.bytes) s.head in
+        let line = chunks_are (is_packed (head_of file)) (chunk_size_of (head_of file)) s.pieces reader.chunk
+        reader.pieces s.chunk s.chunks in
+        let shown = subst (λ (h : List ℕ). IsShown (chosen_taps taps tallies) (records_after h (concat known.0)) survey)
+        (sym head) known.2 in (
+          report_ending taps reader.name tallies file known.0 None s.pieces,
+          only_report taps reader.name tallies file known.0 None s.pieces known.1 s.are,
+          refl,
+          sym (is ∙ survey_report file known.0 s.pieces survey head line shown),
+          λ files held. same ∙ held,
+        )
 
     pub ends_reporting : (survey : SurveySeen) (text : List ℕ) (outcome : Result (Unit {0}) ReportFault) → WhereKnown change.files.held reader.name (IsSurveyed survey)
         → text ≡ survey_text reader.head.bytes reader.chunk (length reader.pieces) survey → text ≢ []
+        → LeavesOf Surveys reader.name change.files change.files_now
         → OnOk outcome (change.out_now ≡ with_more change.out text)
         → (IsErrOf outcome report.Failed → (n : ℕ) × (change.out_now ≡ with_fault (with_more change.out (take n text))))
         → (IsErrOf outcome report.Memory → change.out_now ≡ change.out)
-        → EndsMaking (Reports taps reader.name tallies) reader.name change (stopped_report outcome)
-    ends_reporting survey text outcome surveyed is some put failed memory = go outcome put failed memory
-      where
-        has : WhereKnown change.files.held reader.name (HasText text)
-        has = known_more change.files.held reader.name (λ file. StandsFor reader file × IsSurveyed survey file) (HasText text)
-            (λ file k. subst (λ (t : List ℕ). HasText t file) (sym is) (surveyed_text survey file k))
-            (both_known change.files.held reader.name (StandsFor reader) (IsSurveyed survey) stands surveyed)
-
-        made : (P : Ending → Type 0) → ((ending : Ending) → ending.cause ≡ Done → ending.text ≡ text → P ending) → MakesOne (Reports taps reader.name tallies) reader.name change P
-        made P to = known_more change.files.held reader.name (HasText text) _
-            (λ file h. (h.0, h.1, to h.0 h.3 h.4, files_same h.0 h.2)) has
-
-        go : (outcome : Result (Unit {0}) ReportFault) → OnOk outcome (change.out_now ≡ with_more change.out text)
-            → (IsErrOf outcome report.Failed → (n : ℕ) × (change.out_now ≡ with_fault (with_more change.out (take n text))))
-            → (IsErrOf outcome report.Memory → change.out_now ≡ change.out)
-            → EndsMaking (Reports taps reader.name tallies) reader.name change (stopped_report outcome)
-        go (Ok done) put failed memory = (
-          made (λ ending. (ending.cause ≡ Done) × (change.out_now ≡ with_more change.out ending.text))
-              (λ ending cause t. (cause, put ∙ ap (with_more change.out) (sym t))),
-          leaves,
-        )
-        go (Err report.Failed) put failed memory =
-            let f = failed refl in (
-              inr (
-                subst (λ (s : SinkView). Rose change.out.faults s.faults) (sym f.1) (omega arith),
-                made (λ ending. (ending.cause ≡ Done) × (ending.text ≢ []) × ((n : ℕ) × (change.out_now ≡ with_fault (with_more change.out (take n ending.text)))))
-                    (λ ending cause t. (
-                      cause,
-                      (λ empty. some (sym t ∙ empty)),
-                      (f.0, f.1 ∙ ap (λ (x : List ℕ). with_fault (with_more change.out (take f.0 x))) (sym t)),
-                    )),
-              ),
-              leaves,
-            )
-        go (Err report.Memory) put failed memory = (leaves, memory refl)
-
-    -- the survey failed
-    pub ends_surveying : (fault : Fault)
-        → ((cause : Refusal) → fault ≡ file.Refused cause → WhereKnown change.files.held reader.name (λ file. (blocks : List (List ℕ)) × (i : ℕ) × (cause ≡ BadChunk i) × AreOnlyRecords file blocks (Some i)))
-        → ((cause : Refusal) → fault ≡ file.Refused cause → (i : ℕ) × (cause ≡ BadChunk i))
-        → (fault ≡ file.Read → Rose change.files.read_faults change.files_now.read_faults)
-        → (fault ≡ file.Write → ⊥)
-        → change.out_now ≡ change.out
-        → EndsMaking (Reports taps reader.name tallies) reader.name change (Err (stop_by 0 fault))
-    ends_surveying (file.Refused cause) refused bad read never quiet =
-        let b = bad cause refl in (
-          refl,
-          known_more change.files.held reader.name
-              (λ file. StandsFor reader file × ((blocks : List (List ℕ)) × (i : ℕ) × (cause ≡ BadChunk i) × AreOnlyRecords file blocks (Some i))) _
-              (λ file k. let known = k.1 in (
-                ending_of taps reader.name tallies file known.0 (Some known.1) k.0.pieces,
-                only_report taps reader.name tallies file known.0 (Some known.1) k.0.pieces known.3 k.0.are,
-                (ap (Refused reader.name) (sym known.2), quiet ∙ with_more-none change.out),
-                files_same (ending_of taps reader.name tallies file known.0 (Some known.1) k.0.pieces) refl,
-              ))
-              (both_known change.files.held reader.name (StandsFor reader) (λ file. (blocks : List (List ℕ)) × (i : ℕ) × (cause ≡ BadChunk i) × AreOnlyRecords file blocks (Some i)) stands (refused cause refl)),
-          leaves,
-          (λ first. absurd (subst ComesAtOpening b.1 first)),
-          quiet,
-        )
-    ends_surveying file.Read refused bad read never quiet = (refl, read refl, leaves, quiet)
-    ends_surveying file.Write refused bad read never quiet = absurd (never refl)
-    ends_surveying file.Memory refused bad read never quiet = (leaves, quiet)
+        → EndsCommand (Reports taps reader.name tallies) reader.name change (stopped_report outcome)
+    ends_reporting survey text outcome surveyed is some left put failed memory =
+        ends_put (Reports taps reader.name tallies) reader.name change text outcome
+        (known_both change.files.held reader.name (StandsFor reader) (IsSurveyed survey) _
+        (surveyed_text survey text is) stands surveyed)
+        (leaves (told taps reader.name tallies) change left) put failed (λ fails. some) memory

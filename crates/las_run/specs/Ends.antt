@@ -231,8 +231,8 @@ MakesOne Makes input change P = WhereKnown change.files.held input (λ file.
     × ((files : FileMap) → change.files.held ≡ Some files → change.files_now.held ≡ Some (files_of ending files)))
 
 -- That ending is for this cause, and its text was put.
-abbrev pub MakesAs : (Makes : List ℕ → Ending → Type 0) → (input : List ℕ) → Change → Cause → Type 0
-MakesAs Makes input change cause =
+abbrev pub MakesEnding : (Makes : List ℕ → Ending → Type 0) → (input : List ℕ) → Change → Cause → Type 0
+MakesEnding Makes input change cause =
     MakesOne Makes input change (λ ending. (ending.cause ≡ cause) × (change.out_now ≡ with_more change.out ending.text))
 
 -- It is one of work that is done, and of its text, which is not empty, a prefix was put before standard output failed.
@@ -242,34 +242,35 @@ MakesUnput Makes input change = MakesOne Makes input change (λ ending.
     × ((n : ℕ) × (change.out_now ≡ with_fault (with_more change.out (take n ending.text)))))
 
 -- If the files are known: what stands is left of every ending that is made of the input.
-abbrev pub LeavesOf : (Makes : List ℕ → Ending → Type 0) → (input : List ℕ) → Change → Type 0
-LeavesOf Makes input change = WhereKnown change.files.held input (λ file.
+abbrev pub LeavesEnding : (Makes : List ℕ → Ending → Type 0) → (input : List ℕ) → Change → Type 0
+LeavesEnding Makes input change = WhereKnown change.files.held input (λ file.
     (files : FileMap) (ending : Ending) → change.files.held ≡ Some files → Makes file ending
     → (now : FileMap) × (change.files_now.held ≡ Some now) × IsLeft ending.outputs files now)
 
 -- If the files are known: every ending that is made of the input has an output.
-abbrev pub MakesOutput : (Makes : List ℕ → Ending → Type 0) → (input : List ℕ) → Change → Type 0
-MakesOutput Makes input change =
+abbrev pub EndingsHaveOutput : (Makes : List ℕ → Ending → Type 0) → (input : List ℕ) → Change → Type 0
+EndingsHaveOutput Makes input change =
     WhereKnown change.files.held input (λ file. (ending : Ending) → Makes file ending → ending.outputs ≢ [])
 
 -- A call that writes failed, and there was something to write; or standard output did.
 abbrev pub FailsMaking : (Makes : List ℕ → Ending → Type 0) → (input : List ℕ) → Change → Type 0
 FailsMaking Makes input change =
-    (Rose change.files.write_faults change.files_now.write_faults × MakesOutput Makes input change × IsQuiet change)
+    (Rose change.files.write_faults change.files_now.write_faults × EndingsHaveOutput Makes input change
+    × IsQuiet change)
     ⊎ (Rose change.out.faults change.out_now.faults × MakesUnput Makes input change)
 
 -- What a command says of the outcome with which it made something of an accepted input: files, a text, or both.
-abbrev pub EndsMaking : (Makes : List ℕ → Ending → Type 0) → (input : List ℕ) → Change → Result (Unit {0}) Stop
+abbrev pub EndsCommand : (Makes : List ℕ → Ending → Type 0) → (input : List ℕ) → Change → Result (Unit {0}) Stop
     → Type 0
-EndsMaking Makes input change (Ok _) = MakesAs Makes input change Done × LeavesOf Makes input change
-EndsMaking Makes input change (Err stop.Memory) = LeavesOf Makes input change × IsQuiet change
-EndsMaking Makes input change (Err (stop.Usage index)) = ⊥
-EndsMaking Makes input change (Err (stop.Read number)) =
-    (number ≡ 0) × Rose change.files.read_faults change.files_now.read_faults × LeavesOf Makes input change
+EndsCommand Makes input change (Ok _) = MakesEnding Makes input change Done × LeavesEnding Makes input change
+EndsCommand Makes input change (Err stop.Memory) = LeavesEnding Makes input change × IsQuiet change
+EndsCommand Makes input change (Err (stop.Usage index)) = ⊥
+EndsCommand Makes input change (Err (stop.Read number)) =
+    (number ≡ 0) × Rose change.files.read_faults change.files_now.read_faults × LeavesEnding Makes input change
     × IsQuiet change
-EndsMaking Makes input change (Err stop.Write) = FailsMaking Makes input change × LeavesOf Makes input change
-EndsMaking Makes input change (Err (stop.Refused number cause)) =
-    (number ≡ 0) × MakesAs Makes input change (Refused input cause) × LeavesOf Makes input change
+EndsCommand Makes input change (Err stop.Write) = FailsMaking Makes input change × LeavesEnding Makes input change
+EndsCommand Makes input change (Err (stop.Refused number cause)) =
+    (number ≡ 0) × MakesEnding Makes input change (Refused input cause) × LeavesEnding Makes input change
     × (ComesAtOpening cause → change.files_now.held ≡ change.files.held) × IsQuiet change
-EndsMaking Makes input change (Err (stop.Differs number field)) = ⊥
-EndsMaking Makes input change (Err (stop.TooMany surplus)) = ⊥
+EndsCommand Makes input change (Err (stop.Differs number field)) = ⊥
+EndsCommand Makes input change (Err (stop.TooMany surplus)) = ⊥

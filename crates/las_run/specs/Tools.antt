@@ -5,7 +5,7 @@ use Rattle.std.specs.Fmt.{decimal}
 use Rattle.std.specs.List.{concat, filter_map, flat_map}
 use Rattle.std.specs.Str.{bytes_eq}
 use Rattle.las_filter.specs.Kept.{Steps}
-use Rattle.las_convert.specs.Converting.{ConvertsTo, converted_output, has_output}
+use Rattle.las_convert.specs.Converting.{ConvertsTo, converted_output, writes_kept}
 use Rattle.las_thin.specs.declared.pick.Pick.{Pick}
 use Rattle.las_thin.specs.Sieving as sieve
 use Rattle.las_header.specs.declared.refusal.Refusal.{Refusal}
@@ -35,6 +35,7 @@ use Rattle.las_make.specs.Made.{made_file, made_records}
 use Rattle.las_make.specs.Making.{made_output}
 use Rattle.las_outside.specs.Files.{FileMap}
 use Rattle.las_split.specs.Outputs as parts
+use Rattle.las_survey.specs.Surveying.{surveyed}
 use Rattle.laz_forms.specs.declared.fault.Fault.TheVariants as file
 use Rattle.las_words.specs.declared.command.Packing.{Packing}
 use Rattle.las_words.specs.Asked.{Las2lasOptions, LasmergeOptions, MakeOptions}
@@ -49,10 +50,14 @@ abbrev pub cause_by : (input : List ℕ) → Option Refusal → Cause
 cause_by input None = Done
 cause_by input (Some refusal) = Refused input refusal
 
--- the ending of a run that makes this of its input, and puts no text
+-- the ending of a run that makes this of its input, and puts this text
+abbrev pub ending_with : (input : List ℕ) → Product → (text : List ℕ) → Ending
+ending_with input product text =
+    record { cause = cause_by input product.refusal; outputs = product.files; text = text }
+
+-- the same without a text
 abbrev pub ending_of : (input : List ℕ) → Product → Ending
-ending_of input product =
-    record { cause = cause_by input product.refusal; outputs = product.files; text = [] }
+ending_of input product = ending_with input product []
 
 -- A run makes one of these products of its input.
 abbrev pub EndsBy : (Makes : (file : List ℕ) → Product → Type 0) → (input : List ℕ) → (file : List ℕ) → Ending → Type 0
@@ -95,16 +100,12 @@ abbrev pub kept_text : List TapSeen → (file records : List ℕ) → Option Ref
 kept_text taps file records None = tallies_text taps (points.records_after (head_of file) records)
 kept_text taps file records (Some cause) = []
 
--- the ending of `las2las` with these kept records, up to this refusal: without an output if a bad chunk was met before
--- it was created
+-- the ending of `las2las` with these kept records, up to this refusal
 abbrev pub converted : (size : Option ℕ) → (chosen : List TapSeen) → (input output : List ℕ) → Pick
     → (file records : List ℕ) → Option Refusal → Ending
-converted size chosen input output pick file records refusal = record {
-  cause = cause_by input refusal;
-  outputs =
-      if has_output pick refusal then output_file (converted_output output file size) records ∷ [] else [];
-  text = kept_text chosen file records refusal;
-}
+converted size chosen input output pick file records refusal =
+    ending_with input (writes_kept pick (converted_output output file size) records refusal)
+    (kept_text chosen file records refusal)
 
 -- `las2las` writes what stays of the records of a range when they are filtered and thinned, changed, up to the first
 -- refusal: in chunks of this size, if there is one. It puts what the chosen taps count of the records that it writes.
@@ -161,10 +162,14 @@ abbrev pub report_of : List TapSeen → (file : List ℕ) → List Piece → (re
 report_of taps file pieces records =
     report_text (head_of file) (chunks_line file pieces) (summary_of records) (tallies_text taps records)
 
--- the ending of a report: nothing is put if a chunk is bad
+-- what is put of a report: nothing if a chunk is bad
+abbrev pub report_if : (report : List ℕ) → (bad : Option ℕ) → List ℕ
+report_if report None = report
+report_if report (Some i) = []
+
+-- the ending of a report
 abbrev pub reports : (input : List ℕ) → (report : List ℕ) → (bad : Option ℕ) → Ending
-reports input report None = record { cause = Done; outputs = []; text = report }
-reports input report (Some i) = ends_at_once (Refused input (BadChunk i))
+reports input report bad = ending_with input (surveyed bad) (report_if report bad)
 
 -- `lasinfo` reports what is in its input, and what the chosen taps count of its records.
 abbrev pub Reports : List TapSeen → (input : List ℕ) → (tallies : List (List ℕ)) → (file : List ℕ) → Ending → Type 0

@@ -16,10 +16,9 @@ ghost use Rattle.las_words.specs.Texts.{texts};
 ghost use Rattle.laz_reader.specs.Asking.{AsksAtMost, ReadsAndWrites, asked_to_open, bytes_left};
 ghost use Rattle.laz_reader.specs.Reading.{AgreesWithHead, IsFreshReader, IsNewReader, StandsFor};
 ghost use Rattle.las_run.specs.Asking.{AsksAfterOpening, AsksFor, AsksToLook};
-ghost use Rattle.las_run.specs.Ends.{Ends, EndsMaking, StopsOpening, cause_of, changes, quiet};
+ghost use Rattle.las_run.specs.Ends.{Ends, EndsCommand, StopsOpening, cause_of, changes, quiet};
 ghost use Rattle.las_run.specs.Runs.{task_for};
-ghost use Rattle.las_run.specs.Tools.{ConvertsIn, ConvertsTaken, chunk_for, chunk_if, las2las_options, range_for};
-ghost use Rattle.las_run.specs.Tools.{sieve_in};
+ghost use Rattle.las_run.specs.Tools.{ConvertsTaken, chunk_if, las2las_options, range_for, sieve_in};
 
 use crate::conversion::{Conversion, Request};
 use crate::input::{open_input, stop};
@@ -94,7 +93,7 @@ fn select<R: Threads + Sync, F: Files, O: Sink, G: Gate>(
     requires stands { WhereKnown (F.seen files.old).held request.now.input.now (StandsFor reader) }
     ensures ends { let Makes = ConvertsTaken request.now.conversion (map (λ tap. tap_seen tap) chosen.items)
         request.now.input.now request.now.output.now (steps_of request.now.plan.now) in
-        EndsMaking Makes request.now.input.now
+        EndsCommand Makes request.now.input.now
         (changes (F.seen files.old) (F.seen files.new) (O.seen out.old) (O.seen out.new)) result }
     ensures asked { WhereKnown (F.seen files.old).held request.now.input.now (λ file.
         AsksAfterOpening request.now.conversion file (F.seen files.old) (F.seen files.new)) }
@@ -155,7 +154,7 @@ fn prepare<R: Threads + Sync, F: Files, G: Gate>(
     ensures stops { IfErr result (λ stop. (chosen : List TapSeen) (output : List ℕ) (out : SinkView)
         → let Makes = ConvertsTaken request.now.conversion chosen request.now.input.now output
         (steps_of request.now.plan.now) in
-        EndsMaking Makes request.now.input.now (quiet (F.seen files.old) (F.seen files.new) out) (Err stop)) }
+        EndsCommand Makes request.now.input.now (quiet (F.seen files.old) (F.seen files.new) out) (Err stop)) }
     ensures reads { OnlyReads (F.seen files.old) (F.seen files.new) }
     ensures asked { WhereKnown (F.seen files.old).held request.now.input.now (λ file.
         AsksToLook request.now.conversion file (F.seen files.old) (F.seen files.new)) }
@@ -203,16 +202,17 @@ fn write_kept<R: Threads + Sync, F: Files, O: Sink, G: Gate>(
     requires whole { AgreesWithHead reader }
     requires chunk { IsChunkSize request.now.conversion.packing.chunk }
     requires workers { AreWorkers machine.workers }
+    requires range { reader.range ≡ range_for request.now.conversion reader.head.bytes }
+    requires settings { sieve.settings ≡ sieve_in request.now.conversion }
     requires classes { All HasClass request.now.plan.now.changes.items }
     requires names { request.now.output.now ≢ reader.name }
     requires stands { WhereKnown (F.seen files.old).held reader.name (StandsFor reader) }
     requires ready { IsReady (F.seen files.old).held reader.name (steps_of request.now.plan.now) reader.range sieve }
     requires room { All (λ tap. (bin : ℕ) → count_at (tap_seen tap).tally bin ≤ 2 ^ 63) chosen.items }
-    ensures ends { let Makes = ConvertsIn (chunk_for request.now.conversion) (λ file. reader.range)
-        (map (λ tap. tap_seen tap) chosen.items) reader.name request.now.output.now (steps_of request.now.plan.now)
-        sieve.settings in
-        EndsMaking Makes reader.name (changes (F.seen files.old) (F.seen files.new) (O.seen out.old) (O.seen out.new))
-        result }
+    ensures ends { let Makes = ConvertsTaken request.now.conversion (map (λ tap. tap_seen tap) chosen.items)
+        reader.name request.now.output.now (steps_of request.now.plan.now) in
+        EndsCommand Makes reader.name
+        (changes (F.seen files.old) (F.seen files.new) (O.seen out.old) (O.seen out.new)) result }
     ensures frame { ReadsAndWrites (bytes_left reader) (F.seen files.old) (F.seen files.new) }
 {
     let Request { output, plan, .. } = *request;

@@ -12,7 +12,7 @@ ghost use Rattle.laz_reader.specs.Asking.{bytes_left};
 ghost use Rattle.laz_reader.specs.Reading.{AgreesWithHead, IsNewReader, StandsFor};
 ghost use Rattle.std.specs.Option.{option_map};
 ghost use Rattle.las_run.specs.Asking.{AsksWhole};
-ghost use Rattle.las_run.specs.Ends.{Ends, EndsMaking, cause_of, changes, stopped_report};
+ghost use Rattle.las_run.specs.Ends.{Ends, EndsCommand, cause_of, changes, stopped_report};
 ghost use Rattle.las_run.specs.Runs.{task_for};
 ghost use Rattle.las_run.specs.Tools.{Reports};
 
@@ -64,7 +64,7 @@ fn inform<R: Threads + Sync, F: Files, O: Sink, G: Gate>(
     requires workers { AreWorkers machine.workers }
     requires room { All (λ tap. (bin : ℕ) → count_at (tap_seen tap).tally bin ≤ 2 ^ 63) taps.items }
     requires stands { WhereKnown (F.seen files.old).held reader.name (StandsFor reader) }
-    ensures ends { EndsMaking (Reports (map (λ tap. tap_seen tap) taps.items) reader.name (texts tallies.now))
+    ensures ends { EndsCommand (Reports (map (λ tap. tap_seen tap) taps.items) reader.name (texts tallies.now))
         reader.name (changes (F.seen files.old) (F.seen files.new) (O.seen out.old) (O.seen out.new)) result }
     ensures reads { Reads (bytes_left reader) (F.seen files.old) (F.seen files.new) }
 {

@@ -10,7 +10,7 @@ ghost use Rattle.laz_reader.specs.Asking.{ReadsAndWrites, bytes_left};
 ghost use Rattle.laz_reader.specs.Reading.{AgreesWithHead, IsNewReader, StandsFor};
 ghost use Rattle.las_info.specs.Tallies.{TapSeen};
 ghost use Rattle.las_run.specs.Asking.{AsksWhole};
-ghost use Rattle.las_run.specs.Ends.{Ends, EndsMaking, cause_of, quiet, stopped_by};
+ghost use Rattle.las_run.specs.Ends.{Ends, EndsCommand, cause_of, quiet, stopped_by};
 ghost use Rattle.las_run.specs.Runs.{task_for};
 ghost use Rattle.las_run.specs.Tools.{Splits};
 
@@ -77,7 +77,7 @@ fn write_parts<R: Threads + Sync, F: Files, G: Gate>(
     requires names { (number : ℕ) → number < 2 ^ 32
         → part_name (string_bytes names.now.stem) (string_bytes names.now.end) number ≢ reader.name }
     requires stands { WhereKnown (F.seen files.old).held reader.name (StandsFor reader) }
-    ensures ends { (out : SinkView) → EndsMaking
+    ensures ends { (out : SinkView) → EndsCommand
         (Splits reader.name (string_bytes names.now.stem) (string_bytes names.now.end) rule.now)
         reader.name (quiet (F.seen files.old) (F.seen files.new) out) (stopped_by 0 result) }
     ensures frame { ReadsAndWrites (bytes_left reader) (F.seen files.old) (F.seen files.new) }

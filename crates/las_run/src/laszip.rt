@@ -9,7 +9,7 @@ ghost use Rattle.laz_reader.specs.Asking.{ReadsAndWrites, bytes_left};
 ghost use Rattle.laz_reader.specs.Reading.{AgreesWithHead, IsNewReader, StandsFor};
 ghost use Rattle.las_info.specs.Tallies.{TapSeen};
 ghost use Rattle.las_run.specs.Asking.{AsksWhole};
-ghost use Rattle.las_run.specs.Ends.{Ends, EndsMaking, cause_of, quiet, stopped_by};
+ghost use Rattle.las_run.specs.Ends.{Ends, EndsCommand, cause_of, quiet, stopped_by};
 ghost use Rattle.las_run.specs.Runs.{task_for};
 ghost use Rattle.las_run.specs.Tools.{Zips};
 
@@ -55,7 +55,7 @@ fn zip<R: Threads + Sync, F: Files, G: Gate>(
     requires workers { AreWorkers machine.workers }
     requires names { output.now ≢ reader.name }
     requires stands { WhereKnown (F.seen files.old).held reader.name (StandsFor reader) }
-    ensures ends { (out : SinkView) → EndsMaking (Zips reader.name output.now chunk) reader.name
+    ensures ends { (out : SinkView) → EndsCommand (Zips reader.name output.now chunk) reader.name
         (quiet (F.seen files.old) (F.seen files.new) out) (stopped_by 0 result) }
     ensures frame { ReadsAndWrites (bytes_left reader) (F.seen files.old) (F.seen files.new) }
 {

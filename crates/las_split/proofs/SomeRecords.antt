@@ -13,11 +13,6 @@ use Rattle.laz_writer.specs.Writing.{WriterSeen}
 use Rattle.las_split.specs.Sorting.{InParts, SortsBlock, Task, bytes_at}
 use Rattle.las_split.proofs.Standing.{writers_length}
 
--- what is said of a fault, if the call ended with it
-pub of_fault : {T : Type 0} (result : Result T Fault) (fault : Fault) (P : Type 0) → IfErr result (λ f. f ≡ fault → P) → IsErrOf result fault → P
-of_fault (Ok x) fault P h is = absurd (cc)
-of_fault (Err f) fault P h is = h (let e : f ≡ fault = cc in e)
-
 -- some writers are of some records
 pub some_opened : (task : Task) (was now : Option FileMap) (ns : List ℕ) (ws : List WriterSeen) (opened written : List (List ℕ)) → InParts task was now ns ws opened written → 1 ≤ length ws → 1 ≤ length opened
 some_opened task was now ns ws [] written i some =

@@ -196,12 +196,6 @@ module _ (task : Task) (was : Option FileMap) (records : List (List ℕ)) (size 
     subst (LeavesPrefixes task was now) (append_assoc records (take t (cut_all size bytes)) (point ∷ []) ∙ ap (λ (b : List (List ℕ)). records ++ b) (sym one_more)) l,
   )
 
-pub sorts_all : (task : Task) (was now : Option FileMap) (numbers : List ℕ) (writers : List WriterSeen) (texts : List (List ℕ)) (records : List (List ℕ)) (size t : ℕ) (bytes : List ℕ) → length bytes / size ≤ t → t ≤ length bytes / size
-    → SortedSo task was now numbers writers texts records (take t (cut_all size bytes)) → SortsBlock task was now numbers writers texts records (cut_all size bytes) t
-sorts_all task was now numbers writers texts records size t bytes end within s =
-    let long = cut_length size (length bytes / size) bytes in
-    record { within = omega (arith, within, long); parts = s.parts; gathered = s.gathered; ends = λ less. absurd (omega (arith, less, end, long)) }
-
 pub left_none : (task : Task) (was now : Option FileMap) (numbers : List ℕ) (writers : List WriterSeen) (records block : List (List ℕ)) → InParts task was now numbers writers records records → LeavesBlock task was now records block
 left_none task was now numbers writers records block i = (
   [],
@@ -209,8 +203,3 @@ left_none task was now numbers writers records block i = (
   refl,
   subst (LeavesPrefixes task was now) (sym (append-nil records)) (leaves_here task was now numbers writers records records i [] (sym (append-nil records)) now refl),
 )
-
-pub place_here : (size t index : ℕ) (bytes : List ℕ) (records : List (List ℕ)) → t < length bytes / size → index ≡ length records → index + t ≡ length records + length (take t (cut_all size bytes))
-place_here size t index bytes records more at =
-    let long : length (take t (cut_all size bytes)) ≡ t = length-take-le t (cut_all size bytes) (omega (arith, more, cut_length size (length bytes / size) bytes)) in
-    omega (arith, at, long)

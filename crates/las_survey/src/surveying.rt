@@ -6,16 +6,18 @@ ghost use Rattle.las_header.specs.declared.refusal.Refusal.{Refusal};
 ghost use Rattle.las_header.specs.declared.refusal.Refusal.TheVariants.{BadChunk};
 ghost use Rattle.las_header.specs.Fields.{head_of};
 ghost use Rattle.las_info.specs.Tallies.{count_at};
-ghost use Rattle.las_outside.specs.Faults.{Rose};
 ghost use Rattle.las_outside.specs.Files.{WhereKnown};
 ghost use Rattle.las_outside.specs.Frames.{IsCalm, Reads};
 ghost use Rattle.las_outside.specs.Limits.{AreWorkers};
-ghost use Rattle.laz_forms.specs.declared.fault.Fault.TheVariants.{Read, Refused, Write};
+ghost use Rattle.laz_forms.specs.declared.fault.Fault.TheVariants.{Refused};
 ghost use Rattle.laz_reader.specs.Asking.{bytes_left};
 ghost use Rattle.laz_file.specs.Copying.{AreOnlyRecords, EndsAfter, HoldFirst};
+ghost use Rattle.laz_file.specs.Endings.{EndsMaking};
 ghost use Rattle.laz_forms.specs.Outputs.{records_after};
-ghost use Rattle.laz_reader.specs.Reading.{AgreesWithHead, EndsReading, IsCrewOf, IsNewReader, StandsFor, records_in};
+ghost use Rattle.laz_reader.specs.Reading.{AgreesWithHead, EndsReading, IsCrewOf, IsNewReader, OfFile, StandsFor};
+ghost use Rattle.laz_reader.specs.Reading.{records_in};
 ghost use Rattle.las_info.specs.Surveys.{IsShown};
+ghost use Rattle.las_survey.specs.Surveying.{Surveys};
 
 use las_info::{Survey, Tap};
 use las_outside::{Files, Gate};
@@ -82,24 +84,23 @@ pub fn survey<R: Threads + Sync, F: Files, G: Gate>(
     requires whole { AgreesWithHead reader.old }
     requires workers { AreWorkers workers }
     requires room { All (λ tap. (bin : ℕ) → count_at (tap_seen tap).tally bin ≤ 2 ^ 63) taps.items }
-    requires stands { WhereKnown (F.seen files.old).held reader.old.name (StandsFor reader.old) }
+    requires stands { OfFile reader.old (F.seen files.old) (StandsFor reader.old) }
 
-    ensures surveyed { IfOk result (λ survey. WhereKnown (F.seen files.old).held reader.old.name (λ file.
+    ensures ends { EndsMaking Surveys reader.old.name (F.seen files.old) (F.seen files.new) result }
+    // The file has one list of records alone, which was shown to the survey.
+    ensures surveyed { IfOk result (λ survey. OfFile reader.old (F.seen files.old) (λ file.
         (blocks : List (List ℕ)) × AreOnlyRecords file blocks None
         × IsShown (map (λ tap. tap_seen tap) taps.items) (records_after (head_of file) (concat blocks)) (record {
           summary = survey.summary;
           taps = map (λ tap. tap_seen tap) survey.taps.items;
         }))) }
-    ensures refused { (cause : Refusal) → IsErrOf result (Refused cause)
-        → WhereKnown (F.seen files.old).held reader.old.name (λ file.
-        (blocks : List (List ℕ)) × (i : ℕ) × (cause ≡ BadChunk i) × AreOnlyRecords file blocks (Some i)) }
-    ensures bad { (cause : Refusal) → IsErrOf result (Refused cause) → (i : ℕ) × (cause ≡ BadChunk i) }
-    ensures read { IsErrOf result Read → Rose (F.seen files.old).read_faults (F.seen files.new).read_faults }
-    ensures never { IsErrOf result Write → ⊥ }
+    // So has a file that is refused, up to its first bad chunk.
+    ensures bad { (cause : Refusal) → IsErrOf result (Refused cause) → (i : ℕ) × (cause ≡ BadChunk i)
+        × OfFile reader.old (F.seen files.old) (λ file.
+        (blocks : List (List ℕ)) × AreOnlyRecords file blocks (Some i)) }
     ensures head { OnOk result (reader.new.head ≡ reader.old.head) }
     // No more is asked for than the reader has left, however the call ends.
     ensures reads { Reads (bytes_left reader.old) (F.seen files.old) (F.seen files.new) }
-    ensures calm { OnOk result (IsCalm (F.seen files.old) (F.seen files.new)) }
 {
     let _ = reader.head().points();
     let hands = reader.hands(workers);

@@ -1,11 +1,11 @@
 use Rattle.std.proofs.Common.{◌≡◌, ℕ, Bool, false, List, [], length, map, ap}
 use Rattle.std.specs.List.{concat}
+use Rattle.std.proofs.lemmas.Result.{on_err_weaker}
 use Rattle.las_filter.specs.Kept.{steps_of}
 use Rattle.las_info.specs.Tallies.{TapSeen}
 use Rattle.laz_file.specs.Copying.{EndsAfter, HoldFirst, LeavesPart, Takes}
 use Rattle.laz_forms.proofs.Public.{if_ok_weaker}
 use Rattle.las_convert.specs.Adding.{EndsKeeping, Goes, cut_all, kept_by}
-use Rattle.las_convert.proofs.Adding.{on_err_then}
 use Rattle.las_convert.proofs.Going.{even_read}
 use Rattle.las_convert.proofs.Unchanged.{goes_unchanged, keeps_unchanged, leaves_unchanged}
 use Rattle.las_convert.proofs.copying.convert_records.Goals as goal
@@ -55,7 +55,7 @@ returns-then-changes_nothing-clause-left g c looked is =
     let same = c.changes_nothing.ensures c.if-changes_nothing.true in
     let keeping = kept_by passage.sieve.settings looked plan in
     let all = keeps_unchanged plan passage.sieve.settings looked passage.taps.items same in
-    on_err_then c.copy_records.result
+    on_err_weaker c.copy_records.result
     (λ (p : (n : ℕ) × (blocks : List (List ℕ)) × HoldFirst old.held first n blocks
     × LeavesPart old new w (concat blocks)). (
       p.0,

@@ -1,10 +1,11 @@
-use Rattle.std.proofs.Common.{◌*◌, ◌+◌, ℕ, List, sym, ap, subst}
+use Rattle.std.proofs.Common.{◌*◌, ◌+◌, ℕ, List, refl, sym, ap, subst}
 use Rattle.las_filter.specs.Kept.{steps_of}
 use Rattle.las_outside.specs.Files.{WhereKnown}
 use Rattle.laz_reader.specs.Reading.{ReaderSeen, StandsFor}
-use Rattle.laz_forms.proofs.Public.{known_then}
+use Rattle.laz_forms.proofs.Public.{if_err, known_then}
 use Rattle.laz_file.proofs.Public.{ok_then, stands_ready}
 use Rattle.las_convert.proofs.Looks.{ready_here, refused_here}
+use Rattle.las_convert.proofs.Making.{stops_looking, stops_short}
 use Rattle.las_convert.proofs.looking.look_through.Goals as goal
 
 pub look_records-requires-clause-stands : goal.look_records-requires-clause-stands
@@ -22,11 +23,29 @@ returns-clause-ready g c =
     ok_then c.look_records.result
     (λ h. ready_here old.held (steps_of c.args.plan.now) c.args.reader c.crew.new.self (2 * c.hands-hands.result) c.in_ok-crew.ensures.kept c.requires.fresh.unread c.requires.stands h.0 c.look_records.new.sieve h.1 h.2) c.look_records.ensures.looked
 
-pub returns-clause-refused : goal.returns-clause-refused
-returns-clause-refused g c = λ cause is.
+pub returns-in_err-crew-clause-stops : goal.returns-in_err-crew-clause-stops
+returns-in_err-crew-clause-stops g c =
+    let files = g.F.Files.seen c.args.files.now in
+    let first = c.args.reader in
+    if_err _ c.from_residual.result _ c.from_residual.ensures.1
+    (stops_short (steps_of c.args.plan.now) c.args.sieve.now.settings first.range first.name (StandsFor first) files
+    files c.requires.stands refl)
+
+pub returns-clause-stops : goal.returns-clause-stops
+returns-clause-stops g c =
     let old = g.F.Files.seen c.args.files.now in
-    let h = c.look_records.ensures.bad cause is in
-    refused_here old.held (steps_of c.args.plan.now) c.args.reader c.crew.new.self (2 * c.hands-hands.result) c.in_ok-crew.ensures.kept c.requires.fresh.unread c.requires.stands c.args.sieve.now.settings h.0 h.1 cause c.requires.pick h.2 h.3
+    let plan = steps_of c.args.plan.now in
+    let settings = c.args.sieve.now.settings in
+    let first = c.args.reader in
+    let ready = c.crew.new.self in
+    let buffers = 2 * c.hands-hands.result in
+    let is = c.in_ok-crew.ensures.kept in
+    let h = c.look_records.ensures in
+    stops_looking plan settings first.range first.name (StandsFor first) old (g.F.Files.seen c.look_records.new.files)
+    c.requires.stands h.reads.only.held c.requires.pick c.look_records.result
+    (λ cause e. let b = h.bad cause e in refused_here old.held plan first ready buffers is c.requires.fresh.unread c.requires.stands settings b.0 b.1 cause c.requires.pick b.2 b.3)
+    (λ cause e. let b = h.bad cause e in (ready.next + b.0, b.3.0))
+    h.cause
 
 pub returns-clause-bad : goal.returns-clause-bad
 returns-clause-bad g c = λ cause is.

@@ -12,7 +12,7 @@ use Rattle.laz_forms.specs.Ranges.{parts_of}
 use Rattle.laz_reader.specs.Reading.{StandsFor}
 use Rattle.laz_forms.specs.Refusing.{IsAcceptedFile}
 use Rattle.las_run.specs.Asking.{bytes_in, in_first_reading}
-use Rattle.las_run.specs.Ends.{Change, EndsMaking, quiet}
+use Rattle.las_run.specs.Ends.{Change, EndsCommand, quiet}
 use Rattle.las_run.specs.Runs.{task_with}
 use Rattle.las_run.specs.Tools.{Converts, ConvertsIn, chunk_if, las2las_options, range_in, sieve_in}
 use Rattle.las_run.proofs.Asking.{asks_both, asks_nothing, asks_opening}
@@ -87,7 +87,7 @@ returns-clause-ends g c =
     let outcome = c.select.result in
     let chosen_are = chosen (λ tap. (goal.Tap-dyn g (tap.vtable, tap.value)).tap_seen tap.value) string_bytes
     c.args.taps.items c.args.tallies.now c.in-Ok.chosen.items c.in-Ok.ensures in
-    let made = subst (λ (ts : List TapSeen). EndsMaking
+    let made = subst (λ (ts : List TapSeen). EndsCommand
     (ConvertsIn (chunk_if packing.packed packing.chunk) (range_in conversion.start conversion.stop) ts input
     c.args.request.now.output.now plan (sieve_in conversion)) input before outcome) chosen_are
     c.select.ensures.ends in

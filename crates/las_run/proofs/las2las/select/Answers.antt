@@ -1,17 +1,13 @@
-use Rattle.std.proofs.Common.{◌≡◌, ◌+◌, List, ℕ, Option, map, subst, sym, ◌∙◌}
+use Rattle.std.proofs.Common.{◌+◌, List, ℕ, map, subst}
 use Rattle.std.proofs.lemmas.Result.{err_from_is_err_and}
 use Rattle.las_filter.specs.Kept.{steps_of}
 use Rattle.las_info.specs.Tallies.{TapSeen}
-use Rattle.las_outside.specs.Files.{FileMap, WhereKnown}
-use Rattle.las_thin.specs.Sieving.{Settings}
 use Rattle.laz_reader.specs.Asking.{asked_to_open}
 use Rattle.laz_forms.specs.Ranges.{parts_of}
-use Rattle.laz_reader.specs.Reading.{StandsFor}
 use Rattle.las_run.specs.Asking.{bytes_in, in_first_reading}
-use Rattle.las_run.specs.Ends.{Change, EndsMaking}
-use Rattle.las_run.specs.Tools.{ConvertsIn, chunk_if, range_in, sieve_in}
+use Rattle.las_run.specs.Ends.{Change, EndsCommand}
+use Rattle.las_run.specs.Tools.{ConvertsTaken, range_in}
 use Rattle.las_run.proofs.Asking.{asks_selected, asks_stopped}
-use Rattle.las_run.proofs.Converting.{ends_sought}
 use Rattle.las_run.proofs.Opening.{making_after}
 use Rattle.las_run.proofs.las2las.select.Goals as goal
 
@@ -31,10 +27,7 @@ returns-in_err-reader-clause-asked g c =
 pub returns-clause-ends : goal.returns-clause-ends
 returns-clause-ends g c =
     let h = c.in_ok-reader.ensures in
-    let now = c.in_ok-reader.reader in
     let places = c.args.request.now.conversion in
-    let packing = c.args.request.now.conversion.packing in
-    let size = chunk_if packing.packed packing.chunk in
     let input = c.args.request.now.input.now in
     let output = c.args.request.now.output.now in
     let plan = steps_of c.args.request.now.plan.now in
@@ -47,16 +40,10 @@ returns-clause-ends g c =
     let out_now = g.O.Sink.seen c.write_kept.new.out in
     let outcome = c.write_kept.result in
     let change : Change = record { files = mid; files_now = new; out = out; out_now = out_now } in
-    let settings : c.prepare.new.sieve.settings ≡ sieve_in places = h.settings ∙ c.new-sieve.ensures.settings in
-    let Ends : List ℕ → Settings → Type 0 = λ name s. EndsMaking
-    (ConvertsIn size (λ file. now.range) chosen name output plan s) name change outcome in
-    let made = subst (Ends input) settings (subst (λ (n : List ℕ). Ends n c.prepare.new.sieve.settings) h.fresh.named
-    c.write_kept.ensures.ends) in
-    let stands = subst (λ (f : Option FileMap). WhereKnown f input (StandsFor now)) (sym h.reads.held) h.stands in
-    let sought = ends_sought size chosen input output plan (sieve_in places) change now places.start places.stop h.range
-    stands outcome made in
-    making_after (ConvertsIn size (range_in places.start places.stop) chosen input output plan (sieve_in places)) input
-    new out out_now old mid h.reads.held h.calm.reads h.reads.writes outcome sought
+    making_after (ConvertsTaken places chosen input output plan) input new out out_now old mid h.reads.held
+    h.calm.reads h.reads.writes outcome
+    (subst (λ (n : List ℕ). EndsCommand (ConvertsTaken places chosen n output plan) n change outcome) h.fresh.named
+    c.write_kept.ensures.ends)
 
 pub returns-clause-asked : goal.returns-clause-asked
 returns-clause-asked g c =

@@ -1,9 +1,14 @@
-use Rattle.std.proofs.Common.{◌≡◌, ◌^◌, ◌≤◌, ℕ, List, length, Option, None, Err, map, refl, subst, sym, ap, ◌∙◌}
+use Rattle.std.proofs.Common.{◌≡◌, ◌^◌, ◌≤◌, ℕ, List, length, Option, None, Result, Err, map, refl, subst, sym, ap, ◌∙◌}
 use Rattle.std.specs.Prelude.{string_bytes}
 use Rattle.std.specs.List.{concat, flat_map}
 use Rattle.std.specs.Option.{option_map}
 use Rattle.las_outside.specs.Files.{WhereKnown}
 use Rattle.laz_file.specs.Copying.{AreOnlyRecords}
+use Rattle.laz_file.specs.Endings.{EndsMaking}
+use Rattle.laz_file.proofs.Public.{left_before}
+use Rattle.laz_forms.specs.declared.fault.Fault.{Fault}
+use Rattle.laz_reader.specs.Reading.{StandsFor}
+use Rattle.las_survey.specs.Surveying.{Surveys}
 use Rattle.laz_forms.specs.Outputs.{records_after}
 use Rattle.las_run.specs.declared.stop.Stop.{Stop}
 use Rattle.las_run.specs.Tools.{Reports}
@@ -12,8 +17,10 @@ use Rattle.las_info.specs.Report.{report_text, tally_text}
 use Rattle.las_info.specs.Surveys.{IsShown, SurveySeen}
 use Rattle.las_info.specs.Tallies.{TapSeen, count_at}
 use Rattle.las_words.specs.Texts.{texts}
-use Rattle.las_run.specs.Ends.{Change, EndsMaking}
-use Rattle.las_run.proofs.Reporting.{chosen, distinct, ends_reporting, ends_surveying, holds_of_chosen, leaves, lines_seen, some_text, survey_text, there}
+use Rattle.las_run.specs.Ends.{Change, EndsCommand}
+use Rattle.las_run.proofs.Reporting.{chosen, distinct, ends_reporting, holds_of_chosen, lines_seen, some_text}
+use Rattle.las_run.proofs.Reporting.{survey_text, there, told}
+use Rattle.las_run.proofs.Making.{chunk_late, ends_stopped, leaves}
 use Rattle.las_run.proofs.lasinfo.inform.Goals as goal
 
 pub choose-requires-clause-there : goal.choose-requires-clause-there
@@ -60,9 +67,9 @@ returns-in-Ok-survey-clause-ends g c =
     × IsShown ts (records_after (head_of file) (concat blocks)) survey))
     (chosen (λ tap. (goal.Tap-dyn g (tap.vtable, tap.value)).tap_seen tap.value) string_bytes c.args.taps.items c.args.tallies.now c.in-Ok.chosen.items c.in-Ok.ensures)
     h.surveyed in
-    subst (EndsMaking (Reports taps reader.name tallies) reader.name change) (sym c.put.ensures)
+    subst (EndsCommand (Reports taps reader.name tallies) reader.name change) (sym c.put.ensures)
     (ends_reporting taps tallies reader change c.requires.stands h.reads.only.held survey text c.report.result surveyed is (some_text c.head.result.now.bytes chunks survey.summary lines)
-    c.report.ensures.put c.report.ensures.failed c.report.ensures.memory)
+    h.ends.1 c.report.ensures.put c.report.ensures.failed c.report.ensures.memory)
 
 pub returns-clause-ends : goal.returns-clause-ends
 returns-clause-ends g c =
@@ -76,13 +83,12 @@ returns-clause-ends g c =
       out = g.O.Sink.seen c.args.out.now;
       out_now = g.O.Sink.seen c.args.out.now;
     } in
-    subst (λ (s : Stop). EndsMaking (Reports taps reader.name tallies) reader.name change (Err s)) (sym c.stop.ensures)
-    (ends_surveying taps tallies reader change c.requires.stands h.reads.only.held c.in-Err-survey.fault
-    (λ cause is. h.refused cause (c.in-Err-survey.is ∙ ap Err is))
-    (λ cause is. h.bad cause (c.in-Err-survey.is ∙ ap Err is))
-    (λ is. h.read (c.in-Err-survey.is ∙ ap Err is))
-    (λ is. h.never (c.in-Err-survey.is ∙ ap Err is))
-    refl)
+    let fault = c.in-Err-survey.fault in
+    let ends = subst (λ (r : Result _ Fault). EndsMaking Surveys reader.name change.files change.files_now r)
+    c.in-Err-survey.is h.ends in
+    subst (λ (s : Stop). EndsCommand (Reports taps reader.name tallies) reader.name change (Err s)) (sym c.stop.ensures)
+    (ends_stopped (told taps reader.name tallies) change (Unit {0}) fault (λ cause. refl) refl
+    (λ cause is. let b = h.bad cause (c.in-Err-survey.is ∙ ap Err is) in chunk_late cause (b.0, b.1)) ends)
 
 pub returns-in-Err-clause-ends : goal.returns-in-Err-clause-ends
 returns-in-Err-clause-ends g c =
@@ -93,4 +99,8 @@ returns-in-Err-clause-ends g c =
       out = g.O.Sink.seen c.args.out.now;
       out_now = g.O.Sink.seen c.args.out.now;
     } in
-    (leaves taps (texts c.args.tallies.now) c.args.reader change c.requires.stands refl, refl)
+    let reader = c.args.reader in (
+      leaves (told taps reader.name (texts c.args.tallies.now)) change
+          (left_before Surveys reader.name change.files change.files (StandsFor reader) c.requires.stands refl),
+      refl,
+    )

@@ -5,7 +5,7 @@ use Rattle.las_words.specs.Asked.{Asked, lasinfo, reads}
 use Rattle.las_words.specs.Texts.{texts}
 use Rattle.laz_reader.specs.Reading.{StandsFor}
 use Rattle.laz_forms.specs.Refusing.{IsAcceptedFile}
-use Rattle.las_run.specs.Ends.{Change, EndsMaking}
+use Rattle.las_run.specs.Ends.{Change, EndsCommand}
 use Rattle.las_run.specs.Runs.{task_with}
 use Rattle.las_run.specs.Tools.{Reports}
 use Rattle.las_run.proofs.Asking.{asks_all, asks_opening}
@@ -47,7 +47,7 @@ returns-clause-ends g c =
     } in
     let named : r.name ≡ input = h.fresh.named in
     let change : Change = record { files = old; files_now = new; out = out; out_now = out_now } in
-    let made = subst (λ (n : List ℕ). EndsMaking (Reports taps n tallies) n
+    let made = subst (λ (n : List ℕ). EndsCommand (Reports taps n tallies) n
     (record { files = mid; files_now = new; out = out; out_now = out_now }) c.inform.result) named
     c.inform.ensures.ends in
     let ends = making_after (Reports taps input tallies) input new out out_now old mid h.reads.held h.calm.reads

@@ -6,7 +6,7 @@ use Rattle.las_words.specs.Asked.{Asked, LassplitOptions, lassplit, reads}
 use Rattle.laz_reader.specs.Reading.{StandsFor}
 use Rattle.laz_forms.specs.Refusing.{IsAcceptedFile}
 use Rattle.las_run.specs.declared.stop.Stop.{Stop}
-use Rattle.las_run.specs.Ends.{Ends, EndsMaking, cause_of, quiet, stopped_by}
+use Rattle.las_run.specs.Ends.{Ends, EndsCommand, cause_of, quiet, stopped_by}
 use Rattle.las_run.specs.Runs.{task_with}
 use Rattle.las_run.specs.Tools.{Splits}
 use Rattle.las_run.proofs.Asking.{asks_all, asks_opening}
@@ -54,11 +54,12 @@ returns-clause-ends g c =
     let names = c.in-Ok.names in
     let accepted = known_more old.held input (StandsFor r) IsAcceptedFile (λ file s. s.accepted) h.stands in
     λ taps out.
-    let made = subst (λ (e : List ℕ). EndsMaking (Splits input stem e rule) input (quiet mid new out) outcome)
+    let made = subst (λ (e : List ℕ). EndsCommand (Splits input stem e rule) input (quiet mid new out) outcome)
     c.in-Ok.ensures.end
-    (subst (λ (s : List ℕ). EndsMaking (Splits input s (string_bytes names.end) rule) input (quiet mid new out) outcome)
+    (subst (λ (s : List ℕ). EndsCommand (Splits input s (string_bytes names.end) rule) input (quiet mid new out)
+    outcome)
     c.in-Ok.ensures.stem
-    (subst (λ (n : List ℕ). EndsMaking (Splits n (string_bytes names.stem) (string_bytes names.end) rule) n
+    (subst (λ (n : List ℕ). EndsCommand (Splits n (string_bytes names.stem) (string_bytes names.end) rule) n
     (quiet mid new out) outcome) h.fresh.named (c.write_parts.ensures.ends out))) in
     let ends = making_after (Splits input stem end rule) input new out out old mid h.reads.held h.calm.reads
     h.reads.writes outcome made in

@@ -5,7 +5,7 @@ use Rattle.las_words.specs.Asked.{Asked, LaszipOptions, laszip, reads}
 use Rattle.laz_reader.specs.Reading.{StandsFor}
 use Rattle.laz_forms.specs.Refusing.{IsAcceptedFile}
 use Rattle.las_run.specs.declared.stop.Stop.{Stop}
-use Rattle.las_run.specs.Ends.{Ends, EndsMaking, cause_of, quiet, stopped_by}
+use Rattle.las_run.specs.Ends.{Ends, EndsCommand, cause_of, quiet, stopped_by}
 use Rattle.las_run.specs.Runs.{task_with}
 use Rattle.las_run.specs.Tools.{Zips}
 use Rattle.las_run.proofs.Asking.{asks_all, asks_opening}
@@ -40,7 +40,7 @@ returns-clause-ends g c =
     let accepted = known_more old.held input (StandsFor r) IsAcceptedFile (λ file s. s.accepted) h.stands in
     λ taps out.
     let outcome = stopped_by 0 c.zip.result in
-    let made = subst (λ (n : List ℕ). EndsMaking (Zips n output chunk) n (quiet mid new out) outcome) named
+    let made = subst (λ (n : List ℕ). EndsCommand (Zips n output chunk) n (quiet mid new out) outcome) named
     (c.zip.ensures.ends out) in
     let ends = making_after (Zips input output chunk) input new out out old mid h.reads.held h.calm.reads h.reads.writes
     outcome made in
