@@ -8,6 +8,7 @@ use Rattle.las_header.specs.declared.refusal.Refusal.{Refusal}
 use Rattle.las_header.specs.declared.refusal.Refusal.TheVariants.{BadChunk, RawRange}
 use Rattle.las_header.specs.Fields.{head_of, record_length_of}
 use Rattle.las_header.specs.Heads.{HeadView}
+use Rattle.las_header.specs.Plain.{cut_all}
 use Rattle.las_filter.specs.Kept.{Kept}
 use Rattle.las_outside.specs.Files.{FileMap}
 use Rattle.laz_file.specs.Copying.{AreOnlyRecordsIn, LeavesUnfinished}
@@ -19,7 +20,7 @@ use Rattle.laz_forms.specs.Records.{AreRead, AreRecordsIn, HoldBlocks, HoldOnly,
 use Rattle.laz_forms.proofs.Public.{one_pieces, concat-append, not_bad_before}
 use Rattle.laz_reader.proofs.Public.{fewer_first, hold_length, inside, more_first, no_length}
 use Rattle.laz_file.proofs.Public.{even_whole}
-use Rattle.las_convert.specs.Adding.{Adds, Keeping, cut_all}
+use Rattle.las_convert.specs.Adding.{Adds, Keeping}
 use Rattle.las_convert.specs.Converting.{ConvertsOnce, ConvertsTwice, Keeps, kept_in}
 use Rattle.las_convert.specs.Laws.{raw_record}
 use Rattle.las_convert.proofs.Adding.{IsKeeping, adds_all, kept_from, refused_at}

@@ -1,8 +1,7 @@
 -- Records that are cut off one after another.
-use Rattle.std.proofs.Common.{◌≡◌, ℕ, zero, suc, Bool, true, false, Option, Some, None, ◌+◌, ◌*◌, ◌-◌, ◌/◌, ◌%◌, ◌<◌, ◌≤◌, List, [], ◌∷◌, ◌++◌, length, take, drop, refl, sym, ◌∙◌, ap, subst, append_assoc, length-append, arith}
+use Rattle.std.proofs.Common.{◌≡◌, ℕ, zero, suc, Bool, true, false, Option, Some, None, ◌+◌, ◌*◌, ◌-◌, ◌<◌, ◌≤◌, List, [], ◌∷◌, ◌++◌, length, take, drop, refl, sym, ◌∙◌, ap, subst, append_assoc, length-append, arith}
 use Rattle.std.specs.List.{concat}
 use Rattle.std.proofs.lemmas.List.{append-nil, drop-drop}
-use Rattle.std.proofs.Math.Nat.{div-add-mod, mul-le-mul_left}
 use Rattle.las_header.specs.Plain.{cut_records}
 use borrow.Rule.Slice.PartMut.{put_mid}
 use Rattle.std.proofs.lemmas.Slice.{take-put_mid, take-put_mid_below}
@@ -118,17 +117,3 @@ module _ (Adds : Adding) (size t at : ℕ) (block buffer : List ℕ) (so : KeptS
 -- what is left of a block of which no record was cut yet
 pub none_yet : (size : ℕ) (block : List ℕ) → block ≡ drop (size * 0) block
 none_yet size block = let none : 0 ≡ size * 0 = omega arith in ap (λ (k : ℕ). drop k block) none
-
--- what is left after one record more
-pub rest_next : (size t : ℕ) (block rest further : List ℕ) → rest ≡ drop (size * t) block → further ≡ drop size rest → further ≡ drop (size * (t + 1)) block
-rest_next size t block rest further left back =
-    let far : size * t + size ≡ size * (t + 1) = omega arith in
-    back ∙ ap (drop size) left ∙ drop-drop size (size * t) block ∙ ap (λ (k : ℕ). drop k block) far
-
--- the records so far, and one more, lie in the block
-pub block_fits : (size t : ℕ) (block : List ℕ) → length block % size ≡ 0 → t < length block / size → size * t + size ≤ length block
-block_fits size t block whole more =
-    let all : size * (length block / size) ≡ length block = omega (arith, div-add-mod (length block) size, whole) in
-    let next : t + 1 ≤ length block / size = omega (arith, more) in
-    let least = mul-le-mul_left size next in
-    omega (arith, all, least)

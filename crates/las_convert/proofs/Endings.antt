@@ -1,5 +1,5 @@
 -- How an output ends that records are converted into.
-use Rattle.std.proofs.Common.{◌≡◌, ◌⊎◌, ℕ, Bool, true, false, cond, List, [], ◌++◌, length, take, Option, Some, None}
+use Rattle.std.proofs.Common.{◌≡◌, ◌⊎◌, ℕ, Bool, true, false, List, [], ◌++◌, length, take, Option, Some, None}
 use Rattle.std.proofs.Common.{Result, IfErr, OnErr, refl, sym, ◌∙◌, ap, subst}
 use Rattle.std.specs.List.{concat}
 use Rattle.std.proofs.lemmas.List.{append-nil, take_all}
@@ -7,9 +7,8 @@ use Rattle.std.proofs.lemmas.Result.{IfErr-weaker}
 use Rattle.std.proofs.Common.{arith}
 use Rattle.las_header.specs.declared.refusal.Refusal.{Refusal}
 use Rattle.las_header.specs.declared.refusal.Refusal.TheVariants.{RawRange}
-use Rattle.las_header.specs.Fields.{is_packed, record_length_of}
-use Rattle.las_header.specs.Plain.{plain_of, without_first}
-use Rattle.las_header.specs.Vlrs.{laszip_vlrs_of}
+use Rattle.las_header.specs.Fields.{record_length_of}
+use Rattle.las_header.specs.Plain.{plain_of, cut_all}
 use Rattle.las_info.specs.Tallies.{TapSeen}
 use Rattle.las_outside.specs.Drafts.{IsUnfinished}
 use Rattle.las_outside.specs.Files.{FileMap, with_file}
@@ -22,7 +21,7 @@ use Rattle.laz_forms.specs.Outputs.{Output, draft_of, finished, front, patches_o
 use Rattle.laz_reader.specs.Reading.{ReaderSeen}
 use Rattle.laz_writer.specs.Writing.{Stands, Stops, WriterSeen}
 use Rattle.laz_file.proofs.Public.{leaves_end, leaves_part, held_after, create_left}
-use Rattle.las_convert.specs.Adding.{Adds, EndsKeeping, Goes, Keeping, LeavesKept, cut_all}
+use Rattle.las_convert.specs.Adding.{Adds, EndsKeeping, Goes, Keeping, LeavesKept}
 use Rattle.las_convert.specs.Converting.{EndsConverting, FinishesKept, LeavesConverting, RefusesKept, output_of}
 use Rattle.las_convert.proofs.Shown.{seen_by}
 
@@ -42,13 +41,6 @@ begin_left r old new reader name head chunk is =
     _
     (λ fault stops records. subst (λ (o : Output). LeavesUnfinished o records old.held new.held) same
     (create_left old new out fault records stops))
-
-pub plain_itself : (head : List ℕ) → is_packed head ≡ false → head ≡ plain_of head
-plain_itself head is = sym (by (is_packed head) is)
-  where
-    by : (b : Bool) → b ≡ false → cond b (without_first (laszip_vlrs_of head) head) head ≡ head
-    by true e = absurd (cc)
-    by false e = refl
 
 -- the length of a record, by the reader and by the writer
 pub adds_wide : (keeping : Keeping) (reader : ReaderSeen) (w : WriterSeen) (blocks ones : List (List ℕ))

@@ -1,6 +1,5 @@
 -- Records that are kept, taken and seen, some after others.
-use Rattle.std.proofs.Common.{◌≡◌, inl, inr, ℕ, suc, ◌+◌, ◌*◌, ◌/◌, ◌%◌, ◌<◌, ◌≤◌, ◌^◌, Bool, false, List, [], ◌∷◌, ◌++◌, length, take, Option, refl, sym, ◌∙◌, ap, subst, append_assoc, length-append, arith}
-use Rattle.std.specs.Prelude.{All}
+use Rattle.std.proofs.Common.{◌≡◌, inl, inr, ℕ, ◌+◌, ◌*◌, ◌/◌, ◌%◌, ◌<◌, ◌≤◌, ◌^◌, Bool, false, List, [], ◌++◌, length, take, Option, refl, sym, ◌∙◌, ap, subst, append_assoc, length-append, arith}
 use Rattle.std.specs.List.{concat}
 use Rattle.std.proofs.lemmas.List.{append-nil, length-take-le}
 use Rattle.std.proofs.Math.Nat.{div-add-mod, le_of_mul-le-mul_left, mod-lt, mul-div_right, mul-le-mul_left, mul-mod_right}
@@ -15,20 +14,17 @@ use Rattle.laz_file.specs.Copying.{CanTake, HoldFirst, LeavesPart, Takes}
 use Rattle.laz_forms.specs.Outputs.{Output}
 use Rattle.laz_reader.specs.Reading.{ReaderSeen, records_in}
 use Rattle.laz_writer.specs.Writing.{Stands, WriterSeen}
-use Rattle.laz_forms.proofs.Public.{concat-append, whole_both}
+use Rattle.laz_forms.proofs.Public.{concat-append, even_all}
 use Rattle.laz_writer.proofs.Public.{cut-append}
 use Rattle.laz_file.proofs.Public.{even_for, part_stands, part_then, takes_none, takes_read, takes_then}
-use Rattle.las_convert.specs.Adding.{Adds, Goes, HaveCounted, IsAfter, Keeping, LeavesKept, cut_all}
+use Rattle.las_convert.specs.Adding.{Adds, Goes, HaveCounted, IsAfter, Keeping, LeavesKept}
 use Rattle.las_convert.proofs.Cuts.{length_cut}
-use Rattle.las_convert.proofs.Shown.{counted_more, cut_none, seen_by, shown_none, shown_then}
+use Rattle.las_convert.proofs.Shown.{counted_more, seen_by, shown_none, shown_then}
 use Rattle.las_convert.proofs.Adding.{adds_none, adds_then}
+use Rattle.las_header.specs.Plain.{cut_all}
+use Rattle.las_header.proofs.Public.{cut_none}
 
 -- ---- whole records
-
-pub even_all : (size : ℕ) (blocks : List (List ℕ)) → All (λ block. length block % size ≡ 0) blocks → length (concat blocks) % size ≡ 0
-even_all size [] all = ap (λ (n : ℕ). n % size) (let e : 0 ≡ size * 0 = omega arith in e) ∙ mul-mod_right size 0
-even_all size (b ∷ blocks) all =
-    ap (λ (n : ℕ). n % size) (length-append b (concat blocks)) ∙ whole_both size (length b) (length (concat blocks)) (all 0 [] (omega arith)) (even_all size blocks (λ k d lt. all (suc k) d (omega (arith, lt))))
 
 -- ---- what goes into a writer, some after others
 

@@ -3,6 +3,7 @@ use Rattle.std.proofs.Common.{◌≡◌, ◌≢◌, ◌⊎◌, inl, inr, ℕ, Bo
 use Rattle.std.proofs.Common.{Some, None, is_none, Result, Ok, Err, IfErr, OnOk, refl, sym, ◌∙◌, ap, subst, arith}
 use Rattle.std.specs.Prelude.{IsErrAnd}
 use Rattle.std.specs.FinMap as finmap
+use Rattle.std.proofs.lemmas.Result.{on_ok_weaker}
 use Rattle.las_filter.specs.Kept.{Steps}
 use Rattle.las_header.specs.declared.refusal.Refusal.{Refusal}
 use Rattle.las_header.specs.declared.refusal.Refusal.TheVariants.{BadChunk, RawRange}
@@ -27,7 +28,7 @@ use Rattle.laz_forms.proofs.Public.{known_both, known_then}
 use Rattle.laz_file.specs.Copying.{LeavesUnfinished}
 use Rattle.laz_file.specs.Endings.{EndsMaking, IsOnlyProduct, LeavesFiles, LeavesOf, MakesAs, MakesOutput, OutputFile}
 use Rattle.laz_file.specs.Endings.{Product, at_end, files_after, output_file, writes}
-use Rattle.laz_file.proofs.Public.{ends_err, err_at, left_before, left_done, ok_then}
+use Rattle.laz_file.proofs.Public.{ends_err, err_at, left_before, left_done}
 use Rattle.laz_reader.specs.Reading.{EndsReading, ReaderSeen, StandsFor}
 use Rattle.laz_writer.specs.Writing.{WriterSeen}
 use Rattle.las_convert.specs.Adding.{kept_by}
@@ -333,7 +334,7 @@ module _ {old mid : Outside} {plan : Steps} {settings : Settings} {looked : List
         (λ file. (records : List ℕ) × GivesOnly here file records None
         × (map seen told ≡ map (λ x. shown_all (seen x) (records_after (head_of file) records)) taps)))
     tallied_by seen grown taps told same done =
-        ok_then outcome
+        on_ok_weaker outcome
         (λ f. known_then old.held first.name _ _
         (λ file k. (k.0, k.1, k.3 ∙ sym (mapped seen (records_after (head_of file) k.0) taps)))
         (finishes new start f))

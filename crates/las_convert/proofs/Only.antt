@@ -5,17 +5,17 @@ use Rattle.std.specs.List.{concat}
 use Rattle.std.proofs.lemmas.Bool.{cases_lt}
 use Rattle.std.proofs.lemmas.List.{append-nil}
 use Rattle.las_header.specs.Fields.{head_of, record_length_of}
+use Rattle.las_header.specs.Plain.{cut_all}
+use Rattle.las_header.proofs.Public.{cut_none}
 use Rattle.las_filter.specs.Kept.{Kept, kept_and}
 use Rattle.laz_forms.specs.Pieces.{Piece}
 use Rattle.laz_forms.specs.Records.{HoldBlocks, HoldOnly}
-use Rattle.laz_forms.proofs.Public.{concat-append}
+use Rattle.laz_forms.proofs.Public.{concat-append, even_all}
 use Rattle.laz_reader.proofs.Public.{fewer_first, more_first}
 use Rattle.laz_writer.proofs.Public.{cut-append}
-use Rattle.las_convert.specs.Adding.{Adds, Keeping, cut_all}
+use Rattle.las_convert.specs.Adding.{Adds, Keeping}
 use Rattle.las_convert.specs.Converting.{kept_in}
 use Rattle.las_convert.proofs.Adding.{IsKeeping, adds_all, stays_all}
-use Rattle.las_convert.proofs.Going.{even_all}
-use Rattle.las_convert.proofs.Shown.{cut_none}
 
 -- ---- records in blocks, and in more blocks
 

@@ -4,6 +4,7 @@ use Rattle.std.specs.List.{concat}
 use Rattle.las_header.specs.declared.refusal.Refusal.{Refusal}
 use Rattle.las_header.specs.declared.refusal.Refusal.TheVariants.{BadChunk, RawRange}
 use Rattle.las_header.specs.Fields.{head_of, record_length_of}
+use Rattle.las_header.specs.Plain.{cut_all}
 use Rattle.las_filter.specs.Kept.{Kept, Steps}
 use Rattle.las_outside.specs.Files.{FileMap}
 use Rattle.las_thin.specs.declared.pick.Pick.{Pick}
@@ -16,7 +17,7 @@ use Rattle.laz_forms.specs.Outputs.{Output, records_after}
 use Rattle.laz_forms.specs.Ranges.{Range}
 use Rattle.laz_reader.specs.Reading.{AreWholeBlocks, ReaderSeen, StandsFor}
 use Rattle.laz_forms.specs.Records.{HoldOnly, IsBadPiece}
-use Rattle.las_convert.specs.Adding.{Adds, Keeping, cut_all, kept_by}
+use Rattle.las_convert.specs.Adding.{Adds, Keeping, kept_by}
 use Rattle.las_convert.specs.Converting.{AreLooked, ConvertsBy, ConvertsOnce, ConvertsTo, Keeps, OnlyConverts, kept_in}
 use Rattle.las_convert.proofs.Converts.{OnlyOnce, OnlyTwice, converts_all, converts_bad, converts_left, converts_raw, twice_all, twice_good, twice_left, twice_raw}
 use Rattle.las_convert.proofs.Passing.{kept_as_first, kept_as_looked, sieve_keeps}

@@ -2,16 +2,13 @@
 use Rattle.std.proofs.Common.{◌≡◌, ℕ, ◌+◌, ◌/◌, ◌%◌, ◌^◌, ◌<◌, ◌≤◌, List, [], ◌∷◌, ◌++◌, length, map, sym, ◌∙◌, ap, subst, arith}
 use Rattle.std.specs.Prelude.{All}
 use Rattle.std.proofs.lemmas.List.Elements.{All-head, All-tail, All-cons, All-nil}
-use Rattle.std.proofs.Math.Nat.{zero-div}
-use Rattle.las_header.specs.Plain.{cut_records}
+use Rattle.las_header.specs.Plain.{cut_all}
+use Rattle.las_header.proofs.Public.{cut_none}
 use Rattle.las_info.specs.Tallies.{TapSeen, count_at, shown_all}
 use Rattle.las_info.proofs.Public.{shown-few, all_seen, mapped, none_taps, taps-both}
 use Rattle.laz_writer.proofs.Public.{cut-append}
-use Rattle.las_convert.specs.Adding.{HaveCounted, cut_all}
+use Rattle.las_convert.specs.Adding.{HaveCounted}
 use Rattle.las_convert.proofs.Cuts.{length_cut}
-
-pub cut_none : (size : ℕ) → 0 < size → cut_all size [] ≡ []
-cut_none size some = ap (λ (n : ℕ). cut_records size n []) (zero-div size)
 
 -- taps that saw the records of these bytes
 abbrev pub seen_by : (size : ℕ) → (bytes : List ℕ) → List TapSeen → List TapSeen

@@ -18,10 +18,11 @@ use Rattle.las_thin.specs.Sieving.{Settings}
 use Rattle.laz_file.specs.Copying.{LeavesPart, Takes}
 use Rattle.laz_writer.specs.Writing.{WriterSeen}
 use Rattle.laz_forms.proofs.Public.{cut-joined}
-use Rattle.las_convert.specs.Adding.{Adds, ChangesNothing, Goes, Keeping, LeavesKept, cut_all, kept_by}
+use Rattle.las_convert.specs.Adding.{Adds, ChangesNothing, Goes, Keeping, LeavesKept, kept_by}
 use Rattle.las_convert.proofs.Adding.{kept_from}
 use Rattle.las_convert.proofs.Cuts.{length_cut}
 use Rattle.las_convert.proofs.Passing.{kept_as_plan}
+use Rattle.las_header.specs.Plain.{cut_all}
 
 -- ---- what a plan without filters and changes keeps
 

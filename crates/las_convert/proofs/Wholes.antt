@@ -5,7 +5,7 @@ use Rattle.las_header.specs.declared.refusal.Refusal.{Refusal}
 use Rattle.las_header.specs.declared.refusal.Refusal.TheVariants.{BadChunk, RawRange}
 use Rattle.las_header.specs.Fields.{head_of, record_length_of}
 use Rattle.las_header.specs.Heads.{HeadView}
-use Rattle.las_header.specs.Plain.{plain_of}
+use Rattle.las_header.specs.Plain.{plain_of, cut_all}
 use Rattle.las_filter.specs.Kept.{Steps}
 use Rattle.las_info.specs.Tallies.{TapSeen, shown_all}
 use Rattle.las_thin.specs.Placed.{Placed}
@@ -21,7 +21,7 @@ use Rattle.laz_writer.specs.Writing.{Stands, WriterSeen}
 use Rattle.laz_forms.proofs.Public.{known_both, record_least}
 use Rattle.laz_writer.proofs.Public.{held_text}
 use Rattle.laz_file.proofs.Public.{known_after, known_before, hold_ready}
-use Rattle.las_convert.specs.Adding.{Adds, EndsKeeping, Keeping, cut_all, kept_by}
+use Rattle.las_convert.specs.Adding.{Adds, EndsKeeping, Keeping, kept_by}
 use Rattle.las_convert.specs.Converting.{AreLooked, ConvertsTo, FinishesKept, LeavesConverting, OnlyConverts, RefusesKept, converted_output, output_of}
 use Rattle.las_convert.proofs.Readings.{bad_once, settled_all, settled_bad, settled_left, settled_raw}
 

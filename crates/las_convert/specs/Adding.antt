@@ -4,7 +4,7 @@ use Rattle.std.specs.Prelude.{◌++◌, length, map, take, All, Option, Some, No
 use Rattle.std.specs.List.{concat}
 use Rattle.las_header.specs.declared.refusal.Refusal.{Refusal}
 use Rattle.las_header.specs.declared.refusal.Refusal.TheVariants.{RawRange}
-use Rattle.las_header.specs.Plain.{cut_records}
+use Rattle.las_header.specs.Plain.{cut_records, cut_all}
 use Rattle.las_filter.specs.Kept.{Kept, Steps, kept}
 use Rattle.las_info.specs.Tallies.{TapSeen, count_at, shown_all}
 use Rattle.las_outside.specs.Files.{FileMap}
@@ -41,10 +41,6 @@ Adds keeping before records ones refused =
 -- The same after any records, if there is no sieve.
 abbrev pub AddsAlways : Steps → (records ones : List (List ℕ)) → (refused : Bool) → Type 0
 AddsAlways plan records ones refused = (before : List (List ℕ)) → Adds (kept plan) before records ones refused
-
--- whole records, each as its bytes
-abbrev pub cut_all : (size : ℕ) → List ℕ → List (List ℕ)
-cut_all size bytes = cut_records size (length bytes / size) bytes
 
 -- The front of a buffer has these records of a block, up to the first that is refused, if there is one.
 abbrev pub HoldsKept : (Are : (ones : List (List ℕ)) → (refused : Bool) → Type 0) → (buffer : List ℕ) → (size : ℕ)

@@ -6,7 +6,7 @@ use Rattle.std.specs.List.{concat}
 use Rattle.las_header.specs.declared.refusal.Refusal.{Refusal}
 use Rattle.las_header.specs.declared.refusal.Refusal.TheVariants.{BadChunk, RawRange}
 use Rattle.las_header.specs.Fields.{head_of, record_length_of}
-use Rattle.las_header.specs.Plain.{plain_head, plain_of}
+use Rattle.las_header.specs.Plain.{plain_head, plain_of, cut_all}
 use Rattle.las_filter.specs.Kept.{Kept, Steps}
 use Rattle.las_info.specs.Tallies.{TapSeen, shown_all}
 use Rattle.las_outside.specs.Faults.{Rose}
@@ -27,7 +27,7 @@ use Rattle.laz_forms.specs.Pieces.{ArePieces, Piece}
 use Rattle.laz_reader.specs.Reading.{ReaderSeen}
 use Rattle.laz_forms.specs.Ranges.{Range, parts_of}
 use Rattle.laz_forms.specs.Records.{AreRecordsIn, HoldBlocks}
-use Rattle.las_convert.specs.Adding.{Adds, EndsKeeping, Keeping, cut_all}
+use Rattle.las_convert.specs.Adding.{Adds, EndsKeeping, Keeping}
 
 -- the output: under the plain head of the file, and its records are counted
 abbrev pub converted_output : (name file : List ℕ) → (chunk : Option ℕ) → Output

@@ -1,6 +1,7 @@
 //! Records that go from a reader into a writer: filtered, thinned, changed, and shown to taps.
 ghost use Rattle.std.specs.Prelude.{◌≡◌, ◌≢◌, ◌%◌, ◌*◌, ◌+◌, ◌/◌, ◌^◌, ◌≤◌, ◌<◌, ◌++◌, ℕ, List};
 ghost use Rattle.std.specs.Prelude.{All, IfErr, IfOk, OnErr, OnOk, false, length, map};
+ghost use Rattle.las_header.specs.Plain.{cut_all};
 ghost use Rattle.las_filter.specs.Changes.{HasClass};
 ghost use Rattle.las_filter.specs.Kept.{steps_of};
 ghost use Rattle.las_outside.specs.Files.{WhereKnown};
@@ -12,7 +13,7 @@ ghost use Rattle.laz_reader.specs.Asking.{ReadsAndWrites, bytes_left};
 ghost use Rattle.laz_reader.specs.Reading.{IsCrewOf, StandsFor};
 ghost use Rattle.laz_writer.specs.Writing.{IsBegun};
 ghost use Rattle.las_convert.specs.Adding.{AfterAny, AfterNone, AfterSome, BeforeAll, Goes, GoesToEnd, HaveCounted};
-ghost use Rattle.las_convert.specs.Adding.{IsAfter, LeavesKeeping, LeavesKept, cut_all};
+ghost use Rattle.las_convert.specs.Adding.{IsAfter, LeavesKeeping, LeavesKept};
 
 use crate::passage::Passage;
 use las_filter::Plan;

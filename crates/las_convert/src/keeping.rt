@@ -1,13 +1,14 @@
 //! The records of one block that are kept.
 ghost use Rattle.std.specs.Prelude.{◌≡◌, ◌↔◌, ◌+◌, ◌/◌, ◌%◌, ◌^◌, ◌≤◌, ◌<◌, ◌++◌, ◌∷◌, [], ℕ, List};
 ghost use Rattle.std.specs.Prelude.{All, IfOk, IsErr, OnOk, None, Some, false, length};
+ghost use Rattle.las_header.specs.Plain.{cut_all};
 ghost use Rattle.las_filter.specs.Changes.{HasClass, changed};
 ghost use Rattle.las_filter.specs.Kept.{steps_of};
 ghost use Rattle.las_thin.specs.Kept.{passing};
 ghost use Rattle.las_thin.specs.Placed.{Placed};
 ghost use Rattle.las_thin.specs.Sieving.{StandsFor};
 ghost use Rattle.las_convert.specs.Adding.{Adds, AddsAlways, AfterAny, AfterSome, HoldsKept, IsAfter, OfAfter, OfSieve};
-ghost use Rattle.las_convert.specs.Adding.{cut_all, kept_by};
+ghost use Rattle.las_convert.specs.Adding.{kept_by};
 ghost use Rattle.las_convert.specs.Passing.{passes_after};
 
 use las_filter::{Plan, RawRange};

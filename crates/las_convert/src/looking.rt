@@ -2,6 +2,7 @@
 ghost use Rattle.std.specs.Prelude.{◌≡◌, ◌%◌, ◌+◌, ◌/◌, ◌^◌, ◌≤◌, ◌<◌, ◌++◌, ◌∷◌, [], ℕ, List, length};
 ghost use Rattle.std.specs.Prelude.{IfErr, IsErrOf, OnOk, Some, false};
 ghost use Rattle.std.specs.List.{concat};
+ghost use Rattle.las_header.specs.Plain.{cut_all};
 ghost use Rattle.las_header.specs.declared.refusal.Refusal.{Refusal};
 ghost use Rattle.las_header.specs.declared.refusal.Refusal.TheVariants.{BadChunk};
 ghost use Rattle.las_filter.specs.Kept.{steps_of};
@@ -17,7 +18,6 @@ ghost use Rattle.laz_file.specs.Copying.{EndsAfter, HoldFirst};
 ghost use Rattle.laz_forms.specs.Outputs.{records_after};
 ghost use Rattle.laz_reader.specs.Reading.{AgreesWithHead, EndsReading, IsCrewOf, IsFreshReader, OfFile};
 ghost use Rattle.laz_reader.specs.Reading.{StandsFor, records_in};
-ghost use Rattle.las_convert.specs.Adding.{cut_all};
 ghost use Rattle.las_convert.specs.Converting.{IsReady, StopsLooking, wanted_of};
 
 use las_filter::Plan;

@@ -1,11 +1,11 @@
 //! What records pass on their way to an output.
 ghost use Rattle.std.specs.Prelude.{◌≡◌, ◌+◌, ◌/◌, ◌%◌, ◌^◌, ◌≤◌, ◌<◌, ◌++◌, ℕ, length, take, map};
 ghost use Rattle.std.specs.Prelude.{All, IfOk, OnOk, false, true, vec_len};
+ghost use Rattle.las_header.specs.Plain.{cut_all};
 ghost use Rattle.las_filter.specs.Changes.{HasClass};
 ghost use Rattle.las_filter.specs.Kept.{steps_of};
 ghost use Rattle.las_info.specs.Tallies.{count_at, shown_all};
 ghost use Rattle.las_convert.specs.Adding.{Adds, AfterAny, AfterSome, ChangesNothing, HoldsKept, IsAfter, OfAfter};
-ghost use Rattle.las_convert.specs.Adding.{cut_all};
 
 use crate::keeping::{Part, keep_records};
 use las_filter::Plan;

@@ -1,5 +1,5 @@
 -- The names of parts: what is printed, and the number that stands in a name.
-use Rattle.std.proofs.Common.{◌≡◌, ℕ, zero, suc, ◌-◌, ◌^◌, ◌<◌, List, [], ◌++◌, length, replicate, codes, Result, Ok, Err, IfOk, refl, sym, ◌∙◌, ap, append_assoc, arith}
+use Rattle.std.proofs.Common.{◌≡◌, ℕ, zero, suc, ◌-◌, ◌^◌, ◌<◌, List, [], ◌++◌, length, replicate, codes, refl, sym, ◌∙◌, ap, append_assoc, arith}
 use Rattle.std.proofs.lemmas.List.{append-nil}
 use Rattle.std.specs.Str.Parse.{digits_value}
 use Rattle.std.proofs.lemmas.Fmt.{decimal_is_IsNumeral}
@@ -12,10 +12,6 @@ unfolding padded_integral char_count
 seven_digits n =
     let less : 7 - length (decimal n) - 0 - 0 ≡ 7 - length (decimal n) = omega arith in
     ap (λ (k : ℕ). replicate k 48 ++ (decimal n ++ [])) less ∙ ap (λ (t : List ℕ). replicate (7 - length (decimal n)) 48 ++ t) (append-nil (decimal n))
-
-pub ok_is : {T E : Type 0} (P Q : T → Type 0) (r : Result T E) → ((x : T) → P x → Q x) → IfOk r P → IfOk r Q
-ok_is P Q (Ok x) to p = to x p
-ok_is P Q (Err e) to p = tt
 
 -- what is printed of a name
 pub name_is : (name stem end : List ℕ) (n : ℕ) → name ≡ stem ++ (codes "_" ++ (styled_decimal (format_spec 32 0 4 7 (2 ^ 64 - 1)) n ++ end)) → name ≡ part_name stem end n

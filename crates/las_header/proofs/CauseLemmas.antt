@@ -1,7 +1,7 @@
 -- What is known if no condition of a list holds, and that the front of a file decides the conditions of its front.
 use Rattle.std.proofs.Common.{◌≡◌, ℕ, zero, suc, ◌+◌, ◌^◌, ◌<◌, ◌≤◌, Bool, true, false, not, ◌&&◌, ◌||◌, cond, nat_lt, nat_le, nat_eq, ◌==◌, ltb-false, List, [], ◌∷◌, length, take, codes, slice_index, None, refl, sym, ap, ◌∙◌, arith}
 use Rattle.std.specs.List.{starts_with}
-use Rattle.std.proofs.lemmas.Bool.{eqb-true, leb-false, lt-leb}
+use Rattle.std.proofs.lemmas.Bool.{eqb-true, leb-false, lt-leb, or_parts, not-false, and_left, or_from}
 use Rattle.std.proofs.Math.Nat.{pow-succ'}
 use Rattle.std.proofs.lemmas.List.{take-take, get_or-take, length-take-le}
 use Rattle.byteorder.specs.Endian.{little_from}
@@ -19,14 +19,6 @@ use Rattle.las_header.proofs.VlrLemmas.{header_before}
 pub none_first : (a : Bool) (x : Refusal) (cs : List (Bool × Refusal)) → first_cause ((a, x) ∷ cs) ≡ None → (a ≡ false) × (first_cause cs ≡ None)
 none_first true x cs e = absurd (cc)
 none_first false x cs e = (refl, e)
-
-neither : (a b : Bool) → (a || b) ≡ false → (a ≡ false) × (b ≡ false)
-neither true b e = absurd (cc)
-neither false b e = (refl, e)
-
-not_false : (b : Bool) → not b ≡ false → b ≡ true
-not_false true e = refl
-not_false false e = absurd (cc)
 
 false_both : (a b : Bool) → (a && b) ≡ false → a ≡ true → b ≡ false
 false_both true b e is = e
@@ -59,13 +51,13 @@ accepted_front front size accepted =
     let version = none_first (has_other_version front) cause.Version header_causes magic.1 in
     let header = none_first (has_short_header front) cause.HeaderSize offset_causes version.1 in
     let offset = none_first (has_bad_offset front size) cause.Offset [] header.1 in
-    let numbers = neither _ _ version.0 in
-    let far = neither _ _ offset.0 in
-    let inside = neither _ _ far.0 in
+    let numbers = or_parts _ _ version.0 in
+    let far = or_parts _ _ offset.0 in
+    let inside = or_parts _ _ far.0 in
     record {
       block = ltb-false size 227 short.0;
-      signature = not_false _ magic.0;
-      major = eqb-true _ _ (not_false _ numbers.0);
+      signature = not-false _ magic.0;
+      major = eqb-true _ _ (not-false _ numbers.0);
       minor = ltb-false 4 (minor_of front) numbers.1;
       header_size = ltb-false _ _ header.0;
       after = ltb-false _ _ inside.0;
@@ -102,7 +94,7 @@ each_points_fit : (head : List ℕ) (b : Bool) → ((k : ℕ) → slice_index he
     → (b && (nat_le (2 ^ 32) (long_points_of head) || (not (short_points_of head == 0) && not (long_points_of head == 0) && not (short_points_of head == long_points_of head)))) ≡ false
     → cond (b && (short_points_of head == 0)) (long_points_of head) (short_points_of head) < 2 ^ 32
 each_points_fit head false bytes h = number_at-bound 4 107 head bytes
-each_points_fit head true bytes h = short_points_fit head (short_points_of head == 0) bytes (neither _ _ h).0
+each_points_fit head true bytes h = short_points_fit head (short_points_of head == 0) bytes (or_parts _ _ h).0
 
 -- the number of points fits four bytes
 pub points_fit : (head : List ℕ) → ((k : ℕ) → slice_index head k < 256) → has_bad_counts head ≡ false → points_of head < 2 ^ 32
@@ -136,7 +128,7 @@ accepted_head head size accepted =
     let early = none_first (ends_early head size) cause.Count on_causes counts.1 in
     let on = none_first (goes_on head size) cause.Trailing stray_causes early.1 in
     let stray = none_first (has_stray_vlr head) cause.StrayVlr [] on.1 in
-    let both = neither _ _ lengths.0 in
+    let both = or_parts _ _ lengths.0 in
     record {
       vlrs = ltb-false _ _ vlrs.0;
       format = ltb-false _ _ format.0;
@@ -149,7 +141,7 @@ accepted_head head size accepted =
       stray = stray.0;
     }
 
-limit-bound : (b : Bool) → cond b 16777216 16777104 ≤ 16777216
+pub limit-bound : (b : Bool) → cond b 16777216 16777104 ≤ 16777216
 limit-bound true = omega arith
 limit-bound false = omega arith
 
@@ -216,7 +208,7 @@ is_head head size points accepted whole fine =
       format = known.format;
       record_length = known.record_length;
       extra = known.extra;
-      extended = λ four. eqb-true _ _ (not_false _ (false_both _ _ known.extended four));
+      extended = λ four. eqb-true _ _ (not-false _ (false_both _ _ known.extended four));
       counts = known.counts;
       points = points;
       small = omega (arith, blocks.near);
@@ -228,17 +220,9 @@ not_true : (b : Bool) → b ≡ true → not b ≡ false
 not_true true e = refl
 not_true false e = absurd (cc)
 
-first_none : (a : Bool) (x : Refusal) (cs : List (Bool × Refusal)) → a ≡ false → first_cause cs ≡ None → first_cause ((a, x) ∷ cs) ≡ None
+pub first_none : (a : Bool) (x : Refusal) (cs : List (Bool × Refusal)) → a ≡ false → first_cause cs ≡ None → first_cause ((a, x) ∷ cs) ≡ None
 first_none true x cs e f = absurd (cc)
 first_none false x cs e f = f
-
-both_false : (a b : Bool) → a ≡ false → b ≡ false → (a || b) ≡ false
-both_false true b e f = absurd (cc)
-both_false false b e f = f
-
-pub false_and : (a b : Bool) → a ≡ false → (a && b) ≡ false
-false_and true b e = absurd (cc)
-false_and false b e = refl
 
 -- a number that is not below another
 lt-leb-false : (n m : ℕ) → m ≤ n → nat_lt n m ≡ false
@@ -247,7 +231,7 @@ lt-leb-false n m h = lt-leb (suc n) m (omega arith)
 header_within : (head : List ℕ) → IsHead head → header_size_of head ≤ length head
 header_within head is = omega (arith, header_before (vlr_count_of head) head, is.vlrs)
 
-no_extended : (head : List ℕ) (b : Bool) → has_long_counts head ≡ b → IsHead head → (b && not (extended_count_of head == 0)) ≡ false
+pub no_extended : (head : List ℕ) (b : Bool) → has_long_counts head ≡ b → IsHead head → (b && not (extended_count_of head == 0)) ≡ false
 no_extended head true long is = ap (λ (n : ℕ). not (n == 0)) (is.extended long)
 no_extended head false long is = refl
 
@@ -258,12 +242,12 @@ front_is_fine head size is within near =
     let header_causes = (has_short_header head, cause.HeaderSize) ∷ offset_causes in
     let version_causes = (has_other_version head, cause.Version) ∷ header_causes in
     let magic_causes = (lacks_signature head, cause.Magic) ∷ version_causes in
-    let inside = both_false (nat_lt (point_offset_of head) (header_size_of head)) (nat_lt size (point_offset_of head))
+    let inside = or_from (nat_lt (point_offset_of head) (header_size_of head)) (nat_lt size (point_offset_of head))
     (lt-leb-false _ _ (omega (arith, after, is.whole))) (lt-leb-false _ _ (omega (arith, is.whole, within))) in
     let far = lt-leb-false (offset_limit head) (point_offset_of head) (omega (arith, is.whole, near)) in
-    let offset = first_none (has_bad_offset head size) cause.Offset [] (both_false _ _ inside far) refl in
+    let offset = first_none (has_bad_offset head size) cause.Offset [] (or_from _ _ inside far) refl in
     let header = first_none (has_short_header head) cause.HeaderSize offset_causes (lt-leb-false _ _ is.header_size) offset in
-    let number = both_false (not (major_of head == 1)) (nat_lt 4 (minor_of head)) (ap (λ (m : ℕ). not (m == 1)) is.major) (lt-leb-false 4 (minor_of head) is.minor) in
+    let number = or_from (not (major_of head == 1)) (nat_lt 4 (minor_of head)) (ap (λ (m : ℕ). not (m == 1)) is.major) (lt-leb-false 4 (minor_of head) is.minor) in
     let version = first_none (has_other_version head) cause.Version header_causes number header in
     let magic = first_none (lacks_signature head) cause.Magic version_causes (not_true (starts_with nat_eq head (codes "LASF")) is.signature) version in
     first_none (is_short size) cause.Short magic_causes (lt-leb-false size 227 (omega (arith, is.block, within))) magic
@@ -279,12 +263,12 @@ packed_is_fine head size is packed =
     let extended_causes = (has_extended_vlrs head, cause.Extended) ∷ counts_causes in
     let length_causes = (has_bad_record_length head, cause.RecordLength) ∷ extended_causes in
     let format_causes = (has_other_format head, cause.Format) ∷ length_causes in
-    let stray = first_none (has_stray_vlr head) cause.StrayVlr [] (false_and _ _ plain) refl in
-    let on = first_none (goes_on head size) cause.Trailing stray_causes (false_and _ _ plain) stray in
-    let early = first_none (ends_early head size) cause.Count on_causes (false_and _ _ plain) on in
+    let stray = first_none (has_stray_vlr head) cause.StrayVlr [] (and_left _ _ plain) refl in
+    let on = first_none (goes_on head size) cause.Trailing stray_causes (and_left _ _ plain) stray in
+    let early = first_none (ends_early head size) cause.Count on_causes (and_left _ _ plain) on in
     let counts = first_none (has_bad_counts head) cause.PointCounts early_causes is.counts early in
     let extended = first_none (has_extended_vlrs head) cause.Extended counts_causes (no_extended head (has_long_counts head) refl is) counts in
-    let lengths = first_none (has_bad_record_length head) cause.RecordLength extended_causes (both_false _ _ (lt-leb-false _ _ is.record_length) (lt-leb-false _ _ is.extra)) extended in
+    let lengths = first_none (has_bad_record_length head) cause.RecordLength extended_causes (or_from _ _ (lt-leb-false _ _ is.record_length) (lt-leb-false _ _ is.extra)) extended in
     let format = first_none (has_other_format head) cause.Format length_causes (lt-leb-false _ _ is.format) lengths in
     first_none (has_long_vlrs head) cause.Vlrs format_causes (lt-leb-false _ _ (omega (arith, is.vlrs, is.whole))) format
 

@@ -1,8 +1,9 @@
 -- A head with other counts is a head.
-use Rattle.std.proofs.lemmas.Bool.{lt-leb}
+use Rattle.std.proofs.lemmas.Bool.{lt-leb, and_left}
 use Rattle.std.proofs.Common.{◌≡◌, ℕ, ◌+◌, ◌<◌, ◌≤◌, ◌^◌, ◌==◌, ◌&&◌, ◌%◌, nat_le, nat_eq, Bool, true, false, cond, List, length, take, drop, codes, slice_index, refl, sym, ap, ◌∙◌, subst, arith, not, ◌||◌, eq-eqb}
 use Rattle.std.proofs.lemmas.List.{take-take, get_or-take}
 use Rattle.std.specs.List.{splice, starts_with, flat_map}
+use Rattle.std.proofs.Math.Bool.{and-false}
 use Rattle.byteorder.specs.Endian.{little_bytes}
 use Rattle.las_header.specs.declared.vlrs.VlrPlace.{VlrPlace}
 use Rattle.las_header.specs.Numbers.{number_at}
@@ -13,7 +14,7 @@ use Rattle.las_header.specs.Counting.{short_bytes, long_bytes, with_sums}
 use Rattle.las_header.proofs.NumberLemmas.{number_at-take, number_at-splice, number_at-splice_after, number_at-splice_first, take-splice, drop-splice, length-splice}
 use Rattle.las_header.proofs.VlrLemmas.{SameIn-tail, header_before, vlr_start-same, laszips, laszips-same}
 use Rattle.las_header.specs.Refusals.{has_bad_counts}
-use Rattle.las_header.proofs.CauseLemmas.{least_any, least_block, false_and}
+use Rattle.las_header.proofs.CauseLemmas.{least_any, least_block}
 
 -- the fields before the counts are the same, and so is all from the header size on
 pub record SameLayout (old new : List ℕ) : Type 0 where
@@ -121,10 +122,6 @@ pub record IsCounted (old head : List ℕ) (number : ℕ) : Type 0 where
   pub kept : KeepsLayout old head
   pub points : points_of head ≡ number
 
-and_false : (b : Bool) → (b && false) ≡ false
-and_false true = refl
-and_false false = refl
-
 same_counts : (b c n : Bool) → (b || (c && n && not true)) ≡ b
 same_counts true c n = refl
 same_counts false true true = refl
@@ -139,7 +136,7 @@ right_counts head n fits short long =
     ∙ ap (λ (l : ℕ). has_long_counts head && (nat_le (2 ^ 32) l || (not (n == 0) && not (l == 0) && not (n == l)))) long
     ∙ ap (λ (b : Bool). has_long_counts head && (nat_le (2 ^ 32) n || (not (n == 0) && not (n == 0) && not b))) (eq-eqb n n refl)
     ∙ ap (λ (b : Bool). has_long_counts head && b) (same_counts (nat_le (2 ^ 32) n) (not (n == 0)) (not (n == 0)) ∙ small)
-    ∙ and_false (has_long_counts head)
+    ∙ and-false (has_long_counts head)
 
 short_counted : (points : ℕ) (returns head : List ℕ) → IsHead head → points < 2 ^ 32 → length (short_bytes points returns) ≡ 24 → has_long_counts head ≡ false
     → IsCounted head (splice head 107 131 (short_bytes points returns)) points
@@ -154,7 +151,7 @@ short_counted points returns head is fits short_size no_long =
     let short : short_points_of new ≡ points = points-short_bytes points 107 returns head (omega (arith, is.block)) fits in
     let counted : points_of new ≡ points = ap (λ (b : Bool). cond (b && (short_points_of new == 0)) (long_points_of new) (short_points_of new)) long ∙ short in
     record {
-      is_head = IsHead-layout head new is layout (λ four. let clash : true ≡ false = sym four ∙ long in absurd (cc)) (false_and _ _ long) (omega (arith, counted));
+      is_head = IsHead-layout head new is layout (λ four. let clash : true ≡ false = sym four ∙ long in absurd (cc)) (and_left _ _ long) (omega (arith, counted));
       kept = keeps head new is layout;
       points = counted;
     }

@@ -52,6 +52,10 @@ cut_records record_length zero bytes = []
 cut_records record_length (suc count) bytes =
     take record_length bytes ∷ cut_records record_length count (drop record_length bytes)
 
+-- whole records, each as its bytes
+abbrev pub cut_all : (size : ℕ) → List ℕ → List (List ℕ)
+cut_all size bytes = cut_records size (length bytes / size) bytes
+
 -- the point records of an accepted plain file, each as its bytes
 abbrev pub records_of : (file : List ℕ) → List (List ℕ)
 records_of file = cut_records (record_length_of file) (points_of file) (drop (point_offset_of file) file)

@@ -4,6 +4,7 @@ use Rattle.std.proofs.Math.Nat.{mul-div-le, mul-div_cancel_left, mul-le-mul_left
 use Rattle.std.proofs.Math.Seq.{take-append-add}
 use Rattle.std.proofs.lemmas.List.{append-nil, drop-append-le, length-drop, length-take-le, take-append-drop, take-append-le}
 use Rattle.las_header.specs.Plain.{cut_records}
+use Rattle.las_header.proofs.Public.{cut_length}
 use Rattle.las_info.specs.Surveys.{IsShown, SurveySeen}
 use Rattle.las_info.specs.Tallies.{HasRoomFor, TapSeen, Tally, count_at, tally_after, with_more, with_one}
 use Rattle.las_info.proofs.Counting.{room_left}
@@ -29,10 +30,6 @@ pub record Piece (size n t k : ℕ) (block piece further : List ℕ) (done : Lis
   pub left : length further ≡ size * (n - (t + k))
   pub cuts : Cuts size n (t + k) block further (done ++ cut_records size k piece)
 
-pub cut_length : (size n : ℕ) (bytes : List ℕ) → length (cut_records size n bytes) ≡ n
-cut_length size zero bytes = refl
-cut_length size (suc n) bytes = ap suc (cut_length size n (drop size bytes))
-
 -- there is one more group of a size
 pub groups_fit : (n k i : ℕ) → i < n / k → k * i + k ≤ n
 groups_fit n k i lt =
@@ -42,10 +39,6 @@ groups_fit n k i lt =
 
 pub groups_all : (n k i : ℕ) → i ≤ n / k → k * i ≤ n
 groups_all n k i le = omega (arith, mul-le-mul_left k le, mul-div-le n k)
-
--- a group has a record
-pub group_has : (size count : ℕ) (group : List ℕ) → 1 ≤ count → length group ≡ size * count → size ≤ length group
-group_has size count group some long = omega (arith, mul-le-mul_left size some, long)
 
 -- they are there
 pub piece_fits : (size n t k : ℕ) (rest : List ℕ) → t + k ≤ n → length rest ≡ size * (n - t) → size * k ≤ length rest

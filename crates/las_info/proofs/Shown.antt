@@ -1,5 +1,5 @@
 -- Records that are shown to a survey, block by block.
-use Rattle.std.proofs.Common.{◌≡◌, ℕ, ◌+◌, ◌-◌, ◌^◌, ◌<◌, ◌≤◌, List, [], ◌∷◌, ◌++◌, length, map, Result, Ok, Err, OnErr, OnOk, refl, sym, ◌∙◌, ap, subst, arith}
+use Rattle.std.proofs.Common.{◌≡◌, ℕ, ◌+◌, ◌-◌, ◌^◌, ◌<◌, ◌≤◌, List, [], ◌∷◌, ◌++◌, length, map, refl, sym, ◌∙◌, ap, subst, arith}
 use Rattle.std.specs.Prelude.{All}
 use Rattle.std.proofs.lemmas.List.Elements.{All-head, All-tail, All-cons, All-nil}
 use Rattle.las_info.specs.Summaries.{SummarySeen, summary_of}
@@ -7,20 +7,6 @@ use Rattle.std.proofs.lemmas.List.{take_all}
 use Rattle.las_info.specs.Tallies.{IsShownSome, TapSeen, Tally, count_at, shown, shown_all, tally_after, with_one}
 use Rattle.las_info.proofs.Counting.{shown-few, shown-more}
 use Rattle.las_info.specs.Surveys.{IsShown, SurveySeen}
-
--- what a failed call leaves
-pub on_err : {T E P : Type 0} (r : Result T E) → P → OnErr r P
-on_err (Ok x) p = tt
-on_err (Err e) p = p
-
--- what follows from what a call gives, and from what it leaves
-pub on_ok_then : {T E P Q : Type 0} (r : Result T E) → (P → Q) → OnOk r P → OnOk r Q
-on_ok_then (Ok x) f p = f p
-on_ok_then (Err e) f p = tt
-
-pub on_err_then : {T E P Q : Type 0} (r : Result T E) → (P → Q) → OnErr r P → OnErr r Q
-on_err_then (Ok x) f p = tt
-on_err_then (Err e) f p = f p
 
 -- a tap that was shown no record, or all of them
 pub shown_none : (records : List (List ℕ)) (tap : TapSeen) → IsShownSome records tap tap

@@ -1,5 +1,5 @@
 -- The plain file that is read again and packed, or not.
-use Rattle.std.proofs.Common.{◌≡◌, inl, inr, ℕ, ◌+◌, Bool, true, false, cond, List, drop, Option, Some, None, IsSomeAnd, is_some, refl, ◌∙◌, ap, subst, arith}
+use Rattle.std.proofs.Common.{◌≡◌, inl, inr, ℕ, ◌+◌, Bool, true, false, cond, List, drop, Option, Some, None, is_some, refl, ◌∙◌, ap, subst, arith}
 use Rattle.std.specs.FinMap as map
 use Rattle.las_header.specs.declared.refusal.Refusal.{Refusal}
 use Rattle.las_header.specs.Fields.{head_of, point_offset_of}
@@ -15,26 +15,9 @@ use Rattle.laz_forms.specs.Laws.{CanBePacked}
 use Rattle.laz_reader.specs.Reading.{EndsReading, ReaderSeen, ReadsAll, StandsFor, chunk_of}
 use Rattle.laz_forms.specs.Sizes.{points_size}
 use Rattle.laz_forms.specs.Refusing.{IsRefusal}
-use Rattle.laz_forms.proofs.Public.{known_both, known_then, refused_once}
+use Rattle.laz_forms.proofs.Public.{known_both, known_then, refused_once, not_missing, not_both}
 use Rattle.laz_reader.proofs.Public.{left_size}
 use Rattle.las_make.specs.Making.{FailsPacking, LeavesForm, LeavesFormInPart, fault_of}
-
-no_such : (o : Option (List ℕ)) (P : List ℕ → Type 0) → o ≡ None → IsSomeAnd o P → ⊥
-no_such None P none p = p
-no_such (Some file) P none p = absurd (cc)
-
-not_missing : (held : Option FileMap) (name : List ℕ) (P : List ℕ → Type 0) → WhereKnown held name P → IsMissing held name → ⊥
-not_missing None name P known missing = missing
-not_missing (Some files) name P known missing = no_such (map.get files name) P missing known
-
-some_clash : (o : Option (List ℕ)) (P Q : List ℕ → Type 0) → ((file : List ℕ) → P file → Q file → ⊥) → IsSomeAnd o P → IsSomeAnd o Q → ⊥
-some_clash None P Q clash p q = p
-some_clash (Some file) P Q clash p q = clash file p q
-
--- if what was read clashes with what is known, nothing is known
-unknown : (held : Option FileMap) (name : List ℕ) (P Q : List ℕ → Type 0) → ((file : List ℕ) → P file → Q file → ⊥) → WhereKnown held name P → WhereKnown held name Q → held ≡ None
-unknown None name P Q clash p q = refl
-unknown (Some files) name P Q clash p q = absurd (some_clash (map.get files name) P Q clash p q)
 
 some_none : (cause : Refusal) → ◌≡◌ {A = Option Refusal} (Some cause) None → ⊥
 some_none cause e = absurd (cc)
@@ -52,7 +35,7 @@ module _ (plain packed : List ℕ) (chunk : ℕ) where
   module _ (old new : Outside) (known : WhereKnown old.held plain Can) (same : new.held ≡ old.held) where
     nothing_known : (cause : Refusal) → WhereKnown old.held plain (λ file. IsRefusal file (Some cause)) → (old.held ≡ None) × (new.held ≡ None)
     nothing_known cause refused =
-        let none = unknown old.held plain Can (λ file. IsRefusal file (Some cause)) (λ file can is. some_none cause (refused_once file (Some cause) None is can.accepted)) known refused in
+        let none = not_both old.held plain Can (λ file. IsRefusal file (Some cause)) (λ file can is. some_none cause (refused_once file (Some cause) None is can.accepted)) known refused in
         (none, same ∙ none)
 
     -- it could not be opened
@@ -66,7 +49,7 @@ module _ (plain packed : List ℕ) (chunk : ℕ) where
     -- it was opened as a packed file
     pub packed_unknown : (reader : ReaderSeen) → is_some reader.chunk ≡ true → WhereKnown old.held plain (StandsFor reader) → (old.held ≡ None) × (new.held ≡ None)
     packed_unknown reader some stands =
-        let none = unknown old.held plain Can (StandsFor reader)
+        let none = not_both old.held plain Can (StandsFor reader)
         (λ file can st.
         let plain_one : chunk_of (head_of file) ≡ None = ap (λ (b : Bool). cond b (Some (chunk_size_of (head_of file))) None) can.plain in
         let clash : is_some reader.chunk ≡ false = ap is_some (st.chunk ∙ plain_one) in absurd (cc)) known stands in

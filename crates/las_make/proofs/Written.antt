@@ -1,6 +1,6 @@
 -- Records that are pushed block by block, and the plain file that they give.
 use Rattle.std.proofs.Common.{◌≡◌, inr, ℕ, zero, suc, ◌+◌, ◌*◌, ◌-◌, ◌%◌, ◌≤◌, min, false, List, [], ◌∷◌, ◌++◌, length}
-use Rattle.std.proofs.Common.{take, drop, Result, Ok, Err, IfErr, IfOk, OnErr, OnOk, sym, ◌∙◌, ap, subst, arith}
+use Rattle.std.proofs.Common.{take, drop, OnOk, sym, ◌∙◌, ap, subst, arith}
 use Rattle.std.proofs.Common.{length-append, append_assoc}
 use Rattle.std.specs.List.{concat}
 use Rattle.std.proofs.Math.Nat.{mul-le-mul_left, mul-mod_right}
@@ -162,11 +162,3 @@ module _ (s : Settings) (range : IsInRange s) where
 
       pub counted_size : record_length_of counted ≡ made_length s
       counted_size = kept.records.record_length ∙ ap record_length_of is ∙ blank-record_length s range
-
-pub on_err_from : {T E Q : Type 0} (P : E → Type 0) (r : Result T E) → ((e : E) → P e → Q) → IfErr r P → OnErr r Q
-on_err_from P (Ok x) to p = tt
-on_err_from P (Err e) to p = to e p
-
-pub ok_with : {T E : Type 0} (P Q : T → Type 0) (r : Result T E) → ((x : T) → P x → Q x) → IfOk r P → IfOk r Q
-ok_with P Q (Ok x) to p = to x p
-ok_with P Q (Err e) to p = tt

@@ -16,7 +16,7 @@ use Rattle.laz_forms.specs.FileFaults.{HasCause}
 use Rattle.laz_reader.specs.Reading.{AgreesWithHead, EndsReading, IsNewReader, ReaderSeen, StandsFor}
 use Rattle.laz_forms.specs.Refusing.{IsRefusal}
 use Rattle.laz_writer.specs.Writing.{WriterSeen}
-use Rattle.laz_forms.proofs.Public.{known_then, refused_once}
+use Rattle.laz_forms.proofs.Public.{known_then, refused_once, not_both}
 use Rattle.laz_reader.proofs.Public.{all_points}
 use Rattle.laz_file.proofs.Public.{part_stands, part_then, takes_none, takes_read, takes_then}
 use Rattle.las_merge.specs.declared.fault.MergeFault.{MergeFault}
@@ -66,15 +66,6 @@ fault_since old mid new number Write known reads writes h = subst (λ (n : ℕ).
 fault_since old mid new number Memory known reads writes h = h
 
 -- ---- known files are opened again as they were
-
--- no two things hold that exclude each other, if the file is known
-not_both : (held : Option FileMap) (name : List ℕ) (P Q : List ℕ → Type 0) → ((file : List ℕ) → P file → Q file → ⊥) → WhereKnown held name P → WhereKnown held name Q → held ≡ None
-not_both None name P Q never p q = refl
-not_both (Some files) name P Q never p q = absurd (by (finmap.get files name) p q)
-  where
-    by : (o : Option (List ℕ)) → IsSomeAnd o P → IsSomeAnd o Q → ⊥
-    by None a b = a
-    by (Some file) a b = never file a b
 
 module _ (held : Option FileMap) (input : InputSeen) (stands : WhereKnown held input.name (IsItsFile input)) where
   not_missing : IsMissing held input.name → ⊥

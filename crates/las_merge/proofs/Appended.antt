@@ -3,15 +3,15 @@ use Rattle.std.proofs.Common.{◌≡◌, ◌≢◌, inl, inr, ℕ, zero, suc, �
 use Rattle.std.specs.FinMap as map
 use Rattle.std.proofs.lemmas.List.Sums.{sum_by-append, sum_by-cons}
 use Rattle.std.specs.Prelude.{All, sum_by}
-use Rattle.std.proofs.lemmas.List.{append-nil, drop-drop, length-take, take_more, take-append-drop, take-append-le, take-take, take_all, take_min}
+use Rattle.std.proofs.lemmas.List.{append-nil, drop-drop, length-take, take_more, take-append-drop, take-take, take_all}
 use Rattle.std.proofs.lemmas.Bool.{cases_lt}
 use Rattle.std.proofs.Math.Nat.{min-eq_left, min-eq_right}
-use Rattle.std.proofs.Math.Seq.{take-add, take-append-add}
+use Rattle.std.proofs.Math.Seq.{take-add}
 use Rattle.std.specs.List.{concat}
 use Rattle.las_outside.specs.Faults.{Rose}
 use Rattle.las_outside.specs.Files.{FileMap, WhereKnown, bytes_of, with_file}
 use Rattle.las_outside.specs.Outside.{Outside, with_asked, with_bytes, with_write_fault}
-use Rattle.las_outside.proofs.Public.{get-with_value, same_other, after, changed_after}
+use Rattle.las_outside.proofs.Public.{get-with_value, same_other, after, changed_after, prefix_of}
 use Rattle.laz_forms.specs.declared.fault.Fault.TheVariants as fault
 use Rattle.laz_file.specs.Copying.{with_reads}
 use Rattle.las_merge.specs.declared.fault.MergeFault.{MergeFault}
@@ -36,12 +36,6 @@ pub part_more : (held : Option FileMap) (name : List ℕ) (place done size : ℕ
 part_more held name place done size =
     let rest = drop place (bytes_of held name) in
     ap (λ (t : List ℕ). take done rest ++ take size t) (sym (drop-drop done place (bytes_of held name))) ∙ sym (take-add done size rest)
-
--- a prefix of a part after those before it is a prefix of all
-pub prefix_of : (done piece rest : List ℕ) (n : ℕ) → done ++ take n piece ≡ take (length done + min n (length piece)) (done ++ (piece ++ rest))
-prefix_of done piece rest n =
-    let short : min n (length piece) ≤ length piece = omega arith in
-    ap (λ (t : List ℕ). done ++ t) (sym (take_min n piece) ∙ sym (take-append-le (min n (length piece)) piece rest short)) ∙ sym (take-append-add done (piece ++ rest) (min n (length piece)))
 
 pub part_prefix : (held : Option FileMap) (name : List ℕ) (place done piece size k : ℕ) → done + piece ≤ size
     → (n : ℕ) × (part_in held name place done ++ take k (part_in held name (place + done) piece) ≡ take n (part_in held name place size))

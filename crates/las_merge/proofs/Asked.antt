@@ -9,10 +9,11 @@ use Rattle.las_outside.proofs.Public.{get-with_value, same_other}
 use Rattle.laz_reader.specs.Asking.{AsksAtMost, asked_to_open, bytes_left}
 use Rattle.laz_reader.specs.Reading.{ReaderSeen, ReadsAll, StandsFor}
 use Rattle.laz_forms.specs.Sizes.{points_size}
-use Rattle.laz_forms.proofs.Public.{known_both, sum-first}
+use Rattle.laz_forms.proofs.Public.{known_both}
 use Rattle.laz_reader.proofs.Public.{left_size}
 use Rattle.las_merge.specs.Asking.{asked_of_all}
 use Rattle.las_merge.specs.Inputs.{IfKnown, item_at}
+use Rattle.laz_models.proofs.Public.{sum-cons}
 
 -- ---- sums over names
 module _ (f : List ℕ → ℕ) where
@@ -21,14 +22,14 @@ module _ (f : List ℕ → ℕ) where
 
   pub sum_next : (names : List (List ℕ)) (i : ℕ) → i < length names → sum_of (take (suc i) names) ≡ sum_of (take i names) + f (item_at names i)
   sum_next [] i lt = absurd (omega (arith, lt))
-  sum_next (x ∷ xs) zero lt = sum-first (f x) [] ∙ omega arith
-  sum_next (x ∷ xs) (suc i) lt = omega (arith, sum-first (f x) (map f (take (suc i) xs)), sum-first (f x) (map f (take i xs)), sum_next xs i (omega (arith, lt)))
+  sum_next (x ∷ xs) zero lt = sum-cons (f x) [] ∙ omega arith
+  sum_next (x ∷ xs) (suc i) lt = omega (arith, sum-cons (f x) (map f (take (suc i) xs)), sum-cons (f x) (map f (take i xs)), sum_next xs i (omega (arith, lt)))
 
   pub sum_some : (names : List (List ℕ)) (i : ℕ) → sum_of (take i names) ≤ sum_of names
   sum_some [] zero = omega arith
   sum_some [] (suc i) = omega arith
   sum_some (x ∷ xs) zero = omega arith
-  sum_some (x ∷ xs) (suc i) = omega (arith, sum-first (f x) (map f (take i xs)), sum-first (f x) (map f xs), sum_some xs i)
+  sum_some (x ∷ xs) (suc i) = omega (arith, sum-cons (f x) (map f (take i xs)), sum-cons (f x) (map f xs), sum_some xs i)
 
 -- ---- one input
 
@@ -58,15 +59,6 @@ asked_there held name asked old new most known is = of_some (finmap.get known na
     of_some None most = absurd most
     of_some (Some file) most = most
 
--- an input that was opened is not missing
-pub not_missing : (held : Option FileMap) (name : List ℕ) (P : List ℕ → Type 0) → WhereKnown held name P → IsMissing held name → ⊥
-not_missing None name P known missing = missing
-not_missing (Some files) name P known missing = by (finmap.get files name) known missing
-  where
-    by : (o : Option (List ℕ)) → IsSomeAnd o P → o ≡ None → ⊥
-    by None p none = p
-    by (Some file) p none = absurd (cc)
-
 -- an input that was opened again, and read
 pub asked_again : (held : Option FileMap) (name : List ℕ) (reader : ReaderSeen) (old mid new : Outside) → ReadsAll reader → WhereKnown held name (StandsFor reader) → WhereKnown held name (λ file. AsksAtMost (asked_to_open file) old mid) → AsksAtMost (bytes_left reader) mid new
     → WhereKnown held name (λ file. AsksAtMost (asked_to_open file + points_size file) old new)
@@ -86,6 +78,6 @@ other_asked asked known output text (n ∷ names) other =
     let here : finmap.get (finmap.insert known output text) n ≡ finmap.get known n = other_name known output text n (All-head (λ (name : List ℕ). name ≢ output) n names other) in
     let rest = other_asked asked known output text names (All-tail (λ (name : List ℕ). name ≢ output) n names other) in
     ap (λ (m : ℕ). sum (m ∷ map (λ name. asked (finmap.get (finmap.insert known output text) name)) names)) (ap asked here)
-    ∙ sum-first (asked (finmap.get known n)) (map (λ name. asked (finmap.get (finmap.insert known output text) name)) names)
+    ∙ sum-cons (asked (finmap.get known n)) (map (λ name. asked (finmap.get (finmap.insert known output text) name)) names)
     ∙ ap (λ (m : ℕ). asked (finmap.get known n) + m) rest
-    ∙ sym (sum-first (asked (finmap.get known n)) (map (λ name. asked (finmap.get known name)) names))
+    ∙ sym (sum-cons (asked (finmap.get known n)) (map (λ name. asked (finmap.get known name)) names))

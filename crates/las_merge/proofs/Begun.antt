@@ -1,8 +1,6 @@
 -- An output that was begun, or not.
-use Rattle.std.proofs.Common.{◌≡◌, ◌⊎◌, inl, inr, ℕ, Bool, true, false, cond, List, take, Option, Result, IfErr, refl, sym, subst}
-use Rattle.las_header.specs.Fields.{is_packed}
-use Rattle.las_header.specs.Plain.{plain_of, without_first}
-use Rattle.las_header.specs.Vlrs.{laszip_vlrs_of}
+use Rattle.std.proofs.Common.{◌≡◌, ◌⊎◌, inl, inr, ℕ, List, take, Option, Result, IfErr, sym, subst}
+use Rattle.las_header.specs.Plain.{plain_of}
 use Rattle.las_outside.specs.Faults.{Rose}
 use Rattle.las_outside.specs.Outside.{Outside, with_bytes}
 use Rattle.laz_forms.specs.declared.fault.Fault.{Fault}
@@ -18,13 +16,6 @@ pub fails_begin : (old new : Outside) (out : Output) (cause : Fault) (r : MergeF
     → Stops cause old new ⊎ ((n : ℕ) × Stops cause (with_bytes old out.name (take n (front out))) new) → FailsBeginning old new out r
 fails_begin old new out cause r memory write (inl is) rose s = subst (FailsBeginning old new out) (sym (memory is)) (λ records. create_left old new out cause records s)
 fails_begin old new out cause r memory write (inr is) rose s = subst (FailsBeginning old new out) (sym (write is)) (rose is, λ records. create_left old new out cause records s)
-
-pub plain_itself : (head : List ℕ) → is_packed head ≡ false → head ≡ plain_of head
-plain_itself head is = sym (by (is_packed head) is)
-  where
-    by : (b : Bool) → b ≡ false → cond b (without_first (laszip_vlrs_of head) head) head ≡ head
-    by true e = absurd (cc)
-    by false e = refl
 
 pub fails_under : {T : Type 0} (r : Result T MergeFault) (old new : Outside) (name head plain : List ℕ) (chunk : Option ℕ) → plain ≡ plain_of head → IfErr r (FailsBeginning old new (output_with name plain chunk)) → IfErr r (FailsBeginning old new (output_under name head chunk))
 fails_under r old new name head plain chunk is fails = subst (λ (h : List ℕ). IfErr r (FailsBeginning old new (output_with name h chunk))) is fails

@@ -7,7 +7,7 @@ use Rattle.las_outside.specs.Files.{FileMap}
 use Rattle.laz_forms.specs.declared.fault.Fault.TheVariants as fault
 use Rattle.laz_forms.specs.Pieces.{Piece}
 use Rattle.laz_forms.specs.Refusing.{IsAcceptedFile}
-use Rattle.laz_forms.proofs.Public.{one_pieces, refused_once}
+use Rattle.laz_forms.proofs.Public.{one_pieces, refused_once, some_same, none_some}
 use Rattle.laz_copied.specs.Copied.{AreChunks, Chunk, HaveChunks, all_of, chunk_at, first_head, points_in}
 use Rattle.las_merge.specs.declared.field.Field.{Field}
 use Rattle.las_merge.specs.declared.fault.MergeFault.{MergeFault}
@@ -16,7 +16,7 @@ use Rattle.las_merge.specs.CopiedLaws.{AreCopiedOnce, IsKeptFromCopyingByOne, Is
 use Rattle.las_merge.specs.Fields.{first_difference}
 use Rattle.las_merge.specs.Inputs.{item_at}
 use Rattle.las_merge.specs.Packed.{AreFirstPacked, CanCopyFrom, IsKeptFromCopying, IsPacked, IsRefusedToCopy}
-use Rattle.las_merge.proofs.Kept.{file_same, none_some, same_files, same_head, some_same}
+use Rattle.las_merge.proofs.Kept.{file_same, same_files, same_head}
 
 both-ways : (b : Bool) → b ≡ true → b ≡ false → ⊥
 both-ways b e f = absurd (let g : true ≡ false = sym e ∙ f in cc)

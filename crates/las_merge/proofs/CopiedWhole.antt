@@ -1,6 +1,6 @@
 -- Whole files that were merged by copying their chunks, or not.
 use Rattle.std.proofs.Common.{◌≡◌, ◌≢◌, ◌⊎◌, inl, inr, ℕ, zero, suc, ◌+◌, ◌^◌, ◌<◌, ◌≤◌, Bool, true, false, sum, List}
-use Rattle.std.proofs.Common.{[], ◌∷◌, length, map, take, Option, Some, Result, Ok, Err, IfErr, OnErr, OnOk, sym, ◌∙◌}
+use Rattle.std.proofs.Common.{[], ◌∷◌, length, map, take, Option, Some, sym, ◌∙◌}
 use Rattle.std.proofs.Common.{ap, subst, arith}
 use Rattle.std.specs.Prelude.{All, sum_by}
 use Rattle.std.specs.List.{AllByRecursion}
@@ -48,18 +48,6 @@ copy_within P old new number (fault.Refused cause) h = absurd h
 copy_within P old new number fault.Read h = h.0
 copy_within P old new number fault.Write h = absurd h
 copy_within P old new number fault.Memory h = absurd h
-
-pub on_err_then : {T E P Q : Type 0} (r : Result T E) → (P → Q) → OnErr r P → OnErr r Q
-on_err_then (Ok x) to p = tt
-on_err_then (Err e) to p = to p
-
-pub on_err_from : {T E Q : Type 0} (P : E → Type 0) (r : Result T E) → ((e : E) → P e → Q) → IfErr r P → OnErr r Q
-on_err_from P (Ok x) to p = tt
-on_err_from P (Err e) to p = to e p
-
-pub on_ok_any : {T E P : Type 0} (r : Result T E) → P → OnOk r P
-on_ok_any (Ok x) p = p
-on_ok_any (Err e) p = tt
 
 -- ---- inputs that were listed
 first_packed_by : (inputs : List InputSeen) → 1 ≤ length inputs → All IsPackedInput inputs

@@ -8,7 +8,7 @@ use Rattle.las_header.specs.Fields.{head_of}
 use Rattle.las_outside.specs.Files.{FileMap}
 use Rattle.laz_forms.specs.declared.fault.Fault.TheVariants as fault
 use Rattle.laz_forms.specs.Refusing.{IsRefusal}
-use Rattle.laz_forms.proofs.Public.{refused_once}
+use Rattle.laz_forms.proofs.Public.{refused_once, some_same, none_some}
 use Rattle.las_merge.specs.declared.field.Field.{Field}
 use Rattle.las_merge.specs.declared.fault.MergeFault.{MergeFault}
 use Rattle.las_merge.specs.declared.fault.MergeFault.TheVariants.{At, Unequal, TooManyPoints, TooManyChunks, Write, Memory}
@@ -16,12 +16,6 @@ use Rattle.las_merge.specs.Fields.{first_difference}
 use Rattle.laz_copied.specs.Copied.{first_head, points_in}
 use Rattle.las_merge.specs.Inputs.{AreFirst, CanMerge, IsKeptBy, item_at}
 use Rattle.las_merge.specs.Laws.{AreMergedOnce, IsKeptByOne, IsKeptOrMerged}
-
-pub some_same : {X : Type 0} (x y : X) → Some x ≡ Some y → x ≡ y
-some_same x y e = cc
-
-pub none_some : {X : Type 0} (x : X) → None ≡ Some x → ⊥
-none_some x e = absurd (cc)
 
 module _ (known : FileMap) (names : List (List ℕ)) where
   -- two lists of first inputs are the same as far as both reach

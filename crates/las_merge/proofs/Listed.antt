@@ -16,7 +16,7 @@ use Rattle.laz_table.specs.Table.{table_bytes}
 use Rattle.laz_table.specs.VlrCauses.{chunk_size_of}
 use Rattle.laz_reader.specs.Asking.{asked_for_chunks}
 use Rattle.laz_forms.specs.Packing.{packed_head, table_after}
-use Rattle.laz_forms.specs.Pieces.{ArePieces, Piece}
+use Rattle.laz_forms.specs.Pieces.{ArePieces, Piece, bytes_in}
 use Rattle.laz_reader.specs.Reading.{AgreesWithHead, ReaderSeen, StandsFor, chunks_in}
 use Rattle.laz_forms.specs.Refusing.{IsAcceptedFile, chunks_place}
 use Rattle.laz_forms.proofs.Public.{sum-lengths, known_both, known_then, concat-append}
@@ -24,7 +24,7 @@ use Rattle.laz_copied.specs.Copied as copied
 use Rattle.laz_copied.specs.Copied.{Chunk, HaveChunks, all_of, chunk_at, copied_file, copied_head, counts_in, first_head, points_in, returns_to_15}
 use Rattle.laz_copied.proofs.Public.{piece_counts, IsChunked, chunked, packed_front_known}
 use Rattle.las_merge.specs.Appending.{LiesIn, SourceSeen, part_of}
-use Rattle.las_merge.specs.Listing.{AddsChunks, IsListed, IsPackedInput, ListedInput, ListsChunks, all_pieces, asked_to_list, bytes_in, source_of}
+use Rattle.las_merge.specs.Listing.{AddsChunks, IsListed, IsPackedInput, ListedInput, ListsChunks, all_pieces, asked_to_list, source_of}
 use Rattle.las_merge.specs.Opening.{InputSeen, IsItsFile, IsOpen, first_read, names_read, points_read}
 use Rattle.las_merge.specs.Packed.{IsPacked, asked_to_copy}
 use Rattle.las_merge.specs.Summing.{copied_text, long_returns_in, returns_in, summed_head}
@@ -57,7 +57,7 @@ module _ (known : FileMap) where
   place_by : (l : ListedInput) → IsRead l → length l.input.head.bytes + 8 ≡ chunks_place (file_of known l.input.name)
   place_by l r = ap (λ (n : ℕ). n + 8) (ap length r.head ∙ (packed_front_known (file_of known l.input.name) r.accepted r.packed).long)
 
-  part_by : (l : ListedInput) → IsRead l → part_of (Some known) (source_of l) ≡ concat (copied.bytes_in (chunks_by l))
+  part_by : (l : ListedInput) → IsRead l → part_of (Some known) (source_of l) ≡ concat (copied.byte_lists_in (chunks_by l))
   part_by l r =
       ap (λ (n : ℕ). take (bytes_in l.pieces) (drop n (file_of known l.input.name))) (place_by l r) ∙ sym (chunked_by l r).joined
 
@@ -87,7 +87,7 @@ module _ (known : FileMap) where
   counts-append : (xs ys : List Chunk) → counts_in (xs ++ ys) ≡ counts_in xs ++ counts_in ys
   counts-append xs ys = map-append (λ (c : Chunk). c.count) xs ys
 
-  bytes-append : (xs ys : List Chunk) → copied.bytes_in (xs ++ ys) ≡ copied.bytes_in xs ++ copied.bytes_in ys
+  bytes-append : (xs ys : List Chunk) → copied.byte_lists_in (xs ++ ys) ≡ copied.byte_lists_in xs ++ copied.byte_lists_in ys
   bytes-append xs ys = map-append (λ (c : Chunk). c.bytes) xs ys
 
   pub counts_all : (listed : List ListedInput) → counts_in (all_of (parts_of listed)) ≡ map (λ p. p.count) (all_pieces listed)
@@ -98,33 +98,33 @@ module _ (known : FileMap) where
       ∙ ap (λ (t : List ℕ). t ++ counts_in (all_of (parts_of ls))) (piece_counts (file_of known l.input.name) l.pieces)
       ∙ ap (λ (t : List ℕ). map count l.pieces ++ t) (counts_all ls) ∙ sym (map-append count l.pieces (all_pieces ls))
 
-  pub sizes_all : (listed : List ListedInput) → AllByRecursion IsRead listed → map length (copied.bytes_in (all_of (parts_of listed))) ≡ map (λ p. p.size) (all_pieces listed)
+  pub sizes_all : (listed : List ListedInput) → AllByRecursion IsRead listed → map length (copied.byte_lists_in (all_of (parts_of listed))) ≡ map (λ p. p.size) (all_pieces listed)
   sizes_all [] read = refl
   sizes_all (l ∷ ls) read =
       let size : Piece → ℕ = λ p. p.size in
       let long : List ℕ → ℕ = length in
       ap (map long) (bytes-append (chunks_by l) (all_of (parts_of ls)))
-      ∙ map-append long (copied.bytes_in (chunks_by l)) (copied.bytes_in (all_of (parts_of ls)))
-      ∙ ap (λ (t : List ℕ). t ++ map long (copied.bytes_in (all_of (parts_of ls)))) (chunked_by l read.0).sizes
+      ∙ map-append long (copied.byte_lists_in (chunks_by l)) (copied.byte_lists_in (all_of (parts_of ls)))
+      ∙ ap (λ (t : List ℕ). t ++ map long (copied.byte_lists_in (all_of (parts_of ls)))) (chunked_by l read.0).sizes
       ∙ ap (λ (t : List ℕ). map size l.pieces ++ t) (sizes_all ls read.1) ∙ sym (map-append size l.pieces (all_pieces ls))
 
   pub length_all : (listed : List ListedInput) → length (all_of (parts_of listed)) ≡ length (all_pieces listed)
   length_all listed =
       sym (length-map (all_of (parts_of listed)) (λ (c : Chunk). c.count)) ∙ ap length (counts_all listed) ∙ length-map (all_pieces listed) (λ (p : Piece). p.count)
 
-  parts_all : (listed : List ListedInput) → AllByRecursion IsRead listed → concat (map (part_of (Some known)) (map source_of listed)) ≡ concat (copied.bytes_in (all_of (parts_of listed)))
+  parts_all : (listed : List ListedInput) → AllByRecursion IsRead listed → concat (map (part_of (Some known)) (map source_of listed)) ≡ concat (copied.byte_lists_in (all_of (parts_of listed)))
   parts_all [] read = refl
   parts_all (l ∷ ls) read =
       ap (λ (t : List ℕ). t ++ concat (map (part_of (Some known)) (map source_of ls))) (part_by l read.0)
-      ∙ ap (λ (t : List ℕ). concat (copied.bytes_in (chunks_by l)) ++ t) (parts_all ls read.1)
-      ∙ sym (ap concat (bytes-append (chunks_by l) (all_of (parts_of ls))) ∙ concat-append (copied.bytes_in (chunks_by l)) (copied.bytes_in (all_of (parts_of ls))))
+      ∙ ap (λ (t : List ℕ). concat (copied.byte_lists_in (chunks_by l)) ++ t) (parts_all ls read.1)
+      ∙ sym (ap concat (bytes-append (chunks_by l) (all_of (parts_of ls))) ∙ concat-append (copied.byte_lists_in (chunks_by l)) (copied.byte_lists_in (all_of (parts_of ls))))
 
   -- how many bytes are asked for
   pub asked_all : (listed : List ListedInput) → AllByRecursion IsRead listed → asked_to_list listed + sum_by (λ s. s.size) (map source_of listed) ≡ asked_to_copy (files_in listed) (parts_of listed)
   asked_all [] read = refl
   asked_all (l ∷ ls) read =
       let size : SourceSeen → ℕ = λ s. s.size in
-      let bytes : bytes_in l.pieces ≡ length (concat (copied.bytes_in (chunks_by l))) = sym (ap sum (chunked_by l read.0).sizes) ∙ sum-lengths (copied.bytes_in (chunks_by l)) in
+      let bytes : bytes_in l.pieces ≡ length (concat (copied.byte_lists_in (chunks_by l))) = sym (ap sum (chunked_by l read.0).sizes) ∙ sum-lengths (copied.byte_lists_in (chunks_by l)) in
       let pieces : length (chunks_by l) ≡ length l.pieces = length-map l.pieces (chunk_at (file_of known l.input.name)) in
       omega (arith, sum_by-cons size (source_of l) (map source_of ls), asked_all ls read.1, bytes, ap asked_for_chunks pieces, ap length read.0.head)
 
@@ -159,12 +159,12 @@ module _ (known : FileMap) where
       let new = copied_head (files_in listed) in
       let same : head ≡ new = head_same inputs opened (omega (arith, some, length-map listed (λ (l : ListedInput). l.input))) in
       let counts_same : counts ≡ counts_in chunks = counts_are ∙ sym (counts_all listed) in
-      let sizes_same : sizes ≡ map length (copied.bytes_in chunks) = sizes_are ∙ sym (sizes_all listed read) in
-      let sums : sum sizes ≡ length (concat (copied.bytes_in chunks)) = ap sum sizes_same ∙ sum-lengths (copied.bytes_in chunks) in
-      let place_same : place ≡ table_after head 4294967295 (copied.bytes_in chunks) = omega (arith, place_is, sums) in
+      let sizes_same : sizes ≡ map length (copied.byte_lists_in chunks) = sizes_are ∙ sym (sizes_all listed read) in
+      let sums : sum sizes ≡ length (concat (copied.byte_lists_in chunks)) = ap sum sizes_same ∙ sum-lengths (copied.byte_lists_in chunks) in
+      let place_same : place ≡ table_after head 4294967295 (copied.byte_lists_in chunks) = omega (arith, place_is, sums) in
       let parts_same = parts_all listed read in
       (λ j. (packed_head (same j) 4294967295 ++ little_bytes 8 (place_same j)) ++ (parts_same j ++ table_bytes (counts_same j) (sizes_same j)))
-      ∙ ap (λ (h : List ℕ). (packed_head new 4294967295 ++ little_bytes 8 (table_after h 4294967295 (copied.bytes_in chunks))) ++ (concat (copied.bytes_in chunks) ++ table_bytes (counts_in chunks) (map length (copied.bytes_in chunks)))) same
+      ∙ ap (λ (h : List ℕ). (packed_head new 4294967295 ++ little_bytes 8 (table_after h 4294967295 (copied.byte_lists_in chunks))) ++ (concat (copied.byte_lists_in chunks) ++ table_bytes (counts_in chunks) (map length (copied.byte_lists_in chunks)))) same
 
 -- ---- one input more
 module _ (held : Option FileMap) where

@@ -2,6 +2,7 @@
 use Rattle.std.proofs.Common.{◌≡◌, inl, inr, ℕ, ◌^◌, ◌<◌, ◌≤◌, List, [], length, Option, Result, Ok, Err, sym, ◌∙◌}
 use Rattle.std.proofs.Common.{ap, subst, is_some}
 use Rattle.std.specs.Prelude.{IfErr, IsErrAnd, OnOk}
+use Rattle.std.proofs.lemmas.Result.{IfErr-weaker, on_ok_weaker}
 use Rattle.las_outside.specs.Faults.{Rose}
 use Rattle.las_outside.specs.Files.{with_file}
 use Rattle.las_outside.specs.Frames.{IsCalm, OnlyReads, OnlyWrites}
@@ -10,14 +11,13 @@ use Rattle.las_outside.proofs.Public.{calm-trans, later-trans}
 use Rattle.laz_forms.specs.declared.fault.Fault.TheVariants as fault
 use Rattle.laz_forms.specs.Outputs.{finished}
 use Rattle.laz_writer.specs.Writing.{Stands, WriterSeen}
-use Rattle.laz_file.proofs.Public.{err_at, ok_then}
+use Rattle.laz_file.proofs.Public.{err_at}
 use Rattle.las_merge.specs.declared.fault.MergeFault.{MergeFault}
 use Rattle.las_merge.specs.declared.fault.MergeFault.TheVariants.{At, Unequal, TooManyPoints, TooManyChunks, Write}
 use Rattle.las_merge.specs.Copying.{CopiesAll, EndsMerging, FailsBeginning, output_under}
 use Rattle.las_merge.specs.Opening.{AreOpen, EndsOpening, InputSeen, first_read, names_read, points_read}
 use Rattle.las_merge.specs.Outcomes.{SaysMerging}
 use Rattle.las_merge.proofs.Again.{never_known, none_after, none_before}
-use Rattle.las_merge.proofs.CopiedWhole.{on_err_from}
 use Rattle.las_merge.proofs.Ends.{AreOther, before_by, can_by, first_before, many_by, refused_by, unequal_by}
 use Rattle.las_merge.proofs.Known.{files_of}
 use Rattle.las_merge.proofs.Whole.{at_number, can_merge, ends_mid, left_begun, merged_all, merged_bad, merged_left}
@@ -115,7 +115,7 @@ module _ (names : List (List ℕ)) (output : List ℕ) (chunk : Option ℕ) (old
           → IfErr outcome Ends → OnOk outcome (IsCalm now new) → Later now new
           → SaysMerging names output chunk old new outcome
       says_filling done ends filled later = record {
-        merged = ok_then outcome (λ f known holds. merged_all old.held names readers opened all output head chunk some
+        merged = on_ok_weaker outcome (λ f known holds. merged_all old.held names readers opened all output head chunk some
             head_is other mid now w reads.held s known holds few f.0 new.held f.1 f.2) done;
         refused = λ number cause is known holds. elim (err_at Ends outcome (At number (fault.Refused cause)) ends is) [
           | inl e ↦ inr (merged_bad old.held names readers opened all output head chunk some head_is other mid now w
@@ -152,11 +152,11 @@ module _ (names : List (List ℕ)) (output : List ℕ) (chunk : Option ℕ) (old
         );
         never = λ number is. err_at Ends outcome (At number fault.Write) ends is;
         few_chunks = λ is. err_at Ends outcome TooManyChunks ends is;
-        left = on_err_from Ends outcome
+        left = IfErr-weaker outcome Ends _
             (λ e here known holds. merged_left old.held names readers opened all output head chunk some head_is other
             mid now w reads.held s known holds few new.held
             (ends_mid mid now new (names_read readers) w (output_under output head chunk) s e here)) ends;
-        calm = ok_then outcome
+        calm = on_ok_weaker outcome
             (λ c. calm-trans old mid new opening (calm-trans mid now new beginning c)) filled;
         later = later-trans old now new (later-trans old mid now reads.later begun.later) later;
       }

@@ -2,6 +2,7 @@
 use Rattle.std.proofs.Common.{◌≡◌, ℕ, zero, suc, ◌<◌, List, [], ◌∷◌, ◌++◌, length, take, Option, Some, None, refl, sym, ◌∙◌, ap, append_assoc, arith}
 use Rattle.std.specs.List.{concat}
 use Rattle.laz_forms.specs.Records.{AreRecordsOf}
+use Rattle.laz_forms.proofs.Public.{some_same, none_some}
 use Rattle.las_merge.specs.Copying.{BeginsWith, OnlyRecords}
 use Rattle.las_merge.specs.Inputs.{item_at}
 use Rattle.las_merge.specs.Merging.{BadPlace, HasRecords, HaveRecords, MergesTo, OnlyMerges}
@@ -11,12 +12,6 @@ only_records : (file part : List ℕ) (bad worse : Option ℕ) (blocks : List (L
 only_records file part bad worse blocks o are =
     let s = o.1.only blocks worse are in
     (ap concat s.0 ∙ sym o.2, s.1)
-
-none_some : {X : Type 0} (x : X) → None ≡ Some x → ⊥
-none_some x e = absurd (cc)
-
-some_same : {X : Type 0} (x y : X) → Some x ≡ Some y → x ≡ y
-some_same x y e = cc
 
 -- a place in more files, of which these are the last
 abbrev pub moved : Option BadPlace → Option BadPlace

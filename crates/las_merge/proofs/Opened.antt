@@ -16,7 +16,7 @@ use Rattle.las_merge.specs.declared.field.Field.{Field}
 use Rattle.las_merge.specs.declared.field.Field.TheVariants.{Format, Length, Scales, Offsets, Bounds}
 use Rattle.las_merge.specs.declared.fault.MergeFault.{MergeFault}
 use Rattle.las_merge.specs.declared.fault.MergeFault.TheVariants.{At, Unequal, TooManyPoints, TooManyChunks, Write, Memory}
-use Rattle.las_merge.specs.Fields.{bytes_in, first_difference, first_in, is_same}
+use Rattle.las_merge.specs.Fields.{field_bytes, first_difference, first_in, is_same}
 use Rattle.las_merge.specs.Inputs.{item_at}
 use Rattle.las_merge.specs.Opening.{AreOpen, EndsOpening, FailsNext, FailsOpening, InputSeen, IsNext, IsOpen, first_read, names_read}
 
@@ -25,9 +25,9 @@ use Rattle.las_merge.specs.Opening.{AreOpen, EndsOpening, FailsNext, FailsOpenin
 same_in : (field : Field) (head : List ℕ) → is_same field head head ≡ true
 same_in Format head = (Decides-eqb (format_of head) (format_of head)).1 refl
 same_in Length head = (Decides-eqb (record_length_of head) (record_length_of head)).1 refl
-same_in Scales head = (bytes_eq-Decides (bytes_in 131 24 head) (bytes_in 131 24 head)).1 refl
-same_in Offsets head = (bytes_eq-Decides (bytes_in 155 24 head) (bytes_in 155 24 head)).1 refl
-same_in Bounds head = (bytes_eq-Decides (bytes_in 179 48 head) (bytes_in 179 48 head)).1 refl
+same_in Scales head = (bytes_eq-Decides (field_bytes 131 24 head) (field_bytes 131 24 head)).1 refl
+same_in Offsets head = (bytes_eq-Decides (field_bytes 155 24 head) (field_bytes 155 24 head)).1 refl
+same_in Bounds head = (bytes_eq-Decides (field_bytes 179 48 head) (field_bytes 179 48 head)).1 refl
 
 none_in : (fields : List Field) (head : List ℕ) → first_in fields head head ≡ None
 none_in [] head = refl

@@ -24,24 +24,24 @@ use Rattle.laz_forms.specs.Laws.{AreHeadAndRecords, file_of}
 use Rattle.laz_forms.specs.Outputs.{finished, records_after}
 use Rattle.laz_forms.specs.Refusing.{IsAcceptedFile}
 use Rattle.laz_forms.proofs.Public.{counted_format, counted_lengths, are_counted, finished_is, long-size, short-size, accepted_plain, head-is, plain-kept, records-is, splice-again, splice-splice, is_plain_form, reads_plain}
+use Rattle.laz_forms.proofs.Public.{plain_itself}
 use Rattle.las_merge.specs.Copying.{output_with}
 use Rattle.las_merge.specs.declared.field.Field.{Field}
 use Rattle.las_merge.specs.declared.field.Field.TheVariants.{Format, Length, Scales, Offsets, Bounds}
-use Rattle.las_merge.specs.Fields.{bytes_in, first_difference, first_in, is_same}
+use Rattle.las_merge.specs.Fields.{field_bytes, first_difference, first_in, is_same}
 use Rattle.laz_copied.specs.Copied.{first_head, points_in}
 use Rattle.las_merge.specs.Inputs.{CanMerge}
 use Rattle.las_merge.specs.Merging.{HasRecords, HaveRecords, merged_output}
 use Rattle.las_merge.specs.Parts.{IsPart, PartsMerge, StandUnder, part_file, part_files}
-use Rattle.las_merge.proofs.Begun.{plain_itself}
 
 -- ---- a head that is counted
 
 -- bytes between the counts stay
-between-once : (head short : List ℕ) (place size : ℕ) → 131 ≤ length head → length short ≡ 24 → 131 ≤ place → bytes_in place size (splice head 107 131 short) ≡ bytes_in place size head
+between-once : (head short : List ℕ) (place size : ℕ) → 131 ≤ length head → length short ≡ 24 → 131 ≤ place → field_bytes place size (splice head 107 131 short) ≡ field_bytes place size head
 between-once head short place size enough s after = ap (λ (t : List ℕ). take size t) (drop-splice head 107 131 place short (omega (arith, s)) enough after)
 
 between-by : (both : Bool) (head short long : List ℕ) (place size : ℕ) → 131 ≤ length head → (both ≡ true → 375 ≤ length head) → length short ≡ 24 → length long ≡ 128 → 131 ≤ place → place + size ≤ 227
-    → bytes_in place size (cond both (splice (splice head 107 131 short) 247 375 long) (splice head 107 131 short)) ≡ bytes_in place size head
+    → field_bytes place size (cond both (splice (splice head 107 131 short) 247 375 long) (splice head 107 131 short)) ≡ field_bytes place size head
 between-by false head short long place size enough far s l after before = between-once head short place size enough s after
 between-by true head short long place size enough far s l after before =
     let once = splice head 107 131 short in
@@ -81,7 +81,7 @@ module _ (head : List ℕ) (is : IsHead head) where
   enough : 131 ≤ length head
   enough = omega (arith, is.block)
 
-  same_between : (records : List ℕ) (place size : ℕ) → 131 ≤ place → place + size ≤ 227 → bytes_in place size (counted records) ≡ bytes_in place size head
+  same_between : (records : List ℕ) (place size : ℕ) → 131 ≤ place → place + size ≤ 227 → field_bytes place size (counted records) ≡ field_bytes place size head
   same_between records place size after before =
       let all = records_after head records in
       between-by (has_long_counts head) head (counts_bytes (counts_of all)) (long_counts_bytes (counts_of all)) place size enough is.long_block (short-size all) (long-size all) after before
@@ -95,9 +95,9 @@ module _ (head : List ℕ) (is : IsHead head) where
   fields_same : (one other : List ℕ) (field : Field) → is_same field (counted one) (counted other) ≡ true
   fields_same one other Format = (Decides-eqb (format_of (counted one)) (format_of (counted other))).1 (same_format one ∙ sym (same_format other))
   fields_same one other Length = (Decides-eqb (record_length_of (counted one)) (record_length_of (counted other))).1 (same_length one ∙ sym (same_length other))
-  fields_same one other Scales = (bytes_eq-Decides (bytes_in 131 24 (counted one)) (bytes_in 131 24 (counted other))).1 (same_between one 131 24 (omega arith) (omega arith) ∙ sym (same_between other 131 24 (omega arith) (omega arith)))
-  fields_same one other Offsets = (bytes_eq-Decides (bytes_in 155 24 (counted one)) (bytes_in 155 24 (counted other))).1 (same_between one 155 24 (omega arith) (omega arith) ∙ sym (same_between other 155 24 (omega arith) (omega arith)))
-  fields_same one other Bounds = (bytes_eq-Decides (bytes_in 179 48 (counted one)) (bytes_in 179 48 (counted other))).1 (same_between one 179 48 (omega arith) (omega arith) ∙ sym (same_between other 179 48 (omega arith) (omega arith)))
+  fields_same one other Scales = (bytes_eq-Decides (field_bytes 131 24 (counted one)) (field_bytes 131 24 (counted other))).1 (same_between one 131 24 (omega arith) (omega arith) ∙ sym (same_between other 131 24 (omega arith) (omega arith)))
+  fields_same one other Offsets = (bytes_eq-Decides (field_bytes 155 24 (counted one)) (field_bytes 155 24 (counted other))).1 (same_between one 155 24 (omega arith) (omega arith) ∙ sym (same_between other 155 24 (omega arith) (omega arith)))
+  fields_same one other Bounds = (bytes_eq-Decides (field_bytes 179 48 (counted one)) (field_bytes 179 48 (counted other))).1 (same_between one 179 48 (omega arith) (omega arith) ∙ sym (same_between other 179 48 (omega arith) (omega arith)))
 
   none_differ : (one other : List ℕ) (fields : List Field) → first_in fields (counted one) (counted other) ≡ None
   none_differ one other [] = refl

@@ -3,6 +3,7 @@ use Rattle.std.proofs.Common.{◌≡◌, ℕ, ◌+◌, ◌*◌, ◌≤◌, List,
 use Rattle.std.specs.List.{concat}
 use Rattle.std.specs.Prelude.{OnErr}
 use Rattle.std.proofs.lemmas.List.{take_all}
+use Rattle.std.proofs.lemmas.Result.{IfOk-weaker, IfErr-weaker}
 use Rattle.las_header.specs.declared.refusal.Refusal.{Refusal}
 use Rattle.las_header.specs.declared.refusal.Refusal.TheVariants.{BadChunk}
 use Rattle.las_header.specs.Fields.{record_length_of}
@@ -14,7 +15,7 @@ use Rattle.laz_forms.specs.Pieces.{Piece}
 use Rattle.laz_reader.specs.Reading.{ReaderSeen, ReadsAll, StandsFor, records_in}
 use Rattle.laz_forms.specs.Records.{AreRead, HoldOnly, IsBadPiece}
 use Rattle.laz_writer.specs.Writing.{WriterSeen}
-use Rattle.laz_forms.proofs.Public.{known_as, known_both, known_then, known_three, one_pieces, if_err_weaker, if_ok_weaker}
+use Rattle.laz_forms.proofs.Public.{known_as, known_both, known_then, known_three, one_pieces}
 use Rattle.laz_file.proofs.Public.{length_whole, read_begins, part_stands, takes_none, all_records, left_is as whole_left, records_before, stands_ready}
 use Rattle.las_merge.specs.Copying.{BeginsWith, CopiesTo, OnlyRecords}
 
@@ -70,8 +71,7 @@ module _ (old new : Outside) (first reader : ReaderSeen) (buffers : ℕ) (ready 
       → IfOk r (λ end. (n : ℕ) × (blocks : List (List ℕ)) × HoldFirst old.held reader n blocks × EndsAfter old.held reader n end × Takes old new w v (concat blocks))
       → IfOk r (λ end. (records : List ℕ) × CopiesTo old.held first.name records end × Takes old new w v records × (end ≡ None → length records ≡ w.size * records_in first.left))
   copied_input size r copied =
-      if_ok_weaker (λ end. (n : ℕ) × (blocks : List (List ℕ)) × HoldFirst old.held reader n blocks × EndsAfter old.held reader n end × Takes old new w v (concat blocks))
-      (λ end. (records : List ℕ) × CopiesTo old.held first.name records end × Takes old new w v records × (end ≡ None → length records ≡ w.size * records_in first.left)) r
+      IfOk-weaker r (λ end. (n : ℕ) × (blocks : List (List ℕ)) × HoldFirst old.held reader n blocks × EndsAfter old.held reader n end × Takes old new w v (concat blocks)) (λ end. (records : List ℕ) × CopiesTo old.held first.name records end × Takes old new w v records × (end ≡ None → length records ≡ w.size * records_in first.left))
       (λ end d.
       let hold = subst (λ (x : ReaderSeen). HoldFirst old.held x d.0 d.1) ready d.2 in
       let ends = subst (λ (x : ReaderSeen). EndsAfter old.held x d.0 end) ready d.3 in (
@@ -84,8 +84,7 @@ module _ (old new : Outside) (first reader : ReaderSeen) (buffers : ℕ) (ready 
   pub failed_input : (r : Result (Option Refusal) Fault) → OnErr r ((n : ℕ) × (blocks : List (List ℕ)) × HoldFirst old.held reader n blocks × LeavesPart old new w (concat blocks))
       → OnErr r ((records : List ℕ) × WhereKnown old.held first.name (λ file. BeginsWith file records) × LeavesPart old new w records)
   failed_input r part =
-      if_err_weaker (λ fault. (n : ℕ) × (blocks : List (List ℕ)) × HoldFirst old.held reader n blocks × LeavesPart old new w (concat blocks))
-      (λ fault. (records : List ℕ) × WhereKnown old.held first.name (λ file. BeginsWith file records) × LeavesPart old new w records) r
+      IfErr-weaker r (λ fault. (n : ℕ) × (blocks : List (List ℕ)) × HoldFirst old.held reader n blocks × LeavesPart old new w (concat blocks)) (λ fault. (records : List ℕ) × WhereKnown old.held first.name (λ file. BeginsWith file records) × LeavesPart old new w records)
       (λ fault d.
       let hold = subst (λ (x : ReaderSeen). HoldFirst old.held x d.0 d.1) ready d.2 in
       (concat d.1, begins_taken old.held first buffers new_one stands d.0 d.1 hold, d.3)) part

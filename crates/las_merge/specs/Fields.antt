@@ -7,17 +7,17 @@ use Rattle.las_merge.specs.declared.field.Field.{Field}
 use Rattle.las_merge.specs.declared.field.Field.TheVariants.{Format, Length, Scales, Offsets, Bounds}
 
 -- some bytes of a head, from a place on
-abbrev pub bytes_in : (place size : ℕ) → (head : List ℕ) → List ℕ
-bytes_in place size head = take size (drop place head)
+abbrev pub field_bytes : (place size : ℕ) → (head : List ℕ) → List ℕ
+field_bytes place size head = take size (drop place head)
 
 -- Two heads have the same in a field (LAS specification, "Public Header Block"): three doubles of scales at 131, three
 -- of offsets at 155, and the six of the box at 179.
 abbrev pub is_same : Field → (head other : List ℕ) → Bool
 is_same Format head other = format_of head == format_of other
 is_same Length head other = record_length_of head == record_length_of other
-is_same Scales head other = bytes_eq (bytes_in 131 24 head) (bytes_in 131 24 other)
-is_same Offsets head other = bytes_eq (bytes_in 155 24 head) (bytes_in 155 24 other)
-is_same Bounds head other = bytes_eq (bytes_in 179 48 head) (bytes_in 179 48 other)
+is_same Scales head other = bytes_eq (field_bytes 131 24 head) (field_bytes 131 24 other)
+is_same Offsets head other = bytes_eq (field_bytes 155 24 head) (field_bytes 155 24 other)
+is_same Bounds head other = bytes_eq (field_bytes 179 48 head) (field_bytes 179 48 other)
 
 -- the first of some fields in which two heads differ
 abbrev pub first_in : List Field → (head other : List ℕ) → Option Field

@@ -1,6 +1,6 @@
 -- What is kept of packed inputs from their opening on: their heads, where their chunks stand, and the numbers of points
 -- and of bytes of all chunks.
-use Rattle.std.specs.Prelude.{◌≡◌, ◌⊎◌, ℕ, ◌+◌, ◌<◌, ◌≤◌, Bool, true, false, List, length, map, sum}
+use Rattle.std.specs.Prelude.{◌≡◌, ◌⊎◌, ℕ, ◌+◌, ◌<◌, ◌≤◌, Bool, true, false, List, length, map}
 use Rattle.std.specs.Prelude.{Option, Some, All, ◌++◌}
 use Rattle.std.specs.Prelude.{[], ◌∷◌}
 use Rattle.las_header.specs.Fields.{is_packed}
@@ -11,7 +11,7 @@ use Rattle.laz_table.specs.declared.limits.TheConstants.{MAX_CHUNKS}
 use Rattle.laz_forms.specs.declared.fault.Fault.{Fault}
 use Rattle.laz_forms.specs.declared.fault.Fault.TheVariants as fault
 use Rattle.laz_reader.specs.Asking.{asked_for_chunks}
-use Rattle.laz_forms.specs.Pieces.{ArePieces, Piece}
+use Rattle.laz_forms.specs.Pieces.{ArePieces, Piece, bytes_in}
 use Rattle.laz_reader.specs.Reading.{ReaderSeen}
 use Rattle.laz_copied.specs.Copied.{all_of}
 use Rattle.las_merge.specs.declared.fault.MergeFault.{MergeFault}
@@ -35,10 +35,6 @@ input_of name reader = record { name = name; head = reader.head }
 
 abbrev pub listed_as : (name : List ℕ) → ReaderSeen → ListedInput
 listed_as name reader = record { input = input_of name reader; pieces = reader.pieces }
-
--- how many bytes pieces have, in all
-abbrev pub bytes_in : List Piece → ℕ
-bytes_in pieces = sum (map (λ piece. piece.size) pieces)
 
 -- the part of an input that its chunks are: they stand one after another, after the head and the pointer
 abbrev pub source_of : ListedInput → SourceSeen

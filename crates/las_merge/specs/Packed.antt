@@ -11,7 +11,7 @@ use Rattle.laz_table.specs.declared.limits.TheConstants.{MAX_CHUNKS}
 use Rattle.laz_forms.specs.declared.fault.Fault.TheVariants as fault
 use Rattle.laz_reader.specs.Asking.{asked_for_chunks}
 use Rattle.laz_forms.specs.Refusing.{IsAcceptedFile, IsRefusal}
-use Rattle.laz_copied.specs.Copied.{Chunk, HaveChunks, bytes_in, copied_file, first_head, all_of, points_in}
+use Rattle.laz_copied.specs.Copied.{Chunk, HaveChunks, byte_lists_in, copied_file, first_head, all_of, points_in}
 use Rattle.las_merge.specs.declared.fault.MergeFault.{MergeFault}
 use Rattle.las_merge.specs.declared.fault.MergeFault.TheVariants.{At, Unequal, TooManyPoints, TooManyChunks, Write}
 use Rattle.las_merge.specs.declared.fault.MergeFault.TheVariants.{Memory}
@@ -69,7 +69,7 @@ abbrev pub asked_to_copy : (files : List (List ℕ)) → (parts : List (List Chu
 asked_to_copy [] parts = 0
 asked_to_copy (file ∷ files) [] = 0
 asked_to_copy (file ∷ files) (part ∷ parts) =
-    length (head_of file) + asked_for_chunks (length part) + length (concat (bytes_in part)) + asked_to_copy files parts
+    length (head_of file) + asked_for_chunks (length part) + length (concat (byte_lists_in part)) + asked_to_copy files parts
 
 -- An input is refused for this cause: as a plain one, or when it is opened.
 abbrev pub IsRefusedToCopy : (file : List ℕ) → Refusal → Type 0

@@ -1,7 +1,7 @@
 //! The fields in which the heads of inputs are compared.
 ghost use Rattle.std.specs.Prelude.{◌≡◌, ◌+◌, ◌≤◌, length};
 ghost use Rattle.std.specs.Str.{bytes_eq};
-ghost use Rattle.las_merge.specs.Fields.{bytes_in, first_difference, is_same};
+ghost use Rattle.las_merge.specs.Fields.{field_bytes, first_difference, is_same};
 
 use las_header::Head;
 
@@ -36,7 +36,7 @@ fn same_bytes(head: &[u8], other: &[u8], place: usize, size: usize) -> bool
     requires small { place + size ≤ 227 }
     requires head { 227 ≤ length head.now }
     requires other { 227 ≤ length other.now }
-    ensures { result ≡ bytes_eq (bytes_in place size head.now) (bytes_in place size other.now) }
+    ensures { result ≡ bytes_eq (field_bytes place size head.now) (field_bytes place size other.now) }
 {
     head[place..place + size] == other[place..place + size]
 }

@@ -5,6 +5,7 @@ use Rattle.std.specs.Cmp.Lexicographic.{slice_cmp, nat_list_cmp_total}
 use Rattle.std.specs.FinMap as map
 use Rattle.std.proofs.lemmas.Map.Text.{is_eq-slice_cmp}
 use Rattle.std.proofs.lemmas.Slice.Eq.{bytes_eq-Decides}
+use Rattle.std.proofs.lemmas.Bool.{cases_Bool}
 use Rattle.las_outside.specs.Files.{FileMap}
 use Rattle.las_outside.specs.MemFiles.{RoomFor, RoomMap, with_value, by_name, files_in, rooms_in, IsFirst, IsAbsent}
 
@@ -14,13 +15,9 @@ Named X = map.FinMap (slice_cmp nat_cmp) X
 abbrev pub same : List ℕ → List ℕ → Bool
 same q k = eq_by_cmp (slice_cmp nat_cmp) q k
 
-true_or_false : (b : Bool) → (b ≡ true) ⊎ (b ≡ false)
-true_or_false true = inl refl
-true_or_false false = inr refl
-
 -- the order of names tells them apart
 pub same_or_not : (q k : List ℕ) → ((same q k ≡ true) × (q ≡ k)) ⊎ ((same q k ≡ false) × (q ≢ k))
-same_or_not q k = elim (true_or_false (same q k)) [
+same_or_not q k = elim (cases_Bool (same q k)) [
   | inl equal ↦ inl (equal, (bytes_eq-Decides q k).0 (sym (is_eq-slice_cmp q k) ∙ equal))
   | inr other ↦ inr (other, λ e. let t : true ≡ false = sym (is_eq-slice_cmp q k ∙ (bytes_eq-Decides q k).1 e) ∙ other in cc)
 ]

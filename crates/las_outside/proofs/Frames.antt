@@ -24,9 +24,6 @@ only_reads-trans a b c ab bc = record {
   later = later-trans a b c ab.later bc.later;
 }
 
-pub reads-refl : (most : ℕ) (a : Outside) → Reads most a a
-reads-refl most a = record { only = only_reads-refl a; asked = omega arith }
-
 pub reads-trans : (n m : ℕ) (a b c : Outside) → Reads n a b → Reads m b c → Reads (n + m) a c
 reads-trans n m a b c ab bc = record {
   only = only_reads-trans a b c ab.only bc.only;

@@ -37,8 +37,8 @@ pub with_more-none : (sink : SinkView) → sink ≡ with_more sink []
 with_more-none sink = ap (λ (w : Option (List ℕ)). let s : SinkView = record { written = w; faults = sink.faults } in s) (written_after-none sink.written)
 
 -- some of a piece after those before it is a prefix of the whole text
-pub front : (done piece rest : List ℕ) (n : ℕ) → done ++ take n piece ≡ take (length done + min n (length piece)) (done ++ (piece ++ rest))
-front done piece rest n =
+pub prefix_of : (done piece rest : List ℕ) (n : ℕ) → done ++ take n piece ≡ take (length done + min n (length piece)) (done ++ (piece ++ rest))
+prefix_of done piece rest n =
     let short : min n (length piece) ≤ length piece = omega arith in
     ap (λ (t : List ℕ). done ++ t) (sym (take_min n piece) ∙ sym (take-append-le (min n (length piece)) piece rest short)) ∙ sym (take-append-add done (piece ++ rest) (min n (length piece)))
 
@@ -54,7 +54,7 @@ cut_off pieces i n d old so_far new within was put =
     let done = text_of (take i pieces) in
     let piece = (get_or pieces i d).now in
     let rest = text_of (drop (suc i) pieces) in
-    let whole = front done piece rest n ∙ ap (λ (t : List ℕ). take (length done + min n (length piece)) t) (sym (text_of_split pieces i d within)) in (
+    let whole = prefix_of done piece rest n ∙ ap (λ (t : List ℕ). take (length done + min n (length piece)) t) (sym (text_of_split pieces i d within)) in (
       length done + min n (length piece),
       put ∙ ap (λ (s : SinkView). with_fault (with_more s (take n piece))) was ∙ ap with_fault (with_more-twice old done (take n piece) ∙ ap (with_more old) whole),
     )

@@ -1,7 +1,6 @@
 -- How many bytes a command asks for, by what its calls say of a reader.
-use Rattle.std.proofs.Common.{◌≡◌, ℕ, ◌+◌, ◌-◌, ◌^◌, ◌≤◌, Bool, true, false, cond, min, List, drop, Option, Some, None, IsSomeAnd, Result, Ok, Err, refl, sym, ◌∙◌, ap, subst, arith}
+use Rattle.std.proofs.Common.{◌≡◌, ℕ, ◌+◌, ◌-◌, ◌^◌, ◌≤◌, min, List, drop, Option, Some, None, IsSomeAnd, Result, Ok, Err, refl, sym, ◌∙◌, ap, subst, arith}
 use Rattle.std.specs.FinMap as finmap
-use Rattle.las_header.specs.declared.refusal.Refusal.{Refusal}
 use Rattle.las_header.specs.Fields.{head_of, points_of}
 use Rattle.las_header.specs.Heads.{HeadView, IsHead}
 use Rattle.las_outside.specs.Files.{FileMap, IsMissing, WhereKnown}
@@ -14,17 +13,15 @@ use Rattle.las_words.specs.declared.command.WordFault.TheVariants as fault
 use Rattle.las_words.specs.Asked.{Asked, Las2lasOptions, OneInput, Work, asked_by, las2las, lasinfo, lassplit, laszip, reads, work_by}
 use Rattle.las_words.specs.Says.{Said, asks, usage}
 use Rattle.laz_reader.specs.Asking.{AsksAtMost, asked_to_open, bytes_left}
-use Rattle.laz_forms.specs.Pieces.{ArePieces, Piece}
+use Rattle.laz_forms.specs.Pieces.{ArePieces, Piece, bytes_in}
 use Rattle.laz_forms.specs.Ranges.{Range, parts_of}
 use Rattle.laz_reader.specs.Reading.{IsNewReader, ReaderSeen, StandsFor}
-use Rattle.laz_forms.proofs.Public.{known_three, one_pieces, refused_once}
-use Rattle.las_run.specs.Asking.{AsksFor, AsksOf, AsksWhole, TakesAll, WorkAsks, bytes_in, in_first_reading, in_readings}
+use Rattle.laz_reader.proofs.Public.{if_less}
+use Rattle.laz_forms.proofs.Public.{known_three, one_pieces, refused_once, none_some, known_then}
+use Rattle.las_run.specs.Asking.{AsksFor, AsksOf, AsksWhole, TakesAll, WorkAsks, in_first_reading, in_readings}
 use Rattle.las_run.specs.Ends.{IsRead}
 use Rattle.las_run.specs.Tools.{range_in}
-use Rattle.las_run.proofs.Opening.{both_known, known_more}
-
-none_is_some : (c : Refusal) → ◌≡◌ {A = Option Refusal} None (Some c) → ⊥
-none_is_some c e = absurd (cc)
+use Rattle.las_run.proofs.Opening.{both_known}
 
 -- a name that is not missing
 where_there : (held : Option FileMap) (name : List ℕ) (P : List ℕ → Type 0) → ((file : List ℕ) → P file) → (IsMissing held name → ⊥) → WhereKnown held name P
@@ -67,17 +64,13 @@ by_input input pick start stop old new missing there known held = by (finmap.get
 pub asks_opening : (input : List ℕ) (pick : Pick) (start stop : ℕ) (old new : Outside) → (IsMissing old.held input → new.asked ≡ old.asked)
     → ((IsMissing old.held input → ⊥) → WhereKnown old.held input (λ file. AsksAtMost (asked_to_open file) old new)) → AsksFor input pick start stop old new
 asks_opening input pick start stop old new missing opened =
-    by_input input pick start stop old new missing (λ there. known_more old.held input (λ file. AsksAtMost (asked_to_open file) old new) (λ file. AsksOf (Some file) pick start stop old new) (λ file most. (λ cause is. most, λ pieces are. let less = in_one pick (asked_to_open file) (bytes_in (parts_of file (range_in start stop file) pieces)) in omega (arith, most, less))) (opened there))
+    by_input input pick start stop old new missing (λ there. known_then old.held input (λ file. AsksAtMost (asked_to_open file) old new) (λ file. AsksOf (Some file) pick start stop old new) (λ file most. (λ cause is. most, λ pieces are. let less = in_one pick (asked_to_open file) (bytes_in (parts_of file (range_in start stop file) pieces)) in omega (arith, most, less))) (opened there))
 
 -- no file that was asked for anything
 pub asks_nothing : (input : List ℕ) (pick : Pick) (start stop : ℕ) (old new : Outside) → new ≡ old → AsksFor input pick start stop old new
 asks_nothing input pick start stop old new same =
     let none : new.asked ≡ old.asked = ap (λ (o : Outside). o.asked) same in
     by_input input pick start stop old new (λ missing. none) (where_there old.held input (λ file. AsksOf (Some file) pick start stop old new) (λ file. (λ cause is. omega (arith, none), λ pieces are. omega (arith, none))))
-
-if_less : (b : Bool) (n : ℕ) → cond b 0 n ≤ n
-if_less true n = omega arith
-if_less false n = omega arith
 
 -- what a reader that has read nothing has left, as pieces of its file
 pub left_bytes : (reader : ReaderSeen) (file : List ℕ) (pieces : List Piece) (start stop : ℕ) → StandsFor reader file → reader.next ≡ reader.first
@@ -117,7 +110,7 @@ asks_both reader input pick start stop old mid new stands opened rest =
     by_input input pick start stop old new (not_missing old.held input (StandsFor reader) stands) (λ there.
     known_three old.held input (StandsFor reader) Opened Rest (λ file. AsksOf (Some file) pick start stop old new)
     (λ file s front more. (
-      λ cause is. absurd (none_is_some cause (refused_once file None (Some cause) s.accepted is)),
+      λ cause is. absurd (none_some cause (refused_once file None (Some cause) s.accepted is)),
       λ pieces are.
           let last = more pieces are in
           let all = in_all pick (asked_to_open file) (more_of file pieces) in
@@ -143,7 +136,7 @@ module _ (reader : ReaderSeen) (input : List ℕ) (start stop : ℕ) (pick : Pic
   -- it was looked through, perhaps not to the end
   pub asks_looking : (new : Outside) → (pick ≡ First → ⊥) → new.asked ≤ old.asked + bytes_left reader
       → AsksIn new (λ file pieces. in_first_reading pick (asked_to_open file + more_in file pieces))
-  asks_looking new twice asked = known_more old.held input (StandsFor reader) _ (λ file s pieces are.
+  asks_looking new twice asked = known_then old.held input (StandsFor reader) _ (λ file s pieces are.
       let less = left_bytes reader file pieces start stop s unread range are in
       let none : 0 ≤ asked_to_open file = omega arith in
       let all = in_first pick (asked_to_open file) (more_in file pieces) (bytes_left reader) 0 twice less none in
@@ -157,7 +150,7 @@ module _ (reader : ReaderSeen) (input : List ℕ) (start stop : ℕ) (pick : Pic
       let Opened : List ℕ → Type 0 = λ file. AsksAtMost (asked_to_open file) mid new in
       let there : IsMissing mid.held input → ⊥ = λ missing. not_missing old.held input (StandsFor reader) stands (subst (λ (h : Option FileMap). IsMissing h input) same missing) in
       let again = subst (λ (h : Option FileMap). WhereKnown h input Opened) same (opened there) in
-      known_more old.held input (λ file. StandsFor reader file × Opened file) _ (λ file h pieces are.
+      known_then old.held input (λ file. StandsFor reader file × Opened file) _ (λ file h pieces are.
       let less = left_bytes reader file pieces start stop h.0 unread range are in
       let last = h.1 in
       let all = in_first pick (asked_to_open file) (more_in file pieces) (bytes_left reader) (asked_to_open file) twice less (omega arith) in
@@ -168,7 +161,7 @@ module _ (reader : ReaderSeen) (input : List ℕ) (start stop : ℕ) (pick : Pic
       → new.asked ≤ mid.asked + bytes_left reader → AsksIn new (λ file pieces. before file pieces + more_in file pieces)
   asks_selected mid new before asked rest =
       let Before : List ℕ → Type 0 = λ file. (pieces : List Piece) → ArePieces file pieces → AsksAtMost (before file pieces) old mid in
-      known_more old.held input (λ file. StandsFor reader file × Before file) _ (λ file h pieces are.
+      known_then old.held input (λ file. StandsFor reader file × Before file) _ (λ file h pieces are.
       let less = left_bytes reader file pieces start stop h.0 unread range are in
       let first = h.1 pieces are in
       omega (arith, first, rest, less)) (both_known old.held input (StandsFor reader) Before stands asked)
@@ -179,7 +172,7 @@ pub asks_stopped : (input : List ℕ) (start stop : ℕ) (pick : Pick) (old new 
     → AsksAtMost (in_first_reading pick (asked_to_open file + bytes_in (parts_of file (range_in start stop file) pieces))) old new)
     → WhereKnown old.held input (λ file. (pieces : List Piece) → ArePieces file pieces
     → AsksAtMost (in_first_reading pick (asked_to_open file + bytes_in (parts_of file (range_in start stop file) pieces)) + bytes_in (parts_of file (range_in start stop file) pieces)) old new)
-asks_stopped input start stop pick old new asked = known_more old.held input _ _ (λ file h pieces are. let most = h pieces are in omega (arith, most)) asked
+asks_stopped input start stop pick old new asked = known_then old.held input _ _ (λ file h pieces are. let most = h pieces are in omega (arith, most)) asked
 
 -- of words that were read: what the command asks, if what asks nothing is no exception
 asks_by : (said : Said) (read : Result Command WordFault) (work : Work) (workers : ℕ) (old new : Outside)
@@ -241,5 +234,5 @@ asks_all reader input old mid new fresh head stands opened rest =
     let range_at : ℕ → ℕ → Range = λ start stop. record { start = start; stop = stop } in
     let range : reader.range ≡ range_at (min 0 points) (min (2 ^ 32 - 1) points) = fresh.whole.all ∙ ap (λ (n : ℕ). range_at n points) first ∙ ap (range_at (min 0 points)) last in
     asks_both reader input First 0 (2 ^ 32 - 1) old mid new stands opened
-    (known_more old.held input (StandsFor reader) (λ file. (pieces : List Piece) → ArePieces file pieces → AsksAtMost (in_first_reading First (asked_to_open file + bytes_in (parts_of file (range_in 0 (2 ^ 32 - 1) file) pieces)) + bytes_in (parts_of file (range_in 0 (2 ^ 32 - 1) file) pieces)) mid new)
+    (known_then old.held input (StandsFor reader) (λ file. (pieces : List Piece) → ArePieces file pieces → AsksAtMost (in_first_reading First (asked_to_open file + bytes_in (parts_of file (range_in 0 (2 ^ 32 - 1) file) pieces)) + bytes_in (parts_of file (range_in 0 (2 ^ 32 - 1) file) pieces)) mid new)
     (λ file s. λ pieces are. omega (arith, rest, left_bytes reader file pieces 0 (2 ^ 32 - 1) s fresh.unread range are)) stands)

@@ -1,8 +1,7 @@
 -- What is left at an ending, and what a run says of its cause.
-use Rattle.std.proofs.Common.{◌≡◌, ◌⊎◌, inl, inr, ℕ, zero, suc, true, List, [], ◌∷◌, length, take, map, Some, Result, Ok, Err, refl, sym, ◌∙◌, ap, subst, arith}
+use Rattle.std.proofs.Common.{◌≡◌, ◌⊎◌, inl, inr, ℕ, zero, suc, List, [], ◌∷◌, length, take, map, Some, Result, Ok, Err, refl, sym, ◌∙◌, ap, subst, arith}
 use Rattle.std.specs.Prelude.{Any, Contains}
 use Rattle.std.proofs.lemmas.List.{take_all}
-use Rattle.las_outside.specs.Drafts.{with_patches}
 use Rattle.las_outside.specs.Faults.{Rose}
 use Rattle.las_outside.specs.Files.{FileMap, IsMissing}
 use Rattle.las_outside.specs.Outside.{Outside}
@@ -10,6 +9,7 @@ use Rattle.las_outside.specs.Sinks.{SinkView, Puts, with_fault, with_more, writt
 use Rattle.las_outside.proofs.Public.{with_more-none}
 use Rattle.las_words.specs.Says.{usage}
 use Rattle.laz_file.specs.Endings.{AreEnding, OutputFile, at_end, named, with_all}
+use Rattle.laz_file.proofs.Public.{done_texts, all_done, named_done}
 use Rattle.las_run.specs.declared.stop.Stop.{Stop}
 use Rattle.las_run.specs.Endings.{is_done, Cause, Done, Memory, Usage, Unread, Unwritten, Refused, Differs, HasTooMany, Ending, ends_at_once, status_of, files_of, AreLeft, IsLeft}
 use Rattle.las_run.specs.Runs.{RunOf, Task, inputs_of}
@@ -19,19 +19,6 @@ use Rattle.las_run.specs.Lines.{line_of}
 -- nothing was created
 pub nothing_left : (outputs : List OutputFile) (files : FileMap) → IsLeft outputs files files
 nothing_left outputs files = (0, [], inl tt, refl)
-
-done_texts : List OutputFile → List (List ℕ)
-done_texts outputs = map (λ o. with_patches o.draft o.patches) outputs
-
-all_done : (outputs : List OutputFile) → AreEnding outputs (done_texts outputs)
-unfolding done_texts
-all_done [] = tt
-all_done (o ∷ os) = inl (refl, all_done os)
-
-named_done : (outputs : List OutputFile) → map (at_end true) outputs ≡ named outputs (done_texts outputs)
-unfolding done_texts
-named_done [] = refl
-named_done (o ∷ os) = ap (λ (t : List (List ℕ × List ℕ)). at_end true o ∷ t) (named_done os)
 
 -- what stands if all is done is left
 pub left_if_done : (ending : Ending) (files : FileMap) → ending.cause ≡ Done → IsLeft ending.outputs files (files_of ending files)

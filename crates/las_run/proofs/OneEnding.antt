@@ -17,7 +17,7 @@ use Rattle.laz_file.specs.Copying.{plain_output}
 use Rattle.laz_forms.specs.Laws.{HasOneRecords}
 use Rattle.laz_forms.specs.Ranges.{Range}
 use Rattle.laz_forms.specs.Refusing.{IsAcceptedFile}
-use Rattle.laz_forms.proofs.Public.{refused_once}
+use Rattle.laz_forms.proofs.Public.{refused_once, some_same}
 use Rattle.las_convert.specs.Laws.{ConvertsInOneWay}
 use Rattle.las_merge.specs.Existing.{HoldBytes}
 use Rattle.las_merge.specs.Inputs.{CanMerge, item_at}
@@ -36,14 +36,12 @@ use Rattle.las_run.proofs.Merging as merging
 use Rattle.las_run.proofs.Reporting.{only_report}
 
 -- ---- an input is opened in one way
-some_cause : (a b : Refusal) → ◌≡◌ {A = Option Refusal} (Some a) (Some b) → a ≡ b
-some_cause a b e = cc
 
 none_cause : {X : Type 0} (c : Refusal) → ◌≡◌ {A = Option Refusal} None (Some c) → X
 none_cause c e = absurd (cc)
 
 one_accepted : (name file : List ℕ) (Makes : Ending → Type 0) (one other : Ending) → (IsAcceptedFile file → Makes one → Makes other → one ≡ other) → Accepts name file Makes one → Accepts name file Makes other → one ≡ other
-one_accepted name file Makes one other once (inl r) (inl s) = r.2 ∙ ap (λ (c : Refusal). ends_at_once (Refused name c)) (some_cause r.0 s.0 (refused_once file (Some r.0) (Some s.0) r.1 s.1)) ∙ sym s.2
+one_accepted name file Makes one other once (inl r) (inl s) = r.2 ∙ ap (λ (c : Refusal). ends_at_once (Refused name c)) (some_same r.0 s.0 (refused_once file (Some r.0) (Some s.0) r.1 s.1)) ∙ sym s.2
 one_accepted name file Makes one other once (inl r) (inr b) = none_cause r.0 (refused_once file None (Some r.0) b.0 r.1)
 one_accepted name file Makes one other once (inr a) (inl s) = none_cause s.0 (refused_once file None (Some s.0) a.0 s.1)
 one_accepted name file Makes one other once (inr a) (inr b) = once a.0 a.1 b.1

@@ -8,7 +8,7 @@ use Rattle.las_outside.specs.Outside.{Outside}
 use Rattle.las_outside.specs.Sinks.{SinkView, with_fault, with_more}
 use Rattle.las_outside.proofs.Public.{with_more-none}
 use Rattle.laz_forms.specs.Refusing.{IsAcceptedFile, IsRefusal}
-use Rattle.laz_forms.proofs.Public.{refused_once}
+use Rattle.laz_forms.proofs.Public.{refused_once, some_same, none_some}
 use Rattle.laz_file.specs.Endings.{OutputFile}
 use Rattle.las_run.specs.declared.stop.Stop.{Stop}
 use Rattle.las_run.specs.declared.stop.Stop.TheVariants as stop
@@ -37,21 +37,6 @@ both_known (Some files) name P Q p q = go (finmap.get files name) p q
     go : (o : Option (List ℕ)) → IsSomeAnd o P → IsSomeAnd o Q → IsSomeAnd o (λ file. P file × Q file)
     go None p q = p
     go (Some file) p q = (p, q)
-
--- and what follows
-pub known_more : (held : Option FileMap) (name : List ℕ) (P Q : List ℕ → Type 0) → ((file : List ℕ) → P file → Q file) → WhereKnown held name P → WhereKnown held name Q
-known_more None name P Q f p = tt
-known_more (Some files) name P Q f p = go (finmap.get files name) p
-  where
-    go : (o : Option (List ℕ)) → IsSomeAnd o P → IsSomeAnd o Q
-    go None p = p
-    go (Some file) p = f file p
-
-some_refusal : (a b : Refusal) → ◌≡◌ {A = Option Refusal} (Some a) (Some b) → a ≡ b
-some_refusal a b e = cc
-
-none_is_some : (c : Refusal) → ◌≡◌ {A = Option Refusal} None (Some c) → ⊥
-none_is_some c e = absurd (cc)
 
 -- ---- the first output of some
 pub some_outputs : (os : List OutputFile) (o : OutputFile) (rest : List OutputFile) → os ≡ o ∷ rest → os ≢ []
@@ -106,11 +91,11 @@ module _ (task : Task) (name : List ℕ) (Makes : List ℕ → Ending → Type 0
 
   -- of a refused input, and of an accepted one
   only_refused : (file : List ℕ) (cause : Refusal) (other : Ending) → IsRefusal file (Some cause) → Accepts name file (Makes file) other → other ≡ ends_at_once (Refused name cause)
-  only_refused file cause other is (inl r) = r.2 ∙ ap (λ (c : Refusal). ends_at_once (Refused name c)) (some_refusal r.0 cause (refused_once file (Some r.0) (Some cause) r.1 is))
-  only_refused file cause other is (inr a) = absurd (none_is_some cause (refused_once file None (Some cause) a.0 is))
+  only_refused file cause other is (inl r) = r.2 ∙ ap (λ (c : Refusal). ends_at_once (Refused name c)) (some_same r.0 cause (refused_once file (Some r.0) (Some cause) r.1 is))
+  only_refused file cause other is (inr a) = absurd (none_some cause (refused_once file None (Some cause) a.0 is))
 
   pub accepted_makes : (file : List ℕ) (other : Ending) → IsAcceptedFile file → Accepts name file (Makes file) other → Makes file other
-  accepted_makes file other is (inl r) = absurd (none_is_some r.0 (refused_once file None (Some r.0) is r.1))
+  accepted_makes file other is (inl r) = absurd (none_some r.0 (refused_once file None (Some r.0) is r.1))
   accepted_makes file other is (inr a) = a.1
 
   pub missing_ending : (files : FileMap) → finmap.get files name ≡ None → IsTheEnding task files (ends_at_once (Unread name))

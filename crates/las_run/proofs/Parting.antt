@@ -6,7 +6,7 @@ use Rattle.std.specs.FinMap as finmap
 use Rattle.std.specs.List.{concat}
 use Rattle.std.proofs.lemmas.Bool.{cases_lt}
 use Rattle.std.proofs.lemmas.List.Folds.{concat-append}
-use Rattle.std.proofs.Math.Nat.{div-add-mod, div-le_self, mul-div-le, mul-le-mul_left}
+use Rattle.std.proofs.Math.Nat.{div-le_self}
 use Rattle.las_filter.specs.declared.rule.Rule.{Rule}
 use Rattle.las_filter.specs.declared.rule.Rule.TheVariants.{Every}
 use Rattle.las_header.specs.Fields.{record_length_of}
@@ -17,30 +17,10 @@ use Rattle.laz_table.proofs.Public.{IsBytes-append}
 use Rattle.las_merge.specs.Inputs.{item_at}
 use Rattle.las_merge.specs.Parts.{IsPart}
 use Rattle.las_split.specs.Parts.{firsts, number_by, numbers_from, part_from}
-use Rattle.las_split.proofs.Public.{not_there, AreDistinct, IsAbsent}
+use Rattle.las_split.proofs.Public.{not_there, AreDistinct, IsAbsent, next_div, low}
 use Rattle.laz_file.specs.Endings.{with_all}
 
 -- ---- numbers
-
-next_div : (n at : ℕ) → 0 < n → at / n ≤ (at + 1) / n
-next_div n at some =
-    let up : n * (at / n) ≤ at = mul-div-le at n in
-    let down : at + 1 < n * ((at + 1) / n) + n = omega (arith, div-add-mod (at + 1) n) in
-    let far : n * ((at + 1) / n) + n ≡ n * ((at + 1) / n + 1) = omega arith in
-    elim (cases_lt ((at + 1) / n) (at / n)) [
-      | inl less ↦
-          let more : n * ((at + 1) / n + 1) ≤ n * (at / n) = mul-le-mul_left n (let e : (at + 1) / n + 1 ≤ at / n = omega (arith, less) in e) in
-          absurd (omega (arith, more, far, down, up))
-      | inr more ↦ more
-    ]
-
--- no record is in a part before that of the first one
-low : (n at j : ℕ) (rs : List (List ℕ)) → 0 < n → j < at / n → part_from (Every n) at rs j ≡ []
-low n at j [] some less = refl
-low n at j (r ∷ rs) some less =
-    let rest = low n (at + 1) j rs some (omega (arith, less, next_div n at some)) in
-    let other : (at / n == j) ≡ false = not_there j (at / n) (λ e. absurd (omega (arith, less, e))) in
-    ap (λ (b : Bool). cond b (r ∷ part_from (Every n) (at + 1) rs j) (part_from (Every n) (at + 1) rs j)) other ∙ rest
 
 -- ---- lists without a number
 abbrev other : ℕ → ℕ → Bool

@@ -7,7 +7,6 @@ use Rattle.std.specs.Option.{option_map}
 use Rattle.std.specs.Str.{bytes_eq}
 use Rattle.std.proofs.lemmas.List.{get_or-map, length-map}
 use Rattle.std.proofs.lemmas.List.Elements.{All-cons, All-head, All-nil, All-tail}
-use Rattle.std.proofs.lemmas.Slice.Eq.{bytes_eq-Decides}
 use Rattle.las_header.specs.declared.refusal.Refusal.TheVariants.{BadChunk}
 use Rattle.las_header.specs.Fields.{head_of, is_packed}
 use Rattle.las_info.specs.declared.reporting.ReportFault.{ReportFault}
@@ -23,7 +22,7 @@ use Rattle.laz_file.specs.Copying.{AreOnlyRecords}
 use Rattle.laz_forms.specs.Outputs.{records_after}
 use Rattle.laz_forms.specs.Pieces.{ArePieces, Piece}
 use Rattle.laz_reader.specs.Reading.{ReaderSeen, StandsFor, chunks_in}
-use Rattle.laz_forms.proofs.Public.{known_both, one_pieces}
+use Rattle.laz_forms.proofs.Public.{known_both, one_pieces, some_same}
 use Rattle.laz_table.specs.VlrCauses.{chunk_size_of}
 use Rattle.laz_file.specs.Endings.{LeavesOf, Product}
 use Rattle.las_survey.specs.Surveying.{Surveys, surveyed}
@@ -32,19 +31,9 @@ use Rattle.las_run.specs.Ends.{Change, EndsCommand, IsOnlyEnding, stopped_report
 use Rattle.las_run.specs.Tools.{Reports, chosen_taps, chunks_line, ending_of, ending_with, report_if, report_of}
 use Rattle.las_run.specs.Tools.{reports, tallies_text}
 use Rattle.las_run.proofs.Making.{HasText, IsToldBy, ends_put, leaves}
+use Rattle.las_words.proofs.Public.{bytes_eq-swap}
 
 -- ---- names
-swapped : (a b : List ℕ) → bytes_eq a b ≡ false → bytes_eq b a ≡ false
-swapped a b apart = go (bytes_eq b a) refl
-  where
-    go : (answer : Bool) → bytes_eq b a ≡ answer → answer ≡ false
-    go true same =
-        let equal : bytes_eq a b ≡ true = (bytes_eq-Decides a b).1 (sym ((bytes_eq-Decides b a).0 same)) in
-        cc
-    go false other = refl
-
-some_is : {X : Type 0} (x y : X) → ◌≡◌ {A = Option X} (Some x) (Some y) → x ≡ y
-some_is x y e = cc
 
 none_is : {X : Type 0} (y : X) → ◌≡◌ {A = Option X} None (Some y) → ⊥
 none_is y e = absurd (cc)
@@ -63,7 +52,7 @@ find_holds P p [] y all is = absurd (none_is y is)
 find_holds P p (x ∷ xs) y all is = go (p x) is (λ rest. find_holds P p xs y (All-tail P x xs all) rest)
   where
     go : (b : Bool) → cond b (Some x) (find p xs) ≡ Some y → (find p xs ≡ Some y → P y) → P y
-    go true found rest = subst P (some_is x y found) (All-head P x xs all)
+    go true found rest = subst P (some_same x y found) (All-head P x xs all)
     go false found rest = rest found
 
 -- names of which no two are the same, as a function sees them
@@ -82,7 +71,7 @@ module _ {X : Type 0} (seen : X → TapSeen) where
       go : (b : Bool) → bytes_eq (seen x).name name ≡ b → (list_any (bytes_eq name) (map (λ x. (seen x).name) xs) ≡ true → IsSome (find (λ x. bytes_eq (seen x).name name) xs))
           → IsSome (cond b (Some x) (find (λ x. bytes_eq (seen x).name name) xs))
       go true same rest = refl
-      go false other rest = rest (ap (λ (b : Bool). b || list_any (bytes_eq name) (map (λ x. (seen x).name) xs)) (sym (swapped (seen x).name name other)) ∙ any)
+      go false other rest = rest (ap (λ (b : Bool). b || list_any (bytes_eq name) (map (λ x. (seen x).name) xs)) (sym (bytes_eq-swap (seen x).name name other)) ∙ any)
 
   module _ {S : Type 0} (text : S → List ℕ) where
     pub there : (names : List S) (xs : List X) → All (λ name. list_any (bytes_eq name) (map (λ x. (seen x).name) xs) ≡ true) (map text names)

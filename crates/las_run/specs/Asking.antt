@@ -1,5 +1,5 @@
 -- How many bytes of its input a command asks for.
-use Rattle.std.specs.Prelude.{◌≡◌, ℕ, ◌+◌, ◌*◌, ◌-◌, ◌^◌, List, map, sum, Option, Some, None}
+use Rattle.std.specs.Prelude.{◌≡◌, ℕ, ◌+◌, ◌*◌, ◌-◌, ◌^◌, List, Option, Some, None}
 use Rattle.std.specs.FinMap as finmap
 use Rattle.las_header.specs.declared.refusal.Refusal.{Refusal}
 use Rattle.las_outside.specs.Files.{FileMap}
@@ -8,15 +8,11 @@ use Rattle.las_thin.specs.declared.pick.Pick.{Pick}
 use Rattle.las_thin.specs.declared.pick.Pick.TheVariants.{First, Lowest, Highest}
 use Rattle.las_words.specs.Asked.{OneInput, Work, las2las, lasinfo, lassplit, laszip, reads}
 use Rattle.laz_reader.specs.Asking.{AsksAtMost, asked_to_open}
-use Rattle.laz_forms.specs.Pieces.{ArePieces, Piece}
+use Rattle.laz_forms.specs.Pieces.{ArePieces, Piece, bytes_in}
 use Rattle.laz_forms.specs.Ranges.{parts_of}
 use Rattle.laz_forms.specs.Refusing.{IsRefusal}
 use Rattle.las_run.specs.declared.conversion.Conversion.{Conversion}
 use Rattle.las_run.specs.Tools.{range_in}
-
--- how many bytes some pieces have
-abbrev pub bytes_in : List Piece → ℕ
-bytes_in pieces = sum (map (λ piece. piece.size) pieces)
 
 -- the bytes that reading an input once asks for, or those of two readings if the lowest or the highest of a cell stays
 abbrev pub in_readings : Pick → ℕ → ℕ

@@ -1,21 +1,23 @@
 -- Blocks of a reader that go into parts, one after another.
-use Rattle.std.proofs.Common.{◌≡◌, ◌≢◌, ℕ, suc, ◌*◌, ◌/◌, ◌<◌, ◌≤◌, ◌^◌, map, List, [], ◌∷◌, ◌++◌, length, Option, refl, sym, ◌∙◌, ap, subst, arith}
+use Rattle.std.proofs.Common.{◌≡◌, ◌≢◌, ℕ, suc, ◌*◌, ◌/◌, ◌<◌, ◌^◌, map, List, [], ◌∷◌, ◌++◌, length, Option, refl, sym, ◌∙◌, ap, subst, arith}
 use Rattle.std.specs.Prelude.{All}
 use Rattle.std.specs.List.{concat}
 use Rattle.std.proofs.lemmas.List.{append-nil}
 use Rattle.las_filter.specs.Parts.{part_name}
 use Rattle.las_header.specs.Fields.{points_of, record_length_of}
 use Rattle.las_header.specs.Heads.{HeadView, IsHead}
+use Rattle.las_header.specs.Plain.{cut_all}
+use Rattle.las_header.proofs.Public.{cut_length, cut_none}
 use Rattle.las_outside.specs.Files.{FileMap, with_file}
 use Rattle.laz_reader.specs.Reading.{ReaderSeen, records_in}
 use Rattle.laz_reader.specs.Turns.{MayCome, file_at}
 use Rattle.laz_writer.specs.Writing.{WriterSeen}
 use Rattle.laz_file.proofs.Public.{file_beside, records_come}
 use Rattle.las_split.specs.Files.{with_files}
-use Rattle.las_split.specs.Sorting.{HasRoom, InParts, IsPlainFor, LeavesBlock, Task, bytes_at, cut_all, standing}
-use Rattle.las_split.proofs.Blocks.{cut_none}
+use Rattle.las_split.specs.Sorting.{HasRoom, InParts, IsPlainFor, LeavesBlock, Task, bytes_at, standing}
 use Rattle.las_split.proofs.Placing.{leaves_here}
-use Rattle.las_split.proofs.SortingPoints.{all_bytes, cut_length}
+use Rattle.las_split.proofs.SortingPoints.{all_bytes}
+use Rattle.laz_forms.proofs.Public.{record_least}
 
 -- ---- what is known of a file that is none of the parts
 
@@ -51,11 +53,8 @@ parts_none task was ns ws size some none empty =
 
 -- ---- the records of a reader
 
-head_least : (head : List ℕ) → IsHead head → 20 ≤ record_length_of head
-head_least head is = omega (arith, is.record_length)
-
 pub head_some : (head : List ℕ) → IsHead head → 0 < record_length_of head
-head_some head is = omega (arith, head_least head is)
+head_some head is = omega (arith, record_least head is)
 
 -- the records with those of the block that comes next
 module _ (first : ReaderSeen) (xs : List (List ℕ)) (block : List ℕ) (is : IsHead first.head.bytes) (come : MayCome first (concat xs) block) where
@@ -70,7 +69,7 @@ module _ (first : ReaderSeen) (xs : List (List ℕ)) (block : List ℕ) (is : Is
       let points : points_of task.head ≡ records_in first.left = ap points_of same ∙ p.points ∙ sym all in
       record {
         size_is = sym p.size ∙ ap record_length_of (sym same);
-        some = head_least first.head.bytes is;
+        some = record_least first.head.bytes is;
         room = omega (arith, place, come.within, ap (λ (k : ℕ). s * k) points);
         few = subst (λ (k : ℕ). k < 2 ^ 32) (sym (ap points_of same ∙ p.points)) is.points;
       }

@@ -1,29 +1,19 @@
 -- Records of blocks, one block after another.
-use Rattle.std.proofs.Common.{◌≡◌, ℕ, zero, suc, ◌+◌, ◌*◌, ◌/◌, ◌%◌, ◌<◌, ◌≤◌, ◌^◌, Bool, true, false, List, [], ◌∷◌, ◌++◌, length, take, drop, get_or, Option, sym, ◌∙◌, ap, subst, append_assoc, length-append, arith}
+use Rattle.std.proofs.Common.{◌≡◌, ℕ, zero, suc, ◌+◌, ◌*◌, ◌/◌, ◌<◌, ◌≤◌, ◌^◌, Bool, true, false, List, [], ◌∷◌, ◌++◌, length, take, drop, get_or, Option, sym, ◌∙◌, ap, subst, append_assoc, arith}
 use Rattle.std.specs.Prelude.{All}
-use Rattle.std.specs.List.{concat}
 use Rattle.std.proofs.lemmas.List.{length-drop, length-take-le, take-append-drop, take_all}
 use Rattle.std.proofs.lemmas.List.Elements.{All-take}
-use Rattle.std.proofs.Math.Nat.{le_of_mul-le-mul_left, mul-div-le, mul-mod_right, zero-div}
+use Rattle.std.proofs.Math.Nat.{le_of_mul-le-mul_left, mul-div-le}
 use Rattle.std.proofs.Math.Seq.{drop-cons}
 use Rattle.las_header.specs.Fields.{points_of}
-use Rattle.las_header.specs.Plain.{cut_records}
+use Rattle.las_header.specs.Plain.{cut_records, cut_all}
+use Rattle.las_header.proofs.Public.{cut_length}
 use Rattle.las_outside.specs.Files.{FileMap}
 use Rattle.laz_writer.specs.Writing.{WriterSeen}
-use Rattle.laz_forms.proofs.Public.{whole_both}
-use Rattle.las_split.specs.Sorting.{FitAfter, HasRoom, InParts, LeavesBlock, LeavesPrefixes, SortsBlock, TakesBlock, Task, cut_all}
+use Rattle.las_split.specs.Sorting.{FitAfter, HasRoom, InParts, LeavesBlock, LeavesPrefixes, SortsBlock, TakesBlock, Task}
 use Rattle.las_split.specs.Splitting.{OpensTooMany}
-use Rattle.las_split.proofs.SortingPoints.{cut_length}
 
 -- ---- whole records
-
-pub even_all : (size : ℕ) (blocks : List (List ℕ)) → All (λ block. length block % size ≡ 0) blocks → length (concat blocks) % size ≡ 0
-even_all size [] all = ap (λ (n : ℕ). n % size) (let e : 0 ≡ size * 0 = omega arith in e) ∙ mul-mod_right size 0
-even_all size (b ∷ blocks) all =
-    ap (λ (n : ℕ). n % size) (length-append b (concat blocks)) ∙ whole_both size (length b) (length (concat blocks)) (all 0 [] (omega arith)) (even_all size blocks (λ k d lt. all (suc k) d (omega (arith, lt))))
-
-pub cut_none : (size : ℕ) → 0 < size → cut_all size [] ≡ []
-cut_none size some = ap (λ (n : ℕ). cut_records size n []) (zero-div size)
 
 -- ---- a block that was sorted
 

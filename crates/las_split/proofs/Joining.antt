@@ -10,7 +10,7 @@ abbrev joined : (n at : ℕ) → List (List ℕ) → ℕ → List (List ℕ)
 joined n at rs zero = []
 joined n at rs (suc k) = joined n at rs k ++ part_from (Every n) at rs k
 
-next_div : (n at : ℕ) → 0 < n → at / n ≤ (at + 1) / n
+pub next_div : (n at : ℕ) → 0 < n → at / n ≤ (at + 1) / n
 next_div n at some =
     let up : n * (at / n) ≤ at = mul-div-le at n in
     let down : at + 1 < n * ((at + 1) / n) + n = omega (arith, div-add-mod (at + 1) n) in
@@ -23,7 +23,7 @@ next_div n at some =
     ]
 
 -- no record is in a part before that of the first one
-low : (n at j : ℕ) (rs : List (List ℕ)) → 0 < n → j < at / n → part_from (Every n) at rs j ≡ []
+pub low : (n at j : ℕ) (rs : List (List ℕ)) → 0 < n → j < at / n → part_from (Every n) at rs j ≡ []
 low n at j [] some less = refl
 low n at j (r ∷ rs) some less =
     let rest = low n (at + 1) j rs some (omega (arith, less, next_div n at some)) in

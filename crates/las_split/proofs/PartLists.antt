@@ -1,18 +1,15 @@
 -- Numbers of records and the records of parts, of some records and of more.
-use Rattle.std.proofs.Common.{◌≡◌, ◌≢◌, ◌⊎◌, inl, inr, ℕ, suc, ◌+◌, ◌≤◌, ◌==◌, not, ◌||◌, Bool, true, false, cond, filter, List, [], ◌∷◌, ◌++◌, length, refl, sym, ◌∙◌, ap, append_assoc, length-append, eq-eqb, arith}
+use Rattle.std.proofs.Common.{◌≡◌, ◌≢◌, ◌⊎◌, ℕ, suc, ◌+◌, ◌≤◌, ◌==◌, not, ◌||◌, Bool, true, false, cond, filter, List, [], ◌∷◌, ◌++◌, length, refl, sym, ◌∙◌, ap, append_assoc, length-append, eq-eqb, arith}
 use borrow.Author.Tests.{eqb-true}
 use Rattle.std.proofs.lemmas.List.{append-nil}
 use Rattle.std.proofs.lemmas.List.Elements.{filter-append}
+use Rattle.std.proofs.lemmas.Bool.{cases_Bool}
 use Rattle.las_filter.specs.declared.rule.Rule.{Rule}
 use Rattle.las_split.specs.Sorting.{has}
 use Rattle.las_split.specs.Parts.{firsts, number_by, numbers_from, numbers_of_parts, part, part_from}
 
-true_or_false : (b : Bool) → (b ≡ true) ⊎ (b ≡ false)
-true_or_false true = inl refl
-true_or_false false = inr refl
-
 pub has_or_not : (k : ℕ) (ns : List ℕ) → (has k ns ≡ true) ⊎ (has k ns ≡ false)
-has_or_not k ns = true_or_false (has k ns)
+has_or_not k ns = cases_Bool (has k ns)
 
 is_itself : (k : ℕ) → (k == k) ≡ true
 is_itself k = eq-eqb k k refl

@@ -5,3 +5,4 @@ pub use Rattle.las_split.proofs.Making.{only_parts}
 pub use Rattle.las_split.proofs.Opening.{not_there}
 pub use Rattle.las_split.proofs.PuttingFiles.{AreDistinct, IsAbsent}
 pub use Rattle.las_split.proofs.SomeSplits.{splits_some}
+pub use Rattle.las_split.proofs.Joining.{next_div, low}

@@ -15,11 +15,13 @@ use Rattle.laz_forms.proofs.Public.{cut-joined}
 use Rattle.laz_writer.proofs.Public.{cut-append}
 use Rattle.las_split.specs.declared.parts.Parts.{Parts}
 use Rattle.las_split.specs.Parts.{number_by, numbers_from}
-use Rattle.las_split.specs.Sorting.{AreGathered, HasRoom, InParts, LeavesBlock, LeavesPrefixes, SortsBlock, SortsPoint, Task, cut_all, text_of}
+use Rattle.las_split.specs.Sorting.{AreGathered, HasRoom, InParts, LeavesBlock, LeavesPrefixes, SortsBlock, SortsPoint, Task, text_of}
 use Rattle.las_split.specs.Splitting.{OpensTooMany}
 use Rattle.las_split.specs.Steps.{AreSorted, LeavesMore, LeavesRecord, SortsMore}
 use Rattle.las_split.proofs.Placing.{in_old, leaves_here}
-use Rattle.las_split.proofs.SortingPoints.{all_bytes, cut_at, cut_length, number_here, one_more, place_within, point_is, sorts_one}
+use Rattle.las_split.proofs.SortingPoints.{all_bytes, cut_at, number_here, one_more, place_within, point_is, sorts_one}
+use Rattle.las_header.specs.Plain.{cut_all}
+use Rattle.las_header.proofs.Public.{cut_length}
 
 set-twice : (xs : List (List ℕ)) (i : ℕ) (a b : List ℕ) → set (set xs i a) i b ≡ set xs i b
 set-twice [] i a b = refl

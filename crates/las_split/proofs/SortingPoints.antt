@@ -1,17 +1,18 @@
 -- Records that are sorted one after another.
 use Rattle.std.proofs.Common.{◌≡◌, ◌≢◌, ◌⊎◌, inl, inr, ℕ, zero, suc, ◌+◌, ◌*◌, ◌/◌, ◌%◌, ◌<◌, ◌≤◌, ◌^◌, ◌==◌, ◌||◌, Bool, true, false, cond, map, List, [], ◌∷◌, ◌++◌, length, take, drop, get_or, set, slice_get, replicate, Option, Some, refl, sym, ◌∙◌, ap, subst, append_assoc, length-append, eq-eqb, arith}
 use Rattle.std.proofs.lemmas.List.{append-nil, drop-drop, length-take-le, take-append-drop, take_more}
-use Rattle.std.proofs.Math.Nat.{div-add-mod, le_of_mul-le-mul_left, mul-le-mul_left}
+use Rattle.std.proofs.Math.Nat.{div-add-mod, le_of_mul-le-mul_left}
 use Rattle.std.specs.List.{concat}
-use Rattle.laz_forms.proofs.Public.{concat-append}
-use Rattle.las_header.specs.Plain.{cut_records}
+use Rattle.laz_forms.proofs.Public.{concat-append, block_fits}
+use Rattle.las_header.specs.Plain.{cut_records, cut_all}
 use Rattle.las_outside.specs.Files.{FileMap}
 use Rattle.laz_writer.specs.Writing.{WriterSeen}
 use Rattle.las_header.specs.Fields.{points_of}
+use Rattle.las_header.proofs.Public.{cut_length}
 use Rattle.las_split.proofs.Standing.{writers_length}
 use Rattle.las_split.specs.Sorting.{bytes_at}
 use Rattle.las_split.specs.Parts.{number_by, numbers_from, numbers_of_parts, part, part_from}
-use Rattle.las_split.specs.Sorting.{AreGathered, HasRoom, InParts, LeavesBlock, LeavesPrefixes, SortsBlock, SortsPoint, Task, cut_all, has, text_of}
+use Rattle.las_split.specs.Sorting.{AreGathered, HasRoom, InParts, LeavesBlock, LeavesPrefixes, SortsBlock, SortsPoint, Task, has, text_of}
 use Rattle.las_split.specs.Splitting.{OpensTooMany}
 use Rattle.las_split.proofs.Changing.{AreOnce, firsts_once}
 use Rattle.las_split.proofs.Opening.{not_there}
@@ -121,23 +122,8 @@ cut_at size (suc n) (suc t) bytes within =
     let far : size + size * t ≡ size * suc t = omega arith in
     cut_at size n t (drop size bytes) (omega (arith, within)) ∙ ap (take size) (drop-drop (size * t) size bytes) ∙ ap (λ (k : ℕ). take size (drop k bytes)) far
 
-pub cut_length : (size n : ℕ) (bytes : List ℕ) → length (cut_records size n bytes) ≡ n
-cut_length size zero bytes = refl
-cut_length size (suc n) bytes = ap suc (cut_length size n (drop size bytes))
-
 pub all_bytes : (size : ℕ) (block : List ℕ) → length block % size ≡ 0 → size * (length block / size) ≡ length block
 all_bytes size block whole = omega (arith, div-add-mod (length block) size, whole)
-
--- the records so far, and one more, lie in the block
-pub block_fits : (size t : ℕ) (block : List ℕ) → length block % size ≡ 0 → t < length block / size → size * t + size ≤ length block
-block_fits size t block whole more =
-    let next : t + 1 ≤ length block / size = omega (arith, more) in
-    omega (arith, all_bytes size block whole, mul-le-mul_left size next)
-
-pub rest_next : (size t : ℕ) (block rest further : List ℕ) → rest ≡ drop (size * t) block → further ≡ drop size rest → further ≡ drop (size * (t + 1)) block
-rest_next size t block rest further left back =
-    let far : size * t + size ≡ size * (t + 1) = omega arith in
-    back ∙ ap (drop size) left ∙ drop-drop size (size * t) block ∙ ap (λ (k : ℕ). drop k block) far
 
 -- a record has a place of 32 bits
 pub index_fits : (task : Task) (size index t : ℕ) (block : List ℕ) → HasRoom task size index (length block) → length block % size ≡ 0 → t < length block / size → index + t < 2 ^ 32

@@ -10,19 +10,18 @@ use Rattle.las_header.specs.declared.refusal.Refusal.{Refusal}
 use Rattle.las_header.specs.declared.refusal.Refusal.TheVariants.{BadChunk, TooManyParts}
 use Rattle.las_header.specs.Fields.{head_of, record_length_of}
 use Rattle.las_header.specs.Heads.{HeadView}
+use Rattle.las_header.specs.Plain.{cut_all}
 use Rattle.laz_file.specs.Copying.{AreOnlyRecords}
 use Rattle.laz_forms.specs.Pieces.{ArePieces, Piece}
 use Rattle.laz_reader.specs.Reading.{AreWholeBlocks, ReaderSeen, ReadsAll, StandsFor}
 use Rattle.laz_forms.specs.Records.{AreRead, HoldBlocks, HoldOnly, IsBadPiece}
-use Rattle.laz_forms.proofs.Public.{one_pieces, concat-append, not_bad_before}
+use Rattle.laz_forms.proofs.Public.{one_pieces, concat-append, not_bad_before, even_all}
 use Rattle.laz_reader.proofs.Public.{fewer_first, hold_length, inside, more_first, no_length}
 use Rattle.laz_writer.proofs.Public.{cut-append}
 use Rattle.laz_file.proofs.Public.{even_whole, all_records, left_is as whole_left, records_before}
 use Rattle.las_split.specs.declared.limits.TheConstants.{MAX_PARTS}
 use Rattle.las_split.specs.Parts.{numbers_of_parts}
-use Rattle.las_split.specs.Sorting.{cut_all}
 use Rattle.las_split.specs.Splitting.{EndsTooMany, HaveParts, OnlySplits, OpensTooMany, SplitsTo, records_in_blocks}
-use Rattle.las_split.proofs.Blocks.{even_all}
 use Rattle.las_split.proofs.PartLists.{parts_fewer}
 
 -- ---- records that open one part too many

@@ -7,7 +7,7 @@ use Rattle.las_header.specs.declared.refusal.Refusal.{Refusal}
 use Rattle.las_header.specs.declared.refusal.Refusal.TheVariants.{BadChunk, TooManyParts}
 use Rattle.las_header.specs.Fields.{record_length_of}
 use Rattle.las_header.specs.Heads.{HeadView, IsHead}
-use Rattle.las_header.specs.Plain.{plain_of}
+use Rattle.las_header.specs.Plain.{plain_of, cut_all}
 use Rattle.las_filter.specs.declared.rule.Rule.{Rule}
 use Rattle.las_outside.specs.Files.{FileMap, WhereKnown}
 use Rattle.las_outside.specs.Outside.{Outside}
@@ -21,7 +21,7 @@ use Rattle.las_split.specs.declared.limits.TheConstants.{MAX_PARTS}
 use Rattle.las_split.specs.Files.{with_files}
 use Rattle.las_split.specs.Outputs.{LeavesParts, all_stopped, outputs_under, part_files}
 use Rattle.las_split.specs.Parts.{numbers_of_parts}
-use Rattle.las_split.specs.Sorting.{EndsSplitting, InParts, LeavesBlock, LeavesPrefixes, TakesBlock, Task, bytes_at, cut_all, standing}
+use Rattle.las_split.specs.Sorting.{EndsSplitting, InParts, LeavesBlock, LeavesPrefixes, TakesBlock, Task, bytes_at, standing}
 use Rattle.las_split.specs.Splitting.{OnlySplits, SplitsTo}
 use Rattle.las_split.proofs.BatchesTaken.{head_some}
 use Rattle.las_split.proofs.Leaving.{leaves_parts, stopped_texts}

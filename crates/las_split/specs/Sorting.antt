@@ -29,10 +29,6 @@ abbrev pub has : ℕ → List ℕ → Bool
 has k [] = false
 has k (n ∷ ns) = (n == k) || has k ns
 
--- whole records, each as its bytes
-abbrev pub cut_all : (size : ℕ) → (bytes : List ℕ) → List (List ℕ)
-cut_all size bytes = cut_records size (length bytes / size) bytes
-
 -- what is fixed while a file is split: how parts are named, their plain head, and the rule
 pub record Task : Type 0 where
   pub stem : List ℕ

@@ -2,6 +2,7 @@
 ghost use Rattle.std.specs.Prelude.{◌≡◌, ◌≢◌, ◌%◌, ◌+◌, ◌≤◌, ◌<◌, ◌^◌, ℕ, Bool, List, Option, [], length};
 ghost use Rattle.std.specs.Prelude.{IfErr, IfOk, false, OnErr, OnOk, string_bytes, true, unwrap_or};
 ghost use Rattle.std.specs.List.{concat};
+ghost use Rattle.las_header.specs.Plain.{cut_all};
 ghost use Rattle.las_header.specs.Fields.{is_packed, points_of, record_length_of};
 ghost use Rattle.las_header.specs.Heads.{IsHead};
 ghost use Rattle.las_header.specs.Vlrs.{laszip_vlrs_of};
@@ -14,7 +15,7 @@ ghost use Rattle.laz_file.specs.Copying.{HoldFirst};
 ghost use Rattle.laz_forms.specs.FileFaults.{HasCause};
 ghost use Rattle.laz_reader.specs.Reading.{IsCrewOf, StandsFor, records_in};
 ghost use Rattle.las_split.specs.Sorting.{EndsSplitting, HasRoom, IsPlainFor, LeavesBlock, TakesBlock};
-ghost use Rattle.las_split.specs.Sorting.{cut_all, task_in, task_of};
+ghost use Rattle.las_split.specs.Sorting.{task_in, task_of};
 ghost use Rattle.las_split.specs.Steps.{AreIn};
 
 use crate::part_names::PartNames;

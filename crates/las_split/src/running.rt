@@ -1,9 +1,9 @@
 //! Records that belong to one part.
 ghost use Rattle.std.specs.Prelude.{◌≡◌, ◌+◌, ◌/◌, ◌%◌, ◌^◌, ◌<◌, ◌≤◌, ℕ, All, length, true};
+ghost use Rattle.las_header.specs.Plain.{cut_all};
 ghost use Rattle.las_header.specs.declared.limits.TheConstants.{POINT_RECORD};
 ghost use Rattle.las_filter.specs.Parts.{IsRule};
 ghost use Rattle.las_split.specs.Parts.{numbers_from};
-ghost use Rattle.las_split.specs.Sorting.{cut_all};
 
 use crate::numbering::part_of;
 use las_filter::Rule;

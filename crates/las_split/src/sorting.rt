@@ -1,13 +1,14 @@
 //! The records of a block by the parts that they belong to.
 ghost use Rattle.std.specs.Prelude.{◌≡◌, ◌+◌, ◌++◌, ◌%◌, ◌<◌, ◌≤◌, ◌^◌, ℕ, List, [], Option};
 ghost use Rattle.std.specs.Prelude.{false, length, IfErr, IfOk, OnErr, OnOk, map};
+ghost use Rattle.las_header.specs.Plain.{cut_all};
 ghost use Rattle.las_header.specs.Fields.{is_packed};
 ghost use Rattle.las_header.specs.Vlrs.{laszip_vlrs_of};
 ghost use Rattle.las_filter.specs.Parts.{IsRule};
 ghost use Rattle.las_outside.specs.Frames.{IsCalm, OnlyWrites};
 ghost use Rattle.laz_forms.specs.declared.fault.Fault.TheVariants.{Write};
 ghost use Rattle.laz_forms.specs.FileFaults.{HasCause};
-ghost use Rattle.las_split.specs.Sorting.{HasRoom, LeavesBlock, SortsBlock, SortsPoint, cut_all, has, task_in};
+ghost use Rattle.las_split.specs.Sorting.{HasRoom, LeavesBlock, SortsBlock, SortsPoint, has, task_in};
 ghost use Rattle.las_split.specs.Steps.{HaveBlock, HaveRecords, LeavesMore, LeavesRecord, OfBlock, OfRecord, OfRecords};
 ghost use Rattle.las_split.specs.Steps.{OpensOrRefuses, SortsMore};
 

@@ -8,6 +8,7 @@ use Rattle.std.proofs.lemmas.List.Elements.{All-cons, All-nil, All-weaker, filte
 use Rattle.std.proofs.lemmas.List.Folds.{list_any-append}
 use Rattle.std.proofs.lemmas.List.Kept.{AllPairs-cons}
 use Rattle.std.proofs.lemmas.Slice.Eq.{bytes_eq-Decides}
+use Rattle.std.proofs.lemmas.Bool.{or_parts}
 use Rattle.las_words.specs.declared.table.Flag.{Flag}
 use Rattle.las_words.specs.declared.table.Flag.TheVariants.{Tally}
 use Rattle.las_words.specs.declared.table.Values.TheVariants.{Tap}
@@ -20,10 +21,6 @@ pub or_none : (a b : Option ℕ) → option_or a b ≡ None → (a ≡ None) × 
 or_none None b is = (refl, is)
 or_none (Some x) b is = cc
 
-pub or_false : (a b : Bool) → (a || b) ≡ false → (a ≡ false) × (b ≡ false)
-or_false false b is = (refl, is)
-or_false true b is = cc
-
 -- if there is no fault, the first test found none
 pub no_fault : (b : Bool) (at : ℕ) (rest : Option ℕ) → cond b (Some at) rest ≡ None → (b ≡ false) × (rest ≡ None)
 no_fault true at rest is = cc
@@ -33,7 +30,7 @@ fitting : (b : Bool) (at : ℕ) (rest : Option ℕ) → cond b rest (Some at) �
 fitting true at rest is = refl
 fitting false at rest is = cc
 
-bytes_eq-swap : (a b : List ℕ) → bytes_eq a b ≡ false → bytes_eq b a ≡ false
+pub bytes_eq-swap : (a b : List ℕ) → bytes_eq a b ≡ false → bytes_eq b a ≡ false
 bytes_eq-swap a b is = by_answer (bytes_eq b a) refl
   where
     by_answer : (r : Bool) → bytes_eq b a ≡ r → r ≡ false
@@ -71,9 +68,9 @@ tally_fresh names words earlier at (Some _) tally sound is = cc
 fresh_before : (names earlier : List (List ℕ)) (tally : List ℕ) (others : List (List ℕ)) → All (Fresh names (earlier ++ tally ∷ [])) others → All (Fresh names earlier) others × All (λ other. bytes_eq tally other ≡ false) others
 fresh_before names earlier tally others all =
     let parts = λ (other : List ℕ) (f : Fresh names (earlier ++ tally ∷ []) other).
-    or_false (list_any (bytes_eq other) earlier) (bytes_eq other tally || false) (sym (list_any-append (bytes_eq other) earlier (tally ∷ [])) ∙ f.fresh) in (
+    or_parts (list_any (bytes_eq other) earlier) (bytes_eq other tally || false) (sym (list_any-append (bytes_eq other) earlier (tally ∷ [])) ∙ f.fresh) in (
       All-weaker (Fresh names (earlier ++ tally ∷ [])) (Fresh names earlier) (λ other f. record { there = f.there; fresh = (parts other f).0 }) others all,
-      All-weaker (Fresh names (earlier ++ tally ∷ [])) (λ other. bytes_eq tally other ≡ false) (λ other f. bytes_eq-swap other tally (or_false (bytes_eq other tally) false (parts other f).1).0) others all,
+      All-weaker (Fresh names (earlier ++ tally ∷ [])) (λ other. bytes_eq tally other ≡ false) (λ other f. bytes_eq-swap other tally (or_parts (bytes_eq other tally) false (parts other f).1).0) others all,
     )
 
 record AreFresh (names earlier tallies : List (List ℕ)) : Type 0 where

@@ -9,6 +9,7 @@ use Rattle.std.proofs.lemmas.List.Elements.{All-cons, All-head, All-nil, All-tai
 use Rattle.std.proofs.lemmas.List.Sums.{sum_by-append}
 use Rattle.std.proofs.lemmas.Slice.Eq.{bytes_eq-Decides}
 use Rattle.std.proofs.lemmas.Bool.Decides.{nat_tests}
+use Rattle.std.proofs.lemmas.Bool.{or_parts}
 use Rattle.las_words.specs.declared.table.Tool.{Tool}
 use Rattle.las_words.specs.declared.table.Tool.TheVariants.{Lasmerge}
 use Rattle.las_words.specs.declared.table.Flag.{Flag}
@@ -19,7 +20,7 @@ use Rattle.las_words.specs.Table.{flag_named}
 use Rattle.las_words.specs.Pieces.{count_after, cut}
 use Rattle.las_words.specs.Faults.{fault_of, first_fault, option_fault}
 use Rattle.las_words.specs.Settings.{is_given, text_of, texts_of}
-use Rattle.las_words.proofs.Chosen.{no_fault, or_false, or_none}
+use Rattle.las_words.proofs.Chosen.{no_fault, or_none}
 
 abbrev Words : Type 0
 Words = List (List ℕ)
@@ -40,7 +41,7 @@ first_by : (words : Words) (p : List ℕ → Bool) (b : Bool) (piece : Piece) (r
     → (is_some (option_map (λ q. q.at) rest) ≡ true → list_any p others ≡ false → p (option_map_or (λ at. word_at words (at + 1)) (option_map (λ q. q.at) rest) []) ≡ false)
     → is_some (option_map (λ q. q.at) (cond b (Some piece) rest)) ≡ true → list_any p (cons_option (cond b (Some (word_at words (piece.at + 1))) None) others) ≡ false
     → p (option_map_or (λ at. word_at words (at + 1)) (option_map (λ q. q.at) (cond b (Some piece) rest)) []) ≡ false
-first_by words p true piece rest others more given none = (or_false (p (word_at words (piece.at + 1))) (list_any p others) none).0
+first_by words p true piece rest others more given none = (or_parts (p (word_at words (piece.at + 1))) (list_any p others) none).0
 first_by words p false piece rest others more given none = more given none
 
 -- what holds of no value does not hold of the first
@@ -56,7 +57,7 @@ unequal a b none same = let equal : bytes_eq a b ≡ true = (bytes_eq-Decides a 
 pub none_is : (word : List ℕ) (others : Words) → list_any (bytes_eq word) others ≡ false → All (λ other. other ≢ word) others
 none_is word [] none = All-nil (λ other. other ≢ word)
 none_is word (other ∷ others) none =
-    let both = or_false (bytes_eq word other) (list_any (bytes_eq word) others) none in
+    let both = or_parts (bytes_eq word other) (list_any (bytes_eq word) others) none in
     All-cons (λ other. other ≢ word) other others (unequal word other both.0) (none_is word others both.1)
 
 -- ---- pieces have the options that their words name

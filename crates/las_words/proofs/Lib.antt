@@ -9,3 +9,4 @@ mod Places
 mod Sieves
 mod Saying
 mod Examples
+pub mod Public

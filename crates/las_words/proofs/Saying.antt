@@ -4,6 +4,7 @@ use Rattle.std.specs.Prelude.{All}
 use Rattle.std.specs.Option.{option_map}
 use Rattle.std.specs.List.{list_any}
 use Rattle.std.specs.Str.{bytes_eq}
+use Rattle.std.proofs.lemmas.Bool.{or_parts, and_parts}
 use Rattle.las_filter.specs.Parts.{part_name}
 use Rattle.las_outside.specs.Limits.{AreWorkers, IsChunkSize}
 use Rattle.las_words.specs.declared.table.Tool.{Tool}
@@ -17,7 +18,7 @@ use Rattle.las_words.specs.Settings.{place_of, is_given, text_of, texts_of, chun
 use Rattle.las_words.specs.Names.{end_of, stem_of, is_part_name, plain_copy, same_name, unfit_parts, same_output, wrong_name}
 use Rattle.las_words.specs.Asked.{AreInputs, Asked, IsSound, IsSoundWork}
 use Rattle.las_words.specs.Says.{asks, usage, says, said_to, said_unless, wrong_word, missing_option, asked_of, work_of}
-use Rattle.las_words.proofs.Chosen.{or_false, or_none, tallies_distinct, tallies_there}
+use Rattle.las_words.proofs.Chosen.{or_none, tallies_distinct, tallies_there}
 use Rattle.las_words.proofs.Inputs.{IsNamed, cut_named, few_inputs, first_text, none_is, some_text, unequal}
 use Rattle.las_words.proofs.PartNames.{no_part}
 use Rattle.las_words.proofs.Places.{in_order}
@@ -49,10 +50,6 @@ not_missing : (given : Bool) (count : ℕ) → cond given None (Some count) ≡ 
 not_missing true count is = refl
 not_missing false count is = cc
 
-and_true : (a b : Bool) → (a && b) ≡ true → (a ≡ true) × (b ≡ true)
-and_true true b is = (refl, is)
-and_true false b is = cc
-
 or_none_else : (a : Bool) → (a || false) ≡ true → a ≡ true
 or_none_else true is = refl
 or_none_else false is = cc
@@ -60,8 +57,8 @@ or_none_else false is = cc
 -- of two options that are required, each under one name, both are given
 both_given : (first second rest : Bool) (count : ℕ) → cond ((first || false) && ((second || false) && rest)) None (Some count) ≡ None → (first ≡ true) × (second ≡ true)
 both_given first second rest count is =
-    let all = and_true (first || false) ((second || false) && rest) (not_missing _ count is) in
-    (or_none_else first all.0, or_none_else second (and_true (second || false) rest all.1).0)
+    let all = and_parts (first || false) ((second || false) && rest) (not_missing _ count is) in
+    (or_none_else first all.0, or_none_else second (and_parts (second || false) rest all.1).0)
 
 -- no name is wrong, so the test of names found none
 other_name : (same : Bool) (place : Option ℕ) → is_some place ≡ true → cond same (option_map (λ at. at + 1) place) None ≡ None → same ≡ false
@@ -115,7 +112,7 @@ no_part_is_the_input words pieces named fit =
     let output = text_of words (codes "-o") pieces in
     let input = text_of words (codes "-i") pieces in
     let tests = other_name (is_packed_name output || is_part_name (stem_of output) (end_of output) input) (place_of words (codes "-o") pieces) named.output fit in
-    no_part (stem_of output) (end_of output) input (or_false (is_packed_name output) (is_part_name (stem_of output) (end_of output) input) tests).1
+    no_part (stem_of output) (end_of output) input (or_parts (is_packed_name output) (is_part_name (stem_of output) (end_of output) input) tests).1
 
 inputs_are : (names words : List (List ℕ)) (pieces : List Piece) → All (IsNamed Lasmerge words) pieces → first_fault names words [] pieces ≡ None → AreNamed words pieces
     → AreInputs (texts_of words (codes "-i") pieces) (text_of words (codes "-o") pieces)

@@ -5,6 +5,7 @@ use Rattle.laz_range.specs.Span.{Begins, Fits, IsBytes, Span, span}
 use Rattle.laz_integer.specs.Events.{Event, cuts_of}
 use Rattle.laz_integer.specs.Ranged.{AreOneKind, AreRanged, IsRanged}
 use Rattle.laz_integer.proofs.Public.{One, Part, as-one, made-one, none-one, then, AreRanged-append, AreRanged-front}
+use Rattle.laz_integer.proofs.Public.{cons_same}
 use Rattle.laz_point10.specs.declared.point.Point.{Point}
 use Rattle.laz_point10.proofs.Public.{point-one}
 use Rattle.laz_gpstime.specs.Sequences as sequences
@@ -52,9 +53,6 @@ spelling-one : (x y : Spelling) → One x.0 y.0 x.1 y.1 → One {V = Spelling} x
 spelling-one x y (inl same) = inl (same.0, same_spelling x.0 y.0 x.1 y.1 same.0 same.1)
 spelling-one x y (inr part) = inr part
 
-same_list : {X : Type 0} (x y : X) (xs ys : List X) → x ≡ y → xs ≡ ys → x ∷ xs ≡ y ∷ ys
-same_list x y xs ys e f = cc
-
 all-one : (l : Layout) (h : History) (xs ys : List Spelling) → length xs ≡ length ys → AllAsked grown (IsSpelled l) h xs → AllAsked grown (IsSpelled l) h ys → One {V = List Spelling} (joined xs) (joined ys) xs ys
 all-one l h [] [] e f g = inl (refl, refl)
 all-one l h [] (y ∷ ys) e f g = absurd (omega (arith, e))
@@ -62,7 +60,7 @@ all-one l h (x ∷ xs) [] e f g = absurd (omega (arith, e))
 all-one l h (x ∷ xs) (y ∷ ys) e f g =
     then {V = Spelling} {W = List Spelling} x.0 y.0 (joined xs) (joined ys) x y (x ∷ xs) (y ∷ ys) (spelling-one x y (record-one l h.1 x.0 y.0 x.1 y.1 f.0 g.0))
     (λ (same : x ≡ y).
-    made-one {V = List Spelling} {W = List Spelling} (joined xs) (joined ys) xs ys (x ∷ xs) (y ∷ ys) (λ more. same_list x y xs ys same more)
+    made-one {V = List Spelling} {W = List Spelling} (joined xs) (joined ys) xs ys (x ∷ xs) (y ∷ ys) (λ more. cons_same x y xs ys same more)
     (all-one l (grown h x) xs ys (omega (arith, e)) f.1 (subst (λ (z : Spelling). AllAsked grown (IsSpelled l) (grown h z) ys) (sym same) g.1)))
 
 all-ranged : (l : Layout) (h : History) (xs : List Spelling) → AllAsked grown (IsSpelled l) h xs → AreRanged sizes (joined xs)

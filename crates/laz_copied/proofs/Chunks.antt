@@ -12,8 +12,9 @@ use Rattle.laz_forms.specs.Packing.{record_layout}
 use Rattle.laz_forms.specs.Pieces.{ArePieces, ArePiecesIf, Piece, piece_bytes, pieces_from, whole_piece}
 use Rattle.laz_forms.specs.Records.{HoldBlocks, HoldsBlock, HoldsChunk, HoldsIf}
 use Rattle.laz_forms.specs.Refusing.{chunks_place}
-use Rattle.laz_forms.proofs.Public.{whole_cut, sum-first}
-use Rattle.laz_copied.specs.Copied.{Chunk, bytes_in, chunk_at, counts_in}
+use Rattle.laz_forms.proofs.Public.{whole_cut}
+use Rattle.laz_copied.specs.Copied.{Chunk, byte_lists_in, chunk_at, counts_in}
+use Rattle.laz_models.proofs.Public.{sum-cons}
 
 -- ---- chunks that hold blocks
 abbrev pub ChunkHolds : Layout → Chunk → List ℕ → Type 0
@@ -61,14 +62,14 @@ module _ (file : List ℕ) (packed : is_packed (head_of file) ≡ true) where
   holds_there at size count block h =
       subst (λ (b : Bool). HoldsIf b file (whole_piece at size count) block) (sym packed) (block, h, whole_cut (record_length (record_layout (head_of file))) at size count block h.are.length)
 
-  pub hold_in_file : (at : ℕ) (chunks : List Chunk) (blocks : List (List ℕ)) (rest : List ℕ) → drop at file ≡ concat (bytes_in chunks) ++ rest
-      → ChunksHold (record_layout (head_of file)) chunks blocks → HoldBlocks file (pieces_from at (counts_in chunks) (map length (bytes_in chunks))) blocks
+  pub hold_in_file : (at : ℕ) (chunks : List Chunk) (blocks : List (List ℕ)) (rest : List ℕ) → drop at file ≡ concat (byte_lists_in chunks) ++ rest
+      → ChunksHold (record_layout (head_of file)) chunks blocks → HoldBlocks file (pieces_from at (counts_in chunks) (map length (byte_lists_in chunks))) blocks
   hold_in_file at [] [] rest there h = tt
   hold_in_file at [] (b ∷ blocks) rest there h = absurd h
   hold_in_file at (c ∷ chunks) [] rest there h = absurd h
   hold_in_file at (c ∷ chunks) (b ∷ blocks) rest there h =
-      let more = concat (bytes_in chunks) ++ rest in
-      let from : drop at file ≡ c.bytes ++ more = there ∙ append_assoc c.bytes (concat (bytes_in chunks)) rest in
+      let more = concat (byte_lists_in chunks) ++ rest in
+      let from : drop at file ≡ c.bytes ++ more = there ∙ append_assoc c.bytes (concat (byte_lists_in chunks)) rest in
       let part : take (length c.bytes) (drop at file) ≡ c.bytes = ap (λ (t : List ℕ). take (length c.bytes) t) from ∙ take_at c.bytes more (length c.bytes) refl in
       let next : drop (at + length c.bytes) file ≡ more = sym (drop-drop (length c.bytes) at file) ∙ ap (λ (t : List ℕ). drop (length c.bytes) t) from ∙ drop_at c.bytes more (length c.bytes) refl in (
         holds_there at (length c.bytes) c.count b
@@ -85,25 +86,25 @@ counts_listed file at (n ∷ counts) (s ∷ sizes) e = ap (λ (l : List ℕ). n 
 cons_eq : (x y : ℕ) (xs ys : List ℕ) → x ≡ y → xs ≡ ys → x ∷ xs ≡ y ∷ ys
 cons_eq x y xs ys e f = λ i. e i ∷ f i
 
-pub sizes_listed : (file : List ℕ) (at : ℕ) (counts sizes : List ℕ) → length counts ≡ length sizes → at + sum sizes ≤ length file → map length (bytes_in (map (chunk_at file) (pieces_from at counts sizes))) ≡ sizes
+pub sizes_listed : (file : List ℕ) (at : ℕ) (counts sizes : List ℕ) → length counts ≡ length sizes → at + sum sizes ≤ length file → map length (byte_lists_in (map (chunk_at file) (pieces_from at counts sizes))) ≡ sizes
 sizes_listed file at [] [] e lie = refl
 sizes_listed file at [] (s ∷ sizes) e lie = absurd (omega (arith, e))
 sizes_listed file at (n ∷ counts) [] e lie = absurd (omega (arith, e))
 sizes_listed file at (n ∷ counts) (s ∷ sizes) e lie =
-    let first = sum-first s sizes in
-    cons_eq (length (take s (drop at file))) s (map length (bytes_in (map (chunk_at file) (pieces_from (at + s) counts sizes)))) sizes
+    let first = sum-cons s sizes in
+    cons_eq (length (take s (drop at file))) s (map length (byte_lists_in (map (chunk_at file) (pieces_from (at + s) counts sizes)))) sizes
     (length-take-le s (drop at file) (omega (arith, length-drop at file, lie, first)))
     (sizes_listed file (at + s) counts sizes (omega (arith, e)) (omega (arith, lie, first)))
 
 -- ---- what is known of chunks, one after another
 pub record AreGoodChunks (chunks : List Chunk) : Type 0 where
-  pub words : AreWords (map length (bytes_in chunks))
+  pub words : AreWords (map length (byte_lists_in chunks))
   pub range : AllByRecursion IsChunkSize (counts_in chunks)
 
 pub no_chunks : AreGoodChunks []
 no_chunks = record { words = tt; range = tt }
 
-words-append : (xs ys : List Chunk) → AreWords (map length (bytes_in xs)) → AreWords (map length (bytes_in ys)) → AreWords (map length (bytes_in (xs ++ ys)))
+words-append : (xs ys : List Chunk) → AreWords (map length (byte_lists_in xs)) → AreWords (map length (byte_lists_in ys)) → AreWords (map length (byte_lists_in (xs ++ ys)))
 words-append [] ys h k = k
 words-append (x ∷ xs) ys h k = (h.0, words-append xs ys h.1 k)
 
@@ -116,29 +117,29 @@ good-append xs ys h k = record { words = words-append xs ys h.words k.words; ran
 
 pub sum_counts-append : (xs ys : List Chunk) → sum (counts_in (xs ++ ys)) ≡ sum (counts_in xs) + sum (counts_in ys)
 sum_counts-append [] ys = omega arith
-sum_counts-append (x ∷ xs) ys = omega (arith, sum-first x.count (counts_in (xs ++ ys)), sum-first x.count (counts_in xs), sum_counts-append xs ys)
+sum_counts-append (x ∷ xs) ys = omega (arith, sum-cons x.count (counts_in (xs ++ ys)), sum-cons x.count (counts_in xs), sum_counts-append xs ys)
 
 pub length_counts : (xs : List Chunk) → length (counts_in xs) ≡ length xs
 length_counts [] = refl
 length_counts (x ∷ xs) = ap suc (length_counts xs)
 
-pub length_bytes : (xs : List Chunk) → length (map length (bytes_in xs)) ≡ length xs
+pub length_bytes : (xs : List Chunk) → length (map length (byte_lists_in xs)) ≡ length xs
 length_bytes [] = refl
 length_bytes (x ∷ xs) = ap suc (length_bytes xs)
 
-pub length_bytes_in : (xs : List Chunk) → length (bytes_in xs) ≡ length xs
-length_bytes_in [] = refl
-length_bytes_in (x ∷ xs) = ap suc (length_bytes_in xs)
+pub length_byte_lists : (xs : List Chunk) → length (byte_lists_in xs) ≡ length xs
+length_byte_lists [] = refl
+length_byte_lists (x ∷ xs) = ap suc (length_byte_lists xs)
 
 -- the chunks of a file stand in it one after another, so they are one part of it
-pub chunks_joined : (file : List ℕ) (at : ℕ) (counts sizes : List ℕ) → concat (bytes_in (map (chunk_at file) (pieces_from at counts sizes))) ≡ take (sum (map (λ p. p.size) (pieces_from at counts sizes))) (drop at file)
+pub chunks_joined : (file : List ℕ) (at : ℕ) (counts sizes : List ℕ) → concat (byte_lists_in (map (chunk_at file) (pieces_from at counts sizes))) ≡ take (sum (map (λ p. p.size) (pieces_from at counts sizes))) (drop at file)
 chunks_joined file at [] sizes = refl
 chunks_joined file at (n ∷ counts) [] = refl
 chunks_joined file at (n ∷ counts) (s ∷ sizes) =
     let rest = drop at file in
     let more = map (λ (p : Piece). p.size) (pieces_from (at + s) counts sizes) in
     ap (λ (t : List ℕ). take s rest ++ t) (chunks_joined file (at + s) counts sizes ∙ ap (λ (t : List ℕ). take (sum more) t) (sym (drop-drop s at file)))
-    ∙ sym (take-add s (sum more) rest) ∙ ap (λ (m : ℕ). take m rest) (sym (sum-first s more))
+    ∙ sym (take-add s (sum more) rest) ∙ ap (λ (m : ℕ). take m rest) (sym (sum-cons s more))
 
 -- ---- the numbers of pieces
 pub piece_counts : (file : List ℕ) (pieces : List Piece) → counts_in (map (chunk_at file) pieces) ≡ map (λ p. p.count) pieces

@@ -1,6 +1,6 @@
 -- The packed form of a plain head and of chunks is accepted, and its pieces are the chunks.
-use Rattle.std.proofs.Common.{◌≡◌, ℕ, ◌+◌, ◌*◌, ◌-◌, ◌<◌, ◌≤◌, ◌&&◌, sum, nat_lt, Bool, true, false, cond, List, [], ◌∷◌, ◌++◌, length, map, take, drop, Option, None, refl, sym, ap, subst, ◌∙◌, arith, append_assoc, length-append}
-use Rattle.std.proofs.lemmas.Bool.{cond-false, ne_eqb}
+use Rattle.std.proofs.Common.{◌≡◌, ℕ, ◌+◌, ◌-◌, ◌<◌, ◌≤◌, ◌&&◌, sum, nat_lt, Bool, true, false, cond, List, [], ◌∷◌, ◌++◌, length, map, take, drop, Option, None, refl, sym, ap, subst, ◌∙◌, arith, append_assoc, length-append}
+use Rattle.std.proofs.lemmas.Bool.{cond-false, ne_eqb, and_left, or_from}
 use Rattle.std.proofs.lemmas.List.{drop_at, take-take, take_all, take_at}
 use Rattle.std.specs.List.{concat}
 use Rattle.byteorder.specs.Endian.{little_bytes}
@@ -13,6 +13,7 @@ use Rattle.las_header.specs.Numbers.{number_at}
 use Rattle.las_header.specs.Plain.{plain_head, plain_of}
 use Rattle.las_header.specs.Refusals.{causes_of, first_cause, front_causes, head_causes}
 use Rattle.las_header.proofs.Public.{front_decides, front_is_fine, packed_is_fine, IsFirst-append_none, IsFirst-tests, number_at-drop, number_at-take, reads_back}
+use Rattle.las_header.proofs.Public.{first_none}
 use Rattle.laz_table.specs.Chunks.{IsAccepted}
 use Rattle.laz_table.specs.Laws.{AreWords}
 use Rattle.laz_table.specs.Payload.{laszip_payload}
@@ -21,17 +22,8 @@ use Rattle.laz_table.specs.VlrCauses.{extra_of, vlr_causes}
 use Rattle.laz_forms.specs.Packing.{packed_head, table_after}
 use Rattle.laz_forms.specs.Pieces.{ArePieces, ArePiecesIf, pieces_from}
 use Rattle.laz_forms.specs.Refusing.{IsAcceptedFile, blocks_in, chunk_causes, chunks_place, has_bad_pointer, has_last_pointer, table_end, table_part, table_place, tested_causes}
-use Rattle.laz_forms.proofs.Public.{sum-lengths, both-fine, neither, not-below, skip}
+use Rattle.laz_forms.proofs.Public.{sum-lengths, both-fine, not-below, words-bound}
 use Rattle.laz_copied.specs.Forms.{packed_form}
-
--- some lists are not too long in all
-words-bound : (xs : List (List ℕ)) → AreWords (map length xs) → length (concat xs) ≤ 4294967296 * length xs
-words-bound [] h = omega arith
-words-bound (x ∷ xs) h = omega (arith, length-append x (concat xs), h.0, words-bound xs h.1)
-
-and-false : (a b : Bool) → a ≡ false → (a && b) ≡ false
-and-false true b e = absurd (cc)
-and-false false b e = refl
 
 -- what is needed of a head, a chunk size and chunks
 pub record IsForm (head : List ℕ) (chunk : ℕ) (points : List ℕ) (chunks : List (List ℕ)) (counts : List ℕ) : Type 0 where
@@ -106,11 +98,11 @@ module _ (head : List ℕ) (chunk : ℕ) (points : List ℕ) (chunks : List (Lis
 
   good-pointer : has_bad_pointer form ≡ false
   good-pointer =
-      neither _ (nat_lt (table_end form) (table_place form))
-      (neither _ (nat_lt (table_place form) (chunks_place form))
-      (neither (nat_lt (length form) (chunks_place form)) (has_last_pointer form && nat_lt (length form) (chunks_place form + 8))
+      or_from _ (nat_lt (table_end form) (table_place form))
+      (or_from _ (nat_lt (table_place form) (chunks_place form))
+      (or_from (nat_lt (length form) (chunks_place form)) (has_last_pointer form && nat_lt (length form) (chunks_place form + 8))
       (not-below (length form) (chunks_place form) (omega (arith, length-form, chunks-place-is)))
-      (and-false (has_last_pointer form) _ not-last))
+      (and_left (has_last_pointer form) _ not-last))
       (not-below (table_place form) (chunks_place form) (omega (arith, table-place-is, chunks-place-is))))
       (not-below (table_end form) (table_place form) (omega (arith, table-end-is, table-place-is, length-form)))
 
@@ -157,7 +149,7 @@ module _ (head : List ℕ) (chunk : ℕ) (points : List ℕ) (chunks : List (Lis
   packed-fine =
       both-fine (vlr_causes (head_of form)) last
       (ap (λ (t : List ℕ). first_cause (vlr_causes t)) head-is ∙ f.vlr)
-      (skip (has_bad_pointer form) cause.TablePointer [] good-pointer refl)
+      (first_none (has_bad_pointer form) cause.TablePointer [] good-pointer refl)
 
   tests-fine : first_cause (tested_causes form) ≡ None
   tests-fine =

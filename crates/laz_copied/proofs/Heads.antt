@@ -1,8 +1,7 @@
 -- The head of a copied file: the plain head of the first file with other counts, packed for counted chunks.
-use Rattle.std.proofs.Common.{◌≡◌, ℕ, zero, suc, ◌+◌, ◌-◌, ◌<◌, ◌≤◌, Bool, true, false, cond, List, [], ◌∷◌, ◌++◌, length, take, drop, slice_get, slice_index, Some, None, refl, sym, ap, subst, ◌∙◌, arith, lit<, length-drop}
+use Rattle.std.proofs.Common.{◌≡◌, ℕ, zero, suc, ◌+◌, ◌-◌, ◌<◌, ◌≤◌, true, List, [], ◌∷◌, ◌++◌, length, take, drop, slice_get, slice_index, Some, None, refl, sym, ap, subst, ◌∙◌, arith, lit<, length-drop}
 use Rattle.std.proofs.lemmas.List.{drop-drop, get_or-take, length-take-le, take_at}
-use Rattle.std.proofs.lemmas.List.Concat.{flat_map-cons}
-use Rattle.std.specs.List.{flat_map, splice}
+use Rattle.std.specs.List.{splice}
 use Rattle.byteorder.specs.Endian.{little_bytes}
 use Rattle.las_header.specs.declared.vlrs.VlrPlace.{VlrPlace}
 use Rattle.las_header.specs.Counting.{long_bytes, short_bytes, with_sums}
@@ -13,27 +12,17 @@ use Rattle.las_header.specs.Refusals.{first_cause}
 use Rattle.las_header.specs.Vlrs.{laszip_vlrs_of, vlr_size, vlrs_end}
 use Rattle.las_header.proofs.Public.{least_any, IsCounted, counted_head, IsRelaid, after_relaid, drop_part, front_relaid, layout_bytes, size_relaid, CanPack, packs, can_unpack, plains, found_within, header_before}
 use Rattle.laz_range.specs.Span.{IsBytes}
-use Rattle.laz_range.proofs.Public.{IsBytes-drop, IsBytes-take}
 use Rattle.laz_table.specs.Payload.{laszip_payload}
 use Rattle.laz_table.specs.VlrCauses.{chunk_size_in, chunk_size_of, extra_of, payload_at, payload_causes, payload_of, vlr_causes}
 use Rattle.laz_table.proofs.Public.{IsBytes-append, IsBytes-little, payload-decides, payload-is, payload_within}
 use Rattle.laz_chunk.specs.Layouts.{layout_of}
 use Rattle.laz_forms.specs.Packing.{packed_head, record_layout}
-use Rattle.laz_forms.proofs.Public.{payload-short}
+use Rattle.laz_forms.proofs.Public.{payload-short, IsBytes-splice, short-are, long-are, set-are}
 use Rattle.laz_copied.specs.Copied.{first_head, long_returns_in, points_in, returns_in}
 use Rattle.laz_copied.proofs.PackedFiles.{IsPackedFile}
 use Rattle.laz_copied.proofs.Payloads.{counted-chunk, counted-fine}
 
 -- ---- bytes
-IsBytes-flat : (width : ℕ) (xs : List ℕ) → IsBytes (flat_map (little_bytes width) xs)
-IsBytes-flat width [] = λ i. lit< tt
-IsBytes-flat width (x ∷ xs) =
-    subst IsBytes (sym (flat_map-cons (little_bytes width) x xs))
-    (IsBytes-append (little_bytes width x) (flat_map (little_bytes width) xs) (IsBytes-little width x) (IsBytes-flat width xs))
-
-IsBytes-splice : (xs : List ℕ) (i j : ℕ) (ys : List ℕ) → IsBytes xs → IsBytes ys → IsBytes (splice xs i j ys)
-IsBytes-splice xs i j ys h k =
-    IsBytes-append (take i xs) (ys ++ drop j xs) (IsBytes-take i xs h) (IsBytes-append ys (drop j xs) k (IsBytes-drop j xs h))
 
 no-bytes : IsBytes []
 no-bytes = λ i. lit< tt
@@ -41,19 +30,6 @@ no-bytes = λ i. lit< tt
 one-byte : (x : ℕ) → x < 256 → IsBytes (x ∷ [])
 one-byte x small zero = small
 one-byte x small (suc i) = lit< tt
-
-short-are : (points : ℕ) (returns : List ℕ) → IsBytes (short_bytes points returns)
-unfolding short_bytes
-short-are points returns = IsBytes-flat 4 (points ∷ returns)
-
-long-are : (points : ℕ) (returns : List ℕ) → IsBytes (long_bytes points returns)
-unfolding long_bytes
-long-are points returns = IsBytes-flat 8 (points ∷ returns)
-
-set-are : (both : Bool) (head short long : List ℕ) → IsBytes head → IsBytes short → IsBytes long
-    → IsBytes (cond both (splice (splice head 107 131 short) 247 375 long) (splice head 107 131 short))
-set-are false head short long h k l = IsBytes-splice head 107 131 short h k
-set-are true head short long h k l = IsBytes-splice (splice head 107 131 short) 247 375 long (IsBytes-splice head 107 131 short h k) l
 
 layout-are : (offset count format : ℕ) → format < 256 → IsBytes (layout_bytes offset count format)
 layout-are offset count format small =

@@ -14,7 +14,7 @@ use Rattle.laz_chunk.specs.Layouts.{Layout, record_length}
 use Rattle.laz_forms.specs.Outputs.{records_after}
 use Rattle.laz_forms.specs.Packing.{record_layout}
 use Rattle.laz_forms.specs.Records.{AreRecordsOf, Unpacks}
-use Rattle.laz_forms.proofs.Public.{cut-joined, cut-length, layout-length, concat-append, sum-first}
+use Rattle.laz_forms.proofs.Public.{cut-joined, cut-length, layout-length, concat-append}
 use Rattle.laz_writer.proofs.Public.{cut-append}
 use Rattle.laz_table.specs.VlrCauses.{extra_of}
 use Rattle.laz_copied.specs.Copied.{AreChunks, Chunk, HaveChunks, all_of, copied_file, copied_head, counts_in, first_head, long_returns_in, points_in, returns_in, returns_to_15}
@@ -23,6 +23,7 @@ use Rattle.laz_copied.proofs.Chunks.{ChunksHold}
 use Rattle.laz_copied.proofs.Copies.{copied_plain, copied_records, good_of_file, hold_one, layout_of_file}
 use Rattle.laz_copied.proofs.Heads.{plain_known}
 use Rattle.laz_copied.proofs.PackedFiles.{IsPackedFile, packed_file_known}
+use Rattle.laz_models.proofs.Public.{sum-cons}
 
 -- ---- the records of a file are as many as it counts
 hold-length : (l : Layout) (chunks : List Chunk) (blocks : List (List ℕ)) → ChunksHold l chunks blocks → length (concat blocks) ≡ record_length l * sum (counts_in chunks)
@@ -30,7 +31,7 @@ hold-length l [] [] h = omega arith
 hold-length l [] (b ∷ blocks) h = absurd h
 hold-length l (c ∷ chunks) [] h = absurd h
 hold-length l (c ∷ chunks) (b ∷ blocks) h =
-    omega (arith, length-append b (concat blocks), h.0.0.length, hold-length l chunks blocks h.1, ap (λ (n : ℕ). record_length l * n) (sum-first c.count (counts_in chunks)))
+    omega (arith, length-append b (concat blocks), h.0.0.length, hold-length l chunks blocks h.1, ap (λ (n : ℕ). record_length l * n) (sum-cons c.count (counts_in chunks)))
 
 -- ---- numbers of files that add up as those of their records
 module _ (size : ℕ) (some : 0 < size) where

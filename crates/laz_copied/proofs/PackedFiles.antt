@@ -1,7 +1,7 @@
 -- What is known of an accepted packed file: its head, and its chunks.
-use Rattle.std.proofs.Common.{◌≡◌, inl, inr, ℕ, ◌+◌, ◌-◌, ◌<◌, ◌≤◌, ◌==◌, ◌&&◌, ◌||◌, min, not, nat_lt, ltb-false, sum, Bool, true, false, cond, List, [], ◌∷◌, ◌++◌, length, map, take, drop, None, refl, sym, ap, subst, ◌∙◌, arith}
+use Rattle.std.proofs.Common.{◌≡◌, inl, inr, ℕ, ◌+◌, ◌-◌, ◌<◌, ◌≤◌, ◌==◌, ◌&&◌, min, not, nat_lt, ltb-false, sum, Bool, true, false, cond, List, [], ◌∷◌, ◌++◌, length, map, take, drop, None, refl, sym, ap, subst, ◌∙◌, arith}
 use Rattle.std.specs.List.{AllByRecursion, concat}
-use Rattle.std.proofs.lemmas.Bool.{cases_lt, eq-eqb}
+use Rattle.std.proofs.lemmas.Bool.{cases_lt, eq-eqb, or_parts}
 use Rattle.std.proofs.lemmas.List.{length-take-le}
 use Rattle.las_header.specs.declared.refusal.Refusal.{Refusal}
 use Rattle.las_header.specs.declared.refusal.Refusal.TheVariants as cause
@@ -11,6 +11,7 @@ use Rattle.las_header.specs.Heads.{IsHead}
 use Rattle.las_header.specs.Refusals.{causes_of, first_cause, front_causes, head_causes}
 use Rattle.las_header.specs.Vlrs.{laszip_vlrs_of}
 use Rattle.las_header.proofs.Public.{accepted_front, accepted_head, can_read, front_decides, is_head, least_any, none_first, points_fit, first_is_tested, number_at-take}
+use Rattle.las_header.proofs.Public.{limit-bound}
 use Rattle.laz_range.specs.Span.{IsBytes}
 use Rattle.laz_range.proofs.Public.{IsBytes-take}
 use Rattle.laz_table.specs.declared.chunks.Blocks.{Blocks}
@@ -23,14 +24,10 @@ use Rattle.laz_reader.specs.Reading.{AreFewChunks, points_in}
 use Rattle.laz_forms.specs.Refusing.{IsAcceptedFile, blocks_in, chunk_causes, chunks_place, has_bad_pointer, has_last_pointer, table_end, table_part, table_place, tested_causes}
 use Rattle.laz_forms.proofs.Public.{IsFirst-none, both_none}
 use Rattle.laz_reader.proofs.Public.{one_vlr, accepted_lists, accepted_points}
-use Rattle.laz_copied.specs.Copied.{bytes_in, chunk_at}
+use Rattle.laz_copied.specs.Copied.{byte_lists_in, chunk_at}
 use Rattle.laz_copied.proofs.Chunks.{chunks_joined, piece_sizes, sizes_listed}
 use Rattle.laz_copied.proofs.Payloads.{IsPayload, payload_known}
 use Rattle.laz_copied.proofs.Tables.{IsChunkSizeOf, accepted_range, table_words}
-
-either-false : (a b : Bool) → (a || b) ≡ false → (a ≡ false) × (b ≡ false)
-either-false true b e = absurd (cc)
-either-false false b e = (refl, e)
 
 true-false : {X : Type 0} (b : Bool) → b ≡ true → b ≡ false → X
 true-false b e f = absurd (let g : true ≡ false = sym e ∙ f in cc)
@@ -43,10 +40,6 @@ pub record IsPackedFront (file : List ℕ) : Type 0 where
   pub vlr : first_cause (vlr_causes (head_of file)) ≡ None
   pub payload : IsPayload (format_of (head_of file)) (extra_of (head_of file)) (points_of (head_of file)) (payload_of (head_of file))
   pub pointer : has_bad_pointer file ≡ false
-
-limit-far : (b : Bool) → cond b 16777216 16777104 ≤ 16777216
-limit-far true = omega arith
-limit-far false = omega arith
 
 chosen : (b : Bool) (xs : List (Bool × Refusal)) → b ≡ true → first_cause (cond b xs []) ≡ None → first_cause xs ≡ None
 chosen true xs e none = none
@@ -76,7 +69,7 @@ module _ (file : List ℕ) (accepted : IsAcceptedFile file) (packed : is_packed 
       let shape = none_first (lacks_vlr head) cause.NoVlr (payload_causes (format_of head) (extra_of head) (points_of head) (payload_of head)) more.0 in
       record {
         long = long;
-        near = omega (arith, front.near, long, limit-far (is_packed file));
+        near = omega (arith, front.near, long, limit-bound (is_packed file));
         one = one_vlr head more.0;
         vlr = more.0;
         payload = payload_known (format_of head) (extra_of head) (points_of head) (payload_of head) shape.1;
@@ -112,7 +105,7 @@ packed_file_known file accepted packed bytes = record {
 by_kind : (b : Bool) (chunk points : ℕ) → is_counted chunk ≡ b → is_bad_chunk_size points chunk ≡ false → IsChunkSizeOf (cond b (Counted points) (Fixed chunk points))
 by_kind true chunk points e fine = tt
 by_kind false chunk points e fine =
-    let parts = either-false (chunk == 0) (not (is_counted chunk) && nat_lt 250000 (min chunk points)) fine in
+    let parts = or_parts (chunk == 0) (not (is_counted chunk) && nat_lt 250000 (min chunk points)) fine in
     let few : nat_lt 250000 (min chunk points) ≡ false = ap (λ (b : Bool). not b && nat_lt 250000 (min chunk points)) (sym e) ∙ parts.1 in
     (some chunk parts.0, ltb-false 250000 (min chunk points) few)
   where
@@ -157,8 +150,8 @@ listed file p counts sizes a =
     let kind = by_kind (is_counted chunk) chunk points refl p.payload.chunk in
     let few = few_by (is_counted chunk) chunk points refl p.payload.many in
     let lists = accepted_lists (table_part file) blocks (table_place file - chunks_place file) counts sizes few a in
-    let first = either-false _ _ p.pointer in
-    let second = either-false _ _ first.0 in
+    let first = or_parts _ _ p.pointer in
+    let second = or_parts _ _ first.0 in
     let place : chunks_place file ≤ table_place file = ltb-false (table_place file) (chunks_place file) second.1 in
     let end : table_place file ≤ table_end file = ltb-false (table_end file) (table_place file) first.1 in
     record {
@@ -171,8 +164,8 @@ listed file p counts sizes a =
 
 -- ---- its chunks, as pieces
 pub record IsChunked (file : List ℕ) (pieces : List Piece) : Type 0 where
-  pub sizes : map length (bytes_in (map (chunk_at file) pieces)) ≡ map (λ p. p.size) pieces
-  pub joined : concat (bytes_in (map (chunk_at file) pieces)) ≡ take (sum (map (λ p. p.size) pieces)) (drop (chunks_place file) file)
+  pub sizes : map length (byte_lists_in (map (chunk_at file) pieces)) ≡ map (λ p. p.size) pieces
+  pub joined : concat (byte_lists_in (map (chunk_at file) pieces)) ≡ take (sum (map (λ p. p.size) pieces)) (drop (chunks_place file) file)
   pub lie : chunks_place file + sum (map (λ p. p.size) pieces) ≤ length file
 
 chunked_if : (packed : Bool) (file : List ℕ) → IsPackedFront file → (pieces : List Piece) → packed ≡ true → ArePiecesIf packed file pieces → IsChunked file pieces

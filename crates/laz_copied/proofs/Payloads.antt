@@ -1,41 +1,26 @@
 -- A laszip payload for counted chunks is refused for no cause, and every payload that is not refused is as long as one
 -- that is written for its records.
-use Rattle.std.proofs.Common.{◌≡◌, ℕ, suc, ◌+◌, ◌*◌, ◌<◌, ◌≤◌, ◌==◌, ◌&&◌, ◌||◌, not, nat_eq, Bool, true, false, List, [], ◌∷◌, ◌++◌, length, take, drop, replicate, None, refl, sym, ap, ◌∙◌, arith, eq-eqb, length-append}
-use Rattle.std.proofs.lemmas.Bool.{eqb-true, lt-leb}
-use Rattle.std.proofs.lemmas.List.{take_all, take-append-drop}
+use Rattle.std.proofs.Common.{◌≡◌, ℕ, suc, ◌+◌, ◌*◌, ◌<◌, ◌≤◌, ◌==◌, ◌||◌, not, nat_eq, Bool, true, false, List, [], ◌∷◌, ◌++◌, length, take, drop, replicate, None, refl, sym, ap, ◌∙◌, arith, eq-eqb, length-append}
+use Rattle.std.proofs.lemmas.Bool.{eqb-true, lt-leb, or_parts, not-false, and_parts}
+use Rattle.std.proofs.lemmas.List.{take-append-drop}
 use Rattle.std.specs.Cmp.Lexicographic.{pointwise}
 use Rattle.std.specs.List.{starts_with}
 use Rattle.byteorder.specs.Endian.{little_bytes}
 use Rattle.las_header.specs.declared.refusal.Refusal.TheVariants as cause
 use Rattle.las_header.specs.Numbers.{number_at}
 use Rattle.las_header.specs.Refusals.{first_cause}
-use Rattle.las_header.proofs.Public.{none_first, number_at-drop, reads_back}
-use Rattle.laz_table.specs.Payload.{Item, all_item_bytes, item_bytes, items_of, items_part, laszip_payload, payload_start}
+use Rattle.las_header.proofs.Public.{none_first, number_at-drop, reads_back, first_none}
+use Rattle.laz_table.specs.Payload.{all_item_bytes, items_of, items_part, laszip_payload, payload_start}
 use Rattle.laz_table.specs.VlrCauses.{chunk_size_in, has_other_compressor, has_other_items, has_other_shape, is_bad_chunk_size, makes_many_chunks, payload_causes}
-use Rattle.laz_forms.proofs.Public.{payload-short, skip}
-
-length-items : (items : List Item) → length (all_item_bytes items) ≡ 6 * length items
-length-items [] = refl
-length-items (i ∷ items) = omega (arith, length-append (item_bytes i) (all_item_bytes items), length-items items)
-
-pointwise-same : (xs : List ℕ) → pointwise nat_eq xs xs ≡ true
-pointwise-same [] = refl
-pointwise-same (x ∷ xs) = ap (λ (b : Bool). b && pointwise nat_eq xs xs) (eq-eqb x x refl) ∙ pointwise-same xs
-
-starts-same : (xs : List ℕ) → starts_with nat_eq xs xs ≡ true
-starts-same xs = ap (pointwise nat_eq xs) (take_all (length xs) xs (omega arith)) ∙ pointwise-same xs
+use Rattle.laz_forms.proofs.Public.{payload-short, length-items, starts-same}
 
 -- what begins with a list is that list and a rest
-both-true : (a b : Bool) → (a && b) ≡ true → (a ≡ true) × (b ≡ true)
-both-true true b e = (refl, e)
-both-true false b e = absurd (cc)
-
 pointwise-is : (xs ys : List ℕ) → pointwise nat_eq xs ys ≡ true → xs ≡ ys
 pointwise-is [] [] e = refl
 pointwise-is [] (y ∷ ys) e = absurd (cc)
 pointwise-is (x ∷ xs) [] e = absurd (cc)
 pointwise-is (x ∷ xs) (y ∷ ys) e =
-    let both = both-true (nat_eq x y) (pointwise nat_eq xs ys) e in
+    let both = and_parts (nat_eq x y) (pointwise nat_eq xs ys) e in
     ap (λ (n : ℕ). n ∷ xs) (eqb-true x y both.0) ∙ ap (λ (l : List ℕ). y ∷ l) (pointwise-is xs ys both.1)
 
 begins-is : (xs ys : List ℕ) → starts_with nat_eq xs ys ≡ true → xs ≡ ys ++ drop (length ys) xs
@@ -92,24 +77,17 @@ counted-fine format extra points =
     let sizes = (is_bad_chunk_size points (chunk_size_in bytes), cause.ChunkSize) ∷ many in
     let others = (has_other_items format extra bytes, cause.Items) ∷ sizes in
     let compressors = (has_other_compressor bytes, cause.Compressor) ∷ others in
-    skip (has_other_shape bytes) cause.VlrShape compressors (shape format extra 4294967295)
-    (skip (has_other_compressor bytes) cause.Compressor others (compressor format extra 4294967295)
-    (skip (has_other_items format extra bytes) cause.Items sizes (items format extra 4294967295)
-    (skip (is_bad_chunk_size points (chunk_size_in bytes)) cause.ChunkSize many (ap (is_bad_chunk_size points) size ∙ good-size points)
-    (skip (makes_many_chunks points (chunk_size_in bytes)) cause.TooManyChunks [] (ap (makes_many_chunks points) size ∙ not-many points) refl))))
+    first_none (has_other_shape bytes) cause.VlrShape compressors (shape format extra 4294967295)
+    (first_none (has_other_compressor bytes) cause.Compressor others (compressor format extra 4294967295)
+    (first_none (has_other_items format extra bytes) cause.Items sizes (items format extra 4294967295)
+    (first_none (is_bad_chunk_size points (chunk_size_in bytes)) cause.ChunkSize many (ap (is_bad_chunk_size points) size ∙ good-size points)
+    (first_none (makes_many_chunks points (chunk_size_in bytes)) cause.TooManyChunks [] (ap (makes_many_chunks points) size ∙ not-many points) refl))))
 
 pub counted-chunk : (format extra : ℕ) → chunk_size_in (laszip_payload format extra 4294967295) ≡ 4294967295
 unfolding payload
 counted-chunk format extra = chunk-in format extra 4294967295 (omega arith)
 
 -- ---- payloads that are not refused
-not_false : (b : Bool) → not b ≡ false → b ≡ true
-not_false true e = refl
-not_false false e = absurd (cc)
-
-either-false : (a b : Bool) → (a || b) ≡ false → (a ≡ false) × (b ≡ false)
-either-false true b e = absurd (cc)
-either-false false b e = (refl, e)
 
 -- what is known of one
 pub record IsPayload (format extra points : ℕ) (payload : List ℕ) : Type 0 where
@@ -129,8 +107,8 @@ payload_known format extra points bytes none =
     let chunk_is = none_first (is_bad_chunk_size points (chunk_size_in bytes)) cause.ChunkSize many_causes items_is.1 in
     let many_is = none_first (makes_many_chunks points (chunk_size_in bytes)) cause.TooManyChunks [] chunk_is.1 in
     let list = items_of format extra in
-    let there = begins-is (drop 32 bytes) (items_part list) (not_false _ items_is.0) in
-    let long : length bytes ≡ 34 + 6 * number_at 2 32 bytes = eqb-true _ _ (not_false _ (either-false _ _ shape_is.0).1) in
+    let there = begins-is (drop 32 bytes) (items_part list) (not-false _ items_is.0) in
+    let long : length bytes ≡ 34 + 6 * number_at 2 32 bytes = eqb-true _ _ (not-false _ (or_parts _ _ shape_is.0).1) in
     let count : number_at 2 32 bytes ≡ length list =
     number_at-drop 2 32 bytes ∙ ap (number_at 2 0) there
     ∙ reads_back 2 (length list) (all_item_bytes list ++ drop (length (items_part list)) (drop 32 bytes)) (omega (arith, few-items format extra 0)) in

@@ -1,40 +1,27 @@
 -- The table of counted chunks is accepted; and what an accepted table says of the chunks of a file.
-use Rattle.std.proofs.Common.{◌≡◌, inl, inr, ℕ, zero, suc, ◌+◌, ◌*◌, ◌-◌, ◌<◌, ◌≤◌, min, sum, Bool, true, false, List, [], ◌∷◌, ◌++◌, length, map, Option, Some, None, refl, sym, ap, subst, ◌∙◌, arith, lit<}
+use Rattle.std.proofs.Common.{◌≡◌, inl, inr, ℕ, zero, suc, ◌+◌, ◌*◌, ◌-◌, ◌<◌, ◌≤◌, min, sum, Bool, true, false, List, [], ◌∷◌, ◌++◌, length, map, None, refl, sym, ap, subst, ◌∙◌, arith}
 use Rattle.std.specs.Prelude.{◌⊎◌}
 use Rattle.std.specs.List.{AllByRecursion, range_with_len}
 use Rattle.std.proofs.lemmas.Bool.{cases_lt}
 use Rattle.std.proofs.lemmas.List.Elements.{All-from_recursion, recursion_from_All}
 use Rattle.byteorder.specs.Endian.{little_bytes}
-use Rattle.las_header.specs.declared.refusal.Refusal.{Refusal}
 use Rattle.las_header.specs.Conditions.{IsFirst}
-use Rattle.laz_range.specs.Span.{IsBytes, Span, initial_span, span}
-use Rattle.laz_range.proofs.Public.{after-IsSpan, initial_span-IsSpan, last-within}
-use Rattle.laz_integer.specs.Events.{Event, cuts_of}
+use Rattle.laz_range.specs.Span.{IsBytes}
+use Rattle.laz_integer.specs.Events.{Event}
 use Rattle.laz_table.specs.declared.chunks.Blocks.{Blocks}
 use Rattle.laz_table.specs.declared.chunks.Blocks.TheVariants.{Fixed, Counted}
-use Rattle.laz_table.specs.Chunks.{AreSizes, HasOtherPoints, HasTable, IsAccepted, IsChunkSize, table_causes}
-use Rattle.laz_table.specs.Entries.{Entry, Latest, SpellsEntries, after_entry, entries_of, events_of, no_entry}
+use Rattle.laz_table.specs.Chunks.{AreSizes, HasTable, IsAccepted, IsChunkSize, table_causes}
+use Rattle.laz_table.specs.Entries.{Entry, Latest, SpellsEntries, after_entry, entries_of, no_entry}
 use Rattle.laz_table.specs.Laws.{AreWords}
 use Rattle.laz_table.specs.Table.{HoldsEntries, TableHolds, stream_of, table_bytes}
 use Rattle.laz_table.specs.VlrCauses.{chunk_count}
-use Rattle.laz_table.proofs.Public.{IsBytes-append, IsBytes-digits, IsBytes-little, AreEntries, cuts-lawful, entries-ranged, entries-spelled, holds-counted, one-held}
-use Rattle.laz_forms.proofs.Public.{count-few, sum-first}
+use Rattle.laz_table.proofs.Public.{IsBytes-append, IsBytes-little, AreEntries, holds-counted, one-held}
+use Rattle.laz_table.proofs.Public.{counted-entries, stream-bytes}
+use Rattle.laz_forms.proofs.Public.{count-few}
+use Rattle.laz_reader.proofs.Public.{points_summed}
+use Rattle.laz_models.proofs.Public.{sum-cons}
 
 -- ---- a table that is written has bytes
-counted-entries : (sizes counts : List ℕ) → length sizes ≡ length counts → AreWords sizes → AreWords counts → AreEntries (entries_of sizes counts)
-counted-entries [] [] e h k = tt
-counted-entries [] (c ∷ counts) e h k = absurd (omega (arith, e))
-counted-entries (s ∷ sizes) [] e h k = tt
-counted-entries (s ∷ sizes) (c ∷ counts) e h k = (omega (arith, h.0), (omega (arith, k.0), counted-entries sizes counts (omega (arith, e)) h.1 k.1))
-
-stream-bytes : (entries : List Entry) → AreEntries entries → IsBytes (stream_of entries)
-stream-bytes [] all = λ i. lit< tt
-stream-bytes (e ∷ entries) all =
-    let events = events_of no_entry (e ∷ entries) in
-    let spells : SpellsEntries no_entry events (e ∷ entries) = entries-spelled no_entry (e ∷ entries) (lit< tt, lit< tt) all in
-    let s : Span = span (cuts_of events) in
-    let is = after-IsSpan initial_span (cuts_of events) initial_span-IsSpan (cuts-lawful events (entries-ranged no_entry events (e ∷ entries) spells)) in
-    IsBytes-digits (s.shifts + 4) _ (omega (arith, (last-within s is).1, is.within))
 
 counted-bytes : (sizes counts : List ℕ) → length sizes ≡ length counts → AreWords sizes → AreWords counts → IsBytes (table_bytes sizes counts)
 counted-bytes sizes counts same h k =
@@ -51,7 +38,7 @@ sizes-words (s ∷ sizes) h = (omega (arith, h.0.1), sizes-words sizes h.1)
 -- there are no more chunks than points
 pub few-sizes : (sizes : List ℕ) → AllByRecursion IsChunkSize sizes → length sizes ≤ sum sizes
 few-sizes [] h = omega arith
-few-sizes (s ∷ sizes) h = omega (arith, h.0.0, few-sizes sizes h.1, sum-first s sizes)
+few-sizes (s ∷ sizes) h = omega (arith, h.0.0, few-sizes sizes h.1, sum-cons s sizes)
 
 -- ---- the table of counted chunks
 module _ (points : ℕ) (sizes counts : List ℕ) (same : length sizes ≡ length counts) (few : length counts ≤ 16777216) (words : AreWords counts) (range : AllByRecursion IsChunkSize sizes) (whole : sum sizes ≡ points) where
@@ -142,18 +129,6 @@ all_in_range? (n ∷ ns) = elim (in_range? n) [
   | inr none ↦ inr (λ h. none h.0)
 ]
 
-some_is_none : {X : Type 0} (cause : Refusal) → ◌≡◌ {A = Option Refusal} None (Some cause) → X
-some_is_none cause is = absurd (cc)
-
-no_other_points : (bytes : List ℕ) (blocks : Blocks) (total : ℕ) → IsFirst (table_causes bytes blocks total) None → HasOtherPoints bytes blocks → ⊥
-no_other_points bytes blocks total is other = elim is [
-  | inl lacks ↦ some_is_none _ lacks.1
-  | inr has ↦ elim has.1 [
-    | inl wrong ↦ some_is_none _ wrong.1
-    | inr right ↦ elim right.1 [ inl points ↦ some_is_none _ points.1 | inr fine ↦ fine.0 other ]
-  ]
-]
-
 -- those of fixed chunks
 fixed-range : (chunk points k n : ℕ) → 0 < chunk → min chunk points ≤ 250000 → chunk * (k + n) < points + chunk
     → AllByRecursion IsChunkSize (map (λ i. min chunk (points - chunk * i)) (range_with_len k n))
@@ -176,5 +151,5 @@ accepted_range bytes (Fixed chunk points) total sizes counts some a =
     (fixed-range chunk points 0 (chunk_count points chunk) some.0 some.1 (omega (arith, count-few points chunk (omega (arith, some.0)))))
 accepted_range bytes (Counted points) total sizes counts some a = elim (all_in_range? a.coded) [
   | inl all ↦ subst (AllByRecursion IsChunkSize) (sym a.sizes_are) all
-  | inr none ↦ absurd (no_other_points bytes (Counted points) total a.fine (a.coded, counts, a.table, λ are. none (recursion_from_All IsChunkSize a.coded are.0)))
+  | inr none ↦ absurd (points_summed bytes (Counted points) total a.fine (a.coded, counts, a.table, λ are. none (recursion_from_All IsChunkSize a.coded are.0)))
 ]

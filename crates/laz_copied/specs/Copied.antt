@@ -17,8 +17,8 @@ pub record Chunk : Type 0 where
 abbrev pub counts_in : List Chunk → List ℕ
 counts_in chunks = map (λ c. c.count) chunks
 
-abbrev pub bytes_in : List Chunk → List (List ℕ)
-bytes_in chunks = map (λ c. c.bytes) chunks
+abbrev pub byte_lists_in : List Chunk → List (List ℕ)
+byte_lists_in chunks = map (λ c. c.bytes) chunks
 
 -- lists of several files, one file after another
 abbrev pub all_of : {A : Type 0} → (parts : List (List A)) → List A
@@ -70,4 +70,4 @@ copied_head files =
 -- files as one, of these chunks: under that head, with the laszip VLR for chunks that each have a number of points of
 -- their own, then the pointer to the table, the chunks as they stand, and the table
 abbrev pub copied_file : (files : List (List ℕ)) → (chunks : List Chunk) → List ℕ
-copied_file files chunks = packed_form (copied_head files) COUNTED_CHUNKS (counts_in chunks) (bytes_in chunks)
+copied_file files chunks = packed_form (copied_head files) COUNTED_CHUNKS (counts_in chunks) (byte_lists_in chunks)

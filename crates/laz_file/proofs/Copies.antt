@@ -8,6 +8,7 @@ use Rattle.std.proofs.Math.Nat.{div-add-mod, mul-le-mul_left}
 use Rattle.las_header.specs.declared.refusal.Refusal.{Refusal}
 use Rattle.las_header.specs.Fields.{record_length_of}
 use Rattle.las_header.specs.Plain.{cut_records}
+use Rattle.las_header.proofs.Public.{cut_length}
 use Rattle.las_outside.specs.Faults.{Rose}
 use Rattle.las_outside.specs.Outside.{Outside}
 use Rattle.laz_forms.specs.declared.fault.Fault.{Fault}
@@ -17,7 +18,7 @@ use Rattle.laz_file.specs.Copying.{CanTake}
 use Rattle.laz_reader.specs.Reading.{AreWholeBlocks, EndsReading, ReaderSeen, records_in}
 use Rattle.laz_reader.specs.Turns.{MayCome}
 use Rattle.laz_writer.specs.Writing.{WriterSeen}
-use Rattle.laz_forms.proofs.Public.{concat-append, length-cut}
+use Rattle.laz_forms.proofs.Public.{concat-append}
 use Rattle.laz_reader.proofs.Public.{concat_last, even_whole, length_whole, records-append}
 use Rattle.laz_writer.proofs.Public.{cut-append}
 
@@ -59,7 +60,7 @@ two_fit size a b k some all = elim (cases_lt k (a / size + b / size)) [
 pub few_come : (reader : ReaderSeen) (size : ℕ) (records block : List ℕ) → 0 < size → size ≡ record_length_of reader.head.bytes → MayCome reader records block → records_in reader.left < 2 ^ 32 → length (cut_records size (length records / size) records) + length block / size < 2 ^ 32
 few_come reader size records block some is come few =
     let all = subst (λ (k : ℕ). length records + length block ≤ k * records_in reader.left) (sym is) come.within in
-    omega (arith, two_fit size (length records) (length block) (records_in reader.left) some all, length-cut size (length records / size) records, few)
+    omega (arith, two_fit size (length records) (length block) (records_in reader.left) some all, cut_length size (length records / size) records, few)
 
 -- the records with those of a block more
 pub records_come : (reader : ReaderSeen) (size : ℕ) (xs : List (List ℕ)) (block : List ℕ) → 0 < size → size ≡ record_length_of reader.head.bytes → MayCome reader (concat xs) block

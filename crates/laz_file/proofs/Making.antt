@@ -35,15 +35,15 @@ use Rattle.laz_file.proofs.WholeOutputs.{create_left, ends_left, finishes, is_pl
 pub nothing_left : (files : List OutputFile) (old : FileMap) → LeavesFiles files old old
 nothing_left files old = (0, [], inl tt, refl)
 
-done_texts : List OutputFile → List (List ℕ)
+pub done_texts : List OutputFile → List (List ℕ)
 done_texts files = map (λ o. with_patches o.draft o.patches) files
 
-all_done : (files : List OutputFile) → AreEnding files (done_texts files)
+pub all_done : (files : List OutputFile) → AreEnding files (done_texts files)
 unfolding done_texts
 all_done [] = tt
 all_done (o ∷ os) = inl (refl, all_done os)
 
-named_done : (files : List OutputFile) → map (at_end true) files ≡ named files (done_texts files)
+pub named_done : (files : List OutputFile) → map (at_end true) files ≡ named files (done_texts files)
 unfolding done_texts
 named_done [] = refl
 named_done (o ∷ os) = ap (λ (t : List (List ℕ × List ℕ)). at_end true o ∷ t) (named_done os)

@@ -1,7 +1,7 @@
 -- Each piece of a file holds at most one block, whatever the file's bytes are.
 use Rattle.std.proofs.Common.{◌≡◌, inl, inr, ℕ, zero, suc, ◌≤◌, Bool, true, false, List, [], ◌∷◌, ◌++◌, length, take, drop, Option, Some, None, refl, sym, ap, subst, ◌∙◌, arith}
 use Rattle.std.proofs.lemmas.Bool.{cases_lt}
-use Rattle.std.proofs.lemmas.List.{append-nil, take_all}
+use Rattle.std.proofs.lemmas.List.{append-nil, take_all, nil_from_length}
 use Rattle.las_header.specs.Fields.{head_of, is_packed}
 use Rattle.laz_range.specs.Span.{IsBytes}
 use Rattle.laz_range.proofs.Public.{IsBytes-drop, IsBytes-take}
@@ -19,13 +19,9 @@ use Rattle.laz_forms.proofs.Public.{not_bad_before, read_once}
 abbrev pub OneIsHeld : Type 0
 OneIsHeld = (l : Layout) (count : ℕ) (bytes one other : List ℕ) → 1 ≤ count → IsBytes bytes → AreRecords l count one → AreRecords l count other → Holds l bytes one → Holds l bytes other → one ≡ other
 
-nothing : (xs : List ℕ) → length xs ≡ 0 → xs ≡ []
-nothing [] e = refl
-nothing (x ∷ xs) e = absurd (omega (arith, e))
-
 -- a chunk of no record holds none
 held-once : (held : OneIsHeld) (l : Layout) (count : ℕ) (bytes one other : List ℕ) → IsBytes bytes → AreRecords l count one → AreRecords l count other → Holds l bytes one → Holds l bytes other → one ≡ other
-held-once held l zero bytes one other small are others s t = nothing one (are.length ∙ omega arith) ∙ sym (nothing other (others.length ∙ omega arith))
+held-once held l zero bytes one other small are others s t = nil_from_length one (are.length ∙ omega arith) ∙ sym (nil_from_length other (others.length ∙ omega arith))
 held-once held l (suc n) bytes one other small are others s t = held l (suc n) bytes one other (omega arith) small are others s t
 
 -- several pieces hold at most one list of blocks, if each of them holds at most one block

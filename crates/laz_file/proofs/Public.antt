@@ -7,12 +7,13 @@ pub use Rattle.laz_file.proofs.Copies.{records_come, room_for}
 pub use Rattle.laz_file.proofs.Endings.{leaves_end, leaves_part, part_unfinished}
 pub use Rattle.laz_file.proofs.EvenBlocks.{even_in, even_of}
 pub use Rattle.laz_file.proofs.Making.{ends_err, ends_same, finished_form, left_before, left_by_fault, left_done}
-pub use Rattle.laz_file.proofs.Making.{one_left, packed_left, packed_stands, rose_reads, rose_writes}
+pub use Rattle.laz_file.proofs.Making.{one_left, packed_left, packed_stands, rose_reads, rose_writes, done_texts}
 pub use Rattle.laz_file.proofs.OneBlock.{begins-with, only-blocks}
 pub use Rattle.laz_file.proofs.RangeLaws.{all_records_in, records_in_before, whole_of_all}
 pub use Rattle.laz_file.proofs.Taking.{calm_trans, cause_push, cause_since, file_beside, held_after, known_after}
-pub use Rattle.laz_file.proofs.Taking.{known_before, known_taken, on_err, other_name, part_push, part_stands, part_then, stands_read}
+pub use Rattle.laz_file.proofs.Taking.{known_before, known_taken, other_name, part_push, part_stands, part_then, stands_read}
 pub use Rattle.laz_file.proofs.Taking.{takes_none, takes_push, takes_read, takes_then}
-pub use Rattle.laz_file.proofs.WholeOutputs.{all_records, create_left, err_at, err_then, hold_ready, left_is, ok_then}
+pub use Rattle.laz_file.proofs.WholeOutputs.{all_records, create_left, err_at, hold_ready, left_is}
 pub use Rattle.laz_file.proofs.WholeOutputs.{records_before, stands_ready}
 pub use Rattle.laz_file.proofs.Writers.{begun_now, read_between, room_for_all, room_now, same_size, taken_apart}
+pub use Rattle.laz_file.proofs.Making.{all_done, named_done}

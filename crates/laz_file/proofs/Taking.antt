@@ -186,10 +186,6 @@ other_name now first name same other e = other (sym same ∙ e)
 pub calm_trans : (a b c : Outside) → SameFaults a b → SameFaults b c → SameFaults a c
 calm_trans a b c ab bc = record { reads = bc.reads ∙ ab.reads; writes = bc.writes ∙ ab.writes; asked = bc.asked ∙ ab.asked }
 
-pub on_err : {T E P : Type 0} (r : Result T E) → P → OnErr r P
-on_err (Ok x) p = tt
-on_err (Err e) p = p
-
 -- ---- a call of a writer, whatever it answers
 
 pub push_takes : {T E : Type 0} (r : Result T E) (old new : Outside) (w v : WriterSeen) (records : List ℕ) → ((before : Outside) (out : Output) (bytes : List ℕ) → Stands before old w out bytes → OnOk r (Stands before new v out (bytes ++ records)))

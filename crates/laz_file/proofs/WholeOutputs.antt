@@ -1,5 +1,5 @@
 -- Whole files that were packed or unpacked, or not.
-use Rattle.std.proofs.Common.{◌≡◌, ◌≢◌, ◌⊎◌, inl, inr, ℕ, ◌+◌, ◌-◌, ◌*◌, ◌≤◌, Bool, true, false, cond, List, [], ◌++◌, length, map, take, drop, Option, Some, None, Result, Ok, Err, IfErr, OnOk, refl, sym, ◌∙◌, ap, subst, arith}
+use Rattle.std.proofs.Common.{◌≡◌, ◌≢◌, ◌⊎◌, inl, inr, ℕ, ◌+◌, ◌-◌, ◌*◌, ◌≤◌, Bool, true, false, cond, List, [], ◌++◌, length, map, take, drop, Option, Some, None, Result, Err, IfErr, refl, sym, ◌∙◌, ap, subst, arith}
 use Rattle.std.specs.Prelude.{IsSome}
 use Rattle.std.specs.List.{concat}
 use Rattle.std.proofs.lemmas.List.{take_all}
@@ -98,14 +98,6 @@ hold_ready known was first reader buffers other text n blocks is written ne hold
 
 pub err_at : {T E : Type 0} (P : E → Type 0) (r : Result T E) (e : E) → IfErr r P → r ≡ Err e → P e
 err_at P r e p is = let Q = λ (x : Result _ _). IfErr x P in subst Q is p
-
-pub ok_then : {T E P Q : Type 0} (r : Result T E) → (P → Q) → OnOk r P → OnOk r Q
-ok_then (Ok x) to p = to p
-ok_then (Err e) to p = tt
-
-pub err_then : {T E : Type 0} (P Q : E → Type 0) (r : Result T E) → ((e : E) → P e → Q e) → IfErr r P → IfErr r Q
-err_then P Q (Ok x) to p = tt
-err_then P Q (Err e) to p = to e p
 
 -- an output that could not be created
 pub create_left : (old new : Outside) (out : Output) (fault : Fault) (records : List ℕ) → Stops fault old new ⊎ ((n : ℕ) × Stops fault (with_bytes old out.name (take n (front out))) new) → LeavesUnfinished out records old.held new.held

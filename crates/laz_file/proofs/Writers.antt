@@ -1,6 +1,5 @@
 -- A writer that takes the records of a reader.
-use Rattle.std.proofs.Common.{◌≡◌, ◌≢◌, ℕ, ◌+◌, ◌*◌, ◌%◌, ◌≤◌, false, List, [], ◌++◌, length, Result, Ok, Err, refl, sym, ◌∙◌, ap, subst, length-append, arith}
-use Rattle.std.specs.Prelude.{OnErr}
+use Rattle.std.proofs.Common.{◌≡◌, ◌≢◌, ℕ, ◌+◌, ◌*◌, ◌%◌, ◌≤◌, false, List, [], ◌++◌, length, refl, sym, ◌∙◌, ap, subst, length-append, arith}
 use Rattle.las_outside.specs.Frames.{OnlyReads}
 use Rattle.las_outside.specs.Outside.{Outside}
 use Rattle.laz_file.specs.Copying.{CanTake, HasRoomFor, HasTaken, Takes, with_reads}
@@ -56,8 +55,3 @@ room_for_all reader writer can records block come = record {
       let all = subst (λ (n : ℕ). length records + length block ≤ n * records_in reader.left) (sym can.size) come.within in
       omega (arith, can.room, all);
 }
-
--- what follows of what is left, if a call has answered Err
-pub on_err_then : {T E P Q : Type 0} (r : Result T E) → (P → Q) → OnErr r P → OnErr r Q
-on_err_then (Ok x) to p = tt
-on_err_then (Err e) to p = to p

@@ -18,25 +18,25 @@ use Rattle.laz_forms.proofs.Blocks.{cut-length}
 use Rattle.laz_forms.proofs.Finished.{long-size, short-size}
 
 -- ---- bytes
-IsBytes-flat : (width : ℕ) (xs : List ℕ) → IsBytes (flat_map (little_bytes width) xs)
+pub IsBytes-flat : (width : ℕ) (xs : List ℕ) → IsBytes (flat_map (little_bytes width) xs)
 IsBytes-flat width [] = λ i. lit< tt
 IsBytes-flat width (x ∷ xs) =
     subst IsBytes (sym (flat_map-cons (little_bytes width) x xs))
     (IsBytes-append (little_bytes width x) (flat_map (little_bytes width) xs) (IsBytes-little width x) (IsBytes-flat width xs))
 
-IsBytes-splice : (xs : List ℕ) (i j : ℕ) (ys : List ℕ) → IsBytes xs → IsBytes ys → IsBytes (splice xs i j ys)
+pub IsBytes-splice : (xs : List ℕ) (i j : ℕ) (ys : List ℕ) → IsBytes xs → IsBytes ys → IsBytes (splice xs i j ys)
 IsBytes-splice xs i j ys h k =
     IsBytes-append (take i xs) (ys ++ drop j xs) (IsBytes-take i xs h) (IsBytes-append ys (drop j xs) k (IsBytes-drop j xs h))
 
-short-are : (points : ℕ) (returns : List ℕ) → IsBytes (short_bytes points returns)
+pub short-are : (points : ℕ) (returns : List ℕ) → IsBytes (short_bytes points returns)
 unfolding short_bytes
 short-are points returns = IsBytes-flat 4 (points ∷ returns)
 
-long-are : (points : ℕ) (returns : List ℕ) → IsBytes (long_bytes points returns)
+pub long-are : (points : ℕ) (returns : List ℕ) → IsBytes (long_bytes points returns)
 unfolding long_bytes
 long-are points returns = IsBytes-flat 8 (points ∷ returns)
 
-set-are : (both : Bool) (head short long : List ℕ) → IsBytes head → IsBytes short → IsBytes long
+pub set-are : (both : Bool) (head short long : List ℕ) → IsBytes head → IsBytes short → IsBytes long
     → IsBytes (cond both (splice (splice head 107 131 short) 247 375 long) (splice head 107 131 short))
 set-are false head short long h k l = IsBytes-splice head 107 131 short h k
 set-are true head short long h k l = IsBytes-splice (splice head 107 131 short) 247 375 long (IsBytes-splice head 107 131 short h k) l

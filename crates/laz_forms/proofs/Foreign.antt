@@ -1,6 +1,6 @@
 -- Files as another writer or a fault may leave them: the pointer at the end, the table cut off, a chunk a byte short.
-use Rattle.std.proofs.Common.{◌≡◌, ℕ, zero, suc, ◌-◌, ◌≤◌, ◌&&◌, nat_lt, Bool, true, false, List, [], ◌∷◌, ◌++◌, take, drop, Some, None, inl, refl, arith, lit<, lit≤}
-use Rattle.std.proofs.lemmas.Bool.{ltb-true}
+use Rattle.std.proofs.Common.{◌≡◌, ℕ, zero, suc, ◌-◌, ◌≤◌, ◌&&◌, nat_lt, Bool, true, List, [], ◌∷◌, ◌++◌, take, drop, Some, None, inl, refl, arith, lit<, lit≤}
+use Rattle.std.proofs.lemmas.Bool.{ltb-true, and_parts}
 use Rattle.laz_range.specs.Span.{IsBytes, renormal_step, subspan}
 use Rattle.laz_models.specs.BitDist.{bit_counts_at}
 use Rattle.laz_models.specs.Counting.{starts_of}
@@ -25,15 +25,11 @@ all_small : List ℕ → Bool
 all_small [] = true
 all_small (x ∷ xs) = nat_lt x 256 && all_small xs
 
-both : (a b : Bool) → (a && b) ≡ true → (a ≡ true) × (b ≡ true)
-both true b e = (refl, e)
-both false b e = absurd (cc)
-
 bytes-by : (xs : List ℕ) → all_small xs ≡ true → IsBytes xs
 unfolding all_small
 bytes-by [] e i = lit< tt
-bytes-by (x ∷ xs) e zero = ltb-true x 256 (both (nat_lt x 256) (all_small xs) e).0
-bytes-by (x ∷ xs) e (suc i) = bytes-by xs (both (nat_lt x 256) (all_small xs) e).1 i
+bytes-by (x ∷ xs) e zero = ltb-true x 256 (and_parts (nat_lt x 256) (all_small xs) e).0
+bytes-by (x ∷ xs) e (suc i) = bytes-by xs (and_parts (nat_lt x 256) (all_small xs) e).1 i
 
 point-bytes : IsBytes point
 unfolding all_small

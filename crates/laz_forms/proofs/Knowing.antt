@@ -1,7 +1,7 @@
 -- What follows of the bytes of a file, if the files are known.
-use Rattle.std.proofs.Common.{◌≡◌, ℕ, List, Option, Some, None, IsSomeAnd, Result, Ok, Err, OnOk, IfOk, subst}
+use Rattle.std.proofs.Common.{◌≡◌, ℕ, List, Option, Some, None, IsSomeAnd, Result, Ok, Err, OnOk, IfOk, subst, refl}
 use Rattle.std.specs.FinMap as map
-use Rattle.las_outside.specs.Files.{FileMap, WhereKnown}
+use Rattle.las_outside.specs.Files.{FileMap, WhereKnown, IsMissing}
 
 some_then : (o : Option (List ℕ)) (P Q : List ℕ → Type 0) → ((file : List ℕ) → P file → Q file) → IsSomeAnd o P → IsSomeAnd o Q
 some_then None P Q to p = p
@@ -42,3 +42,21 @@ if_ok (Err e) p = tt
 -- the same of a name that is written otherwise
 pub known_as : (held : Option FileMap) (name other : List ℕ) (P : List ℕ → Type 0) → name ≡ other → WhereKnown held name P → WhereKnown held other P
 known_as held name other P same p = subst (λ (n : List ℕ). WhereKnown held n P) same p
+
+-- a file of which something is known is not missing
+pub not_missing : (held : Option FileMap) (name : List ℕ) (P : List ℕ → Type 0) → WhereKnown held name P → IsMissing held name → ⊥
+not_missing None name P known missing = missing
+not_missing (Some files) name P known missing = by (map.get files name) known missing
+  where
+    by : (o : Option (List ℕ)) → IsSomeAnd o P → o ≡ None → ⊥
+    by None p none = p
+    by (Some file) p none = absurd (cc)
+
+-- if two things are known that exclude each other, the files are not known
+pub not_both : (held : Option FileMap) (name : List ℕ) (P Q : List ℕ → Type 0) → ((file : List ℕ) → P file → Q file → ⊥) → WhereKnown held name P → WhereKnown held name Q → held ≡ None
+not_both None name P Q never p q = refl
+not_both (Some files) name P Q never p q = absurd (by (map.get files name) p q)
+  where
+    by : (o : Option (List ℕ)) → IsSomeAnd o P → IsSomeAnd o Q → ⊥
+    by None a b = a
+    by (Some file) a b = never file a b

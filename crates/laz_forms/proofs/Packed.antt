@@ -1,6 +1,6 @@
 -- The packed form of an accepted plain file: it is accepted, and its chunks hold the records.
-use Rattle.std.proofs.Common.{◌≡◌, ℕ, suc, ◌+◌, ◌*◌, ◌-◌, ◌<◌, ◌≤◌, ◌||◌, ◌&&◌, sum, nat_lt, Bool, true, false, cond, List, [], ◌∷◌, ◌++◌, length, map, take, drop, Option, None, refl, sym, ap, subst, ◌∙◌, arith, append_assoc, length-append}
-use Rattle.std.proofs.lemmas.Bool.{cond-false, lt-leb, ne_eqb}
+use Rattle.std.proofs.Common.{◌≡◌, ℕ, suc, ◌+◌, ◌*◌, ◌-◌, ◌<◌, ◌≤◌, ◌&&◌, sum, nat_lt, Bool, true, false, cond, List, [], ◌∷◌, ◌++◌, length, map, take, drop, Option, None, refl, sym, ap, subst, ◌∙◌, arith, append_assoc, length-append}
+use Rattle.std.proofs.lemmas.Bool.{cond-false, lt-leb, ne_eqb, and_left, or_from}
 use Rattle.std.proofs.lemmas.List.{drop_at, length-map, take-append-drop, take-take, take_all, take_at}
 use Rattle.std.proofs.Math.Nat.{mul-le-mul}
 use Rattle.std.specs.List.{concat}
@@ -14,6 +14,7 @@ use Rattle.las_header.specs.Plain.{cut_records, plain_head, plain_of, without_fi
 use Rattle.las_header.specs.Vlrs.{laszip_vlrs_of}
 use Rattle.las_header.specs.Refusals.{causes_of, first_cause, front_causes, head_causes, or_else}
 use Rattle.las_header.proofs.Public.{first_of_both, front_decides, front_is_fine, packed_is_fine, IsFirst-append_none, IsFirst-tests, number_at-drop, number_at-take, reads_back}
+use Rattle.las_header.proofs.Public.{first_none}
 use Rattle.laz_chunk.specs.Chunks.{chunk_bytes}
 use Rattle.laz_chunk.specs.Layouts.{Layout, record_length}
 use Rattle.laz_table.specs.declared.chunks.Blocks.{Blocks}
@@ -31,20 +32,12 @@ use Rattle.laz_forms.proofs.Accepted.{IsPlainFile, plain_file}
 use Rattle.laz_forms.proofs.Blocks.{AreBlocks, blocks-are, count-enough, cut-joined, cut-length, same-count}
 use Rattle.laz_forms.proofs.Chunked.{bytes_are, pieces_hold, sum-lengths, table_accepted, words}
 use Rattle.laz_forms.proofs.Fronts.{chunk_size_is, head_packed, layout-length, layout_same, vlr_fine}
-use Rattle.laz_forms.proofs.Payloads.{few-chunks, fixed-size, payload-short, skip}
+use Rattle.laz_forms.proofs.Payloads.{few-chunks, fixed-size, payload-short}
 
 -- some lists are not too long in all
-words-bound : (xs : List (List ℕ)) → AreWords (map length xs) → length (concat xs) ≤ 4294967296 * length xs
+pub words-bound : (xs : List (List ℕ)) → AreWords (map length xs) → length (concat xs) ≤ 4294967296 * length xs
 words-bound [] h = omega arith
 words-bound (x ∷ xs) h = omega (arith, length-append x (concat xs), h.0, words-bound xs h.1)
-
-pub neither : (a b : Bool) → a ≡ false → b ≡ false → (a || b) ≡ false
-neither true b e f = absurd (cc)
-neither false b e f = f
-
-and-false : (a b : Bool) → a ≡ false → (a && b) ≡ false
-and-false true b e = absurd (cc)
-and-false false b e = refl
 
 pub not-below : (a b : ℕ) → b ≤ a → nat_lt a b ≡ false
 not-below a b h = lt-leb (suc a) b (omega (arith, h))
@@ -175,11 +168,11 @@ module _ (file : List ℕ) (chunk : ℕ) (p : IsPlainFile file) (least : 256 ≤
 
   good-pointer : has_bad_pointer form ≡ false
   good-pointer =
-      neither _ (nat_lt (table_end form) (table_place form))
-      (neither _ (nat_lt (table_place form) (chunks_place form))
-      (neither (nat_lt (length form) (chunks_place form)) (has_last_pointer form && nat_lt (length form) (chunks_place form + 8))
+      or_from _ (nat_lt (table_end form) (table_place form))
+      (or_from _ (nat_lt (table_place form) (chunks_place form))
+      (or_from (nat_lt (length form) (chunks_place form)) (has_last_pointer form && nat_lt (length form) (chunks_place form + 8))
       (not-below (length form) (chunks_place form) (omega (arith, length-form, chunks-place-is)))
-      (and-false (has_last_pointer form) _ not-last))
+      (and_left (has_last_pointer form) _ not-last))
       (not-below (table_place form) (chunks_place form) (omega (arith, table-place-is, chunks-place-is))))
       (not-below (table_end form) (table_place form) (omega (arith, table-end-is, table-place-is, length-form)))
 
@@ -241,7 +234,7 @@ module _ (file : List ℕ) (chunk : ℕ) (p : IsPlainFile file) (least : 256 ≤
   packed-fine =
       both-fine (vlr_causes (head_of form)) last
       (ap (λ (t : List ℕ). first_cause (vlr_causes t)) head-is ∙ vlr_fine file chunk p least few)
-      (skip (has_bad_pointer form) cause.TablePointer [] good-pointer refl)
+      (first_none (has_bad_pointer form) cause.TablePointer [] good-pointer refl)
 
   tests-fine : first_cause (tested_causes form) ≡ None
   tests-fine =
@@ -307,8 +300,12 @@ module _ (file : List ℕ) (chunk : ℕ) (p : IsPlainFile file) (least : 256 ≤
 known : (file : List ℕ) (chunk : ℕ) → CanBePacked file chunk → IsPlainFile file
 known file chunk can = plain_file file can.accepted can.plain can.bytes
 
+-- a plain head is its own plain head
+pub plain_itself : (head : List ℕ) → is_packed head ≡ false → head ≡ plain_of head
+plain_itself head plain = sym (cond-false (is_packed head) (without_first (laszip_vlrs_of head) head) head plain)
+
 pub plain-is : (file : List ℕ) → is_packed (head_of file) ≡ false → head_of file ≡ plain_head file
-plain-is file plain = sym (cond-false (is_packed (head_of file)) (without_first (laszip_vlrs_of (head_of file)) (head_of file)) (head_of file) plain)
+plain-is file plain = plain_itself (head_of file) plain
 
 pub packed_accepted : IsPackedAccepted
 packed_accepted file chunk can =

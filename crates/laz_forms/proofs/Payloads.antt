@@ -1,25 +1,20 @@
 -- A laszip payload as it is written is refused for no cause.
-use Rattle.std.proofs.Common.{◌≡◌, ℕ, suc, ◌+◌, ◌*◌, ◌-◌, ◌/◌, ◌%◌, ◌<◌, ◌≤◌, ◌==◌, ◌&&◌, ◌||◌, min, not, nat_eq, nat_lt, Bool, true, false, List, [], ◌∷◌, ◌++◌, length, replicate, Some, None, refl, ap, ◌∙◌, arith, eq-eqb, length-append}
-use Rattle.std.proofs.lemmas.Bool.{cond-false, lt-leb, ne_eqb}
+use Rattle.std.proofs.Common.{◌≡◌, ℕ, suc, ◌+◌, ◌*◌, ◌-◌, ◌/◌, ◌%◌, ◌<◌, ◌≤◌, ◌==◌, ◌&&◌, ◌||◌, min, not, nat_eq, nat_lt, Bool, true, false, List, [], ◌∷◌, ◌++◌, length, replicate, None, refl, ap, ◌∙◌, arith, eq-eqb, length-append}
+use Rattle.std.proofs.lemmas.Bool.{lt-leb, ne_eqb}
 use Rattle.std.proofs.lemmas.List.{take_all}
 use Rattle.std.proofs.Math.Nat.{div-lt_iff_lt-mul, min-le_left, mul-le-mul_left}
 use Rattle.std.specs.Cmp.Lexicographic.{pointwise}
 use Rattle.std.specs.List.{starts_with}
 use Rattle.byteorder.specs.Endian.{little_bytes}
-use Rattle.las_header.specs.declared.refusal.Refusal.{Refusal}
 use Rattle.las_header.specs.declared.refusal.Refusal.TheVariants as cause
 use Rattle.las_header.specs.Numbers.{number_at}
 use Rattle.las_header.specs.Refusals.{first_cause}
-use Rattle.las_header.proofs.Public.{number_at-drop, reads_back}
+use Rattle.las_header.proofs.Public.{number_at-drop, reads_back, first_none}
 use Rattle.laz_table.specs.Payload.{Item, all_item_bytes, item_bytes, item_if, items_of, items_part, laszip_payload, payload_start}
 use Rattle.laz_table.specs.VlrCauses.{chunk_count, chunk_size_in, has_other_compressor, has_other_items, has_other_shape, is_bad_chunk_size, is_counted, makes_many_chunks, payload_causes}
 
--- a test that does not hold is passed over
-pub skip : (a : Bool) (x : Refusal) (cs : List (Bool × Refusal)) → a ≡ false → first_cause cs ≡ None → first_cause ((a, x) ∷ cs) ≡ None
-skip a x cs e rest = cond-false a (Some x) (first_cause cs) e ∙ rest
-
 -- ---- items
-length-items : (items : List Item) → length (all_item_bytes items) ≡ 6 * length items
+pub length-items : (items : List Item) → length (all_item_bytes items) ≡ 6 * length items
 length-items [] = refl
 length-items (i ∷ items) = omega (arith, length-append (item_bytes i) (all_item_bytes items), length-items items)
 
@@ -44,11 +39,11 @@ few-if true true true true k l m n x y z w = omega arith
 few-items : (format extra : ℕ) → length (items_of format extra) ≤ 4
 few-items format extra = few-if true (format % 2 == 1) (format / 2 == 1) (nat_lt 0 extra) 6 7 8 0 20 8 6 extra
 
-pointwise-same : (xs : List ℕ) → pointwise nat_eq xs xs ≡ true
+pub pointwise-same : (xs : List ℕ) → pointwise nat_eq xs xs ≡ true
 pointwise-same [] = refl
 pointwise-same (x ∷ xs) = ap (λ (b : Bool). b && pointwise nat_eq xs xs) (eq-eqb x x refl) ∙ pointwise-same xs
 
-starts-same : (xs : List ℕ) → starts_with nat_eq xs xs ≡ true
+pub starts-same : (xs : List ℕ) → starts_with nat_eq xs xs ≡ true
 starts-same xs = ap (pointwise nat_eq xs) (take_all (length xs) xs (omega arith)) ∙ pointwise-same xs
 
 -- ---- payloads
@@ -116,11 +111,11 @@ payload-fine format extra points chunk fits least few =
     let sizes = (is_bad_chunk_size points (chunk_size_in bytes), cause.ChunkSize) ∷ many in
     let others = (has_other_items format extra bytes, cause.Items) ∷ sizes in
     let compressors = (has_other_compressor bytes, cause.Compressor) ∷ others in
-    skip (has_other_shape bytes) cause.VlrShape compressors (shape format extra chunk)
-    (skip (has_other_compressor bytes) cause.Compressor others (compressor format extra chunk)
-    (skip (has_other_items format extra bytes) cause.Items sizes (items format extra chunk)
-    (skip (is_bad_chunk_size points (chunk_size_in bytes)) cause.ChunkSize many (ap (is_bad_chunk_size points) size ∙ good-size points chunk least few)
-    (skip (makes_many_chunks points (chunk_size_in bytes)) cause.TooManyChunks [] (ap (makes_many_chunks points) size ∙ not-many points chunk fits least few) refl))))
+    first_none (has_other_shape bytes) cause.VlrShape compressors (shape format extra chunk)
+    (first_none (has_other_compressor bytes) cause.Compressor others (compressor format extra chunk)
+    (first_none (has_other_items format extra bytes) cause.Items sizes (items format extra chunk)
+    (first_none (is_bad_chunk_size points (chunk_size_in bytes)) cause.ChunkSize many (ap (is_bad_chunk_size points) size ∙ good-size points chunk least few)
+    (first_none (makes_many_chunks points (chunk_size_in bytes)) cause.TooManyChunks [] (ap (makes_many_chunks points) size ∙ not-many points chunk fits least few) refl))))
 
 -- a payload is as short as one that is written may be
 pub payload-short : (format extra chunk : ℕ) → length (laszip_payload format extra chunk) ≤ 58

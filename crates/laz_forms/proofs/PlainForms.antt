@@ -1,16 +1,17 @@
 -- A plain head and the records that it counts are an accepted file.
-use Rattle.std.proofs.Common.{◌≡◌, ℕ, ◌+◌, ◌-◌, ◌≤◌, ◌==◌, ◌&&◌, not, nat_lt, Bool, true, false, cond, List, [], ◌∷◌, ◌++◌, length, take, drop, Option, None, refl, sym, ap, subst, ◌∙◌, arith, length-append}
+use Rattle.std.proofs.Common.{◌≡◌, ℕ, ◌+◌, ◌-◌, ◌≤◌, ◌&&◌, not, nat_lt, Bool, true, false, cond, List, [], ◌∷◌, ◌++◌, length, take, drop, Option, None, refl, sym, ap, subst, ◌∙◌, arith, length-append}
 use Rattle.std.proofs.lemmas.List.{drop_at, take-take, take_at}
+use Rattle.std.proofs.lemmas.Bool.{or_from}
 use Rattle.las_header.specs.declared.refusal.Refusal.{Refusal}
 use Rattle.las_header.specs.declared.refusal.Refusal.TheVariants as cause
 use Rattle.las_header.specs.declared.vlrs.VlrPlace.{VlrPlace}
 use Rattle.las_header.specs.Conditions.{IsFirst, conditions}
-use Rattle.las_header.specs.Fields.{extended_count_of, format_of, format_size, has_long_counts, head_of, is_packed, offset_limit, point_offset_of, record_length_of}
-use Rattle.las_header.specs.Heads.{IsHead}
+use Rattle.las_header.specs.Fields.{format_of, format_size, has_long_counts, head_of, is_packed, offset_limit, point_offset_of, record_length_of}
 use Rattle.las_header.specs.Numbers.{number_at}
 use Rattle.las_header.specs.Refusals.{causes_of, counted_size, ends_early, first_cause, front_causes, goes_on, has_bad_counts, has_bad_record_length, has_extended_vlrs, has_long_vlrs, has_other_format, has_stray_vlr, head_causes}
 use Rattle.las_header.specs.Vlrs.{laszip_vlrs_of, vlrs_end}
 use Rattle.las_header.proofs.Public.{front_decides, front_is_fine, IsFirst-append_none, IsFirst-tests, number_at-take}
+use Rattle.las_header.proofs.Public.{no_extended, first_none}
 use Rattle.las_outside.specs.Limits.{IsChunkSize}
 use Rattle.laz_table.specs.VlrCauses.{vlr_causes}
 use Rattle.laz_table.proofs.Public.{IsBytes-append}
@@ -18,17 +19,11 @@ use Rattle.laz_forms.specs.Laws.{AreHeadAndRecords, CanBePacked, IsAcceptedPack,
 use Rattle.laz_forms.specs.Packing.{pack, packed_file}
 use Rattle.laz_forms.specs.Records.{Unpacks}
 use Rattle.laz_forms.specs.Refusing.{IsAcceptedFile, chunk_causes, has_bad_pointer, tested_causes}
-use Rattle.laz_forms.proofs.Packed.{both-fine, neither, not-below, packed_accepted, plain-is, unpacks_again}
-use Rattle.laz_forms.proofs.Payloads.{skip}
+use Rattle.laz_forms.proofs.Packed.{both-fine, not-below, packed_accepted, plain-is, unpacks_again}
 
 and_false : (a b : Bool) → b ≡ false → (a && b) ≡ false
 and_false true b e = e
 and_false false b e = refl
-
--- LAS 1.4 alone has extended VLRs
-extended-fine : (head : List ℕ) (b : Bool) → has_long_counts head ≡ b → IsHead head → (b && not (extended_count_of head == 0)) ≡ false
-extended-fine head true long is = ap (λ (n : ℕ). not (n == 0)) (is.extended long)
-extended-fine head false long is = refl
 
 module _ (head records : List ℕ) (p : AreHeadAndRecords head records) where
   abbrev file : List ℕ
@@ -71,15 +66,15 @@ module _ (head records : List ℕ) (p : AreHeadAndRecords head records) where
       let extended_causes : List (Bool × Refusal) = (has_extended_vlrs head, cause.Extended) ∷ counts_causes in
       let length_causes : List (Bool × Refusal) = (has_bad_record_length head, cause.RecordLength) ∷ extended_causes in
       let format_causes : List (Bool × Refusal) = (has_other_format head, cause.Format) ∷ length_causes in
-      skip (has_long_vlrs head) cause.Vlrs format_causes (not-below (point_offset_of head) (vlrs_end head) (omega (arith, is.vlrs, is.whole)))
-      (skip (has_other_format head) cause.Format length_causes (not-below 3 (format_of head) is.format)
-      (skip (has_bad_record_length head) cause.RecordLength extended_causes
-      (neither (nat_lt (record_length_of head) (format_size (format_of head))) (nat_lt (format_size (format_of head) + 192) (record_length_of head)) (not-below (record_length_of head) (format_size (format_of head)) is.record_length) (not-below (format_size (format_of head) + 192) (record_length_of head) is.extra))
-      (skip (has_extended_vlrs head) cause.Extended counts_causes (extended-fine head (has_long_counts head) refl is)
-      (skip (has_bad_counts head) cause.PointCounts early_causes is.counts
-      (skip (ends_early head size) cause.Count on_causes (and_false (not (is_packed head)) (nat_lt (size - point_offset_of head) (counted_size head)) (not-below (size - point_offset_of head) (counted_size head) (omega (arith, left))))
-      (skip (goes_on head size) cause.Trailing stray_causes (and_false (not (is_packed head)) (nat_lt (counted_size head) (size - point_offset_of head)) (not-below (counted_size head) (size - point_offset_of head) (omega (arith, left))))
-      (skip (has_stray_vlr head) cause.StrayVlr [] (and_false (not (is_packed head)) (nat_lt 0 (length (laszip_vlrs_of head))) (ap (λ (ps : List VlrPlace). nat_lt 0 (length ps)) p.none)) refl)))))))
+      first_none (has_long_vlrs head) cause.Vlrs format_causes (not-below (point_offset_of head) (vlrs_end head) (omega (arith, is.vlrs, is.whole)))
+      (first_none (has_other_format head) cause.Format length_causes (not-below 3 (format_of head) is.format)
+      (first_none (has_bad_record_length head) cause.RecordLength extended_causes
+      (or_from (nat_lt (record_length_of head) (format_size (format_of head))) (nat_lt (format_size (format_of head) + 192) (record_length_of head)) (not-below (record_length_of head) (format_size (format_of head)) is.record_length) (not-below (format_size (format_of head) + 192) (record_length_of head) is.extra))
+      (first_none (has_extended_vlrs head) cause.Extended counts_causes (no_extended head (has_long_counts head) refl is)
+      (first_none (has_bad_counts head) cause.PointCounts early_causes is.counts
+      (first_none (ends_early head size) cause.Count on_causes (and_false (not (is_packed head)) (nat_lt (size - point_offset_of head) (counted_size head)) (not-below (size - point_offset_of head) (counted_size head) (omega (arith, left))))
+      (first_none (goes_on head size) cause.Trailing stray_causes (and_false (not (is_packed head)) (nat_lt (counted_size head) (size - point_offset_of head)) (not-below (counted_size head) (size - point_offset_of head) (omega (arith, left))))
+      (first_none (has_stray_vlr head) cause.StrayVlr [] (and_false (not (is_packed head)) (nat_lt 0 (length (laszip_vlrs_of head))) (ap (λ (ps : List VlrPlace). nat_lt 0 (length ps)) p.none)) refl)))))))
 
   more : List (Bool × Refusal)
   more = vlr_causes (head_of file) ++ (has_bad_pointer file, cause.TablePointer) ∷ []

@@ -5,28 +5,28 @@ pub use Rattle.laz_forms.proofs.Blocks.{count-few, cut-joined, cut-length}
 pub use Rattle.laz_forms.proofs.Chunked.{sum-lengths, whole_cut}
 pub use Rattle.laz_forms.proofs.Counted.{counted_format, counted_lengths, counted_packed, length-counted, packed_long}
 pub use Rattle.laz_forms.proofs.Counted.{packed_longer}
-pub use Rattle.laz_forms.proofs.CountedForms.{are_counted}
+pub use Rattle.laz_forms.proofs.CountedForms.{are_counted, IsBytes-flat, IsBytes-splice, short-are, long-are, set-are}
 pub use Rattle.laz_forms.proofs.Examples.{chunk, head, last_pointer, one, one_packed, pointer, vlr}
 pub use Rattle.laz_forms.proofs.Existing.{and_then, has_an_answer, has_pieces, has_records, has_records_in, there}
 pub use Rattle.laz_forms.proofs.Filling.{read_more}
 pub use Rattle.laz_forms.proofs.Finished.{counted_file_is, finished_is, head-by, long-size, short-size}
 pub use Rattle.laz_forms.proofs.Fronts.{layout-length}
 pub use Rattle.laz_forms.proofs.Knowing.{if_ok, known_as, known_at, known_both, known_then, known_three, on_ok}
-pub use Rattle.laz_forms.proofs.Knowing.{on_ok_both}
+pub use Rattle.laz_forms.proofs.Knowing.{on_ok_both, not_missing, not_both}
 pub use Rattle.laz_forms.proofs.OneAnswer.{one_pieces, refused_once}
-pub use Rattle.laz_forms.proofs.Packed.{both-fine, neither, not-below, packed-is, packed_accepted, packed_chunks}
-pub use Rattle.laz_forms.proofs.Packed.{plain-is, unpacks_again}
+pub use Rattle.laz_forms.proofs.Packed.{both-fine, not-below, packed-is, packed_accepted, packed_chunks, words-bound}
+pub use Rattle.laz_forms.proofs.Packed.{plain-is, unpacks_again, plain_itself}
 pub use Rattle.laz_forms.proofs.Patching.{LiesIn, all_patched, length-with_patches, patched_part, unpatched}
 pub use Rattle.laz_forms.proofs.Patching.{with_patches-more}
-pub use Rattle.laz_forms.proofs.Payloads.{payload-short, skip}
+pub use Rattle.laz_forms.proofs.Payloads.{payload-short, length-items, pointwise-same, starts-same}
 pub use Rattle.laz_forms.proofs.PlainForms.{accepted_pack, accepted_plain, head-is, offset-is, plain-kept, records-is}
-pub use Rattle.laz_forms.proofs.Putting.{All-unmap, concat-append, if_err, if_err_weaker, if_ok_weaker, in_part}
+pub use Rattle.laz_forms.proofs.Putting.{All-unmap, concat-append, if_err, in_part}
 pub use Rattle.laz_forms.proofs.Putting.{is_lent, joined-append, joined_more, lent_is, lent_small, prefix_append}
 pub use Rattle.laz_forms.proofs.Putting.{sizes-append, sizes_more}
-pub use Rattle.laz_forms.proofs.RecordLengths.{length-cut, record_is, record_least, whole_both}
+pub use Rattle.laz_forms.proofs.RecordLengths.{record_is, record_least, whole_both, even_all, block_fits, rest_next}
 pub use Rattle.laz_forms.proofs.Slices.{AreWhole, parts_cut, slice}
 pub use Rattle.laz_forms.proofs.Splices.{splice-again, splice-splice}
-pub use Rattle.laz_forms.proofs.Sums.{sum-first, sum-sizes, sum-times}
+pub use Rattle.laz_forms.proofs.Sums.{sum-sizes, sum-times}
 pub use Rattle.laz_forms.proofs.Tallying.{Counted, all_counted, none_counted, one_counted}
 pub use Rattle.laz_forms.proofs.Whole.{hold-plain, is_plain_form, no_bad_piece, none_some, not_bad_before, once}
 pub use Rattle.laz_forms.proofs.Whole.{only-plain, pieces-joined, plain_read, read_once, reads_back, reads_plain}

@@ -1,26 +1,18 @@
 -- Chunks that are put one after another.
-use Rattle.std.proofs.Common.{◌≡◌, ℕ, zero, suc, ◌+◌, ◌<◌, ◌≤◌, min, List, [], ◌∷◌, ◌++◌, length, get_or, take, drop, map, Option, Some, None, Result, Ok, Err, IfErr, IfOk, option_copied, Bor, refl, sym, ◌∙◌, ap, subst, append_assoc, arith}
+use Rattle.std.proofs.Common.{◌≡◌, ℕ, zero, suc, ◌+◌, ◌<◌, ◌≤◌, min, List, [], ◌∷◌, ◌++◌, length, get_or, take, drop, map, Option, Some, None, Result, Ok, Err, IfErr, option_copied, Bor, refl, sym, ◌∙◌, ap, subst, append_assoc, arith}
 use Rattle.std.specs.List.{concat}
 use Rattle.std.proofs.lemmas.List.{append-nil, length-take, take_min, take-append-le, take_more}
-use Rattle.std.proofs.Math.Seq.{take-append-add}
 use Rattle.std.proofs.lemmas.List.Elements.{All-contains}
 use Rattle.std.specs.Prelude.{All, IsErrAnd, ◌^◌}
 use Rattle.laz_workers.specs.declared.held.Held.{Held}
 use Rattle.laz_workers.specs.declared.held.Held.TheVariants.{Empty, Full, Refused}
 use Rattle.laz_workers.specs.Rooms.{RoomSeen, StandsIn, answer_in, lengths_of}
+use Rattle.las_outside.proofs.Public.{prefix_of}
 
 -- what holds of an error holds of a result that is this error
 pub if_err : {T E : Type 0} (P : E → Type 0) (r : Result T E) (e : E) → IsErrAnd r (λ x. x ≡ e) → P e → IfErr r P
 if_err P (Ok x) e is p = tt
 if_err P (Err x) e is p = subst P (sym is) p
-
-pub if_err_weaker : {T E : Type 0} (P Q : E → Type 0) (r : Result T E) → ((e : E) → P e → Q e) → IfErr r P → IfErr r Q
-if_err_weaker P Q (Ok x) to p = tt
-if_err_weaker P Q (Err e) to p = to e p
-
-pub if_ok_weaker : {T E : Type 0} (P Q : T → Type 0) (r : Result T E) → ((x : T) → P x → Q x) → IfOk r P → IfOk r Q
-if_ok_weaker P Q (Ok x) to p = to x p
-if_ok_weaker P Q (Err e) to p = tt
 
 pub All-unmap : {X Y : Type 0} (P : X → Type 0) (f : Y → X) (ys : List Y) → All P (map f ys) → All (λ y. P (f y)) ys
 All-unmap P f [] h k d lt = absurd (omega (arith, lt))
@@ -55,12 +47,6 @@ module _ (f : List ℕ → List ℕ) where
   joined_split (x ∷ xs) zero d within = refl
   joined_split (x ∷ xs) (suc i) d within =
       ap (λ (t : List ℕ). f x ++ t) (joined_split xs i d (omega (arith, within))) ∙ sym (append_assoc (f x) (concat (map f (take i xs))) (f (get_or xs i d) ++ concat (map f (drop (suc i) xs))))
-
--- some of a piece after those before it is a prefix of all
-prefix_of : (done piece rest : List ℕ) (n : ℕ) → done ++ take n piece ≡ take (length done + min n (length piece)) (done ++ (piece ++ rest))
-prefix_of done piece rest n =
-    let short : min n (length piece) ≤ length piece = omega arith in
-    ap (λ (t : List ℕ). done ++ t) (sym (take_min n piece) ∙ sym (take-append-le (min n (length piece)) piece rest short)) ∙ sym (take-append-add done (piece ++ rest) (min n (length piece)))
 
 -- pieces that end within one of them are a prefix of all
 pub in_part : (f : List ℕ → List ℕ) (inputs : List (List ℕ)) (i n : ℕ) (d : List ℕ) → i < length inputs → (m : ℕ) × (concat (map f (take i inputs)) ++ take n (f (get_or inputs i d)) ≡ take m (concat (map f inputs)))

@@ -2,13 +2,10 @@
 use Rattle.std.proofs.Common.{◌≡◌, ℕ, zero, suc, ◌+◌, ◌*◌, ◌-◌, ◌≤◌, min, List, [], ◌∷◌, map, ap, arith}
 use Rattle.std.specs.Prelude.{sum}
 use Rattle.std.specs.List.{range_with_len}
-use Rattle.std.proofs.lemmas.List.Sums.{sum_by-cons}
 use Rattle.laz_table.specs.Chunks.{fixed_sizes}
 use Rattle.laz_table.specs.VlrCauses.{chunk_count}
 use Rattle.laz_forms.proofs.Blocks.{count-enough}
-
-pub sum-first : (x : ℕ) (xs : List ℕ) → sum (x ∷ xs) ≡ x + sum xs
-sum-first x xs = sum_by-cons (λ y. y) x xs
+use Rattle.laz_models.proofs.Public.{sum-cons}
 
 -- as many numbers as there are points, from a chunk on
 sum-from : (chunk points k n : ℕ) → points ≤ chunk * (k + n) → sum (map (λ i. min chunk (points - chunk * i)) (range_with_len k n)) ≡ points - chunk * k
@@ -16,7 +13,7 @@ sum-from chunk points k zero enough = omega (arith, enough)
 sum-from chunk points k (suc n) enough =
     omega (
       arith,
-      sum-first (min chunk (points - chunk * k)) (map (λ i. min chunk (points - chunk * i)) (range_with_len (k + 1) n)),
+      sum-cons (min chunk (points - chunk * k)) (map (λ i. min chunk (points - chunk * i)) (range_with_len (k + 1) n)),
       sum-from chunk points (k + 1) n (omega (arith, enough)),
     )
 
@@ -25,4 +22,4 @@ sum-sizes chunk points some = omega (arith, sum-from chunk points 0 (chunk_count
 
 pub sum-times : (size : ℕ) (counts : List ℕ) → sum (map (λ n. size * n) counts) ≡ size * sum counts
 sum-times size [] = omega arith
-sum-times size (n ∷ counts) = omega (arith, sum-times size counts, sum-first (size * n) (map (λ n. size * n) counts), ap (λ (m : ℕ). size * m) (sum-first n counts))
+sum-times size (n ∷ counts) = omega (arith, sum-times size counts, sum-cons (size * n) (map (λ n. size * n) counts), ap (λ (m : ℕ). size * m) (sum-cons n counts))

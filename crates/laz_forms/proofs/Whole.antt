@@ -15,7 +15,8 @@ use Rattle.laz_forms.specs.Records.{AreRead, HoldBlocks, HoldsBlock, HoldsIf, Is
 use Rattle.laz_forms.proofs.Accepted.{plain_file}
 use Rattle.laz_forms.proofs.OneAnswer.{one_pieces}
 use Rattle.laz_forms.proofs.Packed.{plain-is, unpacks_again}
-use Rattle.laz_forms.proofs.Sums.{sum-first, sum-sizes, sum-times}
+use Rattle.laz_forms.proofs.Sums.{sum-sizes, sum-times}
+use Rattle.laz_models.proofs.Public.{sum-cons}
 
 -- ---- packed forms
 pub some_same : {X : Type 0} (x y : X) → Some x ≡ Some y → x ≡ y
@@ -97,7 +98,7 @@ pieces-joined file at size (n ∷ counts) =
     let more = sum (map (λ n. size * n) counts) in
     ap (λ (t : List ℕ). take (size * n) (drop at file) ++ t) (pieces-joined file (at + size * n) size counts ∙ ap (λ (t : List ℕ). take more t) (sym (drop-drop (size * n) at file)))
     ∙ sym (take-add (size * n) more (drop at file))
-    ∙ ap (λ (m : ℕ). take m (drop at file)) (sym (sum-first (size * n) (map (λ n. size * n) counts)))
+    ∙ ap (λ (m : ℕ). take m (drop at file)) (sym (sum-cons (size * n) (map (λ n. size * n) counts)))
 
 holds-plain : (file : List ℕ) → is_packed (head_of file) ≡ false → (piece : Piece) → HoldsBlock file piece (piece_bytes file piece)
 holds-plain file plain piece = subst (λ (b : Bool). HoldsIf b file piece (piece_bytes file piece)) (sym plain) refl

@@ -1,6 +1,6 @@
 -- The pieces in which the records of a file are read: the chunks of a packed file, and blocks of 50,000 records of a
 -- plain one.
-use Rattle.std.specs.Prelude.{◌≡◌, ℕ, ◌+◌, ◌*◌, ◌-◌, Bool, true, false, List, [], ◌∷◌, take, drop, map}
+use Rattle.std.specs.Prelude.{◌≡◌, ℕ, ◌+◌, ◌*◌, ◌-◌, Bool, true, false, List, [], ◌∷◌, take, drop, map, sum}
 use Rattle.las_header.specs.Fields.{head_of, is_packed, point_offset_of, points_of, record_length_of}
 use Rattle.laz_table.specs.Chunks.{IsAccepted, fixed_sizes}
 use Rattle.laz_forms.specs.declared.limits.TheConstants.{PLAIN_BLOCK}
@@ -29,6 +29,10 @@ pieces_from at (n ∷ points) (s ∷ bytes) =
 -- the bytes of a piece
 abbrev pub piece_bytes : (file : List ℕ) → Piece → List ℕ
 piece_bytes file piece = take piece.size (drop piece.start file)
+
+-- how many bytes pieces have, in all
+abbrev pub bytes_in : List Piece → ℕ
+bytes_in pieces = sum (map (λ piece. piece.size) pieces)
 
 -- the pieces of this many records of a plain file, from a place on
 abbrev pub plain_from : (size at records : ℕ) → List Piece

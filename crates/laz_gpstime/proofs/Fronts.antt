@@ -5,12 +5,10 @@ use Rattle.laz_range.specs.Cut.{Cut}
 use Rattle.laz_range.specs.Reading.{Reading, follow_all}
 use Rattle.laz_range.specs.Decoding.{Decoding, Refuses, Takes, TakesNone, reading_of}
 use Rattle.laz_range.proofs.Public.{follows_both, follows_front, some_injective}
-use Rattle.laz_models.specs.Counting.{Counting}
-use Rattle.laz_integer.specs.Integer.{IntState}
-use Rattle.laz_gpstime.specs.declared.sequences.Sequences.{Sequences}
 use Rattle.laz_gpstime.specs.Choices.{IsFront, Front, switch_next, time_symbol_cuts, front_cuts, front_next, symbol_next, switch_cuts, state_on}
 use Rattle.laz_gpstime.specs.Slots.{TimeState, difference_of, after_switch, symbols_after}
 use Rattle.laz_gpstime.specs.Times.{new_symbol, symbols_of}
+use Rattle.laz_gpstime.proofs.Points.{same_state}
 
 -- ---- symbols of switches
 pub symbols-are : (d : ℕ) → symbols_of d ≡ new_symbol d + 4
@@ -152,8 +150,6 @@ first-none st a b h =
     }
 
 -- ---- the state after a switch
-same_state : (p q : Sequences) (a b : List Counting) (m n : IntState) → p ≡ q → a ≡ b → m ≡ n → (let st : TimeState = record { sequences = p; symbols = a; integers = m } in st) ≡ record { sequences = q; symbols = b; integers = n }
-same_state p q a b m n e f g = cc
 
 pub gone-is : (st after mid : TimeState) (s i : ℕ) → after ≡ symbol_next st s → mid.sequences ≡ after_switch after.sequences i → mid.symbols ≡ after.symbols → mid.integers ≡ after.integers → new_symbol (difference_of st) + i ≡ s → mid ≡ switch_next st i
 gone-is st after mid s i is moved_is symbols integers back =

@@ -1,6 +1,6 @@
 -- Spellings of a time part at one event.
-use Rattle.std.proofs.Common.{◌≡◌, ℕ, ℤ, ◌+◌, ◌*◌, ◌/◌, ◌<◌, ◌≤◌, ◌⊎◌, inl, inr, eqb, cond, Bool, true, false, List, [], ◌∷◌, ◌++◌, refl, sym, ap, subst, ◌∙◌, arith, ⊎_elim, lit≤}
-use Rattle.std.proofs.lemmas.Bool.{cases_eq, cond-false, ne_eqb}
+use Rattle.std.proofs.Common.{◌≡◌, ℕ, ℤ, ◌+◌, ◌*◌, ◌/◌, ◌≤◌, ◌⊎◌, inl, inr, List, [], ◌∷◌, ◌++◌, refl, sym, ap, subst, ◌∙◌, arith, ⊎_elim, lit≤}
+use Rattle.std.proofs.lemmas.Bool.{cases_eq}
 use Rattle.std.specs.Int.{w32, cast_signed, cast_unsigned}
 use Rattle.laz_integer.specs.Events.{Event, raw_events}
 use Rattle.laz_integer.specs.Integer.{IntSpell}
@@ -10,14 +10,10 @@ use Rattle.laz_gpstime.specs.Meanings.{time_kind}
 use Rattle.laz_gpstime.specs.Sequences.{Point}
 use Rattle.laz_gpstime.specs.Spelling.{SpellsNear, SpellsNew, SpellsSame, SpellsTime, time_plus}
 use Rattle.laz_gpstime.specs.Times.{context, difference_on, model_of, new_symbol, predicted, same_symbol, switch_events, symbols_of, time_on, time_symbol}
+use Rattle.laz_gpstime.proofs.Written.{same-below}
+use Rattle.laz_gpstime.proofs.Coded.{some-switch}
 
 -- ---- the symbols of a sequence
-same_below : (b : Bool) → cond {A = ℕ} b 0 511 < cond {A = ℕ} b 2 512
-same_below true = omega arith
-same_below false = omega arith
-
-same-new : (d : ℕ) → same_symbol d < new_symbol d
-same-new d = same_below (eqb d 0)
 
 times-one : {V : Type 0} (d a b : ℕ) (more others : List Event) (v w : V) → (a ≡ b → One more others v w) → One (time_symbol d a ∷ more) (time_symbol d b ∷ others) v w
 times-one {V} d a b more others v w next =
@@ -62,12 +58,12 @@ near-same d from xs ys v w s t =
 same-opens : (d from : ℕ) (xs ys : List Event) (v w : ℕ) → SpellsSame d from xs v → SpellsNew d from ys w → One xs ys v w
 same-opens d from xs ys v w s t =
     as-one (time_symbol d (same_symbol d) ∷ []) (time_symbol d (new_symbol d) ∷ t.rest ++ raw_events 32 t.low) xs ys v w s.is t.is
-    (apart d (same_symbol d) (new_symbol d) [] (t.rest ++ raw_events 32 t.low) v w (λ e. omega (arith, e, same-new d)))
+    (apart d (same_symbol d) (new_symbol d) [] (t.rest ++ raw_events 32 t.low) v w (λ e. omega (arith, e, same-below d)))
 
 opens-same : (d from : ℕ) (xs ys : List Event) (v w : ℕ) → SpellsNew d from xs v → SpellsSame d from ys w → One xs ys v w
 opens-same d from xs ys v w s t =
     as-one (time_symbol d (new_symbol d) ∷ s.rest ++ raw_events 32 s.low) (time_symbol d (same_symbol d) ∷ []) xs ys v w s.is t.is
-    (apart d (new_symbol d) (same_symbol d) (s.rest ++ raw_events 32 s.low) [] v w (λ e. omega (arith, e, same-new d)))
+    (apart d (new_symbol d) (same_symbol d) (s.rest ++ raw_events 32 s.low) [] v w (λ e. omega (arith, e, same-below d)))
 
 near-opens : (d from : ℕ) (xs ys : List Event) (v w : ℕ) → SpellsNear d from xs v → SpellsNew d from ys w → One xs ys v w
 near-opens d from xs ys v w s t =
@@ -92,16 +88,14 @@ rest-one d from xs ys v w (inr (inr s)) (inr (inr t)) = new-new d from xs ys v w
 
 -- what follows begins with a symbol that is no switch
 head : (d from : ℕ) (xs : List Event) (v : ℕ) → Spells d from xs v → (m : ℕ) × (m ≤ new_symbol d) × (more : List Event) × (xs ≡ time_symbol d m ∷ more)
-head d from xs v (inl s) = (same_symbol d, omega (arith, same-new d), [], s.is)
+head d from xs v (inl s) = (same_symbol d, omega (arith, same-below d), [], s.is)
 head d from xs v (inr (inl s)) = (s.m, omega (arith, s.below), s.rest, s.is)
 head d from xs v (inr (inr s)) = (new_symbol d, omega arith, s.rest ++ raw_events 32 s.low, s.is)
 
 -- ---- a switch, or none
-switch-is : (d i : ℕ) → (i ≡ 0 → ⊥) → switch_events d i ≡ time_symbol d (new_symbol d + i) ∷ []
-switch-is d i some = cond-false (eqb i 0) [] (time_symbol d (new_symbol d + i) ∷ []) (ne_eqb i 0 some)
 
 switched : (d i : ℕ) (rest : List Event) → (i ≡ 0 → ⊥) → switch_events d i ++ rest ≡ time_symbol d (new_symbol d + i) ∷ rest
-switched d i rest some = ap (λ l. l ++ rest) (switch-is d i some)
+switched d i rest some = ap (λ l. l ++ rest) (some-switch d i some)
 
 unswitched : (d i : ℕ) (rest : List Event) → i ≡ 0 → switch_events d i ++ rest ≡ rest
 unswitched d i rest e = ap (λ n. switch_events d n ++ rest) e

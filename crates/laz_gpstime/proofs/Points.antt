@@ -19,7 +19,7 @@ new-is d =
     (λ (some : d ≡ 0 → ⊥). rw (ne_eqb d 0 some) refl)
     (cases_eq d 0)
 
-same_state : (p q : Sequences) (a b : List Counting) (m n : IntState) → p ≡ q → a ≡ b → m ≡ n → (let st : TimeState = record { sequences = p; symbols = a; integers = m } in st) ≡ record { sequences = q; symbols = b; integers = n }
+pub same_state : (p q : Sequences) (a b : List Counting) (m n : IntState) → p ≡ q → a ≡ b → m ≡ n → (let st : TimeState = record { sequences = p; symbols = a; integers = m } in st) ≡ record { sequences = q; symbols = b; integers = n }
 same_state p q a b m n e f g = cc
 
 -- ---- a point that opens none

@@ -8,7 +8,6 @@ use Rattle.std.proofs.lemmas.List.{append-nil}
 use Rattle.laz_range.specs.Cut.{Cut, raw_cuts}
 use Rattle.laz_range.specs.Decoding.{Decoding, Refuses, Takes, TakesNone}
 use Rattle.laz_range.proofs.Public.{Takes-empty, Takes-then, TakesNone-first, TakesNone-second, Refuses-none, Refuses-second}
-use Rattle.laz_models.specs.Counting.{Counting}
 use Rattle.laz_integer.specs.Corrector.{corrected, corrector}
 use Rattle.laz_integer.specs.Integer.{IntState, IsCorrector, int_cuts, int_next}
 use Rattle.laz_integer.proofs.Public.{Takes-onto, TakesNone-onto}
@@ -17,8 +16,7 @@ use Rattle.laz_gpstime.specs.Meanings.{New, meaning}
 use Rattle.laz_gpstime.specs.Spelling.{time_plus}
 use Rattle.laz_gpstime.specs.Slots.{TimeState, difference_of, slot_of, after_point}
 use Rattle.laz_gpstime.specs.Times.{context, model_of, new_symbol, predicted, same_symbol}
-use Rattle.laz_gpstime.specs.declared.sequences.Sequences.{Sequences}
-use Rattle.laz_gpstime.proofs.Points.{new-is}
+use Rattle.laz_gpstime.proofs.Points.{new-is, same_state}
 
 -- ---- a word that is read
 pub word-none : (it : IntState) (ctx : ℕ) (a b : Decoding) → it.bits ≡ 32 → TakesNone {X = ℕ × ℕ} (IsCorrector it.bits) (λ y. int_cuts it ctx y.0 y.1) a b → TakesNone {X = ℕ × ℕ} (IsCorrector 32) (λ y. int_cuts it ctx y.0 y.1) a b
@@ -67,9 +65,6 @@ to-false true P Q e h = absurd (true_false e)
 
 same_rest : (k v l k' v' l' : ℕ) → k ≡ k' → v ≡ v' → l ≡ l' → ◌≡◌ {A = Rest} ((k, v), l) ((k', v'), l')
 same_rest k v l k' v' l' e f g = cc
-
-same_state : (p q : Sequences) (a b : List Counting) (m n : IntState) → p ≡ q → a ≡ b → m ≡ n → (let st : TimeState = record { sequences = p; symbols = a; integers = m } in st) ≡ record { sequences = q; symbols = b; integers = n }
-same_state p q a b m n e f g = cc
 
 -- ---- the same time
 pub same-takes : (st : TimeState) (s : ℕ) (d : Decoding) → s ≡ same_symbol (difference_of st) → d.taken ≤ length d.bytes → d.failed ≡ false → Takes (IsRest (difference_of st) s) (rest_cuts st s) d d no_rest

@@ -17,7 +17,7 @@ use Rattle.laz_gpstime.specs.Spelling.{SpellsTime, SpellsNew, time_plus}
 use Rattle.laz_gpstime.specs.Times.{context, difference_on, difference_symbol, events_to, is_near, near_events, nearest, new_events, predicted, same_symbol, sequence_on, signs_differ, time_on, times_in}
 use Rattle.laz_gpstime.proofs.Coded.{near-other, near-same}
 use Rattle.laz_gpstime.proofs.SpelledRests.{Spells}
-use Rattle.laz_gpstime.proofs.Written.{difference-below, many-below}
+use Rattle.laz_gpstime.proofs.Written.{difference-below, many-below, cond-lt}
 
 -- ---- a writer's events spell their word
 word-fits : (n : ℕ) → n < 4294967296 → SFits w32 (cast_signed w32 n)
@@ -124,9 +124,6 @@ new-spells d from time f t =
     }
 
 -- ---- times of points
-cond-lt : (b : Bool) (m n k : ℕ) → m < k → n < k → cond b m n < k
-cond-lt true m n k f g = f
-cond-lt false m n k f g = g
 
 last-below : (points : List Point) (s : ℕ) → AreTimes points → last_time points s < 18446744073709551616
 last-below [] s h = lit< tt

@@ -44,7 +44,7 @@ quiet-near d x =
     quiet-cond (eqb x 0) (IntEvents time_kind 32 (context d m) (cast_signed w32 (predicted d m)) (cast_signed w32 x)) (quiet-int (context d m) (cast_signed w32 (predicted d m)) (cast_signed w32 x))
 
 -- ---- the symbols of near times
-cond-lt : (b : Bool) (m n k : ℕ) → m < k → n < k → cond b m n < k
+pub cond-lt : (b : Bool) (m n k : ℕ) → m < k → n < k → cond b m n < k
 cond-lt true m n k f g = f
 cond-lt false m n k f g = g
 

@@ -184,7 +184,7 @@ rest-one kind k v w few within inside =
     (cases_eq k 32))
     (cases_eq k 0)
 
-same_pair : {A B : Type 0} (a c : A) (b d : B) → a ≡ c → b ≡ d → ◌≡◌ {A = A × B} (a, b) (c, d)
+pub same_pair : {A B : Type 0} (a c : A) (b d : B) → a ≡ c → b ≡ d → ◌≡◌ {A = A × B} (a, b) (c, d)
 same_pair a c b d e f = cc
 
 corrector-one : (kind : List ℕ) (bits ctx k v j w : ℕ) → bits ≤ 32 → k ≤ bits → v < choices k → w < choices j → One {V = ℕ × ℕ} (corrector_events kind bits ctx k v) (corrector_events kind bits ctx j w) (k, v) (j, w)

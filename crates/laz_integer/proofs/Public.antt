@@ -16,3 +16,4 @@ pub use Rattle.laz_integer.proofs.SymbolParts.{sized-takes}
 pub use Rattle.laz_integer.proofs.Uses.{Silent-append, Silent-int, Silent-none, Silent-other, Silent-raws, all-silent, bank-silent, both_true, first-other, int-silent}
 pub use Rattle.laz_integer.proofs.Words.{word-bits, word-fits, word-made}
 pub use Rattle.laz_integer.proofs.Writing.{IsCorrector-written, spells-written}
+pub use Rattle.laz_integer.proofs.Parting.{same_pair}

@@ -6,13 +6,10 @@ use Rattle.laz_integer.specs.Events.{Event, Symbol}
 use Rattle.laz_integer.specs.Fields.{SpellsByte, SpellsWord}
 use Rattle.laz_integer.specs.Integer.{IntSpell}
 use Rattle.laz_integer.specs.Uses.{own_name}
-use Rattle.laz_integer.proofs.Public.{One, as-one, byte-one, int-one, made-one, symbol-one, then, word-one}
+use Rattle.laz_integer.proofs.Public.{One, as-one, byte-one, int-one, made-one, symbol-one, then, word-one, same_pair}
 use Rattle.laz_point10.specs.declared.point.Point.{Point}
 use Rattle.laz_point10.specs.PointEvents.{SpellsPoint, changes_kind, classification_kind, flags_kind, intensity_context, intensity_kind, point_source_kind, scan_angle_kind, user_data_kind, x_kind, y_context, y_kind, z_context, z_kind}
 use Rattle.laz_point10.specs.Points.{direction_bit, latest_point, one_return, predictions_of}
-
-same_pair : {A B : Type 0} (a c : A) (b d : B) → a ≡ c → b ≡ d → ◌≡◌ {A = A × B} (a, b) (c, d)
-same_pair a c b d e f = cc
 
 -- what the first group spells: the changes, and the flag byte
 abbrev Marks : Type 0

@@ -13,7 +13,7 @@ use Rattle.laz_table.specs.declared.chunks.Blocks.{Blocks}
 use Rattle.laz_table.specs.Chunks.{IsAccepted, table_causes}
 use Rattle.laz_table.specs.VlrCauses.{chunk_size_of, extra_of, is_counted, lacks_vlr, payload_causes, payload_of, vlr_causes}
 use Rattle.las_header.specs.Vlrs.{laszip_vlrs_of}
-use Rattle.std.proofs.lemmas.Bool.{eqb-true}
+use Rattle.std.proofs.lemmas.Bool.{eqb-true, not-false}
 use Rattle.laz_table.specs.declared.chunks.Blocks.TheVariants.{Fixed, Counted}
 use Rattle.laz_forms.specs.Pieces.{ArePieces, ArePiecesIf, pieces_from, plain_from}
 use Rattle.laz_reader.specs.Reading.{IsHeadOf, IsTablePlace, LiesIn, pieces_listed, points_in}
@@ -141,11 +141,7 @@ pub points_as : (chunk points : ℕ) → points_in (if is_counted chunk then Cou
 points_as chunk points = points_if (is_counted chunk) chunk points
 
 -- a packed head that is not refused for its laszip VLR has one
-not_false : (b : Bool) → not b ≡ false → b ≡ true
-not_false true e = refl
-not_false false e = absurd (cc)
-
 pub one_vlr : (head : List ℕ) → first_cause (vlr_causes head) ≡ None → length (laszip_vlrs_of head) ≡ 1
 one_vlr head none =
     let first = none_first (lacks_vlr head) cause.NoVlr (payload_causes (format_of head) (extra_of head) (points_of head) (payload_of head)) none in
-    eqb-true (length (laszip_vlrs_of head)) 1 (not_false (length (laszip_vlrs_of head) == 1) first.0)
+    eqb-true (length (laszip_vlrs_of head)) 1 (not-false (length (laszip_vlrs_of head) == 1) first.0)

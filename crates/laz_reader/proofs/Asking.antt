@@ -9,7 +9,7 @@ use Rattle.laz_reader.specs.Asking.{bytes_left}
 use Rattle.laz_forms.specs.Pieces.{Piece}
 use Rattle.laz_reader.specs.Keeping.{pieces_kept}
 use Rattle.laz_reader.specs.Reading.{ReaderSeen}
-use Rattle.laz_forms.proofs.Public.{sum-first}
+use Rattle.laz_models.proofs.Public.{sum-cons}
 
 pub sum_take : (n m : ℕ) (xs : List ℕ) → n ≤ m → sum (take n xs) ≤ sum (take m xs)
 sum_take n m xs le = omega (arith, sum_by-take-drop (λ x. x) (take m xs) n, ap (λ (l : List ℕ). sum l) (take-take n m xs le))
@@ -65,8 +65,8 @@ module _ (reader : ReaderSeen) (ends : Ends) (number at : ℕ) (cs ss : List ℕ
 -- a block of a plain file
 pub asked_block : (reader : ReaderSeen) (bad : Bool) (pieces : List Piece) (p : Piece) (rest : List Piece) (taken : ℕ) → reader.left ≡ p ∷ rest → p.size ≡ taken → pieces ≡ rest → reader.bad ≡ false → bad ≡ false → (old now : ℕ) → now ≤ old + taken → now + asked_for bad pieces ≤ old + bytes_left reader
 asked_block reader bad pieces p rest taken left size moved fine still old now asked =
-    omega (arith, asked, left_all reader fine, left_if false bad pieces still, ap (λ (ps : List Piece). sum (sizes_in ps)) left, ap (λ (ps : List Piece). sum (sizes_in ps)) moved, sum-first p.size (sizes_in rest), size)
+    omega (arith, asked, left_all reader fine, left_if false bad pieces still, ap (λ (ps : List Piece). sum (sizes_in ps)) left, ap (λ (ps : List Piece). sum (sizes_in ps)) moved, sum-cons p.size (sizes_in rest), size)
 
 pub asked_part : (reader : ReaderSeen) (p : Piece) (rest : List Piece) (taken : ℕ) → reader.left ≡ p ∷ rest → p.size ≡ taken → reader.bad ≡ false → (old now : ℕ) → now ≤ old + taken → now ≤ old + bytes_left reader
 asked_part reader p rest taken left size fine old now asked =
-    omega (arith, asked, left_all reader fine, ap (λ (ps : List Piece). sum (sizes_in ps)) left, sum-first p.size (sizes_in rest), size)
+    omega (arith, asked, left_all reader fine, ap (λ (ps : List Piece). sum (sizes_in ps)) left, sum-cons p.size (sizes_in rest), size)

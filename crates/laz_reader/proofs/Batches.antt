@@ -26,6 +26,7 @@ use Rattle.laz_reader.proofs.Joins.{slice_get-first}
 use Rattle.laz_reader.proofs.Kept.{cuts_at, cuts_length, kept_at, kept_length, left_step, rest_part, skip_fits}
 use Rattle.laz_forms.proofs.Public.{known_then}
 use Rattle.laz_reader.proofs.PieceLists.{counts_first, length-pieces}
+use Rattle.laz_reader.proofs.PiecesRead.{hold_only_none}
 use Rattle.laz_forms.proofs.Public.{record_is}
 
 -- ---- pieces that are left
@@ -43,12 +44,6 @@ plain_left None size position counts sizes none = refl
 plain_left (Some c) size position counts sizes none = absurd (cc)
 
 -- ---- what pieces hold
-pub no_pieces : (file : List ℕ) → HoldOnly file [] []
-no_pieces file = record { hold = tt; only = only }
-  where
-    only : (others : List (List ℕ)) → HoldBlocks file [] others → others ≡ []
-    only [] h = refl
-    only (b ∷ bs) h = absurd h
 
 one_plain : (file : List ℕ) (p : Piece) (block : List ℕ) → is_packed (head_of file) ≡ false → block ≡ piece_bytes file p → HoldOnly file (p ∷ []) (block ∷ [])
 one_plain file p block plain is = record { hold = (subst (λ (t : Bool). HoldsIf t file p block) (sym plain) is, tt); only = only }
@@ -109,8 +104,8 @@ module _ (l : Layout) (file : List ℕ) (packed : is_packed (head_of file) ≡ t
   -- the first pieces hold their parts of the blocks, and no others
   pub hold_each : (ps : List Piece) (wholes : List (List ℕ)) → length wholes ≤ length ps → ((k : ℕ) (d : Piece) → k < length wholes → HoldsOnly l (get_or ps k d).count (piece_bytes file (get_or ps k d)) (get_or wholes k []))
       → HoldOnly file (take (length wholes) ps) (cut_blocks (record_length l) ps wholes)
-  hold_each [] [] within each = no_pieces file
-  hold_each (p ∷ ps) [] within each = no_pieces file
+  hold_each [] [] within each = hold_only_none file
+  hold_each (p ∷ ps) [] within each = hold_only_none file
   hold_each [] (w ∷ ws) within each = absurd (omega arith)
   hold_each (p ∷ ps) (w ∷ ws) within each =
       let first = each 0 p (omega arith) in

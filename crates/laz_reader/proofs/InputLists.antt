@@ -13,7 +13,7 @@ use Rattle.laz_forms.specs.Pieces.{Piece, pieces_from, whole_piece}
 use Rattle.laz_reader.specs.Reading.{LiesIn}
 use Rattle.laz_reader.specs.Unpacking.{IsInput}
 use Rattle.laz_reader.proofs.PieceLists.{length-pieces}
-use Rattle.laz_forms.proofs.Public.{sum-first}
+use Rattle.laz_models.proofs.Public.{sum-cons}
 
 -- the number of records, and then the chunk's bytes
 pub shape_of : (count : ℕ) (front chunk : List ℕ) → front ≡ little_bytes 4 count → count < 4294967296 → IsInput count (front ++ chunk)
@@ -43,7 +43,7 @@ piece_at at [] sizes k d same lt = absurd (omega arith)
 piece_at at (n ∷ counts) [] k d same lt = absurd (omega arith)
 piece_at at (n ∷ counts) (s ∷ sizes) zero d same lt = λ i. whole_piece (sym (add-zero at) i) s n
 piece_at at (n ∷ counts) (s ∷ sizes) (suc k) d same lt =
-    let e : at + s + sum (take k sizes) ≡ at + sum (s ∷ take k sizes) = omega (arith, sum-first s (take k sizes)) in
+    let e : at + s + sum (take k sizes) ≡ at + sum (s ∷ take k sizes) = omega (arith, sum-cons s (take k sizes)) in
     piece_at (at + s) counts sizes k d (omega arith) (omega arith) ∙ (λ i. whole_piece (e i) (get_or sizes k 0) (get_or counts k 0))
 
 -- where a piece lies

@@ -6,7 +6,7 @@ use Rattle.std.proofs.lemmas.List.{drop-drop, drop-take, length-drop, length-tak
 use Rattle.laz_reader.specs.declared.seeking.Ends.{Ends}
 use Rattle.laz_forms.specs.Pieces.{Piece, pieces_from}
 use Rattle.laz_reader.specs.Keeping.{cuts_from, left_of, pieces_kept, skip_at, tail_at, taken_at}
-use Rattle.laz_forms.proofs.Public.{sum-first}
+use Rattle.laz_models.proofs.Public.{sum-cons}
 
 module _ (ends : Ends) where
   pub kept_length : (number at : ℕ) (cs ss : List ℕ) → length cs ≡ length ss → length (pieces_kept ends number at cs ss) ≡ length cs
@@ -25,7 +25,7 @@ module _ (ends : Ends) where
       λ i. record { start = f i; size = s; count = n; skip = skip_at ends (e i); taken = taken_at ends (e i) n }
   kept_at number at (n ∷ cs) (s ∷ ss) (suc k) d same lt =
       let e : number + 1 + k ≡ number + suc k = omega arith in
-      let f : at + s + sum (take k ss) ≡ at + sum (s ∷ take k ss) = omega (arith, sum-first s (take k ss)) in
+      let f : at + s + sum (take k ss) ≡ at + sum (s ∷ take k ss) = omega (arith, sum-cons s (take k ss)) in
       kept_at (number + 1) (at + s) cs ss k d (omega arith) (omega arith)
       ∙ (λ i. record { start = f i; size = get_or ss k 0; count = get_or cs k 0; skip = skip_at ends (e i); taken = taken_at ends (e i) (get_or cs k 0) })
 
@@ -39,7 +39,7 @@ module _ (ends : Ends) where
   kept_drop (suc n) number at (c ∷ cs) [] same within = absurd (omega arith)
   kept_drop (suc n) number at (c ∷ cs) (s ∷ ss) same within =
       let e : number + suc n ≡ number + 1 + n = omega arith in
-      let f : at + sum (s ∷ take n ss) ≡ at + s + sum (take n ss) = omega (arith, sum-first s (take n ss)) in
+      let f : at + sum (s ∷ take n ss) ≡ at + s + sum (take n ss) = omega (arith, sum-cons s (take n ss)) in
       ap (λ (m : ℕ). pieces_kept ends m (at + sum (s ∷ take n ss)) (drop n cs) (drop n ss)) e
       ∙ ap (λ (a : ℕ). pieces_kept ends (number + 1 + n) a (drop n cs) (drop n ss)) f
       ∙ kept_drop n (number + 1) (at + s) cs ss (omega arith) (omega arith)

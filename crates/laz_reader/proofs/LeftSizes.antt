@@ -13,13 +13,13 @@ use Rattle.laz_forms.specs.Sizes.{points_size}
 use Rattle.laz_reader.proofs.AllParts.{all_of}
 use Rattle.laz_reader.proofs.Asking.{sizes_in}
 use Rattle.laz_reader.proofs.PieceLists.{summed}
-use Rattle.laz_forms.proofs.Public.{sum-first}
 use Rattle.laz_reader.proofs.TableFront.{accepted_bytes}
+use Rattle.laz_models.proofs.Public.{sum-cons}
 
 pieces_size : (at : ℕ) (counts sizes : List ℕ) → sum (sizes_in (pieces_from at counts sizes)) ≤ sum sizes
 pieces_size at [] sizes = omega arith
 pieces_size at (n ∷ counts) [] = omega arith
-pieces_size at (n ∷ counts) (s ∷ sizes) = omega (arith, sum-first s (sizes_in (pieces_from (at + s) counts sizes)), sum-first s sizes, pieces_size (at + s) counts sizes)
+pieces_size at (n ∷ counts) (s ∷ sizes) = omega (arith, sum-cons s (sizes_in (pieces_from (at + s) counts sizes)), sum-cons s sizes, pieces_size (at + s) counts sizes)
 
 size_if : (file : List ℕ) (packed : Bool) → is_packed (head_of file) ≡ packed → (pieces : List Piece) → ArePiecesIf packed file pieces → sum (sizes_in pieces) ≤ points_size file
 size_if file true is pieces are =
@@ -32,7 +32,7 @@ size_if file false is pieces are =
     let here : points_size file ≡ size * points = ap (λ (b : Bool). cond b (table_place file - chunks_place file) (size * points)) is in
     omega (arith, ap (λ (ps : List Piece). sum (sizes_in ps)) are, pieces_size (point_offset_of file) (fixed_sizes 50000 points) (map (λ m. size * m) (fixed_sizes 50000 points)), summed size points, here)
 
-if_less : (b : Bool) (n : ℕ) → cond b 0 n ≤ n
+pub if_less : (b : Bool) (n : ℕ) → cond b 0 n ≤ n
 if_less true n = omega arith
 if_less false n = omega arith
 

@@ -11,7 +11,7 @@ use Rattle.laz_reader.specs.declared.seeking.Ends.{Ends}
 use Rattle.laz_forms.specs.Pieces.{Piece, pieces_from, whole_piece}
 use Rattle.laz_forms.specs.Ranges.{Range, first_in, part_in, parts_in, taken_of}
 use Rattle.laz_reader.specs.Keeping.{IsSought, pieces_kept, skip_at, tail_at}
-use Rattle.laz_forms.proofs.Public.{sum-first}
+use Rattle.laz_models.proofs.Public.{sum-cons}
 
 module _ (range : Range) where
   -- a piece that meets the range, and one that does not
@@ -61,8 +61,8 @@ module _ (range : Range) where
   skipped (suc k) at place [] sizes same within before = absurd (omega (arith, within))
   skipped (suc k) at place (n ∷ counts) [] same within before = absurd (omega (arith, same))
   skipped (suc k) at place (n ∷ counts) (s ∷ sizes) same within before =
-      let a = sum-first n (take k counts) in
-      let b = sum-first s (take k sizes) in
+      let a = sum-cons n (take k counts) in
+      let b = sum-cons s (take k sizes) in
       let there : at + n + sum (take k counts) ≡ at + sum (n ∷ take k counts) = omega (arith, a) in
       let here : place + s + sum (take k sizes) ≡ place + sum (s ∷ take k sizes) = omega (arith, b) in
       misses at (whole_piece place s n) (pieces_from (place + s) counts sizes) (omega (arith, before, a))
@@ -79,8 +79,8 @@ module _ (range : Range) where
   first-skipped (suc k) at place [] sizes same within before = absurd (omega (arith, within))
   first-skipped (suc k) at place (n ∷ counts) [] same within before = absurd (omega (arith, same))
   first-skipped (suc k) at place (n ∷ counts) (s ∷ sizes) same within before =
-      let a = sum-first n (take k counts) in
-      let b = sum-first s (take k sizes) in
+      let a = sum-cons n (take k counts) in
+      let b = sum-cons s (take k sizes) in
       let there : at + n + sum (take k counts) ≡ at + sum (n ∷ take k counts) = omega (arith, a) in
       let here : place + s + sum (take k sizes) ≡ place + sum (s ∷ take k sizes) = omega (arith, b) in
       let rest = first-skipped k (at + n) (place + s) counts sizes (omega (arith, same)) (omega (arith, within)) (omega (arith, before, a)) in
@@ -122,11 +122,11 @@ module _ (range : Range) (ends : Ends) where
       → skip ≡ range.start - at → n - skip - tail_at ends number ≡ taken_of range at n
   taken-is zero number at n skip counts last reached least is =
       let tail = tail-here number (omega (arith, last)) in
-      let all = sum-first n [] in
+      let all = sum-cons n [] in
       omega (arith, tail, reached, least, is, all)
   taken-is (suc m) number at n skip counts last reached least is =
       let tail = tail-later number m (omega (arith, last)) in
-      let more = sum-first n (take m counts) in
+      let more = sum-cons n (take m counts) in
       omega (arith, tail, least, is, more)
 
   later_kept : (m number at place : ℕ) (counts sizes : List ℕ) → ends.first < number → range.start ≤ at → IsKept range ends m number at counts sizes
@@ -140,7 +140,7 @@ module _ (range : Range) (ends : Ends) where
       let least : at + sum (take m (n ∷ counts)) < range.stop = omega (arith, k.least (omega arith), ap (λ (j : ℕ). sum (take j (n ∷ counts))) one) in
       let skip : skip_at ends number ≡ range.start - at = skip-later number after ∙ omega (arith, start) in
       let taken = taken-is m number at n (skip_at ends number) counts k.last k.reached least skip in
-      let all = sum-first n (take m counts) in
+      let all = sum-cons n (take m counts) in
       let meet : 0 < taken_of range at n = omega (arith, k.some.0, least, start) in
       let rest = later_kept m (number + 1) (at + n) (place + s) counts sizes (omega (arith, after)) (omega (arith, start)) (record {
         same = omega (arith, k.same);
@@ -155,7 +155,7 @@ module _ (range : Range) (ends : Ends) where
     where
       least_next : (j : ℕ) → 0 < j → at + sum (take j (n ∷ counts)) < range.stop → at + n + sum (take (j - 1) counts) < range.stop
       least_next zero more less = absurd (omega (arith, more))
-      least_next (suc j) more less = let e : suc j - 1 ≡ j = omega arith in omega (arith, less, sum-first n (take j counts), ap (λ (k : ℕ). sum (take k counts)) e)
+      least_next (suc j) more less = let e : suc j - 1 ≡ j = omega arith in omega (arith, less, sum-cons n (take j counts), ap (λ (k : ℕ). sum (take k counts)) e)
 
   first_kept : (m at place : ℕ) (counts sizes : List ℕ) → at ≤ range.start → ends.skip ≡ range.start - at → range.start < range.stop → (0 < length counts → (n : ℕ) → n ≡ sum (take 1 counts) → range.start < at + n) → IsKept range ends m ends.first at counts sizes → 0 < m
       → (pieces_kept ends ends.first place (take m counts) (take m sizes) ≡ parts_in range at (pieces_from place counts sizes)) × (first_in range at (pieces_from place counts sizes) ≡ 0)
@@ -167,8 +167,8 @@ module _ (range : Range) (ends : Ends) where
       let least : at + sum (take m (n ∷ counts)) < range.stop = omega (arith, k.least (omega arith), ap (λ (j : ℕ). sum (take j (n ∷ counts))) one) in
       let skip : skip_at ends ends.first ≡ range.start - at = skip-here ends.first refl ∙ skip_is in
       let taken = taken-is m ends.first at n (skip_at ends ends.first) counts k.last k.reached least skip in
-      let all = sum-first n (take m counts) in
-      let ends_after : range.start < at + n = here (omega arith) n (sym (sum-first n [] ∙ omega arith)) in
+      let all = sum-cons n (take m counts) in
+      let ends_after : range.start < at + n = here (omega arith) n (sym (sum-cons n [] ∙ omega arith)) in
       let meet : 0 < taken_of range at n = omega (arith, ends_after, some, least) in
       let rest = later_kept m (ends.first + 1) (at + n) (place + s) counts sizes (omega arith) (omega (arith, ends_after)) (record {
         same = omega (arith, k.same);
@@ -186,7 +186,7 @@ module _ (range : Range) (ends : Ends) where
     where
       least_next : (j : ℕ) → 0 < j → at + sum (take j (n ∷ counts)) < range.stop → at + n + sum (take (j - 1) counts) < range.stop
       least_next zero more less = absurd (omega (arith, more))
-      least_next (suc j) more less = let e : suc j - 1 ≡ j = omega arith in omega (arith, less, sum-first n (take j counts), ap (λ (k : ℕ). sum (take k counts)) e)
+      least_next (suc j) more less = let e : suc j - 1 ≡ j = omega arith in omega (arith, less, sum-cons n (take j counts), ap (λ (k : ℕ). sum (take k counts)) e)
 
 -- ---- what seeking finds
 some_after : (k : ℕ) (ns : List ℕ) → AllByRecursion (λ n. 0 < n) ns → AllByRecursion (λ n. 0 < n) (drop k ns)
@@ -198,7 +198,7 @@ sum_more : (k m : ℕ) (ns : List ℕ) → sum (take (k + m) ns) ≡ sum (take k
 sum_more k m ns = ap sum (take-add k m ns) ∙ sum_by-append (λ x. x) (take k ns) (take m (drop k ns))
 
 sum_one : (k : ℕ) (ns : List ℕ) → k < length ns → sum (take 1 (drop k ns)) ≡ get_or ns k 0
-sum_one k ns lt = ap (λ (t : List ℕ). sum (take 1 t)) (drop-cons ns k 0 lt) ∙ sum-first (get_or ns k 0) [] ∙ omega arith
+sum_one k ns lt = ap (λ (t : List ℕ). sum (take 1 t)) (drop-cons ns k 0 lt) ∙ sum-cons (get_or ns k 0) [] ∙ omega arith
 
 -- what is known of the ends
 pub record AreEnds (range : Range) (ends : Ends) (before reached : ℕ) (counts sizes : List ℕ) : Type 0 where
@@ -275,7 +275,7 @@ module _ (range : Range) (all : range.start ≡ 0) where
   whole_parts at place [] sizes some within = refl
   whole_parts at place (n ∷ counts) [] some within = refl
   whole_parts at place (n ∷ counts) (s ∷ sizes) some within =
-      let first = sum-first n counts in
+      let first = sum-cons n counts in
       let here : at + n ≤ range.stop = omega (arith, within, first) in
       let rest = whole_parts (at + n) (place + s) counts sizes some.1 (omega (arith, within, first)) in
       meets range at (whole_piece place s n) (pieces_from (place + s) counts sizes) (omega (arith, all, here, some.0))
@@ -286,7 +286,7 @@ module _ (range : Range) (all : range.start ≡ 0) where
   whole_first place [] sizes some within = refl
   whole_first place (n ∷ counts) [] some within = refl
   whole_first place (n ∷ counts) (s ∷ sizes) some within =
-      first-here range 0 (whole_piece place s n) (pieces_from (place + s) counts sizes) (omega (arith, all, within, sum-first n counts, some.0))
+      first-here range 0 (whole_piece place s n) (pieces_from (place + s) counts sizes) (omega (arith, all, within, sum-cons n counts, some.0))
 
 -- all pieces of a packed file
 pub all_parts : (range : Range) (place : ℕ) (counts sizes : List ℕ) → range.start ≡ 0 → All (λ n. 0 < n) counts → sum counts ≤ range.stop → parts_in range 0 (pieces_from place counts sizes) ≡ pieces_from place counts sizes
@@ -300,13 +300,13 @@ pub taken_in : (range : Range) (at place : ℕ) (counts sizes : List ℕ) → le
 taken_in range at place [] sizes same within = omega (arith, within)
 taken_in range at place (n ∷ counts) [] same within = absurd (omega (arith, same))
 taken_in range at place (n ∷ counts) (s ∷ sizes) same within =
-    let rest = taken_in range (at + n) (place + s) counts sizes (omega (arith, same)) (omega (arith, within, sum-first n counts)) in
+    let rest = taken_in range (at + n) (place + s) counts sizes (omega (arith, same)) (omega (arith, within, sum-cons n counts)) in
     let p = whole_piece place s n in
     let more = parts_in range (at + n) (pieces_from (place + s) counts sizes) in
     elim (cases_lt 0 (taken_of range at n)) [
       | inl some ↦
           ap (λ (ps : List Piece). sum (map (λ (q : Piece). q.taken) ps)) (meets range at p (pieces_from (place + s) counts sizes) some)
-          ∙ omega (arith, sum-first (taken_of range at n) (map (λ (q : Piece). q.taken) more), rest)
+          ∙ omega (arith, sum-cons (taken_of range at n) (map (λ (q : Piece). q.taken) more), rest)
       | inr none ↦
           ap (λ (ps : List Piece). sum (map (λ (q : Piece). q.taken) ps)) (misses range at p (pieces_from (place + s) counts sizes) (omega (arith, none)))
           ∙ omega (arith, rest, none)

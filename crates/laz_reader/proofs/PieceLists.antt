@@ -10,18 +10,19 @@ use Rattle.laz_table.specs.VlrCauses.{chunk_count}
 use Rattle.laz_forms.specs.Pieces.{Piece, pieces_from, plain_from, whole_piece}
 use Rattle.laz_forms.specs.Ranges.{whole_range}
 use Rattle.laz_reader.proofs.Kept.{left_whole}
-use Rattle.laz_forms.proofs.Public.{sum-first, sum-sizes, sum-times}
+use Rattle.laz_forms.proofs.Public.{sum-sizes, sum-times}
 use Rattle.laz_reader.specs.Reading.{AgreesWithHead, IsInPlace, LiesIn, Position, chunk_of, chunks_in, pieces_left, pieces_listed, records_in}
 use Rattle.las_header.specs.Fields.{is_packed, points_of, record_length_of}
 use Rattle.las_header.specs.Heads.{HeadView}
 use Rattle.las_header.specs.Vlrs.{laszip_vlrs_of}
+use Rattle.laz_models.proofs.Public.{sum-cons}
 
 -- pieces lie in a file that goes on to their end
 pub pieces_lie : (file : List ℕ) (at : ℕ) (counts sizes : List ℕ) → at + sum sizes ≤ length file → All (LiesIn file) (pieces_from at counts sizes)
 pieces_lie file at [] sizes h = All-nil (LiesIn file)
 pieces_lie file at (n ∷ counts) [] h = All-nil (LiesIn file)
 pieces_lie file at (n ∷ counts) (s ∷ sizes) h =
-    let first = sum-first s sizes in
+    let first = sum-cons s sizes in
     All-cons (LiesIn file) (whole_piece at s n) (pieces_from (at + s) counts sizes) (omega arith) (pieces_lie file (at + s) counts sizes (omega arith))
 
 -- one piece for each count and size

@@ -87,7 +87,7 @@ at_drop zero i xs = ap (λ (j : ℕ). get_or xs j []) (sym (zero-add i))
 at_drop (suc m) i [] = refl
 at_drop (suc m) i (x ∷ xs) = let e : suc (m + i) ≡ suc m + i = omega arith in at_drop m i xs ∙ ap (λ (j : ℕ). get_or (x ∷ xs) j []) e
 
--- ---- the blocks that were come to
+-- ---- the blocks that were reached
 
 pub none_come : (held : Option FileMap) (reader : ReaderSeen) (crew : List (HandSeen Format)) (turn : Turn) → turn.next ≡ 0 → turn.count ≡ 0 → reader.failed ≡ false → IsCrewOf reader crew → WhereKnown held reader.name (StandsFor reader)
     → HasComeTo held reader reader crew turn 0 []
@@ -134,7 +134,7 @@ module _ (held : Option FileMap) (first reader : ReaderSeen) (crew : List (HandS
         λ none. omega (arith, t.one none, less),
       )
 
-  -- ---- when all blocks of a batch were come to
+  -- ---- when all blocks of a batch were reached
   module _ (done : turn.next ≡ turn.count) where
     n_is : t.before + turn.count ≡ n
     n_is = omega (arith, t.here, done)
@@ -204,7 +204,7 @@ may_come held reader n xs b before h =
       within = omega (arith, last, length_whole size ps (xs ++ b ∷ []) h.whole, ap (λ (k : ℕ). size * k) all);
     }
 
--- and so does the one that is come to next
+-- and so does the one that is reached next
 pub next_may : (held : Option FileMap) (first reader new : ReaderSeen) (crew now : List (HandSeen Format)) (turn next : Turn) (n number : ℕ) (xs : List (List ℕ)) → HasComeTo held first reader crew turn n xs → (come : ComesTo held first new now next n xs (Some number)) → MayCome first (concat xs) come.0
 next_may held first reader new crew now turn next n number xs t come =
     may_come held first n xs come.0 (come_first held first reader crew turn n xs t) (come_first held first new now next (n + 1) (xs ++ come.0 ∷ []) come.2)

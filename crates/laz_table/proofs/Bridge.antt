@@ -92,7 +92,7 @@ pub record Chosen (earlier events : List Event) (st : TableState) (entries : Lis
   pub cut : cuts_after earlier events ≡ all_cuts entry_next entry_cuts st xs
   pub makes : entries_made st xs ≡ entries
 
-cons_entry : (d e : Entry) (ds es : List Entry) → d ≡ e → ds ≡ es → d ∷ ds ≡ e ∷ es
+pub cons_entry : (d e : Entry) (ds es : List Entry) → d ≡ e → ds ≡ es → d ∷ ds ≡ e ∷ es
 cons_entry d e ds es f g = cc
 
 -- the entry that a spelling's corrector makes

@@ -14,7 +14,7 @@ use Rattle.laz_integer.specs.Ranged.{AreOneKind, AreRanged, IsRanged}
 use Rattle.laz_integer.proofs.Public.{by-width, cuts_after-append, raw-short, raw-wide, AreAlike-ranged, AreCuts-ranged, AreRanged-append, Begins-more, IsCut-ranged, event-from_cut}
 use Rattle.laz_table.specs.Entries.{Entry, Latest, SpellsEntries, SpellsEntry, after_entry, context_of, prediction, signed, table_use}
 use Rattle.laz_table.specs.Steps.{next_counts_points}
-use Rattle.laz_table.proofs.Bridge.{AreInTurn}
+use Rattle.laz_table.proofs.Bridge.{AreInTurn, cons_entry}
 
 -- ---- lists of events, each of one kind as long as the events before them are equal
 abbrev pub SameKinds : List Event → List Event → Type 0
@@ -159,8 +159,6 @@ one-int sizes bytes are front first other ctx pred value result k j before f g h
     (same, h.makes ∙ (ap (λ n. corrected 32 pred n h.v) back.0 ∙ (ap (λ n. corrected 32 pred j n) back.1 ∙ sym m.makes)))
 
 -- ---- two lists of entries
-cons_entry : (d e : Entry) (ds es : List Entry) → d ≡ e → ds ≡ es → d ∷ ds ≡ e ∷ es
-cons_entry d e ds es f g = cc
 
 same_fields : (b c : Bool) (n m : ℕ) → b ≡ c → n ≡ m → (let e : Entry = record { counts_points = b; number = n } in e) ≡ record { counts_points = c; number = m }
 same_fields b c n m e f = cc

@@ -37,7 +37,7 @@ IsBytes-low i (suc n) x (suc k) = IsBytes-low (suc i) n x k
 pub IsBytes-little : (n x : ℕ) → IsBytes (little_bytes n x)
 IsBytes-little n x = IsBytes-low 0 n x
 
-stream-bytes : (entries : List Entry) → AreEntries entries → IsBytes (stream_of entries)
+pub stream-bytes : (entries : List Entry) → AreEntries entries → IsBytes (stream_of entries)
 stream-bytes [] all = λ i. lit< tt
 stream-bytes (e ∷ entries) all =
     let events = events_of no_entry (e ∷ entries) in

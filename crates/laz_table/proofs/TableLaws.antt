@@ -118,7 +118,7 @@ pub fixed-entries : (counts : List ℕ) → AreWords counts → AreEntries (entr
 fixed-entries [] h = tt
 fixed-entries (c ∷ counts) h = (omega (arith, h.0), fixed-entries counts h.1)
 
-counted-entries : (sizes counts : List ℕ) → length sizes ≡ length counts → AreWords sizes → AreWords counts → AreEntries (entries_of sizes counts)
+pub counted-entries : (sizes counts : List ℕ) → length sizes ≡ length counts → AreWords sizes → AreWords counts → AreEntries (entries_of sizes counts)
 counted-entries [] [] e h k = tt
 counted-entries [] (c ∷ counts) e h k = absurd (omega (arith, e))
 counted-entries (s ∷ sizes) [] e h k = tt

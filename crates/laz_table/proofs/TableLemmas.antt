@@ -3,6 +3,7 @@ use Rattle.std.proofs.Common.{◌≡◌, ◌≢◌, ℕ, ◌+◌, ◌-◌, ◌*�
 use Rattle.std.specs.Prelude.{sum, IfOk, IfErr, MatchResult}
 use Rattle.std.specs.List.{range_with_len}
 use Rattle.std.proofs.lemmas.List.FromFn.{map-range_with_len_more}
+use Rattle.std.proofs.lemmas.List.{nil_from_length}
 use Rattle.las_header.specs.declared.refusal.Refusal.TheVariants as cause
 use Rattle.las_header.specs.Conditions.{IsFirst}
 use Rattle.laz_range.specs.Cut.{Cut, AreCuts}
@@ -20,16 +21,13 @@ use Rattle.laz_table.proofs.Bridge.{AreInTurn, counted-counts, counted-length, c
 use Rattle.laz_table.proofs.ReadingLemmas.{fault-then}
 
 -- ---- lists of chunks of a kind
-empty : (xs : List ℕ) → length xs ≡ 0 → xs ≡ []
-empty [] e = refl
-empty (x ∷ xs) e = absurd (omega (arith, e))
 
 same_length : (n : ℕ) (sizes counts : List ℕ) → AreLists true n sizes counts → length sizes ≡ length counts
 same_length n sizes counts h = h.point_counts ∙ sym h.byte_counts
 
 pub lists-turn : (counted : Bool) (n : ℕ) (sizes counts : List ℕ) → AreLists counted n sizes counts → AreInTurn counted counted (entries_of sizes counts)
 lists-turn true n sizes counts h = counted-turn sizes counts (same_length n sizes counts h)
-lists-turn false n sizes counts h = subst (λ (l : List ℕ). AreInTurn false false (entries_of l counts)) (sym (empty sizes h.point_counts)) (fixed-turn counts)
+lists-turn false n sizes counts h = subst (λ (l : List ℕ). AreInTurn false false (entries_of l counts)) (sym (nil_from_length sizes h.point_counts)) (fixed-turn counts)
 
 -- how many entries a table has
 abbrev pub entry_count : Bool → ℕ → ℕ
@@ -38,7 +36,7 @@ entry_count false n = n
 
 pub lists-length : (counted : Bool) (n : ℕ) (sizes counts : List ℕ) → AreLists counted n sizes counts → length (entries_of sizes counts) ≡ entry_count counted n
 lists-length true n sizes counts h = counted-length sizes counts (same_length n sizes counts h) ∙ ap (λ k. 2 * k) h.byte_counts
-lists-length false n sizes counts h = ap (λ l. length (entries_of l counts)) (empty sizes h.point_counts) ∙ (fixed-length counts ∙ h.byte_counts)
+lists-length false n sizes counts h = ap (λ l. length (entries_of l counts)) (nil_from_length sizes h.point_counts) ∙ (fixed-length counts ∙ h.byte_counts)
 
 some-entries : (counted : Bool) (n : ℕ) → 0 < n → 0 < entry_count counted n
 some-entries true n h = omega (arith, h)
@@ -48,8 +46,8 @@ pub lists-back : (counted : Bool) (n : ℕ) (s c t d : List ℕ) → AreLists co
 lists-back true n s c t d h k e =
     (sym (counted-sizes s c (same_length n s c h)) ∙ (ap sizes_in e ∙ counted-sizes t d (same_length n t d k)), sym (counted-counts s c (same_length n s c h)) ∙ (ap counts_in e ∙ counted-counts t d (same_length n t d k)))
 lists-back false n s c t d h k e =
-    let none = empty s h.point_counts in
-    let other = empty t k.point_counts in
+    let none = nil_from_length s h.point_counts in
+    let other = nil_from_length t k.point_counts in
     let entries : entries_of [] c ≡ entries_of [] d = sym (ap (λ l. entries_of l c) none) ∙ (e ∙ ap (λ l. entries_of l d) other) in
     (none ∙ sym other, sym (fixed-counts c) ∙ (ap counts_in entries ∙ fixed-counts d))
 

@@ -8,6 +8,7 @@ use Rattle.las_header.specs.Counting.{counts_bytes, long_counts_bytes, with_coun
 use Rattle.las_header.specs.Fields.{format_of, record_length_of}
 use Rattle.las_header.specs.Heads.{IsHead}
 use Rattle.las_header.specs.Plain.{cut_records}
+use Rattle.las_header.proofs.Public.{cut_length}
 use Rattle.las_outside.specs.Outside.{Outside, with_bytes}
 use Rattle.las_points.specs.Tally.{IsWithinPoints, counts_of}
 use Rattle.laz_chunk.specs.Chunks.{chunk_bytes}
@@ -21,7 +22,7 @@ use Rattle.laz_forms.specs.Packing.{format_in}
 use Rattle.laz_forms.proofs.Public.{counted_format, counted_lengths, counted_packed}
 use Rattle.laz_writer.proofs.Cutting.{full_blocks_more, rest_of}
 use Rattle.laz_forms.proofs.Public.{head-by, long-size, short-size}
-use Rattle.laz_forms.proofs.Public.{length-cut, record_is, record_least, whole_both}
+use Rattle.laz_forms.proofs.Public.{record_is, record_least, whole_both}
 
 module _ (head : List ℕ) (is : IsHead head) (chunk most : ℕ) (plan : Plan) (p : IsPlanOf head chunk most plan) where
   pub record_size_is : record_size plan ≡ record_length_of head
@@ -125,7 +126,7 @@ few_taken before now w out bytes records s most =
     let room : length bytes + length records ≤ w.size * w.most = omega (arith, most, s.taken) in
     let some : 0 < w.size = omega (arith, s.size, record_least out.head s.head) in
     let size : length bytes / head ≡ length bytes / w.size = ap (λ n. length bytes / n) (sym s.size) in
-    omega (arith, length-cut head (length bytes / head) bytes, size, few_records w.size (length bytes) (length records) w.most some s.few room)
+    omega (arith, cut_length head (length bytes / head) bytes, size, few_records w.size (length bytes) (length records) w.most some s.few room)
 
 -- A writer that took some records more stands for them too.
 pub pushed : (before old new : Outside) (w v : WriterSeen) (out : Output) (bytes records : List ℕ) (packing : Option PackingSeen) (counts : Option Counts) → Stands before old w out bytes → length records % w.size ≡ 0 → w.taken + length records ≤ w.size * w.most

@@ -1,18 +1,20 @@
 use Rattle.std.proofs.Common.{◌≡◌, ◌%◌, ◌+◌, ◌<◌, ◌≤◌, ◌/◌, ◌^◌, true, false, ℕ, Bool, List, [], ◌∷◌, ◌++◌, length}
 use Rattle.std.proofs.Common.{map, refl, Err, sym, ◌∙◌, ap, subst, length-append, arith}
 use Rattle.std.specs.List.{concat}
+use Rattle.std.proofs.lemmas.Result.{on_ok_weaker}
 use Rattle.las_header.specs.Fields.{record_length_of}
 use Rattle.las_header.specs.Heads.{HeadView}
+use Rattle.las_header.specs.Plain.{cut_all}
 use Rattle.las_filter.specs.Kept.{steps_of}
 use Rattle.las_thin.specs.Sieving.{Settings}
-use Rattle.las_outside.proofs.Public.{calm-refl, calm-trans, later-refl, later-trans}
+use Rattle.las_outside.proofs.Public.{calm-refl, calm-trans, later-refl, later-trans, on_err}
 use Rattle.laz_forms.proofs.Public.{record_least, if_err}
 use Rattle.laz_reader.specs.Turns.{ComesTo, HasComeTo, MayCome}
 use Rattle.laz_reader.proofs.Public.{come_first, concat_last, next_may, none_come}
 use Rattle.laz_file.specs.Copying.{HasRoomFor, HasTaken}
-use Rattle.laz_file.proofs.Public.{begun_now, calm_ok, cause_since, end_err, end_ok, few_come, on_err, ok_then, read_between}
+use Rattle.laz_file.proofs.Public.{begun_now, calm_ok, cause_since, end_err, end_ok, few_come, read_between}
 use Rattle.laz_file.proofs.Public.{records_come, room_for_all, room_now, same_size, taken_apart}
-use Rattle.las_convert.specs.Adding.{Goes, HaveCounted, IsAfter, LeavesKept, cut_all, kept_by}
+use Rattle.las_convert.specs.Adding.{Goes, HaveCounted, IsAfter, LeavesKept, kept_by}
 use Rattle.las_convert.proofs.Going.{after_none, count_is, even_read, few_kept, few_left, goes_counted}
 use Rattle.las_convert.proofs.Going.{goes_none, goes_read, goes_then, leaves_now, leaves_then}
 use Rattle.las_convert.proofs.copying.convert_blocks.Goals as goal
@@ -104,7 +106,7 @@ returns-in-Err-clause-cause g c =
 
 pub returns-in-Err-clause-calm : goal.returns-in-Err-clause-calm
 returns-in-Err-clause-calm g c =
-    ok_then c.into_end.result
+    on_ok_weaker c.into_end.result
     (λ reads. record { reads = reads; writes = c.next_block.ensures.reads.only.writes ∙ c.turns.invariant.calm.writes })
     (calm_ok c.in-Err.fault c.into_end.result (g.F.Files.seen c.args.files.now) (g.F.Files.seen c.turns.files)
     (g.F.Files.seen c.next_block.new.files) c.into_end.ensures c.in-Err.ensures.ends c.turns.invariant.calm.reads)

@@ -6,8 +6,9 @@ use Rattle.las_outside.specs.Outside.{Later}
 use Rattle.las_thin.specs.Placed.{Placed}
 use Rattle.laz_reader.specs.Asking.{bytes_left}
 use Rattle.laz_reader.specs.Turns.{HasComeTo, blocks_left}
-use Rattle.las_convert.specs.Adding.{Goes, HaveCounted, IsAfter, cut_all, kept_by}
+use Rattle.las_convert.specs.Adding.{Goes, HaveCounted, IsAfter, kept_by}
 use Rattle.las_convert.proofs.copying.convert_blocks.Given as goal
+use Rattle.las_header.specs.Plain.{cut_all}
 
 abbrev pub invariant-turns : goal.invariant-turns
 invariant-turns g l = let old = g.F.Files.seen l.fn.files in let now = g.F.Files.seen l.files in let w = l.fn.writer in record {

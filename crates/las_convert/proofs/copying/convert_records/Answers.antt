@@ -1,14 +1,14 @@
 use Rattle.std.proofs.Common.{◌≡◌, ℕ, Bool, false, List, [], length, map, ap}
 use Rattle.std.specs.List.{concat}
-use Rattle.std.proofs.lemmas.Result.{on_err_weaker}
+use Rattle.std.proofs.lemmas.Result.{on_err_weaker, IfOk-weaker}
 use Rattle.las_filter.specs.Kept.{steps_of}
 use Rattle.las_info.specs.Tallies.{TapSeen}
 use Rattle.laz_file.specs.Copying.{EndsAfter, HoldFirst, LeavesPart, Takes}
-use Rattle.laz_forms.proofs.Public.{if_ok_weaker}
-use Rattle.las_convert.specs.Adding.{EndsKeeping, Goes, cut_all, kept_by}
+use Rattle.las_convert.specs.Adding.{EndsKeeping, Goes, kept_by}
 use Rattle.las_convert.proofs.Going.{even_read}
 use Rattle.las_convert.proofs.Unchanged.{goes_unchanged, keeps_unchanged, leaves_unchanged}
 use Rattle.las_convert.proofs.copying.convert_records.Goals as goal
+use Rattle.las_header.specs.Plain.{cut_all}
 
 pub returns-then-changes_nothing-clause-converted : goal.returns-then-changes_nothing-clause-converted
 returns-then-changes_nothing-clause-converted g c looked is =
@@ -25,13 +25,10 @@ returns-then-changes_nothing-clause-converted g c looked is =
     let taps : List TapSeen = map (λ tap. (goal.Tap-dyn g (tap.vtable, tap.value)).tap_seen tap.value)
     passage.taps.items in
     let none : taps ≡ [] = ap (map (λ tap. (goal.Tap-dyn g (tap.vtable, tap.value)).tap_seen tap.value)) same.no_tap in
-    if_ok_weaker
-    (λ end. (n : ℕ) × (blocks : List (List ℕ)) × HoldFirst old.held first n blocks × EndsAfter old.held first n end
-    × Takes old new w v (concat blocks))
-    (λ end. (n : ℕ) × (blocks : List (List ℕ)) × (count : ℕ) × (refused : Bool) × HoldFirst old.held first n blocks
+    IfOk-weaker c.copy_records.result (λ end. (n : ℕ) × (blocks : List (List ℕ)) × HoldFirst old.held first n blocks × EndsAfter old.held first n end
+    × Takes old new w v (concat blocks)) (λ end. (n : ℕ) × (blocks : List (List ℕ)) × (count : ℕ) × (refused : Bool) × HoldFirst old.held first n blocks
     × Goes keeping [] w.size (concat blocks) old new w v taps taps count refused
     × EndsKeeping old.held first n count refused end)
-    c.copy_records.result
     (λ end d. (
       d.0,
       d.1,

@@ -4,11 +4,13 @@ use Rattle.std.proofs.lemmas.List.{append-nil}
 use Rattle.las_filter.specs.Kept.{steps_of}
 use Rattle.las_info.specs.Tallies.{TapSeen}
 use Rattle.laz_file.specs.Copying.{LeavesPart, Takes}
-use Rattle.laz_file.proofs.Public.{on_err, part_push, takes_push}
-use Rattle.las_convert.specs.Adding.{HaveCounted, cut_all, kept_by}
+use Rattle.laz_file.proofs.Public.{part_push, takes_push}
+use Rattle.las_convert.specs.Adding.{HaveCounted, kept_by}
 use Rattle.las_convert.proofs.Going.{few_ones, kept_even, kept_goes, leaves_none, leaves_taken}
 use Rattle.las_convert.proofs.Shown.{room_seen, seen_by, shown_as}
 use Rattle.las_convert.proofs.copying.push_kept.Goals as goal
+use Rattle.las_outside.proofs.Public.{on_err}
+use Rattle.las_header.specs.Plain.{cut_all}
 
 pub returns-in_err-part-clause-left : goal.returns-in_err-part-clause-left
 returns-in_err-part-clause-left g c looked before is =

@@ -2,8 +2,9 @@ use Rattle.std.proofs.Common.{◌≡◌, false, sym, ◌∙◌, ap}
 use Rattle.las_header.specs.Fields.{is_packed}
 use Rattle.las_header.specs.Heads.{HeadView}
 use Rattle.las_header.specs.Plain.{plain_of}
-use Rattle.las_convert.proofs.Endings.{begin_left, plain_itself}
+use Rattle.las_convert.proofs.Endings.{begin_left}
 use Rattle.las_convert.proofs.files.begin.Goals as goal
+use Rattle.laz_forms.proofs.Public.{plain_itself}
 
 pub returns-then-packed-clause-left : goal.returns-then-packed-clause-left
 returns-then-packed-clause-left g c =

@@ -1,13 +1,14 @@
 use Rattle.std.proofs.Common.{◌≡◌, ◌+◌, ◌/◌, ◌++◌, false, true, length, refl, sym, ◌∙◌}
+use Rattle.std.proofs.lemmas.Result.{IfOk-weaker}
 use Rattle.las_filter.specs.Kept.{kept, steps_of}
 use Rattle.las_thin.specs.Kept.{passing}
 use Rattle.las_thin.specs.Sieving.{StandsFor, all_pass}
-use Rattle.las_convert.specs.Adding.{IsAfter, cut_all, kept_by}
-use Rattle.laz_forms.proofs.Public.{if_ok_weaker}
+use Rattle.las_convert.specs.Adding.{IsAfter, kept_by}
 use Rattle.las_convert.proofs.Adding.{adds_same}
 use Rattle.las_convert.proofs.Cuts.{reached}
 use Rattle.las_convert.proofs.Passing.{kept_as_plan}
 use Rattle.las_convert.proofs.keeping.keep_records.Goals as goal
+use Rattle.las_header.specs.Plain.{cut_all}
 
 pub returns-then-passes_all-clause-kept : goal.returns-then-passes_all-clause-kept
 returns-then-passes_all-clause-kept c looked before is =
@@ -27,9 +28,8 @@ pub returns-clause-after : goal.returns-clause-after
 returns-clause-after c looked before is =
     let plan = steps_of c.args.plan.now in
     let other : c.args.sieve.now.settings ≡ all_pass → ⊥ = λ all. let clash : false ≡ true = sym c.if-passes_all.false ∙ c.passes_all.ensures.1 all in cc in
-    if_ok_weaker (λ part. part.refused ≡ false
-    → StandsFor looked (passing plan (before ++ cut_all c.args.size c.args.block.now)) c.keep_sifted.new.sieve)
-    (λ part. part.refused ≡ false → IsAfter plan looked (before ++ cut_all c.args.size c.args.block.now) c.keep_sifted.new.sieve (c.args.read + length c.args.block.now / c.args.size)) c.keep_sifted.result
+    IfOk-weaker c.keep_sifted.result (λ part. part.refused ≡ false
+    → StandsFor looked (passing plan (before ++ cut_all c.args.size c.args.block.now)) c.keep_sifted.new.sieve) (λ part. part.refused ≡ false → IsAfter plan looked (before ++ cut_all c.args.size c.args.block.now) c.keep_sifted.new.sieve (c.args.read + length c.args.block.now / c.args.size))
     (λ part stands fine. record {
       read_is = reached before c.args.size (length c.args.block.now / c.args.size) c.args.block.now c.args.read (c.args.read + length c.args.block.now / c.args.size) is.read_is refl;
       stands = λ differs. stands fine;

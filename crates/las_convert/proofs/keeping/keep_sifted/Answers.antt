@@ -7,10 +7,11 @@ use Rattle.las_thin.specs.Sieving.{Settings, StandsFor}
 use Rattle.las_convert.specs.Adding.{Adds, kept_by}
 use Rattle.las_convert.specs.Passing.{passes_after}
 use Rattle.las_convert.proofs.Adding.{adds_none}
-use Rattle.las_convert.proofs.Cuts.{KeptSo, after_next, block_fits, kept_dropped, kept_first, kept_more, kept_refused, next_dropped, next_kept, next_refused, none_yet, reached, rest_next}
+use Rattle.las_convert.proofs.Cuts.{KeptSo, after_next, kept_dropped, kept_first, kept_more, kept_refused, next_dropped, next_kept, next_refused, none_yet, reached}
 use Rattle.las_convert.proofs.Passing.{keeps_one_more, no_more, sieve_keeps}
 use Rattle.las_convert.proofs.keeping.keep_sifted.Goals as goal
 use Rattle.las_convert.proofs.keeping.keep_sifted.Goals.{then-branch+in-Ok, else-branch}
+use Rattle.laz_forms.proofs.Public.{rest_next, block_fits}
 
 pub loop-turn-init : goal.loop-turn-init
 loop-turn-init c =

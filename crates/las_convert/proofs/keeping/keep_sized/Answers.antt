@@ -6,9 +6,10 @@ use Rattle.las_filter.proofs.Public.{grows}
 use Rattle.las_header.specs.Plain.{cut_records}
 use Rattle.las_convert.specs.Adding.{AddsAlways}
 use Rattle.las_convert.proofs.Adding.{adds_none, plan_keeps}
-use Rattle.las_convert.proofs.Cuts.{KeptSo, block_fits, kept_dropped, kept_first, kept_more, kept_refused, next_dropped, next_kept, next_refused, none_yet, rest_next}
+use Rattle.las_convert.proofs.Cuts.{KeptSo, kept_dropped, kept_first, kept_more, kept_refused, next_dropped, next_kept, next_refused, none_yet}
 use Rattle.las_convert.proofs.keeping.keep_sized.Goals as goal
 use Rattle.las_convert.proofs.keeping.keep_sized.Goals.{then-keeps+in-Ok, else-keeps}
+use Rattle.laz_forms.proofs.Public.{rest_next, block_fits}
 
 pub loop-turn-init : goal.loop-turn-init
 loop-turn-init c = record {

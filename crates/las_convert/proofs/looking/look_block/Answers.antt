@@ -3,8 +3,9 @@ use Rattle.las_filter.specs.Kept.{steps_of}
 use Rattle.las_header.specs.Plain.{cut_records}
 use Rattle.las_thin.specs.Kept.{passing}
 use Rattle.las_thin.specs.Sieving.{StandsFor}
-use Rattle.las_convert.proofs.Cuts.{after_next, reached, rest_next}
+use Rattle.las_convert.proofs.Cuts.{after_next, reached}
 use Rattle.las_convert.proofs.looking.look_block.Goals as goal
+use Rattle.laz_forms.proofs.Public.{rest_next}
 
 pub look_at-requires-clause-looked : goal.look_at-requires-clause-looked
 look_at-requires-clause-looked c =

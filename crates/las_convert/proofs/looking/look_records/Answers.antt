@@ -4,6 +4,8 @@ use Rattle.std.proofs.lemmas.Result.{err_from_is_err_and}
 use Rattle.las_filter.specs.Kept.{steps_of}
 use Rattle.las_header.specs.Fields.{record_length_of}
 use Rattle.las_header.specs.Heads.{HeadView}
+use Rattle.las_header.specs.Plain.{cut_all}
+use Rattle.las_header.proofs.Public.{cut_none}
 use Rattle.las_outside.specs.Files.{FileMap}
 use Rattle.las_outside.proofs.Public.{calm-refl, calm-trans, later-refl, only_reads-trans}
 use Rattle.las_thin.specs.Kept.{passing}
@@ -12,9 +14,7 @@ use Rattle.laz_forms.specs.declared.fault.Fault.TheVariants.{Refused}
 use Rattle.laz_reader.specs.Turns.{ComesTo, HoldFirst, file_at}
 use Rattle.laz_reader.proofs.Public.{come_first, next_may, none_come}
 use Rattle.laz_file.proofs.Public.{few_come, records_come}
-use Rattle.las_convert.specs.Adding.{cut_all}
 use Rattle.las_convert.proofs.Going.{count_is}
-use Rattle.las_convert.proofs.Shown.{cut_none}
 use Rattle.las_convert.proofs.looking.look_records.Goals as goal
 
 pub turns-init : goal.turns-init

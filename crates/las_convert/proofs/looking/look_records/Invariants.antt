@@ -6,8 +6,8 @@ use Rattle.las_thin.specs.Kept.{passing}
 use Rattle.las_thin.specs.Sieving as sieve
 use Rattle.laz_reader.specs.Asking.{bytes_left}
 use Rattle.laz_reader.specs.Turns.{HasComeTo, blocks_left}
-use Rattle.las_convert.specs.Adding.{cut_all}
 use Rattle.las_convert.proofs.looking.look_records.Given as goal
+use Rattle.las_header.specs.Plain.{cut_all}
 
 abbrev pub invariant-turns : goal.invariant-turns
 invariant-turns g l = let old = g.F.Files.seen l.fn.files in let now = g.F.Files.seen l.files in record {

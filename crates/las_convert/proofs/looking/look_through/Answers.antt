@@ -1,9 +1,10 @@
 use Rattle.std.proofs.Common.{◌*◌, ◌+◌, ℕ, List, refl, sym, ap, subst}
+use Rattle.std.proofs.lemmas.Result.{on_ok_weaker}
 use Rattle.las_filter.specs.Kept.{steps_of}
 use Rattle.las_outside.specs.Files.{WhereKnown}
 use Rattle.laz_reader.specs.Reading.{ReaderSeen, StandsFor}
 use Rattle.laz_forms.proofs.Public.{if_err, known_then}
-use Rattle.laz_file.proofs.Public.{ok_then, stands_ready}
+use Rattle.laz_file.proofs.Public.{stands_ready}
 use Rattle.las_convert.proofs.Looks.{ready_here, refused_here}
 use Rattle.las_convert.proofs.Making.{stops_looking, stops_short}
 use Rattle.las_convert.proofs.looking.look_through.Goals as goal
@@ -20,7 +21,7 @@ look_records-requires-clause-stands g c κs within =
 pub returns-clause-ready : goal.returns-clause-ready
 returns-clause-ready g c =
     let old = g.F.Files.seen c.args.files.now in
-    ok_then c.look_records.result
+    on_ok_weaker c.look_records.result
     (λ h. ready_here old.held (steps_of c.args.plan.now) c.args.reader c.crew.new.self (2 * c.hands-hands.result) c.in_ok-crew.ensures.kept c.requires.fresh.unread c.requires.stands h.0 c.look_records.new.sieve h.1 h.2) c.look_records.ensures.looked
 
 pub returns-in_err-crew-clause-stops : goal.returns-in_err-crew-clause-stops

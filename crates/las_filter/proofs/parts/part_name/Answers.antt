@@ -1,11 +1,12 @@
 use Rattle.std.proofs.Common.{◌≡◌, string_bytes, ◌++◌, ◌∙◌, codes, refl}
 use Rattle.std.specs.Fmt.{styled_decimal, format_spec}
-use Rattle.las_filter.proofs.PartNaming.{name_is, ok_is}
+use Rattle.std.proofs.lemmas.Result.{IfOk-weaker}
+use Rattle.las_filter.proofs.PartNaming.{name_is}
 use Rattle.las_filter.proofs.parts.part_name.Goals as goal
 
 pub returns : goal.returns
 returns c =
-    ok_is _ _ c.format.result
+    IfOk-weaker c.format.result _ _
     (λ s is.
     let stem = c.args.stem.now in
     let end = c.args.end.now in

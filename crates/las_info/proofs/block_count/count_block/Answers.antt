@@ -1,11 +1,12 @@
 use Rattle.std.proofs.Common.{◌≡◌, ℕ, ◌+◌, ◌-◌, ◌*◌, ◌/◌, ◌<◌, ◌≤◌, ◌∷◌, ◌++◌, ◌∙◌, inl, inr, [], drop, length, ap, arith, refl, subst, sym}
 use Rattle.std.proofs.lemmas.List.{take_all}
+use Rattle.std.proofs.lemmas.Result.{on_err_weaker, on_ok_weaker}
 use Rattle.las_header.proofs.Public.{left_first, left_next}
 use Rattle.las_info.specs.Tallies.{count_at, tally_after, with_one}
 use Rattle.las_info.proofs.Counting.{one_counted, room_left, two_counted}
 use Rattle.las_info.proofs.Cuts.{Cuts, cuts_all, cuts_first, cuts_none, cuts_one}
-use Rattle.las_info.proofs.Shown.{on_err, on_err_then, on_ok_then}
 use Rattle.las_info.proofs.block_count.count_block.Goals as goal
+use Rattle.las_outside.proofs.Public.{on_err}
 
 pub loop-pair-init : goal.loop-pair-init
 loop-pair-init g c = record {
@@ -99,7 +100,7 @@ returns-clause-ok g c =
     let one : n - t ≡ 1 = omega (arith, c.loop-pair-test.false, c.if-count-eq0.false) in
     let last : length rest ≤ size = omega (arith, c.loop-pair.invariant.left ∙ ap (λ (k : ℕ). size * k) one) in
     let cuts = cuts_one size n t block rest rest (drop size rest) s.0 more (sym (take_all size rest last)) refl s.1 in
-    on_ok_then c.add.result (λ (is : c.add.new.self ≡ with_one c.loop-pair.counted c.of-2.result).
+    on_ok_weaker c.add.result (λ (is : c.add.new.self ≡ with_one c.loop-pair.counted c.of-2.result).
     one_counted rule c.args.counted.now c.loop-pair.counted c.add.new.self s.0 rest c.of-2.result s.2 c.of-2.ensures is
     ∙ ap (tally_after rule c.args.counted.now) (cuts_all size n (t + 1) block (drop size rest) (s.0 ++ rest ∷ []) (omega (arith, one)) cuts))
     c.add.ensures.ok
@@ -110,6 +111,6 @@ returns-clause-err g c =
     let n = length c.args.block.now / size in
     let t = 2 * c.loop-pair._pair in
     let s = c.loop-pair.invariant.counts in
-    on_err_then c.add.result (λ (same : c.add.new.self ≡ c.loop-pair.counted).
+    on_err_weaker c.add.result (λ (same : c.add.new.self ≡ c.loop-pair.counted).
     (t, same ∙ s.2 ∙ ap (tally_after g.B.Bins.bin_of c.args.counted.now) (cuts_first size n t c.args.block.now c.loop-pair.rest.now s.0 s.1)))
     c.add.ensures.err

@@ -1,11 +1,12 @@
 use Rattle.std.proofs.Common.{◌≡◌, ℕ, ◌+◌, ◌-◌, ◌*◌, ◌/◌, ◌++◌, length, take, [], ap, arith, refl, subst, sym, ◌∙◌}
+use Rattle.std.proofs.lemmas.Result.{on_err_weaker, on_ok_weaker}
 use Rattle.las_header.proofs.Public.{left_first}
 use Rattle.las_header.specs.Plain.{cut_records}
 use Rattle.las_info.specs.Tallies.{HasRoomFor, tally_after}
 use Rattle.las_info.proofs.Cuts.{Cuts, cuts_none}
 use Rattle.las_info.proofs.Pieces.{count_of, first_of_piece, groups_all, groups_fit, piece_counted, piece_fits, piece_taken, rest_counted, room_for, some_counted, whole_of}
-use Rattle.las_info.proofs.Shown.{on_err, on_err_then, on_ok_then}
 use Rattle.las_info.proofs.runs.count_groups.Goals as goal
+use Rattle.las_outside.proofs.Public.{on_err}
 
 pub loop-group-init : goal.loop-group-init
 loop-group-init g c =
@@ -100,7 +101,7 @@ returns-clause-ok g c =
     let rule = g.B.Bins.bin_of in
     let now = c.loop-group.counted in
     let long = count_of size (n - t) rest (omega (arith, c.requires.size)) c.loop-group.invariant.left in
-    on_ok_then c.count_block.result (λ is.
+    on_ok_weaker c.count_block.result (λ is.
     rest_counted rule c.args.counted.now now c.count_block.new.counted size n t block rest s.0 s.1 s.2
     (is ∙ ap (λ (k : ℕ). tally_after rule now (cut_records size k rest)) long))
     c.count_block.ensures.ok
@@ -116,7 +117,7 @@ returns-clause-err g c =
     let rule = g.B.Bins.bin_of in
     let now = c.loop-group.counted in
     let long = count_of size (n - t) rest (omega (arith, c.requires.size)) c.loop-group.invariant.left in
-    on_err_then c.count_block.result (λ e. (
+    on_err_weaker c.count_block.result (λ e. (
       t + e.0,
       some_counted rule c.args.counted.now now c.count_block.new.counted size n t block rest s.0 s.1 s.2 e.0
           (e.1 ∙ ap (λ (k : ℕ). tally_after rule now (take e.0 (cut_records size k rest))) long),

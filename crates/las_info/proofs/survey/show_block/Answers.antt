@@ -1,9 +1,10 @@
 use Rattle.std.proofs.Common.{◌+◌, ◌<◌, ◌/◌, ◌^◌, ℕ, length, sym, subst, take}
 use Rattle.las_header.specs.Plain.{cut_records}
 use Rattle.las_info.specs.Tallies.{IsShownSome, count_at, shown_all}
-use Rattle.las_info.proofs.Shown.{on_err, shown_none, shown_whole}
+use Rattle.las_info.proofs.Shown.{shown_none, shown_whole}
 use Rattle.las_info.proofs.Zips.{changed_alike, holds_left, one_mapped, related}
 use Rattle.las_info.proofs.survey.show_block.Goals as goal
+use Rattle.las_outside.proofs.Public.{on_err}
 
 pub show_through-requires-clause-room : goal.show_through-requires-clause-room
 show_through-requires-clause-room g c = record {

@@ -1,11 +1,11 @@
 use Rattle.std.proofs.Common.{ℕ, ◌*◌, List, sym, ◌∙◌, ap, subst, arith}
 use Rattle.std.specs.List.{concat}
 use Rattle.laz_writer.specs.Writing.{Stands}
-use Rattle.laz_file.proofs.Public.{on_err}
 use Rattle.las_make.specs.Made.{records_from}
 use Rattle.las_make.proofs.Written.{block_fits, block_joined, block_left, block_whole, end_fits, part_long, put_block}
 use Rattle.las_make.proofs.Written.{put_fits, put_long, put_records}
 use Rattle.las_make.proofs.plain.push_block.Goals as goal
+use Rattle.las_outside.proofs.Public.{on_err}
 
 pub slice_bounds-fill-end : goal.slice_bounds-fill-end
 slice_bounds-fill-end g c = end_fits c.args.settings c.requires.range c.args.from c.min-count.result

@@ -1,15 +1,15 @@
 use Rattle.std.proofs.Common.{◌≡◌, ℕ, false, List, ◌++◌, length, None, ◌∙◌, ap, subst}
 use Rattle.std.specs.List.{concat}
+use Rattle.std.proofs.lemmas.Result.{IfOk-weaker, IfErr-weaker, on_ok_weaker}
 use Rattle.las_outside.specs.Drafts.{IsUnfinished}
 use Rattle.las_outside.specs.Outside.{with_bytes}
-use Rattle.las_outside.proofs.Public.{only_writes-trans}
+use Rattle.las_outside.proofs.Public.{only_writes-trans, on_err}
 use Rattle.laz_file.specs.Copying.{LeavesUnfinished}
 use Rattle.laz_forms.specs.Outputs.{Output, draft_of, finished, patches_of}
 use Rattle.laz_writer.specs.Writing.{Stops}
-use Rattle.laz_file.proofs.Public.{on_err, create_left, ok_then}
+use Rattle.laz_file.proofs.Public.{create_left}
 use Rattle.las_make.specs.Made.{made_file, made_records}
 use Rattle.las_make.proofs.Written.{counted_none, counted_plain, counted_size, end_left, head_made}
-use Rattle.las_make.proofs.Written.{ok_with, on_err_from}
 use Rattle.las_make.proofs.plain.write_plain.Goals as goal
 
 pub create-requires-clause-plain : goal.create-requires-clause-plain
@@ -87,7 +87,7 @@ returns-clause-written g c =
     let is = head_made s c.requires.range c.in_ok-blank_head.field-0.bytes c.with_counts-head.result.bytes
     c.count_records.result c.in_ok-blank_head.ensures c.count_records.ensures c.with_counts-head.ensures.bytes in
     let stands = c.in_ok-push_records.ensures.stands old out c.in_ok-writer.ensures.stands in
-    ok_then c.finish.result (λ written. written ∙ ap (λ (h : List ℕ). with_bytes old name (h ++ records)) is)
+    on_ok_weaker c.finish.result (λ written. written ∙ ap (λ (h : List ℕ). with_bytes old name (h ++ records)) is)
     (c.finish.ensures.finished old out records stands)
 
 pub returns-clause-length : goal.returns-clause-length
@@ -104,7 +104,7 @@ returns-clause-length g c =
     let is = head_made s c.requires.range c.in_ok-blank_head.field-0.bytes c.with_counts-head.result.bytes
     c.count_records.result c.in_ok-blank_head.ensures c.count_records.ensures c.with_counts-head.ensures.bytes in
     let stands = c.in_ok-push_records.ensures.stands old out c.in_ok-writer.ensures.stands in
-    ok_with (λ size. size ≡ length (finished out records)) (λ size. size ≡ length (made_file s)) c.finish.result
+    IfOk-weaker c.finish.result (λ size. size ≡ length (finished out records)) (λ size. size ≡ length (made_file s))
     (λ size long. long ∙ ap (λ (h : List ℕ). length (h ++ records)) is)
     (c.finish.ensures.length old out records stands)
 
@@ -119,8 +119,8 @@ returns-clause-left g c =
     let is = head_made s c.requires.range c.in_ok-blank_head.field-0.bytes c.with_counts-head.result.bytes
     c.count_records.result c.in_ok-blank_head.ensures c.count_records.ensures c.with_counts-head.ensures.bytes in
     let stands = c.in_ok-push_records.ensures.stands old out c.in_ok-writer.ensures.stands in
-    on_err_from (λ fault. (left : List ℕ) × IsUnfinished (draft_of out records) (patches_of out records) left
-    × Stops fault (with_bytes old name left) new) c.finish.result
+    IfErr-weaker c.finish.result (λ fault. (left : List ℕ) × IsUnfinished (draft_of out records) (patches_of out records) left
+    × Stops fault (with_bytes old name left) new) _
     (λ fault l. subst (λ (h : List ℕ). let o : Output =
     record { name = name; head = h; chunk = None; counted = false } in LeavesUnfinished o records old.held new.held)
     is (end_left old new out records fault l))

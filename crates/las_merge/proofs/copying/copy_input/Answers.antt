@@ -1,8 +1,8 @@
 use Rattle.std.proofs.Common.{◌≡◌, ◌*◌, ap, arith}
 use Rattle.laz_reader.specs.Asking.{bytes_left}
-use Rattle.laz_file.proofs.Public.{on_err}
 use Rattle.las_merge.proofs.Taken.{copied_input, failed_input, none_copied, reads_ready}
 use Rattle.las_merge.proofs.copying.copy_input.Goals as goal
+use Rattle.las_outside.proofs.Public.{on_err}
 
 pub returns-in_err-crew-clause-left : goal.returns-in_err-crew-clause-left
 returns-in_err-crew-clause-left g c =

@@ -6,7 +6,6 @@ use Rattle.las_outside.specs.Files.{WhereKnown}
 use Rattle.laz_file.specs.Copying.{with_reads}
 use Rattle.std.specs.FinMap as finmap
 use Rattle.laz_reader.specs.Asking.{AsksAtMost}
-use Rattle.laz_forms.proofs.Public.{sum-first}
 use Rattle.las_outside.proofs.Public.{calm-refl, calm-trans, later-refl, later-trans}
 use Rattle.las_merge.specs.Asking.{asked_of_all, asked_to_read}
 use Rattle.las_merge.specs.Copying.{BeginsWith, CopiesTo}
@@ -17,6 +16,7 @@ use Rattle.las_merge.proofs.Copied.{HasCopied, copies_all, has_more, has_none, i
 use Rattle.las_merge.proofs.Copied.{next_known, next_name, next_open, next_room, next_stands, no_items, rest_room}
 use Rattle.las_merge.proofs.Copied.{takes_next}
 use Rattle.las_merge.proofs.copying.copy_inputs.Goals as goal
+use Rattle.laz_models.proofs.Public.{sum-cons}
 
 pub inputs-init : goal.inputs-init
 inputs-init g c =
@@ -149,7 +149,7 @@ inputs-preserved g c =
           let most_asked = next_known old now readers rest reader number w v has s.0 s.1 s.2 s.3 c.requires.names
           (λ file. AsksAtMost (asked_to_read (Some file)) now new) c.copy_next.ensures.asked in
           let here_asked = asked_there old.held reader.name asked_to_read now new most_asked known is in
-          let first = sum-first (asked_to_read (finmap.get known reader.name))
+          let first = sum-cons (asked_to_read (finmap.get known reader.name))
           (map (λ name. asked_to_read (finmap.get known name)) (names_read rest)) in
           let items = ap (λ (rs : List InputSeen). asked_of_all asked_to_read known (names_read rs))
           c.in-Some.ensures.steps.0 in
@@ -237,7 +237,7 @@ returns-in-Some-end-clause-asked g c known is =
     let most = next_known old now readers rest reader number w v has s.0 s.1 s.2 s.3 c.requires.names
     (λ file. AsksAtMost (asked_to_read (Some file)) now new) c.copy_next.ensures.asked in
     let here = asked_there old.held reader.name asked_to_read now new most known is in
-    let first = sum-first (asked_to_read (finmap.get known reader.name))
+    let first = sum-cons (asked_to_read (finmap.get known reader.name))
     (map (λ name. asked_to_read (finmap.get known name)) (names_read rest)) in
     let items = ap (λ (rs : List InputSeen). asked_of_all asked_to_read known (names_read rs))
     c.in-Some.ensures.steps.0 in
@@ -261,7 +261,7 @@ returns-in-Err-clause-asked g c known is =
     let most = next_known old now readers rest reader number w v has s.0 s.1 s.2 s.3 c.requires.names
     (λ file. AsksAtMost (asked_to_read (Some file)) now new) c.copy_next.ensures.asked in
     let here = asked_there old.held reader.name asked_to_read now new most known is in
-    let first = sum-first (asked_to_read (finmap.get known reader.name))
+    let first = sum-cons (asked_to_read (finmap.get known reader.name))
     (map (λ name. asked_to_read (finmap.get known name)) (names_read rest)) in
     let items = ap (λ (rs : List InputSeen). asked_of_all asked_to_read known (names_read rs))
     c.in-Some.ensures.steps.0 in

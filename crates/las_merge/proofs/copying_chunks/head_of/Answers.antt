@@ -1,4 +1,5 @@
 use Rattle.std.proofs.Common.{◌≡◌, ℕ, List, IfOk, ◌∙◌, ap}
+use Rattle.std.proofs.lemmas.Result.{IfOk-weaker}
 use Rattle.las_header.specs.Counting.{with_sums}
 use Rattle.las_header.specs.Fields.{format_of}
 use Rattle.las_header.specs.Heads.{HeadView}
@@ -7,7 +8,6 @@ use Rattle.laz_table.specs.Payload.{laszip_payload}
 use Rattle.laz_table.specs.VlrCauses.{extra_of}
 use Rattle.laz_table.specs.declared.limits.TheConstants.{COUNTED_CHUNKS}
 use Rattle.laz_forms.specs.Packing.{packed_head}
-use Rattle.laz_forms.proofs.Public.{if_ok_weaker}
 use Rattle.las_merge.specs.Opening.{first_read}
 use Rattle.las_merge.specs.Summing.{long_returns_in, returns_in, summed_head}
 use Rattle.las_merge.proofs.Whole.{head_first}
@@ -28,4 +28,4 @@ returns c =
     let extra : c.extra.result ≡ extra_of bytes = c.extra.ensures.field in
     let payload : c.deref.result.now ≡ laszip_payload (format_of bytes) (extra_of bytes) COUNTED_CHUNKS = c.deref.ensures.0 ∙ items ∙ (λ i. laszip_payload (format i) (extra i) COUNTED_CHUNKS) in
     let done : IfOk c.with_vlr.result (λ head. head.bytes ≡ with_vlr c.deref.result.now bytes) = c.with_vlr.ensures.bytes in
-    if_ok_weaker _ _ c.with_vlr.result (λ head e. e ∙ ap (λ (p : List ℕ). with_vlr p bytes) payload ∙ ap (λ (h : List ℕ). packed_head h COUNTED_CHUNKS) summed) done
+    IfOk-weaker c.with_vlr.result _ _ (λ head e. e ∙ ap (λ (p : List ℕ). with_vlr p bytes) payload ∙ ap (λ (h : List ℕ). packed_head h COUNTED_CHUNKS) summed) done

@@ -2,13 +2,14 @@ use Rattle.std.proofs.Common.{◌≡◌, ◌≢◌, inr, Err, IfErr, OnErr, OnOk
 use Rattle.std.specs.Prelude.{All, string_bytes, sum_by}
 use Rattle.std.specs.declared.alloc.Global.{Global}
 use Rattle.std.proofs.lemmas.List.{length-map}
-use Rattle.std.proofs.lemmas.Result.{on_ok_weaker}
+use Rattle.std.proofs.lemmas.Result.{on_ok_weaker, IfErr-weaker, on_err_weaker}
 use Rattle.las_outside.specs.Faults.{Rose}
 use Rattle.las_outside.specs.Files.{FileMap, with_file}
 use Rattle.las_outside.specs.Outside.{Outside, with_bytes}
 use Rattle.las_outside.proofs.Public.{calm-trans, later-trans}
 use Rattle.laz_forms.specs.declared.fault.Fault.TheVariants as fault
-use Rattle.laz_file.proofs.Public.{err_at, err_then, ok_then}
+use Rattle.laz_forms.proofs.Public.{on_ok}
+use Rattle.laz_file.proofs.Public.{err_at}
 use Rattle.laz_file.specs.Copying.{with_reads}
 use Rattle.las_merge.specs.declared.fault.MergeFault.{MergeFault}
 use Rattle.las_merge.specs.declared.fault.MergeFault.TheVariants.{At, Unequal, Write}
@@ -20,8 +21,8 @@ use Rattle.las_merge.specs.Packed.{asked_to_copy}
 use Rattle.las_merge.specs.Summing.{copied_text}
 use Rattle.las_merge.proofs.CopiedOnce.{copied_once}
 use Rattle.las_merge.proofs.CopiedWhole.{asked_few, before_copied, can_copy, copy_is_fault, copy_within, files}
-use Rattle.las_merge.proofs.CopiedWhole.{head_one, head_packed, left_by, many_chunks, many_points, on_err_then}
-use Rattle.las_merge.proofs.CopiedWhole.{on_ok_any, parts, sources_lie, sources_long, sources_other, text_is}
+use Rattle.las_merge.proofs.CopiedWhole.{head_one, head_packed, left_by, many_chunks, many_points}
+use Rattle.las_merge.proofs.CopiedWhole.{parts, sources_lie, sources_long, sources_other, text_is}
 use Rattle.las_merge.proofs.CopyOutcomes.{says_chunks, says_listing, says_memory, says_points}
 use Rattle.las_merge.proofs.MergeOutcomes.{err_is}
 use Rattle.las_merge.proofs.Whole.{other_names}
@@ -169,7 +170,7 @@ returns-clause-says g c =
     let written : OnOk c.write.result (new ≡ with_bytes (with_reads mid new) output text) = c.write.ensures.written in
     let left : OnErr c.write.result (LeavesPrefix mid.held new.held output text) = c.write.ensures.left in
     record {
-      copied = ok_then c.write.result
+      copied = on_ok_weaker c.write.result
           (λ put known is. (
             files _ _ _ _ _ _ _ _ ens.opened ens.lists all some known is,
             parts _ _ _ _ _ _ _ _ ens.opened ens.lists all some known is,
@@ -179,7 +180,7 @@ returns-clause-says g c =
                 (text_is _ _ _ _ _ _ _ _ ens.opened ens.lists all some known is frame.head.bytes frame.table.items
                 frame.place c.if-listed.false c.in-Ok.ensures.head c.in-Ok.ensures.place c.in-Ok.ensures.table),
           )) written;
-      kept = err_then IsFault _ c.write.result
+      kept = IfErr-weaker c.write.result IsFault _
           (λ e h kind. absurd (copy_is_fault (λ n. n < length c.deref-2.result.now) mid new e h kind)) cause;
       unequal = λ number field err. absurd (err_at IsFault c.write.result (Unequal number field) cause err);
       at = λ number fault err.
@@ -209,7 +210,7 @@ returns-clause-says g c =
         ),
       );
       never = λ number err. err_at IsFault c.write.result (At number fault.Write) cause err;
-      left = on_err_then c.write.result
+      left = on_err_weaker c.write.result
           (λ prefix known is. left_by old.held mid.held new.held known names
           (files _ _ _ _ _ _ _ _ ens.opened ens.lists all some known is)
           (parts _ _ _ _ _ _ _ _ ens.opened ens.lists all some known is) output text same
@@ -236,7 +237,7 @@ returns-clause-asked g c =
     let few : points_read l.inputs.items < 2 ^ 32 =
     subst (λ (is : List InputSeen). points_read is < 2 ^ 32) c.deref.ensures.value c.in_ok-points.ensures.small in
     let size : SourceSeen → ℕ = λ s. s.size in
-    on_ok_any c.write.result
+    on_ok c.write.result
     (λ known is merged chunks can.
     let files_here = files _ _ _ _ _ _ _ _ ens.opened ens.lists all some known is in
     let parts_here = parts _ _ _ _ _ _ _ _ ens.opened ens.lists all some known is in

@@ -5,12 +5,12 @@ use Rattle.std.proofs.Math.Seq.{take-append-add}
 use Rattle.byteorder.specs.Endian.{little_bytes}
 use Rattle.las_outside.specs.Files.{FileMap, with_file}
 use Rattle.las_outside.specs.Outside.{Outside, with_bytes}
-use Rattle.las_outside.proofs.Public.{on_err}
+use Rattle.las_outside.proofs.Public.{on_err, prefix_of}
 use Rattle.laz_reader.proofs.Public.{after_writes, then_writes}
 use Rattle.laz_file.proofs.Public.{known_after}
 use Rattle.laz_file.specs.Copying.{with_reads}
 use Rattle.las_merge.specs.Appending.{LeavesPrefix, LiesIn, SourceSeen, part_of}
-use Rattle.las_merge.proofs.Appended.{leaves_more, parts_after, prefix_of, reads_now}
+use Rattle.las_merge.proofs.Appended.{leaves_more, parts_after, reads_now}
 use Rattle.las_merge.proofs.copying_chunks.write.Goals as goal
 
 pub returns-in-Err-clause-left : goal.returns-in-Err-clause-left

@@ -1,6 +1,7 @@
 use Rattle.std.proofs.Common.{sym}
-use Rattle.las_merge.proofs.Begun.{fails_under, plain_itself}
+use Rattle.las_merge.proofs.Begun.{fails_under}
 use Rattle.las_merge.proofs.merging.begin.Goals as goal
+use Rattle.laz_forms.proofs.Public.{plain_itself}
 
 pub returns-then-not-packed-clause-ends : goal.returns-then-not-packed-clause-ends
 returns-then-not-packed-clause-ends g c =

@@ -5,11 +5,11 @@ use Rattle.las_outside.specs.Files.{IsMissing, WhereKnown}
 use Rattle.laz_reader.specs.Asking.{AsksAtMost, asked_to_open}
 use Rattle.laz_reader.specs.Reading.{EndsReading, IsNewReader, StandsFor}
 use Rattle.laz_forms.specs.Refusing.{IsRefusal}
+use Rattle.laz_forms.proofs.Public.{not_missing}
 use Rattle.std.specs.Prelude.{Some}
 use Rattle.las_merge.specs.Copying.{IsFaultOf}
 use Rattle.las_merge.specs.Fields.{first_difference}
 use Rattle.las_merge.specs.Opening.{InputSeen, IsItsFile}
-use Rattle.las_merge.proofs.Asked.{not_missing}
 use Rattle.las_merge.proofs.Again.{again_by, fails_again, no_other, no_others, some_none}
 use Rattle.las_merge.proofs.opening.open_again.Goals as goal
 

@@ -7,18 +7,19 @@ use Rattle.las_words.specs.Texts.{texts}
 use Rattle.las_filter.specs.Kept.{steps_of}
 use Rattle.las_outside.specs.Files.{FileMap, WhereKnown}
 use Rattle.laz_reader.specs.Asking.{AsksAtMost, asked_to_open}
-use Rattle.laz_forms.specs.Pieces.{ArePieces, Piece}
+use Rattle.laz_forms.specs.Pieces.{ArePieces, Piece, bytes_in}
 use Rattle.laz_forms.specs.Ranges.{parts_of}
 use Rattle.laz_reader.specs.Reading.{StandsFor}
 use Rattle.laz_forms.specs.Refusing.{IsAcceptedFile}
-use Rattle.las_run.specs.Asking.{bytes_in, in_first_reading}
+use Rattle.laz_forms.proofs.Public.{known_then}
+use Rattle.las_run.specs.Asking.{in_first_reading}
 use Rattle.las_run.specs.Ends.{Change, EndsCommand, quiet}
 use Rattle.las_run.specs.Runs.{task_with}
 use Rattle.las_run.specs.Tools.{Converts, ConvertsIn, chunk_if, las2las_options, range_in, sieve_in}
 use Rattle.las_run.proofs.Asking.{asks_both, asks_nothing, asks_opening}
 use Rattle.las_run.proofs.Commands.{reads_one}
 use Rattle.las_run.proofs.Endings.{left_before}
-use Rattle.las_run.proofs.Opening.{ends_making, ends_opening, known_more, making_after}
+use Rattle.las_run.proofs.Opening.{ends_making, ends_opening, making_after}
 use Rattle.las_run.proofs.Reporting.{chosen, distinct, holds_of_chosen, there}
 use Rattle.las_run.proofs.las2las.las2las.Goals as goal
 
@@ -93,7 +94,7 @@ returns-clause-ends g c =
     c.select.ensures.ends in
     let ends = making_after (Converts taps input options) input new out out_now old mid h.reads.held h.calm.reads
     h.reads.writes outcome made in
-    let accepted = known_more old.held input (StandsFor r) IsAcceptedFile (λ file s. s.accepted) h.stands in
+    let accepted = known_then old.held input (StandsFor r) IsAcceptedFile (λ file s. s.accepted) h.stands in
     ends_making (task_with taps asked) input (Converts taps input options)
     (reads_one taps input (las2las options) c.args.machine.workers) change accepted outcome ends
 

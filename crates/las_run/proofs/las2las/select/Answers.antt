@@ -4,7 +4,8 @@ use Rattle.las_filter.specs.Kept.{steps_of}
 use Rattle.las_info.specs.Tallies.{TapSeen}
 use Rattle.laz_reader.specs.Asking.{asked_to_open}
 use Rattle.laz_forms.specs.Ranges.{parts_of}
-use Rattle.las_run.specs.Asking.{bytes_in, in_first_reading}
+use Rattle.laz_forms.specs.Pieces.{bytes_in}
+use Rattle.las_run.specs.Asking.{in_first_reading}
 use Rattle.las_run.specs.Ends.{Change, EndsCommand}
 use Rattle.las_run.specs.Tools.{ConvertsTaken, range_in}
 use Rattle.las_run.proofs.Asking.{asks_selected, asks_stopped}

@@ -5,12 +5,13 @@ use Rattle.las_words.specs.Asked.{Asked, lasinfo, reads}
 use Rattle.las_words.specs.Texts.{texts}
 use Rattle.laz_reader.specs.Reading.{StandsFor}
 use Rattle.laz_forms.specs.Refusing.{IsAcceptedFile}
+use Rattle.laz_forms.proofs.Public.{known_then}
 use Rattle.las_run.specs.Ends.{Change, EndsCommand}
 use Rattle.las_run.specs.Runs.{task_with}
 use Rattle.las_run.specs.Tools.{Reports}
 use Rattle.las_run.proofs.Asking.{asks_all, asks_opening}
 use Rattle.las_run.proofs.Commands.{reads_one}
-use Rattle.las_run.proofs.Opening.{ends_making, ends_opening, known_more, making_after}
+use Rattle.las_run.proofs.Opening.{ends_making, ends_opening, making_after}
 use Rattle.las_run.proofs.lasinfo.lasinfo.Goals as goal
 
 pub returns-in_err-reader-clause-ends : goal.returns-in_err-reader-clause-ends
@@ -52,7 +53,7 @@ returns-clause-ends g c =
     c.inform.ensures.ends in
     let ends = making_after (Reports taps input tallies) input new out out_now old mid h.reads.held h.calm.reads
     h.reads.writes c.inform.result made in
-    let accepted = known_more old.held input (StandsFor r) IsAcceptedFile (λ file s. s.accepted) h.stands in
+    let accepted = known_then old.held input (StandsFor r) IsAcceptedFile (λ file s. s.accepted) h.stands in
     ends_making (task_with taps asked) input (Reports taps input (texts c.args.tallies.now))
     (reads_one taps input (lasinfo (record { tallies = texts c.args.tallies.now })) c.args.machine.workers) change
     accepted c.inform.result ends

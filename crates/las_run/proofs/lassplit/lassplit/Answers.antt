@@ -5,6 +5,7 @@ use Rattle.las_thin.specs.declared.pick.Pick.TheVariants.{First}
 use Rattle.las_words.specs.Asked.{Asked, LassplitOptions, lassplit, reads}
 use Rattle.laz_reader.specs.Reading.{StandsFor}
 use Rattle.laz_forms.specs.Refusing.{IsAcceptedFile}
+use Rattle.laz_forms.proofs.Public.{known_then}
 use Rattle.las_run.specs.declared.stop.Stop.{Stop}
 use Rattle.las_run.specs.Ends.{Ends, EndsCommand, cause_of, quiet, stopped_by}
 use Rattle.las_run.specs.Runs.{task_with}
@@ -12,7 +13,7 @@ use Rattle.las_run.specs.Tools.{Splits}
 use Rattle.las_run.proofs.Asking.{asks_all, asks_opening}
 use Rattle.las_run.proofs.Commands.{reads_one}
 use Rattle.las_run.proofs.Endings.{left_before}
-use Rattle.las_run.proofs.Opening.{ends_making, ends_opening, known_more, making_after}
+use Rattle.las_run.proofs.Opening.{ends_making, ends_opening, making_after}
 use Rattle.las_run.proofs.lassplit.lassplit.Goals as goal
 
 pub returns-in_err-reader-clause-ends : goal.returns-in_err-reader-clause-ends
@@ -52,7 +53,7 @@ returns-clause-ends g c =
     let asked : Asked = record { work = reads input (lassplit options); workers = c.args.machine.workers } in
     let outcome = stopped_by 0 c.write_parts.result in
     let names = c.in-Ok.names in
-    let accepted = known_more old.held input (StandsFor r) IsAcceptedFile (λ file s. s.accepted) h.stands in
+    let accepted = known_then old.held input (StandsFor r) IsAcceptedFile (λ file s. s.accepted) h.stands in
     λ taps out.
     let made = subst (λ (e : List ℕ). EndsCommand (Splits input stem e rule) input (quiet mid new out) outcome)
     c.in-Ok.ensures.end

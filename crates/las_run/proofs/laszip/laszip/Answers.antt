@@ -4,13 +4,14 @@ use Rattle.las_thin.specs.declared.pick.Pick.TheVariants.{First}
 use Rattle.las_words.specs.Asked.{Asked, LaszipOptions, laszip, reads}
 use Rattle.laz_reader.specs.Reading.{StandsFor}
 use Rattle.laz_forms.specs.Refusing.{IsAcceptedFile}
+use Rattle.laz_forms.proofs.Public.{known_then}
 use Rattle.las_run.specs.declared.stop.Stop.{Stop}
 use Rattle.las_run.specs.Ends.{Ends, EndsCommand, cause_of, quiet, stopped_by}
 use Rattle.las_run.specs.Runs.{task_with}
 use Rattle.las_run.specs.Tools.{Zips}
 use Rattle.las_run.proofs.Asking.{asks_all, asks_opening}
 use Rattle.las_run.proofs.Commands.{reads_one}
-use Rattle.las_run.proofs.Opening.{ends_making, ends_opening, known_more, making_after}
+use Rattle.las_run.proofs.Opening.{ends_making, ends_opening, making_after}
 use Rattle.las_run.proofs.laszip.laszip.Goals as goal
 
 pub returns-in_err-reader-clause-ends : goal.returns-in_err-reader-clause-ends
@@ -37,7 +38,7 @@ returns-clause-ends g c =
     let options : LaszipOptions = record { output = output; chunk = chunk } in
     let asked : Asked = record { work = reads input (laszip options); workers = c.args.machine.workers } in
     let named : r.name ≡ input = h.fresh.named in
-    let accepted = known_more old.held input (StandsFor r) IsAcceptedFile (λ file s. s.accepted) h.stands in
+    let accepted = known_then old.held input (StandsFor r) IsAcceptedFile (λ file s. s.accepted) h.stands in
     λ taps out.
     let outcome = stopped_by 0 c.zip.result in
     let made = subst (λ (n : List ℕ). EndsCommand (Zips n output chunk) n (quiet mid new out) outcome) named

@@ -1,11 +1,12 @@
 use Rattle.std.proofs.Common.{◌≡◌, ◌+◌, ◌≤◌, length, take, arith}
 use Rattle.laz_forms.specs.declared.fault.Fault.TheVariants.{Write}
 use Rattle.laz_forms.proofs.Public.{if_err}
-use Rattle.laz_file.proofs.Public.{on_err}
-use Rattle.las_split.specs.Sorting.{cut_all, task_in}
+use Rattle.las_split.specs.Sorting.{task_in}
 use Rattle.las_split.proofs.Blocks.{fit_here, left_first, takes_all, takes_some}
 use Rattle.las_split.proofs.SomeRecords.{some_pushed}
 use Rattle.las_split.proofs.copying.split_block.Goals as goal
+use Rattle.las_outside.proofs.Public.{on_err}
+use Rattle.las_header.specs.Plain.{cut_all}
 
 pub push_parts-requires-clause-parts : goal.push_parts-requires-clause-parts
 push_parts-requires-clause-parts g c κs lives =

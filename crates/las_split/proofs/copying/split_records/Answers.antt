@@ -5,16 +5,17 @@ use Rattle.las_header.specs.Fields.{is_packed, record_length_of}
 use Rattle.las_header.specs.Vlrs.{laszip_vlrs_of}
 use Rattle.las_header.specs.Heads.{HeadView}
 use Rattle.las_header.specs.declared.refusal.Refusal.{Refusal}
-use Rattle.las_outside.proofs.Public.{calm-refl, calm-trans, later-refl, later-trans}
+use Rattle.las_header.specs.Plain.{cut_all}
+use Rattle.las_header.proofs.Public.{cut_length}
+use Rattle.las_outside.proofs.Public.{calm-refl, calm-trans, later-refl, later-trans, on_err}
 use Rattle.laz_forms.proofs.Public.{if_err}
 use Rattle.laz_reader.specs.Turns.{ComesTo, HoldFirst}
 use Rattle.laz_reader.proofs.Public.{come_first, next_may, none_come}
-use Rattle.laz_file.proofs.Public.{calm_ok, end_err, end_ok, cause_since, on_err}
-use Rattle.las_split.specs.Sorting.{EndsSplitting, HasRoom, InParts, LeavesBlock, TakesBlock, cut_all, task_of}
+use Rattle.laz_file.proofs.Public.{calm_ok, end_err, end_ok, cause_since}
+use Rattle.las_split.specs.Sorting.{EndsSplitting, HasRoom, InParts, LeavesBlock, TakesBlock, task_of}
 use Rattle.las_split.proofs.BatchesTaken.{cut_come, head_some, left_whole, none_yet, parts_apart, parts_held, parts_none, room_come}
 use Rattle.las_split.proofs.Blocks.{left_then, next_fits, takes_then}
 use Rattle.las_split.proofs.SomeRecords.{never_write}
-use Rattle.las_split.proofs.SortingPoints.{cut_length}
 use Rattle.las_split.proofs.copying.split_records.Goals as goal
 
 pub turns-init : goal.turns-init

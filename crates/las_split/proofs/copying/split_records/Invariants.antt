@@ -2,11 +2,12 @@ use Rattle.std.proofs.Common.{◌≡◌, ◌+◌, ◌≤◌, ℕ, List, length}
 use Rattle.std.specs.Prelude.{unwrap_or}
 use Rattle.std.specs.List.{concat}
 use Rattle.las_header.specs.Fields.{record_length_of}
+use Rattle.las_header.specs.Plain.{cut_all}
 use Rattle.las_outside.specs.Frames.{IsCalm}
 use Rattle.las_outside.specs.Outside.{Later}
 use Rattle.laz_reader.specs.Asking.{bytes_left}
 use Rattle.laz_reader.specs.Turns.{HasComeTo, blocks_left}
-use Rattle.las_split.specs.Sorting.{InParts, cut_all, task_of}
+use Rattle.las_split.specs.Sorting.{InParts, task_of}
 use Rattle.las_split.proofs.copying.split_records.Given as goal
 
 abbrev pub invariant-turns : goal.invariant-turns

@@ -3,9 +3,9 @@ use Rattle.las_outside.specs.Outside.{Outside, with_bytes}
 use Rattle.laz_forms.specs.Outputs.{finished}
 use Rattle.laz_writer.specs.Writing.{WriterSeen}
 use Rattle.laz_forms.specs.declared.fault.Fault.TheVariants.{Write}
-use Rattle.las_outside.proofs.Public.{calm-refl, calm-trans, only_writes-refl, only_writes-trans}
+use Rattle.las_outside.proofs.Public.{calm-refl, calm-trans, only_writes-refl, only_writes-trans, on_err}
 use Rattle.laz_forms.proofs.Public.{if_err}
-use Rattle.laz_file.proofs.Public.{held_after, on_err}
+use Rattle.laz_file.proofs.Public.{held_after}
 use Rattle.las_split.specs.Files.{with_files}
 use Rattle.las_split.specs.Parts.{numbers_of_parts}
 use Rattle.las_split.specs.Sorting.{bytes_at, output_at}

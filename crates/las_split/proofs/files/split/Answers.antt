@@ -1,5 +1,6 @@
 use Rattle.std.proofs.Common.{◌≡◌, ℕ, ◌*◌, List, Option, Some, None, refl, sym, ◌∙◌, ap, subst}
 use Rattle.std.specs.Prelude.{unwrap_or, string_bytes}
+use Rattle.std.proofs.lemmas.Result.{IfOk-weaker, IfErr-weaker, on_ok_weaker}
 use Rattle.las_header.specs.declared.refusal.Refusal.{Refusal}
 use Rattle.las_header.specs.Heads.{HeadView, IsHead}
 use Rattle.las_header.specs.Plain.{plain_of}
@@ -7,10 +8,10 @@ use Rattle.las_outside.specs.Files.{FileMap, WhereKnown}
 use Rattle.las_outside.specs.Frames.{IsCalm}
 use Rattle.laz_forms.specs.declared.fault.Fault.TheVariants.{Memory}
 use Rattle.laz_reader.specs.Reading.{ReaderSeen, StandsFor}
-use Rattle.laz_forms.proofs.Public.{known_both, known_then, if_err_weaker, if_ok_weaker}
+use Rattle.laz_forms.proofs.Public.{known_both, known_then}
 use Rattle.laz_reader.proofs.Public.{then_writes}
 use Rattle.laz_file.specs.Endings.{OutputFile}
-use Rattle.laz_file.proofs.Public.{cause_since, ends_err, left_before, ok_then, stands_ready}
+use Rattle.laz_file.proofs.Public.{cause_since, ends_err, left_before, stands_ready}
 use Rattle.las_split.specs.Files.{with_files}
 use Rattle.las_split.specs.Outputs.{LeavesParts, Splits, all_finished, all_stopped, outputs_under, part_files}
 use Rattle.las_split.specs.Parts.{numbers_of_parts}
@@ -132,16 +133,16 @@ returns-in-None-clause-ends g c =
     let h = c.finish_all.ensures in
     let calm = c.in_ok-parts.ensures.calm in
     ends_finishing stem end rule first.name before after _ c.finish_all.result
-    (if_ok_weaker _ _ c.finish_all.result
+    (IfOk-weaker c.finish_all.result _ _
     (λ numbers x.
     known_both old first.name (StandsFor first) (λ file. OnlySplits rule file e.0 None)
     (λ file. (records : List (List ℕ)) × OnlySplits rule file records None × (new ≡ with_files old (all_finished (part_files stem end rule file records))))
     (λ file st o. (e.0, o, x.1 ∙ ap (λ (ps : List OutputFile). with_files old (all_finished ps)) (files_are task first file e.0 same st))) c.requires.stands e.2)
     (h.finished task old e.0 e.1))
-    (ok_then c.finish_all.result (λ (k : IsCalm between after). record { reads = k.reads ∙ calm.reads; writes = k.writes ∙ calm.writes }) h.calm)
-    (if_err_weaker _ _ c.finish_all.result (λ fault k. cause_since before between after fault calm.reads calm.writes k) h.cause)
+    (on_ok_weaker c.finish_all.result (λ (k : IsCalm between after). record { reads = k.reads ∙ calm.reads; writes = k.writes ∙ calm.writes }) h.calm)
+    (IfErr-weaker c.finish_all.result _ _ (λ fault k. cause_since before between after fault calm.reads calm.writes k) h.cause)
     (err_if _ c.finish_all.result (λ fault l. turn new (only_leaves task old new first.name e.0 None e.2 l)) (h.left task old e.0 e.1))
-    (if_err_weaker _ _ c.finish_all.result (λ fault k is. only_some rule old first.name e.0 None e.2 (k is)) (h.some task old e.0 e.1))
+    (IfErr-weaker c.finish_all.result _ _ (λ fault k is. only_some rule old first.name e.0 None e.2 (k is)) (h.some task old e.0 e.1))
 
 pub returns-in-None-clause-numbers : goal.returns-in-None-clause-numbers
 returns-in-None-clause-numbers g c =
@@ -165,7 +166,7 @@ returns-in-None-clause-numbers g c =
     let d = c.in_ok-parts.ensures.takes in
     let ends = subst (EndsSplitting old reader d.0 d.2) c.in-None.is d.5 in
     let e = splits_end task old first reader (2 * c.hands-hands.result) ready c.requires.new.whole head c.requires.stands d.0 d.1 d.3 mid ns ws d.2 None d.4 ends in
-    if_ok_weaker _ _ c.finish_all.result
+    IfOk-weaker c.finish_all.result _ _
     (λ numbers x.
     known_then old first.name (λ file. OnlySplits rule file e.0 None)
     (λ file. (records : List (List ℕ)) × OnlySplits rule file records None × (numbers.items ≡ numbers_of_parts rule records))

@@ -1,6 +1,5 @@
 use Rattle.std.proofs.Common.{◌≤◌, ℕ, List, length, refl, sym, ◌∙◌, ap, subst, arith}
-use Rattle.las_outside.proofs.Public.{calm-refl, calm-trans, only_writes-refl, only_writes-trans}
-use Rattle.laz_file.proofs.Public.{on_err}
+use Rattle.las_outside.proofs.Public.{calm-refl, calm-trans, only_writes-refl, only_writes-trans, on_err}
 use Rattle.las_split.specs.Sorting.{AreGathered}
 use Rattle.las_header.specs.Fields.{record_length_of}
 use Rattle.las_split.proofs.PushedParts.{all_size, pushed_first, pushed_last}

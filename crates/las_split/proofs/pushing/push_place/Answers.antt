@@ -1,9 +1,10 @@
 use Rattle.std.proofs.Common.{◌≡◌, ◌≤◌, ◌%◌, ◌+◌, ◌*◌, ℕ, List, [], ◌++◌, length, take, get_or, sym, ◌∙◌, ap, subst, arith}
 use Rattle.laz_forms.specs.Outputs.{front, stopped}
 use Rattle.laz_writer.specs.Writing.{WriterSeen}
-use Rattle.laz_file.proofs.Public.{held_after, on_err}
+use Rattle.laz_file.proofs.Public.{held_after}
 use Rattle.las_outside.specs.Files.{with_file}
 use Rattle.las_outside.specs.Outside.{with_bytes}
+use Rattle.las_outside.proofs.Public.{on_err}
 use Rattle.las_split.specs.Sorting.{IsWriter, bytes_at, output_at, text_of}
 use Rattle.las_split.proofs.PushedParts.{bytes_more, bytes_same, even_for, next_here, next_writer, no_bytes, no_writer, pushed_left, pushed_none, pushed_one, room_for, text_at, texts_length, took}
 use Rattle.las_split.proofs.Standing.{stands_here}

@@ -2,10 +2,10 @@ use Rattle.std.proofs.Common.{◌≡◌, sym, subst, arith, ◌/◌, length}
 use Rattle.std.specs.Prelude.{All}
 use Rattle.las_filter.specs.declared.rule.Rule.{Rule}
 use Rattle.las_split.specs.Parts.{numbers_from}
-use Rattle.las_split.specs.Sorting.{cut_all}
 use Rattle.las_split.proofs.Runs.{every_all}
-use Rattle.las_split.proofs.SortingPoints.{cut_length}
 use Rattle.las_split.proofs.running.all_have.Goals as goal
+use Rattle.las_header.specs.Plain.{cut_all}
+use Rattle.las_header.proofs.Public.{cut_length}
 
 pub returns-in-Every : goal.returns-in-Every
 returns-in-Every c holds =

@@ -1,8 +1,8 @@
 use Rattle.std.proofs.Common.{◌≡◌, ◌+◌, ◌∙◌, sym, arith}
 use Rattle.las_split.specs.Parts.{number_by}
 use Rattle.las_split.proofs.Runs.{number_all, number_more}
-use Rattle.las_split.proofs.SortingPoints.{rest_next}
 use Rattle.las_split.proofs.running.each_has.Goals as goal
+use Rattle.laz_forms.proofs.Public.{rest_next}
 
 pub loop-turn-preserved : goal.loop-turn-preserved
 loop-turn-preserved c =

@@ -1,11 +1,11 @@
 use Rattle.std.proofs.Common.{◌≡◌, inl, inr, ℕ, ◌<◌, ◌^◌, List, ◌++◌, ◌∷◌, [], append_assoc, length, map, slice_get, refl, sym, ◌∙◌, ap, subst, arith}
 use Rattle.laz_writer.specs.Writing.{WriterSeen}
-use Rattle.laz_file.proofs.Public.{on_err}
 use Rattle.las_split.specs.declared.limits.TheConstants.{MAX_PARTS}
 use Rattle.las_split.specs.Sorting.{InParts, bytes_at, task_in}
 use Rattle.las_split.proofs.Placing.{at_end, in_new, leaves_here, left_new, text_new, too_many}
 use Rattle.las_split.proofs.Standing.{writers_length}
 use Rattle.las_split.proofs.sorting.open_place.Goals as goal
+use Rattle.las_outside.proofs.Public.{on_err}
 
 pub returns-then-place-ge-MAX_PARTS-clause-opened : goal.returns-then-place-ge-MAX_PARTS-clause-opened
 returns-then-place-ge-MAX_PARTS-clause-opened g c was opened written more point i is whole =

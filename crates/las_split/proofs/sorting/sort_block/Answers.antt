@@ -1,18 +1,19 @@
 use Rattle.std.proofs.Common.{◌≡◌, ℕ, List, [], ◌+◌, ◌*◌, ◌%◌, ◌<◌, ◌≤◌, ◌/◌, ◌++◌, length, refl, sym, ap, subst, ◌∙◌, append_assoc, length-append, arith}
 use Rattle.std.proofs.lemmas.List.{append-nil}
-use Rattle.las_outside.proofs.Public.{calm-refl, calm-trans, only_writes-refl, only_writes-trans}
+use Rattle.las_outside.proofs.Public.{calm-refl, calm-trans, only_writes-refl, only_writes-trans, on_err}
 use Rattle.laz_forms.proofs.Public.{whole_both, if_err}
 use Rattle.laz_writer.proofs.Public.{cut-append}
-use Rattle.laz_file.proofs.Public.{on_err}
 use Rattle.laz_forms.specs.declared.fault.Fault.TheVariants.{Write}
-use Rattle.las_split.specs.Sorting.{cut_all, task_in}
+use Rattle.las_split.specs.Sorting.{task_in}
 use Rattle.las_split.specs.Steps.{AreSorted}
 use Rattle.las_split.proofs.BatchesTaken.{none_yet}
-use Rattle.las_split.proofs.Blocks.{cut_none, next_fits}
+use Rattle.las_split.proofs.Blocks.{next_fits}
 use Rattle.las_split.proofs.PushedParts.{no_bytes}
 use Rattle.las_split.proofs.Runs.{block_done, cut_three, group_done, group_joined, group_left, group_less, group_room, group_whole, none_whole, whole_further}
-use Rattle.las_split.proofs.SortingPoints.{cut_length, left_none, sorted_none}
+use Rattle.las_split.proofs.SortingPoints.{left_none, sorted_none}
 use Rattle.las_split.proofs.sorting.sort_block.Goals as goal
+use Rattle.las_header.specs.Plain.{cut_all}
+use Rattle.las_header.proofs.Public.{cut_length, cut_none}
 
 pub returns-in_err-begin-clause-left : goal.returns-in_err-begin-clause-left
 returns-in_err-begin-clause-left g c was records i at =

@@ -1,9 +1,10 @@
 use Rattle.std.proofs.Common.{◌≡◌, ◌%◌, ◌++◌, ℕ, List, Option, length}
 use Rattle.las_outside.specs.Files.{FileMap}
 use Rattle.las_outside.specs.Frames.{IsCalm, OnlyWrites}
-use Rattle.las_split.specs.Sorting.{cut_all, task_in}
+use Rattle.las_split.specs.Sorting.{task_in}
 use Rattle.las_split.specs.Steps.{AreIn, AreSorted}
 use Rattle.las_split.proofs.sorting.sort_block.Given as goal
+use Rattle.las_header.specs.Plain.{cut_all}
 
 abbrev pub invariant-groups : goal.invariant-groups
 invariant-groups g l = record {

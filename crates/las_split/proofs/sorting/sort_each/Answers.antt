@@ -1,13 +1,14 @@
 use Rattle.std.proofs.Common.{◌≡◌, ℕ, ◌*◌, ◌<◌, ◌≤◌, ◌/◌, ◌++◌, true, false, length, take, drop, sym, ap, subst, arith}
-use Rattle.las_outside.proofs.Public.{calm-refl, calm-trans, only_writes-refl, only_writes-trans}
-use Rattle.laz_forms.proofs.Public.{if_err}
-use Rattle.laz_file.proofs.Public.{on_err}
+use Rattle.las_outside.proofs.Public.{calm-refl, calm-trans, only_writes-refl, only_writes-trans, on_err}
+use Rattle.laz_forms.proofs.Public.{if_err, rest_next}
 use Rattle.laz_forms.specs.declared.fault.Fault.TheVariants.{Write}
-use Rattle.las_split.specs.Sorting.{SortsPoint, cut_all, task_in}
+use Rattle.las_split.specs.Sorting.{SortsPoint, task_in}
 use Rattle.las_split.specs.Steps.{SortsMore}
 use Rattle.las_split.proofs.Runs.{each_all, each_left, each_less, each_more, each_none, each_place}
-use Rattle.las_split.proofs.SortingPoints.{cut_length, index_fits, rest_next}
+use Rattle.las_split.proofs.SortingPoints.{index_fits}
 use Rattle.las_split.proofs.sorting.sort_each.Goals as goal
+use Rattle.las_header.specs.Plain.{cut_all}
+use Rattle.las_header.proofs.Public.{cut_length}
 
 pub loop-turn-init : goal.loop-turn-init
 loop-turn-init g c = record {

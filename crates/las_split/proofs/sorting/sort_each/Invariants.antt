@@ -1,9 +1,10 @@
 use Rattle.std.proofs.Common.{◌≡◌, ◌+◌, ◌*◌, ◌++◌, ℕ, List, Option, drop, length, take}
 use Rattle.las_outside.specs.Files.{FileMap}
 use Rattle.las_outside.specs.Frames.{IsCalm, OnlyWrites}
-use Rattle.las_split.specs.Sorting.{cut_all, task_in}
+use Rattle.las_split.specs.Sorting.{task_in}
 use Rattle.las_split.specs.Steps.{AreSorted}
 use Rattle.las_split.proofs.sorting.sort_each.Given as goal
+use Rattle.las_header.specs.Plain.{cut_all}
 
 abbrev pub invariant-loop-turn : goal.invariant-loop-turn
 invariant-loop-turn g l = record {

@@ -1,9 +1,10 @@
-use Rattle.laz_file.proofs.Public.{on_err}
-use Rattle.las_split.specs.Sorting.{cut_all, task_in, text_of}
+use Rattle.las_split.specs.Sorting.{task_in, text_of}
 use Rattle.las_split.proofs.Blocks.{next_fits}
 use Rattle.las_split.proofs.Runs.{group_unsorted, run_taken}
 use Rattle.las_split.proofs.SortingPoints.{place_within}
 use Rattle.las_split.proofs.sorting.sort_group.Goals as goal
+use Rattle.las_outside.proofs.Public.{on_err}
+use Rattle.las_header.specs.Plain.{cut_all}
 
 pub all_have-requires-clause-index : goal.all_have-requires-clause-index
 all_have-requires-clause-index g c = next_fits (task_in c.args.splitter.now) c.args.splitter.now.size c.args.index c.args.group.now c.requires.room

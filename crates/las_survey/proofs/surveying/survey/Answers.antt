@@ -1,9 +1,10 @@
 use Rattle.std.proofs.Common.{List, ℕ, ◌*◌, refl, sym, ap, subst}
+use Rattle.std.proofs.lemmas.Result.{IfOk-weaker}
 use Rattle.las_outside.specs.Files.{WhereKnown}
 use Rattle.las_outside.specs.Frames.{Reads}
 use Rattle.laz_reader.specs.Asking.{bytes_left}
 use Rattle.laz_reader.specs.Reading.{ReaderSeen, StandsFor}
-use Rattle.laz_forms.proofs.Public.{if_ok_weaker, known_then}
+use Rattle.laz_forms.proofs.Public.{known_then}
 use Rattle.laz_forms.specs.declared.fault.Fault.TheVariants.{Memory}
 use Rattle.laz_file.proofs.Public.{ends_err, stands_ready}
 use Rattle.las_survey.specs.Surveying.{Surveys}
@@ -22,7 +23,7 @@ show_records-requires-clause-stands g c κs within =
 pub returns-clause-surveyed : goal.returns-clause-surveyed
 returns-clause-surveyed g c =
     let old = g.F.Files.seen c.args.files.now in
-    if_ok_weaker _ _ c.show_records.result
+    IfOk-weaker c.show_records.result _ _
     (λ survey h. all_shown old.held c.args.reader.now c.crew.new.self (2 * c.hands-hands.result) h.0 _ _
     c.requires.new.whole c.in_ok-crew.ensures.kept c.requires.stands h.1 h.2) c.show_records.ensures.shown
 
@@ -49,7 +50,7 @@ returns-clause-ends g c =
     let h = c.show_records.ensures in
     ends_surveying first.name (StandsFor first) old (g.F.Files.seen c.show_records.new.files) c.requires.stands
     h.reads.only.held c.show_records.result
-    (if_ok_weaker _ _ c.show_records.result
+    (IfOk-weaker c.show_records.result _ _
     (λ survey k. known_then old.held first.name _ _ (λ file n. (n.0, n.1))
     (all_shown old.held first ready buffers k.0 _ _ c.requires.new.whole is c.requires.stands k.1 k.2)) h.shown)
     (λ cause e. let k = h.bad cause e in bad_shown old.held first ready buffers k.0 k.1 cause c.requires.new.whole is c.requires.stands k.2 k.3)

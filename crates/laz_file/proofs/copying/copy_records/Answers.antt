@@ -1,13 +1,13 @@
 use Rattle.std.proofs.Common.{◌+◌, [], ◌∷◌, ◌++◌, Err, sym, ◌∙◌, ap, subst, arith}
 use Rattle.std.specs.List.{concat}
-use Rattle.las_outside.proofs.Public.{calm-refl, calm-trans, later-refl, later-trans}
+use Rattle.las_outside.proofs.Public.{calm-refl, calm-trans, later-refl, later-trans, on_err}
 use Rattle.laz_forms.proofs.Public.{if_err, on_ok}
 use Rattle.laz_reader.specs.Asking.{bytes_left}
 use Rattle.laz_reader.specs.Turns.{ComesTo}
 use Rattle.laz_reader.proofs.Public.{come_first, concat_last, lent_turn, next_may, none_come}
 use Rattle.laz_file.specs.Copying.{HasTaken, LeavesPart}
 use Rattle.laz_file.proofs.Copies.{calm_ok, end_err, end_ok}
-use Rattle.laz_file.proofs.Taking.{cause_since, on_err, part_stands}
+use Rattle.laz_file.proofs.Taking.{cause_since, part_stands}
 use Rattle.laz_file.proofs.Writers.{read_between, room_for_all, taken_apart, taken_none}
 use Rattle.laz_file.proofs.copying.copy_records.Goals as goal
 

@@ -1,10 +1,11 @@
 use Rattle.std.proofs.Common.{◌≡◌, ℕ, List, ◌++◌, sym, ◌∙◌, subst}
 use Rattle.std.specs.Prelude.{OnErr, OnOk}
+use Rattle.std.proofs.lemmas.Result.{on_err_weaker}
 use Rattle.laz_forms.proofs.Public.{on_ok_both}
 use Rattle.laz_reader.proofs.Public.{lent_is}
 use Rattle.laz_file.specs.Copying.{HasRoomFor, HasTaken, LeavesPart}
 use Rattle.laz_file.proofs.Taking.{part_then, push_part, push_takes}
-use Rattle.laz_file.proofs.Writers.{begun_now, even_now, on_err_then, room_now, takes_block}
+use Rattle.laz_file.proofs.Writers.{begun_now, even_now, room_now, takes_block}
 use Rattle.laz_file.proofs.copying.push_lent.Goals as goal
 
 -- ---- the block of a plain file
@@ -50,7 +51,7 @@ returns-in-None-clause-part g c first old records block t lends =
     let reader = c.args.reader.now in
     let is = lent_is reader c.args.crew.now c.args.number block (sym c.chunk.ensures ∙ c.in-None.is) lends in
     subst (λ (b : List ℕ). OnErr c.push_plain.result (LeavesPart old new first (records ++ b))) (sym is)
-    (on_err_then c.push_plain.result (part_then old mid new first w records reader.lent t.takes) c.push_plain.ensures.part)
+    (on_err_weaker c.push_plain.result (part_then old mid new first w records reader.lent t.takes) c.push_plain.ensures.part)
 
 -- ---- a block of a packed file
 
@@ -94,4 +95,4 @@ returns-in-Some-clause-part g c first old records block t lends =
     let w = c.args.writer.now in
     let is : block ≡ c.block.result.now = sym (c.block.ensures lends.0 lends.1 lends.2 ∙ lends.3) in
     subst (λ (b : List ℕ). OnErr c.push.result (LeavesPart old new first (records ++ b))) (sym is)
-    (on_err_then c.push.result (part_then old mid new first w records c.block.result.now t.takes) (push_part c.push.result mid new w c.block.result.now c.push.ensures.stopped))
+    (on_err_weaker c.push.result (part_then old mid new first w records c.block.result.now t.takes) (push_part c.push.result mid new w c.block.result.now c.push.ensures.stopped))

@@ -1,9 +1,10 @@
 use Rattle.std.proofs.Common.{◌≡◌, ◌+◌, inl, inr, Bool, ℕ, List, [], ◌++◌, length, take, sym, ◌∙◌, ap, subst}
 use Rattle.std.proofs.Math.Seq.{take-append-add}
+use Rattle.std.proofs.lemmas.Result.{IfErr-weaker}
 use Rattle.byteorder.specs.Endian.{little_bytes}
 use Rattle.las_outside.specs.Outside.{with_bytes}
 use Rattle.laz_writer.specs.Writing.{Stops, pointer_part}
-use Rattle.laz_forms.proofs.Public.{if_err, if_err_weaker, prefix_append}
+use Rattle.laz_forms.proofs.Public.{if_err, prefix_append}
 use Rattle.laz_writer.proofs.begin.put_front.Goals as goal
 
 pub returns-in-Err-clause-stopped : goal.returns-in-Err-clause-stopped
@@ -33,7 +34,7 @@ returns-then-packed-clause-stopped g c =
     let now = g.F.Files.seen c.put-then-packed.new.files in
     let pointer = little_bytes 8 (length head) in
     let all : pointer_part c.args.packed head ≡ pointer = ap (λ (b : Bool). pointer_part b head) c.if-packed.true in
-    if_err_weaker _ _ c.put-then-packed.result (λ e left. inr (
+    IfErr-weaker c.put-then-packed.result _ _ (λ e left. inr (
       length head + left.0,
       subst (λ (t : List ℕ). Stops e (with_bytes old name t) now)
           (ap (λ (t : List ℕ). head ++ take left.0 t) c.pointer_bytes-pointer.ensures.bytes ∙ sym (take-append-add head pointer left.0) ∙ ap (λ (t : List ℕ). take (length head + left.0) (head ++ t)) (sym all)) left.1,

@@ -1,9 +1,9 @@
 use Rattle.std.proofs.Common.{◌≡◌, ℕ, ◌+◌, ◌-◌, ◌*◌, ◌/◌, ◌≤◌, ◌++◌, [], length, ap, arith, refl, subst, ◌∙◌}
+use Rattle.std.proofs.lemmas.Result.{on_ok_weaker}
 use Rattle.las_header.proofs.Public.{left_first}
 use Rattle.las_header.specs.Plain.{cut_records}
 use Rattle.las_info.proofs.Cuts.{Cuts, cuts_none}
 use Rattle.las_info.proofs.Pieces.{count_of, groups_all, groups_fit, none_more, piece_fits, piece_room, piece_shown, piece_taken, rest_shown, whole_of}
-use Rattle.las_info.proofs.Shown.{on_ok_then}
 use Rattle.las_info.proofs.survey.Survey.see_pieces.Goals as goal
 
 pub loop-piece-init : goal.loop-piece-init
@@ -93,6 +93,6 @@ returns g c taps before is =
     let t = c.args.each * c.loop-piece._piece in
     let s = c.loop-piece.invariant.done in
     let rest = c.loop-piece.rest.now in
-    on_ok_then c.see_piece-2.result
+    on_ok_weaker c.see_piece-2.result
     (rest_shown taps before s.0 size n t (length rest / size) c.args.block.now rest (count_of size (n - t) rest (omega (arith, c.requires.size)) c.loop-piece.invariant.left) s.1)
     (c.see_piece-2.ensures taps (before ++ s.0) (s.2 taps before is))

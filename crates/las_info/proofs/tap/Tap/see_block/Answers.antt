@@ -3,8 +3,9 @@ use Rattle.las_header.proofs.Public.{left_first, left_next}
 use Rattle.las_info.specs.Tallies.{shown_all}
 use Rattle.las_info.proofs.Counting.{same_parts, same_tap}
 use Rattle.las_info.proofs.Cuts.{cuts_all, cuts_first, cuts_none, cuts_one}
-use Rattle.las_info.proofs.Shown.{next_shown, on_err, room_next}
+use Rattle.las_info.proofs.Shown.{next_shown, room_next}
 use Rattle.las_info.proofs.tap.Tap.see_block.Goals as goal
+use Rattle.las_outside.proofs.Public.{on_err}
 
 pub loop-turn-init : goal.loop-turn-init
 loop-turn-init g c = record {

@@ -1,8 +1,8 @@
 use Rattle.std.proofs.Common.{◌≡◌, ◌⊎◌, inr, ℕ, List, take, ◌∙◌, subst}
 use Rattle.std.specs.Prelude.{None, true, string_bytes}
 use Rattle.las_outside.specs.Files.{with_file}
+use Rattle.las_outside.proofs.Public.{on_err}
 use Rattle.laz_forms.specs.Outputs.{Output, front}
-use Rattle.laz_file.proofs.Public.{on_err}
 use Rattle.las_split.proofs.Opening.{left_created, left_whole}
 use Rattle.las_split.proofs.parts.Parts.open.Goals as goal
 

@@ -4,11 +4,12 @@ use Rattle.laz_reader.specs.Reading.{AreWholeBlocks, Position, ReaderSeen, piece
 use Rattle.laz_forms.specs.Pieces.{plain_from}
 use Rattle.laz_reader.proofs.Asking.{asked_block, asked_part}
 use Rattle.laz_forms.proofs.Public.{known_as, known_both, known_then}
-use Rattle.laz_reader.proofs.Batches.{block_held, first, first_size, parts, plain_fine, block_is, block_lies, block_rest, block_whole, no_pieces, one_lent, plain_left, stands_plain}
+use Rattle.laz_reader.proofs.Batches.{block_held, first, first_size, parts, plain_fine, block_is, block_lies, block_rest, block_whole, one_lent, plain_left, stands_plain}
 use Rattle.laz_reader.proofs.reader.Reader.next_plain.Goals as goal
+use Rattle.laz_reader.proofs.PiecesRead.{hold_only_none}
 
 pub returns-then-self-eq0-clause-blocks : goal.returns-then-self-eq0-clause-blocks
-returns-then-self-eq0-clause-blocks g c = ([], refl, λ k lt. absurd (omega arith), tt, known_then _ _ _ _ (λ file s. no_pieces file) c.requires.stands)
+returns-then-self-eq0-clause-blocks g c = ([], refl, λ k lt. absurd (omega arith), tt, known_then _ _ _ _ (λ file s. hold_only_none file) c.requires.stands)
 
 pub read_part-requires : goal.read_part-requires
 read_part-requires g c =

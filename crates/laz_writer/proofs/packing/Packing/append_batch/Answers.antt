@@ -1,9 +1,8 @@
 use Rattle.std.proofs.Common.{ℕ, List, ◌++◌, length, ap, subst, arith}
-use Rattle.std.proofs.lemmas.Result.{on_ok_weaker}
+use Rattle.std.proofs.lemmas.Result.{on_ok_weaker, IfErr-weaker}
 use Rattle.las_outside.specs.Outside.{with_bytes}
 use Rattle.laz_writer.specs.Writing.{PackingSeen, Plan, Stops, all_chunks}
 use Rattle.laz_forms.proofs.Public.{on_ok_both}
-use Rattle.laz_forms.proofs.Public.{if_err_weaker}
 use Rattle.laz_writer.proofs.Standing.{flushed, kept_blocks, stopped_in}
 use Rattle.laz_writer.proofs.packing.Packing.append_batch.Goals as goal
 
@@ -22,7 +21,7 @@ pub returns-then-is_full-clause-stopped : goal.returns-then-is_full-clause-stopp
 returns-then-is_full-clause-stopped g c before front bytes s =
     let p = c.args.self.now in
     let now = g.F.Files.seen c.append_kept.new.files in
-    if_err_weaker _ _ c.append_kept.result (λ e left.
+    IfErr-weaker c.append_kept.result _ _ (λ e left.
     let m = stopped_in before _ c.args.name.now front p bytes s left.0 in
     (m.0, subst (λ (t : List ℕ). Stops e (with_bytes before c.args.name.now t) now) m.1 left.1))
     (c.append_kept.ensures.stopped before (front ++ all_chunks p.plan.format s.done) s.file)

@@ -1,12 +1,12 @@
 use Rattle.std.proofs.Common.{◌≡◌, ◌+◌, ℕ, Some, None, List, ◌++◌, length, take, refl, sym, ◌∙◌, ap, subst}
 use Rattle.std.specs.Prelude.{IfErr, OnOk}
-use Rattle.std.proofs.lemmas.Result.{on_ok_weaker}
+use Rattle.std.proofs.lemmas.Result.{on_ok_weaker, IfErr-weaker}
 use Rattle.las_outside.specs.Outside.{Outside, with_bytes}
 use Rattle.laz_forms.specs.Outputs.{front, stopped}
 use Rattle.laz_forms.specs.declared.fault.Fault.{Fault}
 use Rattle.laz_writer.specs.Writing.{PackedStands, PointsStand, Stops, WriterSeen, full_chunks}
 use Rattle.laz_writer.proofs.Arms.{packed_form, packed_more, packed_room, packed_stopped, plain_more, plain_part, plain_text}
-use Rattle.laz_forms.proofs.Public.{if_err, if_err_weaker}
+use Rattle.laz_forms.proofs.Public.{if_err}
 use Rattle.laz_writer.proofs.writer.Writer.append_block.Goals as goal
 
 pub put-requires : goal.put-requires
@@ -38,7 +38,7 @@ returns-in_default-clause-stopped g c before out bytes s room =
     let now = g.F.Files.seen c.put.new.files in
     let records = c.deref.result.now in
     subst (λ (r : List ℕ). IfErr c.put.result (λ (fault : Fault). (n : ℕ) × Stops fault (with_bytes before out.name (take n (stopped out (bytes ++ r)))) now)) c.deref.ensures.value
-    (if_err_weaker _ _ c.put.result (λ e left.
+    (IfErr-weaker c.put.result _ _ (λ e left.
     let m = plain_part before _ w out bytes s none records left.0 in
     (m.0, subst (λ (o : Outside). Stops e o now) (ap (λ (n : List ℕ). with_bytes before n (text ++ take left.0 records)) named ∙ ap (with_bytes before out.name) m.1) left.1)) (c.put.ensures.stopped before text held))
 

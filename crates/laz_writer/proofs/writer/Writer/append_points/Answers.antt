@@ -1,10 +1,10 @@
 use Rattle.std.proofs.Common.{◌≡◌, ◌+◌, ℕ, Some, None, List, ◌++◌, length, take, refl, sym, ◌∙◌, ap, subst}
-use Rattle.std.proofs.lemmas.Result.{on_ok_weaker}
+use Rattle.std.proofs.lemmas.Result.{on_ok_weaker, IfErr-weaker}
 use Rattle.las_outside.specs.Outside.{Outside, with_bytes}
 use Rattle.laz_forms.specs.Outputs.{front}
 use Rattle.laz_writer.specs.Writing.{PackedStands, Stops, WriterSeen, full_chunks}
 use Rattle.laz_writer.proofs.Arms.{packed_form, packed_more, packed_room, packed_stopped, plain_more, plain_part, plain_text}
-use Rattle.laz_forms.proofs.Public.{if_err, if_err_weaker}
+use Rattle.laz_forms.proofs.Public.{if_err}
 use Rattle.laz_writer.proofs.writer.Writer.append_points.Goals as goal
 
 pub put-requires : goal.put-requires
@@ -32,7 +32,7 @@ returns-in_default-clause-stopped g c before out bytes s room =
     let text = front out ++ bytes in
     let held = plain_text before _ w out bytes s none ∙ ap (λ (n : List ℕ). with_bytes before n text) (sym named) in
     let now = g.F.Files.seen c.put.new.files in
-    if_err_weaker _ _ c.put.result (λ e left.
+    IfErr-weaker c.put.result _ _ (λ e left.
     let m = plain_part before _ w out bytes s none c.args.records.now left.0 in
     (m.0, subst (λ (o : Outside). Stops e o now) (ap (λ (n : List ℕ). with_bytes before n (text ++ take left.0 c.args.records.now)) named ∙ ap (with_bytes before out.name) m.1) left.1)) (c.put.ensures.stopped before text held)
 
