@@ -31,11 +31,6 @@ is_first First first = refl
 is_first Lowest first = absurd first
 is_first Highest first = absurd first
 
-pub not_first : (pick : Pick) → (IsFirst pick → ⊥) → picks_first pick ≡ false
-not_first First other = absurd (other tt)
-not_first Lowest other = refl
-not_first Highest other = refl
-
 pub keeps_one_more : KeepsOneMore
 keeps_one_more settings looked plan before point = by (picks_first settings.pick) (first_pick settings.pick)
   where

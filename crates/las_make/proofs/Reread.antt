@@ -63,10 +63,6 @@ module _ (plain packed : List ℕ) (chunk : ℕ) where
   pack_fails old mid new Write same reads writes never read write left part = (subst (λ (n : ℕ). Rose n new.write_faults) writes (write refl), left)
   pack_fails old mid new Memory same reads writes never read write left part = left
 
-pub none_if : (chunk : Option ℕ) → is_some chunk ≡ false → chunk ≡ None
-none_if None e = refl
-none_if (Some n) e = absurd (cc)
-
 -- ---- how much is asked for
 module _ (plain : List ℕ) (chunk : ℕ) (old : Outside) (known : WhereKnown old.held plain (λ file. CanBePacked file chunk)) where
   -- the plain file is opened

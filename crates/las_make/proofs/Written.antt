@@ -12,18 +12,15 @@ use Rattle.las_header.specs.Fields.{is_packed, record_length_of}
 use Rattle.las_header.specs.Heads.{KeepsLayout}
 use Rattle.las_header.specs.Vlrs.{laszip_vlrs_of}
 use Rattle.las_outside.specs.Drafts.{IsUnfinished}
-use Rattle.las_outside.specs.Faults.{Rose}
 use Rattle.las_outside.specs.Outside.{Outside, with_bytes}
 use Rattle.las_points.specs.Tally.{counts_of}
 use Rattle.laz_forms.specs.declared.fault.Fault.{Fault}
-use Rattle.laz_forms.specs.declared.fault.Fault.TheVariants.{Refused, Read, Write, Memory}
 use Rattle.laz_file.specs.Copying.{LeavesUnfinished}
 use Rattle.laz_forms.specs.Outputs.{Output, draft_of, patches_of, stopped}
 use Rattle.laz_writer.specs.Writing.{Stands, Stops, WriterSeen}
 use Rattle.laz_file.proofs.Public.{leaves_part, held_after}
 use Rattle.las_make.specs.declared.settings.Settings.{Settings}
 use Rattle.las_make.specs.Made.{IsInRange, blank_head, made_head, made_length, made_record, made_records, records_from}
-use Rattle.las_make.specs.Making.{FailsWriting}
 use Rattle.las_make.proofs.Blank.{blank-laszip, blank-plain, blank-record_length}
 use Rattle.las_make.proofs.Bytes.{all_length}
 
@@ -80,14 +77,6 @@ pub end_left : (before new : Outside) (out : Output) (records : List ℕ) (fault
     → (left : List ℕ) × IsUnfinished (draft_of out records) (patches_of out records) left
     × Stops fault (with_bytes before out.name left) new → LeavesUnfinished out records before.held new.held
 end_left before new out records fault l = inr (l.0, l.1, held_after fault (with_bytes before out.name l.0) new l.2)
-
--- a call after others that moved no count
-pub fails_since : (old mid new : Outside) (fault : Fault) → mid.write_faults ≡ old.write_faults
-    → FailsWriting mid new fault → FailsWriting old new fault
-fails_since old mid new (Refused cause) same fails = fails
-fails_since old mid new Read same fails = fails
-fails_since old mid new Write same fails = subst (λ (n : ℕ). Rose n new.write_faults) same fails
-fails_since old mid new Memory same fails = fails
 
 -- ---- a block that can be pushed
 

@@ -14,9 +14,6 @@ later-trans a b c ab bc = record {
   asked = omega (arith, ab.asked, bc.asked);
 }
 
-pub only_reads-refl : (a : Outside) → OnlyReads a a
-only_reads-refl a = record { held = refl; writes = refl; later = later-refl a }
-
 pub only_reads-trans : (a b c : Outside) → OnlyReads a b → OnlyReads b c → OnlyReads a c
 only_reads-trans a b c ab bc = record {
   held = bc.held ∙ ab.held;

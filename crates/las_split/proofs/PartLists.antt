@@ -11,9 +11,6 @@ use Rattle.las_split.specs.Parts.{firsts, number_by, numbers_from, numbers_of_pa
 pub has_or_not : (k : ℕ) (ns : List ℕ) → (has k ns ≡ true) ⊎ (has k ns ≡ false)
 has_or_not k ns = cases_Bool (has k ns)
 
-is_itself : (k : ℕ) → (k == k) ≡ true
-is_itself k = eq-eqb k k refl
-
 is_other : (n k : ℕ) → n ≢ k → (n == k) ≡ false
 is_other n k ne = by (n == k) refl
   where

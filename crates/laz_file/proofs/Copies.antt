@@ -1,9 +1,8 @@
 -- Blocks of records that are copied, one after another.
-use Rattle.std.proofs.Common.{◌≡◌, inl, inr, ℕ, ◌+◌, ◌*◌, ◌/◌, ◌%◌, ◌^◌, ◌<◌, ◌≤◌, List, [], ◌∷◌, ◌++◌, length, take, drop, get_or, Option, Some, Result, IfOk, IfErr, OnOk, refl, sym, ◌∙◌, ap, subst, arith}
+use Rattle.std.proofs.Common.{◌≡◌, inl, inr, ℕ, ◌+◌, ◌*◌, ◌/◌, ◌%◌, ◌^◌, ◌<◌, ◌≤◌, List, [], ◌∷◌, ◌++◌, length, take, Option, Some, Result, IfOk, IfErr, OnOk, refl, sym, ◌∙◌, ap, subst, arith}
 use Rattle.std.specs.Prelude.{All}
 use Rattle.std.specs.List.{concat}
 use Rattle.std.proofs.lemmas.Bool.{cases_lt}
-use Rattle.std.proofs.lemmas.List.{append-nil, take-append-drop, take_more}
 use Rattle.std.proofs.Math.Nat.{div-add-mod, mul-le-mul_left}
 use Rattle.las_header.specs.declared.refusal.Refusal.{Refusal}
 use Rattle.las_header.specs.Fields.{record_length_of}
@@ -18,28 +17,10 @@ use Rattle.laz_file.specs.Copying.{CanTake}
 use Rattle.laz_reader.specs.Reading.{AreWholeBlocks, EndsReading, ReaderSeen, records_in}
 use Rattle.laz_reader.specs.Turns.{MayCome}
 use Rattle.laz_writer.specs.Writing.{WriterSeen}
-use Rattle.laz_forms.proofs.Public.{concat-append}
-use Rattle.laz_reader.proofs.Public.{concat_last, even_whole, length_whole, records-append}
+use Rattle.laz_reader.proofs.Public.{concat_last, even_whole}
 use Rattle.laz_writer.proofs.Public.{cut-append}
 
 -- ---- some blocks
-
--- one block more
-pub concat_more : (blocks : List (List ℕ)) (i : ℕ) → i < length blocks → concat (take (i + 1) blocks) ≡ concat (take i blocks) ++ get_or blocks i []
-concat_more blocks i within =
-    ap concat (take_more blocks i [] within) ∙ concat-append (take i blocks) (get_or blocks i [] ∷ []) ∙ ap (λ (t : List ℕ). concat (take i blocks) ++ t) (append-nil (get_or blocks i []))
-
-pub concat_rest : (blocks : List (List ℕ)) (i : ℕ) → concat blocks ≡ concat (take i blocks) ++ concat (drop i blocks)
-concat_rest blocks i = ap concat (sym (take-append-drop i blocks)) ∙ concat-append (take i blocks) (drop i blocks)
-
--- there is room for a batch
-pub room_for : (reader : ReaderSeen) (v : WriterSeen) (m : ℕ) (ys : List (List ℕ)) → CanTake reader v → AreWholeBlocks (record_length_of reader.head.bytes) (take m reader.left) ys → v.taken + length (concat ys) ≤ v.size * v.most
-room_for reader v m ys can whole =
-    let size = record_length_of reader.head.bytes in
-    let all : records_in reader.left ≡ records_in (take m reader.left) + records_in (drop m reader.left) =
-    ap records_in (sym (take-append-drop m reader.left)) ∙ records-append (take m reader.left) (drop m reader.left) in
-    let bytes : length (concat ys) ≡ v.size * records_in (take m reader.left) = length_whole size (take m reader.left) ys whole ∙ ap (λ (n : ℕ). n * records_in (take m reader.left)) (sym can.size) in
-    omega (arith, can.room, bytes, ap (λ (n : ℕ). v.size * n) all)
 
 pub even_for : (reader : ReaderSeen) (v : WriterSeen) (m : ℕ) (ys : List (List ℕ)) → CanTake reader v → AreWholeBlocks (record_length_of reader.head.bytes) (take m reader.left) ys → All (λ block. length block % v.size ≡ 0) ys
 even_for reader v m ys can whole =

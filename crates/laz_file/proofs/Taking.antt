@@ -16,9 +16,8 @@ use Rattle.laz_file.specs.Copying.{LeavesPart, Takes, with_reads}
 use Rattle.laz_forms.specs.FileFaults.{HasCause}
 use Rattle.laz_forms.specs.Outputs.{Output, front, full_points, stopped}
 use Rattle.laz_forms.specs.Packing.{record_layout}
-use Rattle.laz_reader.specs.Reading.{ReaderSeen}
 use Rattle.laz_reader.specs.Turns.{file_at}
-use Rattle.laz_writer.specs.Writing.{PackingSeen, PointsStand, SameFaults, Stands, Stops, WriterSeen, all_chunks, full_blocks}
+use Rattle.laz_writer.specs.Writing.{PackingSeen, PointsStand, Stands, Stops, WriterSeen, all_chunks, full_blocks}
 use Rattle.laz_writer.proofs.Public.{held_text, kept_part, packed_form, plain_stopped}
 use Rattle.laz_writer.proofs.Public.{full_blocks_more, rest_of}
 use Rattle.laz_forms.proofs.Public.{joined-append, prefix_append}
@@ -148,12 +147,6 @@ part_then old mid new w v xs ys one two before out bytes s =
     let p = two (with_reads before mid) out (bytes ++ xs) (one before out bytes s) in
     (p.0, p.1 ∙ ap (λ (t : List ℕ). with_file before.held out.name (take p.0 (stopped out t))) (append_assoc bytes xs ys))
 
-pub part_more : (old new : Outside) (w : WriterSeen) (xs ys : List ℕ) → LeavesPart old new w xs → LeavesPart old new w (xs ++ ys)
-part_more old new w xs ys one before out bytes s =
-    let p = one before out bytes s in
-    let q = prefix_stopped before old w out bytes (bytes ++ xs) ys p.0 s in
-    (q.0, p.1 ∙ ap (λ (t : List ℕ). with_file before.held out.name t) (q.1 ∙ ap (λ (t : List ℕ). take q.0 (stopped out t)) (append_assoc bytes xs ys)))
-
 -- what a call that failed left of the files
 pub held_after : (fault : Fault) (made now : Outside) → Stops fault made now → now.held ≡ made.held
 held_after Memory made now s = ap (λ (o : Outside). o.held) s
@@ -179,12 +172,6 @@ cause_since old mid new (Refused cause) reads writes h = h
 cause_since old mid new Read reads writes h = subst (λ (n : ℕ). Rose n new.read_faults) reads h
 cause_since old mid new Write reads writes h = subst (λ (n : ℕ). Rose n new.write_faults) writes h
 cause_since old mid new Memory reads writes h = h
-
-pub other_name : (now first : ReaderSeen) (name : List ℕ) → now.name ≡ first.name → first.name ≢ name → now.name ≢ name
-other_name now first name same other e = other (sym same ∙ e)
-
-pub calm_trans : (a b c : Outside) → SameFaults a b → SameFaults b c → SameFaults a c
-calm_trans a b c ab bc = record { reads = bc.reads ∙ ab.reads; writes = bc.writes ∙ ab.writes; asked = bc.asked ∙ ab.asked }
 
 -- ---- a call of a writer, whatever it answers
 

@@ -5,7 +5,7 @@ pub use Rattle.laz_forms.proofs.Blocks.{count-few, cut-joined, cut-length}
 pub use Rattle.laz_forms.proofs.Chunked.{sum-lengths, whole_cut}
 pub use Rattle.laz_forms.proofs.Counted.{counted_format, counted_lengths, counted_packed, length-counted, packed_long}
 pub use Rattle.laz_forms.proofs.Counted.{packed_longer}
-pub use Rattle.laz_forms.proofs.CountedForms.{are_counted, IsBytes-flat, IsBytes-splice, short-are, long-are, set-are}
+pub use Rattle.laz_forms.proofs.CountedForms.{are_counted, IsBytes-splice, short-are, long-are, set-are}
 pub use Rattle.laz_forms.proofs.Examples.{chunk, head, last_pointer, one, one_packed, pointer, vlr}
 pub use Rattle.laz_forms.proofs.Existing.{and_then, has_an_answer, has_pieces, has_records, has_records_in, there}
 pub use Rattle.laz_forms.proofs.Filling.{read_more}
@@ -18,7 +18,7 @@ pub use Rattle.laz_forms.proofs.Packed.{both-fine, not-below, packed-is, packed_
 pub use Rattle.laz_forms.proofs.Packed.{plain-is, unpacks_again, plain_itself}
 pub use Rattle.laz_forms.proofs.Patching.{LiesIn, all_patched, length-with_patches, patched_part, unpatched}
 pub use Rattle.laz_forms.proofs.Patching.{with_patches-more}
-pub use Rattle.laz_forms.proofs.Payloads.{payload-short, length-items, pointwise-same, starts-same}
+pub use Rattle.laz_forms.proofs.Payloads.{payload-short, length-items, starts-same}
 pub use Rattle.laz_forms.proofs.PlainForms.{accepted_pack, accepted_plain, head-is, offset-is, plain-kept, records-is}
 pub use Rattle.laz_forms.proofs.Putting.{All-unmap, concat-append, if_err, in_part}
 pub use Rattle.laz_forms.proofs.Putting.{is_lent, joined-append, joined_more, lent_is, lent_small, prefix_append}

@@ -1,12 +1,12 @@
 -- The places of new models.
-use Rattle.std.proofs.Common.{◌≡◌, true, false, ℕ, ◌+◌, ◌-◌, ◌<◌, ◌≤◌, List, [], ◌∷◌, ◌++◌, length, map, take, drop, get_or, refl, sym, ap, ◌∙◌, arith, ◌⊎◌, ⊎_elim, inl}
+use Rattle.std.proofs.Common.{◌≡◌, true, false, ℕ, ◌+◌, ◌-◌, ◌<◌, ◌≤◌, List, [], ◌∷◌, ◌++◌, length, map, drop, get_or, refl, sym, ap, ◌∙◌, arith, ◌⊎◌, ⊎_elim, inl}
 use Rattle.std.proofs.lemmas.Bool.{cases_lt}
-use Rattle.std.proofs.lemmas.List.{length-append, length-map, length_push, take_all, take-append-le, drop_at, get_or-map, get_or_push, get_or_append_left, get_or_default, same_lists}
+use Rattle.std.proofs.lemmas.List.{length-append, length-map, length_push, take-append-le, get_or-map, get_or_push, get_or_append_left, get_or_default, same_lists}
 use Rattle.std.proofs.lemmas.Slice.{between_is}
 use Rattle.laz_models.specs.Bank.{alphabet_sizes}
 use Rattle.laz_models.specs.Counting.{Counting, new_model}
 use Rattle.laz_models.specs.Dist.{alphabet_size}
-use Rattle.laz_models.specs.Place.{cells_of, counting_in, as_new, dist_extent, first_in, AreFirst, IsApart, IsEven, IsFirst, IsShaped, IsPlaced, IsBank, IsLayout}
+use Rattle.laz_models.specs.Place.{cells_of, counting_in, as_new, dist_extent, first_in, AreFirst, IsApart, IsFirst, IsShaped, IsPlaced, IsBank, IsLayout}
 use Rattle.laz_models.specs.declared.place.Place.{Place}
 use Rattle.laz_models.proofs.Banks.{size-new_model, fits-place}
 use Rattle.laz_models.proofs.Models.{counting_of-first}
@@ -63,19 +63,6 @@ IsFirst-append n first firsts more is =
     let same : first_in n first (firsts ++ more) ≡ first_in n first firsts =
     between_is (firsts ++ more) first (first + dist_extent n) ∙ (ap (drop first) (take-append-le (first + dist_extent n) firsts more within) ∙ sym (between_is firsts first (first + dist_extent n))) in
     record { within = omega (arith, length-append firsts more); even = rw same is.even }
-
-pub AreFirst-append : (places : List Place) (cells more : List ℕ) → AreFirst places cells → AreFirst places (cells ++ more)
-AreFirst-append places cells more are =
-    record { there = λ m d below. IsFirst-append (get_or places m d).size (get_or places m d).first cells more (are.there m d below); apart = are.apart }
-
--- one more is the last of them
-pub IsFirst-last : (n : ℕ) (firsts dist : List ℕ) → IsEven n dist → IsFirst n (length firsts) (firsts ++ dist)
-IsFirst-last n firsts dist is =
-    let size : length dist ≡ dist_extent n = is.whole.length in
-    let fewer : length firsts + dist_extent n - length firsts ≡ length dist = omega arith in
-    let here : first_in n (length firsts) (firsts ++ dist) ≡ dist =
-    ap (λ xs. take (length firsts + dist_extent n - length firsts) xs) (drop_at firsts dist (length firsts) refl) ∙ take_all (length firsts + dist_extent n - length firsts) dist (omega arith) in
-    record { within = omega (arith, length-append firsts dist); even = rw here is }
 
 -- one model more, whose own cells lie after all others
 pub AreFirst-push : (places : List Place) (p : Place) (cells more : List ℕ) → AreFirst places cells → IsFirst p.size p.first cells → IsApart p.size p.first places → length cells ≤ p.start

@@ -6,6 +6,5 @@ mod Faults
 mod Pushing
 mod Finishing
 mod Arms
-mod Unasked
 mod Stopping
 pub mod Public
