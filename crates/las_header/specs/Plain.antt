@@ -1,5 +1,5 @@
 -- Plain and packed heads, and the records of a plain file.
-use Rattle.std.specs.Prelude.{ℕ, zero, suc, ◌+◌, ◌-◌, if◌then◌else◌, List, [], ◌∷◌, ◌++◌, take, drop, length}
+use Rattle.std.specs.Prelude.{ℕ, zero, suc, ◌+◌, ◌-◌, if◌then◌else◌, List, [], ◌∷◌, ◌++◌, take, drop, length, ◌/◌}
 use Rattle.std.specs.List.{splice}
 use Rattle.byteorder.specs.Endian.{little_bytes}
 use Rattle.las_header.specs.declared.limits.TheConstants.{VLR_HEAD, LASZIP_USER_ID, LASZIP_RECORD_ID}

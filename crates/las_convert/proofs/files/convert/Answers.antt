@@ -1,7 +1,10 @@
-use Rattle.std.proofs.Common.{ℕ, ◌*◌, [], map, refl, sym, ap, subst}
-use Rattle.las_filter.specs.Kept.{steps_of}
+use Rattle.std.proofs.Common.{ℕ, ◌*◌, List, [], map, refl, sym, ap, subst}
+use Rattle.las_filter.specs.Kept.{Steps, steps_of}
+use Rattle.las_outside.specs.Outside.{Outside}
+use Rattle.las_thin.specs.Placed.{Placed}
 use Rattle.las_thin.specs.Sieving.{Sieving}
 use Rattle.laz_forms.specs.declared.fault.Fault.TheVariants.{Memory}
+use Rattle.laz_forms.specs.Outputs.{Output}
 use Rattle.laz_reader.specs.Asking.{ReadsAndWrites, bytes_left}
 use Rattle.laz_reader.specs.Reading.{ReaderSeen, StandsFor}
 use Rattle.laz_forms.proofs.Public.{known_then}
@@ -13,6 +16,8 @@ use Rattle.las_convert.proofs.Making.{bad_by, ends_begun, ends_filled, given_by,
 use Rattle.las_convert.proofs.Passing.{after_start}
 use Rattle.las_convert.proofs.Shown.{none_counted}
 use Rattle.las_convert.proofs.Wholes.{IsBegunFor, known_here}
+use Rattle.las_convert.proofs.files.convert.Given.{Over}
+use Rattle.las_convert.proofs.files.convert.Goals.{After-fill}
 use Rattle.las_convert.proofs.files.convert.Goals as goal
 
 pub returns-in_err-grow-clause-ends : goal.returns-in_err-grow-clause-ends
@@ -83,148 +88,77 @@ fill-requires-clause-counted g c κs within =
     (sym c.grow.ensures.taps) (none_counted (λ tap. (goal.Tap-dyn g (tap.vtable, tap.value)).tap_seen tap.value)
     c.args.passage.now.taps.items c.requires.counted)
 
+-- what stands when the records were read, or could not be
+module _ (g : Over) (c : After-fill g) where
+  abbrev old : Outside
+  old = g.F.Files.seen c.args.files.now
+
+  abbrev mid : Outside
+  mid = g.F.Files.seen c.begin.new.files
+
+  abbrev new : Outside
+  new = g.F.Files.seen c.fill.new.files
+
+  abbrev plan : Steps
+  plan = steps_of c.args.plan.now
+
+  abbrev looked : List Placed
+  looked = c.requires.ready.0
+
+  abbrev out : Output
+  out = output_of c.crew.new.self c.args.output.now c.args.chunk
+
+  after : IsAfter plan looked [] c.grow.new.self.sieve c.grow.new.self.read
+  after = after_start plan looked c.args.passage.now.sieve c.grow.new.self.sieve c.args.passage.now.read
+      c.grow.new.self.read c.grow.ensures.sieve c.grow.ensures.read c.requires.unread c.requires.ready.1
+
+  begun : IsBegunFor old mid plan c.args.passage.now.sieve.settings looked c.args.reader c.crew.new.self
+      c.in_ok-writer.writer c.args.output.now c.args.chunk c.grow.new.self.sieve.settings
+  begun = record {
+    buffers = 2 * c.hands-hands.result;
+    ready = c.in_ok-crew.ensures.kept;
+    unread = c.requires.fresh.unread;
+    wide = c.in_ok-writer.ensures.can.size;
+    begun = c.in_ok-writer.ensures.stands;
+    apart = c.requires.names;
+    stands = c.requires.stands;
+    are_looked = c.requires.ready.2;
+    same = ap (λ (s : Sieving). s.settings) c.grow.ensures.sieve;
+  }
+
 pub returns-clause-ends : goal.returns-clause-ends
 returns-clause-ends g c =
-    let old = g.F.Files.seen c.args.files.now in
-    let mid = g.F.Files.seen c.begin.new.files in
-    let grown = c.grow.new.self in
-    let plan = steps_of c.args.plan.now in
-    let looked = c.requires.ready.0 in
-    let sieved = c.grow.ensures.sieve in
-    let after : IsAfter plan looked [] grown.sieve grown.read =
-    after_start plan looked c.args.passage.now.sieve grown.sieve c.args.passage.now.read grown.read sieved
-    c.grow.ensures.read c.requires.unread c.requires.ready.1 in
+    let k = (goal.at.returns-clause-ends g c).After-fill in
     let h = c.in_ok-writer.ensures in
-    let b : IsBegunFor old mid plan c.args.passage.now.sieve.settings looked c.args.reader c.crew.new.self
-    c.in_ok-writer.writer c.args.output.now c.args.chunk grown.sieve.settings = record {
-      buffers = 2 * c.hands-hands.result;
-      ready = c.in_ok-crew.ensures.kept;
-      unread = c.requires.fresh.unread;
-      wide = h.can.size;
-      begun = h.stands;
-      apart = c.requires.names;
-      stands = c.requires.stands;
-      are_looked = c.requires.ready.2;
-      same = ap (λ (s : Sieving). s.settings) sieved;
-    } in
-    let out = output_of c.crew.new.self c.args.output.now c.args.chunk in
-    ends_filled (g.F.Files.seen c.fill.new.files) b c.fill.result _ _
-    (c.fill.ensures.finished looked after old out [] h.stands)
-    (c.fill.ensures.ends looked after old out [] h.stands) h.calm c.fill.ensures.calm
+    ends_filled (new g k) (begun g k) c.fill.result _ _
+    (c.fill.ensures.finished (looked g k) (after g k) (old g k) (out g k) [] h.stands)
+    (c.fill.ensures.ends (looked g k) (after g k) (old g k) (out g k) [] h.stands) h.calm c.fill.ensures.calm
 
 pub returns-clause-tallied : goal.returns-clause-tallied
 returns-clause-tallied g c =
-    let old = g.F.Files.seen c.args.files.now in
-    let mid = g.F.Files.seen c.begin.new.files in
-    let grown = c.grow.new.self in
-    let plan = steps_of c.args.plan.now in
-    let looked = c.requires.ready.0 in
-    let sieved = c.grow.ensures.sieve in
-    let after : IsAfter plan looked [] grown.sieve grown.read =
-    after_start plan looked c.args.passage.now.sieve grown.sieve c.args.passage.now.read grown.read sieved
-    c.grow.ensures.read c.requires.unread c.requires.ready.1 in
-    let h = c.in_ok-writer.ensures in
-    let b : IsBegunFor old mid plan c.args.passage.now.sieve.settings looked c.args.reader c.crew.new.self
-    c.in_ok-writer.writer c.args.output.now c.args.chunk grown.sieve.settings = record {
-      buffers = 2 * c.hands-hands.result;
-      ready = c.in_ok-crew.ensures.kept;
-      unread = c.requires.fresh.unread;
-      wide = h.can.size;
-      begun = h.stands;
-      apart = c.requires.names;
-      stands = c.requires.stands;
-      are_looked = c.requires.ready.2;
-      same = ap (λ (s : Sieving). s.settings) sieved;
-    } in
-    let out = output_of c.crew.new.self c.args.output.now c.args.chunk in
-    tallied_by (g.F.Files.seen c.fill.new.files) b c.fill.result
-    (λ tap. (goal.Tap-dyn g (tap.vtable, tap.value)).tap_seen tap.value) grown.taps.items
+    let k = (goal.at.returns-clause-tallied g c).After-fill in
+    tallied_by (new g k) (begun g k) c.fill.result
+    (λ tap. (goal.Tap-dyn g (tap.vtable, tap.value)).tap_seen tap.value) c.grow.new.self.taps.items
     c.args.passage.now.taps.items c.fill.new.passage.taps.items c.grow.ensures.taps
-    (c.fill.ensures.finished looked after old out [] h.stands)
+    (c.fill.ensures.finished (looked g k) (after g k) (old g k) (out g k) [] c.in_ok-writer.ensures.stands)
 
 pub returns-clause-given : goal.returns-clause-given
 returns-clause-given g c cause is =
-    let old = g.F.Files.seen c.args.files.now in
-    let mid = g.F.Files.seen c.begin.new.files in
-    let grown = c.grow.new.self in
-    let plan = steps_of c.args.plan.now in
-    let looked = c.requires.ready.0 in
-    let sieved = c.grow.ensures.sieve in
-    let after : IsAfter plan looked [] grown.sieve grown.read =
-    after_start plan looked c.args.passage.now.sieve grown.sieve c.args.passage.now.read grown.read sieved
-    c.grow.ensures.read c.requires.unread c.requires.ready.1 in
-    let h = c.in_ok-writer.ensures in
-    let b : IsBegunFor old mid plan c.args.passage.now.sieve.settings looked c.args.reader c.crew.new.self
-    c.in_ok-writer.writer c.args.output.now c.args.chunk grown.sieve.settings = record {
-      buffers = 2 * c.hands-hands.result;
-      ready = c.in_ok-crew.ensures.kept;
-      unread = c.requires.fresh.unread;
-      wide = h.can.size;
-      begun = h.stands;
-      apart = c.requires.names;
-      stands = c.requires.stands;
-      are_looked = c.requires.ready.2;
-      same = ap (λ (s : Sieving). s.settings) sieved;
-    } in
-    let out = output_of c.crew.new.self c.args.output.now c.args.chunk in
-    given_by (g.F.Files.seen c.fill.new.files) b c.fill.result (c.fill.ensures.ends looked after old out [] h.stands)
-    cause is
+    let k = (goal.at.returns-clause-given g c).After-fill in
+    given_by (new g k) (begun g k) c.fill.result
+    (c.fill.ensures.ends (looked g k) (after g k) (old g k) (out g k) [] c.in_ok-writer.ensures.stands) cause is
 
 pub returns-clause-bad : goal.returns-clause-bad
 returns-clause-bad g c cause is =
-    let old = g.F.Files.seen c.args.files.now in
-    let mid = g.F.Files.seen c.begin.new.files in
-    let grown = c.grow.new.self in
-    let plan = steps_of c.args.plan.now in
-    let looked = c.requires.ready.0 in
-    let sieved = c.grow.ensures.sieve in
-    let after : IsAfter plan looked [] grown.sieve grown.read =
-    after_start plan looked c.args.passage.now.sieve grown.sieve c.args.passage.now.read grown.read sieved
-    c.grow.ensures.read c.requires.unread c.requires.ready.1 in
-    let h = c.in_ok-writer.ensures in
-    let b : IsBegunFor old mid plan c.args.passage.now.sieve.settings looked c.args.reader c.crew.new.self
-    c.in_ok-writer.writer c.args.output.now c.args.chunk grown.sieve.settings = record {
-      buffers = 2 * c.hands-hands.result;
-      ready = c.in_ok-crew.ensures.kept;
-      unread = c.requires.fresh.unread;
-      wide = h.can.size;
-      begun = h.stands;
-      apart = c.requires.names;
-      stands = c.requires.stands;
-      are_looked = c.requires.ready.2;
-      same = ap (λ (s : Sieving). s.settings) sieved;
-    } in
-    let out = output_of c.crew.new.self c.args.output.now c.args.chunk in
-    bad_by (g.F.Files.seen c.fill.new.files) b c.fill.result (c.fill.ensures.ends looked after old out [] h.stands)
-    cause is
+    let k = (goal.at.returns-clause-bad g c).After-fill in
+    bad_by (new g k) (begun g k) c.fill.result
+    (c.fill.ensures.ends (looked g k) (after g k) (old g k) (out g k) [] c.in_ok-writer.ensures.stands) cause is
 
 pub returns-clause-looked : goal.returns-clause-looked
 returns-clause-looked g c i is =
-    let old = g.F.Files.seen c.args.files.now in
-    let mid = g.F.Files.seen c.begin.new.files in
-    let grown = c.grow.new.self in
-    let plan = steps_of c.args.plan.now in
-    let looked = c.requires.ready.0 in
-    let sieved = c.grow.ensures.sieve in
-    let after : IsAfter plan looked [] grown.sieve grown.read =
-    after_start plan looked c.args.passage.now.sieve grown.sieve c.args.passage.now.read grown.read sieved
-    c.grow.ensures.read c.requires.unread c.requires.ready.1 in
-    let h = c.in_ok-writer.ensures in
-    let b : IsBegunFor old mid plan c.args.passage.now.sieve.settings looked c.args.reader c.crew.new.self
-    c.in_ok-writer.writer c.args.output.now c.args.chunk grown.sieve.settings = record {
-      buffers = 2 * c.hands-hands.result;
-      ready = c.in_ok-crew.ensures.kept;
-      unread = c.requires.fresh.unread;
-      wide = h.can.size;
-      begun = h.stands;
-      apart = c.requires.names;
-      stands = c.requires.stands;
-      are_looked = c.requires.ready.2;
-      same = ap (λ (s : Sieving). s.settings) sieved;
-    } in
-    let out = output_of c.crew.new.self c.args.output.now c.args.chunk in
-    looked_by (g.F.Files.seen c.fill.new.files) b c.fill.result (c.fill.ensures.ends looked after old out [] h.stands) i
-    is
+    let k = (goal.at.returns-clause-looked g c).After-fill in
+    looked_by (new g k) (begun g k) c.fill.result
+    (c.fill.ensures.ends (looked g k) (after g k) (old g k) (out g k) [] c.in_ok-writer.ensures.stands) i is
 
 pub returns-clause-frame : goal.returns-clause-frame
 returns-clause-frame g c =
