@@ -11,7 +11,7 @@ pub use Rattle.laz_file.proofs.RangeLaws.{all_records_in, records_in_before, who
 pub use Rattle.laz_file.proofs.Taking.{cause_push, cause_since, file_beside, held_after, known_after}
 pub use Rattle.laz_file.proofs.Taking.{known_before, known_taken, part_push, part_stands, part_then, stands_read}
 pub use Rattle.laz_file.proofs.Taking.{takes_none, takes_push, takes_read, takes_then}
-pub use Rattle.laz_file.proofs.WholeOutputs.{all_records, create_left, err_at, hold_ready}
+pub use Rattle.laz_file.proofs.WholeOutputs.{all_records, create_left, err_at, hold_ready, left_is}
 pub use Rattle.laz_file.proofs.WholeOutputs.{records_before, stands_ready}
 pub use Rattle.laz_file.proofs.Writers.{begun_now, read_between, room_for_all, room_now, same_size, taken_apart}
 pub use Rattle.laz_file.proofs.Making.{all_done, named_done}

@@ -14,98 +14,122 @@ use Rattle.las_run.specs.Runs.{task_with}
 use Rattle.las_run.specs.declared.conversion.Conversion.{Conversion}
 use Rattle.las_run.specs.Tools.{las2las_options, options_with}
 use Rattle.las_run.proofs.Saying.{by_task}
+use Rattle.las_run.proofs.top_call.obey.Given.{Over}
+use Rattle.las_run.proofs.top_call.obey.Goals.{After-las2las, After-lasinfo, After-lassplit, After-laszip}
 use Rattle.las_run.proofs.top_call.obey.Goals as goal
+
+-- What a command asks for is what the call that serves it was given, word for word.
+module _ (g : Over) (c : After-laszip g) where
+  abbrev for_laszip : (input output : List ℕ) → Asked
+  for_laszip input output = record {
+    work = reads input (laszip (record { output = output; chunk = c.in-Laszip.chunk }));
+    workers = c.in-Laszip.workers;
+  }
+
+  laszip_asked : for_laszip c.deref.result.now c.deref-in-Laszip.result.now ≡ asked_by c.args.command.now
+  laszip_asked =
+      ap (λ (i : List ℕ). for_laszip i c.deref-in-Laszip.result.now) c.deref.ensures
+      ∙ ap (for_laszip (string_bytes c.in-Laszip.input)) c.deref-in-Laszip.ensures ∙ sym (ap asked_by c.in-Laszip.is)
+
+module _ (g : Over) (c : After-las2las g) where
+  abbrev conversion : Conversion
+  conversion = record {
+    packing = c.in-Las2las.packing;
+    start = c.in-Las2las.start;
+    stop = c.in-Las2las.stop;
+    step = c.in-Las2las.step;
+    pick = c.in-Las2las.pick;
+    unique = c.in-Las2las.unique;
+  }
+
+  abbrev for_las2las : (input output : List ℕ) (tallies : List (List ℕ)) → Asked
+  for_las2las input output tallies = record {
+    work = reads input (las2las (las2las_options output (steps_of c.in-Las2las.plan) conversion tallies));
+    workers = c.in-Las2las.workers;
+  }
+
+  abbrev las2las_given : Asked
+  las2las_given = for_las2las c.deref-in-Las2las.result.now c.deref-in-Las2las-2.result.now
+      (texts c.deref-in-Las2las-3.result.now)
+
+  las2las_asked : las2las_given ≡ asked_by c.args.command.now
+  las2las_asked =
+      ap (λ (i : List ℕ). for_las2las i c.deref-in-Las2las-2.result.now (texts c.deref-in-Las2las-3.result.now))
+      c.deref-in-Las2las.ensures
+      ∙ ap (λ (o : List ℕ). for_las2las (string_bytes c.in-Las2las.input) o (texts c.deref-in-Las2las-3.result.now))
+      c.deref-in-Las2las-2.ensures
+      ∙ ap (λ ts. for_las2las (string_bytes c.in-Las2las.input) (string_bytes c.in-Las2las.output) (texts ts))
+      c.deref-in-Las2las-3.ensures.value ∙ sym (ap asked_by c.in-Las2las.is)
+
+module _ (g : Over) (c : After-lasinfo g) where
+  abbrev for_lasinfo : (input : List ℕ) (tallies : List (List ℕ)) → Asked
+  for_lasinfo input tallies = record {
+    work = reads input (lasinfo (record { tallies = tallies }));
+    workers = c.in-Lasinfo.workers;
+  }
+
+  abbrev lasinfo_given : Asked
+  lasinfo_given = for_lasinfo c.deref-in-Lasinfo.result.now (texts c.deref-in-Lasinfo-2.result.now)
+
+  lasinfo_asked : lasinfo_given ≡ asked_by c.args.command.now
+  lasinfo_asked =
+      ap (λ (i : List ℕ). for_lasinfo i (texts c.deref-in-Lasinfo-2.result.now)) c.deref-in-Lasinfo.ensures
+      ∙ ap (λ ts. for_lasinfo (string_bytes c.in-Lasinfo.input) (texts ts)) c.deref-in-Lasinfo-2.ensures.value
+      ∙ sym (ap asked_by c.in-Lasinfo.is)
+
+module _ (g : Over) (c : After-lassplit g) where
+  abbrev for_lassplit : (input stem end : List ℕ) → Asked
+  for_lassplit input stem end = record {
+    work = reads input (lassplit (record { stem = stem; end = end; rule = c.in-Lassplit.rule }));
+    workers = c.in-Lassplit.workers;
+  }
+
+  lassplit_asked : for_lassplit c.deref-in-Lassplit.result.now c.deref-in-Lassplit-2.result.now
+      c.deref-in-Lassplit-3.result.now ≡ asked_by c.args.command.now
+  lassplit_asked =
+      ap (λ (i : List ℕ). for_lassplit i c.deref-in-Lassplit-2.result.now c.deref-in-Lassplit-3.result.now)
+      c.deref-in-Lassplit.ensures
+      ∙ ap (λ (s : List ℕ). for_lassplit (string_bytes c.in-Lassplit.input) s c.deref-in-Lassplit-3.result.now)
+      c.deref-in-Lassplit-2.ensures
+      ∙ ap (for_lassplit (string_bytes c.in-Lassplit.input) (string_bytes c.in-Lassplit.stem))
+      c.deref-in-Lassplit-3.ensures ∙ sym (ap asked_by c.in-Lassplit.is)
 
 pub returns-in-Laszip-clause-ends : goal.returns-in-Laszip-clause-ends
 returns-in-Laszip-clause-ends g c =
-    let w = c.in-Laszip in
-    let asks_for : (input output : List ℕ) → Asked =
-    λ input output. record {
-      work = reads input (laszip (record { output = output; chunk = w.chunk }));
-      workers = w.workers;
-    } in
-    let asked : asks_for c.deref.result.now c.deref-in-Laszip.result.now ≡ asked_by c.args.command.now =
-    ap (λ (i : List ℕ). asks_for i c.deref-in-Laszip.result.now) c.deref.ensures
-    ∙ ap (asks_for (string_bytes w.input)) c.deref-in-Laszip.ensures ∙ sym (ap asked_by w.is) in
-    λ task taps said. by_task task _ _ _ c.laszip.result said asked
+    λ task taps said. by_task task _ _ _ c.laszip.result said
+    (laszip_asked g (goal.at.returns-in-Laszip-clause-ends g c).After-laszip)
     (c.laszip.ensures.ends task.taps (g.O.Sink.seen c.args.out.now))
 
 pub returns-in-Las2las-clause-ends : goal.returns-in-Las2las-clause-ends
 returns-in-Las2las-clause-ends g c =
-    let w = c.in-Las2las in
-    let conversion : Conversion = record {
-      packing = w.packing;
-      start = w.start;
-      stop = w.stop;
-      step = w.step;
-      pick = w.pick;
-      unique = w.unique;
-    } in
-    let asks_for : (input output : List ℕ) (tallies : List (List ℕ)) → Asked = λ input output tallies.
-    record {
-      work = reads input (las2las (las2las_options output (steps_of w.plan) conversion tallies));
-      workers = w.workers;
-    } in
-    let asked : asks_for c.deref-in-Las2las.result.now c.deref-in-Las2las-2.result.now
-    (texts c.deref-in-Las2las-3.result.now) ≡ asked_by c.args.command.now =
-    ap (λ (i : List ℕ). asks_for i c.deref-in-Las2las-2.result.now (texts c.deref-in-Las2las-3.result.now))
-    c.deref-in-Las2las.ensures
-    ∙ ap (λ (o : List ℕ). asks_for (string_bytes w.input) o (texts c.deref-in-Las2las-3.result.now))
-    c.deref-in-Las2las-2.ensures
-    ∙ ap (λ ts. asks_for (string_bytes w.input) (string_bytes w.output) (texts ts)) c.deref-in-Las2las-3.ensures.value
-    ∙ sym (ap asked_by w.is) in
+    let k = (goal.at.returns-in-Las2las-clause-ends g c).After-las2las in
     let change : Change = record {
       files = g.F.Files.seen c.args.files.now;
       files_now = g.F.Files.seen c.las2las.new.files;
       out = g.O.Sink.seen c.args.out.now;
       out_now = g.O.Sink.seen c.las2las.new.out;
     } in
-    λ task taps said. by_task task _ _ change c.las2las.result said asked
-    (subst (λ (ts : List TapSeen). Ends
-    (task_with ts (asks_for c.deref-in-Las2las.result.now c.deref-in-Las2las-2.result.now
-    (texts c.deref-in-Las2las-3.result.now))) change
+    λ task taps said. by_task task _ _ change c.las2las.result said (las2las_asked g k)
+    (subst (λ (ts : List TapSeen). Ends (task_with ts (las2las_given g k)) change
     (cause_of (c.deref-in-Las2las.result.now ∷ []) c.las2las.result)) (sym taps) c.las2las.ensures.ends)
 
 pub returns-in-Lasinfo-clause-ends : goal.returns-in-Lasinfo-clause-ends
 returns-in-Lasinfo-clause-ends g c =
-    let w = c.in-Lasinfo in
-    let asks_for : (input : List ℕ) (tallies : List (List ℕ))
-    → Asked = λ input tallies. record {
-      work = reads input (lasinfo (record { tallies = tallies }));
-      workers = w.workers;
-    } in
-    let asked : asks_for c.deref-in-Lasinfo.result.now (texts c.deref-in-Lasinfo-2.result.now) ≡ asked_by
-    c.args.command.now =
-    ap (λ (i : List ℕ). asks_for i (texts c.deref-in-Lasinfo-2.result.now)) c.deref-in-Lasinfo.ensures
-    ∙ ap (λ ts. asks_for (string_bytes w.input) (texts ts)) c.deref-in-Lasinfo-2.ensures.value
-    ∙ sym (ap asked_by w.is) in
+    let k = (goal.at.returns-in-Lasinfo-clause-ends g c).After-lasinfo in
     let change : Change = record {
       files = g.F.Files.seen c.args.files.now;
       files_now = g.F.Files.seen c.lasinfo.new.files;
       out = g.O.Sink.seen c.args.out.now;
       out_now = g.O.Sink.seen c.lasinfo.new.out;
     } in
-    λ task taps said. by_task task _ _ change c.lasinfo.result said asked
-    (subst (λ (ts : List TapSeen). Ends
-    (task_with ts (asks_for c.deref-in-Lasinfo.result.now (texts c.deref-in-Lasinfo-2.result.now))) change
+    λ task taps said. by_task task _ _ change c.lasinfo.result said (lasinfo_asked g k)
+    (subst (λ (ts : List TapSeen). Ends (task_with ts (lasinfo_given g k)) change
     (cause_of (c.deref-in-Lasinfo.result.now ∷ []) c.lasinfo.result)) (sym taps) c.lasinfo.ensures.ends)
 
 pub returns-in-Lassplit-clause-ends : goal.returns-in-Lassplit-clause-ends
 returns-in-Lassplit-clause-ends g c =
-    let w = c.in-Lassplit in
-    let stem = c.deref-in-Lassplit-2.result.now in
-    let end = c.deref-in-Lassplit-3.result.now in
-    let asks_for : (input stem end : List ℕ) → Asked =
-    λ input stem end. record {
-      work = reads input (lassplit (record { stem = stem; end = end; rule = w.rule }));
-      workers = w.workers;
-    } in
-    let asked : asks_for c.deref-in-Lassplit.result.now stem end ≡ asked_by c.args.command.now =
-    ap (λ (i : List ℕ). asks_for i stem end) c.deref-in-Lassplit.ensures
-    ∙ ap (λ (s : List ℕ). asks_for (string_bytes w.input) s end) c.deref-in-Lassplit-2.ensures
-    ∙ ap (asks_for (string_bytes w.input) (string_bytes w.stem)) c.deref-in-Lassplit-3.ensures
-    ∙ sym (ap asked_by w.is) in
-    λ task taps said. by_task task _ _ _ c.lassplit.result said asked
+    λ task taps said. by_task task _ _ _ c.lassplit.result said
+    (lassplit_asked g (goal.at.returns-in-Lassplit-clause-ends g c).After-lassplit)
     (c.lassplit.ensures.ends task.taps (g.O.Sink.seen c.args.out.now))
 
 pub returns-in-Lasmerge-clause-ends : goal.returns-in-Lasmerge-clause-ends
@@ -143,78 +167,23 @@ returns-in-Make-clause-ends g c =
 
 pub returns-in-Las2las-clause-asks : goal.returns-in-Las2las-clause-asks
 returns-in-Las2las-clause-asks g c =
-    let w = c.in-Las2las in
-    let conversion : Conversion = record {
-      packing = w.packing;
-      start = w.start;
-      stop = w.stop;
-      step = w.step;
-      pick = w.pick;
-      unique = w.unique;
-    } in
-    let asks_for : (input output : List ℕ) (tallies : List (List ℕ)) → Asked = λ input output tallies.
-    record {
-      work = reads input (las2las (las2las_options output (steps_of w.plan) conversion tallies));
-      workers = w.workers;
-    } in
-    let asked : asks_for c.deref-in-Las2las.result.now c.deref-in-Las2las-2.result.now
-    (texts c.deref-in-Las2las-3.result.now) ≡ asked_by c.args.command.now =
-    ap (λ (i : List ℕ). asks_for i c.deref-in-Las2las-2.result.now (texts c.deref-in-Las2las-3.result.now))
-    c.deref-in-Las2las.ensures
-    ∙ ap (λ (o : List ℕ). asks_for (string_bytes w.input) o (texts c.deref-in-Las2las-3.result.now))
-    c.deref-in-Las2las-2.ensures
-    ∙ ap (λ ts. asks_for (string_bytes w.input) (string_bytes w.output) (texts ts)) c.deref-in-Las2las-3.ensures.value
-    ∙ sym (ap asked_by w.is) in
-    subst (λ (a : Asked). WorkAsks a.work (g.F.Files.seen c.args.files.now) (g.F.Files.seen c.las2las.new.files)) asked
-    c.las2las.ensures.asks
+    subst (λ (a : Asked). WorkAsks a.work (g.F.Files.seen c.args.files.now) (g.F.Files.seen c.las2las.new.files))
+    (las2las_asked g (goal.at.returns-in-Las2las-clause-asks g c).After-las2las) c.las2las.ensures.asks
 
 pub returns-in-Laszip-clause-asks : goal.returns-in-Laszip-clause-asks
 returns-in-Laszip-clause-asks g c =
-    let w = c.in-Laszip in
-    let asks_for : (input output : List ℕ) → Asked =
-    λ input output. record {
-      work = reads input (laszip (record { output = output; chunk = w.chunk }));
-      workers = w.workers;
-    } in
-    let asked : asks_for c.deref.result.now c.deref-in-Laszip.result.now ≡ asked_by c.args.command.now =
-    ap (λ (i : List ℕ). asks_for i c.deref-in-Laszip.result.now) c.deref.ensures
-    ∙ ap (asks_for (string_bytes w.input)) c.deref-in-Laszip.ensures ∙ sym (ap asked_by w.is) in
-    subst (λ (a : Asked). WorkAsks a.work (g.F.Files.seen c.args.files.now) (g.F.Files.seen c.laszip.new.files)) asked
-    c.laszip.ensures.asks
+    subst (λ (a : Asked). WorkAsks a.work (g.F.Files.seen c.args.files.now) (g.F.Files.seen c.laszip.new.files))
+    (laszip_asked g (goal.at.returns-in-Laszip-clause-asks g c).After-laszip) c.laszip.ensures.asks
 
 pub returns-in-Lasinfo-clause-asks : goal.returns-in-Lasinfo-clause-asks
 returns-in-Lasinfo-clause-asks g c =
-    let w = c.in-Lasinfo in
-    let asks_for : (input : List ℕ) (tallies : List (List ℕ))
-    → Asked = λ input tallies. record {
-      work = reads input (lasinfo (record { tallies = tallies }));
-      workers = w.workers;
-    } in
-    let asked : asks_for c.deref-in-Lasinfo.result.now (texts c.deref-in-Lasinfo-2.result.now) ≡ asked_by
-    c.args.command.now =
-    ap (λ (i : List ℕ). asks_for i (texts c.deref-in-Lasinfo-2.result.now)) c.deref-in-Lasinfo.ensures
-    ∙ ap (λ ts. asks_for (string_bytes w.input) (texts ts)) c.deref-in-Lasinfo-2.ensures.value
-    ∙ sym (ap asked_by w.is) in
-    subst (λ (a : Asked). WorkAsks a.work (g.F.Files.seen c.args.files.now) (g.F.Files.seen c.lasinfo.new.files)) asked
-    c.lasinfo.ensures.asks
+    subst (λ (a : Asked). WorkAsks a.work (g.F.Files.seen c.args.files.now) (g.F.Files.seen c.lasinfo.new.files))
+    (lasinfo_asked g (goal.at.returns-in-Lasinfo-clause-asks g c).After-lasinfo) c.lasinfo.ensures.asks
 
 pub returns-in-Lassplit-clause-asks : goal.returns-in-Lassplit-clause-asks
 returns-in-Lassplit-clause-asks g c =
-    let w = c.in-Lassplit in
-    let stem = c.deref-in-Lassplit-2.result.now in
-    let end = c.deref-in-Lassplit-3.result.now in
-    let asks_for : (input stem end : List ℕ) → Asked =
-    λ input stem end. record {
-      work = reads input (lassplit (record { stem = stem; end = end; rule = w.rule }));
-      workers = w.workers;
-    } in
-    let asked : asks_for c.deref-in-Lassplit.result.now stem end ≡ asked_by c.args.command.now =
-    ap (λ (i : List ℕ). asks_for i stem end) c.deref-in-Lassplit.ensures
-    ∙ ap (λ (s : List ℕ). asks_for (string_bytes w.input) s end) c.deref-in-Lassplit-2.ensures
-    ∙ ap (asks_for (string_bytes w.input) (string_bytes w.stem)) c.deref-in-Lassplit-3.ensures
-    ∙ sym (ap asked_by w.is) in
-    subst (λ (a : Asked). WorkAsks a.work (g.F.Files.seen c.args.files.now) (g.F.Files.seen c.lassplit.new.files)) asked
-    c.lassplit.ensures.asks
+    subst (λ (a : Asked). WorkAsks a.work (g.F.Files.seen c.args.files.now) (g.F.Files.seen c.lassplit.new.files))
+    (lassplit_asked g (goal.at.returns-in-Lassplit-clause-asks g c).After-lassplit) c.lassplit.ensures.asks
 
 pub returns-in-Lasmerge-clause-asks : goal.returns-in-Lasmerge-clause-asks
 returns-in-Lasmerge-clause-asks g c = subst (λ (command : Command). WorkAsks (work_by command)
