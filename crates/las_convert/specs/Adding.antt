@@ -1,10 +1,10 @@
 -- Records that are kept, some after others, and that a writer takes and taps see.
-use Rattle.std.specs.Prelude.{◌≡◌, ℕ, ◌+◌, ◌*◌, ◌/◌, ◌^◌, ◌≤◌, Bool, true, false, if◌then◌else◌, List, []}
+use Rattle.std.specs.Prelude.{◌≡◌, ℕ, ◌+◌, ◌*◌, ◌^◌, ◌≤◌, Bool, true, false, if◌then◌else◌, List, []}
 use Rattle.std.specs.Prelude.{◌++◌, length, map, take, All, Option, Some, None}
 use Rattle.std.specs.List.{concat}
 use Rattle.las_header.specs.declared.refusal.Refusal.{Refusal}
 use Rattle.las_header.specs.declared.refusal.Refusal.TheVariants.{RawRange}
-use Rattle.las_header.specs.Plain.{cut_records, cut_all}
+use Rattle.las_header.specs.Plain.{cut_all}
 use Rattle.las_filter.specs.Kept.{Kept, Steps, kept}
 use Rattle.las_info.specs.Tallies.{TapSeen, count_at, shown_all}
 use Rattle.las_outside.specs.Files.{FileMap}

@@ -1,5 +1,5 @@
 -- What calls leave as it was is the same for one call after another, and for none.
-use Rattle.std.proofs.Common.{◌≡◌, ℕ, ◌+◌, ◌≤◌, refl, ◌∙◌, arith}
+use Rattle.std.proofs.Common.{ℕ, ◌+◌, ◌≤◌, refl, ◌∙◌, arith}
 use Rattle.las_outside.specs.Frames.{IsCalm, OnlyReads, OnlyWrites, Reads}
 use Rattle.las_outside.specs.Outside.{Later, Outside}
 

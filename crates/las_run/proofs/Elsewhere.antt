@@ -1,9 +1,8 @@
 -- Names that a command does not write are as before, and what is left is left of some ending.
-use Rattle.std.proofs.Common.{◌≡◌, ◌⊎◌, inl, inr, ℕ, zero, suc, Bool, true, false, List, [], ◌∷◌, map, take, Option, Some, None, cond, refl, sym, ◌∙◌, ap, subst}
+use Rattle.std.proofs.Common.{◌≡◌, inl, inr, ℕ, zero, suc, Bool, true, false, List, [], ◌∷◌, map, take, Option, Some, None, cond, refl, sym, ◌∙◌, ap, subst}
 use Rattle.std.specs.Prelude.{is_some}
 use Rattle.std.specs.FinMap as finmap
 use Rattle.std.specs.List.{concat}
-use Rattle.las_filter.specs.Parts.{part_name}
 use Rattle.las_header.specs.Fields.{head_of, is_packed}
 use Rattle.las_header.specs.Plain.{plain_head}
 use Rattle.las_info.specs.Tallies.{TapSeen}

@@ -1,10 +1,8 @@
 -- At most one ending is defined for a task over files that hold bytes.
-use Rattle.std.proofs.Common.{◌≡◌, inl, inr, ℕ, Bool, true, false, List, [], Option, Some, None, refl, sym, ◌∙◌, ap, subst}
-use Rattle.std.specs.Prelude.{All}
+use Rattle.std.proofs.Common.{◌≡◌, inl, inr, ℕ, Bool, true, false, List, Option, Some, None, refl, sym, ◌∙◌, ap}
 use Rattle.std.specs.FinMap as finmap
 use Rattle.std.specs.List.{concat}
 use Rattle.std.specs.Option.{option_map}
-use Rattle.std.proofs.lemmas.List.{get_or_default}
 use Rattle.las_header.specs.declared.refusal.Refusal.{Refusal}
 use Rattle.las_header.specs.declared.refusal.Refusal.TheVariants.{BadChunk}
 use Rattle.las_header.specs.Fields.{head_of, is_packed}
@@ -20,7 +18,6 @@ use Rattle.laz_forms.specs.Refusing.{IsAcceptedFile}
 use Rattle.laz_forms.proofs.Public.{refused_once, some_same}
 use Rattle.las_convert.specs.Laws.{ConvertsInOneWay}
 use Rattle.las_merge.specs.Existing.{HoldBytes}
-use Rattle.las_merge.specs.Inputs.{CanMerge, item_at}
 use Rattle.las_merge.specs.Laws.{MergesInOneWay}
 use Rattle.las_split.specs.Laws.{SplitsInOneWay}
 use Rattle.laz_file.specs.Endings.{Product, writes}

@@ -1,5 +1,5 @@
 -- Which words and files have an ending.
-use Rattle.std.proofs.Common.{◌∙◌, ◌≡◌, inl, inr, ℕ, ◌+◌, Bool, true, false, if◌then◌else◌, nat_lt, List, [], ◌∷◌, ◌++◌, drop, length, map, Option, Some, None, refl, sym, ap, subst, arith}
+use Rattle.std.proofs.Common.{◌∙◌, ◌≡◌, inl, inr, ℕ, ◌+◌, Bool, true, false, if◌then◌else◌, nat_lt, List, [], ◌∷◌, ◌++◌, drop, map, Option, Some, None, refl, sym, ap, subst, arith}
 use Rattle.std.specs.FinMap as finmap
 use Rattle.std.specs.List.{concat}
 use Rattle.std.specs.Option.{option_map}
@@ -19,8 +19,8 @@ use Rattle.laz_forms.specs.Packing.{packed_file}
 use Rattle.laz_forms.specs.Pieces.{ArePieces, ArePiecesIf, Piece, piece_bytes, plain_pieces}
 use Rattle.laz_chunk.specs.Layouts.{record_length}
 use Rattle.laz_forms.specs.Packing.{record_layout}
-use Rattle.laz_forms.specs.Ranges.{Range, first_of, part_in, parts_if, parts_in, parts_of, taken_of}
-use Rattle.laz_forms.specs.Records.{AreRead, AreRecordsIn, AreRecordsOf, HoldBlocks, HoldsBlock, HoldsIf, cut_block, moved}
+use Rattle.laz_forms.specs.Ranges.{Range, part_in, parts_if, parts_in, parts_of, taken_of}
+use Rattle.laz_forms.specs.Records.{AreRecordsIn, AreRecordsOf, HoldBlocks, HoldsBlock, HoldsIf, cut_block}
 use Rattle.laz_forms.specs.Refusing.{IsRefusal, chunk_causes, tested_causes}
 use Rattle.laz_forms.proofs.Public.{hold-plain, packed_accepted, unpacks_again}
 use Rattle.las_convert.specs.Adding.{Keeping}

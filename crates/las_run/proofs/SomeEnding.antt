@@ -1,5 +1,5 @@
 -- Of every task over files that hold bytes it is refuted that no ending is defined.
-use Rattle.std.proofs.Common.{◌≡◌, ◌⊎◌, inl, inr, ℕ, Bool, true, false, List, [], drop, Option, Some, None, refl, sym, subst}
+use Rattle.std.proofs.Common.{◌≡◌, ◌⊎◌, inl, inr, ℕ, Bool, true, false, List, drop, Option, Some, None, refl}
 use Rattle.std.specs.FinMap as finmap
 use Rattle.std.specs.List.{concat}
 use Rattle.std.specs.Option.{option_map}

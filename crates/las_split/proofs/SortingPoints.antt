@@ -1,6 +1,6 @@
 -- Records that are sorted one after another.
 use Rattle.std.proofs.Common.{◌≡◌, ◌≢◌, ◌⊎◌, inl, inr, ℕ, zero, suc, ◌+◌, ◌*◌, ◌/◌, ◌%◌, ◌<◌, ◌≤◌, ◌^◌, ◌==◌, ◌||◌, Bool, true, false, cond, map, List, [], ◌∷◌, ◌++◌, length, take, drop, get_or, set, slice_get, replicate, Option, Some, refl, sym, ◌∙◌, ap, subst, append_assoc, length-append, eq-eqb, arith}
-use Rattle.std.proofs.lemmas.List.{append-nil, drop-drop, length-take-le, take-append-drop, take_more}
+use Rattle.std.proofs.lemmas.List.{append-nil, drop-drop, take-append-drop, take_more}
 use Rattle.std.proofs.Math.Nat.{div-add-mod, le_of_mul-le-mul_left}
 use Rattle.std.specs.List.{concat}
 use Rattle.laz_forms.proofs.Public.{concat-append, block_fits}

@@ -1,5 +1,5 @@
 -- How records go into parts: the writers of the parts, what they stand for, and what is left if a call fails.
-use Rattle.std.specs.Prelude.{◌≡◌, ℕ, ◌+◌, ◌*◌, ◌/◌, ◌<◌, ◌≤◌, ◌^◌, ◌==◌, ◌||◌, Bool, true, false, List, []}
+use Rattle.std.specs.Prelude.{◌≡◌, ℕ, ◌+◌, ◌*◌, ◌<◌, ◌≤◌, ◌^◌, ◌==◌, ◌||◌, Bool, true, false, List, []}
 use Rattle.std.specs.Prelude.{◌∷◌, ◌++◌, length, map, drop, take, slice_index_or, All, Option, Some, string_bytes}
 use Rattle.std.specs.List.{concat}
 use Rattle.las_header.specs.declared.refusal.Refusal.{Refusal}
@@ -7,7 +7,7 @@ use Rattle.las_header.specs.declared.refusal.Refusal.TheVariants.{TooManyParts}
 use Rattle.las_header.specs.declared.limits.TheConstants.{POINT_RECORD}
 use Rattle.las_header.specs.Fields.{is_packed, points_of, record_length_of}
 use Rattle.las_header.specs.Heads.{HeadView}
-use Rattle.las_header.specs.Plain.{cut_records, plain_of}
+use Rattle.las_header.specs.Plain.{plain_of}
 use Rattle.las_header.specs.Vlrs.{laszip_vlrs_of}
 use Rattle.las_filter.specs.declared.rule.Rule.{Rule}
 use Rattle.las_outside.specs.Files.{FileMap}

@@ -1,5 +1,5 @@
 -- How many numbers there are in the lists of a table that is read, and the cause of a fault.
-use Rattle.std.proofs.Common.{◌≡◌, ℕ, ◌<◌, ◌≤◌, ◌&&◌, nat_le, nat_lt, min, Bool, true, false, cond, if◌then◌else◌, List, length, refl, sym, ap, subst, ◌-◌, ◌*◌, ◌∙◌, lt-ltb}
+use Rattle.std.proofs.Common.{◌≡◌, ℕ, ◌<◌, ◌≤◌, ◌&&◌, nat_le, nat_lt, min, Bool, true, false, cond, List, length, refl, sym, ap, subst, ◌-◌, ◌*◌, ◌∙◌, lt-ltb}
 use Rattle.std.proofs.lemmas.Bool.{le-leb}
 use Rattle.std.proofs.lemmas.List.FromFn.{length-map-range_with_len}
 use Rattle.std.specs.Prelude.{IsSomeAnd}
@@ -10,7 +10,7 @@ use Rattle.laz_table.specs.declared.chunks.Blocks.{Blocks}
 use Rattle.laz_table.specs.declared.chunks.Blocks.TheVariants.{Fixed, Counted}
 use Rattle.laz_table.specs.declared.chunks.TableFault.{TableFault}
 use Rattle.laz_table.specs.declared.chunks.TableFault.TheVariants.{Table, ChunkSum, PointSum, Memory}
-use Rattle.laz_table.specs.Chunks.{IsAccepted, IsFirstFault, fixed_sizes}
+use Rattle.laz_table.specs.Chunks.{IsAccepted, IsFirstFault}
 use Rattle.laz_table.specs.VlrCauses.{chunk_count, is_counted}
 use Rattle.laz_c.specs.Tables.{IsRefused, blocks_of, chunks_in, counted_in, fault_cause}
 

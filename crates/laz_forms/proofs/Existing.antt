@@ -1,6 +1,5 @@
 -- Of each file it is refuted that it has no answer, no pieces or no records.
-use Rattle.std.proofs.Common.{◌≡◌, ◌⊎◌, inl, inr, ℕ, suc, ◌-◌, Bool, true, false, List, [], ◌∷◌, ◌++◌, length, take, drop, Option, Some, None, refl, sym, ◌∙◌, subst}
-use Rattle.std.specs.Prelude.{slice_get}
+use Rattle.std.proofs.Common.{◌≡◌, ◌⊎◌, inl, inr, ℕ, suc, ◌-◌, Bool, true, false, List, [], ◌∷◌, ◌++◌, length, take, Option, Some, None, refl, sym, ◌∙◌, subst}
 use Rattle.las_header.specs.declared.refusal.Refusal.{Refusal}
 use Rattle.las_header.specs.Conditions.{Condition, IsFirst, conditions}
 use Rattle.las_header.specs.Fields.{head_of, is_packed}
@@ -12,9 +11,9 @@ use Rattle.laz_table.specs.Laws.{IsOnlyOne}
 use Rattle.laz_table.specs.Table.{TableHolds}
 use Rattle.laz_forms.specs.Existing.{HasAnAnswer, HasPieces, HasSomeRecords, HasSomeInRange, IsNotNone}
 use Rattle.laz_forms.specs.Pieces.{ArePieces, ArePiecesIf, Piece, pieces_from, plain_pieces}
-use Rattle.laz_forms.specs.Ranges.{Range, first_of, parts_of}
-use Rattle.laz_forms.specs.Records.{AreRead, AreRecordsIn, AreRecordsOf, HoldBlocks, HoldsBlock, moved}
-use Rattle.laz_forms.specs.Refusing.{IsAcceptedFile, IsRefusal, blocks_in, chunk_causes, chunks_place, table_end, table_part, table_place, tested_causes}
+use Rattle.laz_forms.specs.Ranges.{first_of, parts_of}
+use Rattle.laz_forms.specs.Records.{AreRead, HoldsBlock, moved}
+use Rattle.laz_forms.specs.Refusing.{IsAcceptedFile, blocks_in, chunk_causes, chunks_place, table_end, table_part, table_place, tested_causes}
 
 -- ---- what is there, and what follows from it
 

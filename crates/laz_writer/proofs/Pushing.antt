@@ -1,8 +1,7 @@
 -- What an output and its writer stand for, and the definitions of outputs.
-use Rattle.std.proofs.Common.{◌≡◌, ℕ, zero, suc, ◌+◌, ◌*◌, ◌/◌, ◌%◌, ◌<◌, ◌≤◌, ◌^◌, ◌==◌, ◌||◌, nat_le, Bool, true, false, List, [], ◌++◌, length, drop, map, Option, Some, None, refl, sym, ◌∙◌, ap, subst, length-append, arith}
-use Rattle.std.specs.List.{concat}
+use Rattle.std.proofs.Common.{◌≡◌, ℕ, ◌+◌, ◌*◌, ◌/◌, ◌%◌, ◌<◌, ◌≤◌, ◌^◌, Bool, true, false, List, [], ◌++◌, length, map, Option, Some, None, refl, sym, ◌∙◌, ap, subst, length-append, arith}
 use Rattle.std.proofs.lemmas.List.{append-nil, drop_all}
-use Rattle.std.proofs.Math.Nat.{div-add-mod, le_of_mul-le-mul_left, mul-div-le, mul-mod_right}
+use Rattle.std.proofs.Math.Nat.{div-add-mod, le_of_mul-le-mul_left, mul-div-le}
 use Rattle.las_header.specs.declared.counts.Counts.{Counts}
 use Rattle.las_header.specs.Counting.{counts_bytes, long_counts_bytes, with_counts}
 use Rattle.las_header.specs.Fields.{format_of, record_length_of}
@@ -12,7 +11,7 @@ use Rattle.las_header.proofs.Public.{cut_length}
 use Rattle.las_outside.specs.Outside.{Outside, with_bytes}
 use Rattle.las_points.specs.Tally.{IsWithinPoints, counts_of}
 use Rattle.laz_chunk.specs.Chunks.{chunk_bytes}
-use Rattle.laz_chunk.specs.Layouts.{Format, Layout, colour_length, layout, record_length, time_length}
+use Rattle.laz_chunk.specs.Layouts.{Format, layout, record_length}
 use Rattle.laz_table.specs.Payload.{laszip_payload}
 use Rattle.laz_table.specs.VlrCauses.{extra_of}
 use Rattle.laz_forms.specs.Outputs.{Output, front, front_of, full_points, points_in, records_after, stopped}

@@ -1,4 +1,4 @@
-use Rattle.std.proofs.Common.{rules, ◌≡◌, ◌^◌, ◌≤◌, ℕ, refl, sym, ◌∙◌, subst}
+use Rattle.std.proofs.Common.{rules, ◌^◌, ◌≤◌, ℕ, refl, ◌∙◌}
 use Rattle.las_info.specs.Tallies.{TapSeen, count_at}
 use denote.Param.Object.{read_made}
 use Rattle.las_info.specs.declared.tap.Tap.{Ghosts}

@@ -5,7 +5,6 @@ use Rattle.laz_models.specs.Bank.{model_at}
 use Rattle.laz_integer.specs.Corrector.{choices}
 use Rattle.laz_integer.specs.Integer.{symbol_cut, symbol_next}
 use Rattle.laz_integer.specs.Integer.{digit_cuts}
-use Rattle.laz_integer.proofs.Choices.{}
 use Rattle.laz_integer.specs.Models.{state_of}
 use Rattle.laz_integer.proofs.models.take.Goals as goal
 
