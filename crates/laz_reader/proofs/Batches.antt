@@ -135,7 +135,13 @@ whole_blocks size (p ∷ ps) (w ∷ ws) within each fits =
     (length_part size p.count p w (each 0 p (omega arith)) (fits 0 p (omega arith)), whole_blocks size ps ws (omega arith) (λ k d lt. each (suc k) d (omega arith)) (λ k d lt. fits (suc k) d (omega arith)))
 
 -- the next block of a plain file, of which n records are left
-module _ (size at n count taken : ℕ) (left : List Piece) (some : 0 < n) (count_is : count ≡ min n 50000) (taken_is : taken ≡ size * count) (left_is : left ≡ plain_from size at n) where
+pub record IsNextBlock (size at n count taken : ℕ) (left : List Piece) : Type 0 where
+  pub some : 0 < n
+  pub count_is : count ≡ min n 50000
+  pub taken_is : taken ≡ size * count
+  pub left_is : left ≡ plain_from size at n
+
+module _ {size at n count taken : ℕ} {left : List Piece} (next : IsNextBlock size at n count taken left) where
   pub first : Piece
   first = whole_piece at taken count
 
@@ -143,9 +149,9 @@ module _ (size at n count taken : ℕ) (left : List Piece) (some : 0 < n) (count
   unfolding first
   parts =
       let c : min 50000 n ≡ count = omega arith in
-      let t : size * min 50000 n ≡ taken = ap (λ (k : ℕ). size * k) c ∙ sym taken_is in
+      let t : size * min 50000 n ≡ taken = ap (λ (k : ℕ). size * k) c ∙ sym next.taken_is in
       let r : n - 50000 ≡ n - count = omega arith in
-      left_is ∙ plain_first size at n some
+      next.left_is ∙ plain_first size at n next.some
       ∙ (λ i. whole_piece at (t i) (c i) ∷ plain_from size (at + t i) (r i))
 
   pub first_size : first.size ≡ taken
@@ -164,7 +170,7 @@ module _ (size at n count taken : ℕ) (left : List Piece) (some : 0 < n) (count
 
   pub block_whole : (block : List ℕ) → length block ≡ taken → AreWholeBlocks size (take 1 left) (block ∷ [])
   unfolding first
-  block_whole block long = subst (λ (l : List Piece). AreWholeBlocks size (take 1 l) (block ∷ [])) (sym parts) (long ∙ taken_is, tt)
+  block_whole block long = subst (λ (l : List Piece). AreWholeBlocks size (take 1 l) (block ∷ [])) (sym parts) (long ∙ next.taken_is, tt)
 
   pub block_held : (file block : List ℕ) → is_packed (head_of file) ≡ false → block ≡ take taken (drop at file) → HoldOnly file (take 1 left) (block ∷ [])
   unfolding first
@@ -302,7 +308,7 @@ listed reader f chunk size position counts sizes cs ss left chunk_is some same p
       format = format;
     }
 
-module _ (reader : ReaderSeen) (f : Format) (ends : Ends) (number at : ℕ) (cs ss : List ℕ) (h : IsListed reader f ends number at cs ss) where
+module _ {reader : ReaderSeen} {f : Format} {ends : Ends} {number at : ℕ} {cs ss : List ℕ} (h : IsListed reader f ends number at cs ss) where
   pub batch_length : length reader.left ≡ length cs
   batch_length = ap (λ (l : List Piece). length l) h.left ∙ kept_length ends number at cs ss h.same
 

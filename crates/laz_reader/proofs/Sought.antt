@@ -11,7 +11,7 @@ use Rattle.laz_table.specs.VlrCauses.{chunk_size_of}
 use Rattle.laz_forms.specs.Pieces.{Piece, pieces_from, plain_from}
 use Rattle.laz_forms.specs.Ranges.{Range, first_if, first_in, first_of, parts_if, parts_in, parts_of}
 use Rattle.laz_reader.specs.Keeping.{IsSought, cuts_from, left_of}
-use Rattle.laz_reader.specs.Reading.{AgreesWithHead, AreListed, IsInPlace, LiesIn, Position, ReaderSeen, StandsFor, chunks_in, pieces_left, records_in}
+use Rattle.laz_reader.specs.Reading.{AgreesWithHead, AreListed, IsInPlace, LiesIn, Position, ReaderSeen, StandsFor, chunks_in, pieces_left, records_in, with_range}
 use Rattle.laz_forms.proofs.Public.{head_long, plain_records}
 use Rattle.laz_reader.proofs.Parts.{parts_lie, taken_in}
 use Rattle.laz_reader.proofs.PieceLists.{piece_taken, plain_lie}
@@ -89,15 +89,6 @@ plain_sought None head offset range after counts sizes pieces none at records = 
 plain_sought (Some c) head offset range after counts sizes pieces none at records = absurd (cc)
 
 -- ---- it stands for its file
--- what seeking changes
-abbrev pub sought_reader : ReaderSeen → Range → ReaderSeen
-sought_reader old range = record old {
-  range = range;
-  first = first_if (is_some old.chunk) range old.pieces;
-  next = first_if (is_some old.chunk) range old.pieces;
-  left = parts_if (is_some old.chunk) old.head.bytes (length old.head.bytes) range old.pieces;
-}
-
 some_if : (b : Bool) (n : ℕ) (chunk : Option ℕ) → chunk ≡ (if b then Some n else None) → is_some chunk ≡ b
 some_if true n chunk is = ap is_some is
 some_if false n chunk is = ap is_some is
@@ -148,7 +139,7 @@ module _ (old : ReaderSeen) (file : List ℕ) (s : StandsFor old file) (range : 
       length_take_most (suc n) [] = omega arith
       length_take_most (suc n) (x ∷ xs) = omega (arith, length_take_most n xs)
 
-  pub sought_stands : IsHead old.head.bytes → old.bad ≡ false → range.start ≤ range.stop → range.stop ≤ points_of old.head.bytes → StandsFor (sought_reader old range) file
+  pub sought_stands : IsHead old.head.bytes → old.bad ≡ false → range.start ≤ range.stop → range.stop ≤ points_of old.head.bytes → StandsFor (with_range old range) file
   sought_stands head fine order within =
       let lies = lies_by (is_packed (head_of file)) refl (subst IsHead head_is head) order (omega (arith, within, ap (λ (b : List ℕ). points_of b) head_is)) in
       record {
@@ -179,7 +170,7 @@ records_by (Some c) head offset range place counts sizes same order within =
     taken_in range 0 place counts sizes same (omega (arith, within c refl)) ∙ omega arith
 
 pub sought_agrees : (old : ReaderSeen) (range : Range) (place : ℕ) (counts sizes : List ℕ) → old.pieces ≡ pieces_from place counts sizes → length counts ≡ length sizes → ((size : ℕ) → old.chunk ≡ Some size → sum counts ≡ points_of old.head.bytes)
-    → range.start ≤ range.stop → range.stop ≤ points_of old.head.bytes → AgreesWithHead old → AgreesWithHead (sought_reader old range)
+    → range.start ≤ range.stop → range.stop ≤ points_of old.head.bytes → AgreesWithHead old → AgreesWithHead (with_range old range)
 sought_agrees old range place counts sizes is same points order within a = record {
   chunk = a.chunk;
   one = a.one;

@@ -1,6 +1,7 @@
 use Rattle.std.proofs.Common.{◌≡◌, ⊎_elim, ◌<◌, ◌≤◌, ◌==◌, ◌*◌, ◌∙◌, false, min, refl, sym, ap, subst, length, ℕ, List, [], take, get_or, arith}
 use Rattle.std.proofs.lemmas.Bool.{cases_lt}
 use Rattle.std.proofs.lemmas.Bool.Decides.{nat_tests}
+use Rattle.std.proofs.lemmas.Grind.{common_steps}
 use Rattle.std.proofs.lemmas.List.{get_or-take, length-take-le}
 use Rattle.las_header.specs.declared.refusal.Refusal.TheVariants.{BadChunk}
 use Rattle.las_outside.proofs.Public.{reads-more}
@@ -44,6 +45,12 @@ work_chunks-requires-clause-run g c κs within =
       near = omega (arith, run.near, sum_front batch bytes);
       lie = known_then _ _ _ _ (λ file lie. front_lies file c.args.run.now.place points bytes batch lie) run.lie;
     }
+
+pub work_chunks-requires-clause-some : goal.work_chunks-requires-clause-some
+work_chunks-requires-clause-some g c = grind (arith, common_steps)
+
+pub work_chunks-requires-clause-crew : goal.work_chunks-requires-clause-crew
+work_chunks-requires-clause-crew g c = grind (arith, common_steps)
 
 pub returns-then-good-eq0-clause-bad : goal.returns-then-good-eq0-clause-bad
 returns-then-good-eq0-clause-bad g c = λ cause is.

@@ -1,4 +1,5 @@
-use Rattle.std.proofs.Common.{◌≡◌, true, false, sym, ◌∙◌, ap, subst}
+use Rattle.std.proofs.Common.{◌≡◌, true, false, sym, ◌∙◌, ap, subst, arith}
+use Rattle.std.proofs.lemmas.Grind.{common_steps}
 use Rattle.las_header.specs.Fields.{record_length_of}
 use Rattle.las_header.specs.Heads.{HeadView}
 use Rattle.laz_workers.specs.Rooms.{rooms_of}
@@ -16,6 +17,9 @@ returns-in-Ok-clause-stands g c =
     let moved = c.in-Ok.ensures.moved in
     known_then _ _ _ _ (λ file s. stands_later now new c.in-Ok.n now.bad now.cuts new.lent file moved
     (λ is. let never : true ≡ false = sym is ∙ sym (ap (λ (r : ReaderSeen). r.bad) moved) ∙ c.next_plain.ensures.fine in absurd (cc)) s) c.requires.stands
+
+pub returns-in-Ok-clause-end : goal.returns-in-Ok-clause-end
+returns-in-Ok-clause-end g c = grind (arith, common_steps)
 
 pub returns-in-Ok-next_packed-clause-stands : goal.returns-in-Ok-next_packed-clause-stands
 returns-in-Ok-next_packed-clause-stands g c =

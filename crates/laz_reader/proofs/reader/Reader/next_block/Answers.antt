@@ -1,4 +1,5 @@
 use Rattle.std.proofs.Common.{◌≡◌, ◌<◌, ℕ, List, Err, length, take, sym, ◌∙◌, ap, subst, arith}
+use Rattle.std.proofs.lemmas.Grind.{common_steps}
 use Rattle.las_outside.specs.Files.{WhereKnown}
 use Rattle.laz_forms.specs.declared.fault.Fault.TheVariants.{Refused}
 use Rattle.laz_reader.specs.Reading.{ReaderSeen, StandsFor}
@@ -49,6 +50,9 @@ returns-then-turn-clause-next g c held first n blocks t same =
     c.if-count-eq0.false b.2 (λ none. one_block reader.chunk (length c.args.crew.now) k (length reader.left) (sym (ap (λ (r : ReaderSeen). r.chunk) h.moved) ∙ none) h.most)
     (ap (λ (r : ReaderSeen). r.failed) h.moved ∙ t.sound) h.crew
     (subst (λ (name : List ℕ). WhereKnown held name (StandsFor new)) (sym named) (known_same now.held held reader.name (StandsFor new) here h.stands))
+
+pub returns-then-turn-clause-less : goal.returns-then-turn-clause-less
+returns-then-turn-clause-less g c = grind (arith, common_steps)
 
 pub returns-clause-next : goal.returns-clause-next
 returns-clause-next g c held first n blocks t same =

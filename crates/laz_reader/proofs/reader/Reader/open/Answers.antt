@@ -14,6 +14,11 @@ returns-in_err-head-clause-refused g c = λ cause is.
     let same = residual_is c.from_residual-in_err-head.result c.in_err-head.field-0.0 cause c.from_residual-in_err-head.ensures.1 is in
     known_then _ _ _ _ (λ file none. refused_head file cause none) (c.in_err-head.ensures.refused cause (ap (λ (f : Fault). Err f) same))
 
+pub of-requires : goal.of-requires
+of-requires g c =
+    let e = c.in_ok-list.ensures in
+    record { lists = e.lists; near = e.near; some = e.some; points = e.points; plain = e.plain }
+
 pub returns-clause-stands : goal.returns-clause-stands
 returns-clause-stands g c =
     let head = c.in_ok-head.head in

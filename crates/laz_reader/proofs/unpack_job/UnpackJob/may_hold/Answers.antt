@@ -1,8 +1,15 @@
 use Rattle.std.proofs.Common.{◌≡◌, ◌≤◌, ◌∙◌, ap, arith}
 use Rattle.std.proofs.lemmas.Bool.{leb-false}
+use Rattle.std.proofs.lemmas.Grind.{common_steps}
 use Rattle.laz_chunk.specs.Layouts.{Format, layout, room_for}
 use Rattle.laz_chunk.proofs.Public.{chunk-most}
 use Rattle.laz_reader.proofs.unpack_job.UnpackJob.may_hold.Goals as goal
+
+pub returns-then-count-eq0-clause-none : goal.returns-then-count-eq0-clause-none
+returns-then-count-eq0-clause-none c = grind (arith, common_steps)
+
+pub returns-then-size-record_length-clause-none : goal.returns-then-size-record_length-clause-none
+returns-then-size-record_length-clause-none c = grind (arith, common_steps)
 
 pub returns-clause-none : goal.returns-clause-none
 returns-clause-none c = λ no bytes long block are holds.
