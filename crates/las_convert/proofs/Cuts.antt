@@ -95,18 +95,29 @@ concat-one [] new = append-nil new
 concat-one (o ∷ os) new = ap (λ (t : List ℕ). o ++ t) (concat-one os new) ∙ sym (append_assoc o (concat os) new)
 
 module _ (Adds : Adding) (size t at : ℕ) (block buffer : List ℕ) (so : KeptSo Adds size t at block buffer) where
-  pub kept_dropped : ((ones : List (List ℕ)) → Adds (cut_records size t block) ones false → Adds (cut_records size (t + 1) block) ones false) → KeptSo Adds size (t + 1) at block buffer
-  kept_dropped go = record { ones = so.ones; bytes = so.bytes; size_is = so.size_is; adds = go so.ones so.adds }
+  pub kept_dropped : {n : ℕ} {now : List ℕ} → n ≡ at → now ≡ buffer
+      → ((ones : List (List ℕ)) → Adds (cut_records size t block) ones false
+      → Adds (cut_records size (t + 1) block) ones false) → KeptSo Adds size (t + 1) n block now
+  kept_dropped {n} {now} n_is now_is go = record {
+    ones = so.ones;
+    bytes = ap (λ (m : ℕ). take m now) n_is ∙ ap (take at) now_is ∙ so.bytes;
+    size_is = n_is ∙ so.size_is;
+    adds = go so.ones so.adds;
+  }
 
-  pub kept_more : (k : ℕ) (new : List ℕ) → ((ones : List (List ℕ)) → Adds (cut_records size t block) ones false → Adds (cut_records size (t + 1) block) (ones ++ new ∷ []) false)
-      → length new ≡ size → at ≤ length buffer → KeptSo Adds size (t + 1) (at + size) block (put_mid at k buffer new)
-  kept_more k new go long within =
+  pub kept_more : {n : ℕ} {now : List ℕ} (k : ℕ) (new : List ℕ) → n ≡ at + size → now ≡ put_mid at k buffer new
+      → ((ones : List (List ℕ)) → Adds (cut_records size t block) ones false
+      → Adds (cut_records size (t + 1) block) (ones ++ new ∷ []) false) → length new ≡ size → at ≤ length buffer
+      → KeptSo Adds size (t + 1) n block now
+  kept_more {n} {now} k new n_is now_is go long within =
       let here : at + size ≡ at + length new = omega (arith, long) in
       let more : size * length (so.ones ++ new ∷ []) ≡ size * (length so.ones + 1) = ap (λ (n : ℕ). size * n) (length-append so.ones (new ∷ [])) in
       record {
         ones = so.ones ++ new ∷ [];
-        bytes = take-put_mid at k buffer new (at + size) here within ∙ ap (λ (xs : List ℕ). xs ++ new) so.bytes ∙ sym (concat-one so.ones new);
-        size_is = omega (arith, so.size_is, more);
+        bytes = ap (λ (m : ℕ). take m now) n_is ∙ ap (take (at + size)) now_is
+            ∙ take-put_mid at k buffer new (at + size) here within ∙ ap (λ (xs : List ℕ). xs ++ new) so.bytes
+            ∙ sym (concat-one so.ones new);
+        size_is = omega (arith, n_is, so.size_is, more);
         adds = go so.ones so.adds;
       }
 

@@ -60,6 +60,26 @@ ends_with known was old now keeping reader out bytes Read has left = (has, left)
 ends_with known was old now keeping reader out bytes Write has left = (has, left)
 ends_with known was old now keeping reader out bytes Memory has left = left
 
+-- what is left when all that is kept of some blocks went into the output
+left_of : (known was now : Option FileMap) (keeping : Keeping) (reader : ReaderSeen) (out : Output) (bytes : List ℕ)
+    (n : ℕ) (blocks ones : List (List ℕ)) (refused : Bool) → HoldFirst known reader n blocks
+    → Adds keeping [] (cut_all (record_length_of reader.head.bytes) (concat blocks)) ones refused
+    → ((more : List ℕ) → (n ≡ length reader.left → more ≡ [])
+    → LeavesUnfinished out (bytes ++ (concat ones ++ more)) was now)
+    → LeavesConverting known was now keeping reader out bytes
+left_of known was now keeping reader out bytes n blocks ones refused hold adds left = record {
+  n = n;
+  blocks = blocks;
+  first = cut_all (record_length_of reader.head.bytes) (concat blocks);
+  rest = [];
+  ones = ones;
+  refused = refused;
+  hold = hold;
+  split = sym (append-nil (cut_all (record_length_of reader.head.bytes) (concat blocks)));
+  adds = adds;
+  left = λ more none. left more (λ all. none all refl);
+}
+
 module _ (old : Outside) (keeping : Keeping) (reader : ReaderSeen) (w : WriterSeen)
     (wide : w.size ≡ record_length_of reader.head.bytes) (n : ℕ) (blocks : List (List ℕ))
     (hold : HoldFirst old.held reader n blocks) (before : Outside) (out : Output) (bytes : List ℕ)
@@ -92,38 +112,20 @@ module _ (old : Outside) (keeping : Keeping) (reader : ReaderSeen) (w : WriterSe
         → IsUnfinished (draft_of out (bytes ++ concat g.ones)) (patches_of out (bytes ++ concat g.ones)) left
         → Stops fault (with_bytes (with_reads before mid) out.name left) new
         → LeavesConverting old.held before.held new.held keeping reader out bytes
-    left_finish new fault left all is stops = record {
-      n = n;
-      blocks = blocks;
-      first = cut_all (record_length_of reader.head.bytes) (concat blocks);
-      rest = [];
-      ones = g.ones;
-      refused = refused;
-      hold = hold;
-      split = sym (append-nil (cut_all (record_length_of reader.head.bytes) (concat blocks)));
-      adds = adds_here;
-      left = λ more none. leaves_end before out bytes (concat g.ones) more new.held left (none all refl) is
-          (held_after fault (with_bytes (with_reads before mid) out.name left) new stops);
-    }
+    left_finish new fault left all is stops =
+        left_of old.held before.held new.held keeping reader out bytes n blocks g.ones refused hold adds_here
+        (λ more none. leaves_end before out bytes (concat g.ones) more new.held left (none all) is
+        (held_after fault (with_bytes (with_reads before mid) out.name left) new stops))
 
     -- stopping failed
     pub left_stop : (new : Outside) (fault : Fault) (k : ℕ)
         → Stops fault (with_bytes (with_reads before mid) out.name (take k (stopped out (bytes ++ concat g.ones)))) new
         → LeavesConverting old.held before.held new.held keeping reader out bytes
-    left_stop new fault k stops = record {
-      n = n;
-      blocks = blocks;
-      first = cut_all (record_length_of reader.head.bytes) (concat blocks);
-      rest = [];
-      ones = g.ones;
-      refused = refused;
-      hold = hold;
-      split = sym (append-nil (cut_all (record_length_of reader.head.bytes) (concat blocks)));
-      adds = adds_here;
-      left = λ more none. leaves_part before old w out bytes s (concat g.ones) more new.held k
-          (held_after fault (with_bytes (with_reads before mid) out.name
-          (take k (stopped out (bytes ++ concat g.ones)))) new stops);
-    }
+    left_stop new fault k stops =
+        let text = take k (stopped out (bytes ++ concat g.ones)) in
+        left_of old.held before.held new.held keeping reader out bytes n blocks g.ones refused hold adds_here
+        (λ more none. leaves_part before old w out bytes s (concat g.ones) more new.held k
+        (held_after fault (with_bytes (with_reads before mid) out.name text) new stops))
 
     pub finished_all : (now : Option FileMap) → EndsKeeping old.held reader n count refused None
         → now ≡ with_file before.held out.name (finished out (bytes ++ concat g.ones))
@@ -172,19 +174,9 @@ pub ends_left : (known : Option FileMap) (before old new : Outside) (keeping : K
     → LeavesConverting known before.held new.held keeping reader out bytes
 ends_left known before old new keeping reader w out bytes (Refused cause) s e =
     let text = stopped out (bytes ++ concat e.ones) in
-    record {
-      n = e.n;
-      blocks = e.blocks;
-      first = cut_all (record_length_of reader.head.bytes) (concat e.blocks);
-      rest = [];
-      ones = e.ones;
-      refused = e.refused;
-      hold = e.hold;
-      split = sym (append-nil (cut_all (record_length_of reader.head.bytes) (concat e.blocks)));
-      adds = e.adds;
-      left = λ more none. leaves_part before old w out bytes s (concat e.ones) more new.held (length text)
-          (e.now_is ∙ ap (with_file before.held out.name) (sym (take_all (length text) text (omega arith))));
-    }
+    left_of known before.held new.held keeping reader out bytes e.n e.blocks e.ones e.refused e.hold e.adds
+    (λ more none. leaves_part before old w out bytes s (concat e.ones) more new.held (length text)
+    (e.now_is ∙ ap (with_file before.held out.name) (sym (take_all (length text) text (omega arith)))))
 ends_left known before old new keeping reader w out bytes Read s e = e.1
 ends_left known before old new keeping reader w out bytes Write s e = e.1
 ends_left known before old new keeping reader w out bytes Memory s e = e

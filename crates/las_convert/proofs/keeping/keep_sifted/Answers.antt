@@ -3,15 +3,43 @@ use Rattle.las_filter.specs.Changes.{changed}
 use Rattle.las_filter.specs.Kept.{steps_of}
 use Rattle.las_header.specs.Plain.{cut_records}
 use Rattle.las_thin.specs.Kept.{passing}
+use Rattle.las_thin.specs.Placed.{Placed}
 use Rattle.las_thin.specs.Sieving.{Settings, StandsFor}
 use Rattle.las_convert.specs.Adding.{Adds, kept_by}
 use Rattle.las_convert.specs.Passing.{passes_after}
 use Rattle.las_convert.proofs.Adding.{adds_none}
-use Rattle.las_convert.proofs.Cuts.{KeptSo, after_next, kept_dropped, kept_first, kept_more, kept_refused, next_dropped, next_kept, next_refused, none_yet, reached}
+use Rattle.las_convert.proofs.Cuts.{after_next, kept_dropped, kept_first, kept_more, kept_refused}
+use Rattle.las_convert.proofs.Cuts.{next_dropped, next_kept, next_refused, none_yet, reached}
 use Rattle.las_convert.proofs.Passing.{keeps_one_more, no_more, sieve_keeps}
 use Rattle.las_convert.proofs.keeping.keep_sifted.Goals as goal
-use Rattle.las_convert.proofs.keeping.keep_sifted.Goals.{then-branch+in-Ok, else-branch}
+use Rattle.las_convert.proofs.keeping.keep_sifted.Goals.{After-split_at, In_ok-passes, then-branch+in-Ok, else-branch}
 use Rattle.laz_forms.proofs.Public.{rest_next, block_fits}
+
+-- what stands when the next record was cut off
+module _ (c : After-split_at) where
+  within : c.loop-turn.at ≤ length c.loop-turn.buffer
+  within =
+      let fits = block_fits c.args.size c.loop-turn._turn c.args.block.now c.requires.whole c.loop-turn-test.true in
+      omega (arith, c.loop-turn.invariant.at, c.loop-turn.auto.buffer, fits, c.requires.room)
+
+-- what stands when it was said whether it passes
+module _ (c : In_ok-passes) (looked : List Placed) (before : List (List ℕ)) (is : length before ≡ c.args.read)
+    (stands : StandsFor looked (passing (steps_of c.args.plan.now) before) c.args.sieve.now) where
+  abbrev all : List (List ℕ)
+  all = before ++ cut_records c.args.size c.loop-turn._turn c.args.block.now
+
+  here : length all ≡ c.loop-turn.place
+  here = reached before c.args.size c.loop-turn._turn c.args.block.now c.args.read c.loop-turn.place is
+      c.loop-turn.invariant.place
+
+  passes_is : passes_after c.args.sieve.now.settings looked (steps_of c.args.plan.now) all c.split_at.result.0.now
+      ≡ c.in_ok-passes.field-0
+  passes_is =
+      let answer = c.in_ok-passes.ensures.answer looked all here
+      (c.loop-turn.invariant.stands looked before is stands) in
+      sym (ap
+      (λ (s : Settings). passes_after s looked (steps_of c.args.plan.now) all c.split_at.result.0.now)
+      c.loop-turn.invariant.settings) ∙ sym answer
 
 pub loop-turn-init : goal.loop-turn-init
 loop-turn-init c =
@@ -48,14 +76,12 @@ returns-in-Err-clause-kept c looked before is stands =
     let n = length block / size in
     let point = c.split_at.result.0.now in
     let all = before ++ cut_records size t block in
-    let here = reached before size t block c.args.read c.loop-turn.place is c.loop-turn.invariant.place in
-    let answer = c.in_ok-passes.ensures.answer looked all here (c.loop-turn.invariant.stands looked before is stands) in
-    let passes = sym (ap (λ (s : Settings). passes_after s looked plan all point) c.loop-turn.invariant.settings) ∙ sym answer ∙ c.if-branch.true in
-    let within : at ≤ length c.loop-turn.buffer = omega (arith, c.loop-turn.invariant.at, c.loop-turn.auto.buffer, block_fits size t block c.requires.whole c.loop-turn-test.true, c.requires.room) in
+    let passes = passes_is (goal.at.returns-in-Err-clause-kept c).In_ok-passes looked before is stands
+    ∙ c.if-branch.true in
     kept_refused (Adds keeping before) size t at block c.loop-turn.buffer (c.loop-turn.invariant.kept looked before is stands) (at + size - at) n c.put_changed.new.place
     (λ ones adds. next_refused keeping before size t block c.loop-turn.rest.now point c.loop-turn.invariant.rest c.split_at.ensures.front (passes_after settings looked plan all point) (changed plan.changes point) (keeps_one_more settings looked plan all point) ones adds (sieve_keeps settings looked plan) n
     passes (c.in-Err.ensures.refused.0 refl) c.loop-turn-test.true)
-    within
+    (within (goal.at.returns-in-Err-clause-kept c).After-split_at)
 
 pub loop-turn-preserved : goal.loop-turn-preserved
 loop-turn-preserved c =
@@ -68,8 +94,8 @@ loop-turn-preserved c =
     let left = c.loop-turn.invariant.rest in
     let first = c.split_at.ensures.front in
     let point = c.split_at.result.0.now in
-    let within : at ≤ length c.loop-turn.buffer = omega (arith, c.loop-turn.invariant.at, c.loop-turn.auto.buffer, block_fits size t block c.requires.whole c.loop-turn-test.true, c.requires.room) in
     let long : size * (t + 1) ≡ size * t + size = omega arith in
+    let k = (goal.at.loop-turn-preserved c).In_ok-passes in
     record {
       rest = rest_next size t block c.loop-turn.rest.now c.split_at.result.1.now left c.split_at.ensures.back;
       at = elim c.if-branch.branch [ then-branch+in-Ok w ↦ omega (arith, long, w.at-is, c.loop-turn.invariant.at) | else-branch w ↦ omega (arith, long, w.at-is, c.loop-turn.invariant.at) ];
@@ -79,27 +105,24 @@ loop-turn-preserved c =
           let keeping = kept_by settings looked plan in
           let so = c.loop-turn.invariant.kept looked before is stands in
           let all = before ++ cut_records size t block in
-          let here = reached before size t block c.args.read c.loop-turn.place is c.loop-turn.invariant.place in
-          let answer = c.in_ok-passes.ensures.answer looked all here (c.loop-turn.invariant.stands looked before is stands) in
-          let passes = sym (ap (λ (s : Settings). passes_after s looked plan all point) c.loop-turn.invariant.settings) ∙ sym answer in
+          let passes = passes_is k looked before is stands in
           let grow = keeps_one_more settings looked plan all point in
           elim c.if-branch.branch [
             | then-branch+in-Ok w ↦
                 let new = w.put_changed.new.place in
                 let size_is : length new ≡ size = w.put_changed.ensures.size ∙ c.split_at.ensures.front_len in
-                let more = kept_more (Adds keeping before) size t at block c.loop-turn.buffer so (at + size - at) new
+                kept_more (Adds keeping before) size t at block c.loop-turn.buffer so (at + size - at) new w.at-is w.buffer-is
                 (λ ones adds. next_kept keeping before size t block c.loop-turn.rest.now point left first (passes_after settings looked plan all point) (changed plan.changes point) grow ones adds new (passes ∙ w.if-branch.true) w.in-Ok.ensures.made)
-                size_is within in
-                subst (λ (n : ℕ). KeptSo (Adds keeping before) size (t + 1) n block c.if-branch.buffer) (sym w.at-is) (subst (λ (b : List ℕ). KeptSo (Adds keeping before) size (t + 1) (at + size) block b) (sym w.buffer-is) more)
+                size_is (within (goal.at.loop-turn-preserved c).After-split_at)
             | else-branch w ↦
-                let more = kept_dropped (Adds keeping before) size t at block c.loop-turn.buffer so
-                (λ ones adds. next_dropped keeping before size t block c.loop-turn.rest.now point left first (passes_after settings looked plan all point) (changed plan.changes point) grow ones adds (passes ∙ w.if-branch.false)) in
-                subst (λ (n : ℕ). KeptSo (Adds keeping before) size (t + 1) n block c.if-branch.buffer) (sym w.at-is) (subst (λ (b : List ℕ). KeptSo (Adds keeping before) size (t + 1) at block b) (sym w.buffer-is) more)
+                kept_dropped (Adds keeping before) size t at block c.loop-turn.buffer so w.at-is w.buffer-is
+                (λ ones adds. next_dropped keeping before size t block c.loop-turn.rest.now point left first (passes_after settings looked plan all point) (changed plan.changes point) grow ones adds (passes ∙ w.if-branch.false))
           ];
       stands = λ looked before is stands.
-          let here = reached before size t block c.args.read c.loop-turn.place is c.loop-turn.invariant.place in
-          subst (λ (records : List (List ℕ)). StandsFor looked (passing plan records) c.passes.new.sieve) (after_next before size t block c.loop-turn.rest.now point left first)
-          (c.in_ok-passes.ensures.stands looked (before ++ cut_records size t block) here (c.loop-turn.invariant.stands looked before is stands));
+          subst (λ (records : List (List ℕ)). StandsFor looked (passing plan records) c.passes.new.sieve)
+          (after_next before size t block c.loop-turn.rest.now point left first)
+          (c.in_ok-passes.ensures.stands looked (before ++ cut_records size t block) (here k looked before is stands)
+          (c.loop-turn.invariant.stands looked before is stands));
     }
 
 pub returns-clause-kept : goal.returns-clause-kept

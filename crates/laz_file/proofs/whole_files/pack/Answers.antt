@@ -2,17 +2,61 @@ use Rattle.std.proofs.Common.{◌≡◌, ℕ, false, List, [], drop, Err, Option
 use Rattle.std.specs.List.{concat}
 use Rattle.las_header.specs.Fields.{is_packed, point_offset_of}
 use Rattle.las_header.specs.Heads.{HeadView, IsHead}
+use Rattle.las_outside.specs.Outside.{Outside}
+use Rattle.laz_forms.specs.declared.fault.Fault.{Fault}
 use Rattle.laz_forms.specs.declared.fault.Fault.TheVariants.{Refused, Read, Memory}
-use Rattle.laz_reader.specs.Asking.{ReadsAndWrites, bytes_left}
-use Rattle.laz_file.specs.Copying.{EndsCopying, LeavesInPart, Packs, packed_output}
 use Rattle.laz_forms.specs.Outputs.{Output}
-use Rattle.laz_reader.specs.Reading.{ReaderSeen, StandsFor}
 use Rattle.laz_forms.specs.Records.{AreRecordsOf}
-use Rattle.laz_reader.proofs.Public.{after_writes}
 use Rattle.laz_forms.proofs.Public.{known_both, known_then}
+use Rattle.laz_reader.specs.Asking.{ReadsAndWrites, bytes_left}
+use Rattle.laz_reader.specs.Reading.{ReaderSeen, StandsFor}
+use Rattle.laz_reader.proofs.Public.{after_writes}
+use Rattle.laz_file.specs.Copying.{EndsCopying, LeavesInPart, Packs, packed_output}
 use Rattle.laz_file.proofs.Making.{copies_packed, ends_created, ends_err, ends_filled, left_before, writes_packed}
-use Rattle.laz_file.proofs.WholeOutputs.{err_at, known_reader, leaves_plain, leaves_short, no_chunk, packed_out, plain_kind, stands_ready}
+use Rattle.laz_file.proofs.WholeOutputs.{err_at, known_reader, leaves_plain, leaves_short, no_chunk, packed_out}
+use Rattle.laz_file.proofs.WholeOutputs.{plain_kind, stands_ready}
+use Rattle.laz_file.proofs.whole_files.pack.Given.{Over}
+use Rattle.laz_file.proofs.whole_files.pack.Goals.{After-fill, After-head-head}
 use Rattle.laz_file.proofs.whole_files.pack.Goals as goal
+
+-- the output, whose head is the input's
+module _ (g : Over) (c : After-head-head g) where
+  abbrev out : Output
+  out = record {
+    name = c.args.output.now;
+    head = c.head-head.result.now.bytes;
+    chunk = Some c.args.chunk;
+    counted = false;
+  }
+
+  same : c.head-head.result.now.bytes ≡ c.args.reader.head.bytes
+  same = ap (λ (h : HeadView). h.bytes)
+      (c.head-head.ensures ∙ ap (λ (r : ReaderSeen). r.head) c.in_ok-crew.ensures.kept)
+
+  plain : is_packed c.args.reader.head.bytes ≡ false
+  plain = plain_kind (is_packed c.args.reader.head.bytes) _ (sym c.requires.whole.chunk ∙ c.requires.plain)
+
+-- what stands when the records were copied, or could not be
+module _ (g : Over) (c : After-fill g) where
+  abbrev old : Outside
+  old = g.F.Files.seen c.args.files.now
+
+  abbrev mid : Outside
+  mid = g.F.Files.seen c.create.new.files
+
+  abbrev new : Outside
+  new = g.F.Files.seen c.fill.new.files
+
+  abbrev made : After-head-head g
+  made = (goal.at.After-fill g c).After-head-head
+
+  is_head : IsHead c.args.reader.head.bytes
+  is_head = subst IsHead (same g made) c.in_ok-writer.ensures.stands.head
+
+  ended : (fault : Fault) → c.fill.result ≡ Err fault
+      → EndsCopying mid.held old.held mid new c.crew.new.self (out g made) [] fault
+  ended fault is = err_at (EndsCopying mid.held old.held mid new c.crew.new.self (out g made) []) c.fill.result fault
+      (c.fill.ensures.ends old (out g made) [] c.in_ok-writer.ensures.stands) is
 
 pub returns-in_err-crew-clause-ends : goal.returns-in_err-crew-clause-ends
 returns-in_err-crew-clause-ends g c =
@@ -24,54 +68,49 @@ returns-in_err-crew-clause-ends g c =
 
 pub returns-in_err-writer-clause-ends : goal.returns-in_err-writer-clause-ends
 returns-in_err-writer-clause-ends g c =
+    let k = (goal.at.returns-in_err-writer-clause-ends g c).After-head-head in
     let old = g.F.Files.seen c.args.files.now in
     let new = g.F.Files.seen c.create.new.files in
     let first = c.args.reader in
     let name = c.args.output.now in
     let chunk = c.args.chunk in
-    let head = c.head-head.result.now.bytes in
-    let out : Output = record { name = name; head = head; chunk = Some chunk; counted = false } in
-    let same : head ≡ first.head.bytes = ap (λ (h : HeadView). h.bytes) (c.head-head.ensures ∙ ap (λ (r : ReaderSeen). r.head) c.in_ok-crew.ensures.kept) in
-    let plain : is_packed first.head.bytes ≡ false = plain_kind (is_packed first.head.bytes) _ (sym c.requires.whole.chunk ∙ c.requires.plain) in
     let h = c.in_err-writer.ensures in
     let fault = c.in_err-writer.field-0.0 in
-    ends_err (Packs name chunk) first.name old new (Unit {0}) c.from_residual-in_err-writer.result fault c.from_residual-in_err-writer.ensures.1
-    (ends_created (Packs name chunk) first out (writes_packed first name head chunk plain same) old new c.requires.stands (Unit {0}) fault h.fault h.stopped (λ e. h.write (ap Err e)))
+    ends_err (Packs name chunk) first.name old new (Unit {0}) c.from_residual-in_err-writer.result fault
+    c.from_residual-in_err-writer.ensures.1
+    (ends_created (Packs name chunk) first (out g k)
+    (writes_packed first name c.head-head.result.now.bytes chunk (plain g k) (same g k)) old new c.requires.stands
+    (Unit {0}) fault h.fault h.stopped (λ e. h.write (ap Err e)))
 
 pub fill-requires-clause-reads : goal.fill-requires-clause-reads
 fill-requires-clause-reads g c κs within =
+    let k = (goal.at.fill-requires-clause-reads g c).After-head-head in
     let old = g.F.Files.seen c.args.files.now in
     let mid = g.F.Files.seen c.create.new.files in
     let first = c.args.reader in
-    let out : Output = record { name = c.args.output.now; head = c.head-head.result.now.bytes; chunk = Some c.args.chunk; counted = false } in
-    known_reader old mid mid first c.crew.new.self 2 c.in_ok-crew.ensures.kept c.requires.new.whole c.in_ok-writer.writer out c.in_ok-writer.ensures.stands (λ e. c.requires.names (sym e)) c.requires.stands (StandsFor c.crew.new.self)
-    (known_then old.held first.name (StandsFor first) (StandsFor c.crew.new.self) (λ file s. stands_ready first c.crew.new.self 2 file c.in_ok-crew.ensures.kept s) c.requires.stands)
+    known_reader old mid mid first c.crew.new.self 2 c.in_ok-crew.ensures.kept c.requires.new.whole
+    c.in_ok-writer.writer (out g k) c.in_ok-writer.ensures.stands (λ e. c.requires.names (sym e)) c.requires.stands
+    (StandsFor c.crew.new.self)
+    (known_then old.held first.name (StandsFor first) (StandsFor c.crew.new.self)
+    (λ file s. stands_ready first c.crew.new.self 2 file c.in_ok-crew.ensures.kept s) c.requires.stands)
 
 pub returns-clause-ends : goal.returns-clause-ends
 returns-clause-ends g c =
-    let old = g.F.Files.seen c.args.files.now in
-    let mid = g.F.Files.seen c.create.new.files in
-    let new = g.F.Files.seen c.fill.new.files in
+    let k = (goal.at.returns-clause-ends g c).After-fill in
+    let m = (goal.at.returns-clause-ends g c).After-head-head in
     let first = c.args.reader in
     let name = c.args.output.now in
     let chunk = c.args.chunk in
-    let head = c.head-head.result.now.bytes in
-    let out : Output = record { name = name; head = head; chunk = Some chunk; counted = false } in
-    let same : head ≡ first.head.bytes = ap (λ (h : HeadView). h.bytes) (c.head-head.ensures ∙ ap (λ (r : ReaderSeen). r.head) c.in_ok-crew.ensures.kept) in
-    let plain : is_packed first.head.bytes ≡ false = plain_kind (is_packed first.head.bytes) _ (sym c.requires.whole.chunk ∙ c.requires.plain) in
     let h = c.in_ok-writer.ensures in
-    let is_head : IsHead first.head.bytes = subst IsHead same h.stands.head in
-    let copies = copies_packed first name head chunk plain same is_head in
-    ends_filled (Packs name chunk) first out copies old new c.requires.stands mid c.crew.new.self 2 c.in_ok-crew.ensures.kept c.requires.new.whole c.in_ok-writer.writer h.stands (λ e. c.requires.names (sym e)) h.calm
-    c.fill.result (c.fill.ensures.finished old out [] h.stands) (c.fill.ensures.ends old out [] h.stands) c.fill.ensures.calm
+    let copies = copies_packed first name c.head-head.result.now.bytes chunk (plain g m) (same g m) (is_head g k) in
+    ends_filled (Packs name chunk) first (out g m) copies (old g k) (new g k) c.requires.stands (mid g k)
+    c.crew.new.self 2 c.in_ok-crew.ensures.kept c.requires.new.whole c.in_ok-writer.writer h.stands
+    (λ e. c.requires.names (sym e)) h.calm c.fill.result (c.fill.ensures.finished (old g k) (out g m) [] h.stands)
+    (c.fill.ensures.ends (old g k) (out g m) [] h.stands) c.fill.ensures.calm
 
 pub returns-clause-never : goal.returns-clause-never
 returns-clause-never g c cause is =
-    let old = g.F.Files.seen c.args.files.now in
-    let mid = g.F.Files.seen c.create.new.files in
-    let new = g.F.Files.seen c.fill.new.files in
-    let out : Output = record { name = c.args.output.now; head = c.head-head.result.now.bytes; chunk = Some c.args.chunk; counted = false } in
-    let e = err_at (EndsCopying mid.held old.held mid new c.crew.new.self out []) c.fill.result (Refused cause) (c.fill.ensures.ends old out [] c.in_ok-writer.ensures.stands) is in
+    let e = ended g (goal.at.returns-clause-never g c).After-fill (Refused cause) is in
     no_chunk c.crew.new.self.chunk (ap (λ (r : ReaderSeen). r.chunk) c.in_ok-crew.ensures.kept ∙ c.requires.plain) e.3.1
 
 pub returns-clause-frame : goal.returns-clause-frame
@@ -82,20 +121,22 @@ returns-clause-frame g c =
 
 pub returns-clause-in_part : goal.returns-clause-in_part
 returns-clause-in_part g c is =
-    let old = g.F.Files.seen c.args.files.now in
-    let mid = g.F.Files.seen c.create.new.files in
-    let new = g.F.Files.seen c.fill.new.files in
+    let k = (goal.at.returns-clause-in_part g c).After-fill in
+    let m = (goal.at.returns-clause-in_part g c).After-head-head in
     let first = c.args.reader in
     let name = c.args.output.now in
-    let head = c.head-head.result.now.bytes in
     let chunk = c.args.chunk in
-    let out : Output = record { name = name; head = head; chunk = Some chunk; counted = false } in
-    let same : head ≡ first.head.bytes = ap (λ (h : HeadView). h.bytes) (c.head-head.ensures ∙ ap (λ (r : ReaderSeen). r.head) c.in_ok-crew.ensures.kept) in
-    let plain : is_packed first.head.bytes ≡ false = plain_kind (is_packed first.head.bytes) _ (sym c.requires.whole.chunk ∙ c.requires.plain) in
-    let s = c.in_ok-writer.ensures.stands in
-    let is_head : IsHead first.head.bytes = subst IsHead same s.head in
-    let e = err_at (EndsCopying mid.held old.held mid new c.crew.new.self out []) c.fill.result Read (c.fill.ensures.ends old out [] s) is in
-    known_both old.held first.name (StandsFor first) (λ file. (blocks : List (List ℕ)) (bad : Option ℕ) → AreRecordsOf file blocks bad → LeavesInPart out (concat blocks) old.held new.held)
-    (λ file. LeavesInPart (packed_output name file chunk) (drop (point_offset_of file) file) old.held new.held)
-    (λ file st k. subst (λ (o : Output). LeavesInPart o (drop (point_offset_of file) file) old.held new.held) (packed_out first file name head chunk st plain same) (leaves_plain first file st plain is_head (λ t. LeavesInPart out t old.held new.held) k)) c.requires.stands
-    (leaves_short old mid new first c.crew.new.self 2 c.in_ok-crew.ensures.kept c.requires.new.whole c.in_ok-writer.writer out s (λ e. c.requires.names (sym e)) c.requires.stands chunk refl e.1)
+    let was = (old g k).held in
+    let now = (new g k).held in
+    known_both was first.name (StandsFor first)
+    (λ file. (blocks : List (List ℕ)) (bad : Option ℕ) → AreRecordsOf file blocks bad
+    → LeavesInPart (out g m) (concat blocks) was now)
+    (λ file. LeavesInPart (packed_output name file chunk) (drop (point_offset_of file) file) was now)
+    (λ file st f.
+    subst (λ (o : Output). LeavesInPart o (drop (point_offset_of file) file) was now)
+    (packed_out first file name c.head-head.result.now.bytes chunk st (plain g m) (same g m))
+    (leaves_plain first file st (plain g m) (is_head g k) (λ t. LeavesInPart (out g m) t was now) f))
+    c.requires.stands
+    (leaves_short (old g k) (mid g k) (new g k) first c.crew.new.self 2 c.in_ok-crew.ensures.kept c.requires.new.whole
+    c.in_ok-writer.writer (out g m) c.in_ok-writer.ensures.stands (λ e. c.requires.names (sym e)) c.requires.stands
+    chunk refl (ended g k Read is).1)
