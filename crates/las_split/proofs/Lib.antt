@@ -20,5 +20,6 @@ mod Joining
 mod Examples
 mod SomeSplits
 mod SomeRecords
+mod EndingEach
 mod OneWay
 pub mod Public

@@ -1,71 +1,68 @@
-use Rattle.std.proofs.Common.{◌≡◌, ◌+◌, ◌≤◌, length, take, arith}
+use Rattle.std.proofs.Common.{◌≡◌, ◌+◌, ◌≤◌, ℕ, List, Option, length, take, arith}
+use Rattle.las_outside.specs.Files.{FileMap}
 use Rattle.laz_forms.specs.declared.fault.Fault.TheVariants.{Write}
 use Rattle.laz_forms.proofs.Public.{if_err}
-use Rattle.las_split.specs.Sorting.{task_in}
+use Rattle.las_split.specs.Sorting.{FitAfter, SortsBlock, Task, task_in}
+use Rattle.las_split.specs.Steps.{AreIn}
 use Rattle.las_split.proofs.Blocks.{fit_here, left_first, takes_all, takes_some}
 use Rattle.las_split.proofs.SomeRecords.{some_pushed}
+use Rattle.las_split.proofs.copying.split_block.Given.{Over}
+use Rattle.las_split.proofs.copying.split_block.Goals.{In_ok-taken}
 use Rattle.las_split.proofs.copying.split_block.Goals as goal
 use Rattle.las_outside.proofs.Public.{on_err}
 use Rattle.las_header.specs.Plain.{cut_all}
 
+-- what stands when the block was sorted
+module _ (g : Over) (c : In_ok-taken g) (was : Option FileMap) (records : List (List ℕ))
+    (i : AreIn (task_in c.args.splitter.now) was (g.F.Files.seen c.args.files.now).held c.args.parts.now
+    records records)
+    (at : c.args.index ≡ length records) where
+  abbrev task : Task
+  task = task_in c.args.splitter.now
+
+  abbrev now : Option FileMap
+  now = (g.F.Files.seen c.sort_block.new.files).held
+
+  abbrev cut : List (List ℕ)
+  cut = cut_all c.args.splitter.now.size c.args.block.now
+
+  sorts : SortsBlock task was now c.sort_block.new.parts.numbers c.sort_block.new.parts.writers.items
+      c.sort_block.new.parts.gathered records cut c.in_ok-taken.taken
+  sorts = c.in_ok-taken.ensures.sorts was records i at
+
+  fit : FitAfter task records (take c.in_ok-taken.taken cut)
+  fit = fit_here _ _ _ _ _ _ records c.args.splitter.now.size _ c.args.block.now sorts c.args.index at c.requires.room
+
 pub push_parts-requires-clause-parts : goal.push_parts-requires-clause-parts
 push_parts-requires-clause-parts g c κs lives =
+    let k = (goal.at.push_parts-requires-clause-parts g c).In_ok-taken in
     let q = c.requires.parts in
-    let was = q.0 in
-    let records = q.1 in
-    let i = q.2 in
-    let at = q.3 in
-    let task = task_in c.args.splitter.now in
-    let n = c.sort_block.new in
-    let now = (g.F.Files.seen n.files).held in
-    let s = c.in_ok-taken.ensures.sorts was records i at in
-    let t = c.in_ok-taken.taken in
-    let bytes = c.args.block.now in
-    let block = take t (cut_all c.args.splitter.now.size bytes) in
-    let fit = fit_here task was now n.parts.numbers n.parts.writers.items n.parts.gathered records c.args.splitter.now.size t bytes s c.args.index at c.requires.room in
-    (task, was, records, block, (s.parts, s.gathered), fit)
+    let s = sorts g k q.0 q.1 q.2 q.3 in
+    (task_in c.args.splitter.now, q.0, q.1, _, (s.parts, s.gathered), fit g k q.0 q.1 q.2 q.3)
 
 pub returns-in_err-push_parts-clause-left : goal.returns-in_err-push_parts-clause-left
 returns-in_err-push_parts-clause-left g c was records i at =
-    let task = task_in c.args.splitter.now in
-    let n = c.sort_block.new in
-    let now = (g.F.Files.seen n.files).held in
-    let s = c.in_ok-taken.ensures.sorts was records i at in
-    let t = c.in_ok-taken.taken in
-    let bytes = c.args.block.now in
-    let block = take t (cut_all c.args.splitter.now.size bytes) in
-    let fit = fit_here task was now n.parts.numbers n.parts.writers.items n.parts.gathered records c.args.splitter.now.size t bytes s c.args.index at c.requires.room in
+    let k = (goal.at.returns-in_err-push_parts-clause-left g c).In_ok-taken in
+    let s = sorts g k was records i at in
     on_err c.from_residual-in_err-push_parts.result
-    (left_first task was now n.parts.numbers n.parts.writers.items n.parts.gathered records c.args.splitter.now.size t bytes s (g.F.Files.seen c.push_parts.new.files).held
-    (c.in_err-push_parts.ensures.left task was records block (s.parts, s.gathered) fit))
+    (left_first _ _ _ _ _ _ records c.args.splitter.now.size _ c.args.block.now s _
+    (c.in_err-push_parts.ensures.left _ was records _ (s.parts, s.gathered) (fit g k was records i at)))
 
 pub returns-then-taken-block-clause-takes : goal.returns-then-taken-block-clause-takes
 returns-then-taken-block-clause-takes g c was records i at =
-    let task = task_in c.args.splitter.now in
-    let n = c.sort_block.new in
-    let now = (g.F.Files.seen n.files).held in
-    let s = c.in_ok-taken.ensures.sorts was records i at in
-    let t = c.in_ok-taken.taken in
-    let bytes = c.args.block.now in
-    let block = take t (cut_all c.args.splitter.now.size bytes) in
-    let fit = fit_here task was now n.parts.numbers n.parts.writers.items n.parts.gathered records c.args.splitter.now.size t bytes s c.args.index at c.requires.room in
-    let m = c.push_parts.new in
-    takes_some task was now n.parts.numbers n.parts.writers.items n.parts.gathered records c.args.splitter.now.size t bytes s (g.F.Files.seen m.files).held m.parts.numbers m.parts.writers.items
-    (c.in_ok-push_parts.ensures.pushed task was records block (s.parts, s.gathered) fit) (omega (arith, c.if-taken-block.true))
+    let k = (goal.at.returns-then-taken-block-clause-takes g c).In_ok-taken in
+    let s = sorts g k was records i at in
+    takes_some _ _ _ _ _ _ records c.args.splitter.now.size _ c.args.block.now s _ _ _
+    (c.in_ok-push_parts.ensures.pushed _ was records _ (s.parts, s.gathered) (fit g k was records i at))
+    (omega (arith, c.if-taken-block.true))
 
 pub returns-clause-takes : goal.returns-clause-takes
 returns-clause-takes g c was records i at =
-    let task = task_in c.args.splitter.now in
-    let n = c.sort_block.new in
-    let now = (g.F.Files.seen n.files).held in
-    let s = c.in_ok-taken.ensures.sorts was records i at in
-    let t = c.in_ok-taken.taken in
-    let bytes = c.args.block.now in
-    let block = take t (cut_all c.args.splitter.now.size bytes) in
-    let fit = fit_here task was now n.parts.numbers n.parts.writers.items n.parts.gathered records c.args.splitter.now.size t bytes s c.args.index at c.requires.room in
-    let m = c.push_parts.new in
-    takes_all task was now n.parts.numbers n.parts.writers.items n.parts.gathered records c.args.splitter.now.size t bytes s (g.F.Files.seen m.files).held m.parts.numbers m.parts.writers.items
-    (c.in_ok-push_parts.ensures.pushed task was records block (s.parts, s.gathered) fit) (omega (arith, c.if-taken-block.false))
+    let k = (goal.at.returns-clause-takes g c).In_ok-taken in
+    let s = sorts g k was records i at in
+    takes_all _ _ _ _ _ _ records c.args.splitter.now.size _ c.args.block.now s _ _ _
+    (c.in_ok-push_parts.ensures.pushed _ was records _ (s.parts, s.gathered) (fit g k was records i at))
+    (omega (arith, c.if-taken-block.false))
 
 pub returns-in_err-taken-clause-some : goal.returns-in_err-taken-clause-some
 returns-in_err-taken-clause-some g c was records i at =

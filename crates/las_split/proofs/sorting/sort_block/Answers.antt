@@ -4,13 +4,15 @@ use Rattle.las_outside.proofs.Public.{calm-refl, calm-trans, only_writes-refl, o
 use Rattle.laz_forms.proofs.Public.{whole_both, if_err}
 use Rattle.laz_writer.proofs.Public.{cut-append}
 use Rattle.laz_forms.specs.declared.fault.Fault.TheVariants.{Write}
-use Rattle.las_split.specs.Sorting.{task_in}
+use Rattle.las_split.specs.Sorting.{HasRoom, Task, task_in}
 use Rattle.las_split.specs.Steps.{AreSorted}
 use Rattle.las_split.proofs.BatchesTaken.{none_yet}
 use Rattle.las_split.proofs.Blocks.{next_fits}
 use Rattle.las_split.proofs.PushedParts.{no_bytes}
 use Rattle.las_split.proofs.Runs.{block_done, cut_three, group_done, group_joined, group_left, group_less, group_room, group_whole, none_whole, whole_further}
 use Rattle.las_split.proofs.SortingPoints.{left_none, sorted_none}
+use Rattle.las_split.proofs.sorting.sort_block.Given.{Over}
+use Rattle.las_split.proofs.sorting.sort_block.Goals.{After-split_at}
 use Rattle.las_split.proofs.sorting.sort_block.Goals as goal
 use Rattle.las_header.specs.Plain.{cut_all}
 use Rattle.las_header.proofs.Public.{cut_length, cut_none}
@@ -42,153 +44,138 @@ groups-init g c =
       writes = only_writes-refl _;
     }
 
+-- what stands when a group was split off
+module _ (g : Over) (c : After-split_at g) where
+  abbrev size : ℕ
+  size = c.args.splitter.now.size
+
+  abbrev task : Task
+  task = task_in c.args.splitter.now
+
+  abbrev block : List ℕ
+  block = c.args.block.now
+
+  abbrev done : List ℕ
+  done = c.groups.invariant.sorts.0
+
+  abbrev group : List ℕ
+  group = c.split_at.result.0.now
+
+  abbrev further : List ℕ
+  further = c.split_at.result.1.now
+
+  abbrev xs : List (List ℕ)
+  xs = cut_all size done
+
+  abbrev ys : List (List ℕ)
+  ys = cut_all size group
+
+  abbrev zs : List (List ℕ)
+  zs = cut_all size further
+
+  some : 0 < size
+  some = omega (arith, c.requires.room.some)
+
+  joined : c.groups.rest.now ≡ group ++ further
+  joined =
+      group_joined (c.min.result * size) c.groups.rest.now group further c.split_at.ensures.front
+      c.split_at.ensures.back
+
+  are : block ≡ done ++ (group ++ further)
+  are = c.groups.invariant.sorts.1 ∙ ap (λ (b : List ℕ). done ++ b) joined
+
+  whole : length group % size ≡ 0
+  whole = group_whole size c.min.result group c.split_at.ensures.front_len
+
+  room : HasRoom task size (c.args.index + c.groups.taken) (length group)
+  room =
+      group_room task size c.args.index c.groups.taken block done group further c.requires.room are
+      c.groups.invariant.sorts.2 c.groups.invariant.sorts.3
+
+  long : length (cut_all size block) ≡ length xs + length (ys ++ zs)
+  long =
+      ap (λ (b : List (List ℕ)). length b)
+      (cut_three size some block done group further are c.groups.invariant.sorts.2 whole) ∙ length-append xs (ys ++ zs)
+
+  place : (records : List (List ℕ)) → c.args.index ≡ length records
+      → c.args.index + c.groups.taken ≡ length records + length xs
+  place records at = omega (arith, at, c.groups.invariant.sorts.3)
+
 pub overflow_add-place : goal.overflow_add-place
 overflow_add-place g c =
-    let size = c.args.splitter.now.size in
-    let some : 0 < size = omega (arith, c.requires.room.some) in
-    let task = task_in c.args.splitter.now in
-    let block = c.args.block.now in
-    let rest = c.groups.rest.now in
-    let group = c.split_at.result.0.now in
-    let further = c.split_at.result.1.now in
-    let d = c.groups.invariant.sorts in
-    let joined = group_joined (c.min.result * size) rest group further c.split_at.ensures.front c.split_at.ensures.back in
-    let are : block ≡ d.0 ++ (group ++ further) = d.1 ∙ ap (λ (b : List ℕ). d.0 ++ b) joined in
-    let second = group_whole size c.min.result group c.split_at.ensures.front_len in
-    let room = group_room task size c.args.index c.groups.taken block d.0 group further c.requires.room are d.2 d.3 in
-    omega (arith, next_fits task size (c.args.index + c.groups.taken) group room)
+    let k = (goal.at.overflow_add-place g c).After-split_at in
+    omega (arith, next_fits (task g k) (size g k) (c.args.index + c.groups.taken) (group g k) (room g k))
 
 pub sort_group-requires-clause-room : goal.sort_group-requires-clause-room
-sort_group-requires-clause-room g c =
-    let size = c.args.splitter.now.size in
-    let some : 0 < size = omega (arith, c.requires.room.some) in
-    let task = task_in c.args.splitter.now in
-    let block = c.args.block.now in
-    let rest = c.groups.rest.now in
-    let group = c.split_at.result.0.now in
-    let further = c.split_at.result.1.now in
-    let d = c.groups.invariant.sorts in
-    let joined = group_joined (c.min.result * size) rest group further c.split_at.ensures.front c.split_at.ensures.back in
-    let are : block ≡ d.0 ++ (group ++ further) = d.1 ∙ ap (λ (b : List ℕ). d.0 ++ b) joined in
-    let second = group_whole size c.min.result group c.split_at.ensures.front_len in
-    let room = group_room task size c.args.index c.groups.taken block d.0 group further c.requires.room are d.2 d.3 in
-    room
+sort_group-requires-clause-room g c = room g (goal.at.sort_group-requires-clause-room g c).After-split_at
 
 pub sort_group-requires-clause-whole : goal.sort_group-requires-clause-whole
-sort_group-requires-clause-whole g c = group_whole c.args.splitter.now.size c.min.result c.split_at.result.0.now c.split_at.ensures.front_len
+sort_group-requires-clause-whole g c = whole g (goal.at.sort_group-requires-clause-whole g c).After-split_at
 
 pub returns-in_err-more-clause-left : goal.returns-in_err-more-clause-left
 returns-in_err-more-clause-left g c was records i at =
-    let size = c.args.splitter.now.size in
-    let some : 0 < size = omega (arith, c.requires.room.some) in
-    let task = task_in c.args.splitter.now in
-    let block = c.args.block.now in
-    let rest = c.groups.rest.now in
-    let group = c.split_at.result.0.now in
-    let further = c.split_at.result.1.now in
+    let k = (goal.at.returns-in_err-more-clause-left g c).After-split_at in
     let d = c.groups.invariant.sorts in
-    let joined = group_joined (c.min.result * size) rest group further c.split_at.ensures.front c.split_at.ensures.back in
-    let are : block ≡ d.0 ++ (group ++ further) = d.1 ∙ ap (λ (b : List ℕ). d.0 ++ b) joined in
-    let second = group_whole size c.min.result group c.split_at.ensures.front_len in
-    let place : c.args.index + c.groups.taken ≡ length records + length (cut_all size d.0) = omega (arith, at, d.3) in
     on_err c.from_residual-in_err-more.result
-    (group_left size some block d.0 group further are d.2 second task was (g.F.Files.seen c.sort_group.new.files).held records
-    (c.in_err-more.ensures.left was records (cut_all size d.0) (d.4 was records i at) place))
+    (group_left (size g k) (some g k) (block g k) d.0 (group g k) (further g k) (are g k) d.2 (whole g k) (task g k) was
+    (g.F.Files.seen c.sort_group.new.files).held records
+    (c.in_err-more.ensures.left was records (xs g k) (d.4 was records i at) (place g k records at)))
 
 pub returns-in_err-more-clause-some : goal.returns-in_err-more-clause-some
 returns-in_err-more-clause-some g c =
-    let size = c.args.splitter.now.size in
-    let some : 0 < size = omega (arith, c.requires.room.some) in
-    let task = task_in c.args.splitter.now in
-    let block = c.args.block.now in
-    let rest = c.groups.rest.now in
-    let group = c.split_at.result.0.now in
-    let further = c.split_at.result.1.now in
-    let d = c.groups.invariant.sorts in
-    let joined = group_joined (c.min.result * size) rest group further c.split_at.ensures.front c.split_at.ensures.back in
-    let are : block ≡ d.0 ++ (group ++ further) = d.1 ∙ ap (λ (b : List ℕ). d.0 ++ b) joined in
-    let second = group_whole size c.min.result group c.split_at.ensures.front_len in
-    let xs = cut_all size d.0 in
-    let ys = cut_all size group in
-    let zs = cut_all size further in
-    let long : length (cut_all size block) ≡ length xs + length (ys ++ zs) = ap (λ (b : List (List ℕ)). length b) (cut_three size some block d.0 group further are d.2 second) ∙ length-append xs (ys ++ zs) in
-    if_err (λ fault. fault ≡ Write → 1 ≤ length (cut_all size block)) c.from_residual-in_err-more.result _ c.from_residual-in_err-more.ensures.1
-    (λ is. let one : 1 ≤ length ys = c.in_err-more.ensures.some is in omega (arith, one, long, length-append ys zs))
+    let k = (goal.at.returns-in_err-more-clause-some g c).After-split_at in
+    if_err (λ fault. fault ≡ Write → 1 ≤ length (cut_all (size g k) (block g k))) c.from_residual-in_err-more.result _
+    c.from_residual-in_err-more.ensures.1
+    (λ is.
+    let one : 1 ≤ length (ys g k) = c.in_err-more.ensures.some is in
+    omega (arith, one, long g k, length-append (ys g k) (zs g k)))
 
 pub overflow_add-taken : goal.overflow_add-taken
 overflow_add-taken g c =
-    let size = c.args.splitter.now.size in
-    let some : 0 < size = omega (arith, c.requires.room.some) in
-    let task = task_in c.args.splitter.now in
-    let block = c.args.block.now in
-    let rest = c.groups.rest.now in
-    let group = c.split_at.result.0.now in
-    let further = c.split_at.result.1.now in
+    let k = (goal.at.overflow_add-taken g c).After-split_at in
     let d = c.groups.invariant.sorts in
-    let joined = group_joined (c.min.result * size) rest group further c.split_at.ensures.front c.split_at.ensures.back in
-    let are : block ≡ d.0 ++ (group ++ further) = d.1 ∙ ap (λ (b : List ℕ). d.0 ++ b) joined in
-    let second = group_whole size c.min.result group c.split_at.ensures.front_len in
     let q = c.requires.parts in
-    let xs = cut_all size d.0 in
-    let ys = cut_all size group in
-    let zs = cut_all size further in
-    let place : c.args.index + c.groups.taken ≡ length q.1 + length xs = omega (arith, q.3, d.3) in
-    let s = c.in_ok-more.ensures.sorts q.0 q.1 xs (d.4 q.0 q.1 q.2 q.3) place in
-    let long : length (cut_all size block) ≡ length xs + length (ys ++ zs) = ap (λ (b : List (List ℕ)). length b) (cut_three size some block d.0 group further are d.2 second) ∙ length-append xs (ys ++ zs) in
-    omega (arith, s.within, d.3, long, length-append ys zs, cut_length size (length block / size) block, next_fits task size c.args.index block c.requires.room)
+    let n = size g k in
+    let bytes = block g k in
+    let s = c.in_ok-more.ensures.sorts q.0 q.1 (xs g k) (d.4 q.0 q.1 q.2 q.3) (place g k q.1 q.3) in
+    let count = cut_length n (length bytes / n) bytes in
+    let fits = next_fits (task g k) n c.args.index bytes c.requires.room in
+    omega (arith, s.within, d.3, long g k, length-append (ys g k) (zs g k), count, fits)
 
 pub returns-then-more-group-clause-sorts : goal.returns-then-more-group-clause-sorts
 returns-then-more-group-clause-sorts g c was records i at =
-    let size = c.args.splitter.now.size in
-    let some : 0 < size = omega (arith, c.requires.room.some) in
-    let task = task_in c.args.splitter.now in
-    let block = c.args.block.now in
-    let rest = c.groups.rest.now in
-    let group = c.split_at.result.0.now in
-    let further = c.split_at.result.1.now in
+    let k = (goal.at.returns-then-more-group-clause-sorts g c).After-split_at in
     let d = c.groups.invariant.sorts in
-    let joined = group_joined (c.min.result * size) rest group further c.split_at.ensures.front c.split_at.ensures.back in
-    let are : block ≡ d.0 ++ (group ++ further) = d.1 ∙ ap (λ (b : List ℕ). d.0 ++ b) joined in
-    let second = group_whole size c.min.result group c.split_at.ensures.front_len in
-    let place : c.args.index + c.groups.taken ≡ length records + length (cut_all size d.0) = omega (arith, at, d.3) in
-    let s = c.in_ok-more.ensures.sorts was records (cut_all size d.0) (d.4 was records i at) place in
-    group_less size some block d.0 group further are d.2 second task was (g.F.Files.seen c.sort_group.new.files).held c.sort_group.new.parts records c.groups.taken d.3 c.in_ok-more.more
-    (omega (arith, c.if-more-group.true, cut_length size (length group / size) group)) s
+    let n = size g k in
+    let bytes = group g k in
+    group_less n (some g k) (block g k) d.0 bytes (further g k) (are g k) d.2 (whole g k) (task g k) was
+    (g.F.Files.seen c.sort_group.new.files).held c.sort_group.new.parts records c.groups.taken d.3 c.in_ok-more.more
+    (omega (arith, c.if-more-group.true, cut_length n (length bytes / n) bytes))
+    (c.in_ok-more.ensures.sorts was records (xs g k) (d.4 was records i at) (place g k records at))
 
 pub groups-preserved : goal.groups-preserved
 groups-preserved g c =
-    let old = g.F.Files.seen c.args.files.now in
-    let mid = g.F.Files.seen c.groups.files in
+    let k = (goal.at.groups-preserved g c).After-split_at in
     let new = g.F.Files.seen c.sort_group.new.files in
-    let size = c.args.splitter.now.size in
-    let some : 0 < size = omega (arith, c.requires.room.some) in
-    let task = task_in c.args.splitter.now in
-    let block = c.args.block.now in
-    let rest = c.groups.rest.now in
-    let group = c.split_at.result.0.now in
-    let further = c.split_at.result.1.now in
+    let n = size g k in
+    let bytes = group g k in
     let d = c.groups.invariant.sorts in
-    let joined = group_joined (c.min.result * size) rest group further c.split_at.ensures.front c.split_at.ensures.back in
-    let are : block ≡ d.0 ++ (group ++ further) = d.1 ∙ ap (λ (b : List ℕ). d.0 ++ b) joined in
-    let second = group_whole size c.min.result group c.split_at.ensures.front_len in
     let q = c.requires.parts in
-    let xs = cut_all size d.0 in
-    let ys = cut_all size group in
     let m = c.in_ok-more.more in
-    let at_first : c.args.index + c.groups.taken ≡ length q.1 + length xs = omega (arith, q.3, d.3) in
-    let first = c.in_ok-more.ensures.sorts q.0 q.1 xs (d.4 q.0 q.1 q.2 q.3) at_first in
-    let end : length group / size ≤ m = omega (arith, c.if-more-group.false) in
-    let both : length (cut_all size (d.0 ++ group)) ≡ length xs + length ys = ap (λ (b : List (List ℕ)). length b) (cut-append size d.0 group some d.2) ∙ length-append xs ys in
+    let first = c.in_ok-more.ensures.sorts q.0 q.1 (xs g k) (d.4 q.0 q.1 q.2 q.3) (place g k q.1 q.3) in
+    let end : length bytes / n ≤ m = omega (arith, c.if-more-group.false) in
+    let both : length (cut_all n (d.0 ++ bytes)) ≡ length (xs g k) + length (ys g k) =
+    ap (λ (b : List (List ℕ)). length b) (cut-append n d.0 bytes (some g k) d.2) ∙ length-append (xs g k) (ys g k) in
     record {
-      whole = whole_further size group further rest joined c.groups.invariant.whole second;
+      whole = whole_further n bytes (further g k) c.groups.rest.now (joined g k) c.groups.invariant.whole (whole g k);
       sorts = (
-        d.0 ++ group,
-        are ∙ sym (append_assoc d.0 group further),
-        ap (λ (n : ℕ). n % size) (length-append d.0 group) ∙ whole_both size (length d.0) (length group) d.2 second,
-        omega (arith, both, d.3, end, first.within, cut_length size (length group / size) group),
+        d.0 ++ bytes,
+        are g k ∙ sym (append_assoc d.0 bytes (further g k)),
+        ap (λ (l : ℕ). l % n) (length-append d.0 bytes) ∙ whole_both n (length d.0) (length bytes) d.2 (whole g k),
+        omega (arith, both, d.3, end, first.within, cut_length n (length bytes / n) bytes),
         λ was records i at.
-            let place : c.args.index + c.groups.taken ≡ length records + length xs = omega (arith, at, d.3) in
-            group_done task was new.held c.sort_group.new.parts records size some d.0 group m d.2 end (c.in_ok-more.ensures.sorts was records xs (d.4 was records i at) place),
+            group_done (task g k) was new.held c.sort_group.new.parts records n (some g k) d.0 bytes m d.2 end
+            (c.in_ok-more.ensures.sorts was records (xs g k) (d.4 was records i at) (place g k records at)),
       );
       calm = calm-trans _ _ _ c.groups.invariant.calm c.in_ok-more.ensures.calm;
       writes = only_writes-trans _ _ _ c.groups.invariant.writes c.sort_group.ensures.writes;
