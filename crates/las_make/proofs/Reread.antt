@@ -1,6 +1,5 @@
 -- The plain file that is read again and packed, or not.
 use Rattle.std.proofs.Common.{◌≡◌, inl, inr, ℕ, ◌+◌, Bool, true, false, cond, List, drop, Option, Some, None, is_some, refl, ◌∙◌, ap, subst, arith}
-use Rattle.std.specs.FinMap as map
 use Rattle.las_header.specs.declared.refusal.Refusal.{Refusal}
 use Rattle.las_header.specs.Fields.{head_of, point_offset_of}
 use Rattle.las_outside.specs.Faults.{Rose}

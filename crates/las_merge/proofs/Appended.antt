@@ -10,7 +10,8 @@ use Rattle.std.proofs.Math.Seq.{take-add}
 use Rattle.std.specs.List.{concat}
 use Rattle.las_outside.specs.Faults.{Rose}
 use Rattle.las_outside.specs.Files.{FileMap, WhereKnown, bytes_of, with_file}
-use Rattle.las_outside.specs.Outside.{Outside, with_asked, with_bytes, with_write_fault}
+use Rattle.las_outside.specs.Frames.{OnlyWrites}
+use Rattle.las_outside.specs.Outside.{Later, Outside, with_asked, with_bytes, with_write_fault}
 use Rattle.las_outside.proofs.Public.{get-with_value, same_other, after, changed_after, prefix_of}
 use Rattle.laz_forms.specs.declared.fault.Fault.TheVariants as fault
 use Rattle.laz_file.specs.Copying.{with_reads}
@@ -56,6 +57,15 @@ reads_now before w now name text is held writes =
     let h : now.held ≡ with_file before.held name text = ap (λ (o : Outside). o.held) is ∙ ap (λ (m : Option FileMap). with_file m name text) held in
     let f : now.write_faults ≡ before.write_faults = ap (λ (o : Outside). o.write_faults) is ∙ writes in
     λ i. record { held = h i; read_faults = now.read_faults; write_faults = f i; asked = now.asked }
+
+-- nothing else changes
+pub writes_by : (old now : Outside) (name text : List ℕ) → now ≡ with_bytes old name text → Later old now
+    → OnlyWrites old now
+writes_by old now name text is later = record {
+  asked = ap (λ (o : Outside). o.asked) is;
+  reads = ap (λ (o : Outside). o.read_faults) is;
+  later = later;
+}
 
 -- the other text gives the same
 text_now : (before now : Outside) (name text other : List ℕ) → now ≡ with_bytes (with_reads before now) name text → with_file before.held name text ≡ with_file before.held name other → now ≡ with_bytes (with_reads before now) name other

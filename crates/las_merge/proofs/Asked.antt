@@ -33,15 +33,16 @@ module _ (f : List ℕ → ℕ) where
 
 -- ---- one input
 
+of_some : (asked : Option (List ℕ) → ℕ) (old new : Outside) (o : Option (List ℕ))
+    → IsSomeAnd o (λ file. AsksAtMost (asked (Some file)) old new) → AsksAtMost (asked o) old new
+of_some asked old new None most = absurd most
+of_some asked old new (Some file) most = most
+
 -- what a call asks of a file, if there is one of the name
 pub asked_one : (held : Option FileMap) (name : List ℕ) (asked : Option (List ℕ) → ℕ) (old new : Outside) → (IsMissing held name → AsksAtMost (asked None) old new)
     → ((IsMissing held name → ⊥) → WhereKnown held name (λ file. AsksAtMost (asked (Some file)) old new)) → IfKnown held (λ known. AsksAtMost (asked (finmap.get known name)) old new)
 asked_one held name asked old new missing there known is = by (finmap.get known name) refl
   where
-    of_some : (o : Option (List ℕ)) → IsSomeAnd o (λ file. AsksAtMost (asked (Some file)) old new) → AsksAtMost (asked o) old new
-    of_some None most = absurd most
-    of_some (Some file) most = most
-
     none_some : (o : Option (List ℕ)) (file : List ℕ) → o ≡ Some file → o ≡ None → ⊥
     none_some o file some none = absurd (cc)
 
@@ -49,15 +50,11 @@ asked_one held name asked old new missing there known is = by (finmap.get known 
     by None none = subst (λ (o : Option (List ℕ)). AsksAtMost (asked o) old new) (sym none) (missing (subst (λ (h : Option FileMap). IsMissing h name) (sym is) none))
     by (Some file) some =
         let here : IsMissing held name → ⊥ = λ gone. none_some (finmap.get known name) file some (subst (λ (h : Option FileMap). IsMissing h name) is gone) in
-        of_some (finmap.get known name) (subst (λ (h : Option FileMap). WhereKnown h name (λ file. AsksAtMost (asked (Some file)) old new)) is (there here))
+        of_some asked old new (finmap.get known name) (subst (λ (h : Option FileMap). WhereKnown h name (λ file. AsksAtMost (asked (Some file)) old new)) is (there here))
 
 -- the same of a file that is there
 pub asked_there : (held : Option FileMap) (name : List ℕ) (asked : Option (List ℕ) → ℕ) (old new : Outside) → WhereKnown held name (λ file. AsksAtMost (asked (Some file)) old new) → (known : FileMap) → held ≡ Some known → AsksAtMost (asked (finmap.get known name)) old new
-asked_there held name asked old new most known is = of_some (finmap.get known name) (subst (λ (h : Option FileMap). WhereKnown h name (λ file. AsksAtMost (asked (Some file)) old new)) is most)
-  where
-    of_some : (o : Option (List ℕ)) → IsSomeAnd o (λ file. AsksAtMost (asked (Some file)) old new) → AsksAtMost (asked o) old new
-    of_some None most = absurd most
-    of_some (Some file) most = most
+asked_there held name asked old new most known is = of_some asked old new (finmap.get known name) (subst (λ (h : Option FileMap). WhereKnown h name (λ file. AsksAtMost (asked (Some file)) old new)) is most)
 
 -- an input that was opened again, and read
 pub asked_again : (held : Option FileMap) (name : List ℕ) (reader : ReaderSeen) (old mid new : Outside) → ReadsAll reader → WhereKnown held name (StandsFor reader) → WhereKnown held name (λ file. AsksAtMost (asked_to_open file) old mid) → AsksAtMost (bytes_left reader) mid new

@@ -3,14 +3,23 @@ use Rattle.std.proofs.Common.{inl, inr, ℕ, List, Err, subst}
 use Rattle.las_outside.specs.Frames.{OnlyReads}
 use Rattle.las_outside.specs.Outside.{Outside}
 use Rattle.las_merge.specs.declared.fault.MergeFault.{MergeFault}
-use Rattle.las_merge.specs.declared.fault.MergeFault.TheVariants.{TooManyPoints, TooManyChunks}
-use Rattle.las_merge.specs.declared.fault.MergeFault.TheVariants.{Memory}
+use Rattle.las_merge.specs.declared.fault.MergeFault.TheVariants.{At, Unequal, TooManyPoints, TooManyChunks}
+use Rattle.las_merge.specs.declared.fault.MergeFault.TheVariants.{Write, Memory}
 use Rattle.las_merge.specs.Inputs.{IfKnown}
 use Rattle.las_merge.specs.Listing.{EndsListing}
 use Rattle.las_merge.specs.Outcomes.{SaysCopying}
-use Rattle.las_merge.specs.Packed.{IsKeptFromCopying}
+use Rattle.las_merge.specs.Packed.{IsKeptFromCopying, IsNoFault}
 use Rattle.las_merge.proofs.KeptPacked.{before_packed, kept_by_ends}
 use Rattle.las_merge.proofs.MergeOutcomes.{same_fault}
+
+-- a fault that is no input's own, and not of writing
+abbrev IsOfAll : MergeFault → Type 0
+IsOfAll (At number cause) = ⊥
+IsOfAll (Unequal number field) = ⊥
+IsOfAll TooManyPoints = Unit {0}
+IsOfAll TooManyChunks = Unit {0}
+IsOfAll Write = ⊥
+IsOfAll Memory = Unit {0}
 
 module _ (names : List (List ℕ)) (output : List ℕ) (old new : Outside) (reads : OnlyReads old new) where
   -- An input was not opened, is plain, or differs.
@@ -36,46 +45,29 @@ module _ (names : List (List ℕ)) (output : List ℕ) (old new : Outside) (read
       }
 
   -- There are too many records, or too many chunks, or memory is short.
-  pub says_points : IfKnown old.held (λ known. IsKeptFromCopying known names TooManyPoints)
-      → SaysCopying names output old new (Err TooManyPoints)
-  says_points many = record {
+  says_of_all : (e : MergeFault) → IsOfAll e
+      → (IsNoFault e → IfKnown old.held (λ known. IsKeptFromCopying known names e))
+      → SaysCopying names output old new (Err e)
+  says_of_all e of_all many = record {
     copied = tt;
-    kept = λ kind. (reads.held, many);
-    unequal = λ number field is. absurd (cc);
-    at = λ number cause is. absurd (cc);
-    read = λ number is. absurd (cc);
-    write = λ is. absurd (cc);
-    never = λ number is. absurd (cc);
+    kept = λ kind. (reads.held, many kind);
+    unequal = λ number field is. absurd (subst IsOfAll (same_fault is) of_all);
+    at = λ number cause is. absurd (subst IsOfAll (same_fault is) of_all);
+    read = λ number is. absurd (subst IsOfAll (same_fault is) of_all);
+    write = λ is. absurd (subst IsOfAll (same_fault is) of_all);
+    never = λ number is. subst IsOfAll (same_fault is) of_all;
     left = λ known holds. inl reads.held;
     calm = tt;
     later = reads.later;
   }
+
+  pub says_points : IfKnown old.held (λ known. IsKeptFromCopying known names TooManyPoints)
+      → SaysCopying names output old new (Err TooManyPoints)
+  says_points many = says_of_all TooManyPoints tt (λ kind. many)
 
   pub says_chunks : IfKnown old.held (λ known. IsKeptFromCopying known names TooManyChunks)
       → SaysCopying names output old new (Err TooManyChunks)
-  says_chunks many = record {
-    copied = tt;
-    kept = λ kind. (reads.held, many);
-    unequal = λ number field is. absurd (cc);
-    at = λ number cause is. absurd (cc);
-    read = λ number is. absurd (cc);
-    write = λ is. absurd (cc);
-    never = λ number is. absurd (cc);
-    left = λ known holds. inl reads.held;
-    calm = tt;
-    later = reads.later;
-  }
+  says_chunks many = says_of_all TooManyChunks tt (λ kind. many)
 
   pub says_memory : SaysCopying names output old new (Err Memory)
-  says_memory = record {
-    copied = tt;
-    kept = λ kind. absurd kind;
-    unequal = λ number field is. absurd (cc);
-    at = λ number cause is. absurd (cc);
-    read = λ number is. absurd (cc);
-    write = λ is. absurd (cc);
-    never = λ number is. absurd (cc);
-    left = λ known holds. inl reads.held;
-    calm = tt;
-    later = reads.later;
-  }
+  says_memory = says_of_all Memory tt (λ kind. absurd kind)

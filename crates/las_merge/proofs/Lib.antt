@@ -1,4 +1,5 @@
 mod Examples
+mod OneCause
 mod Kept
 mod Merges
 mod Taken

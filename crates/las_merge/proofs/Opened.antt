@@ -1,7 +1,8 @@
 -- Inputs that were opened, one after another.
-use Rattle.std.proofs.Common.{◌≡◌, inl, inr, ℕ, ◌+◌, ◌<◌, ◌≤◌, Bool, true, cond, List, [], ◌∷◌, ◌++◌, length, take, Option, Some, None, refl, sym, ◌∙◌, ap, subst, length-append, arith}
-use Rattle.std.specs.Prelude.{All}
-use Rattle.std.proofs.lemmas.List.{take_more}
+use Rattle.std.proofs.Common.{◌≡◌, inl, inr, ℕ, ◌+◌, ◌<◌, ◌≤◌, Bool, true, cond, List, [], ◌∷◌, ◌++◌, length, get_or, take, Option, Some, None, refl, sym, ◌∙◌, ap, subst, length-append, arith}
+use Rattle.std.specs.Prelude.{All, String, string_bytes}
+use Rattle.std.specs.declared.alloc.Global.{Global}
+use Rattle.std.proofs.lemmas.List.{get_or-map, length-map, take_more}
 use Rattle.std.proofs.lemmas.List.Elements.{All-nil, All-push}
 use Rattle.std.proofs.lemmas.Bool.Decides.{Decides-eqb}
 use Rattle.std.proofs.lemmas.Slice.Eq.{bytes_eq-Decides}
@@ -17,7 +18,7 @@ use Rattle.las_merge.specs.declared.field.Field.TheVariants.{Format, Length, Sca
 use Rattle.las_merge.specs.declared.fault.MergeFault.{MergeFault}
 use Rattle.las_merge.specs.declared.fault.MergeFault.TheVariants.{At, Unequal, TooManyPoints, TooManyChunks, Write, Memory}
 use Rattle.las_merge.specs.Fields.{field_bytes, first_difference, first_in, is_same}
-use Rattle.las_merge.specs.Inputs.{item_at}
+use Rattle.las_merge.specs.Inputs.{item_at, names_of}
 use Rattle.las_merge.specs.Opening.{AreOpen, EndsOpening, FailsNext, FailsOpening, InputSeen, IsNext, IsOpen, first_read, names_read}
 
 -- ---- a head does not differ from itself
@@ -47,8 +48,8 @@ names_more : (readers : List InputSeen) (reader : InputSeen) → names_read (rea
 names_more [] reader = refl
 names_more (x ∷ xs) reader = ap (λ (ns : List (List ℕ)). x.name ∷ ns) (names_more xs reader)
 
-pub open_more : (held : Option FileMap) (names : List (List ℕ)) (readers : List InputSeen) (reader : InputSeen) → AreOpen held names readers → length readers < length names → IsNext held (item_at names (length readers)) readers reader → AreOpen held names (readers ++ reader ∷ [])
-open_more held names readers reader all within next =
+more_open : (held : Option FileMap) (names : List (List ℕ)) (readers : List InputSeen) (reader : InputSeen) → AreOpen held names readers → length readers < length names → IsNext held (item_at names (length readers)) readers reader → AreOpen held names (readers ++ reader ∷ [])
+more_open held names readers reader all within next =
     let long : length (readers ++ reader ∷ []) ≡ length readers + 1 = omega (arith, length-append readers (reader ∷ [])) in
     record {
       within = omega (arith, long, within);
@@ -61,6 +62,24 @@ open_more held names readers reader all within next =
       opened = All-push (IsOpen held) readers reader all.opened next.opened;
       alike = alike_more readers reader all.alike next.alike;
     }
+
+-- and when its name is known, and the files are as they were
+pub open_more : (held now : Option FileMap) (names : List (List ℕ)) (name : List ℕ) (readers new : List InputSeen)
+    (reader : InputSeen) → AreOpen held names readers → length readers < length names
+    → name ≡ item_at names (length readers) → now ≡ held → IsNext now name readers reader
+    → new ≡ readers ++ reader ∷ [] → AreOpen held names new
+open_more held now names name readers new reader all within named same next is =
+    subst (λ (rs : List InputSeen). AreOpen held names rs) (sym is) (more_open held names readers reader all within
+    (subst (λ (o : Option FileMap). IsNext o (item_at names (length readers)) readers reader) same
+    (subst (λ (n : List ℕ). IsNext now n readers reader) named next)))
+
+-- the input of a number, and its name
+pub within_names : (names : List (String Global)) (i : ℕ) → i < length names → i < length (names_of names)
+within_names names i lt = omega (arith, lt, length-map names (string_bytes {Z = Global}))
+
+pub name_at : (names : List (String Global)) (i : ℕ) (item : String Global) (name : List ℕ) → i < length names
+    → item ≡ get_or names i item → name ≡ string_bytes item → name ≡ item_at (names_of names) i
+name_at names i item name lt is same = same ∙ ap string_bytes is ∙ sym (get_or-map string_bytes names i item [] lt)
 
 -- ---- a fault
 

@@ -1,7 +1,7 @@
 use Rattle.std.proofs.Common.{◌+◌, ◌-◌, ◌++◌, ℕ, List, min, take, drop, ◌∙◌, ap, append_assoc, arith}
-use Rattle.las_outside.specs.Outside.{Outside, with_bytes, with_write_fault}
+use Rattle.las_outside.specs.Outside.{with_bytes, with_write_fault}
 use Rattle.las_outside.proofs.Public.{changed_after, failed_after, known_of, on_err, only_writes-trans}
-use Rattle.las_merge.proofs.Appended.{slice_more, slice_part}
+use Rattle.las_merge.proofs.Appended.{slice_more, slice_part, writes_by}
 use Rattle.las_merge.proofs.appending.append_all.Goals as goal
 
 pub append-requires : goal.append-requires
@@ -34,9 +34,6 @@ pieces-preserved g c =
       within = omega (arith, c.min-size.ensures, c.pieces-test.true);
       added = λ before text was. changed_after before name (text ++ take done bytes) (λ b. b ++ piece) _ _ (c.pieces.invariant.added before text was) c.in_ok-append.ensures.ok
           ∙ ap (λ (t : List ℕ). with_bytes before name t) (append_assoc text (take done bytes) piece ∙ ap (λ (t : List ℕ). text ++ t) (slice_more bytes done size));
-      writes = only_writes-trans _ _ _ c.pieces.invariant.writes (record {
-        asked = ap (λ (o : Outside). o.asked) c.in_ok-append.ensures.ok;
-        reads = ap (λ (o : Outside). o.read_faults) c.in_ok-append.ensures.ok;
-        later = c.in_ok-append.ensures.later;
-      });
+      writes = only_writes-trans _ _ _ c.pieces.invariant.writes (writes_by _ _ _ _ c.in_ok-append.ensures.ok
+          c.in_ok-append.ensures.later);
     }

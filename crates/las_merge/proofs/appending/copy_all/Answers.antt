@@ -1,5 +1,6 @@
 use Rattle.std.proofs.Common.{◌≡◌, ◌≢◌, ◌<◌, ◌+◌, ◌≤◌, ◌++◌, ℕ, List, length, map, take, get_or, sym, ◌∙◌, ap, subst, append_assoc, arith}
 use Rattle.std.specs.List.{concat}
+use Rattle.std.specs.Prelude.{sum_by}
 use Rattle.las_outside.specs.Files.{WhereKnown, with_file}
 use Rattle.las_outside.specs.Outside.{Outside, with_bytes}
 use Rattle.las_outside.proofs.Public.{calm-trans, later-trans, on_err}
@@ -7,6 +8,8 @@ use Rattle.laz_file.specs.Copying.{with_reads}
 use Rattle.las_merge.specs.Appending.{LiesIn, SourceSeen, part_in, part_of}
 use Rattle.laz_forms.proofs.Public.{known_then, if_err}
 use Rattle.las_merge.proofs.Appended.{copy_fault_since, in_part, joined_more, still_known, still_part, sum_more, sum_within}
+use Rattle.las_merge.proofs.appending.copy_all.Given.{Over}
+use Rattle.las_merge.proofs.appending.copy_all.Goals.{After-copy_part}
 use Rattle.las_merge.proofs.appending.copy_all.Goals as goal
 
 pub copy_part-requires-clause-lies : goal.copy_part-requires-clause-lies
@@ -31,65 +34,94 @@ copy_part-requires-clause-held g c =
     let h = c.requires.held in
     (with_reads h.0 (g.F.Files.seen c.sources.files), _, c.sources.invariant.copied h.0 h.1 h.2)
 
+-- what stands when the next part was copied, or could not be
+module _ (g : Over) (c : After-copy_part g) where
+  abbrev old : Outside
+  old = g.F.Files.seen c.args.files.now
+
+  abbrev cur : Outside
+  cur = g.F.Files.seen c.sources.files
+
+  abbrev now : Outside
+  now = g.F.Files.seen c.copy_part.new.files
+
+  abbrev source : SourceSeen
+  source = c.index-sources-i.result
+
+  abbrev done : List ℕ
+  done = concat (map (part_of old.held) (take c.sources.i c.args.sources.now))
+
+  part_is : (before : Outside) (text : List ℕ) → old ≡ with_bytes before c.args.output.now text
+      → part_in cur.held c.name.result.now c.span-place.result.0 c.span-place.result.1
+      ≡ part_of old.held (get_or c.args.sources.now c.sources.i source)
+  part_is before text was =
+      let place = c.span-place.result.0 in
+      let size = c.span-place.result.1 in
+      let other : source.name ≢ c.args.output.now = subst (λ (x : SourceSeen). x.name ≢ c.args.output.now)
+      (sym c.index-sources-i.is) (c.requires.names c.sources.i source c.sources-test.true) in
+      ap (λ (n : List ℕ). part_in cur.held n place size) c.name.ensures
+      ∙ still_part before.held old.held cur.held c.args.output.now source.name text (text ++ done) place size other
+      (ap (λ (o : Outside). o.held) was)
+      (ap (λ (o : Outside). o.held) (c.sources.invariant.copied before text was))
+      ∙ ap (λ (n : ℕ). part_in old.held source.name n size) c.span-place.ensures.place
+      ∙ ap (λ (n : ℕ). part_in old.held source.name source.place n) c.span-place.ensures.size
+      ∙ ap (part_of old.held) c.index-sources-i.is
+
+  asked_so_far : now.asked
+      ≤ old.asked + sum_by (λ (x : SourceSeen). x.size) (take (c.sources.i + 1) c.args.sources.now)
+  asked_so_far = omega (
+    arith,
+    c.copy_part.ensures.frame.asked,
+    c.sources.invariant.frame.asked,
+    c.span-place.ensures.size,
+    ap (λ (x : SourceSeen). x.size) c.index-sources-i.is,
+    sum_more (λ (x : SourceSeen). x.size) c.args.sources.now c.sources.i source c.sources-test.true,
+  )
+
 pub returns-in_err-copy_part-clause-left : goal.returns-in_err-copy_part-clause-left
 returns-in_err-copy_part-clause-left g c before text was =
-    let old = g.F.Files.seen c.args.files.now in
-    let cur = g.F.Files.seen c.sources.files in
-    let output = c.args.output.now in
-    let f : SourceSeen → List ℕ = part_of old.held in
-    let s : SourceSeen = c.index-sources-i.result in
-    let sources = c.args.sources.now in
-    let i = c.sources.i in
-    let there = c.sources.invariant.copied before text was in
-    let done = concat (map f (take i sources)) in
-    let other : s.name ≢ output = subst (λ (x : SourceSeen). x.name ≢ output) (sym c.index-sources-i.is) (c.requires.names i s c.sources-test.true) in
-    let l = c.in_err-copy_part.ensures.left (with_reads before cur) (text ++ done) there in
-    let part : part_in cur.held c.name.result.now c.span-place.result.0 c.span-place.result.1 ≡ f (get_or sources i s) =
-    ap (λ (n : List ℕ). part_in cur.held n c.span-place.result.0 c.span-place.result.1) c.name.ensures
-    ∙ still_part before.held old.held cur.held output s.name text (text ++ done) c.span-place.result.0 c.span-place.result.1 other (ap (λ (o : Outside). o.held) was) (ap (λ (o : Outside). o.held) there)
-    ∙ ap (λ (n : ℕ). part_in old.held s.name n c.span-place.result.1) c.span-place.ensures.place
-    ∙ ap (λ (n : ℕ). part_in old.held s.name s.place n) c.span-place.ensures.size ∙ ap f c.index-sources-i.is in
-    let p = in_part f sources i l.0 s c.sources-test.true in
-    on_err c.from_residual.result (p.0, l.1 ∙ ap (λ (t : List ℕ). with_file before.held output t) (append_assoc text done _ ∙ ap (λ (t : List ℕ). text ++ (done ++ take l.0 t)) part ∙ ap (λ (t : List ℕ). text ++ t) p.1))
+    let k = (goal.at.returns-in_err-copy_part-clause-left g c).After-copy_part in
+    let done = done g k in
+    let l = c.in_err-copy_part.ensures.left (with_reads before (cur g k)) (text ++ done)
+    (c.sources.invariant.copied before text was) in
+    let p = in_part (part_of (old g k).held) c.args.sources.now c.sources.i l.0 (source g k) c.sources-test.true in
+    on_err c.from_residual.result (
+      p.0,
+      l.1 ∙ ap (λ (t : List ℕ). with_file before.held c.args.output.now t)
+          (append_assoc text done _
+          ∙ ap (λ (t : List ℕ). text ++ (done ++ take l.0 t)) (part_is g k before text was)
+          ∙ ap (λ (t : List ℕ). text ++ t) p.1),
+    )
 
 pub sources-preserved : goal.sources-preserved
 sources-preserved g c =
-    let old = g.F.Files.seen c.args.files.now in
-    let cur = g.F.Files.seen c.sources.files in
-    let now = g.F.Files.seen c.copy_part.new.files in
-    let output = c.args.output.now in
-    let f : SourceSeen → List ℕ = part_of old.held in
-    let s : SourceSeen = c.index-sources-i.result in
-    let sources = c.args.sources.now in
-    let i = c.sources.i in
-    let done = concat (map f (take i sources)) in
-    let other : s.name ≢ output = subst (λ (x : SourceSeen). x.name ≢ output) (sym c.index-sources-i.is) (c.requires.names i s c.sources-test.true) in
+    let k = (goal.at.sources-preserved g c).After-copy_part in
+    let done = done g k in
     record {
       room = c.copy_part.ensures.room ∙ c.sources.invariant.room;
       copied = λ before text was.
-          let there = c.sources.invariant.copied before text was in
-          let part : part_in cur.held c.name.result.now c.span-place.result.0 c.span-place.result.1 ≡ f (get_or sources i s) =
-          ap (λ (n : List ℕ). part_in cur.held n c.span-place.result.0 c.span-place.result.1) c.name.ensures
-          ∙ still_part before.held old.held cur.held output s.name text (text ++ done) c.span-place.result.0 c.span-place.result.1 other (ap (λ (o : Outside). o.held) was) (ap (λ (o : Outside). o.held) there)
-          ∙ ap (λ (n : ℕ). part_in old.held s.name n c.span-place.result.1) c.span-place.ensures.place
-          ∙ ap (λ (n : ℕ). part_in old.held s.name s.place n) c.span-place.ensures.size ∙ ap f c.index-sources-i.is in
-          c.in_ok-copy_part.ensures.copied (with_reads before cur) (text ++ done) there
-          ∙ ap (λ (t : List ℕ). with_bytes (with_reads before now) output t)
-          (append_assoc text done _ ∙ ap (λ (t : List ℕ). text ++ (done ++ t)) part ∙ ap (λ (t : List ℕ). text ++ t) (sym (joined_more f sources i s c.sources-test.true)));
+          c.in_ok-copy_part.ensures.copied (with_reads before (cur g k)) (text ++ done)
+          (c.sources.invariant.copied before text was)
+          ∙ ap (λ (t : List ℕ). with_bytes (with_reads before (now g k)) c.args.output.now t)
+          (append_assoc text done _ ∙ ap (λ (t : List ℕ). text ++ (done ++ t)) (part_is g k before text was)
+          ∙ ap (λ (t : List ℕ). text ++ t) (sym (joined_more (part_of (old g k).held) c.args.sources.now c.sources.i
+          (source g k) c.sources-test.true)));
       calm = calm-trans _ _ _ c.sources.invariant.calm c.in_ok-copy_part.ensures.calm;
       frame = record {
-        asked = omega (arith, c.copy_part.ensures.frame.asked, c.sources.invariant.frame.asked, c.span-place.ensures.size, ap (λ (x : SourceSeen). x.size) c.index-sources-i.is, sum_more (λ (x : SourceSeen). x.size) sources i s c.sources-test.true);
+        asked = asked_so_far g k;
         later = later-trans _ _ _ c.sources.invariant.frame.later c.copy_part.ensures.frame.later;
       };
     }
 
 pub returns-in_err-copy_part-clause-frame : goal.returns-in_err-copy_part-clause-frame
 returns-in_err-copy_part-clause-frame g c =
-    let sources = c.args.sources.now in
-    let i = c.sources.i in
-    let s : SourceSeen = c.index-sources-i.result in
+    let k = (goal.at.returns-in_err-copy_part-clause-frame g c).After-copy_part in
     record {
-      asked = omega (arith, c.copy_part.ensures.frame.asked, c.sources.invariant.frame.asked, c.span-place.ensures.size, ap (λ (x : SourceSeen). x.size) c.index-sources-i.is, sum_more (λ (x : SourceSeen). x.size) sources i s c.sources-test.true, sum_within (λ (x : SourceSeen). x.size) sources (i + 1));
+      asked = omega (
+        arith,
+        asked_so_far g k,
+        sum_within (λ (x : SourceSeen). x.size) c.args.sources.now (c.sources.i + 1),
+      );
       later = later-trans _ _ _ c.sources.invariant.frame.later c.copy_part.ensures.frame.later;
     }
 

@@ -6,6 +6,8 @@ use Rattle.laz_file.specs.Copying.{with_reads}
 use Rattle.las_merge.specs.Appending.{part_in}
 use Rattle.laz_forms.proofs.Public.{known_then}
 use Rattle.las_merge.proofs.Appended.{part_more, part_prefix, still_known, still_part}
+use Rattle.las_merge.proofs.appending.copy_part.Given.{Over}
+use Rattle.las_merge.proofs.appending.copy_part.Goals.{After-copy_piece}
 use Rattle.las_merge.proofs.appending.copy_part.Goals as goal
 
 pub copy_piece-requires-clause-lies : goal.copy_piece-requires-clause-lies
@@ -24,54 +26,75 @@ copy_piece-requires-clause-held g c =
     let h = c.requires.held in
     (with_reads h.0 (g.F.Files.seen c.pieces.files), _, c.pieces.invariant.copied h.0 h.1 h.2)
 
+-- what stands when the next piece was copied, or could not be
+module _ (g : Over) (c : After-copy_piece g) where
+  abbrev old : Outside
+  old = g.F.Files.seen c.args.files.now
+
+  abbrev cur : Outside
+  cur = g.F.Files.seen c.pieces.files
+
+  abbrev size : ℕ
+  size = length c.split_at_mut-part.result.0.now
+
+  abbrev one : List ℕ
+  one = part_in old.held c.args.input.now c.args.place c.pieces.done
+
+  abbrev next : Outside → List ℕ
+  next seen = part_in seen.held c.args.input.now (c.args.place + c.pieces.done) size
+
+  same : (before : Outside) (text : List ℕ) → old ≡ with_bytes before c.args.output.now text → next cur ≡ next old
+  same before text was = still_part before.held old.held cur.held c.args.output.now c.args.input.now text (text ++ one)
+      (c.args.place + c.pieces.done) size c.requires.names (ap (λ (o : Outside). o.held) was)
+      (ap (λ (o : Outside). o.held) (c.pieces.invariant.copied before text was))
+
 pub returns-in_err-copy_piece-clause-left : goal.returns-in_err-copy_piece-clause-left
 returns-in_err-copy_piece-clause-left g c before text was =
-    let old = g.F.Files.seen c.args.files.now in
-    let cur = g.F.Files.seen c.pieces.files in
-    let input = c.args.input.now in
-    let output = c.args.output.now in
-    let place = c.args.place in
+    let k = (goal.at.returns-in_err-copy_piece-clause-left g c).After-copy_piece in
     let done = c.pieces.done in
-    let n = length c.split_at_mut-part.result.0.now in
-    let there = c.pieces.invariant.copied before text was in
-    let one = part_in old.held input place done in
-    let l = c.in_err-copy_piece.ensures.left (with_reads before cur) (text ++ one) there in
-    let fits : done + n ≤ c.args.size = omega (arith, c.split_at_mut-part.ensures.front_len, c.min-piece.ensures, c.pieces.invariant.within) in
-    let p = part_prefix old.held input place done n c.args.size l.0 fits in
-    let same = still_part before.held old.held cur.held output input text (text ++ one) (place + done) n c.requires.names (ap (λ (o : Outside). o.held) was) (ap (λ (o : Outside). o.held) there) in
+    let n = size g k in
+    let one = one g k in
+    let l = c.in_err-copy_piece.ensures.left (with_reads before (cur g k)) (text ++ one)
+    (c.pieces.invariant.copied before text was) in
+    let fits : done + n ≤ c.args.size = omega
+    (arith, c.split_at_mut-part.ensures.front_len, c.min-piece.ensures, c.pieces.invariant.within) in
+    let p = part_prefix (old g k).held c.args.input.now c.args.place done n c.args.size l.0 fits in
     on_err c.from_residual.result (
       p.0,
       l.1
-          ∙ ap (λ (t : List ℕ). with_file before.held output t)
-          (append_assoc text one (take l.0 (part_in cur.held input (place + done) n))
-          ∙ ap (λ (t : List ℕ). text ++ (one ++ take l.0 t)) same ∙ ap (λ (t : List ℕ). text ++ t) p.1),
+          ∙ ap (λ (t : List ℕ). with_file before.held c.args.output.now t)
+          (append_assoc text one (take l.0 (next g k (cur g k)))
+          ∙ ap (λ (t : List ℕ). text ++ (one ++ take l.0 t)) (same g k before text was)
+          ∙ ap (λ (t : List ℕ). text ++ t) p.1),
     )
 
 pub pieces-preserved : goal.pieces-preserved
 pieces-preserved g c =
-    let old = g.F.Files.seen c.args.files.now in
-    let cur = g.F.Files.seen c.pieces.files in
+    let k = (goal.at.pieces-preserved g c).After-copy_piece in
     let now = g.F.Files.seen c.copy_piece.new.files in
-    let input = c.args.input.now in
-    let output = c.args.output.now in
-    let place = c.args.place in
     let done = c.pieces.done in
-    let n = length c.split_at_mut-part.result.0.now in
-    let one = part_in old.held input place done in
+    let one = one g k in
     let ok = c.in_ok-copy_piece.ensures in
     let inv = c.pieces.invariant in
-    let long : n ≡ c.min-piece.result = c.split_at_mut-part.ensures.front_len in
+    let long : size g k ≡ c.min-piece.result = c.split_at_mut-part.ensures.front_len in
     record {
       within = omega (arith, c.min-piece.ensures, inv.within);
-      room = omega (arith, length-append c.copy_piece.new.buffer c.split_at_mut-part.result.1.now, ok.room, c.split_at_mut-part.ensures.front_len, c.split_at_mut-part.ensures.back_len, inv.room, c.min-piece.ensures);
+      room = omega (
+        arith,
+        length-append c.copy_piece.new.buffer c.split_at_mut-part.result.1.now,
+        ok.room,
+        c.split_at_mut-part.ensures.front_len,
+        c.split_at_mut-part.ensures.back_len,
+        inv.room,
+        c.min-piece.ensures,
+      );
       copied = λ before text was.
-          let there = inv.copied before text was in
-          let same = still_part before.held old.held cur.held output input text (text ++ one) (place + done) n c.requires.names (ap (λ (o : Outside). o.held) was) (ap (λ (o : Outside). o.held) there) in
-          ok.copied (with_reads before cur) (text ++ one) there
-          ∙ ap (λ (t : List ℕ). with_bytes (with_reads before now) output t)
-          (append_assoc text one (part_in cur.held input (place + done) n)
-          ∙ ap (λ (t : List ℕ). text ++ (one ++ t)) same ∙ ap (λ (t : List ℕ). text ++ t) (part_more old.held input place done n)
-          ∙ ap (λ (m : ℕ). text ++ part_in old.held input place (done + m)) long);
+          ok.copied (with_reads before (cur g k)) (text ++ one) (inv.copied before text was)
+          ∙ ap (λ (t : List ℕ). with_bytes (with_reads before now) c.args.output.now t)
+          (append_assoc text one (next g k (cur g k))
+          ∙ ap (λ (t : List ℕ). text ++ (one ++ t)) (same g k before text was)
+          ∙ ap (λ (t : List ℕ). text ++ t) (part_more (old g k).held c.args.input.now c.args.place done (size g k))
+          ∙ ap (λ (m : ℕ). text ++ part_in (old g k).held c.args.input.now c.args.place (done + m)) long);
       calm = calm-trans _ _ _ inv.calm ok.calm;
       frame = record {
         asked = omega (arith, ok.frame.asked, inv.frame.asked, long);

@@ -1,11 +1,13 @@
-use Rattle.std.proofs.Common.{◌≤◌, ◌+◌, ◌*◌, List, ◌++◌, length, Option, Some, refl, sym, ◌∙◌, ap, subst, arith, map}
+use Rattle.std.proofs.Common.{◌≡◌, ℕ, ◌≤◌, ◌+◌, ◌*◌, List, ◌∷◌, ◌++◌, length, Option, None, Some, refl, sym, ◌∙◌, ap, subst, arith, map}
 use Rattle.std.specs.List.{concat}
 use Rattle.std.specs.Vec.Iter.{into_iter_items}
 use Rattle.las_header.specs.declared.refusal.Refusal.{Refusal}
-use Rattle.las_outside.specs.Files.{WhereKnown}
+use Rattle.las_outside.specs.Files.{FileMap, WhereKnown}
+use Rattle.las_outside.specs.Outside.{Outside}
 use Rattle.laz_file.specs.Copying.{with_reads}
 use Rattle.std.specs.FinMap as finmap
 use Rattle.laz_reader.specs.Asking.{AsksAtMost}
+use Rattle.laz_writer.specs.Writing.{WriterSeen}
 use Rattle.las_outside.proofs.Public.{calm-refl, calm-trans, later-refl, later-trans}
 use Rattle.las_merge.specs.Asking.{asked_of_all, asked_to_read}
 use Rattle.las_merge.specs.Copying.{BeginsWith, CopiesTo}
@@ -15,6 +17,8 @@ use Rattle.las_merge.proofs.Again.{fault_since}
 use Rattle.las_merge.proofs.Copied.{HasCopied, copies_all, has_more, has_none, into_next, leaves_next, next_copies}
 use Rattle.las_merge.proofs.Copied.{next_known, next_name, next_open, next_room, next_stands, no_items, rest_room}
 use Rattle.las_merge.proofs.Copied.{takes_next}
+use Rattle.las_merge.proofs.copying.copy_inputs.Given.{Over}
+use Rattle.las_merge.proofs.copying.copy_inputs.Goals.{In-Some}
 use Rattle.las_merge.proofs.copying.copy_inputs.Goals as goal
 use Rattle.laz_models.proofs.Public.{sum-cons}
 
@@ -43,91 +47,87 @@ inputs-init g c =
       );
     }
 
+-- what stands when there is one more input
+module _ (g : Over) (c : In-Some g) where
+  abbrev old : Outside
+  old = g.F.Files.seen c.args.files.now
+
+  abbrev now : Outside
+  now = g.F.Files.seen c.inputs.files
+
+  abbrev rest : List InputSeen
+  rest = into_iter_items c.next.new.self
+
+  abbrev reader : InputSeen
+  reader = c.in-Some.input
+
+  abbrev v : WriterSeen
+  v = c.inputs.writer
+
+  has : HasCopied old now c.args.inputs.items (reader ∷ rest) c.inputs.number c.args.writer.now v
+  has = subst (λ (rs : List InputSeen). HasCopied old now c.args.inputs.items rs c.inputs.number c.args.writer.now v)
+      c.in-Some.ensures.steps.0 c.inputs.invariant.copied
+
+  room : v.taken + v.size * points_read (reader ∷ rest) ≤ v.size * v.most
+  room = subst (λ (rs : List InputSeen). v.taken + v.size * points_read rs ≤ v.size * v.most)
+      c.in-Some.ensures.steps.0 c.inputs.invariant.room
+
+  -- what is known of its file was known at the start
+  known_before : (P : List ℕ → Type 0) → WhereKnown now.held reader.name P → WhereKnown old.held reader.name P
+  known_before P here = next_known _ _ _ _ _ _ _ _ has _ _ _ c.requires.stands.3 c.requires.names P here
+
+  copies : (part : List ℕ) (end other : Option Refusal) → CopiesTo now.held reader.name part end → end ≡ other
+      → CopiesTo old.held reader.name part other
+  copies part end other here is = subst (λ (e : Option Refusal). CopiesTo old.held reader.name part e) is
+      (next_copies _ _ _ _ _ _ _ _ has _ _ _ c.requires.stands.3 c.requires.names part end here)
+
+  -- what it and those before it were asked for
+  asked_so_far : (new : Outside)
+      → WhereKnown now.held reader.name (λ file. AsksAtMost (asked_to_read (Some file)) now new)
+      → (known : FileMap) → old.held ≡ Some known
+      → new.asked + asked_of_all asked_to_read known (names_read rest)
+      ≤ old.asked + asked_of_all asked_to_read known (names_read c.args.inputs.items)
+  asked_so_far new asked known is =
+      let most = known_before (λ file. AsksAtMost (asked_to_read (Some file)) now new) asked in
+      let here = asked_there old.held reader.name asked_to_read now new most known is in
+      let first = sum-cons (asked_to_read (finmap.get known reader.name))
+      (map (λ name. asked_to_read (finmap.get known name)) (names_read rest)) in
+      let items = ap (λ (rs : List InputSeen). asked_of_all asked_to_read known (names_read rs))
+      c.in-Some.ensures.steps.0 in
+      let before = c.inputs.invariant.asked known is in
+      omega (arith, here, first, items, before)
+
 pub copy_next-requires-clause-opened : goal.copy_next-requires-clause-opened
 copy_next-requires-clause-opened g c κs within =
-    let old = g.F.Files.seen c.args.files.now in
-    let now = g.F.Files.seen c.inputs.files in
-    let readers = c.args.inputs.items in
-    let rest = into_iter_items c.next.new.self in
-    let reader = c.in-Some.input in
-    let w = c.args.writer.now in
-    let v = c.inputs.writer in
-    let s = c.requires.stands in
-    let has = subst (λ (rs : List InputSeen). HasCopied old now readers rs c.inputs.number w v)
-    c.in-Some.ensures.steps.0 c.inputs.invariant.copied in
-    next_open old now readers rest reader c.inputs.number w v has s.0 s.1 s.2 s.3 c.requires.opened c.requires.names
+    let k = (goal.at.copy_next-requires-clause-opened g c).In-Some in
+    next_open _ _ _ _ _ _ _ _ (has g k) _ _ _ c.requires.stands.3 c.requires.opened c.requires.names
 
 pub copy_next-requires-clause-names : goal.copy_next-requires-clause-names
 copy_next-requires-clause-names g c κs within =
-    let old = g.F.Files.seen c.args.files.now in
-    let now = g.F.Files.seen c.inputs.files in
-    let readers = c.args.inputs.items in
-    let rest = into_iter_items c.next.new.self in
-    let reader = c.in-Some.input in
-    let w = c.args.writer.now in
-    let v = c.inputs.writer in
-    let s = c.requires.stands in
-    let has = subst (λ (rs : List InputSeen). HasCopied old now readers rs c.inputs.number w v)
-    c.in-Some.ensures.steps.0 c.inputs.invariant.copied in
-    next_name old now readers rest reader c.inputs.number w v has s.0 s.1 s.2 s.3 c.requires.names
+    let k = (goal.at.copy_next-requires-clause-names g c).In-Some in
+    next_name _ _ _ _ _ _ _ _ (has g k) _ _ _ c.requires.stands.3 c.requires.names
 
 pub copy_next-requires-clause-room : goal.copy_next-requires-clause-room
 copy_next-requires-clause-room g c κs within =
-    let old = g.F.Files.seen c.args.files.now in
-    let now = g.F.Files.seen c.inputs.files in
-    let readers = c.args.inputs.items in
-    let rest = into_iter_items c.next.new.self in
-    let reader = c.in-Some.input in
-    let w = c.args.writer.now in
-    let v = c.inputs.writer in
-    let s = c.requires.stands in
-    let has = subst (λ (rs : List InputSeen). HasCopied old now readers rs c.inputs.number w v)
-    c.in-Some.ensures.steps.0 c.inputs.invariant.copied in
-    let room = subst (λ (rs : List InputSeen). v.taken + v.size * points_read rs ≤ v.size * v.most)
-    c.in-Some.ensures.steps.0 c.inputs.invariant.room in
-    next_room old now readers rest reader c.inputs.number w v has s.0 s.1 s.2 s.3 c.requires.sizes
-    c.inputs.invariant.sound room
+    let k = (goal.at.copy_next-requires-clause-room g c).In-Some in
+    next_room _ _ _ _ _ _ _ _ (has g k) _ _ _ c.requires.stands.3 c.requires.sizes c.inputs.invariant.sound
+    (room g k)
 
 pub copy_next-requires-clause-stands : goal.copy_next-requires-clause-stands
 copy_next-requires-clause-stands g c κs within =
-    let old = g.F.Files.seen c.args.files.now in
-    let now = g.F.Files.seen c.inputs.files in
-    let readers = c.args.inputs.items in
-    let rest = into_iter_items c.next.new.self in
-    let reader = c.in-Some.input in
-    let w = c.args.writer.now in
-    let v = c.inputs.writer in
-    let s = c.requires.stands in
-    let has = subst (λ (rs : List InputSeen). HasCopied old now readers rs c.inputs.number w v)
-    c.in-Some.ensures.steps.0 c.inputs.invariant.copied in (
-      with_reads s.0 now,
+    let k = (goal.at.copy_next-requires-clause-stands g c).In-Some in
+    let s = c.requires.stands in (
+      with_reads s.0 (now g k),
       s.1,
-      s.2 ++ concat has.parts,
-      next_stands old now readers rest reader c.inputs.number w v has
-          s.0 s.1 s.2 s.3,
+      s.2 ++ concat (has g k).parts,
+      next_stands _ _ _ _ _ _ _ _ (has g k) _ _ _ s.3,
     )
 
 pub inputs-preserved : goal.inputs-preserved
 inputs-preserved g c =
-    let old = g.F.Files.seen c.args.files.now in
-    let now = g.F.Files.seen c.inputs.files in
-    let readers = c.args.inputs.items in
-    let rest = into_iter_items c.next.new.self in
-    let reader = c.in-Some.input in
-    let number = c.inputs.number in
-    let w = c.args.writer.now in
-    let v = c.inputs.writer in
-    let s = c.requires.stands in
-    let has = subst (λ (rs : List InputSeen). HasCopied old now readers rs number w v) c.in-Some.ensures.steps.0
-    c.inputs.invariant.copied in
+    let k = (goal.at.inputs-preserved g c).In-Some in
     let new = g.F.Files.seen c.copy_next.new.files in
-    let u = c.copy_next.new.writer in
     let d = c.in-Ok.ensures.copied in
-    let room = subst (λ (rs : List InputSeen). v.taken + v.size * points_read rs ≤ v.size * v.most)
-    c.in-Some.ensures.steps.0 c.inputs.invariant.room in
-    let here = next_copies old now readers rest reader number w v has s.0 s.1 s.2 s.3 c.requires.names d.0 c.in-Ok.end
-    d.1 in
-    let all = subst (λ (e : Option Refusal). CopiesTo old.held reader.name d.0 e) c.in_default.is here in
     let most = c.in-Ok.ensures.most in
     record {
       can = tt;
@@ -138,135 +138,65 @@ inputs-preserved g c =
         c.in-Some.ensures.steps.1,
         c.inputs.invariant.len,
       );
-      copied = has_more old now readers rest reader number w v has new u d.0 all d.2;
+      copied = has_more _ _ _ _ _ _ _ _ (has g k) new c.copy_next.new.writer d.0
+          (copies g k d.0 c.in-Ok.end None d.1 c.in_default.is) d.2;
       sound = c.in-Ok.ensures.open;
       most = most ∙ c.inputs.invariant.most;
-      room = rest_room old now readers rest reader number w v has s.0 s.1 s.2 s.3 new u d.0 d.2 (d.3 c.in_default.is)
-          most room;
-      calm = calm-trans old now new c.inputs.invariant.calm c.in-Ok.ensures.calm;
-      later = later-trans old now new c.inputs.invariant.later c.copy_next.ensures.later;
-      asked = λ known is.
-          let most_asked = next_known old now readers rest reader number w v has s.0 s.1 s.2 s.3 c.requires.names
-          (λ file. AsksAtMost (asked_to_read (Some file)) now new) c.copy_next.ensures.asked in
-          let here_asked = asked_there old.held reader.name asked_to_read now new most_asked known is in
-          let first = sum-cons (asked_to_read (finmap.get known reader.name))
-          (map (λ name. asked_to_read (finmap.get known name)) (names_read rest)) in
-          let items = ap (λ (rs : List InputSeen). asked_of_all asked_to_read known (names_read rs))
-          c.in-Some.ensures.steps.0 in
-          let before = c.inputs.invariant.asked known is in
-          omega (arith, here_asked, first, items, before);
+      room = rest_room _ _ _ _ _ _ _ _ (has g k) _ _ _ c.requires.stands.3 new c.copy_next.new.writer d.0 d.2
+          (d.3 c.in_default.is) most (room g k);
+      calm = calm-trans (old g k) (now g k) new c.inputs.invariant.calm c.in-Ok.ensures.calm;
+      later = later-trans (old g k) (now g k) new c.inputs.invariant.later c.copy_next.ensures.later;
+      asked = asked_so_far g k new c.copy_next.ensures.asked;
     }
 
 pub returns-in-Some-end-clause-copied : goal.returns-in-Some-end-clause-copied
 returns-in-Some-end-clause-copied g c =
-    let old = g.F.Files.seen c.args.files.now in
-    let now = g.F.Files.seen c.inputs.files in
-    let readers = c.args.inputs.items in
-    let rest = into_iter_items c.next.new.self in
-    let reader = c.in-Some.input in
-    let number = c.inputs.number in
-    let w = c.args.writer.now in
-    let v = c.inputs.writer in
-    let s = c.requires.stands in
-    let has = subst (λ (rs : List InputSeen). HasCopied old now readers rs number w v) c.in-Some.ensures.steps.0
-    c.inputs.invariant.copied in
-    let new = g.F.Files.seen c.copy_next.new.files in
+    let k = (goal.at.returns-in-Some-end-clause-copied g c).In-Some in
     let d = c.in-Ok.ensures.copied in
-    let u = c.copy_next.new.writer in
-    let here = next_copies old now readers rest reader number w v has s.0 s.1 s.2 s.3 c.requires.names d.0 c.in-Ok.end
-    d.1 in
-    let bad = subst (λ (e : Option Refusal). CopiesTo old.held reader.name d.0 e) c.in-Some-end.is here in (
-      concat has.parts ++ d.0,
-      into_next old now readers rest reader number w v has
-          (λ name part. CopiesTo old.held name part (Some c.in-Some-end.cause)) d.0 bad,
-      takes_next old now readers rest reader number w v has new u d.0 d.2,
+    let cause = Some c.in-Some-end.cause in (
+      concat (has g k).parts ++ d.0,
+      into_next _ _ _ _ _ _ _ _ (has g k) (λ name part. CopiesTo (old g k).held name part cause) d.0
+          (copies g k d.0 c.in-Ok.end cause d.1 c.in-Some-end.is),
+      takes_next _ _ _ _ _ _ _ _ (has g k) (g.F.Files.seen c.copy_next.new.files) c.copy_next.new.writer d.0 d.2,
     )
 
 pub returns-in-Err-clause-ends : goal.returns-in-Err-clause-ends
 returns-in-Err-clause-ends g c =
-    let old = g.F.Files.seen c.args.files.now in
-    let now = g.F.Files.seen c.inputs.files in
-    let readers = c.args.inputs.items in
-    let rest = into_iter_items c.next.new.self in
-    let reader = c.in-Some.input in
-    let number = c.inputs.number in
-    let w = c.args.writer.now in
-    let v = c.inputs.writer in
-    let s = c.requires.stands in
-    let has = subst (λ (rs : List InputSeen). HasCopied old now readers rs number w v) c.in-Some.ensures.steps.0
-    c.inputs.invariant.copied in
+    let k = (goal.at.returns-in-Err-clause-ends g c).In-Some in
     let new = g.F.Files.seen c.copy_next.new.files in
-    let l = c.in-Err.ensures.left in
-    let here = next_known old now readers rest reader number w v has s.0 s.1 s.2 s.3 c.requires.names
-    (λ file. BeginsWith file l.0) l.1 in (
+    let number = c.inputs.number in
+    let l = c.in-Err.ensures.left in (
       number,
-      concat has.parts ++ l.0,
-      into_next old now readers rest reader number w v has
-          (λ name part. WhereKnown old.held name (λ file. BeginsWith file part)) l.0 here,
-      fault_since old now new number c.in-Err.fault c.inputs.invariant.later.known c.inputs.invariant.calm.reads
-          c.inputs.invariant.calm.writes c.in-Err.ensures.cause,
-      leaves_next old now readers rest reader number w v has new l.0 l.2,
+      concat (has g k).parts ++ l.0,
+      into_next _ _ _ _ _ _ _ _ (has g k)
+          (λ name part. WhereKnown (old g k).held name (λ file. BeginsWith file part)) l.0
+          (known_before g k (λ file. BeginsWith file l.0) l.1),
+      fault_since (old g k) (now g k) new number c.in-Err.fault c.inputs.invariant.later.known
+          c.inputs.invariant.calm.reads c.inputs.invariant.calm.writes c.in-Err.ensures.cause,
+      leaves_next _ _ _ _ _ _ _ _ (has g k) new l.0 l.2,
     )
 
 pub returns-clause-copied : goal.returns-clause-copied
 returns-clause-copied g c =
-    let old = g.F.Files.seen c.args.files.now in
-    let now = g.F.Files.seen c.inputs.files in
+    let before = g.F.Files.seen c.args.files.now in
+    let after = g.F.Files.seen c.inputs.files in
     let readers = c.args.inputs.items in
     let w = c.args.writer.now in
-    let v = c.inputs.writer in
+    let u = c.inputs.writer in
     let none = no_items (into_iter_items c.inputs.input-iterator) _ c.inputs.invariant.len c.in-None.ensures.steps.0 in
-    let has = subst (λ (rs : List InputSeen). HasCopied old now readers rs c.inputs.number w v) none
+    let all = subst (λ (rs : List InputSeen). HasCopied before after readers rs c.inputs.number w u) none
     c.inputs.invariant.copied in
-    (concat has.parts, copies_all old now readers c.inputs.number w v has, has.takes)
+    (concat all.parts, copies_all before after readers c.inputs.number w u all, all.takes)
 
 pub returns-in-Some-end-clause-asked : goal.returns-in-Some-end-clause-asked
 returns-in-Some-end-clause-asked g c known is =
-    let old = g.F.Files.seen c.args.files.now in
-    let now = g.F.Files.seen c.inputs.files in
-    let readers = c.args.inputs.items in
-    let rest = into_iter_items c.next.new.self in
-    let reader = c.in-Some.input in
-    let number = c.inputs.number in
-    let w = c.args.writer.now in
-    let v = c.inputs.writer in
-    let s = c.requires.stands in
-    let has = subst (λ (rs : List InputSeen). HasCopied old now readers rs number w v) c.in-Some.ensures.steps.0
-    c.inputs.invariant.copied in
-    let new = g.F.Files.seen c.copy_next.new.files in
-    let most = next_known old now readers rest reader number w v has s.0 s.1 s.2 s.3 c.requires.names
-    (λ file. AsksAtMost (asked_to_read (Some file)) now new) c.copy_next.ensures.asked in
-    let here = asked_there old.held reader.name asked_to_read now new most known is in
-    let first = sum-cons (asked_to_read (finmap.get known reader.name))
-    (map (λ name. asked_to_read (finmap.get known name)) (names_read rest)) in
-    let items = ap (λ (rs : List InputSeen). asked_of_all asked_to_read known (names_read rs))
-    c.in-Some.ensures.steps.0 in
-    let before = c.inputs.invariant.asked known is in
-    omega (arith, here, first, items, before)
+    let k = (goal.at.returns-in-Some-end-clause-asked g c).In-Some in
+    omega (arith, asked_so_far g k (g.F.Files.seen c.copy_next.new.files) c.copy_next.ensures.asked known is)
 
 pub returns-in-Err-clause-asked : goal.returns-in-Err-clause-asked
 returns-in-Err-clause-asked g c known is =
-    let old = g.F.Files.seen c.args.files.now in
-    let now = g.F.Files.seen c.inputs.files in
-    let readers = c.args.inputs.items in
-    let rest = into_iter_items c.next.new.self in
-    let reader = c.in-Some.input in
-    let number = c.inputs.number in
-    let w = c.args.writer.now in
-    let v = c.inputs.writer in
-    let s = c.requires.stands in
-    let has = subst (λ (rs : List InputSeen). HasCopied old now readers rs number w v) c.in-Some.ensures.steps.0
-    c.inputs.invariant.copied in
-    let new = g.F.Files.seen c.copy_next.new.files in
-    let most = next_known old now readers rest reader number w v has s.0 s.1 s.2 s.3 c.requires.names
-    (λ file. AsksAtMost (asked_to_read (Some file)) now new) c.copy_next.ensures.asked in
-    let here = asked_there old.held reader.name asked_to_read now new most known is in
-    let first = sum-cons (asked_to_read (finmap.get known reader.name))
-    (map (λ name. asked_to_read (finmap.get known name)) (names_read rest)) in
-    let items = ap (λ (rs : List InputSeen). asked_of_all asked_to_read known (names_read rs))
-    c.in-Some.ensures.steps.0 in
-    let before = c.inputs.invariant.asked known is in
-    omega (arith, here, first, items, before)
+    let k = (goal.at.returns-in-Err-clause-asked g c).In-Some in
+    omega (arith, asked_so_far g k (g.F.Files.seen c.copy_next.new.files) c.copy_next.ensures.asked known is)
 
 pub returns-clause-asked : goal.returns-clause-asked
 returns-clause-asked g c known is = omega (arith, c.inputs.invariant.asked known is)

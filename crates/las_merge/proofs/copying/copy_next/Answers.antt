@@ -10,6 +10,8 @@ use Rattle.las_merge.specs.Copying.{BeginsWith, CopiesTo, IsFaultOf}
 use Rattle.las_merge.proofs.Asked.{asked_again}
 use Rattle.las_merge.proofs.Again.{back, fault_by, fault_since, leaves_after, new_again, none_begun, room_for}
 use Rattle.las_merge.proofs.Again.{takes_after, there}
+use Rattle.las_merge.proofs.copying.copy_next.Given.{Over}
+use Rattle.las_merge.proofs.copying.copy_next.Goals.{After-copy_input}
 use Rattle.las_merge.proofs.copying.copy_next.Goals as goal
 
 pub returns-in-Err-clause-left : goal.returns-in-Err-clause-left
@@ -96,16 +98,18 @@ returns-in-Err-clause-asked g c =
     (λ file. AsksAtMost (asked_to_open file + points_size file) old mid) (λ file most. omega (arith, most))
     c.open_again.ensures.asked
 
+-- what opening and reading it asked for
+module _ (g : Over) (c : After-copy_input g) where
+  asked_in_all : WhereKnown (g.F.Files.seen c.args.files.now).held c.args.input.now.name
+      (λ file. AsksAtMost (asked_to_open file + points_size file) (g.F.Files.seen c.args.files.now)
+      (g.F.Files.seen c.copy_input.new.files))
+  asked_in_all = asked_again (g.F.Files.seen c.args.files.now).held c.args.input.now.name c.in-Ok.reader
+      (g.F.Files.seen c.args.files.now) (g.F.Files.seen c.open_again.new.files)
+      (g.F.Files.seen c.copy_input.new.files) c.in-Ok.ensures.again.fresh.whole c.in-Ok.ensures.again.stands
+      c.open_again.ensures.asked c.copy_input.ensures.frame.asked
+
 pub returns-in-Ok-copy_input-clause-asked : goal.returns-in-Ok-copy_input-clause-asked
-returns-in-Ok-copy_input-clause-asked g c =
-    asked_again (g.F.Files.seen c.args.files.now).held c.args.input.now.name c.in-Ok.reader
-    (g.F.Files.seen c.args.files.now) (g.F.Files.seen c.open_again.new.files)
-    (g.F.Files.seen c.copy_input.new.files) c.in-Ok.ensures.again.fresh.whole c.in-Ok.ensures.again.stands
-    c.open_again.ensures.asked c.copy_input.ensures.frame.asked
+returns-in-Ok-copy_input-clause-asked g c = asked_in_all g (goal.at.returns-in-Ok-copy_input-clause-asked g c).After-copy_input
 
 pub returns-in-Err-copy_input-clause-asked : goal.returns-in-Err-copy_input-clause-asked
-returns-in-Err-copy_input-clause-asked g c =
-    asked_again (g.F.Files.seen c.args.files.now).held c.args.input.now.name c.in-Ok.reader
-    (g.F.Files.seen c.args.files.now) (g.F.Files.seen c.open_again.new.files)
-    (g.F.Files.seen c.copy_input.new.files) c.in-Ok.ensures.again.fresh.whole c.in-Ok.ensures.again.stands
-    c.open_again.ensures.asked c.copy_input.ensures.frame.asked
+returns-in-Err-copy_input-clause-asked g c = asked_in_all g (goal.at.returns-in-Err-copy_input-clause-asked g c).After-copy_input

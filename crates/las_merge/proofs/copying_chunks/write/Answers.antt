@@ -11,6 +11,8 @@ use Rattle.laz_file.proofs.Public.{known_after}
 use Rattle.laz_file.specs.Copying.{with_reads}
 use Rattle.las_merge.specs.Appending.{LeavesPrefix, LiesIn, SourceSeen, part_of}
 use Rattle.las_merge.proofs.Appended.{leaves_more, parts_after, reads_now}
+use Rattle.las_merge.proofs.copying_chunks.write.Given.{Over}
+use Rattle.las_merge.proofs.copying_chunks.write.Goals.{In-Ok}
 use Rattle.las_merge.proofs.copying_chunks.write.Goals as goal
 
 pub returns-in-Err-clause-left : goal.returns-in-Err-clause-left
@@ -31,58 +33,80 @@ copy_all-requires-clause-lie g c k d lt =
     subst (λ (h : Option FileMap). LiesIn h s) (sym (ap (λ (o : Outside). o.held) c.in-Ok.ensures.begun))
     (known_after old.held name _ s.name (λ file. s.place + s.size ≤ length file) (c.requires.names k d lt) (c.requires.lie k d lt))
 
+-- what stands when the output was begun
+module _ (g : Over) (c : In-Ok g) where
+  abbrev old : Outside
+  old = g.F.Files.seen c.args.files.now
+
+  abbrev mid : Outside
+  mid = g.F.Files.seen c.begin.new.files
+
+  abbrev pointer : List ℕ
+  pointer = little_bytes 8 c.args.frame.now.place
+
+  abbrev begun : List ℕ
+  begun = c.bytes.result.now ++ pointer
+
+  abbrev front : List ℕ
+  front = c.args.frame.now.head.bytes ++ pointer
+
+  abbrev parts : Option FileMap → List ℕ
+  parts held = concat (map (part_of held) c.args.sources.now)
+
+  same : begun ≡ front
+  same = ap (λ (h : List ℕ). h ++ pointer) c.bytes.ensures.bytes
+
+  parts_are : parts mid.held ≡ parts old.held
+  parts_are = ap parts (ap (λ (o : Outside). o.held) c.in-Ok.ensures.begun)
+      ∙ parts_after old.held c.args.output.now begun c.args.sources.now c.requires.names
+
 pub returns-in_err-copy_all-clause-left : goal.returns-in_err-copy_all-clause-left
 returns-in_err-copy_all-clause-left g c =
-    let old = g.F.Files.seen c.args.files.now in
-    let mid = g.F.Files.seen c.begin.new.files in
+    let k = (goal.at.returns-in_err-copy_all-clause-left g c).In-Ok in
+    let old = old g k in
     let name = c.args.output.now in
-    let frame = c.args.frame.now in
-    let sources = c.args.sources.now in
-    let begun = c.bytes.result.now ++ little_bytes 8 frame.place in
-    let front = frame.head.bytes ++ little_bytes 8 frame.place in
-    let same : begun ≡ front = ap (λ (h : List ℕ). h ++ little_bytes 8 frame.place) c.bytes.ensures.bytes in
-    let parts = concat (map (part_of old.held) sources) in
-    let parts_are : concat (map (part_of mid.held) sources) ≡ parts = ap (λ (h : Option FileMap). concat (map (part_of h) sources)) (ap (λ (o : Outside). o.held) c.in-Ok.ensures.begun) ∙ parts_after old.held name begun sources c.requires.names in
-    let left = c.in_err-copy_all.ensures.left old begun c.in-Ok.ensures.begun in
+    let whole = parts g k old.held in
+    let left = c.in_err-copy_all.ensures.left old (begun g k) c.in-Ok.ensures.begun in
     on_err c.from_residual.result (inr (
-      length front + min left.0 (length parts),
-      left.1 ∙ (λ i. with_file old.held name (same i ++ take left.0 (parts_are i))) ∙ ap (λ (t : List ℕ). with_file old.held name t) (prefix_of front parts frame.table.items left.0),
+      length (front g k) + min left.0 (length whole),
+      left.1 ∙ (λ i. with_file old.held name (same g k i ++ take left.0 (parts_are g k i)))
+          ∙ ap (λ (t : List ℕ). with_file old.held name t)
+          (prefix_of (front g k) whole c.args.frame.now.table.items left.0),
     ))
 
 pub append_all-requires : goal.append_all-requires
 append_all-requires g c =
-    let old = g.F.Files.seen c.args.files.now in
-    let begun = c.bytes.result.now ++ little_bytes 8 c.args.frame.now.place in
-    record { held = (with_reads old (g.F.Files.seen c.copy_all.new.files), _, c.in_ok-copy_all.ensures.copied old begun c.in-Ok.ensures.begun) }
+    let k = (goal.at.append_all-requires g c).In-Ok in
+    record {
+      held = (
+        with_reads (old g k) (g.F.Files.seen c.copy_all.new.files),
+        _,
+        c.in_ok-copy_all.ensures.copied (old g k) (begun g k) c.in-Ok.ensures.begun,
+      );
+    }
 
--- what stands before the table is appended
 pub returns-in-Ok-append_all-clause-written : goal.returns-in-Ok-append_all-clause-written
 returns-in-Ok-append_all-clause-written g c =
-    let old = g.F.Files.seen c.args.files.now in
-    let mid = g.F.Files.seen c.begin.new.files in
-    let cur = g.F.Files.seen c.copy_all.new.files in
+    let k = (goal.at.returns-in-Ok-append_all-clause-written g c).In-Ok in
+    let old = old g k in
+    let before = with_reads old (g.F.Files.seen c.copy_all.new.files) in
     let now = g.F.Files.seen c.append_all.new.files in
     let name = c.args.output.now in
-    let frame = c.args.frame.now in
-    let sources = c.args.sources.now in
-    let begun = c.bytes.result.now ++ little_bytes 8 frame.place in
-    let front = frame.head.bytes ++ little_bytes 8 frame.place in
-    let same : begun ≡ front = ap (λ (h : List ℕ). h ++ little_bytes 8 frame.place) c.bytes.ensures.bytes in
-    let parts = concat (map (part_of old.held) sources) in
-    let parts_are : concat (map (part_of mid.held) sources) ≡ parts = ap (λ (h : Option FileMap). concat (map (part_of h) sources)) (ap (λ (o : Outside). o.held) c.in-Ok.ensures.begun) ∙ parts_after old.held name begun sources c.requires.names in
-    let text = begun ++ concat (map (part_of mid.held) sources) in
-    let put = c.in-Ok-append_all.ensures.added (with_reads old cur) text (c.in_ok-copy_all.ensures.copied old begun c.in-Ok.ensures.begun) in
+    let text = begun g k ++ parts g k (mid g k).held in
+    let put = c.in-Ok-append_all.ensures.added before text
+    (c.in_ok-copy_all.ensures.copied old (begun g k) c.in-Ok.ensures.begun) in
     let table = c.deref.result.now in
-    let text_is : text ++ table ≡ front ++ (parts ++ frame.table.items) =
-    (λ i. (same i ++ parts_are i) ++ c.deref.ensures.value i) ∙ append_assoc front parts frame.table.items in
-    reads_now old (with_reads old cur) now name (text ++ table) put refl refl ∙ ap (λ (t : List ℕ). with_bytes (with_reads old now) name t) text_is
+    let text_is : text ++ table ≡ front g k ++ (parts g k old.held ++ c.args.frame.now.table.items) =
+    (λ i. (same g k i ++ parts_are g k i) ++ c.deref.ensures.value i)
+    ∙ append_assoc (front g k) (parts g k old.held) c.args.frame.now.table.items in
+    reads_now old before now name (text ++ table) put refl refl
+    ∙ ap (λ (t : List ℕ). with_bytes (with_reads old now) name t) text_is
 
 pub returns-in-Ok-append_all-clause-calm : goal.returns-in-Ok-append_all-clause-calm
 returns-in-Ok-append_all-clause-calm g c =
-    let old = g.F.Files.seen c.args.files.now in
-    let cur = g.F.Files.seen c.copy_all.new.files in
-    let begun = c.bytes.result.now ++ little_bytes 8 c.args.frame.now.place in
-    let put = c.in-Ok-append_all.ensures.added (with_reads old cur) _ (c.in_ok-copy_all.ensures.copied old begun c.in-Ok.ensures.begun) in
+    let k = (goal.at.returns-in-Ok-append_all-clause-calm g c).In-Ok in
+    let put = c.in-Ok-append_all.ensures.added (with_reads (old g k) (g.F.Files.seen c.copy_all.new.files)) _
+    (c.in_ok-copy_all.ensures.copied (old g k) (begun g k) c.in-Ok.ensures.begun) in
     record {
       reads = c.append_all.ensures.writes.reads ∙ c.in_ok-copy_all.ensures.calm.reads ∙ c.begin.ensures.writes.reads;
       writes = ap (λ (o : Outside). o.write_faults) put;
@@ -94,33 +118,31 @@ returns-in-Ok-append_all-clause-frame g c =
 
 pub returns-in-Err-append_all-clause-left : goal.returns-in-Err-append_all-clause-left
 returns-in-Err-append_all-clause-left g c =
-    let old = g.F.Files.seen c.args.files.now in
-    let mid = g.F.Files.seen c.begin.new.files in
-    let cur = g.F.Files.seen c.copy_all.new.files in
+    let k = (goal.at.returns-in-Err-append_all-clause-left g c).In-Ok in
+    let old = old g k in
     let name = c.args.output.now in
-    let frame = c.args.frame.now in
-    let sources = c.args.sources.now in
-    let begun = c.bytes.result.now ++ little_bytes 8 frame.place in
-    let front = frame.head.bytes ++ little_bytes 8 frame.place in
-    let same : begun ≡ front = ap (λ (h : List ℕ). h ++ little_bytes 8 frame.place) c.bytes.ensures.bytes in
-    let parts = concat (map (part_of old.held) sources) in
-    let parts_are : concat (map (part_of mid.held) sources) ≡ parts = ap (λ (h : Option FileMap). concat (map (part_of h) sources)) (ap (λ (o : Outside). o.held) c.in-Ok.ensures.begun) ∙ parts_after old.held name begun sources c.requires.names in
-    let text = begun ++ concat (map (part_of mid.held) sources) in
-    let left = c.in-Err-append_all.ensures.stopped (with_reads old cur) text (c.in_ok-copy_all.ensures.copied old begun c.in-Ok.ensures.begun) in
-    let table = frame.table.items in
-    let m = length (front ++ parts) + left.0 in
+    let front = front g k in
+    let whole = parts g k old.held in
+    let left = c.in-Err-append_all.ensures.stopped (with_reads old (g.F.Files.seen c.copy_all.new.files))
+    (begun g k ++ parts g k (mid g k).held)
+    (c.in_ok-copy_all.ensures.copied old (begun g k) c.in-Ok.ensures.begun) in
+    let table = c.args.frame.now.table.items in
+    let m = length (front ++ whole) + left.0 in
     inr (
       m,
-      ap (λ (o : Outside). o.held) left.1 ∙ (λ i. with_file old.held name ((same i ++ parts_are i) ++ take left.0 (c.deref.ensures.value i)))
-          ∙ ap (λ (t : List ℕ). with_file old.held name t) (sym (take-append-add (front ++ parts) table left.0) ∙ ap (λ (t : List ℕ). take m t) (append_assoc front parts table)),
+      ap (λ (o : Outside). o.held) left.1
+          ∙ (λ i. with_file old.held name
+          ((same g k i ++ parts_are g k i) ++ take left.0 (c.deref.ensures.value i)))
+          ∙ ap (λ (t : List ℕ). with_file old.held name t)
+          (sym (take-append-add (front ++ whole) table left.0)
+          ∙ ap (λ (t : List ℕ). take m t) (append_assoc front whole table)),
     )
 
 pub returns-in-Err-append_all-clause-cause : goal.returns-in-Err-append_all-clause-cause
 returns-in-Err-append_all-clause-cause g c =
-    let old = g.F.Files.seen c.args.files.now in
-    let cur = g.F.Files.seen c.copy_all.new.files in
-    let begun = c.bytes.result.now ++ little_bytes 8 c.args.frame.now.place in
-    let left = c.in-Err-append_all.ensures.stopped (with_reads old cur) _ (c.in_ok-copy_all.ensures.copied old begun c.in-Ok.ensures.begun) in
+    let k = (goal.at.returns-in-Err-append_all-clause-cause g c).In-Ok in
+    let left = c.in-Err-append_all.ensures.stopped (with_reads (old g k) (g.F.Files.seen c.copy_all.new.files)) _
+    (c.in_ok-copy_all.ensures.copied (old g k) (begun g k) c.in-Ok.ensures.begun) in
     omega (arith, ap (λ (o : Outside). o.write_faults) left.1)
 
 pub returns-in-Err-append_all-clause-frame : goal.returns-in-Err-append_all-clause-frame

@@ -1,17 +1,17 @@
-use Rattle.std.proofs.Common.{◌≡◌, ◌+◌, ◌-◌, ◌<◌, ◌∷◌, ℕ, List, [], Option, length, sym, ◌∙◌, ap, subst, length-append}
+use Rattle.std.proofs.Common.{◌≡◌, ◌+◌, ◌-◌, ◌<◌, ◌∷◌, ℕ, List, [], Option, length, sym, ap, subst, length-append}
 use Rattle.std.proofs.Common.{arith}
-use Rattle.std.specs.Prelude.{string_bytes}
-use Rattle.std.specs.declared.alloc.Global.{Global}
-use Rattle.std.proofs.lemmas.List.{get_or-map, length-map}
 use Rattle.las_outside.specs.Files.{FileMap}
+use Rattle.las_outside.specs.Outside.{Outside}
 use Rattle.las_outside.proofs.Public.{calm-trans, only_reads-trans}
 use Rattle.laz_forms.proofs.Public.{if_err}
 use Rattle.las_merge.specs.Inputs.{item_at, names_of}
 use Rattle.las_merge.specs.Listing.{ListsChunks}
-use Rattle.las_merge.specs.Opening.{AreOpen, InputSeen, IsNext}
+use Rattle.las_merge.specs.Opening.{InputSeen}
 use Rattle.las_merge.proofs.KeptPacked.{next_ends_packed}
 use Rattle.las_merge.proofs.Listed.{list_packed}
-use Rattle.las_merge.proofs.Opened.{open_more}
+use Rattle.las_merge.proofs.Opened.{name_at, open_more, within_names}
+use Rattle.las_merge.proofs.listing.list_inputs.Given.{Over}
+use Rattle.las_merge.proofs.listing.list_inputs.Goals.{After-list_next}
 use Rattle.las_merge.proofs.listing.list_inputs.Goals as goal
 
 pub list_next-requires-clause-lists : goal.list_next-requires-clause-lists
@@ -23,43 +23,51 @@ list_next-requires-clause-lists g c = (
       (sym c.inputs.invariant.reads.held) c.inputs.invariant.lists,
 )
 
+-- what stands when the next input was listed, or could not be
+module _ (g : Over) (c : After-list_next g) where
+  abbrev start : Outside
+  start = g.F.Files.seen c.args.files.now
+
+  abbrev old : Outside
+  old = g.F.Files.seen c.inputs.files
+
+  abbrev new : Outside
+  new = g.F.Files.seen c.list_next.new.files
+
+  abbrev names : List (List ℕ)
+  names = names_of c.args.names.now
+
+  abbrev readers : List InputSeen
+  readers = c.inputs.listed.inputs.items
+
+  named : c.deref.result.now ≡ item_at names (length readers)
+  named = subst (λ (k : ℕ). c.deref.result.now ≡ item_at names k) (sym c.inputs.invariant.count)
+      (name_at c.args.names.now c.inputs.name-index c.name-item.result c.deref.result.now c.inputs-test.true
+      c.name-item.is c.deref.ensures)
+
+  within : length readers < length names
+  within = omega (
+    arith,
+    within_names c.args.names.now c.inputs.name-index c.inputs-test.true,
+    c.inputs.invariant.count,
+  )
+
 pub returns-in_err-list_next-clause-ends : goal.returns-in_err-list_next-clause-ends
 returns-in_err-list_next-clause-ends g c =
-    let start = g.F.Files.seen c.args.files.now in
-    let old = g.F.Files.seen c.inputs.files in
-    let new = g.F.Files.seen c.list_next.new.files in
-    let names = names_of c.args.names.now in
-    let readers = c.inputs.listed.inputs.items in
-    let i = c.inputs.name-index in
-    let lt : i < length c.args.names.now = c.inputs-test.true in
-    let named = c.deref.ensures ∙ ap string_bytes c.name-item.is
-    ∙ sym (get_or-map string_bytes c.args.names.now i c.name-item.result [] lt)
-    ∙ ap (λ (k : ℕ). item_at names k) (sym c.inputs.invariant.count) in
-    let within : length readers < length names = omega
-    (arith, lt, length-map c.args.names.now (string_bytes {Z = Global}), c.inputs.invariant.count) in
+    let k = (goal.at.returns-in_err-list_next-clause-ends g c).After-list_next in
     if_err _ c.from_residual.result _ c.from_residual.ensures.1
-    (next_ends_packed names readers c.deref.result.now start old new c.inputs.invariant.opened
-    (list_packed start.held _ _ _ _ _ _ c.inputs.invariant.lists) within named c.inputs.invariant.reads.held
-    c.inputs.invariant.calm.reads c.in_err-list_next.field-0.0 c.in_err-list_next.ensures.ends)
+    (next_ends_packed (names g k) (readers g k) c.deref.result.now (start g k) (old g k) (new g k)
+    c.inputs.invariant.opened (list_packed (start g k).held _ _ _ _ _ _ c.inputs.invariant.lists) (within g k)
+    (named g k) c.inputs.invariant.reads.held c.inputs.invariant.calm.reads c.in_err-list_next.field-0.0
+    c.in_err-list_next.ensures.ends)
 
 pub inputs-preserved : goal.inputs-preserved
 inputs-preserved g c =
-    let start = g.F.Files.seen c.args.files.now in
-    let old = g.F.Files.seen c.inputs.files in
-    let new = g.F.Files.seen c.list_next.new.files in
-    let names = names_of c.args.names.now in
-    let readers = c.inputs.listed.inputs.items in
-    let i = c.inputs.name-index in
-    let lt : i < length c.args.names.now = c.inputs-test.true in
-    let named = c.deref.ensures ∙ ap string_bytes c.name-item.is
-    ∙ sym (get_or-map string_bytes c.args.names.now i c.name-item.result [] lt)
-    ∙ ap (λ (k : ℕ). item_at names k) (sym c.inputs.invariant.count) in
-    let within : length readers < length names = omega
-    (arith, lt, length-map c.args.names.now (string_bytes {Z = Global}), c.inputs.invariant.count) in
+    let k = (goal.at.inputs-preserved g c).After-list_next in
+    let start = start g k in
+    let old = old g k in
+    let new = new g k in
     let more = c.in_ok-list_next.ensures.next in
-    let next = subst (λ (n : List ℕ). IsNext old.held n readers more.0) named more.1 in
-    let here = subst (λ (o : Option FileMap). IsNext o (item_at names (length readers)) readers more.0)
-    c.inputs.invariant.reads.held next in
     let listed = c.list_next.new.listed in
     let was = c.inputs.listed in
     let before = subst (λ (h : Option FileMap). ListsChunks h was.inputs.items was.sources.items was.lists.many
@@ -68,8 +76,8 @@ inputs-preserved g c =
     let spent : old.asked - start.asked + (new.asked - old.asked) ≡ new.asked - start.asked =
     omega (arith, c.inputs.invariant.reads.later.asked, c.list_next.ensures.reads.later.asked) in
     record {
-      opened = subst (λ (rs : List InputSeen). AreOpen start.held names rs) (sym more.2)
-          (open_more start.held names readers more.0 c.inputs.invariant.opened within here);
+      opened = open_more start.held old.held (names g k) c.deref.result.now (readers g k) listed.inputs.items more.0
+          c.inputs.invariant.opened (within g k) (named g k) c.inputs.invariant.reads.held more.1 more.2;
       lists = subst (λ (h : Option FileMap). ListsChunks h listed.inputs.items listed.sources.items listed.lists.many
           listed.lists.counts.items listed.lists.sizes.items (new.asked - start.asked)) c.inputs.invariant.reads.held
           (subst (λ (n : ℕ). ListsChunks old.held listed.inputs.items listed.sources.items listed.lists.many
@@ -78,7 +86,7 @@ inputs-preserved g c =
       count = omega (
         arith,
         ap (λ (rs : List InputSeen). length rs) more.2,
-        length-append readers (more.0 ∷ []),
+        length-append (readers g k) (more.0 ∷ []),
         c.inputs.invariant.count,
       );
       reads = only_reads-trans start old new c.inputs.invariant.reads c.list_next.ensures.reads;

@@ -16,6 +16,8 @@ use Rattle.las_merge.specs.Packed.{IsRefusedToCopy}
 use Rattle.las_merge.proofs.Again.{open_by}
 use Rattle.las_merge.proofs.KeptPacked.{fails_open}
 use Rattle.las_merge.proofs.Listed.{list_more, listed_by}
+use Rattle.las_merge.proofs.listing.list_next.Given.{Over}
+use Rattle.las_merge.proofs.listing.list_next.Goals.{After-head-2}
 use Rattle.las_merge.proofs.listing.list_next.Goals as goal
 
 pub returns-in-Err-clause-ends : goal.returns-in-Err-clause-ends
@@ -40,43 +42,48 @@ returns-then-not-packed-clause-ends g c =
           (λ file s. inl (refl, s.accepted, ap (λ (h : HeadView). is_packed h.bytes) (sym s.head) ∙ plain)) c.in-Ok.ensures.stands,
     )
 
+-- what stands when the file was found to be packed
+module _ (g : Over) (c : After-head-2 g) where
+  packed : is_packed c.in-Ok.reader.head.bytes ≡ true
+  packed = ap (λ (h : HeadView). is_packed h.bytes) (sym c.head.ensures) ∙ sym c.packed.ensures
+      ∙ c.if-not-packed.false
+
+  compared : first_difference (first_read c.args.listed.now.inputs.items) c.in-Ok.reader.head.bytes
+      ≡ first_difference (first_read c.deref.result.now) c.head-2.result.now.bytes
+  compared =
+      ap (λ (is : List InputSeen). first_difference (first_read is) c.in-Ok.reader.head.bytes)
+      (sym c.deref.ensures.value)
+      ∙ ap (λ (h : HeadView). first_difference (first_read c.deref.result.now) h.bytes) (sym c.head-2.ensures)
+
 pub returns-in-Some-clause-ends : goal.returns-in-Some-clause-ends
 returns-in-Some-clause-ends g c =
-    let held = (g.F.Files.seen c.args.files.now).held in
+    let k = (goal.at.returns-in-Some-clause-ends g c).After-head-2 in
     let reader = c.in-Ok.reader in
-    let name = c.args.name.now in
-    let inputs = c.args.listed.now.inputs.items in
-    let number : c.len-number.result ≡ length inputs = search rules in
-    let head : c.head.result.now.bytes ≡ reader.head.bytes = ap (λ (h : HeadView). h.bytes) c.head.ensures in
-    let other : c.head-2.result.now.bytes ≡ reader.head.bytes = ap (λ (h : HeadView). h.bytes) c.head-2.ensures in
-    let packed : is_packed reader.head.bytes ≡ true = ap is_packed (sym head) ∙ sym c.packed.ensures ∙ c.if-not-packed.false in
-    let d = c.in-Some.ensures.other c.in-Some.field refl in
-    let first = ap first_read c.deref.ensures.value in (
+    let number : c.len-number.result ≡ length c.args.listed.now.inputs.items = search rules in
+    let d = c.in-Some.ensures.other c.in-Some.field refl in (
       number,
       omega (arith, d.0, ap (λ (is : List InputSeen). length is) c.deref.ensures.value),
       (
-        record { name = name; head = reader.head },
+        record { name = c.args.name.now; head = reader.head },
         refl,
-        open_by held name reader c.in-Ok.ensures.whole c.in-Ok.ensures.stands,
-        packed,
-        ap (λ (h : List ℕ). first_difference h reader.head.bytes) (sym first) ∙ ap (λ (h : List ℕ). first_difference (first_read c.deref.result.now) h) (sym other) ∙ d.1,
+        open_by (g.F.Files.seen c.args.files.now).held c.args.name.now reader c.in-Ok.ensures.whole
+            c.in-Ok.ensures.stands,
+        packed g k,
+        compared g k ∙ d.1,
       ),
     )
 
 pub returns-in-Ok-add-clause-next : goal.returns-in-Ok-add-clause-next
 returns-in-Ok-add-clause-next g c =
-    let held = (g.F.Files.seen c.args.files.now).held in
-    let reader = c.in-Ok.reader in
-    let name = c.args.name.now in
-    let inputs = c.args.listed.now.inputs.items in
-    let other : c.head-2.result.now.bytes ≡ reader.head.bytes = ap (λ (h : HeadView). h.bytes) c.head-2.ensures in
-    let first = ap first_read c.deref.ensures.value in (
-      record { name = name; head = reader.head },
+    let k = (goal.at.returns-in-Ok-add-clause-next g c).After-head-2 in
+    let reader = c.in-Ok.reader in (
+      record { name = c.args.name.now; head = reader.head },
       record {
         named = refl;
-        opened = open_by held name reader c.in-Ok.ensures.whole c.in-Ok.ensures.stands;
-        alike = λ some. ap (λ (h : List ℕ). first_difference h reader.head.bytes) (sym first) ∙ ap (λ (h : List ℕ). first_difference (first_read c.deref.result.now) h) (sym other)
-            ∙ c.in_default.ensures.same refl (omega (arith, some, ap (λ (is : List InputSeen). length is) c.deref.ensures.value));
+        opened = open_by (g.F.Files.seen c.args.files.now).held c.args.name.now reader c.in-Ok.ensures.whole
+            c.in-Ok.ensures.stands;
+        alike = λ some. compared g k ∙ c.in_default.ensures.same refl
+            (omega (arith, some, ap (λ (is : List InputSeen). length is) c.deref.ensures.value));
       },
       c.in-Ok-add.ensures.inputs,
     )
@@ -88,8 +95,7 @@ returns-in-Ok-add-clause-lists g c asked lists =
     let was = c.args.listed.now in
     let now = c.add.new.self in
     let l : ListedInput = record { input = record { name = c.args.name.now; head = reader.head }; pieces = reader.pieces } in
-    let head : c.head.result.now.bytes ≡ reader.head.bytes = ap (λ (h : HeadView). h.bytes) c.head.ensures in
-    let packed : is_packed reader.head.bytes ≡ true = ap is_packed (sym head) ∙ sym c.packed.ensures ∙ c.if-not-packed.false in
+    let packed = packed g (goal.at.returns-in-Ok-add-clause-lists g c).After-head-2 in
     let old = g.F.Files.seen c.args.files.now in
     let new = g.F.Files.seen c.open.new.files in
     let spent = new.asked - old.asked in

@@ -1,4 +1,4 @@
-use Rattle.std.proofs.Common.{◌≡◌, ◌^◌, ◌<◌, ◌≤◌, List, [], Option, Some, length, sym, ◌∙◌, ap, subst, arith}
+use Rattle.std.proofs.Common.{◌≡◌, ℕ, ◌^◌, ◌<◌, ◌≤◌, List, [], Option, Some, length, sym, ◌∙◌, ap, subst, arith}
 use Rattle.std.specs.Prelude.{string_bytes}
 use Rattle.std.specs.FinMap as finmap
 use Rattle.std.specs.declared.alloc.Global.{Global}
@@ -10,60 +10,61 @@ use Rattle.laz_writer.proofs.Public.{held_text}
 use Rattle.las_merge.specs.Asking.{asked_of_all, asked_to_read}
 use Rattle.las_merge.specs.Copying.{output_under}
 use Rattle.las_merge.specs.Inputs.{names_of}
-use Rattle.las_merge.specs.Opening.{EndsOpening, InputSeen, names_read, points_read}
+use Rattle.las_merge.specs.Opening.{EndsOpening, InputSeen, first_read, names_read, points_read}
 use Rattle.las_merge.specs.Outcomes.{SaysMerging}
 use Rattle.las_merge.proofs.Asked.{other_asked}
 use Rattle.las_merge.proofs.MergeOutcomes.{err_is, says_beginning, says_filling, says_opening}
 use Rattle.las_merge.proofs.Whole.{head_first, other_names, names_are, readers_open, readers_other}
+use Rattle.las_merge.proofs.Ends.{AreOther}
+use Rattle.las_merge.proofs.merging.merge.Given.{Over}
+use Rattle.las_merge.proofs.merging.merge.Goals.{After-head}
 use Rattle.las_merge.proofs.merging.merge.Goals as goal
+
+-- what stands when the inputs were opened and counted
+module _ (g : Over) (c : After-head g) where
+  abbrev old : Outside
+  old = g.F.Files.seen c.args.files.now
+
+  abbrev mid : Outside
+  mid = g.F.Files.seen c.open_inputs.new.files
+
+  abbrev names : List (List ℕ)
+  names = names_of c.args.inputs.now
+
+  abbrev readers : List InputSeen
+  readers = c.in_ok-opened.opened.items
+
+  abbrev head : List ℕ
+  head = c.head.result.now.bytes
+
+  all : length readers ≡ length names
+  all = omega (arith, c.in_ok-opened.ensures.all, length-map c.args.inputs.now (string_bytes {Z = Global}))
+
+  some : 1 ≤ length names
+  some = omega (arith, c.requires.some, length-map c.args.inputs.now (string_bytes {Z = Global}))
+
+  head_is : head ≡ first_read readers
+  head_is = ap (λ (h : HeadView). h.bytes) c.head.ensures
+      ∙ head_first readers c.index.result.now (omega (arith, all, some)) c.index.ensures
+
+  few : points_read readers < 2 ^ 32
+  few = subst (λ (rs : List InputSeen). points_read rs < 2 ^ 32) c.deref.ensures.value c.in_ok-most.ensures.small
+
+  other : AreOther names c.args.output.now
+  other = other_names c.args.inputs.now c.args.output.now c.requires.names
 
 pub fill-requires-clause-opened : goal.fill-requires-clause-opened
 fill-requires-clause-opened g c κs within =
-    let old = g.F.Files.seen c.args.files.now in
-    let mid = g.F.Files.seen c.open_inputs.new.files in
-    let now = g.F.Files.seen c.begin.new.files in
-    let names = names_of c.args.inputs.now in
-    let readers = c.in_ok-opened.opened.items in
-    let opened = c.in_ok-opened.ensures.opened in
-    let all : length readers ≡ length names = omega
-    (arith, c.in_ok-opened.ensures.all, length-map c.args.inputs.now (string_bytes {Z = Global})) in
-    let some : 1 ≤ length names = omega (
-      arith,
-      c.requires.some,
-      length-map c.args.inputs.now
-          (string_bytes {Z = Global}),
-    ) in
-    let name = c.args.output.now in
-    let chunk = c.args.chunk in
-    let head = c.head.result.now.bytes in
-    let head_is = ap (λ (h : HeadView). h.bytes) c.head.ensures
-    ∙ head_first readers c.index.result.now (omega (arith, all, some)) c.index.ensures in
-    let other = other_names c.args.inputs.now name c.requires.names in
-    let same = c.open_inputs.ensures.reads.held in
-    readers_open old.held names readers opened all name head chunk some head_is other mid now c.in_ok-writer.writer same
-    c.in_ok-writer.ensures.stands
+    let k = (goal.at.fill-requires-clause-opened g c).After-head in
+    readers_open (old g k).held (names g k) (readers g k) c.in_ok-opened.ensures.opened (all g k) c.args.output.now
+    (head g k) c.args.chunk (some g k) (head_is g k) (other g k) (mid g k) (g.F.Files.seen c.begin.new.files)
+    c.in_ok-writer.writer c.open_inputs.ensures.reads.held c.in_ok-writer.ensures.stands
 
 pub fill-requires-clause-names : goal.fill-requires-clause-names
 fill-requires-clause-names g c κs within =
-    let old = g.F.Files.seen c.args.files.now in
-    let names = names_of c.args.inputs.now in
-    let readers = c.in_ok-opened.opened.items in
-    let opened = c.in_ok-opened.ensures.opened in
-    let all : length readers ≡ length names = omega
-    (arith, c.in_ok-opened.ensures.all, length-map c.args.inputs.now (string_bytes {Z = Global})) in
-    let some : 1 ≤ length names = omega (
-      arith,
-      c.requires.some,
-      length-map c.args.inputs.now
-          (string_bytes {Z = Global}),
-    ) in
-    let name = c.args.output.now in
-    let chunk = c.args.chunk in
-    let head = c.head.result.now.bytes in
-    let head_is = ap (λ (h : HeadView). h.bytes) c.head.ensures
-    ∙ head_first readers c.index.result.now (omega (arith, all, some)) c.index.ensures in
-    let other = other_names c.args.inputs.now name c.requires.names in
-    readers_other old.held names readers opened all name head chunk some head_is other c.in_ok-writer.writer.name
+    let k = (goal.at.fill-requires-clause-names g c).After-head in
+    readers_other (old g k).held (names g k) (readers g k) c.in_ok-opened.ensures.opened (all g k) c.args.output.now
+    (head g k) c.args.chunk (some g k) (head_is g k) (other g k) c.in_ok-writer.writer.name
     c.in_ok-writer.ensures.stands.named
 
 pub returns-in_err-opened-clause-says : goal.returns-in_err-opened-clause-says
@@ -96,52 +97,26 @@ returns-in_err-most-clause-says g c =
 
 pub returns-in_err-writer-clause-says : goal.returns-in_err-writer-clause-says
 returns-in_err-writer-clause-says g c =
-    let old = g.F.Files.seen c.args.files.now in
-    let mid = g.F.Files.seen c.open_inputs.new.files in
+    let k = (goal.at.returns-in_err-writer-clause-says g c).After-head in
     let now = g.F.Files.seen c.begin.new.files in
-    let names = names_of c.args.inputs.now in
-    let readers = c.in_ok-opened.opened.items in
-    let all : length readers ≡ length names = omega
-    (arith, c.in_ok-opened.ensures.all, length-map c.args.inputs.now (string_bytes {Z = Global})) in
-    let some : 1 ≤ length names = omega
-    (arith, c.requires.some, length-map c.args.inputs.now (string_bytes {Z = Global})) in
-    let head_is = ap (λ (h : HeadView). h.bytes) c.head.ensures
-    ∙ head_first readers c.index.result.now (omega (arith, all, some)) c.index.ensures in
-    let few : points_read readers < 2 ^ 32 = subst (λ (rs : List InputSeen). points_read rs < 2 ^ 32)
-    c.deref.ensures.value c.in_ok-most.ensures.small in
     let e = c.in_err-writer.field-0.0 in
-    err_is (SaysMerging names c.args.output.now c.args.chunk old now) c.from_residual-in_err-writer.result e
+    err_is (SaysMerging (names g k) c.args.output.now c.args.chunk (old g k) now) c.from_residual-in_err-writer.result e
     c.from_residual-in_err-writer.ensures.1
-    (says_beginning names c.args.output.now c.args.chunk old readers c.in_ok-opened.ensures.opened all
-    c.head.result.now.bytes some head_is few mid now c.open_inputs.ensures.reads c.begin.ensures.writes e
-    c.in_err-writer.ensures.ends)
+    (says_beginning (names g k) c.args.output.now c.args.chunk (old g k) (readers g k) c.in_ok-opened.ensures.opened
+    (all g k) (head g k) (some g k) (head_is g k) (few g k) (mid g k) now c.open_inputs.ensures.reads
+    c.begin.ensures.writes e c.in_err-writer.ensures.ends)
 
 pub returns-clause-says : goal.returns-clause-says
 returns-clause-says g c =
-    let old = g.F.Files.seen c.args.files.now in
-    let mid = g.F.Files.seen c.open_inputs.new.files in
-    let now = g.F.Files.seen c.begin.new.files in
-    let new = g.F.Files.seen c.fill.new.files in
-    let names = names_of c.args.inputs.now in
-    let readers = c.in_ok-opened.opened.items in
-    let all : length readers ≡ length names = omega
-    (arith, c.in_ok-opened.ensures.all, length-map c.args.inputs.now (string_bytes {Z = Global})) in
-    let some : 1 ≤ length names = omega
-    (arith, c.requires.some, length-map c.args.inputs.now (string_bytes {Z = Global})) in
-    let head_is = ap (λ (h : HeadView). h.bytes) c.head.ensures
-    ∙ head_first readers c.index.result.now (omega (arith, all, some)) c.index.ensures in
-    let few : points_read readers < 2 ^ 32 = subst (λ (rs : List InputSeen). points_read rs < 2 ^ 32)
-    c.deref.ensures.value c.in_ok-most.ensures.small in
-    let name = c.args.output.now in
-    let head = c.head.result.now.bytes in
-    let other = other_names c.args.inputs.now name c.requires.names in
-    let out = output_under name head c.args.chunk in
+    let k = (goal.at.returns-clause-says g c).After-head in
+    let out = output_under c.args.output.now (head g k) c.args.chunk in
     let w = c.in_ok-writer.writer in
     let s = c.in_ok-writer.ensures.stands in
-    says_filling names name c.args.chunk old readers c.in_ok-opened.ensures.opened all head some head_is few mid now
-    c.open_inputs.ensures.reads c.begin.ensures.writes c.in_ok-opened.ensures.calm c.in_ok-writer.ensures.calm other w s
-    new c.fill.result (c.fill.ensures.finished mid out s) (c.fill.ensures.ends mid out s) c.fill.ensures.calm
-    c.fill.ensures.later
+    says_filling (names g k) c.args.output.now c.args.chunk (old g k) (readers g k) c.in_ok-opened.ensures.opened
+    (all g k) (head g k) (some g k) (head_is g k) (few g k) (mid g k) (g.F.Files.seen c.begin.new.files)
+    c.open_inputs.ensures.reads c.begin.ensures.writes c.in_ok-opened.ensures.calm c.in_ok-writer.ensures.calm
+    (other g k) w s (g.F.Files.seen c.fill.new.files) c.fill.result (c.fill.ensures.finished (mid g k) out s)
+    (c.fill.ensures.ends (mid g k) out s) c.fill.ensures.calm c.fill.ensures.later
 
 pub returns-in_err-opened-clause-asked : goal.returns-in_err-opened-clause-asked
 returns-in_err-opened-clause-asked g c known is = omega (arith, c.open_inputs.ensures.asked known is)
@@ -155,22 +130,17 @@ returns-in_err-writer-clause-asked g c known is =
 
 pub returns-clause-asked : goal.returns-clause-asked
 returns-clause-asked g c known is =
-    let old = g.F.Files.seen c.args.files.now in
-    let mid = g.F.Files.seen c.open_inputs.new.files in
+    let k = (goal.at.returns-clause-asked g c).After-head in
     let now = g.F.Files.seen c.begin.new.files in
-    let names = names_of c.args.inputs.now in
-    let readers = c.in_ok-opened.opened.items in
-    let all : length readers ≡ length names = omega
-    (arith, c.in_ok-opened.ensures.all, length-map c.args.inputs.now (string_bytes {Z = Global})) in
     let name = c.args.output.now in
-    let written = held_text mid now c.in_ok-writer.writer _ [] c.in_ok-writer.ensures.stands in
+    let written = held_text (mid g k) now c.in_ok-writer.writer _ [] c.in_ok-writer.ensures.stands in
     let held : now.held ≡ Some (finmap.insert known name written.0) =
     ap (λ (o : Outside). o.held) written.1 ∙ ap (λ (h : Option FileMap). with_file h name written.0)
     (c.open_inputs.ensures.reads.held ∙ is) in
     let filled = c.fill.ensures.asked (finmap.insert known name written.0) held in
-    let same : asked_of_all asked_to_read (finmap.insert known name written.0) (names_read readers) ≡ asked_of_all
-    asked_to_read known names =
+    let same : asked_of_all asked_to_read (finmap.insert known name written.0) (names_read (readers g k))
+    ≡ asked_of_all asked_to_read known (names g k) =
     ap (asked_of_all asked_to_read (finmap.insert known name written.0))
-    (names_are old.held names readers c.in_ok-opened.ensures.opened all)
-    ∙ other_asked asked_to_read known name written.0 names (other_names c.args.inputs.now name c.requires.names) in
+    (names_are (old g k).held (names g k) (readers g k) c.in_ok-opened.ensures.opened (all g k))
+    ∙ other_asked asked_to_read known name written.0 (names g k) (other g k) in
     omega (arith, c.open_inputs.ensures.asked known is, c.begin.ensures.writes.asked, filled, same)
