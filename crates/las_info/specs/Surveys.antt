@@ -1,7 +1,7 @@
 -- What a survey has counted of the records that it was shown.
-use Rattle.std.specs.Prelude.{◌≡◌, ℕ, List, map}
+use Rattle.std.specs.Prelude.{◌≡◌, ℕ, ◌+◌, ◌^◌, ◌<◌, ◌≤◌, List, length, map, All}
 use Rattle.las_info.specs.Summaries.{SummarySeen, summary_of}
-use Rattle.las_info.specs.Tallies.{TapSeen, shown_all}
+use Rattle.las_info.specs.Tallies.{TapSeen, count_at, shown_all}
 
 -- what contracts see of a survey: what it has counted, and its taps
 pub record SurveySeen : Type 0 where
@@ -12,3 +12,14 @@ pub record SurveySeen : Type 0 where
 pub record IsShown (taps : List TapSeen) (records : List (List ℕ)) (survey : SurveySeen) : Type 0 where
   pub summary : survey.summary ≡ summary_of records
   pub taps_are : survey.taps ≡ map (λ tap. shown_all tap records) taps
+
+-- what is seen of a survey with this summary and these taps
+abbrev pub survey_of : SummarySeen → List TapSeen → SurveySeen
+survey_of summary taps = record { summary = summary; taps = taps }
+
+-- A survey was shown some records, and has room for so many more: with them it counts fewer than 2^32, and none of its
+-- taps had counted more than 2^63 in a bin before the first.
+abbrev pub HasRoomForMore : SurveySeen → (count : ℕ) → Type 0
+HasRoomForMore survey count = (taps : List TapSeen) × (before : List (List ℕ)) × IsShown taps before survey
+    × All (λ tap. (bin : ℕ) → count_at tap.tally bin ≤ 2 ^ 63) taps
+    × (length before + count < 2 ^ 32)

@@ -5,7 +5,7 @@ ghost use Rattle.std.specs.List.{AllZip};
 ghost use Rattle.las_header.specs.declared.limits.TheConstants.{POINT_RECORD};
 ghost use Rattle.las_info.specs.Summaries.{summary_of};
 ghost use Rattle.las_info.specs.Tallies.{HasRoomFor, IsShownSome, TapSeen, count_at, shown, shown_all};
-ghost use Rattle.las_info.specs.Surveys.{IsShown};
+ghost use Rattle.las_info.specs.Surveys.{HasRoomForMore, IsShown, survey_of};
 ghost use Rattle.las_header.specs.Plain.{cut_records};
 
 use crate::limits::PIECE;
@@ -114,19 +114,12 @@ impl Survey {
     pub fn see_all(&mut self, size: usize, block: &[u8]) -> Result<(), AllocError>
         requires size { POINT_RECORD ≤ size }
         requires whole { length block.now % size ≡ 0 }
-        requires shown { (taps : List TapSeen) × (before : List (List ℕ)) × IsShown taps before (record {
-          summary = self.old.summary;
-          taps = map (λ tap. tap_seen tap) self.old.taps.items;
-        })
-            × All (λ tap. (bin : ℕ) → count_at tap.tally bin ≤ 2 ^ 63) taps
-            × (length before + length block.now / size < 2 ^ 32) }
-        ensures { (taps : List TapSeen) (before : List (List ℕ)) → IsShown taps before (record {
-          summary = self.old.summary;
-          taps = map (λ tap. tap_seen tap) self.old.taps.items;
-        }) → OnOk result (IsShown taps (before ++ cut_records size (length block.now / size) block.now) (record {
-          summary = self.new.summary;
-          taps = map (λ tap. tap_seen tap) self.new.taps.items;
-        })) }
+        requires shown { HasRoomForMore (survey_of self.old.summary (map (λ tap. tap_seen tap) self.old.taps.items))
+            (length block.now / size) }
+        ensures { (taps : List TapSeen) (before : List (List ℕ))
+            → IsShown taps before (survey_of self.old.summary (map (λ tap. tap_seen tap) self.old.taps.items))
+            → OnOk result (IsShown taps (before ++ cut_records size (length block.now / size) block.now)
+            (survey_of self.new.summary (map (λ tap. tap_seen tap) self.new.taps.items))) }
     {
         self.see_pieces(size, PIECE, block)
     }
@@ -136,19 +129,12 @@ impl Survey {
         requires some { 1 ≤ each }
         requires size { POINT_RECORD ≤ size }
         requires whole { length block.now % size ≡ 0 }
-        requires shown { (taps : List TapSeen) × (before : List (List ℕ)) × IsShown taps before (record {
-          summary = self.old.summary;
-          taps = map (λ tap. tap_seen tap) self.old.taps.items;
-        })
-            × All (λ tap. (bin : ℕ) → count_at tap.tally bin ≤ 2 ^ 63) taps
-            × (length before + length block.now / size < 2 ^ 32) }
-        ensures { (taps : List TapSeen) (before : List (List ℕ)) → IsShown taps before (record {
-          summary = self.old.summary;
-          taps = map (λ tap. tap_seen tap) self.old.taps.items;
-        }) → OnOk result (IsShown taps (before ++ cut_records size (length block.now / size) block.now) (record {
-          summary = self.new.summary;
-          taps = map (λ tap. tap_seen tap) self.new.taps.items;
-        })) }
+        requires shown { HasRoomForMore (survey_of self.old.summary (map (λ tap. tap_seen tap) self.old.taps.items))
+            (length block.now / size) }
+        ensures { (taps : List TapSeen) (before : List (List ℕ))
+            → IsShown taps before (survey_of self.old.summary (map (λ tap. tap_seen tap) self.old.taps.items))
+            → OnOk result (IsShown taps (before ++ cut_records size (length block.now / size) block.now)
+            (survey_of self.new.summary (map (λ tap. tap_seen tap) self.new.taps.items))) }
     {
         let count = block.len() / size;
         let mut rest = block;
@@ -164,19 +150,12 @@ impl Survey {
     fn see_piece(&mut self, size: usize, block: &[u8]) -> Result<(), AllocError>
         requires size { POINT_RECORD ≤ size }
         requires whole { length block.now % size ≡ 0 }
-        requires shown { (taps : List TapSeen) × (before : List (List ℕ)) × IsShown taps before (record {
-          summary = self.old.summary;
-          taps = map (λ tap. tap_seen tap) self.old.taps.items;
-        })
-            × All (λ tap. (bin : ℕ) → count_at tap.tally bin ≤ 2 ^ 63) taps
-            × (length before + length block.now / size < 2 ^ 32) }
-        ensures { (taps : List TapSeen) (before : List (List ℕ)) → IsShown taps before (record {
-          summary = self.old.summary;
-          taps = map (λ tap. tap_seen tap) self.old.taps.items;
-        }) → OnOk result (IsShown taps (before ++ cut_records size (length block.now / size) block.now) (record {
-          summary = self.new.summary;
-          taps = map (λ tap. tap_seen tap) self.new.taps.items;
-        })) }
+        requires shown { HasRoomForMore (survey_of self.old.summary (map (λ tap. tap_seen tap) self.old.taps.items))
+            (length block.now / size) }
+        ensures { (taps : List TapSeen) (before : List (List ℕ))
+            → IsShown taps before (survey_of self.old.summary (map (λ tap. tap_seen tap) self.old.taps.items))
+            → OnOk result (IsShown taps (before ++ cut_records size (length block.now / size) block.now)
+            (survey_of self.new.summary (map (λ tap. tap_seen tap) self.new.taps.items))) }
     {
         self.summary.add_all(size, block);
         self.show_taps(size, block)?;

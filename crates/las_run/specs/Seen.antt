@@ -22,6 +22,19 @@ pub record RunSeen : Type 0 where
   pub err : SinkView
   pub err_now : SinkView
 
+-- what is seen of a run with this task, which ended with this status and changed files and streams so
+abbrev pub run_of : Task → (status : ℕ) → Change → (err err_now : SinkView) → RunSeen
+run_of task status change err err_now = record {
+  task = task;
+  status = status;
+  files = change.files;
+  files_now = change.files_now;
+  out = change.out;
+  out_now = change.out_now;
+  err = err;
+  err_now = err_now;
+}
+
 -- its files and its standard output
 abbrev pub change_of : RunSeen → Change
 change_of run = record { files = run.files; files_now = run.files_now; out = run.out; out_now = run.out_now }

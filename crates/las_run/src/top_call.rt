@@ -12,6 +12,7 @@ ghost use Rattle.las_run.specs.Asking.{WorkAsks};
 ghost use Rattle.las_run.specs.Runs.{Task, files_read, task_of};
 ghost use Rattle.las_run.specs.Ends.{Ends, IsRead, cause_of, changes, names_read, stop_of};
 ghost use Rattle.las_run.specs.Promises.{KeepsPromises};
+ghost use Rattle.las_run.specs.Seen.{run_of};
 
 use crate::conversion::{Conversion, Request};
 use crate::las2las::las2las;
@@ -55,16 +56,9 @@ pub fn run<R: Threads + Sync, F: Files, O: Sink, E: Sink, G: Gate>(
     taps: Vec<Box<dyn Tap>>,
 ) -> u8
     requires room { All (λ tap. (bin : ℕ) → count_at (tap_seen tap).tally bin ≤ 2 ^ 63) taps.items }
-    ensures { KeepsPromises (record {
-      task = task_of (texts words.now) (map (λ tap. tap_seen tap) taps.items);
-      status = result;
-      files = F.seen files.old;
-      files_now = F.seen files.new;
-      out = O.seen out.old;
-      out_now = O.seen out.new;
-      err = E.seen err.old;
-      err_now = E.seen err.new;
-    }) }
+    ensures { KeepsPromises (run_of (task_of (texts words.now) (map (λ tap. tap_seen tap) taps.items)) result
+        (changes (F.seen files.old) (F.seen files.new) (O.seen out.old) (O.seen out.new))
+        (E.seen err.old) (E.seen err.new)) }
 {
     let said = read_words(alloc, words, &taps);
     let outcome = work(rt, alloc, files, out, gate, taps, &said);

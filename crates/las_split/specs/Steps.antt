@@ -43,11 +43,22 @@ OfBlock splitter held parts index P =
     → AreSorted (task_in splitter) was held parts records block → index ≡ length records + length block
     → P was records block
 
+-- P of each task and state in which parts have all records of which they were opened.
+abbrev pub OfParts : (held : Option FileMap) → Parts
+    → (P : Task → Option FileMap → (records : List (List ℕ)) → Type 0) → Type 0
+OfParts held parts P =
+    (task : Task) (was : Option FileMap) (records : List (List ℕ)) → AreIn task was held parts records records
+    → P task was records
+
 -- There is such a state.
 abbrev pub HaveRecords : Splitter → (held : Option FileMap) → Parts → (index : ℕ) → Type 0
 HaveRecords splitter held parts index =
     (was : Option FileMap) × (records : List (List ℕ))
     × AreIn (task_in splitter) was held parts records records × (index ≡ length records)
+
+abbrev pub HaveParts : (held : Option FileMap) → Parts → Type 0
+HaveParts held parts =
+    (task : Task) × (was : Option FileMap) × (records : List (List ℕ)) × AreIn task was held parts records records
 
 abbrev pub HaveBlock : Splitter → (held : Option FileMap) → Parts → (index : ℕ) → Type 0
 HaveBlock splitter held parts index =

@@ -1,5 +1,5 @@
 //! Records that go from a reader into the parts.
-ghost use Rattle.std.specs.Prelude.{◌≡◌, ◌≢◌, ◌%◌, ◌+◌, ◌≤◌, ◌<◌, ◌^◌, ℕ, Bool, List, Option, [], length};
+ghost use Rattle.std.specs.Prelude.{◌≡◌, ◌≢◌, ◌%◌, ◌+◌, ◌≤◌, ◌<◌, ◌^◌, ℕ, Bool, List, [], length};
 ghost use Rattle.std.specs.Prelude.{IfErr, IfOk, false, OnErr, OnOk, string_bytes, true, unwrap_or};
 ghost use Rattle.std.specs.List.{concat};
 ghost use Rattle.las_header.specs.Plain.{cut_all};
@@ -7,7 +7,7 @@ ghost use Rattle.las_header.specs.Fields.{is_packed, points_of, record_length_of
 ghost use Rattle.las_header.specs.Heads.{IsHead};
 ghost use Rattle.las_header.specs.Vlrs.{laszip_vlrs_of};
 ghost use Rattle.las_filter.specs.Parts.{IsRule, part_name};
-ghost use Rattle.las_outside.specs.Files.{FileMap, WhereKnown};
+ghost use Rattle.las_outside.specs.Files.{WhereKnown};
 ghost use Rattle.las_outside.specs.Frames.{IsCalm, OnlyWrites};
 ghost use Rattle.laz_forms.specs.declared.fault.Fault.TheVariants.{Write};
 ghost use Rattle.laz_reader.specs.Asking.{ReadsAndWrites, bytes_left};
@@ -16,7 +16,7 @@ ghost use Rattle.laz_forms.specs.FileFaults.{HasCause};
 ghost use Rattle.laz_reader.specs.Reading.{IsCrewOf, StandsFor, records_in};
 ghost use Rattle.las_split.specs.Sorting.{EndsSplitting, HasRoom, IsPlainFor, LeavesBlock, TakesBlock};
 ghost use Rattle.las_split.specs.Sorting.{task_in, task_of};
-ghost use Rattle.las_split.specs.Steps.{AreIn};
+ghost use Rattle.las_split.specs.Steps.{HaveRecords, OfRecords};
 
 use crate::part_names::PartNames;
 use crate::parts::Parts;
@@ -46,23 +46,15 @@ fn split_block<R: Threads + Sync, F: Files, G: Gate>(
     requires rule { IsRule splitter.now.rule.now }
     requires room { HasRoom (task_in splitter.now) splitter.now.size index (length block.now) }
     requires whole { length block.now % splitter.now.size ≡ 0 }
-    requires parts { (was : Option FileMap) × (records : List (List ℕ))
-        × AreIn (task_in splitter.now) was (F.seen files.old).held parts.old records records
-        × (index ≡ length records) }
-    ensures takes { (was : Option FileMap) (records : List (List ℕ))
-        → AreIn (task_in splitter.now) was (F.seen files.old).held parts.old records records
-        → index ≡ length records
-        → IfOk result (TakesBlock (task_in splitter.now) was (F.seen files.new).held parts.new.numbers
-        parts.new.writers.items records (cut_all splitter.now.size block.now)) }
-    ensures left { (was : Option FileMap) (records : List (List ℕ))
-        → AreIn (task_in splitter.now) was (F.seen files.old).held parts.old records records
-        → index ≡ length records
-        → OnErr result (LeavesBlock (task_in splitter.now) was (F.seen files.new).held records
-        (cut_all splitter.now.size block.now)) }
-    ensures some { (was : Option FileMap) (records : List (List ℕ))
-        → AreIn (task_in splitter.now) was (F.seen files.old).held parts.old records records
-        → index ≡ length records
-        → IfErr result (λ fault. fault ≡ Write → 1 ≤ length records + length (cut_all splitter.now.size block.now)) }
+    requires parts { HaveRecords splitter.now (F.seen files.old).held parts.old index }
+    ensures takes { OfRecords splitter.now (F.seen files.old).held parts.old index (λ was records.
+        IfOk result (TakesBlock (task_in splitter.now) was (F.seen files.new).held parts.new.numbers
+        parts.new.writers.items records (cut_all splitter.now.size block.now))) }
+    ensures left { OfRecords splitter.now (F.seen files.old).held parts.old index (λ was records.
+        OnErr result (LeavesBlock (task_in splitter.now) was (F.seen files.new).held records
+        (cut_all splitter.now.size block.now))) }
+    ensures some { OfRecords splitter.now (F.seen files.old).held parts.old index (λ was records.
+        IfErr result (λ fault. fault ≡ Write → 1 ≤ length records + length (cut_all splitter.now.size block.now))) }
     ensures cause { IfErr result (HasCause (F.seen files.old) (F.seen files.new)) }
     ensures calm { OnOk result (IsCalm (F.seen files.old) (F.seen files.new)) }
     ensures writes { OnlyWrites (F.seen files.old) (F.seen files.new) }

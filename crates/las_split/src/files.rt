@@ -1,11 +1,11 @@
 //! Whole files into parts.
-ghost use Rattle.std.specs.Prelude.{◌≡◌, ◌≢◌, ◌⊎◌, ◌^◌, ◌≤◌, ◌<◌, ℕ, List, Option, None};
+ghost use Rattle.std.specs.Prelude.{◌≡◌, ◌≢◌, ◌⊎◌, ◌^◌, ◌≤◌, ◌<◌, ℕ, List, None};
 ghost use Rattle.std.specs.Prelude.{IfErr, IfOk, IsErrOf, OnErr, OnOk, length, string_bytes, unwrap_or};
 ghost use Rattle.las_header.specs.declared.refusal.Refusal.{Refusal};
 ghost use Rattle.las_header.specs.declared.refusal.Refusal.TheVariants.{BadChunk, TooManyParts};
 ghost use Rattle.las_header.specs.Heads.{IsHead};
 ghost use Rattle.las_filter.specs.Parts.{IsRule, part_name};
-ghost use Rattle.las_outside.specs.Files.{FileMap, WhereKnown};
+ghost use Rattle.las_outside.specs.Files.{WhereKnown};
 ghost use Rattle.las_outside.specs.Frames.{IsCalm, OnlyWrites};
 ghost use Rattle.las_outside.specs.Limits.{AreWorkers};
 ghost use Rattle.laz_forms.specs.declared.fault.Fault.TheVariants.{Refused, Write};
@@ -16,8 +16,8 @@ ghost use Rattle.laz_file.specs.Endings.{EndsMaking};
 ghost use Rattle.las_split.specs.Files.{with_files};
 ghost use Rattle.las_split.specs.Outputs.{LeavesParts, Splits, all_finished, all_stopped, outputs_under};
 ghost use Rattle.las_split.specs.Parts.{numbers_of_parts};
-ghost use Rattle.las_split.specs.Sorting.{IsPlainFor, LeavesPrefixes, Task};
-ghost use Rattle.las_split.specs.Steps.{AreIn};
+ghost use Rattle.las_split.specs.Sorting.{IsPlainFor, LeavesPrefixes};
+ghost use Rattle.las_split.specs.Steps.{HaveParts, OfParts};
 ghost use Rattle.las_split.specs.Splitting.{OnlySplits};
 
 use crate::copying::split_records;
@@ -52,20 +52,16 @@ fn finish_all<R: Threads + Sync, F: Files, G: Gate>(
     files: &mut F,
     parts: Parts,
 ) -> Result<Vec<u32>, Fault>
-    requires parts { (task : Task) × (was : Option FileMap) × (records : List (List ℕ))
-        × AreIn task was (F.seen files.old).held parts records records }
-    ensures finished { (task : Task) (was : Option FileMap) (records : List (List ℕ))
-        → AreIn task was (F.seen files.old).held parts records records
-        → IfOk result (λ numbers. (numbers.items ≡ numbers_of_parts task.rule records)
+    requires parts { HaveParts (F.seen files.old).held parts }
+    ensures finished { OfParts (F.seen files.old).held parts (λ task was records.
+        IfOk result (λ numbers. (numbers.items ≡ numbers_of_parts task.rule records)
         × ((F.seen files.new).held ≡ with_files was (all_finished
-        (outputs_under task.stem task.end task.head task.rule records)))) }
-    ensures left { (task : Task) (was : Option FileMap) (records : List (List ℕ))
-        → AreIn task was (F.seen files.old).held parts records records
-        → OnErr result (LeavesParts (outputs_under task.stem task.end task.head task.rule records) was
-        (F.seen files.new).held) }
-    ensures some { (task : Task) (was : Option FileMap) (records : List (List ℕ))
-        → AreIn task was (F.seen files.old).held parts records records
-        → IfErr result (λ fault. fault ≡ Write → 1 ≤ length records) }
+        (outputs_under task.stem task.end task.head task.rule records))))) }
+    ensures left { OfParts (F.seen files.old).held parts (λ task was records.
+        OnErr result (LeavesParts (outputs_under task.stem task.end task.head task.rule records) was
+        (F.seen files.new).held)) }
+    ensures some { OfParts (F.seen files.old).held parts (λ task was records.
+        IfErr result (λ fault. fault ≡ Write → 1 ≤ length records)) }
     ensures cause { IfErr result (HasCause (F.seen files.old) (F.seen files.new)) }
     ensures calm { OnOk result (IsCalm (F.seen files.old) (F.seen files.new)) }
     ensures writes { OnlyWrites (F.seen files.old) (F.seen files.new) }
@@ -89,18 +85,14 @@ fn stop_all<R: Threads + Sync, F: Files, G: Gate>(
     files: &mut F,
     parts: Parts,
 ) -> Result<(), Fault>
-    requires parts { (task : Task) × (was : Option FileMap) × (records : List (List ℕ))
-        × AreIn task was (F.seen files.old).held parts records records }
-    ensures stopped { (task : Task) (was : Option FileMap) (records : List (List ℕ))
-        → AreIn task was (F.seen files.old).held parts records records
-        → OnOk result ((F.seen files.new).held ≡ with_files was (all_stopped
-        (outputs_under task.stem task.end task.head task.rule records))) }
-    ensures left { (task : Task) (was : Option FileMap) (records : List (List ℕ))
-        → AreIn task was (F.seen files.old).held parts records records
-        → OnErr result (LeavesPrefixes task was (F.seen files.new).held records) }
-    ensures some { (task : Task) (was : Option FileMap) (records : List (List ℕ))
-        → AreIn task was (F.seen files.old).held parts records records
-        → IfErr result (λ fault. fault ≡ Write → 1 ≤ length records) }
+    requires parts { HaveParts (F.seen files.old).held parts }
+    ensures stopped { OfParts (F.seen files.old).held parts (λ task was records.
+        OnOk result ((F.seen files.new).held ≡ with_files was (all_stopped
+        (outputs_under task.stem task.end task.head task.rule records)))) }
+    ensures left { OfParts (F.seen files.old).held parts (λ task was records.
+        OnErr result (LeavesPrefixes task was (F.seen files.new).held records)) }
+    ensures some { OfParts (F.seen files.old).held parts (λ task was records.
+        IfErr result (λ fault. fault ≡ Write → 1 ≤ length records)) }
     ensures cause { IfErr result (HasCause (F.seen files.old) (F.seen files.new)) }
     ensures calm { OnOk result (IsCalm (F.seen files.old) (F.seen files.new)) }
     ensures writes { OnlyWrites (F.seen files.old) (F.seen files.new) }

@@ -16,7 +16,7 @@ ghost use Rattle.laz_file.specs.Endings.{EndsMaking};
 ghost use Rattle.laz_forms.specs.Outputs.{records_after};
 ghost use Rattle.laz_reader.specs.Reading.{AgreesWithHead, EndsReading, IsCrewOf, IsNewReader, OfFile, StandsFor};
 ghost use Rattle.laz_reader.specs.Reading.{records_in};
-ghost use Rattle.las_info.specs.Surveys.{IsShown};
+ghost use Rattle.las_info.specs.Surveys.{IsShown, survey_of};
 ghost use Rattle.las_survey.specs.Surveying.{Surveys};
 
 use las_info::{Survey, Tap};
@@ -42,10 +42,8 @@ fn show_records<R: Threads + Sync, F: Files, G: Gate>(
     requires stands { WhereKnown (F.seen files.old).held reader.old.name (StandsFor reader.old) }
     ensures shown { IfOk result (λ survey. (blocks : List (List ℕ))
         × HoldFirst (F.seen files.old).held reader.old (length reader.old.left) blocks
-        × IsShown (map (λ tap. tap_seen tap) taps.items) (records_after reader.old.head.bytes (concat blocks)) (record {
-          summary = survey.summary;
-          taps = map (λ tap. tap_seen tap) survey.taps.items;
-        })) }
+        × IsShown (map (λ tap. tap_seen tap) taps.items) (records_after reader.old.head.bytes (concat blocks))
+        (survey_of survey.summary (map (λ tap. tap_seen tap) survey.taps.items))) }
     ensures bad { (cause : Refusal) → IsErrOf result (Refused cause)
         → (n : ℕ) × (blocks : List (List ℕ)) × HoldFirst (F.seen files.old).held reader.old n blocks
         × EndsAfter (F.seen files.old).held reader.old n (Some cause) }
@@ -90,10 +88,8 @@ pub fn survey<R: Threads + Sync, F: Files, G: Gate>(
     // The file has one list of records alone, which was shown to the survey.
     ensures surveyed { IfOk result (λ survey. OfFile reader.old (F.seen files.old) (λ file.
         (blocks : List (List ℕ)) × AreOnlyRecords file blocks None
-        × IsShown (map (λ tap. tap_seen tap) taps.items) (records_after (head_of file) (concat blocks)) (record {
-          summary = survey.summary;
-          taps = map (λ tap. tap_seen tap) survey.taps.items;
-        }))) }
+        × IsShown (map (λ tap. tap_seen tap) taps.items) (records_after (head_of file) (concat blocks))
+        (survey_of survey.summary (map (λ tap. tap_seen tap) survey.taps.items)))) }
     // So has a file that is refused, up to its first bad chunk.
     ensures bad { (cause : Refusal) → IsErrOf result (Refused cause) → (i : ℕ) × (cause ≡ BadChunk i)
         × OfFile reader.old (F.seen files.old) (λ file.

@@ -1,5 +1,5 @@
 //! Crews of workers on chunks, and their buffers.
-ghost use Rattle.std.specs.Prelude.{◌≡◌, ◌<◌, ◌≤◌, [], length, All, IfOk};
+ghost use Rattle.std.specs.Prelude.{◌≡◌, ◌<◌, ◌≤◌, [], length, vec_capacity, All, IfOk};
 ghost use Rattle.laz_workers.specs.Rooms.{lengths_of, rooms_of};
 
 use laz_chunk::Workspace;
@@ -36,6 +36,7 @@ pub fn crew_of(
 pub fn buffers_of(alloc: Global, count: u32, room: usize) -> Result<Vec<Vec<u8>>, AllocError>
     ensures count { IfOk result (λ buffers. length buffers.items ≡ count) }
     ensures empty { IfOk result (λ buffers. All (λ buffer. buffer.items ≡ []) buffers.items) }
+    ensures room { IfOk result (λ buffers. All (λ buffer. room ≤ vec_capacity buffer) buffers.items) }
 {
     let mut buffers = Vec::with_capacity(alloc, count as usize)?;
     for _buffer in 0..count {

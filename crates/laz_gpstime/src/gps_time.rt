@@ -85,7 +85,7 @@ fn set_time(part: &mut [u8], time: u64)
 }
 
 impl GpsTime {
-    /// Initial models, of no chunk yet. `Err` means out of memory.
+    /// An item of no chunk yet: `start` begins one. `Err` means out of memory.
     pub fn new(alloc: Global) -> Result<Self, AllocError> {
         let symbols = ModelBank::new(alloc, &[6, TOTAL])?;
         let integers = IntModel::new(alloc, 32, 9)?;

@@ -40,7 +40,7 @@ impl Model for Point10 {
 }
 
 impl Point10 {
-    /// Initial models, of no chunk yet. `Err` means out of memory.
+    /// An item of no chunk yet: `start` begins one. `Err` means out of memory.
     pub fn new(alloc: Global) -> Result<Self, AllocError> {
         let models = new_models(alloc)?;
         let history = History::of(Point::of(&[0; 20]));

@@ -48,7 +48,7 @@ const BLACK: Colour = Colour {
 };
 
 impl Rgb {
-    /// Initial models, of no chunk yet. `Err` means out of memory.
+    /// An item of no chunk yet: `start` begins one. `Err` means out of memory.
     pub fn new(alloc: Global) -> Result<Self, AllocError> {
         let bank = ModelBank::new(alloc, &[128, 256, 256, 256, 256, 256, 256])?;
         Ok(Rgb { bank, last: BLACK })

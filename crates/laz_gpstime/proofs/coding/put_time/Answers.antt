@@ -1,11 +1,16 @@
-use Rattle.std.proofs.Common.{◌++◌, ℕ, Option, subst}
+use Rattle.std.proofs.Common.{◌≡◌, ◌++◌, ℕ, Option, subst}
 use Rattle.laz_range.specs.Coding.{Codes}
 use Rattle.laz_integer.specs.Events.{cuts_after}
 use Rattle.laz_gpstime.specs.State.{state_of}
-use Rattle.laz_gpstime.specs.Slots.{ModelsStand, difference_of, after_switch, slot_at, state_events}
+use Rattle.laz_gpstime.specs.Slots.{ModelsStand, after_coded, after_switch, difference_of, slot_at, state_events}
 use Rattle.laz_gpstime.specs.Times.{near_events, switch_events}
 use Rattle.laz_gpstime.proofs.Coded.{two-codes, two-stand}
 use Rattle.laz_gpstime.proofs.coding.put_time.Goals as goal
+
+pub returns-in-Some-clause-sequences : goal.returns-in-Some-clause-sequences
+returns-in-Some-clause-sequences g c =
+    subst (λ (o : Option ℕ). c.put_near.new.times.sequences ≡ after_coded c.args.times.now.sequences c.args.time o) c.in-Some.ensures.nearest
+    (rw c.put_switch.ensures.sequences at c.put_near.ensures.sequences)
 
 pub returns-in-Some-clause-codes : goal.returns-in-Some-clause-codes
 returns-in-Some-clause-codes g c earlier h =
