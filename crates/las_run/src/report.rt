@@ -29,17 +29,16 @@ pub fn status(outcome: &Result<(), Stop>) -> u8
     }
 }
 
-/// Puts the line of a run on standard error, in pieces: none if all is done. It takes no memory.
-pub fn report<E: Sink>(
-    err: &mut E,
-    said: &Result<Command, WordFault>,
-    outcome: &Result<(), Stop>,
-) -> Result<(), Failed>
+/// Puts the line of a run on standard error, in pieces: none if all is done. A fault of the stream changes nothing else.
+/// It takes no memory.
+pub fn report<E: Sink>(err: &mut E, said: &Result<Command, WordFault>, outcome: &Result<(), Stop>)
     ensures line { Puts (line_of (cause_of (names_read said.now) outcome.now)) (E.seen err.old) (E.seen err.new) }
 {
     match outcome {
-        Ok(()) => Ok(()),
-        Err(stop) => put_stop(err, said, stop),
+        Ok(()) => {}
+        Err(stop) => {
+            let _ = put_stop(err, said, stop);
+        }
     }
 }
 

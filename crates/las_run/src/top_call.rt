@@ -62,7 +62,7 @@ pub fn run<R: Threads + Sync, F: Files, O: Sink, E: Sink, G: Gate>(
 {
     let said = read_words(alloc, words, &taps);
     let outcome = work(rt, alloc, files, out, gate, taps, &said);
-    let _ = report(err, &said, &outcome);
+    report(err, &said, &outcome);
     no_task_is_without_an_ending();
     status(&outcome)
 }
