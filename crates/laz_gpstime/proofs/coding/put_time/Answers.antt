@@ -9,7 +9,8 @@ use Rattle.laz_gpstime.proofs.coding.put_time.Goals as goal
 
 pub returns-in-Some-clause-sequences : goal.returns-in-Some-clause-sequences
 returns-in-Some-clause-sequences g c =
-    subst (λ (o : Option ℕ). c.put_near.new.times.sequences ≡ after_coded c.args.times.now.sequences c.args.time o) c.in-Some.ensures.nearest
+    let old = c.args.times.now.sequences in
+    subst (λ (o : Option ℕ). c.put_near.new.times.sequences ≡ after_coded old c.args.time o) c.in-Some.ensures.nearest
     (rw c.put_switch.ensures.sequences at c.put_near.ensures.sequences)
 
 pub returns-in-Some-clause-codes : goal.returns-in-Some-clause-codes
