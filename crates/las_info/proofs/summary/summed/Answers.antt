@@ -1,4 +1,4 @@
-use Rattle.std.proofs.Common.{◌≡◌, ℕ, ◌+◌, ◌-◌, ◌*◌, ◌/◌, ◌<◌, ◌≤◌, List, ◌++◌, All, Some, drop, length, length-append, length-set, refl, sym, ◌∙◌, ap, subst, arith}
+use Rattle.std.proofs.Common.{◌≡◌, ℕ, zero, suc, ◌+◌, ◌-◌, ◌*◌, ◌/◌, ◌<◌, ◌≤◌, List, ◌++◌, All, Some, drop, length, length-append, length-set, refl, sym, ◌∙◌, ap, subst, arith}
 use Rattle.std.proofs.lemmas.List.{take_all}
 use Rattle.las_header.specs.declared.counts.Counts.{Counts}
 use Rattle.las_header.specs.Plain.{cut_records}
@@ -9,6 +9,60 @@ use Rattle.las_info.proofs.Running.{RunOf, Running, length-cut_records, running_
 use Rattle.las_info.proofs.Tallying.{few_but_first, few_counted, few_first}
 use Rattle.las_info.proofs.summary.summed.Goals.{then-count-eq1, else-count-eq1}
 use Rattle.las_info.proofs.summary.summed.Goals as goal
+
+-- a product is at least its first factor, or twice that
+at_least : (a k : ℕ) → 0 < k → a ≤ a * k
+at_least a zero h = absurd (omega arith)
+at_least a (suc k) h = let all : a * suc k ≡ a + a * k = omega arith in omega (arith, all)
+
+twice : (a k : ℕ) → 1 < k → a + a ≤ a * k
+twice a zero h = absurd (omega arith)
+twice a (suc k) h = let all : a * suc k ≡ a + a * k = omega arith in omega (arith, all, at_least a k (omega arith))
+
+pub split_at-requires : goal.split_at-requires
+split_at-requires c =
+    let n = length c.args.block.now / c.args.size in
+    omega (arith, c.loop-pair.invariant.left, at_least c.args.size (n - 2 * c.loop-pair._pair) (omega (arith, c.loop-pair-test.true)))
+
+pub split_at-requires-in-loop-pair : goal.split_at-requires-in-loop-pair
+split_at-requires-in-loop-pair c =
+    let n = length c.args.block.now / c.args.size in
+    omega (arith, c.loop-pair.invariant.left, c.split_at.ensures.back_len, twice c.args.size (n - 2 * c.loop-pair._pair) (omega (arith, c.loop-pair-test.true)))
+
+pub count_first-requires-clause-long : goal.count_first-requires-clause-long
+count_first-requires-clause-long c = omega (arith, c.requires.size, c.split_at.ensures.front_len)
+
+pub count_first-requires-clause-room : goal.count_first-requires-clause-room
+count_first-requires-clause-room c k d lt = omega (arith, c.loop-pair.invariant.few k d lt, c.requires.fewer, c.loop-pair-test.true)
+
+pub count_second-requires-clause-long : goal.count_second-requires-clause-long
+count_second-requires-clause-long c = omega (arith, c.requires.size, c.split_at-in-loop-pair.ensures.front_len)
+
+pub count_second-requires-clause-room : goal.count_second-requires-clause-room
+count_second-requires-clause-room c k d lt =
+    let most = c.args.counts.points + 2 * c.loop-pair._pair in
+    let one = subst (λ (s : List ℕ). All (λ m. m ≤ most + 1) s) (sym c.count_first.ensures)
+    (few_counted c.loop-pair.returns (return_number_of c.split_at.result.0.now) most c.loop-pair.invariant.few) in
+    omega (arith, one k d lt, c.requires.fewer, c.loop-pair-test.true)
+
+pub widen-requires : goal.widen-requires
+widen-requires c = omega (arith, c.requires.size, c.split_at.ensures.front_len)
+
+pub widen-requires-in-loop-pair : goal.widen-requires-in-loop-pair
+widen-requires-in-loop-pair c = omega (arith, c.requires.size, c.split_at-in-loop-pair.ensures.front_len)
+
+pub count_first-requires-then-count-eq1-clause-long : goal.count_first-requires-then-count-eq1-clause-long
+count_first-requires-then-count-eq1-clause-long c =
+    let n = length c.args.block.now / c.args.size in
+    omega (arith, c.requires.size, c.loop-pair.invariant.left, at_least c.args.size (n - 2 * c.loop-pair._pair) (omega (arith, c.if-count-eq1.true, c.loop-pair-test.false)))
+
+pub count_first-requires-then-count-eq1-clause-room : goal.count_first-requires-then-count-eq1-clause-room
+count_first-requires-then-count-eq1-clause-room c k d lt = omega (arith, c.loop-pair.invariant.few k d lt, c.requires.fewer, c.if-count-eq1.true, c.loop-pair-test.false)
+
+pub widen-requires-then-count-eq1 : goal.widen-requires-then-count-eq1
+widen-requires-then-count-eq1 c =
+    let n = length c.args.block.now / c.args.size in
+    omega (arith, c.requires.size, c.loop-pair.invariant.left, at_least c.args.size (n - 2 * c.loop-pair._pair) (omega (arith, c.if-count-eq1.true, c.loop-pair-test.false)))
 
 pub loop-pair-init : goal.loop-pair-init
 loop-pair-init c = record {
@@ -53,6 +107,25 @@ loop-pair-preserved c =
           more c.split_at-in-loop-pair.ensures.front c.split_at-in-loop-pair.ensures.back long one c.count_second.ensures c.widen-in-loop-pair.ensures in
           subst (λ (k : ℕ). Running size n k block further before second c.widen-in-loop-pair.new.self) next two;
     }
+
+pub total-requires : goal.total-requires
+total-requires c =
+    let n = length c.args.block.now / c.args.size in
+    let points = c.args.counts.points in
+    let t = 2 * c.loop-pair._pair in
+    let few : All (λ m. m ≤ points + n) c.if-count-eq1.returns =
+    elim c.if-count-eq1.branch [
+      | then-count-eq1 w ↦
+          let one = few_counted c.loop-pair.returns (return_number_of c.loop-pair.rest.now) (points + t) c.loop-pair.invariant.few in
+          let all : points + t + 1 ≡ points + n = omega (arith, w.if-count-eq1, c.loop-pair-test.false) in
+          subst (λ (k : ℕ). All (λ m. m ≤ k) c.if-count-eq1.returns) all
+          (subst (λ (s : List ℕ). All (λ m. m ≤ points + t + 1) s) (sym (w.returns-is ∙ w.count_first-then-count-eq1.ensures)) one)
+      | else-count-eq1 w ↦
+          let all : points + t ≡ points + n = omega (arith, w.if-count-eq1, c.loop-pair-test.false) in
+          subst (λ (k : ℕ). All (λ m. m ≤ k) c.if-count-eq1.returns) all
+          (subst (λ (s : List ℕ). All (λ m. m ≤ points + t) s) (sym w.returns-is) c.loop-pair.invariant.few)
+    ] in
+    λ k d lt. omega (arith, few k d lt, c.requires.fewer)
 
 pub returns-clause-within : goal.returns-clause-within
 returns-clause-within c =
