@@ -1,5 +1,5 @@
 -- One record more, in the loops over records.
-use Rattle.std.proofs.Common.{◌≡◌, ℕ, ◌+◌, ◌*◌, ◌-◌, ◌<◌, List, [], ◌∷◌, ◌++◌, length, take, drop, refl, sym, ap, subst, ◌∙◌, arith}
+use Rattle.std.proofs.Common.{◌≡◌, ℕ, ◌+◌, ◌*◌, ◌-◌, ◌<◌, ◌≤◌, List, [], ◌∷◌, ◌++◌, length, take, drop, refl, sym, ap, subst, ◌∙◌, arith}
 use Rattle.std.proofs.lemmas.List.{length-drop, length-take-le}
 use Rattle.laz_range.specs.Coding.{Coding, Codes}
 use Rattle.laz_range.specs.Choice.{AreAsked, all_cuts, state_after}
@@ -17,6 +17,10 @@ use Rattle.laz_chunk.proofs.Written.{points-more}
 
 abbrev pub part : ℕ → ℕ → List ℕ → List ℕ
 part i size a = take (i * size + size - i * size) (drop (i * size) a)
+
+-- part i of a list of equal parts is within the list
+pub part_within : (i count size m long : ℕ) → size ≡ m → long ≡ m * count → i < count → i * size + size ≤ long
+part_within i count size m long e all lt = subst (λ (n : ℕ). i * size + size ≤ n) (ap (λ (n : ℕ). n * count) e ∙ sym all) (place-within i count size lt)
 
 pub part-length : (i count size m : ℕ) (a : List ℕ) → size ≡ m → length a ≡ m * count → i < count → length (part i size a) ≡ m
 part-length i count size m a e long few =

@@ -1,13 +1,14 @@
-use Rattle.std.proofs.Common.{ℕ, ◌+◌, ◌*◌, ◌≤◌, sym, ap, subst, ◌∙◌, arith}
+use Rattle.std.proofs.Common.{◌≡◌, ℕ, ◌+◌, ◌*◌, ◌≤◌, length, refl, sym, ap, subst, ◌∙◌, arith}
 use Rattle.laz_range.specs.Choice.{all_cuts, state_after}
 use Rattle.laz_range.specs.Coding.{Codes}
+use Rattle.laz_range.proofs.Public.{Codes-none}
 use Rattle.laz_chunk.specs.Layouts.{Layout, most_events, record_length}
 use Rattle.laz_chunk.specs.Records.{records_in}
 use Rattle.laz_chunk.specs.declared.items.Items.{Items}
 use Rattle.laz_chunk.specs.Stands.{AreChunkPoints, ItemsStand, items_of, layout_in}
 use Rattle.laz_chunk.specs.Chunks.{History, grown, record_cuts, written}
 use Rattle.laz_integer.proofs.Public.{place-within}
-use Rattle.laz_chunk.proofs.Steps.{Stand, part-length, put-step}
+use Rattle.laz_chunk.proofs.Steps.{Stand, part-length, part_within, put-step}
 use Rattle.laz_chunk.proofs.records.put_all.Goals as goal
 
 pub code_record-requires-clause-whole : goal.code_record-requires-clause-whole
@@ -40,3 +41,35 @@ loop-i-preserved g c =
       codes = λ h are s. (step h are s).0;
       stands = λ h are s. (step h are s).1;
     }
+
+pub loop-i-init : goal.loop-i-init
+loop-i-init g c = record {
+  layout = refl;
+  left = omega arith;
+  codes = λ h are s. Codes-none c.args.encoder.now;
+  stands = λ h are s. (are, s);
+}
+
+pub overflow_mul-at : goal.overflow_mul-at
+overflow_mul-at g c =
+    let items : Items = items_of c.args.point10.now (g.T.TimePart.item c.args.times.now) (g.C.ColourPart.item c.args.colours.now) c.args.extra.now in
+    let within = part_within c.loop-i.i c.args.extent.count c.args.extent.size (record_length (layout_in items)) (length c.args.records.now) c.requires.size c.requires.records c.loop-i-test.true in
+    omega (arith, within)
+
+pub overflow_add-at : goal.overflow_add-at
+overflow_add-at g c =
+    let items : Items = items_of c.args.point10.now (g.T.TimePart.item c.args.times.now) (g.C.ColourPart.item c.args.colours.now) c.args.extra.now in
+    let within = part_within c.loop-i.i c.args.extent.count c.args.extent.size (record_length (layout_in items)) (length c.args.records.now) c.requires.size c.requires.records c.loop-i-test.true in
+    omega (arith, within)
+
+pub slice_bounds-code_record-end : goal.slice_bounds-code_record-end
+slice_bounds-code_record-end g c =
+    let items : Items = items_of c.args.point10.now (g.T.TimePart.item c.args.times.now) (g.C.ColourPart.item c.args.colours.now) c.args.extra.now in
+    part_within c.loop-i.i c.args.extent.count c.args.extent.size (record_length (layout_in items)) (length c.args.records.now) c.requires.size c.requires.records c.loop-i-test.true
+
+pub returns-clause-codes : goal.returns-clause-codes
+returns-clause-codes g c h are s =
+    let items : Items = items_of c.args.point10.now (g.T.TimePart.item c.args.times.now) (g.C.ColourPart.item c.args.colours.now) c.args.extra.now in
+    let l : Layout = layout_in items in
+    let all : c.loop-i.i ≡ c.args.extent.count = omega (arith, c.loop-i-test.false, c.loop-i.auto.i-end) in
+    subst (λ (n : ℕ). Codes c.args.encoder.now c.loop-i.encoder (all_cuts grown record_cuts h (written l h (records_in l n c.args.records.now)))) all (c.loop-i.invariant.codes h are s)

@@ -1,4 +1,4 @@
-use Rattle.std.proofs.Common.{◌≡◌, ℕ, ◌*◌, [], refl, sym, ap, subst, ◌∙◌, arith, rules}
+use Rattle.std.proofs.Common.{◌≡◌, ℕ, ◌*◌, [], length, refl, sym, ap, subst, ◌∙◌, arith, rules}
 use Rattle.std.proofs.lemmas.Result.{err_from_is_err_and}
 use Rattle.laz_range.specs.Choice.{AreAsked, all_cuts, state_after}
 use Rattle.laz_range.specs.Decoding.{Refuses, Takes}
@@ -10,7 +10,7 @@ use Rattle.laz_chunk.specs.Stands.{items_of, layout_in}
 use Rattle.laz_chunk.specs.Chunks.{History, IsSpelled, grown, record_cuts}
 use Rattle.laz_chunk.proofs.Lists.{records-set}
 use Rattle.laz_integer.proofs.Public.{place-is, place-within}
-use Rattle.laz_chunk.proofs.Steps.{ReadsRecord, part-length, take-step}
+use Rattle.laz_chunk.proofs.Steps.{ReadsRecord, part-length, part_within, take-step}
 use Rattle.laz_chunk.proofs.records.take_all.Goals as goal
 
 pub loop-i-init : goal.loop-i-init
@@ -74,3 +74,32 @@ returns-clause-reads g c h s =
       subst (λ (n : ℕ). Takes (AreAsked grown (IsSpelled l) h n) (all_cuts grown record_cuts h) c.args.decoder.now c.loop-i.decoder old.0) all old.1,
       old.2 ∙ ap (λ (n : ℕ). records_in l n c.loop-i.records) all,
     )
+
+pub overflow_mul-at : goal.overflow_mul-at
+overflow_mul-at g c =
+    let items : Items = items_of c.args.point10.now (g.T.TimePart.item c.args.times.now) (g.C.ColourPart.item c.args.colours.now) c.args.extra.now in
+    let within = part_within c.loop-i.i c.args.extent.count c.args.extent.size (record_length (layout_in items)) (length c.loop-i.records) c.requires.size (c.loop-i.invariant.long ∙ c.requires.records) c.loop-i-test.true in
+    omega (arith, within)
+
+pub overflow_add-at : goal.overflow_add-at
+overflow_add-at g c =
+    let items : Items = items_of c.args.point10.now (g.T.TimePart.item c.args.times.now) (g.C.ColourPart.item c.args.colours.now) c.args.extra.now in
+    let within = part_within c.loop-i.i c.args.extent.count c.args.extent.size (record_length (layout_in items)) (length c.loop-i.records) c.requires.size (c.loop-i.invariant.long ∙ c.requires.records) c.loop-i-test.true in
+    omega (arith, within)
+
+pub slice_bounds-read_record-end : goal.slice_bounds-read_record-end
+slice_bounds-read_record-end g c =
+    let items : Items = items_of c.args.point10.now (g.T.TimePart.item c.args.times.now) (g.C.ColourPart.item c.args.colours.now) c.args.extra.now in
+    part_within c.loop-i.i c.args.extent.count c.args.extent.size (record_length (layout_in items)) (length c.loop-i.records) c.requires.size (c.loop-i.invariant.long ∙ c.requires.records) c.loop-i-test.true
+
+pub returns-clause-good : goal.returns-clause-good
+returns-clause-good g c = c.loop-i.invariant.good
+
+pub returns-clause-layout : goal.returns-clause-layout
+returns-clause-layout g c = c.loop-i.invariant.layout
+
+pub returns-clause-records : goal.returns-clause-records
+returns-clause-records g c = c.loop-i.invariant.long
+
+pub returns-in_err-read_record-clause-layout : goal.returns-in_err-read_record-clause-layout
+returns-in_err-read_record-clause-layout g c = c.in_err-read_record.ensures.layout ∙ c.loop-i.invariant.layout
