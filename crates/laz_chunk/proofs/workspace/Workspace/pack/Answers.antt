@@ -1,12 +1,78 @@
-use Rattle.std.proofs.Common.{◌≡◌, ℕ, ◌+◌, ◌*◌, ◌-◌, ◌/◌, List, length, take, drop, ap, sym, subst, ◌∙◌, arith}
+use Rattle.std.proofs.Common.{◌≡◌, ◌==◌, false, ℕ, ◌+◌, ◌*◌, ◌-◌, ◌/◌, ◌≤◌, List, length, take, drop, refl, ap, sym, subst, ◌∙◌, arith}
+use Rattle.std.proofs.lemmas.Bool.Decides.{nat_tests}
 use Rattle.std.proofs.lemmas.List.{length-drop, length-take-le}
 use Rattle.laz_range.specs.Span.{Span}
-use Rattle.laz_chunk.specs.Layouts.{Format, Layout, layout, record_length}
+use Rattle.laz_chunk.specs.Layouts.{Format, Layout, layout, most_events, record_length, room_for}
 use Rattle.laz_chunk.specs.Stands.{layout_in}
 use Rattle.laz_chunk.specs.Chunks.{count_of}
 use Rattle.laz_chunk.proofs.Chunk.{Put, Started, packed-is, packed-stream, started}
 use Rattle.laz_chunk.proofs.Ends.{whole-records}
 use Rattle.laz_chunk.proofs.workspace.Workspace.pack.Goals as goal
+
+-- the room for one or more records
+room_is : (l : Layout) (n : ℕ) → 1 ≤ n → room_for l n ≡ record_length l + 4 + 3 * most_events l * (n - 1)
+room_is l n some =
+    let more : (n == 0) ≡ false = grind (arith, nat_tests) in
+    rw more refl
+
+pub split_at-requires : goal.split_at-requires
+split_at-requires c =
+    let l : Layout = layout c.args.self.now in
+    let size_is : c.record_length-size.result ≡ record_length l = c.record_length-size.ensures ∙ ap (λ (f : Format). record_length (layout f)) c.self.view_is in
+    omega (arith, size_is, c.requires.some)
+
+pub start_record-requires : goal.start_record-requires
+start_record-requires c =
+    let l : Layout = layout c.args.self.now in
+    let size_is : c.record_length-size.result ≡ record_length l = c.record_length-size.ensures ∙ ap (λ (f : Format). record_length (layout f)) c.self.view_is in
+    let layout_is : layout_in c.self.inside.items ≡ l = c.self.invariant.0 ∙ ap layout c.self.view_is in
+    record { first = c.split_at.ensures.front_len ∙ (size_is ∙ ap record_length (sym layout_is)) }
+
+pub put_first-requires : goal.put_first-requires
+put_first-requires c =
+    let l : Layout = layout c.args.self.now in
+    let size_is : c.record_length-size.result ≡ record_length l = c.record_length-size.ensures ∙ ap (λ (f : Format). record_length (layout f)) c.self.view_is in
+    let whole = whole-records l c.args.records.now c.requires.some c.requires.whole in
+    let room = subst (λ (n : ℕ). n ≤ length c.args.out.now.items) (room_is l (count_of l c.args.records.now) whole.some) c.requires.room in
+    record { room = omega (arith, c.split_at.ensures.front_len, size_is, room) }
+
+pub with_room-encoder-requires : goal.with_room-encoder-requires
+with_room-encoder-requires c =
+    let l : Layout = layout c.args.self.now in
+    let size_is : c.record_length-size.result ≡ record_length l = c.record_length-size.ensures ∙ ap (λ (f : Format). record_length (layout f)) c.self.view_is in
+    let whole = whole-records l c.args.records.now c.requires.some c.requires.whole in
+    let room = subst (λ (n : ℕ). n ≤ length c.args.out.now.items) (room_is l (count_of l c.args.records.now) whole.some) c.requires.room in
+    let same : length c.replace.result.items ≡ length c.args.out.now.items = rw c.replace.ensures.value c.put_first.ensures.room in
+    omega (arith, size_is, room, same)
+
+pub overflow_sub-records : goal.overflow_sub-records
+overflow_sub-records c =
+    let l : Layout = layout c.args.self.now in
+    let size_is : c.record_length-size.result ≡ record_length l = c.record_length-size.ensures ∙ ap (λ (f : Format). record_length (layout f)) c.self.view_is in
+    let whole = whole-records l c.args.records.now c.requires.some c.requires.whole in
+    subst (λ (n : ℕ). 1 ≤ length c.args.records.now / n) (sym size_is) whole.some
+
+pub put_records-requires-clause-size : goal.put_records-requires-clause-size
+put_records-requires-clause-size c =
+    let l : Layout = layout c.args.self.now in
+    let size_is : c.record_length-size.result ≡ record_length l = c.record_length-size.ensures ∙ ap (λ (f : Format). record_length (layout f)) c.self.view_is in
+    let layout_is : layout_in c.self.inside.items ≡ l = c.self.invariant.0 ∙ ap layout c.self.view_is in
+    let layout_now : layout_in c.start_record.new.items ≡ l = c.start_record.ensures.layout ∙ layout_is in
+    size_is ∙ ap record_length (sym layout_now)
+
+pub put_records-requires-clause-left : goal.put_records-requires-clause-left
+put_records-requires-clause-left c =
+    let l : Layout = layout c.args.self.now in
+    let size_is : c.record_length-size.result ≡ record_length l = c.record_length-size.ensures ∙ ap (λ (f : Format). record_length (layout f)) c.self.view_is in
+    let layout_is : layout_in c.self.inside.items ≡ l = c.self.invariant.0 ∙ ap layout c.self.view_is in
+    let layout_now : layout_in c.start_record.new.items ≡ l = c.start_record.ensures.layout ∙ layout_is in
+    let whole = whole-records l c.args.records.now c.requires.some c.requires.whole in
+    let room = subst (λ (n : ℕ). n ≤ length c.args.out.now.items) (room_is l (count_of l c.args.records.now) whole.some) c.requires.room in
+    let same : length c.replace.result.items ≡ length c.args.out.now.items = rw c.replace.ensures.value c.put_first.ensures.room in
+    let left = c.with_room-encoder.result.left in
+    let few : 3 * most_events l * (count_of l c.args.records.now - 1) ≤ left = omega (arith, room, same, c.with_room-encoder.ensures.left, size_is) in
+    let counted : 3 * most_events l * (length c.args.records.now / c.record_length-size.result - 1) ≤ left = subst (λ (n : ℕ). 3 * most_events l * (length c.args.records.now / n - 1) ≤ left) (sym size_is) few in
+    subst (λ (k : Layout). 3 * most_events k * (length c.args.records.now / c.record_length-size.result - 1) ≤ left) (sym layout_now) counted
 
 pub put_records-requires-clause-records : goal.put_records-requires-clause-records
 put_records-requires-clause-records c =
