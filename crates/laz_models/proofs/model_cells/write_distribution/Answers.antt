@@ -1,10 +1,10 @@
-use Rattle.std.proofs.Common.{◌≡◌, ◌^◌, ◌++◌, ◌∙◌, ap, take, drop, length, arith}
+use Rattle.std.proofs.Common.{◌≡◌, ℕ, ◌*◌, ◌^◌, ◌<◌, List, ◌++◌, ◌∙◌, ap, sym, subst, sum, take, drop, length, slice_index, arith}
 use Rattle.std.proofs.lemmas.List.{take_at, drop_at, length-append, length-take-le}
 use Rattle.laz_models.specs.Counting.{AreStarts, starts_of}
-use Rattle.laz_models.specs.Place.{counts_in, dist_in}
-use Rattle.laz_models.specs.Lookup.{search_bits}
+use Rattle.laz_models.specs.Place.{counts_in, dist_in, IsTable}
+use Rattle.laz_models.specs.Lookup.{IsLastAt, search_bits}
 use Rattle.laz_models.proofs.Lookups.{search_bits-bounds, search-whole}
-use Rattle.laz_models.proofs.Parts.{starts_of-AreStarts}
+use Rattle.laz_models.proofs.Parts.{starts_of-AreStarts, sum_positive}
 use Rattle.laz_models.proofs.model_cells.write_distribution.Goals as goal
 
 pub write_table_if-requires-clause-starts : goal.write_table_if-requires-clause-starts
@@ -48,3 +48,41 @@ returns-clause-good c =
       starts = rw (front, is) good_here;
       guards = rw (back, two) c.write_guards.ensures;
     })
+
+pub returns-clause-counts : goal.returns-clause-counts
+returns-clause-counts c =
+    let rest = c.write_starts.new.starts ++ (c.write_guards.new.guards ++ c.write_table_if.new.table) in
+    take_at c.split_at_mut-counts.result.0.now rest c.args.size c.split_at_mut-counts.ensures.front_len ∙ c.split_at_mut-counts.ensures.front
+
+pub returns-clause-starts : goal.returns-clause-starts
+returns-clause-starts c =
+    let n = c.args.size in
+    let starts = c.write_starts.new.starts in
+    let rest = c.write_guards.new.guards ++ c.write_table_if.new.table in
+    let own = drop_at c.split_at_mut-counts.result.0.now (starts ++ rest) n c.split_at_mut-counts.ensures.front_len in
+    let front = take_at starts rest n (c.write_starts.auto.starts ∙ c.split_at_mut-starts.ensures.front_len) in
+    ap (take n) own ∙ (front ∙ (c.write_starts.ensures ∙ ap starts_of c.split_at_mut-counts.ensures.front))
+
+pub returns-clause-table : goal.returns-clause-table
+returns-clause-table c e =
+    let n = c.args.size in
+    let shift = c.args.shift in
+    let starts = c.write_starts.new.starts in
+    let guards = c.write_guards.new.guards in
+    let table = c.write_table_if.new.table in
+    let own = drop_at c.split_at_mut-counts.result.0.now (starts ++ (guards ++ table)) n c.split_at_mut-counts.ensures.front_len in
+    let count : length starts ≡ n = c.write_starts.auto.starts ∙ c.split_at_mut-starts.ensures.front_len in
+    let front : take n (starts ++ (guards ++ table)) ≡ starts = take_at starts (guards ++ table) n count in
+    let back : drop n (starts ++ (guards ++ table)) ≡ guards ++ table = drop_at starts (guards ++ table) n count in
+    let after : drop 2 (drop n (starts ++ (guards ++ table))) ≡ table = ap (drop 2) back ∙ drop_at guards table 2 (c.write_guards.auto.guards ∙ c.split_at_mut-guards.ensures.front_len) in
+    let Holds : List ℕ × List ℕ → Type 0 = λ x. (t : ℕ) → t < length x.1 → IsLastAt x.0 (t * 2 ^ shift) (slice_index x.1 t) in
+    subst (IsTable n shift) (sym own) (subst Holds (λ i. (sym front i, sym after i)) (c.write_table_if.ensures e))
+
+pub write_starts-requires : goal.write_starts-requires
+write_starts-requires c =
+    let same : c.args.total ≡ sum c.split_at_mut-counts.result.0.now = c.requires.total ∙ ap sum (sym c.split_at_mut-counts.ensures.front) in
+    record {
+      lengths = c.split_at_mut-starts.ensures.front_len ∙ sym c.split_at_mut-counts.ensures.front_len;
+      total = same;
+      some = omega (arith, c.requires.total, sum_positive (counts_in c.args.size c.args.cells.now) c.requires.counts);
+    }
