@@ -1,6 +1,6 @@
 //! Heads as they stand in files: one change of a head for each condition, and heads of each version.
 
-use crate::samples::{file_with, opened, put};
+use crate::samples::{file_with, number, opened, pair, put};
 use std::alloc::{AllocError, Global};
 use std::test::Fail;
 
@@ -86,16 +86,6 @@ then 395 95 00 HeaderSize
 then 395 24 03 Version
 then 395 0 00 Magic
 ";
-
-// The first word of a text, and what follows the blank after it.
-fn pair(text: &str) -> (&str, &str) {
-    text.split_once(" ").unwrap_or((text, ""))
-}
-
-// A number in decimal digits, or 0.
-fn number(text: &str) -> usize {
-    u32::from_str_radix(text, 10).unwrap_or(0) as usize
-}
 
 // A byte in two hexadecimal digits, or 0.
 fn byte(text: &str) -> u8 {

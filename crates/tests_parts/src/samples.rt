@@ -1,7 +1,17 @@
-//! Small files, and what is read of their heads.
+//! Words of a line, small files, and what is read of their heads.
 
 use las_header::{HEADER_BLOCK, Head, Refusal, need};
 use std::alloc::{AllocError, Global};
+
+// The first word of a text, and what follows the blank after it.
+pub(crate) fn pair(text: &str) -> (&str, &str) {
+    text.split_once(" ").unwrap_or((text, ""))
+}
+
+// A number in decimal digits, or 0.
+pub(crate) fn number(text: &str) -> usize {
+    u32::from_str_radix(text, 10).unwrap_or(0) as usize
+}
 
 // Writes bytes as far as they fit.
 pub(crate) fn put(file: &mut Vec<u8>, at: usize, bytes: &[u8]) {

@@ -345,35 +345,47 @@ make -o a.laz -z b.las -points 1 -seed 1 -cores 8 = make a.laz b.las 1 1 0 0 500
 #[test]
 fn lines_are_read(rt: HostRuntime) -> Result<(), Fail> {
     let taps = taps(rt.alloc())?;
-    let (count, wrong) = first_wrong(rt.alloc(), &taps)?;
+    let (count, wrong) = first_wrong(rt.alloc(), &taps);
     assert!(rt; wrong.is_empty() && count == 324, "{count}: {wrong}");
     Ok(())
 }
 
 // How many rows are answered as they say, before the first that is not, and that one.
-fn first_wrong(alloc: Global, taps: &[Box<dyn Tap>]) -> Result<(u32, &'static str), AllocError> {
+fn first_wrong(alloc: Global, taps: &[Box<dyn Tap>]) -> (u32, &'static str) {
     let mut count = 0u32;
     for row in LINES.lines() {
-        let (line, said) = row.split_once(" = ").unwrap_or((row, "no answer"));
-        if !is_answered(alloc, line, said, taps)? {
-            return Ok((count, row));
+        let (line, said) = row.split_once(" =").unwrap_or((row, "no answer"));
+        if !is_answered(alloc, line, said, taps) {
+            return (count, row);
         }
         count = count.saturating_add(1);
     }
-    Ok((count, ""))
+    (count, "")
 }
 
 // Whether this is the answer to a line.
-fn is_answered(
-    alloc: Global,
-    line: &str,
-    said: &str,
-    taps: &[Box<dyn Tap>],
-) -> Result<bool, AllocError> {
-    let mut text = Vec::new(alloc);
-    let words = words_of(alloc, line)?;
-    push_answer(&mut text, alloc, &words, taps)?;
-    Ok(text.get(1..) == Some(said.as_bytes()))
+fn is_answered(alloc: Global, line: &str, said: &str, taps: &[Box<dyn Tap>]) -> bool {
+    match words_of(alloc, line) {
+        Ok(words) => is_answer(alloc, &words, said, taps),
+        Err(_) => false,
+    }
+}
+
+// Whether this is the answer to words.
+fn is_answer(alloc: Global, words: &[String], said: &str, taps: &[Box<dyn Tap>]) -> bool {
+    let mut rest = Rest {
+        bytes: said.as_bytes(),
+        is_right: true,
+    };
+    match read_words(alloc, words, taps) {
+        Ok(command) => rest.command(alloc, &command),
+        Err(WordFault::Usage(index)) => {
+            rest.word("usage");
+            rest.number(u32::try_from(index).unwrap_or(u32::MAX));
+        }
+        Err(WordFault::Memory) => rest.is_right = false,
+    }
+    rest.is_right && rest.bytes.is_empty()
 }
 
 // The words of a line. The empty line has none.
@@ -395,176 +407,210 @@ fn taps(alloc: Global) -> Result<Vec<Box<dyn Tap>>, AllocError> {
     Ok(taps)
 }
 
-// Adds the answer to words.
-fn push_answer(
-    text: &mut Vec<u8>,
-    alloc: Global,
-    words: &[String],
-    taps: &[Box<dyn Tap>],
-) -> Result<(), AllocError> {
-    match read_words(alloc, words, taps) {
-        Ok(command) => push_command(text, alloc, &command),
-        Err(fault) => push_fault(text, fault),
-    }
+// What is left of what a row says, and whether the answer was so as far as it was taken.
+#[derive(Drop)]
+struct Rest<'a> {
+    bytes: &'a [u8],
+    is_right: bool,
 }
 
-// Adds why words are not read.
-fn push_fault(text: &mut Vec<u8>, fault: WordFault) -> Result<(), AllocError> {
-    match fault {
-        WordFault::Usage(index) => {
-            push_words(text, &["usage"])?;
-            push_numbers(text, &[u32::try_from(index).unwrap_or(u32::MAX)])
+impl<'a> Rest<'a> {
+    // Takes a text.
+    fn text(&mut self, text: &str) {
+        match self.bytes.strip_prefix(text.as_bytes()) {
+            Some(bytes) => self.bytes = bytes,
+            None => self.is_right = false,
         }
-        WordFault::Memory => push_words(text, &["no memory"]),
     }
-}
 
-// Adds a command.
-fn push_command(text: &mut Vec<u8>, alloc: Global, command: &Command) -> Result<(), AllocError> {
-    match command {
-        Command::Laszip {
-            input,
-            output,
-            chunk,
-            workers,
-        } => {
-            push_words(text, &["laszip", input, output])?;
-            push_numbers(text, &[*chunk, *workers])
-        }
-        Command::Las2las {
-            input,
-            output,
-            plan,
-            packing,
-            workers,
-            start,
-            stop,
-            step,
-            pick,
-            unique,
-            tallies,
-        } => {
-            push_words(text, &["las2las", input, output])?;
-            push_plan(text, alloc, plan)?;
-            push_packing(text, *packing)?;
-            push_numbers(text, &[*workers])?;
-            push_range(text, *start, *stop)?;
-            push_sieve(text, *step, *pick, *unique)?;
-            push_tallies(text, tallies)
-        }
-        Command::Lasinfo {
-            input,
-            tallies,
-            workers,
-        } => {
-            push_words(text, &["lasinfo", input])?;
-            push_names(text, tallies)?;
-            push_numbers(text, &[*workers])
-        }
-        other => push_other(text, alloc, other),
+    // Takes a word after a blank.
+    fn word(&mut self, word: &str) {
+        self.text(" ");
+        self.text(word);
     }
-}
 
-// Adds a command that splits, merges or makes files.
-fn push_other(text: &mut Vec<u8>, alloc: Global, command: &Command) -> Result<(), AllocError> {
-    match command {
-        Command::Lassplit {
-            input,
-            stem,
-            end,
-            rule,
-            workers,
-        } => {
-            push_words(text, &["lassplit", input, stem])?;
-            push_end(text, end)?;
-            push_rule(text, alloc, *rule)?;
-            push_numbers(text, &[*workers])
-        }
-        Command::Lasmerge {
-            inputs,
-            output,
-            packing,
-            workers,
-            copy,
-        } => {
-            push_words(text, &["lasmerge"])?;
-            push_names(text, inputs)?;
-            push_words(text, &[output])?;
-            push_packing(text, *packing)?;
-            if *copy {
-                push_words(text, &["copied"])?;
-            }
-            push_numbers(text, &[*workers])
-        }
-        Command::Make {
-            output,
-            packed,
-            points,
-            seed,
-            format,
-            extra,
-            chunk,
-            workers,
-        } => {
-            push_words(text, &["make", output, packed])?;
-            push_numbers(text, &[*points, *seed, u32::from(*format)])?;
-            push_numbers(text, &[u32::from(*extra), *chunk, *workers])
-        }
-        _ => push_words(text, &["another command"]),
-    }
-}
-
-// Adds words, each after a blank.
-fn push_words(text: &mut Vec<u8>, words: &[&str]) -> Result<(), AllocError> {
-    for word in words {
-        text.extend_from_slice(b" ")?;
-        text.extend_from_slice(word.as_bytes())?;
-    }
-    Ok(())
-}
-
-// Adds numbers, each after a blank.
-fn push_numbers(text: &mut Vec<u8>, numbers: &[u32]) -> Result<(), AllocError> {
-    for number in numbers {
+    // Takes a number after a blank.
+    fn number(&mut self, number: u32) {
         let mut buffer = Buffer::new();
-        push_words(text, &[buffer.format(*number)])?;
+        self.word(buffer.format(number));
     }
-    Ok(())
-}
 
-// Adds the filters and the changes of a plan.
-fn push_plan(text: &mut Vec<u8>, alloc: Global, plan: &Plan) -> Result<(), AllocError> {
-    let keeps = format!(in alloc; "{:?}", plan.keeps)?;
-    push_words(text, &[keeps.as_str()])?;
-    let changes = format!(in alloc; "{:?}", plan.changes)?;
-    push_words(text, &[changes.as_str()])
-}
-
-// Adds a rule.
-fn push_rule(text: &mut Vec<u8>, alloc: Global, rule: Rule) -> Result<(), AllocError> {
-    let shown = format!(in alloc; "{rule:?}")?;
-    push_words(text, &[shown.as_str()])
-}
-
-// Adds how an output is written.
-fn push_packing(text: &mut Vec<u8>, packing: Packing) -> Result<(), AllocError> {
-    push_words(
-        text,
-        if packing.packed {
-            &["packed"]
-        } else {
-            &["plain"]
-        },
-    )?;
-    push_numbers(text, &[packing.chunk])
-}
-
-// Adds the places of a range of records, unless it is the whole.
-fn push_range(text: &mut Vec<u8>, start: u32, stop: u32) -> Result<(), AllocError> {
-    if start == 0 && stop == u32::MAX {
-        return Ok(());
+    // Takes names in brackets, after a blank.
+    fn names(&mut self, names: &[String]) {
+        self.word("[");
+        for (i, name) in names.iter().enumerate() {
+            self.text(if i > 0 { ", " } else { "" });
+            self.text(name.as_str());
+        }
+        self.text("]");
     }
-    push_numbers(text, &[start, stop])
+
+    // Takes how an output is written.
+    fn packing(&mut self, packing: Packing) {
+        self.word(if packing.packed { "packed" } else { "plain" });
+        self.number(packing.chunk);
+    }
+
+    // Takes the filters and the changes of a plan.
+    fn plan(&mut self, alloc: Global, plan: &Plan) {
+        match format!(in alloc; " {:?} {:?}", plan.keeps, plan.changes) {
+            Ok(shown) => self.text(shown.as_str()),
+            Err(_) => self.is_right = false,
+        }
+    }
+
+    // Takes a rule.
+    fn rule(&mut self, alloc: Global, rule: Rule) {
+        match format!(in alloc; " {rule:?}") {
+            Ok(shown) => self.text(shown.as_str()),
+            Err(_) => self.is_right = false,
+        }
+    }
+
+    // Takes the places of a range of records, unless it is the whole.
+    fn range(&mut self, start: u32, stop: u32) {
+        if start != 0 || stop != u32::MAX {
+            self.number(start);
+            self.number(stop);
+        }
+    }
+
+    // Takes a sieve, if it does not let every record pass.
+    fn sieve(&mut self, step: Option<u32>, pick: Pick, unique: bool) {
+        if let Some(step) = step {
+            self.word(pick_name(pick));
+            self.number(step);
+        }
+        if unique {
+            self.word("once");
+        }
+    }
+
+    // Takes a command.
+    fn command(&mut self, alloc: Global, command: &Command) {
+        match command {
+            Command::Laszip {
+                input,
+                output,
+                chunk,
+                workers,
+            } => {
+                self.word("laszip");
+                self.word(input.as_str());
+                self.word(output.as_str());
+                self.number(*chunk);
+                self.number(*workers);
+            }
+            Command::Lasinfo {
+                input,
+                tallies,
+                workers,
+            } => {
+                self.word("lasinfo");
+                self.word(input.as_str());
+                self.names(tallies);
+                self.number(*workers);
+            }
+            other => self.parting_or_merging(alloc, other),
+        }
+    }
+
+    // Takes a command that splits or merges, or another one.
+    fn parting_or_merging(&mut self, alloc: Global, command: &Command) {
+        match command {
+            Command::Lassplit {
+                input,
+                stem,
+                end,
+                rule,
+                workers,
+            } => {
+                self.word("lassplit");
+                self.word(input.as_str());
+                self.word(stem.as_str());
+                self.text("|");
+                self.text(end.as_str());
+                self.rule(alloc, *rule);
+                self.number(*workers);
+            }
+            Command::Lasmerge {
+                inputs,
+                output,
+                packing,
+                workers,
+                copy,
+            } => {
+                self.word("lasmerge");
+                self.names(inputs);
+                self.word(output.as_str());
+                self.packing(*packing);
+                if *copy {
+                    self.word("copied");
+                }
+                self.number(*workers);
+            }
+            other => self.changing_or_making(alloc, other),
+        }
+    }
+
+    // Takes a command that filters and changes, or another one.
+    fn changing_or_making(&mut self, alloc: Global, command: &Command) {
+        match command {
+            Command::Las2las {
+                input,
+                output,
+                plan,
+                packing,
+                workers,
+                start,
+                stop,
+                step,
+                pick,
+                unique,
+                tallies,
+            } => {
+                self.word("las2las");
+                self.word(input.as_str());
+                self.word(output.as_str());
+                self.plan(alloc, plan);
+                self.packing(*packing);
+                self.number(*workers);
+                self.range(*start, *stop);
+                self.sieve(*step, *pick, *unique);
+                if !tallies.is_empty() {
+                    self.names(tallies);
+                }
+            }
+            other => self.making(other),
+        }
+    }
+
+    // Takes a command that makes files.
+    fn making(&mut self, command: &Command) {
+        match command {
+            Command::Make {
+                output,
+                packed,
+                points,
+                seed,
+                format,
+                extra,
+                chunk,
+                workers,
+            } => {
+                self.word("make");
+                self.word(output.as_str());
+                self.word(packed.as_str());
+                self.number(*points);
+                self.number(*seed);
+                self.number(u32::from(*format));
+                self.number(u32::from(*extra));
+                self.number(*chunk);
+                self.number(*workers);
+            }
+            _ => self.is_right = false,
+        }
+    }
 }
 
 // The name of what stays of a cell.
@@ -574,45 +620,4 @@ fn pick_name(pick: Pick) -> &'static str {
         Pick::Lowest => "Lowest",
         Pick::Highest => "Highest",
     }
-}
-
-// Adds a sieve, if it does not let every record pass.
-fn push_sieve(
-    text: &mut Vec<u8>,
-    step: Option<u32>,
-    pick: Pick,
-    unique: bool,
-) -> Result<(), AllocError> {
-    if let Some(step) = step {
-        push_words(text, &[pick_name(pick)])?;
-        push_numbers(text, &[step])?;
-    }
-    if unique {
-        push_words(text, &["once"])?;
-    }
-    Ok(())
-}
-
-// Adds names, if there are any.
-fn push_tallies(text: &mut Vec<u8>, names: &[String]) -> Result<(), AllocError> {
-    if names.is_empty() {
-        return Ok(());
-    }
-    push_names(text, names)
-}
-
-// Adds names in brackets.
-fn push_names(text: &mut Vec<u8>, names: &[String]) -> Result<(), AllocError> {
-    text.extend_from_slice(b" [")?;
-    for (i, name) in names.iter().enumerate() {
-        text.extend_from_slice(if i > 0 { ", " } else { "" }.as_bytes())?;
-        text.extend_from_slice(name.as_bytes())?;
-    }
-    text.extend_from_slice(b"]")
-}
-
-// Adds the end of the parts' names.
-fn push_end(text: &mut Vec<u8>, end: &str) -> Result<(), AllocError> {
-    text.extend_from_slice(b"|")?;
-    text.extend_from_slice(end.as_bytes())
 }
