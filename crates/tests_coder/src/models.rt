@@ -43,15 +43,20 @@ static COUNTED: [(u32, u32, u32, u32); 4] = [
     (256, 100_000, 570, 32647),
 ];
 
+// Whether a model counts as a row says, and is reset.
+fn is_counted(alloc: Global, row: &(u32, u32, u32, u32)) -> Result<bool, AllocError> {
+    let (n, symbols, first, last) = row;
+    let n = (*n).max(2).min(256);
+    let mut model = counted(alloc, n, *symbols)?;
+    let is_counted = model.part(1).0 == *first && model.part(n - 1) == (*last, 32768);
+    model.reset();
+    Ok(is_counted && model.find(32767) == n - 1)
+}
+
 #[test]
 fn symbols_of_another_coder(rt: HostRuntime) -> Result<(), Fail> {
-    for (n, symbols, first, last) in &COUNTED {
-        let n = (*n).max(2).min(256);
-        let mut model = counted(rt.alloc(), n, *symbols)?;
-        assert!(rt; model.part(1).0 == *first, "{n} {symbols}");
-        assert!(rt; model.part(n - 1) == (*last, 32768), "{n} {symbols}");
-        model.reset();
-        assert!(rt; model.find(32767) == n - 1, "{n} {symbols}");
+    for row in &COUNTED {
+        assert!(rt; is_counted(rt.alloc(), row)?, "{} {}", row.0, row.1);
     }
     Ok(())
 }

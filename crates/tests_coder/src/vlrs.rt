@@ -6,8 +6,27 @@ use laz_table::{COUNTED_CHUNKS, read_vlr, vlr_of};
 use std::alloc::{AllocError, Global};
 use std::test::Fail;
 
-// The head of a plain file of LAS 1.2 without points, of this format and with these extra bytes: after its first 227
-// bytes stand `vlrs` VLRs.
+// The first 227 bytes of the head of a plain file of LAS 1.2 without points, of this format and with these extra bytes.
+// `vlrs` VLRs follow, of so many bytes.
+fn front(format: u8, extra: u16, vlrs: u8, size: usize) -> [u8; 227] {
+    let length = extra.wrapping_add(match format {
+        0 => 20,
+        1 => 28,
+        2 => 26,
+        _ => 34,
+    });
+    let offset = u32::try_from(size).unwrap_or(0).wrapping_add(227);
+    let mut front = [0; 227];
+    put(&mut front, 0, b"LASF");
+    put(&mut front, 24, &[1, 2]);
+    put(&mut front, 94, &[227, 0]);
+    put(&mut front, 96, &offset.to_le_bytes());
+    put(&mut front, 100, &[vlrs, 0, 0, 0, format]);
+    put(&mut front, 105, &length.to_le_bytes());
+    front
+}
+
+// Such a head, in which the VLRs are these bytes.
 fn plain_head(
     alloc: Global,
     format: u8,
@@ -15,20 +34,7 @@ fn plain_head(
     vlrs: u8,
     rest: &[u8],
 ) -> Result<Vec<u8>, AllocError> {
-    let length = extra.wrapping_add(match format {
-        0 => 20,
-        1 => 28,
-        2 => 26,
-        _ => 34,
-    });
-    let offset = u32::try_from(rest.len()).unwrap_or(0).wrapping_add(227);
-    let mut head = vec![in alloc; 0; 227]?;
-    put(&mut head, 0, b"LASF");
-    put(&mut head, 24, &[1, 2]);
-    put(&mut head, 94, &[227, 0]);
-    put(&mut head, 96, &offset.to_le_bytes());
-    put(&mut head, 100, &[vlrs, 0, 0, 0, format]);
-    put(&mut head, 105, &length.to_le_bytes());
+    let mut head = front(format, extra, vlrs, rest.len()).to_vec(alloc)?;
     head.extend_from_slice(rest)?;
     Ok(head)
 }
@@ -164,11 +170,11 @@ fn two_vlrs(alloc: Global) -> Result<Vec<u8>, Fail> {
     packed_head(alloc, plain, PAYLOAD)
 }
 
-// What is read of a head with this chunk size and this number of points.
-fn answer_at(alloc: Global, chunk: u32, points: u32) -> Result<Result<u32, Refusal>, Fail> {
+// Whether a head with this chunk size and this number of points is read as an answer says.
+fn is_so_with(alloc: Global, chunk: u32, points: u32, answer: &str) -> Result<bool, Fail> {
     let mut head = head_with(alloc, 0, 0, &vlr_of(0, 0, chunk))?;
     put(&mut head, 107, &points.to_le_bytes());
-    Ok(answer_of(head))
+    Ok(is_answer(answer_of(head), answer))
 }
 
 // A line for each. An answer is the chunk size that is read of the head's laszip VLR, or the name of a refusal.
@@ -249,19 +255,32 @@ points 4294967295 250001 4294967295
 points 4294967295 4294967295 4294967295
 ";
 
-// What is read of a head with a byte at a place.
-fn answer_with(
+// Whether a head with a byte at a place is read as an answer says.
+fn is_so_alone(
     alloc: Global,
     head: &[u8],
-    at: u32,
-    byte: u8,
-) -> Result<Result<u32, Refusal>, AllocError> {
+    at: &str,
+    digits: &str,
+    answer: &str,
+) -> Result<bool, AllocError> {
     let mut changed = head.to_vec(alloc)?;
-    put(&mut changed, at as usize, &[byte]);
-    Ok(answer_of(changed))
+    put(&mut changed, number(at) as usize, &[byte(digits)]);
+    Ok(is_answer(answer_of(changed), answer))
 }
 
-// Whether a head is read as a line says. It is not if the first word of the line is another one.
+// The same, and the byte stays there.
+fn is_so_then(
+    alloc: Global,
+    head: &mut [u8],
+    at: &str,
+    digits: &str,
+    answer: &str,
+) -> Result<bool, AllocError> {
+    put(head, number(at) as usize, &[byte(digits)]);
+    Ok(is_answer(answer_of(head.to_vec(alloc)?), answer))
+}
+
+// Whether a line is so. It is not if the first word of the line is another one.
 fn is_so(alloc: Global, head: &mut Vec<u8>, line: &str) -> Result<bool, Fail> {
     let (command, rest) = pair(line);
     let (first, rest) = pair(rest);
@@ -270,19 +289,9 @@ fn is_so(alloc: Global, head: &mut Vec<u8>, line: &str) -> Result<bool, Fail> {
         "one" => *head = head_with(alloc, 0, 0, PAYLOAD)?,
         "two" => *head = two_vlrs(alloc)?,
         "length" => return Ok(head.len() == number(first) as usize),
-        "alone" => {
-            let found = answer_with(alloc, head, number(first), byte(second))?;
-            return Ok(is_answer(found, answer));
-        }
-        "then" => {
-            put(head, number(first) as usize, &[byte(second)]);
-            let found = answer_with(alloc, head, number(first), byte(second))?;
-            return Ok(is_answer(found, answer));
-        }
-        "points" => {
-            let found = answer_at(alloc, number(first), number(second))?;
-            return Ok(is_answer(found, answer));
-        }
+        "alone" => return Ok(is_so_alone(alloc, head, first, second, answer)?),
+        "then" => return Ok(is_so_then(alloc, head, first, second, answer)?),
+        "points" => return is_so_with(alloc, number(first), number(second), answer),
         _ => return Ok(false),
     }
     Ok(true)
