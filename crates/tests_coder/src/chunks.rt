@@ -132,8 +132,8 @@ fn records_of(
     let mut records = vec![in alloc; byte; size * count.min(1000) as usize]?;
     for place in places.split(",") {
         let (at, digits) = pair(place.trim());
-        let others = bytes(alloc, digits)?;
-        put(&mut records, number(at) as usize, &others);
+        let mut room = [0; 8];
+        put(&mut records, number(at) as usize, bytes(&mut room, digits));
     }
     Ok(records)
 }
@@ -155,6 +155,19 @@ fn becomes(
     )
 }
 
+// Whether the records of this byte, with others at the places of a text, become the chunk that it says.
+fn is_chunk_of(
+    trial: &mut Trial,
+    count: u32,
+    byte: u8,
+    places: &str,
+    stream: &str,
+) -> Result<bool, AllocError> {
+    let records = records_of(trial.alloc, trial.size(), count, byte, places)?;
+    let mut room = [0; 32];
+    becomes(trial, &records, count, bytes(&mut room, stream))
+}
+
 // Whether the records of a line become the chunk that it says.
 fn is_as_worked(alloc: Global, line: &str) -> Result<bool, AllocError> {
     let (shape, rest) = split(line);
@@ -162,28 +175,24 @@ fn is_as_worked(alloc: Global, line: &str) -> Result<bool, AllocError> {
     let (format, shape) = pair(shape.trim_end());
     let (extra, shape) = pair(shape);
     let (count, digits) = pair(shape);
-    let count = number(count);
     let mut trial = Trial::new(alloc, byte(format).min(3), short_number(extra).min(192))?;
-    let records = records_of(alloc, trial.size(), count, byte(digits), places)?;
-    let stream = bytes(alloc, stream)?;
-    becomes(&mut trial, &records, count, &stream)
+    is_chunk_of(&mut trial, number(count), byte(digits), places, stream)
 }
 
 // The first line that is not so, or none.
-fn first_unlike(alloc: Global) -> Result<Option<&'static str>, AllocError> {
+fn first_unlike(alloc: Global) -> Option<&'static str> {
     for line in WORKED.lines() {
-        if !is_as_worked(alloc, line)? {
-            return Ok(Some(line));
+        if !is_as_worked(alloc, line).unwrap_or(false) {
+            return Some(line);
         }
     }
-    Ok(None)
+    None
 }
 
 #[test]
-fn chunks_worked_by_hand(rt: HostRuntime) -> Result<(), Fail> {
-    let wrong = first_unlike(rt.alloc())?;
-    assert!(rt; wrong.is_none(), "{wrong:?}");
-    Ok(())
+fn chunks_worked_by_hand(rt: HostRuntime) {
+    let wrong = first_unlike(rt.alloc());
+    assert!(rt; wrong.is_none(), "{}", wrong.unwrap_or(""));
 }
 
 // Draws records of this size: each byte stays as in the record before or, one time in eight, is drawn, by a linear
@@ -296,36 +305,47 @@ fn is_spelled(
     trial.refuses(chunk, count)
 }
 
+// The same of the chunk of the first of these records of format 1 and a stream.
+fn is_stream_spelled(
+    alloc: Global,
+    records: &[u8],
+    count: u32,
+    stream: &[u8],
+    good: bool,
+) -> Result<bool, AllocError> {
+    let chunk = with_stream(alloc, records, stream)?;
+    let mut trial = Trial::new(alloc, 1, 0)?;
+    is_spelled(&mut trial, &chunk, count, records, good)
+}
+
 // Whether a line is so. It is not if its first word is another one.
 fn is_as_spelled(alloc: Global, line: &str) -> Result<bool, AllocError> {
     let (times, stream) = split(line);
     let (command, times) = pair(times);
-    let times = numbers(alloc, times)?;
-    let stream = bytes(alloc, stream)?;
-    let records = records_with(alloc, &times)?;
-    let chunk = with_stream(alloc, &records, &stream)?;
+    let (mut time_room, mut stream_room) = ([0; 24], [0; 100]);
+    let times = numbers(&mut time_room, times);
+    let stream = bytes(&mut stream_room, stream);
+    let records = records_with(alloc, times)?;
     let count = times.len().min(24) as u32 / 2;
-    let mut trial = Trial::new(alloc, 1, 0)?;
     match command {
-        "held" => is_spelled(&mut trial, &chunk, count, &records, true),
-        "none" => is_spelled(&mut trial, &chunk, count, &records, false),
+        "held" => is_stream_spelled(alloc, &records, count, stream, true),
+        "none" => is_stream_spelled(alloc, &records, count, stream, false),
         _ => Ok(false),
     }
 }
 
 // The first line that is not so, or none.
-fn first_unspelled(alloc: Global) -> Result<Option<&'static str>, AllocError> {
+fn first_unspelled(alloc: Global) -> Option<&'static str> {
     for line in SPELLINGS.lines() {
-        if !is_as_spelled(alloc, line)? {
-            return Ok(Some(line));
+        if !is_as_spelled(alloc, line).unwrap_or(false) {
+            return Some(line);
         }
     }
-    Ok(None)
+    None
 }
 
 #[test]
-fn spellings_of_no_writer(rt: HostRuntime) -> Result<(), Fail> {
-    let wrong = first_unspelled(rt.alloc())?;
-    assert!(rt; wrong.is_none(), "{wrong:?}");
-    Ok(())
+fn spellings_of_no_writer(rt: HostRuntime) {
+    let wrong = first_unspelled(rt.alloc());
+    assert!(rt; wrong.is_none(), "{}", wrong.unwrap_or(""));
 }

@@ -1,5 +1,4 @@
 //! Numbers and bytes of texts. What is no number is 0.
-use std::alloc::{AllocError, Global};
 
 /// The first word of a text, and what follows the blank after it.
 pub(crate) fn pair(text: &str) -> (&str, &str) {
@@ -31,22 +30,22 @@ pub(crate) fn byte(text: &str) -> u8 {
     u8::from_str_radix(text, 16).unwrap_or(0)
 }
 
-/// The numbers of a text.
-pub(crate) fn numbers(alloc: Global, text: &str) -> Result<Vec<u32>, AllocError> {
-    let mut numbers = Vec::new(alloc);
-    for word in text.split_whitespace() {
-        numbers.push(number(word))?;
+/// The numbers of a text, as far as there is room for them.
+pub(crate) fn numbers<'a>(room: &'a mut [u32], text: &str) -> &'a [u32] {
+    for (place, word) in room.iter_mut().zip(text.split_whitespace()) {
+        *place = number(word);
     }
-    Ok(numbers)
+    let count = text.split_whitespace().count().min(room.len());
+    &room[..count]
 }
 
-/// The bytes of a text.
-pub(crate) fn bytes(alloc: Global, text: &str) -> Result<Vec<u8>, AllocError> {
-    let mut bytes = Vec::new(alloc);
-    for word in text.split_whitespace() {
-        bytes.push(byte(word))?;
+/// The bytes of a text, as far as there is room for them.
+pub(crate) fn bytes<'a>(room: &'a mut [u8], text: &str) -> &'a [u8] {
+    for (place, word) in room.iter_mut().zip(text.split_whitespace()) {
+        *place = byte(word);
     }
-    Ok(bytes)
+    let count = text.split_whitespace().count().min(room.len());
+    &room[..count]
 }
 
 /// Writes bytes as far as they fit.

@@ -103,8 +103,8 @@ const ITEMS: &str = "\
 fn payload_with(alloc: Global, chunk: u32, items: &str) -> Result<Vec<u8>, AllocError> {
     let mut payload = PAYLOAD[..32].to_vec(alloc)?;
     put(&mut payload, 12, &chunk.to_le_bytes());
-    let items = bytes(alloc, items)?;
-    payload.extend_from_slice(&items)?;
+    let mut room = [0; 64];
+    payload.extend_from_slice(bytes(&mut room, items))?;
     Ok(payload)
 }
 
@@ -158,7 +158,7 @@ fn first_of_others(alloc: Global) -> Result<Option<&'static str>, Fail> {
 fn each_record_has_its_own_items(rt: HostRuntime) -> Result<(), Fail> {
     let wrong = first_of_others(rt.alloc())?;
     let is_worked = vlr_of(0, 0, 50_000).as_slice() == PAYLOAD;
-    assert!(rt; wrong.is_none() && is_worked, "{wrong:?}");
+    assert!(rt; wrong.is_none() && is_worked, "{}", wrong.unwrap_or(""));
     Ok(())
 }
 
@@ -311,6 +311,6 @@ fn first_wrong(alloc: Global) -> Result<Option<&'static str>, Fail> {
 #[test]
 fn heads_are_read(rt: HostRuntime) -> Result<(), Fail> {
     let wrong = first_wrong(rt.alloc())?;
-    assert!(rt; wrong.is_none(), "{wrong:?}");
+    assert!(rt; wrong.is_none(), "{}", wrong.unwrap_or(""));
     Ok(())
 }
