@@ -1,5 +1,8 @@
 //! Plans over two records.
 
+ghost use Rattle.std.specs.Prelude.{All, IfOk};
+ghost use Rattle.las_filter.specs.Changes.{HasClass};
+
 use las_filter::{Change, Keep, Plan, RawRange};
 use std::alloc::{AllocError, Global};
 use std::test::Fail;
@@ -46,31 +49,37 @@ fn filters_keep_records(rt: HostRuntime) -> Result<(), Fail> {
     Ok(())
 }
 
-#[test]
-fn changes_are_made_in_order(rt: HostRuntime) -> Result<(), Fail> {
-    let plan = Plan {
-        keeps: Vec::new(rt.alloc()),
-        changes: vec![in rt.alloc();
+// What three changes make of the first record, and of the second, whose X can't be changed.
+const FIRST_CHANGED: [u8; 20] = [
+    10, 0, 0, 0, 255, 255, 255, 255, 0, 0, 0, 0, 100, 0, 17, 31, 0, 0, 1, 2,
+];
+
+const SECOND_CHANGED: [u8; 20] = [
+    255, 255, 255, 127, 0, 0, 0, 0, 0, 0, 0, 0, 200, 0, 18, 127, 0, 0, 0, 0,
+];
+
+// A plan of three changes.
+fn three_changes(alloc: Global) -> Result<Plan, AllocError>
+    ensures { IfOk result (λ plan. All HasClass plan.changes.items) }
+{
+    Ok(Plan {
+        keeps: Vec::new(alloc),
+        changes: vec![in alloc;
             Change::SetClass(31),
             Change::Translate(1, -1, 0),
             Change::SetSource(513),
         ]?,
-    };
+    })
+}
+
+#[test]
+fn changes_are_made_in_order(rt: HostRuntime) -> Result<(), Fail> {
+    let plan = three_changes(rt.alloc())?;
     let mut point = FIRST;
-    assert_eq!(rt; plan.change(&mut point), Ok(()));
-    assert_eq!(rt;
-        point,
-        [
-            10, 0, 0, 0, 255, 255, 255, 255, 0, 0, 0, 0, 100, 0, 17, 31, 0, 0, 1, 2
-        ]
-    );
+    assert!(rt; plan.change(&mut point) == Ok(()), "the first");
+    assert!(rt; point.as_slice() == FIRST_CHANGED.as_slice(), "{point:?}");
     let mut point = SECOND;
-    assert_eq!(rt; plan.change(&mut point), Err(RawRange));
-    assert_eq!(rt;
-        point,
-        [
-            255, 255, 255, 127, 0, 0, 0, 0, 0, 0, 0, 0, 200, 0, 18, 127, 0, 0, 0, 0
-        ]
-    );
+    assert!(rt; plan.change(&mut point) == Err(RawRange), "the second");
+    assert!(rt; point.as_slice() == SECOND_CHANGED.as_slice(), "{point:?}");
     Ok(())
 }

@@ -2,7 +2,6 @@
 
 use crate::samples::{file_with, number, opened, pair, put};
 use std::alloc::{AllocError, Global};
-use std::test::Fail;
 
 // A line for each:
 //
@@ -119,40 +118,44 @@ fn set(file: &mut Vec<u8>, at: usize, text: &str) {
     }
 }
 
+// Whether a changed file is refused as a text says, or read. It stays changed.
+fn is_so_then(alloc: Global, file: &mut Vec<u8>, text: &str) -> Result<bool, AllocError> {
+    let cause = change(file, text)?;
+    is_refused(alloc, file, cause)
+}
+
+// Whether a changed copy of a file is.
+fn is_so_alone(alloc: Global, file: &[u8], text: &str) -> Result<bool, AllocError> {
+    let mut changed = file.to_vec(alloc)?;
+    is_so_then(alloc, &mut changed, text)
+}
+
 // Whether a line is so. It is not if its first word is another one.
 fn is_so(alloc: Global, file: &mut Vec<u8>, line: &str) -> Result<bool, AllocError> {
     let (command, rest) = pair(line);
     match command {
         "file" => *file = file_with(alloc, number(rest), &[])?,
         "set" => set(file, number(pair(rest).0), pair(rest).1),
-        "alone" => {
-            let mut changed = file.to_vec(alloc)?;
-            let cause = change(&mut changed, rest)?;
-            return is_refused(alloc, &changed, cause);
-        }
-        "then" => {
-            let cause = change(file, rest)?;
-            return is_refused(alloc, file, cause);
-        }
+        "alone" => return is_so_alone(alloc, file, rest),
+        "then" => return is_so_then(alloc, file, rest),
         _ => return Ok(false),
     }
     Ok(true)
 }
 
 // The first line that is not so, or none.
-fn first_wrong(alloc: Global) -> Result<Option<&'static str>, AllocError> {
+fn first_wrong(alloc: Global) -> Option<&'static str> {
     let mut file = Vec::new(alloc);
     for line in ROWS.lines() {
-        if !is_so(alloc, &mut file, line)? {
-            return Ok(Some(line));
+        if !is_so(alloc, &mut file, line).unwrap_or(false) {
+            return Some(line);
         }
     }
-    Ok(None)
+    None
 }
 
 #[test]
-fn each_condition_is_named(rt: HostRuntime) -> Result<(), Fail> {
-    let wrong = first_wrong(rt.alloc())?;
-    assert!(rt; wrong.is_none(), "{wrong:?}");
-    Ok(())
+fn each_condition_is_named(rt: HostRuntime) {
+    let wrong = first_wrong(rt.alloc());
+    assert!(rt; wrong.is_none(), "{}", wrong.unwrap_or(""));
 }

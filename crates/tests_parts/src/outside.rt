@@ -213,13 +213,13 @@ fn are_done(rt: &HostRuntime, files: &mut RealFiles<HostRuntime>, text: &str) ->
 {
     let (first, rest) = pair(text);
     let (count, step) = pair(rest);
-    let first = number(first);
-    for index in first..first.saturating_add(number(count)) {
+    let (first, count) = (number(first), number(count));
+    for index in first..first.saturating_add(count) {
         if !is_done_by_number(rt, files, index, step) {
             return false;
         }
     }
-    true
+    count > 0
 }
 
 // Whether a line of a script is done.
@@ -237,21 +237,21 @@ fn line_is_done(rt: &HostRuntime, files: &mut RealFiles<HostRuntime>, line: &str
 }
 
 // The first line of a script that is not done, or none. No file is open at first.
-fn first_wrong(rt: &HostRuntime, script: &'static str) -> &'static str {
+fn first_wrong(rt: &HostRuntime, script: &'static str) -> Option<&'static str> {
     let mut files = RealFiles::new(*rt);
     for line in script.lines() {
         if !line_is_done(rt, &mut files, line) {
-            return line;
+            return Some(line);
         }
     }
-    ""
+    None
 }
 
 #[test]
 fn scripts_are_done(rt: HostRuntime) {
     for script in SCRIPTS.split("\n\n") {
         let wrong = first_wrong(&rt, script);
-        assert!(rt; wrong.is_empty(), "{wrong}");
+        assert!(rt; wrong.is_none(), "{}", wrong.unwrap_or(""));
     }
 }
 

@@ -5,7 +5,7 @@ ghost use Rattle.las_thin.specs.Sieving.{IsFirst};
 
 use las_points::{set_x, set_y, set_z};
 use las_thin::{Pick, Sieve};
-use std::alloc::{AllocError, Global};
+use std::alloc::AllocError;
 use std::test::Fail;
 
 // A record at coordinates.
@@ -41,51 +41,37 @@ fn look_at(sieve: &mut Sieve, records: &[[u8; 20]]) -> Result<(), AllocError>
     Ok(())
 }
 
-// Which of some records pass, the places from 0 on.
-fn ask_for(alloc: Global, sieve: &mut Sieve, records: &[[u8; 20]]) -> Result<Vec<bool>, AllocError>
+// Whether those of the five pass that are wanted, the places from 0 on.
+fn are_passed(sieve: &mut Sieve, wanted: [bool; 5]) -> Result<bool, AllocError>
     requires asked { sieve.old.asked ≡ None }
 {
-    let mut answers = Vec::new(alloc);
+    let records = five();
     for place in 0..records.len() {
-        let passes = sieve.passes(place as u64, &records[place])?;
-        answers.push(passes)?;
+        if sieve.passes(place as u64, &records[place])? != wanted[place] {
+            return Ok(false);
+        }
     }
-    Ok(answers)
+    Ok(true)
 }
 
 #[test]
 fn the_first_of_each_cell_passes(rt: HostRuntime) -> Result<(), Fail> {
-    let alloc = rt.alloc();
-    let mut sieve = Sieve::new(alloc, Some(10), Pick::First, false);
-    let answers = ask_for(alloc, &mut sieve, &five())?;
-    assert_eq!(rt;
-        answers.as_slice(),
-        [true, false, true, true, false].as_slice()
-    );
+    let mut sieve = Sieve::new(rt.alloc(), Some(10), Pick::First, false);
+    assert!(rt; are_passed(&mut sieve, [true, false, true, true, false])?);
     Ok(())
 }
 
 #[test]
 fn the_lowest_of_each_cell_passes(rt: HostRuntime) -> Result<(), Fail> {
-    let alloc = rt.alloc();
-    let mut sieve = Sieve::new(alloc, Some(10), Pick::Lowest, true);
+    let mut sieve = Sieve::new(rt.alloc(), Some(10), Pick::Lowest, true);
     look_at(&mut sieve, &five())?;
-    let answers = ask_for(alloc, &mut sieve, &five())?;
-    assert_eq!(rt;
-        answers.as_slice(),
-        [false, true, true, true, false].as_slice()
-    );
+    assert!(rt; are_passed(&mut sieve, [false, true, true, true, false])?);
     Ok(())
 }
 
 #[test]
 fn the_first_of_each_position_passes(rt: HostRuntime) -> Result<(), Fail> {
-    let alloc = rt.alloc();
-    let mut sieve = Sieve::new(alloc, None, Pick::First, true);
-    let answers = ask_for(alloc, &mut sieve, &five())?;
-    assert_eq!(rt;
-        answers.as_slice(),
-        [true, true, true, true, false].as_slice()
-    );
+    let mut sieve = Sieve::new(rt.alloc(), None, Pick::First, true);
+    assert!(rt; are_passed(&mut sieve, [true, true, true, true, false])?);
     Ok(())
 }

@@ -429,10 +429,16 @@ impl<'a> Rest<'a> {
         self.text(word);
     }
 
+    // Takes the digits of a number.
+    fn digits(&mut self, number: u32) {
+        let mut buffer = Buffer::new();
+        self.text(buffer.format(number));
+    }
+
     // Takes a number after a blank.
     fn number(&mut self, number: u32) {
-        let mut buffer = Buffer::new();
-        self.word(buffer.format(number));
+        self.text(" ");
+        self.digits(number);
     }
 
     // Takes names in brackets, after a blank.
@@ -460,10 +466,16 @@ impl<'a> Rest<'a> {
     }
 
     // Takes a rule.
-    fn rule(&mut self, alloc: Global, rule: Rule) {
-        match format!(in alloc; " {rule:?}") {
-            Ok(shown) => self.text(shown.as_str()),
-            Err(_) => self.is_right = false,
+    fn rule(&mut self, rule: Rule) {
+        match rule {
+            Rule::Every(count) => {
+                self.word("Every(");
+                self.digits(count);
+                self.text(")");
+            }
+            Rule::Class => self.word("Class"),
+            Rule::Source => self.word("Source"),
+            Rule::Return => self.word("Return"),
         }
     }
 
@@ -530,7 +542,7 @@ impl<'a> Rest<'a> {
                 self.word(stem.as_str());
                 self.text("|");
                 self.text(end.as_str());
-                self.rule(alloc, *rule);
+                self.rule(*rule);
                 self.number(*workers);
             }
             Command::Lasmerge {

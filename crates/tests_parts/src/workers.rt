@@ -405,18 +405,17 @@ fn crew_works<R: Threads + Sync>(rt: &R, alloc: Global, row: &Row) -> Result<boo
 }
 
 // The name of the first row whose crew does not, or none.
-fn first_wrong<R: Threads + Sync>(rt: &R, alloc: Global) -> Result<&'static str, AllocError> {
+fn first_wrong<R: Threads + Sync>(rt: &R, alloc: Global) -> &'static str {
     for row in &ROWS {
-        if !crew_works(rt, alloc, row)? {
-            return Ok(row.name);
+        if !crew_works(rt, alloc, row).unwrap_or(false) {
+            return row.name;
         }
     }
-    Ok("")
+    ""
 }
 
 #[test]
-fn crews_work(rt: HostRuntime) -> Result<(), Fail> {
-    let wrong = first_wrong(&rt, rt.alloc())?;
+fn crews_work(rt: HostRuntime) {
+    let wrong = first_wrong(&rt, rt.alloc());
     assert!(rt; wrong.is_empty(), "{wrong}");
-    Ok(())
 }

@@ -2,7 +2,7 @@ use Rattle.std.proofs.Common.{ℕ, ◌≤◌, ◌^◌, [], map, ap, arith, ◌�
 use Rattle.std.proofs.lemmas.List.Elements.{All-nil}
 use Rattle.las_info.proofs.Public.{none_shown}
 use Rattle.las_info.specs.Tallies.{TapSeen, count_at}
-use Rattle.tests_parts.proofs.info.reported.Goals as goal
+use Rattle.tests_parts.proofs.info.is_reported.Goals as goal
 
 pub see_all-requires-clause-shown : goal.see_all-requires-clause-shown
 see_all-requires-clause-shown c = (
