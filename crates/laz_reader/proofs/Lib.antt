@@ -3,6 +3,7 @@ mod Examples
 mod Frames
 mod Unpacking
 mod Heads
+mod Missing
 mod TableFront
 mod OpeningAsks
 mod PieceLists

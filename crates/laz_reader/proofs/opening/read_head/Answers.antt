@@ -5,6 +5,7 @@ use Rattle.laz_forms.specs.declared.fault.Fault.{Fault}
 use Rattle.laz_forms.proofs.Public.{known_at, known_both, known_then}
 use Rattle.laz_reader.proofs.OpeningAsks.{head_asks}
 use Rattle.laz_reader.proofs.Heads.{head_known, head_accepted, head_given, head_refused, never_refused, no_stray_read, refused_by_front, residual_is, same_cause}
+use Rattle.laz_reader.proofs.Missing.{known_not_missing}
 use Rattle.laz_reader.proofs.opening.read_head.Goals as goal
 
 pub returns-in_err-offset-clause-refused : goal.returns-in_err-offset-clause-refused
@@ -82,3 +83,19 @@ returns-in-Err-clause-asked_of g c = λ there.
     let rest = c.in_ok-read_on.ensures in
     head_asks (g.F.Files.seen c.args.files.now).held c.args.name.now c.read_front.new.bytes.items c.in_ok-offset.offset (g.F.Files.seen c.args.files.now).asked (g.F.Files.seen c.read_on.new.files).asked (known_at _ _ _ _ held front.bytes) front.offset
     (omega (arith, before, front.reads.asked, front.len, rest.reads.asked))
+
+pub returns-in-Err-clause-missing : goal.returns-in-Err-clause-missing
+returns-in-Err-clause-missing g c = λ missing.
+    absurd (known_not_missing _ _ _ c.in-Ok.ensures.length missing)
+
+pub returns-in-Ok-read-clause-missing : goal.returns-in-Ok-read-clause-missing
+returns-in-Ok-read-clause-missing g c = λ missing.
+    absurd (known_not_missing _ _ _ c.in-Ok.ensures.length missing)
+
+pub returns-in_err-offset-clause-missing : goal.returns-in_err-offset-clause-missing
+returns-in_err-offset-clause-missing g c = λ missing.
+    absurd (known_not_missing _ _ _ c.in-Ok.ensures.length missing)
+
+pub returns-in_err-read_on-clause-missing : goal.returns-in_err-read_on-clause-missing
+returns-in_err-read_on-clause-missing g c = λ missing.
+    absurd (known_not_missing _ _ _ c.in-Ok.ensures.length missing)

@@ -1,5 +1,7 @@
-use Rattle.std.proofs.Common.{◌≡◌, ◌<◌, ◌≤◌, ◌*◌, ◌+◌, ◌-◌, ◌∙◌, min, false, refl, sym, ap, subst, ℕ, List, [], length, take, drop, get_or, Option, Err, arith}
-use Rattle.std.specs.Prelude.{IsSome, nat_lt, sum}
+use Rattle.std.proofs.Common.{◌≡◌, ◌<◌, ◌≤◌, ◌*◌, ◌+◌, ◌-◌, ◌^◌, ◌∙◌, min, false, refl, sym, ap, subst, ℕ, List, [], length, take, drop, get_or, Option, Err, arith, rules}
+use mir.Syntax.{w32}
+use mir.Val.{Fits}
+use Rattle.std.specs.Prelude.{IfOk, IsErrAnd, IsSome, Result, Ok, nat_lt, sum}
 use Rattle.std.proofs.lemmas.Bool.{ltb-true}
 use Rattle.std.proofs.lemmas.Grind.{common_steps}
 use Rattle.std.proofs.lemmas.List.{length-take}
@@ -21,6 +23,59 @@ use Rattle.laz_reader.proofs.Batches.{as_many, bad_left, batch_bad, batch_blocks
 use Rattle.laz_reader.proofs.reader.Reader.next_packed.Given.{Over}
 use Rattle.laz_reader.proofs.reader.Reader.next_packed.Goals.{After-min-most}
 use Rattle.laz_reader.proofs.reader.Reader.next_packed.Goals as goal
+
+-- facts on numbers, stated where no other fact is in scope, as `omega` would read all of them
+under : (n m k : ℕ) → n ≤ min m k → n ≤ k
+under n m k within = omega arith
+
+under_lt : (n m k : ℕ) → n < min m k → n < k
+under_lt n m k few = omega arith
+
+as_few : (a n k : ℕ) → a ≡ n → n ≤ k → a ≤ k
+as_few a n k same within = omega arith
+
+as_long : (n k j : ℕ) → n ≤ k → k ≡ j → n ≤ j
+as_long n k j within same = omega arith
+
+below : (j a n : ℕ) → j < a → a ≡ n → j < n
+below j a n lt same = omega arith
+
+front_of : (n k m j : ℕ) → n ≤ k → k ≡ min m j → n ≤ m
+front_of n k m j within short = omega arith
+
+fewer : (n r m k j : ℕ) → n < r → r ≡ min m k → j ≡ k → n < min m j
+fewer n r m k j few is same = omega arith
+
+none_below : (n k : ℕ) → k ≡ 0 → n < k → ⊥
+none_below n k none lt = omega arith
+
+moved_on : (a n b m : ℕ) → a + b ≡ m → a + n + b ≡ m + n
+moved_on a n b m is = omega arith
+
+near_by : (a s t r : ℕ) → a + s + r < 2 ^ 64 → t ≡ s → a + t < 2 ^ 64
+near_by a s t r near same = omega arith
+
+on_to : (n count next last : ℕ) → n ≤ count → count ≡ last - next → next ≤ last → next + n ≤ last
+on_to n count next last within long order = omega arith
+
+on_below : (n count next last : ℕ) → n < count → count ≡ last - next → next + n < last
+on_below n count next last lt long = omega arith
+
+number_fits : (n count next last points blocks records : ℕ) → n ≤ count → count ≡ last - next → next ≤ last
+    → last ≤ points → points + blocks + records < 2 ^ 32 → Fits w32 (next + n)
+number_fits n count next last points blocks records within long order few fits = omega arith
+
+count_fits : (n count next last points blocks records : ℕ) → n ≤ count → count ≡ last - next
+    → last ≤ points → points + blocks + records < 2 ^ 32 → Fits w32 n
+count_fits n count next last points blocks records within long few fits = omega arith
+
+cut_to : (n k j : ℕ) (xs : List ℕ) → n ≤ k → k ≡ j → j ≡ length xs → length (take n xs) ≡ n
+cut_to n k j xs within same long = omega (arith, length-take n xs)
+
+-- what is said of Ok holds of an Err
+no_ok : {T E : Type 0} (r : Result T E) (P : T → Type 0) (Q : E → Type 0) → IsErrAnd r Q → IfOk r P
+no_ok (Ok x) P Q fault = absurd fault
+no_ok (Err e) P Q fault = search rules
 
 -- what stands before the chunks are read
 module _ (g : Over) (c : After-min-most g) where
@@ -113,7 +168,7 @@ next_chunks-requires-clause-run g c κs within =
     let k = (goal.at.next_chunks-requires-clause-run g c).After-min-most in
     record {
       same = (lists g k).same;
-      near = omega (arith, c.self.invariant.1.near, ap (λ (l : List ℕ). sum l) (sizes_are g k));
+      near = near_by _ _ _ _ c.self.invariant.1.near (ap (λ (l : List ℕ). sum l) (sizes_are g k));
       lie = known_as _ _ _ _ (sym (name g k))
           (known_then _ _ _ _ (λ file s. batch_lie (lists g k) file s.lie) c.requires.stands);
     }
@@ -158,7 +213,7 @@ pub returns-clause-bad_next : goal.returns-clause-bad_next
 returns-clause-bad_next g c = λ is.
     let k = (goal.at.returns-clause-bad_next g c).After-min-most in
     let few : c.in_ok-good.good < c.min-most.result = ltb-true c.in_ok-good.good c.min-most.result is in
-    omega (arith, few, most_is g k, batch_length (lists g k))
+    fewer _ _ _ _ _ few (most_is g k) (batch_length (lists g k))
 
 pub returns-in_err-good-clause-bad : goal.returns-in_err-good-clause-bad
 returns-in_err-good-clause-bad g c = λ cause is.
@@ -166,7 +221,7 @@ returns-in_err-good-clause-bad g c = λ cause is.
     let same = residual_is c.from_residual.result c.in_err-good.field-0.0 cause c.from_residual.ensures.1 is in
     let b = c.in_err-good.ensures.bad cause (ap (λ (x : Fault). Err x) same) in (
       b.0 ∙ ap (λ (s : ReaderSeen). BadChunk s.next) c.self.view_is,
-      omega (arith, b.1, batch_length (lists g k)),
+      below 0 _ _ b.1 (sym (batch_length (lists g k))),
       known_both _ _ _ _ _ (λ file s none. batch_bad (lists g k) file s 0 b.1 none) c.requires.stands
           (known_as _ _ _ _ (name g k) b.2),
     )
@@ -177,16 +232,16 @@ invariant_of-self-2 g c =
     let r = c.self.inside in
     let stands = c.self.invariant.1 in
     let n = c.in_ok-good.good in
-    let within : n ≤ length (counts g k) = omega (arith, c.in_ok-good.ensures.within) in
+    let within : n ≤ length (counts g k) = under n _ _ c.in_ok-good.ensures.within in
     let total = c.total.ensures ∙ ap (λ (l : List ℕ). sum (take n l)) (sizes_are g k) in (
       c.self.invariant.0,
       placed_later _ n c.total.result _ (place g k) r.points.items r.bytes.items c.self.invariant.0.same stands
-          (omega (arith, within, long g k, stands.next)) total
+          (on_to n _ _ _ within (long g k) stands.next) total
           (λ is.
           let few : n < c.min-most.result = ltb-true n c.min-most.result is in
-          let below : n < length (counts g k) = omega (arith, few, c.min-most.ensures) in
-          let some : 0 < n = positive n (λ none. omega (arith, c.in_ok-good.ensures.end none, below)) in
-          (some, omega (arith, below, long g k))),
+          let lt : n < length (counts g k) = omega (arith, few, c.min-most.ensures) in
+          let some : 0 < n = positive n (λ none. none_below n _ (c.in_ok-good.ensures.end none) lt) in
+          (some, on_below n _ _ _ lt (long g k))),
     )
 
 pub returns-clause-blocks : goal.returns-clause-blocks
@@ -197,14 +252,14 @@ returns-clause-blocks g c =
     let m = r.ends.last - r.next in
     let h = lists g k in
     let n = c.in_ok-good.good in
-    let within : n ≤ length (counts g k) = omega (arith, c.in_ok-good.ensures.within) in
+    let within : n ≤ length (counts g k) = under n _ _ c.in_ok-good.ensures.within in
     let b = c.in_ok-good.ensures.blocks in
     let blocks = batch_blocks h b.blocks in
-    let few : length b.blocks ≤ length (counts g k) = omega (arith, within, b.count) in
+    let few : length b.blocks ≤ length (counts g k) = as_few _ n _ b.count within in
     let head = subst (λ (s : ReaderSeen). IsHead s.head.bytes) c.self.view_is c.bytes.ensures.head in
     let long : (j : ℕ) → j < length b.blocks → length (get_or b.blocks j [])
     ≡ record_length (layout c.new-job.result) * get_or (counts g k) j 0 =
-    λ j lt. b.lengths j (omega (arith, lt, b.count)) in (
+    λ j lt. b.lengths j (below j _ _ lt b.count) in (
       blocks,
       batch_count h b.blocks few ∙ b.count,
       (
@@ -212,13 +267,13 @@ returns-clause-blocks g c =
         b.in_rooms,
         subst (λ (l : List (ℕ × ℕ)). AreCutFrom (record_length_of now.head.bytes) l b.blocks blocks)
             (front_cuts r.ends r.next m n c.deref-2.result.now r.points.items (length b.blocks) c.deref-2.ensures.value
-            b.count (omega (arith, within, length-take m (drop r.next c.deref-2.result.now))))
+            b.count (front_of n _ m _ within (length-take m (drop r.next c.deref-2.result.now))))
             (batch_cuts h b.blocks few head long),
       ),
       subst (λ (j : ℕ). AreWholeBlocks (record_length_of now.head.bytes) (take j now.left) blocks) b.count
           (batch_whole h b.blocks few head long),
       known_both _ _ _ _ _ (λ file s each. subst (λ (j : ℕ). HoldOnly file (take j now.left) blocks) b.count
-          (batch_hold h file s b.blocks few (λ j d lt. each j d (omega (arith, lt, b.count))))) c.requires.stands
+          (batch_hold h file s b.blocks few (λ j d lt. each j d (below j _ _ lt b.count)))) c.requires.stands
           (known_as _ _ _ _ (name g k) b.only),
     )
 
@@ -237,7 +292,7 @@ returns-clause-cut g c = λ lt.
     let k = (goal.at.returns-clause-cut g c).After-min-most in
     let n = c.in_ok-good.good in
     let few = batch_few (lists g k) n (2 * length c.args.crew.now) lt in
-    known_both _ _ _ _ _ (λ file s none. batch_bad (lists g k) file s n (omega (arith, few)) none) c.requires.stands
+    known_both _ _ _ _ _ (λ file s none. batch_bad (lists g k) file s n (under_lt n _ _ few) none) c.requires.stands
     (known_as _ _ _ _ (name g k) (c.in_ok-good.ensures.cut few))
 
 pub returns-clause-moved : goal.returns-clause-moved
@@ -246,9 +301,9 @@ returns-clause-moved g c =
     let r = c.self.inside in
     let v = c.self.view_is in
     let n = c.in_ok-good.good in
-    let left = left_later g k n c.total.result (omega (arith, c.in_ok-good.ensures.within)) c.total.ensures in
+    let left = left_later g k n c.total.result (under n _ _ c.in_ok-good.ensures.within) c.total.ensures in
     let number = ap (λ (s : ReaderSeen). s.next) v in
-    let next : r.next + n + r.blocks ≡ c.args.self.now.next + n = omega (arith, number) in
+    let next : r.next + n + r.blocks ≡ c.args.self.now.next + n = moved_on _ n _ _ number in
     let kept = c.next_chunks.auto.inputs ∙ ap (λ l. length l) c.deref_mut.ensures.value in
     let buffers = as_many r.inputs.len c.next_chunks.new.inputs r.inputs.items r.inputs.ok.0 kept
     ∙ ap (λ (s : ReaderSeen). s.buffers) v in
@@ -288,13 +343,73 @@ returns-clause-asked g c =
     let n = c.in_ok-good.good in
     let most = c.min-most.result in
     let asked : later ≤ old + sum (take most (sizes g k)) =
-    omega (arith, c.next_chunks.ensures.reads.asked, ap (λ (j : ℕ). sum (take j (sizes g k))) (most_is g k)) in
-    let left = left_later g k n c.total.result (omega (arith, c.in_ok-good.ensures.within)) c.total.ensures in
+    subst (λ (j : ℕ). later ≤ old + sum (take j (sizes g k))) (sym (most_is g k)) c.next_chunks.ensures.reads.asked in
+    let left = left_later g k n c.total.result (under n _ _ c.in_ok-good.ensures.within) c.total.ensures in
     asked_batch (now g k) _ _ _ _ _ n most (lists g k).same (lists g k).left (fine g k) _ old later asked left
-    (omega (arith, c.in_ok-good.ensures.within, most_is g k))
+    (as_long n _ most c.in_ok-good.ensures.within (sym (most_is g k)))
 
 pub returns-clause-reads : goal.returns-clause-reads
 returns-clause-reads g c = record {
   only = c.next_chunks.ensures.reads.only;
   asked = omega (arith, returns-clause-asked g c);
 }
+
+pub slice_bounds-total-end : goal.slice_bounds-total-end
+slice_bounds-total-end g c =
+    let k = (goal.at.slice_bounds-total-end g c).After-min-most in
+    sym (cut_to _ _ _ (sizes g k) (under _ _ _ c.in_ok-good.ensures.within) (lists g k).same refl)
+
+pub overflow_cast-self : goal.overflow_cast-self
+overflow_cast-self g c =
+    let k = (goal.at.overflow_cast-self g c).After-min-most in
+    let stands = c.self.invariant.1 in
+    count_fits _ _ _ _ _ _ _ (under _ _ _ c.in_ok-good.ensures.within) (long g k) stands.last stands.number
+
+pub overflow_cast-result : goal.overflow_cast-result
+overflow_cast-result g c =
+    let k = (goal.at.overflow_cast-result g c).After-min-most in
+    let stands = c.self.invariant.1 in
+    count_fits _ _ _ _ _ _ _ (under _ _ _ c.in_ok-good.ensures.within) (long g k) stands.last stands.number
+
+pub overflow_add-self-2 : goal.overflow_add-self-2
+overflow_add-self-2 g c =
+    let k = (goal.at.overflow_add-self-2 g c).After-min-most in
+    let stands = c.self.invariant.1 in
+    number_fits _ _ _ _ _ _ _ (under _ _ _ c.in_ok-good.ensures.within) (long g k) stands.next stands.last
+    stands.number
+
+pub returns-clause-calm : goal.returns-clause-calm
+returns-clause-calm g c = c.in_ok-good.ensures.calm
+
+pub returns-clause-hands : goal.returns-clause-hands
+returns-clause-hands g c = c.in_ok-good.ensures.hands
+
+pub returns-in_err-good-clause-hands : goal.returns-in_err-good-clause-hands
+returns-in_err-good-clause-hands g c = c.in_err-good.ensures.hands
+
+pub returns-in_err-good-clause-asked : goal.returns-in_err-good-clause-asked
+returns-in_err-good-clause-asked g c = no_ok c.from_residual.result _ _ c.from_residual.ensures.1
+
+pub returns-in_err-good-clause-crew : goal.returns-in_err-good-clause-crew
+returns-in_err-good-clause-crew g c = no_ok c.from_residual.result _ _ c.from_residual.ensures.1
+
+pub returns-in_err-good-clause-moved : goal.returns-in_err-good-clause-moved
+returns-in_err-good-clause-moved g c = no_ok c.from_residual.result _ _ c.from_residual.ensures.1
+
+pub returns-in_err-good-clause-blocks : goal.returns-in_err-good-clause-blocks
+returns-in_err-good-clause-blocks g c = no_ok c.from_residual.result _ _ c.from_residual.ensures.1
+
+pub returns-in_err-good-clause-bad_next : goal.returns-in_err-good-clause-bad_next
+returns-in_err-good-clause-bad_next g c = no_ok c.from_residual.result _ _ c.from_residual.ensures.1
+
+pub returns-in_err-good-clause-end : goal.returns-in_err-good-clause-end
+returns-in_err-good-clause-end g c = no_ok c.from_residual.result _ _ c.from_residual.ensures.1
+
+pub returns-in_err-good-clause-most : goal.returns-in_err-good-clause-most
+returns-in_err-good-clause-most g c = no_ok c.from_residual.result _ _ c.from_residual.ensures.1
+
+pub returns-in_err-good-clause-cut : goal.returns-in_err-good-clause-cut
+returns-in_err-good-clause-cut g c = no_ok c.from_residual.result _ _ c.from_residual.ensures.1
+
+pub returns-in_err-good-clause-calm : goal.returns-in_err-good-clause-calm
+returns-in_err-good-clause-calm g c = no_ok c.from_residual.result _ _ c.from_residual.ensures.1

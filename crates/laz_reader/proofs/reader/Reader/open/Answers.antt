@@ -7,6 +7,7 @@ use Rattle.laz_reader.proofs.PieceLists.{length-pieces, new_agrees}
 use Rattle.laz_forms.proofs.Public.{known_at, known_both, known_then}
 use Rattle.laz_reader.proofs.Heads.{residual_is}
 use Rattle.laz_reader.proofs.Accepting.{refused_head}
+use Rattle.laz_reader.proofs.Missing.{known_not_missing}
 use Rattle.laz_reader.proofs.reader.Reader.open.Goals as goal
 
 pub returns-in_err-head-clause-refused : goal.returns-in_err-head-clause-refused
@@ -51,3 +52,11 @@ returns-clause-asked_of g c = λ there.
     let new = g.F.Files.seen c.read_list.new.files in
     known_both old.held c.args.name.now (λ file. AsksAtMost (asked_for_head file) old mid) (λ file. AsksAtMost (asked_for_table file) mid new) (λ file. AsksAtMost (asked_to_open file) old new)
     (λ file head table. omega (arith, head, table)) (c.in_ok-head.ensures.asked_of there) (known_at _ _ _ _ c.in_ok-head.ensures.reads.held c.in_ok-list.ensures.asked_of)
+
+pub returns-clause-missing : goal.returns-clause-missing
+returns-clause-missing g c = λ missing.
+    absurd (known_not_missing _ _ _ c.in_ok-head.ensures.head missing)
+
+pub returns-in_err-list-clause-missing : goal.returns-in_err-list-clause-missing
+returns-in_err-list-clause-missing g c = λ missing.
+    absurd (known_not_missing _ _ _ c.in_ok-head.ensures.head missing)
