@@ -1,4 +1,4 @@
-use Rattle.std.proofs.Common.{sym, ◌∙◌, subst, List, [], ℕ}
+use Rattle.std.proofs.Common.{◌≡◌, Bool, true, false, sym, ◌∙◌, subst, List, [], ℕ}
 use Rattle.std.specs.Prelude.{Some, None}
 use Rattle.las_header.specs.declared.refusal.Refusal.{Refusal}
 use Rattle.laz_forms.specs.Refusing.{IsRefusal}
@@ -29,13 +29,21 @@ returns-in-Err-clause-refused g c = λ cause is.
     known_then _ _ _ _ (λ file h. subst (λ (x : Refusal). IsRefusal file (Some x)) (same_cause c.in-Err.cause cause is) (refused_vlr file c.args.head.now h c.in-Err.cause packed
     (cause_of_err (first_cause (vlr_causes c.args.head.now.bytes)) c.read_vlr.result (chunk_size_of c.args.head.now.bytes) c.in-Err.cause c.read_vlr.ensures.chunk c.read_vlr.ensures.refused c.in-Err.is))) c.requires.head
 
+-- no test is both
+both : (b : Bool) → b ≡ true → b ≡ false → ⊥
+both b t f = let same : true ≡ false = sym t ∙ f in cc
+
 pub returns-then-not-packed-clause-vlr : goal.returns-then-not-packed-clause-vlr
 returns-then-not-packed-clause-vlr g c = λ packed.
     let plain = sym c.packed.ensures ∙ c.if-not-packed.true in
-    absurd (cc)
+    absurd (both _ packed plain)
 
 pub returns-in-Ok-clause-vlr : goal.returns-in-Ok-clause-vlr
 returns-in-Ok-clause-vlr g c =
     let head = c.args.head.now.bytes in
     let none = none_of_ok (first_cause (vlr_causes head)) c.read_vlr.result (chunk_size_of head) c.in-Ok.chunk c.read_vlr.ensures.chunk c.read_vlr.ensures.refused c.in-Ok.is in
     if_ok c.read_packed.result (λ _. one_vlr head none.0)
+
+pub read_packed-requires-clause-vlr : goal.read_packed-requires-clause-vlr
+read_packed-requires-clause-vlr g c =
+    (none_of_ok (first_cause (vlr_causes c.args.head.now.bytes)) c.read_vlr.result (chunk_size_of c.args.head.now.bytes) c.in-Ok.chunk c.read_vlr.ensures.chunk c.read_vlr.ensures.refused c.in-Ok.is).0

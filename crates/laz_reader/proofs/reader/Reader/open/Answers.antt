@@ -1,4 +1,5 @@
-use Rattle.std.proofs.Common.{◌+◌, ◌≤◌, ℕ, sym, ap, subst, length, Err, arith}
+use Rattle.std.proofs.Common.{◌+◌, ◌≤◌, ℕ, List, sym, ap, subst, length, Err, arith}
+use Rattle.las_outside.specs.Outside.{Outside}
 use Rattle.laz_forms.specs.declared.fault.Fault.{Fault}
 use Rattle.laz_reader.specs.Reading.{AgreesWithHead, ReaderSeen, StandsFor}
 use Rattle.laz_reader.proofs.Opened.{new_stands}
@@ -45,13 +46,26 @@ returns-clause-asked g c =
     subst (λ (r : ReaderSeen). new ≤ old + (length r.head.bytes + asked_for_list r.chunk (length r.pieces))) (sym c.of.ensures)
     (subst (λ (n : ℕ). new ≤ old + (length head.bytes + asked_for_list list.chunk n)) (sym chunks) asked)
 
+-- what is asked for a head and then for a table, stated where `omega` reads no other fact
+ask_both : (file : List ℕ) (old mid new : Outside) → AsksAtMost (asked_for_head file) old mid
+    → AsksAtMost (asked_for_table file) mid new → AsksAtMost (asked_to_open file) old new
+ask_both file old mid new head table = omega arith
+
 pub returns-clause-asked_of : goal.returns-clause-asked_of
 returns-clause-asked_of g c = λ there.
     let old = g.F.Files.seen c.args.files.now in
     let mid = g.F.Files.seen c.read_head.new.files in
     let new = g.F.Files.seen c.read_list.new.files in
     known_both old.held c.args.name.now (λ file. AsksAtMost (asked_for_head file) old mid) (λ file. AsksAtMost (asked_for_table file) mid new) (λ file. AsksAtMost (asked_to_open file) old new)
-    (λ file head table. omega (arith, head, table)) (c.in_ok-head.ensures.asked_of there) (known_at _ _ _ _ c.in_ok-head.ensures.reads.held c.in_ok-list.ensures.asked_of)
+    (λ file head table. ask_both file old mid new head table) (c.in_ok-head.ensures.asked_of there) (known_at _ _ _ _ c.in_ok-head.ensures.reads.held c.in_ok-list.ensures.asked_of)
+
+pub returns-in_err-list-clause-asked_of : goal.returns-in_err-list-clause-asked_of
+returns-in_err-list-clause-asked_of g c = λ there.
+    let old = g.F.Files.seen c.args.files.now in
+    let mid = g.F.Files.seen c.read_head.new.files in
+    let new = g.F.Files.seen c.read_list.new.files in
+    known_both old.held c.args.name.now (λ file. AsksAtMost (asked_for_head file) old mid) (λ file. AsksAtMost (asked_for_table file) mid new) (λ file. AsksAtMost (asked_to_open file) old new)
+    (λ file head table. ask_both file old mid new head table) (c.in_ok-head.ensures.asked_of there) (known_at _ _ _ _ c.in_ok-head.ensures.reads.held c.in_err-list.ensures.asked_of)
 
 pub returns-clause-missing : goal.returns-clause-missing
 returns-clause-missing g c = λ missing.
