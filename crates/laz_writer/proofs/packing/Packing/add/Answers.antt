@@ -1,9 +1,9 @@
 use Rattle.std.proofs.Common.{◌+◌, ◌-◌, ℕ, List, ◌++◌, length, take, drop, ◌∙◌, ap, subst, arith}
-use Rattle.std.proofs.lemmas.List.{length-drop, length-take}
+use Rattle.std.proofs.lemmas.List.{length-drop, length-take, take_all}
 use Rattle.las_outside.specs.Outside.{with_bytes}
 use Rattle.las_outside.proofs.Public.{only_writes-trans}
 use Rattle.laz_forms.specs.declared.fault.Fault.TheVariants.{Memory}
-use Rattle.laz_writer.specs.Writing.{Plan, Stops, full_chunks}
+use Rattle.laz_writer.specs.Writing.{PackedStands, Plan, Stops, full_chunks}
 use Rattle.laz_forms.proofs.Public.{if_err}
 use Rattle.laz_writer.proofs.Standing.{few_more, next, next_within, stands_within}
 use Rattle.laz_writer.proofs.packing.Packing.add.Goals as goal
@@ -60,3 +60,10 @@ loop-at-preserved g c =
           let u = next c.args.self.now c.loop-at.self q c.loop-at.invariant.plan before _ c.args.name.now front bytes records at c.in_ok-at.field-0 now t.2 c.loop-at-test.true room in
           c.in_ok-append_batch.ensures.stands before front (bytes ++ take (at + c.in_ok-at.field-0) records) u;
     }
+
+pub returns-clause-stands : goal.returns-clause-stands
+returns-clause-stands g c before front bytes s room =
+    let records = c.args.records.now in
+    subst
+    (λ (l : List ℕ). PackedStands before (g.F.Files.seen c.loop-at.files) c.args.name.now front c.loop-at.self (bytes ++ l))
+    (take_all c.loop-at.at records c.loop-at-test.false) (c.loop-at.invariant.stands before front bytes s room)

@@ -41,3 +41,6 @@ returns-clause-stopped g c before front bytes s room =
     let u = took_in before _ c.args.name.now front c.args.self.now bytes s c.take_block.new.self block c.in_ok-take_block.ensures.taken room in
     subst (λ (x : Plan). IfErr c.append_batch.result (λ (fault : Fault). (n : ℕ) × Stops fault (with_bytes before c.args.name.now (take n (front ++ full_chunks x (bytes ++ block)))) now))
     c.take_block.ensures.plan (c.append_batch.ensures.stopped before front (bytes ++ block) u)
+
+pub add-requires-clause-few : goal.add-requires-clause-few
+add-requires-clause-few g c κs within = c.requires.few

@@ -1,8 +1,9 @@
-use Rattle.std.proofs.Common.{◌≡◌, ◌<◌, ◌^◌, ℕ, List, ◌++◌, length, map, take, sym, ◌∙◌, ap, subst}
-use Rattle.std.specs.Prelude.{All, Vec}
+use Rattle.std.proofs.Common.{◌≡◌, ◌<◌, ◌≤◌, ◌*◌, ◌^◌, ℕ, List, ◌++◌, length, map, take, sym, ◌∙◌, ap, subst}
+use Rattle.std.specs.Prelude.{All, Contains, Vec}
+use Rattle.std.proofs.lemmas.List.{length-map}
 use Rattle.las_outside.specs.Outside.{Outside, with_bytes}
 use Rattle.laz_chunk.specs.Layouts.{Format}
-use Rattle.laz_workers.specs.Rooms.{HandSeen, lengths_of, rooms_of}
+use Rattle.laz_workers.specs.Rooms.{HandSeen, lengths_of, numbers_in, rooms_of}
 use Rattle.laz_workers.specs.Run.{EveryInputFits}
 use Rattle.laz_workers.specs.Work.{HoldsAnswer, texts}
 use Rattle.laz_writer.specs.Writing.{FitsRoom, IsBlock, IsChunk, PackingSeen, Stops, all_chunks}
@@ -56,3 +57,18 @@ pub invariant_of-self-2 : goal.invariant_of-self-2
 invariant_of-self-2 g c =
     let p = c.self.inside in
     (goes_on p.job p.chunk p.most p.pointer p.crew c.work_batch.new.crew c.self.invariant.0 c.work_batch.ensures.hands c.work_batch.ensures.lengths c.work_batch.ensures.suits, c.self.invariant.1)
+
+pub work_batch-requires-clause-inputs : goal.work_batch-requires-clause-inputs
+work_batch-requires-clause-inputs g c κs within =
+    let p = c.self.inside in
+    let few : length (texts p.kept.items) ≤ 2 * length p.crew =
+    subst (λ (q : PackingSeen). length q.kept ≤ 2 * q.plan.workers) (sym c.self.view_is) c.requires.few in
+    let long : length (texts p.kept.items) ≡ length p.kept.items = length-map p.kept.items _ in
+    subst (λ (v : List (Vec ℕ _)). length v ≤ 2 * length p.crew) (sym c.as_slice.ensures.value)
+    (subst (λ (n : ℕ). n ≤ 2 * length p.crew) long few)
+
+pub put_chunks-requires-clause-stand : goal.put_chunks-requires-clause-stand
+put_chunks-requires-clause-stand g c =
+    subst
+    (λ (v : List (Vec ℕ _)). (number : ℕ) → number < length v → Contains (numbers_in (rooms_of c.work_batch.new.crew)) number)
+    (c.as_slice.ensures.value ∙ sym c.as_slice-2.ensures.value) c.in_ok-work_batch.ensures.stand
