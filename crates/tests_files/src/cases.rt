@@ -1,6 +1,6 @@
 //! Scripts, and what plays them: files in memory, what is read and written, and what is so at the end.
 //!
-//! A script is a text of cases, each of which begins with a line of `case` and its name. Each case has a world of its
+//! A script is a text of cases, with an empty line between two of them. Each begins with a line of `case` and its name. Each case has a world of its
 //! own, with no files and no bytes that are worked on. A line is a command: its first word says what is done with those
 //! that follow it, with one blank between two words. A line with another first word is wrong, and so is a case none of
 //! whose lines says what is so. Numbers are decimal, and bytes are two hexadecimal digits each; what is neither is 0.
@@ -291,13 +291,13 @@ impl World {
         &mut self,
         rt: &R,
         text: &'static str,
-    ) -> Result<Option<&'static str>, AllocError> {
+    ) -> Option<&'static str> {
         for line in text.lines() {
-            if !self.play_line(rt, line)? {
-                return Ok(Some(line));
+            if !self.play_line(rt, line).unwrap_or(false) {
+                return Some(line);
             }
         }
-        Ok(None)
+        None
     }
 }
 
@@ -337,44 +337,34 @@ fn says_something(text: &str) -> bool {
     is_said
 }
 
-// What is wrong in a case of a script, which is its name and then its lines.
+// What is wrong in a case of a script, which is the line of its name and then its lines.
 fn wrong_in<R: Threads + Sync>(
     rt: &R,
     alloc: Global,
     script: &Script,
     case: &'static str,
-) -> Result<Wrong, AllocError> {
+) -> Wrong {
     let (name, lines) = case.split_once("\n").unwrap_or((case, ""));
-    if !says_something(lines) && !says_something(script.after) {
-        return Ok(Some((name, "")));
+    let is_said = says_something(lines) || says_something(script.after);
+    if !name.starts_with("case ") || !is_said {
+        return Some((name, ""));
     }
     let mut world = World::new(alloc);
     for text in [script.before, lines, script.after] {
-        if let Some(wrong) = world.first_wrong(rt, text)? {
-            return Ok(Some((name, wrong)));
+        if let Some(wrong) = world.first_wrong(rt, text) {
+            return Some((name, wrong));
         }
     }
-    Ok(None)
+    None
 }
 
 /// What is wrong first in a script, or nothing.
-pub(crate) fn first_wrong<R: Threads + Sync>(
-    rt: &R,
-    alloc: Global,
-    script: &Script,
-) -> Result<Wrong, AllocError> {
-    let (front, cases) = script
-        .cases
-        .split_once("case ")
-        .unwrap_or((script.cases, ""));
-    if !front.is_empty() || cases.is_empty() {
-        return Ok(Some((front, "")));
-    }
-    for case in cases.split("\ncase ") {
-        let wrong = wrong_in(rt, alloc, script, case)?;
+pub(crate) fn first_wrong<R: Threads + Sync>(rt: &R, alloc: Global, script: &Script) -> Wrong {
+    for case in script.cases.split("\n\n") {
+        let wrong = wrong_in(rt, alloc, script, case);
         if wrong.is_some() {
-            return Ok(wrong);
+            return wrong;
         }
     }
-    Ok(None)
+    None
 }

@@ -60,12 +60,12 @@ fn failing_reads<R: Threads + Sync>(rt: &R, whole: &World, name: &str) -> Result
 }
 
 // The plain file, and the packed one.
-fn whole_files<R: Threads + Sync>(rt: &R, world: &mut World) -> Result<bool, AllocError> {
-    let wrong = world.first_wrong(rt, INPUTS)?;
+fn whole_files<R: Threads + Sync>(rt: &R, world: &mut World) -> bool {
+    let wrong = world.first_wrong(rt, INPUTS);
     let alloc = world.alloc;
     let packed = rewrite(rt, alloc, &mut world.files, "a", "z", SMALL);
     let plain = rewrite(rt, alloc, &mut world.files, "a", "p", PLAIN_FORM);
-    Ok(wrong.is_none() && packed.is_ok() && plain.is_ok())
+    wrong.is_none() && packed.is_ok() && plain.is_ok()
 }
 
 const PLAIN_FORM: Form = Form { chunk: 0, ..SMALL };
@@ -74,7 +74,7 @@ const PLAIN_FORM: Form = Form { chunk: 0, ..SMALL };
 #[test]
 fn failed_reads(rt: HostRuntime) -> Result<(), Fail> {
     let mut whole = World::new(rt.alloc());
-    let are_made = whole_files(&rt, &mut whole)?;
+    let are_made = whole_files(&rt, &mut whole);
     let plain = failing_reads(&rt, &whole, "a")?;
     let packed = failing_reads(&rt, &whole, "z")?;
     let are_some = plain > 3 && plain < 20 && packed > 3 && packed < 20;
@@ -216,7 +216,7 @@ fn first_wrong<R: Threads + Sync>(rt: &R, whole: &mut World) -> Result<&'static 
 #[test]
 fn failed_writes(rt: HostRuntime) -> Result<(), Fail> {
     let mut whole = World::new(rt.alloc());
-    let are_made = whole_files(&rt, &mut whole)?;
+    let are_made = whole_files(&rt, &mut whole);
     let wrong = first_wrong(&rt, &mut whole)?;
     assert!(rt; are_made && wrong.is_empty(), "{wrong}");
     Ok(())

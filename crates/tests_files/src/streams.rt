@@ -1,6 +1,5 @@
 //! Records of many chunks, written and read.
 use crate::cases::{Script, first_wrong};
-use std::test::Fail;
 
 // Of each format.
 const FORMATS: &str = "\
@@ -8,14 +7,17 @@ case format 0
 head 2 0 0 600
 records 2 0 0 600
 put a
+
 case format 1
 head 2 1 0 600
 records 2 1 0 600
 put a
+
 case format 2
 head 2 2 0 600
 records 2 2 0 600
 put a
+
 case format 3
 head 2 3 0 600
 records 2 3 0 600
@@ -46,10 +48,9 @@ const WHOLE: Script = Script {
 };
 
 #[test]
-fn files_go_both_ways(rt: HostRuntime) -> Result<(), Fail> {
-    let wrong = first_wrong(&rt, rt.alloc(), &WHOLE)?;
+fn files_go_both_ways(rt: HostRuntime) {
+    let wrong = first_wrong(&rt, rt.alloc(), &WHOLE);
     assert!(rt; wrong.is_none(), "{wrong:?}");
-    Ok(())
 }
 
 // Records that are pushed in one piece, and in several, plain and packed, counted or not. Chunks of 256 points: one for
@@ -93,6 +94,7 @@ shorter b a 227
 shorter c a 227
 same d a
 size e 25827
+
 case the last chunk has the rest
 head 2 0 0 256
 records 2 0 0 256
@@ -109,6 +111,7 @@ has y 2987 01 00 00 00
 has z 321 BF 0B 00 00
 has z 3011 02 00 00 00
 same c b
+
 case a bad chunk
 head 2 0 0 1280
 records 2 0 0 1280
@@ -131,8 +134,7 @@ const CHUNKS: Script = Script {
 };
 
 #[test]
-fn chunks_are_written_and_read(rt: HostRuntime) -> Result<(), Fail> {
-    let wrong = first_wrong(&rt, rt.alloc(), &CHUNKS)?;
+fn chunks_are_written_and_read(rt: HostRuntime) {
+    let wrong = first_wrong(&rt, rt.alloc(), &CHUNKS);
     assert!(rt; wrong.is_none(), "{wrong:?}");
-    Ok(())
 }
