@@ -1,9 +1,10 @@
 //! Scripts, and what plays them: files in memory, what is read and written, and what is so at the end.
 //!
-//! A script is a text of cases, with an empty line between two of them. Each begins with a line of `case` and its name. Each case has a world of its
-//! own, with no files and no bytes that are worked on. A line is a command: its first word says what is done with those
-//! that follow it, with one blank between two words. A line with another first word is wrong, and so is a case none of
-//! whose lines says what is so. Numbers are decimal, and bytes are two hexadecimal digits each; what is neither is 0.
+//! A script is a text of cases, with an empty line between two of them. Each begins with a line of `case` and its
+//! name, and has a world of its own, with no files and no bytes that are worked on. A line is a command: its first
+//! word says what is done with those that follow it, with one blank between two words. A line with another first
+//! word is wrong, and so is a case none of whose lines says what is so. Numbers are decimal, and bytes are two
+//! hexadecimal digits each; what is neither is 0.
 //!
 //! These commands change the bytes that are worked on. A shape is the minor version, the point data format, and the
 //! number of VLRs.
