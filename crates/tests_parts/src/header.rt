@@ -130,31 +130,24 @@ fn is_so_alone(alloc: Global, file: &[u8], text: &str) -> Result<bool, AllocErro
     is_so_then(alloc, &mut changed, text)
 }
 
-// Makes a file anew, of the length that a text says.
-fn make(alloc: Global, file: &mut Vec<u8>, text: &str) -> Result<bool, AllocError> {
-    *file = file_with(alloc, number(text), &[])?;
-    Ok(true)
-}
-
 // Whether a line is so. It is not if its first word is another one.
 fn is_so(alloc: Global, file: &mut Vec<u8>, line: &str) -> Result<bool, AllocError> {
     let (command, rest) = pair(line);
     match command {
-        "file" => make(alloc, file, rest),
-        "set" => {
-            set(file, number(pair(rest).0), pair(rest).1);
-            Ok(true)
-        }
-        "alone" => is_so_alone(alloc, file, rest),
-        "then" => is_so_then(alloc, file, rest),
-        _ => Ok(false),
+        "file" => *file = file_with(alloc, number(rest), &[])?,
+        "set" => set(file, number(pair(rest).0), pair(rest).1),
+        "alone" => return is_so_alone(alloc, file, rest),
+        "then" => return is_so_then(alloc, file, rest),
+        _ => return Ok(false),
     }
+    Ok(true)
 }
 
-// The first line that is not so, or none. There is no file at first.
-fn first_wrong(alloc: Global, file: &mut Vec<u8>) -> Option<&'static str> {
+// The first line that is not so, or none.
+fn first_wrong(alloc: Global) -> Option<&'static str> {
+    let mut file = Vec::new(alloc);
     for line in ROWS.lines() {
-        if !is_so(alloc, file, line).unwrap_or(false) {
+        if !is_so(alloc, &mut file, line).unwrap_or(false) {
             return Some(line);
         }
     }
@@ -163,7 +156,6 @@ fn first_wrong(alloc: Global, file: &mut Vec<u8>) -> Option<&'static str> {
 
 #[test]
 fn each_condition_is_named(rt: HostRuntime) {
-    let mut file = Vec::new(rt.alloc());
-    let wrong = first_wrong(rt.alloc(), &mut file);
+    let wrong = first_wrong(rt.alloc());
     assert!(rt; wrong.is_none(), "{}", wrong.unwrap_or(""));
 }
