@@ -7,7 +7,7 @@ use std::alloc::{AllocError, Global};
 use std::test::Fail;
 
 // The first 227 bytes of the head of a plain file of LAS 1.2 without points, of this format and with these extra bytes.
-// `vlrs` VLRs follow, of so many bytes.
+// `vlrs` VLRs follow, which take `size` bytes.
 fn front(format: u8, extra: u16, vlrs: u8, size: usize) -> [u8; 227] {
     let length = extra.wrapping_add(match format {
         0 => 20,

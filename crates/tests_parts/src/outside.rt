@@ -23,8 +23,8 @@ use std::test::Fail;
 // - `size NAME SIZE`, `no_size NAME`: how long it is.
 // - `read NAME AT TEXT`, `not_read NAME AT`: the five bytes from a place on.
 //
-// `many FIRST COUNT STEP REST` does a step with so many files: the name `las_outside_NUMBER` stands before the rest.
-// 600 files are more than are open at a time.
+// `many FIRST COUNT STEP REST` does a step with COUNT files: the name `las_outside_NUMBER` stands before the rest, and
+// the numbers begin with FIRST. 600 files are more than are open at a time.
 static SCRIPTS: &str = "\
 # A file of the system holds what was appended, with its patch, and says where it ends. A folder is no file.
 create las_outside_file

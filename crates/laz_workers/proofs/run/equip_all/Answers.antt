@@ -4,7 +4,7 @@ use Rattle.std.proofs.lemmas.Bool.{cases_eq}
 use Rattle.laz_workers.specs.Run.{equipped}
 use Rattle.laz_workers.proofs.run.equip_all.Goals as goal
 
--- from the last place to the first: the element at place i is written, and those behind it were
+-- from the last place to the first: the element at place i is written, and those after it were written before
 done_more : {X P : Type 0} (f : X → P → X) (hands old : List X) (passes start : List P) (i : ℕ) (x here : X) (p : P)
     → i < length hands → length passes ≡ i → here ≡ get_or hands i here → x ≡ f here p → ((k : ℕ) (d : X) → k < i + 1 → get_or hands k d ≡ get_or old k d) → ((k : ℕ) (e : P) → k < i + 1 → get_or (passes ++ p ∷ []) k e ≡ get_or start k e)
     → ((k : ℕ) (d : X) (e : P) → i + 1 ≤ k → k < length hands → get_or hands k d ≡ f (get_or old k d) (get_or start k e)) → (k : ℕ) (d : X) (e : P) → i ≤ k → k < length hands → get_or (set hands i x) k d ≡ f (get_or old k d) (get_or start k e)
