@@ -1,4 +1,4 @@
-use Rattle.std.proofs.Common.{refl, sym, subst}
+use Rattle.std.proofs.Common.{refl, sym, subst, rules}
 use Rattle.laz_reader.specs.Reading.{IsFreshReader, ReaderSeen}
 use Rattle.las_run.proofs.las2las.seek.Goals as goal
 
@@ -12,3 +12,6 @@ returns-clause-fresh c =
       unprepared = new.unprepared;
       empty = new.empty;
     })
+
+pub returns-clause-range : goal.returns-clause-range
+returns-clause-range c = search rules
