@@ -8,6 +8,9 @@ use Rattle.laz_writer.proofs.Ending.{all_chunks_within, chunks_within, few_chunk
 use Rattle.laz_forms.proofs.Public.{if_err}
 use Rattle.laz_writer.proofs.packing.Packing.append_all.Goals as goal
 
+pub append_rest-requires-clause-stands : goal.append_rest-requires-clause-stands
+append_rest-requires-clause-stands g c κs within = c.requires.stands
+
 pub returns-in_err-append_rest-clause-stopped : goal.returns-in_err-append_rest-clause-stopped
 returns-in_err-append_rest-clause-stopped g c before front records s =
     let left = c.in_err-append_rest.ensures.stopped before front records s in

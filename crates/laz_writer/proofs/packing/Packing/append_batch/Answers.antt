@@ -11,6 +11,11 @@ append_kept-requires-clause-blocks g c κs within =
     let h = c.requires.stands in
     kept_blocks h.0 _ c.args.name.now h.1 c.args.self.now h.2 h.3
 
+pub append_kept-requires-clause-held : goal.append_kept-requires-clause-held
+append_kept-requires-clause-held g c κs within =
+    let h = c.requires.stands in
+    (h.0, h.1 ++ all_chunks c.args.self.now.plan.format h.3.done, h.3.file)
+
 pub returns-then-is_full-clause-stands : goal.returns-then-is_full-clause-stands
 returns-then-is_full-clause-stands g c before front bytes s =
     let p = c.args.self.now in
