@@ -2,6 +2,7 @@ mod AskingExamples
 mod Examples
 mod Frames
 mod Unpacking
+mod Exits
 mod Heads
 mod Missing
 mod TableFront
