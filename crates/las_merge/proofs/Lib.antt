@@ -1,4 +1,5 @@
 mod Examples
+mod Exits
 mod OneCause
 mod Kept
 mod Merges

@@ -1,4 +1,4 @@
-use Rattle.std.proofs.Common.{◌≡◌, ℕ, List, IfOk, ◌∙◌, ap}
+use Rattle.std.proofs.Common.{◌≡◌, ℕ, List, Result, IfOk, ◌∙◌, ap}
 use Rattle.std.proofs.lemmas.Result.{IfOk-weaker}
 use Rattle.las_header.specs.Counting.{with_sums}
 use Rattle.las_header.specs.Fields.{format_of}
@@ -11,7 +11,13 @@ use Rattle.laz_forms.specs.Packing.{packed_head}
 use Rattle.las_merge.specs.Opening.{first_read}
 use Rattle.las_merge.specs.Summing.{long_returns_in, returns_in, summed_head}
 use Rattle.las_merge.proofs.Whole.{head_first}
+use Rattle.las_merge.proofs.Exits.{no_ok}
 use Rattle.las_merge.proofs.copying_chunks.head_of.Goals as goal
+
+-- a head with the payload of its own format is the packed one, stated for any chunk size, so that none is computed
+is_packed_head : {E : Type 0} (r : Result HeadView E) (payload bytes summed : List ℕ) (chunk : ℕ) → IfOk r (λ head. head.bytes ≡ with_vlr payload bytes) → payload ≡ laszip_payload (format_of bytes) (extra_of bytes) chunk → bytes ≡ summed → IfOk r (λ head. head.bytes ≡ packed_head summed chunk)
+is_packed_head r payload bytes summed chunk done is same =
+    IfOk-weaker r _ _ (λ head e. e ∙ ap (λ (p : List ℕ). with_vlr p bytes) is ∙ ap (λ (h : List ℕ). packed_head h chunk) same) done
 
 pub returns : goal.returns
 returns c =
@@ -28,4 +34,7 @@ returns c =
     let extra : c.extra.result ≡ extra_of bytes = c.extra.ensures.field in
     let payload : c.deref.result.now ≡ laszip_payload (format_of bytes) (extra_of bytes) COUNTED_CHUNKS = c.deref.ensures.0 ∙ items ∙ (λ i. laszip_payload (format i) (extra i) COUNTED_CHUNKS) in
     let done : IfOk c.with_vlr.result (λ head. head.bytes ≡ with_vlr c.deref.result.now bytes) = c.with_vlr.ensures.bytes in
-    IfOk-weaker c.with_vlr.result _ _ (λ head e. e ∙ ap (λ (p : List ℕ). with_vlr p bytes) payload ∙ ap (λ (h : List ℕ). packed_head h COUNTED_CHUNKS) summed) done
+    is_packed_head c.with_vlr.result c.deref.result.now bytes (summed_head inputs) COUNTED_CHUNKS done payload summed
+
+pub returns-in_err-plain : goal.returns-in_err-plain
+returns-in_err-plain c = no_ok c.from_residual.result _ _ c.from_residual.ensures.1
