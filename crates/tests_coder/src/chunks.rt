@@ -1,4 +1,4 @@
-//! Chunks worked by hand, drawn records that go both ways, and spellings that a writer does not choose.
+//! Chunks worked by hand, spellings that a writer does not choose, and drawn records that go both ways.
 ghost use Rattle.std.specs.Prelude.{◌≡◌, ◌<◌, ◌≤◌, length};
 ghost use Rattle.laz_chunk.specs.Layouts.{layout_of, record_length};
 
@@ -53,71 +53,60 @@ impl Trial {
         Ok(chunk)
     }
 
-    // Whether the bytes hold these records, and nothing else.
-    fn holds(&mut self, bytes: &[u8], count: u32, records: &[u8]) -> Result<bool, AllocError> {
-        if count == 0 {
-            return Ok(false);
+    // Whether bytes hold a list of this many records, which stands in `held` then.
+    fn unpacks(&mut self, bytes: &[u8], count: u32, held: &mut [u8]) -> bool {
+        if count == 0 || held.len() != self.size() * count as usize {
+            return false;
         }
-        let mut held = vec![in self.alloc; 0; self.size() * count as usize]?;
-        match self.workspace.unpack(bytes, count, &mut held) {
-            Ok(()) => Ok(held.as_slice() == records),
-            Err(_) => Ok(false),
-        }
-    }
-
-    // Whether bytes hold no list of this many records.
-    fn refuses(&mut self, bytes: &[u8], count: u32) -> Result<bool, AllocError> {
-        if count == 0 {
-            return Ok(false);
-        }
-        let mut held = vec![in self.alloc; 0; self.size() * count as usize]?;
-        Ok(self.workspace.unpack(bytes, count, &mut held).is_err())
+        self.workspace.unpack(bytes, count, held).is_ok()
     }
 }
 
-// Whether these bytes but the last hold these records, and neither all of them nor all but the last two hold any.
-fn holds_but_last(
-    trial: &mut Trial,
-    bytes: &[u8],
-    count: u32,
-    records: &[u8],
-) -> Result<bool, AllocError> {
-    let length = bytes.len().saturating_sub(1);
-    let shorter = length.saturating_sub(1);
-    Ok(
-        trial.refuses(bytes, count)?
-            && trial.refuses(&bytes[..shorter], count)?
-            && trial.holds(&bytes[..length], count, records)?,
-    )
+// Whether bytes hold these records.
+fn holds(trial: &mut Trial, bytes: &[u8], count: u32, records: &[u8]) -> Result<bool, AllocError> {
+    let mut held = vec![in trial.alloc; 0; records.len()]?;
+    Ok(trial.unpacks(bytes, count, &mut held) && held.as_slice() == records)
 }
 
-// Whether a chunk holds these records, and holds none with a byte fewer or with a byte more.
-fn holds_exactly(
-    trial: &mut Trial,
-    chunk: &[u8],
-    count: u32,
-    records: &[u8],
-) -> Result<bool, AllocError> {
-    let mut longer = vec![in trial.alloc; 0; chunk.len().saturating_add(1)]?;
-    put(&mut longer, 0, chunk);
-    holds_but_last(trial, &longer, count, records)
-}
-
-// Records that are worked by hand, a line for each list of them: `FORMAT EXTRA COUNT BYTE = PLACES = STREAM`. They
-// consist of one byte, but for the bytes after each of some places. Their chunk is the first of them and a stream.
-// Bytes are hexadecimal digits.
+// A line for each, with bytes in hexadecimal digits and numbers in decimal ones.
 //
-// The last three have two colours: from 0x1010 to 0x2020 in all; from 0x2020 in all to 0x2030, 0x2020, 0x2010; and
-// green as high as it can be. The bytes of these are those of another coder.
-const WORKED: &str = "\
-0 0 2 00 = 12 07, 14 09, 32 07, 34 09 = 40 E1 A3 6A 80 00 00
-0 0 2 00 = = 00 00 00 01 00 00 00
-0 0 1 05 = = 01 00 00 00
-3 2 1 05 = = 01 00 00 00
-2 0 2 00 = 20 10 10 10 10 10 10, 46 20 20 20 20 20 20 = 00 00 00 72 94 0D 90 00 00
-2 0 2 00 = 20 20 20 20 20 20 20, 46 30 20 20 20 10 20 = 00 00 00 93 49 D5 E8 00 00
-2 0 2 00 = 20 F0 00 F8, 46 FF 00 FF = 00 00 00 7D 78 DF 80 00 00
+// - `becomes FORMAT EXTRA COUNT BYTE = PLACES = STREAM`: records that consist of one byte, but for the bytes after each
+//   of some places, become the chunk of the first of them and a stream, and the chunk holds them. The last three of
+//   these have two colours: from 0x1010 to 0x2020 in all; from 0x2020 in all to 0x2030, 0x2020, 0x2010; and green as
+//   high as it can be. The bytes of these are those of another coder.
+// - `held TIMES = STREAM`: a stream that no writer makes spells records of format 1 with these times and zeros else. Of
+//   each time its low 32 bits and its high ones are told. `none TIMES = STREAM`: it spells no records of their number.
+//
+// The first of these has twelve times, whose difference becomes 10 and then 5,000, then one in a new sequence, and one
+// in the first again. From 20 to 5,020 it is 499 times 10 and 10 more, in place of 500 times 10; all else is as a
+// writer spells it. The next four differences are extreme, so the last of them becomes the sequence's. The others are a
+// switch to the next sequence, and its time, 0; and a second switch, by 1 or by 3. The streams are computed apart, from
+// the exact interval.
+const ROWS: &str = "\
+becomes 0 0 2 00 = 12 07, 14 09, 32 07, 34 09 = 40 E1 A3 6A 80 00 00
+becomes 0 0 2 00 = = 00 00 00 01 00 00 00
+becomes 0 0 1 05 = = 01 00 00 00
+becomes 3 2 1 05 = = 01 00 00 00
+becomes 2 0 2 00 = 20 10 10 10 10 10 10, 46 20 20 20 20 20 20 = 00 00 00 72 94 0D 90 00 00
+becomes 2 0 2 00 = 20 20 20 20 20 20 20, 46 30 20 20 20 10 20 = 00 00 00 93 49 D5 E8 00 00
+becomes 2 0 2 00 = 20 F0 00 F8, 46 FF 00 FF = 00 00 00 7D 78 DF 80 00 00
+held 0 1073741824 0 1073741824 10 1073741824 20 1073741824 20 1073741824 5020 1073741824 10020 1073741824 \
+    15020 1073741824 20020 1073741824 25020 1073741824 25020 1073742080 25030 1073741824 = \
+    00 00 00 00 00 00 06 AE 07 FA 00 01 45 95 00 04 7F 37 EA 09 16 5F 68 8D 09 20 A7 E1 00 4A 57 6A \
+    1E 02 5D 9A 2E 00 13 45 7A 71 01 5B 76 71 D6 05 94 00 00 00 18 AA 59 9C 00 00
+held 7 0 0 0 = 00 00 00 75 00 00 00
+none 7 0 0 0 = 00 00 00 88 00 00 00
+none 7 0 0 0 = 00 00 00 95 00 00 00
 ";
+
+// Writes bytes at places, as a text tells them.
+fn put_places(records: &mut [u8], places: &str) {
+    for place in places.split(",") {
+        let (at, digits) = pair(place.trim());
+        let mut room = [0; 8];
+        put(records, number(at) as usize, bytes(&mut room, digits));
+    }
+}
 
 // Records of this byte, with others at the places of a text.
 fn records_of(
@@ -130,29 +119,25 @@ fn records_of(
     requires { size < 256 }
 {
     let mut records = vec![in alloc; byte; size * count.min(1000) as usize]?;
-    for place in places.split(",") {
-        let (at, digits) = pair(place.trim());
-        let mut room = [0; 8];
-        put(&mut records, number(at) as usize, bytes(&mut room, digits));
-    }
+    put_places(&mut records, places);
     Ok(records)
 }
 
-// Whether the chunk of records is the first of them and this stream, and holds them exactly.
+// Whether a chunk is this record and this stream.
+fn consists_of(chunk: &[u8], first: &[u8], stream: &[u8]) -> bool {
+    chunk.len() == first.len() + stream.len() && chunk.starts_with(first) && chunk.ends_with(stream)
+}
+
+// Whether the chunk of records is the first of them and this stream, and holds them.
 fn becomes(
     trial: &mut Trial,
     records: &[u8],
     count: u32,
     stream: &[u8],
 ) -> Result<bool, AllocError> {
-    let chunk = trial.pack(records, count)?;
     let size = trial.size().min(records.len());
-    Ok(
-        chunk.len() == size + stream.len()
-            && chunk.starts_with(&records[..size])
-            && chunk.ends_with(stream)
-            && holds_exactly(trial, &chunk, count, records)?,
-    )
+    let chunk = trial.pack(records, count)?;
+    Ok(consists_of(&chunk, &records[..size], stream) && holds(trial, &chunk, count, records)?)
 }
 
 // Whether the records of this byte, with others at the places of a text, become the chunk that it says.
@@ -179,10 +164,83 @@ fn is_as_worked(alloc: Global, line: &str) -> Result<bool, AllocError> {
     is_chunk_of(&mut trial, number(count), byte(digits), places, stream)
 }
 
+// Records of format 1 with these times, each as its low and its high word, and zeros else.
+fn records_with(alloc: Global, times: &[u32]) -> Result<Vec<u8>, AllocError> {
+    let mut records = vec![in alloc; 0; times.len().min(24) / 2 * 28]?;
+    for (i, word) in times.iter().enumerate() {
+        let at = (i / 2).saturating_mul(28).saturating_add(20 + i % 2 * 4);
+        put(&mut records, at, &word.to_le_bytes());
+    }
+    Ok(records)
+}
+
+// The first of some records of format 1, and a stream.
+fn with_stream(alloc: Global, records: &[u8], stream: &[u8]) -> Result<Vec<u8>, AllocError> {
+    let mut chunk = vec![in alloc; 0; stream.len().min(100) + 28]?;
+    put(&mut chunk, 0, records);
+    put(&mut chunk, 28, stream);
+    Ok(chunk)
+}
+
+// Whether a chunk is not that of these records, and holds them if it is good, and else none of their number.
+fn is_spelled(
+    trial: &mut Trial,
+    chunk: &[u8],
+    count: u32,
+    records: &[u8],
+    good: bool,
+) -> Result<bool, AllocError> {
+    let mut held = trial.pack(records, count)?;
+    let is_its_own = held.as_slice() == chunk;
+    held.resize(records.len(), 0)?;
+    let is_held = trial.unpacks(chunk, count, &mut held);
+    Ok(!is_its_own && is_held == good && (!good || held.as_slice() == records))
+}
+
+// The same of the chunk of the first of these records of format 1 and a stream.
+fn is_stream_spelled(
+    alloc: Global,
+    records: &[u8],
+    count: u32,
+    stream: &[u8],
+    good: bool,
+) -> Result<bool, AllocError> {
+    let chunk = with_stream(alloc, records, stream)?;
+    let mut trial = Trial::new(alloc, 1, 0)?;
+    is_spelled(&mut trial, &chunk, count, records, good)
+}
+
+// Whether times and a stream are so.
+fn is_as_spelled(alloc: Global, line: &str, good: bool) -> Result<bool, AllocError> {
+    let (times, stream) = split(line);
+    let (mut time_room, mut stream_room) = ([0; 24], [0; 100]);
+    let times = numbers(&mut time_room, times);
+    let stream = bytes(&mut stream_room, stream);
+    let records = records_with(alloc, times)?;
+    is_stream_spelled(
+        alloc,
+        &records,
+        times.len().min(24) as u32 / 2,
+        stream,
+        good,
+    )
+}
+
+// Whether a line is so. It is not if its first word is another one.
+fn is_so(alloc: Global, line: &str) -> Result<bool, AllocError> {
+    let (command, rest) = pair(line);
+    match command {
+        "becomes" => is_as_worked(alloc, rest),
+        "held" => is_as_spelled(alloc, rest, true),
+        "none" => is_as_spelled(alloc, rest, false),
+        _ => Ok(false),
+    }
+}
+
 // The first line that is not so, or none.
-fn first_unlike(alloc: Global) -> Option<&'static str> {
-    for line in WORKED.lines() {
-        if !is_as_worked(alloc, line).unwrap_or(false) {
+fn first_wrong(alloc: Global) -> Option<&'static str> {
+    for line in ROWS.lines() {
+        if !is_so(alloc, line).unwrap_or(false) {
             return Some(line);
         }
     }
@@ -190,8 +248,8 @@ fn first_unlike(alloc: Global) -> Option<&'static str> {
 }
 
 #[test]
-fn chunks_worked_by_hand(rt: HostRuntime) {
-    let wrong = first_unlike(rt.alloc());
+fn chunks_are_these_bytes(rt: HostRuntime) {
+    let wrong = first_wrong(rt.alloc());
     assert!(rt; wrong.is_none(), "{}", wrong.unwrap_or(""));
 }
 
@@ -215,19 +273,21 @@ fn draw_records(records: &mut [u8], size: usize)
 }
 
 // Whether drawn records become fewer bytes, and come back from them.
+fn come_back(trial: &mut Trial, count: u32) -> Result<bool, AllocError> {
+    let size = trial.size();
+    let mut records = vec![in trial.alloc; 0; size * count as usize]?;
+    draw_records(&mut records, size);
+    let chunk = trial.pack(&records, count)?;
+    Ok(chunk.len() < records.len() && holds(trial, &chunk, count, &records)?)
+}
+
+// The same of records of this shape.
 fn go_both_ways(alloc: Global, format: u8, extra: u16, count: u32) -> Result<bool, AllocError>
     requires known { format < 4 }
     requires few { extra < 193 }
 {
     let mut trial = Trial::new(alloc, format, extra)?;
-    let size = trial.size();
-    let mut records = vec![in alloc; 0; size * count as usize]?;
-    draw_records(&mut records, size);
-    let chunk = trial.pack(&records, count)?;
-    if chunk.len() >= records.len() {
-        return Ok(false);
-    }
-    holds_exactly(&mut trial, &chunk, count, &records)
+    come_back(&mut trial, count)
 }
 
 #[test]
@@ -249,103 +309,4 @@ fn drawn_records_go_both_ways(rt: HostRuntime) -> Result<(), Fail> {
 fn long_chunk_goes_both_ways(rt: HostRuntime) -> Result<(), Fail> {
     assert!(rt; go_both_ways(rt.alloc(), 3, 192, 250_000)?);
     Ok(())
-}
-
-// What streams spell that no writer makes, a line for each: `held TIMES = STREAM`, records of format 1 with these times
-// and zeros else, or `none TIMES = STREAM`, no such records. Of each time its low 32 bits and its high ones are told,
-// in decimal digits.
-//
-// The first has twelve times, whose difference becomes 10 and then 5,000, then one in a new sequence, and one in the
-// first again. From 20 to 5,020 it is 499 times 10 and 10 more, in place of 500 times 10; all else is as a writer
-// spells it. The next four differences are extreme, so the last of them becomes the sequence's. The others are a switch
-// to the next sequence, and its time, 0; and a second switch, by 1 or by 3. The streams are computed apart, from the
-// exact interval.
-const SPELLINGS: &str = "\
-held 0 1073741824 0 1073741824 10 1073741824 20 1073741824 20 1073741824 5020 1073741824 10020 1073741824 \
-    15020 1073741824 20020 1073741824 25020 1073741824 25020 1073742080 25030 1073741824 = \
-    00 00 00 00 00 00 06 AE 07 FA 00 01 45 95 00 04 7F 37 EA 09 16 5F 68 8D 09 20 A7 E1 00 4A 57 6A \
-    1E 02 5D 9A 2E 00 13 45 7A 71 01 5B 76 71 D6 05 94 00 00 00 18 AA 59 9C 00 00
-held 7 0 0 0 = 00 00 00 75 00 00 00
-none 7 0 0 0 = 00 00 00 88 00 00 00
-none 7 0 0 0 = 00 00 00 95 00 00 00
-";
-
-// Records of format 1 with these times, each as its low and its high word, and zeros else.
-fn records_with(alloc: Global, times: &[u32]) -> Result<Vec<u8>, AllocError> {
-    let mut records = vec![in alloc; 0; times.len().min(24) / 2 * 28]?;
-    for (i, word) in times.iter().enumerate() {
-        let at = (i / 2).saturating_mul(28).saturating_add(20 + i % 2 * 4);
-        put(&mut records, at, &word.to_le_bytes());
-    }
-    Ok(records)
-}
-
-// The first of some records of format 1, and a stream.
-fn with_stream(alloc: Global, records: &[u8], stream: &[u8]) -> Result<Vec<u8>, AllocError> {
-    let mut chunk = vec![in alloc; 0; stream.len().min(100) + 28]?;
-    put(&mut chunk, 0, records);
-    put(&mut chunk, 28, stream);
-    Ok(chunk)
-}
-
-// Whether a chunk is not that of these records, and holds them exactly if it is good, and else none.
-fn is_spelled(
-    trial: &mut Trial,
-    chunk: &[u8],
-    count: u32,
-    records: &[u8],
-    good: bool,
-) -> Result<bool, AllocError> {
-    if trial.pack(records, count)?.as_slice() == chunk {
-        return Ok(false);
-    }
-    if good {
-        return holds_exactly(trial, chunk, count, records);
-    }
-    trial.refuses(chunk, count)
-}
-
-// The same of the chunk of the first of these records of format 1 and a stream.
-fn is_stream_spelled(
-    alloc: Global,
-    records: &[u8],
-    count: u32,
-    stream: &[u8],
-    good: bool,
-) -> Result<bool, AllocError> {
-    let chunk = with_stream(alloc, records, stream)?;
-    let mut trial = Trial::new(alloc, 1, 0)?;
-    is_spelled(&mut trial, &chunk, count, records, good)
-}
-
-// Whether a line is so. It is not if its first word is another one.
-fn is_as_spelled(alloc: Global, line: &str) -> Result<bool, AllocError> {
-    let (times, stream) = split(line);
-    let (command, times) = pair(times);
-    let (mut time_room, mut stream_room) = ([0; 24], [0; 100]);
-    let times = numbers(&mut time_room, times);
-    let stream = bytes(&mut stream_room, stream);
-    let records = records_with(alloc, times)?;
-    let count = times.len().min(24) as u32 / 2;
-    match command {
-        "held" => is_stream_spelled(alloc, &records, count, stream, true),
-        "none" => is_stream_spelled(alloc, &records, count, stream, false),
-        _ => Ok(false),
-    }
-}
-
-// The first line that is not so, or none.
-fn first_unspelled(alloc: Global) -> Option<&'static str> {
-    for line in SPELLINGS.lines() {
-        if !is_as_spelled(alloc, line).unwrap_or(false) {
-            return Some(line);
-        }
-    }
-    None
-}
-
-#[test]
-fn spellings_of_no_writer(rt: HostRuntime) {
-    let wrong = first_unspelled(rt.alloc());
-    assert!(rt; wrong.is_none(), "{}", wrong.unwrap_or(""));
 }

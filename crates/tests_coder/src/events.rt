@@ -1,12 +1,7 @@
-//! Events of the range coder, of models and of integers whose bytes are known from outside.
-ghost use Rattle.std.specs.Prelude.{◌≡◌, ◌*◌, ◌<◌, ◌≤◌, ◌∷◌, [], IfOk, length};
-ghost use Rattle.laz_models.specs.Bank.{alphabet_sizes};
-ghost use Rattle.laz_models.specs.Dist.{alphabet_size};
+//! Events of the range coder and of integers whose bytes are known from outside.
+ghost use Rattle.std.specs.Prelude.{◌*◌, ◌≤◌, length};
 
-use laz_integer::{
-    IntModel, put_bit, put_symbol, put_symbol_of, take_bit, take_symbol, take_symbol_of,
-};
-use laz_models::{BitModel, ModelBank, SymbolModel};
+use laz_integer::IntModel;
 use laz_range::{Decoder, Encoder};
 use std::alloc::{AllocError, Global};
 use std::test::Fail;
@@ -98,99 +93,5 @@ fn fresh_models_make_these_bytes(rt: HostRuntime) -> Result<(), Fail> {
     for row in &FRESH {
         assert!(rt; becomes(rt.alloc(), row)?, "{row:?}");
     }
-    Ok(())
-}
-
-// A coder with room for a symbol.
-fn small_encoder(alloc: Global) -> Result<Encoder, AllocError>
-    ensures { IfOk result (λ encoder. 3 ≤ encoder.left) }
-{
-    Ok(Encoder::with_room(vec![in alloc; 7; 20]?, 0))
-}
-
-// The bytes of all that was coded.
-fn coded(encoder: Encoder) -> Vec<u8> {
-    let (mut room, count) = encoder.finish();
-    room.truncate(count);
-    room
-}
-
-// Whether bytes are a set bit, and nothing else.
-fn are_bit(bytes: &[u8], model: &mut BitModel) -> bool {
-    match Decoder::new(bytes) {
-        Ok(mut decoder) => matches!(take_bit(&mut decoder, model), Ok(true)) && decoder.at_end(),
-        Err(_) => false,
-    }
-}
-
-// Whether a bit is read again, and nothing else.
-fn bit_is_read(alloc: Global) -> Result<bool, AllocError> {
-    let mut model = BitModel::new();
-    let mut encoder = small_encoder(alloc)?;
-    put_bit(&mut encoder, &mut model, true);
-    model.reset();
-    Ok(are_bit(&coded(encoder), &mut model))
-}
-
-// The bytes of symbol 299.
-fn symbol_bytes(alloc: Global, model: &mut SymbolModel) -> Result<Vec<u8>, AllocError>
-    requires { 299 < alphabet_size model.old }
-{
-    let mut encoder = small_encoder(alloc)?;
-    put_symbol(&mut encoder, model, 299);
-    Ok(coded(encoder))
-}
-
-// Whether bytes are symbol 299, and nothing else.
-fn are_symbol(bytes: &[u8], model: &mut SymbolModel) -> bool {
-    match Decoder::new(bytes) {
-        Ok(mut decoder) => matches!(take_symbol(&mut decoder, model), Ok(299)) && decoder.at_end(),
-        Err(_) => false,
-    }
-}
-
-// Whether a symbol is read again, and nothing else.
-fn symbol_is_read(alloc: Global) -> Result<bool, AllocError> {
-    let mut model = SymbolModel::new(alloc, 300)?;
-    let bytes = symbol_bytes(alloc, &mut model)?;
-    model.reset();
-    Ok(are_symbol(&bytes, &mut model))
-}
-
-// The bytes of symbol 9 of the second model of a bank.
-fn symbol_of_bytes(alloc: Global, bank: &mut ModelBank) -> Result<Vec<u8>, AllocError>
-    requires { alphabet_sizes bank.old ≡ 2 ∷ 17 ∷ [] }
-    ensures { alphabet_sizes bank.new ≡ alphabet_sizes bank.old }
-{
-    let mut encoder = small_encoder(alloc)?;
-    put_symbol_of(&mut encoder, bank, 1, 9);
-    Ok(coded(encoder))
-}
-
-// Whether bytes are symbol 9 of the second model of a bank, and nothing else.
-fn are_symbol_of(bytes: &[u8], bank: &mut ModelBank) -> bool
-    requires { alphabet_sizes bank.old ≡ 2 ∷ 17 ∷ [] }
-{
-    match Decoder::new(bytes) {
-        Ok(mut decoder) => matches!(take_symbol_of(&mut decoder, bank, 1), Ok(9))
-            && decoder.at_end(),
-        Err(_) => false,
-    }
-}
-
-// Whether a symbol of a bank's model is read again, and nothing else.
-fn symbol_of_is_read(alloc: Global) -> Result<bool, AllocError> {
-    let mut bank = ModelBank::new(alloc, &[2, 17])?;
-    let bytes = symbol_of_bytes(alloc, &mut bank)?;
-    bank.reset();
-    Ok(are_symbol_of(&bytes, &mut bank))
-}
-
-// Each call of a model once, with ample room, and back.
-#[test]
-fn symbols_and_bits_are_read_again(rt: HostRuntime) -> Result<(), Fail> {
-    assert!(rt; bit_is_read(rt.alloc())?, "a bit");
-    assert!(rt; symbol_is_read(rt.alloc())?, "a symbol");
-    assert!(rt; symbol_of_is_read(rt.alloc())?, "a symbol of a bank");
     Ok(())
 }

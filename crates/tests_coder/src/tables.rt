@@ -1,10 +1,9 @@
-//! Chunk tables worked by hand, one change for each condition, and tables that are drawn, written and read again.
+//! Chunk tables worked by hand, and one change for each condition.
 ghost use Rattle.laz_table.specs.Chunks.{HasChunkSize};
 
 use crate::texts::{bytes, long_number, number, numbers, pair, split};
 use laz_table::{
-    Blocks, COUNTED_CHUNKS, MAX_CHUNKS, TableFault, chunk_count, counted_table_of, read_table,
-    table_of,
+    Blocks, COUNTED_CHUNKS, MAX_CHUNKS, TableFault, counted_table_of, read_table, table_of,
 };
 use std::alloc::{AllocError, Global};
 use std::test::Fail;
@@ -49,7 +48,7 @@ fn sum_of(numbers: &[u32]) -> u64 {
 //   POINTS is the number of points of the file, and TOTAL the number of bytes of its chunks.
 // - `counted FAULT POINTS TOTAL = SIZES = COUNTS`: the same of the table of counted chunks with these numbers.
 //
-// The bytes are hexadecimal digits.
+// The bytes are hexadecimal digits. Four of the tables claim 2^24 chunks, and have 16 bytes after their start.
 const ROWS: &str = "\
 table 50000 0 = = = 00 00 00 00 00 00 00 00
 table 50000 1 = 1 = 24 = 00 00 00 00 01 00 00 00 2C 5C 00 00 00
@@ -77,6 +76,10 @@ fault Table 4294967295 2 24 = 00 00 00 00 02 00 00 00 04 8B D3 00 00 00
 fault Table 4294967295 0 24 = 00 00 00 00 01 00 00 00 04 8B D3 00 00 00
 fault PointSum 4294967295 1 0 = 00 00 00 00 00 00 00 00
 fault PointSum 4294967295 3 48 = 00 00 00 00 02 00 00 00 04 8B D2 25 00 00 00
+fault Table 1 16777216 0 = 00 00 00 00 00 00 00 01 9A 3C 51 E7 08 B2 64 1D C5 70 2F 83 4E D9 16 A8
+fault Table 256 4294967295 0 = 00 00 00 00 00 00 00 01 9A 3C 51 E7 08 B2 64 1D C5 70 2F 83 4E D9 16 A8
+fault Table 4294967295 16777216 0 = 00 00 00 00 00 00 00 01 9A 3C 51 E7 08 B2 64 1D C5 70 2F 83 4E D9 16 A8
+fault Table 4294967295 4294967295 0 = 00 00 00 00 00 00 00 01 9A 3C 51 E7 08 B2 64 1D C5 70 2F 83 4E D9 16 A8
 counted none 250000 4294967295 = 250000 = 4294967295
 counted PointSum 250001 24 = 250001 = 24
 counted PointSum 2 68 = 0 2 = 24 44
@@ -226,135 +229,4 @@ fn points_past_32_bits_are_refused(rt: HostRuntime) -> Result<(), Fail> {
     let below = full_fault(rt.alloc(), 17_179, 4_294_750_000)?;
     assert!(rt; is_named(past, "PointSum") && is_named(below, "none"));
     Ok(())
-}
-
-// The next of a row of draws: the upper half of a linear congruence modulo 2^64.
-fn draw(state: &mut u64) -> u32 {
-    *state = state
-        .wrapping_mul(6364136223846793005)
-        .wrapping_add(1442695040888963407);
-    (*state >> 32) as u32
-}
-
-// A number after one before it: the same, a little more, or a draw without some of its low bits.
-fn draw_after(state: &mut u64, before: u32) -> u32 {
-    match draw(state) % 4 {
-        0 => before,
-        1 => before.wrapping_add(draw(state) % 9),
-        _ => {
-            let bits = draw(state) % 32;
-            draw(state) >> bits
-        }
-    }
-}
-
-// The chunks' numbers of points and of bytes.
-fn draw_lists(alloc: Global, chunks: u32) -> Result<(Vec<u32>, Vec<u32>), AllocError> {
-    let mut state = u64::from(chunks);
-    let mut size = 0;
-    let mut count = 0;
-    let mut sizes = Vec::new(alloc);
-    let mut counts = Vec::new(alloc);
-    for _ in 0..chunks {
-        size = draw_after(&mut state, size) % 250_000;
-        count = draw_after(&mut state, count);
-        sizes.push(size.wrapping_add(1))?;
-        counts.push(count)?;
-    }
-    Ok((sizes, counts))
-}
-
-// Whether each cut of a table is refused.
-fn cuts_are_refused(alloc: Global, bytes: &[u8], chunk: u32, points: u32, total: u64) -> bool {
-    for cut in 0..bytes.len() {
-        if fault_of(alloc, &bytes[..cut], chunk, points, total) != Some(TableFault::Table) {
-            return false;
-        }
-    }
-    true
-}
-
-// Whether a table of these lists is read as these lists, with bytes after it too, and each cut of a short one is
-// refused.
-fn is_kept(alloc: Global, chunk: u32, sizes: &[u32], counts: &[u32]) -> Result<bool, AllocError> {
-    let points = u32::try_from(sum_of(sizes)).unwrap_or(0);
-    let blocks = blocks_of(chunk, points);
-    let mut bytes = table(alloc, chunk, sizes, counts)?;
-    if !is_read(alloc, &bytes, blocks, sizes, counts)
-        || sizes.len() < 100 && !cuts_are_refused(alloc, &bytes, chunk, points, sum_of(counts))
-    {
-        return Ok(false);
-    }
-    bytes.extend_from_slice(&[7, 255, 0])?;
-    Ok(is_read(alloc, &bytes, blocks, sizes, counts))
-}
-
-// The numbers of points of chunks of 300 points, the last of one point.
-fn fixed_sizes(alloc: Global, chunks: usize) -> Result<Vec<u32>, AllocError> {
-    let mut fixed = vec![in alloc; 300; chunks]?;
-    if let Some(last) = fixed.last_mut() {
-        *last = 1;
-    }
-    Ok(fixed)
-}
-
-fn drawn_is_kept(alloc: Global, chunks: u32) -> Result<bool, AllocError> {
-    let (sizes, counts) = draw_lists(alloc, chunks)?;
-    let fixed = fixed_sizes(alloc, counts.len())?;
-    Ok(is_kept(alloc, COUNTED_CHUNKS, &sizes, &counts)? && is_kept(alloc, 300, &fixed, &counts)?)
-}
-
-#[test]
-fn drawn_tables_are_read_again(rt: HostRuntime) -> Result<(), Fail> {
-    for chunks in &[1, 2, 7, 60, 2000] {
-        assert!(rt; drawn_is_kept(rt.alloc(), *chunks)?, "{chunks}");
-    }
-    Ok(())
-}
-
-// Bytes that claim 2^24 chunks, and are 400.
-fn claim(alloc: Global) -> Result<Vec<u8>, AllocError> {
-    let mut bytes = vec![in alloc; 0; 400]?;
-    let mut state = 5;
-    for i in 7..400 {
-        bytes[i] = if i == 7 {
-            1
-        } else {
-            (draw(&mut state) >> 24) as u8
-        };
-    }
-    Ok(bytes)
-}
-
-static CLAIMED: [(u32, u32); 4] = [
-    (1, 16_777_216),
-    (256, u32::MAX),
-    (COUNTED_CHUNKS, 16_777_216),
-    (COUNTED_CHUNKS, u32::MAX),
-];
-
-#[test]
-fn claimed_chunks_are_not_there(rt: HostRuntime) -> Result<(), Fail> {
-    let bytes = claim(rt.alloc())?;
-    for (chunk, points) in &CLAIMED {
-        let fault = fault_of(rt.alloc(), &bytes, *chunk, *points, 0);
-        assert!(rt; fault == Some(TableFault::Table), "{chunk} {points}");
-    }
-    Ok(())
-}
-
-// A number of points, a chunk size, and the number of chunks.
-static COUNTS: [(u32, u32, u32); 4] = [
-    (0, 1, 0),
-    (256, 256, 1),
-    (257, 256, 2),
-    (u32::MAX, 1, u32::MAX),
-];
-
-#[test]
-fn chunks_are_counted(rt: HostRuntime) {
-    for (points, chunk, count) in &COUNTS {
-        let found = chunk_count(*points, (*chunk).max(1));
-        assert!(rt; found == *count, "{points} {chunk}");
-    }
 }

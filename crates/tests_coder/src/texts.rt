@@ -32,20 +32,26 @@ pub(crate) fn byte(text: &str) -> u8 {
 
 /// The numbers of a text, as far as there is room for them.
 pub(crate) fn numbers<'a>(room: &'a mut [u32], text: &str) -> &'a [u32] {
-    for (place, word) in room.iter_mut().zip(text.split_whitespace()) {
-        *place = number(word);
+    let mut count = 0usize;
+    for word in text.split_whitespace() {
+        if let Some(place) = room.get_mut(count) {
+            *place = number(word);
+            count = count.saturating_add(1);
+        }
     }
-    let count = text.split_whitespace().count().min(room.len());
-    &room[..count]
+    &room[..count.min(room.len())]
 }
 
 /// The bytes of a text, as far as there is room for them.
 pub(crate) fn bytes<'a>(room: &'a mut [u8], text: &str) -> &'a [u8] {
-    for (place, word) in room.iter_mut().zip(text.split_whitespace()) {
-        *place = byte(word);
+    let mut count = 0usize;
+    for word in text.split_whitespace() {
+        if let Some(place) = room.get_mut(count) {
+            *place = byte(word);
+            count = count.saturating_add(1);
+        }
     }
-    let count = text.split_whitespace().count().min(room.len());
-    &room[..count]
+    &room[..count.min(room.len())]
 }
 
 /// Writes bytes as far as they fit.
