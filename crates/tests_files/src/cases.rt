@@ -21,15 +21,19 @@
 //! - `write FROM TO CHUNK COUNTED WORKERS CUTS`: the records of a file are written to an output, in chunks of this
 //!   size, or plain for 0; with counts of the records for 1, and those of the head for 0; by WORKERS workers; and with
 //!   a push for each number of records of the cuts, and one for the rest. The line is wrong if that fails.
+//! - `failread CALL`, `failwrite CALL KEEP`: of the calls of the case that read, or write, the one of this number
+//!   fails; one that writes keeps KEEP bytes.
 //!
 //! These say what is so. Records are those bytes of a file from one place on, up to another.
 //!
 //! - `read NAME WORKERS END SOURCE FROM TO`: a file is read up to this end, and the records before it are these. The
-//!   end is `ok` or the name of a refusal, with the number of the chunk after a colon for `BadChunk`.
+//!   end is `ok`, or `Read` if a read failed, or the name of a refusal, with the number of the chunk after a colon for
+//!   `BadChunk`.
 //! - `range NAME WORKERS START STOP MOST END SOURCE FROM TO`: the same of a range of the records. At most MOST bytes are
 //!   asked for.
 //! - `refuse NAME END LENGTH AT BYTES`: a file of this length, with other bytes at a place, is refused, and no record
 //!   of it is read.
+//! - `break FROM TO CHUNK COUNTED WORKERS CUTS`: the same as `write`, and it ends since a write failed.
 //! - `same NAME OTHER`: two files are equal, and not empty. `size NAME COUNT`: a file has COUNT bytes.
 //! - `shorter NAME OTHER COUNT`: a file is shorter than another one, and has more than COUNT bytes.
 //! - `has NAME AT BYTES`: a file has these bytes from a place on.
@@ -41,13 +45,13 @@ use laz_file::Fault;
 use std::alloc::{AllocError, Global};
 use std::thread::Threads;
 
-/// How a reading ends.
-pub(crate) type Ended = Result<(), Fault>;
+// How a reading ends.
+type Ended = Result<(), Fault>;
 
-/// Files in memory, and the bytes that are worked on.
-pub(crate) struct World {
-    pub(crate) files: MemFiles,
-    pub(crate) alloc: Global,
+// Files in memory, and the bytes that are worked on.
+struct World {
+    files: MemFiles,
+    alloc: Global,
     work: Vec<u8>,
 }
 
@@ -91,6 +95,7 @@ fn is_end(ended: Ended, word: &str) -> bool {
         Ok(()) => word == "ok",
         Err(Fault::Refused(Refusal::BadChunk(at))) => name == "BadChunk" && at == count_of(chunk),
         Err(Fault::Refused(cause)) => cause.name() == word,
+        Err(Fault::Read) => word == "Read",
         Err(_) => false,
     }
 }
@@ -143,7 +148,7 @@ fn change(file: &mut Vec<u8>, command: &str, rest: &str) -> Result<bool, AllocEr
 }
 
 impl World {
-    pub(crate) fn new(alloc: Global) -> World {
+    fn new(alloc: Global) -> World {
         World {
             files: MemFiles::new(alloc),
             alloc,
@@ -151,21 +156,21 @@ impl World {
         }
     }
 
-    /// Gives names in memory room for an output.
-    pub(crate) fn give_room(&mut self, names: &str, room: usize) -> Result<(), AllocError> {
+    // Gives names room for an output.
+    fn give_room(&mut self, names: &str) -> Result<(), AllocError> {
         for name in names.split_whitespace() {
-            self.files.prepare(name, room)?;
+            self.files.prepare(name, 100_000)?;
         }
         Ok(())
     }
 
-    /// The bytes of a file, or none.
-    pub(crate) fn bytes(&self, name: &str) -> &[u8] {
+    // The bytes of a file, or none.
+    fn bytes(&self, name: &str) -> &[u8] {
         self.files.get(name).unwrap_or(&[])
     }
 
-    /// Reads a file, or a range of its records.
-    pub(crate) fn read<R: Threads + Sync>(
+    // Reads a file, or a range of its records.
+    fn read<R: Threads + Sync>(
         &mut self,
         rt: &R,
         name: &str,
@@ -235,8 +240,14 @@ impl World {
             .extend_from_slice(self.files.get(name).unwrap_or(&[]))
     }
 
-    // Whether the records of a file are written to another one as a line says.
-    fn writes<R: Threads + Sync>(&mut self, rt: &R, rest: &str) -> Result<bool, AllocError> {
+    // Writes the records of a file to another one as a line says, and answers whether that is done, or is broken off by a
+    // failed write if it is to be.
+    fn writes<R: Threads + Sync>(
+        &mut self,
+        rt: &R,
+        rest: &str,
+        breaks: bool,
+    ) -> Result<bool, AllocError> {
         let (from, rest) = pair(rest);
         let (to, rest) = pair(rest);
         let (chunk, rest) = pair(rest);
@@ -250,7 +261,10 @@ impl World {
             cuts: &cuts,
         };
         let alloc = self.alloc;
-        Ok(rewrite(rt, alloc, &mut self.files, from, to, form).is_ok())
+        Ok(match rewrite(rt, alloc, &mut self.files, from, to, form) {
+            Ok(_) => !breaks,
+            Err(fault) => breaks && fault == Fault::Write,
+        })
     }
 
     // Whether the files are as a line says.
@@ -267,28 +281,44 @@ impl World {
         }
     }
 
-    // Whether a line is done as it says.
-    fn play_line<R: Threads + Sync>(&mut self, rt: &R, line: &str) -> Result<bool, AllocError> {
-        let (command, rest) = pair(line);
+    // Whether a line that reads and writes no records is done as it says.
+    fn plays(&mut self, command: &str, rest: &str) -> Result<bool, AllocError> {
+        let (first, second) = pair(rest);
         match command {
             "put" => self.files.put_file(rest, &self.work)?,
             "take" => self.take(rest)?,
-            "room" => self.give_room(rest, 100_000)?,
-            "write" => return self.writes(rt, rest),
-            "read" => {
-                let (name, rest) = pair(rest);
-                let (workers, wanted) = pair(rest);
-                return Ok(self.reads(rt, name, count_of(workers), None, wanted));
-            }
-            "range" => return Ok(self.reads_range(rt, rest)),
-            "refuse" => return self.refuses(rt, rest),
+            "room" => self.give_room(rest)?,
+            "failread" => self.files.fail_read(u64::from(count_of(first)))?,
+            "failwrite" => self
+                .files
+                .fail_write(u64::from(count_of(first)), number(second))?,
             _ => return Ok(change(&mut self.work, command, rest)? || self.is_so(command, rest)),
         }
         Ok(true)
     }
 
-    /// The first line of a text that is not done as it says, or none.
-    pub(crate) fn first_wrong<R: Threads + Sync>(
+    // Whether all records of a file are read as a line says.
+    fn reads_all<R: Threads + Sync>(&mut self, rt: &R, rest: &str) -> bool {
+        let (name, rest) = pair(rest);
+        let (workers, wanted) = pair(rest);
+        self.reads(rt, name, count_of(workers), None, wanted)
+    }
+
+    // Whether a line is done as it says.
+    fn play_line<R: Threads + Sync>(&mut self, rt: &R, line: &str) -> Result<bool, AllocError> {
+        let (command, rest) = pair(line);
+        match command {
+            "write" => self.writes(rt, rest, false),
+            "break" => self.writes(rt, rest, true),
+            "read" => Ok(self.reads_all(rt, rest)),
+            "range" => Ok(self.reads_range(rt, rest)),
+            "refuse" => self.refuses(rt, rest),
+            _ => self.plays(command, rest),
+        }
+    }
+
+    // The first line of a text that is not done as it says, or none.
+    fn first_wrong<R: Threads + Sync>(
         &mut self,
         rt: &R,
         text: &'static str,
@@ -324,7 +354,7 @@ pub(crate) type Wrong = Option<(&'static str, &'static str)>;
 // Whether a command says what is so.
 fn says(command: &str) -> bool {
     match command {
-        "read" | "range" | "refuse" | "same" | "size" | "shorter" | "has" => true,
+        "break" | "read" | "range" | "refuse" | "same" | "size" | "shorter" | "has" => true,
         _ => false,
     }
 }

@@ -206,11 +206,3 @@ pub(crate) fn rewrite<R: Threads + Sync, F: Files>(
     }
     write_file(rt, alloc, files, to, head, &records, form)
 }
-
-/// Chunks of 50,000 points, uncounted, by two workers, all records in one push.
-pub(crate) const PACKED: Form = Form {
-    chunk: 50_000,
-    counted: false,
-    workers: 2,
-    cuts: &[],
-};
