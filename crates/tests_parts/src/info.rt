@@ -10,7 +10,6 @@ use las_info::{
 };
 use las_outside::MemSink;
 use std::alloc::{AllocError, Global};
-use std::test::Fail;
 
 // Two records. Class 2, intensity 1000, return 1 of 1, source 9, at 5, 6, 7; class 1, intensity 767, return 2 of 2,
 // source 9, at -1, 2^31 - 1, -2^31.
@@ -82,19 +81,16 @@ fn is_reported(
     }
 }
 
-#[test]
-fn a_packed_file_of_one_record(rt: HostRuntime) -> Result<(), Fail> {
-    let file = file_with(rt.alloc(), 366, &PACKED)?;
-    let chunk = Some((50_000, 1));
-    assert!(rt; is_reported(rt.alloc(), &file, &BOTH[..20], chunk, PACKED_TEXT)?);
-    Ok(())
+// Whether the report on the packed file is.
+fn packed_is_reported(alloc: Global) -> Result<bool, AllocError> {
+    let file = file_with(alloc, 366, &PACKED)?;
+    is_reported(alloc, &file, &BOTH[..20], Some((50_000, 1)), PACKED_TEXT)
 }
 
-#[test]
-fn a_plain_file_of_two_records(rt: HostRuntime) -> Result<(), Fail> {
-    let file = file_with(rt.alloc(), 471, &PLAIN)?;
-    assert!(rt; is_reported(rt.alloc(), &file, &BOTH, None, PLAIN_TEXT)?);
-    Ok(())
+// Whether the report on the plain file is.
+fn plain_is_reported(alloc: Global) -> Result<bool, AllocError> {
+    let file = file_with(alloc, 471, &PLAIN)?;
+    is_reported(alloc, &file, &BOTH, None, PLAIN_TEXT)
 }
 
 // The program's taps, which have counted nothing.
@@ -126,10 +122,30 @@ fn is_tally(alloc: Global, taps: &[Box<dyn Tap>], text: &str) -> Result<bool, Al
 const TALLIES: &str = "tally source\n9 2\ntally class\n1 1\n2 1\ntally intensity\n2 1\n3 1\n\
     tally return\n1 1\n2 1\n";
 
-#[test]
-fn every_tap_of_two_records(rt: HostRuntime) -> Result<(), Fail> {
-    let mut taps = all_taps(rt.alloc())?;
+// Whether the tally of every tap of both records is.
+fn both_are_tallied(alloc: Global) -> Result<bool, AllocError> {
+    let mut taps = all_taps(alloc)?;
     show_both(&mut taps)?;
-    assert!(rt; is_tally(rt.alloc(), &taps, TALLIES)?);
-    Ok(())
+    is_tally(alloc, &taps, TALLIES)
+}
+
+// Which text is another one, or none.
+fn wrong_text(alloc: Global) -> Result<&'static str, AllocError> {
+    if !packed_is_reported(alloc)? {
+        return Ok("the report on the packed file");
+    }
+    if !plain_is_reported(alloc)? {
+        return Ok("the report on the plain file");
+    }
+    Ok(if both_are_tallied(alloc)? {
+        ""
+    } else {
+        "the tallies"
+    })
+}
+
+#[test]
+fn texts_are_whole(rt: HostRuntime) {
+    let wrong = wrong_text(rt.alloc()).unwrap_or("no memory");
+    assert!(rt; wrong.is_empty(), "{wrong}");
 }

@@ -9,23 +9,24 @@ use std::fs;
 use std::os::unix::fs::symlink;
 use std::test::Fail;
 
-// Scripts with an empty line between two of them. A line that begins with `#` says what a script shows, and each other
-// one is a step. The system itself does these:
+// Scripts, each with files of its own. A line that begins with `#` says what a script shows, and each other one is a
+// step. The system itself does these:
 //
 // - `write NAME TEXT`, `hard_link NAME OTHER`, `soft_link NAME OTHER`, `rename NAME OTHER` and `remove NAME`.
-// - `holds NAME PARTS`: it reads the file, which holds the parts, without the blanks; `@` is the file's own name.
+// - `holds NAME TEXT`: it reads the file, which holds the text. `holds_name NAME FIRST SECOND`: the same of the first
+//   text, the file's own name and the second text.
 //
 // The files are asked for the others:
 //
-// - `create NAME`, `append NAME TEXT`, `append_both NAME TEXT`, which appends its own name too, and `patch NAME AT
-//   TEXT`.
+// - `create NAME`, `append NAME TEXT`, `append_name NAME`, which appends its own name, and `patch NAME AT TEXT`.
 // - `not_created NAME`: it is not created.
-// - `size NAME SIZE`, `no_size NAME`: how long it is.
-// - `read NAME AT TEXT`, `not_read NAME AT`: the five bytes from a place on.
+// - `size NAME SIZE`: how long it is, or `none` if that is not answered.
+// - `read NAME AT TEXT`: the five bytes from a place on, or `none` if they are not read.
 //
 // `many FIRST COUNT STEP REST` does a step with COUNT files: the name `las_outside_NUMBER` stands before the rest, and
 // the numbers begin with FIRST. 600 files are more than are open at a time.
-static SCRIPTS: &str = "\
+static SCRIPTS: [&str; 6] = [
+    "\
 # A file of the system holds what was appended, with its patch, and says where it ends. A folder is no file.
 create las_outside_file
 append las_outside_file abcdef
@@ -33,14 +34,15 @@ append las_outside_file gh
 patch las_outside_file 2 XY
 size las_outside_file 8
 read las_outside_file 1 bXYef
-not_read las_outside_file 4
-no_size .
-no_size las_outside_none
+read las_outside_file 4 none
+size . none
+size las_outside_none none
 not_created las_outside_none/a
 create las_outside_file
 size las_outside_file 0
 remove las_outside_file
-
+",
+    "\
 # A file that was read is not made empty, by whatever name it is created.
 write las_outside_input abcdef
 size las_outside_input 6
@@ -54,7 +56,8 @@ size las_outside_input 6
 remove las_outside_hard
 remove las_outside_soft
 remove las_outside_input
-
+",
+    "\
 # An output is created under one name, and again under that one alone.
 create las_outside_output
 append las_outside_output abc
@@ -65,7 +68,8 @@ create las_outside_output
 append las_outside_output gh
 size las_outside_output 2
 remove las_outside_output
-
+",
+    "\
 # What is no regular file is no output, and a file that is longer than what is written keeps nothing of its own.
 not_created /dev/null
 not_created /dev/full
@@ -78,80 +82,156 @@ patch las_outside_longer 1 Y
 append las_outside_longer !
 holds las_outside_longer xYz!
 remove las_outside_longer
-
+",
+    "\
 # More outputs than are open at a time each hold what was appended to them.
 many 0 600 create
-many 0 600 append_both ab
-many 0 600 append_both cd
-many 0 600 append_both ef
-many 0 600 holds ab @ cd @ ef @
+many 0 600 append ab
+many 0 600 append_name
+many 0 600 append cd
+many 0 600 holds_name ab cd
 many 0 600 remove
-
+",
+    "\
 # A file whose handle was closed meanwhile is still an input, and one that another took the place of is a fault.
 write las_outside_closed abcdef
 size las_outside_closed 6
 many 600 600 create
 not_created ./las_outside_closed
 size las_outside_closed 6
-many 600 600 append_both a
+many 600 600 append_name
 rename las_outside_600 las_outside_closed
-no_size las_outside_closed
+size las_outside_closed none
 many 601 599 remove
 remove las_outside_closed
-";
+",
+];
 
-// Whether a text is made of parts with a blank between two of them, where `@` is a name.
-fn is_made_of(text: &str, parts: &str, name: &str) -> bool {
-    let mut rest = text.as_bytes();
-    for part in parts.split(' ') {
-        let wanted = if part == "@" { name } else { part };
-        match rest.strip_prefix(wanted.as_bytes()) {
-            Some(left) => rest = left,
-            None => return false,
-        }
+// Whether the system reads a file, and it holds this text.
+fn holds(rt: &HostRuntime, name: &str, text: &str) -> bool {
+    match fs::read(rt, name) {
+        Ok(bytes) => bytes.as_slice() == text.as_bytes(),
+        Err(_) => false,
     }
-    rest.is_empty()
 }
 
-// Whether the system reads a file, and it holds these parts.
-fn holds(rt: &HostRuntime, name: &str, parts: &str) -> bool {
-    match fs::read_to_string(rt, name) {
-        Ok(text) => is_made_of(text.as_str(), parts, name),
+// Whether it holds the first word of a text, its own name, and what follows the first word.
+fn holds_name(rt: &HostRuntime, name: &str, text: &str) -> bool {
+    let (first, second) = pair(text);
+    match format!(in rt.alloc(); "{first}{name}{second}") {
+        Ok(wanted) => holds(rt, name, wanted.as_str()),
         Err(_) => false,
+    }
+}
+
+fn is_written(rt: &HostRuntime, name: &str, text: &str) -> bool {
+    fs::write(rt, name, text.as_bytes()).is_ok()
+}
+
+fn is_removed(rt: &HostRuntime, name: &str) -> bool {
+    fs::remove_file(rt, name).is_ok()
+}
+
+fn is_renamed(rt: &HostRuntime, name: &str, other: &str) -> bool {
+    fs::rename(rt, name, other).is_ok()
+}
+
+fn is_linked(rt: &HostRuntime, name: &str, other: &str) -> bool {
+    fs::hard_link(rt, name, other).is_ok()
+}
+
+fn is_linked_softly(rt: &HostRuntime, name: &str, other: &str) -> bool {
+    symlink(rt, name, other).is_ok()
+}
+
+// Whether the system gives a file another name.
+fn system_names(rt: &HostRuntime, step: &str, name: &str, other: &str) -> bool {
+    match step {
+        "hard_link" => is_linked(rt, name, other),
+        "soft_link" => is_linked_softly(rt, name, other),
+        "rename" => is_renamed(rt, name, other),
+        _ => false,
     }
 }
 
 // Whether the system does a step of its own.
 fn system_does(rt: &HostRuntime, step: &str, name: &str, text: &str) -> bool {
     match step {
-        "write" => fs::write(rt, name, text.as_bytes()).is_ok(),
-        "hard_link" => fs::hard_link(rt, name, text).is_ok(),
-        "soft_link" => symlink(rt, name, text).is_ok(),
-        "rename" => fs::rename(rt, name, text).is_ok(),
-        "remove" => fs::remove_file(rt, name).is_ok(),
+        "write" => is_written(rt, name, text),
+        "remove" => is_removed(rt, name),
         "holds" => holds(rt, name, text),
-        _ => false,
+        "holds_name" => holds_name(rt, name, text),
+        _ => system_names(rt, step, name, text),
     }
 }
 
-// Five bytes of a file from a place on, if they are there.
-fn read_five(files: &mut RealFiles<HostRuntime>, name: &str, at: usize) -> Option<[u8; 5]>
+fn is_created(files: &mut RealFiles<HostRuntime>, name: &str) -> bool
     requires { files.old.held ≡ None }
     ensures { files.new.held ≡ None }
 {
+    files.create(name).is_ok()
+}
+
+fn is_appended(files: &mut RealFiles<HostRuntime>, name: &str, text: &str) -> bool
+    requires { files.old.held ≡ None }
+    ensures { files.new.held ≡ None }
+{
+    files.append(name, text.as_bytes()).is_ok()
+}
+
+// Whether the second word of a text, and what follows it, is written over a file from the place on that is the first.
+fn is_patched(files: &mut RealFiles<HostRuntime>, name: &str, text: &str) -> bool
+    requires { files.old.held ≡ None }
+    ensures { files.new.held ≡ None }
+{
+    let (at, patch) = pair(text);
+    files
+        .patch(name, number(at) as u64, patch.as_bytes())
+        .is_ok()
+}
+
+// Whether a file has the size of a text, or none.
+fn has_size(files: &mut RealFiles<HostRuntime>, name: &str, text: &str) -> bool
+    requires { files.old.held ≡ None }
+    ensures { files.new.held ≡ None }
+{
+    match files.size(name) {
+        Ok(size) => text != "none" && size == number(text) as u64,
+        Err(_) => text == "none",
+    }
+}
+
+// Whether five bytes of a file are those of a text, a place and then the bytes from there on, or `none` if not read.
+fn is_read(files: &mut RealFiles<HostRuntime>, name: &str, text: &str) -> bool
+    requires { files.old.held ≡ None }
+    ensures { files.new.held ≡ None }
+{
+    let (at, wanted) = pair(text);
     let mut bytes = [0; 5];
-    match files.read_at(name, at as u64, &mut bytes) {
-        Ok(()) => Some(bytes),
-        Err(_) => None,
+    match files.read_at(name, number(at) as u64, &mut bytes) {
+        Ok(()) => bytes.as_slice() == wanted.as_bytes(),
+        Err(_) => wanted == "none",
     }
 }
 
-// Whether a text and the file's name are appended to a file.
-fn append_both(files: &mut RealFiles<HostRuntime>, name: &str, text: &str) -> bool
+// Whether the files do a step with the bytes of a file, or the system does it.
+fn bytes_are_done(
+    rt: &HostRuntime,
+    files: &mut RealFiles<HostRuntime>,
+    step: &str,
+    name: &str,
+    text: &str,
+) -> bool
     requires { files.old.held ≡ None }
     ensures { files.new.held ≡ None }
 {
-    files.append(name, text.as_bytes()).is_ok() && files.append(name, name.as_bytes()).is_ok()
+    match step {
+        "append" => is_appended(files, name, text),
+        "append_name" => is_appended(files, name, name),
+        "patch" => is_patched(files, name, text),
+        "read" => is_read(files, name, text),
+        _ => system_does(rt, step, name, text),
+    }
 }
 
 // Whether a step is done, by the files or by the system.
@@ -165,23 +245,11 @@ fn is_done(
     requires { files.old.held ≡ None }
     ensures { files.new.held ≡ None }
 {
-    let (first, second) = pair(text);
     match step {
-        "create" => files.create(name).is_ok(),
-        "not_created" => files.create(name).is_err(),
-        "append" => files.append(name, text.as_bytes()).is_ok(),
-        "append_both" => append_both(files, name, text),
-        "patch" => files
-            .patch(name, number(first) as u64, second.as_bytes())
-            .is_ok(),
-        "size" => files.size(name) == Ok(number(text) as u64),
-        "no_size" => files.size(name).is_err(),
-        "read" => match read_five(files, name, number(first)) {
-            Some(bytes) => bytes.as_slice() == second.as_bytes(),
-            None => false,
-        },
-        "not_read" => read_five(files, name, number(first)).is_none(),
-        _ => system_does(rt, step, name, text),
+        "create" => is_created(files, name),
+        "not_created" => !is_created(files, name),
+        "size" => has_size(files, name, text),
+        _ => bytes_are_done(rt, files, step, name, text),
     }
 }
 
@@ -237,21 +305,32 @@ fn line_is_done(rt: &HostRuntime, files: &mut RealFiles<HostRuntime>, line: &str
     }
 }
 
-// The first line of a script that is not done, or none. No file is open at first.
-fn first_wrong(rt: &HostRuntime, script: &'static str) -> Option<&'static str> {
-    let mut files = RealFiles::new(*rt);
+// The first line of a script that is not done, or none.
+fn first_wrong(
+    rt: &HostRuntime,
+    files: &mut RealFiles<HostRuntime>,
+    script: &'static str,
+) -> Option<&'static str>
+    requires { files.old.held ≡ None }
+{
     for line in script.lines() {
-        if !line_is_done(rt, &mut files, line) {
+        if !line_is_done(rt, files, line) {
             return Some(line);
         }
     }
     None
 }
 
+// The same of a script with files of its own, of which none is open at first.
+fn first_wrong_alone(rt: &HostRuntime, script: &'static str) -> Option<&'static str> {
+    let mut files = RealFiles::new(*rt);
+    first_wrong(rt, &mut files, script)
+}
+
 #[test]
 fn scripts_are_done(rt: HostRuntime) {
-    for script in SCRIPTS.split("\n\n") {
-        let wrong = first_wrong(&rt, script);
+    for script in SCRIPTS {
+        let wrong = first_wrong_alone(&rt, script);
         assert!(rt; wrong.is_none(), "{}", wrong.unwrap_or(""));
     }
 }

@@ -1,50 +1,14 @@
-//! Claims in turn, and crews that work a few inputs while a gate watches them and holds some of them.
+//! Crews that work a few inputs while a gate watches them and holds some of them.
 
 ghost use Rattle.std.specs.Prelude.{◌≡◌, ℕ, ◌*◌, ◌<◌, ◌≤◌, IfOk, length, vec_len, Contains};
 ghost use Rattle.laz_workers.specs.Rooms.{rooms_of, numbers_in};
 
 use las_outside::Gate;
-use laz_workers::{Claims, Crew, Job, Pass, run_all};
+use laz_workers::{Claims, Crew, Job, run_all};
 use std::alloc::{AllocError, Global};
 use std::hint::spin_loop;
 use std::sync::atomic::{AtomicU64, Ordering};
-use std::test::Fail;
 use std::thread::Threads;
-
-// A claim, or `None` of a pass that is spent.
-fn draw(claims: &Claims, pass: &mut Pass) -> Option<u32>
-    requires { pass.old.claims ≡ claims.now }
-    ensures { (pass.new.claims ≡ pass.old.claims) × (pass.new.opens ≡ pass.old.opens) × (pass.new.out ≡ pass.old.out) }
-{
-    if pass.is_spent() {
-        return None;
-    }
-    claims.claim(pass)
-}
-
-#[test]
-fn two_passes_draw_in_turn(rt: HostRuntime) -> Result<(), Fail> {
-    let (claims, mut first) = Claims::new(rt.alloc(), 3, 2)?;
-    let mut second = claims.split(&mut first);
-    let drawn = [
-        draw(&claims, &mut first),
-        draw(&claims, &mut second),
-        draw(&claims, &mut first),
-        draw(&claims, &mut second),
-    ];
-    claims.join(&mut first, second);
-    assert_eq!(rt; claims.close(first), 4);
-    assert!(rt; drawn == [Some(0), Some(1), Some(2), None]);
-    Ok(())
-}
-
-#[test]
-fn no_number_is_left_of_none(rt: HostRuntime) -> Result<(), Fail> {
-    let (claims, mut pass) = Claims::new(rt.alloc(), 0, 1)?;
-    assert!(rt; draw(&claims, &mut pass).is_none() && pass.is_spent());
-    assert_eq!(rt; claims.close(pass), 1);
-    Ok(())
-}
 
 // Which numbers a gate holds: those below `below`, each until so many have entered and so many have left, for so many
 // turns at most.
