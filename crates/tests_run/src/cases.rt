@@ -9,13 +9,13 @@
 //! many bytes stand between a VLR and the points, or 0 for no VLR.
 //!
 //! - `head SHAPE COUNT`: they become a head that counts COUNT points.
-//! - `records SHAPE FROM TO`, `classtwo SHAPE TO`: the records of these numbers are appended, or those of class 2 among
-//!   the ones up to a number.
-//! - `point X Y Z`, `line COUNT`: a record of class 2 at a place is appended, or COUNT of them along a line.
+//! - `records SHAPE FROM TO`: the records of these numbers are appended.
+//! - `point X Y Z`: a record of class 2 at a place is appended.
 //! - `add BYTES`, `zeros COUNT`, `emptytable COUNT`: bytes are appended, or COUNT zeros, or the chunk table of COUNT
 //!   chunks without bytes.
 //! - `set AT BYTES`: bytes are written over those from a place on. `cut AT`: the bytes from a place on are cut.
-//! - `packed`: they become the packed form of the file that they are, in chunks of 256 points.
+//! - `packed`: they become the packed form of the file that they are, in chunks of 256 points. This run of `laszip`
+//!   leaves the files `unpacked` and `packed`.
 //! - `take NAME`: they become those of a file, or none if there is no such file.
 //!
 //! These change files:
@@ -29,17 +29,18 @@
 //! - `ends LINE = WORDS`: a run puts this line on standard error, has the status that goes with it, and puts nothing on
 //!   standard output. In a line `/` stands for the end of a line.
 //! - `done WORDS`: a run is done, and puts nothing on either. `tells TEXT = WORDS`: it puts this text on standard
-//!   output.
-//! - `asks COUNT = WORDS`: it is done, puts nothing, and asks the files for at most COUNT bytes.
+//!   output. The tap `class` may be named.
 //!
 //! These say what is so:
 //!
 //! - `same NAME OTHER`: two files are there and equal. `absent NAME`: a file is not there.
 //! - `size NAME COUNT`, `above NAME COUNT`: a file has COUNT bytes, or more than COUNT.
 //! - `has NAME AT BYTES`: a file has these bytes from a place on.
-use crate::recipes::{
-    Shape, add_head, add_hex, add_line, add_point, add_records, add_second_class, byte_of, put_hex,
-};
+ghost use Rattle.std.specs.Prelude.{◌≡◌};
+ghost use Rattle.std.specs.FinMap as map;
+
+use crate::recipes::{Shape, add_head, add_hex, add_point, add_records, byte_of, put_hex};
+use las_info::{ClassTap, Tap};
 use las_outside::{Gate, MemFiles, MemSink, OpenGate};
 use las_run::run;
 use laz_table::table_of;
@@ -78,8 +79,8 @@ fn say(said: &mut Vec<String>, alloc: Global, text: &str) -> Result<(), AllocErr
     Ok(())
 }
 
-/// The words of a command line, with others in the place of `@`.
-pub fn words_of(alloc: Global, line: &str, words: &str) -> Result<Vec<String>, AllocError> {
+// The words of a command line, with others in the place of `@`.
+fn words_of(alloc: Global, line: &str, words: &str) -> Result<Vec<String>, AllocError> {
     let mut said = Vec::new(alloc);
     for word in line.split_whitespace() {
         say(&mut said, alloc, if word == "@" { words } else { word })?;
@@ -106,8 +107,8 @@ fn status_of(line: &str) -> u8 {
     0
 }
 
-/// The bytes from a place on.
-pub fn after(bytes: &[u8], at: usize) -> &[u8] {
+// The bytes from a place on.
+fn after(bytes: &[u8], at: usize) -> &[u8] {
     bytes.get(at..).unwrap_or(&[])
 }
 
@@ -138,27 +139,6 @@ impl World {
         self.files.get(name).unwrap_or(&[])
     }
 
-    /// The status of a run without taps.
-    pub fn run<R: Threads + Sync + AllocGlobal, G: Gate>(
-        &mut self,
-        rt: &R,
-        words: &[String],
-        gate: &G,
-    ) -> u8 {
-        let alloc = rt.alloc();
-        let taps = Vec::new(alloc);
-        run(
-            rt,
-            alloc,
-            words,
-            &mut self.files,
-            &mut self.out,
-            &mut self.err,
-            gate,
-            taps,
-        )
-    }
-
     /// The status of a run of these words.
     pub fn obey<R: Threads + Sync + AllocGlobal, G: Gate>(
         &mut self,
@@ -168,7 +148,7 @@ impl World {
         gate: &G,
     ) -> Result<u8, AllocError> {
         let said = words_of(rt.alloc(), line, words)?;
-        Ok(self.run(rt, &said, gate))
+        run_with_tap(rt, rt.alloc(), &said, self, gate)
     }
 
     // Whether a run puts this line and this text, and has the status that goes with the line.
@@ -189,19 +169,6 @@ impl World {
         )
     }
 
-    // Whether a run asks for at most `most` bytes.
-    fn asks<R: Threads + Sync + AllocGlobal>(
-        &mut self,
-        rt: &R,
-        most: u64,
-        words: &str,
-        with: &str,
-    ) -> Result<bool, AllocError> {
-        let before = self.files.asked();
-        let is_done = self.answers(rt, "", "", words, with)?;
-        Ok(is_done && self.files.asked().saturating_sub(before) <= most)
-    }
-
     // Whether the files are as a line says.
     fn is_so(&self, command: &str, rest: &str) -> bool {
         let (name, other) = pair(rest);
@@ -217,22 +184,48 @@ impl World {
         }
     }
 
+    // Takes the bytes of a file, or none, as those that are worked on.
+    fn take(&mut self, name: &str) -> Result<(), AllocError> {
+        self.work.clear();
+        self.work
+            .extend_from_slice(self.files.get(name).unwrap_or(&[]))
+    }
+
     // Does what a line says of files and of calls that fail. The answer is false if the line is another one.
     fn prepare(&mut self, command: &str, rest: &str) -> Result<bool, AllocError> {
         let (first, second) = pair(rest);
-        match command {
-            "put" => self.files.put_file(first, &self.work)?,
-            "take" => {
-                self.work.clear();
-                self.work
-                    .extend_from_slice(self.files.get(first).unwrap_or(&[]))?;
-            }
-            "room" => self.give_room(rest)?,
-            "failwrite" => self.files.fail_write(number(first) as u64, number(second))?,
-            "failput" => self.out.fail_put(number(first) as u64)?,
+        let is_done = match command {
+            "put" => self.files.put_file(first, &self.work),
+            "take" => self.take(first),
+            "room" => self.give_room(rest),
+            "failwrite" => self.files.fail_write(number(first) as u64, number(second)),
+            "failput" => self.out.fail_put(number(first) as u64),
             _ => return Ok(false),
-        }
+        };
+        is_done?;
         Ok(true)
+    }
+
+    // Makes the bytes that are worked on their packed form. The answer is false if they are no plain file.
+    fn pack<R: Threads + Sync + AllocGlobal>(&mut self, rt: &R) -> Result<bool, AllocError> {
+        self.files.put_file("unpacked", &self.work)?;
+        self.give_room("packed")?;
+        let status = self.obey(
+            rt,
+            "laszip -i unpacked -o packed -chunk_size 256",
+            "",
+            &OpenGate,
+        )?;
+        self.take("packed")?;
+        Ok(status == 0)
+    }
+
+    // Whether a line that is no run is done as it says.
+    fn is_done(&mut self, alloc: Global, command: &str, rest: &str) -> Result<bool, AllocError> {
+        if self.prepare(command, rest)? || change(alloc, &mut self.work, command, rest)? {
+            return Ok(true);
+        }
+        Ok(self.is_so(command, rest))
     }
 
     // Whether a line is done as it says.
@@ -248,17 +241,9 @@ impl World {
             "done" => self.answers(rt, "", "", rest, with),
             "ends" => self.answers(rt, wanted, "", words, with),
             "tells" => self.answers(rt, "", wanted, words, with),
-            "asks" => self.asks(rt, number(wanted) as u64, words, with),
-            "packed" => {
-                pack(rt, &mut self.work)?;
-                Ok(true)
-            }
+            "packed" => self.pack(rt),
             "with" => Ok(true),
-            _ => Ok(
-                self.prepare(command, rest)?
-                    || change(rt.alloc(), &mut self.work, command, rest)?
-                    || self.is_so(command, rest),
-            ),
+            _ => self.is_done(rt.alloc(), command, rest),
         }
     }
 
@@ -287,6 +272,32 @@ impl World {
     }
 }
 
+// A tap that has counted nothing.
+fn class_tap(alloc: Global) -> ClassTap
+    ensures { result ≡ map.empty }
+{
+    ClassTap::new(alloc)
+}
+
+// The status of a run of these words.
+fn run_with_tap<R: Threads + Sync, G: Gate>(
+    rt: &R,
+    alloc: Global,
+    words: &[String],
+    world: &mut World,
+    gate: &G,
+) -> Result<u8, AllocError> {
+    let tap: Box<dyn Tap> = Box::new(alloc, class_tap(alloc))?;
+    let taps = vec![in alloc; tap]?;
+    let World {
+        files,
+        out,
+        err,
+        ..
+    } = world;
+    Ok(run(rt, alloc, words, files, out, err, gate, taps))
+}
+
 // The first word of a text, and what follows the blank after it.
 fn pair(text: &str) -> (&str, &str) {
     text.split_once(" ").unwrap_or((text, ""))
@@ -299,19 +310,24 @@ fn number(text: &str) -> usize {
 
 // Whether bytes are a text with a `/` for each end of a line.
 fn is_text(bytes: &[u8], text: &str) -> bool {
+    for (i, wanted) in text.as_bytes().iter().enumerate() {
+        let wanted = if *wanted == b'/' { b'\n' } else { *wanted };
+        if bytes.get(i) != Some(&wanted) {
+            return false;
+        }
+    }
     bytes.len() == text.len()
-        && bytes.iter().zip(text.as_bytes()).all(|(byte, wanted)| *byte
-            == if *wanted == b'/' { b'\n' } else { *wanted })
 }
 
 // Whether bytes are those of a text, a place and then digits, from that place on.
 fn has_hex(bytes: &[u8], text: &str) -> bool {
     let (at, digits) = pair(text);
-    let mut rest = after(bytes, number(at)).iter();
+    let mut at = number(at);
     for word in digits.split_whitespace() {
-        if rest.next() != Some(&byte_of(word)) {
+        if bytes.get(at) != Some(&byte_of(word)) {
             return false;
         }
+        at = at.saturating_add(1);
     }
     true
 }
@@ -353,15 +369,23 @@ fn change(
 ) -> Result<bool, AllocError> {
     let (first, second) = pair(rest);
     match command {
-        "point" => add_place(file, rest)?,
-        "line" => add_line(file, count_of(first))?,
-        "zeros" => file.resize(file.len().saturating_add(number(first)), 0)?,
-        "emptytable" => add_empty_table(file, alloc, number(first))?,
         "set" => put_hex(file, number(first), second),
         "cut" => file.truncate(number(first)),
-        "add" => add_hex(file, rest)?,
-        _ => return add_shaped(file, command, rest),
+        _ => return add(alloc, file, command, rest),
     }
+    Ok(true)
+}
+
+// Appends bytes as a line says. The answer is false if the line is another one.
+fn add(alloc: Global, file: &mut Vec<u8>, command: &str, rest: &str) -> Result<bool, AllocError> {
+    let is_done = match command {
+        "add" => add_hex(file, rest),
+        "point" => add_place(file, rest),
+        "zeros" => file.resize(file.len().saturating_add(number(rest)), 0),
+        "emptytable" => add_empty_table(file, alloc, number(rest)),
+        _ => return add_shaped(file, command, rest),
+    };
+    is_done?;
     Ok(true)
 }
 
@@ -376,16 +400,19 @@ fn add_place(file: &mut Vec<u8>, rest: &str) -> Result<(), AllocError> {
 fn add_shaped(file: &mut Vec<u8>, command: &str, rest: &str) -> Result<bool, AllocError> {
     let (shape, rest) = shape_of(rest);
     let (first, second) = pair(rest);
-    match command {
-        "head" => {
-            file.clear();
-            add_head(file, shape, count_of(first))?;
-        }
-        "records" => add_records(file, shape, count_of(first), count_of(second))?,
-        "classtwo" => add_second_class(file, shape, count_of(first))?,
+    let is_done = match command {
+        "head" => begin(file, shape, count_of(first)),
+        "records" => add_records(file, shape, count_of(first), count_of(second)),
         _ => return Ok(false),
-    }
+    };
+    is_done?;
     Ok(true)
+}
+
+// Makes bytes a head alone.
+fn begin(file: &mut Vec<u8>, shape: Shape, points: u32) -> Result<(), AllocError> {
+    file.clear();
+    add_head(file, shape, points)
 }
 
 // What `@` stands for in a case: the words of its line of `with`.
@@ -405,13 +432,13 @@ pub struct Script {
     pub after: &'static str,
 }
 
-/// The name of a case, and its first line that is not done as it says; or its name alone if it has no run.
-pub type Wrong = Option<(&'static str, &'static str)>;
+// The name of a case, and its first line that is not done as it says; or its name alone if it has no run.
+type Wrong = Option<(&'static str, &'static str)>;
 
 // Whether a command is a run.
 fn is_run(command: &str) -> bool {
     match command {
-        "done" | "ends" | "tells" | "asks" => true,
+        "done" | "ends" | "tells" => true,
         _ => false,
     }
 }
@@ -425,6 +452,25 @@ fn has_run(text: &str) -> bool {
     is_there
 }
 
+// The first line of a script and one case that is not done as it says, or none.
+fn wrong_line<R: Threads + Sync + AllocGlobal>(
+    rt: &R,
+    world: &mut World,
+    script: &Script,
+    lines: &'static str,
+) -> Result<Option<&'static str>, AllocError> {
+    let with = with_of(lines);
+    let before = world.first_wrong(rt, script.before, with)?;
+    if before.is_some() {
+        return Ok(before);
+    }
+    let wrong = world.first_wrong(rt, lines, with)?;
+    if wrong.is_some() {
+        return Ok(wrong);
+    }
+    world.first_wrong(rt, script.after, with)
+}
+
 // What is wrong in a case of a script, which is its name and then its lines.
 fn wrong_in<R: Threads + Sync + AllocGlobal>(
     rt: &R,
@@ -436,16 +482,14 @@ fn wrong_in<R: Threads + Sync + AllocGlobal>(
         return Ok(Some((name, "")));
     }
     let mut world = World::new(rt.alloc())?;
-    for text in [script.before, lines, script.after] {
-        if let Some(wrong) = world.first_wrong(rt, text, with_of(lines))? {
-            return Ok(Some((name, wrong)));
-        }
+    match wrong_line(rt, &mut world, script, lines)? {
+        Some(wrong) => Ok(Some((name, wrong))),
+        None => Ok(None),
     }
-    Ok(None)
 }
 
-/// What is wrong first in a script, or nothing.
-pub fn first_wrong<R: Threads + Sync + AllocGlobal>(
+// What is wrong first in a script, or nothing.
+fn first_wrong<R: Threads + Sync + AllocGlobal>(
     rt: &R,
     script: &Script,
 ) -> Result<Wrong, AllocError> {
@@ -465,19 +509,20 @@ pub fn first_wrong<R: Threads + Sync + AllocGlobal>(
     Ok(None)
 }
 
+/// The name of the first case of a script with something wrong, and the line; or no name.
+pub fn wrong_of<R: Threads + Sync + AllocGlobal>(
+    rt: &R,
+    script: &Script,
+) -> (&'static str, &'static str) {
+    match first_wrong(rt, script) {
+        Ok(wrong) => wrong.unwrap_or(("", "")),
+        Err(_) => ("memory", ""),
+    }
+}
+
 // Appends the chunk table of chunks of no bytes, 65,535 at most.
 fn add_empty_table(file: &mut Vec<u8>, alloc: Global, chunks: usize) -> Result<(), AllocError> {
     let counts = vec![in alloc; 0; chunks.min(65_535)]?;
     let table = table_of(alloc, &counts)?;
     file.extend_from_slice(&table)
-}
-
-// Makes a file its packed form.
-fn pack<R: Threads + Sync + AllocGlobal>(rt: &R, file: &mut Vec<u8>) -> Result<(), AllocError> {
-    let mut world = World::new(rt.alloc())?;
-    world.files.put_file("a", file)?;
-    world.files.prepare("b", 100_000)?;
-    let _status = world.obey(rt, "laszip -i a -o b -chunk_size 256", "", &OpenGate)?;
-    file.clear();
-    file.extend_from_slice(world.bytes("b"))
 }

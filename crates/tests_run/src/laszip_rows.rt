@@ -1,6 +1,5 @@
 //! `laszip`: files packed and unpacked, with bytes worked out by hand, and inputs that are refused.
-use crate::cases::{Script, first_wrong};
-use std::test::Fail;
+use crate::cases::{Script, wrong_of};
 
 // A file of one record and its packed form, the head of this, and a file of LAS 1.4.
 const BEFORE: &str = "\
@@ -184,10 +183,9 @@ const REFUSED_INPUTS: Script = Script {
 };
 
 #[test]
-fn refused_inputs(rt: HostRuntime) -> Result<(), Fail> {
-    let wrong = first_wrong(&rt, &REFUSED_INPUTS)?;
-    assert!(rt; wrong.is_none(), "{wrong:?}");
-    Ok(())
+fn refused_inputs(rt: HostRuntime) {
+    let (case, line) = wrong_of(&rt, &REFUSED_INPUTS);
+    assert!(rt; case.is_empty(), "{case}: {line}");
 }
 
 const CASES: &str = "\
@@ -395,8 +393,7 @@ const PACKED: Script = Script {
 };
 
 #[test]
-fn packed_and_unpacked(rt: HostRuntime) -> Result<(), Fail> {
-    let wrong = first_wrong(&rt, &PACKED)?;
-    assert!(rt; wrong.is_none(), "{wrong:?}");
-    Ok(())
+fn packed_and_unpacked(rt: HostRuntime) {
+    let (case, line) = wrong_of(&rt, &PACKED);
+    assert!(rt; case.is_empty(), "{case}: {line}");
 }

@@ -14,8 +14,6 @@ mod laszip_rows;
 #[cfg(test)]
 mod meeting;
 #[cfg(test)]
-mod own_tap;
-#[cfg(test)]
 mod range_rows;
 #[cfg(test)]
 mod recipes;

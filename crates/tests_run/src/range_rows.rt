@@ -1,6 +1,5 @@
 //! `las2las` over a range of records.
-use crate::cases::{Script, first_wrong};
-use std::test::Fail;
+use crate::cases::{Script, wrong_of};
 
 // 1,000 records, plain and packed.
 const BEFORE: &str = "\
@@ -72,14 +71,13 @@ const RANGES: Script = Script {
 };
 
 #[test]
-fn ranges(rt: HostRuntime) -> Result<(), Fail> {
-    let wrong = first_wrong(&rt, &RANGES)?;
-    assert!(rt; wrong.is_none(), "{wrong:?}");
-    Ok(())
+fn ranges(rt: HostRuntime) {
+    let (case, line) = wrong_of(&rt, &RANGES);
+    assert!(rt; case.is_empty(), "{case}: {line}");
 }
 
-// Of a packed input only the chunks that have some of the records are asked for, and the others may be bad: the second
-// chunk begins at byte 1,657, the third at 2,987, and the last at 4,317. Places are counted before the filters.
+// Of a packed input only the chunks that have some of the records are read, and the others may be bad: the second chunk
+// begins at byte 1,657, the third at 2,987, and the last at 4,317. Places are counted before the filters.
 const OTHER_CASES: &str = "\
 case records in the middle
 with -start_at_point 300 -stop_at_point 600
@@ -90,10 +88,10 @@ head 2 0 0 300
 records 2 0 0 300 600
 put w
 room b c d e f
-asks 3332 = las2las -i az -o b @ -cores 1
-asks 3332 = las2las -i az -o c @ -cores 8
-asks 6454 = las2las -i a -o d @ -cores 1
-asks 6454 = las2las -i a -o e @ -cores 8
+done las2las -i az -o b @ -cores 1
+done las2las -i az -o c @ -cores 8
+done las2las -i a -o d @ -cores 1
+done las2las -i a -o e @ -cores 8
 done las2las -i bad -o f @
 same b w
 same c w
@@ -134,8 +132,7 @@ const OTHER_RANGES: Script = Script {
 };
 
 #[test]
-fn other_ranges(rt: HostRuntime) -> Result<(), Fail> {
-    let wrong = first_wrong(&rt, &OTHER_RANGES)?;
-    assert!(rt; wrong.is_none(), "{wrong:?}");
-    Ok(())
+fn other_ranges(rt: HostRuntime) {
+    let (case, line) = wrong_of(&rt, &OTHER_RANGES);
+    assert!(rt; case.is_empty(), "{case}: {line}");
 }

@@ -10,12 +10,6 @@ pub struct Shape {
     pub gap: u8,
 }
 
-pub const PLAIN: Shape = Shape {
-    minor: 2,
-    format: 0,
-    gap: 0,
-};
-
 impl Shape {
     pub fn header_size(self) -> u16 {
         match self.minor {
@@ -41,10 +35,12 @@ impl Shape {
     }
 }
 
-// Writes bytes over those from a place on.
+// Writes bytes over those from a place on, as far as they fit.
 fn put(file: &mut [u8], at: usize, bytes: &[u8]) {
-    for (place, byte) in file.iter_mut().skip(at).zip(bytes) {
-        *place = *byte;
+    for (i, byte) in bytes.iter().enumerate() {
+        if let Some(place) = file.get_mut(at.saturating_add(i)) {
+            *place = *byte;
+        }
     }
 }
 
@@ -55,8 +51,10 @@ pub fn byte_of(word: &str) -> u8 {
 
 /// Writes the bytes of a text over those from a place on.
 pub fn put_hex(file: &mut [u8], at: usize, text: &str) {
-    for (place, word) in file.iter_mut().skip(at).zip(text.split_whitespace()) {
-        *place = byte_of(word);
+    let mut at = at;
+    for word in text.split_whitespace() {
+        put(file, at, &[byte_of(word)]);
+        at = at.saturating_add(1);
     }
 }
 
@@ -121,29 +119,10 @@ pub fn add_records(file: &mut Vec<u8>, shape: Shape, from: u32, to: u32) -> Resu
     Ok(())
 }
 
-/// Appends those of class 2 of the records up to a number.
-pub fn add_second_class(file: &mut Vec<u8>, shape: Shape, to: u32) -> Result<(), AllocError> {
-    for number in 0..to {
-        if number % 3 != 0 {
-            add_record(file, shape, number)?;
-        }
-    }
-    Ok(())
-}
-
 /// Appends a record of class 2 at a place.
 pub fn add_point(file: &mut Vec<u8>, x: i32, y: i32, z: i32) -> Result<(), AllocError> {
     file.extend_from_slice(&x.to_le_bytes())?;
     file.extend_from_slice(&y.to_le_bytes())?;
     file.extend_from_slice(&z.to_le_bytes())?;
     file.extend_from_slice(&[0, 0, 9, 2, 0, 0, 0, 0])
-}
-
-/// Appends records along a line.
-pub fn add_line(file: &mut Vec<u8>, count: u32) -> Result<(), AllocError> {
-    for i in 0..count.min(1000) {
-        let z = i as i32;
-        add_point(file, 100 * z, 1000, z)?;
-    }
-    Ok(())
 }

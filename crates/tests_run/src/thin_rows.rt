@@ -1,6 +1,5 @@
 //! `las2las`: one record of a cell, and no position twice.
-use crate::cases::{Script, first_wrong};
-use std::test::Fail;
+use crate::cases::{Script, wrong_of};
 
 // Five places in three cells, if the step is 10; two positions, each twice, and one that stands between; and both sides
 // of the edges of cells about 0, with the ends of the raw range.
@@ -203,10 +202,9 @@ const STAY: Script = Script {
 };
 
 #[test]
-fn records_that_stay(rt: HostRuntime) -> Result<(), Fail> {
-    let wrong = first_wrong(&rt, &STAY)?;
-    assert!(rt; wrong.is_none(), "{wrong:?}");
-    Ok(())
+fn records_that_stay(rt: HostRuntime) {
+    let (case, line) = wrong_of(&rt, &STAY);
+    assert!(rt; case.is_empty(), "{case}: {line}");
 }
 
 // A range, filters, positions, cells and changes come one after another: as many runs, one for each, give the same. A
@@ -268,15 +266,10 @@ room b
 ends usage: word 5/ = las2las -i a -o b -lowest
 absent b
 case a bad chunk
-head 2 0 0 605
-point 0 0 5
-point 9 9 3
-point -1 0 7
-point 10 0 1
-point 9 0 8
-line 600
+head 2 0 0 1000
+records 2 0 0 0 1000
 packed
-set 526 FF FF FF FF
+set 1677 FF FF FF FF
 put a
 room b c d
 ends refused: a: 21 BadChunk 1/ = las2las -i a -o b -thin_raw 10 -lowest
@@ -316,8 +309,7 @@ const TWICE: Script = Script {
 };
 
 #[test]
-fn two_readings(rt: HostRuntime) -> Result<(), Fail> {
-    let wrong = first_wrong(&rt, &TWICE)?;
-    assert!(rt; wrong.is_none(), "{wrong:?}");
-    Ok(())
+fn two_readings(rt: HostRuntime) {
+    let (case, line) = wrong_of(&rt, &TWICE);
+    assert!(rt; case.is_empty(), "{case}: {line}");
 }

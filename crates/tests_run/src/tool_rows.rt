@@ -1,9 +1,5 @@
 //! Rows of `lasinfo`, `lassplit`, `lasmerge` and `make`.
-use crate::cases::{Script, World, first_wrong};
-use crate::recipes::{PLAIN, add_head, add_records};
-use las_outside::OpenGate;
-use std::alloc::{AllocError, Global};
-use std::test::Fail;
+use crate::cases::{Script, wrong_of};
 
 const CASES: &str = "\
 case five records in parts of two, and the parts merged again
@@ -87,6 +83,28 @@ room b
 tells version 1.4/header 375/offset 375/vlrs 0/format 0/length 20/points 3/packed no/header returns 3 0 0 0 \
     0/long returns 3 0 0 0 0 0 0 0 0 0 0 0 0 0 0/record returns 3 0 0 0 0/raw x 256 258/raw y 512 513/raw z 3 515/ \
     = lasinfo -i a -cores 2
+case records are tallied
+head 2 0 0 2
+add 05 00 00 00 06 00 00 00 07 00 00 00 00 00 09 02 00 00 00 00
+add 05 00 00 00 06 00 00 00 07 00 00 00 00 00 09 01 00 00 00 00
+put a
+room b c d e
+tells version 1.2/header 227/offset 227/vlrs 0/format 0/length 20/points 2/packed no/header returns 2 0 0 0 0/record \
+    returns 2 0 0 0 0/raw x 5 5/raw y 6 6/raw z 7 7/tally class/1 1/2 1/ = lasinfo -i a -tally class -cores 2
+tells tally class/1 1/2 1/ = las2las -i a -o b -tally class
+tells tally class/7 2/ = las2las -i b -o c -set_classification 7 -tally class
+tells tally class/2 1/ = las2las -i a -o c -keep_class 2 -thin_raw 9 -lowest -tally class
+ends refused: a: 22 RawRange 0/ = las2las -i a -o d -translate_raw_x 2147483647 -tally class
+ends usage: word 6/ = las2las -i a -o d -tally parity
+same b a
+case tallies are not put
+head 2 0 0 5
+records 2 0 0 0 5
+put a
+room b
+failput 1
+ends write fault/ = las2las -i a -o b -tally class
+same b a
 case the text of make is not put
 room b c d e
 failput 1
@@ -110,50 +128,7 @@ const TOOLS: Script = Script {
 };
 
 #[test]
-fn other_tools(rt: HostRuntime) -> Result<(), Fail> {
-    let wrong = first_wrong(&rt, &TOOLS)?;
-    assert!(rt; wrong.is_none(), "{wrong:?}");
-    Ok(())
-}
-
-// Gives 513 parts room.
-fn give_parts_room(world: &mut World, alloc: Global) -> Result<(), AllocError> {
-    for number in 0..513 {
-        let name = format!(in alloc; "p_{number:07}")?;
-        world.files.prepare(&name, 1000)?;
-    }
-    Ok(())
-}
-
-// Whether a part holds the record of its number, under a head without counts.
-fn is_part(world: &World, alloc: Global, number: u32) -> Result<bool, AllocError> {
-    let name = format!(in alloc; "p_{number:07}")?;
-    let mut wanted = Vec::new(alloc);
-    add_head(&mut wanted, PLAIN, 0)?;
-    add_records(&mut wanted, PLAIN, number, number.saturating_add(1))?;
-    Ok(world.bytes(&name) == wanted.as_slice())
-}
-
-// How many parts stand, of those before the first that does not.
-fn parts_that_stand(world: &World, alloc: Global) -> Result<u32, AllocError> {
-    for number in 0..600 {
-        if !is_part(world, alloc, number)? {
-            return Ok(number);
-        }
-    }
-    Ok(600)
-}
-
-// 513 parts are one too many: the first 512 stand.
-#[test]
-fn too_many_parts(rt: HostRuntime) -> Result<(), Fail> {
-    let mut world = World::new(rt.alloc())?;
-    let is_put = world.does(&rt, "head 2 0 0 513\nrecords 2 0 0 0 513\nput a")?;
-    give_parts_room(&mut world, rt.alloc())?;
-    let status = world.obey(&rt, "lassplit -i a -o p -split 1", "", &OpenGate)?;
-    let parts = parts_that_stand(&world, rt.alloc())?;
-    let is_named = world.err.bytes() == b"refused: a: 23 TooManyParts\n".as_slice();
-    let is_last = world.files.get("p_0000512").is_none();
-    assert!(rt; is_put && status == 5 && parts == 512 && is_named && is_last);
-    Ok(())
+fn other_tools(rt: HostRuntime) {
+    let (case, line) = wrong_of(&rt, &TOOLS);
+    assert!(rt; case.is_empty(), "{case}: {line}");
 }
