@@ -329,8 +329,8 @@ fn first_wrong_alone(rt: &HostRuntime, script: &'static str) -> Option<&'static 
 
 #[test]
 fn scripts_are_done(rt: HostRuntime) {
-    for script in SCRIPTS {
-        let wrong = first_wrong_alone(&rt, script);
+    for script in &SCRIPTS {
+        let wrong = first_wrong_alone(&rt, *script);
         assert!(rt; wrong.is_none(), "{}", wrong.unwrap_or(""));
     }
 }

@@ -6,7 +6,6 @@ use las_info::{ClassTap, ReturnTap, Tap};
 use las_thin::Pick;
 use las_words::{Command, Packing, WordFault, read_words};
 use std::alloc::{AllocError, Global};
-use std::test::Fail;
 
 // A line for each: words with a blank between two of them, and the command or the index of the first wrong word.
 static LINES: &str = "\
@@ -343,11 +342,15 @@ make -o a.laz -z b.las -points 1 -seed 1 -cores 8 = make a.laz b.las 1 1 0 0 500
 ";
 
 #[test]
-fn lines_are_read(rt: HostRuntime) -> Result<(), Fail> {
-    let taps = taps(rt.alloc())?;
-    let (count, wrong) = first_wrong(rt.alloc(), &taps);
+fn lines_are_read(rt: HostRuntime) {
+    let (count, wrong) = first_wrong_with_taps(rt.alloc()).unwrap_or((0, "memory"));
     assert!(rt; wrong.is_empty() && count == 324, "{count}: {wrong}");
-    Ok(())
+}
+
+// How many rows are answered as they say if two taps may be named, and the first that is not.
+fn first_wrong_with_taps(alloc: Global) -> Result<(u32, &'static str), AllocError> {
+    let taps = taps(alloc)?;
+    Ok(first_wrong(alloc, &taps))
 }
 
 // How many rows are answered as they say, before the first that is not, and that one.

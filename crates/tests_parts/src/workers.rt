@@ -4,7 +4,7 @@ ghost use Rattle.std.specs.Prelude.{◌≡◌, ℕ, ◌*◌, ◌<◌, ◌≤◌,
 ghost use Rattle.laz_workers.specs.Rooms.{rooms_of, numbers_in};
 
 use las_outside::Gate;
-use laz_workers::{Claims, Crew, Job, run_all};
+use laz_workers::{Crew, Job, work_batch};
 use std::alloc::{AllocError, Global};
 use std::hint::spin_loop;
 use std::sync::atomic::{AtomicU64, Ordering};
@@ -158,30 +158,6 @@ fn inputs_of(alloc: Global, bytes: &[u8]) -> Result<Vec<Vec<u8>>, AllocError>
     Ok(inputs)
 }
 
-// Works inputs by a crew of `hands` hands. Gives the crew and the word at the end.
-fn worked<R: Threads + Sync>(
-    rt: &R,
-    alloc: Global,
-    watch: &Watch,
-    hands: u32,
-    inputs: &[Vec<u8>],
-) -> Result<(Crew<()>, u64), AllocError>
-    requires hands { (0 < hands) × (hands ≤ 8) }
-    requires inputs { length inputs.now ≤ 2 * hands }
-    ensures { IfOk result (λ r. (n : ℕ) → n < length inputs.now → Contains (numbers_in (rooms_of r.0)) n) }
-{
-    let mut crew = crew_of(alloc, hands)?;
-    let (claims, first) = Claims::new(alloc, inputs.len() as u32, hands)?;
-    let mut passes = Vec::new(alloc);
-    claims.deal(first, &mut passes)?;
-    let job = Next { watch };
-    run_all(rt, &job, watch, inputs, &mut crew, &claims, &mut passes);
-    let Some(joined) = passes.pop() else {
-        return Err(AllocError);
-    };
-    Ok((crew, claims.close(joined)))
-}
-
 // Whether each input's answer stands under its number.
 fn stands_by_number(crew: &Crew<()>, bytes: &[u8]) -> bool
     requires stands { (n : ℕ) → n < length bytes.now → Contains (numbers_in (rooms_of crew.now)) n }
@@ -199,8 +175,24 @@ fn stands_by_number(crew: &Crew<()>, bytes: &[u8]) -> bool
     true
 }
 
-// Whether each byte is worked once inside the gate, its answer stands under its number, and no more is drawn than a
-// number past the total by each hand.
+// Whether a crew works each byte once inside the gate, and its answer stands under its number.
+fn works<R: Threads + Sync>(
+    rt: &R,
+    alloc: Global,
+    watch: &Watch,
+    crew: &mut Crew<()>,
+    inputs: &[Vec<u8>],
+    bytes: &[u8],
+) -> Result<bool, AllocError>
+    requires hands { 0 < length crew.old }
+    requires inputs { length inputs.now ≤ 2 * length crew.old }
+    requires bytes { length bytes.now ≡ length inputs.now }
+{
+    work_batch(rt, alloc, &Next { watch }, watch, inputs, crew)?;
+    Ok(stands_by_number(crew, bytes) && watch.saw_each_once())
+}
+
+// The same of a crew of so many hands.
 fn is_worked<R: Threads + Sync>(
     rt: &R,
     alloc: Global,
@@ -212,14 +204,8 @@ fn is_worked<R: Threads + Sync>(
     requires few { length bytes.now ≤ 2 * hands }
 {
     let inputs = inputs_of(alloc, bytes)?;
-    let (crew, word) = worked(rt, alloc, watch, hands, &inputs)?;
-    Ok(
-        crew.hands() == hands as usize
-            && stands_by_number(&crew, bytes)
-            && watch.saw_each_once()
-            && word >= bytes.len() as u64
-            && word <= bytes.len() as u64 + u64::from(hands),
-    )
+    let mut crew = crew_of(alloc, hands)?;
+    works(rt, alloc, watch, &mut crew, &inputs, bytes)
 }
 
 // A crew of 1 to 8 hands, at most two bytes for each, which numbers are held, and how many of them to the last turn.
@@ -357,15 +343,25 @@ static ROWS: [Row; 14] = [
     },
 ];
 
-// Whether a crew works as its row says.
-fn crew_works<R: Threads + Sync>(rt: &R, alloc: Global, row: &Row) -> Result<bool, AllocError> {
+// Whether a crew works as its row says, while a gate watches it.
+fn crew_is_watched<R: Threads + Sync>(
+    rt: &R,
+    alloc: Global,
+    watch: &Watch,
+    row: &Row,
+) -> Result<bool, AllocError> {
     let (hands, bytes) = (row.hands, row.bytes);
     if hands == 0 || hands > 8 || bytes.len() > 2 * hands as usize {
         return Ok(false);
     }
-    let watch = watch_of(alloc, bytes.len(), row.hold)?;
-    let is_right = is_worked(rt, alloc, &watch, hands, bytes)?;
+    let is_right = is_worked(rt, alloc, watch, hands, bytes)?;
     Ok(is_right && watch.missed.load(Ordering::SeqCst) == row.missed)
+}
+
+// Whether a crew works as its row says.
+fn crew_works<R: Threads + Sync>(rt: &R, alloc: Global, row: &Row) -> Result<bool, AllocError> {
+    let watch = watch_of(alloc, row.bytes.len(), row.hold)?;
+    crew_is_watched(rt, alloc, &watch, row)
 }
 
 // The name of the first row whose crew does not, or none.
