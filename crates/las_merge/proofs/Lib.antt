@@ -1,5 +1,4 @@
 mod Examples
-mod Exits
 mod OneCause
 mod Kept
 mod Merges

@@ -1,16 +1,11 @@
 -- How a call that reads ends where it answers a fault of another call.
 use Rattle.std.proofs.Common.{◌≡◌, inl, inr, ℕ, Result, Ok, Err, sym, ◌∙◌, subst}
-use Rattle.std.specs.Prelude.{IfErr, IfOk, IsErrAnd}
+use Rattle.std.specs.Prelude.{IfErr, IsErrAnd}
 use Rattle.las_outside.specs.Faults.{Rose}
 use Rattle.las_outside.specs.Outside.{Outside}
 use Rattle.laz_forms.specs.declared.fault.Fault.{Fault}
 use Rattle.laz_forms.specs.declared.fault.Fault.TheVariants.{Refused, Read, Write, Memory}
 use Rattle.laz_reader.specs.Reading.{EndsReading, FailsReading}
-
--- what is said of Ok holds of an Err
-pub no_ok : {T E : Type 0} (r : Result T E) (P : T → Type 0) (Q : E → Type 0) → IsErrAnd r Q → IfOk r P
-no_ok (Ok x) P Q fault = absurd fault
-no_ok (Err e) P Q fault = tt
 
 -- what holds of a fault holds of the answer that has it
 pub at_exit : {T : Type 0} (r : Result T Fault) (fault : Fault) (P : Fault → Type 0) → IsErrAnd r (λ e. e ≡ fault) → P fault → IfErr r P

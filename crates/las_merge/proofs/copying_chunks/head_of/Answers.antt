@@ -1,5 +1,5 @@
 use Rattle.std.proofs.Common.{◌≡◌, ℕ, List, Result, IfOk, ◌∙◌, ap}
-use Rattle.std.proofs.lemmas.Result.{IfOk-weaker}
+use Rattle.std.proofs.lemmas.Result.{IfOk-from_err, IfOk-weaker}
 use Rattle.las_header.specs.Counting.{with_sums}
 use Rattle.las_header.specs.Fields.{format_of}
 use Rattle.las_header.specs.Heads.{HeadView}
@@ -11,7 +11,6 @@ use Rattle.laz_forms.specs.Packing.{packed_head}
 use Rattle.las_merge.specs.Opening.{first_read}
 use Rattle.las_merge.specs.Summing.{long_returns_in, returns_in, summed_head}
 use Rattle.las_merge.proofs.Whole.{head_first}
-use Rattle.las_merge.proofs.Exits.{no_ok}
 use Rattle.las_merge.proofs.copying_chunks.head_of.Goals as goal
 
 -- a head with the payload of its own format is the packed one, stated for any chunk size, so that none is computed
@@ -37,4 +36,4 @@ returns c =
     is_packed_head c.with_vlr.result c.deref.result.now bytes (summed_head inputs) COUNTED_CHUNKS done payload summed
 
 pub returns-in_err-plain : goal.returns-in_err-plain
-returns-in_err-plain c = no_ok c.from_residual.result _ _ c.from_residual.ensures.1
+returns-in_err-plain c = IfOk-from_err c.from_residual.result _ c.from_residual.ensures.0

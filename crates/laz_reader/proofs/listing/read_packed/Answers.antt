@@ -1,11 +1,12 @@
 use Rattle.std.proofs.Common.{◌≡◌, ◌+◌, ◌-◌, ◌≤◌, ℕ, List, Bool, true, if◌then◌else◌, take, drop, refl, sym, ◌∙◌, ap, subst, Err, length, arith}
+use Rattle.std.proofs.lemmas.Result.{IfOk-from_err}
 use Rattle.std.specs.Prelude.{Some}
 use Rattle.las_header.specs.declared.refusal.Refusal.{Refusal}
 use Rattle.laz_forms.specs.declared.fault.Fault.{Fault}
 use Rattle.laz_reader.specs.Asking.{asked_for_table}
 use Rattle.laz_reader.specs.Reading.{EndsReading, IsHeadOf, IsTablePlace, points_in, table_size}
 use Rattle.las_header.specs.Heads.{HeadView}
-use Rattle.laz_reader.proofs.Exits.{at_exit, ends_after, no_ok}
+use Rattle.laz_reader.proofs.Exits.{at_exit, ends_after}
 use Rattle.las_header.specs.Fields.{head_of, is_packed}
 use Rattle.las_outside.proofs.Public.{calm-trans, only_reads-trans}
 use Rattle.laz_forms.specs.Refusing.{IsRefusal, table_part, table_place}
@@ -103,49 +104,49 @@ pub returns-clause-calm : goal.returns-clause-calm
 returns-clause-calm g c = calm-trans _ _ _ c.in_ok-place.ensures.calm c.in_ok-sizes.ensures.calm
 
 pub returns-in_err-place-clause-chunk : goal.returns-in_err-place-clause-chunk
-returns-in_err-place-clause-chunk g c = no_ok c.from_residual.result _ _ c.from_residual.ensures.1
+returns-in_err-place-clause-chunk g c = IfOk-from_err c.from_residual.result _ c.from_residual.ensures.0
 
 pub returns-in_err-place-clause-points : goal.returns-in_err-place-clause-points
-returns-in_err-place-clause-points g c = no_ok c.from_residual.result _ _ c.from_residual.ensures.1
+returns-in_err-place-clause-points g c = IfOk-from_err c.from_residual.result _ c.from_residual.ensures.0
 
 pub returns-in_err-place-clause-some : goal.returns-in_err-place-clause-some
-returns-in_err-place-clause-some g c = no_ok c.from_residual.result _ _ c.from_residual.ensures.1
+returns-in_err-place-clause-some g c = IfOk-from_err c.from_residual.result _ c.from_residual.ensures.0
 
 pub returns-in_err-place-clause-lists : goal.returns-in_err-place-clause-lists
-returns-in_err-place-clause-lists g c = no_ok c.from_residual.result _ _ c.from_residual.ensures.1
+returns-in_err-place-clause-lists g c = IfOk-from_err c.from_residual.result _ c.from_residual.ensures.0
 
 pub returns-in_err-place-clause-near : goal.returns-in_err-place-clause-near
-returns-in_err-place-clause-near g c = no_ok c.from_residual.result _ _ c.from_residual.ensures.1
+returns-in_err-place-clause-near g c = IfOk-from_err c.from_residual.result _ c.from_residual.ensures.0
 
 pub returns-in_err-place-clause-stands : goal.returns-in_err-place-clause-stands
-returns-in_err-place-clause-stands g c = no_ok c.from_residual.result _ _ c.from_residual.ensures.1
+returns-in_err-place-clause-stands g c = IfOk-from_err c.from_residual.result _ c.from_residual.ensures.0
 
 pub returns-in_err-place-clause-calm : goal.returns-in_err-place-clause-calm
-returns-in_err-place-clause-calm g c = no_ok c.from_residual.result _ _ c.from_residual.ensures.1
+returns-in_err-place-clause-calm g c = IfOk-from_err c.from_residual.result _ c.from_residual.ensures.0
 
 pub returns-in_err-place-clause-asked : goal.returns-in_err-place-clause-asked
-returns-in_err-place-clause-asked g c = no_ok c.from_residual.result _ _ c.from_residual.ensures.1
+returns-in_err-place-clause-asked g c = IfOk-from_err c.from_residual.result _ c.from_residual.ensures.0
 
 pub returns-in_err-sizes-clause-chunk : goal.returns-in_err-sizes-clause-chunk
-returns-in_err-sizes-clause-chunk g c = no_ok c.from_residual-in_err-sizes.result _ _ c.from_residual-in_err-sizes.ensures.1
+returns-in_err-sizes-clause-chunk g c = IfOk-from_err c.from_residual-in_err-sizes.result _ c.from_residual-in_err-sizes.ensures.0
 
 pub returns-in_err-sizes-clause-points : goal.returns-in_err-sizes-clause-points
-returns-in_err-sizes-clause-points g c = no_ok c.from_residual-in_err-sizes.result _ _ c.from_residual-in_err-sizes.ensures.1
+returns-in_err-sizes-clause-points g c = IfOk-from_err c.from_residual-in_err-sizes.result _ c.from_residual-in_err-sizes.ensures.0
 
 pub returns-in_err-sizes-clause-some : goal.returns-in_err-sizes-clause-some
-returns-in_err-sizes-clause-some g c = no_ok c.from_residual-in_err-sizes.result _ _ c.from_residual-in_err-sizes.ensures.1
+returns-in_err-sizes-clause-some g c = IfOk-from_err c.from_residual-in_err-sizes.result _ c.from_residual-in_err-sizes.ensures.0
 
 pub returns-in_err-sizes-clause-lists : goal.returns-in_err-sizes-clause-lists
-returns-in_err-sizes-clause-lists g c = no_ok c.from_residual-in_err-sizes.result _ _ c.from_residual-in_err-sizes.ensures.1
+returns-in_err-sizes-clause-lists g c = IfOk-from_err c.from_residual-in_err-sizes.result _ c.from_residual-in_err-sizes.ensures.0
 
 pub returns-in_err-sizes-clause-near : goal.returns-in_err-sizes-clause-near
-returns-in_err-sizes-clause-near g c = no_ok c.from_residual-in_err-sizes.result _ _ c.from_residual-in_err-sizes.ensures.1
+returns-in_err-sizes-clause-near g c = IfOk-from_err c.from_residual-in_err-sizes.result _ c.from_residual-in_err-sizes.ensures.0
 
 pub returns-in_err-sizes-clause-stands : goal.returns-in_err-sizes-clause-stands
-returns-in_err-sizes-clause-stands g c = no_ok c.from_residual-in_err-sizes.result _ _ c.from_residual-in_err-sizes.ensures.1
+returns-in_err-sizes-clause-stands g c = IfOk-from_err c.from_residual-in_err-sizes.result _ c.from_residual-in_err-sizes.ensures.0
 
 pub returns-in_err-sizes-clause-calm : goal.returns-in_err-sizes-clause-calm
-returns-in_err-sizes-clause-calm g c = no_ok c.from_residual-in_err-sizes.result _ _ c.from_residual-in_err-sizes.ensures.1
+returns-in_err-sizes-clause-calm g c = IfOk-from_err c.from_residual-in_err-sizes.result _ c.from_residual-in_err-sizes.ensures.0
 
 pub returns-in_err-sizes-clause-asked : goal.returns-in_err-sizes-clause-asked
-returns-in_err-sizes-clause-asked g c = no_ok c.from_residual-in_err-sizes.result _ _ c.from_residual-in_err-sizes.ensures.1
+returns-in_err-sizes-clause-asked g c = IfOk-from_err c.from_residual-in_err-sizes.result _ c.from_residual-in_err-sizes.ensures.0

@@ -1,10 +1,11 @@
 use Rattle.std.proofs.Common.{◌≡◌, ◌-◌, ◌≤◌, ◌∙◌, min, refl, sym, ap, List, ℕ, length, arith}
+use Rattle.std.proofs.lemmas.Result.{IfOk-from_err}
 use Rattle.las_header.specs.Fields.{point_offset_of}
 use Rattle.las_header.specs.Refusals.{first_cause, front_causes}
 use Rattle.las_outside.proofs.Public.{reads-more}
 use Rattle.laz_forms.proofs.Public.{known_both}
 use Rattle.laz_reader.specs.Reading.{EndsReading}
-use Rattle.laz_reader.proofs.Exits.{at_exit, fails_after, no_ok}
+use Rattle.laz_reader.proofs.Exits.{at_exit, fails_after}
 use Rattle.laz_reader.proofs.Heads.{front_cause, front_read, never_refused, none_of_ok, same_cause}
 use Rattle.laz_reader.proofs.opening.read_front.Goals as goal
 
@@ -64,19 +65,19 @@ returns-in_err-read_on-clause-ends g c =
     at_exit c.from_residual.result c.in_err-read_on.field-0.0 (EndsReading ⊥ old new) c.from_residual.ensures.1 (fails_after ⊥ old old new c.in_err-read_on.field-0.0 refl c.in_err-read_on.ensures.ends)
 
 pub returns-in_err-read_on-clause-front : goal.returns-in_err-read_on-clause-front
-returns-in_err-read_on-clause-front g c = no_ok c.from_residual.result _ _ c.from_residual.ensures.1
+returns-in_err-read_on-clause-front g c = IfOk-from_err c.from_residual.result _ c.from_residual.ensures.0
 
 pub returns-in_err-read_on-clause-offset : goal.returns-in_err-read_on-clause-offset
-returns-in_err-read_on-clause-offset g c = no_ok c.from_residual.result _ _ c.from_residual.ensures.1
+returns-in_err-read_on-clause-offset g c = IfOk-from_err c.from_residual.result _ c.from_residual.ensures.0
 
 pub returns-in_err-read_on-clause-bounds : goal.returns-in_err-read_on-clause-bounds
-returns-in_err-read_on-clause-bounds g c = no_ok c.from_residual.result _ _ c.from_residual.ensures.1
+returns-in_err-read_on-clause-bounds g c = IfOk-from_err c.from_residual.result _ c.from_residual.ensures.0
 
 pub returns-in_err-read_on-clause-len : goal.returns-in_err-read_on-clause-len
-returns-in_err-read_on-clause-len g c = no_ok c.from_residual.result _ _ c.from_residual.ensures.1
+returns-in_err-read_on-clause-len g c = IfOk-from_err c.from_residual.result _ c.from_residual.ensures.0
 
 pub returns-in_err-read_on-clause-bytes : goal.returns-in_err-read_on-clause-bytes
-returns-in_err-read_on-clause-bytes g c = no_ok c.from_residual.result _ _ c.from_residual.ensures.1
+returns-in_err-read_on-clause-bytes g c = IfOk-from_err c.from_residual.result _ c.from_residual.ensures.0
 
 pub returns-in_err-read_on-clause-calm : goal.returns-in_err-read_on-clause-calm
-returns-in_err-read_on-clause-calm g c = no_ok c.from_residual.result _ _ c.from_residual.ensures.1
+returns-in_err-read_on-clause-calm g c = IfOk-from_err c.from_residual.result _ c.from_residual.ensures.0

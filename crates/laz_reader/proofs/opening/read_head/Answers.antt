@@ -1,4 +1,5 @@
 use Rattle.std.proofs.Common.{◌≡◌, ◌+◌, ◌≤◌, ℕ, List, ◌∙◌, ap, subst, Err, length, arith}
+use Rattle.std.proofs.lemmas.Result.{IfOk-from_err}
 use Rattle.las_header.specs.Heads.{HeadView}
 use Rattle.las_outside.specs.Files.{IsMissing}
 use Rattle.las_outside.specs.Frames.{IsCalm, OnlyReads}
@@ -9,7 +10,7 @@ use Rattle.laz_forms.proofs.Public.{known_at, known_both, known_then}
 use Rattle.laz_reader.specs.Asking.{asked_for_head}
 use Rattle.laz_reader.specs.Reading.{EndsReading}
 use Rattle.laz_reader.proofs.OpeningAsks.{head_asks}
-use Rattle.laz_reader.proofs.Exits.{at_exit, ends_after, fails_after, no_ok}
+use Rattle.laz_reader.proofs.Exits.{at_exit, ends_after, fails_after}
 use Rattle.laz_reader.proofs.Heads.{head_known, head_accepted, head_given, head_refused, never_refused, no_stray_read, refused_by_front, residual_is, same_cause}
 use Rattle.laz_reader.proofs.Missing.{known_not_missing}
 use Rattle.laz_reader.proofs.opening.read_head.Goals as goal
@@ -160,37 +161,37 @@ pub returns-in-Ok-read-clause-reads : goal.returns-in-Ok-read-clause-reads
 returns-in-Ok-read-clause-reads g c = both_read _ _ _ _ c.in-Ok.ensures.ok c.read_front.ensures.reads.only c.read_on.ensures.reads.only
 
 pub returns-in_err-offset-clause-head : goal.returns-in_err-offset-clause-head
-returns-in_err-offset-clause-head g c = no_ok c.from_residual.result _ _ c.from_residual.ensures.1
+returns-in_err-offset-clause-head g c = IfOk-from_err c.from_residual.result _ c.from_residual.ensures.0
 
 pub returns-in_err-offset-clause-size : goal.returns-in_err-offset-clause-size
-returns-in_err-offset-clause-size g c = no_ok c.from_residual.result _ _ c.from_residual.ensures.1
+returns-in_err-offset-clause-size g c = IfOk-from_err c.from_residual.result _ c.from_residual.ensures.0
 
 pub returns-in_err-offset-clause-within : goal.returns-in_err-offset-clause-within
-returns-in_err-offset-clause-within g c = no_ok c.from_residual.result _ _ c.from_residual.ensures.1
+returns-in_err-offset-clause-within g c = IfOk-from_err c.from_residual.result _ c.from_residual.ensures.0
 
 pub returns-in_err-offset-clause-plain : goal.returns-in_err-offset-clause-plain
-returns-in_err-offset-clause-plain g c = no_ok c.from_residual.result _ _ c.from_residual.ensures.1
+returns-in_err-offset-clause-plain g c = IfOk-from_err c.from_residual.result _ c.from_residual.ensures.0
 
 pub returns-in_err-offset-clause-calm : goal.returns-in_err-offset-clause-calm
-returns-in_err-offset-clause-calm g c = no_ok c.from_residual.result _ _ c.from_residual.ensures.1
+returns-in_err-offset-clause-calm g c = IfOk-from_err c.from_residual.result _ c.from_residual.ensures.0
 
 pub returns-in_err-offset-clause-asked : goal.returns-in_err-offset-clause-asked
-returns-in_err-offset-clause-asked g c = no_ok c.from_residual.result _ _ c.from_residual.ensures.1
+returns-in_err-offset-clause-asked g c = IfOk-from_err c.from_residual.result _ c.from_residual.ensures.0
 
 pub returns-in_err-read_on-clause-head : goal.returns-in_err-read_on-clause-head
-returns-in_err-read_on-clause-head g c = no_ok c.from_residual-in_err-read_on.result _ _ c.from_residual-in_err-read_on.ensures.1
+returns-in_err-read_on-clause-head g c = IfOk-from_err c.from_residual-in_err-read_on.result _ c.from_residual-in_err-read_on.ensures.0
 
 pub returns-in_err-read_on-clause-size : goal.returns-in_err-read_on-clause-size
-returns-in_err-read_on-clause-size g c = no_ok c.from_residual-in_err-read_on.result _ _ c.from_residual-in_err-read_on.ensures.1
+returns-in_err-read_on-clause-size g c = IfOk-from_err c.from_residual-in_err-read_on.result _ c.from_residual-in_err-read_on.ensures.0
 
 pub returns-in_err-read_on-clause-within : goal.returns-in_err-read_on-clause-within
-returns-in_err-read_on-clause-within g c = no_ok c.from_residual-in_err-read_on.result _ _ c.from_residual-in_err-read_on.ensures.1
+returns-in_err-read_on-clause-within g c = IfOk-from_err c.from_residual-in_err-read_on.result _ c.from_residual-in_err-read_on.ensures.0
 
 pub returns-in_err-read_on-clause-plain : goal.returns-in_err-read_on-clause-plain
-returns-in_err-read_on-clause-plain g c = no_ok c.from_residual-in_err-read_on.result _ _ c.from_residual-in_err-read_on.ensures.1
+returns-in_err-read_on-clause-plain g c = IfOk-from_err c.from_residual-in_err-read_on.result _ c.from_residual-in_err-read_on.ensures.0
 
 pub returns-in_err-read_on-clause-calm : goal.returns-in_err-read_on-clause-calm
-returns-in_err-read_on-clause-calm g c = no_ok c.from_residual-in_err-read_on.result _ _ c.from_residual-in_err-read_on.ensures.1
+returns-in_err-read_on-clause-calm g c = IfOk-from_err c.from_residual-in_err-read_on.result _ c.from_residual-in_err-read_on.ensures.0
 
 pub returns-in_err-read_on-clause-asked : goal.returns-in_err-read_on-clause-asked
-returns-in_err-read_on-clause-asked g c = no_ok c.from_residual-in_err-read_on.result _ _ c.from_residual-in_err-read_on.ensures.1
+returns-in_err-read_on-clause-asked g c = IfOk-from_err c.from_residual-in_err-read_on.result _ c.from_residual-in_err-read_on.ensures.0

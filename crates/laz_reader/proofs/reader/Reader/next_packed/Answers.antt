@@ -1,7 +1,8 @@
-use Rattle.std.proofs.Common.{◌≡◌, ◌<◌, ◌≤◌, ◌*◌, ◌+◌, ◌-◌, ◌^◌, ◌∙◌, min, false, refl, sym, ap, subst, ℕ, List, [], length, take, drop, get_or, Option, Err, arith, rules}
+use Rattle.std.proofs.Common.{◌≡◌, ◌<◌, ◌≤◌, ◌*◌, ◌+◌, ◌-◌, ◌^◌, ◌∙◌, min, false, refl, sym, ap, subst, ℕ, List, [], length, take, drop, get_or, Option, Err, arith}
+use Rattle.std.proofs.lemmas.Result.{IfOk-from_err}
 use mir.Syntax.{w32}
 use mir.Val.{Fits}
-use Rattle.std.specs.Prelude.{IfOk, IsErrAnd, IsSome, Result, Ok, nat_lt, sum}
+use Rattle.std.specs.Prelude.{IsSome, nat_lt, sum}
 use Rattle.std.proofs.lemmas.Bool.{ltb-true}
 use Rattle.std.proofs.lemmas.Grind.{common_steps}
 use Rattle.std.proofs.lemmas.List.{length-take}
@@ -71,11 +72,6 @@ count_fits n count next last points blocks records within long few fits = omega 
 
 cut_to : (n k j : ℕ) (xs : List ℕ) → n ≤ k → k ≡ j → j ≡ length xs → length (take n xs) ≡ n
 cut_to n k j xs within same long = omega (arith, length-take n xs)
-
--- what is said of Ok holds of an Err
-no_ok : {T E : Type 0} (r : Result T E) (P : T → Type 0) (Q : E → Type 0) → IsErrAnd r Q → IfOk r P
-no_ok (Ok x) P Q fault = absurd fault
-no_ok (Err e) P Q fault = search rules
 
 -- what stands before the chunks are read
 module _ (g : Over) (c : After-min-most g) where
@@ -388,28 +384,28 @@ pub returns-in_err-good-clause-hands : goal.returns-in_err-good-clause-hands
 returns-in_err-good-clause-hands g c = c.in_err-good.ensures.hands
 
 pub returns-in_err-good-clause-asked : goal.returns-in_err-good-clause-asked
-returns-in_err-good-clause-asked g c = no_ok c.from_residual.result _ _ c.from_residual.ensures.1
+returns-in_err-good-clause-asked g c = IfOk-from_err c.from_residual.result _ c.from_residual.ensures.0
 
 pub returns-in_err-good-clause-crew : goal.returns-in_err-good-clause-crew
-returns-in_err-good-clause-crew g c = no_ok c.from_residual.result _ _ c.from_residual.ensures.1
+returns-in_err-good-clause-crew g c = IfOk-from_err c.from_residual.result _ c.from_residual.ensures.0
 
 pub returns-in_err-good-clause-moved : goal.returns-in_err-good-clause-moved
-returns-in_err-good-clause-moved g c = no_ok c.from_residual.result _ _ c.from_residual.ensures.1
+returns-in_err-good-clause-moved g c = IfOk-from_err c.from_residual.result _ c.from_residual.ensures.0
 
 pub returns-in_err-good-clause-blocks : goal.returns-in_err-good-clause-blocks
-returns-in_err-good-clause-blocks g c = no_ok c.from_residual.result _ _ c.from_residual.ensures.1
+returns-in_err-good-clause-blocks g c = IfOk-from_err c.from_residual.result _ c.from_residual.ensures.0
 
 pub returns-in_err-good-clause-bad_next : goal.returns-in_err-good-clause-bad_next
-returns-in_err-good-clause-bad_next g c = no_ok c.from_residual.result _ _ c.from_residual.ensures.1
+returns-in_err-good-clause-bad_next g c = IfOk-from_err c.from_residual.result _ c.from_residual.ensures.0
 
 pub returns-in_err-good-clause-end : goal.returns-in_err-good-clause-end
-returns-in_err-good-clause-end g c = no_ok c.from_residual.result _ _ c.from_residual.ensures.1
+returns-in_err-good-clause-end g c = IfOk-from_err c.from_residual.result _ c.from_residual.ensures.0
 
 pub returns-in_err-good-clause-most : goal.returns-in_err-good-clause-most
-returns-in_err-good-clause-most g c = no_ok c.from_residual.result _ _ c.from_residual.ensures.1
+returns-in_err-good-clause-most g c = IfOk-from_err c.from_residual.result _ c.from_residual.ensures.0
 
 pub returns-in_err-good-clause-cut : goal.returns-in_err-good-clause-cut
-returns-in_err-good-clause-cut g c = no_ok c.from_residual.result _ _ c.from_residual.ensures.1
+returns-in_err-good-clause-cut g c = IfOk-from_err c.from_residual.result _ c.from_residual.ensures.0
 
 pub returns-in_err-good-clause-calm : goal.returns-in_err-good-clause-calm
-returns-in_err-good-clause-calm g c = no_ok c.from_residual.result _ _ c.from_residual.ensures.1
+returns-in_err-good-clause-calm g c = IfOk-from_err c.from_residual.result _ c.from_residual.ensures.0
