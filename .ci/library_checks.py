@@ -1,4 +1,5 @@
 """Whole runs of the library: a C program over liblaz.a, the programs of docs/library.md, and the Python package."""
+import gzip
 import os
 import random
 import re
@@ -47,18 +48,33 @@ def install(cases):
                    None if done.returncode == 0 else done.stderr[-500:].decode(errors="replace"))
 
 
+def released_library():
+    """The library of the release, by the names that release/library gives its files; nothing if another kit or linker
+    built it than those that are here."""
+    script = ". release/build.sh; rt version; ld --version | head -n 1; named release/BUILT_FROM kit; " \
+             "named release/BUILT_FROM linker"
+    here = subprocess.run(["sh", "-c", script], cwd=TOP, stdout=subprocess.PIPE, check=False).stdout.decode()
+    kit, linker, its_kit, its_linker = (here.splitlines() + [""] * 4)[:4]
+    if kit != its_kit or its_linker.partition(", ")[0] != linker:
+        return {}
+    names = {"liblaz.a": "liblaz.a", "liblaz.so": "liblaz.so", V3: "liblaz-x86-64-v3.so"}
+    return {name: gzip.decompress(content(os.path.join(TOP, "release", packed + ".gz")))
+            for name, packed in names.items()}
+
+
 def build(cases, folder):
-    """The library twice, with the same bytes, and the check program."""
+    """The library twice, with the same bytes, and the check program. One of the two may be that of the release."""
     there, again = os.path.join(folder, "lib"), os.path.join(folder, "again")
     # (otherwise it proves what is not proved yet)
     as_built = ["--as-built"] if os.environ.get("LAS_AS_BUILT") else []
-    for place in (there, again):
+    other = released_library() if as_built else {}
+    for place in [there] if other else [there, again]:
         _, problem = run([os.path.join(TOP, "release", "library"), *as_built, place], folder, limit=5400)
         if problem:
             cases.note("the library is built", problem)
             return None
-    differ = [name for name in ("liblaz.a", "liblaz.so", V3)
-              if content(os.path.join(there, name)) != content(os.path.join(again, name))]
+    other = other or {name: content(os.path.join(again, name)) for name in ("liblaz.a", "liblaz.so", V3)}
+    differ = [name for name, built in other.items() if content(os.path.join(there, name)) != built]
     cases.note("the library is built twice alike", f"other bytes: {differ}" if differ else None)
     header = re.findall(r"\b(laz_c_\w+)\(", content(os.path.join(TOP, "c", "las.h")).decode())
     for name in ("liblaz.so", V3):
@@ -250,6 +266,10 @@ cc -O2 c/heights.c $(pkg-config --cflags --libs liblaz) -o shared
 LD_LIBRARY_PATH="$PWD/there/lib" ./shared m.laz"""
     said, problem = run(["sh", "-euc", script], place)
     cases.note("the same by pkg-config", problem or (None if sorted(said.splitlines()) == wanted else f"{said!r}"))
+    script = "cc -O2 -Wall -Wextra -Werror -Ilib c/times.c lib/liblaz.a -o times; ./times m.las 50000"
+    said, problem = run(["sh", "-euc", script], place)
+    shown = re.fullmatch(r"packing [1-9]\d* ns a point\nunpacking [1-9]\d* ns a point\n", said or "")
+    cases.note("the program that times the coder", problem or (None if shown else f"{said!r}"))
     plain = subprocess.run([os.path.join(place, "heights"), "m.las"], cwd=place, stdout=subprocess.PIPE,
                            stderr=subprocess.PIPE, check=False)
     cases.note("the same with a plain file", None if (plain.returncode, plain.stdout) == (5, b"") else f"{plain}")

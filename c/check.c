@@ -1,7 +1,7 @@
 /*
  * Packs and unpacks whole files in memory by the calls of las.h, for the repository's checks.
  *
- *   check unpack IN OUT          unpacks a packed file
+ *   check unpack IN OUT          unpacks a packed file; the records of each chunk are packed and unpacked again
  *   check pack IN OUT CHUNK      packs a plain file in chunks of CHUNK points; 0: of 1, 2, 3 and so on
  *   check all                    reads names from standard input, one a line, and unpacks each file to NAME.out
  *   check arguments              calls with wrong lengths, null pointers and too little memory
@@ -210,6 +210,36 @@ static void put_plain_head(const struct buffer *file, const struct laz_head *hea
     plain->bytes[104] = head->format;
 }
 
+/* Packs a chunk of records, and answers how many bytes it has. */
+static uint32_t put_chunk(const struct laz_head *head, const uint8_t *bytes, uint32_t size, struct buffer *packed)
+{
+    size_t written = 0;
+    struct block records = copy_of(bytes, (size_t)size * head->record_length);
+    struct block chunk = block_of((size_t)laz_c_room(head->format, head->extra, size));
+    if (laz_c_pack(head->format, head->extra, records.bytes, records.length, chunk.bytes, chunk.length, &written)
+        != LAZ_DONE)
+        fail("laz_c_pack");
+    put(packed, chunk.bytes, written);
+    drop(&records);
+    drop(&chunk);
+    return (uint32_t)written;
+}
+
+/* Packs the records of a chunk and unpacks them again: they have to come back. */
+static void come_back(const struct laz_head *head, const struct block *records, uint32_t size)
+{
+    struct buffer packed = {NULL, 0, 0};
+    struct block chunk, again = block_of(records->length);
+    put_chunk(head, records->bytes, size, &packed);
+    chunk = copy_of(packed.bytes, packed.length);
+    if (laz_c_unpack(head->format, head->extra, chunk.bytes, chunk.length, size, again.bytes, again.length) != LAZ_DONE
+        || memcmp(again.bytes, records->bytes, records->length) != 0)
+        fail("records do not come back");
+    free(packed.bytes);
+    drop(&chunk);
+    drop(&again);
+}
+
 static uint32_t unpack(const struct buffer *file, struct buffer *plain, uint32_t *bad_chunk)
 {
     struct laz_head head;
@@ -239,6 +269,7 @@ static uint32_t unpack(const struct buffer *file, struct buffer *plain, uint32_t
             fail("laz_c_unpack");
         } else {
             put(plain, records.bytes, records.length);
+            come_back(&head, &records, sizes[i]);
         }
         at += counts[i];
         drop(&chunk);
@@ -287,21 +318,6 @@ static uint32_t sizes_of(uint32_t points, uint32_t chunk, uint32_t *sizes)
         count++;
     }
     return count;
-}
-
-/* Packs a chunk of records, and answers how many bytes it has. */
-static uint32_t put_chunk(const struct laz_head *head, const uint8_t *bytes, uint32_t size, struct buffer *packed)
-{
-    size_t written = 0;
-    struct block records = copy_of(bytes, (size_t)size * head->record_length);
-    struct block chunk = block_of((size_t)laz_c_room(head->format, head->extra, size));
-    if (laz_c_pack(head->format, head->extra, records.bytes, records.length, chunk.bytes, chunk.length, &written)
-        != LAZ_DONE)
-        fail("laz_c_pack");
-    put(packed, chunk.bytes, written);
-    drop(&records);
-    drop(&chunk);
-    return (uint32_t)written;
 }
 
 static uint32_t pack(const struct buffer *file, uint32_t chunk, struct buffer *packed)
