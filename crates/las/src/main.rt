@@ -1,15 +1,24 @@
 //! The program `las`: runs a command line over the files and streams of the system, and ends with the status.
 #![tactic(auto)]
 
+ghost use Rattle.std.specs.Prelude.{◌^◌, ◌≤◌, ℕ, All};
+ghost use Rattle.las_info.specs.Tallies.{count_at};
+
 mod command_line;
 mod standard_streams;
+mod taps;
 
 use command_line::text_words;
-use las_info::{ClassTap, IntensityTap, ReturnTap, SourceTap, Tap};
-use las_outside::{OpenGate, RealFiles, RealSink, Sink};
+use las_info::Tap;
+use las_outside::{Files, OpenGate, RealFiles, RealSink, Sink};
 use las_run::run;
-use standard_streams::fill_one;
+use standard_streams::fill_all;
+use std::alloc::Global;
+use std::env::Env;
+use std::io;
 use std::process::ExitCode;
+use std::thread::Threads;
+use taps::{OwnTaps, taps};
 
 // The status of a run that does not begin, since memory is short.
 fn no_memory<E: Sink>(err: &mut E) -> ExitCode {
@@ -23,33 +32,48 @@ fn no_streams<E: Sink>(err: &mut E) -> ExitCode {
     ExitCode::from(4)
 }
 
+// Runs the words of the command line, and answers the status. The only error is out of memory.
+fn obey<R: Env + Threads + Sync, F: Files, O: Sink, E: Sink>(
+    rt: &R,
+    alloc: Global,
+    files: &mut F,
+    out: &mut O,
+    err: &mut E,
+    taps: Vec<Box<dyn Tap>>,
+) -> io::Result<u8>
+    requires room { All (λ tap. (bin : ℕ) → count_at (tap_seen tap).tally bin ≤ 2 ^ 63) taps.items }
+{
+    let words = text_words(rt, alloc)?;
+    Ok(run(rt, alloc, &words, files, out, err, &OpenGate, taps))
+}
+
 fn main(rt: HostRuntime) -> ExitCode {
-    let alloc = rt.alloc();
-    let mut out = RealSink::out(&rt);
     let mut err = RealSink::err(&rt);
-    let (Ok(_first), Ok(_second), Ok(_third)) = (fill_one(&rt), fill_one(&rt), fill_one(&rt)) else {
+    let Ok(_fillers) = fill_all(&rt) else {
         return no_streams(&mut err);
     };
-    let Ok(words) = text_words(&rt, alloc) else {
-        return no_memory(&mut err);
-    };
-    let (Ok(class), Ok(source), Ok(returned), Ok(intensity)) = (
-        Box::new(alloc, ClassTap::new(alloc)),
-        Box::new(alloc, SourceTap::new(alloc)),
-        Box::new(alloc, ReturnTap::new(alloc)),
-        Box::new(alloc, IntensityTap::new(alloc)),
-    ) else {
+    let Ok(
+        OwnTaps {
+            class,
+            source,
+            returned,
+            intensity,
+        },
+    ) = taps(rt.alloc())
+    else {
         return no_memory(&mut err);
     };
     let class: Box<dyn Tap> = class;
     let source: Box<dyn Tap> = source;
     let returned: Box<dyn Tap> = returned;
     let intensity: Box<dyn Tap> = intensity;
-    let Ok(taps) = vec![in alloc; class, source, returned, intensity] else {
+    let Ok(taps) = vec![in rt.alloc(); class, source, returned, intensity] else {
         return no_memory(&mut err);
     };
+    let mut out = RealSink::out(&rt);
     let mut files = RealFiles::new(&rt);
-    ExitCode::from(run(
-        &rt, alloc, &words, &mut files, &mut out, &mut err, &OpenGate, taps,
-    ))
+    match obey(&rt, rt.alloc(), &mut files, &mut out, &mut err, taps) {
+        Ok(status) => ExitCode::from(status),
+        Err(_) => no_memory(&mut err),
+    }
 }

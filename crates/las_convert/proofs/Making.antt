@@ -38,6 +38,21 @@ use Rattle.las_convert.specs.Converting.{has_output, output_of, wanted_of, write
 use Rattle.las_convert.proofs.Endings.{ends_left}
 use Rattle.las_convert.proofs.Wholes.{IsBegunFor, converted_out, finishes, leaves, once, refused_kind, refuses}
 
+-- what ends with a fault ends with no other one
+pub is_fault : (r : Result (Unit {0}) Fault) (e other : Fault) → IsErrAnd r (λ x. x ≡ e) → r ≡ Err other → e ≡ other
+is_fault (Ok x) e other is err = absurd is
+is_fault (Err x) e other is err = cc
+
+-- a read that ended after others that went well
+pub ends_since :
+    (old mid new : Outside) (e : Fault) → mid.read_faults ≡ old.read_faults → EndsReading ⊥ mid new e →
+    EndsReading ⊥ old new e
+ends_since old mid new (Refused cause) same ends = ends ∙ same
+ends_since old mid new Read same (inl none) = absurd none
+ends_since old mid new Read same (inr rose) = inr (subst (λ (n : ℕ). Rose n new.read_faults) same rose)
+ends_since old mid new Write same ends = ends
+ends_since old mid new Memory same ends = ends ∙ same
+
 -- ---- whether there is an output
 none_is_some : (i : ℕ) → ◌≡◌ {A = Option ℕ} (Some i) None → ⊥
 none_is_some i e = absurd (cc)

@@ -1,3 +1,4 @@
+mod Counting
 mod ByName
 mod Examples
 mod FileLaws

@@ -1,9 +1,13 @@
 -- Values that compute: the numbers and the parts of five records, and how many parts there may be.
-use Rattle.std.proofs.Common.{◌≡◌, ℕ, List, [], ◌∷◌, ◌++◌, replicate, refl}
+use Rattle.std.proofs.Common.{◌≡◌, ℕ, ◌+◌, ◌<◌, ◌==◌, ◌&&◌, Bool, true, false, cond, not, leb, List, [], ◌∷◌, ◌++◌}
+use Rattle.std.proofs.Common.{filter, length, replicate, refl, ap, ◌∙◌, arith}
+use Rattle.std.proofs.lemmas.Bool.{leb-true}
 use Rattle.las_header.specs.Numbers.{number_at}
+use Rattle.las_filter.specs.declared.rule.Rule.{Rule}
 use Rattle.las_filter.specs.declared.rule.Rule.TheVariants.{Every, Class, Source, Return}
-use Rattle.las_split.specs.Parts.{joined_parts, numbers_from, numbers_of_parts, part}
+use Rattle.las_split.specs.Parts.{firsts, joined_parts, numbers_from, numbers_of_parts, part}
 use Rattle.las_split.specs.Splitting.{OpensTooMany}
+use Rattle.las_split.proofs.Opening.{not_there}
 
 -- a record with a flag byte, a classification byte and a point source ID of one byte
 abbrev record_of : (flags class source : ℕ) → List ℕ
@@ -55,6 +59,43 @@ sources = (refl, refl)
 returned : (numbers_of_parts Return five ≡ 1 ∷ 2 ∷ []) × (part Return five 2 ≡ second ∷ fourth ∷ [])
 returned = (refl, refl)
 
+-- numbers that ascend are there once each
+abbrev ascend : (least : ℕ) → List ℕ → Bool
+ascend least [] = true
+ascend least (n ∷ ns) = leb least n && ascend (n + 1) ns
+
+both : (a b : Bool) → (a && b) ≡ true → (a ≡ true) × (b ≡ true)
+both true b e = (refl, e)
+both false b e = cc
+
+none_gone : (m least : ℕ) (ns : List ℕ) → m < least → ascend least ns ≡ true → filter (λ k. not (k == m)) ns ≡ ns
+none_gone m least [] less up = refl
+none_gone m least (n ∷ ns) less up =
+    let p = both (leb least n) (ascend (n + 1) ns) up in
+    let far = leb-true least n p.0 in
+    let other : (n == m) ≡ false = not_there m n (λ e. absurd (omega (arith, less, far, e))) in
+    let rest = filter (λ k. not (k == m)) ns in
+    ap (λ (b : Bool). cond (not b) (n ∷ rest) rest) other ∙ ap (λ (t : List ℕ). n ∷ t)
+    (none_gone m (n + 1) ns (omega (arith, less, far)) p.1)
+
+all_first : (least : ℕ) (ns : List ℕ) → ascend least ns ≡ true → firsts ns ≡ ns
+all_first least [] up = refl
+all_first least (n ∷ ns) up =
+    let p = both (leb least n) (ascend (n + 1) ns) up in
+    let one : n < n + 1 = omega arith in
+    ap (λ (t : List ℕ). n ∷ filter (λ k. not (k == n)) t) (all_first (n + 1) ns p.1) ∙
+    ap (λ (t : List ℕ). n ∷ t) (none_gone n (n + 1) ns one p.1)
+
+count_of_parts :
+    (rule : Rule) (records : List (List ℕ)) (count : ℕ) → ascend 0 (numbers_from rule 0 records) ≡ true →
+    length (numbers_from rule 0 records) ≡ count → length (numbers_of_parts rule records) ≡ count
+count_of_parts rule records count up e =
+    ap (λ (ns : List ℕ). length ns) (all_first 0 (numbers_from rule 0 records) up) ∙ e
+
 -- 512 parts fit, and 513 do not
 one_too_many : OpensTooMany (Every 1) (replicate 512 first) first
-one_too_many = record { full = refl; more = refl }
+one_too_many =
+    record {
+      full = count_of_parts (Every 1) (replicate 512 first) 512 refl refl;
+      more = count_of_parts (Every 1) (replicate 512 first ++ first ∷ []) 513 refl refl;
+    }

@@ -1,5 +1,7 @@
 mod Parsing
+mod Commands
 mod Cutting
+mod Gathered
 mod Wrong
 mod Ranges
 mod Chosen

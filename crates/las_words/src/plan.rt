@@ -2,8 +2,8 @@
 
 ghost use Rattle.std.specs.Prelude.{◌≡◌, ◌<◌, ◌+◌, ◌^◌, pos, length, All, IfOk};
 ghost use Rattle.las_words.specs.Texts.{texts};
-ghost use Rattle.las_words.specs.Table.{row_of, mask_of, first_number, second_number, shift_at};
-ghost use Rattle.las_words.specs.Plans.{filter_by, change_by, filters_of, changes_of};
+ghost use Rattle.las_words.specs.Table.{mask_of, first_number, second_number, shift_at};
+ghost use Rattle.las_words.specs.Plans.{filter_in, change_in, filters_of, changes_of};
 
 use crate::numbers::{number_or_zero, signed_in};
 use crate::pieces::{Piece, count_of, words_from};
@@ -23,9 +23,7 @@ pub fn filters_of(
 {
     let mut keeps = Vec::new(alloc);
     for piece in pieces {
-        if let Some(flag) = piece.flag
-            && let Some(keep) = filter_by(flag, words_from(words, piece.at + 1))
-        {
+        if let Some(keep) = filter_in(piece.flag, words_from(words, piece.at + 1)) {
             keeps.push(keep)?;
         }
     }
@@ -43,49 +41,47 @@ pub fn changes_of(
 {
     let mut changes = Vec::new(alloc);
     for piece in pieces {
-        if let Some(flag) = piece.flag
-            && let Some(change) = change_by(flag, words_from(words, piece.at + 1))
-        {
+        if let Some(change) = change_in(piece.flag, words_from(words, piece.at + 1)) {
             changes.push(change)?;
         }
     }
     Ok(changes)
 }
 
-// The filter that an option means, of the words after it.
-fn filter_by(flag: Flag, after: &[String]) -> Option<Keep>
-    ensures { result ≡ filter_by (row_of flag).means (texts after.now) }
+// The filter that a word means if it is an option, of the words after it.
+fn filter_in(flag: Option<Flag>, after: &[String]) -> Option<Keep>
+    ensures { result ≡ filter_in flag (texts after.now) }
 {
     match flag {
-        Flag::KeepClass => Some(Keep::Classes(mask_of(31, after))),
-        Flag::DropClass => Some(Keep::DropClasses(mask_of(31, after))),
-        Flag::KeepReturn => Some(Keep::Returns(returns_of(after))),
-        Flag::DropReturn => Some(Keep::DropReturns(returns_of(after))),
-        Flag::KeepFirst => Some(Keep::First),
-        Flag::KeepLast => Some(Keep::Last),
-        Flag::KeepIntensity => Some(Keep::Intensity(first_u16(after), second_u16(after))),
-        Flag::DropIntensityBelow => Some(Keep::NotBelow(first_u16(after))),
-        Flag::DropIntensityAbove => Some(Keep::NotAbove(first_u16(after))),
+        Some(Flag::KeepClass) => Some(Keep::Classes(mask_of(31, after))),
+        Some(Flag::DropClass) => Some(Keep::DropClasses(mask_of(31, after))),
+        Some(Flag::KeepReturn) => Some(Keep::Returns(returns_of(after))),
+        Some(Flag::DropReturn) => Some(Keep::DropReturns(returns_of(after))),
+        Some(Flag::KeepFirst) => Some(Keep::First),
+        Some(Flag::KeepLast) => Some(Keep::Last),
+        Some(Flag::KeepIntensity) => Some(Keep::Intensity(first_u16(after), second_u16(after))),
+        Some(Flag::DropIntensityBelow) => Some(Keep::NotBelow(first_u16(after))),
+        Some(Flag::DropIntensityAbove) => Some(Keep::NotAbove(first_u16(after))),
         _ => None,
     }
 }
 
-// The change that an option means, of the words after it.
-fn change_by(flag: Flag, after: &[String]) -> Option<Change>
-    ensures { result ≡ change_by (row_of flag).means (texts after.now) }
+// The change that a word means if it is an option, of the words after it.
+fn change_in(flag: Option<Flag>, after: &[String]) -> Option<Change>
+    ensures { result ≡ change_in flag (texts after.now) }
 {
     match flag {
-        Flag::TranslateRawXyz => Some(Change::Translate(
+        Some(Flag::TranslateRawXyz) => Some(Change::Translate(
             shift_at(0, after),
             shift_at(1, after),
             shift_at(2, after),
         )),
-        Flag::TranslateRawX => Some(Change::Translate(shift_at(0, after), 0, 0)),
-        Flag::TranslateRawY => Some(Change::Translate(0, shift_at(0, after), 0)),
-        Flag::TranslateRawZ => Some(Change::Translate(0, 0, shift_at(0, after))),
-        Flag::SetClassification => Some(Change::SetClass(first_u8(31, after))),
-        Flag::SetUserData => Some(Change::SetUser(first_u8(255, after))),
-        Flag::SetPointSource => Some(Change::SetSource(first_u16(after))),
+        Some(Flag::TranslateRawX) => Some(Change::Translate(shift_at(0, after), 0, 0)),
+        Some(Flag::TranslateRawY) => Some(Change::Translate(0, shift_at(0, after), 0)),
+        Some(Flag::TranslateRawZ) => Some(Change::Translate(0, 0, shift_at(0, after))),
+        Some(Flag::SetClassification) => Some(Change::SetClass(first_u8(31, after))),
+        Some(Flag::SetUserData) => Some(Change::SetUser(first_u8(255, after))),
+        Some(Flag::SetPointSource) => Some(Change::SetSource(first_u16(after))),
         _ => None,
     }
 }

@@ -5,7 +5,7 @@ ghost use Rattle.std.specs.Prelude.{Err, codes, map, string_bytes};
 ghost use Rattle.std.specs.List.{list_any};
 ghost use Rattle.las_filter.specs.Kept.{steps_of};
 ghost use Rattle.las_words.specs.Texts.{texts};
-ghost use Rattle.las_words.specs.Settings.{is_given};
+ghost use Rattle.las_words.specs.Settings.{is_given, chunk_of, text_of};
 ghost use Rattle.las_words.specs.Table.{ways};
 ghost use Rattle.las_words.specs.Plans.{plan_of};
 ghost use Rattle.las_words.specs.Asked.{asked_by, IsSound};
@@ -169,8 +169,8 @@ fn laszip_of(alloc: Global, words: &[String], pieces: &[Piece]) -> Result<Comman
     ensures { IfOk result (λ command. asked_by command ≡ asked_of Laszip (texts words.now) pieces.now) }
 {
     Ok(Command::Laszip {
-        input: String::from_str(alloc, text_of(words, "-i", pieces))?,
-        output: String::from_str(alloc, text_of(words, "-o", pieces))?,
+        input: copy_of(alloc, words, "-i", pieces)?,
+        output: copy_of(alloc, words, "-o", pieces)?,
         chunk: chunk_of(words, pieces),
         workers: workers_of(words, pieces),
     })
@@ -182,13 +182,10 @@ fn las2las_of(alloc: Global, words: &[String], pieces: &[Piece]) -> Result<Comma
     ensures { IfOk result (λ command. asked_by command ≡ asked_of Las2las (texts words.now) pieces.now) }
 {
     Ok(Command::Las2las {
-        input: String::from_str(alloc, text_of(words, "-i", pieces))?,
-        output: String::from_str(alloc, text_of(words, "-o", pieces))?,
+        input: copy_of(alloc, words, "-i", pieces)?,
+        output: copy_of(alloc, words, "-o", pieces)?,
         plan: plan_of(alloc, words, pieces)?,
-        packing: Packing {
-            packed: is_packed(words, pieces),
-            chunk: chunk_of(words, pieces),
-        },
+        packing: packing_of(words, pieces),
         workers: workers_of(words, pieces),
         start: start_of(words, pieces),
         stop: stop_of(words, pieces),
@@ -205,7 +202,7 @@ fn lasinfo_of(alloc: Global, words: &[String], pieces: &[Piece]) -> Result<Comma
     ensures { IfOk result (λ command. asked_by command ≡ asked_of Lasinfo (texts words.now) pieces.now) }
 {
     Ok(Command::Lasinfo {
-        input: String::from_str(alloc, text_of(words, "-i", pieces))?,
+        input: copy_of(alloc, words, "-i", pieces)?,
         tallies: tallies_of(alloc, words, pieces)?,
         workers: workers_of(words, pieces),
     })
@@ -218,7 +215,7 @@ fn lassplit_of(alloc: Global, words: &[String], pieces: &[Piece]) -> Result<Comm
 {
     let output = text_of(words, "-o", pieces);
     Ok(Command::Lassplit {
-        input: String::from_str(alloc, text_of(words, "-i", pieces))?,
+        input: copy_of(alloc, words, "-i", pieces)?,
         stem: String::from_str(alloc, stem_of(output))?,
         end: String::from_str(alloc, end_of(output))?,
         rule: rule_of(words, pieces),
@@ -232,12 +229,9 @@ fn lasmerge_of(alloc: Global, words: &[String], pieces: &[Piece]) -> Result<Comm
     ensures { IfOk result (λ command. asked_by command ≡ asked_of Lasmerge (texts words.now) pieces.now) }
 {
     Ok(Command::Lasmerge {
+        output: copy_of(alloc, words, "-o", pieces)?,
         inputs: texts_of(alloc, words, "-i", pieces)?,
-        output: String::from_str(alloc, text_of(words, "-o", pieces))?,
-        packing: Packing {
-            packed: is_packed(words, pieces),
-            chunk: chunk_of(words, pieces),
-        },
+        packing: packing_of(words, pieces),
         workers: workers_of(words, pieces),
         copy: is_given(words, "-copy_chunks", pieces),
     })
@@ -249,8 +243,8 @@ fn make_of(alloc: Global, words: &[String], pieces: &[Piece]) -> Result<Command,
     ensures { IfOk result (λ command. asked_by command ≡ asked_of Make (texts words.now) pieces.now) }
 {
     Ok(Command::Make {
-        output: String::from_str(alloc, text_of(words, "-o", pieces))?,
-        packed: String::from_str(alloc, text_of(words, "-z", pieces))?,
+        output: copy_of(alloc, words, "-o", pieces)?,
+        packed: copy_of(alloc, words, "-z", pieces)?,
         points: number_of(words, Flag::Points, 0, pieces),
         seed: number_of(words, Flag::Seed, 0, pieces),
         format: format_of(words, pieces),
@@ -271,11 +265,29 @@ fn plan_of(alloc: Global, words: &[String], pieces: &[Piece]) -> Result<Plan, Al
     })
 }
 
-// Whether the output of `las2las` or `lasmerge` is packed.
-fn is_packed(words: &[String], pieces: &[Piece]) -> bool
+// How the output of `las2las` or `lasmerge` is written.
+fn packing_of(words: &[String], pieces: &[Piece]) -> Packing
     requires { All (λ piece. piece.at < length words.now) pieces.now }
-    ensures { result ≡ is_packed (texts words.now) pieces.now }
+    ensures packed { result.packed ≡ is_packed (texts words.now) pieces.now }
+    ensures chunk { result.chunk ≡ chunk_of (texts words.now) pieces.now }
 {
-    is_given(words, "-olaz", pieces)
-        || (!is_given(words, "-olas", pieces) && is_packed_name(text_of(words, "-o", pieces)))
+    let packed = is_given(words, "-olaz", pieces)
+        || (!is_given(words, "-olas", pieces) && is_packed_name(text_of(words, "-o", pieces)));
+    Packing {
+        packed,
+        chunk: chunk_of(words, pieces),
+    }
+}
+
+// The first value of an option, as a text of its own.
+fn copy_of(
+    alloc: Global,
+    words: &[String],
+    name: &str,
+    pieces: &[Piece],
+) -> Result<String, AllocError>
+    requires { All (λ piece. piece.at < length words.now) pieces.now }
+    ensures { IfOk result (λ text. string_bytes text ≡ text_of (texts words.now) name.now pieces.now) }
+{
+    String::from_str(alloc, text_of(words, name, pieces))
 }

@@ -12,7 +12,7 @@ ghost use Rattle.las_words.specs.Settings.{pick_alone, pick_of, step_of};
 use crate::numbers::number_in;
 use crate::pieces::Piece;
 use crate::table::{Flag, Values};
-use crate::texts::word;
+use crate::texts::{push_word, word};
 use las_filter::Rule;
 use las_thin::Pick;
 use std::alloc::{AllocError, Global};
@@ -63,7 +63,7 @@ pub fn texts_of(
     let mut found = Vec::new(alloc);
     for piece in pieces {
         if word(words, piece.at) == name {
-            found.push(String::from_str(alloc, word(words, piece.at + 1))?)?;
+            push_word(alloc, &mut found, words, piece.at + 1)?;
         }
     }
     Ok(found)

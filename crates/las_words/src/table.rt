@@ -1,9 +1,8 @@
 //! The commands and their options.
 
-ghost use Rattle.std.specs.Prelude.{◌≡◌};
+ghost use Rattle.std.specs.Prelude.{◌≡◌, map};
 ghost use Rattle.std.specs.List.{list_any};
 ghost use Rattle.std.specs.Str.{bytes_eq};
-ghost use Rattle.las_words.specs.Table.{ways};
 
 /// A command.
 #[derive(Clone, Copy)]
@@ -285,14 +284,22 @@ impl Flag {
         ensures { result ≡ list_any (bytes_eq name.now) (row_of self).rivals }
     {
         match self {
-            Flag::ChunkSize => matches!(name, "-chunk_size" | "-copy_chunks"),
-            Flag::Olas => matches!(name, "-olas" | "-olaz" | "-copy_chunks"),
-            Flag::Olaz => matches!(name, "-olas" | "-olaz"),
-            Flag::CopyChunks => matches!(name, "-copy_chunks" | "-olas" | "-chunk_size"),
+            Flag::ChunkSize => is_any(name, &["-chunk_size", "-copy_chunks"]),
+            Flag::Olas => is_any(name, &["-olas", "-olaz", "-copy_chunks"]),
+            Flag::Olaz => is_any(name, &["-olas", "-olaz"]),
+            Flag::CopyChunks => is_any(name, &["-copy_chunks", "-olas", "-chunk_size"]),
             Flag::Split | Flag::ByClassification | Flag::ByFlightline | Flag::ByReturn => {
-                is_way(name)
+                is_any(
+                    name,
+                    &[
+                        "-split",
+                        "-by_classification",
+                        "-by_flightline",
+                        "-by_return",
+                    ],
+                )
             }
-            Flag::Lowest | Flag::Highest => matches!(name, "-lowest" | "-highest"),
+            Flag::Lowest | Flag::Highest => is_any(name, &["-lowest", "-highest"]),
             Flag::Tally => false,
             _ => name == self.name(),
         }
@@ -309,12 +316,14 @@ impl Flag {
     }
 }
 
-// Whether an option of this name is a way to split a file.
-fn is_way(name: &str) -> bool
-    ensures { result ≡ list_any (bytes_eq name.now) ways }
+// Whether a name is one of some names.
+fn is_any(name: &str, names: &[&str]) -> bool
+    ensures { result ≡ list_any (bytes_eq name.now) (map (λ one. one.now) names.now) }
 {
-    matches!(
-        name,
-        "-split" | "-by_classification" | "-by_flightline" | "-by_return"
-    )
+    for one in names {
+        if name == *one {
+            return true;
+        }
+    }
+    false
 }

@@ -1,14 +1,14 @@
 //! The tallies that words ask for.
 
-ghost use Rattle.std.specs.Prelude.{◌≡◌, ◌<◌, length, All, IfOk};
+ghost use Rattle.std.specs.Prelude.{◌≡◌, ◌<◌, [], length, All, IfOk, is_some};
 ghost use Rattle.std.specs.List.{list_any};
 ghost use Rattle.std.specs.Str.{bytes_eq};
 ghost use Rattle.las_words.specs.Texts.{texts};
-ghost use Rattle.las_words.specs.Tallies.{tallies_of};
+ghost use Rattle.las_words.specs.Tallies.{tallies_of, tally_in};
 
 use crate::pieces::Piece;
 use crate::table::Flag;
-use crate::texts::word;
+use crate::texts::{push_word, word};
 use std::alloc::{AllocError, Global};
 
 /// The tallies that are asked for, in the order of the words.
@@ -22,8 +22,8 @@ pub fn tallies_of(
 {
     let mut tallies = Vec::new(alloc);
     for piece in pieces {
-        if matches!(piece.flag, Some(Flag::Tally)) {
-            tallies.push(String::from_str(alloc, word(words, piece.at + 1))?)?;
+        if is_tally(piece.flag) {
+            push_word(alloc, &mut tallies, words, piece.at + 1)?;
         }
     }
     Ok(tallies)
@@ -35,9 +35,16 @@ pub fn is_tallied(words: &[String], pieces: &[Piece], name: &str) -> bool
     ensures { result ≡ list_any (bytes_eq name.now) (tallies_of (texts words.now) pieces.now) }
 {
     for piece in pieces {
-        if matches!(piece.flag, Some(Flag::Tally)) && name == word(words, piece.at + 1) {
+        if is_tally(piece.flag) && name == word(words, piece.at + 1) {
             return true;
         }
     }
     false
+}
+
+// Whether a word is the option that names a tally.
+fn is_tally(flag: Option<Flag>) -> bool
+    ensures { result ≡ is_some (tally_in flag []) }
+{
+    matches!(flag, Some(Flag::Tally))
 }

@@ -1,19 +1,33 @@
 -- One record more, in the loops over records.
-use Rattle.std.proofs.Common.{◌≡◌, ℕ, ◌+◌, ◌*◌, ◌-◌, ◌<◌, ◌≤◌, List, [], ◌∷◌, ◌++◌, length, take, drop, refl, sym, ap, subst, ◌∙◌, arith}
+use Rattle.std.proofs.Common.{◌≡◌, ℕ, ◌+◌, ◌*◌, ◌-◌, ◌<◌, ◌≤◌, List, [], ◌∷◌, ◌++◌, length, take, drop, Option, refl}
+use Rattle.std.proofs.Common.{sym, ap, subst, ◌∙◌, arith}
 use Rattle.std.proofs.lemmas.List.{length-drop, length-take-le}
 use Rattle.laz_range.specs.Coding.{Coding, Codes}
 use Rattle.laz_range.specs.Choice.{AreAsked, all_cuts, state_after}
 use Rattle.laz_range.specs.Decoding.{Decoding, Takes}
 use Rattle.laz_range.specs.Span.{IsBytes}
 use Rattle.laz_range.proofs.Public.{Takes-step, state_after-push, IsBytes-drop, IsBytes-take}
+use Rattle.laz_gpstime.specs.Slots.{TimeState}
+use Rattle.laz_rgb.specs.Items.{RgbState}
 use Rattle.laz_chunk.specs.declared.items.Items.{Items}
 use Rattle.laz_chunk.specs.Layouts.{Layout, record_length}
 use Rattle.laz_chunk.specs.Records.{Record, record_at, records_in}
-use Rattle.laz_chunk.specs.Stands.{AreChunkPoints, ItemsStand, ReadsPart}
+use Rattle.laz_chunk.specs.Stands.{AreChunkPoints, ItemsStand, ReadsPart, extra_length, has, items_of, layout_in}
 use Rattle.laz_chunk.specs.Chunks.{History, IsSpelled, Spelling, grown, record_cuts, spelled_records, writing, written}
 use Rattle.laz_chunk.proofs.Lists.{after-push, codes-push, read-push, records-next}
 use Rattle.laz_integer.proofs.Public.{place-is, place-within}
 use Rattle.laz_chunk.proofs.Written.{points-more}
+
+-- items whose times and colours are known
+pub items-are :
+    (items : Items) (times : Option TimeState) (colours : Option RgbState) → items.gps_time ≡ times →
+    items.rgb ≡ colours → items ≡ items_of items.point10 times colours items.extra
+items-are items times colours e f = rw (← e, ← f) refl
+
+pub same-layout :
+    (old new : Items) → has new.gps_time ≡ has old.gps_time → has new.rgb ≡ has old.rgb →
+    extra_length new.extra ≡ extra_length old.extra → layout_in new ≡ layout_in old
+same-layout old new e f h = rw (e, f, h) refl
 
 abbrev pub part : ℕ → ℕ → List ℕ → List ℕ
 part i size a = take (i * size + size - i * size) (drop (i * size) a)

@@ -1,7 +1,7 @@
 //! A chunk, packed and unpacked.
 ghost use Rattle.std.specs.Prelude.{◌≡◌, ◌+◌, ◌-◌, ◌*◌, ◌%◌, ◌<◌, ◌≤◌, ℕ, List, length, take, IfOk, OnOk, OnErr};
 ghost use Rattle.laz_chunk.specs.Layouts.{layout, layout_of, record_length, room_for};
-ghost use Rattle.laz_chunk.specs.Stands.{extra_length, has};
+ghost use Rattle.laz_chunk.specs.Stands.{layout_in};
 ghost use Rattle.laz_chunk.specs.Chunks.{AreRecords, Holds, chunk_bytes, count_of};
 
 use crate::items::Items;
@@ -61,35 +61,22 @@ pub fn room_for(format: u8, extra: u16, points: u32) -> u64
     record_length(format, extra) as u64 + 4 + 3 * (38 + extra as u64) * (points as u64 - 1)
 }
 
-// The item of times of a format.
-fn new_times(alloc: Global, format: u8) -> Result<Option<GpsTime>, AllocError>
-    ensures { IfOk result (λ item. has item ≡ (layout_of format 0).times) }
+// Adds the items that records of a format have besides their points.
+fn add_items(items: &mut Items, alloc: Global, format: u8, extra: u16) -> Result<(), AllocError>
+    requires few { extra < 193 }
+    requires none { layout_in items.old ≡ layout_of 0 0 }
+    ensures { OnOk result (layout_in items.new ≡ layout_of format extra) }
 {
     if format == 1 || format == 3 {
-        return Ok(Some(GpsTime::new(alloc)?));
+        items.gps_time = Some(GpsTime::new(alloc)?);
     }
-    Ok(None)
-}
-
-// The item of colours of a format.
-fn new_colours(alloc: Global, format: u8) -> Result<Option<Rgb>, AllocError>
-    ensures { IfOk result (λ item. has item ≡ (layout_of format 0).colours) }
-{
     if format >= 2 {
-        return Ok(Some(Rgb::new(alloc)?));
+        items.rgb = Some(Rgb::new(alloc)?);
     }
-    Ok(None)
-}
-
-// The item of extra bytes.
-fn new_extra(alloc: Global, extra: u16) -> Result<Option<Bytes>, AllocError>
-    requires few { extra < 193 }
-    ensures { IfOk result (λ item. extra_length item ≡ extra) }
-{
     if extra > 0 {
-        return Ok(Some(Bytes::new(alloc, extra)?));
+        items.extra = Some(Bytes::new(alloc, extra)?);
     }
-    Ok(None)
+    Ok(())
 }
 
 // Writes the first record to the front.
@@ -109,19 +96,17 @@ impl Workspace {
         requires few { extra < 193 }
         ensures { IfOk result (λ w. w ≡ record { format = format; extra = extra }) }
     {
-        let extra_bytes = new_extra(alloc, extra)?;
-        let rgb = new_colours(alloc, format)?;
-        let gps_time = new_times(alloc, format)?;
-        let point10 = Point10::new(alloc)?;
+        let mut items = Items {
+            point10: Point10::new(alloc)?,
+            gps_time: None,
+            rgb: None,
+            extra: None,
+        };
+        add_items(&mut items, alloc, format, extra)?;
         Ok(Workspace {
             format,
             extra,
-            items: Items {
-                point10,
-                gps_time,
-                rgb,
-                extra: extra_bytes,
-            },
+            items,
             alloc,
         })
     }

@@ -64,11 +64,11 @@ impl Reader {
         let (format, extra) = (self.head.format(), self.head.extra());
         let job = UnpackJob::new(format, extra);
         let room = job.record_length() * greatest(&self.points) as usize;
-        let crew = crew_of(alloc, format, extra, workers, room)?;
         let size = greatest_size(&job, &self.points, &self.bytes) as usize;
         self.inputs = buffers_of(alloc, 2 * workers, 4 + size)?;
         let most = self.records.min(PLAIN_BLOCK) as usize;
         self.block.reserve(job.record_length() * most)?;
+        let crew = crew_of(alloc, format, extra, workers, room)?;
         Ok(crew)
     }
 }

@@ -8,6 +8,8 @@ mod events;
 #[cfg(test)]
 mod models;
 #[cfg(test)]
+mod rows;
+#[cfg(test)]
 mod tables;
 #[cfg(test)]
 mod texts;

@@ -2,9 +2,9 @@
 ghost use Rattle.std.specs.Prelude.{◌≡◌, ◌<◌, ◌≤◌, IfOk};
 ghost use Rattle.laz_models.specs.Dist.{alphabet_size};
 
+use crate::texts::numbers;
 use laz_models::{BitModel, SymbolModel};
 use std::alloc::{AllocError, Global};
-use std::test::Fail;
 
 // The next number of a fixed sequence.
 fn next(state: u32) -> u32 {
@@ -35,52 +35,59 @@ fn counted(alloc: Global, n: u32, symbols: u32) -> Result<SymbolModel, AllocErro
     Ok(model)
 }
 
-// A number of symbols, how many are counted, where the part of symbol 1 begins, and where that of the last one does.
-static COUNTED: [(u32, u32, u32, u32); 4] = [
-    (2, 5, 21845, 21845),
-    (2, 100_000, 16611, 16611),
-    (256, 1_000, 521, 32605),
-    (256, 100_000, 570, 32647),
-];
+// A line for each.
+//
+// - `symbols COUNT TIMES FIRST LAST`: of COUNT symbols TIMES are counted. Then the part of symbol 1 begins at FIRST, and
+//   that of the last one at LAST.
+// - `bits TIMES PART`: TIMES bits are counted. Then the part of 0 is PART.
+pub(crate) const ROWS: &str = "\
+symbols 2 5 21845 21845
+symbols 2 100000 16611 16611
+symbols 256 1000 521 32605
+symbols 256 100000 570 32647
+bits 0 4096
+bits 4 4095
+bits 9 5213
+bits 1000 6577
+bits 100000 6555
+";
 
-// Whether a model counts as a row says, and is reset.
-fn is_counted(alloc: Global, row: &(u32, u32, u32, u32)) -> Result<bool, AllocError> {
-    let (n, symbols, first, last) = row;
-    let n = (*n).max(2).min(256);
-    let mut model = counted(alloc, n, *symbols)?;
-    let is_counted = model.part(1).0 == *first && model.part(n - 1) == (*last, 32768);
+// Whether a model of `n` symbols counts so, and is reset.
+fn is_counted(
+    alloc: Global,
+    n: u32,
+    symbols: u32,
+    first: u32,
+    last: u32,
+) -> Result<bool, AllocError> {
+    let n = n.max(2).min(256);
+    let mut model = counted(alloc, n, symbols)?;
+    let is_counted = model.part(1).0 == first && model.part(n - 1) == (last, 32768);
     model.reset();
     Ok(is_counted && model.find(32767) == n - 1)
 }
 
-#[test]
-fn symbols_of_another_coder(rt: HostRuntime) -> Result<(), Fail> {
-    for row in &COUNTED {
-        assert!(rt; is_counted(rt.alloc(), row)?, "{} {}", row.0, row.1);
+// Whether a model of bits counts so, and is reset.
+fn are_counted(bits: u32, part: u32) -> bool {
+    let mut model = BitModel::new();
+    let mut state = 7;
+    for _ in 0..bits {
+        state = next(state);
+        model.count((state >> 16) % 5 == 0);
     }
-    Ok(())
+    let is_part = model.p0() == part;
+    model.reset();
+    is_part && model.p0() == 4096
 }
 
-// How many bits are counted, and the part of 0 after them.
-static BITS: [(u32, u32); 5] = [
-    (0, 4096),
-    (4, 4095),
-    (9, 5213),
-    (1_000, 6577),
-    (100_000, 6555),
-];
-
-#[test]
-fn bits_of_another_coder(rt: HostRuntime) {
-    for (bits, p0) in &BITS {
-        let mut model = BitModel::new();
-        let mut state = 7;
-        for _ in 0..*bits {
-            state = next(state);
-            model.count((state >> 16) % 5 == 0);
+/// Whether a model counts as a line says. It does not if the command is another one.
+pub(crate) fn is_so(alloc: Global, command: &str, line: &str) -> Result<bool, AllocError> {
+    let mut room = [0; 4];
+    match numbers(&mut room, line) {
+        [n, symbols, first, last] if command == "symbols" => {
+            is_counted(alloc, *n, *symbols, *first, *last)
         }
-        assert!(rt; model.p0() == *p0, "{bits}");
-        model.reset();
-        assert!(rt; model.p0() == 4096, "{bits}");
+        [bits, part] if command == "bits" => Ok(are_counted(*bits, *part)),
+        _ => Ok(false),
     }
 }

@@ -6,7 +6,6 @@ use laz_table::{
     Blocks, COUNTED_CHUNKS, MAX_CHUNKS, TableFault, counted_table_of, read_table, table_of,
 };
 use std::alloc::{AllocError, Global};
-use std::test::Fail;
 
 // Chunks of this size, or with their own numbers of points for the chunk size 2^32 - 1.
 fn blocks_of(chunk: u32, points: u32) -> Blocks
@@ -47,9 +46,11 @@ fn sum_of(numbers: &[u32]) -> u64 {
 // - `fault FAULT CHUNK POINTS TOTAL = BYTES`: the table of these bytes is refused with FAULT, or read if that is `none`.
 //   POINTS is the number of points of the file, and TOTAL the number of bytes of its chunks.
 // - `counted FAULT POINTS TOTAL = SIZES = COUNTS`: the same of the table of counted chunks with these numbers.
+// - `full FAULT CHUNKS POINTS`: the same of that of so many chunks of 250,000 points and 24 bytes. 17,180 of these are
+//   2^32 + 32,704 points.
 //
 // The bytes are hexadecimal digits. Four of the tables claim 2^24 chunks, and have 16 bytes after their start.
-const ROWS: &str = "\
+pub(crate) const ROWS: &str = "\
 table 50000 0 = = = 00 00 00 00 00 00 00 00
 table 50000 1 = 1 = 24 = 00 00 00 00 01 00 00 00 2C 5C 00 00 00
 table 50000 50000 = 50000 = 23 = 00 00 00 00 01 00 00 00 2C 1D 00 00 00
@@ -87,6 +88,8 @@ counted PointSum 2 68 = 2 0 = 24 44
 counted none 7 68 = 3 4 = 24 44
 counted none 3 8589934590 = 2 1 = 4294967295 4294967295
 counted ChunkSum 3 4294967294 = 2 1 = 4294967295 4294967295
+full PointSum 17180 32704
+full none 17179 4294750000
 ";
 
 // Whether bytes are read as this list.
@@ -137,14 +140,14 @@ fn fault_of(
     read_table(alloc, bytes, blocks_of(chunk, points), total).err()
 }
 
-// Whether a fault is that of a name.
-fn is_named(fault: Option<TableFault>, name: &str) -> bool {
+// The name of a fault.
+fn name_of(fault: Option<TableFault>) -> &'static str {
     match fault {
-        None => name == "none",
-        Some(TableFault::Table) => name == "Table",
-        Some(TableFault::ChunkSum) => name == "ChunkSum",
-        Some(TableFault::PointSum) => name == "PointSum",
-        Some(TableFault::Memory) => false,
+        None => "none",
+        Some(TableFault::Table) => "Table",
+        Some(TableFault::ChunkSum) => "ChunkSum",
+        Some(TableFault::PointSum) => "PointSum",
+        Some(TableFault::Memory) => "Memory",
     }
 }
 
@@ -157,10 +160,8 @@ fn is_refused(alloc: Global, line: &str) -> bool {
     let mut room = [0; 32];
     let wanted = bytes(&mut room, wanted);
     let total = long_number(total);
-    is_named(
-        fault_of(alloc, wanted, number(chunk), number(points), total),
-        name,
-    )
+    let fault = fault_of(alloc, wanted, number(chunk), number(points), total);
+    name_of(fault) == name
 }
 
 // What the table of these chunks with their own numbers of points is refused for.
@@ -185,48 +186,33 @@ fn is_counted(alloc: Global, line: &str) -> Result<bool, AllocError> {
     let sizes = numbers(&mut size_room, sizes);
     let counts = numbers(&mut count_room, counts);
     let fault = counted_fault(alloc, sizes, counts, number(points), long_number(total))?;
-    Ok(is_named(fault, name))
+    Ok(name_of(fault) == name)
 }
 
-// Whether a line is so. It is not if its first word is another one.
-fn is_so(alloc: Global, line: &str) -> bool {
-    let (command, rest) = pair(line);
-    match command {
-        "table" => is_worked(alloc, rest).unwrap_or(false),
-        "fault" => is_refused(alloc, rest),
-        "counted" => is_counted(alloc, rest).unwrap_or(false),
-        _ => false,
-    }
-}
-
-// The first line that is not so, or none.
-fn first_wrong(alloc: Global) -> Option<&'static str> {
-    for line in ROWS.lines() {
-        if !is_so(alloc, line) {
-            return Some(line);
-        }
-    }
-    None
-}
-
-#[test]
-fn tables_are_worked_by_hand(rt: HostRuntime) {
-    let wrong = first_wrong(rt.alloc());
-    assert!(rt; wrong.is_none(), "{}", wrong.unwrap_or(""));
-}
-
-// What a table of this many chunks of 250,000 points and 24 bytes is refused for.
-fn full_fault(alloc: Global, chunks: usize, points: u32) -> Result<Option<TableFault>, AllocError> {
+// Whether the table of so many chunks of 250,000 points and 24 bytes is refused as a line says, or read.
+fn is_full(alloc: Global, line: &str) -> Result<bool, AllocError> {
+    let (name, rest) = pair(line);
+    let (chunks, points) = pair(rest);
+    let chunks = number(chunks) as usize;
     let sizes = vec![in alloc; 250_000; chunks]?;
-    let counts = vec![in alloc; 24; chunks]?;
-    counted_fault(alloc, &sizes, &counts, points, sum_of(&counts))
+    is_full_of(alloc, &sizes, number(points), name)
 }
 
-// 17,180 chunks of 250,000 points are 2^32 + 32,704 points.
-#[test]
-fn points_past_32_bits_are_refused(rt: HostRuntime) -> Result<(), Fail> {
-    let past = full_fault(rt.alloc(), 17_180, 32_704)?;
-    let below = full_fault(rt.alloc(), 17_179, 4_294_750_000)?;
-    assert!(rt; is_named(past, "PointSum") && is_named(below, "none"));
-    Ok(())
+// Whether that of chunks of these sizes is.
+fn is_full_of(alloc: Global, sizes: &[u32], points: u32, name: &str) -> Result<bool, AllocError> {
+    let counts = vec![in alloc; 24; sizes.len()]?;
+    let total = sum_of(&counts);
+    let fault = counted_fault(alloc, sizes, &counts, points, total)?;
+    Ok(name_of(fault) == name)
+}
+
+/// Whether a line is so. It is not if its command is another one.
+pub(crate) fn is_so(alloc: Global, command: &str, line: &str) -> Result<bool, AllocError> {
+    match command {
+        "table" => is_worked(alloc, line),
+        "fault" => Ok(is_refused(alloc, line)),
+        "counted" => is_counted(alloc, line),
+        "full" => is_full(alloc, line),
+        _ => Ok(false),
+    }
 }

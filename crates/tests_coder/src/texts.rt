@@ -1,4 +1,5 @@
 //! Numbers and bytes of texts. What is no number is 0.
+use std::alloc::Global;
 
 /// The first word of a text, and what follows the blank after it.
 pub(crate) fn pair(text: &str) -> (&str, &str) {
@@ -61,4 +62,14 @@ pub(crate) fn put(place: &mut [u8], at: usize, bytes: &[u8]) {
             *place = *byte;
         }
     }
+}
+
+/// So many bytes of this value, or none if there is no memory.
+pub(crate) fn filled(alloc: Global, byte: u8, count: usize) -> Vec<u8> {
+    vec![in alloc; byte; count].unwrap_or(Vec::new(alloc))
+}
+
+/// A copy of bytes, or none if there is no memory.
+pub(crate) fn copied(alloc: Global, bytes: &[u8]) -> Vec<u8> {
+    bytes.to_vec(alloc).unwrap_or(Vec::new(alloc))
 }

@@ -1,42 +1,33 @@
 //! The laszip VLR: payloads worked by hand, and one change of a head for each condition.
 
-use crate::texts::{byte, bytes, number, pair, put, short_number};
+use crate::texts::{byte, bytes, copied, filled, number, pair, put, short_number};
 use las_header::{HEADER_BLOCK, Head, Refusal, need};
 use laz_table::{COUNTED_CHUNKS, read_vlr, vlr_of};
-use std::alloc::{AllocError, Global};
-use std::test::Fail;
+use std::alloc::Global;
 
-// The first 227 bytes of the head of a plain file of LAS 1.2 without points, of this format and with these extra bytes.
-// `vlrs` VLRs follow, which take `size` bytes.
-fn front(format: u8, extra: u16, vlrs: u8, size: usize) -> [u8; 227] {
-    let length = extra.wrapping_add(match format {
+// How long a record of a format is.
+fn record_length(format: u8, extra: u16) -> u16 {
+    extra.wrapping_add(match format {
         0 => 20,
         1 => 28,
         2 => 26,
         _ => 34,
-    });
-    let offset = u32::try_from(size).unwrap_or(0).wrapping_add(227);
-    let mut front = [0; 227];
-    put(&mut front, 0, b"LASF");
-    put(&mut front, 24, &[1, 2]);
-    put(&mut front, 94, &[227, 0]);
-    put(&mut front, 96, &offset.to_le_bytes());
-    put(&mut front, 100, &[vlrs, 0, 0, 0, format]);
-    put(&mut front, 105, &length.to_le_bytes());
-    front
+    })
 }
 
-// Such a head, in which the VLRs are these bytes.
-fn plain_head(
-    alloc: Global,
-    format: u8,
-    extra: u16,
-    vlrs: u8,
-    rest: &[u8],
-) -> Result<Vec<u8>, AllocError> {
-    let mut head = front(format, extra, vlrs, rest.len()).to_vec(alloc)?;
-    head.extend_from_slice(rest)?;
-    Ok(head)
+// The head of a plain file of LAS 1.2 without points, of this format and with these extra bytes. `vlrs` VLRs of these
+// bytes follow its first 227.
+fn plain_head(alloc: Global, format: u8, extra: u16, vlrs: u8, rest: &[u8]) -> Vec<u8> {
+    let size = 227 + rest.len().min(1000);
+    let mut head = filled(alloc, 0, size);
+    put(&mut head, 0, b"LASF");
+    put(&mut head, 24, &[1, 2]);
+    put(&mut head, 94, &[227, 0]);
+    put(&mut head, 96, &(size as u32).to_le_bytes());
+    put(&mut head, 100, &[vlrs, 0, 0, 0, format]);
+    put(&mut head, 105, &record_length(format, extra).to_le_bytes());
+    put(&mut head, 227, rest);
+    head
 }
 
 // What is read of a head without points.
@@ -49,19 +40,28 @@ fn opened(head: Vec<u8>) -> Result<Head, Refusal> {
     Head::read(head, size)
 }
 
-// A plain head with a laszip VLR after its own.
-fn packed_head(alloc: Global, plain: Vec<u8>, payload: &[u8]) -> Result<Vec<u8>, Fail> {
-    let head = opened(plain)?;
+// The bytes of a plain head with a laszip VLR after its own, or none if it has one before.
+fn with_vlr(alloc: Global, head: &Head, payload: &[u8]) -> Vec<u8> {
     if head.packed() || head.laszip_count() != 0 || payload.len() > 58 {
-        return Ok(Vec::new(alloc));
+        return Vec::new(alloc);
     }
-    let packed = head.with_vlr(alloc, payload)?;
-    Ok(packed.bytes().to_vec(alloc)?)
+    match head.with_vlr(alloc, payload) {
+        Ok(packed) => copied(alloc, packed.bytes()),
+        Err(_) => Vec::new(alloc),
+    }
+}
+
+// The same of a head that is opened first.
+fn packed_head(alloc: Global, plain: Vec<u8>, payload: &[u8]) -> Vec<u8> {
+    match opened(plain) {
+        Ok(head) => with_vlr(alloc, &head, payload),
+        Err(_) => Vec::new(alloc),
+    }
 }
 
 // A head of this format with this payload of a laszip VLR, and with no other VLR.
-fn head_with(alloc: Global, format: u8, extra: u16, payload: &[u8]) -> Result<Vec<u8>, Fail> {
-    packed_head(alloc, plain_head(alloc, format, extra, 0, &[])?, payload)
+fn head_with(alloc: Global, format: u8, extra: u16, payload: &[u8]) -> Vec<u8> {
+    packed_head(alloc, plain_head(alloc, format, extra, 0, &[]), payload)
 }
 
 // What the laszip VLR of a head is read as.
@@ -87,25 +87,28 @@ const PAYLOAD: &[u8] = &[
     0xff, 0xff, 0xff, 0xff, 0xff, 0xff, 0xff, 0xff, 0xff, 1, 0, 6, 0, 20, 0, 2, 0,
 ];
 
-// A format, a number of extra bytes, and the number of items and the items of such records.
-const ITEMS: &str = "\
-0 0 01 00 06 00 14 00 02 00
-0 8 02 00 06 00 14 00 02 00 00 00 08 00 02 00
-1 0 02 00 06 00 14 00 02 00 07 00 08 00 02 00
-1 192 03 00 06 00 14 00 02 00 07 00 08 00 02 00 00 00 C0 00 02 00
-2 0 02 00 06 00 14 00 02 00 08 00 06 00 02 00
-2 1 03 00 06 00 14 00 02 00 08 00 06 00 02 00 00 00 01 00 02 00
-3 0 03 00 06 00 14 00 02 00 07 00 08 00 02 00 08 00 06 00 02 00
-3 2 04 00 06 00 14 00 02 00 07 00 08 00 02 00 08 00 06 00 02 00 00 00 02 00 02 00
+/// `items FORMAT EXTRA ITEMS`: records of a format with this number of extra bytes have this number of items and these
+/// items, and those of no other line.
+pub(crate) const ITEMS: &str = "\
+items 0 0 01 00 06 00 14 00 02 00
+items 0 8 02 00 06 00 14 00 02 00 00 00 08 00 02 00
+items 1 0 02 00 06 00 14 00 02 00 07 00 08 00 02 00
+items 1 192 03 00 06 00 14 00 02 00 07 00 08 00 02 00 00 00 C0 00 02 00
+items 2 0 02 00 06 00 14 00 02 00 08 00 06 00 02 00
+items 2 1 03 00 06 00 14 00 02 00 08 00 06 00 02 00 00 00 01 00 02 00
+items 3 0 03 00 06 00 14 00 02 00 07 00 08 00 02 00 08 00 06 00 02 00
+items 3 2 04 00 06 00 14 00 02 00 07 00 08 00 02 00 08 00 06 00 02 00 00 00 02 00 02 00
 ";
 
 // The first 32 bytes of a laszip payload with this chunk size, and the items of a text.
-fn payload_with(alloc: Global, chunk: u32, items: &str) -> Result<Vec<u8>, AllocError> {
-    let mut payload = PAYLOAD[..32].to_vec(alloc)?;
-    put(&mut payload, 12, &chunk.to_le_bytes());
+fn payload_with(alloc: Global, chunk: u32, items: &str) -> Vec<u8> {
     let mut room = [0; 64];
-    payload.extend_from_slice(bytes(&mut room, items))?;
-    Ok(payload)
+    let items = bytes(&mut room, items);
+    let mut payload = filled(alloc, 0, 32 + items.len().min(64));
+    put(&mut payload, 0, &PAYLOAD[..32]);
+    put(&mut payload, 12, &chunk.to_le_bytes());
+    put(&mut payload, 32, items);
+    payload
 }
 
 // A line of items in its parts: the format, the number of extra bytes, and what follows them.
@@ -116,65 +119,53 @@ fn items_of(line: &str) -> (u8, u16, &str) {
 }
 
 // Whether a laszip payload has the items of a line, with this chunk size.
-fn has_items(alloc: Global, line: &str, chunk: u32) -> Result<bool, AllocError> {
+fn has_items(alloc: Global, line: &str, chunk: u32) -> bool {
     let (format, extra, items) = items_of(line);
-    let wanted = payload_with(alloc, chunk, items)?;
-    let payload = vlr_of(format.min(3), extra.min(192), chunk);
-    Ok(payload.as_slice() == wanted.as_slice())
+    let wanted = payload_with(alloc, chunk, items);
+    vlr_of(format.min(3), extra.min(192), chunk).as_slice() == wanted.as_slice()
 }
 
 // Whether a laszip VLR with the items of a line is read in a head of the records of a line, if they are one, and
 // refused for its items else.
-fn is_told(alloc: Global, head: &str, line: &str) -> Result<bool, Fail> {
+fn is_told(alloc: Global, head: &str, line: &str) -> bool {
     let (format, extra, _own) = items_of(head);
     let (_format, _extra, items) = items_of(line);
-    let payload = payload_with(alloc, 50_000, items)?;
-    let found = answer_of(head_with(alloc, format, extra, &payload)?);
-    Ok(is_answer(found, if head == line { "50000" } else { "Items" }))
+    let payload = payload_with(alloc, 50_000, items);
+    let found = answer_of(head_with(alloc, format, extra, &payload));
+    is_answer(found, if head == line { "50000" } else { "Items" })
+}
+
+// Whether that is so of each line of items.
+fn are_told(alloc: Global, head: &str) -> bool {
+    for line in ITEMS.lines() {
+        if !is_told(alloc, head, pair(line).1) {
+            return false;
+        }
+    }
+    true
 }
 
 // Whether records of a line have its items in a payload, and no others in a head.
-fn are_its_own(alloc: Global, line: &str) -> Result<bool, Fail> {
-    let mut are_told = has_items(alloc, line, 1)?
-        && has_items(alloc, line, 50_000)?
-        && has_items(alloc, line, COUNTED_CHUNKS)?;
-    for other in ITEMS.lines() {
-        are_told = are_told && is_told(alloc, line, other)?;
-    }
-    Ok(are_told)
-}
-
-// The first line whose records do not, or none.
-fn first_of_others(alloc: Global) -> Result<Option<&'static str>, Fail> {
-    for line in ITEMS.lines() {
-        if !are_its_own(alloc, line)? {
-            return Ok(Some(line));
-        }
-    }
-    Ok(None)
-}
-
-#[test]
-fn each_record_has_its_own_items(rt: HostRuntime) -> Result<(), Fail> {
-    let wrong = first_of_others(rt.alloc())?;
-    let is_worked = vlr_of(0, 0, 50_000).as_slice() == PAYLOAD;
-    assert!(rt; wrong.is_none() && is_worked, "{}", wrong.unwrap_or(""));
-    Ok(())
+fn are_its_own(alloc: Global, line: &str) -> bool {
+    has_items(alloc, line, 1)
+        && has_items(alloc, line, 50_000)
+        && has_items(alloc, line, COUNTED_CHUNKS)
+        && are_told(alloc, line)
 }
 
 // A head with a VLR that is like a laszip VLR but for a byte of its name, and with a laszip VLR.
-fn two_vlrs(alloc: Global) -> Result<Vec<u8>, Fail> {
-    let alone = head_with(alloc, 0, 0, &vlr_of(0, 0, 256))?;
-    let mut plain = plain_head(alloc, 0, 0, 1, &alone[alone.len().min(227)..])?;
+fn two_vlrs(alloc: Global) -> Vec<u8> {
+    let alone = head_with(alloc, 0, 0, &vlr_of(0, 0, 256));
+    let mut plain = plain_head(alloc, 0, 0, 1, &alone[alone.len().min(227)..]);
     put(&mut plain, 229, b"L");
     packed_head(alloc, plain, PAYLOAD)
 }
 
 // Whether a head with this chunk size and this number of points is read as an answer says.
-fn is_so_with(alloc: Global, chunk: u32, points: u32, answer: &str) -> Result<bool, Fail> {
-    let mut head = head_with(alloc, 0, 0, &vlr_of(0, 0, chunk))?;
+fn is_so_with(alloc: Global, chunk: u32, points: u32, answer: &str) -> bool {
+    let mut head = head_with(alloc, 0, 0, &vlr_of(0, 0, chunk));
     put(&mut head, 107, &points.to_le_bytes());
-    Ok(is_answer(answer_of(head), answer))
+    is_answer(answer_of(head), answer)
 }
 
 // A line for each. An answer is the chunk size that is read of the head's laszip VLR, or the name of a refusal.
@@ -183,8 +174,10 @@ fn is_so_with(alloc: Global, chunk: u32, points: u32, answer: &str) -> Result<bo
 //   but for a byte of its name, and a laszip VLR after that, at 321. `length COUNT`: COUNT is the length of the head.
 // - `alone AT BYTE ANSWER`: ANSWER is what is read of the head with BYTE at AT and its other bytes unchanged.
 // - `then AT BYTE ANSWER`: BYTE is written at AT and stays there. ANSWER is what is read of the head then.
+// - `payload`: `PAYLOAD` is what is made for format 0, with 50,000 points a chunk.
 // - `points CHUNK POINTS ANSWER`: ANSWER is what is read of a head with this chunk size and number of points.
-const ROWS: &str = "\
+pub(crate) const ROWS: &str = "\
+payload
 one
 alone 227 01 50000
 alone 228 09 50000
@@ -255,62 +248,51 @@ points 4294967295 250001 4294967295
 points 4294967295 4294967295 4294967295
 ";
 
-// Whether a head with a byte at a place is read as an answer says.
-fn is_so_alone(
-    alloc: Global,
-    head: &[u8],
-    at: &str,
-    digits: &str,
-    answer: &str,
-) -> Result<bool, AllocError> {
-    let mut changed = head.to_vec(alloc)?;
-    put(&mut changed, number(at) as usize, &[byte(digits)]);
-    Ok(is_answer(answer_of(changed), answer))
+// Takes another head.
+fn is_taken(head: &mut Vec<u8>, other: Vec<u8>) -> bool {
+    *head = other;
+    true
 }
 
-// The same, and the byte stays there.
-fn is_so_then(
-    alloc: Global,
-    head: &mut [u8],
-    at: &str,
-    digits: &str,
-    answer: &str,
-) -> Result<bool, AllocError> {
+// Whether a head is read as a text says, a place, a byte that is written there, and an answer.
+fn is_so_then(alloc: Global, head: &mut [u8], text: &str) -> bool {
+    let (at, rest) = pair(text);
+    let (digits, answer) = pair(rest);
     put(head, number(at) as usize, &[byte(digits)]);
-    Ok(is_answer(answer_of(head.to_vec(alloc)?), answer))
+    is_answer(answer_of(copied(alloc, head)), answer)
 }
 
-// Whether a line is so. It is not if the first word of the line is another one.
-fn is_so(alloc: Global, head: &mut Vec<u8>, line: &str) -> Result<bool, Fail> {
-    let (command, rest) = pair(line);
-    let (first, rest) = pair(rest);
-    let (second, answer) = pair(rest);
+// The same of a copy of a head.
+fn is_so_alone(alloc: Global, head: &[u8], text: &str) -> bool {
+    let mut changed = copied(alloc, head);
+    is_so_then(alloc, &mut changed, text)
+}
+
+// Whether a head is read as a text says, a chunk size, a number of points, and an answer.
+fn is_so_of_points(alloc: Global, text: &str) -> bool {
+    let (chunk, rest) = pair(text);
+    let (points, answer) = pair(rest);
+    is_so_with(alloc, number(chunk), number(points), answer)
+}
+
+// Whether a line that needs no head is so.
+fn is_so_of_itself(alloc: Global, command: &str, line: &str) -> bool {
     match command {
-        "one" => *head = head_with(alloc, 0, 0, PAYLOAD)?,
-        "two" => *head = two_vlrs(alloc)?,
-        "length" => return Ok(head.len() == number(first) as usize),
-        "alone" => return Ok(is_so_alone(alloc, head, first, second, answer)?),
-        "then" => return Ok(is_so_then(alloc, head, first, second, answer)?),
-        "points" => return is_so_with(alloc, number(first), number(second), answer),
-        _ => return Ok(false),
+        "payload" => vlr_of(0, 0, 50_000).as_slice() == PAYLOAD,
+        "items" => are_its_own(alloc, line),
+        "points" => is_so_of_points(alloc, line),
+        _ => false,
     }
-    Ok(true)
 }
 
-// The first line that is not so, or none.
-fn first_wrong(alloc: Global) -> Result<Option<&'static str>, Fail> {
-    let mut head = Vec::new(alloc);
-    for line in ROWS.lines() {
-        if !is_so(alloc, &mut head, line)? {
-            return Ok(Some(line));
-        }
+/// Whether a line is so. It is not if its command is another one.
+pub(crate) fn is_so(alloc: Global, head: &mut Vec<u8>, command: &str, line: &str) -> bool {
+    match command {
+        "one" => is_taken(head, head_with(alloc, 0, 0, PAYLOAD)),
+        "two" => is_taken(head, two_vlrs(alloc)),
+        "length" => head.len() == number(line) as usize,
+        "alone" => is_so_alone(alloc, head, line),
+        "then" => is_so_then(alloc, head, line),
+        _ => is_so_of_itself(alloc, command, line),
     }
-    Ok(None)
-}
-
-#[test]
-fn heads_are_read(rt: HostRuntime) -> Result<(), Fail> {
-    let wrong = first_wrong(rt.alloc())?;
-    assert!(rt; wrong.is_none(), "{}", wrong.unwrap_or(""));
-    Ok(())
 }

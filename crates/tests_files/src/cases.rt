@@ -43,6 +43,7 @@ use las_header::Refusal;
 use las_outside::MemFiles;
 use laz_file::Fault;
 use std::alloc::{AllocError, Global};
+use std::process::Abort;
 use std::thread::Threads;
 
 // How a reading ends.
@@ -83,11 +84,6 @@ fn number(text: &str) -> usize {
     count_of(text) as usize
 }
 
-// A number of eight bits.
-fn small(text: &str) -> u8 {
-    u8::from_str_radix(text, 10).unwrap_or(0)
-}
-
 // Whether a reading ends as a word says.
 fn is_end(ended: Ended, word: &str) -> bool {
     let (name, chunk) = word.split_once(":").unwrap_or((word, ""));
@@ -118,33 +114,49 @@ fn shape_of(text: &str) -> (Shape, u32) {
     let (format, rest) = pair(rest);
     let (vlrs, count) = pair(rest);
     let shape = Shape {
-        minor: small(minor),
-        format: small(format),
-        vlrs: small(vlrs),
+        minor: count_of(minor).min(255) as u8,
+        format: count_of(format).min(255) as u8,
+        vlrs: count_of(vlrs).min(255) as u8,
     };
     (shape, count_of(count))
+}
+
+// Makes bytes a head alone.
+fn begin(file: &mut Vec<u8>, shape: Shape, points: u32) -> Result<(), AllocError> {
+    file.clear();
+    add_head(file, shape, points)
+}
+
+// Appends a head or records of a shape as a line says. The answer is false if the line is another one.
+fn add_shaped(file: &mut Vec<u8>, command: &str, rest: &str) -> Result<bool, AllocError> {
+    let (shape, points) = shape_of(rest);
+    let is_done = match command {
+        "head" => begin(file, shape, points),
+        "records" => add_records(file, shape, points),
+        _ => return Ok(false),
+    };
+    is_done?;
+    Ok(true)
 }
 
 // Changes bytes as a line says. The answer is false if the line is another one.
 fn change(file: &mut Vec<u8>, command: &str, rest: &str) -> Result<bool, AllocError> {
     let (first, second) = pair(rest);
-    match command {
-        "head" => {
-            let (shape, points) = shape_of(rest);
-            file.clear();
-            add_head(file, shape, points)?;
-        }
-        "records" => {
-            let (shape, points) = shape_of(rest);
-            add_records(file, shape, points)?;
-        }
-        "vlr" => add_vlr(file)?,
-        "set" => put_hex(file, number(first), second),
-        "length" => file.resize(number(first), 0)?,
-        "add" => add_hex(file, rest)?,
-        _ => return Ok(false),
-    }
+    let is_done = match command {
+        "vlr" => add_vlr(file),
+        "set" => set(file, number(first), second),
+        "length" => file.resize(number(first), 0),
+        "add" => add_hex(file, rest),
+        _ => return add_shaped(file, command, rest),
+    };
+    is_done?;
     Ok(true)
+}
+
+// Writes the bytes of a text over those from a place on.
+fn set(file: &mut Vec<u8>, at: usize, text: &str) -> Result<(), AllocError> {
+    put_hex(file, at, text);
+    Ok(())
 }
 
 impl World {
@@ -250,21 +262,34 @@ impl World {
     ) -> Result<bool, AllocError> {
         let (from, rest) = pair(rest);
         let (to, rest) = pair(rest);
-        let (chunk, rest) = pair(rest);
-        let (counted, rest) = pair(rest);
-        let (workers, rest) = pair(rest);
-        let cuts = cuts_of(self.alloc, rest)?;
+        let mut numbers = Vec::new(self.alloc);
+        add_numbers(&mut numbers, rest)?;
+        Ok(self.writes_as(rt, from, to, &numbers, breaks))
+    }
+
+    // The same in this form: the chunk size, whether the records are counted, the workers, and the cuts.
+    fn writes_as<R: Threads + Sync>(
+        &mut self,
+        rt: &R,
+        from: &str,
+        to: &str,
+        numbers: &[u32],
+        breaks: bool,
+    ) -> bool {
+        let [chunk, counted, workers, cuts @ ..] = numbers else {
+            return false;
+        };
         let form = Form {
-            chunk: count_of(chunk),
-            counted: counted == "1",
-            workers: count_of(workers),
-            cuts: &cuts,
+            chunk: *chunk,
+            counted: *counted == 1,
+            workers: *workers,
+            cuts,
         };
         let alloc = self.alloc;
-        Ok(match rewrite(rt, alloc, &mut self.files, from, to, form) {
+        match rewrite(rt, alloc, &mut self.files, from, to, form) {
             Ok(_) => !breaks,
             Err(fault) => breaks && fault == Fault::Write,
-        })
+        }
     }
 
     // Whether the files are as a line says.
@@ -281,20 +306,29 @@ impl World {
         }
     }
 
-    // Whether a line that reads and writes no records is done as it says.
-    fn plays(&mut self, command: &str, rest: &str) -> Result<bool, AllocError> {
+    // Does what a line says of files and of calls that fail. The answer is false if the line is another one.
+    fn prepare(&mut self, command: &str, rest: &str) -> Result<bool, AllocError> {
         let (first, second) = pair(rest);
-        match command {
-            "put" => self.files.put_file(rest, &self.work)?,
-            "take" => self.take(rest)?,
-            "room" => self.give_room(rest)?,
-            "failread" => self.files.fail_read(u64::from(count_of(first)))?,
+        let is_done = match command {
+            "put" => self.files.put_file(rest, &self.work),
+            "take" => self.take(rest),
+            "room" => self.give_room(rest),
+            "failread" => self.files.fail_read(u64::from(count_of(first))),
             "failwrite" => self
                 .files
-                .fail_write(u64::from(count_of(first)), number(second))?,
-            _ => return Ok(change(&mut self.work, command, rest)? || self.is_so(command, rest)),
-        }
+                .fail_write(u64::from(count_of(first)), number(second)),
+            _ => return Ok(false),
+        };
+        is_done?;
         Ok(true)
+    }
+
+    // Whether a line that reads and writes no records is done as it says.
+    fn plays(&mut self, command: &str, rest: &str) -> Result<bool, AllocError> {
+        if self.prepare(command, rest)? || change(&mut self.work, command, rest)? {
+            return Ok(true);
+        }
+        Ok(self.is_so(command, rest))
     }
 
     // Whether all records of a file are read as a line says.
@@ -318,27 +352,22 @@ impl World {
     }
 
     // The first line of a text that is not done as it says, or none.
-    fn first_wrong<R: Threads + Sync>(
-        &mut self,
-        rt: &R,
-        text: &'static str,
-    ) -> Option<&'static str> {
+    fn first_wrong<R: Threads + Sync>(&mut self, rt: &R, text: &'static str) -> &'static str {
         for line in text.lines() {
             if !self.play_line(rt, line).unwrap_or(false) {
-                return Some(line);
+                return line;
             }
         }
-        None
+        ""
     }
 }
 
-// The numbers of a text.
-fn cuts_of(alloc: Global, text: &str) -> Result<Vec<u32>, AllocError> {
-    let mut cuts = Vec::new(alloc);
+// Appends the numbers of a text.
+fn add_numbers(numbers: &mut Vec<u32>, text: &str) -> Result<(), AllocError> {
     for word in text.split_whitespace() {
-        cuts.push(count_of(word))?;
+        numbers.push(count_of(word))?;
     }
-    Ok(cuts)
+    Ok(())
 }
 
 /// Cases, what is played before each of them, and what is played after it.
@@ -347,9 +376,6 @@ pub(crate) struct Script {
     pub(crate) cases: &'static str,
     pub(crate) after: &'static str,
 }
-
-/// The name of a case, and its first line that is not done as it says; or its name alone if it says nothing.
-pub(crate) type Wrong = Option<(&'static str, &'static str)>;
 
 // Whether a command says what is so.
 fn says(command: &str) -> bool {
@@ -368,34 +394,58 @@ fn says_something(text: &str) -> bool {
     is_said
 }
 
+// The first line of a script and one case that is not done as it says, or none.
+fn wrong_line<R: Threads + Sync>(
+    rt: &R,
+    world: &mut World,
+    script: &Script,
+    lines: &'static str,
+) -> &'static str {
+    let before = world.first_wrong(rt, script.before);
+    if !before.is_empty() {
+        return before;
+    }
+    let wrong = world.first_wrong(rt, lines);
+    if !wrong.is_empty() {
+        return wrong;
+    }
+    world.first_wrong(rt, script.after)
+}
+
 // What is wrong in a case of a script, which is the line of its name and then its lines.
 fn wrong_in<R: Threads + Sync>(
     rt: &R,
     alloc: Global,
     script: &Script,
-    case: &'static str,
-) -> Wrong {
-    let (name, lines) = case.split_once("\n").unwrap_or((case, ""));
+    name: &str,
+    lines: &'static str,
+) -> &'static str {
     let is_said = says_something(lines) || says_something(script.after);
     if !name.starts_with("case ") || !is_said {
-        return Some((name, ""));
+        return "no case";
     }
     let mut world = World::new(alloc);
-    for text in [script.before, lines, script.after] {
-        if let Some(wrong) = world.first_wrong(rt, text) {
-            return Some((name, wrong));
-        }
-    }
-    None
+    wrong_line(rt, &mut world, script, lines)
 }
 
-/// What is wrong first in a script, or nothing.
-pub(crate) fn first_wrong<R: Threads + Sync>(rt: &R, alloc: Global, script: &Script) -> Wrong {
+/// The first case of a script with something wrong, and its line; or none.
+pub(crate) fn first_wrong<R: Threads + Sync>(
+    rt: &R,
+    alloc: Global,
+    script: &Script,
+) -> (&'static str, &'static str) {
     for case in script.cases.split("\n\n") {
-        let wrong = wrong_in(rt, alloc, script, case);
-        if wrong.is_some() {
-            return wrong;
+        let (name, lines) = case.split_once("\n").unwrap_or((case, ""));
+        let wrong = wrong_in(rt, alloc, script, name, lines);
+        if !wrong.is_empty() {
+            return (name, wrong);
         }
     }
-    None
+    ("", "")
+}
+
+/// Nothing is wrong.
+pub(crate) fn none_is(wrong: (&str, &str), rt: &impl Abort) {
+    let (case, line) = wrong;
+    assert!(rt; line.is_empty(), "{case}: {line}");
 }

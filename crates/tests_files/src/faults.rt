@@ -1,5 +1,5 @@
 //! Calls that fail in turn. What a failed writing leaves is said by the clauses `stopped` of the writer.
-use crate::cases::{Script, first_wrong};
+use crate::cases::{Script, first_wrong, none_is};
 
 // 300 records of format 3, 10,200 bytes, and names for outputs.
 const BEFORE: &str = "\
@@ -168,6 +168,5 @@ const FAULTS: Script = Script {
 
 #[test]
 fn calls_fail(rt: HostRuntime) {
-    let wrong = first_wrong(&rt, rt.alloc(), &FAULTS);
-    assert!(rt; wrong.is_none(), "{wrong:?}");
+    none_is(first_wrong(&rt, rt.alloc(), &FAULTS), &rt);
 }

@@ -1,5 +1,5 @@
 //! Files that are read, and files that are refused.
-use crate::cases::{Script, first_wrong};
+use crate::cases::{Script, first_wrong, none_is};
 
 // The file of one record, and its packed form.
 const BEFORE: &str = "\
@@ -210,6 +210,5 @@ const OPENED: Script = Script {
 
 #[test]
 fn files_are_opened(rt: HostRuntime) {
-    let wrong = first_wrong(&rt, rt.alloc(), &OPENED);
-    assert!(rt; wrong.is_none(), "{wrong:?}");
+    none_is(first_wrong(&rt, rt.alloc(), &OPENED), &rt);
 }

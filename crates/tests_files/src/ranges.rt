@@ -1,5 +1,5 @@
 //! Ranges of the records of a file.
-use crate::cases::{Script, first_wrong};
+use crate::cases::{Script, first_wrong, none_is};
 
 // Five chunks.
 const BEFORE: &str = "\
@@ -89,6 +89,5 @@ const RANGES: Script = Script {
 
 #[test]
 fn ranges_are_read(rt: HostRuntime) {
-    let wrong = first_wrong(&rt, rt.alloc(), &RANGES);
-    assert!(rt; wrong.is_none(), "{wrong:?}");
+    none_is(first_wrong(&rt, rt.alloc(), &RANGES), &rt);
 }

@@ -1,5 +1,5 @@
 //! Records of many chunks, written and read.
-use crate::cases::{Script, first_wrong};
+use crate::cases::{Script, first_wrong, none_is};
 
 // Of each format.
 const FORMATS: &str = "\
@@ -49,8 +49,7 @@ const WHOLE: Script = Script {
 
 #[test]
 fn files_go_both_ways(rt: HostRuntime) {
-    let wrong = first_wrong(&rt, rt.alloc(), &WHOLE);
-    assert!(rt; wrong.is_none(), "{wrong:?}");
+    none_is(first_wrong(&rt, rt.alloc(), &WHOLE), &rt);
 }
 
 // Records that are pushed in one piece, and in several, plain and packed, counted or not. Chunks of 256 points: one for
@@ -135,6 +134,5 @@ const CHUNKS: Script = Script {
 
 #[test]
 fn chunks_are_written_and_read(rt: HostRuntime) {
-    let wrong = first_wrong(&rt, rt.alloc(), &CHUNKS);
-    assert!(rt; wrong.is_none(), "{wrong:?}");
+    none_is(first_wrong(&rt, rt.alloc(), &CHUNKS), &rt);
 }

@@ -1,5 +1,5 @@
 //! Whole files, read and written by the calls of readers and writers.
-ghost use Rattle.std.specs.Prelude.{◌≡◌, ℕ, ◌≤◌, [], List, false, length};
+ghost use Rattle.std.specs.Prelude.{◌≡◌, ℕ, ◌≤◌, [], List, true, false, length};
 ghost use Rattle.std.specs.Option.{ForSome};
 ghost use Rattle.las_header.specs.Fields.{is_packed};
 ghost use Rattle.las_header.specs.Vlrs.{laszip_vlrs_of};
@@ -56,6 +56,22 @@ fn read_on<R: Threads + Sync, F: Files, G: Gate>(
     Ok(())
 }
 
+// Reads the records that a reader has left, with 1 to 8 workers.
+fn read_by<R: Threads + Sync, F: Files>(
+    rt: &R,
+    alloc: Global,
+    files: &mut F,
+    reader: &mut Reader,
+    workers: u32,
+    records: &mut Vec<u8>,
+) -> Result<(), Fault>
+    requires open { reader.old.failed ≡ false }
+    requires stands { WhereKnown (F.seen files.old).held reader.old.name (StandsFor reader.old) }
+{
+    let mut crew = reader.crew(alloc, workers.min(8).max(1))?;
+    read_on(rt, alloc, files, &OpenGate, reader, &mut crew, records)
+}
+
 /// Reads all records of a file, with 1 to 8 workers. If a fault ends it, the records before it stand in `records`.
 pub(crate) fn read_file<R: Threads + Sync, F: Files>(
     rt: &R,
@@ -66,8 +82,7 @@ pub(crate) fn read_file<R: Threads + Sync, F: Files>(
     records: &mut Vec<u8>,
 ) -> Result<(), Fault> {
     let mut reader = Reader::open(alloc, files, name)?;
-    let mut crew = reader.crew(alloc, workers.min(8).max(1))?;
-    read_on(rt, alloc, files, &OpenGate, &mut reader, &mut crew, records)
+    read_by(rt, alloc, files, &mut reader, workers, records)
 }
 
 /// Reads the records of a range of a file, with 1 to 8 workers: places past the end are cut. If a fault ends it, the
@@ -84,8 +99,7 @@ pub(crate) fn read_range<R: Threads + Sync, F: Files>(
     let mut reader = Reader::open(alloc, files, name)?;
     let stop = range.1.min(reader.head().points());
     reader.seek_record(range.0.min(stop), stop);
-    let mut crew = reader.crew(alloc, workers.min(8).max(1))?;
-    read_on(rt, alloc, files, &OpenGate, &mut reader, &mut crew, records)
+    read_by(rt, alloc, files, &mut reader, workers, records)
 }
 
 /// How a file is written: the chunk size, 256 to 250,000, or 0 for a plain file; whether its records are counted; how
@@ -187,6 +201,40 @@ pub(crate) fn write_file<R: Threads + Sync, F: Files>(
     write_as(rt, alloc, files, name, head, chunk, records, form)
 }
 
+// Writes a file of the plain form of this head and these records.
+fn write_under<R: Threads + Sync, F: Files>(
+    rt: &R,
+    alloc: Global,
+    files: &mut F,
+    name: &str,
+    head: &Head,
+    records: &[u8],
+    form: Form,
+) -> Result<u64, Fault>
+    requires none { is_packed head.now.bytes ≡ false → laszip_vlrs_of head.now.bytes ≡ [] }
+    requires one { is_packed head.now.bytes ≡ true → length (laszip_vlrs_of head.now.bytes) ≡ 1 }
+{
+    if head.packed() {
+        let plain = head.without_vlr(alloc)?;
+        return write_file(rt, alloc, files, name, &plain, records, form);
+    }
+    write_file(rt, alloc, files, name, head, records, form)
+}
+
+// Writes these records of a file to another one, under its plain head.
+fn write_again<R: Threads + Sync, F: Files>(
+    rt: &R,
+    alloc: Global,
+    files: &mut F,
+    from: &str,
+    to: &str,
+    records: &[u8],
+    form: Form,
+) -> Result<u64, Fault> {
+    let reader = Reader::open(alloc, files, from)?;
+    write_under(rt, alloc, files, to, reader.head(), records, form)
+}
+
 /// Writes the records of a file to another one, under its plain head.
 pub(crate) fn rewrite<R: Threads + Sync, F: Files>(
     rt: &R,
@@ -198,11 +246,5 @@ pub(crate) fn rewrite<R: Threads + Sync, F: Files>(
 ) -> Result<u64, Fault> {
     let mut records = Vec::new(alloc);
     read_file(rt, alloc, files, from, form.workers, &mut records)?;
-    let reader = Reader::open(alloc, files, from)?;
-    let head = reader.head();
-    if head.packed() {
-        let plain = head.without_vlr(alloc)?;
-        return write_file(rt, alloc, files, to, &plain, &records, form);
-    }
-    write_file(rt, alloc, files, to, head, &records, form)
+    write_again(rt, alloc, files, from, to, &records, form)
 }

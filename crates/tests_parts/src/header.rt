@@ -1,6 +1,8 @@
-//! Heads as they stand in files: one change of a head for each condition, and heads of each version.
+//! Heads as they stand in files: one change of a head for each condition, heads of each version, and reports of whole
+//! files.
 
-use crate::samples::{file_with, number, opened, pair, put};
+use crate::info;
+use crate::samples::{none_is, number, opened, pair, put};
 use std::alloc::{AllocError, Global};
 
 // A line for each:
@@ -10,10 +12,11 @@ use std::alloc::{AllocError, Global};
 // - `alone LENGTH AT BYTE CAUSE`: made so long and with this byte at a place, it is refused for this cause, or read if
 //   the cause is `none`.
 // - `then LENGTH AT BYTE CAUSE`: so it is, and it stays so.
+// - `text NAME`: the text of this name, a report on the file or the tallies, is whole.
 //
 // The files are of format 0, with one record each: of LAS 1.2, without VLRs, and with a VLR of three bytes and a gap of
-// two; of LAS 1.3; and of LAS 1.4, with both counts. The last rows are the conditions of LAS 1.4 from the last to the
-// first.
+// two; of LAS 1.3; and of LAS 1.4, with both counts. The rows of `then` are the conditions of LAS 1.4 from the last
+// to the first, and the files after them are those of the texts.
 const ROWS: &str = "\
 file 247
 set 24 01 02
@@ -84,6 +87,25 @@ then 395 99 09 Offset
 then 395 95 00 HeaderSize
 then 395 24 03 Version
 then 395 0 00 Magic
+file 366
+set 24 01 02
+set 94 E3 00 41 01 00 00 01
+set 104 80 14 00 01 00 00 00 01
+set 229 6C 61 73 7A 69 70 20 65 6E 63 6F 64 65 64
+set 245 BC 56 28 00
+set 249 6C 61 73 7A 69 70 20 76 65 72 73 69 6F 6E 20 32 20 69 74 65 6D 73
+set 281 02
+text packed
+file 471
+set 24 01 04
+set 94 77 01 AF 01 00 00 01
+set 104 00 14 00
+set 247 02
+set 255 01 00 00 00 00 00 00 00 01
+set 377 73 6F 6D 65 62 6F 64 79
+set 393 07 00 02 00
+text plain
+text tallies
 ";
 
 // A byte in two hexadecimal digits, or 0.
@@ -93,9 +115,9 @@ fn byte(text: &str) -> u8 {
 
 // Whether a file is refused for the cause of a name, or read if that is `none`.
 fn is_refused(alloc: Global, file: &[u8], name: &str) -> Result<bool, AllocError> {
-    Ok(match opened(alloc, file)?.err() {
-        Some(cause) => cause.name() == name,
-        None => name == "none",
+    Ok(match opened(alloc, file)? {
+        Ok(_head) => name == "none",
+        Err(cause) => cause.name() == name,
     })
 }
 
@@ -130,32 +152,48 @@ fn is_so_alone(alloc: Global, file: &[u8], text: &str) -> Result<bool, AllocErro
     is_so_then(alloc, &mut changed, text)
 }
 
-// Whether a line is so. It is not if its first word is another one.
-fn is_so(alloc: Global, file: &mut Vec<u8>, line: &str) -> Result<bool, AllocError> {
-    let (command, rest) = pair(line);
+// Makes a file zeros after its signature.
+fn begin(file: &mut Vec<u8>, length: usize) -> Result<(), AllocError> {
+    file.clear();
+    file.resize(length, 0)?;
+    put(file, 0, b"LASF");
+    Ok(())
+}
+
+// Changes a file as a line says. The answer is false if the line is another one.
+fn is_changed(file: &mut Vec<u8>, command: &str, rest: &str) -> Result<bool, AllocError> {
+    let (first, second) = pair(rest);
     match command {
-        "file" => *file = file_with(alloc, number(rest), &[])?,
-        "set" => set(file, number(pair(rest).0), pair(rest).1),
-        "alone" => return is_so_alone(alloc, file, rest),
-        "then" => return is_so_then(alloc, file, rest),
+        "file" => begin(file, number(first))?,
+        "set" => set(file, number(first), second),
         _ => return Ok(false),
     }
     Ok(true)
 }
 
+// Whether a line is so. It is not if its first word is another one.
+fn is_so(alloc: Global, file: &mut Vec<u8>, line: &str) -> Result<bool, AllocError> {
+    let (command, rest) = pair(line);
+    match command {
+        "alone" => is_so_alone(alloc, file, rest),
+        "then" => is_so_then(alloc, file, rest),
+        "text" => info::is_whole(alloc, file, rest),
+        _ => is_changed(file, command, rest),
+    }
+}
+
 // The first line that is not so, or none.
-fn first_wrong(alloc: Global) -> Option<&'static str> {
+fn first_wrong(alloc: Global) -> &'static str {
     let mut file = Vec::new(alloc);
     for line in ROWS.lines() {
         if !is_so(alloc, &mut file, line).unwrap_or(false) {
-            return Some(line);
+            return line;
         }
     }
-    None
+    ""
 }
 
 #[test]
-fn each_condition_is_named(rt: HostRuntime) {
-    let wrong = first_wrong(rt.alloc());
-    assert!(rt; wrong.is_none(), "{}", wrong.unwrap_or(""));
+fn heads_and_texts(rt: HostRuntime) {
+    none_is(first_wrong(rt.alloc()), &rt);
 }

@@ -3,7 +3,7 @@
 ghost use Rattle.std.specs.Prelude.{◌≡◌, ◌%◌, ◌≤◌, All, IfOk, length};
 ghost use Rattle.std.specs.FinMap as map;
 
-use crate::samples::{file_with, opened};
+use crate::samples::opened;
 use las_header::Head;
 use las_info::{
     ClassTap, IntensityTap, ReturnTap, SourceTap, Survey, Tap, report, show_block, tally_text,
@@ -18,79 +18,51 @@ const BOTH: [u8; 40] = [
     255, 127, 0, 0, 0, 128, 255, 2, 18, 97, 0, 0, 9, 0,
 ];
 
-// A packed file of one record, of LAS 1.2.
-const PACKED: [(usize, &[u8]); 7] = [
-    (24, &[1, 2]),
-    (94, &[227, 0, 65, 1, 0, 0, 1]),
-    (104, &[128, 20, 0, 1, 0, 0, 0, 1]),
-    (229, b"laszip encoded"),
-    (245, &[188, 86, 40, 0]),
-    (249, b"laszip version 2 items"),
-    (281, &[2]),
-];
-
+// The report on a packed file of one record, of LAS 1.2.
 const PACKED_TEXT: &str = "version 1.2\nheader 227\noffset 321\nvlrs 1\n\
     vlr 6c61737a697020656e636f6465640000 22204 40\nformat 0\nlength 20\npoints 1\npacked 50000 1\n\
     header returns 1 0 0 0 0\nrecord returns 1 0 0 0 0\nraw x 5 5\nraw y 6 6\nraw z 7 7\n";
 
-// A plain file of two records, of LAS 1.4, with a VLR of two bytes of the user "somebody".
-const PLAIN: [(usize, &[u8]); 7] = [
-    (24, &[1, 4]),
-    (94, &[119, 1, 175, 1, 0, 0, 1]),
-    (104, &[0, 20, 0]),
-    (247, &[2]),
-    (255, &[1, 0, 0, 0, 0, 0, 0, 0, 1]),
-    (377, b"somebody"),
-    (393, &[7, 0, 2, 0]),
-];
-
+// The report on a plain file of both records, of LAS 1.4, with a VLR of two bytes of the user "somebody".
 const PLAIN_TEXT: &str = "version 1.4\nheader 375\noffset 431\nvlrs 1\n\
     vlr 736f6d65626f64790000000000000000 7 2\nformat 0\nlength 20\npoints 2\npacked no\n\
     header returns 0 0 0 0 0\nlong returns 1 1 0 0 0 0 0 0 0 0 0 0 0 0 0\nrecord returns 1 1 0 0 0\n\
     raw x -1 5\nraw y 6 2147483647\nraw z -2147483648 7\n";
 
-// Whether a text is the report on records under a head.
-fn is_report(
+// The tallies of both records.
+const TALLIES: &str = "tally source\n9 2\ntally class\n1 1\n2 1\ntally intensity\n2 1\n3 1\n\
+    tally return\n1 1\n2 1\n";
+
+// Whether the report on records under a head is put.
+fn is_made(
     alloc: Global,
-    survey: &Survey,
     head: &Head,
+    records: &[u8],
     chunk: Option<(u32, u32)>,
-    text: &str,
-) -> Result<bool, AllocError> {
-    let mut out = MemSink::with_room(alloc, 1_000)?;
-    let is_made = report(alloc, survey, head, chunk, &mut out).is_ok();
-    Ok(is_made && out.bytes() == text.as_bytes())
+    out: &mut MemSink,
+) -> bool
+    requires whole { length records.now % 20 ≡ 0 }
+    requires few { length records.now ≤ 40 }
+{
+    let mut survey = Survey::new(Vec::new(alloc));
+    survey.see_all(20, records).is_ok() && report(alloc, &survey, head, chunk, out).is_ok()
 }
 
-// Whether a text is what a report says of a file that has this front and these records.
+// Whether the report on a file that has this front and these records is put.
 fn is_reported(
     alloc: Global,
     file: &[u8],
     records: &[u8],
     chunk: Option<(u32, u32)>,
-    text: &str,
+    out: &mut MemSink,
 ) -> Result<bool, AllocError>
     requires whole { length records.now % 20 ≡ 0 }
     requires few { length records.now ≤ 40 }
 {
-    let mut survey = Survey::new(Vec::new(alloc));
-    survey.see_all(20, records)?;
     match opened(alloc, file)? {
-        Ok(head) => is_report(alloc, &survey, &head, chunk, text),
+        Ok(head) => Ok(is_made(alloc, &head, records, chunk, out)),
         Err(_) => Ok(false),
     }
-}
-
-// Whether the report on the packed file is.
-fn packed_is_reported(alloc: Global) -> Result<bool, AllocError> {
-    let file = file_with(alloc, 366, &PACKED)?;
-    is_reported(alloc, &file, &BOTH[..20], Some((50_000, 1)), PACKED_TEXT)
-}
-
-// Whether the report on the plain file is.
-fn plain_is_reported(alloc: Global) -> Result<bool, AllocError> {
-    let file = file_with(alloc, 471, &PLAIN)?;
-    is_reported(alloc, &file, &BOTH, None, PLAIN_TEXT)
 }
 
 // The program's taps, which have counted nothing.
@@ -112,40 +84,43 @@ fn show_both(taps: &mut [Box<dyn Tap>]) -> Result<(), AllocError>
     show_block(taps, 20, &BOTH)
 }
 
-// Whether a text is the tally of taps.
-fn is_tally(alloc: Global, taps: &[Box<dyn Tap>], text: &str) -> Result<bool, AllocError> {
-    let mut out = MemSink::with_room(alloc, 1_000)?;
-    let is_made = tally_text(alloc, taps, &mut out).is_ok();
-    Ok(is_made && out.bytes() == text.as_bytes())
-}
-
-const TALLIES: &str = "tally source\n9 2\ntally class\n1 1\n2 1\ntally intensity\n2 1\n3 1\n\
-    tally return\n1 1\n2 1\n";
-
-// Whether the tally of every tap of both records is.
-fn both_are_tallied(alloc: Global) -> Result<bool, AllocError> {
+// Whether the tallies of both records by the program's taps are put.
+fn both_are_tallied(alloc: Global, out: &mut MemSink) -> Result<bool, AllocError> {
     let mut taps = all_taps(alloc)?;
-    show_both(&mut taps)?;
-    is_tally(alloc, &taps, TALLIES)
+    Ok(show_both(&mut taps).is_ok() && tally_text(alloc, &taps, out).is_ok())
 }
 
-// Which text is another one, or none.
-fn wrong_text(alloc: Global) -> Result<&'static str, AllocError> {
-    if !packed_is_reported(alloc)? {
-        return Ok("the report on the packed file");
+// The text of a name.
+fn text_of(name: &str) -> &'static str {
+    match name {
+        "packed" => PACKED_TEXT,
+        "plain" => PLAIN_TEXT,
+        _ => TALLIES,
     }
-    if !plain_is_reported(alloc)? {
-        return Ok("the report on the plain file");
-    }
-    Ok(if both_are_tallied(alloc)? {
-        ""
-    } else {
-        "the tallies"
-    })
 }
 
-#[test]
-fn texts_are_whole(rt: HostRuntime) {
-    let wrong = wrong_text(rt.alloc()).unwrap_or("no memory");
-    assert!(rt; wrong.is_empty(), "{wrong}");
+// Whether what is to give the text of a name is done.
+fn is_put(alloc: Global, file: &[u8], name: &str, out: &mut MemSink) -> Result<bool, AllocError> {
+    match name {
+        "packed" => is_reported(alloc, file, &BOTH[..20], Some((50_000, 1)), out),
+        "plain" => is_reported(alloc, file, &BOTH, None, out),
+        "tallies" => both_are_tallied(alloc, out),
+        _ => Ok(false),
+    }
+}
+
+// Whether the text of a name is put on a sink.
+fn is_whole_in(
+    alloc: Global,
+    file: &[u8],
+    name: &str,
+    out: &mut MemSink,
+) -> Result<bool, AllocError> {
+    Ok(is_put(alloc, file, name, out)? && out.bytes() == text_of(name).as_bytes())
+}
+
+// Whether the text of a name is whole: the report on a file that has this front, or the tallies.
+pub(crate) fn is_whole(alloc: Global, file: &[u8], name: &str) -> Result<bool, AllocError> {
+    let mut out = MemSink::with_room(alloc, 1_000)?;
+    is_whole_in(alloc, file, name, &mut out)
 }

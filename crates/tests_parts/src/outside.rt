@@ -2,12 +2,13 @@
 
 ghost use Rattle.std.specs.Prelude.{◌≡◌, None};
 
-use crate::samples::{number, pair};
+use crate::samples::{none_is, number, pair};
 use las_outside::{Files, RealFiles, RealSink, Sink};
 use std::alloc::AllocError;
 use std::fs;
+use std::fs::File;
 use std::os::unix::fs::symlink;
-use std::test::Fail;
+use std::rt::Files as System;
 
 // Scripts, each with files of its own. A line that begins with `#` says what a script shows, and each other one is a
 // step. The system itself does these:
@@ -108,7 +109,7 @@ remove las_outside_closed
 ];
 
 // Whether the system reads a file, and it holds this text.
-fn holds(rt: &HostRuntime, name: &str, text: &str) -> bool {
+fn holds<R: System<File = File> + AllocGlobal + Drop>(rt: &R, name: &str, text: &str) -> bool {
     match fs::read(rt, name) {
         Ok(bytes) => bytes.as_slice() == text.as_bytes(),
         Err(_) => false,
@@ -116,7 +117,7 @@ fn holds(rt: &HostRuntime, name: &str, text: &str) -> bool {
 }
 
 // Whether it holds the first word of a text, its own name, and what follows the first word.
-fn holds_name(rt: &HostRuntime, name: &str, text: &str) -> bool {
+fn holds_name<R: System<File = File> + AllocGlobal + Drop>(rt: &R, name: &str, text: &str) -> bool {
     let (first, second) = pair(text);
     match format!(in rt.alloc(); "{first}{name}{second}") {
         Ok(wanted) => holds(rt, name, wanted.as_str()),
@@ -124,28 +125,41 @@ fn holds_name(rt: &HostRuntime, name: &str, text: &str) -> bool {
     }
 }
 
-fn is_written(rt: &HostRuntime, name: &str, text: &str) -> bool {
+fn is_written<R: System<File = File> + AllocGlobal + Drop>(rt: &R, name: &str, text: &str) -> bool {
     fs::write(rt, name, text.as_bytes()).is_ok()
 }
 
-fn is_removed(rt: &HostRuntime, name: &str) -> bool {
+fn is_removed<R: System<File = File> + AllocGlobal + Drop>(rt: &R, name: &str) -> bool {
     fs::remove_file(rt, name).is_ok()
 }
 
-fn is_renamed(rt: &HostRuntime, name: &str, other: &str) -> bool {
+fn is_renamed<R: System<File = File> + AllocGlobal + Drop>(
+    rt: &R,
+    name: &str,
+    other: &str,
+) -> bool {
     fs::rename(rt, name, other).is_ok()
 }
 
-fn is_linked(rt: &HostRuntime, name: &str, other: &str) -> bool {
+fn is_linked<R: System<File = File> + AllocGlobal + Drop>(rt: &R, name: &str, other: &str) -> bool {
     fs::hard_link(rt, name, other).is_ok()
 }
 
-fn is_linked_softly(rt: &HostRuntime, name: &str, other: &str) -> bool {
+fn is_linked_softly<R: System<File = File> + AllocGlobal + Drop>(
+    rt: &R,
+    name: &str,
+    other: &str,
+) -> bool {
     symlink(rt, name, other).is_ok()
 }
 
 // Whether the system gives a file another name.
-fn system_names(rt: &HostRuntime, step: &str, name: &str, other: &str) -> bool {
+fn system_names<R: System<File = File> + AllocGlobal + Drop>(
+    rt: &R,
+    step: &str,
+    name: &str,
+    other: &str,
+) -> bool {
     match step {
         "hard_link" => is_linked(rt, name, other),
         "soft_link" => is_linked_softly(rt, name, other),
@@ -155,7 +169,12 @@ fn system_names(rt: &HostRuntime, step: &str, name: &str, other: &str) -> bool {
 }
 
 // Whether the system does a step of its own.
-fn system_does(rt: &HostRuntime, step: &str, name: &str, text: &str) -> bool {
+fn system_does<R: System<File = File> + AllocGlobal + Drop>(
+    rt: &R,
+    step: &str,
+    name: &str,
+    text: &str,
+) -> bool {
     match step {
         "write" => is_written(rt, name, text),
         "remove" => is_removed(rt, name),
@@ -165,14 +184,21 @@ fn system_does(rt: &HostRuntime, step: &str, name: &str, text: &str) -> bool {
     }
 }
 
-fn is_created(files: &mut RealFiles<HostRuntime>, name: &str) -> bool
+fn is_created<R: System<File = File> + AllocGlobal + Drop>(
+    files: &mut RealFiles<R>,
+    name: &str,
+) -> bool
     requires { files.old.held ≡ None }
     ensures { files.new.held ≡ None }
 {
     files.create(name).is_ok()
 }
 
-fn is_appended(files: &mut RealFiles<HostRuntime>, name: &str, text: &str) -> bool
+fn is_appended<R: System<File = File> + AllocGlobal + Drop>(
+    files: &mut RealFiles<R>,
+    name: &str,
+    text: &str,
+) -> bool
     requires { files.old.held ≡ None }
     ensures { files.new.held ≡ None }
 {
@@ -180,7 +206,11 @@ fn is_appended(files: &mut RealFiles<HostRuntime>, name: &str, text: &str) -> bo
 }
 
 // Whether the second word of a text, and what follows it, is written over a file from the place on that is the first.
-fn is_patched(files: &mut RealFiles<HostRuntime>, name: &str, text: &str) -> bool
+fn is_patched<R: System<File = File> + AllocGlobal + Drop>(
+    files: &mut RealFiles<R>,
+    name: &str,
+    text: &str,
+) -> bool
     requires { files.old.held ≡ None }
     ensures { files.new.held ≡ None }
 {
@@ -191,7 +221,11 @@ fn is_patched(files: &mut RealFiles<HostRuntime>, name: &str, text: &str) -> boo
 }
 
 // Whether a file has the size of a text, or none.
-fn has_size(files: &mut RealFiles<HostRuntime>, name: &str, text: &str) -> bool
+fn has_size<R: System<File = File> + AllocGlobal + Drop>(
+    files: &mut RealFiles<R>,
+    name: &str,
+    text: &str,
+) -> bool
     requires { files.old.held ≡ None }
     ensures { files.new.held ≡ None }
 {
@@ -202,7 +236,11 @@ fn has_size(files: &mut RealFiles<HostRuntime>, name: &str, text: &str) -> bool
 }
 
 // Whether five bytes of a file are those of a text, a place and then the bytes from there on, or `none` if not read.
-fn is_read(files: &mut RealFiles<HostRuntime>, name: &str, text: &str) -> bool
+fn is_read<R: System<File = File> + AllocGlobal + Drop>(
+    files: &mut RealFiles<R>,
+    name: &str,
+    text: &str,
+) -> bool
     requires { files.old.held ≡ None }
     ensures { files.new.held ≡ None }
 {
@@ -215,9 +253,9 @@ fn is_read(files: &mut RealFiles<HostRuntime>, name: &str, text: &str) -> bool
 }
 
 // Whether the files do a step with the bytes of a file, or the system does it.
-fn bytes_are_done(
-    rt: &HostRuntime,
-    files: &mut RealFiles<HostRuntime>,
+fn bytes_are_done<R: System<File = File> + AllocGlobal + Drop>(
+    rt: &R,
+    files: &mut RealFiles<R>,
     step: &str,
     name: &str,
     text: &str,
@@ -235,9 +273,9 @@ fn bytes_are_done(
 }
 
 // Whether a step is done, by the files or by the system.
-fn is_done(
-    rt: &HostRuntime,
-    files: &mut RealFiles<HostRuntime>,
+fn is_done<R: System<File = File> + AllocGlobal + Drop>(
+    rt: &R,
+    files: &mut RealFiles<R>,
     step: &str,
     name: &str,
     text: &str,
@@ -254,14 +292,17 @@ fn is_done(
 }
 
 // The name of the file of this number.
-fn numbered(rt: &HostRuntime, number: usize) -> Result<String, AllocError> {
+fn numbered<R: System<File = File> + AllocGlobal + Drop>(
+    rt: &R,
+    number: usize,
+) -> Result<String, AllocError> {
     format!(in rt.alloc(); "las_outside_{number}")
 }
 
 // Whether a step is done with the file of a number.
-fn is_done_by_number(
-    rt: &HostRuntime,
-    files: &mut RealFiles<HostRuntime>,
+fn is_done_by_number<R: System<File = File> + AllocGlobal + Drop>(
+    rt: &R,
+    files: &mut RealFiles<R>,
     number: usize,
     step: &str,
 ) -> bool
@@ -276,7 +317,11 @@ fn is_done_by_number(
 }
 
 // Whether a step is done with many files.
-fn are_done(rt: &HostRuntime, files: &mut RealFiles<HostRuntime>, text: &str) -> bool
+fn are_done<R: System<File = File> + AllocGlobal + Drop>(
+    rt: &R,
+    files: &mut RealFiles<R>,
+    text: &str,
+) -> bool
     requires { files.old.held ≡ None }
     ensures { files.new.held ≡ None }
 {
@@ -292,7 +337,11 @@ fn are_done(rt: &HostRuntime, files: &mut RealFiles<HostRuntime>, text: &str) ->
 }
 
 // Whether a line of a script is done.
-fn line_is_done(rt: &HostRuntime, files: &mut RealFiles<HostRuntime>, line: &str) -> bool
+fn line_is_done<R: System<File = File> + AllocGlobal + Drop>(
+    rt: &R,
+    files: &mut RealFiles<R>,
+    line: &str,
+) -> bool
     requires { files.old.held ≡ None }
     ensures { files.new.held ≡ None }
 {
@@ -306,23 +355,23 @@ fn line_is_done(rt: &HostRuntime, files: &mut RealFiles<HostRuntime>, line: &str
 }
 
 // The first line of a script that is not done, or none.
-fn first_wrong(
-    rt: &HostRuntime,
-    files: &mut RealFiles<HostRuntime>,
+fn first_wrong<R: System<File = File> + AllocGlobal + Drop>(
+    rt: &R,
+    files: &mut RealFiles<R>,
     script: &'static str,
-) -> Option<&'static str>
+) -> &'static str
     requires { files.old.held ≡ None }
 {
     for line in script.lines() {
         if !line_is_done(rt, files, line) {
-            return Some(line);
+            return line;
         }
     }
-    None
+    ""
 }
 
 // The same of a script with files of its own, of which none is open at first.
-fn first_wrong_alone(rt: &HostRuntime, script: &'static str) -> Option<&'static str> {
+fn first_wrong_alone(rt: &HostRuntime, script: &'static str) -> &'static str {
     let mut files = RealFiles::new(*rt);
     first_wrong(rt, &mut files, script)
 }
@@ -330,15 +379,13 @@ fn first_wrong_alone(rt: &HostRuntime, script: &'static str) -> Option<&'static 
 #[test]
 fn scripts_are_done(rt: HostRuntime) {
     for script in &SCRIPTS {
-        let wrong = first_wrong_alone(&rt, *script);
-        assert!(rt; wrong.is_none(), "{}", wrong.unwrap_or(""));
+        none_is(first_wrong_alone(&rt, *script), &rt);
     }
 }
 
 // The standard streams are there and take bytes.
 #[test]
-fn standard_streams(rt: HostRuntime) -> Result<(), Fail> {
-    RealSink::out(&rt).put(b"")?;
-    RealSink::err(&rt).put(b"")?;
-    Ok(())
+fn standard_streams(rt: HostRuntime) {
+    let are_there = RealSink::out(&rt).put(b"").is_ok() && RealSink::err(&rt).put(b"").is_ok();
+    none_is(if are_there { "" } else { "put" }, &rt);
 }

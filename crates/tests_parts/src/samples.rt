@@ -2,15 +2,26 @@
 
 use las_header::{HEADER_BLOCK, Head, Refusal, need};
 use std::alloc::{AllocError, Global};
+use std::process::Abort;
+
+// No line is wrong.
+pub(crate) fn none_is(wrong: &str, rt: &impl Abort) {
+    assert!(rt; wrong.is_empty(), "{wrong}");
+}
 
 // The first word of a text, and what follows the blank after it.
 pub(crate) fn pair(text: &str) -> (&str, &str) {
     text.split_once(" ").unwrap_or((text, ""))
 }
 
-// A number in decimal digits, or 0.
+// A number of 32 bits in decimal digits, or 0.
+fn count_of(text: &str) -> u32 {
+    u32::from_str_radix(text, 10).unwrap_or(0)
+}
+
+// The same of the word size.
 pub(crate) fn number(text: &str) -> usize {
-    u32::from_str_radix(text, 10).unwrap_or(0) as usize
+    count_of(text) as usize
 }
 
 // Writes bytes as far as they fit.
@@ -22,18 +33,16 @@ pub(crate) fn put(file: &mut Vec<u8>, at: usize, bytes: &[u8]) {
     }
 }
 
-// A file of this length, which has the signature, and zeros but for these bytes at their places.
-pub(crate) fn file_with(
-    alloc: Global,
-    length: usize,
-    parts: &[(usize, &[u8])],
-) -> Result<Vec<u8>, AllocError> {
-    let mut file = vec![in alloc; 0; length]?;
-    put(&mut file, 0, b"LASF");
-    for (at, part) in parts {
-        put(&mut file, *at, part);
+// The numbers of a text, as far as there is room for them.
+pub(crate) fn numbers<'a>(room: &'a mut [u32], text: &str) -> &'a [u32] {
+    let mut count = 0usize;
+    for word in text.split_whitespace() {
+        if let Some(place) = room.get_mut(count) {
+            *place = count_of(word);
+            count = count.saturating_add(1);
+        }
     }
-    Ok(file)
+    &room[..count.min(room.len())]
 }
 
 // What is read of a file's head.

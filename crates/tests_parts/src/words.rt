@@ -1,5 +1,6 @@
 //! Command lines, each with what it says.
 
+use crate::samples::none_is;
 use itoa::Buffer;
 use las_filter::{Plan, Rule};
 use las_info::{ClassTap, ReturnTap, Tap};
@@ -343,35 +344,38 @@ make -o a.laz -z b.las -points 1 -seed 1 -cores 8 = make a.laz b.las 1 1 0 0 500
 
 #[test]
 fn lines_are_read(rt: HostRuntime) {
-    let (count, wrong) = first_wrong_with_taps(rt.alloc()).unwrap_or((0, "memory"));
-    assert!(rt; wrong.is_empty() && count == 324, "{count}: {wrong}");
+    none_is(first_wrong_of(rt.alloc()), &rt);
 }
 
-// How many rows are answered as they say if two taps may be named, and the first that is not.
-fn first_wrong_with_taps(alloc: Global) -> Result<(u32, &'static str), AllocError> {
-    let taps = taps(alloc)?;
-    Ok(first_wrong(alloc, &taps))
+// The first of all rows that is not answered as it says, or none.
+fn first_wrong_of(alloc: Global) -> &'static str {
+    let mut taps = Vec::new(alloc);
+    match add_taps(alloc, &mut taps) {
+        Ok(()) => first_wrong(alloc, &taps),
+        Err(_) => "memory",
+    }
 }
 
-// How many rows are answered as they say, before the first that is not, and that one.
-fn first_wrong(alloc: Global, taps: &[Box<dyn Tap>]) -> (u32, &'static str) {
+// The same if these taps may be named.
+fn first_wrong(alloc: Global, taps: &[Box<dyn Tap>]) -> &'static str {
     let mut count = 0u32;
     for row in LINES.lines() {
-        let (line, said) = row.split_once(" =").unwrap_or((row, "no answer"));
-        if !is_answered(alloc, line, said, taps) {
-            return (count, row);
+        if !is_answered(alloc, row, taps).unwrap_or(false) {
+            return row;
         }
         count = count.saturating_add(1);
     }
-    (count, "")
+    if count == 324 { "" } else { "not 324 rows" }
 }
 
-// Whether this is the answer to a line.
-fn is_answered(alloc: Global, line: &str, said: &str, taps: &[Box<dyn Tap>]) -> bool {
-    match words_of(alloc, line) {
-        Ok(words) => is_answer(alloc, &words, said, taps),
-        Err(_) => false,
+// Whether a row is answered as it says.
+fn is_answered(alloc: Global, row: &str, taps: &[Box<dyn Tap>]) -> Result<bool, AllocError> {
+    let (line, said) = row.split_once(" =").unwrap_or((row, "no answer"));
+    let mut words = Vec::new(alloc);
+    if !line.is_empty() {
+        say(alloc, &mut words, line)?;
     }
+    Ok(is_answer(alloc, &words, said, taps))
 }
 
 // Whether this is the answer to words.
@@ -380,34 +384,23 @@ fn is_answer(alloc: Global, words: &[String], said: &str, taps: &[Box<dyn Tap>])
         bytes: said.as_bytes(),
         is_right: true,
     };
-    match read_words(alloc, words, taps) {
-        Ok(command) => rest.command(alloc, &command),
-        Err(WordFault::Usage(index)) => {
-            rest.word("usage");
-            rest.number(u32::try_from(index).unwrap_or(u32::MAX));
-        }
-        Err(WordFault::Memory) => rest.is_right = false,
-    }
+    rest.answer(alloc, words, taps);
     rest.is_right && rest.bytes.is_empty()
 }
 
-// The words of a line. The empty line has none.
-fn words_of(alloc: Global, line: &str) -> Result<Vec<String>, AllocError> {
-    let mut words = Vec::new(alloc);
-    if !line.is_empty() {
-        for word in line.split(' ') {
-            words.push(String::from_str(alloc, word)?)?;
-        }
+// Appends the words of a line.
+fn say(alloc: Global, words: &mut Vec<String>, line: &str) -> Result<(), AllocError> {
+    for word in line.split(' ') {
+        words.push(String::from_str(alloc, word)?)?;
     }
-    Ok(words)
+    Ok(())
 }
 
-// The taps that may be named.
-fn taps(alloc: Global) -> Result<Vec<Box<dyn Tap>>, AllocError> {
-    let mut taps: Vec<Box<dyn Tap>> = Vec::new(alloc);
+// Adds the taps that may be named.
+fn add_taps(alloc: Global, taps: &mut Vec<Box<dyn Tap>>) -> Result<(), AllocError> {
     taps.push(Box::new(alloc, ClassTap::new(alloc))?)?;
     taps.push(Box::new(alloc, ReturnTap::new(alloc))?)?;
-    Ok(taps)
+    Ok(())
 }
 
 // What is left of what a row says, and whether the answer was so as far as it was taken.
@@ -442,6 +435,27 @@ impl<'a> Rest<'a> {
     fn number(&mut self, number: u32) {
         self.text(" ");
         self.digits(number);
+    }
+
+    // Takes words, each after a blank.
+    fn words(&mut self, words: &[&str]) {
+        for word in words {
+            self.word(*word);
+        }
+    }
+
+    // Takes numbers, each after a blank.
+    fn numbers(&mut self, numbers: &[u32]) {
+        for number in numbers {
+            self.number(*number);
+        }
+    }
+
+    // Takes the names of tallies, if there are some.
+    fn tallies(&mut self, names: &[String]) {
+        if !names.is_empty() {
+            self.names(names);
+        }
     }
 
     // Takes names in brackets, after a blank.
@@ -501,6 +515,25 @@ impl<'a> Rest<'a> {
         }
     }
 
+    // Takes the answer to words.
+    fn answer(&mut self, alloc: Global, words: &[String], taps: &[Box<dyn Tap>]) {
+        match read_words(alloc, words, taps) {
+            Ok(command) => self.command(alloc, &command),
+            Err(fault) => self.fault(fault),
+        }
+    }
+
+    // Takes what is wrong with words.
+    fn fault(&mut self, fault: WordFault) {
+        match fault {
+            WordFault::Usage(index) => {
+                self.word("usage");
+                self.number(u32::try_from(index).unwrap_or(u32::MAX));
+            }
+            WordFault::Memory => self.is_right = false,
+        }
+    }
+
     // Takes a command.
     fn command(&mut self, alloc: Global, command: &Command) {
         match command {
@@ -510,28 +543,24 @@ impl<'a> Rest<'a> {
                 chunk,
                 workers,
             } => {
-                self.word("laszip");
-                self.word(input.as_str());
-                self.word(output.as_str());
-                self.number(*chunk);
-                self.number(*workers);
+                self.words(&["laszip", input.as_str(), output.as_str()]);
+                self.numbers(&[*chunk, *workers]);
             }
             Command::Lasinfo {
                 input,
                 tallies,
                 workers,
             } => {
-                self.word("lasinfo");
-                self.word(input.as_str());
+                self.words(&["lasinfo", input.as_str()]);
                 self.names(tallies);
                 self.number(*workers);
             }
-            other => self.parting_or_merging(alloc, other),
+            other => self.parting_or_making(alloc, other),
         }
     }
 
-    // Takes a command that splits or merges, or another one.
-    fn parting_or_merging(&mut self, alloc: Global, command: &Command) {
+    // Takes a command that splits or makes files, or another one.
+    fn parting_or_making(&mut self, alloc: Global, command: &Command) {
         match command {
             Command::Lassplit {
                 input,
@@ -540,14 +569,33 @@ impl<'a> Rest<'a> {
                 rule,
                 workers,
             } => {
-                self.word("lassplit");
-                self.word(input.as_str());
-                self.word(stem.as_str());
+                self.words(&["lassplit", input.as_str(), stem.as_str()]);
                 self.text("|");
                 self.text(end.as_str());
                 self.rule(*rule);
                 self.number(*workers);
             }
+            Command::Make {
+                output,
+                packed,
+                points,
+                seed,
+                format,
+                extra,
+                chunk,
+                workers,
+            } => {
+                self.words(&["make", output.as_str(), packed.as_str()]);
+                let (format, extra) = (u32::from(*format), u32::from(*extra));
+                self.numbers(&[*points, *seed, format, extra, *chunk, *workers]);
+            }
+            other => self.merging(alloc, other),
+        }
+    }
+
+    // Takes a command that merges, or another one.
+    fn merging(&mut self, alloc: Global, command: &Command) {
+        match command {
             Command::Lasmerge {
                 inputs,
                 output,
@@ -559,17 +607,15 @@ impl<'a> Rest<'a> {
                 self.names(inputs);
                 self.word(output.as_str());
                 self.packing(*packing);
-                if *copy {
-                    self.word("copied");
-                }
+                self.text(if *copy { " copied" } else { "" });
                 self.number(*workers);
             }
-            other => self.changing_or_making(alloc, other),
+            other => self.changing(alloc, other),
         }
     }
 
-    // Takes a command that filters and changes, or another one.
-    fn changing_or_making(&mut self, alloc: Global, command: &Command) {
+    // Takes a command that filters and changes.
+    fn changing(&mut self, alloc: Global, command: &Command) {
         match command {
             Command::Las2las {
                 input,
@@ -584,44 +630,13 @@ impl<'a> Rest<'a> {
                 unique,
                 tallies,
             } => {
-                self.word("las2las");
-                self.word(input.as_str());
-                self.word(output.as_str());
+                self.words(&["las2las", input.as_str(), output.as_str()]);
                 self.plan(alloc, plan);
                 self.packing(*packing);
                 self.number(*workers);
                 self.range(*start, *stop);
                 self.sieve(*step, *pick, *unique);
-                if !tallies.is_empty() {
-                    self.names(tallies);
-                }
-            }
-            other => self.making(other),
-        }
-    }
-
-    // Takes a command that makes files.
-    fn making(&mut self, command: &Command) {
-        match command {
-            Command::Make {
-                output,
-                packed,
-                points,
-                seed,
-                format,
-                extra,
-                chunk,
-                workers,
-            } => {
-                self.word("make");
-                self.word(output.as_str());
-                self.word(packed.as_str());
-                self.number(*points);
-                self.number(*seed);
-                self.number(u32::from(*format));
-                self.number(u32::from(*extra));
-                self.number(*chunk);
-                self.number(*workers);
+                self.tallies(tallies);
             }
             _ => self.is_right = false,
         }

@@ -3,6 +3,7 @@
 ghost use Rattle.std.specs.Prelude.{◌≡◌, ℕ, ◌*◌, ◌<◌, ◌≤◌, IfOk, length, vec_len, Contains};
 ghost use Rattle.laz_workers.specs.Rooms.{rooms_of, numbers_in};
 
+use crate::samples::{none_is, numbers};
 use las_outside::Gate;
 use laz_workers::{Crew, Job, work_batch};
 use std::alloc::{AllocError, Global};
@@ -19,13 +20,6 @@ struct Hold {
     left: u64,
     turns: u32,
 }
-
-const OPEN: Hold = Hold {
-    below: 0,
-    entered: 0,
-    left: 0,
-    turns: 200_000_000,
-};
 
 // A gate that holds some numbers, and counts the steps of each: it enters, is worked and leaves.
 #[derive(Drop)]
@@ -146,26 +140,27 @@ fn crew_of(alloc: Global, hands: u32) -> Result<Crew<()>, AllocError>
     Ok(crew)
 }
 
-fn inputs_of(alloc: Global, bytes: &[u8]) -> Result<Vec<Vec<u8>>, AllocError>
+fn inputs_of(alloc: Global, bytes: &[u32]) -> Result<Vec<Vec<u8>>, AllocError>
     ensures { IfOk result (λ v. vec_len v ≡ length bytes.now) }
 {
     let mut inputs = Vec::new(alloc);
     let mut number = 0u8;
     for byte in bytes {
-        inputs.push(vec![in alloc; number, *byte]?)?;
+        inputs.push(vec![in alloc; number, (*byte).min(255) as u8]?)?;
         number = number.wrapping_add(1);
     }
     Ok(inputs)
 }
 
 // Whether each input's answer stands under its number.
-fn stands_by_number(crew: &Crew<()>, bytes: &[u8]) -> bool
+fn stands_by_number(crew: &Crew<()>, bytes: &[u32]) -> bool
     requires stands { (n : ℕ) → n < length bytes.now → Contains (numbers_in (rooms_of crew.now)) n }
     requires few { length bytes.now ≤ 16 }
 {
     for i in 0..bytes.len() {
         let right = match crew.result(i as u32) {
-            Some(answer) => bytes[i] < 200 && answer == [bytes[i].wrapping_add(1)].as_slice(),
+            Some(answer) => bytes[i] < 200
+                && answer == [(bytes[i] as u8).wrapping_add(1)].as_slice(),
             None => bytes[i] >= 200,
         };
         if !right {
@@ -182,7 +177,7 @@ fn works<R: Threads + Sync>(
     watch: &Watch,
     crew: &mut Crew<()>,
     inputs: &[Vec<u8>],
-    bytes: &[u8],
+    bytes: &[u32],
 ) -> Result<bool, AllocError>
     requires hands { 0 < length crew.old }
     requires inputs { length inputs.now ≤ 2 * length crew.old }
@@ -198,7 +193,7 @@ fn is_worked<R: Threads + Sync>(
     alloc: Global,
     watch: &Watch,
     hands: u32,
-    bytes: &[u8],
+    bytes: &[u32],
 ) -> Result<bool, AllocError>
     requires hands { (0 < hands) × (hands ≤ 8) }
     requires few { length bytes.now ≤ 2 * hands }
@@ -208,167 +203,76 @@ fn is_worked<R: Threads + Sync>(
     works(rt, alloc, watch, &mut crew, &inputs, bytes)
 }
 
-// A crew of 1 to 8 hands, at most two bytes for each, which numbers are held, and how many of them to the last turn.
-struct Row {
-    name: &'static str,
-    hands: u32,
-    bytes: &'static [u8],
-    hold: Hold,
-    missed: u64,
-}
+// `NAME = HANDS BELOW ENTERED LEFT TURNS MISSED BYTES`: a crew of 1 to 8 hands works at most two bytes for each, while a
+// gate holds the numbers below BELOW, each until ENTERED have entered and LEFT have left, for TURNS turns at most. MISSED
+// of them are held to the last turn.
+//
+// In the second row number 0 is held for a thousand turns, since no input leaves twice, and some inputs are refused. In
+// the one of a free hand, one hand is held at number 0, and the other works both other inputs: numbers that were dealt to
+// hands before the fan-out would leave one of them with the held hand.
+const ROWS: &str = "\
+two hands meet = 2 1 2 0 200000000 0 10 20
+sixteen inputs stand by number = 8 1 0 17 1000 1 3 250 5 199 200 0 1 2 77 255 100 9 8 7 6 5
+one hand works two inputs = 1 0 0 0 200000000 0 201 41
+0 inputs and 1 hands = 1 0 0 0 200000000 0
+1 inputs and 2 hands = 2 0 0 0 200000000 0 1
+2 inputs and 3 hands = 3 0 0 0 200000000 0 1 2
+3 inputs and 4 hands = 4 0 0 0 200000000 0 1 2 3
+4 inputs and 5 hands = 5 0 0 0 200000000 0 1 2 3 204
+5 inputs and 6 hands = 6 0 0 0 200000000 0 1 2 3 204 5
+6 inputs and 7 hands = 7 0 0 0 200000000 0 1 2 3 204 5 6
+7 inputs and 8 hands = 8 0 0 0 200000000 0 1 2 3 204 5 6 7
+a free hand goes on = 2 1 0 2 200000000 0 10 20 30
+four inputs meet by four hands = 4 4 4 0 200000000 0 1 2 3 4
+four inputs meet by eight hands = 8 4 4 0 200000000 0 1 2 3 4
+";
 
-static ROWS: [Row; 14] = [
-    // number 0 is held until number 1 has entered
-    Row {
-        name: "two hands meet",
-        hands: 2,
-        bytes: &[10, 20],
-        hold: Hold {
-            below: 1,
-            entered: 2,
-            ..OPEN
-        },
-        missed: 0,
-    },
-    // number 0 is held for a thousand turns, since no input leaves twice; some inputs are refused
-    Row {
-        name: "sixteen inputs stand by number",
-        hands: 8,
-        bytes: &[3, 250, 5, 199, 200, 0, 1, 2, 77, 255, 100, 9, 8, 7, 6, 5],
-        hold: Hold {
-            below: 1,
-            left: 17,
-            turns: 1000,
-            ..OPEN
-        },
-        missed: 1,
-    },
-    Row {
-        name: "one hand works two inputs",
-        hands: 1,
-        bytes: &[201, 41],
-        hold: OPEN,
-        missed: 0,
-    },
-    Row {
-        name: "0 inputs and 1 hands",
-        hands: 1,
-        bytes: &[],
-        hold: OPEN,
-        missed: 0,
-    },
-    Row {
-        name: "1 inputs and 2 hands",
-        hands: 2,
-        bytes: &[1],
-        hold: OPEN,
-        missed: 0,
-    },
-    Row {
-        name: "2 inputs and 3 hands",
-        hands: 3,
-        bytes: &[1, 2],
-        hold: OPEN,
-        missed: 0,
-    },
-    Row {
-        name: "3 inputs and 4 hands",
-        hands: 4,
-        bytes: &[1, 2, 3],
-        hold: OPEN,
-        missed: 0,
-    },
-    Row {
-        name: "4 inputs and 5 hands",
-        hands: 5,
-        bytes: &[1, 2, 3, 204],
-        hold: OPEN,
-        missed: 0,
-    },
-    Row {
-        name: "5 inputs and 6 hands",
-        hands: 6,
-        bytes: &[1, 2, 3, 204, 5],
-        hold: OPEN,
-        missed: 0,
-    },
-    Row {
-        name: "6 inputs and 7 hands",
-        hands: 7,
-        bytes: &[1, 2, 3, 204, 5, 6],
-        hold: OPEN,
-        missed: 0,
-    },
-    Row {
-        name: "7 inputs and 8 hands",
-        hands: 8,
-        bytes: &[1, 2, 3, 204, 5, 6, 7],
-        hold: OPEN,
-        missed: 0,
-    },
-    // while one hand is held at number 0, the other works both other inputs: numbers that were dealt to hands before the
-    // fan-out would leave one of them with the held hand
-    Row {
-        name: "a free hand goes on",
-        hands: 2,
-        bytes: &[10, 20, 30],
-        hold: Hold {
-            below: 1,
-            left: 2,
-            ..OPEN
-        },
-        missed: 0,
-    },
-    Row {
-        name: "four inputs meet by four hands",
-        hands: 4,
-        bytes: &[1, 2, 3, 4],
-        hold: Hold {
-            below: 4,
-            entered: 4,
-            ..OPEN
-        },
-        missed: 0,
-    },
-    Row {
-        name: "four inputs meet by eight hands",
-        hands: 8,
-        bytes: &[1, 2, 3, 4],
-        hold: Hold {
-            below: 4,
-            entered: 4,
-            ..OPEN
-        },
-        missed: 0,
-    },
-];
-
-// Whether a crew works as its row says, while a gate watches it.
+// Whether a crew works bytes, while a gate watches it.
 fn crew_is_watched<R: Threads + Sync>(
     rt: &R,
     alloc: Global,
     watch: &Watch,
-    row: &Row,
+    hands: u32,
+    bytes: &[u32],
 ) -> Result<bool, AllocError> {
-    let (hands, bytes) = (row.hands, row.bytes);
     if hands == 0 || hands > 8 || bytes.len() > 2 * hands as usize {
         return Ok(false);
     }
-    let is_right = is_worked(rt, alloc, watch, hands, bytes)?;
-    Ok(is_right && watch.missed.load(Ordering::SeqCst) == row.missed)
+    is_worked(rt, alloc, watch, hands, bytes)
+}
+
+// Whether a crew works as the numbers of a row say.
+fn crew_works<R: Threads + Sync>(
+    rt: &R,
+    alloc: Global,
+    numbers: &[u32],
+) -> Result<bool, AllocError> {
+    let [hands, below, entered, left, turns, missed, bytes @ ..] = numbers else {
+        return Ok(false);
+    };
+    let hold = Hold {
+        below: *below,
+        entered: u64::from(*entered),
+        left: u64::from(*left),
+        turns: *turns,
+    };
+    let watch = watch_of(alloc, bytes.len(), hold)?;
+    let is_right = crew_is_watched(rt, alloc, &watch, *hands, bytes).unwrap_or(false);
+    Ok(is_right && watch.missed.load(Ordering::SeqCst) == u64::from(*missed))
 }
 
 // Whether a crew works as its row says.
-fn crew_works<R: Threads + Sync>(rt: &R, alloc: Global, row: &Row) -> Result<bool, AllocError> {
-    let watch = watch_of(alloc, row.bytes.len(), row.hold)?;
-    crew_is_watched(rt, alloc, &watch, row)
+fn row_is_so<R: Threads + Sync>(rt: &R, alloc: Global, row: &str) -> bool {
+    let (_name, said) = row.split_once(" = ").unwrap_or((row, ""));
+    let mut room = [0; 24];
+    crew_works(rt, alloc, numbers(&mut room, said)).unwrap_or(false)
 }
 
-// The name of the first row whose crew does not, or none.
+// The first row whose crew does not, or none.
 fn first_wrong<R: Threads + Sync>(rt: &R, alloc: Global) -> &'static str {
-    for row in &ROWS {
-        if !crew_works(rt, alloc, row).unwrap_or(false) {
-            return row.name;
+    for row in ROWS.lines() {
+        if !row_is_so(rt, alloc, row) {
+            return row;
         }
     }
     ""
@@ -376,6 +280,5 @@ fn first_wrong<R: Threads + Sync>(rt: &R, alloc: Global) -> &'static str {
 
 #[test]
 fn crews_work(rt: HostRuntime) {
-    let wrong = first_wrong(&rt, rt.alloc());
-    assert!(rt; wrong.is_empty(), "{wrong}");
+    none_is(first_wrong(&rt, rt.alloc()), &rt);
 }

@@ -1,7 +1,7 @@
 use Rattle.std.proofs.Common.{◌≡◌, ◌%◌, ◌+◌, ◌<◌, ◌≤◌, ◌/◌, ◌^◌, true, false, ℕ, Bool, List, [], ◌∷◌, ◌++◌, length}
 use Rattle.std.proofs.Common.{map, refl, Err, Option, Some, sym, ◌∙◌, ap, subst, length-append, arith}
 use Rattle.std.specs.List.{concat}
-use Rattle.std.proofs.lemmas.Result.{on_ok_weaker}
+use Rattle.std.proofs.lemmas.Result.{on_ok_weaker, IfOk-from_err}
 use Rattle.las_header.specs.Fields.{record_length_of}
 use Rattle.las_header.specs.Heads.{HeadView}
 use Rattle.las_header.specs.Plain.{cut_all}
@@ -472,3 +472,39 @@ turns-preserved g c =
           (later-trans _ _ _ c.next_block.ensures.reads.only.later c.push_kept.ensures.writes.later);
       asked = omega (arith, c.turns.invariant.asked, c.in-Ok.ensures.asked, c.push_kept.ensures.writes.asked);
     }
+
+pub returns-in_err-taken-clause-converted : goal.returns-in_err-taken-clause-converted
+returns-in_err-taken-clause-converted g c looked is = IfOk-from_err c.from_residual.result _ c.from_residual.ensures.0
+
+pub returns-in_err-taken-clause-open : goal.returns-in_err-taken-clause-open
+returns-in_err-taken-clause-open g c = IfOk-from_err c.from_residual.result _ c.from_residual.ensures.0
+
+pub returns-in_err-taken-clause-calm : goal.returns-in_err-taken-clause-calm
+returns-in_err-taken-clause-calm g c = IfOk-from_err c.from_residual.result _ c.from_residual.ensures.0
+
+pub returns-in_err-taken-clause-frame : goal.returns-in_err-taken-clause-frame
+returns-in_err-taken-clause-frame g c = record {
+  asked = omega (arith, c.turns.invariant.asked, c.in-Ok.ensures.asked, c.push_kept.ensures.writes.asked);
+  later = later-trans _ _ _ c.turns.invariant.later
+      (later-trans _ _ _ c.next_block.ensures.reads.only.later c.push_kept.ensures.writes.later);
+}
+
+pub returns-then-taken-clause-frame : goal.returns-then-taken-clause-frame
+returns-then-taken-clause-frame g c = record {
+  asked = omega (arith, c.turns.invariant.asked, c.in-Ok.ensures.asked, c.push_kept.ensures.writes.asked);
+  later = later-trans _ _ _ c.turns.invariant.later
+      (later-trans _ _ _ c.next_block.ensures.reads.only.later c.push_kept.ensures.writes.later);
+}
+
+pub returns-then-taken-clause-calm : goal.returns-then-taken-clause-calm
+returns-then-taken-clause-calm g c =
+    calm-trans _ _ _ c.turns.invariant.calm (calm-trans _ _ _ c.in-Ok.ensures.calm c.in_ok-taken.ensures.calm)
+
+pub returns-then-taken-clause-open : goal.returns-then-taken-clause-open
+returns-then-taken-clause-open g c = c.in_ok-taken.ensures.open
+
+pub returns-in_default-clause-calm : goal.returns-in_default-clause-calm
+returns-in_default-clause-calm g c = calm-trans _ _ _ c.turns.invariant.calm c.in-Ok.ensures.calm
+
+pub returns-in_default-clause-open : goal.returns-in_default-clause-open
+returns-in_default-clause-open g c = c.turns.invariant.sound

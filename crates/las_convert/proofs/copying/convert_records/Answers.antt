@@ -62,3 +62,31 @@ returns-then-changes_nothing-clause-left g c looked is =
           w p.3,
     ))
     c.copy_records.ensures.part
+
+pub returns-then-changes_nothing-clause-open : goal.returns-then-changes_nothing-clause-open
+returns-then-changes_nothing-clause-open g c = c.copy_records.ensures.open
+
+pub returns-then-changes_nothing-clause-cause : goal.returns-then-changes_nothing-clause-cause
+returns-then-changes_nothing-clause-cause g c = c.copy_records.ensures.cause
+
+pub returns-then-changes_nothing-clause-frame : goal.returns-then-changes_nothing-clause-frame
+returns-then-changes_nothing-clause-frame g c =
+    record { asked = c.copy_records.ensures.asked; later = c.copy_records.ensures.later }
+
+pub returns-clause-converted : goal.returns-clause-converted
+returns-clause-converted g c = c.convert_blocks.ensures.converted
+
+pub returns-clause-left : goal.returns-clause-left
+returns-clause-left g c = c.convert_blocks.ensures.left
+
+pub returns-clause-open : goal.returns-clause-open
+returns-clause-open g c = c.convert_blocks.ensures.open
+
+pub returns-clause-cause : goal.returns-clause-cause
+returns-clause-cause g c = c.convert_blocks.ensures.cause
+
+pub returns-clause-calm : goal.returns-clause-calm
+returns-clause-calm g c = c.convert_blocks.ensures.calm
+
+pub returns-clause-frame : goal.returns-clause-frame
+returns-clause-frame g c = c.convert_blocks.ensures.frame

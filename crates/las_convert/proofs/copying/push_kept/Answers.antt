@@ -1,15 +1,20 @@
+use Rattle.laz_forms.specs.declared.fault.Fault.TheVariants.{Memory}
+use Rattle.laz_forms.proofs.Public.{if_err}
+use Rattle.las_thin.specs.Sieving.{Sieving}
+use Rattle.std.proofs.lemmas.Result.{IfOk-from_err}
 use Rattle.std.proofs.Common.{◌≤◌, ◌<◌, ◌+◌, ◌/◌, ◌%◌, ◌^◌, ◌∙◌, ℕ, List, [], length, map, take, sym, ap, subst, arith}
+use Rattle.std.proofs.Common.{refl, Err}
 use Rattle.std.proofs.Math.Nat.{mul-mod_right}
 use Rattle.std.proofs.lemmas.List.{append-nil}
 use Rattle.las_filter.specs.Kept.{steps_of}
 use Rattle.las_info.specs.Tallies.{TapSeen}
 use Rattle.laz_file.specs.Copying.{LeavesPart, Takes}
-use Rattle.laz_file.proofs.Public.{part_push, takes_push}
+use Rattle.laz_file.proofs.Public.{part_push, takes_push, cause_push}
 use Rattle.las_convert.specs.Adding.{HaveCounted, kept_by}
 use Rattle.las_convert.proofs.Going.{few_ones, kept_even, kept_goes, leaves_none, leaves_taken}
 use Rattle.las_convert.proofs.Shown.{room_seen, seen_by, shown_as}
 use Rattle.las_convert.proofs.copying.push_kept.Goals as goal
-use Rattle.las_outside.proofs.Public.{on_err}
+use Rattle.las_outside.proofs.Public.{on_err, only_writes-refl}
 use Rattle.las_header.specs.Plain.{cut_all}
 
 pub returns-in_err-part-clause-left : goal.returns-in_err-part-clause-left
@@ -81,3 +86,123 @@ returns-clause-goes g c looked before is =
     kept_goes (kept_by c.args.passage.now.sieve.settings looked (steps_of c.args.plan.now)) before size len c.args.block.now buffer k.0 old new c.args.writer.now c.push.new.self c.in_ok-part.part.refused (omega (arith, c.requires.size)) c.in_ok-part.ensures.within fits k.1 k.2 k.3
     (subst (λ (b : List ℕ). Takes old new c.args.writer.now c.push.new.self (take len b)) same (takes_push old new c.args.writer.now c.push.new.self (take len c.deref.result.now) c.in_ok-push.ensures.stands))
     (shown ∙ ap (λ xs. seen_by size (take len buffer) (map (λ tap. (goal.Tap-dyn g (tap.vtable, tap.value)).tap_seen tap.value) xs)) c.in_ok-part.ensures.taps)
+
+pub returns-in_err-part-clause-goes : goal.returns-in_err-part-clause-goes
+returns-in_err-part-clause-goes g c looked before is = IfOk-from_err c.from_residual.result _ c.from_residual.ensures.0
+
+pub returns-in_err-part-clause-after : goal.returns-in_err-part-clause-after
+returns-in_err-part-clause-after g c looked before is = IfOk-from_err c.from_residual.result _ c.from_residual.ensures.0
+
+pub returns-in_err-part-clause-read : goal.returns-in_err-part-clause-read
+returns-in_err-part-clause-read g c = IfOk-from_err c.from_residual.result _ c.from_residual.ensures.0
+
+pub returns-in_err-part-clause-open : goal.returns-in_err-part-clause-open
+returns-in_err-part-clause-open g c = IfOk-from_err c.from_residual.result _ c.from_residual.ensures.0
+
+pub returns-in_err-part-clause-calm : goal.returns-in_err-part-clause-calm
+returns-in_err-part-clause-calm g c = IfOk-from_err c.from_residual.result _ c.from_residual.ensures.0
+
+pub returns-in_err-push-clause-goes : goal.returns-in_err-push-clause-goes
+returns-in_err-push-clause-goes g c looked before is =
+    IfOk-from_err c.from_residual-in_err-push.result _ c.from_residual-in_err-push.ensures.0
+
+pub returns-in_err-push-clause-after : goal.returns-in_err-push-clause-after
+returns-in_err-push-clause-after g c looked before is =
+    IfOk-from_err c.from_residual-in_err-push.result _ c.from_residual-in_err-push.ensures.0
+
+pub returns-in_err-push-clause-read : goal.returns-in_err-push-clause-read
+returns-in_err-push-clause-read g c =
+    IfOk-from_err c.from_residual-in_err-push.result _ c.from_residual-in_err-push.ensures.0
+
+pub returns-in_err-push-clause-open : goal.returns-in_err-push-clause-open
+returns-in_err-push-clause-open g c =
+    IfOk-from_err c.from_residual-in_err-push.result _ c.from_residual-in_err-push.ensures.0
+
+pub returns-in_err-push-clause-calm : goal.returns-in_err-push-clause-calm
+returns-in_err-push-clause-calm g c =
+    IfOk-from_err c.from_residual-in_err-push.result _ c.from_residual-in_err-push.ensures.0
+
+pub returns-in_err-show-clause-goes : goal.returns-in_err-show-clause-goes
+returns-in_err-show-clause-goes g c looked before is =
+    IfOk-from_err c.from_residual-in_err-show.result _ c.from_residual-in_err-show.ensures.0
+
+pub returns-in_err-show-clause-after : goal.returns-in_err-show-clause-after
+returns-in_err-show-clause-after g c looked before is =
+    IfOk-from_err c.from_residual-in_err-show.result _ c.from_residual-in_err-show.ensures.0
+
+pub returns-in_err-show-clause-read : goal.returns-in_err-show-clause-read
+returns-in_err-show-clause-read g c =
+    IfOk-from_err c.from_residual-in_err-show.result _ c.from_residual-in_err-show.ensures.0
+
+pub returns-in_err-show-clause-open : goal.returns-in_err-show-clause-open
+returns-in_err-show-clause-open g c =
+    IfOk-from_err c.from_residual-in_err-show.result _ c.from_residual-in_err-show.ensures.0
+
+pub returns-in_err-show-clause-calm : goal.returns-in_err-show-clause-calm
+returns-in_err-show-clause-calm g c =
+    IfOk-from_err c.from_residual-in_err-show.result _ c.from_residual-in_err-show.ensures.0
+
+pub returns-in_err-part-clause-settings : goal.returns-in_err-part-clause-settings
+returns-in_err-part-clause-settings g c = c.keep.ensures.settings
+
+pub returns-in_err-part-clause-most : goal.returns-in_err-part-clause-most
+returns-in_err-part-clause-most g c = refl
+
+pub returns-in_err-part-clause-cause : goal.returns-in_err-part-clause-cause
+returns-in_err-part-clause-cause g c = if_err _ c.from_residual.result Memory c.from_residual.ensures.1 tt
+
+pub returns-in_err-part-clause-writes : goal.returns-in_err-part-clause-writes
+returns-in_err-part-clause-writes g c = only_writes-refl _
+
+pub returns-in_err-push-clause-settings : goal.returns-in_err-push-clause-settings
+returns-in_err-push-clause-settings g c = c.keep.ensures.settings
+
+pub returns-in_err-push-clause-most : goal.returns-in_err-push-clause-most
+returns-in_err-push-clause-most g c = c.push.ensures.most
+
+pub returns-in_err-push-clause-cause : goal.returns-in_err-push-clause-cause
+returns-in_err-push-clause-cause g c =
+    let old = g.F.Files.seen c.args.files.now in
+    let h = c.in_err-push.ensures in
+    if_err _ c.from_residual-in_err-push.result _ c.from_residual-in_err-push.ensures.1
+    (cause_push old old (g.F.Files.seen c.push.new.files) c.in_err-push.field-0.0 h.fault (λ e. h.write (ap Err e))
+    refl)
+
+pub returns-in_err-push-clause-writes : goal.returns-in_err-push-clause-writes
+returns-in_err-push-clause-writes g c = c.push.ensures.writes
+
+pub returns-in_err-show-clause-settings : goal.returns-in_err-show-clause-settings
+returns-in_err-show-clause-settings g c =
+    ap (λ (s : Sieving). s.settings) c.show.ensures.sieve ∙ c.keep.ensures.settings
+
+pub returns-in_err-show-clause-most : goal.returns-in_err-show-clause-most
+returns-in_err-show-clause-most g c = c.push.ensures.most
+
+pub returns-in_err-show-clause-cause : goal.returns-in_err-show-clause-cause
+returns-in_err-show-clause-cause g c =
+    if_err _ c.from_residual-in_err-show.result Memory c.from_residual-in_err-show.ensures.1 tt
+
+pub returns-in_err-show-clause-writes : goal.returns-in_err-show-clause-writes
+returns-in_err-show-clause-writes g c = c.push.ensures.writes
+
+pub returns-clause-after : goal.returns-clause-after
+returns-clause-after g c looked before is = λ fine.
+    rw (c.show.ensures.sieve, c.show.ensures.read) (c.in_ok-part.ensures.after looked before is fine)
+
+pub returns-clause-settings : goal.returns-clause-settings
+returns-clause-settings g c = ap (λ (s : Sieving). s.settings) c.show.ensures.sieve ∙ c.keep.ensures.settings
+
+pub returns-clause-read : goal.returns-clause-read
+returns-clause-read g c = c.show.ensures.read ∙ c.in_ok-part.ensures.read
+
+pub returns-clause-most : goal.returns-clause-most
+returns-clause-most g c = c.push.ensures.most
+
+pub returns-clause-open : goal.returns-clause-open
+returns-clause-open g c = c.in_ok-push.ensures.open
+
+pub returns-clause-calm : goal.returns-clause-calm
+returns-clause-calm g c = c.in_ok-push.ensures.calm
+
+pub returns-clause-writes : goal.returns-clause-writes
+returns-clause-writes g c = c.push.ensures.writes

@@ -1,9 +1,13 @@
-use Rattle.std.proofs.Common.{ℕ, ◌*◌, List, [], map, refl, sym, ap, subst}
+use Rattle.las_outside.proofs.Public.{later-refl}
+use Rattle.laz_forms.specs.FileFaults.{HasCause}
+use Rattle.las_header.specs.declared.refusal.Refusal.TheVariants.{BadChunk}
+use Rattle.std.proofs.lemmas.Result.{IfOk-from_err}
+use Rattle.std.proofs.Common.{ℕ, ◌*◌, List, [], map, refl, sym, ap, subst, arith}
 use Rattle.las_filter.specs.Kept.{Steps, steps_of}
 use Rattle.las_outside.specs.Outside.{Outside}
 use Rattle.las_thin.specs.Placed.{Placed}
 use Rattle.las_thin.specs.Sieving.{Sieving}
-use Rattle.laz_forms.specs.declared.fault.Fault.TheVariants.{Memory}
+use Rattle.laz_forms.specs.declared.fault.Fault.TheVariants.{Memory, Refused}
 use Rattle.laz_forms.specs.Outputs.{Output}
 use Rattle.laz_reader.specs.Asking.{ReadsAndWrites, bytes_left}
 use Rattle.laz_reader.specs.Reading.{ReaderSeen, StandsFor}
@@ -12,7 +16,7 @@ use Rattle.laz_reader.proofs.Public.{after_writes}
 use Rattle.laz_file.proofs.Public.{ends_err, left_before, stands_ready}
 use Rattle.las_convert.specs.Adding.{HaveCounted, IsAfter}
 use Rattle.las_convert.specs.Converting.{Converts, output_of, wanted_of}
-use Rattle.las_convert.proofs.Making.{bad_by, ends_begun, ends_filled, given_by, looked_by, tallied_by}
+use Rattle.las_convert.proofs.Making.{bad_by, ends_begun, ends_filled, given_by, looked_by, tallied_by, is_fault}
 use Rattle.las_convert.proofs.Passing.{after_start}
 use Rattle.las_convert.proofs.Shown.{none_counted}
 use Rattle.las_convert.proofs.Wholes.{IsBegunFor, known_here}
@@ -165,3 +169,98 @@ returns-clause-frame g c =
     after_writes _ _ _ _ c.begin.ensures.writes
     (subst (λ (n : ℕ). ReadsAndWrites n (g.F.Files.seen c.begin.new.files) (g.F.Files.seen c.fill.new.files))
     (ap bytes_left c.in_ok-crew.ensures.kept) c.fill.ensures.frame)
+
+pub returns-in_err-grow-clause-tallied : goal.returns-in_err-grow-clause-tallied
+returns-in_err-grow-clause-tallied g c = IfOk-from_err c.from_residual.result _ c.from_residual.ensures.0
+
+pub returns-in_err-crew-clause-tallied : goal.returns-in_err-crew-clause-tallied
+returns-in_err-crew-clause-tallied g c =
+    IfOk-from_err c.from_residual-in_err-crew.result _ c.from_residual-in_err-crew.ensures.0
+
+pub returns-in_err-writer-clause-tallied : goal.returns-in_err-writer-clause-tallied
+returns-in_err-writer-clause-tallied g c =
+    IfOk-from_err c.from_residual-in_err-writer.result _ c.from_residual-in_err-writer.ensures.0
+
+pub returns-in_err-grow-clause-given : goal.returns-in_err-grow-clause-given
+returns-in_err-grow-clause-given g c cause is =
+    let e = is_fault c.from_residual.result Memory (Refused cause) c.from_residual.ensures.1 is in
+    cc
+
+pub returns-in_err-grow-clause-bad : goal.returns-in_err-grow-clause-bad
+returns-in_err-grow-clause-bad g c cause is =
+    let e = is_fault c.from_residual.result Memory (Refused cause) c.from_residual.ensures.1 is in
+    cc
+
+pub returns-in_err-grow-clause-looked : goal.returns-in_err-grow-clause-looked
+returns-in_err-grow-clause-looked g c i is =
+    let e = is_fault c.from_residual.result Memory (Refused (BadChunk i)) c.from_residual.ensures.1 is in
+    cc
+
+pub returns-in_err-grow-clause-frame : goal.returns-in_err-grow-clause-frame
+returns-in_err-grow-clause-frame g c = record { asked = omega arith; later = later-refl _ }
+
+pub returns-in_err-crew-clause-given : goal.returns-in_err-crew-clause-given
+returns-in_err-crew-clause-given g c cause is =
+    let e =
+    is_fault c.from_residual-in_err-crew.result Memory (Refused cause) c.from_residual-in_err-crew.ensures.1 is in
+    cc
+
+pub returns-in_err-crew-clause-bad : goal.returns-in_err-crew-clause-bad
+returns-in_err-crew-clause-bad g c cause is =
+    let e =
+    is_fault c.from_residual-in_err-crew.result Memory (Refused cause) c.from_residual-in_err-crew.ensures.1 is in
+    cc
+
+pub returns-in_err-crew-clause-looked : goal.returns-in_err-crew-clause-looked
+returns-in_err-crew-clause-looked g c i is =
+    let e =
+    is_fault c.from_residual-in_err-crew.result Memory (Refused (BadChunk i)) c.from_residual-in_err-crew.ensures.1
+    is in
+    cc
+
+pub returns-in_err-crew-clause-frame : goal.returns-in_err-crew-clause-frame
+returns-in_err-crew-clause-frame g c = record { asked = omega arith; later = later-refl _ }
+
+pub returns-in_err-writer-clause-given : goal.returns-in_err-writer-clause-given
+returns-in_err-writer-clause-given g c cause is =
+    let e =
+    is_fault c.from_residual-in_err-writer.result c.in_err-writer.field-0.0 (Refused cause)
+    c.from_residual-in_err-writer.ensures.1 is in
+    absurd
+    (subst (HasCause (g.F.Files.seen c.args.files.now) (g.F.Files.seen c.begin.new.files)) e
+    c.in_err-writer.ensures.cause)
+
+pub returns-in_err-writer-clause-bad : goal.returns-in_err-writer-clause-bad
+returns-in_err-writer-clause-bad g c cause is =
+    let e =
+    is_fault c.from_residual-in_err-writer.result c.in_err-writer.field-0.0 (Refused cause)
+    c.from_residual-in_err-writer.ensures.1 is in
+    absurd
+    (subst (HasCause (g.F.Files.seen c.args.files.now) (g.F.Files.seen c.begin.new.files)) e
+    c.in_err-writer.ensures.cause)
+
+pub returns-in_err-writer-clause-looked : goal.returns-in_err-writer-clause-looked
+returns-in_err-writer-clause-looked g c i is =
+    let e =
+    is_fault c.from_residual-in_err-writer.result c.in_err-writer.field-0.0 (Refused (BadChunk i))
+    c.from_residual-in_err-writer.ensures.1 is in
+    absurd
+    (subst (HasCause (g.F.Files.seen c.args.files.now) (g.F.Files.seen c.begin.new.files)) e
+    c.in_err-writer.ensures.cause)
+
+pub returns-in_err-writer-clause-frame : goal.returns-in_err-writer-clause-frame
+returns-in_err-writer-clause-frame g c = record {
+  asked = omega (arith, c.begin.ensures.writes.asked);
+  later = c.begin.ensures.writes.later;
+}
+
+pub fill-requires-clause-room : goal.fill-requires-clause-room
+fill-requires-clause-room g c κs within = c.in_ok-writer.ensures.can
+
+pub fill-requires-clause-stands : goal.fill-requires-clause-stands
+fill-requires-clause-stands g c κs within = (
+  g.F.Files.seen c.args.files.now,
+  output_of c.crew.new.self c.args.output.now c.args.chunk,
+  [],
+  c.in_ok-writer.ensures.stands,
+)

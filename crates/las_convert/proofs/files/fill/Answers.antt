@@ -1,3 +1,6 @@
+use Rattle.laz_reader.proofs.Public.{then_writes}
+use Rattle.las_outside.proofs.Public.{calm-trans}
+use Rattle.std.proofs.lemmas.Result.{IfOk-from_err}
 use Rattle.std.proofs.Common.{◌++◌, Err, List, map, ap, subst}
 use Rattle.std.specs.List.{concat}
 use Rattle.las_filter.specs.Kept.{steps_of}
@@ -129,3 +132,47 @@ returns-in_ok-stop-in-Some-clause-ends g c looked is before out bytes s =
     end (ap (λ (o : Outside). o.held)
     (c.in_ok-stop-in-Some.ensures.stopped (with_reads before (mid g k)) out (bytes ++ concat d.5.ones)
     (d.5.takes before out bytes s)))
+
+pub returns-in_err-convert_records-clause-finished : goal.returns-in_err-convert_records-clause-finished
+returns-in_err-convert_records-clause-finished g c looked is before out bytes s =
+    IfOk-from_err c.from_residual.result _ c.from_residual.ensures.0
+
+pub returns-in_err-convert_records-clause-calm : goal.returns-in_err-convert_records-clause-calm
+returns-in_err-convert_records-clause-calm g c = IfOk-from_err c.from_residual.result _ c.from_residual.ensures.0
+
+pub returns-in_err-finish-in-None-clause-finished : goal.returns-in_err-finish-in-None-clause-finished
+returns-in_err-finish-in-None-clause-finished g c looked is before out bytes s =
+    IfOk-from_err c.from_residual-in_err-finish-in-None.result _ c.from_residual-in_err-finish-in-None.ensures.0
+
+pub returns-in_err-finish-in-None-clause-calm : goal.returns-in_err-finish-in-None-clause-calm
+returns-in_err-finish-in-None-clause-calm g c =
+    IfOk-from_err c.from_residual-in_err-finish-in-None.result _ c.from_residual-in_err-finish-in-None.ensures.0
+
+pub returns-in_err-stop-in-Some-clause-finished : goal.returns-in_err-stop-in-Some-clause-finished
+returns-in_err-stop-in-Some-clause-finished g c looked is before out bytes s =
+    IfOk-from_err c.from_residual-in_err-stop-in-Some.result _ c.from_residual-in_err-stop-in-Some.ensures.0
+
+pub returns-in_err-stop-in-Some-clause-calm : goal.returns-in_err-stop-in-Some-clause-calm
+returns-in_err-stop-in-Some-clause-calm g c =
+    IfOk-from_err c.from_residual-in_err-stop-in-Some.result _ c.from_residual-in_err-stop-in-Some.ensures.0
+
+pub returns-in_err-convert_records-clause-frame : goal.returns-in_err-convert_records-clause-frame
+returns-in_err-convert_records-clause-frame g c = c.convert_records.ensures.frame
+
+pub returns-in_err-finish-in-None-clause-frame : goal.returns-in_err-finish-in-None-clause-frame
+returns-in_err-finish-in-None-clause-frame g c =
+    then_writes _ _ _ _ c.convert_records.ensures.frame c.finish.ensures.writes
+
+pub returns-in_ok-finish-in-None-clause-frame : goal.returns-in_ok-finish-in-None-clause-frame
+returns-in_ok-finish-in-None-clause-frame g c =
+    then_writes _ _ _ _ c.convert_records.ensures.frame c.finish.ensures.writes
+
+pub returns-in_err-stop-in-Some-clause-frame : goal.returns-in_err-stop-in-Some-clause-frame
+returns-in_err-stop-in-Some-clause-frame g c = then_writes _ _ _ _ c.convert_records.ensures.frame c.stop.ensures.writes
+
+pub returns-in_ok-stop-in-Some-clause-frame : goal.returns-in_ok-stop-in-Some-clause-frame
+returns-in_ok-stop-in-Some-clause-frame g c = then_writes _ _ _ _ c.convert_records.ensures.frame c.stop.ensures.writes
+
+pub returns-in_ok-finish-in-None-clause-calm : goal.returns-in_ok-finish-in-None-clause-calm
+returns-in_ok-finish-in-None-clause-calm g c =
+    calm-trans _ _ _ c.in_ok-convert_records.ensures.calm c.in_ok-finish-in-None.ensures.calm

@@ -1,3 +1,5 @@
+use Rattle.std.proofs.Math.Nat.{mul-div-le}
+use Rattle.std.proofs.lemmas.Result.{IfOk-from_err}
 use Rattle.std.proofs.Common.{◌≡◌, ◌+◌, ◌*◌, ◌-◌, ◌/◌, ◌≤◌, ◌++◌, false, length, refl, sym, ◌∙◌, subst, ap, ℕ, List, arith}
 use Rattle.las_filter.specs.Changes.{changed}
 use Rattle.las_filter.specs.Kept.{steps_of}
@@ -132,3 +134,48 @@ returns-clause-kept c looked before is stands =
     let so = c.loop-turn.invariant.kept looked before is stands in
     let end : c.loop-turn._turn ≡ length c.args.block.now / c.args.size = omega (arith, c.loop-turn-test.false, c.loop-turn.auto._turn-end) in
     (so.ones, so.bytes, so.size_is, subst (λ (k : ℕ). Adds keeping before (cut_records c.args.size k c.args.block.now) so.ones false) end so.adds)
+
+pub returns-in_err-passes-clause-within : goal.returns-in_err-passes-clause-within
+returns-in_err-passes-clause-within c = IfOk-from_err c.from_residual.result _ c.from_residual.ensures.0
+
+pub returns-in_err-passes-clause-kept : goal.returns-in_err-passes-clause-kept
+returns-in_err-passes-clause-kept c looked before is stands =
+    IfOk-from_err c.from_residual.result _ c.from_residual.ensures.0
+
+pub returns-in_err-passes-clause-stands : goal.returns-in_err-passes-clause-stands
+returns-in_err-passes-clause-stands c looked before is stands =
+    IfOk-from_err c.from_residual.result _ c.from_residual.ensures.0
+
+pub returns-clause-stands : goal.returns-clause-stands
+returns-clause-stands c looked before is stands = λ fine.
+    let end : c.loop-turn._turn ≡ length c.args.block.now / c.args.size =
+    omega (arith, c.loop-turn-test.false, c.loop-turn.auto._turn-end) in
+    subst
+    (λ (k : ℕ). StandsFor looked (passing (steps_of c.args.plan.now) (before ++ cut_records c.args.size k
+    c.args.block.now)) c.loop-turn.sieve)
+    end (c.loop-turn.invariant.stands looked before is stands)
+
+pub returns-in-Err-clause-stands : goal.returns-in-Err-clause-stands
+returns-in-Err-clause-stands c looked before is stands = λ no. cc
+
+pub returns-clause-settings : goal.returns-clause-settings
+returns-clause-settings c = c.loop-turn.invariant.settings
+
+pub returns-in-Err-clause-settings : goal.returns-in-Err-clause-settings
+returns-in-Err-clause-settings c = c.passes.ensures.settings ∙ c.loop-turn.invariant.settings
+
+pub returns-in_err-passes-clause-settings : goal.returns-in_err-passes-clause-settings
+returns-in_err-passes-clause-settings c = c.passes.ensures.settings ∙ c.loop-turn.invariant.settings
+
+pub returns-clause-within : goal.returns-clause-within
+returns-clause-within c =
+    let end : c.loop-turn._turn ≡ length c.args.block.now / c.args.size =
+    omega (arith, c.loop-turn-test.false, c.loop-turn.auto._turn-end) in
+    let all : c.loop-turn.at ≤ c.args.size * (length c.args.block.now / c.args.size) =
+    subst (λ (k : ℕ). c.loop-turn.at ≤ c.args.size * k) end c.loop-turn.invariant.at in
+    omega (arith, all, mul-div-le (length c.args.block.now) c.args.size)
+
+pub returns-in-Err-clause-within : goal.returns-in-Err-clause-within
+returns-in-Err-clause-within c =
+    let fits = block_fits c.args.size c.loop-turn._turn c.args.block.now c.requires.whole c.loop-turn-test.true in
+    omega (arith, c.loop-turn.invariant.at, fits)

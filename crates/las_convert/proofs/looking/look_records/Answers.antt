@@ -1,7 +1,9 @@
+use Rattle.laz_forms.proofs.Public.{if_err}
+use Rattle.las_convert.proofs.Making.{ends_since, is_fault}
 use Rattle.std.proofs.Common.{◌≡◌, ◌+◌, ◌/◌, ◌%◌, ◌^◌, ◌<◌, ◌++◌, ◌∷◌, ℕ, Option, Some, Err, List, [], length, refl}
 use Rattle.std.proofs.Common.{sym, ◌∙◌, ap, subst, length-append, arith}
 use Rattle.std.specs.List.{concat}
-use Rattle.std.proofs.lemmas.Result.{err_from_is_err_and}
+use Rattle.std.proofs.lemmas.Result.{err_from_is_err_and, IfOk-from_err}
 use Rattle.las_filter.specs.Kept.{steps_of}
 use Rattle.las_header.specs.Fields.{record_length_of}
 use Rattle.las_header.specs.Heads.{HeadView}
@@ -12,7 +14,7 @@ use Rattle.las_outside.specs.Outside.{Outside}
 use Rattle.las_outside.proofs.Public.{calm-refl, calm-trans, later-refl, only_reads-trans}
 use Rattle.las_thin.specs.Kept.{passing}
 use Rattle.las_thin.specs.Sieving as sieve
-use Rattle.laz_forms.specs.declared.fault.Fault.TheVariants.{Refused}
+use Rattle.laz_forms.specs.declared.fault.Fault.TheVariants.{Refused, Memory}
 use Rattle.laz_reader.specs.Reading.{ReaderSeen}
 use Rattle.laz_reader.specs.Turns.{ComesTo, HasComeTo, HoldFirst, MayCome, file_at}
 use Rattle.laz_reader.proofs.Public.{come_first, next_may, none_come}
@@ -216,3 +218,65 @@ turns-preserved g c =
       calm = calm-trans _ _ _ c.turns.invariant.calm c.in_ok-next.ensures.calm;
       asked = omega (arith, c.turns.invariant.asked, c.in_ok-next.ensures.asked);
     }
+
+pub returns-in_err-next-clause-looked : goal.returns-in_err-next-clause-looked
+returns-in_err-next-clause-looked g c = IfOk-from_err c.from_residual.result _ c.from_residual.ensures.0
+
+pub returns-in_err-next-clause-calm : goal.returns-in_err-next-clause-calm
+returns-in_err-next-clause-calm g c = IfOk-from_err c.from_residual.result _ c.from_residual.ensures.0
+
+pub returns-in_err-look_block-clause-looked : goal.returns-in_err-look_block-clause-looked
+returns-in_err-look_block-clause-looked g c =
+    IfOk-from_err c.from_residual-in_err-look_block.result _ c.from_residual-in_err-look_block.ensures.0
+
+pub returns-in_err-look_block-clause-calm : goal.returns-in_err-look_block-clause-calm
+returns-in_err-look_block-clause-calm g c =
+    IfOk-from_err c.from_residual-in_err-look_block.result _ c.from_residual-in_err-look_block.ensures.0
+
+pub returns-in_err-next-clause-reads : goal.returns-in_err-next-clause-reads
+returns-in_err-next-clause-reads g c = record {
+  only = only_reads-trans _ _ _ c.turns.invariant.only c.next_block.ensures.reads.only;
+  asked = omega (arith, c.turns.invariant.asked, c.next_block.ensures.reads.asked);
+}
+
+pub returns-in_default-clause-reads : goal.returns-in_default-clause-reads
+returns-in_default-clause-reads g c = record {
+  only = only_reads-trans _ _ _ c.turns.invariant.only c.next_block.ensures.reads.only;
+  asked = omega (arith, c.turns.invariant.asked, c.next_block.ensures.reads.asked);
+}
+
+pub returns-in_err-look_block-clause-reads : goal.returns-in_err-look_block-clause-reads
+returns-in_err-look_block-clause-reads g c = record {
+  only = only_reads-trans _ _ _ c.turns.invariant.only c.next_block.ensures.reads.only;
+  asked = omega (arith, c.turns.invariant.asked, c.next_block.ensures.reads.asked);
+}
+
+pub returns-in_err-next-clause-settings : goal.returns-in_err-next-clause-settings
+returns-in_err-next-clause-settings g c = c.turns.invariant.settings
+
+pub returns-in_default-clause-settings : goal.returns-in_default-clause-settings
+returns-in_default-clause-settings g c = c.turns.invariant.settings
+
+pub returns-in_err-look_block-clause-settings : goal.returns-in_err-look_block-clause-settings
+returns-in_err-look_block-clause-settings g c = c.look_block.ensures.settings ∙ c.turns.invariant.settings
+
+pub returns-in_default-clause-calm : goal.returns-in_default-clause-calm
+returns-in_default-clause-calm g c = calm-trans _ _ _ c.turns.invariant.calm c.in_ok-next.ensures.calm
+
+pub returns-in_err-next-clause-cause : goal.returns-in_err-next-clause-cause
+returns-in_err-next-clause-cause g c =
+    if_err _ c.from_residual.result _ c.from_residual.ensures.1
+    (ends_since (g.F.Files.seen c.args.files.now) (g.F.Files.seen c.turns.files) (g.F.Files.seen c.next_block.new.files)
+    c.in_err-next.field-0.0 c.turns.invariant.calm.reads c.in_err-next.ensures.ends)
+
+pub returns-in_err-look_block-clause-cause : goal.returns-in_err-look_block-clause-cause
+returns-in_err-look_block-clause-cause g c =
+    if_err _ c.from_residual-in_err-look_block.result Memory c.from_residual-in_err-look_block.ensures.1
+    (c.in_ok-next.ensures.calm.reads ∙ c.turns.invariant.calm.reads)
+
+pub returns-in_err-look_block-clause-bad : goal.returns-in_err-look_block-clause-bad
+returns-in_err-look_block-clause-bad g c cause is =
+    let e =
+    is_fault c.from_residual-in_err-look_block.result Memory (Refused cause)
+    c.from_residual-in_err-look_block.ensures.1 is in
+    cc

@@ -1,12 +1,15 @@
+use Rattle.las_outside.specs.Frames.{Reads}
+use Rattle.laz_reader.specs.Asking.{bytes_left}
+use Rattle.laz_forms.specs.declared.fault.Fault.TheVariants.{Memory, Refused, Write}
 use Rattle.std.proofs.Common.{◌*◌, ◌+◌, ℕ, List, refl, sym, ap, subst}
-use Rattle.std.proofs.lemmas.Result.{on_ok_weaker}
+use Rattle.std.proofs.lemmas.Result.{on_ok_weaker, IfOk-from_err}
 use Rattle.las_filter.specs.Kept.{steps_of}
 use Rattle.las_outside.specs.Files.{WhereKnown}
-use Rattle.laz_reader.specs.Reading.{ReaderSeen, StandsFor}
+use Rattle.laz_reader.specs.Reading.{ReaderSeen, StandsFor, EndsReading}
 use Rattle.laz_forms.proofs.Public.{if_err, known_then}
-use Rattle.laz_file.proofs.Public.{stands_ready}
+use Rattle.laz_file.proofs.Public.{stands_ready, err_at}
 use Rattle.las_convert.proofs.Looks.{ready_here, refused_here}
-use Rattle.las_convert.proofs.Making.{stops_looking, stops_short}
+use Rattle.las_convert.proofs.Making.{stops_looking, stops_short, is_fault}
 use Rattle.las_convert.proofs.looking.look_through.Goals as goal
 
 pub look_records-requires-clause-stands : goal.look_records-requires-clause-stands
@@ -52,3 +55,36 @@ pub returns-clause-bad : goal.returns-clause-bad
 returns-clause-bad g c = λ cause is.
     let h = c.look_records.ensures.bad cause is in
     (c.crew.new.self.next + h.0, h.3.0)
+
+pub returns-in_err-crew-clause-ready : goal.returns-in_err-crew-clause-ready
+returns-in_err-crew-clause-ready g c = IfOk-from_err c.from_residual.result _ c.from_residual.ensures.0
+
+pub returns-in_err-crew-clause-calm : goal.returns-in_err-crew-clause-calm
+returns-in_err-crew-clause-calm g c = IfOk-from_err c.from_residual.result _ c.from_residual.ensures.0
+
+pub returns-in_err-crew-clause-bad : goal.returns-in_err-crew-clause-bad
+returns-in_err-crew-clause-bad g c cause is =
+    let e = is_fault c.from_residual.result Memory (Refused cause) c.from_residual.ensures.1 is in
+    cc
+
+pub returns-in_err-crew-clause-never : goal.returns-in_err-crew-clause-never
+returns-in_err-crew-clause-never g c is =
+    let e = is_fault c.from_residual.result Memory Write c.from_residual.ensures.1 is in
+    cc
+
+pub returns-clause-never : goal.returns-clause-never
+returns-clause-never g c is =
+    err_at (EndsReading ⊥ (g.F.Files.seen c.args.files.now) (g.F.Files.seen c.look_records.new.files))
+    c.look_records.result
+    Write c.look_records.ensures.cause is
+
+pub returns-clause-reads : goal.returns-clause-reads
+returns-clause-reads g c =
+    subst (λ (n : ℕ). Reads n (g.F.Files.seen c.args.files.now) (g.F.Files.seen c.look_records.new.files))
+    (ap bytes_left c.in_ok-crew.ensures.kept) c.look_records.ensures.reads
+
+pub returns-clause-settings : goal.returns-clause-settings
+returns-clause-settings g c = c.look_records.ensures.settings
+
+pub returns-clause-calm : goal.returns-clause-calm
+returns-clause-calm g c = c.look_records.ensures.calm

@@ -1,3 +1,4 @@
+use Rattle.std.proofs.lemmas.Result.{IfOk-from_err}
 use Rattle.std.proofs.Common.{◌+◌, ◌-◌, ◌++◌, ℕ, List, min, take, drop, ◌∙◌, ap, append_assoc, arith}
 use Rattle.las_outside.specs.Outside.{with_bytes, with_write_fault}
 use Rattle.las_outside.proofs.Public.{changed_after, failed_after, known_of, on_err, only_writes-trans}
@@ -37,3 +38,6 @@ pieces-preserved g c =
       writes = only_writes-trans _ _ _ c.pieces.invariant.writes (writes_by _ _ _ _ c.in_ok-append.ensures.ok
           c.in_ok-append.ensures.later);
     }
+
+pub returns-in_err-append-clause-added : goal.returns-in_err-append-clause-added
+returns-in_err-append-clause-added g c before text is = IfOk-from_err c.from_residual.result _ c.from_residual.ensures.0

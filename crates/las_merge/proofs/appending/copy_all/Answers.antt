@@ -1,3 +1,4 @@
+use Rattle.std.proofs.lemmas.Result.{IfOk-from_err}
 use Rattle.std.proofs.Common.{◌≡◌, ◌≢◌, ◌<◌, ◌+◌, ◌≤◌, ◌++◌, ℕ, List, length, map, take, get_or, sym, ◌∙◌, ap, subst, append_assoc, arith}
 use Rattle.std.specs.List.{concat}
 use Rattle.std.specs.Prelude.{sum_by}
@@ -133,3 +134,13 @@ returns-in_err-copy_part-clause-cause g c =
     let calm = c.sources.invariant.calm in
     if_err _ c.from_residual.result _ c.from_residual.ensures.1
     (copy_fault_since (λ n. n ≡ c.sources.i) (λ n. n < length c.args.sources.now) old cur now calm.reads calm.writes (λ n e. omega (arith, e, c.sources-test.true)) c.in_err-copy_part.field-0.0 c.in_err-copy_part.ensures.cause)
+
+pub returns-in_err-copy_part-clause-copied : goal.returns-in_err-copy_part-clause-copied
+returns-in_err-copy_part-clause-copied g c before text is =
+    IfOk-from_err c.from_residual.result _ c.from_residual.ensures.0
+
+pub returns-in_err-copy_part-clause-calm : goal.returns-in_err-copy_part-clause-calm
+returns-in_err-copy_part-clause-calm g c = IfOk-from_err c.from_residual.result _ c.from_residual.ensures.0
+
+pub returns-clause-calm : goal.returns-clause-calm
+returns-clause-calm g c = c.sources.invariant.calm

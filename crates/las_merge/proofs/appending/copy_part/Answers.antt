@@ -1,11 +1,13 @@
-use Rattle.std.proofs.Common.{◌≡◌, ◌+◌, ◌-◌, ◌≤◌, ◌++◌, ℕ, List, length, length-append, take, ◌∙◌, ap, append_assoc, arith}
+use Rattle.std.proofs.lemmas.Result.{IfOk-from_err}
+use Rattle.std.proofs.Common.{◌≡◌, ◌+◌, ◌-◌, ◌≤◌, ◌++◌, ℕ, List, length, length-append, take, ◌∙◌, ap, append_assoc}
+use Rattle.std.proofs.Common.{arith, subst}
 use Rattle.las_outside.specs.Files.{with_file}
 use Rattle.las_outside.specs.Outside.{Outside, with_bytes}
 use Rattle.las_outside.proofs.Public.{calm-trans, later-trans, on_err}
 use Rattle.laz_file.specs.Copying.{with_reads}
 use Rattle.las_merge.specs.Appending.{part_in}
-use Rattle.laz_forms.proofs.Public.{known_then}
-use Rattle.las_merge.proofs.Appended.{part_more, part_prefix, still_known, still_part}
+use Rattle.laz_forms.proofs.Public.{known_then, if_err}
+use Rattle.las_merge.proofs.Appended.{part_more, part_prefix, still_known, still_part, copy_fault_since}
 use Rattle.las_merge.proofs.appending.copy_part.Given.{Over}
 use Rattle.las_merge.proofs.appending.copy_part.Goals.{After-copy_piece}
 use Rattle.las_merge.proofs.appending.copy_part.Goals as goal
@@ -101,3 +103,64 @@ pieces-preserved g c =
         later = later-trans _ _ _ inv.frame.later ok.frame.later;
       };
     }
+
+pub returns-in_err-copy_piece-clause-copied : goal.returns-in_err-copy_piece-clause-copied
+returns-in_err-copy_piece-clause-copied g c before text is =
+    IfOk-from_err c.from_residual.result _ c.from_residual.ensures.0
+
+pub returns-in_err-copy_piece-clause-calm : goal.returns-in_err-copy_piece-clause-calm
+returns-in_err-copy_piece-clause-calm g c = IfOk-from_err c.from_residual.result _ c.from_residual.ensures.0
+
+pub returns-in_err-copy_piece-clause-cause : goal.returns-in_err-copy_piece-clause-cause
+returns-in_err-copy_piece-clause-cause g c =
+    let calm = c.pieces.invariant.calm in
+    let P : ℕ → Type 0 = λ n. n ≡ c.args.number in
+    if_err _ c.from_residual.result _ c.from_residual.ensures.1
+    (copy_fault_since P P (g.F.Files.seen c.args.files.now) (g.F.Files.seen c.pieces.files)
+    (g.F.Files.seen c.copy_piece.new.files) calm.reads calm.writes (λ n e. e) c.in_err-copy_piece.field-0.0
+    c.in_err-copy_piece.ensures.cause)
+
+pub returns-in_err-copy_piece-clause-room : goal.returns-in_err-copy_piece-clause-room
+returns-in_err-copy_piece-clause-room g c = omega (
+  arith,
+  length-append c.copy_piece.new.buffer c.split_at_mut-part.result.1.now,
+  c.copy_piece.ensures.room,
+  c.split_at_mut-part.ensures.front_len,
+  c.split_at_mut-part.ensures.back_len,
+  c.pieces.invariant.room,
+  c.min-piece.ensures,
+)
+
+pub returns-in_err-copy_piece-clause-frame : goal.returns-in_err-copy_piece-clause-frame
+returns-in_err-copy_piece-clause-frame g c = record {
+  asked = omega (
+    arith,
+    c.copy_piece.ensures.frame.asked,
+    c.pieces.invariant.frame.asked,
+    c.split_at_mut-part.ensures.front_len,
+    c.min-piece.ensures,
+    c.pieces.invariant.within,
+  );
+  later = later-trans _ _ _ c.pieces.invariant.frame.later c.copy_piece.ensures.frame.later;
+}
+
+pub returns-clause-copied : goal.returns-clause-copied
+returns-clause-copied g c before text was =
+    let old = g.F.Files.seen c.args.files.now in
+    let now = g.F.Files.seen c.pieces.files in
+    let all : c.pieces.done ≡ c.args.size = omega (arith, c.pieces-test.false, c.pieces.invariant.within) in
+    subst
+    (λ (n : ℕ). now ≡ with_bytes (with_reads before now) c.args.output.now
+    (text ++ part_in old.held c.args.input.now c.args.place n)) all (c.pieces.invariant.copied before text was)
+
+pub returns-clause-calm : goal.returns-clause-calm
+returns-clause-calm g c = c.pieces.invariant.calm
+
+pub returns-clause-room : goal.returns-clause-room
+returns-clause-room g c = c.pieces.invariant.room
+
+pub returns-clause-frame : goal.returns-clause-frame
+returns-clause-frame g c = record {
+  asked = omega (arith, c.pieces.invariant.frame.asked, c.pieces.invariant.within);
+  later = c.pieces.invariant.frame.later;
+}

@@ -1,8 +1,11 @@
+use Rattle.laz_forms.specs.declared.fault.Fault.TheVariants.{Memory}
+use Rattle.laz_forms.proofs.Public.{if_err}
+use Rattle.std.proofs.lemmas.Result.{IfOk-from_err}
 use Rattle.std.proofs.Common.{◌≡◌, ◌*◌, ap, arith}
 use Rattle.laz_reader.specs.Asking.{bytes_left}
 use Rattle.las_merge.proofs.Taken.{copied_input, failed_input, none_copied, reads_ready}
 use Rattle.las_merge.proofs.copying.copy_input.Goals as goal
-use Rattle.las_outside.proofs.Public.{on_err}
+use Rattle.las_outside.proofs.Public.{on_err, later-refl}
 
 pub returns-in_err-crew-clause-left : goal.returns-in_err-crew-clause-left
 returns-in_err-crew-clause-left g c =
@@ -29,3 +32,21 @@ returns-clause-frame g c =
       asked = omega (arith, same, c.copy_records.ensures.asked);
       later = c.copy_records.ensures.later;
     }
+
+pub returns-in_err-crew-clause-copied : goal.returns-in_err-crew-clause-copied
+returns-in_err-crew-clause-copied g c = IfOk-from_err c.from_residual.result _ c.from_residual.ensures.0
+
+pub returns-in_err-crew-clause-open : goal.returns-in_err-crew-clause-open
+returns-in_err-crew-clause-open g c = IfOk-from_err c.from_residual.result _ c.from_residual.ensures.0
+
+pub returns-in_err-crew-clause-most : goal.returns-in_err-crew-clause-most
+returns-in_err-crew-clause-most g c = IfOk-from_err c.from_residual.result _ c.from_residual.ensures.0
+
+pub returns-in_err-crew-clause-calm : goal.returns-in_err-crew-clause-calm
+returns-in_err-crew-clause-calm g c = IfOk-from_err c.from_residual.result _ c.from_residual.ensures.0
+
+pub returns-in_err-crew-clause-cause : goal.returns-in_err-crew-clause-cause
+returns-in_err-crew-clause-cause g c = if_err _ c.from_residual.result Memory c.from_residual.ensures.1 tt
+
+pub returns-in_err-crew-clause-frame : goal.returns-in_err-crew-clause-frame
+returns-in_err-crew-clause-frame g c = record { asked = omega arith; later = later-refl _ }

@@ -1,4 +1,5 @@
-use Rattle.std.proofs.Common.{◌≡◌, ℕ, ◌≤◌, ◌+◌, ◌*◌, List, ◌∷◌, ◌++◌, length, Option, None, Some, refl, sym, ◌∙◌, ap, subst, arith, map}
+use Rattle.std.proofs.Common.{◌≡◌, ℕ, ◌≤◌, ◌+◌, ◌*◌, List, ◌∷◌, ◌++◌, length, Option, None, Some, refl, sym, ◌∙◌, ap}
+use Rattle.std.proofs.Common.{subst, arith, map, length-append}
 use Rattle.std.specs.List.{concat}
 use Rattle.std.specs.Vec.Iter.{into_iter_items}
 use Rattle.las_header.specs.declared.refusal.Refusal.{Refusal}
@@ -200,3 +201,30 @@ returns-in-Err-clause-asked g c known is =
 
 pub returns-clause-asked : goal.returns-clause-asked
 returns-clause-asked g c known is = omega (arith, c.inputs.invariant.asked known is)
+
+pub returns-in-Err-clause-later : goal.returns-in-Err-clause-later
+returns-in-Err-clause-later g c = later-trans _ _ _ c.inputs.invariant.later c.copy_next.ensures.later
+
+pub returns-in-Some-end-clause-later : goal.returns-in-Some-end-clause-later
+returns-in-Some-end-clause-later g c = later-trans _ _ _ c.inputs.invariant.later c.copy_next.ensures.later
+
+pub returns-in-Some-end-clause-open : goal.returns-in-Some-end-clause-open
+returns-in-Some-end-clause-open g c = c.in-Ok.ensures.open
+
+pub returns-in-Some-end-clause-calm : goal.returns-in-Some-end-clause-calm
+returns-in-Some-end-clause-calm g c = calm-trans _ _ _ c.inputs.invariant.calm c.in-Ok.ensures.calm
+
+pub returns-clause-open : goal.returns-clause-open
+returns-clause-open g c = c.inputs.invariant.sound
+
+pub returns-clause-calm : goal.returns-clause-calm
+returns-clause-calm g c = c.inputs.invariant.calm
+
+pub returns-clause-later : goal.returns-clause-later
+returns-clause-later g c = c.inputs.invariant.later
+
+pub overflow_add-number : goal.overflow_add-number
+overflow_add-number g c =
+    let h = c.inputs.invariant.copied in
+    let all = ap (λ (rs : List InputSeen). length rs) h.split in
+    omega (arith, h.count, all, length-append h.done (into_iter_items c.inputs.input-iterator), c.requires.few)

@@ -1,5 +1,5 @@
 use Rattle.std.proofs.Common.{◌++◌, ℕ, List, [], inr, length, take, ◌+◌, sym, ◌∙◌, ap}
-use Rattle.std.proofs.lemmas.Result.{on_err_weaker}
+use Rattle.std.proofs.lemmas.Result.{on_err_weaker, IfOk-from_err}
 use Rattle.std.proofs.Math.Seq.{take-append-add}
 use Rattle.byteorder.specs.Endian.{little_bytes}
 use Rattle.las_outside.specs.Files.{with_file}
@@ -32,3 +32,10 @@ returns-clause-left g c =
           ∙ ap (λ (t : List ℕ). with_file old.held name t) (sym (take-append-add head pointer left.0) ∙ ap (λ (p : List ℕ). take (length head + left.0) (head ++ p)) c.pointer_bytes-pointer.ensures.bytes),
     ))
     (c.append_all-2.ensures.stopped old head there)
+
+pub returns-in_err-create-clause-begun : goal.returns-in_err-create-clause-begun
+returns-in_err-create-clause-begun g c = IfOk-from_err c.from_residual.result _ c.from_residual.ensures.0
+
+pub returns-in_err-append_all-clause-begun : goal.returns-in_err-append_all-clause-begun
+returns-in_err-append_all-clause-begun g c =
+    IfOk-from_err c.from_residual-in_err-append_all.result _ c.from_residual-in_err-append_all.ensures.0

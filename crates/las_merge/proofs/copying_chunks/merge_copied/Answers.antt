@@ -2,7 +2,7 @@ use Rattle.std.proofs.Common.{◌≡◌, ◌≢◌, inr, Err, IfErr, OnErr, OnOk
 use Rattle.std.specs.Prelude.{All, string_bytes, sum_by}
 use Rattle.std.specs.declared.alloc.Global.{Global}
 use Rattle.std.proofs.lemmas.List.{length-map}
-use Rattle.std.proofs.lemmas.Result.{on_ok_weaker, IfErr-weaker, on_err_weaker}
+use Rattle.std.proofs.lemmas.Result.{on_ok_weaker, IfErr-weaker, on_err_weaker, IfOk-from_err}
 use Rattle.las_outside.specs.Faults.{Rose}
 use Rattle.las_outside.specs.Files.{FileMap, with_file}
 use Rattle.las_outside.specs.Outside.{Outside, with_bytes}
@@ -222,3 +222,10 @@ returns-clause-asked g c =
       ap (λ (fs : List (List ℕ)). asked_to_copy fs parts) once.0,
       ap (asked_to_copy (merged g k known is)) once.1,
     ))
+
+pub returns-in_err-listed-clause-asked : goal.returns-in_err-listed-clause-asked
+returns-in_err-listed-clause-asked g c = IfOk-from_err c.from_residual.result _ c.from_residual.ensures.0
+
+pub returns-in_err-points-clause-asked : goal.returns-in_err-points-clause-asked
+returns-in_err-points-clause-asked g c =
+    IfOk-from_err c.from_residual-in_err-points.result _ c.from_residual-in_err-points.ensures.0

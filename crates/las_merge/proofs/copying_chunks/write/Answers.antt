@@ -1,4 +1,7 @@
-use Rattle.std.proofs.Common.{◌≡◌, ◌++◌, ◌+◌, ◌≤◌, ℕ, List, inr, length, map, min, take, Option, refl, sym, ◌∙◌, ap, subst, append_assoc, arith}
+use Rattle.laz_forms.proofs.Public.{if_err}
+use Rattle.std.proofs.lemmas.Result.{IfOk-from_err}
+use Rattle.std.proofs.Common.{◌≡◌, ◌++◌, ◌+◌, ◌≤◌, ℕ, List, inr, length, map, min, take, Option, refl, sym, ◌∙◌, ap}
+use Rattle.std.proofs.Common.{subst, append_assoc, arith, ◌<◌}
 use Rattle.std.specs.Prelude.{slice_index_or}
 use Rattle.std.specs.List.{concat}
 use Rattle.std.proofs.Math.Seq.{take-append-add}
@@ -10,7 +13,7 @@ use Rattle.laz_reader.proofs.Public.{after_writes, then_writes}
 use Rattle.laz_file.proofs.Public.{known_after}
 use Rattle.laz_file.specs.Copying.{with_reads}
 use Rattle.las_merge.specs.Appending.{LeavesPrefix, LiesIn, SourceSeen, part_of}
-use Rattle.las_merge.proofs.Appended.{leaves_more, parts_after, reads_now}
+use Rattle.las_merge.proofs.Appended.{leaves_more, parts_after, reads_now, copy_fault_since}
 use Rattle.las_merge.proofs.copying_chunks.write.Given.{Over}
 use Rattle.las_merge.proofs.copying_chunks.write.Goals.{In-Ok}
 use Rattle.las_merge.proofs.copying_chunks.write.Goals as goal
@@ -148,3 +151,21 @@ returns-in-Err-append_all-clause-cause g c =
 pub returns-in-Err-append_all-clause-frame : goal.returns-in-Err-append_all-clause-frame
 returns-in-Err-append_all-clause-frame g c =
     then_writes _ _ _ _ (after_writes _ _ _ _ c.begin.ensures.writes c.copy_all.ensures.frame) c.append_all.ensures.writes
+
+pub returns-in_err-copy_all-clause-written : goal.returns-in_err-copy_all-clause-written
+returns-in_err-copy_all-clause-written g c = IfOk-from_err c.from_residual.result _ c.from_residual.ensures.0
+
+pub returns-in_err-copy_all-clause-calm : goal.returns-in_err-copy_all-clause-calm
+returns-in_err-copy_all-clause-calm g c = IfOk-from_err c.from_residual.result _ c.from_residual.ensures.0
+
+pub returns-in_err-copy_all-clause-frame : goal.returns-in_err-copy_all-clause-frame
+returns-in_err-copy_all-clause-frame g c = after_writes _ _ _ _ c.begin.ensures.writes c.copy_all.ensures.frame
+
+pub returns-in_err-copy_all-clause-cause : goal.returns-in_err-copy_all-clause-cause
+returns-in_err-copy_all-clause-cause g c =
+    let P : ℕ → Type 0 = λ n. n < length c.args.sources.now in
+    if_err _ c.from_residual.result _ c.from_residual.ensures.1
+    (copy_fault_since P P (g.F.Files.seen c.args.files.now) (g.F.Files.seen c.begin.new.files)
+    (g.F.Files.seen c.copy_all.new.files) c.begin.ensures.writes.reads
+    (ap (λ (o : Outside). o.write_faults) c.in-Ok.ensures.begun) (λ n e. e) c.in_err-copy_all.field-0.0
+    c.in_err-copy_all.ensures.cause)

@@ -1,3 +1,4 @@
+use Rattle.std.proofs.lemmas.Result.{IfOk-from_err}
 use Rattle.std.proofs.Common.{◌≡◌, ◌+◌, ◌-◌, ◌<◌, ◌∷◌, ℕ, List, [], Option, length, sym, ap, subst, length-append}
 use Rattle.std.proofs.Common.{arith}
 use Rattle.las_outside.specs.Files.{FileMap}
@@ -92,3 +93,15 @@ inputs-preserved g c =
       reads = only_reads-trans start old new c.inputs.invariant.reads c.list_next.ensures.reads;
       calm = calm-trans start old new c.inputs.invariant.calm c.in_ok-list_next.ensures.calm;
     }
+
+pub returns-in_err-list_next-clause-opened : goal.returns-in_err-list_next-clause-opened
+returns-in_err-list_next-clause-opened g c = IfOk-from_err c.from_residual.result _ c.from_residual.ensures.0
+
+pub returns-in_err-list_next-clause-lists : goal.returns-in_err-list_next-clause-lists
+returns-in_err-list_next-clause-lists g c = IfOk-from_err c.from_residual.result _ c.from_residual.ensures.0
+
+pub returns-in_err-list_next-clause-all : goal.returns-in_err-list_next-clause-all
+returns-in_err-list_next-clause-all g c = IfOk-from_err c.from_residual.result _ c.from_residual.ensures.0
+
+pub returns-in_err-list_next-clause-calm : goal.returns-in_err-list_next-clause-calm
+returns-in_err-list_next-clause-calm g c = IfOk-from_err c.from_residual.result _ c.from_residual.ensures.0

@@ -1,3 +1,5 @@
+use Rattle.las_outside.proofs.Public.{calm-trans, later-trans}
+use Rattle.std.proofs.lemmas.Result.{IfOk-from_err}
 use Rattle.std.proofs.Common.{inl, [], ◌++◌, Option, Err, ap, subst, arith}
 use Rattle.las_outside.specs.Outside.{Outside}
 use Rattle.laz_file.specs.Copying.{with_reads}
@@ -103,3 +105,22 @@ returns-in-Ok-stop-clause-asked g c known is = omega
 pub returns-in-Err-stop-clause-asked : goal.returns-in-Err-stop-clause-asked
 returns-in-Err-stop-clause-asked g c known is = omega
     (arith, c.copy_inputs.ensures.asked known is, c.stop.ensures.writes.asked)
+
+pub returns-in_err-copy_inputs-clause-finished : goal.returns-in_err-copy_inputs-clause-finished
+returns-in_err-copy_inputs-clause-finished g c before out s =
+    IfOk-from_err c.from_residual.result _ c.from_residual.ensures.0
+
+pub returns-in_err-copy_inputs-clause-calm : goal.returns-in_err-copy_inputs-clause-calm
+returns-in_err-copy_inputs-clause-calm g c = IfOk-from_err c.from_residual.result _ c.from_residual.ensures.0
+
+pub returns-in_err-copy_inputs-clause-later : goal.returns-in_err-copy_inputs-clause-later
+returns-in_err-copy_inputs-clause-later g c = c.copy_inputs.ensures.later
+
+pub returns-in-Ok-clause-calm : goal.returns-in-Ok-clause-calm
+returns-in-Ok-clause-calm g c = calm-trans _ _ _ c.in_ok-copy_inputs.ensures.calm c.in-Ok.ensures.calm
+
+pub returns-in-Ok-clause-later : goal.returns-in-Ok-clause-later
+returns-in-Ok-clause-later g c = later-trans _ _ _ c.copy_inputs.ensures.later c.finish.ensures.writes.later
+
+pub returns-in-Err-clause-later : goal.returns-in-Err-clause-later
+returns-in-Err-clause-later g c = later-trans _ _ _ c.copy_inputs.ensures.later c.finish.ensures.writes.later

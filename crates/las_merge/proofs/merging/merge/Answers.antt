@@ -1,4 +1,4 @@
-use Rattle.std.proofs.Common.{◌≡◌, ℕ, ◌^◌, ◌<◌, ◌≤◌, List, [], Option, Some, length, sym, ◌∙◌, ap, subst, arith}
+use Rattle.std.proofs.Common.{◌≡◌, ℕ, ◌^◌, ◌<◌, ◌≤◌, List, [], Option, Some, length, sym, ◌∙◌, ap, subst, arith, ◌*◌}
 use Rattle.std.specs.Prelude.{string_bytes}
 use Rattle.std.specs.FinMap as finmap
 use Rattle.std.specs.declared.alloc.Global.{Global}
@@ -144,3 +144,22 @@ returns-clause-asked g c known is =
     (names_are (old g k).held (names g k) (readers g k) c.in_ok-opened.ensures.opened (all g k))
     ∙ other_asked asked_to_read known name written.0 (names g k) (other g k) in
     omega (arith, c.open_inputs.ensures.asked known is, c.begin.ensures.writes.asked, filled, same)
+
+pub fill-requires-clause-fresh : goal.fill-requires-clause-fresh
+fill-requires-clause-fresh g c κs within = (c.in_ok-writer.ensures.fresh.0, c.in_ok-writer.ensures.fresh.2)
+
+pub fill-requires-clause-stands : goal.fill-requires-clause-stands
+fill-requires-clause-stands g c κs within = (
+  g.F.Files.seen c.open_inputs.new.files,
+  output_under c.args.output.now c.head.result.now.bytes c.args.chunk,
+  c.in_ok-writer.ensures.stands,
+)
+
+pub fill-requires-clause-room : goal.fill-requires-clause-room
+fill-requires-clause-room g c κs within =
+    let readers : List InputSeen = c.in_ok-opened.opened.items in
+    let w = c.in_ok-writer.writer in
+    let most : w.most ≡ points_read readers =
+    c.in_ok-writer.ensures.fresh.1 ∙ c.in_ok-most.ensures.points
+    ∙ ap (λ (rs : List InputSeen). points_read rs) c.deref.ensures.value in
+    subst (λ (n : ℕ). w.size * n ≤ w.size * w.most) most (omega arith)

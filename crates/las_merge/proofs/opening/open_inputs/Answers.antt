@@ -1,3 +1,4 @@
+use Rattle.std.proofs.lemmas.Result.{IfOk-from_err}
 use Rattle.std.proofs.Common.{◌≡◌, ◌+◌, ◌<◌, ◌≤◌, ◌∷◌, ℕ, suc, List, [], Some, length, take, sym, ◌∙◌, ap, subst}
 use Rattle.std.proofs.Common.{length-append, arith}
 use Rattle.las_outside.specs.Files.{FileMap}
@@ -100,3 +101,12 @@ returns-clause-asked g c known is =
       sum_some
           (λ (name : List ℕ). asked_to_compare (finmap.get known name)) (names_of c.args.names.now) c.inputs.name-index,
     )
+
+pub returns-in_err-open_next-clause-opened : goal.returns-in_err-open_next-clause-opened
+returns-in_err-open_next-clause-opened g c = IfOk-from_err c.from_residual.result _ c.from_residual.ensures.0
+
+pub returns-in_err-open_next-clause-all : goal.returns-in_err-open_next-clause-all
+returns-in_err-open_next-clause-all g c = IfOk-from_err c.from_residual.result _ c.from_residual.ensures.0
+
+pub returns-in_err-open_next-clause-calm : goal.returns-in_err-open_next-clause-calm
+returns-in_err-open_next-clause-calm g c = IfOk-from_err c.from_residual.result _ c.from_residual.ensures.0

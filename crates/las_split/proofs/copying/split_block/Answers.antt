@@ -1,3 +1,5 @@
+use Rattle.laz_file.proofs.Public.{cause_since}
+use Rattle.std.proofs.lemmas.Result.{IfOk-from_err}
 use Rattle.std.proofs.Common.{◌≡◌, ◌+◌, ◌≤◌, ℕ, List, Option, length, take, arith}
 use Rattle.las_outside.specs.Files.{FileMap}
 use Rattle.laz_forms.specs.declared.fault.Fault.TheVariants.{Write}
@@ -9,7 +11,7 @@ use Rattle.las_split.proofs.SomeRecords.{some_pushed}
 use Rattle.las_split.proofs.copying.split_block.Given.{Over}
 use Rattle.las_split.proofs.copying.split_block.Goals.{In_ok-taken}
 use Rattle.las_split.proofs.copying.split_block.Goals as goal
-use Rattle.las_outside.proofs.Public.{on_err}
+use Rattle.las_outside.proofs.Public.{on_err, only_writes-trans, calm-trans}
 use Rattle.las_header.specs.Plain.{cut_all}
 
 -- what stands when the block was sorted
@@ -78,3 +80,53 @@ returns-in_err-push_parts-clause-some g c was records i at =
     let s = c.in_ok-taken.ensures.sorts was records i at in
     if_err (λ fault. fault ≡ Write → 1 ≤ length records + length block) c.from_residual-in_err-push_parts.result _ c.from_residual-in_err-push_parts.ensures.1
     (λ is. some_pushed task was (g.F.Files.seen n.files).held n.parts.numbers n.parts.writers.items n.parts.gathered records block c.in_ok-taken.taken s (c.in_err-push_parts.ensures.some is))
+
+pub returns-in_err-taken-clause-takes : goal.returns-in_err-taken-clause-takes
+returns-in_err-taken-clause-takes g c was records i at =
+    IfOk-from_err c.from_residual.result _ c.from_residual.ensures.0
+
+pub returns-in_err-taken-clause-left : goal.returns-in_err-taken-clause-left
+returns-in_err-taken-clause-left g c was records i at =
+    on_err c.from_residual.result (c.in_err-taken.ensures.left was records i at)
+
+pub returns-in_err-taken-clause-cause : goal.returns-in_err-taken-clause-cause
+returns-in_err-taken-clause-cause g c =
+    if_err _ c.from_residual.result _ c.from_residual.ensures.1 c.in_err-taken.ensures.cause
+
+pub returns-in_err-taken-clause-calm : goal.returns-in_err-taken-clause-calm
+returns-in_err-taken-clause-calm g c = IfOk-from_err c.from_residual.result _ c.from_residual.ensures.0
+
+pub returns-in_err-taken-clause-writes : goal.returns-in_err-taken-clause-writes
+returns-in_err-taken-clause-writes g c = c.sort_block.ensures.writes
+
+pub returns-in_err-push_parts-clause-takes : goal.returns-in_err-push_parts-clause-takes
+returns-in_err-push_parts-clause-takes g c was records i at =
+    IfOk-from_err c.from_residual-in_err-push_parts.result _ c.from_residual-in_err-push_parts.ensures.0
+
+pub returns-in_err-push_parts-clause-cause : goal.returns-in_err-push_parts-clause-cause
+returns-in_err-push_parts-clause-cause g c =
+    if_err _ c.from_residual-in_err-push_parts.result _ c.from_residual-in_err-push_parts.ensures.1
+    (cause_since (g.F.Files.seen c.args.files.now) (g.F.Files.seen c.sort_block.new.files)
+    (g.F.Files.seen c.push_parts.new.files) c.in_err-push_parts.field-0.0 c.in_ok-taken.ensures.calm.reads
+    c.in_ok-taken.ensures.calm.writes c.in_err-push_parts.ensures.cause)
+
+pub returns-in_err-push_parts-clause-calm : goal.returns-in_err-push_parts-clause-calm
+returns-in_err-push_parts-clause-calm g c =
+    IfOk-from_err c.from_residual-in_err-push_parts.result _ c.from_residual-in_err-push_parts.ensures.0
+
+pub returns-in_err-push_parts-clause-writes : goal.returns-in_err-push_parts-clause-writes
+returns-in_err-push_parts-clause-writes g c =
+    only_writes-trans _ _ _ c.sort_block.ensures.writes c.push_parts.ensures.writes
+
+pub returns-then-taken-block-clause-calm : goal.returns-then-taken-block-clause-calm
+returns-then-taken-block-clause-calm g c = calm-trans _ _ _ c.in_ok-taken.ensures.calm c.in_ok-push_parts.ensures.calm
+
+pub returns-then-taken-block-clause-writes : goal.returns-then-taken-block-clause-writes
+returns-then-taken-block-clause-writes g c =
+    only_writes-trans _ _ _ c.sort_block.ensures.writes c.push_parts.ensures.writes
+
+pub returns-clause-calm : goal.returns-clause-calm
+returns-clause-calm g c = calm-trans _ _ _ c.in_ok-taken.ensures.calm c.in_ok-push_parts.ensures.calm
+
+pub returns-clause-writes : goal.returns-clause-writes
+returns-clause-writes g c = only_writes-trans _ _ _ c.sort_block.ensures.writes c.push_parts.ensures.writes

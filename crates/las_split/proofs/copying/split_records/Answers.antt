@@ -1,3 +1,4 @@
+use Rattle.std.proofs.lemmas.Result.{IfOk-from_err}
 use Rattle.std.proofs.Common.{◌≡◌, ◌/◌, ◌%◌, ◌+◌, ◌<◌, ◌≤◌, ◌^◌, Bool, true, false, ℕ, List, Option, Some, [], ◌∷◌, ◌++◌, length, refl, Err, Ok, sym, ◌∙◌, ap, subst, length-append, arith}
 use Rattle.std.specs.Prelude.{unwrap_or}
 use Rattle.std.specs.List.{concat}
@@ -366,3 +367,17 @@ turns-preserved g c =
           (later-trans _ _ _ c.next_block.ensures.reads.only.later c.split_block.ensures.writes.later);
       asked = omega (arith, c.turns.invariant.asked, c.in-Ok.ensures.asked, c.split_block.ensures.writes.asked);
     }
+
+pub returns-in_err-end-in-Err-clause-takes : goal.returns-in_err-end-in-Err-clause-takes
+returns-in_err-end-in-Err-clause-takes g c = IfOk-from_err c.from_residual.result _ c.from_residual.ensures.0
+
+pub returns-in_err-end-in-Err-clause-calm : goal.returns-in_err-end-in-Err-clause-calm
+returns-in_err-end-in-Err-clause-calm g c = IfOk-from_err c.from_residual.result _ c.from_residual.ensures.0
+
+pub returns-in_err-split_block-clause-takes : goal.returns-in_err-split_block-clause-takes
+returns-in_err-split_block-clause-takes g c =
+    IfOk-from_err c.from_residual-in_err-split_block.result _ c.from_residual-in_err-split_block.ensures.0
+
+pub returns-in_err-split_block-clause-calm : goal.returns-in_err-split_block-clause-calm
+returns-in_err-split_block-clause-calm g c =
+    IfOk-from_err c.from_residual-in_err-split_block.result _ c.from_residual-in_err-split_block.ensures.0

@@ -1,7 +1,7 @@
 use Rattle.std.proofs.Common.{◌≡◌, ℕ, ◌*◌, Bool, List, [], Option, Some, None, refl, sym, ◌∙◌, ap, subst}
 use Rattle.std.specs.Prelude.{unwrap_or, string_bytes}
 use Rattle.std.specs.List.{concat}
-use Rattle.std.proofs.lemmas.Result.{IfOk-weaker, IfErr-weaker, on_ok_weaker}
+use Rattle.std.proofs.lemmas.Result.{IfOk-weaker, IfErr-weaker, on_ok_weaker, IfOk-from_err}
 use Rattle.las_header.specs.declared.refusal.Refusal.{Refusal}
 use Rattle.las_header.specs.Fields.{record_length_of}
 use Rattle.las_header.specs.Heads.{HeadView, IsHead}
@@ -266,3 +266,18 @@ returns-in_err-stop_all-in-Some-clause-frame g c =
 pub returns-clause-frame : goal.returns-clause-frame
 returns-clause-frame g c =
     then_writes _ _ _ _ (frame g (goal.at.returns-clause-frame g c).After-split_records) c.stop_all.ensures.writes
+
+pub returns-in_err-crew-clause-numbers : goal.returns-in_err-crew-clause-numbers
+returns-in_err-crew-clause-numbers g c = IfOk-from_err c.from_residual.result _ c.from_residual.ensures.0
+
+pub returns-in_err-plain-clause-numbers : goal.returns-in_err-plain-clause-numbers
+returns-in_err-plain-clause-numbers g c =
+    IfOk-from_err c.from_residual-in_err-plain.result _ c.from_residual-in_err-plain.ensures.0
+
+pub returns-in_err-parts-clause-numbers : goal.returns-in_err-parts-clause-numbers
+returns-in_err-parts-clause-numbers g c =
+    IfOk-from_err c.from_residual-in_err-parts.result _ c.from_residual-in_err-parts.ensures.0
+
+pub returns-in_err-stop_all-in-Some-clause-numbers : goal.returns-in_err-stop_all-in-Some-clause-numbers
+returns-in_err-stop_all-in-Some-clause-numbers g c =
+    IfOk-from_err c.from_residual-in_err-stop_all-in-Some.result _ c.from_residual-in_err-stop_all-in-Some.ensures.0

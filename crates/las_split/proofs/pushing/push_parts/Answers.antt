@@ -1,3 +1,6 @@
+use Rattle.laz_file.proofs.Public.{cause_since}
+use Rattle.laz_forms.proofs.Public.{if_err}
+use Rattle.std.proofs.lemmas.Result.{IfOk-from_err}
 use Rattle.std.proofs.Common.{◌≤◌, ℕ, List, length, refl, sym, ◌∙◌, ap, subst, arith}
 use Rattle.las_outside.proofs.Public.{calm-refl, calm-trans, only_writes-refl, only_writes-trans, on_err}
 use Rattle.las_split.specs.Sorting.{AreGathered}
@@ -53,3 +56,33 @@ returns-clause-pushed g c task was records block both fit =
     let first = pushed_first task was (g.F.Files.seen c.args.files.now).held c.args.parts.now.numbers c.args.parts.now.writers.items records block i in
     let end : length c.loop-place.parts.numbers ≤ c.loop-place.place = omega (arith, c.loop-place-test.false, c.len-place-end.ensures, first.same, ap (λ (t : List ℕ). length t) c.loop-place.invariant.numbers) in
     pushed_last task was (g.F.Files.seen c.loop-place.files).held c.loop-place.parts.numbers c.loop-place.parts.writers.items records block c.loop-place.place end (all_size (record_length_of task.head) block fit.whole) p
+
+pub returns-in_err-push_place-clause-pushed : goal.returns-in_err-push_place-clause-pushed
+returns-in_err-push_place-clause-pushed g c task was records block both fit =
+    IfOk-from_err c.from_residual.result _ c.from_residual.ensures.0
+
+pub returns-in_err-push_place-clause-cause : goal.returns-in_err-push_place-clause-cause
+returns-in_err-push_place-clause-cause g c =
+    if_err _ c.from_residual.result _ c.from_residual.ensures.1
+    (cause_since (g.F.Files.seen c.args.files.now) (g.F.Files.seen c.loop-place.files)
+    (g.F.Files.seen c.push_place.new.files) c.in_err-push_place.field-0.0 c.loop-place.invariant.calm.reads
+    c.loop-place.invariant.calm.writes c.in_err-push_place.ensures.cause)
+
+pub returns-in_err-push_place-clause-calm : goal.returns-in_err-push_place-clause-calm
+returns-in_err-push_place-clause-calm g c = IfOk-from_err c.from_residual.result _ c.from_residual.ensures.0
+
+pub returns-in_err-push_place-clause-writes : goal.returns-in_err-push_place-clause-writes
+returns-in_err-push_place-clause-writes g c =
+    only_writes-trans _ _ _ c.loop-place.invariant.writes c.push_place.ensures.writes
+
+pub returns-in_err-push_place-clause-some : goal.returns-in_err-push_place-clause-some
+returns-in_err-push_place-clause-some g c =
+    let some : 1 ≤ length c.args.parts.now.writers.items =
+    omega (arith, c.loop-place-test.true, c.len-place-end.ensures) in
+    if_err _ c.from_residual.result _ c.from_residual.ensures.1 (λ is. some)
+
+pub returns-clause-calm : goal.returns-clause-calm
+returns-clause-calm g c = c.loop-place.invariant.calm
+
+pub returns-clause-writes : goal.returns-clause-writes
+returns-clause-writes g c = c.loop-place.invariant.writes

@@ -1,9 +1,11 @@
+use Rattle.laz_file.proofs.Public.{cause_since}
+use Rattle.std.proofs.lemmas.Result.{IfOk-from_err}
 use Rattle.std.proofs.Common.{◌≡◌, ℕ, List, [], ◌+◌, ◌*◌, ◌%◌, ◌<◌, ◌≤◌, ◌/◌, ◌++◌, length, refl, sym, ap, subst, ◌∙◌, append_assoc, length-append, arith}
 use Rattle.std.proofs.lemmas.List.{append-nil}
 use Rattle.las_outside.proofs.Public.{calm-refl, calm-trans, only_writes-refl, only_writes-trans, on_err}
 use Rattle.laz_forms.proofs.Public.{whole_both, if_err}
 use Rattle.laz_writer.proofs.Public.{cut-append}
-use Rattle.laz_forms.specs.declared.fault.Fault.TheVariants.{Write}
+use Rattle.laz_forms.specs.declared.fault.Fault.TheVariants.{Write, Memory}
 use Rattle.las_split.specs.Sorting.{HasRoom, Task, task_in}
 use Rattle.las_split.specs.Steps.{AreSorted}
 use Rattle.las_split.proofs.BatchesTaken.{none_yet}
@@ -187,3 +189,56 @@ returns-clause-sorts g c was records i at =
     let none : c.groups.rest.now ≡ [] = no_bytes c.groups.rest.now (sym c.is_empty.ensures ∙ c.groups-test.false) in
     let all : c.args.block.now ≡ d.0 = d.1 ∙ ap (λ (b : List ℕ). d.0 ++ b) none ∙ append-nil d.0 in
     block_done (task_in c.args.splitter.now) was (g.F.Files.seen c.groups.files).held c.groups.parts records c.args.splitter.now.size c.groups.taken c.args.block.now d.0 all d.3 (d.4 was records i at)
+
+pub returns-in_err-begin-clause-sorts : goal.returns-in_err-begin-clause-sorts
+returns-in_err-begin-clause-sorts g c was records i at =
+    IfOk-from_err c.from_residual.result _ c.from_residual.ensures.0
+
+pub returns-in_err-begin-clause-some : goal.returns-in_err-begin-clause-some
+returns-in_err-begin-clause-some g c = if_err _ c.from_residual.result Memory c.from_residual.ensures.1 (λ is. cc)
+
+pub returns-in_err-begin-clause-cause : goal.returns-in_err-begin-clause-cause
+returns-in_err-begin-clause-cause g c = if_err _ c.from_residual.result Memory c.from_residual.ensures.1 tt
+
+pub returns-in_err-begin-clause-calm : goal.returns-in_err-begin-clause-calm
+returns-in_err-begin-clause-calm g c = IfOk-from_err c.from_residual.result _ c.from_residual.ensures.0
+
+pub returns-in_err-begin-clause-writes : goal.returns-in_err-begin-clause-writes
+returns-in_err-begin-clause-writes g c = only_writes-refl _
+
+pub sort_group-requires-clause-parts : goal.sort_group-requires-clause-parts
+sort_group-requires-clause-parts g c =
+    let k = (goal.at.sort_group-requires-clause-parts g c).After-split_at in
+    let q = c.requires.parts in
+    (q.0, q.1, xs g k, c.groups.invariant.sorts.4 q.0 q.1 q.2 q.3, place g k q.1 q.3)
+
+pub returns-in_err-more-clause-sorts : goal.returns-in_err-more-clause-sorts
+returns-in_err-more-clause-sorts g c was records i at =
+    IfOk-from_err c.from_residual-in_err-more.result _ c.from_residual-in_err-more.ensures.0
+
+pub returns-in_err-more-clause-cause : goal.returns-in_err-more-clause-cause
+returns-in_err-more-clause-cause g c =
+    if_err _ c.from_residual-in_err-more.result _ c.from_residual-in_err-more.ensures.1
+    (cause_since (g.F.Files.seen c.args.files.now) (g.F.Files.seen c.groups.files)
+    (g.F.Files.seen c.sort_group.new.files) c.in_err-more.field-0.0 c.groups.invariant.calm.reads
+    c.groups.invariant.calm.writes c.in_err-more.ensures.cause)
+
+pub returns-in_err-more-clause-calm : goal.returns-in_err-more-clause-calm
+returns-in_err-more-clause-calm g c =
+    IfOk-from_err c.from_residual-in_err-more.result _ c.from_residual-in_err-more.ensures.0
+
+pub returns-in_err-more-clause-writes : goal.returns-in_err-more-clause-writes
+returns-in_err-more-clause-writes g c = only_writes-trans _ _ _ c.groups.invariant.writes c.sort_group.ensures.writes
+
+pub returns-then-more-group-clause-calm : goal.returns-then-more-group-clause-calm
+returns-then-more-group-clause-calm g c = calm-trans _ _ _ c.groups.invariant.calm c.in_ok-more.ensures.calm
+
+pub returns-then-more-group-clause-writes : goal.returns-then-more-group-clause-writes
+returns-then-more-group-clause-writes g c =
+    only_writes-trans _ _ _ c.groups.invariant.writes c.sort_group.ensures.writes
+
+pub returns-clause-calm : goal.returns-clause-calm
+returns-clause-calm g c = c.groups.invariant.calm
+
+pub returns-clause-writes : goal.returns-clause-writes
+returns-clause-writes g c = c.groups.invariant.writes

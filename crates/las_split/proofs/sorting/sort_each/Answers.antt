@@ -1,3 +1,5 @@
+use Rattle.laz_file.proofs.Public.{cause_since}
+use Rattle.std.proofs.lemmas.Result.{IfOk-from_err}
 use Rattle.std.proofs.Common.{◌≡◌, ℕ, ◌*◌, ◌<◌, ◌≤◌, ◌/◌, ◌++◌, true, false, length, take, drop, sym, ap, subst, arith}
 use Rattle.las_outside.proofs.Public.{calm-refl, calm-trans, only_writes-refl, only_writes-trans, on_err}
 use Rattle.laz_forms.proofs.Public.{if_err, rest_next}
@@ -97,3 +99,34 @@ returns-in_err-sort_point-clause-some g c =
     let bytes = c.args.group.now in
     let there : 1 ≤ length (cut_all size bytes) = omega (arith, c.loop-turn-test.true, cut_length size (length bytes / size) bytes) in
     if_err (λ fault. fault ≡ Write → 1 ≤ length (cut_all size bytes)) c.from_residual.result _ c.from_residual.ensures.1 (λ is. there)
+
+pub returns-in_err-sort_point-clause-sorts : goal.returns-in_err-sort_point-clause-sorts
+returns-in_err-sort_point-clause-sorts g c was records block i at =
+    IfOk-from_err c.from_residual.result _ c.from_residual.ensures.0
+
+pub returns-in_err-sort_point-clause-cause : goal.returns-in_err-sort_point-clause-cause
+returns-in_err-sort_point-clause-cause g c =
+    if_err _ c.from_residual.result _ c.from_residual.ensures.1
+    (cause_since (g.F.Files.seen c.args.files.now) (g.F.Files.seen c.loop-turn.files)
+    (g.F.Files.seen c.sort_point.new.files) c.in_err-sort_point.field-0.0 c.loop-turn.invariant.calm.reads
+    c.loop-turn.invariant.calm.writes c.in_err-sort_point.ensures.cause)
+
+pub returns-in_err-sort_point-clause-calm : goal.returns-in_err-sort_point-clause-calm
+returns-in_err-sort_point-clause-calm g c = IfOk-from_err c.from_residual.result _ c.from_residual.ensures.0
+
+pub returns-in_err-sort_point-clause-writes : goal.returns-in_err-sort_point-clause-writes
+returns-in_err-sort_point-clause-writes g c =
+    only_writes-trans _ _ _ c.loop-turn.invariant.writes c.sort_point.ensures.writes
+
+pub returns-then-not-branch-clause-calm : goal.returns-then-not-branch-clause-calm
+returns-then-not-branch-clause-calm g c = calm-trans _ _ _ c.loop-turn.invariant.calm c.in_ok-sort_point.ensures.calm
+
+pub returns-then-not-branch-clause-writes : goal.returns-then-not-branch-clause-writes
+returns-then-not-branch-clause-writes g c =
+    only_writes-trans _ _ _ c.loop-turn.invariant.writes c.sort_point.ensures.writes
+
+pub returns-clause-calm : goal.returns-clause-calm
+returns-clause-calm g c = c.loop-turn.invariant.calm
+
+pub returns-clause-writes : goal.returns-clause-writes
+returns-clause-writes g c = c.loop-turn.invariant.writes

@@ -1,3 +1,6 @@
+use Rattle.laz_forms.proofs.Public.{if_err}
+use Rattle.las_outside.proofs.Public.{on_err}
+use Rattle.std.proofs.lemmas.Result.{IfOk-from_err}
 use Rattle.std.proofs.Common.{◌≡◌, inr, ℕ, ◌+◌, List, Option, ◌++◌, ◌∷◌, [], length, refl, sym, true, subst, append_assoc, arith}
 use Rattle.las_outside.specs.Files.{FileMap}
 use Rattle.las_split.specs.Sorting.{AreGathered, SortsPoint, Task, task_in, text_of}
@@ -68,3 +71,39 @@ returns-in-Err-clause-left g c was records block both at =
     inr
     (leaves_here _ _ _ _ _ ((records ++ block) ++ one) records m.0 (block ++ one) (append_assoc records block one) _
     refl)
+
+pub returns-in_err-found-clause-sorts : goal.returns-in_err-found-clause-sorts
+returns-in_err-found-clause-sorts g c was records block both at =
+    IfOk-from_err c.from_residual.result _ c.from_residual.ensures.0
+
+pub returns-in_err-found-clause-left : goal.returns-in_err-found-clause-left
+returns-in_err-found-clause-left g c was records block both at =
+    on_err c.from_residual.result
+    (c.in_err-found.ensures.left was (records ++ block) records block c.args.point.now both.0
+    (number_here _ _ _ _ _ _ records block both.0 both.1 c.args.index c.args.point.now c.part_of-number.result at
+    c.part_of-number.ensures) refl)
+
+pub returns-in_err-found-clause-cause : goal.returns-in_err-found-clause-cause
+returns-in_err-found-clause-cause g c =
+    if_err _ c.from_residual.result _ c.from_residual.ensures.1 c.in_err-found.ensures.cause
+
+pub returns-in_err-found-clause-calm : goal.returns-in_err-found-clause-calm
+returns-in_err-found-clause-calm g c = IfOk-from_err c.from_residual.result _ c.from_residual.ensures.0
+
+pub returns-in_err-found-clause-writes : goal.returns-in_err-found-clause-writes
+returns-in_err-found-clause-writes g c = c.place_of.ensures.writes
+
+pub returns-in_default-clause-calm : goal.returns-in_default-clause-calm
+returns-in_default-clause-calm g c = c.in_ok-found.ensures.calm
+
+pub returns-in_default-clause-writes : goal.returns-in_default-clause-writes
+returns-in_default-clause-writes g c = c.place_of.ensures.writes
+
+pub returns-in-Ok-clause-calm : goal.returns-in-Ok-clause-calm
+returns-in-Ok-clause-calm g c = c.in_ok-found.ensures.calm
+
+pub returns-in-Ok-clause-writes : goal.returns-in-Ok-clause-writes
+returns-in-Ok-clause-writes g c = c.place_of.ensures.writes
+
+pub returns-in-Err-clause-writes : goal.returns-in-Err-clause-writes
+returns-in-Err-clause-writes g c = c.place_of.ensures.writes

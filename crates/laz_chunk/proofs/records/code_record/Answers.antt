@@ -2,6 +2,7 @@ use Rattle.std.proofs.Common.{◌∙◌}
 use Rattle.laz_chunk.specs.declared.items.Items.{Items}
 use Rattle.laz_chunk.specs.Stands.{items_of}
 use Rattle.laz_chunk.proofs.Coding.{code-record, drop-same, take-same}
+use Rattle.laz_chunk.proofs.Steps.{same-layout}
 use Rattle.laz_chunk.proofs.records.code_record.Goals as goal
 
 pub returns-clause-codes : goal.returns-clause-codes
@@ -35,3 +36,10 @@ returns-clause-stands g c h are s =
     (λ earlier points k. (c.put_time.ensures.events earlier points k, c.put_time.ensures.stands earlier points k))
     (λ earlier colours k. (c.put_colour.ensures.events earlier colours k, c.put_colour.ensures.stands earlier colours k))
     (λ earlier extras k. (c.code_extra.ensures.events earlier extras k, c.code_extra.ensures.stands earlier extras k))).1
+
+pub returns-clause-layout : goal.returns-clause-layout
+returns-clause-layout g c =
+    same-layout (items_of c.args.point10.now (g.T.TimePart.item c.args.times.now) (g.C.ColourPart.item
+    c.args.colours.now) c.args.extra.now)
+    (items_of c.code_for.new.self (g.T.TimePart.item c.put_time.new.self) (g.C.ColourPart.item c.put_colour.new.self)
+    c.code_extra.new.item) c.put_time.ensures.has c.put_colour.ensures.has c.code_extra.ensures.extra

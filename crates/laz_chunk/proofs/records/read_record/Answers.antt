@@ -1,9 +1,10 @@
-use Rattle.std.proofs.Common.{rules}
-use Rattle.std.proofs.lemmas.Result.{err_from_is_err_and}
+use Rattle.std.proofs.Common.{refl, rules}
+use Rattle.std.proofs.lemmas.Result.{IfOk-from_err, err_from_is_err_and}
 use Rattle.laz_point10.specs.Points.{point_at}
 use Rattle.laz_chunk.specs.declared.items.Items.{Items}
 use Rattle.laz_chunk.specs.Records.{points_of}
 use Rattle.laz_chunk.proofs.Coding.{read-record, refuse-colour, refuse-extra, refuse-time}
+use Rattle.laz_chunk.proofs.Steps.{same-layout}
 use Rattle.laz_chunk.proofs.Whole.{point-refuses}
 use Rattle.laz_chunk.specs.Stands.{items_of, layout_in}
 use Rattle.laz_chunk.proofs.records.read_record.Goals as goal
@@ -53,3 +54,58 @@ returns-clause-reads g c h s =
     c.in_ok-take_time.ensures.reads
     c.in_ok-take_colour.ensures.reads
     c.in_ok-read_extra.ensures.reads
+
+pub returns-in_err-read-clause-good : goal.returns-in_err-read-clause-good
+returns-in_err-read-clause-good g c = IfOk-from_err c.from_residual.result _ c.from_residual.ensures.0
+
+pub returns-in_err-take_time-clause-good : goal.returns-in_err-take_time-clause-good
+returns-in_err-take_time-clause-good g c =
+    IfOk-from_err c.from_residual-in_err-take_time.result _ c.from_residual-in_err-take_time.ensures.0
+
+pub returns-in_err-take_colour-clause-good : goal.returns-in_err-take_colour-clause-good
+returns-in_err-take_colour-clause-good g c =
+    IfOk-from_err c.from_residual-in_err-take_colour.result _ c.from_residual-in_err-take_colour.ensures.0
+
+pub returns-in_err-read_extra-clause-good : goal.returns-in_err-read_extra-clause-good
+returns-in_err-read_extra-clause-good g c =
+    IfOk-from_err c.from_residual-in_err-read_extra.result _ c.from_residual-in_err-read_extra.ensures.0
+
+pub returns-in_err-read-clause-layout : goal.returns-in_err-read-clause-layout
+returns-in_err-read-clause-layout g c =
+    same-layout (items_of c.args.point10.now (g.T.TimePart.item c.args.times.now) (g.C.ColourPart.item
+    c.args.colours.now) c.args.extra.now)
+    (items_of c.read.new.self (g.T.TimePart.item c.args.times.now) (g.C.ColourPart.item c.args.colours.now)
+    c.args.extra.now)
+    refl refl refl
+
+pub returns-in_err-take_time-clause-layout : goal.returns-in_err-take_time-clause-layout
+returns-in_err-take_time-clause-layout g c =
+    same-layout (items_of c.args.point10.now (g.T.TimePart.item c.args.times.now) (g.C.ColourPart.item
+    c.args.colours.now) c.args.extra.now)
+    (items_of c.read.new.self (g.T.TimePart.item c.take_time.new.self) (g.C.ColourPart.item c.args.colours.now)
+    c.args.extra.now)
+    c.in_err-take_time.ensures.has refl refl
+
+pub returns-in_err-take_colour-clause-layout : goal.returns-in_err-take_colour-clause-layout
+returns-in_err-take_colour-clause-layout g c =
+    same-layout (items_of c.args.point10.now (g.T.TimePart.item c.args.times.now) (g.C.ColourPart.item
+    c.args.colours.now) c.args.extra.now)
+    (items_of c.read.new.self (g.T.TimePart.item c.take_time.new.self) (g.C.ColourPart.item c.take_colour.new.self)
+    c.args.extra.now)
+    c.in_ok-take_time.ensures.has c.in_err-take_colour.ensures.has refl
+
+pub returns-in_err-read_extra-clause-layout : goal.returns-in_err-read_extra-clause-layout
+returns-in_err-read_extra-clause-layout g c =
+    same-layout (items_of c.args.point10.now (g.T.TimePart.item c.args.times.now) (g.C.ColourPart.item
+    c.args.colours.now) c.args.extra.now)
+    (items_of c.read.new.self (g.T.TimePart.item c.take_time.new.self) (g.C.ColourPart.item c.take_colour.new.self)
+    c.read_extra.new.item)
+    c.in_ok-take_time.ensures.has c.in_ok-take_colour.ensures.has c.in_err-read_extra.ensures.extra
+
+pub returns-clause-layout : goal.returns-clause-layout
+returns-clause-layout g c =
+    same-layout (items_of c.args.point10.now (g.T.TimePart.item c.args.times.now) (g.C.ColourPart.item
+    c.args.colours.now) c.args.extra.now)
+    (items_of c.read.new.self (g.T.TimePart.item c.take_time.new.self) (g.C.ColourPart.item c.take_colour.new.self)
+    c.read_extra.new.item)
+    c.in_ok-take_time.ensures.has c.in_ok-take_colour.ensures.has c.in_ok-read_extra.ensures.extra

@@ -1,3 +1,4 @@
+use Rattle.std.proofs.lemmas.Result.{IfOk-from_err}
 use Rattle.std.proofs.Common.{◌≡◌, ◌<◌, ℕ, length, take, drop, get_or, sym, ◌∙◌, ap, arith}
 use Rattle.las_outside.proofs.Public.{calm-trans, reads-more, reads-trans}
 use Rattle.laz_forms.specs.Pieces.{Piece, piece_bytes, pieces_from}
@@ -38,3 +39,15 @@ loop-i-preserved g c =
 pub returns-in_err-read_input-clause-reads : goal.returns-in_err-read_input-clause-reads
 returns-in_err-read_input-clause-reads g c =
     reads-more _ _ _ _ (end_within c.args.bytes.now c.loop-i.i (omega (arith, c.requires.same.0, c.loop-i-test.true))) (reads-trans _ _ _ _ _ c.loop-i.invariant.reads c.in_err-read_input.ensures.reads)
+
+pub returns-in_err-read_input-clause-shape : goal.returns-in_err-read_input-clause-shape
+returns-in_err-read_input-clause-shape g c = IfOk-from_err c.from_residual.result _ c.from_residual.ensures.0
+
+pub returns-in_err-read_input-clause-known : goal.returns-in_err-read_input-clause-known
+returns-in_err-read_input-clause-known g c = IfOk-from_err c.from_residual.result _ c.from_residual.ensures.0
+
+pub returns-in_err-read_input-clause-calm : goal.returns-in_err-read_input-clause-calm
+returns-in_err-read_input-clause-calm g c = IfOk-from_err c.from_residual.result _ c.from_residual.ensures.0
+
+pub returns-clause-ends : goal.returns-clause-ends
+returns-clause-ends g c = tt

@@ -6,7 +6,7 @@ use Rattle.laz_forms.specs.declared.fault.Fault.{Fault}
 use Rattle.laz_reader.specs.Asking.{asked_for_table}
 use Rattle.laz_reader.specs.Reading.{EndsReading, IsHeadOf, IsTablePlace, points_in, table_size}
 use Rattle.las_header.specs.Heads.{HeadView}
-use Rattle.laz_reader.proofs.Exits.{at_exit, ends_after}
+use Rattle.laz_reader.proofs.Exits.{at_exit, ends_after, ok_no_fault}
 use Rattle.las_header.specs.Fields.{head_of, is_packed}
 use Rattle.las_outside.proofs.Public.{calm-trans, only_reads-trans}
 use Rattle.laz_forms.specs.Refusing.{IsRefusal, table_part, table_place}
@@ -14,22 +14,6 @@ use Rattle.laz_forms.proofs.Public.{known_at, known_both, known_then, known_thre
 use Rattle.laz_reader.proofs.Heads.{residual_is}
 use Rattle.laz_reader.proofs.Accepting.{accepted_packed, blocks_as, packed_lie, points_as, refused_pointer, refused_table}
 use Rattle.laz_reader.proofs.listing.read_packed.Goals as goal
-
-pub returns-in_err-place-clause-refused : goal.returns-in_err-place-clause-refused
-returns-in_err-place-clause-refused g c = λ cause is.
-    let same = residual_is c.from_residual.result c.in_err-place.field-0.0 cause c.from_residual.ensures.1 is in
-    let refused = c.in_err-place.ensures.refused cause (ap (λ (f : Fault). Err f) same) in
-    known_both _ _ _ _ _ (λ file h bad. subst (λ (x : Refusal). IsRefusal file (Some x)) (sym refused.0) (refused_pointer file c.args.head.now h c.requires.packed c.requires.vlr bad)) c.requires.head refused.1
-
-pub returns-in_err-sizes-clause-refused : goal.returns-in_err-sizes-clause-refused
-returns-in_err-sizes-clause-refused g c = λ cause is.
-    let same = residual_is c.from_residual-in_err-sizes.result c.in_err-sizes.field-0.0 cause c.from_residual-in_err-sizes.ensures.1 is in
-    let refused = c.in_err-sizes.ensures.refused cause (ap (λ (f : Fault). Err f) same) in
-    let offset = c.from-offset.result in
-    let start = c.in_ok-place.place.start in
-    let offset_is = c.from-offset.ensures ∙ c.offset.ensures.field in
-    let blocks_are = blocks_as c.args.head.now.bytes c.args.chunk c.points.result c.blocks_of-blocks.result c.blocks_of-blocks.ensures c.requires.chunk c.points.ensures in
-    known_three _ _ _ _ _ _ (λ file h place table. refused_table file c.args.head.now h c.requires.packed c.requires.vlr start c.in_ok-place.place.end (start - (offset + 8)) offset c.blocks_of-blocks.result place blocks_are offset_is refl (Some cause) table) c.requires.head c.in_ok-place.ensures.place (known_at _ _ _ _ c.in_ok-place.ensures.reads.only.held refused)
 
 pub returns-clause-stands : goal.returns-clause-stands
 returns-clause-stands g c =
@@ -68,17 +52,6 @@ table_asks file start end old mid new place first asks =
     let same : table_size (drop start (take end file)) ≡ table_size (table_part file) = ap (λ (n : ℕ). table_size (drop n (take end file))) place.starts ∙ ap (λ (n : ℕ). table_size (drop (table_place file) (take n file))) place.ends in
     asked_both old mid new _ _ first asks same
 
-pub returns-in_err-place-clause-asked_of : goal.returns-in_err-place-clause-asked_of
-returns-in_err-place-clause-asked_of g c =
-    known_then _ _ _ _ (λ file h. packed_asks file c.args.head.now _ _ h c.requires.packed (place_asks _ _ _ c.find_table.ensures.reads.asked)) c.requires.head
-
-pub returns-in_err-sizes-clause-asked_of : goal.returns-in_err-sizes-clause-asked_of
-returns-in_err-sizes-clause-asked_of g c =
-    known_three _ _ _ _ _ _ (λ file h place asks. packed_asks file c.args.head.now _ _ h c.requires.packed (table_asks file c.in_ok-place.place.start c.in_ok-place.place.end _ _ _ place c.find_table.ensures.reads.asked asks)) c.requires.head c.in_ok-place.ensures.place (known_at _ _ _ _ c.find_table.ensures.reads.only.held c.read_chunks.ensures.asked_of)
-
-pub returns-in_err-sizes-clause-reads : goal.returns-in_err-sizes-clause-reads
-returns-in_err-sizes-clause-reads g c = only_reads-trans _ _ _ c.find_table.ensures.reads.only c.read_chunks.ensures.reads
-
 pub returns-clause-asked_of : goal.returns-clause-asked_of
 returns-clause-asked_of g c =
     known_three _ _ _ _ _ _ (λ file h place asks. packed_asks file c.args.head.now _ _ h c.requires.packed (table_asks file c.in_ok-place.place.start c.in_ok-place.place.end _ _ _ place c.find_table.ensures.reads.asked asks)) c.requires.head c.in_ok-place.ensures.place (known_at _ _ _ _ c.find_table.ensures.reads.only.held c.read_chunks.ensures.asked_of)
@@ -86,67 +59,78 @@ returns-clause-asked_of g c =
 pub returns-clause-reads : goal.returns-clause-reads
 returns-clause-reads g c = only_reads-trans _ _ _ c.find_table.ensures.reads.only c.read_chunks.ensures.reads
 
-pub returns-in_err-place-clause-ends : goal.returns-in_err-place-clause-ends
-returns-in_err-place-clause-ends g c =
-    let old = g.F.Files.seen c.args.files.now in
-    let new = g.F.Files.seen c.find_table.new.files in
-    at_exit c.from_residual.result c.in_err-place.field-0.0 (EndsReading ⊥ old new) c.from_residual.ensures.1 c.in_err-place.ensures.ends
-
-pub returns-in_err-sizes-clause-ends : goal.returns-in_err-sizes-clause-ends
-returns-in_err-sizes-clause-ends g c =
-    let old = g.F.Files.seen c.args.files.now in
-    let mid = g.F.Files.seen c.find_table.new.files in
-    let new = g.F.Files.seen c.read_chunks.new.files in
-    at_exit c.from_residual-in_err-sizes.result c.in_err-sizes.field-0.0 (EndsReading ⊥ old new) c.from_residual-in_err-sizes.ensures.1
-    (ends_after ⊥ old mid new c.in_err-sizes.field-0.0 c.in_ok-place.ensures.calm.reads c.in_err-sizes.ensures.ends)
-
 pub returns-clause-calm : goal.returns-clause-calm
 returns-clause-calm g c = calm-trans _ _ _ c.in_ok-place.ensures.calm c.in_ok-sizes.ensures.calm
 
-pub returns-in_err-place-clause-chunk : goal.returns-in_err-place-clause-chunk
-returns-in_err-place-clause-chunk g c = IfOk-from_err c.from_residual.result _ c.from_residual.ensures.0
+pub returns-clause-ends : goal.returns-clause-ends
+returns-clause-ends g c = tt
 
-pub returns-in_err-place-clause-points : goal.returns-in_err-place-clause-points
-returns-in_err-place-clause-points g c = IfOk-from_err c.from_residual.result _ c.from_residual.ensures.0
+pub returns-clause-refused : goal.returns-clause-refused
+returns-clause-refused g c = λ cause is. ok_no_fault _ _ is
 
-pub returns-in_err-place-clause-some : goal.returns-in_err-place-clause-some
-returns-in_err-place-clause-some g c = IfOk-from_err c.from_residual.result _ c.from_residual.ensures.0
+pub returns-in_err-place : goal.returns-in_err-place
+returns-in_err-place g c =
+    record {
+      chunk = IfOk-from_err c.from_residual.result _ c.from_residual.ensures.0;
+      points = IfOk-from_err c.from_residual.result _ c.from_residual.ensures.0;
+      some = IfOk-from_err c.from_residual.result _ c.from_residual.ensures.0;
+      lists = IfOk-from_err c.from_residual.result _ c.from_residual.ensures.0;
+      near = IfOk-from_err c.from_residual.result _ c.from_residual.ensures.0;
+      stands = IfOk-from_err c.from_residual.result _ c.from_residual.ensures.0;
+      refused = λ cause is.
+          let same = residual_is c.from_residual.result c.in_err-place.field-0.0 cause c.from_residual.ensures.1 is in
+          let refused = c.in_err-place.ensures.refused cause (ap (λ (f : Fault). Err f) same) in
+          known_both _ _ _ _ _ (λ file h bad. subst (λ (x : Refusal). IsRefusal file (Some x)) (sym refused.0)
+          (refused_pointer file c.args.head.now h c.requires.packed c.requires.vlr bad)) c.requires.head refused.1;
+      reads = c.find_table.ensures.reads.only;
+      calm = IfOk-from_err c.from_residual.result _ c.from_residual.ensures.0;
+      ends = let old = g.F.Files.seen c.args.files.now in
+          let new = g.F.Files.seen c.find_table.new.files in
+          at_exit c.from_residual.result c.in_err-place.field-0.0 (EndsReading ⊥ old new) c.from_residual.ensures.1
+          c.in_err-place.ensures.ends;
+      asked = IfOk-from_err c.from_residual.result _ c.from_residual.ensures.0;
+      asked_of =
+          known_then _ _ _ _ (λ file h. packed_asks file c.args.head.now _ _ h c.requires.packed (place_asks _ _ _
+          c.find_table.ensures.reads.asked)) c.requires.head;
+    }
 
-pub returns-in_err-place-clause-lists : goal.returns-in_err-place-clause-lists
-returns-in_err-place-clause-lists g c = IfOk-from_err c.from_residual.result _ c.from_residual.ensures.0
-
-pub returns-in_err-place-clause-near : goal.returns-in_err-place-clause-near
-returns-in_err-place-clause-near g c = IfOk-from_err c.from_residual.result _ c.from_residual.ensures.0
-
-pub returns-in_err-place-clause-stands : goal.returns-in_err-place-clause-stands
-returns-in_err-place-clause-stands g c = IfOk-from_err c.from_residual.result _ c.from_residual.ensures.0
-
-pub returns-in_err-place-clause-calm : goal.returns-in_err-place-clause-calm
-returns-in_err-place-clause-calm g c = IfOk-from_err c.from_residual.result _ c.from_residual.ensures.0
-
-pub returns-in_err-place-clause-asked : goal.returns-in_err-place-clause-asked
-returns-in_err-place-clause-asked g c = IfOk-from_err c.from_residual.result _ c.from_residual.ensures.0
-
-pub returns-in_err-sizes-clause-chunk : goal.returns-in_err-sizes-clause-chunk
-returns-in_err-sizes-clause-chunk g c = IfOk-from_err c.from_residual-in_err-sizes.result _ c.from_residual-in_err-sizes.ensures.0
-
-pub returns-in_err-sizes-clause-points : goal.returns-in_err-sizes-clause-points
-returns-in_err-sizes-clause-points g c = IfOk-from_err c.from_residual-in_err-sizes.result _ c.from_residual-in_err-sizes.ensures.0
-
-pub returns-in_err-sizes-clause-some : goal.returns-in_err-sizes-clause-some
-returns-in_err-sizes-clause-some g c = IfOk-from_err c.from_residual-in_err-sizes.result _ c.from_residual-in_err-sizes.ensures.0
-
-pub returns-in_err-sizes-clause-lists : goal.returns-in_err-sizes-clause-lists
-returns-in_err-sizes-clause-lists g c = IfOk-from_err c.from_residual-in_err-sizes.result _ c.from_residual-in_err-sizes.ensures.0
-
-pub returns-in_err-sizes-clause-near : goal.returns-in_err-sizes-clause-near
-returns-in_err-sizes-clause-near g c = IfOk-from_err c.from_residual-in_err-sizes.result _ c.from_residual-in_err-sizes.ensures.0
-
-pub returns-in_err-sizes-clause-stands : goal.returns-in_err-sizes-clause-stands
-returns-in_err-sizes-clause-stands g c = IfOk-from_err c.from_residual-in_err-sizes.result _ c.from_residual-in_err-sizes.ensures.0
-
-pub returns-in_err-sizes-clause-calm : goal.returns-in_err-sizes-clause-calm
-returns-in_err-sizes-clause-calm g c = IfOk-from_err c.from_residual-in_err-sizes.result _ c.from_residual-in_err-sizes.ensures.0
-
-pub returns-in_err-sizes-clause-asked : goal.returns-in_err-sizes-clause-asked
-returns-in_err-sizes-clause-asked g c = IfOk-from_err c.from_residual-in_err-sizes.result _ c.from_residual-in_err-sizes.ensures.0
+pub returns-in_err-sizes : goal.returns-in_err-sizes
+returns-in_err-sizes g c =
+    record {
+      chunk = IfOk-from_err c.from_residual-in_err-sizes.result _ c.from_residual-in_err-sizes.ensures.0;
+      points = IfOk-from_err c.from_residual-in_err-sizes.result _ c.from_residual-in_err-sizes.ensures.0;
+      some = IfOk-from_err c.from_residual-in_err-sizes.result _ c.from_residual-in_err-sizes.ensures.0;
+      lists = IfOk-from_err c.from_residual-in_err-sizes.result _ c.from_residual-in_err-sizes.ensures.0;
+      near = IfOk-from_err c.from_residual-in_err-sizes.result _ c.from_residual-in_err-sizes.ensures.0;
+      stands = IfOk-from_err c.from_residual-in_err-sizes.result _ c.from_residual-in_err-sizes.ensures.0;
+      refused = λ cause is.
+          let same =
+          residual_is c.from_residual-in_err-sizes.result c.in_err-sizes.field-0.0 cause
+          c.from_residual-in_err-sizes.ensures.1 is in
+          let refused = c.in_err-sizes.ensures.refused cause (ap (λ (f : Fault). Err f) same) in
+          let offset = c.from-offset.result in
+          let start = c.in_ok-place.place.start in
+          let offset_is = c.from-offset.ensures ∙ c.offset.ensures.field in
+          let blocks_are =
+          blocks_as c.args.head.now.bytes c.args.chunk c.points.result c.blocks_of-blocks.result
+          c.blocks_of-blocks.ensures c.requires.chunk c.points.ensures in
+          known_three _ _ _ _ _ _ (λ file h place table. refused_table file c.args.head.now h c.requires.packed
+          c.requires.vlr start c.in_ok-place.place.end (start - (offset + 8)) offset c.blocks_of-blocks.result place
+          blocks_are offset_is refl (Some cause) table) c.requires.head c.in_ok-place.ensures.place
+          (known_at _ _ _ _ c.in_ok-place.ensures.reads.only.held refused);
+      reads = only_reads-trans _ _ _ c.find_table.ensures.reads.only c.read_chunks.ensures.reads;
+      calm = IfOk-from_err c.from_residual-in_err-sizes.result _ c.from_residual-in_err-sizes.ensures.0;
+      ends = let old = g.F.Files.seen c.args.files.now in
+          let mid = g.F.Files.seen c.find_table.new.files in
+          let new = g.F.Files.seen c.read_chunks.new.files in
+          at_exit c.from_residual-in_err-sizes.result c.in_err-sizes.field-0.0 (EndsReading ⊥ old new)
+          c.from_residual-in_err-sizes.ensures.1
+          (ends_after ⊥ old mid new c.in_err-sizes.field-0.0 c.in_ok-place.ensures.calm.reads
+          c.in_err-sizes.ensures.ends);
+      asked = IfOk-from_err c.from_residual-in_err-sizes.result _ c.from_residual-in_err-sizes.ensures.0;
+      asked_of =
+          known_three _ _ _ _ _ _ (λ file h place asks. packed_asks file c.args.head.now _ _ h c.requires.packed
+          (table_asks file c.in_ok-place.place.start c.in_ok-place.place.end _ _ _ place
+          c.find_table.ensures.reads.asked asks)) c.requires.head c.in_ok-place.ensures.place
+          (known_at _ _ _ _ c.find_table.ensures.reads.only.held c.read_chunks.ensures.asked_of);
+    }

@@ -1,3 +1,4 @@
+use Rattle.std.proofs.lemmas.Result.{IfOk-from_err}
 use Rattle.std.proofs.Common.{◌≡◌, ℕ, ◌*◌, min, sym, ◌∙◌, ap, arith}
 use Rattle.std.proofs.lemmas.List.Elements.{All-map, All-weaker}
 use Rattle.las_header.specs.Fields.{format_of}
@@ -31,3 +32,16 @@ invariant_of-result c =
       },
       ap (λ (n : ℕ). n * c.args.chunk) size,
     )
+
+pub returns-in_err-crew : goal.returns-in_err-crew
+returns-in_err-crew c = IfOk-from_err c.from_residual.result _ c.from_residual.ensures.0
+
+pub returns-in_err-spare : goal.returns-in_err-spare
+returns-in_err-spare c = IfOk-from_err c.from_residual-in_err-spare.result _ c.from_residual-in_err-spare.ensures.0
+
+pub returns-in_err-kept : goal.returns-in_err-kept
+returns-in_err-kept c = IfOk-from_err c.from_residual-in_err-kept.result _ c.from_residual-in_err-kept.ensures.0
+
+pub returns-in_err-lengths : goal.returns-in_err-lengths
+returns-in_err-lengths c =
+    IfOk-from_err c.from_residual-in_err-lengths.result _ c.from_residual-in_err-lengths.ensures.0

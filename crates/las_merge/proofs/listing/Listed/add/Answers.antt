@@ -1,3 +1,4 @@
+use Rattle.std.proofs.Common.{◌∙◌}
 use Rattle.std.proofs.lemmas.Result.{IfOk-from_err}
 use Rattle.las_merge.proofs.listing.Listed.add.Goals as goal
 
@@ -36,3 +37,12 @@ returns-in_err-name-clause-added c = IfOk-from_err c.from_residual-in_err-name.r
 
 pub returns-in_err-name-clause-few : goal.returns-in_err-name-clause-few
 returns-in_err-name-clause-few c = IfOk-from_err c.from_residual-in_err-name.result _ c.from_residual-in_err-name.ensures.0
+
+pub returns-in-Ok-push-clause-few : goal.returns-in-Ok-push-clause-few
+returns-in-Ok-push-clause-few c = c.in_ok-add.ensures.few
+
+pub returns-in-Ok-push-clause-added : goal.returns-in-Ok-push-clause-added
+returns-in-Ok-push-clause-added c =
+    let counts = c.deref-2.ensures.value ∙ c.into_chunks-head.ensures.points in
+    let sizes = c.deref-3.ensures.value ∙ c.into_chunks-head.ensures.bytes in
+    rw (← counts, ← sizes) c.in_ok-add.ensures.added

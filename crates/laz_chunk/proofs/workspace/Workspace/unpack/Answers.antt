@@ -1,6 +1,6 @@
 use Rattle.std.proofs.Common.{◌≡◌, ◌++◌, ℕ, ◌*◌, ◌-◌, ◌≤◌, List, length, take, drop, ap, sym, subst, ◌∙◌, refl, false, true, arith, length-append}
 use Rattle.std.proofs.lemmas.List.{length-take-le}
-use Rattle.std.proofs.lemmas.Result.{err_from_is_err_and}
+use Rattle.std.proofs.lemmas.Result.{IfOk-from_err, err_from_is_err_and}
 use Rattle.laz_chunk.specs.Layouts.{Format, Layout, layout, record_length}
 use Rattle.laz_chunk.specs.Stands.{layout_in}
 use Rattle.laz_chunk.proofs.Chunk.{Refused, Started, Took, ending-bad, opening-bad, reading-bad, started, unpacked-holds, unpacked-only}
@@ -114,3 +114,17 @@ returns-clause-bad c records are holds =
     false_true
     (c.if-at_end.ensures.1
     (ending-bad l c.args.count bytes records c.take_records.new.records c.start_record.new.items c.in_ok-decoder.decoder c.take_records.new.decoder (c.in_ok-decoder.ensures.bytes ∙ back_is) c.in_ok-decoder.ensures.read begun took are holds))
+
+pub returns-in_err-decoder-clause-holds : goal.returns-in_err-decoder-clause-holds
+returns-in_err-decoder-clause-holds c = IfOk-from_err c.from_residual.result _ c.from_residual.ensures.0
+
+pub returns-in_err-decoder-clause-only : goal.returns-in_err-decoder-clause-only
+returns-in_err-decoder-clause-only c = IfOk-from_err c.from_residual.result _ c.from_residual.ensures.0
+
+pub returns-in_err-take_records-clause-holds : goal.returns-in_err-take_records-clause-holds
+returns-in_err-take_records-clause-holds c =
+    IfOk-from_err c.from_residual-in_err-take_records.result _ c.from_residual-in_err-take_records.ensures.0
+
+pub returns-in_err-take_records-clause-only : goal.returns-in_err-take_records-clause-only
+returns-in_err-take_records-clause-only c =
+    IfOk-from_err c.from_residual-in_err-take_records.result _ c.from_residual-in_err-take_records.ensures.0

@@ -1,3 +1,4 @@
+use Rattle.laz_reader.proofs.Exits.{at_exit, ok_no_fault, reads-refl}
 use Rattle.std.proofs.Common.{◌≡◌, ◌<◌, ◌≤◌, ◌*◌, ◌+◌, ◌-◌, ◌^◌, ◌∙◌, min, false, refl, sym, ap, subst, ℕ, List, [], length, take, drop, get_or, Option, Err, arith}
 use Rattle.std.proofs.lemmas.Result.{IfOk-from_err}
 use mir.Syntax.{w32}
@@ -16,6 +17,7 @@ use Rattle.laz_forms.specs.Packing.{format_in, record_layout}
 use Rattle.laz_forms.specs.Pieces.{Piece}
 use Rattle.laz_reader.specs.Keeping.{cuts_from}
 use Rattle.laz_reader.specs.Reading.{AreCutFrom, AreWholeBlocks, HaveRoom, Position, ReaderSeen, StandsFor, pieces_left}
+use Rattle.laz_reader.specs.Reading.{EndsReading}
 use Rattle.laz_forms.specs.Records.{HoldOnly, IsBadPiece}
 use Rattle.laz_reader.proofs.Asking.{asked_all, asked_batch}
 use Rattle.laz_forms.proofs.Public.{known_as, known_both, known_then}
@@ -186,19 +188,6 @@ next_chunks-requires-clause-crew g c κs within =
           (sym (ap (λ (s : ReaderSeen). s.pieces) c.self.view_is)) c.requires.crew.rooms);
     }
 
-pub returns-then-self-clause-bad : goal.returns-then-self-clause-bad
-returns-then-self-clause-bad g c = λ cause is.
-    let r = c.self.inside in
-    let now = c.args.self.now in
-    let v = c.self.view_is in
-    let some = subst (λ (o : Option ℕ). IsSome o) (sym (ap (λ (s : ReaderSeen). s.chunk) v)) c.requires.packed in
-    let left = bad_left r.chunk _ _ _ _ some c.self.invariant.0.same c.self.invariant.1 c.if-self.true in (
-      sym (same_cause (BadChunk (r.next + r.blocks)) cause is) ∙ ap (λ (s : ReaderSeen). BadChunk s.next) v,
-      omega (arith, left, ap (λ (s : ReaderSeen). length s.left) v),
-      known_then (g.F.Files.seen c.args.files.now).held now.name (StandsFor now) (λ file. IsBadPiece file now.left 0)
-          (λ file s. s.bad (sym (ap (λ (x : ReaderSeen). x.bad) v) ∙ c.if-self.true)) c.requires.stands,
-    )
-
 pub total-requires : goal.total-requires
 total-requires g c = grind (arith, common_steps)
 
@@ -210,17 +199,6 @@ returns-clause-bad_next g c = λ is.
     let k = (goal.at.returns-clause-bad_next g c).After-min-most in
     let few : c.in_ok-good.good < c.min-most.result = ltb-true c.in_ok-good.good c.min-most.result is in
     fewer _ _ _ _ _ few (most_is g k) (batch_length (lists g k))
-
-pub returns-in_err-good-clause-bad : goal.returns-in_err-good-clause-bad
-returns-in_err-good-clause-bad g c = λ cause is.
-    let k = (goal.at.returns-in_err-good-clause-bad g c).After-min-most in
-    let same = residual_is c.from_residual.result c.in_err-good.field-0.0 cause c.from_residual.ensures.1 is in
-    let b = c.in_err-good.ensures.bad cause (ap (λ (x : Fault). Err x) same) in (
-      b.0 ∙ ap (λ (s : ReaderSeen). BadChunk s.next) c.self.view_is,
-      below 0 _ _ b.1 (sym (batch_length (lists g k))),
-      known_both _ _ _ _ _ (λ file s none. batch_bad (lists g k) file s 0 b.1 none) c.requires.stands
-          (known_as _ _ _ _ (name g k) b.2),
-    )
 
 pub invariant_of-self-2 : goal.invariant_of-self-2
 invariant_of-self-2 g c =
@@ -319,18 +297,6 @@ returns-clause-crew g c =
     crew_later now _ c.in_ok-good.good _ _ now.lent c.args.crew.now c.next_chunks.new.crew (returns-clause-moved g c)
     c.requires.crew e.hands (λ j d lt. e.spaces j d lt ∙ format g k) e.rooms
 
-pub returns-in_err-good-clause-reads : goal.returns-in_err-good-clause-reads
-returns-in_err-good-clause-reads g c =
-    let k = (goal.at.returns-in_err-good-clause-reads g c).After-min-most in
-    let most = min (2 * length c.args.crew.now) (length (counts g k)) in
-    let old = (g.F.Files.seen c.args.files.now).asked in
-    let later = (g.F.Files.seen c.next_chunks.new.files).asked in
-    let reads = c.next_chunks.ensures.reads in
-    record {
-      only = reads.only;
-      asked = asked_all (now g k) _ _ _ _ _ 0 most (lists g k).same (lists g k).left (fine g k) old later reads.asked;
-    }
-
 pub returns-clause-asked : goal.returns-clause-asked
 returns-clause-asked g c =
     let k = (goal.at.returns-clause-asked g c).After-min-most in
@@ -380,32 +346,75 @@ returns-clause-calm g c = c.in_ok-good.ensures.calm
 pub returns-clause-hands : goal.returns-clause-hands
 returns-clause-hands g c = c.in_ok-good.ensures.hands
 
-pub returns-in_err-good-clause-hands : goal.returns-in_err-good-clause-hands
-returns-in_err-good-clause-hands g c = c.in_err-good.ensures.hands
+pub returns-clause-ends : goal.returns-clause-ends
+returns-clause-ends g c = tt
 
-pub returns-in_err-good-clause-asked : goal.returns-in_err-good-clause-asked
-returns-in_err-good-clause-asked g c = IfOk-from_err c.from_residual.result _ c.from_residual.ensures.0
+pub returns-clause-bad : goal.returns-clause-bad
+returns-clause-bad g c = λ cause is. ok_no_fault _ _ is
 
-pub returns-in_err-good-clause-crew : goal.returns-in_err-good-clause-crew
-returns-in_err-good-clause-crew g c = IfOk-from_err c.from_residual.result _ c.from_residual.ensures.0
+pub returns-then-self : goal.returns-then-self
+returns-then-self g c =
+    record {
+      blocks = tt;
+      end = tt;
+      most = tt;
+      cut = tt;
+      bad_next = tt;
+      moved = tt;
+      crew = tt;
+      hands = refl;
+      bad = λ cause is.
+          let r = c.self.inside in
+          let now = c.args.self.now in
+          let v = c.self.view_is in
+          let some = subst (λ (o : Option ℕ). IsSome o) (sym (ap (λ (s : ReaderSeen). s.chunk) v)) c.requires.packed in
+          let left = bad_left r.chunk _ _ _ _ some c.self.invariant.0.same c.self.invariant.1 c.if-self.true in (
+            sym (same_cause (BadChunk (r.next + r.blocks)) cause is) ∙ ap (λ (s : ReaderSeen). BadChunk s.next) v,
+            omega (arith, left, ap (λ (s : ReaderSeen). length s.left) v),
+            known_then (g.F.Files.seen c.args.files.now).held now.name (StandsFor now)
+                (λ file. IsBadPiece file now.left 0)
+                (λ file s. s.bad (sym (ap (λ (x : ReaderSeen). x.bad) v) ∙ c.if-self.true)) c.requires.stands,
+          );
+      reads = reads-refl _ (g.F.Files.seen c.args.files.now);
+      calm = tt;
+      ends = refl;
+      asked = tt;
+    }
 
-pub returns-in_err-good-clause-moved : goal.returns-in_err-good-clause-moved
-returns-in_err-good-clause-moved g c = IfOk-from_err c.from_residual.result _ c.from_residual.ensures.0
-
-pub returns-in_err-good-clause-blocks : goal.returns-in_err-good-clause-blocks
-returns-in_err-good-clause-blocks g c = IfOk-from_err c.from_residual.result _ c.from_residual.ensures.0
-
-pub returns-in_err-good-clause-bad_next : goal.returns-in_err-good-clause-bad_next
-returns-in_err-good-clause-bad_next g c = IfOk-from_err c.from_residual.result _ c.from_residual.ensures.0
-
-pub returns-in_err-good-clause-end : goal.returns-in_err-good-clause-end
-returns-in_err-good-clause-end g c = IfOk-from_err c.from_residual.result _ c.from_residual.ensures.0
-
-pub returns-in_err-good-clause-most : goal.returns-in_err-good-clause-most
-returns-in_err-good-clause-most g c = IfOk-from_err c.from_residual.result _ c.from_residual.ensures.0
-
-pub returns-in_err-good-clause-cut : goal.returns-in_err-good-clause-cut
-returns-in_err-good-clause-cut g c = IfOk-from_err c.from_residual.result _ c.from_residual.ensures.0
-
-pub returns-in_err-good-clause-calm : goal.returns-in_err-good-clause-calm
-returns-in_err-good-clause-calm g c = IfOk-from_err c.from_residual.result _ c.from_residual.ensures.0
+pub returns-in_err-good : goal.returns-in_err-good
+returns-in_err-good g c =
+    record {
+      blocks = IfOk-from_err c.from_residual.result _ c.from_residual.ensures.0;
+      end = IfOk-from_err c.from_residual.result _ c.from_residual.ensures.0;
+      most = IfOk-from_err c.from_residual.result _ c.from_residual.ensures.0;
+      cut = IfOk-from_err c.from_residual.result _ c.from_residual.ensures.0;
+      bad_next = IfOk-from_err c.from_residual.result _ c.from_residual.ensures.0;
+      moved = IfOk-from_err c.from_residual.result _ c.from_residual.ensures.0;
+      crew = IfOk-from_err c.from_residual.result _ c.from_residual.ensures.0;
+      hands = c.in_err-good.ensures.hands;
+      bad = λ cause is.
+          let k = (goal.at.returns-in_err-good g c).After-min-most in
+          let same = residual_is c.from_residual.result c.in_err-good.field-0.0 cause c.from_residual.ensures.1 is in
+          let b = c.in_err-good.ensures.bad cause (ap (λ (x : Fault). Err x) same) in (
+            b.0 ∙ ap (λ (s : ReaderSeen). BadChunk s.next) c.self.view_is,
+            below 0 _ _ b.1 (sym (batch_length (lists g k))),
+            known_both _ _ _ _ _ (λ file s none. batch_bad (lists g k) file s 0 b.1 none) c.requires.stands
+                (known_as _ _ _ _ (name g k) b.2),
+          );
+      reads = let k = (goal.at.returns-in_err-good g c).After-min-most in
+          let most = min (2 * length c.args.crew.now) (length (counts g k)) in
+          let old = (g.F.Files.seen c.args.files.now).asked in
+          let later = (g.F.Files.seen c.next_chunks.new.files).asked in
+          let reads = c.next_chunks.ensures.reads in
+          record {
+            only = reads.only;
+            asked =
+                asked_all (now g k) _ _ _ _ _ 0 most (lists g k).same (lists g k).left (fine g k) old later reads.asked;
+          };
+      calm = IfOk-from_err c.from_residual.result _ c.from_residual.ensures.0;
+      ends = let old = g.F.Files.seen c.args.files.now in
+          let new = g.F.Files.seen c.next_chunks.new.files in
+          at_exit c.from_residual.result c.in_err-good.field-0.0 (EndsReading ⊥ old new) c.from_residual.ensures.1
+          c.in_err-good.ensures.ends;
+      asked = IfOk-from_err c.from_residual.result _ c.from_residual.ensures.0;
+    }

@@ -1,6 +1,9 @@
+use Rattle.las_outside.proofs.Public.{calm-refl}
+use Rattle.laz_reader.proofs.Exits.{at_exit, reads-refl}
+use Rattle.std.proofs.lemmas.Result.{IfOk-from_err}
 use Rattle.std.proofs.Common.{◌≡◌, ◌*◌, ◌+◌, ◌-◌, ◌∙◌, refl, sym, ap, subst, false, ℕ, List, [], ◌∷◌, None, take, drop, arith}
 use Rattle.las_header.specs.Fields.{record_length_of}
-use Rattle.laz_reader.specs.Reading.{AreWholeBlocks, Position, ReaderSeen, pieces_left}
+use Rattle.laz_reader.specs.Reading.{AreWholeBlocks, Position, ReaderSeen, pieces_left, FailsReading}
 use Rattle.laz_reader.proofs.Asking.{asked_block, asked_part}
 use Rattle.laz_forms.proofs.Public.{known_as, known_both, known_then}
 use Rattle.laz_reader.proofs.Batches.{block_held, first_size, parts, plain_fine, block_is, block_lies, block_rest, block_whole, IsNextBlock, one_lent, plain_left, stands_plain}
@@ -124,3 +127,39 @@ returns-clause-reads g c = record {
   only = c.read_part.ensures.reads.only;
   asked = omega (arith, returns-clause-asked g c);
 }
+
+pub returns-then-self-eq0-clause-ends : goal.returns-then-self-eq0-clause-ends
+returns-then-self-eq0-clause-ends g c = tt
+
+pub returns-in_err-read_part-clause-blocks : goal.returns-in_err-read_part-clause-blocks
+returns-in_err-read_part-clause-blocks g c = IfOk-from_err c.from_residual.result _ c.from_residual.ensures.0
+
+pub returns-in_err-read_part-clause-whole : goal.returns-in_err-read_part-clause-whole
+returns-in_err-read_part-clause-whole g c = IfOk-from_err c.from_residual.result _ c.from_residual.ensures.0
+
+pub returns-in_err-read_part-clause-moved : goal.returns-in_err-read_part-clause-moved
+returns-in_err-read_part-clause-moved g c = IfOk-from_err c.from_residual.result _ c.from_residual.ensures.0
+
+pub returns-in_err-read_part-clause-calm : goal.returns-in_err-read_part-clause-calm
+returns-in_err-read_part-clause-calm g c = IfOk-from_err c.from_residual.result _ c.from_residual.ensures.0
+
+pub returns-in_err-read_part-clause-asked : goal.returns-in_err-read_part-clause-asked
+returns-in_err-read_part-clause-asked g c = IfOk-from_err c.from_residual.result _ c.from_residual.ensures.0
+
+pub returns-clause-ends : goal.returns-clause-ends
+returns-clause-ends g c = tt
+
+pub returns-in_err-read_part-clause-ends : goal.returns-in_err-read_part-clause-ends
+returns-in_err-read_part-clause-ends g c =
+    at_exit c.from_residual.result c.in_err-read_part.field-0.0
+    (FailsReading (g.F.Files.seen c.args.files.now) (g.F.Files.seen c.read_part.new.files))
+    c.from_residual.ensures.1 c.in_err-read_part.ensures.ends
+
+pub returns-then-self-eq0-clause-reads : goal.returns-then-self-eq0-clause-reads
+returns-then-self-eq0-clause-reads g c = reads-refl _ (g.F.Files.seen c.args.files.now)
+
+pub returns-then-self-eq0-clause-calm : goal.returns-then-self-eq0-clause-calm
+returns-then-self-eq0-clause-calm g c = calm-refl (g.F.Files.seen c.args.files.now)
+
+pub returns-clause-calm : goal.returns-clause-calm
+returns-clause-calm g c = c.in_ok-read_part.ensures.calm

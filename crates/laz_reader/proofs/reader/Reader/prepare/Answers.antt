@@ -1,3 +1,4 @@
+use Rattle.std.proofs.lemmas.Result.{IfOk-from_err}
 use Rattle.std.proofs.Common.{◌≡◌, ◌≤◌, ◌*◌, ◌∙◌, ap, subst, ℕ, ◌+◌, List, length, arith}
 use Rattle.std.specs.Prelude.{All}
 use Rattle.laz_chunk.specs.Layouts.{Format, layout, record_length}
@@ -24,3 +25,36 @@ returns-clause-crew c =
       spaces = λ k d lt. c.in_ok-crew.ensures.spaces k d lt ∙ format;
       rooms = have_room long (length head + 8) most (c.record_length.result * most) counts r.bytes.items (lengths_of (rooms_of crew)) within (ap (λ (n : ℕ). n * most) size) c.in_ok-crew.ensures.rooms;
     }
+
+pub returns-in_err-crew-clause-crew : goal.returns-in_err-crew-clause-crew
+returns-in_err-crew-clause-crew c =
+    IfOk-from_err c.from_residual-in_err-crew.result _ c.from_residual-in_err-crew.ensures.0
+
+pub returns-in_err-crew-clause-hands : goal.returns-in_err-crew-clause-hands
+returns-in_err-crew-clause-hands c =
+    IfOk-from_err c.from_residual-in_err-crew.result _ c.from_residual-in_err-crew.ensures.0
+
+pub returns-in_err-crew-clause-kept : goal.returns-in_err-crew-clause-kept
+returns-in_err-crew-clause-kept c =
+    IfOk-from_err c.from_residual-in_err-crew.result _ c.from_residual-in_err-crew.ensures.0
+
+pub returns-in_err-self-inside-clause-crew : goal.returns-in_err-self-inside-clause-crew
+returns-in_err-self-inside-clause-crew c = IfOk-from_err c.from_residual.result _ c.from_residual.ensures.0
+
+pub returns-in_err-self-inside-clause-hands : goal.returns-in_err-self-inside-clause-hands
+returns-in_err-self-inside-clause-hands c = IfOk-from_err c.from_residual.result _ c.from_residual.ensures.0
+
+pub returns-in_err-self-inside-clause-kept : goal.returns-in_err-self-inside-clause-kept
+returns-in_err-self-inside-clause-kept c = IfOk-from_err c.from_residual.result _ c.from_residual.ensures.0
+
+pub returns-in_err-reserve-clause-crew : goal.returns-in_err-reserve-clause-crew
+returns-in_err-reserve-clause-crew c =
+    IfOk-from_err c.from_residual-in_err-reserve.result _ c.from_residual-in_err-reserve.ensures.0
+
+pub returns-in_err-reserve-clause-hands : goal.returns-in_err-reserve-clause-hands
+returns-in_err-reserve-clause-hands c =
+    IfOk-from_err c.from_residual-in_err-reserve.result _ c.from_residual-in_err-reserve.ensures.0
+
+pub returns-in_err-reserve-clause-kept : goal.returns-in_err-reserve-clause-kept
+returns-in_err-reserve-clause-kept c =
+    IfOk-from_err c.from_residual-in_err-reserve.result _ c.from_residual-in_err-reserve.ensures.0

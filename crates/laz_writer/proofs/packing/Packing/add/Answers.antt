@@ -1,3 +1,4 @@
+use Rattle.std.proofs.lemmas.Result.{IfOk-from_err}
 use Rattle.std.proofs.Common.{◌+◌, ◌-◌, ℕ, List, ◌++◌, length, take, drop, ◌∙◌, ap, subst, arith}
 use Rattle.std.proofs.lemmas.List.{length-drop, length-take, take_all}
 use Rattle.las_outside.specs.Outside.{with_bytes}
@@ -67,3 +68,22 @@ returns-clause-stands g c before front bytes s room =
     subst
     (λ (l : List ℕ). PackedStands before (g.F.Files.seen c.loop-at.files) c.args.name.now front c.loop-at.self (bytes ++ l))
     (take_all c.loop-at.at records c.loop-at-test.false) (c.loop-at.invariant.stands before front bytes s room)
+
+pub returns-in_err-at-clause-stands : goal.returns-in_err-at-clause-stands
+returns-in_err-at-clause-stands g c =
+    λ before text records stands room. IfOk-from_err c.from_residual.result _ c.from_residual.ensures.0
+
+pub returns-in_err-at-clause-few : goal.returns-in_err-at-clause-few
+returns-in_err-at-clause-few g c = IfOk-from_err c.from_residual.result _ c.from_residual.ensures.0
+
+pub returns-in_err-append_batch-clause-stands : goal.returns-in_err-append_batch-clause-stands
+returns-in_err-append_batch-clause-stands g c =
+    λ before text records stands room. IfOk-from_err c.from_residual-in_err-append_batch.result _
+    c.from_residual-in_err-append_batch.ensures.0
+
+pub returns-in_err-append_batch-clause-few : goal.returns-in_err-append_batch-clause-few
+returns-in_err-append_batch-clause-few g c =
+    IfOk-from_err c.from_residual-in_err-append_batch.result _ c.from_residual-in_err-append_batch.ensures.0
+
+pub returns-clause-stopped : goal.returns-clause-stopped
+returns-clause-stopped g c = λ before text records stands room. tt

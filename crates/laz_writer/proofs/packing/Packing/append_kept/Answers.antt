@@ -1,4 +1,6 @@
-use Rattle.std.proofs.Common.{◌≡◌, ◌<◌, ◌≤◌, ◌*◌, ◌^◌, ℕ, List, ◌++◌, length, map, take, sym, ◌∙◌, ap, subst}
+use Rattle.las_outside.proofs.Public.{only_writes-refl}
+use Rattle.std.proofs.lemmas.Result.{IfOk-from_err}
+use Rattle.std.proofs.Common.{rules, ◌≡◌, ◌<◌, ◌≤◌, ◌*◌, ◌^◌, ℕ, List, ◌++◌, length, map, take, sym, ◌∙◌, ap, subst}
 use Rattle.std.specs.Prelude.{All, Contains, Vec}
 use Rattle.std.proofs.lemmas.List.{length-map}
 use Rattle.las_outside.specs.Outside.{Outside, with_bytes}
@@ -45,14 +47,6 @@ invariant_of-self-in_err-put_chunks g c =
     let p = c.self.inside in
     (goes_on p.job p.chunk p.most p.pointer p.crew c.work_batch.new.crew c.self.invariant.0 c.work_batch.ensures.hands c.work_batch.ensures.lengths c.work_batch.ensures.suits, c.self.invariant.1)
 
-pub returns-in_err-put_chunks-clause-stopped : goal.returns-in_err-put_chunks-clause-stopped
-returns-in_err-put_chunks-clause-stopped g c before text was =
-    let left = c.in_err-put_chunks.ensures.stopped before text was in
-    let kept = ap (λ (v : List (Vec ℕ _)). texts v) c.as_slice-2.ensures.value in
-    let made = ap (λ (bs : List (List ℕ)). with_bytes before c.args.name.now (text ++ take left.0 (all_chunks c.self.inside.job bs))) kept
-    ∙ ap (λ (q : PackingSeen). with_bytes before c.args.name.now (text ++ take left.0 (all_chunks q.plan.format q.kept))) c.self.view_is in
-    if_err _ c.from_residual-in_err-put_chunks.result _ c.from_residual-in_err-put_chunks.ensures.1 (left.0, subst (λ (o : Outside). Stops c.in_err-put_chunks.field-0.0 o (g.F.Files.seen c.put_chunks.new.files)) made left.1)
-
 pub invariant_of-self-2 : goal.invariant_of-self-2
 invariant_of-self-2 g c =
     let p = c.self.inside in
@@ -72,3 +66,42 @@ put_chunks-requires-clause-stand g c =
     subst
     (λ (v : List (Vec ℕ _)). (number : ℕ) → number < length v → Contains (numbers_in (rooms_of c.work_batch.new.crew)) number)
     (c.as_slice.ensures.value ∙ sym c.as_slice-2.ensures.value) c.in_ok-work_batch.ensures.stand
+
+pub returns-clause-stopped : goal.returns-clause-stopped
+returns-clause-stopped g c = λ before text is. tt
+
+pub returns-clause-writes : goal.returns-clause-writes
+returns-clause-writes g c = c.put_chunks.ensures.writes
+
+pub returns-in_err-work_batch : goal.returns-in_err-work_batch
+returns-in_err-work_batch g c =
+    record {
+      added = λ before text is. IfOk-from_err c.from_residual.result _ c.from_residual.ensures.0;
+      stopped = search rules;
+      packing = IfOk-from_err c.from_residual.result _ c.from_residual.ensures.0;
+      plan = search rules;
+      writes = only_writes-refl (g.F.Files.seen c.args.files.now);
+    }
+
+pub returns-in_err-put_chunks : goal.returns-in_err-put_chunks
+returns-in_err-put_chunks g c =
+    record {
+      added =
+          λ before text is. IfOk-from_err c.from_residual-in_err-put_chunks.result _
+          c.from_residual-in_err-put_chunks.ensures.0;
+      stopped = λ before text was. let left = c.in_err-put_chunks.ensures.stopped before text was in
+          let kept = ap (λ (v : List (Vec ℕ _)). texts v) c.as_slice-2.ensures.value in
+          let made =
+          ap (λ (bs : List (List ℕ)). with_bytes before c.args.name.now (text ++ take left.0 (all_chunks
+          c.self.inside.job bs))) kept
+          ∙ ap (λ (q : PackingSeen). with_bytes before c.args.name.now (text ++ take left.0 (all_chunks q.plan.format
+          q.kept))) c.self.view_is in
+          if_err _ c.from_residual-in_err-put_chunks.result _ c.from_residual-in_err-put_chunks.ensures.1 (
+            left.0,
+            subst (λ (o : Outside). Stops c.in_err-put_chunks.field-0.0 o (g.F.Files.seen c.put_chunks.new.files))
+                made left.1,
+          );
+      packing = IfOk-from_err c.from_residual-in_err-put_chunks.result _ c.from_residual-in_err-put_chunks.ensures.0;
+      plan = search rules;
+      writes = c.put_chunks.ensures.writes;
+    }
