@@ -202,7 +202,7 @@ def guarantees(cases):
     named = set()
     for section in sections:
         found = re.match(r"`(\w+)`", section)
-        named |= set(re.findall(r"`((?:la[sz]|bench|fuzz|tests)\w*)`", section))
+        named |= set(re.findall(r"`((?:la[sz]|tests)\w*)`", section))
         if not found:
             continue
         problems, count = [], 0
@@ -214,6 +214,18 @@ def guarantees(cases):
         cases.note(f"guarantees of {found.group(1)}: {count} clauses", "; ".join(problems))
     missing = [crate for crate in listed_crates() if crate not in named]
     cases.note("guarantees of every crate", f"none of {missing}" if missing else None)
+
+
+def edits(cases):
+    """docs/gate.md names each must-fail edit, beside its crate, and no other."""
+    section = text_of("docs/gate.md").partition("## Which edits turn which promise\n")[2].partition("\n## ")[0]
+    named = set()
+    for group, crate in re.findall(r"((?:`\w+`(?:, | and )?)+) \(`(\w+)`\)", section):
+        named |= {f"{crate}/{edit}" for edit in SPAN.findall(group)}
+    folders = {crate: os.path.join(TOP, "crates", crate, "must-fail") for crate in listed_crates()}
+    there = {f"{crate}/{name[:-len('.edit')]}" for crate, folder in folders.items() if os.path.isdir(folder)
+             for name in os.listdir(folder) if name.endswith(".edit")}
+    cases.note(f"docs/gate.md: {len(there)} edits", "; ".join(sorted(named ^ there)))
 
 
 def summary(cases):
@@ -286,3 +298,4 @@ def documents(cases, folder):
     quotations(cases)
     summary(cases)
     guarantees(cases)
+    edits(cases)
