@@ -45,14 +45,16 @@ use las_outside::{Gate, MemFiles, MemSink, OpenGate};
 use las_run::run;
 use laz_table::table_of;
 use std::alloc::{AllocError, Global};
+use std::process::Abort;
 use std::thread::Threads;
 
-/// Files and streams in memory, and the bytes that are worked on.
+/// Files and streams in memory, the bytes that are worked on, and how many runs were compared with what they answer.
 pub struct World {
     pub files: MemFiles,
     pub out: MemSink,
     pub err: MemSink,
     pub work: Vec<u8>,
+    runs: usize,
 }
 
 // Written out, so that letting a world go is one call in each function that owns one.
@@ -63,6 +65,7 @@ impl Drop for World {
             out,
             err,
             work,
+            runs: _,
         } = self;
         drop(files);
         drop(out);
@@ -71,19 +74,12 @@ impl Drop for World {
     }
 }
 
-// Appends the words of a text.
-fn say(said: &mut Vec<String>, alloc: Global, text: &str) -> Result<(), AllocError> {
-    for word in text.split_whitespace() {
-        said.push(String::from_str(alloc, word)?)?;
-    }
-    Ok(())
-}
-
 // The words of a command line, with others in the place of `@`.
 fn words_of(alloc: Global, line: &str, words: &str) -> Result<Vec<String>, AllocError> {
+    let text = line.replace(alloc, "@", words)?;
     let mut said = Vec::new(alloc);
-    for word in line.split_whitespace() {
-        say(&mut said, alloc, if word == "@" { words } else { word })?;
+    for word in text.split_whitespace() {
+        said.push(String::from_str(alloc, word)?)?;
     }
     Ok(said)
 }
@@ -97,8 +93,8 @@ static STATUSES: [(&str, u8); 6] = [
     ("too many points", 6),
 ];
 
-// The status that goes with a line.
-fn status_of(line: &str) -> u8 {
+/// The status that goes with a line.
+pub fn status_of(line: &str) -> u8 {
     for (start, status) in &STATUSES {
         if line.starts_with(*start) {
             return *status;
@@ -123,6 +119,7 @@ impl World {
             out,
             err,
             work,
+            runs: 0,
         })
     }
 
@@ -160,6 +157,7 @@ impl World {
         words: &str,
         with: &str,
     ) -> Result<bool, AllocError> {
+        self.runs = self.runs.saturating_add(1);
         let (put, said) = (self.out.bytes().len(), self.err.bytes().len());
         let status = self.obey(rt, words, with, &OpenGate)?;
         Ok(
@@ -177,8 +175,8 @@ impl World {
                 self.files.get(name).is_some() && self.files.get(name) == self.files.get(other)
             }
             "absent" => self.files.get(name).is_none(),
-            "size" => self.bytes(name).len() == number(other),
-            "above" => self.bytes(name).len() > number(other),
+            "size" => self.bytes(name).len() == number(other) as usize,
+            "above" => self.bytes(name).len() > number(other) as usize,
             "has" => has_hex(self.bytes(name), other),
             _ => false,
         }
@@ -198,8 +196,10 @@ impl World {
             "put" => self.files.put_file(first, &self.work),
             "take" => self.take(first),
             "room" => self.give_room(rest),
-            "failwrite" => self.files.fail_write(number(first) as u64, number(second)),
-            "failput" => self.out.fail_put(number(first) as u64),
+            "failwrite" => self
+                .files
+                .fail_write(u64::from(number(first)), number(second) as usize),
+            "failput" => self.out.fail_put(u64::from(number(first))),
             _ => return Ok(false),
         };
         is_done?;
@@ -247,28 +247,19 @@ impl World {
         }
     }
 
-    /// Whether each line of a text is done as it says.
-    pub fn does<R: Threads + Sync + AllocGlobal>(
+    /// Does what each line of a text says. The first that is not done so ends the test.
+    pub fn play<R: Threads + Sync + AllocGlobal + Abort>(
         &mut self,
         rt: &R,
-        text: &'static str,
-    ) -> Result<bool, AllocError> {
-        Ok(self.first_wrong(rt, text, "")?.is_none())
-    }
-
-    // The first line of a text that is not done as it says, or none.
-    fn first_wrong<R: Threads + Sync + AllocGlobal>(
-        &mut self,
-        rt: &R,
-        text: &'static str,
+        case: &str,
+        text: &str,
         with: &str,
-    ) -> Result<Option<&'static str>, AllocError> {
+    ) -> Result<(), AllocError> {
         for line in text.lines() {
-            if !self.play_line(rt, line, with)? {
-                return Ok(Some(line));
-            }
+            let is_done = self.play_line(rt, line, with)?;
+            holds(is_done, case, line, rt);
         }
-        Ok(None)
+        Ok(())
     }
 }
 
@@ -298,18 +289,18 @@ fn run_with_tap<R: Threads + Sync, G: Gate>(
     Ok(run(rt, alloc, words, files, out, err, gate, taps))
 }
 
-// The first word of a text, and what follows the blank after it.
-fn pair(text: &str) -> (&str, &str) {
+/// The first word of a text, and what follows the blank after it.
+pub fn pair(text: &str) -> (&str, &str) {
     text.split_once(" ").unwrap_or((text, ""))
 }
 
-// A number in decimal digits, or 0.
-fn number(text: &str) -> usize {
-    u32::from_str_radix(text, 10).unwrap_or(0) as usize
+/// A number in decimal digits, or 0.
+pub fn number(text: &str) -> u32 {
+    u32::from_str_radix(text, 10).unwrap_or(0)
 }
 
-// Whether bytes are a text with a `/` for each end of a line.
-fn is_text(bytes: &[u8], text: &str) -> bool {
+/// Whether bytes are a text with a `/` for each end of a line.
+pub fn is_text(bytes: &[u8], text: &str) -> bool {
     for (i, wanted) in text.as_bytes().iter().enumerate() {
         let wanted = if *wanted == b'/' { b'\n' } else { *wanted };
         if bytes.get(i) != Some(&wanted) {
@@ -322,7 +313,7 @@ fn is_text(bytes: &[u8], text: &str) -> bool {
 // Whether bytes are those of a text, a place and then digits, from that place on.
 fn has_hex(bytes: &[u8], text: &str) -> bool {
     let (at, digits) = pair(text);
-    let mut at = number(at);
+    let mut at = number(at) as usize;
     for word in digits.split_whitespace() {
         if bytes.get(at) != Some(&byte_of(word)) {
             return false;
@@ -355,11 +346,6 @@ fn signed(text: &str) -> i32 {
     i32::from_str_radix(text, 10).unwrap_or(0)
 }
 
-// A number of 32 bits.
-fn count_of(text: &str) -> u32 {
-    u32::from_str_radix(text, 10).unwrap_or(0)
-}
-
 // Changes bytes as a line says. The answer is false if the line is another one.
 fn change(
     alloc: Global,
@@ -369,8 +355,8 @@ fn change(
 ) -> Result<bool, AllocError> {
     let (first, second) = pair(rest);
     match command {
-        "set" => put_hex(file, number(first), second),
-        "cut" => file.truncate(number(first)),
+        "set" => put_hex(file, number(first) as usize, second),
+        "cut" => file.truncate(number(first) as usize),
         _ => return add(alloc, file, command, rest),
     }
     Ok(true)
@@ -381,8 +367,8 @@ fn add(alloc: Global, file: &mut Vec<u8>, command: &str, rest: &str) -> Result<b
     let is_done = match command {
         "add" => add_hex(file, rest),
         "point" => add_place(file, rest),
-        "zeros" => file.resize(file.len().saturating_add(number(rest)), 0),
-        "emptytable" => add_empty_table(file, alloc, number(rest)),
+        "zeros" => file.resize(file.len().saturating_add(number(rest) as usize), 0),
+        "emptytable" => add_empty_table(file, alloc, number(rest) as usize),
         _ => return add_shaped(file, command, rest),
     };
     is_done?;
@@ -401,8 +387,8 @@ fn add_shaped(file: &mut Vec<u8>, command: &str, rest: &str) -> Result<bool, All
     let (shape, rest) = shape_of(rest);
     let (first, second) = pair(rest);
     let is_done = match command {
-        "head" => begin(file, shape, count_of(first)),
-        "records" => add_records(file, shape, count_of(first), count_of(second)),
+        "head" => begin(file, shape, number(first)),
+        "records" => add_records(file, shape, number(first), number(second)),
         _ => return Ok(false),
     };
     is_done?;
@@ -415,11 +401,16 @@ fn begin(file: &mut Vec<u8>, shape: Shape, points: u32) -> Result<(), AllocError
     add_head(file, shape, points)
 }
 
-// What `@` stands for in a case: the words of its line of `with`.
-fn with_of(case: &str) -> &str {
-    for line in case.lines() {
-        if let Some(words) = line.strip_prefix("with ") {
-            return words;
+/// Ends the test unless this line of a case holds.
+pub fn holds(is_so: bool, case: &str, line: &str, rt: &impl Abort) {
+    assert!(rt; is_so, "{case}: {line}");
+}
+
+/// What the first line of a text that begins with a word says after it, or nothing.
+pub fn field<'a>(text: &'a str, word: &str) -> &'a str {
+    for line in text.lines() {
+        if let Some(rest) = line.strip_prefix(word) {
+            return rest;
         }
     }
     ""
@@ -432,91 +423,37 @@ pub struct Script {
     pub after: &'static str,
 }
 
-// The name of a case, and its first line that is not done as it says; or its name alone if it has no run.
-type Wrong = Option<(&'static str, &'static str)>;
-
-// Whether a command is a run.
-fn is_run(command: &str) -> bool {
-    match command {
-        "done" | "ends" | "tells" => true,
-        _ => false,
-    }
-}
-
-// Whether a line of a text is a run.
-fn has_run(text: &str) -> bool {
-    let mut is_there = false;
-    for line in text.lines() {
-        is_there = is_there || is_run(pair(line).0);
-    }
-    is_there
-}
-
-// The first line of a script and one case that is not done as it says, or none.
-fn wrong_line<R: Threads + Sync + AllocGlobal>(
-    rt: &R,
-    world: &mut World,
-    script: &Script,
-    lines: &'static str,
-) -> Result<Option<&'static str>, AllocError> {
-    let with = with_of(lines);
-    let before = world.first_wrong(rt, script.before, with)?;
-    if before.is_some() {
-        return Ok(before);
-    }
-    let wrong = world.first_wrong(rt, lines, with)?;
-    if wrong.is_some() {
-        return Ok(wrong);
-    }
-    world.first_wrong(rt, script.after, with)
-}
-
-// What is wrong in a case of a script, which is its name and then its lines.
-fn wrong_in<R: Threads + Sync + AllocGlobal>(
+// Plays a case of a script, which is its name and then its lines.
+fn play_case<R: Threads + Sync + AllocGlobal + Abort>(
     rt: &R,
     script: &Script,
-    case: &'static str,
-) -> Result<Wrong, AllocError> {
+    case: &str,
+) -> Result<(), AllocError> {
     let (name, lines) = case.split_once("\n").unwrap_or((case, ""));
-    if !has_run(lines) && !has_run(script.after) {
-        return Ok(Some((name, "")));
-    }
+    let with = field(lines, "with ");
     let mut world = World::new(rt.alloc())?;
-    match wrong_line(rt, &mut world, script, lines)? {
-        Some(wrong) => Ok(Some((name, wrong))),
-        None => Ok(None),
-    }
+    world.play(rt, name, script.before, with)?;
+    world.runs = 0;
+    world.play(rt, name, lines, with)?;
+    world.play(rt, name, script.after, with)?;
+    holds(world.runs > 0, name, "no run", rt);
+    Ok(())
 }
 
-// What is wrong first in a script, or nothing.
-fn first_wrong<R: Threads + Sync + AllocGlobal>(
-    rt: &R,
-    script: &Script,
-) -> Result<Wrong, AllocError> {
+/// Plays the cases of a script. The first line that is not done as it says ends the test.
+pub fn plays<R: Threads + Sync + AllocGlobal + Abort>(rt: &R, script: &Script) {
     let (front, cases) = script
         .cases
         .split_once("case ")
         .unwrap_or((script.cases, ""));
-    if !front.is_empty() || cases.is_empty() {
-        return Ok(Some((front, "")));
-    }
+    holds(front.is_empty() && !cases.is_empty(), "no case", front, rt);
     for case in cases.split("\ncase ") {
-        let wrong = wrong_in(rt, script, case)?;
-        if wrong.is_some() {
-            return Ok(wrong);
-        }
-    }
-    Ok(None)
-}
-
-/// The name of the first case of a script with something wrong, and the line; or no name.
-pub fn wrong_of<R: Threads + Sync + AllocGlobal>(
-    rt: &R,
-    script: &Script,
-) -> (&'static str, &'static str) {
-    match first_wrong(rt, script) {
-        Ok(wrong) => wrong.unwrap_or(("", "")),
-        Err(_) => ("memory", ""),
+        holds(
+            play_case(rt, script, case).is_ok(),
+            "out of memory",
+            case,
+            rt,
+        );
     }
 }
 

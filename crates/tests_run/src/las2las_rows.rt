@@ -1,5 +1,5 @@
 //! `las2las`: records that are kept and changed, packed or plain on either side.
-use crate::cases::{Script, wrong_of};
+use crate::cases::{Script, plays};
 
 // Two records: of class 2, and of class 5 with class flags.
 const BEFORE: &str = "\
@@ -110,8 +110,7 @@ const KEPT: Script = Script {
 
 #[test]
 fn kept_records(rt: HostRuntime) {
-    let (case, line) = wrong_of(&rt, &KEPT);
-    assert!(rt; case.is_empty(), "{case}: {line}");
+    plays(&rt, &KEPT);
 }
 
 // A kept record whose coordinate leaves its range ends the run; the records before it stand. Packed or plain on either
@@ -269,6 +268,5 @@ const SIDES: Script = Script {
 
 #[test]
 fn either_side(rt: HostRuntime) {
-    let (case, line) = wrong_of(&rt, &SIDES);
-    assert!(rt; case.is_empty(), "{case}: {line}");
+    plays(&rt, &SIDES);
 }

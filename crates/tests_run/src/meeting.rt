@@ -1,8 +1,9 @@
 //! Two chunks are worked side by side.
-use crate::cases::World;
+use crate::cases::{World, holds};
 use las_outside::Gate;
 use std::alloc::AllocError;
 use std::hint::spin_loop;
+use std::process::Abort;
 use std::sync::atomic::{AtomicU64, Ordering};
 use std::thread::Threads;
 
@@ -32,18 +33,20 @@ impl Gate for Meeting {
     fn leave(&self, _number: u32) {}
 }
 
-// Whether two chunks meet in a run, which is done.
-fn meet<R: Threads + Sync + AllocGlobal>(
+// Two chunks meet in a run, which is done.
+fn meet<R: Threads + Sync + AllocGlobal + Abort>(
     rt: &R,
     world: &mut World,
     line: &str,
-) -> Result<bool, AllocError> {
+) -> Result<(), AllocError> {
     let gate = Meeting {
         entered: AtomicU64::new(0),
         missed: AtomicU64::new(0),
     };
     let status = world.obey(rt, line, "", &gate)?;
-    Ok(status == 0 && gate.missed.load(Ordering::SeqCst) == 0)
+    let is_met = status == 0 && gate.missed.load(Ordering::SeqCst) == 0;
+    holds(is_met, "two chunks meet", line, rt);
+    Ok(())
 }
 
 const INPUTS: &str = "\
@@ -55,30 +58,29 @@ put w
 room b c
 ";
 
-// Whether two chunks meet when they are packed, and when they are unpacked.
-fn both_meet<R: Threads + Sync + AllocGlobal>(
+// Two chunks meet when they are packed, and when they are unpacked.
+fn both_meet<R: Threads + Sync + AllocGlobal + Abort>(
     rt: &R,
     world: &mut World,
-) -> Result<bool, AllocError> {
-    let is_put = world.does(rt, INPUTS)?;
-    let packed = meet(rt, world, "laszip -i a -o b -chunk_size 256 -cores 2")?;
-    let unpacked = meet(rt, world, "laszip -i w -o c -cores 2")?;
-    Ok(
-        packed
-            && unpacked
-            && world.bytes("b") == world.bytes("w")
-            && world.bytes("c") == world.bytes("a"),
-    )
+) -> Result<(), AllocError> {
+    world.play(rt, "inputs", INPUTS, "")?;
+    meet(rt, world, "laszip -i a -o b -chunk_size 256 -cores 2")?;
+    meet(rt, world, "laszip -i w -o c -cores 2")?;
+    world.play(rt, "outputs", "same b w\nsame c a", "")
 }
 
 // The same in a world of its own.
-fn meet_alone<R: Threads + Sync + AllocGlobal>(rt: &R) -> Result<bool, AllocError> {
+fn meet_alone<R: Threads + Sync + AllocGlobal + Abort>(rt: &R) -> Result<(), AllocError> {
     let mut world = World::new(rt.alloc())?;
     both_meet(rt, &mut world)
 }
 
 #[test]
 fn two_chunks_meet(rt: HostRuntime) {
-    let is_so = meet_alone(&rt).unwrap_or(false);
-    assert!(rt; is_so);
+    holds(
+        meet_alone(&rt).is_ok(),
+        "two chunks meet",
+        "out of memory",
+        &rt,
+    );
 }

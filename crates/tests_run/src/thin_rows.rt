@@ -1,5 +1,5 @@
 //! `las2las`: one record of a cell, and no position twice.
-use crate::cases::{Script, wrong_of};
+use crate::cases::{Script, plays};
 
 // Five places in three cells, if the step is 10; two positions, each twice, and one that stands between; and both sides
 // of the edges of cells about 0, with the ends of the raw range.
@@ -203,8 +203,7 @@ const STAY: Script = Script {
 
 #[test]
 fn records_that_stay(rt: HostRuntime) {
-    let (case, line) = wrong_of(&rt, &STAY);
-    assert!(rt; case.is_empty(), "{case}: {line}");
+    plays(&rt, &STAY);
 }
 
 // A range, filters, positions, cells and changes come one after another: as many runs, one for each, give the same. A
@@ -310,6 +309,5 @@ const TWICE: Script = Script {
 
 #[test]
 fn two_readings(rt: HostRuntime) {
-    let (case, line) = wrong_of(&rt, &TWICE);
-    assert!(rt; case.is_empty(), "{case}: {line}");
+    plays(&rt, &TWICE);
 }
