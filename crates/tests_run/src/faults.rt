@@ -10,7 +10,8 @@
 //!   one, and the last with that. In a line `/` stands for the end of a line.
 //! - `tight NAME`: the output whose room is too small in turn, if one is.
 //!
-//! Then come a line of `script` and a script, in which no call fails: it makes the inputs, the outputs, and their drafts.
+//! Then come a line of `script` and a script, in which no call fails. It makes the inputs, the outputs and the drafts of
+//! these.
 use crate::cases::{World, field, holds, is_text, number, pair, status_of};
 use las_outside::OpenGate;
 use std::alloc::AllocError;
