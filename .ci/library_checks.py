@@ -201,13 +201,17 @@ def hostile(cases, program, folder):
     place = os.path.join(folder, "hostile")
     os.mkdir(place)
     names = hostile_files(folder, place)
-    lines, problem = run([program, "all"], place, input="\n".join(names).encode() + b"\n")
-    answers = (lines or "").splitlines()
-    if problem or not names or len(answers) != len(names):
-        cases.note("hostile files", problem or f"{len(answers)} answers for {len(names)} files")
-        return
-    with ThreadPoolExecutor(2) as pool:
+    processors = len(os.sched_getaffinity(0))
+    each = len(names) // processors + 1
+    parts = ["\n".join(names[at:at + each]).encode() + b"\n" for at in range(0, len(names), each)]
+    with ThreadPoolExecutor(processors) as pool:
+        runs = list(pool.map(lambda part: run([program, "all"], place, input=part), parts))
         wanted = list(pool.map(answer_of, names))
+    problems = [problem for _, problem in runs if problem]
+    answers = [answer for lines, _ in runs for answer in (lines or "").splitlines()]
+    if problems or not names or len(answers) != len(names):
+        cases.note("hostile files", "; ".join(problems) or f"{len(answers)} answers for {len(names)} files")
+        return
     wrong = []
     for name, answer, (want, output) in zip(names, answers, wanted):
         if answer != want or (output is not None and content(name + ".out") != output):
