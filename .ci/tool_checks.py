@@ -3,7 +3,7 @@ import os
 import struct
 import tempfile
 
-from checking import FILE, RECORD_SIZES, content, counted, differs, head, las, long_head, packed_one, record, vlr, written
+from checking import RECORD_SIZES, content, counted, differs, head, las, long_head, packed_one, record, vlr, written
 
 
 def many(count):
@@ -21,7 +21,10 @@ def reports(cases, folder):
     place = os.path.join(folder, "reports")
     os.mkdir(place)
     written(os.path.join(place, "a.laz"), packed_one())
-    written(os.path.join(place, "three.las"), FILE)
+    # these differ in what each tap counts
+    both = record(5, 2, flags=9) + record(6, 1, flags=18)
+    both = both[:12] + b"\xe8\x03" + both[14:32] + b"\xff\x02" + both[34:38] + b"\x2c\x01"
+    written(os.path.join(place, "both.las"), head(2, (1, 1, 0, 0, 0)) + both)
     count = 120_000
     written(os.path.join(place, "many.las"), head(count, (count, 0, 0, 0, 0)) + record(5, 2) * count)
     las(place, "laszip", "-i", "many.las", "-o", "many.laz")
@@ -33,8 +36,8 @@ def reports(cases, folder):
         ("the report of a packed file", ["-i", "a.laz"], 0, b"", one, True),
         ("a report by eight workers", ["-cores", "8", "-i", "a.laz"], 0, b"", one, True),
         ("a tally of one record", ["-i", "a.laz", "-tally", "class"], 0, b"", one + b"tally class\n0 1\n", True),
-        ("every tap", ["-i", "three.las"] + taps, 0, b"",
-         b"tally intensity\n0 3\ntally return\n1 3\ntally source\n1 3\ntally class\n1 1\n2 2\n", False),
+        ("every tap", ["-i", "both.las"] + taps, 0, b"",
+         b"tally intensity\n2 1\n3 1\ntally return\n1 1\n2 1\ntally source\n1 1\n300 1\ntally class\n1 1\n2 1\n", False),
         ("a tally of many records", ["-i", "many.laz", "-tally", "class", "-cores", "4"], 0, b"",
          b"tally class\n2 120000\n", False),
         ("a tap that is not there", ["-i", "a.laz", "-tally", "none"], 2, b"usage: word 4\n", b"", True),

@@ -1,7 +1,5 @@
-//! Heads as they stand in files: one change of a head for each condition, heads of each version, and reports of whole
-//! files.
+//! Heads as they stand in files: one change of a head for each condition, and heads of each version.
 
-use crate::info;
 use crate::samples::{none_is, number, opened, pair, put};
 use std::alloc::{AllocError, Global};
 
@@ -12,11 +10,10 @@ use std::alloc::{AllocError, Global};
 // - `alone LENGTH AT BYTE CAUSE`: made so long and with this byte at a place, it is refused for this cause, or read if
 //   the cause is `none`.
 // - `then LENGTH AT BYTE CAUSE`: so it is, and it stays so.
-// - `text NAME`: the text of this name, a report on the file or the tallies, is whole.
 //
 // The files are of format 0, with one record each: of LAS 1.2, without VLRs, and with a VLR of three bytes and a gap of
 // two; of LAS 1.3; and of LAS 1.4, with both counts. The rows of `then` are the conditions of LAS 1.4 from the last
-// to the first, and the files after them are those of the texts.
+// to the first.
 const ROWS: &str = "\
 file 247
 set 24 01 02
@@ -87,25 +84,6 @@ then 395 99 09 Offset
 then 395 95 00 HeaderSize
 then 395 24 03 Version
 then 395 0 00 Magic
-file 366
-set 24 01 02
-set 94 E3 00 41 01 00 00 01
-set 104 80 14 00 01 00 00 00 01
-set 229 6C 61 73 7A 69 70 20 65 6E 63 6F 64 65 64
-set 245 BC 56 28 00
-set 249 6C 61 73 7A 69 70 20 76 65 72 73 69 6F 6E 20 32 20 69 74 65 6D 73
-set 281 02
-text packed
-file 471
-set 24 01 04
-set 94 77 01 AF 01 00 00 01
-set 104 00 14 00
-set 247 02
-set 255 01 00 00 00 00 00 00 00 01
-set 377 73 6F 6D 65 62 6F 64 79
-set 393 07 00 02 00
-text plain
-text tallies
 ";
 
 // A byte in two hexadecimal digits, or 0.
@@ -177,7 +155,6 @@ fn is_so(alloc: Global, file: &mut Vec<u8>, line: &str) -> Result<bool, AllocErr
     match command {
         "alone" => is_so_alone(alloc, file, rest),
         "then" => is_so_then(alloc, file, rest),
-        "text" => info::is_whole(alloc, file, rest),
         _ => is_changed(file, command, rest),
     }
 }
@@ -194,6 +171,6 @@ fn first_wrong(alloc: Global) -> &'static str {
 }
 
 #[test]
-fn heads_and_texts(rt: HostRuntime) {
+fn heads(rt: HostRuntime) {
     none_is(first_wrong(rt.alloc()), &rt);
 }

@@ -4,8 +4,6 @@
 #[cfg(test)]
 mod header;
 #[cfg(test)]
-mod info;
-#[cfg(test)]
 mod outside;
 #[cfg(test)]
 mod samples;

@@ -1,9 +1,10 @@
 //! Scripts, and what plays them: files in memory, command lines with what they answer, and what is so at the end.
 //!
-//! A script is a text of cases, each of which begins with a line of `case` and its name. Each case has a world of its
-//! own, with no files and no bytes that are worked on. A line is a command: its first word says what is done with those
-//! that follow it, with one blank between two words. A line with another first word is wrong, and so is a case that has
-//! no run. Numbers are decimal, and bytes are two hexadecimal digits each; what is neither is 0.
+//! A script is a text of cases, with an empty line between two of them. Each begins with a line of `case` and its name,
+//! and has a world of its own, with no files and no bytes that are worked on. A line is a command: its first word says
+//! what is done with those that follow it, with one blank between two words. A line with another first word is wrong,
+//! and so is a case that has no run. Numbers are decimal, and bytes are two hexadecimal digits each; what is neither is
+//! 0.
 //!
 //! These commands change the bytes that are worked on. A shape is the minor version, the point data format, and how
 //! many bytes stand between a VLR and the points, or 0 for no VLR.
@@ -237,10 +238,10 @@ impl World {
     ) -> Result<bool, AllocError> {
         let (command, rest) = pair(line);
         let (wanted, words) = rest.split_once(" = ").unwrap_or(("", rest));
+        let is_told = command == "tells";
+        let (said, text) = if is_told { ("", wanted) } else { (wanted, "") };
         match command {
-            "done" => self.answers(rt, "", "", rest, with),
-            "ends" => self.answers(rt, wanted, "", words, with),
-            "tells" => self.answers(rt, "", wanted, words, with),
+            "done" | "ends" | "tells" => self.answers(rt, said, text, words, with),
             "packed" => self.pack(rt),
             "with" => Ok(true),
             _ => self.is_done(rt.alloc(), command, rest),
@@ -423,37 +424,40 @@ pub struct Script {
     pub after: &'static str,
 }
 
-// Plays a case of a script, which is its name and then its lines.
-fn play_case<R: Threads + Sync + AllocGlobal + Abort>(
+// Plays a case of a script in a world that has no files.
+fn play_in<R: Threads + Sync + AllocGlobal + Abort>(
     rt: &R,
+    world: &mut World,
     script: &Script,
-    case: &str,
+    name: &str,
+    lines: &str,
 ) -> Result<(), AllocError> {
-    let (name, lines) = case.split_once("\n").unwrap_or((case, ""));
     let with = field(lines, "with ");
-    let mut world = World::new(rt.alloc())?;
     world.play(rt, name, script.before, with)?;
     world.runs = 0;
     world.play(rt, name, lines, with)?;
-    world.play(rt, name, script.after, with)?;
-    holds(world.runs > 0, name, "no run", rt);
-    Ok(())
+    world.play(rt, name, script.after, with)
 }
 
-/// Plays the cases of a script. The first line that is not done as it says ends the test.
+// Plays a case of a script, which is the line of its name and then its lines.
+fn play_case<R: Threads + Sync + AllocGlobal + Abort>(
+    rt: &R,
+    script: &Script,
+    name: &str,
+    lines: &str,
+) -> Result<bool, AllocError> {
+    let mut world = World::new(rt.alloc())?;
+    play_in(rt, &mut world, script, name, lines)?;
+    Ok(name.starts_with("case ") && world.runs > 0)
+}
+
+/// Plays the cases of a script. The first line that is not done as it says ends the test, and so does a case without a
+/// run.
 pub fn plays<R: Threads + Sync + AllocGlobal + Abort>(rt: &R, script: &Script) {
-    let (front, cases) = script
-        .cases
-        .split_once("case ")
-        .unwrap_or((script.cases, ""));
-    holds(front.is_empty() && !cases.is_empty(), "no case", front, rt);
-    for case in cases.split("\ncase ") {
-        holds(
-            play_case(rt, script, case).is_ok(),
-            "out of memory",
-            case,
-            rt,
-        );
+    for case in script.cases.split("\n\n") {
+        let (name, lines) = case.split_once("\n").unwrap_or((case, ""));
+        let is_played = play_case(rt, script, name, lines).unwrap_or(false);
+        holds(is_played, name, "no run, or out of memory", rt);
     }
 }
 

@@ -40,6 +40,7 @@ size w.laz 392
 same c.laz w.laz
 size w.las 267
 same d.las w.las
+
 case inputs in chunks and a copied one
 head 2 0 0 600
 records 2 0 0 0 600
@@ -54,6 +55,7 @@ done lasmerge -i a.laz -i a.laz -i a.laz -o g.las
 same d.laz e.laz
 same f.las g.las
 size f.las 36227
+
 case inputs that are not copied
 with -o c.laz -copy_chunks
 head 2 0 0 1
@@ -76,6 +78,7 @@ ends refused: cut.laz: 5 Offset/ = lasmerge -i one -i cut.laz -i a.las @
 ends usage: word 4/ = lasmerge -i one -o c.las -copy_chunks
 absent c.laz
 absent c.las
+
 case a bad chunk is copied
 head 2 0 0 600
 records 2 0 0 0 600

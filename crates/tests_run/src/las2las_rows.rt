@@ -17,30 +17,35 @@ head 2 0 0 2
 set 107 01 00 00 00 00 00 00 00 01 00 00 00
 add 08 00 00 00 00 00 00 00 00 00 00 00 C8 00 12 65 00 00 00 00
 put w
+
 case first returns
 with -keep_first
 head 2 0 0 2
 set 107 01 00 00 00 01 00 00 00 00 00 00 00
 add 07 00 00 00 00 00 00 00 00 00 00 00 64 00 11 02 00 00 00 00
 put w
+
 case last returns
 with -keep_last
 head 2 0 0 2
 set 107 01 00 00 00 00 00 00 00 01 00 00 00
 add 08 00 00 00 00 00 00 00 00 00 00 00 C8 00 12 65 00 00 00 00
 put w
+
 case an intensity that is kept
 with -keep_intensity 100 199
 head 2 0 0 2
 set 107 01 00 00 00 01 00 00 00 00 00 00 00
 add 07 00 00 00 00 00 00 00 00 00 00 00 64 00 11 02 00 00 00 00
 put w
+
 case an intensity and a class that is set
 with -drop_intensity_below 200 -set_classification 31
 head 2 0 0 2
 set 107 01 00 00 00 00 00 00 00 01 00 00 00
 add 08 00 00 00 00 00 00 00 00 00 00 00 C8 00 12 7F 00 00 00 00
 put w
+
 case there and back
 with -translate_raw_x -5 -translate_raw_xyz 5 0 0
 head 2 0 0 2
@@ -48,12 +53,14 @@ set 107 02 00 00 00 01 00 00 00 01 00 00 00
 add 07 00 00 00 00 00 00 00 00 00 00 00 64 00 11 02 00 00 00 00
 add 08 00 00 00 00 00 00 00 00 00 00 00 C8 00 12 65 00 00 00 00
 put w
+
 case a class that is kept
 with -keep_class 2
 head 2 0 0 2
 set 107 01 00 00 00 01 00 00 00 00 00 00 00
 add 07 00 00 00 00 00 00 00 00 00 00 00 64 00 11 02 00 00 00 00
 put w
+
 case no intensity above the bound
 with -drop_intensity_above 200
 head 2 0 0 2
@@ -61,29 +68,34 @@ set 107 02 00 00 00 01 00 00 00 01 00 00 00
 add 07 00 00 00 00 00 00 00 00 00 00 00 64 00 11 02 00 00 00 00
 add 08 00 00 00 00 00 00 00 00 00 00 00 C8 00 12 65 00 00 00 00
 put w
+
 case an intensity above the bound
 with -drop_intensity_above 199
 head 2 0 0 2
 set 107 01 00 00 00 01 00 00 00 00 00 00 00
 add 07 00 00 00 00 00 00 00 00 00 00 00 64 00 11 02 00 00 00 00
 put w
+
 case a class that is dropped
 with -drop_class 2
 head 2 0 0 2
 set 107 01 00 00 00 00 00 00 00 01 00 00 00
 add 08 00 00 00 00 00 00 00 00 00 00 00 C8 00 12 65 00 00 00 00
 put w
+
 case a return that is moved
 with -keep_return 2 -translate_raw_x 1
 head 2 0 0 2
 set 107 01 00 00 00 00 00 00 00 01 00 00 00
 add 09 00 00 00 00 00 00 00 00 00 00 00 C8 00 12 65 00 00 00 00
 put w
+
 case a class of no record
 with -keep_class 3
 head 2 0 0 2
 set 107 00 00 00 00 00 00 00 00 00 00 00 00
 put w
+
 case a class that is set after it is kept
 with -set_classification 5 -keep_class 2
 head 2 0 0 2
@@ -108,11 +120,6 @@ const KEPT: Script = Script {
     after: AFTER,
 };
 
-#[test]
-fn kept_records(rt: HostRuntime) {
-    plays(&rt, &KEPT);
-}
-
 // A kept record whose coordinate leaves its range ends the run; the records before it stand. Packed or plain on either
 // side and with one worker or two, the same records are kept: 400 of 600.
 const SIDE_CASES: &str = "\
@@ -135,6 +142,7 @@ same b.LAZ w
 same c.laz a
 same b.las w
 same b.Laz a
+
 case the second record leaves its range
 with -keep_class 2 -translate_raw_xyz 1 0 0
 head 2 0 0 2
@@ -154,6 +162,7 @@ ends refused: a: 22 RawRange 0/ = las2las -i a -o b @
 ends refused: az: 22 RawRange 0/ = las2las -i az -o c @
 same b w
 same c w
+
 case no kept record leaves its range
 with -keep_class 2 -translate_raw_xyz 1 0 0
 head 2 0 0 2
@@ -173,6 +182,7 @@ done las2las -i a -o b @
 done las2las -i az -o c @
 same b w
 same c w
+
 case the third kept record leaves its range
 with -keep_class 2 -translate_raw_xyz 1 0 0
 head 2 0 0 5
@@ -200,6 +210,7 @@ ends refused: a: 22 RawRange 2/ = las2las -i a -o b @
 ends refused: az: 22 RawRange 2/ = las2las -i az -o c @
 same b w
 same c w
+
 case either side of LAS 1.2
 with -keep_class 2
 head 2 3 2 600
@@ -229,6 +240,7 @@ same f k
 same g k
 same h kz
 same i kz
+
 case either side of LAS 1.4
 with -keep_class 2
 head 4 3 2 600
@@ -267,6 +279,7 @@ const SIDES: Script = Script {
 };
 
 #[test]
-fn either_side(rt: HostRuntime) {
+fn records_are_kept(rt: HostRuntime) {
+    plays(&rt, &KEPT);
     plays(&rt, &SIDES);
 }

@@ -30,6 +30,7 @@ room b
 ends refused: a: 10 Trailing/ = laszip -i a -o b
 ends refused: a: 10 Trailing/ = las2las -i a -o b -keep_first
 absent b
+
 case a record that is cut
 take one
 cut 246
@@ -38,6 +39,7 @@ room b
 ends refused: a: 9 Count/ = laszip -i a -o b
 ends refused: a: 9 Count/ = las2las -i a -o b -keep_first
 absent b
+
 case a laszip VLR in a plain file
 take head
 set 104 00
@@ -47,6 +49,7 @@ room b
 ends refused: a: 11 StrayVlr/ = laszip -i a -o b
 ends refused: a: 11 StrayVlr/ = las2las -i a -o b -keep_first
 absent b
+
 case points past the end
 take one
 set 96 91 FF FF 00
@@ -55,6 +58,7 @@ room b
 ends refused: a: 5 Offset/ = laszip -i a -o b
 ends refused: a: 5 Offset/ = las2las -i a -o b -keep_first
 absent b
+
 case no bytes
 cut 0
 put a
@@ -62,6 +66,7 @@ room b
 ends refused: a: 1 Short/ = laszip -i a -o b
 ends refused: a: 1 Short/ = las2las -i a -o b -keep_first
 absent b
+
 case version 1.5
 take one
 set 25 05
@@ -70,6 +75,7 @@ room b
 ends refused: a: 3 Version/ = laszip -i a -o b
 ends refused: a: 3 Version/ = las2las -i a -o b -keep_first
 absent b
+
 case another signature
 take one
 set 0 4D
@@ -78,6 +84,7 @@ room b
 ends refused: a: 2 Magic/ = laszip -i a -o b
 ends refused: a: 2 Magic/ = las2las -i a -o b -keep_first
 absent b
+
 case a header that is too small
 take one
 set 94 E2
@@ -86,6 +93,7 @@ room b
 ends refused: a: 4 HeaderSize/ = laszip -i a -o b
 ends refused: a: 4 HeaderSize/ = las2las -i a -o b -keep_first
 absent b
+
 case a table that is cut
 take form
 cut 354
@@ -94,6 +102,7 @@ room b
 ends refused: a: 19 Table/ = laszip -i a -o b
 ends refused: a: 19 Table/ = las2las -i a -o b -keep_first
 absent b
+
 case a table of two chunks
 take form
 set 357 02
@@ -102,6 +111,7 @@ room b
 ends refused: a: 19 Table/ = laszip -i a -o b
 ends refused: a: 19 Table/ = las2las -i a -o b -keep_first
 absent b
+
 case 2^24 + 1 points in chunks of one
 take head
 set 107 01 00 00 01 01 00 00 01
@@ -112,6 +122,7 @@ room b
 ends refused: a: 17 TooManyChunks/ = laszip -i a -o b
 ends refused: a: 17 TooManyChunks/ = las2las -i a -o b -keep_first
 absent b
+
 case chunks of no point
 take head
 set 293 00 00 00 00
@@ -121,6 +132,7 @@ room b
 ends refused: a: 16 ChunkSize/ = laszip -i a -o b
 ends refused: a: 16 ChunkSize/ = las2las -i a -o b -keep_first
 absent b
+
 case two points in counted chunks of one
 take form
 set 107 02 00 00 00 02 00 00 00
@@ -132,6 +144,7 @@ room b
 ends refused: a: 24 PointSum/ = laszip -i a -o b
 ends refused: a: 24 PointSum/ = las2las -i a -o b -keep_first
 absent b
+
 case two counted chunks in a table of one
 take form
 set 293 FF FF FF FF
@@ -142,6 +155,7 @@ room b
 ends refused: a: 19 Table/ = laszip -i a -o b
 ends refused: a: 19 Table/ = las2las -i a -o b -keep_first
 absent b
+
 case two numbers of points
 take new
 set 247 02
@@ -150,6 +164,7 @@ room b
 ends refused: a: 26 PointCounts/ = laszip -i a -o b
 ends refused: a: 26 PointCounts/ = las2las -i a -o b -keep_first
 absent b
+
 case extended VLRs
 take new
 set 243 01
@@ -158,6 +173,7 @@ room b
 ends refused: a: 25 Extended/ = laszip -i a -o b
 ends refused: a: 25 Extended/ = las2las -i a -o b -keep_first
 absent b
+
 case a header of LAS 1.4 that is too small
 take new
 set 94 76
@@ -166,6 +182,7 @@ room b
 ends refused: a: 4 HeaderSize/ = laszip -i a -o b
 ends refused: a: 4 HeaderSize/ = las2las -i a -o b -keep_first
 absent b
+
 case a pointer before the points
 take head
 set 321 40
@@ -181,11 +198,6 @@ const REFUSED_INPUTS: Script = Script {
     cases: REFUSED,
     after: "",
 };
-
-#[test]
-fn refused_inputs(rt: HostRuntime) {
-    plays(&rt, &REFUSED_INPUTS);
-}
 
 const CASES: &str = "\
 case the smallest files
@@ -223,6 +235,7 @@ same e none
 same f one
 same g one
 same h one
+
 case wrong words, and an input that is not there
 take one
 put a
@@ -237,6 +250,7 @@ ends usage: word 0/ = lasunzip -i a
 ends read fault: none.las/ = laszip -i none.las -o b
 ends read fault: none.las/ = las2las -i none.las -o b
 absent b
+
 case LAS 1.4 with the older count
 take new
 put a
@@ -248,6 +262,7 @@ size b 514
 has b 96 D5 01 00 00
 has b 469 F5 01 00 00
 same c a
+
 case LAS 1.4 without the older count
 take new
 set 107 00
@@ -260,6 +275,7 @@ size b 514
 has b 96 D5 01 00 00
 has b 469 F5 01 00 00
 same c a
+
 case 50,000 points a chunk
 head 2 0 0 50000
 zeros 1000000
@@ -274,6 +290,7 @@ has b 321 9B 02 00 00
 has b 671 01 00 00 00
 has d 321 B3 02 00 00
 has d 695 02 00 00 00
+
 case LAS 1.0, format 0
 head 0 0 5 600
 records 0 0 5 0 600
@@ -284,6 +301,7 @@ done laszip -cores 8 -chunk_size 256 -o c -i a
 done laszip -i b -o d -cores 2
 same b c
 same d a
+
 case LAS 1.1, format 1
 head 1 1 5 600
 records 1 1 5 0 600
@@ -294,6 +312,7 @@ done laszip -cores 8 -chunk_size 256 -o c -i a
 done laszip -i b -o d -cores 2
 same b c
 same d a
+
 case LAS 1.2, format 2
 head 2 2 5 600
 records 2 2 5 0 600
@@ -304,6 +323,7 @@ done laszip -cores 8 -chunk_size 256 -o c -i a
 done laszip -i b -o d -cores 2
 same b c
 same d a
+
 case LAS 1.3, format 3
 head 3 3 5 600
 records 3 3 5 0 600
@@ -314,6 +334,7 @@ done laszip -cores 8 -chunk_size 256 -o c -i a
 done laszip -i b -o d -cores 2
 same b c
 same d a
+
 case LAS 1.4, format 3
 head 4 3 5 600
 records 4 3 5 0 600
@@ -324,6 +345,7 @@ done laszip -cores 8 -chunk_size 256 -o c -i a
 done laszip -i b -o d -cores 2
 same b c
 same d a
+
 case the first bad chunk
 head 2 0 0 1280
 records 2 0 0 0 1280
@@ -351,6 +373,7 @@ same c w
 same d w
 same e wz
 same f wz
+
 case 2^31 points in chunks of no bytes, and a chunk that ends too early
 take head
 set 107 00 00 00 80 00 00 00 80
@@ -372,6 +395,7 @@ ends refused: half: 21 BadChunk 0/ = laszip -i half -o b
 ends refused: short: 21 BadChunk 0/ = laszip -i short -o c
 same b half.head
 same c plain.head
+
 case a write that fails
 take one
 put a
@@ -392,6 +416,7 @@ const PACKED: Script = Script {
 };
 
 #[test]
-fn packed_and_unpacked(rt: HostRuntime) {
+fn files_are_packed_and_refused(rt: HostRuntime) {
+    plays(&rt, &REFUSED_INPUTS);
     plays(&rt, &PACKED);
 }

@@ -16,38 +16,46 @@ case 600 to 600
 with -start_at_point 600 -stop_at_point 600
 head 2 0 0 0
 put w
+
 case from 2000
 with -start_at_point 2000
 head 2 0 0 0
 put w
+
 case to 0
 with -stop_at_point 0
 head 2 0 0 0
 put w
+
 case from 1000
 with -start_at_point 1000
 head 2 0 0 0
 put w
+
 case from 999
 with -start_at_point 999
 head 2 0 0 1
 records 2 0 0 999 1000
 put w
+
 case 990 to 2^32 - 1
 with -start_at_point 990 -stop_at_point 4294967295
 head 2 0 0 10
 records 2 0 0 990 1000
 put w
+
 case to 256
 with -stop_at_point 256
 head 2 0 0 256
 records 2 0 0 0 256
 put w
+
 case 256 to 257
 with -start_at_point 256 -stop_at_point 257
 head 2 0 0 1
 records 2 0 0 256 257
 put w
+
 case 255 to 769
 with -start_at_point 255 -stop_at_point 769
 head 2 0 0 514
@@ -69,11 +77,6 @@ const RANGES: Script = Script {
     cases: CASES,
     after: AFTER,
 };
-
-#[test]
-fn ranges(rt: HostRuntime) {
-    plays(&rt, &RANGES);
-}
 
 // Of a packed input only the chunks that have some of the records are read, and the others may be bad: the second chunk
 // begins at byte 1,657, the third at 2,987, and the last at 4,317. Places are counted before the filters.
@@ -97,6 +100,7 @@ same c w
 same d w
 same e w
 same f w
+
 case all, and a stop before the start
 room b c
 done las2las -i a -o b
@@ -104,6 +108,7 @@ done las2las -i az -o c
 ends usage: word 8/ = las2las -i az -o c -start_at_point 5 -stop_at_point 4
 same b a
 same c a
+
 case a range before the filters
 with -keep_class 2 -translate_raw_x 1 -chunk_size 256 -cores 2
 head 2 0 0 300
@@ -113,6 +118,7 @@ room b.laz c.laz
 done las2las -i az -o b.laz -start_at_point 200 -stop_at_point 500 @
 done las2las -i m -o c.laz @
 same b.laz c.laz
+
 case a bad chunk
 take az
 set 3007 FF FF FF FF
@@ -131,6 +137,7 @@ const OTHER_RANGES: Script = Script {
 };
 
 #[test]
-fn other_ranges(rt: HostRuntime) {
+fn ranges(rt: HostRuntime) {
+    plays(&rt, &RANGES);
     plays(&rt, &OTHER_RANGES);
 }

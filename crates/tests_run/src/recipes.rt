@@ -58,11 +58,11 @@ pub fn put_hex(file: &mut [u8], at: usize, text: &str) {
     }
 }
 
-/// Appends the bytes of a text.
+/// Appends the bytes of a text, with one blank between two of them.
 pub fn add_hex(file: &mut Vec<u8>, text: &str) -> Result<(), AllocError> {
-    for word in text.split_whitespace() {
-        file.push(byte_of(word))?;
-    }
+    let at = file.len();
+    file.resize(at.saturating_add(text.len().saturating_add(1) / 3), 0)?;
+    put_hex(file, at, text);
     Ok(())
 }
 

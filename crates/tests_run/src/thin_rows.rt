@@ -41,6 +41,7 @@ point 0 0 5
 point -1 0 7
 point 10 0 1
 put w
+
 case thin raw 10 lowest of five
 with -thin_raw 10 -lowest
 take five
@@ -50,6 +51,7 @@ point 9 9 3
 point -1 0 7
 point 10 0 1
 put w
+
 case thin raw 10 highest of five
 with -thin_raw 10 -highest
 take five
@@ -59,12 +61,14 @@ point -1 0 7
 point 10 0 1
 point 9 0 8
 put w
+
 case thin raw 1 of five
 with -thin_raw 1
 take five
 put a
 take five
 put w
+
 case thin raw 2147483647 of five
 with -thin_raw 2147483647
 take five
@@ -73,6 +77,7 @@ head 2 0 0 2
 point 0 0 5
 point -1 0 7
 put w
+
 case thin raw 2147483647 highest of five
 with -thin_raw 2147483647 -highest
 take five
@@ -81,12 +86,14 @@ head 2 0 0 2
 point -1 0 7
 point 9 0 8
 put w
+
 case drop repeated of five
 with -drop_repeated
 take five
 put a
 take five
 put w
+
 case drop repeated of repeated places
 with -drop_repeated
 take repeated
@@ -96,6 +103,7 @@ point 1 1 1
 point 1 1 2
 point 2 1 2
 put w
+
 case drop repeated thin raw 1 of repeated places
 with -drop_repeated -thin_raw 1
 take repeated
@@ -104,6 +112,7 @@ head 2 0 0 2
 point 1 1 1
 point 2 1 2
 put w
+
 case thin raw 1 highest of repeated places
 with -thin_raw 1 -highest
 take repeated
@@ -112,6 +121,7 @@ head 2 0 0 2
 point 1 1 2
 point 2 1 2
 put w
+
 case drop repeated thin raw 2 highest of repeated places
 with -drop_repeated -thin_raw 2 -highest
 take repeated
@@ -120,6 +130,7 @@ head 2 0 0 2
 point 1 1 2
 point 2 1 2
 put w
+
 case thin raw 10 lowest at the edges
 with -thin_raw 10 -lowest
 take edges
@@ -133,6 +144,7 @@ point -2147483648 2147483647 4
 point 2147483647 -2147483648 4
 point 2147483647 2147483647 4
 put w
+
 case thin raw 10 highest at the edges
 with -thin_raw 10 -highest
 take edges
@@ -146,6 +158,7 @@ point -2147483648 2147483647 4
 point 2147483647 -2147483648 4
 point 2147483647 2147483647 4
 put w
+
 case thin raw 2147483647 at the edges
 with -thin_raw 2147483647
 take edges
@@ -158,12 +171,14 @@ point -2147483648 2147483647 4
 point 2147483647 -2147483648 4
 point 2147483647 2147483647 4
 put w
+
 case thin raw 10 keep class 3 of five
 with -thin_raw 10 -keep_class 3
 take five
 put a
 head 2 0 0 0
 put w
+
 case drop repeated of none
 with -drop_repeated
 head 2 0 0 0
@@ -201,11 +216,6 @@ const STAY: Script = Script {
     after: AFTER,
 };
 
-#[test]
-fn records_that_stay(rt: HostRuntime) {
-    plays(&rt, &STAY);
-}
-
 // A range, filters, positions, cells and changes come one after another: as many runs, one for each, give the same. A
 // bad chunk, the second, ends a run of two readings before its output is created. A coordinate that leaves its range
 // has the number that it has in the list that stays.
@@ -225,6 +235,7 @@ done las2las -i a -o w -start_at_point 200 -stop_at_point 800 -keep_class 2 -set
     -drop_repeated -cores 2 -thin_raw 90 @
 same w v
 above v 227
+
 case one after another, the lowest
 with -lowest
 head 2 0 0 900
@@ -241,6 +252,7 @@ done las2las -i a -o w -start_at_point 200 -stop_at_point 800 -keep_class 2 -set
     -drop_repeated -cores 2 -thin_raw 90 @
 same w v
 above v 227
+
 case one after another, the highest
 with -highest
 head 2 0 0 900
@@ -257,6 +269,7 @@ done las2las -i a -o w -start_at_point 200 -stop_at_point 800 -keep_class 2 -set
     -drop_repeated -cores 2 -thin_raw 90 @
 same w v
 above v 227
+
 case the lowest of no cell
 head 2 0 0 1
 point 0 0 5
@@ -264,6 +277,7 @@ put a
 room b
 ends usage: word 5/ = las2las -i a -o b -lowest
 absent b
+
 case a bad chunk
 head 2 0 0 1000
 records 2 0 0 0 1000
@@ -277,6 +291,7 @@ ends refused: a: 21 BadChunk 1/ = las2las -i a -o d -thin_raw 10
 absent b
 absent c
 above d 226
+
 case a coordinate that leaves its range
 with -thin_raw 10 -translate_raw_x 1
 head 2 0 0 5
@@ -306,6 +321,11 @@ const TWICE: Script = Script {
     cases: OTHER_CASES,
     after: "",
 };
+
+#[test]
+fn records_that_stay(rt: HostRuntime) {
+    plays(&rt, &STAY);
+}
 
 #[test]
 fn two_readings(rt: HostRuntime) {
