@@ -1,0 +1,103 @@
+"""What every check gets: the program that is checked, a place to work in, a small disk, and what a check needs."""
+import os
+import subprocess
+import sys
+from pathlib import Path
+
+import pytest
+
+sys.dont_write_bytecode = True
+pytest.register_assert_rewrite("runs")
+
+import needs  # noqa: E402
+import programs  # noqa: E402
+from places import Place  # noqa: E402
+
+MARKERS = [
+    "slow: takes more than half a minute, or a disk of gigabytes; `./check --all` runs it",
+    "root: needs to be root, to mount a disk or to become another user",
+    "servers: starts a server on this machine, as ssh or Slurm",
+    "kit: needs `rt` of the Rattle kit",
+    "files: a whole run of the program on real files, and nothing else: tried on each build of the program",
+    "alone: measures time or memory, or fills a disk: runs after the rest, one at a time",
+]
+
+
+def pytest_addoption(parser):
+    group = parser.getgroup("balsamvise")
+    group.addoption("--program", metavar="FILE", help="the program that is checked; else LAS_PROGRAM, else the one "
+                                                      "that the launcher runs")
+    group.addoption("--all", action="store_true", help="slow cases too; what is missing for a case is a failure")
+    group.addoption("--alone", choices=["only", "without"], help="cases marked `alone` alone, or all others")
+
+
+def pytest_configure(config):
+    for marker in MARKERS:
+        config.addinivalue_line("markers", marker)
+    if config.getoption("--program"):
+        os.environ["LAS_PROGRAM"] = os.path.abspath(config.getoption("--program"))
+    needs.required = config.getoption("--all")
+
+
+def pytest_report_header(config):
+    return f"checked is {programs.found()}"
+
+
+def pytest_collection_modifyitems(config, items):
+    wanted = config.getoption("--alone")
+    if wanted:
+        kept = [item for item in items if ("alone" in item.keywords) == (wanted == "only")]
+        config.hook.pytest_deselected(items=[item for item in items if item not in kept])
+        items[:] = kept
+    for item in items:
+        if "slow" in item.keywords and not config.getoption("--all"):
+            item.add_marker(pytest.mark.skip(reason="slow: ./check --all runs it"))
+
+
+def pytest_runtest_setup(item):
+    if "root" in item.keywords:
+        needs.root()
+    if "kit" in item.keywords:
+        needs.command("rt", "the Rattle kit")
+
+
+@pytest.fixture(scope="session")
+def program():
+    """The path of the program that is checked."""
+    path = programs.found()
+    assert os.path.isfile(path), f"there is no program {path}"
+    return path
+
+
+@pytest.fixture
+def place(program, tmp_path):
+    """An empty folder in which the program is run."""
+    return Place(tmp_path, program)
+
+
+@pytest.fixture
+def small_disk(tmp_path):
+    """Makes a disk of so many bytes, mounts it and answers its folder: `small_disk(2_000_000)`, `(.., kind="ext4")`."""
+    needs.root()
+    mounted = []
+
+    def mount(size: int, kind: str = "tmpfs") -> Path:
+        folder = tmp_path / f"disk{len(mounted)}"
+        folder.mkdir()
+        if kind == "tmpfs":
+            line = ["mount", "-t", "tmpfs", "-o", f"size={size},mode=755", "none", str(folder)]
+        else:
+            image = tmp_path / f"image{len(mounted)}"
+            with open(image, "wb") as file:
+                file.truncate(size)
+            needs.command(f"mkfs.{kind}", "e2fsprogs" if kind == "ext4" else f"{kind}progs")
+            subprocess.run([f"mkfs.{kind}", "-q", str(image)], check=True)
+            line = ["mount", "-o", "loop", str(image), str(folder)]
+        if subprocess.run(line, stderr=subprocess.DEVNULL, check=False).returncode != 0:
+            needs.missing(f"a disk can't be mounted here ({kind})", "a machine that lets root mount disks")
+        mounted.append(folder)
+        return folder
+
+    yield mount
+    for folder in mounted:
+        subprocess.run(["umount", "-l", str(folder)], check=False)

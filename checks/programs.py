@@ -1,0 +1,19 @@
+"""The program that is checked, its launcher, and the folder of the repository."""
+import functools
+import os
+import subprocess
+from pathlib import Path
+
+TOP = Path(__file__).resolve().parent.parent
+LAUNCHER = TOP / "las"
+BATCH = TOP / "las-batch"
+
+
+@functools.lru_cache(maxsize=None)
+def found() -> str:
+    """The program that is checked: the one that LAS_PROGRAM names, else the one that the launcher runs."""
+    if os.environ.get("LAS_PROGRAM"):
+        return os.path.abspath(os.environ["LAS_PROGRAM"])
+    said = subprocess.run([LAUNCHER, "--version"], stdin=subprocess.DEVNULL, stdout=subprocess.PIPE, check=False).stdout
+    words = os.fsdecode(said).rstrip("\n").split("\n")[-1].split(" ", 2)
+    return str(TOP / words[2]) if words[0] == "program" else str(TOP / "crates" / "las" / "out" / "las")
