@@ -53,8 +53,9 @@ pub record KeepsPromises (run : RunSeen) : Type 0 where
   -- Over known files, a run ends as defined, unless memory is short or a count of faults rose.
   pub complete : (known : FileMap) (ending : Ending) → IsDue run known ending → EndsUnlessExcused run known ending
   -- Over known files, and whatever ends the run, `las2las` asks for no more of its input than opening it takes, and the
-  -- bytes of those of its pieces that meet the range: no piece if it is refused when it is opened, and nothing at all
-  -- if it is missing. With the lowest or the highest of a cell the input is read twice, and this is asked for twice.
+  -- bytes of those of its pieces that meet the range: of a chunk whose number of bytes no chunk of its number of records
+  -- can have none, no piece if it is refused when it is opened, and nothing at all if it is missing. With the lowest or
+  -- the highest of a cell the input is read twice, and this is asked for twice.
   pub asks : (input : List ℕ) (options : Las2lasOptions) (workers : ℕ)
       → run.task.said ≡ words.asks (record { work = reads input (las2las options); workers = workers })
       → AsksFor input options.sieve.pick options.start options.stop run.files run.files_now
