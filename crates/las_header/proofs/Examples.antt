@@ -1,9 +1,9 @@
 -- Values that compute: heads of each version, what they are refused for when some bytes are others, and heads that are
 -- changed.
-use Rattle.std.proofs.Common.{◌≡◌, ℕ, ◌+◌, ◌^◌, List, [], ◌∷◌, ◌++◌, replicate, codes, length, Option, Some, None, refl}
+use Rattle.std.proofs.Common.{◌≡◌, ℕ, ◌+◌, ◌^◌, List, [], ◌∷◌, ◌++◌, replicate, codes, length, take, Option, Some, None, refl}
 use Rattle.std.specs.List.{splice}
 use Rattle.byteorder.specs.Endian.{little_bytes}
-use Rattle.las_header.specs.declared.limits.TheConstants.{LASZIP_DESCRIPTION, LAST_MINOR, MAX_EXTRA, MAX_PLAIN_OFFSET}
+use Rattle.las_header.specs.declared.limits.TheConstants.{LASZIP_DESCRIPTION, LASZIP_RECORD_ID, LASZIP_USER_ID, LAST_MINOR, MAX_EXTRA, MAX_PLAIN_OFFSET}
 use Rattle.las_header.specs.declared.refusal.Refusal.{Refusal}
 use Rattle.las_header.specs.declared.refusal.Refusal.TheVariants as cause
 use Rattle.las_header.specs.Numbers.{number_at, with_number_at}
@@ -178,3 +178,14 @@ greatest_plain_offset = (refl, refl)
 
 laszip_description : LASZIP_DESCRIPTION ≡ codes "laszip version 2 items" ++ replicate 10 0
 laszip_description = refl
+
+-- by which the laszip VLR is known
+laszip_user_id : LASZIP_USER_ID ≡ codes "laszip encoded" ++ 0 ∷ 0 ∷ []
+laszip_user_id = refl
+
+laszip_record_id : LASZIP_RECORD_ID ≡ 22204
+laszip_record_id = refl
+
+-- what it begins with: two zeros, the user ID, and the record ID with its lowest byte first
+laszip_front : take 20 (laszip_vlr []) ≡ 0 ∷ 0 ∷ codes "laszip encoded" ++ 0 ∷ 0 ∷ 188 ∷ 86 ∷ []
+laszip_front = refl
