@@ -17,7 +17,7 @@ import zlib
 from checking import LAS, TOP, content, las
 from packages import missing
 
-MOST_WORDS = 1_200
+MOST_WORDS = 800
 NOT_RUN = re.compile(r"<!-- not run: (.*) -->")
 QUOTED = re.compile(r"(?:<!-- from (\S+) -->\n)?```rust\n(.*?)```", re.DOTALL)
 FENCE = re.compile(r"```(\w*)")
@@ -229,23 +229,25 @@ def edits(cases):
 
 
 def summary(cases):
-    """The README: its length, its promises, and its table of crates."""
+    """The README: its length and its promises; and the table of crates."""
     text = text_of("README.md")
     words = [word for word in re.split(r"[\s|]+", text) if re.search(r"\w", word)]
     cases.note("words of the README", f"{len(words)} words" if len(words) > MOST_WORDS else None)
     known = contracts("las_run")
     laws = {name for name in known if name != "run" and "" in known[name]}
-    names = re.findall(r"`(\w+)`", "".join(re.findall(r"^\d+\. [^:]*:(.*)$", text, flags=re.MULTILINE)))
+    promises = text.partition("\n## What is promised\n")[2].partition("\n## ")[0]
+    names = [name for words in re.findall(r"\(((?:`\w+`,?\s*)+)\)", promises) for name in re.findall(r"\w+", words)]
     missing = [name for name in names if name not in known["run"] | laws]
     problem = f"no clause {missing}" if missing or not names else None
     cases.note(f"promises of the README: {len(names)} clauses", problem)
-    rows = {cells[0].strip("`"): cells for cells in rows_of(text)}
+    table = text_of("docs/architecture.md").partition("\nWhat is proved of each")[2].partition("\n## ")[0]
+    rows = {cells[0].strip("`"): cells for cells in rows_of(table)}
     problems = [f"no row of {crate}" for crate in listed_crates() if crate not in rows]
     for crate in set(listed_crates()) & set(rows):
         calls = set(contracts(crate)) | {call.partition("::")[0] for call in contracts(crate)}
         named = SPAN.findall(rows[crate][2]) if len(rows[crate]) > 2 else []
         problems += [f"{crate}: no call {call}" for call in named if call not in calls]
-    cases.note("crates of the README", "; ".join(problems))
+    cases.note("crates of docs/architecture.md", "; ".join(problems))
 
 
 def script(path):

@@ -35,6 +35,14 @@
 extern "C" {
 #endif
 
+/* The version of this header, as text, and as ten thousand times the major number, a hundred times the minor number, and
+ * the number of the patch. (LAZ_VERSION, below, is a cause for which a file is refused.) */
+#define LAZ_LIBRARY_VERSION "1.2.0"
+#define LAZ_LIBRARY_VERSION_NUMBER 10200
+
+/* The version of the library that the program runs with, in the same form as LAZ_LIBRARY_VERSION_NUMBER. */
+uint32_t laz_c_version(void);
+
 /* What a call answers. */
 enum laz_answer {
     /* Done: what the call writes is whole. */

@@ -200,6 +200,8 @@ function man_causes(    i) {
     read_pairs("causes")
     print ".SH CAUSES\nWith status 5 the input is refused for one of these causes."
     for (i = 1; i <= pairs; i++) print ".TP\n\\fB" pair[i] "\\fR\n" roff(joined(pair_text[i]))
+    print ".SH LICENCE\nApache-2.0 OR MIT, at your option. LAZ has no checksum: damage that still spells point records is not"
+    print "seen by any reader, so keep a manifest of digests beside an archive."
 }
 
 function list_of_words(text) { return fill(text, "", "                ") }

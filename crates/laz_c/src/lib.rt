@@ -10,6 +10,7 @@ mod answers;
 mod chunks;
 mod head;
 mod table;
+mod version;
 mod writing;
 
 pub use answers::{BAD, DONE, NO_MEMORY, WRONG};

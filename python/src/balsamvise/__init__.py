@@ -18,6 +18,8 @@ from .reading import LasFile, read
 from .reading import open_file as open
 from .writing import write
 
+__version__ = "1.2.0"
+
 __all__ = [
     "CAUSES", "Head", "LasFile", "LibraryMissing", "Points", "Refused", "Vlr", "dtype_of", "open", "read", "write",
 ]
