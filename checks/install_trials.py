@@ -59,11 +59,8 @@ class Trial:
         for name in ("sources", "choose.sh", "build.sh", "processor.sh"):
             (self.folder / "release").mkdir(exist_ok=True)
             shutil.copy(TOP / "release" / name, self.folder / "release" / name)
-        for name in (*TOP.glob("LICENSE*"), *TOP.glob("batch")):
-            if name.is_dir():
-                shutil.copytree(name, self.folder / name.name)
-            else:
-                shutil.copy(name, self.folder / name.name)
+        for path in TOP.glob("LICENSE*"):
+            shutil.copy(path, self.folder / path.name)
         (self.folder / "crates" / "las" / "src").mkdir(parents=True)
         (self.folder / "crates" / "las" / "src" / "lib.rt").write_text("fn main() {}\n")
         (self.folder / "crates.txt").write_text("las:\n")

@@ -1,5 +1,5 @@
-"""`install` with each of its steps failing, killed at each, and on a full disk: nothing half is left under a name, another
-run mends it, and what it put there can be taken away.
+"""`install` with each of its steps failing, killed at each, and on a full disk: nothing half is left under a name,
+another run mends it, and what it put there can be taken away.
 """
 import subprocess
 from pathlib import Path

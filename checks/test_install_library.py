@@ -1,5 +1,5 @@
-"""The installed library as a C program finds it: by pkg-config, by its static flags, by CMake; with a version in its name;
-and what `install` asks and refuses.
+"""The installed library as a C program finds it: by pkg-config, by its static flags, by CMake; with a version in its
+name; and what `install` asks and refuses.
 """
 import os
 import pty
@@ -32,8 +32,8 @@ def small(tmp_path: Path) -> Trial:
 def shell(trial: Trial, script: str) -> "subprocess.CompletedProcess[bytes]":
     """A script that knows the prefix, the source of `heights` and the packed sample."""
     environment = {name: kept for name, kept in os.environ.items() if name != "LD_LIBRARY_PATH"}
-    environment.update(P=str(trial.prefix), HEIGHTS=str(TOP / "c" / "heights.c"), TILE=str(TOP / "examples" / "tile.laz"),
-                       PKG_CONFIG_PATH=str(trial.prefix / "lib" / "pkgconfig"))
+    environment.update(P=str(trial.prefix), HEIGHTS=str(TOP / "c" / "heights.c"),
+                       TILE=str(TOP / "examples" / "tile.laz"), PKG_CONFIG_PATH=str(trial.prefix / "lib" / "pkgconfig"))
     return subprocess.run(["sh", "-euc", script], env=environment, cwd=trial.temporary, stdin=subprocess.DEVNULL,
                           stdout=subprocess.PIPE, stderr=subprocess.PIPE, timeout=120, check=False)
 
@@ -46,7 +46,7 @@ def with_soname(trial: Trial) -> None:
     release = trial.folder / "release"
     archive = trial.temporary / "liblaz.a"
     archive.write_bytes(gzip.decompress((release / "liblaz.a.gz").read_bytes()))
-    libc = subprocess.run(["cc", "-print-file-name=libc.so.6"], stdout=subprocess.PIPE, check=True).stdout.decode().strip()
+    libc = subprocess.check_output(["cc", "-print-file-name=libc.so.6"]).decode().strip()
     made = trial.temporary / "liblaz.so"
     subprocess.run(["ld", "-shared", "-soname", "liblaz.so.1", "--whole-archive", str(archive), "--no-whole-archive",
                     libc, "-o", str(made)], check=True)
@@ -73,7 +73,8 @@ def test_a_program_linked_by_pkg_config_starts(trial: Trial) -> None:
 def test_a_program_linked_by_the_static_flags_needs_no_library(trial: Trial) -> None:
     needs.command("pkg-config", "pkg-config")
     assert trial.install().returncode == 0
-    done = shell(trial, 'eval cc -O1 -static \\"\\$HEIGHTS\\" "$(pkg-config --static --cflags --libs liblaz)" -o static\n'
+    done = shell(trial, 'flags=$(pkg-config --static --cflags --libs liblaz)\n'
+                        'eval cc -O1 -static \\"\\$HEIGHTS\\" "$flags" -o static\n'
                         'mv "$P" "$P.away"; ./static "$TILE"')
     prints_heights(done)
 
@@ -89,8 +90,9 @@ def test_a_program_built_by_cmake_starts(trial: Trial, target: str) -> None:
     (project / "CMakeLists.txt").write_text(
         "cmake_minimum_required(VERSION 3.10)\nproject(heights C)\nfind_package(laz 1 REQUIRED)\n"
         f"add_executable(heights heights.c)\ntarget_link_libraries(heights PRIVATE {target})\n")
-    prints_heights(shell(trial, 'cmake -S project -B built -DCMAKE_PREFIX_PATH="$P" >log 2>&1 || { cat log >&2; exit 1; }\n'
-                                'cmake --build built >log 2>&1 || { cat log >&2; exit 1; }\nbuilt/heights "$TILE"'))
+    prints_heights(shell(trial, 'quietly() { "$@" >log 2>&1 || { cat log >&2; exit 1; }; }\n'
+                                'quietly cmake -S project -B built -DCMAKE_PREFIX_PATH="$P"\n'
+                                'quietly cmake --build built\nbuilt/heights "$TILE"'))
 
 
 def test_cmake_refuses_another_first_number(trial: Trial) -> None:
