@@ -59,8 +59,9 @@ class Trial:
         for name in ("sources", "choose.sh", "build.sh", "processor.sh"):
             (self.folder / "release").mkdir(exist_ok=True)
             shutil.copy(TOP / "release" / name, self.folder / "release" / name)
-        for path in TOP.glob("LICENSE*"):
-            shutil.copy(path, self.folder / path.name)
+        for path in sorted((self.folder / "help" / "commands").iterdir()):
+            if path.name != "laszip":
+                path.unlink()  # fewer files, fewer steps
         (self.folder / "crates" / "las" / "src").mkdir(parents=True)
         (self.folder / "crates" / "las" / "src" / "lib.rt").write_text("fn main() {}\n")
         (self.folder / "crates.txt").write_text("las:\n")

@@ -9,12 +9,13 @@ import pytest
 from install_trials import Trial, differences, final
 
 HOWS = ["fails", "before", "after", "interrupt"]
-SHARES = 12
+SHARES = 4
 
 
-def chosen(steps: int, share: int) -> "list[int]":
-    """The steps of a share of them."""
-    return list(range(1 + share, steps + 1, SHARES))
+def chosen(steps: int, how: str, share: int) -> "list[int]":
+    """The steps of a share of them. Each way to end takes every third one, so that each step is met by one or two."""
+    mine = range(1 + HOWS.index(how) % 3, steps + 1, 3)
+    return list(mine)[share::SHARES]
 
 
 @pytest.fixture
@@ -53,7 +54,7 @@ def test_a_first_install_that_ends_at_a_step_is_mended_by_the_next(trial: Trial,
     steps = trial.steps()
     assert trial.install("--remove").returncode == 0
     assert steps > 20
-    for at in chosen(steps, share):
+    for at in chosen(steps, how, share):
         trial.install(at=at, how=how)
         left = final(trial.tree())
         assert left.items() <= final(wanted).items(), (at, differences(left, final(wanted)))
@@ -76,7 +77,7 @@ def test_an_upgrade_that_ends_at_a_step_leaves_a_program_that_runs(trial: Trial,
     first = trial.tree()
     trial.release(2)
     steps = trial.steps()
-    for at in chosen(steps, share):
+    for at in chosen(steps, how, share):
         assert trial.install("--remove").returncode == 0
         trial.release(1)
         assert trial.install().returncode == 0
@@ -95,7 +96,7 @@ def test_an_upgrade_that_ends_at_a_step_leaves_a_program_that_runs(trial: Trial,
 def test_an_install_that_was_cut_off_can_be_removed(trial: Trial, how: str) -> None:
     steps = trial.steps()
     assert trial.install("--remove").returncode == 0
-    for at in range(1, steps + 1, 3):
+    for at in range(1 + HOWS.index(how), steps + 1, 8):
         trial.install(at=at, how=how)
         removed = trial.install("--remove")
         left = {name for name, kept in trial.tree().items() if kept is not None}
@@ -110,7 +111,7 @@ def test_an_install_that_was_cut_off_can_be_removed(trial: Trial, how: str) -> N
 def test_a_removal_that_ends_at_a_step_can_be_repeated(trial: Trial, how: str) -> None:
     assert trial.install().returncode == 0
     steps = trial.steps("--remove")
-    for at in range(1, steps + 1, 3):
+    for at in range(1 + HOWS.index(how), steps + 1, 4):
         assert trial.install().returncode == 0
         (trial.prefix / "bin" / "mine").write_bytes(b"mine")
         trial.install("--remove", at=at, how=how)
