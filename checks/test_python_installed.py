@@ -33,7 +33,7 @@ def place(tmp_path_factory, program):
                         ignore=shutil.ignore_patterns("build", "*.egg-info", "__pycache__"))
         commands.good([program, "make", "-o", folder / "m.las", "-z", folder / "m.laz", "-points", "200000", "-seed",
                        "7", "-format", "3"])
-        lines, = [block for block in blocks("sh") if "pip install" in block]
+        lines, = [block for block in blocks("sh") if "build-isolation ./python" in block]
         commands.good(["sh", "-euc", lines], cwd=folder, env=environment(folder))
 
     return shared.once(tmp_path_factory, "installed", make)
