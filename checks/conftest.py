@@ -15,6 +15,7 @@ from places import Place  # noqa: E402
 
 MARKERS = [
     "slow: takes more than half a minute, or a disk of gigabytes; `./check --all` runs it",
+    "huge: takes minutes, or many gigabytes: `./check --huge` runs these alone, beside the gate",
     "root: needs to be root, to mount a disk or to become another user",
     "servers: starts a server on this machine, as ssh or Slurm",
     "kit: needs `rt` of the Rattle kit",
@@ -28,6 +29,7 @@ def pytest_addoption(parser):
     group.addoption("--program", metavar="FILE", help="the program that is checked; else LAS_PROGRAM, else the one "
                                                       "that the launcher runs")
     group.addoption("--all", action="store_true", help="slow cases too; what is missing for a case is a failure")
+    group.addoption("--huge", action="store_true", help="the cases marked `huge`, alone; what is missing is a failure")
     group.addoption("--alone", choices=["only", "without"], help="cases marked `alone` alone, or all others")
 
 
@@ -36,7 +38,7 @@ def pytest_configure(config):
         config.addinivalue_line("markers", marker)
     if config.getoption("--program"):
         os.environ["LAS_PROGRAM"] = os.path.abspath(config.getoption("--program"))
-    needs.required = config.getoption("--all")
+    needs.required = config.getoption("--all") or config.getoption("--huge")
 
 
 def pytest_report_header(config):
@@ -45,10 +47,11 @@ def pytest_report_header(config):
 
 def pytest_collection_modifyitems(config, items):
     wanted = config.getoption("--alone")
+    kept = [item for item in items if ("huge" in item.keywords) == config.getoption("--huge")]
     if wanted:
-        kept = [item for item in items if ("alone" in item.keywords) == (wanted == "only")]
-        config.hook.pytest_deselected(items=[item for item in items if item not in kept])
-        items[:] = kept
+        kept = [item for item in kept if ("alone" in item.keywords) == (wanted == "only")]
+    config.hook.pytest_deselected(items=sorted(set(items) - set(kept), key=items.index))
+    items[:] = kept
     for item in items:
         if "slow" in item.keywords and not config.getoption("--all"):
             item.add_marker(pytest.mark.skip(reason="slow: ./check --all runs it"))

@@ -17,3 +17,9 @@ def found() -> str:
     said = subprocess.run([LAUNCHER, "--version"], stdin=subprocess.DEVNULL, stdout=subprocess.PIPE, check=False).stdout
     words = os.fsdecode(said).rstrip("\n").split("\n")[-1].split(" ", 2)
     return str(TOP / words[2]) if words[0] == "program" else str(TOP / "crates" / "las" / "out" / "las")
+
+
+@functools.lru_cache(maxsize=None)
+def runs_v3() -> bool:
+    """Whether the processor runs x86-64-v3, as the launcher tells."""
+    return subprocess.run(["sh", "-c", ". release/processor.sh; runs_v3"], cwd=TOP, check=False).returncode == 0

@@ -8,11 +8,13 @@
 
 The files are those of LAS 1.0 to 1.4 with the point data formats 0 to 3 and up to 192 extra bytes a record. Chunks are
 packed and unpacked by the library liblaz, which is looked for in the environment variable `BALSAMVISE_LIBRARY`, beside
-this package, in the `lib` folder of the Python installation, in `/usr/local/lib` and in `/usr/lib`. In each folder the
-library in `glibc-hwcaps/x86-64-v3` comes first if the processor runs it.
+this package, in the `lib` folder of the Python installation, in `/usr/local/lib`, in `/usr/lib`, and where the loader
+finds `liblaz.so.1`. In each folder the library in `glibc-hwcaps/x86-64-v3` comes first if the processor runs it. A wheel
+has the library inside.
 """
-from .errors import CAUSES, LibraryMissing, Refused
+from .errors import CAUSES, LibraryMissing, ProcessorTooOld, Refused
 from .head import Head, Vlr
+from .library import check_processor
 from .points import Points, dtype_of
 from .reading import LasFile, read
 from .reading import open_file as open
@@ -21,5 +23,8 @@ from .writing import write
 __version__ = "1.2.0"
 
 __all__ = [
-    "CAUSES", "Head", "LasFile", "LibraryMissing", "Points", "Refused", "Vlr", "dtype_of", "open", "read", "write",
+    "CAUSES", "Head", "LasFile", "LibraryMissing", "Points", "ProcessorTooOld", "Refused", "Vlr", "dtype_of", "open",
+    "read", "write",
 ]
+
+check_processor()

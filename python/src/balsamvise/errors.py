@@ -38,3 +38,7 @@ class Refused(ValueError):
 
 class LibraryMissing(ImportError):
     """The shared library liblaz.so was not found, or is not one that can be used here."""
+
+
+class ProcessorTooOld(LibraryMissing):
+    """The processor is older than x86-64-v2, which the shared library is built for. Importing the package raises it."""

@@ -2,17 +2,22 @@
 from __future__ import annotations
 
 import ctypes
-import ctypes.util
 import os
 import sys
 from dataclasses import dataclass
 
 import numpy as np
 
-from .errors import LibraryMissing, Refused
+from .errors import LibraryMissing, ProcessorTooOld, Refused
 
 VARIABLE = "BALSAMVISE_LIBRARY"
 """The environment variable that names the shared library, or the folder that has it."""
+
+CPUINFO = "/proc/cpuinfo"
+"""Where the kernel names the parts of the processor."""
+
+V2_FLAGS = frozenset("cx16 lahf_lm popcnt sse4_1 sse4_2 ssse3".split())
+"""What the kernel calls the parts of x86-64-v2."""
 
 V3_FLAGS = frozenset("abm avx avx2 bmi1 bmi2 cx16 f16c fma lahf_lm movbe popcnt sse4_1 sse4_2 ssse3 xsave".split())
 """What the kernel calls the parts of x86-64-v3."""
@@ -38,14 +43,26 @@ class RawHead(ctypes.Structure):
     ]
 
 
+def _flags() -> frozenset[str]:
+    """The parts of the processor that the kernel names; none if it does not tell."""
+    try:
+        with open(CPUINFO, encoding="ascii", errors="replace") as file:
+            return frozenset(next((line for line in file if line.startswith("flags")), "").split())
+    except OSError:
+        return frozenset()
+
+
 def _runs_v3() -> bool:
     """Whether the processor runs programs for x86-64-v3."""
-    try:
-        with open("/proc/cpuinfo", encoding="ascii", errors="replace") as file:
-            flags = next((line for line in file if line.startswith("flags")), "")
-    except OSError:
-        return False
-    return set(flags.split()) >= V3_FLAGS
+    return _flags() >= V3_FLAGS
+
+
+def check_processor() -> None:
+    """Raises `ProcessorTooOld` if the kernel tells of a processor that can't run the library."""
+    flags = _flags()
+    if flags and not flags >= V2_FLAGS:
+        raise ProcessorTooOld("balsamvise needs a processor of x86-64-v2 or later, as most are since 2009: this one has no "
+                              + ", ".join(sorted(V2_FLAGS - flags)))
 
 
 def _in_folder(folder: str) -> list[str]:
@@ -56,14 +73,13 @@ def _in_folder(folder: str) -> list[str]:
 
 
 def _places() -> list[str]:
-    """Where the library may be, in the order in which it is looked for."""
+    """Where the library may be, in the order in which it is looked for; last, where the loader finds its soname."""
     named = os.environ.get(VARIABLE)
     if named:
         return (_in_folder(named) or [os.path.join(named, "liblaz.so")]) if os.path.isdir(named) else [named]
     folders = [os.path.dirname(os.path.abspath(__file__))]
     folders += [os.path.join(prefix, "lib") for prefix in (sys.prefix, "/usr/local", "/usr")]
-    found = ctypes.util.find_library("laz")
-    return [place for folder in folders for place in _in_folder(folder)] + ([found] if found else [])
+    return [place for folder in folders for place in _in_folder(folder)] + ["liblaz.so.1"]
 
 
 def _declared(library: ctypes.CDLL) -> ctypes.CDLL:

@@ -3,9 +3,10 @@ from __future__ import annotations
 
 import os
 import struct
-from concurrent.futures import ThreadPoolExecutor
+from collections import deque
+from concurrent.futures import Future, ThreadPoolExecutor
 from types import TracebackType
-from typing import BinaryIO, Iterator, Union
+from typing import BinaryIO, Callable, Iterator, Union
 
 import numpy as np
 
@@ -14,6 +15,7 @@ from .errors import BAD_CHUNK, TABLE_POINTER, Refused
 from .head import Head, Vlr, plain_head
 from .points import Points, dtype_of
 from .sources import PathSource, StreamSource
+from .sums import EvenSums, Sums
 
 Path = Union[str, "os.PathLike[str]"]
 MAX_THREADS = 256
@@ -37,6 +39,7 @@ class LasFile:
 
     def __init__(self, source: Path | BinaryIO) -> None:
         self._source: PathSource | StreamSource
+        self._firsts: EvenSums | Sums
         if hasattr(source, "read"):
             self._source = StreamSource(source)
         else:
@@ -60,10 +63,7 @@ class LasFile:
             self._read_table(raw, size)
         else:
             self.head = Head(data)
-            points = raw.points
-            full, rest = divmod(points, _PLAIN_CHUNK)
-            sizes = [_PLAIN_CHUNK] * full + [rest] * (rest > 0)
-            self._firsts = np.concatenate([[0], np.cumsum(sizes, dtype=np.int64)]).astype(np.int64)
+            self._firsts = EvenSums(_PLAIN_CHUNK, raw.points)
         self.dtype = dtype_of(self.head.format, self.head.extra)
 
     def _read_table(self, raw: library.RawHead, size: int) -> None:
@@ -84,8 +84,8 @@ class LasFile:
             count = struct.unpack_from("<I", data, 4)[0]
             data = self._source.read(table, min(end - table, library.table_room(count)))
         chunks = library.read_table(self.name, data, raw.chunk, raw.points, table - first)
-        self._firsts = np.concatenate([[0], np.cumsum(chunks.sizes, dtype=np.int64)]).astype(np.int64)
-        self._places = first + np.concatenate([[0], np.cumsum(chunks.counts, dtype=np.int64)]).astype(np.int64)
+        self._firsts = Sums(chunks.sizes) if raw.chunk == library.COUNTED else EvenSums(raw.chunk, raw.points)
+        self._places = Sums(chunks.counts, first)
 
     def __enter__(self) -> LasFile:
         return self
@@ -96,7 +96,7 @@ class LasFile:
 
     def __len__(self) -> int:
         """The number of points."""
-        return int(self._firsts[-1])
+        return self._firsts[len(self._firsts)]
 
     def close(self) -> None:
         """Closes the file. It may be called again."""
@@ -116,16 +116,16 @@ class LasFile:
         """Reads the chunk of this number to an array of its length."""
         count = len(records)
         if not self.is_packed:
-            place = self._start + int(self._firsts[chunk]) * self.dtype.itemsize
+            place = self._start + self._firsts[chunk] * self.dtype.itemsize
             self._source.read_into(place, memoryview(records.view(np.uint8)))
             return
-        place = int(self._places[chunk])
-        data = self._source.read(place, int(self._places[chunk + 1]) - place)
+        place = self._places[chunk]
+        data = self._source.read(place, self._places[chunk + 1] - place)
         if not library.unpack(self.head.format, self.head.extra, data, count, records):
             raise Refused(self.name, BAD_CHUNK, chunk)
 
     def _chunk(self, chunk: int) -> np.ndarray:
-        records = np.empty(int(self._firsts[chunk + 1] - self._firsts[chunk]), self.dtype)
+        records = np.empty(self._firsts[chunk + 1] - self._firsts[chunk], self.dtype)
         self._chunk_to(chunk, records)
         return records
 
@@ -133,27 +133,20 @@ class LasFile:
         """All point records. `threads` threads unpack chunks side by side: 1 to 256."""
         checked_threads(threads)
         records = np.empty(len(self), self.dtype)
-        chunks = range(len(self._firsts) - 1)
 
         def one(chunk: int) -> None:
             self._chunk_to(chunk, records[self._firsts[chunk]:self._firsts[chunk + 1]])
 
         if threads == 1:
-            for chunk in chunks:
+            for chunk in range(len(self._firsts)):
                 one(chunk)
         else:
-            with ThreadPoolExecutor(threads) as pool:
-                try:
-                    for _ in pool.map(one, chunks):
-                        pass
-                except BaseException:
-                    pool.shutdown(wait=True, cancel_futures=True)
-                    raise
+            _side_by_side(one, len(self._firsts), threads)
         return Points(records, self.head)
 
     def chunks(self) -> Iterator[Points]:
         """The point records chunk by chunk, each read when it is asked for. Plain points come 50,000 at a time."""
-        for chunk in range(len(self._firsts) - 1):
+        for chunk in range(len(self._firsts)):
             yield Points(self._chunk(chunk), self.head)
 
     def records(self, start: int, stop: int) -> Points:
@@ -163,13 +156,30 @@ class LasFile:
         records = np.empty(max(stop - start, 0), self.dtype)
         if len(records) == 0:
             return Points(records, self.head)
-        first = int(np.searchsorted(self._firsts, start, "right")) - 1
-        last = int(np.searchsorted(self._firsts, stop, "left"))
-        for chunk in range(first, last):
-            at = int(self._firsts[chunk])
-            low, high = max(start, at), min(stop, int(self._firsts[chunk + 1]))
+        for chunk in range(self._firsts.place(start), self._firsts.place(stop - 1) + 1):
+            at = self._firsts[chunk]
+            low, high = max(start, at), min(stop, self._firsts[chunk + 1])
             records[low - start:high - start] = self._chunk(chunk)[low - at:high - at]
         return Points(records, self.head)
+
+
+def _side_by_side(one: Callable[[int], None], chunks: int, threads: int) -> None:
+    """Calls `one` with each number of a chunk, by so many threads; the error is that of the first chunk that has one.
+
+    Only a few chunks wait at a time: a small file can claim 16,777,216.
+    """
+    waiting: deque[Future[None]] = deque()
+    with ThreadPoolExecutor(min(threads, max(chunks, 1))) as pool:
+        try:
+            for chunk in range(chunks):
+                if len(waiting) >= 2 * threads:
+                    waiting.popleft().result()
+                waiting.append(pool.submit(one, chunk))
+            while waiting:
+                waiting.popleft().result()
+        except BaseException:
+            pool.shutdown(wait=True, cancel_futures=True)
+            raise
 
 
 def open_file(source: Path | BinaryIO) -> LasFile:

@@ -12,16 +12,30 @@ def _cut(name: str) -> OSError:
     return OSError(errno.EIO, "the file became shorter while it was read", name)
 
 
+def not_regular(name: str, mode: int) -> OSError:
+    """What is told of a name that is that of something else than a regular file."""
+    return OSError(errno.EISDIR if stat.S_ISDIR(mode) else errno.EINVAL, "not a regular file", name)
+
+
+def _open(name: str, flags: int) -> int:
+    """Opens a file without waiting, should it have become a FIFO."""
+    return os.open(name, flags | os.O_NONBLOCK | os.O_NOCTTY)
+
+
 class PathSource:
     """A regular file by its name. Threads read it side by side."""
 
     def __init__(self, name: str) -> None:
         self.name = name
-        self._file = open(name, "rb", buffering=0)
+        # looked at first, since to open a FIFO waits and to open a device may do something
+        mode = os.stat(name).st_mode
+        if not stat.S_ISREG(mode):
+            raise not_regular(name, mode)
+        self._file = open(name, "rb", buffering=0, opener=_open)
         status = os.fstat(self._file.fileno())
         if not stat.S_ISREG(status.st_mode):
             self._file.close()
-            raise OSError(errno.EINVAL, "not a regular file", name)
+            raise not_regular(name, status.st_mode)
         self.size = status.st_size
 
     def close(self) -> None:

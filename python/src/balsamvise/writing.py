@@ -2,8 +2,6 @@
 from __future__ import annotations
 
 import os
-import secrets
-import stat
 from concurrent.futures import ThreadPoolExecutor
 from typing import BinaryIO
 
@@ -11,6 +9,7 @@ import numpy as np
 
 from . import library
 from .head import LASZIP, Head
+from .outputs import Output
 from .points import layout_of
 from .reading import Path, checked_threads
 
@@ -31,8 +30,10 @@ def write(path: Path, head: Head, array: np.ndarray, *, packed: bool | None = No
     chunks of `chunk` points, 1 to 250,000, which `threads` threads pack side by side: 1 to 256. The bytes are the same
     for any number of threads, and those that `las laszip` writes.
 
-    The file is written under another name in its folder, and takes its own name when it is whole; before that, a file
-    that is there stays. A name that is not that of a regular file, as of a device, is written to directly.
+    The file is written under another name in its folder, and takes its own name when it is whole and on the disk;
+    before that, a file that is there stays. It keeps that file's mode, and owner and group where the system allows. A
+    symbolic link stays, and what it names is replaced. What is there and is no regular file, as a folder, a FIFO or a
+    device, is refused by `OSError`.
     """
     checked_threads(threads)
     if not 1 <= chunk <= MAX_CHUNK:
@@ -45,7 +46,7 @@ def write(path: Path, head: Head, array: np.ndarray, *, packed: bool | None = No
     if len(records) >= 2**32:
         raise ValueError("a file has fewer than 2^32 points")
     head = _checked(head.for_points(records, format, extra, bounds))
-    with _Output(name) as file:
+    with Output(name) as file:
         if packed:
             _write_packed(file, head, records, chunk, threads)
         else:
@@ -80,30 +81,3 @@ def _write_packed(file: BinaryIO, head: Head, records: np.ndarray, chunk: int, t
     file.write(library.table_of(np.array(counts, np.uint32)))
     file.seek(len(front))
     file.write(place.to_bytes(8, "little"))
-
-
-class _Output:
-    """A file that takes its name when it is whole."""
-
-    def __init__(self, name: str) -> None:
-        try:
-            self._direct = not stat.S_ISREG(os.stat(name).st_mode)
-        except FileNotFoundError:
-            self._direct = False
-        self._name = os.path.realpath(name)
-        self._written = self._name if self._direct else f"{self._name}.{secrets.token_hex(4)}.part"
-
-    def __enter__(self) -> BinaryIO:
-        self._file = open(self._written, "wb" if self._direct else "xb")
-        return self._file
-
-    def __exit__(self, kind: object, error: object, trace: object) -> None:
-        try:
-            self._file.close()
-            if kind is None and not self._direct:
-                if os.path.exists(self._name):
-                    os.chmod(self._written, stat.S_IMODE(os.stat(self._name).st_mode))
-                os.replace(self._written, self._name)
-        finally:
-            if not self._direct and os.path.lexists(self._written):
-                os.remove(self._written)

@@ -1,0 +1,206 @@
+"""`install` with each of its steps failing, killed at each, and on a full disk: nothing half is left under a name,
+another run mends it, and what it put there can be taken away.
+"""
+import subprocess
+from pathlib import Path
+
+import pytest
+
+from install_trials import Trial, differences, final
+
+HOWS = ["fails", "before", "after", "interrupt"]
+SHARES = 4
+
+
+def chosen(steps: int, how: str, share: int) -> "list[int]":
+    """The steps of a share of them. Each way to end takes every third one, so that each step is met by one or two."""
+    mine = range(1 + HOWS.index(how) % 3, steps + 1, 3)
+    return list(mine)[share::SHARES]
+
+
+@pytest.fixture
+def trial(tmp_path: Path) -> Trial:
+    tmp_path.chmod(0o755)
+    it = Trial(tmp_path)
+    it.prefix.mkdir()
+    return it
+
+
+def same(trial: Trial, wanted: "dict[str, object]") -> "list[str]":
+    """How the tree differs from the wanted one. An installer that is killed between its first two folders leaves one
+    that the next can't know for its own, so the list of what was made may differ by that.
+    """
+    return [name for name in differences(trial.tree(), wanted) if name != "share/las/installed"]
+
+
+def is_empty(trial: Trial) -> bool:
+    return trial.tree() in ({}, {"share": None})
+
+
+def whole(trial: Trial) -> "dict[str, object]":
+    """The tree of an install that nothing disturbs; it is removed again."""
+    assert trial.install().returncode == 0
+    tree = trial.tree()
+    assert trial.install("--remove").returncode == 0
+    assert trial.tree() == {}
+    return tree
+
+
+@pytest.mark.slow
+@pytest.mark.parametrize("share", range(SHARES))
+@pytest.mark.parametrize("how", HOWS)
+def test_a_first_install_that_ends_at_a_step_is_mended_by_the_next(trial: Trial, how: str, share: int) -> None:
+    wanted = whole(trial)
+    steps = trial.steps()
+    assert trial.install("--remove").returncode == 0
+    assert steps > 20
+    for at in chosen(steps, how, share):
+        trial.install(at=at, how=how)
+        left = final(trial.tree())
+        assert left.items() <= final(wanted).items(), (at, differences(left, final(wanted)))
+        again = trial.install()
+        assert again.returncode == 0, (at, again.stderr)
+        assert same(trial, wanted) == [], at
+        removed = trial.install("--remove")
+        assert (removed.returncode, removed.stderr) == (0, b""), at
+        assert is_empty(trial), at
+
+
+@pytest.mark.slow
+@pytest.mark.parametrize("share", range(SHARES))
+@pytest.mark.parametrize("how", HOWS)
+def test_an_upgrade_that_ends_at_a_step_leaves_a_program_that_runs(trial: Trial, how: str, share: int) -> None:
+    trial.release(2)
+    wanted = whole(trial)
+    trial.release(1)
+    assert trial.install().returncode == 0
+    first = trial.tree()
+    trial.release(2)
+    steps = trial.steps()
+    for at in chosen(steps, how, share):
+        assert trial.install("--remove").returncode == 0
+        trial.release(1)
+        assert trial.install().returncode == 0
+        trial.release(2)
+        trial.install(at=at, how=how)
+        assert trial.version() in ("version 1", "version 2"), at
+        for name, kept in final(trial.tree()).items():
+            assert kept in (first.get(name), wanted.get(name)), (at, name)
+        again = trial.install()
+        assert again.returncode == 0, (at, again.stderr)
+        assert same(trial, wanted) == [], at
+
+
+@pytest.mark.slow
+@pytest.mark.parametrize("how", HOWS)
+def test_an_install_that_was_cut_off_can_be_removed(trial: Trial, how: str) -> None:
+    steps = trial.steps()
+    assert trial.install("--remove").returncode == 0
+    for at in range(1 + HOWS.index(how), steps + 1, 8):
+        trial.install(at=at, how=how)
+        removed = trial.install("--remove")
+        left = {name for name, kept in trial.tree().items() if kept is not None}
+        assert not left, (at, removed.stderr)
+        assert removed.returncode == 0 or b"nothing is installed" in removed.stderr, (at, removed.stderr)
+        assert trial.install().returncode == 0
+        assert trial.install("--remove").returncode == 0
+
+
+@pytest.mark.slow
+@pytest.mark.parametrize("how", HOWS)
+def test_a_removal_that_ends_at_a_step_can_be_repeated(trial: Trial, how: str) -> None:
+    assert trial.install().returncode == 0
+    steps = trial.steps("--remove")
+    for at in range(1 + HOWS.index(how), steps + 1, 4):
+        assert trial.install().returncode == 0
+        (trial.prefix / "bin" / "mine").write_bytes(b"mine")
+        trial.install("--remove", at=at, how=how)
+        again = trial.install("--remove")
+        assert again.returncode == 0 or b"nothing is installed" in again.stderr, (at, again.stderr)
+        left = {name: kept for name, kept in trial.tree().items() if kept is not None}
+        assert set(left) == {"bin/mine"}, at
+        (trial.prefix / "bin" / "mine").unlink()
+
+
+@pytest.mark.parametrize("how", HOWS)
+def test_some_steps_of_a_first_install(trial: Trial, how: str) -> None:
+    """A few of the steps, in each run of the suite; all of them take `--all`."""
+    wanted = whole(trial)
+    steps = trial.steps()
+    assert trial.install("--remove").returncode == 0
+    for at in range(2 + HOWS.index(how), steps + 1, max(steps // 4, 1)):
+        trial.install(at=at, how=how)
+        left = final(trial.tree())
+        assert left.items() <= final(wanted).items(), (at, differences(left, final(wanted)))
+        assert trial.install().returncode == 0, at
+        assert same(trial, wanted) == [], at
+        assert trial.install("--remove").returncode == 0
+        assert is_empty(trial), at
+
+
+@pytest.mark.parametrize("how", HOWS)
+def test_some_steps_of_an_upgrade(trial: Trial, how: str) -> None:
+    assert trial.install().returncode == 0
+    trial.release(2)
+    steps = trial.steps()
+    wanted = trial.tree()
+    for at in range(2 + HOWS.index(how), steps + 1, max(steps // 4, 1)):
+        trial.release(1)
+        assert trial.install().returncode == 0
+        trial.release(2)
+        trial.install(at=at, how=how)
+        assert trial.version() in ("version 1", "version 2"), at
+        again = trial.install()
+        assert again.returncode == 0, (at, again.stderr)
+        assert same(trial, wanted) == [], at
+
+
+@pytest.mark.root
+@pytest.mark.alone
+def test_a_disk_that_is_full_at_any_place(tmp_path: Path, small_disk) -> None:
+    """The disk has room for so many blocks; then it gets room, and the same line installs."""
+    disk = small_disk(64_000_000)
+    tmp_path.chmod(0o755)
+    trial = Trial(tmp_path, disk / "prefix")
+    trial.prefix.mkdir()
+    wanted = whole(trial)
+
+    def room(size: int) -> None:
+        subprocess.run(["mount", "-o", f"remount,size={size}", str(disk)], check=True)
+
+    failures = 0
+    for blocks in range(1, 400, 7):
+        room(4096 * blocks)
+        limited = trial.install()
+        if limited.returncode == 0:
+            break
+        failures += 1
+        left = final(trial.tree())
+        assert left.items() <= final(wanted).items(), (blocks, differences(left, final(wanted)))
+        room(64_000_000)
+        again = trial.install()
+        assert again.returncode == 0, (blocks, again.stderr)
+        assert same(trial, wanted) == [], blocks
+        assert trial.install("--remove").returncode == 0
+        assert trial.tree() == {}, blocks
+    assert failures > 5
+
+
+@pytest.mark.root
+@pytest.mark.alone
+def test_an_upgrade_on_a_full_disk_leaves_what_is_installed(tmp_path: Path, small_disk) -> None:
+    disk = small_disk(64_000_000)
+    tmp_path.chmod(0o755)
+    trial = Trial(tmp_path, disk / "prefix")
+    assert trial.install().returncode == 0
+    before = trial.tree()
+    used = int(subprocess.run(["du", "-s", "-B4096", str(disk)], stdout=subprocess.PIPE, check=True).stdout.split()[0])
+    trial.release(2)
+    for more in (1, 2, 3, 5, 7):
+        subprocess.run(["mount", "-o", f"remount,size={4096 * (used + more)}", str(disk)], check=True)
+        assert trial.install().returncode == 1
+        assert trial.version() == "version 1", more
+        assert final(trial.tree()) == final(before), more
+    subprocess.run(["mount", "-o", "remount,size=64000000", str(disk)], check=True)
+    assert trial.install().returncode == 0
+    assert trial.version() == "version 2"

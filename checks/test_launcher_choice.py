@@ -1,0 +1,221 @@
+"""Which program the launcher runs, as sources, builds and releases come and go, and where it keeps what it unpacks."""
+import gzip
+import os
+import shutil
+import subprocess
+import tempfile
+
+import pytest
+
+import commands
+from checkouts import TELLER, Checkout, sum_of
+
+FIRST = "pub fn one() {}\n"
+
+
+@pytest.fixture
+def checkout(tmp_path):
+    return Checkout(tmp_path)
+
+
+def fresh(at):
+    pass
+
+
+def other_build(at):
+    at.own()
+
+
+def changed_source(at):
+    at.ran("laszip")
+    at.source().write_text("pub fn two() {}\n")
+
+
+def changed_back(at):
+    changed_source(at)
+    at.ran("laszip")
+    at.source().write_text(FIRST)
+
+
+def added_source(at):
+    at.ran("laszip")
+    at.source("las", "more.rt").write_text("")
+
+
+def other_name(at):
+    at.ran("laszip")
+    at.source("las").rename(at.source("las", "main.rt"))
+
+
+def name_again(at):
+    other_name(at)
+    at.ran("laszip")
+    at.source("las", "main.rt").rename(at.source("las"))
+
+
+def old_time(at):
+    at.ran("laszip")
+    old = at.source().stat()
+    at.source().write_text("pub fn abc() {}\n")
+    os.utime(at.source(), ns=(old.st_atime_ns, old.st_mtime_ns))
+
+
+def other_crate(at):
+    at.ran("laszip")
+    at.source("other").write_text("fn main() { }\n")
+
+
+def built(at):
+    at.source().write_text("pub fn three() {}\n")
+    assert at.ran("laszip", environment=at.with_rt())[0] == "own"
+
+
+def built_earlier(at):
+    built(at)
+    at.source().write_text("pub fn four() {}\n")
+
+
+def released_again(at):
+    built_earlier(at)
+    at.ran("laszip")
+    at.release()
+
+
+def stamped(at):
+    released_again(at)
+    own = at.path("crates", "las", "out", "las")
+    own.with_name("las.stamp").write_text("0" * 64 + sum_of(own.read_bytes()))
+
+
+def stamp_of_another(at):
+    stamped(at)
+    assert at.ran("laszip")[0] == "own"
+    at.path("crates", "las", "out", "las.stamp").write_text("0" * 64 + sum_of(TELLER.encode() + b"x"))
+
+
+def old_stamp(at):
+    stamped(at)
+    at.source().write_text("pub fn five() {}\n")
+    os.utime(at.path("crates", "las", "out", "las.stamp"), ns=(1, 1))
+
+
+# what it shows: how the checkout comes there, and the program that has to run
+STATES = {
+    "a fresh clone runs the released program": (fresh, "released"),
+    "beside a build of which nothing is noted": (other_build, "released"),
+    "a changed source: without rt nothing runs": (changed_source, None),
+    "a source that is changed back: the release again": (changed_back, "released"),
+    "an added source": (added_source, None),
+    "a source of another name": (other_name, None),
+    "a source that has its name again": (name_again, "released"),
+    "a changed source with its old time": (old_time, None),
+    "a changed source of a crate that the program does not stand on": (other_crate, "released"),
+    "a build runs without rt": (built, "own"),
+    "a build that is older than a source": (built_earlier, None),
+    "a release of the changed source": (released_again, "released"),
+    "a build that rt run has stamped": (stamped, "own"),
+    "a stamp of another program": (stamp_of_another, "released"),
+    "a stamp that is older than a source": (old_stamp, None),
+}
+
+
+@pytest.mark.parametrize("start", ["first start", "second start"])
+@pytest.mark.parametrize("state", STATES)
+def test_program_that_runs(checkout, state, start):
+    make, wanted = STATES[state]
+    make(checkout)
+    found, said = checkout.ran("laszip")
+    if start == "second start":
+        found, said = checkout.ran("laszip")
+    assert found == wanted, said
+
+
+@pytest.mark.parametrize("start", ["first start", "second start"])
+def test_changed_source_is_built_with_rt(checkout, start):
+    changed_source(checkout)
+    found, said = checkout.ran("laszip", environment=checkout.with_rt())
+    if start == "second start":
+        found, said = checkout.ran("laszip", environment=checkout.with_rt())
+        assert said == ""
+    assert found == "own"
+    assert checkout.builds.read_text() == "built\n"
+
+
+def test_build_says_how_far_it_is(checkout):
+    changed_source(checkout)
+    _, said = checkout.ran("laszip", environment=checkout.with_rt())
+    for part in ("90 minutes", "las: proving low (crate 1 of 2)", "las: proving las (crate 2 of 2)"):
+        assert part in said
+
+
+def test_build_of_which_nothing_is_noted_is_passed_over_silently(checkout):
+    other_build(checkout)
+    assert [checkout.ran("laszip") for _ in range(2)] == [("released", "")] * 2
+
+
+@pytest.fixture
+def read_only():
+    """A checkout that can't be written, the environment of a user who has a cache, and how the user is become."""
+    with tempfile.TemporaryDirectory() as name:
+        os.chmod(name, 0o777)
+        folder = os.path.join(name, "nobody")
+        os.mkdir(folder)
+        os.chmod(folder, 0o777)
+        at = Checkout(commands.Path(name))
+        environment = {**at.without_rt(), "XDG_CACHE_HOME": folder, "TMPDIR": folder}
+        subprocess.run(["chmod", "-R", "a-w", at.path("release"), at.path("crates")], check=True)
+        yield at, environment, {"preexec_fn": commands.become_nobody} if os.getuid() == 0 else {}
+        subprocess.run(["chmod", "-R", "u+w", at.folder], check=True)
+
+
+def test_checkout_that_cannot_be_written_keeps_the_program_in_the_cache(read_only):
+    at, environment, user = read_only
+    assert [at.ran("laszip", environment=environment, **user) for _ in range(2)] == [("kept", "")] * 2
+
+
+def test_no_place_that_can_be_written(read_only):
+    at, environment, user = read_only
+    temporary = environment["TMPDIR"]
+    run, told = at.start("laszip", "a b", environment={**environment, "XDG_CACHE_HOME": "/proc/none", "ENDS": "5"},
+                         **user)
+    assert run.returncode == 5
+    assert told.startswith("[laszip][a b] 0 1 2 xfsz")
+    assert os.listdir(temporary) == []
+
+
+def test_twelve_first_starts_at_once(checkout):
+    line = [checkout.path("las"), "laszip"]
+    starts = [subprocess.Popen(line, env=checkout.without_rt(), stderr=subprocess.PIPE) for _ in range(12)]
+    ends = [(it.communicate()[1], it.returncode) for it in starts]
+    assert ends == [(b"", 0)] * 12
+    assert [name for name in os.listdir(checkout.path("release", "out")) if name.startswith(".")] == []
+
+
+def test_unpacked_program_that_was_damaged_is_unpacked_again(checkout):
+    for name in ("las-x86-64-v2", "las-x86-64-v3"):
+        assert checkout.ran("laszip") == ("released", "")
+        place = checkout.path("release", "out", name)
+        if place.exists():
+            place.write_bytes(b"damaged")
+    assert checkout.ran("laszip") == ("released", "")
+
+
+@pytest.fixture
+def other_release(checkout):
+    """A checkout with a release that does not unpack to what it says."""
+    checkout.ran("laszip")
+    shutil.rmtree(checkout.path("release", "out"))
+    for name in ("las-x86-64-v2.gz", "las-x86-64-v3.gz"):
+        checkout.path("release", name).write_bytes(gzip.compress(b"#!/bin/sh\necho other\n"))
+    return checkout
+
+
+def test_release_that_is_not_the_one_it_says(other_release):
+    found, said = other_release.ran("laszip")
+    assert found is None
+    assert "could not be unpacked" in said
+
+
+def test_release_that_is_not_the_one_it_says_is_built_instead(other_release):
+    found, said = other_release.ran("laszip", environment=other_release.with_rt())
+    assert found == "own", said
