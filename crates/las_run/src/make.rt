@@ -19,7 +19,7 @@ use las_outside::{Failed, Files, Gate, Sink, put_all};
 use laz_workers::Machine;
 use std::thread::Threads;
 
-/// Writes a plain file of drawn points and its packed form, in chunks of `chunk` points, and puts their sizes.
+/// Writes a plain file of random points and its packed form, in chunks of `chunk` points, and puts their sizes.
 pub fn make<R: Threads + Sync, F: Files, O: Sink, G: Gate>(
     machine: Machine<'_, R, G>,
     files: &mut F,

@@ -41,7 +41,7 @@ use std::thread::Threads;
 /// The commands are `laszip`, which packs a plain file and unpacks a packed one; `las2las`, which filters, thins and
 /// changes records, and tallies those that are kept; `lasinfo`, which reports what is in a file; `lassplit`, which
 /// splits one into parts; `lasmerge`, which merges files that were written under one header; and `make`, which makes a
-/// file of drawn points and its packed form. A name is a text: to contracts, two names are two files.
+/// file of random points and its packed form. A name is a text: to contracts, two names are two files.
 ///
 /// The status is fixed before the line is put, and a fault of `err` changes nothing else.
 ///

@@ -281,7 +281,14 @@ fn first_wrong<R: Threads + Sync>(rt: &R, alloc: Global) -> &'static str {
 #[test]
 fn two_hands_meet(rt: HostRuntime) {
     let row = "two hands meet = 2 1 2 0 200000000 0 10 20";
-    none_is(if row_is_so(&rt, rt.alloc(), row) { "" } else { row }, &rt);
+    none_is(
+        if row_is_so(&rt, rt.alloc(), row) {
+            ""
+        } else {
+            row
+        },
+        &rt,
+    );
 }
 
 #[test]

@@ -82,7 +82,12 @@ fn all_meet<R: Threads + Sync + AllocGlobal + Abort>(
     for line in RUNS.lines() {
         meet(rt, world, line)?;
     }
-    world.play(rt, "outputs", "same b w\nsame c a\nsame d w\nsame e a\nsame g a", "")
+    world.play(
+        rt,
+        "outputs",
+        "same b w\nsame c a\nsame d w\nsame e a\nsame g a",
+        "",
+    )
 }
 
 // The same in a world of its own.
