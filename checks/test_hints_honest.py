@@ -3,6 +3,8 @@ advise to remove anything else.
 """
 import os
 import subprocess
+import tempfile
+from collections.abc import Iterator
 from pathlib import Path
 
 import pytest
@@ -98,23 +100,27 @@ def test_nothing_is_called_a_part_that_was_not_touched(place: Place, name: str) 
 
 
 @pytest.mark.root
-def test_a_file_without_permission_is_not_called_a_part(place: Place, tmp_path: Path) -> None:
+def test_a_file_without_permission_is_not_called_a_part(open_place: Path) -> None:
     needs.command("setpriv", "util-linux")
-    os.chmod(tmp_path, 0o755)
-    for folder in tmp_path.parents:
-        if folder.stat().st_uid == 0 and str(folder).startswith("/tmp/"):
-            os.chmod(folder, folder.stat().st_mode | 0o055)
-    place.write("a.las", FILE)
-    place.write("b.laz", b"older")
-    os.chmod(place.path("b.laz"), 0o444)
-    line = ["setpriv", "--reuid", "65534", "--regid", "65534", "--clear-groups", str(installed(tmp_path)), "laszip",
+    (open_place / "a.las").write_bytes(FILE)
+    (open_place / "b.laz").write_bytes(b"older")
+    os.chmod(open_place / "b.laz", 0o444)
+    line = ["setpriv", "--reuid", "65534", "--regid", "65534", "--clear-groups", str(installed(open_place)), "laszip",
             "-i", "a.las", "-o", "b.laz"]
-    done = subprocess.run(line, env={**os.environ, "LAS_HINTS": "1", "TMPDIR": "/tmp"}, cwd=place.folder, check=False,
+    done = subprocess.run(line, env={**os.environ, "LAS_HINTS": "1", "TMPDIR": "/tmp"}, cwd=open_place, check=False,
                           stdin=subprocess.DEVNULL, stdout=subprocess.PIPE, stderr=subprocess.PIPE, timeout=60)
     said = done.stderr.decode()
     assert done.returncode == 4
     assert "There is no permission to write 'b.laz'." in said
     assert not names_a_part(said), said
+
+
+@pytest.fixture
+def open_place() -> "Iterator[Path]":
+    """A folder that each user can look into, which those of pytest are not."""
+    with tempfile.TemporaryDirectory(dir="/tmp") as name:
+        os.chmod(name, 0o755)
+        yield Path(name)
 
 
 def installed(folder: Path) -> Path:
