@@ -17,6 +17,7 @@ BEGIN {
     else if (form == "usage" && (topic in summary)) print indented(synopsis[topic])
     else if (form == "missing") missing(topic, " " ENVIRON["words"] " ")
     else if (form == "option") option_lines(topic, ENVIRON["words"])
+    else if (form == "near") near(topic, ENVIRON["words"])
     else if (form == "man") man()
     else if (form == "bash") completion()
     else exit 1
@@ -128,7 +129,7 @@ function cause_page(wanted,    i, list) {
     read_pairs("causes")
     for (i = 1; i <= pairs; i++) {
         split(pair[i], list, " ")
-        if (wanted != list[1] && wanted != list[2]) continue
+        if (wanted != list[1] && tolower(wanted) != tolower(list[2])) continue
         print "las: cause " pair[i] "\n"
         print fill(joined(pair_text[i]), "", "")
         exit 0
@@ -142,6 +143,34 @@ function option_lines(name, wanted,    i, list) {
         if (list[1] == wanted) { entry(option[name, i], option_text[name, i], 24); exit 0 }
     }
     exit 1
+}
+
+# the options of a command that differ from a word by two letters at most
+function near(name, word,    i, list, found) {
+    for (i = 1; i <= number[name]; i++) {
+        split(option[name, i], list, " ")
+        if (distance(list[1], word) <= 2) found = found (found == "" ? "" : " ") list[1]
+    }
+    if (found == "") exit 1
+    print found
+}
+
+# how many letters have to be put in, taken out or changed to make one word the other
+function distance(a, b,    i, j, row, above, left, best) {
+    for (j = 0; j <= length(b); j++) row[j] = j
+    for (i = 1; i <= length(a); i++) {
+        left = i
+        for (j = 1; j <= length(b); j++) {
+            above = row[j - 1] + (substr(a, i, 1) != substr(b, j, 1))
+            best = row[j] + 1
+            if (left + 1 < best) best = left + 1
+            if (above < best) best = above
+            row[j - 1] = left
+            left = best
+        }
+        row[length(b)] = left
+    }
+    return row[length(b)]
 }
 
 # the needed options of a command that are not among the words that were given
