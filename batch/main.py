@@ -100,7 +100,7 @@ class Batch:
             refuse(f"another las-batch works in {quoted(self.odir)}")
         kind = kind_of_disk(folder_of(self.base))
         if on_network(kind):
-            refuse(f"the state can't lie on a disk of another machine ({kind}): -state FOLDER names a folder of this one")
+            refuse(f"the state can't lie on a file server ({kind}): -state FOLDER names a folder of this machine")
         return State(self.base, os.path.realpath(self.odir))
 
     def place_of(self, run: Run) -> bytes:
@@ -241,7 +241,8 @@ class Batch:
         self.texts["log"] = self.texts["log"] if self.words.has("log") else os.fsencode(run.settings["log"])
         os.chdir(run.settings["cwd"])
         self.settle(finish=True)
-        run.settings.update(retries=self.words.number("retries", run.settings["retries"]), slurm=self.words.has("slurm"))
+        retries = self.words.number("retries", run.settings["retries"])
+        run.settings.update(retries=retries, slurm=self.words.has("slurm"))
         run.jobs = self.words.number("jobs", run.jobs)
         jobs = self.state.jobs()
         return self.execute(run, jobs, self.left(run, jobs), Plan())
@@ -331,9 +332,9 @@ class Batch:
             most = self.words.number("jobs", 0)
             return Slurm(run, intake, todo, self.runner, las, os.path.abspath(place), most=most or None)
         if self.words.has("hosts"):
-            share = self.words.values.get("jobs", "100%")
-            return Hosts(run, intake, todo, self.runner, las, place, hosts=self.words.value("hosts") or b"", share=share,
-                         ship=self.words.has("ship"))
+            share, hosts = self.words.values.get("jobs", "100%"), self.words.value("hosts") or b""
+            ship = self.words.has("ship")
+            return Hosts(run, intake, todo, self.runner, las, place, hosts=hosts, share=share, ship=ship)
         return Here(run, intake, todo, self.runner, las, place)
 
     def for_all_processors(self, las: bytes) -> bytes:

@@ -12,7 +12,8 @@ from .state import Made, State
 from .texts import read_sum_line, refuse, sum_line
 
 
-def check_manifest(manifest: bytes, pairs: list[tuple[bytes, bytes]], found: dict[bytes, Optional[Identity]]) -> list[bytes]:
+def check_manifest(manifest: bytes, pairs: list[tuple[bytes, bytes]],
+                   found: dict[bytes, Optional[Identity]]) -> list[bytes]:
     """The paths of both manifests: what is there already has to be a manifest."""
     paths = [check_text(name, pairs, found, "manifest") for name in (manifest, manifest + b".plain")]
     for path in paths:

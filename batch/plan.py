@@ -220,7 +220,8 @@ class Planner:
         """Whether an output is the file that the state knows; one that was moved or restored has its sum compared."""
         if there.same_file(record.found):
             return True
-        return there[2:4] == record.found[2:4] and record.output_sum != "" and self.sum_is(job.output, record.output_sum)
+        known = there[2:4] == record.found[2:4] and record.output_sum != ""
+        return known and self.sum_is(job.output, record.output_sum)
 
     def same_input(self, job: Job, source: Identity, record: Made) -> bool:
         if source.unchanged(record.source):

@@ -23,7 +23,8 @@ TABLES = """
 CREATE TABLE run (id INTEGER PRIMARY KEY CHECK (id = 1), folder BLOB NOT NULL, token TEXT NOT NULL,
                   settings TEXT NOT NULL, words BLOB NOT NULL, jobs INTEGER NOT NULL);
 CREATE TABLE job (number INTEGER PRIMARY KEY, input BLOB NOT NULL, output BLOB NOT NULL, older TEXT,
-                  adopt INTEGER NOT NULL, state INTEGER NOT NULL, removal INTEGER NOT NULL, status TEXT NOT NULL, said BLOB NOT NULL,
+                  adopt INTEGER NOT NULL, state INTEGER NOT NULL, removal INTEGER NOT NULL,
+                  status TEXT NOT NULL, said BLOB NOT NULL,
                   host TEXT NOT NULL, begun INTEGER NOT NULL, took INTEGER NOT NULL, source TEXT, draft BLOB,
                   found TEXT,
                   input_sum TEXT, output_sum TEXT, plain_sum TEXT, hidden BLOB);
@@ -99,8 +100,8 @@ class Made:
     @classmethod
     def of(cls, row: tuple[Any, ...]) -> Made:
         output, input_, source, found, words, las, input_sum, output_sum, plain_sum, removed = row
-        return cls(output, input_, Identity.read(source), Identity.read(found), words, las, input_sum, output_sum, plain_sum,
-                   bool(removed))
+        return cls(output, input_, Identity.read(source), Identity.read(found), words, las, input_sum, output_sum,
+                   plain_sum, bool(removed))
 
 
 @dataclass

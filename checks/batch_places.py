@@ -124,6 +124,26 @@ def wait_until(holds: Any, seconds: float = 60) -> bool:
     return True
 
 
+def with_descendants(process: int) -> list[int]:
+    """A process and all that it started, as far as their parents live."""
+    below: dict[int, list[int]] = {}
+    for name in os.listdir("/proc"):
+        if name.isdigit():
+            with contextlib.suppress(OSError):
+                fields = Path("/proc", name, "stat").read_text().rpartition(")")[2].split()
+                below.setdefault(int(fields[1]), []).append(int(name))
+    found = [process]
+    for one in found:
+        found += below.get(one, [])
+    return found
+
+
+def signal_all(processes: list[int], number: int) -> None:
+    for process in processes:
+        with contextlib.suppress(ProcessLookupError):
+            os.kill(process, number)
+
+
 def processes_with(text: Union[str, Path]) -> list[str]:
     """The command lines of running processes that hold a text."""
     found = []

@@ -79,7 +79,8 @@ class SshServer(Servers):
         os.makedirs(self.home)
         os.makedirs("/run/sshd", exist_ok=True)
         self.write("config", [
-            f"Port {port}", "ListenAddress 127.0.0.1", f"HostKey {path('host')}", f"AuthorizedKeysFile {path('authorized')}",
+            f"Port {port}", "ListenAddress 127.0.0.1", f"HostKey {path('host')}",
+            f"AuthorizedKeysFile {path('authorized')}",
             "PidFile none", "StrictModes no", "PasswordAuthentication no", "KbdInteractiveAuthentication no",
             f"SetEnv HOME={self.home}", "MaxStartups 100", "MaxSessions 100", "PermitRootLogin yes"])
         self.write("ssh", ["#!/bin/sh", f"exec /usr/bin/ssh -p {port} -i '{path('user')}' "
@@ -106,7 +107,8 @@ class Slurm(Servers):
         Path(path("munge/key")).write_bytes(secrets.token_bytes(1024))
         os.chmod(path("munge/key"), 0o400)
         self.start("munged", "-F", "-f", f"--key-file={path('munge/key')}", f"--socket={path('munge/socket')}",
-                   f"--pid-file={path('munge/pid')}", f"--log-file={path('munge/log')}", f"--seed-file={path('munge/seed')}")
+                   f"--pid-file={path('munge/pid')}", f"--log-file={path('munge/log')}",
+                   f"--seed-file={path('munge/seed')}")
         wait_until(lambda: os.path.exists(path("munge/socket")), 20)
         self.write("slurm.conf", [
             "ClusterName=check", f"SlurmctldHost={host}(127.0.0.1)", "SlurmUser=root", "AuthType=auth/munge",
@@ -114,7 +116,8 @@ class Slurm(Servers):
             f"SlurmdPort={free_port()}", f"StateSaveLocation={path('state')}", f"SlurmdSpoolDir={path('spool')}",
             f"SlurmctldPidFile={path('slurmctld.pid')}", f"SlurmdPidFile={path('slurmd.pid')}",
             "ProctrackType=proctrack/pgid", "TaskPlugin=task/none", "SelectType=select/cons_tres",
-            "SelectTypeParameters=CR_CPU", "MpiDefault=none", "ReturnToService=2", "SchedulerParameters=sched_interval=2",
+            "SelectTypeParameters=CR_CPU", "MpiDefault=none", "ReturnToService=2",
+            "SchedulerParameters=sched_interval=2",
             "JobAcctGatherType=jobacct_gather/none", "AccountingStorageType=accounting_storage/none",
             f"NodeName={host} NodeAddr=127.0.0.1 CPUs={os.cpu_count()} State=UNKNOWN",
             f"PartitionName=all Nodes={host} Default=YES MaxTime=INFINITE State=UP"])
@@ -122,6 +125,7 @@ class Slurm(Servers):
         environment = dict(os.environ, **self.environment)
         self.start("slurmctld", "-D", "-f", path("slurm.conf"), env=environment)
         self.start("slurmd", "-D", "-f", path("slurm.conf"), "-N", host, env=environment)
-        wait_until(lambda: b"idle" in subprocess.run(["sinfo", "-h", "-o", "%t"], env=environment, stdout=subprocess.PIPE,
+        line = ["sinfo", "-h", "-o", "%t"]
+        wait_until(lambda: b"idle" in subprocess.run(line, env=environment, stdout=subprocess.PIPE, check=False,
                                                      stderr=subprocess.DEVNULL).stdout, 60)
         return self

@@ -21,8 +21,8 @@ class Stock:
         for number in range(200):
             name = ODD[number] if number < len(ODD) else f"{number:03}.las"
             made = folder / "made.las", folder / "made.laz"
-            subprocess.run([las, "make", "-o", made[0], "-z", made[1], "-points", str(100 + number), "-seed", str(number)],
-                           stdout=subprocess.DEVNULL, check=True)
+            subprocess.run([las, "make", "-o", made[0], "-z", made[1], "-points", str(100 + number),
+                            "-seed", str(number)], stdout=subprocess.DEVNULL, check=True)
             os.rename(made[0], folder / "tiles" / name)
             self.plain[name] = (folder / "tiles" / name).read_bytes()
             self.packed[packed(name)] = made[1].read_bytes()

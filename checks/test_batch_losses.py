@@ -9,7 +9,7 @@ from pathlib import Path
 import pytest
 
 import needs
-from batch_places import Tiles, processes_with, wait_until
+from batch_places import Tiles, processes_with, signal_all, wait_until, with_descendants
 
 
 @pytest.fixture
@@ -164,9 +164,13 @@ def test_resume_goes_on_after_a_power_cut(tiles, small_disk, turn):
     las = tiles.slow(0.05)
     with tiles.running("laszip", "-odir", out, *wanted, las=las) as run:
         assert wait_until(lambda: out.is_dir() and len(list(out.glob("*.laz"))) > 5 + 3 * turn)
-        # what ext4 has not yet written is not in its image
+        # what ext4 has not yet written is not in its image; nothing is written while it is copied
+        for _ in range(3):
+            processes = with_descendants(run.pid)
+            signal_all(processes, signal.SIGSTOP)
+        time.sleep(0.2)
         image = shutil.copy(tiles.path("image0"), tiles.path("after"))
-        os.killpg(run.pid, signal.SIGKILL)
+        signal_all(processes, signal.SIGKILL)
     assert wait_until(lambda: not processes_with(out), 20)
     subprocess.run(["umount", disk], check=True)
     subprocess.run(["mount", "-o", "loop", image, disk], check=True)

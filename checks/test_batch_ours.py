@@ -1,4 +1,4 @@
-"""What las-batch takes for its own: what stays, what is made again, -force, -adopt, -check, and states that are refused."""
+"""What las-batch takes for its own: what stays, what is made again, -force, -adopt, -check, and refused states."""
 import os
 import shutil
 import sqlite3
@@ -121,7 +121,8 @@ def test_other_workers_make_nothing_again(tiles):
 def test_another_version_of_las_makes_nothing_again(tiles):
     tiles.make("tiles/a.las")
     for version in "1", "2":
-        las = tiles.command("las", f'[ "$1" != --version ] || {{ echo las {version}; exit; }}\nexec {tiles.program} "$@"')
+        script = f'[ "$1" != --version ] || {{ echo las {version}; exit; }}\nexec {tiles.program} "$@"'
+        las = tiles.command("las", script)
         run = tiles.batch("laszip", "-odir", "out", "tiles/a.las", las=str(las))
     ended(run, 0, b"1 of 1 outputs")
 

@@ -59,8 +59,8 @@ def test_a_job_array_and_its_resume(tiles, cluster):
 
 
 def test_an_array_goes_on_after_a_kill_and_resume_takes_its_rows_in(tiles, cluster):
-    with tiles.running("laszip", "-odir", "out", "-slurm", "-verify", "-delete", *tiles.names(0, 12), las=tiles.slow(0.5),
-                       environment=cluster.environment) as run:
+    words = ["laszip", "-odir", "out", "-slurm", "-verify", "-delete", *tiles.names(0, 12)]
+    with tiles.running(*words, las=tiles.slow(0.5), environment=cluster.environment) as run:
         assert wait_until(lambda: queued(cluster))
         assert wait_until(lambda: list(tiles.path("out/.las-batch").glob("run.*/rows.*")))
         os.kill(run.pid, signal.SIGKILL)
