@@ -1,7 +1,7 @@
-# Read by the launcher `las` if standard error is a terminal, if LAS_HINTS or LAS_SAFE is set, or if the program lies in a
-# folder `once` that is removed after the run: runs the program as a child. On the terminal, or wherever standard error goes
-# if LAS_HINTS is set, it tells what can be known of a run that has not ended with status 0. Signals go on to the program,
-# and the launcher ends as the program did.
+# Read by the launcher `las` if standard error is a terminal, if LAS_HINTS or LAS_SAFE is set, or if the program lies in
+# a folder `once` that is removed after the run: runs the program as a child. On the terminal, or wherever standard error
+# goes if LAS_HINTS is set, it tells what can be known of a run that has not ended with status 0. Signals go on to the
+# program, and the launcher ends as the program did.
 
 hint() { printf '%s\n' "$1" >&2; }
 
@@ -130,7 +130,7 @@ after_wrong_value() {
     if [ "$1" = lasmerge ]; then
         hint "Before each input stands -i: -i $(plain "$word")"
     elif [ $names -gt 1 ] && [ "$1" != make ] && [ "$1" != lassplit ]; then
-        hint "A run has one input, after -i. For many files: las-batch $1 -odir FOLDER NAME...; see \`las help las-batch\`."
+        hint "A run has one input, after -i. For many files: las-batch $1 -odir FOLDER NAME..."
     elif [ -e "$word" ]; then
         hint "This word belongs to no option. A name stands after its option, as -i $(plain "$word")"
     else
@@ -208,15 +208,15 @@ after_unequal() {
     *': length') hint "The record length is another one than that of the first input: there are other extra bytes." ;;
     *': scales') hint "The scale factors are others than those of the first input." ;;
     *': offsets') hint "The offsets of x, y and z are others than those of the first input." ;;
-    *': box') hint "The header's box, the least and greatest x, y and z, is another one than that of the first input." ;;
+    *': box') hint "The header's box, the least and greatest x, y and z, is another than that of the first input." ;;
     'too many points') hint "All inputs together have 4294967296 points or more, and a file has fewer." ;;
     'too many chunks') hint "All inputs together have more than 16777216 chunks. Merge without -copy_chunks." ;;
     *) return ;;
     esac
     case $1 in
     unequal*)
-        hint "lasmerge joins files of one header, as the parts that lassplit makes of a file, and changes no record. Bring"
-        hint "the inputs to one header with another tool first."
+        hint "lasmerge joins files of one header, as the parts that lassplit makes of a file, and changes no record."
+        hint "Bring the inputs to one header with another tool first."
         ;;
     esac
 }

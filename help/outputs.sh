@@ -1,5 +1,5 @@
-# Read by help/hints.sh: what is known of the outputs that the words name. Only what this run has made or written is ever
-# called a part, as told by what was there before it and by the file `marker`, which was made right before it began.
+# Read by help/hints.sh: what is known of the outputs that the words name. Only what this run has made or written is
+# ever called a part, as told by what was there before it and by the file `marker`, which was made right before it began.
 
 # Calls $1 with each value of -o and -z.
 each_output() {
