@@ -73,7 +73,7 @@ static void note(const char *setting, int fd, const void *bytes, size_t kept, si
 
 #define NEXT(name) ((__typeof__(&name))dlsym(RTLD_NEXT, #name))
 
-static mode_t mode_of(int flags, va_list words) { return flags & O_CREAT ? va_arg(words, mode_t) : 0; }
+static mode_t mode_of(int flags, va_list words) { return (flags & O_CREAT) ? va_arg(words, mode_t) : 0; }
 
 #define OPEN(name)                                                                                                     \
     int name(const char *path, int flags, ...) {                                                                       \
