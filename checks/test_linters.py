@@ -7,7 +7,7 @@ import sources
 from programs import TOP
 
 SHELL = sources.scripts("sh", "bash")
-PYTHON = [path for path in sources.scripts("python3") if "batch" not in path.name or path.parts[0] != ".ci"]
+PYTHON = sources.scripts("python3")
 C = [path for path in sources.files() if path.suffix == ".c"]
 # what mypy takes as one program: the sources and the folder of their modules
 PROGRAMS = {
