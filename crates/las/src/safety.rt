@@ -1,5 +1,4 @@
 //! What is asked of outputs in the environment.
-ghost use Rattle.std.specs.Prelude.{◌≡◌};
 
 use std::env::{Env, FillError};
 
@@ -7,7 +6,7 @@ use std::env::{Env, FillError};
 const VARIABLE: &str = "LAS_SAFE";
 
 /// How outputs are written.
-#[derive(Clone, Copy, PartialEq, Eq)]
+#[derive(Clone, Copy)]
 pub enum Safety {
     /// Under their own names, from their first byte on.
     Plain,
