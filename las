@@ -33,7 +33,7 @@ listing() {
 
 # Sets `program` as the stamp $1 names it, if that still holds.
 stamped() {
-    [ -f "$1" ] && read -r program <"$1" && [ -n "$program" ] && listing "$program" | cmp -s - "$1" || return 1
+    [ -r "$1" ] && read -r program <"$1" && [ -n "$program" ] && listing "$program" | cmp -s - "$1" || return 1
     case $program in /*) ;; *) program=$top/$program ;; esac
 }
 
@@ -57,6 +57,11 @@ find_program() {
     program=$(. "$top/release/choose.sh" </dev/null) || exit 1
 }
 
+if [ "${1-}" = --safe ]; then
+    LAS_SAFE=${LAS_SAFE:-1}
+    export LAS_SAFE
+    shift
+fi
 if [ $# -eq 0 ]; then
     . "$help/help.sh"
     show las
@@ -79,7 +84,7 @@ esac
 find_program
 once=
 case $program in */las-once.*/*) once=${program%/*} ;; esac
-if [ -t 2 ] || [ -n "$once" ]; then
+if [ -t 2 ] || [ -n "$once${LAS_HINTS-}${LAS_SAFE-}" ]; then
     . "$help/hints.sh"
     run_with_hints "$@"
 fi

@@ -46,7 +46,7 @@ struct block {
     size_t mapped;
 };
 
-static void fail(const char *what)
+static _Noreturn void fail(const char *what)
 {
     fprintf(stderr, "check: %s\n", what);
     exit(9);
@@ -69,6 +69,8 @@ static struct block block_of(size_t length)
 static struct block copy_of(const uint8_t *bytes, size_t length)
 {
     struct block block = block_of(length);
+    if (length > 0 && bytes == NULL)
+        fail("bytes of no file");
     if (length > 0)
         memcpy(block.bytes, bytes, length);
     return block;
@@ -88,11 +90,12 @@ struct buffer {
 
 static void put(struct buffer *out, const void *bytes, size_t length)
 {
-    if (out->length + length > out->room) {
-        out->room = 2 * (out->length + length);
-        out->bytes = realloc(out->bytes, out->room);
-        if (out->bytes == NULL)
+    if (out->bytes == NULL || out->length + length > out->room) {
+        uint8_t *more = realloc(out->bytes, 2 * (out->length + length) + 1);
+        if (more == NULL)
             fail("out of memory");
+        out->room = 2 * (out->length + length) + 1;
+        out->bytes = more;
     }
     if (length > 0)
         memcpy(out->bytes + out->length, bytes, length);

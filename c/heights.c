@@ -74,8 +74,11 @@ static int heights(const char *name, const uint8_t *file, size_t size)
     chunks = laz_c_chunks(file + table, end - table, head.chunk, head.points);
     points = malloc(4 * (size_t)chunks + 1);
     bytes = malloc(4 * (size_t)chunks + 1);
-    if (points == NULL || bytes == NULL)
+    if (points == NULL || bytes == NULL) {
+        free(points);
+        free(bytes);
         return 1;
+    }
     answer = laz_c_table(file + table, end - table, head.chunk, head.points, table - head.offset - 8, points, chunks,
                          bytes, chunks, &cause);
     at = (uint64_t)head.offset + 8;

@@ -1,5 +1,6 @@
 """What every check gets: the program that is checked, a place to work in, a small disk, and what a check needs."""
 import os
+import shutil
 import subprocess
 import sys
 from pathlib import Path
@@ -7,7 +8,7 @@ from pathlib import Path
 import pytest
 
 sys.dont_write_bytecode = True
-pytest.register_assert_rewrite("runs")
+pytest.register_assert_rewrite("runs", "commands", "measured", "failing_calls", "library_files")
 
 import needs  # noqa: E402
 import programs  # noqa: E402
@@ -70,6 +71,13 @@ def program():
     path = programs.found()
     assert os.path.isfile(path), f"there is no program {path}"
     return path
+
+
+@pytest.fixture
+def tmp_path(tmp_path):
+    """pytest's, which is removed after the case: pytest itself keeps what three runs of the suite made."""
+    yield tmp_path
+    shutil.rmtree(tmp_path, ignore_errors=True)
 
 
 @pytest.fixture

@@ -33,9 +33,9 @@ static const char *setting(const char *name) {
 
 /* The whole path of a name, as a call takes it. */
 static void whole_path(int folder, const char *name, char *path, size_t room) {
-    char link[64];
     ssize_t length = 0;
     if (name[0] != '/') {
+        char link[64];
         snprintf(link, sizeof link, folder == AT_FDCWD ? "/proc/self/cwd" : "/proc/self/fd/%d", folder);
         length = syscall(SYS_readlink, link, path, room - 1);
         if (length < 0)
@@ -128,7 +128,7 @@ static int opened(int folder, const char *name, int flags, mode_t mode) {
     int name(const char *path, int flags, ...) {                                                                      \
         va_list more;                                                                                                 \
         va_start(more, flags);                                                                                        \
-        mode_t mode = flags & (O_CREAT | O_TMPFILE) ? va_arg(more, mode_t) : 0;                                       \
+        mode_t mode = (flags & (O_CREAT | O_TMPFILE)) ? va_arg(more, mode_t) : 0;                                     \
         va_end(more);                                                                                                 \
         return opened(AT_FDCWD, path, flags, mode);                                                                   \
     }
@@ -136,7 +136,7 @@ static int opened(int folder, const char *name, int flags, mode_t mode) {
     int name(int folder, const char *path, int flags, ...) {                                                          \
         va_list more;                                                                                                 \
         va_start(more, flags);                                                                                        \
-        mode_t mode = flags & (O_CREAT | O_TMPFILE) ? va_arg(more, mode_t) : 0;                                       \
+        mode_t mode = (flags & (O_CREAT | O_TMPFILE)) ? va_arg(more, mode_t) : 0;                                     \
         va_end(more);                                                                                                 \
         return opened(folder, path, flags, mode);                                                                     \
     }

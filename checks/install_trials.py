@@ -59,6 +59,8 @@ class Trial:
         for name in ("sources", "choose.sh", "build.sh", "processor.sh"):
             (self.folder / "release").mkdir(exist_ok=True)
             shutil.copy(TOP / "release" / name, self.folder / "release" / name)
+        if (TOP / "batch").is_dir():
+            shutil.copytree(TOP / "batch", self.folder / "batch", ignore=shutil.ignore_patterns("__pycache__"))
         for path in sorted((self.folder / "help" / "commands").iterdir()):
             if path.name != "laszip":
                 path.unlink()  # fewer files, fewer steps

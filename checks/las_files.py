@@ -85,6 +85,22 @@ def lidar(format_: int, extra: int, count: int) -> list[bytes]:
     return points
 
 
+def many(count: int) -> list[bytes]:
+    """Records that differ in class, source and return."""
+    points = []
+    for i in range(count):
+        point = bytearray(record(i, (7 * i) % 5, flags=1 + i % 3 + 8 * (1 + i % 3)))
+        struct.pack_into("<H", point, 18, 300 - i % 4)
+        points.append(bytes(point))
+    return points
+
+
+def chunk_place(data: bytes) -> tuple[int, int]:
+    """Where the chunks of a packed file begin, and where they end."""
+    offset = struct.unpack_from("<I", data, 96)[0]
+    return offset + 8, struct.unpack_from("<Q", data, offset)[0]
+
+
 # A file of one record, and its packed form byte by byte: a head with a laszip VLR, the pointer, the chunk, its table.
 ONE = head(1, (1, 0, 0, 0, 0)) + record(5, 0)
 ONE_VLR = struct.pack("<H16sHH32s", 0, b"laszip encoded", 22204, 40, b"laszip version 2 items") + struct.pack(

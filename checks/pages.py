@@ -21,7 +21,7 @@ LINK = re.compile(r"\[[^\]]*\]\(([^)\s]+)\)")
 
 def pages() -> list[str]:
     docs = sorted(f"docs/{name}" for name in os.listdir(TOP / "docs") if name.endswith(".md"))
-    return ["README.md", "CONTRIBUTING.md", "CHANGELOG.md", *docs]
+    return ["README.md", "CONTRIBUTING.md", "CHANGELOG.md", "checks/README.md", *docs]
 
 
 def text_of(page: str) -> str:

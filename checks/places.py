@@ -2,7 +2,7 @@
 import os
 import subprocess
 from pathlib import Path
-from typing import Any, Union
+from typing import Any, Optional, Union
 
 Word = Union[str, bytes, Path]
 
@@ -13,6 +13,8 @@ class Place:
     def __init__(self, folder: Path, program: str) -> None:
         self.folder = folder
         self.program = program
+        self.environment: Optional[dict[str, str]] = None
+        self.user: dict[str, Any] = {}
 
     def path(self, name: str) -> Path:
         return self.folder / name

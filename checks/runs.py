@@ -19,3 +19,14 @@ def holds(place: Place, wanted: dict[str, Optional[bytes]]) -> None:
         else:
             assert place.path(name).is_file(), f"{name} is not there"
             assert place.read(name) == data, f"{name} holds other bytes"
+
+
+def done(place: Place, *words: Any, **options: Any) -> None:
+    """A run that has to end with status 0, and to put nothing on a stream."""
+    ended(place.las(*words, **options), 0)
+
+
+def unpacks(place: Place, name: str, data: bytes, *words: Any) -> None:
+    """A packed file of a place has to be unpacked to these bytes."""
+    done(place, "laszip", "-i", name, "-o", "unpacked.las", *words)
+    holds(place, {"unpacked.las": data})

@@ -4,7 +4,7 @@ from pathlib import Path
 
 from programs import TOP
 
-LEFT_OUT = {".git", "out", "build", "lib", "venv", "__pycache__"}
+LEFT_OUT = {".git", "out", "build", "lib", "venv", "__pycache__", ".mypy_cache"}
 
 
 def files() -> list[Path]:

@@ -9,7 +9,7 @@ import runs
 from programs import TOP
 
 FOLDER = TOP / "examples" / "exchange"
-SUMS = dict(reversed(line.split("  ")) for line in (FOLDER / "plain.sha256").read_text().splitlines())
+SUMS = {line[66:]: line[:64] for line in (FOLDER / "plain.sha256").read_text().splitlines()}
 NAMES = sorted(name[:-len(".las")] for name in SUMS)
 
 

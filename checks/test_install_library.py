@@ -255,3 +255,29 @@ def test_no_answer_installs_nothing(small: Trial) -> None:
     status, shown = asked(small, b"\x04")
     assert status == 1
     assert b"nothing was changed" in shown
+
+
+def names_below(folder: Path, pattern: str) -> "list[str]":
+    return sorted(path.name for path in folder.glob(pattern))
+
+
+def test_all_that_las_batch_needs_is_installed(small: Trial) -> None:
+    assert small.install().returncode == 0
+    assert names_below(small.prefix / "share" / "las" / "batch", "*") == names_below(TOP / "batch", "*.py")
+
+
+def test_pages_and_completions_are_installed(small: Trial) -> None:
+    assert small.install().returncode == 0
+    share = small.prefix / "share"
+    assert names_below(share / "man" / "man1", "*") == ["las-batch.1", "las.1"]
+    for name in ("bash-completion/completions/las", "zsh/site-functions/_las", "fish/vendor_completions.d/las.fish"):
+        assert (share / name).is_file(), name
+
+
+def test_the_help_of_each_page_is_there_when_it_is_installed(small: Trial) -> None:
+    """The launcher reads files of help by name: each of these is installed."""
+    assert small.install().returncode == 0
+    text = "".join(path.read_text() for path in [TOP / "las", *(TOP / "help").glob("*.sh")])
+    read = {name for name in names_below(TOP / "help", "*") if f"$help/{name}" in text}
+    assert {"help.sh", "hints.sh", "outputs.sh", "progress.sh", "render.awk", "version", "batch"} <= read
+    assert read <= set(names_below(small.prefix / "share" / "las" / "help", "*"))

@@ -14,7 +14,7 @@ from las_files import RECORD_SIZES
 from library_files import LAYOUTS, V3, blocks
 from programs import TOP
 
-HOSTILE = 350  # for each layout and kind of chunks
+HOSTILE = 88  # for each layout, kind of chunks and round
 
 
 @pytest.fixture(scope="session")
@@ -79,9 +79,9 @@ class TestLayout:
         assert (tmp_path / "b.las").read_bytes() == Path(f"{name}.las").read_bytes()
 
 
-def damaged_files(check, files, folder, format_, extra, chunk):
+def damaged_files(check, files, folder, format_, extra, chunk, seed):
     """Packed files of a few chunks, each with a random change."""
-    choose = random.Random(f"{format_} {extra} {chunk}")
+    choose = random.Random(seed)
     data = (files / f"{format_}_{extra}.las").read_bytes()
     offset, size = struct.unpack_from("<I", data, 96)[0], RECORD_SIZES[format_] + extra
     head = bytearray(data[:offset])
@@ -107,11 +107,15 @@ def answer_of(program, name):
     return " ".join([words[0]] + words[2:]), None
 
 
+ROUNDS = [1, *(pytest.param(number, marks=pytest.mark.slow) for number in (2, 3, 4))]
+
+
+@pytest.mark.parametrize("round_", ROUNDS, ids=lambda number: f"round {number}")
 @pytest.mark.parametrize("chunk", ["9", "0"], ids=["fixed chunks", "counted chunks"])
 @pytest.mark.parametrize("format_, extra", LAYOUTS, ids=lambda number: str(number))
-def test_c_answers_as_las_for_damaged_files(program, check, files, tmp_path, format_, extra, chunk):
+def test_c_answers_as_las_for_damaged_files(program, check, files, tmp_path, format_, extra, chunk, round_):
     """And writes the same where both accept."""
-    names = damaged_files(check, files, tmp_path, format_, extra, chunk)
+    names = damaged_files(check, files, tmp_path, format_, extra, chunk, f"{format_} {extra} {chunk} {round_}")
     lines = "".join(name + "\n" for name in names).encode()
     answers = commands.good([check, "all"], cwd=tmp_path, stdin=None, input=lines)
     wanted = [answer_of(program, name) for name in names]
@@ -120,7 +124,7 @@ def test_c_answers_as_las_for_damaged_files(program, check, files, tmp_path, for
         if data is not None:
             assert Path(name + ".out").read_bytes() == data, name
     # enough of each kind, so that the comparison says something
-    assert sum(answer == "0" for answer, _ in wanted) >= HOSTILE // 32
+    assert sum(answer == "0" for answer, _ in wanted) >= 1
     assert sum(answer.startswith("21 ") for answer, _ in wanted) >= HOSTILE // 8
 
 

@@ -4,12 +4,14 @@ import os
 import shutil
 import subprocess
 import tarfile
+import time
 import zipfile
 from pathlib import Path
 
 import pytest
 
 import needs
+import pages
 from programs import TOP
 
 SAMPLE = TOP / "examples" / "tile.laz"
@@ -152,6 +154,52 @@ class TestCleanDebian:
         left = [path for name in ("bin/las", "share/las", "libexec/las", "include/las.h", "share/doc/balsamvise")
                 for path in [installed / "usr" / name] if path.exists()]
         assert left == []
+
+
+PAGE = pages.steps_of("README.md")
+
+
+@pytest.fixture(scope="module")
+def clone(debian):
+    """A fresh clone in the folder, with /proc as every system has it, and nothing of the kit."""
+    data = subprocess.run(["git", "-C", TOP, "archive", "HEAD"], stdout=subprocess.PIPE, check=True).stdout
+    (debian / "clone").mkdir()
+    subprocess.run(["tar", "-x", "-C", debian / "clone"], input=data, check=True)
+    subprocess.run(["mount", "-t", "proc", "proc", debian / "proc"], check=True)
+    yield debian
+    subprocess.run(["umount", "-l", debian / "proc"], check=False)
+
+
+@pytest.mark.huge
+@pytest.mark.root
+class TestReadme:
+    """The README, followed line by line by somebody who has a clean Debian 12."""
+
+    def test_first_command_takes_less_than_two_seconds(self, clone):
+        began = time.monotonic()
+        inside(clone, "cd clone && " + PAGE[0].commands.splitlines()[0] + " && rm tile.las")
+        assert time.monotonic() - began < 2
+
+    def test_each_command_prints_what_the_page_says(self, clone):
+        for step in PAGE:
+            if step.reason is None:
+                began = time.monotonic()
+                said = inside(clone, f"cd clone && {{ {step.commands}}}")
+                print(f"{time.monotonic() - began:.2f} s: {step.name}")
+                assert said == (step.printed or ""), step.name
+
+    def test_installation_runs_without_the_clone(self, clone):
+        inside(clone, "cd clone && ./install /opt/las")
+        inside(clone, "/opt/las/bin/las laszip -i clone/examples/tile.laz -o o.las")
+
+    def test_checks_pass_with_python_and_pytest_alone(self, clone):
+        inside(clone, "apt-get update && apt-get install -y --no-install-recommends python3-pytest "
+                      "python3-pytest-xdist")
+        began = time.monotonic()
+        said = inside(clone, "cd clone && ./check")
+        print(f"{time.monotonic() - began:.0f} s: ./check")
+        assert " passed" in said
+        assert " failed" not in said
 
 
 @pytest.fixture(scope="module")

@@ -16,7 +16,8 @@ def heights(tmp_path_factory):
     """The example, compiled and linked with the library below a prefix, and that prefix."""
     needs.command("rustc", "rustc")
     folder = tmp_path_factory.mktemp("rust")
-    subprocess.run([TOP / "install", folder / "prefix"], stdin=subprocess.DEVNULL, stdout=subprocess.DEVNULL, check=True)
+    subprocess.run([TOP / "install", folder / "prefix"], stdin=subprocess.DEVNULL, stdout=subprocess.DEVNULL,
+                   check=True)
     subprocess.run(["rustc", "--edition", "2021", "-O", "-D", "warnings", "-L", folder / "prefix" / "lib",
                     "-o", folder / "heights", TOP / "examples" / "heights.rs"], check=True)
     return folder / "heights", folder / "prefix" / "lib"

@@ -135,5 +135,5 @@ if __name__ == "__main__":
         sys.exit("usage: draw_tile.py LAS PNG")
     with open(sys.argv[1], "rb") as file:
         picture = drawn(file.read())
-    with open(sys.argv[2], "wb") as file:
-        file.write(picture)
+    with open(sys.argv[2], "wb") as image:
+        image.write(picture)

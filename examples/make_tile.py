@@ -25,8 +25,8 @@ BUILDINGS = [
     (38.0, 58.0, 6.5, 4.5, 5.0, 2.8, "x"), (37.0, 70.0, 3.0, 3.0, 2.8, 0.0, "x"),
 ]
 FLIGHT_LINES = [
-    # point source ID, place of the plane beside the tile's west edge, its height, adjusted GPS time of the first pulse (on
-    # 17 July 2026), direction
+    # point source ID, place of the plane beside the tile's west edge, its height, adjusted GPS time of the first pulse
+    # (on 17 July 2026), direction
     (41, -45.0, 620.0, 468_317_600.0, 1),
     (42, 165.0, 640.0, 468_318_080.0, -1),
 ]

@@ -11,6 +11,7 @@ put() {
 
 # Shows the page of a command or a cause, or of `las`.
 show() {
+    if [ "$1" = las-batch ]; then put "$(cat -- "$help/batch")"; fi
     if page=$(render page "$1"); then put "$page"; fi
     printf 'las: there is no help on %s; `las help` lists the commands\n' "$1" >&2
     exit 2

@@ -1,6 +1,7 @@
-# Read by the launcher `las` if standard error is a terminal, or if the program lies in a folder `once` that is removed
-# after the run: runs the program as a child, and after status 2 to 5 tells on the terminal what can be known. Signals
-# go on to the program, and the launcher ends as the program did.
+# Read by the launcher `las` if standard error is a terminal, if LAS_HINTS or LAS_SAFE is set, or if the program lies in
+# a folder `once` that is removed after the run: runs the program as a child. On the terminal, or wherever standard error
+# goes if LAS_HINTS is set, it tells what can be known of a run that has not ended with status 0. Signals go on to the
+# program, and the launcher ends as the program did.
 
 hint() { printf '%s\n' "$1" >&2; }
 
@@ -39,12 +40,7 @@ after_usage() {
         hint "A command is one of laszip, las2las, lasinfo, lassplit, lasmerge and make; \`las help\` tells of them."
         return
     fi
-    at=0 last=
-    for word in "$@"; do
-        if [ $at -gt "$wrong" ] || { [ $at -eq "$wrong" ] && [ "$last" = "$word" ]; }; then break; fi
-        case $word in -[a-z]*) if [ $at -gt 0 ] && [ $at -lt "$wrong" ]; then last=$word; fi ;; esac
-        at=$((at + 1))
-    done
+    find_last "$@"
     told=
     [ -z "$last" ] || told=$(render option "$1" "$last")
     eval "word=\${$((wrong + 1))-}"
@@ -52,14 +48,94 @@ after_usage() {
         missing=$(render missing "$1" "$*")
         if [ -n "$missing" ]; then hint "What is needed and not given: $missing"; else hint "A value is missing."; fi
     elif render option "$1" "$word" >/dev/null; then
-        hint "This option is given once too often, or beside one that excludes it."
         told=$(render option "$1" "$word")
+        after_known_option "$@"
     else
-        case $word in -[a-z]*) told= && hint "This is no option of $1." ;; esac
+        case $word in
+        -[a-z]*) told= && after_unknown_option "$1" "$word" ;;
+        --[a-z]*) told= && after_unknown_option "$1" "${word#-}" ;;
+        *) after_wrong_value "$@" ;;
+        esac
     fi
     [ -z "$told" ] || hint "$told"
+    note_names "$@"
     render usage "$1" >&2
     hint "\`las help $1\` tells more."
+}
+
+# Sets `last` to the option before the wrong word, and `values` to how many words are between the two, and one.
+find_last() {
+    at=0 last='' values=0 option=''
+    for word in "$@"; do
+        [ $at -le "$wrong" ] || break
+        values=$((values + 1))
+        if [ $at -gt 0 ] && [ $at -lt "$wrong" ]; then
+            case $option in
+            -i | -o | -z) option= ;;
+            *) case $word in -[a-z]*) last=$word option=$word values=0 ;; esac ;;
+            esac
+        fi
+        at=$((at + 1))
+    done
+}
+
+# An option of the command is wrong where it stands.
+after_known_option() {
+    at=0 earlier='' thins=''
+    for given in "$@"; do
+        if [ $at -lt "$wrong" ] && [ "$given" = "$word" ]; then earlier=1; fi
+        if [ "$given" = -thin_raw ]; then thins=1; fi
+        at=$((at + 1))
+    done
+    case $word:$earlier:$thins in
+    -keep_class:1:* | -drop_class:1:* | -keep_return:1:* | -drop_return:1:*)
+        hint "This option is given before. All numbers stand after one, with blanks between them: $word 1 2"
+        ;;
+    *:1:*) hint "This option is given before." ;;
+    -lowest::'' | -highest::'') hint "This option goes with -thin_raw N, which is not given." ;;
+    *) hint "This option does not go beside one that is given before it." ;;
+    esac
+}
+
+# The word $2 is no option of the command $1 with one dash.
+after_unknown_option() {
+    if [ "$word" != "$2" ] && render option "$1" "$2" >/dev/null; then
+        hint "Options have one dash: $2"
+        told=$(render option "$1" "$2")
+        return
+    fi
+    hint "This is no option of $1."
+    near=$(render near "$1" "$2") && hint "Perhaps this is meant: $near"
+}
+
+# The wrong word does not begin as an option does. It is a value of the option before it, or one word too many.
+after_wrong_value() {
+    case $told in
+    *' -'*' N... '*) takes=1000 ;;
+    *) takes=$(printf '%s\n' "$told" | awk 'NR == 1 { n = 0; for (i = 2; $i ~ /^[A-Z]+$/; i++) n++; print n }') ;;
+    esac
+    if [ "$takes" = 1000 ]; then
+        case $word in
+        *[!0-9,]* | ,* | *, | *,,*) ;;
+        *,*) hint "Numbers have blanks between them: $last $(printf '%s' "$word" | tr , ' ')" ;;
+        esac
+    fi
+    [ "${takes:-0}" -ge "$values" ] && return
+    told=
+    names=0 at=0
+    for given in "$@"; do
+        [ $at -lt "$wrong" ] || case $given in -*) ;; *) names=$((names + 1)) ;; esac
+        at=$((at + 1))
+    done
+    if [ "$1" = lasmerge ]; then
+        hint "Before each input stands -i: -i $(plain "$word")"
+    elif [ $names -gt 1 ] && [ "$1" != make ] && [ "$1" != lassplit ]; then
+        hint "A run has one input, after -i. For many files: las-batch $1 -odir FOLDER NAME..."
+    elif [ -e "$word" ]; then
+        hint "This word belongs to no option. A name stands after its option, as -i $(plain "$word")"
+    else
+        hint "This word belongs to no option."
+    fi
 }
 
 # What is known of a name that could not be read or written.
@@ -122,7 +198,27 @@ after_write_fault() {
         case $option in -i | -o | -z) option= ;; *) option=$word ;; esac
     done
     case ${1-} in lasinfo | make) [ -t 1 ] || hint "Standard output may be closed, or its disk full." ;; esac
-    hint "What was written is perhaps a part. Remove it, and write again with room, or to another place."
+    tell_parts "$@"
+}
+
+# After status 6: what it means that this input differs, or that there are too many records.
+after_unequal() {
+    case $1 in
+    *': format') hint "The point data format is another one than that of the first input." ;;
+    *': length') hint "The record length is another one than that of the first input: there are other extra bytes." ;;
+    *': scales') hint "The scale factors are others than those of the first input." ;;
+    *': offsets') hint "The offsets of x, y and z are others than those of the first input." ;;
+    *': box') hint "The header's box, the least and greatest x, y and z, is another than that of the first input." ;;
+    'too many points') hint "All inputs together have 4294967296 points or more, and a file has fewer." ;;
+    'too many chunks') hint "All inputs together have more than 16777216 chunks. Merge without -copy_chunks." ;;
+    *) return ;;
+    esac
+    case $1 in
+    unequal*)
+        hint "lasmerge joins files of one header, as the parts that lassplit makes of a file, and changes no record."
+        hint "Bring the inputs to one header with another tool first."
+        ;;
+    esac
 }
 
 after_refusal() {
@@ -137,10 +233,14 @@ tell() {
     line=$1
     shift
     case $status in
+    0) note_names "$@" && note_contents "$@" ;;
+    1) tell_parts "$@" ;;
     2) after_usage "${line#usage: word }" "$@" ;;
-    3) tell_name "${line#read fault: }" read ;;
+    3) tell_name "${line#read fault: }" read && tell_parts "$@" ;;
     4) after_write_fault "$@" ;;
-    5) after_refusal "$line" ;;
+    5) after_refusal "$line" && tell_parts "$@" ;;
+    6) after_unequal "$line" ;;
+    *) [ "$status" -le 128 ] || tell_parts "$@" ;;
     esac
 }
 
@@ -149,7 +249,8 @@ wait_for() {
     status=1
     while :; do
         caught=
-        wait "$child"
+        # (the shell would tell of a signal, as `Terminated`)
+        { wait "$child"; } 2>/dev/null
         got=$?
         [ $got -eq 127 ] || status=$got
         [ -n "$caught" ] || break
@@ -159,6 +260,7 @@ wait_for() {
 # Ends the launcher as the program has ended.
 end_as() {
     [ -z "$once" ] || rm -rf -- "$once"
+    [ -z "$own" ] || rm -rf -- "$own"
     for name in HUP:129 INT:130 QUIT:131 TERM:143; do
         [ "$1" -eq "${name#*:}" ] || continue
         trap - "${name%:*}"
@@ -195,7 +297,7 @@ start() {
         fi
         break
     done
-    if [ -n "$said" ]; then from="$from 2>\"\$said\""; fi
+    if [ -n "$hints" ]; then from="$from 2>>\"\$said\""; fi
     # (exec keeps no copy of what it redirects)
     eval "{ exec \"\$@\" $from; } &"
     child=$!
@@ -203,26 +305,37 @@ start() {
 
 run_with_hints() {
     find_reset
-    said=
-    [ ! -t 2 ] || said=$(mktemp "${TMPDIR:-/tmp}/las-said.XXXXXX" 2>/dev/null)
-    if [ -z "$once" ]; then
-        [ -n "$said" ] && env --default-signal="${reset:-INT}" true 2>/dev/null || exec "$program" "$@"
-    fi
+    . "$help/outputs.sh"
+    hints='' watcher=''
+    if [ -t 2 ] || [ -n "${LAS_HINTS-}" ]; then hints=1; fi
+    if [ -z "$once" ]; then env --default-signal="${reset:-INT}" true 2>/dev/null || exec "$program" "$@"; fi
+    own=$(mktemp -d "${TMPDIR:-/tmp}/las-run.XXXXXX" 2>/dev/null)
+    [ -n "$own$once" ] || exec "$program" "$@"
+    # what the program says, and what tells which files were written after it
+    said=$own/said marker=$own/begun
+    # (a byte, so that a line has room there also when the disk is full)
+    { [ -n "$own" ] && : >"$marker" && printf . >"$said"; } 2>/dev/null || hints=
+    note_there "$@"
     child=
     for name in HUP INT QUIT TERM USR1 USR2; do
         # shellcheck disable=SC2064
         trap "caught=1; [ -z \"\$child\" ] || kill -s $name \"\$child\" 2>/dev/null" $name
     done
     start "$@"
+    if [ -n "$hints" ] && [ -t 2 ]; then
+        . "$help/progress.sh"
+        watch "$child" "$@" &
+        watcher=$!
+    fi
     wait_for
-    line=
-    if [ -n "$said" ]; then
+    if [ -n "$watcher" ]; then kill "$watcher" 2>/dev/null && wait "$watcher"; fi
+    if [ -n "$hints" ]; then
         line=$(cat -- "$said" && echo .)
-        line=${line%.}
+        line=${line%.} line=${line#.}
         printf '%s' "$line" >&2
-        rm -f -- "$said"
         line=${line%?}
         tell "$line" "$@"
     fi
+    if [ "$status" -gt 128 ] && [ -n "$own" ]; then remove_drafts "$@"; fi
     end_as "$status"
 }

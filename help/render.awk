@@ -1,7 +1,8 @@
 # Makes what a reader sees of the texts of this folder. Variables of the environment say what:
 #   folder   this folder
 #   form     page (of the command or cause `topic`, or of `las`), usage (of the command `topic`), option (the lines on
-#            the option `words` of that command), missing (what that command needs beside `words`), man or bash
+#            the option `words` of that command), missing (what that command needs beside `words`), near (its options that
+#            are spelt much like `words`) or man; complete.awk makes more
 #   version  for the man page
 # A text file is a list of paragraphs with blank lines between them. Ends with status 1 if there is no such topic.
 
@@ -17,9 +18,9 @@ BEGIN {
     else if (form == "usage" && (topic in summary)) print indented(synopsis[topic])
     else if (form == "missing") missing(topic, " " ENVIRON["words"] " ")
     else if (form == "option") option_lines(topic, ENVIRON["words"])
+    else if (form == "near") near(topic, ENVIRON["words"])
     else if (form == "man") man()
-    else if (form == "bash") completion()
-    else exit 1
+    else if (form !~ /^(bash|zsh|fish|batch)$/) exit 1
 }
 
 # the paragraphs of a file, from 1 on; returns how many there are
@@ -128,7 +129,7 @@ function cause_page(wanted,    i, list) {
     read_pairs("causes")
     for (i = 1; i <= pairs; i++) {
         split(pair[i], list, " ")
-        if (wanted != list[1] && wanted != list[2]) continue
+        if (wanted != list[1] && tolower(wanted) != tolower(list[2])) continue
         print "las: cause " pair[i] "\n"
         print fill(joined(pair_text[i]), "", "")
         exit 0
@@ -142,6 +143,34 @@ function option_lines(name, wanted,    i, list) {
         if (list[1] == wanted) { entry(option[name, i], option_text[name, i], 24); exit 0 }
     }
     exit 1
+}
+
+# the options of a command that differ from a word by two letters at most
+function near(name, word,    i, list, found) {
+    for (i = 1; i <= number[name]; i++) {
+        split(option[name, i], list, " ")
+        if (distance(list[1], word) <= 2) found = found (found == "" ? "" : " ") list[1]
+    }
+    if (found == "") exit 1
+    print found
+}
+
+# how many letters have to be put in, taken out or changed to make one word the other
+function distance(a, b,    i, j, row, above, left, best) {
+    for (j = 0; j <= length(b); j++) row[j] = j
+    for (i = 1; i <= length(a); i++) {
+        left = i
+        for (j = 1; j <= length(b); j++) {
+            above = row[j - 1] + (substr(a, i, 1) != substr(b, j, 1))
+            best = row[j] + 1
+            if (left + 1 < best) best = left + 1
+            if (above < best) best = above
+            row[j - 1] = left
+            left = best
+        }
+        row[length(b)] = left
+    }
+    return row[length(b)]
 }
 
 # the needed options of a command that are not among the words that were given
@@ -202,41 +231,5 @@ function man_causes(    i) {
     for (i = 1; i <= pairs; i++) print ".TP\n\\fB" pair[i] "\\fR\n" roff(joined(pair_text[i]))
     print ".SH LICENCE\nApache-2.0 OR MIT, at your option. LAZ has no checksum: damage that still spells point records is not"
     print "seen by any reader, so keep a manifest of digests beside an archive."
-}
-
-function list_of_words(text) { return fill(text, "", "                ") }
-
-function completion(    i, j, name, list, text) {
-    print "# bash completion of las. Made by help/make from the texts of help/; change those."
-    print "_las() {"
-    print "    local word=${COMP_WORDS[COMP_CWORD]} before=${COMP_WORDS[COMP_CWORD-1]} command=${COMP_WORDS[1]} words="
-    print "    COMPREPLY=()"
-    print "    if [ \"$COMP_CWORD\" -eq 1 ]; then"
-    printf "        words='"
-    for (i = 1; i <= count; i++) printf "%s ", commands[i]
-    print "help --help --version'"
-    print "    else"
-    print "        case $command in"
-    for (i = 1; i <= count; i++) {
-        name = commands[i]
-        text = ""
-        for (j = 1; j <= number[name]; j++) { split(option[name, j], list, " "); text = text list[1] " " }
-        print "        " name ")\n            words='" list_of_words(text "--help") "'\n            ;;"
-    }
-    read_pairs("causes")
-    text = ""
-    for (i = 1; i <= count; i++) text = text commands[i] " "
-    for (i = 1; i <= pairs; i++) { split(pair[i], list, " "); text = text list[2] (i < pairs ? " " : "") }
-    print "        help)\n            words='" list_of_words(text) "'\n            ;;"
-    print "        esac"
-    print "        case $before in"
-    print "        -i | -o | -z) words= ;;"
-    print "        -tally) words='class source return intensity' ;;"
-    print "        esac"
-    print "    fi"
-    print "    if [ -n \"$words\" ]; then"
-    print "        mapfile -t COMPREPLY < <(compgen -W \"$words\" -- \"$word\")"
-    print "    fi"
-    print "}"
-    print "complete -o default -F _las las"
+    print ".SH SEE ALSO\n.BR las\\-batch (1)"
 }

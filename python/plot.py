@@ -6,8 +6,8 @@ import matplotlib
 
 matplotlib.use("Agg")
 
-import balsamvise
-import matplotlib.pyplot as plt
+import balsamvise  # noqa: E402
+import matplotlib.pyplot as plt  # noqa: E402
 
 
 def main(source: str, image: str) -> None:

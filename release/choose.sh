@@ -63,11 +63,22 @@ stamp_program() {
         mkdir -p -- "$folder" 2>/dev/null && fresh=$(mktemp "$folder/.stamp.XXXXXX" 2>/dev/null) || continue
         (listing "$1") >"$fresh"
         # (where `find` can't list, no stamp would tell a change)
-        grep -q '^crates.txt f ' "$fresh" && mv -f -- "$fresh" "$stamp" && return
+        # (readable, for others who use this checkout)
+        grep -q '^crates.txt f ' "$fresh" && chmod 644 "$fresh" && mv -f -- "$fresh" "$stamp" && return
         rm -f -- "$fresh"
     done
 }
 
+# Whether the disk has no room for a proof and what it builds; it is said then.
+is_full() {
+    left=$(df -Pk -- "$top" 2>/dev/null | awk 'NR == 2 { print $4 }')
+    case $left in '' | *[!0-9]*) return 1 ;; esac
+    [ "$left" -lt $NEEDED_KB ] || return 1
+    say "no program is as new as the sources, and to prove and build one takes room: $left KB are left, and 1 GB is needed"
+}
+
+# What the crates take on the disk when they are built is some 300 MB.
+NEEDED_KB=1000000
 before=$(source_listing)
 sources=$("$top/release/sources") || { say "the sources can't be read"; exit 1; }
 if is_own_build "$sources"; then
@@ -76,6 +87,8 @@ elif chosen=$(released "$sources"); then
     :
 elif ! command -v rt >/dev/null; then
     say "no released program is of these sources and this processor, and the command rt of Rattle is missing"
+    exit 1
+elif is_full; then
     exit 1
 else
     say "no program is as new as the sources; proving and building it, which takes up to 90 minutes of a processor"

@@ -9,8 +9,8 @@
 The files are those of LAS 1.0 to 1.4 with the point data formats 0 to 3 and up to 192 extra bytes a record. Chunks are
 packed and unpacked by the library liblaz, which is looked for in the environment variable `BALSAMVISE_LIBRARY`, beside
 this package, in the `lib` folder of the Python installation, in `/usr/local/lib`, in `/usr/lib`, and where the loader
-finds `liblaz.so.1`. In each folder the library in `glibc-hwcaps/x86-64-v3` comes first if the processor runs it. A wheel
-has the library inside.
+finds `liblaz.so.1`. In each folder the library in `glibc-hwcaps/x86-64-v3` comes first if the processor runs it. A
+wheel has the library inside.
 """
 from .errors import CAUSES, LibraryMissing, ProcessorTooOld, Refused
 from .head import Head, Vlr

@@ -175,10 +175,10 @@ class Head:
         by_return = np.bincount(points["bit_fields"] & 7, minlength=8)[1:8]
         short = self.minor < 4 or self._number("<I", 107) != 0 or self._number("<Q", 247) == 0
         struct.pack_into("<I", data, 107, len(points) if short else 0)
-        struct.pack_into("<5I", data, 111, *(by_return[:5] if short else [0] * 5))
+        struct.pack_into("<5I", data, 111, *(by_return[:5].tolist() if short else [0] * 5))
         if self.minor == 4:
             struct.pack_into("<Q", data, 247, len(points))
-            struct.pack_into("<15Q", data, 255, *by_return, *[0] * 8)
+            struct.pack_into("<15Q", data, 255, *by_return.tolist(), *[0] * 8)
         for axis in range(3):
             raw = points["XYZ"[axis]]
             if bounds and len(raw) > 0:

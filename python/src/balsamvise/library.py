@@ -61,8 +61,9 @@ def check_processor() -> None:
     """Raises `ProcessorTooOld` if the kernel tells of a processor that can't run the library."""
     flags = _flags()
     if flags and not flags >= V2_FLAGS:
-        raise ProcessorTooOld("balsamvise needs a processor of x86-64-v2 or later, as most are since 2009: this one has no "
-                              + ", ".join(sorted(V2_FLAGS - flags)))
+        lacks = ", ".join(sorted(V2_FLAGS - flags))
+        raise ProcessorTooOld("balsamvise needs a processor of x86-64-v2 or later, as most are since 2009: this "
+                              f"one has no {lacks}")
 
 
 def _in_folder(folder: str) -> list[str]:

@@ -40,10 +40,10 @@ class LasFile:
     def __init__(self, source: Path | BinaryIO) -> None:
         self._source: PathSource | StreamSource
         self._firsts: EvenSums | Sums
-        if hasattr(source, "read"):
-            self._source = StreamSource(source)
-        else:
+        if isinstance(source, (str, os.PathLike)):
             self._source = PathSource(os.fspath(source))
+        else:
+            self._source = StreamSource(source)
         self.name = self._source.name
         try:
             self._begin()
@@ -117,7 +117,7 @@ class LasFile:
         count = len(records)
         if not self.is_packed:
             place = self._start + self._firsts[chunk] * self.dtype.itemsize
-            self._source.read_into(place, memoryview(records.view(np.uint8)))
+            self._source.read_into(place, memoryview(records.view(np.uint8).data))
             return
         place = self._places[chunk]
         data = self._source.read(place, self._places[chunk + 1] - place)

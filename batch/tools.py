@@ -1,0 +1,201 @@
+"""Commands of las-batch itself: `verify` and `manifest` of an archive, and `clean`."""
+from __future__ import annotations
+
+import contextlib
+import fcntl
+import os
+import re
+from collections.abc import Callable
+from concurrent.futures import ThreadPoolExecutor
+from typing import Optional, Union
+
+from .files import digest, folder_of, look
+from .manifest import Sums, check_manifest, is_packed, plain_name, read_manifest, unpacked_sum, write_sums
+from .plan import ENDINGS
+from .state import MADE, State
+from .texts import quoted, refuse, say
+
+DRAFT = re.compile(rb"\.(?:.+\.)?las-[0-9A-Za-z]+-[0-9A-Za-z]+\.(?:part|back|link\.las)")
+TOOLS = ("verify", "manifest", "clean")
+
+
+def read_words(words: list[str]) -> tuple[dict[str, bytes], list[bytes]]:
+    """Options with values, and the other words; -r is a word that `manifest` takes."""
+    values: dict[str, bytes] = {}
+    rest = []
+    while words:
+        word = words.pop(0)
+        if word in ("-manifest", "-jobs") and words:
+            values[word[1:]] = os.fsencode(words.pop(0))
+        elif word == "-r":
+            values["r"] = b"yes"
+        elif word.startswith("-"):
+            refuse(f"{word}: no such option here")
+        else:
+            rest.append(os.fsencode(word))
+    return values, rest
+
+
+def run_tool(las: bytes, words: list[str]) -> int:
+    name, (values, rest) = words[0], read_words(words[1:])
+    jobs = int(values.get("jobs", b"%d" % len(os.sched_getaffinity(0))))
+    if name == "clean":
+        if len(rest) != 1 or not os.path.isdir(rest[0]):
+            refuse("clean takes one folder")
+        return clean(rest[0])
+    if "manifest" not in values:
+        refuse(f"{name} needs -manifest FILE")
+    if name == "verify":
+        if rest or "r" in values:
+            refuse("verify takes -manifest FILE alone")
+        return verify(values["manifest"], jobs)
+    if len(rest) != 1 or not os.path.isdir(rest[0]) or "r" not in values:
+        refuse("manifest takes -r FOLDER -manifest FILE")
+    return make_manifest(las, rest[0].rstrip(b"/") or b"/", values["manifest"], jobs)
+
+
+def files_below(folder: bytes) -> list[bytes]:
+    """The LAS and LAZ files below a folder."""
+    found = []
+    for place, _, names in os.walk(folder):
+        found += [os.path.join(place, name) for name in names
+                  if name[-4:].lower() in ENDINGS and not DRAFT.fullmatch(name)]
+    return sorted(found)
+
+
+def tried(call: Callable[[bytes], Sums], names: list[bytes], jobs: int) -> list[Union[Sums, OSError]]:
+    def one(name: bytes) -> Union[Sums, OSError]:
+        try:
+            return call(name)
+        except OSError as problem:
+            return problem
+    with ThreadPoolExecutor(max(1, jobs)) as pool:
+        return list(pool.map(one, names))
+
+
+def verify(manifest: bytes, jobs: int) -> int:
+    """Reads all files of a manifest back from the disk: which are lost, changed, or new beside them."""
+    wanted = read_manifest(manifest)
+    names = list(wanted)
+    lost, changed = [], []
+    found = tried(lambda name: Sums(name, digest(name, from_disk=True)[1], None), names, jobs)
+    for name, sums in zip(names, found):
+        if isinstance(sums, Sums):
+            if sums.total != wanted[name]:
+                changed.append(quoted(name))
+        elif look_safely(name):
+            changed.append(f"{quoted(name)}: {sums.strerror or sums}")
+        else:
+            lost.append(quoted(name))
+    new = [quoted(name) for name in new_beside(names)]
+    for what, listed in (("lost", lost), ("changed", changed), ("new", new)):
+        for line in listed:
+            print(f"{what:<12}{line}")
+    print(f"las-batch: {len(names) - len(lost) - len(changed)} as they were, {len(lost)} lost, {len(changed)} changed, "
+          f"{len(new)} new")
+    return 1 if lost or changed else 0
+
+
+def look_safely(name: bytes) -> bool:
+    with contextlib.suppress(OSError):
+        return look(name) is not None
+    return True
+
+
+def new_beside(names: list[bytes]) -> list[bytes]:
+    """Files of LAS and LAZ in the folders of a manifest that it does not name."""
+    known, found = {os.path.normpath(name) for name in names}, []
+    for folder in sorted({folder_of(name) for name in names}):
+        with contextlib.suppress(OSError):
+            for name in sorted(os.listdir(folder)):
+                path = os.path.normpath(os.path.join(folder, name))
+                if name[-4:].lower() in ENDINGS and not DRAFT.fullmatch(name) and path not in known:
+                    found.append(path)
+    return found
+
+
+def make_manifest(las: bytes, folder: bytes, manifest: bytes, jobs: int) -> int:
+    """Both manifests of an archive that is there; each packed file is unpacked."""
+    names = files_below(folder)
+    if not names:
+        refuse(f"no LAS or LAZ files below {quoted(folder)}")
+    pairs = [(name, plain_name(name)) for name in names]
+    seen = {name: look(name) for name in names}
+    path, plain = check_manifest(manifest, pairs, seen)
+
+    def sums_of(name: bytes) -> Sums:
+        return Sums(name, digest(name)[1], unpacked_sum(las, name, folder_of(path)) if is_packed(name) else None)
+
+    found = tried(sums_of, names, jobs)
+    failed = 0
+    for name, sums in zip(names, found):
+        if not isinstance(sums, Sums):
+            failed += 1
+            say(f"{quoted(name)}: {sums.strerror or sums}")
+    write_sums(path, plain, [sums for sums in found if isinstance(sums, Sums)])
+    say(f"{len(names) - failed} in the manifest, {failed} not")
+    return 1 if failed else 0
+
+
+def waiting(folder: bytes) -> Optional[set[bytes]]:
+    """The drafts that a state in a folder still needs, or None if a las-batch works there."""
+    inside = os.path.join(folder, b".las-batch")
+    kept: set[bytes] = set()
+    if not os.path.isdir(inside):
+        return kept
+    lock = os.open(os.path.join(inside, b"lock"), os.O_RDWR | os.O_CREAT | os.O_NOFOLLOW, 0o666)
+    try:
+        fcntl.flock(lock, fcntl.LOCK_EX | fcntl.LOCK_NB)
+    except OSError:
+        os.close(lock)
+        return None
+    for name in os.listdir(inside):
+        if name.startswith(b"run.") and any(row.startswith(b"rows.") for row in os.listdir(os.path.join(inside, name))):
+            say(f"an array of {quoted(folder)} was not taken in; its drafts stay: -resume takes it in")
+            kept.add(b".las-" + name[4:] + b"-")
+    base = os.path.join(inside, b"state.db")
+    if os.path.exists(base):
+        state = State(base, os.path.realpath(folder))
+        kept |= {os.path.basename(job.draft) for job in state.jobs("state = ?", MADE)}
+        state.close()
+    return kept
+
+
+def clean(top: bytes) -> int:
+    """Removes the drafts below a folder that no process holds locked."""
+    removed, held, kept = 0, 0, set()
+    for place, below, names in os.walk(top):
+        if b".las-batch" in below:
+            below.remove(b".las-batch")
+            needed = waiting(place)
+            if needed is None:
+                refuse(f"a las-batch works in {quoted(place)}")
+            kept |= needed
+        for name in names:
+            if not DRAFT.fullmatch(name) or any(name.startswith(start) for start in kept):
+                continue
+            if remove_draft(os.path.join(place, name)):
+                removed += 1
+            else:
+                held += 1
+    say(f"{removed} drafts removed, {held} are in use")
+    return 0
+
+
+def remove_draft(path: bytes) -> bool:
+    """Removes a draft, if it is a link, or a file that can be locked."""
+    there = look(path)
+    if there is None or not there.regular():
+        if os.path.islink(path):
+            os.unlink(path)
+            return True
+        return False
+    file = os.open(path, os.O_RDONLY | os.O_NOFOLLOW)
+    try:
+        fcntl.flock(file, fcntl.LOCK_EX | fcntl.LOCK_NB)
+        os.unlink(path)
+        return True
+    except BlockingIOError:
+        return False
+    finally:
+        os.close(file)

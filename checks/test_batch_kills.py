@@ -1,0 +1,95 @@
+"""las-batch cut off half way: no output is partial, and -resume does the rest."""
+import os
+import signal
+import time
+
+import pytest
+
+import needs
+from batch_places import processes_with, wait_until
+from batch_tiles import Stock, StockTiles, ended
+
+pytestmark = pytest.mark.alone
+
+
+@pytest.fixture(scope="module")
+def stock(program, tmp_path_factory):
+    needs.command("parallel", "parallel")
+    return Stock(tmp_path_factory.mktemp("stock"), program)
+
+
+@pytest.fixture
+def tiles(stock, tmp_path):
+    return StockTiles(tmp_path, stock)
+
+
+def some_done(tiles, name, run, count=25):
+    assert wait_until(lambda: run.poll() is not None or len(tiles.outputs(name, hidden=False)) >= count)
+
+
+@pytest.mark.parametrize("words", [[], ["-verify"], ["-verify", "-delete"]], ids=" ".join)
+def test_resume_after_a_kill_of_all(tiles, words):
+    with tiles.running("laszip", "-odir", "out", *words, *tiles.names(), las=tiles.slow(0.02)) as run:
+        some_done(tiles, "out", run)
+        os.killpg(run.pid, signal.SIGKILL)
+        run.wait()
+    assert wait_until(lambda: tiles.free("out"), 20), "the folder stays locked"
+    found = tiles.outputs("out", hidden=False)
+    assert 0 < len(found) < 200
+    assert {name: data for name, data in found.items() if tiles.all_packed.get(name) != data} == {}
+    ended(tiles.batch("-resume", "-odir", "out"), 0, b"200 done, 0 not")
+    assert tiles.outputs("out") == tiles.all_packed
+    assert tiles.outputs("tiles") == ({} if "-delete" in words else tiles.plain)
+
+
+def test_a_second_run_in_the_same_folder_is_refused_while_the_first_lives(tiles):
+    with tiles.running("laszip", "-odir", "out", *tiles.names(), las=tiles.slow(0.05)) as run:
+        some_done(tiles, "out", run, 5)
+        ended(tiles.batch("laszip", "-odir", "out", *tiles.names()), 2, b"another las-batch works in")
+        os.kill(run.pid, signal.SIGTERM)
+        assert run.wait(60) == 130
+    ended(tiles.batch("-resume", "-odir", "out"), 0, b"200 done, 0 not")
+    assert tiles.outputs("out") == tiles.all_packed
+
+
+def test_a_second_run_takes_over_when_the_first_was_killed(tiles):
+    with tiles.running("laszip", "-odir", "out", *tiles.names(), las=tiles.slow(0.05)) as run:
+        some_done(tiles, "out", run, 5)
+        os.kill(run.pid, signal.SIGKILL)
+        run.wait()
+        assert wait_until(lambda: tiles.free("out"), 20)
+        before = tiles.outputs("out")
+    run = tiles.batch("laszip", "-odir", "out", *tiles.names())
+    ended(run, 0, b"%d of 200 outputs were made" % len(before))
+    assert tiles.outputs("out") == tiles.all_packed
+
+
+def test_the_end_of_the_reader_of_its_lines_ends_it(tiles):
+    with tiles.running("laszip", "-odir", "out", *tiles.names(), las=tiles.slow(0.05)) as run:
+        some_done(tiles, "out", run, 5)
+        os.kill(run.pid, signal.SIGPIPE)
+        assert run.wait(60) == 130
+    assert not processes_with(tiles.folder)
+    assert tiles.parts() == []
+
+
+def test_no_job_is_begun_after_a_kill_of_las_batch_and_of_its_guard(tiles):
+    with tiles.running("laszip", "-odir", "out", *tiles.names(), las=tiles.slow(0.1)) as run:
+        some_done(tiles, "out", run, 5)
+        for name in os.listdir("/proc"):  # the guard is its child of the same name
+            if name.isdigit() and f"\nPPid:\t{run.pid}\n" in status_of(name) and "las-batch" in status_of(name):
+                os.kill(int(name), signal.SIGKILL)
+        os.kill(run.pid, signal.SIGKILL)
+        run.wait()
+    time.sleep(1)
+    assert wait_until(lambda: not processes_with(tiles.folder), 20), processes_with(tiles.folder)
+    ended(tiles.batch("-resume", "-odir", "out"), 0, b"200 done, 0 not")
+    assert tiles.outputs("out") == tiles.all_packed
+
+
+def status_of(process):
+    try:
+        with open(f"/proc/{process}/status", encoding="utf-8") as file:
+            return file.read()
+    except OSError:
+        return ""

@@ -1,0 +1,66 @@
+"""No source of the repository has what a linter warns of. The sources are found, so that a new one is tried too."""
+import pytest
+
+import commands
+import needs
+import sources
+from programs import TOP
+
+SHELL = sources.scripts("sh", "bash")
+PYTHON = sources.scripts("python3")
+C = [path for path in sources.files() if path.suffix == ".c"]
+# what mypy takes as one program: the sources and the folder of their modules
+PROGRAMS = {
+    "checks": ([path for path in PYTHON if path.parts[0] == "checks"], "checks"),
+    "the Python package": ([path for path in PYTHON if path.parts[0] == "python"], "python/src"),
+    **{str(path): ([path], str(path.parent)) for path in PYTHON if path.parts[0] not in ("checks", "python", ".ci")},
+}
+
+
+@pytest.mark.parametrize("kind, name", [
+    (SHELL, "las"), (SHELL, "check"), (SHELL, "release/make"), (SHELL, "help/las.bash"), (SHELL, ".ci/run"),
+    (PYTHON, "checks/needs.py"), (PYTHON, "docs/plot_performance.py"), (PYTHON, "examples/make_tile.py"),
+    (PYTHON, "python/src/balsamvise/library.py"), (PYTHON, ".ci/times"), (C, "c/check.c"),
+    (C, "checks/failing_calls.c")], ids=lambda value: value if isinstance(value, str) else "")
+def test_source_is_found(kind, name):
+    assert name in [str(path) for path in kind]
+
+
+def clean(*line, **options):
+    run = commands.quiet(line, cwd=options.pop("cwd", TOP), **options)
+    assert run.returncode == 0, (run.stdout + run.stderr).decode()
+
+
+@pytest.mark.parametrize("script", SHELL, ids=str)
+def test_shellcheck(script):
+    needs.command("shellcheck", "shellcheck")
+    shell = {".sh": ["-s", "sh"], ".bash": ["-s", "bash"]}.get(script.suffix, [])
+    clean("shellcheck", *shell, script)
+
+
+@pytest.mark.parametrize("script", PYTHON, ids=str)
+def test_flake8(script):
+    needs.command("flake8", "flake8")
+    clean("flake8", "--isolated", "--max-line-length", "120", script)
+
+
+@pytest.mark.parametrize("name", PROGRAMS)
+def test_mypy(name, tmp_path):
+    needs.command("mypy", "mypy")
+    files, folder = PROGRAMS[name]
+    clean("mypy", "--config-file", TOP / "checks" / "mypy.ini", "--ignore-missing-imports", "--scripts-are-modules",
+          "--cache-dir", tmp_path, *[TOP / path for path in files], cwd=TOP / folder)
+
+
+@pytest.mark.parametrize("file", C, ids=str)
+def test_cppcheck(file):
+    needs.command("cppcheck", "cppcheck")
+    clean("cppcheck", "--enable=warning,style,performance,portability", "--error-exitcode=1", "--quiet", "--std=c11",
+          "--inline-suppr", "-Ic", file)
+
+
+@pytest.mark.parametrize("file", C, ids=str)
+def test_analyzer_of_gcc(file, tmp_path):
+    needs.command("gcc", "gcc")
+    clean("gcc", "-std=c11", "-O1", "-Wall", "-Wextra", "-Werror", "-fanalyzer", "-fPIC", "-Ic", "-c", file, "-o",
+          tmp_path / "object")
