@@ -1,10 +1,12 @@
 """The library, the C program over it, and plain and packed files of each layout to try it on."""
 import gzip
+import importlib
 import os
 import random
 import re
 import struct
 from pathlib import Path
+from typing import Any
 
 import pytest
 
@@ -70,6 +72,15 @@ def c_program(tmp_path_factory: pytest.TempPathFactory) -> Path:
                        folder / "check"])
 
     return shared.once(tmp_path_factory, "c_program", make) / "check"
+
+
+def package(tmp_path_factory: pytest.TempPathFactory, patch: pytest.MonkeyPatch) -> Any:
+    """The package for Python, over the shared library."""
+    needs.module("numpy", "python3-numpy")
+    patch.setenv("BALSAMVISE_LIBRARY", str(library(tmp_path_factory) / "liblaz.so"))
+    patch.syspath_prepend(str(TOP / "python" / "src"))
+    patch.setattr(importlib.import_module("balsamvise.library"), "_library", None)
+    return importlib.import_module("balsamvise")
 
 
 def plain_file(program: str, folder: Path, format_: int, extra: int) -> Path:

@@ -28,7 +28,7 @@ def build(request, tmp_path_factory):
     """Loads one build of the library: the package's own variable names it."""
     needs.module("numpy", "python3-numpy")
     if request.param == V3 and not runs_v3():
-        needs.missing("this processor does not run programs for x86-64-v3", "another processor")
+        pytest.skip("this processor does not run programs for x86-64-v3")
     path = str(library_files.library(tmp_path_factory) / request.param)
     patch = pytest.MonkeyPatch()
     patch.setenv("BALSAMVISE_LIBRARY", path)
