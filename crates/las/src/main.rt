@@ -49,28 +49,6 @@ fn obey<R: Env + Threads + Sync, F: Files, O: Sink, E: Sink>(
     Ok(run(rt, alloc, &words, files, out, err, &OpenGate, taps))
 }
 
-// The files of the system, with outputs as the environment asks for them.
-fn files_for(rt: &HostRuntime, safety: Safety) -> RealFiles<&HostRuntime> {
-    match safety {
-        Safety::Plain => RealFiles::new(rt),
-        Safety::Safe | Safety::Keep => RealFiles::with_drafts(rt, process::id(rt.process())),
-    }
-}
-
-// Ends a run that was obeyed. Its outputs get their names now, if they were written as drafts.
-fn ended<E: Sink>(
-    safety: Safety,
-    status: u8,
-    files: &mut RealFiles<&HostRuntime>,
-    err: &mut E,
-) -> ExitCode {
-    match safety {
-        Safety::Plain => ExitCode::from(status),
-        Safety::Safe => ExitCode::from(files.end(status, false, err)),
-        Safety::Keep => ExitCode::from(files.end(status, true, err)),
-    }
-}
-
 fn main(rt: HostRuntime) -> ExitCode {
     let mut err = RealSink::err(&rt);
     let Ok(_fillers) = fill_all(&rt) else {
@@ -96,9 +74,13 @@ fn main(rt: HostRuntime) -> ExitCode {
     };
     let mut out = RealSink::out(&rt);
     let safety = asked(&rt);
-    let mut files = files_for(&rt, safety);
+    let mut files = match safety {
+        Safety::Plain => RealFiles::new(&rt),
+        Safety::Safe | Safety::Keep => RealFiles::with_drafts(&rt, process::id(rt.process())),
+    };
     match obey(&rt, rt.alloc(), &mut files, &mut out, &mut err, taps) {
-        Ok(status) => ended(safety, status, &mut files, &mut err),
+        Ok(status) if safety == Safety::Plain => ExitCode::from(status),
+        Ok(status) => ExitCode::from(files.end(status, safety == Safety::Keep, &mut err)),
         Err(_) => no_memory(&mut err),
     }
 }

@@ -1,4 +1,5 @@
 //! What is asked of outputs in the environment.
+ghost use Rattle.std.specs.Prelude.{◌≡◌};
 
 use std::env::{Env, FillError};
 
@@ -6,7 +7,7 @@ use std::env::{Env, FillError};
 const VARIABLE: &str = "LAS_SAFE";
 
 /// How outputs are written.
-#[derive(Clone, Copy)]
+#[derive(Clone, Copy, PartialEq, Eq)]
 pub enum Safety {
     /// Under their own names, from their first byte on.
     Plain,
