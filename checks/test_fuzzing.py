@@ -63,6 +63,7 @@ def decode(tmp_path_factory: pytest.TempPathFactory) -> Path:
     return built(tmp_path_factory.mktemp("fuzz"))
 
 
+@pytest.mark.slow  # the crate laz_c is proved once more for it
 def test_a_minute_finds_nothing(decode: Path, tmp_path: Path) -> None:
     status, said = run_for(SECONDS, decode, tmp_path)
     assert status == 0, said[-5000:]
