@@ -36,7 +36,7 @@ class Identity(NamedTuple):
         return cls(*(int(part) for part in text.split(":")))
 
     def text(self) -> str:
-        return ":".join(map(str, self))
+        return "%d:%d:%d:%d:%d:%d" % self
 
     def regular(self) -> bool:
         return stat.S_ISREG(self.mode)
@@ -150,10 +150,10 @@ def make_folders(path: bytes) -> None:
     sync_folder(above)
 
 
-def write_whole(path: bytes, parts: Iterable[bytes]) -> None:
+def write_whole(path: bytes, parts: Iterable[bytes], token: str = "") -> None:
     """Writes a file under another name, syncs it and moves it to its own: a link stays, its target is replaced."""
     path = os.path.realpath(path)
-    draft = os.path.join(folder_of(path), b".las-%s.part" % secrets.token_hex(8).encode())
+    draft = os.path.join(folder_of(path), b".las-%s-0.part" % (token or secrets.token_hex(8)).encode())
     try:
         with open(draft, "xb") as file:
             for part in parts:

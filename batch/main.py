@@ -73,7 +73,7 @@ class Batch:
         self.inside = os.path.join(self.odir, b".las-batch")
         self.base = os.path.join(words.value("state") or self.inside, b"state.db")
         self.texts: dict[str, bytes] = {}
-        self.place: Optional[bytes] = None
+        self.place = b""
         self.lock = -1
 
     def go(self) -> int:
@@ -124,7 +124,8 @@ class Batch:
             array.read()
         if cut_off:
             left = self.state.base.execute("SELECT output FROM job WHERE state <> ?", (DONE,))
-            sweep({folder_of(row[0]) for row in left}, run.token)
+            folders = {folder_of(row[0]) for row in left} | {self.odir, folder_of(os.fsencode(run.settings["log"]))}
+            sweep(folders, run.token)
             self.remove_place(place)
 
     @staticmethod
@@ -274,8 +275,9 @@ class Batch:
         run.token = secrets.token_hex(8)
         with self.state.writing():
             self.state.put_run(run)
+        self.place = new_place(self.inside, run.token)  # as long as it is there, this start may have been cut off
         bar = Bar(len(todo), not self.words.has("quiet"))
-        log = Log(self.texts["log"], (job for job in jobs if job.state == DONE))
+        log = Log(self.texts["log"], (job for job in jobs if job.state == DONE), run.token)
 
         def note(job: Job) -> None:
             log.add(job)
@@ -291,6 +293,8 @@ class Batch:
             self.start(run, intake, todo, bar)
         bar.close()
         log.close()
+        if not (run.settings["slurm"] and still_runs(run)):
+            self.remove_place(self.place)
         if intake.unsaved and not intake.save(list({job.number: job for job in intake.unsaved}.values())):
             say(f"the state can't be written: {intake.trouble}")
         return self.ended(run, jobs, plan)
@@ -312,16 +316,14 @@ class Batch:
     def start(self, run: Run, intake: Intake, todo: list[Job], bar: Bar) -> None:
         folders = list({folder_of(job.output) for job in todo})
         array = bool(run.settings["slurm"])
-        self.place = place = new_place(self.inside, run.token)
         guard = Guard(run.token, [] if array else folders)
         goes_on = False
         try:
-            self.engine(run, intake, todo, place).go(self.stop, bar.tick)
+            self.engine(run, intake, todo, self.place).go(self.stop, bar.tick)
             goes_on = array and still_runs(run)
         finally:
             if not goes_on:
                 sweep(folders, run.token)
-                self.remove_place(place)
             guard.farewell()
 
     def engine(self, run: Run, intake: Intake, todo: list[Job], place: bytes) -> Engine:

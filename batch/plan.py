@@ -77,8 +77,8 @@ def gather(words: Words, folder: bytes) -> list[bytes]:
 def place_of(words: Words, name: bytes) -> bytes:
     """The output of an input below the folder of outputs: its path below the walked folder, or its name."""
     place = name.rpartition(b"/./")[2] if b"/./" in name else name.rpartition(b"/")[2]
-    stem, end = os.path.splitext(place)
-    end = end.lower()
+    stem, dot, end = place.rpartition(b".")
+    stem, end = (stem, b"." + end.lower()) if dot else (place, b"")
     if words.command == "lasinfo":
         end = b".txt"
     elif end not in ENDINGS:
@@ -104,9 +104,27 @@ class Paths:
         folder, _, name = path.rpartition(b"/")
         if name in (b"", b".", b".."):
             return os.path.realpath(path)
+        known = self.folders.get(folder)
+        if known is None:
+            known = os.path.realpath((folder or b"/") if path.startswith(b"/") else folder or b".").rstrip(b"/") + b"/"
+            self.folders[folder] = known
+        return known + name
+
+
+class Listing:
+    """What stands in folders, each read once: most outputs are not there, and then need no look of their own."""
+
+    def __init__(self) -> None:
+        self.folders: dict[bytes, set[bytes]] = {}
+
+    def look(self, path: bytes, follow: bool = False) -> Optional[Identity]:
+        folder, _, name = path.rpartition(b"/")
         if folder not in self.folders:
-            self.folders[folder] = os.path.realpath((folder or b"/") if path.startswith(b"/") else folder or b".")
-        return os.path.join(self.folders[folder], name)
+            try:
+                self.folders[folder] = set(os.listdir(folder or b"/"))
+            except (FileNotFoundError, NotADirectoryError):
+                self.folders[folder] = set()
+        return look(path, follow) if name in self.folders[folder] else None
 
 
 def check_names(pairs: list[tuple[bytes, bytes]], found: dict[bytes, Optional[Identity]]) -> None:
@@ -119,8 +137,9 @@ def check_names(pairs: list[tuple[bytes, bytes]], found: dict[bytes, Optional[Id
             refuse(f"two inputs have one output: {quoted(taken[real])} {quoted(name)}")
         taken[real] = name
     files = {}
+    listing = Listing()
     for name, output in pairs:
-        there = look(output, follow=True)
+        there = listing.look(output, follow=True)
         if there is not None:
             files[there[:2]] = name
     for name, _ in pairs:
@@ -137,7 +156,8 @@ def key_of(output: bytes, folder: bytes) -> bytes:
 
 
 def pairs_of(words: Words, folder: bytes) -> list[tuple[bytes, bytes]]:
-    return [(name, os.path.join(folder, place_of(words, name))) for name in gather(words, folder)]
+    top = folder.rstrip(b"/") + b"/"
+    return [(name, top + place_of(words, name)) for name in gather(words, folder)]
 
 
 class Planner:
@@ -147,6 +167,7 @@ class Planner:
         self.words, self.folder, self.made = words, folder, made
         self.by = made_by(words.command, packing)
         self.plan = Plan()
+        self.listing = Listing()
 
     def all(self, pairs: list[tuple[bytes, bytes]], found: dict[bytes, Optional[Identity]]) -> Plan:
         self.plan.inputs = len(pairs)
@@ -163,7 +184,7 @@ class Planner:
             job.fail("3", b"read fault: " + job.input + b": not a regular file")
             self.plan.refused.append(job)
             return
-        there = look(job.output)
+        there = self.listing.look(job.output)
         record = self.made.get(key_of(job.output, self.folder))
         if there is None:
             self.do(job, "new")
@@ -249,7 +270,8 @@ def check_text(text: bytes, pairs: list[tuple[bytes, bytes]], found: dict[bytes,
     """The path of a list that is written: refused if it is an input or an output, or there and no such list."""
     path = os.path.realpath(text)
     paths, there = Paths(), look(path)
-    if any(paths.real(name) == path for pair in pairs for name in pair):
+    last = os.path.basename(path)
+    if any(name.endswith(last) and paths.real(name) == path for pair in pairs for name in pair):
         refuse(f"-{word} names an input or an output: {quoted(text)}")
     if there is None:
         return path

@@ -34,8 +34,8 @@ def log_line(job: Job) -> bytes:
 class Log:
     """The log of jobs: a line for each that ended. It is written anew when a run begins, and then only added to."""
 
-    def __init__(self, path: bytes, done: Iterable[Job]) -> None:
-        write_whole(path, [LOG_HEAD, *map(log_line, done)])
+    def __init__(self, path: bytes, done: Iterable[Job], token: str) -> None:
+        write_whole(path, [LOG_HEAD, *map(log_line, done)], token)
         self.file: Optional[BinaryIO] = open(path, "ab")
         self.problem: Optional[OSError] = None
 

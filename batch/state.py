@@ -62,8 +62,10 @@ class Job:
     hidden: bytes = b""
 
     def row(self) -> tuple[Any, ...]:
-        values = (getattr(self, name) for name in FIELDS)
-        return tuple(value.text() if isinstance(value, Identity) else value for value in values)
+        older, source, found = (one.text() if one else None for one in (self.older, self.source, self.found))
+        return (self.number, self.input, self.output, older, self.adopt, self.state, self.removal, self.status,
+                self.said, self.host, self.begun, self.took, source, self.draft, found, self.input_sum,
+                self.output_sum, self.plain_sum, self.hidden)
 
     @classmethod
     def of(cls, row: tuple[Any, ...]) -> Job:

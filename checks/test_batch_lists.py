@@ -1,0 +1,253 @@
+"""Manifests, bags, the trash, times, counts by cause, odd names, and drafts that are cleaned."""
+import fcntl
+import hashlib
+import os
+import subprocess
+
+import pytest
+
+import needs
+from batch_places import Tiles
+from batch_tiles import ODD, ended
+
+
+@pytest.fixture
+def tiles(program, tmp_path):
+    needs.command("parallel", "parallel")
+    return Tiles(tmp_path, program)
+
+
+def checked(tiles, name):
+    return subprocess.run(["sha256sum", "--strict", "-c", name], cwd=tiles.folder, stdout=subprocess.PIPE,
+                          stderr=subprocess.PIPE, check=False)
+
+
+@pytest.mark.parametrize("words", [[], ["-verify"]], ids=" ".join)
+def test_a_manifest_is_one_of_sha256sum_and_so_is_that_of_the_plain_bytes(tiles, words):
+    plain = {name: tiles.make(f"tiles/{name}", 100, at) for at, name in enumerate(ODD)}
+    ended(tiles.batch("laszip", "-odir", "out", "-manifest", "sums", *words, "-r", "tiles"), 0, b"7 done")
+    run = checked(tiles, "sums")
+    assert (run.returncode, run.stdout.count(b": OK")) == (0, 7), run.stderr
+    for name, data in plain.items():
+        tiles.path(f"out/{name}").write_bytes(data)
+    run = checked(tiles, "sums.plain")
+    assert (run.returncode, run.stdout.count(b": OK")) == (0, 7), run.stderr
+
+
+def test_a_manifest_has_what_stays_too_and_what_las2las_packed(tiles):
+    tiles.make_all(3)
+    tiles.batch("laszip", "-odir", "out", "tiles/000.las")
+    ended(tiles.batch("laszip", "-odir", "out", "-manifest", "sums", "-r", "tiles"), 0, b"2 done")
+    assert checked(tiles, "sums").stdout.count(b": OK") == 3
+    assert len(tiles.path("sums.plain").read_bytes().splitlines()) == 3
+    words = ["las2las", "-odir", "kept", "-manifest", "kept_sums", "-olaz", "-keep_class", "1", "--", "tiles/000.las"]
+    ended(tiles.batch(*words), 0)
+    subprocess.run([tiles.program, "laszip", "-i", "kept/000.laz", "-o", "kept/000.las"], cwd=tiles.folder, check=True)
+    assert checked(tiles, "kept_sums.plain").returncode == 0
+
+
+def test_no_manifest_is_written_over_another_file(tiles):
+    tiles.make("tiles/a.las")
+    tiles.path("notes").write_bytes(b"a line\n")
+    ended(tiles.batch("laszip", "-odir", "out", "-manifest", "notes", "tiles/a.las"), 2)
+    assert tiles.path("notes").read_bytes() == b"a line\n"
+
+
+@pytest.fixture
+def archive(tiles):
+    """An archive of four outputs, two with odd names, and its manifest."""
+    for at, name in enumerate(["a.las", "b.las", *ODD[2:4]]):
+        tiles.make(f"tiles/{name}", 500, at)
+    ended(tiles.batch("laszip", "-odir", "out", "-manifest", "sums", "-r", "tiles"), 0)
+    return tiles
+
+
+def test_verify_reads_all_back(archive):
+    run = archive.batch("verify", "-manifest", "sums")
+    assert (run.returncode, run.stdout) == (0, b"las-batch: 4 as they were, 0 lost, 0 changed, 0 new\n")
+
+
+def test_verify_finds_what_is_lost_changed_and_new(archive):
+    archive.path("out/a.laz").unlink()
+    with open(archive.path("out/b.laz"), "r+b") as file:
+        file.seek(500)
+        byte = file.read(1)
+        file.seek(500)
+        file.write(bytes([byte[0] ^ 1]))
+    archive.path("out/new.laz").write_bytes(b"x")
+    run = archive.batch("verify", "-manifest", "sums")
+    assert run.returncode == 1
+    assert run.stdout.splitlines() == [b"lost        out/a.laz", b"changed     out/b.laz", b"new         out/new.laz",
+                                       b"las-batch: 2 as they were, 1 lost, 1 changed, 1 new"]
+
+
+def test_verify_of_what_is_no_manifest(archive):
+    ended(archive.batch("verify", "-manifest", "out/a.laz"), 2, b"is none of a manifest")
+    ended(archive.batch("verify", "-manifest", "none"), 2, b"can't be read")
+
+
+def test_manifests_of_an_archive_that_is_there(archive):
+    archive.path("out/plain.las").write_bytes(archive.path("tiles/a.las").read_bytes())
+    run = archive.batch("manifest", "-r", "out", "-manifest", "again")
+    ended(run, 0, b"5 in the manifest, 0 not")
+    assert checked(archive, "again").stdout.count(b": OK") == 5
+    assert archive.path("again.plain").read_bytes() == archive.path("sums.plain").read_bytes()
+    assert archive.parts() == []
+
+
+def test_a_damaged_file_of_an_archive_is_said(archive):
+    archive.path("out/b.laz").write_bytes(b"LASF, but no more")
+    ended(archive.batch("manifest", "-r", "out", "-manifest", "again"), 1, b"3 in the manifest, 1 not")
+
+
+def test_a_bag(tiles):
+    for at, name in enumerate(["a.las", "100%.las", "line\nfeed.las"]):
+        tiles.make(f"tiles/sub/{name}", 100, at)
+    ended(tiles.batch("laszip", "-odir", "out", "-bag", "-r", "tiles"), 0, b"3 done")
+    out = tiles.path("out")
+    files = {path: path.read_bytes() for path in (out / "data").rglob("*.laz")}
+    assert (out / "bagit.txt").read_bytes() == b"BagIt-Version: 1.0\nTag-File-Character-Encoding: UTF-8\n"
+    info = (out / "bag-info.txt").read_text()
+    assert f"Payload-Oxum: {sum(map(len, files.values()))}.3\n" in info
+    for manifest, wanted in (("manifest-sha256.txt", set(files)),
+                             ("tagmanifest-sha256.txt", {out / name for name in ("bagit.txt", "bag-info.txt",
+                                                                                 "manifest-sha256.txt")})):
+        found = {}
+        for line in (out / manifest).read_text().splitlines():
+            total, _, name = line.partition("  ")
+            found[out / name.replace("%0A", "\n").replace("%25", "%")] = total
+        assert found == {path: hashlib.sha256(path.read_bytes()).hexdigest() for path in wanted}
+
+
+def test_a_bag_is_sealed_only_when_all_is_done(tiles):
+    tiles.make("tiles/a.las")
+    tiles.path("tiles/b.las").write_bytes(b"no tile")
+    ended(tiles.batch("laszip", "-odir", "out", "-bag", "-r", "tiles"), 1, b"is no bag yet")
+    assert not tiles.path("out/bagit.txt").exists()
+    tiles.make("tiles/b.las", seed=2)
+    ended(tiles.batch("-resume", "-odir", "out"), 0, b"2 done, 0 not")
+    assert b"2" in tiles.path("out/bag-info.txt").read_bytes()
+
+
+def test_the_trash_has_the_inputs_with_their_paths(tiles):
+    wanted = {name: tiles.make(f"in/{name}", 100, at) for at, name in enumerate(["a.las", "sub/b.LAS", "c d.las"])}
+    ended(tiles.batch("laszip", "-odir", "out", "-verify", "-trash", "bin", "-r", "in"), 0, b"3 done")
+    assert {name: (tiles.path("bin") / name).read_bytes() for name in wanted} == wanted
+    assert tiles.outputs("in") == {}
+
+
+def test_nothing_in_the_trash_is_written_over(tiles):
+    data = tiles.make("in/a.las")
+    tiles.path("bin").mkdir()
+    tiles.path("bin/a.las").write_bytes(b"earlier")
+    ended(tiles.batch("laszip", "-odir", "out", "-verify", "-trash", "bin", "-r", "in"), 1, b"is there already")
+    assert (tiles.path("bin/a.las").read_bytes(), tiles.path("in/a.las").read_bytes()) == (b"earlier", data)
+    assert tiles.outputs("in") == {"a.las": data}
+
+
+@pytest.mark.root
+@pytest.mark.alone
+def test_the_trash_is_on_the_same_disk(tiles, small_disk):
+    tiles.make("in/a.las")
+    run = tiles.batch("laszip", "-odir", "out", "-verify", "-trash", small_disk(100_000), "-r", "in")
+    ended(run, 2, b"another disk")
+    assert tiles.path("in/a.las").exists()
+
+
+def test_keep_times(tiles):
+    tiles.make("tiles/a.las")
+    os.utime(tiles.path("tiles/a.las"), ns=(1, 1_234_567_890_123_456_789))
+    ended(tiles.batch("laszip", "-odir", "out", "-keep-times", "tiles/a.las"), 0)
+    assert tiles.path("out/a.laz").stat().st_mtime_ns == 1_234_567_890_123_456_789
+    ended(tiles.batch("laszip", "-odir", "out", "-keep-times", "tiles/a.las"), 0, b"1 of 1 outputs")
+
+
+def test_many_failures_of_one_cause_are_one_line(tiles):
+    tiles.make("tiles/good.las")
+    bad = bytearray(tiles.path("tiles/good.las").read_bytes())
+    bad[104] = 6
+    for at in range(300):
+        tiles.path(f"tiles/{at:03}.las").write_bytes(bad)
+    run = tiles.batch("laszip", "-odir", "out", "-failed", "failed", "-r", "tiles")
+    lines = run.stderr.splitlines()
+    assert (run.returncode, lines[-1]) == (1, b"las-batch: 1 done, 300 not")
+    assert lines[1].split()[:2] == [b"5", b"300"]
+    assert len(lines) < 30
+    failed = tiles.path("failed").read_bytes().splitlines()
+    assert (failed[0], len(failed)) == (b"status\tinput\tline", 301)
+    assert {line.split(b"\t")[0] for line in failed[1:]} == {b"5"}
+
+
+@pytest.mark.parametrize("words", [[], ["-verify", "-delete"]], ids=" ".join)
+def test_names_that_are_not_utf_8(tiles, words):
+    wanted = {}
+    for at, name in enumerate([b"\xff\xfe.las", b"m\xfcnchen.las", "ümläut.las".encode(), b"sub\xff/a.las"]):
+        data = tiles.make("made.las", 100, at)
+        path = os.path.join(os.fsencode(tiles.folder), b"tiles", name)
+        os.makedirs(os.path.dirname(path), exist_ok=True)
+        os.rename(tiles.path("made.las"), path)
+        wanted[name[:-1] + b"z"] = tiles.packed(data)
+    ended(tiles.batch("laszip", "-odir", b"out\xe4", *words, "-manifest", "sums", "-r", "tiles"), 0, b"4 done, 0 not")
+    out = os.path.join(os.fsencode(tiles.folder), b"out\xe4")
+    for name, data in wanted.items():
+        with open(os.path.join(out, name), "rb") as file:
+            assert file.read() == data
+    assert tiles.parts() == []
+    assert checked(tiles, "sums").stdout.count(b": OK") == 4
+
+
+def test_a_name_that_is_not_utf_8_is_said_as_it_is(tiles):
+    path = os.path.join(os.fsencode(tiles.folder), b"\xff.las")
+    with open(path, "wb") as file:
+        file.write(b"no tile")
+    run = tiles.batch("laszip", "-odir", "out", b"\xff.las")
+    ended(run, 1, b"refused: ")
+    assert b"las-batch: 0 done, 1 not" in run.stderr and b".link" not in run.stderr
+
+
+def test_clean_removes_drafts_that_nobody_holds(tiles):
+    tiles.path("out/sub").mkdir(parents=True)
+    names = [".las-0123456789abcdef-12.part", "sub/.a.laz.las-4711-Xy12.part", ".las-0123456789abcdef-12.back"]
+    kept = ["a.laz", ".hidden.part", "sub/las-12.part", ".las-0123456789abcdef-held.part"]
+    for name in names + kept:
+        tiles.path(f"out/{name}").write_bytes(b"x")
+    with open(tiles.path("out/.las-0123456789abcdef-held.part"), "rb") as held:
+        fcntl.flock(held, fcntl.LOCK_EX)
+        ended(tiles.batch("clean", "out"), 0, b"3 drafts removed, 1 are in use")
+    assert sorted(tiles.outputs("out")) == sorted(kept)
+
+
+def test_clean_is_refused_while_a_run_lives(tiles):
+    tiles.make("tiles/a.las")
+    tiles.batch("laszip", "-odir", "out", "tiles/a.las")
+    with open(tiles.path("out/.las-batch/lock"), "rb") as held:
+        fcntl.flock(held, fcntl.LOCK_EX)
+        ended(tiles.batch("clean", "out"), 2, b"a las-batch works in")
+
+
+@pytest.mark.alone
+def test_verify_reads_the_draft_from_the_disk(tiles):
+    """When the draft is unpacked again, none of it is in the cache."""
+    needs.command("fincore", "util-linux")
+    disk = os.environ.get("TMPDIR", "/var/tmp")
+    if subprocess.run(["findmnt", "-n", "-o", "FSTYPE", "-T", tiles.folder], stdout=subprocess.PIPE,
+                      check=False).stdout.strip() == b"tmpfs":
+        needs.missing(f"{tiles.folder} is in memory", f"a folder on a disk, as {disk}")
+    tiles.make("tiles/a.las", 20_000)
+    las = tiles.command("las", '[ "$1" != --version ] || exit 1\ncase $3 in *.part) '
+                        f'fincore -nbo RES "$3" >>{tiles.path("cached")};; esac\nexec {tiles.program} "$@"')
+    ended(tiles.batch("laszip", "-odir", "out", "-verify", "tiles/a.las", las=str(las)), 0)
+    assert tiles.path("cached").read_text().split() == ["0"]
+
+
+def test_a_log_of_each_job(tiles):
+    tiles.make("tiles/a b.las")
+    tiles.path("tiles/b.las").write_bytes(b"no tile")
+    ended(tiles.batch("laszip", "-odir", "out", "-log", "log", "-r", "tiles"), 1)
+    head, *lines = [line.split("\t") for line in tiles.path("log").read_text().splitlines()]
+    assert head == ["Seq", "Host", "Starttime", "JobRuntime", "Send", "Receive", "Exitval", "Signal", "Command"]
+    assert {(fields[8], fields[6], fields[7]) for fields in lines} == {
+        ("'tiles/./a b.las'", "0", "0"), ("tiles/./b.las", "5", "0")}
+    tiles.path("log").unlink()
+    ended(tiles.batch("-resume", "-odir", "out"), 1)
+    assert len(tiles.path("log").read_text().splitlines()) == 3
