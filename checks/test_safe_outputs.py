@@ -14,10 +14,10 @@ import changed_calls
 import needs
 import power_loss
 import runs
-from las_files import FILE, ONE, THREE, head, lidar, packed_one
+from las_files import FILE, ONE, THREE, head, lidar, packed_one, record
 from places import Place
 
-OLD = head(1, (1, 0, 0, 0, 0)) + THREE[1]
+OLD = head(1, (1, 0, 0, 0, 0)) + record(77, 9)  # no command writes this
 SPLIT = ["lassplit", "-i", "a.las", "-o", "p.las", "-by_classification"]
 
 # the commands that write, their words, and their outputs in the order in which they are begun
