@@ -12,7 +12,7 @@ from programs import TOP
 
 SECONDS = 60
 
-pytestmark = [pytest.mark.kit, pytest.mark.alone]
+pytestmark = [pytest.mark.kit, pytest.mark.alone, pytest.mark.huge]  # laz_c is proved once more for it
 
 
 def needs_fuzzer() -> None:
@@ -63,7 +63,6 @@ def decode(tmp_path_factory: pytest.TempPathFactory) -> Path:
     return built(tmp_path_factory.mktemp("fuzz"))
 
 
-@pytest.mark.slow  # the crate laz_c is proved once more for it
 def test_a_minute_finds_nothing(decode: Path, tmp_path: Path) -> None:
     status, said = run_for(SECONDS, decode, tmp_path)
     assert status == 0, said[-5000:]
