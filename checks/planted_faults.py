@@ -69,7 +69,7 @@ def found_by(program: str, folder: Path, command: str, fault: str) -> list[str]:
     wrapper.chmod(0o755)
     here = programs.TOP / "checks"
     line = [sys.executable, "-m", "pytest", "-c", f"{here}/pytest.ini", "--rootdir", f"{here}", "-p", "no:xdist",
-            "-rfE", "--tb=no", "--program", f"{wrapper}", f"{here}/test_whole_runs.py"]
+            "-rfE", "--tb=no", f"--program={wrapper}", f"{here}/test_whole_runs.py"]
     bare = {name: text for name, text in os.environ.items() if not name.startswith("PYTEST_")}
     run = subprocess.run(line, cwd=folder, check=False, stdin=subprocess.DEVNULL, stdout=subprocess.PIPE,
                          stderr=subprocess.STDOUT, env={**bare, "PYTHONDONTWRITEBYTECODE": "1"})
