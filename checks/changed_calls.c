@@ -97,11 +97,11 @@ static void note_bytes(int file, const unsigned char *bytes, size_t count, off_t
 int open(const char *path, int flags, ...) {
     va_list words;
     va_start(words, flags);
-    mode_t mode = flags & O_CREAT ? va_arg(words, mode_t) : 0;
+    mode_t mode = (flags & O_CREAT) ? va_arg(words, mode_t) : 0;
     va_end(words);
     if (fails("open"))
         return -1;
-    int is_new = flags & O_CREAT && syscall(SYS_faccessat, AT_FDCWD, path, F_OK, 0) != 0;
+    int is_new = (flags & O_CREAT) && syscall(SYS_faccessat, AT_FDCWD, path, F_OK, 0) != 0;
     int file = NEXT(open)(path, flags, mode);
     if (file >= 0 && is_new)
         note("create\t%lu\t%s\n", number_of(file), path);

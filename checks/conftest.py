@@ -51,8 +51,9 @@ def pytest_collection_modifyitems(config, items):
     kept = [item for item in items if ("huge" in item.keywords) == config.getoption("--huge")]
     if wanted:
         kept = [item for item in kept if ("alone" in item.keywords) == (wanted == "only")]
-    config.hook.pytest_deselected(items=sorted(set(items) - set(kept), key=items.index))
-    items[:] = kept
+    chosen = set(kept)
+    config.hook.pytest_deselected(items=[item for item in items if item not in chosen])
+    items[:] = sorted(kept, key=lambda item: "slow" not in item.keywords)  # long ones first
     for item in items:
         if "slow" in item.keywords and not config.getoption("--all"):
             item.add_marker(pytest.mark.skip(reason="slow: ./check --all runs it"))

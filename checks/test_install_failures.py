@@ -11,7 +11,9 @@ from file_calls import Call, Watcher
 from install_trials import Trial, differences, final
 
 HOWS = ["fails", "before", "after", "interrupt"]
-SHARES = 4
+SHARES = 16
+# the first share in the gate, the others beside it
+SHARE = [pytest.param(share, marks=pytest.mark.huge if share else pytest.mark.slow) for share in range(SHARES)]
 
 
 def chosen(steps: int, how: str, share: int) -> "list[int]":
@@ -48,8 +50,7 @@ def whole(trial: Trial) -> "dict[str, object]":
     return tree
 
 
-@pytest.mark.slow
-@pytest.mark.parametrize("share", range(SHARES))
+@pytest.mark.parametrize("share", SHARE)
 @pytest.mark.parametrize("how", HOWS)
 def test_a_first_install_that_ends_at_a_step_is_mended_by_the_next(trial: Trial, how: str, share: int) -> None:
     wanted = whole(trial)
@@ -68,8 +69,7 @@ def test_a_first_install_that_ends_at_a_step_is_mended_by_the_next(trial: Trial,
         assert is_empty(trial), at
 
 
-@pytest.mark.slow
-@pytest.mark.parametrize("share", range(SHARES))
+@pytest.mark.parametrize("share", SHARE)
 @pytest.mark.parametrize("how", HOWS)
 def test_an_upgrade_that_ends_at_a_step_leaves_a_program_that_runs(trial: Trial, how: str, share: int) -> None:
     trial.release(2)
@@ -98,7 +98,7 @@ def test_an_upgrade_that_ends_at_a_step_leaves_a_program_that_runs(trial: Trial,
 def test_an_install_that_was_cut_off_can_be_removed(trial: Trial, how: str) -> None:
     steps = trial.steps()
     assert trial.install("--remove").returncode == 0
-    for at in range(1 + HOWS.index(how), steps + 1, 8):
+    for at in range(1 + HOWS.index(how), steps + 1, 32):
         trial.install(at=at, how=how)
         removed = trial.install("--remove")
         left = {name for name, kept in trial.tree().items() if kept is not None}
@@ -113,7 +113,7 @@ def test_an_install_that_was_cut_off_can_be_removed(trial: Trial, how: str) -> N
 def test_a_removal_that_ends_at_a_step_can_be_repeated(trial: Trial, how: str) -> None:
     assert trial.install().returncode == 0
     steps = trial.steps("--remove")
-    for at in range(1 + HOWS.index(how), steps + 1, 4):
+    for at in range(1 + HOWS.index(how), steps + 1, 24):
         assert trial.install().returncode == 0
         (trial.prefix / "bin" / "mine").write_bytes(b"mine")
         trial.install("--remove", at=at, how=how)

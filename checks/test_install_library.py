@@ -38,8 +38,8 @@ def shell(trial: Trial, script: str) -> "subprocess.CompletedProcess[bytes]":
                           stdout=subprocess.PIPE, stderr=subprocess.PIPE, timeout=120, check=False)
 
 
-def with_soname(trial: Trial) -> None:
-    """Makes the released shared libraries ones whose name has a version, linked out of the released archive."""
+def with_soname(trial: Trial, soname: str) -> None:
+    """Makes the released shared libraries ones of this name, linked out of the released archive."""
     import gzip
     import hashlib
     needs.command("ld", "binutils")
@@ -48,7 +48,7 @@ def with_soname(trial: Trial) -> None:
     archive.write_bytes(gzip.decompress((release / "liblaz.a.gz").read_bytes()))
     libc = subprocess.check_output(["cc", "-print-file-name=libc.so.6"]).decode().strip()
     made = trial.temporary / "liblaz.so"
-    subprocess.run(["ld", "-shared", "-soname", "liblaz.so.1", "--whole-archive", str(archive), "--no-whole-archive",
+    subprocess.run(["ld", "-shared", "-soname", soname, "--whole-archive", str(archive), "--no-whole-archive",
                     libc, "-o", str(made)], check=True)
     data = made.read_bytes()
     lines = [line for line in (release / "BUILT_FROM").read_text().splitlines() if not line.split()[0].endswith(".so")]
@@ -129,9 +129,10 @@ def test_a_program_linked_to_a_library_with_a_version_starts(trial: Trial) -> No
 
 
 def test_a_library_of_the_older_name_makes_way_for_one_with_links(trial: Trial) -> None:
+    with_soname(trial, "liblaz.so")
     assert trial.install().returncode == 0
     assert not (trial.prefix / "lib" / "liblaz.so").is_symlink()
-    with_soname(trial)
+    with_soname(trial, "liblaz.so.1")
     assert trial.install().returncode == 0
     assert os.readlink(trial.prefix / "lib" / "liblaz.so") == "liblaz.so.1"
 
