@@ -12,7 +12,7 @@ from typing import Optional
 from .files import Identity, digest, exchange, folder_of, look, make_folders, move_new, sync_folder
 from .plan import NOT_OURS, key_of
 from .rows import Row, draft_of
-from .state import DONE, FAILED, HIDING, KEPT, MADE, REMOVED, TODO, Job, Made, Run, State
+from .state import DONE, HIDING, KEPT, MADE, REMOVED, TODO, Job, Made, Run, State
 from .texts import quoted, say
 from .words import made_by
 
@@ -25,7 +25,7 @@ class Clash(Exception):
 
 def told(problem: BaseException) -> bytes:
     text = problem.strerror if isinstance(problem, OSError) and problem.strerror else str(problem)
-    name = f": {problem.filename}" if isinstance(problem, OSError) and problem.filename else ""
+    name = f": {quoted(os.fsencode(problem.filename))}" if isinstance(problem, OSError) and problem.filename else ""
     return os.fsencode(text + name)
 
 
@@ -130,16 +130,18 @@ class Intake:
                 job.fail("4", b"the state can't be written: " + told(self.trouble))
                 drop(job.draft)
             return
+        settled = []
         for job in jobs:
             try:
                 self.give_name(job)
             except Clash as problem:
                 job.fail(NOT_OURS, os.fsencode(str(problem)))
-            except OSError as problem:
-                job.fail("4", told(problem))
-            if job.state == FAILED:
                 drop(job.draft)
-        self.settle_names(jobs)
+            except OSError as problem:
+                job.status, job.said = "4", told(problem)
+                continue  # perhaps it has its name: it stays `made` in the state, and the next start looks
+            settled.append(job)
+        self.settle_names(settled)
         if self.run.settings.get("delete") or self.run.settings.get("trash"):
             self.remove_inputs([job for job in jobs if job.state == DONE])
 
@@ -280,7 +282,11 @@ class Intake:
                 move_new(job.hidden, target)
             except FileExistsError:
                 raise Clash(f"{quoted(target)} is there already, and the input stays") from None
-            sync_folder(folder_of(target))
+            try:
+                sync_folder(folder_of(target))
+            except OSError as problem:
+                say(f"{quoted(job.input)} is now {quoted(target)}, whose folder can't be synced: "
+                    f"{os.fsdecode(told(problem))}")
         else:
             os.unlink(job.hidden)
         job.removal = REMOVED
@@ -326,7 +332,10 @@ class Settler:
         self.intake.save(hiding)
 
     def name(self, job: Job) -> None:
-        """A job whose draft was to get its name: it has it, gets it now, or is to do again."""
+        """A job whose draft was to get its name: it has it, gets it now, or is to do again.
+
+        If that can't be told, since a call fails, las-batch ends, and the state stays as it is.
+        """
         part, old = job.draft, old_of(job)
         try:
             if self.is_at(job, job.output):
@@ -337,9 +346,9 @@ class Settler:
                 self.intake.give_name(job)
             else:
                 job.state = TODO
-        except (Clash, OSError) as problem:
-            job.fail(NOT_OURS if isinstance(problem, Clash) else "4", told(problem))
-            drop(part)
+        except Clash as problem:
+            job.fail(NOT_OURS, told(problem))
+            drop(job.draft)
 
     @staticmethod
     def is_at(job: Job, path: bytes) -> bool:

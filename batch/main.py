@@ -19,7 +19,7 @@ from .bag import BAG_FOLDER, seal_bag
 from .engines import Engine, Here, Hosts, Slurm, Stop, new_place, still_runs
 from .files import folder_of, kind_of_disk, make_folders, on_network
 from .guard import Guard, sweep
-from .intake import Intake, Settler
+from .intake import Intake, Settler, told
 from .manifest import check_manifest, write_manifests
 from .plan import Plan, Planner, check_names, check_text, key_of, look_at_all, pairs_of
 from .report import FAILED_HEAD, LOG_HEAD, Bar, Log, counts, report, write_failed
@@ -404,5 +404,5 @@ def main(top: bytes, words: list[str]) -> int:
         say(str(problem))
         return 2
     except (OSError, sqlite3.Error) as problem:
-        say(f"{problem}")
+        say(os.fsdecode(told(problem)))
         return 1

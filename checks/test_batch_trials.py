@@ -1,75 +1,17 @@
-"""Each file call of las-batch in turn: it fails, the process is killed there, or an input is replaced before it."""
+"""File calls of las-batch in turn: one fails, the process is killed there, or an input is replaced before it.
+
+The first part of the calls is those that give names, take them away, and what follows each; `--huge` tries every call.
+"""
 import errno
-import shutil
 import subprocess
 from pathlib import Path
 
 import pytest
 
 import needs
-from batch_places import Tiles, wait_until
+from batch_trials import TELLING, Trials
 
-WORDS = ["laszip", "-odir", "out", "-verify", "-delete", "tiles/a.las", "tiles/b.las"]
-TELLING = {"rename", "renameat2", "unlink"}
-PARTS = 32  # of all calls; the first of them without `--all`
-
-
-class Trials(Tiles):
-    """A folder with a tile that is new, and one that was changed after it was packed, made anew for each trial."""
-
-    def __init__(self, folder: Path, program: str, library: Path) -> None:
-        super().__init__(folder / "w", program)
-        self.library, self.model, self.log = library, folder / "model", folder / "calls"
-        self.folder.mkdir()
-        self.old = self.make("tiles/b.las", 100, 3)
-        assert self.batch("laszip", "-odir", "out", "-verify", "tiles/b.las").returncode == 0
-        self.plain = {name: self.make(f"tiles/{name}.las", 100, seed) for seed, name in enumerate("ab")}
-        self.new = self.make("new.las", 120, 9)
-        self.path("new.las").rename(folder / "new.las")
-        self.wanted = {f"{name}.laz": self.packed(data) for name, data in self.plain.items()}
-        self.packed_old, self.packed_new = self.packed(self.old), self.packed(self.new)
-        shutil.copytree(self.folder, self.model)
-
-    def again(self) -> None:
-        shutil.rmtree(self.folder)
-        subprocess.run(["cp", "-a", self.model, self.folder], check=True)
-
-    def faulty(self, **fault: object) -> "subprocess.CompletedProcess[bytes]":
-        """A run with a fault, until all that it started has ended."""
-        environment = {f"FAULT_{name.upper()}": str(value) for name, value in fault.items()}
-        environment.update(LD_PRELOAD=str(self.library), FAULT_FOLDER=str(self.folder))
-        run = self.batch(*WORDS, environment=environment)
-        assert wait_until(lambda: self.free("out"), 20), "the folder stays locked"
-        return run
-
-    def calls(self) -> list[str]:
-        self.again()
-        self.faulty(log=self.log)
-        return self.log.read_text().split()
-
-    def contents(self) -> list[bytes]:
-        return [path.read_bytes() for path in self.folder.rglob("*") if path.is_file()]
-
-    def nothing_is_lost(self, when: str) -> None:
-        found = self.contents()
-        for name, data in self.plain.items():
-            assert data in found or self.wanted[f"{name}.laz"] in found, f"{name} is lost {when}"
-        output = self.path("out/b.laz")
-        assert output.read_bytes() in (self.packed_old, self.wanted["b.laz"]), f"an output is partial {when}"
-        assert not self.path("out/a.laz").exists() or self.path("out/a.laz").read_bytes() == self.wanted["a.laz"], when
-
-    def all_is_done(self, when: str) -> None:
-        assert self.outputs("out") == self.wanted, when
-        assert self.outputs("tiles") == {}, when
-
-    def ends_well(self, when: str) -> None:
-        """Going on, and the same words again, do the rest."""
-        self.batch("-resume", "-odir", "out")
-        self.nothing_is_lost(f"after -resume, {when}")
-        run = self.batch(*WORDS)
-        assert run.returncode == 0, (when, run.stderr)
-        self.all_is_done(when)
-        assert self.parts() == [], when
+PARTS = 32  # of all calls, beside the first
 
 
 @pytest.fixture(scope="module")
@@ -85,60 +27,89 @@ def library(tmp_path_factory):
 @pytest.fixture
 def trials(program, tmp_path, library):
     needs.command("parallel", "parallel")
+    needs.command("flock", "util-linux")
     return Trials(tmp_path, program, library)
 
 
-def those_of(part, calls):
-    """The calls of one part: in the first, all renames, removals and syncs too."""
-    found = set(range(1 + part, len(calls) + 5, PARTS))
+def those_of(part, calls, after=0):
+    """The calls of one part. Part 0 is those that tell, and so many calls after each."""
+    assert len(calls) > 200 and "renameat2" in calls, calls
     if part == 0:
-        found |= {at for at, name in enumerate(calls, 1) if name in TELLING}
-    return sorted(found)
+        telling = [at for at, name in enumerate(calls, 1) if name in TELLING]
+        return sorted({at + more for at in telling for more in range(after + 1)} & set(range(len(calls) + 1)))
+    return range(part, len(calls) + 1, PARTS)
 
 
-parts = pytest.mark.parametrize("part", [0, *(pytest.param(at, marks=pytest.mark.slow) for at in range(1, PARTS))])
-
-
-@parts
-@pytest.mark.parametrize("where", ["before", "after"])
-def test_a_kill_at_each_call(trials, part, where):
+def each(trials, part, after=0):
+    """Each call of a part, in a folder as it was, with the words for it."""
     calls = trials.calls()
-    assert len(calls) > 100
-    for at in those_of(part, calls):
-        when = f"a kill {where} call {at} of {len(calls)}, {calls[min(at, len(calls)) - 1]}"
+    for at in those_of(part, calls, after):
         trials.again()
-        trials.faulty(at=at, kill=where)
-        trials.nothing_is_lost(when)
-        assert [path for path in trials.parts() if not path.endswith((".input", ".old", ".part"))] == [], when
+        yield at, f"at call {at} of {len(calls)}, {calls[at - 1]}"
+
+
+every_part = pytest.mark.parametrize("part", [
+    pytest.param(0, marks=pytest.mark.slow),
+    *(pytest.param(at, marks=pytest.mark.huge) for at in range(1, PARTS + 1))])
+
+
+@every_part
+def test_a_kill_before_each_call(trials, part):
+    for at, when in each(trials, part, after=1):
+        trials.kill(at, "before", when)
         trials.ends_well(when)
 
 
-@parts
-@pytest.mark.parametrize("number", [errno.EIO, errno.ENOSPC])
-def test_a_failure_of_each_call(trials, part, number):
-    calls = trials.calls()
-    for at in those_of(part, calls):
-        when = f"error {number} of call {at} of {len(calls)}, {calls[min(at, len(calls)) - 1]}"
-        trials.again()
-        run = trials.faulty(at=at, error=number)
-        trials.nothing_is_lost(when)
-        assert b"Traceback" not in run.stderr, (when, run.stderr)
-        if run.returncode == 0:
-            trials.all_is_done(when)
+@pytest.mark.huge
+@pytest.mark.parametrize("part", range(PARTS + 1))
+def test_a_kill_after_each_call(trials, part):
+    for at, when in each(trials, part):
+        trials.kill(at, "after", when)
         trials.ends_well(when)
 
 
-@parts
+@every_part
+def test_an_error_of_each_call(trials, part):
+    for at, when in each(trials, part, after=2):
+        trials.error(at, errno.EIO, when)
+        trials.ends_well(when)
+
+
+@pytest.mark.huge
+@pytest.mark.parametrize("part", range(PARTS + 1))
+def test_a_full_disk_at_each_call(trials, part):
+    for at, when in each(trials, part):
+        trials.error(at, errno.ENOSPC, when)
+        trials.ends_well(when)
+
+
+@every_part
 def test_an_input_that_is_replaced_before_each_call(trials, part):
+    for at, when in each(trials, part, after=1):
+        trials.replaced(at, when)
+
+
+RESUME = ["-resume", "-odir", "out"]
+
+
+@pytest.mark.huge
+@pytest.mark.parametrize("fault", ["kill", "error"])
+@pytest.mark.parametrize("first", range(14))
+def test_a_resume_that_is_cut_off_as_well(trials, first, fault):
+    """A run is killed before one of the calls that tell; then `-resume` has a fault at each of its own."""
     calls = trials.calls()
-    new, target = trials.folder.parent / "new.las", trials.path("tiles/a.las")
-    for at in those_of(part, calls):
-        when = f"a new delivery before call {at} of {len(calls)}, {calls[min(at, len(calls)) - 1]}"
+    killed = [at for at, name in enumerate(calls, 1) if name in TELLING]
+    at = killed[first]
+    trials.again()
+    trials.kill(at, "before", f"at call {at}")
+    again = trials.calls(*RESUME)
+    for second in those_of(0, again, after=1) if len(again) > 200 else range(1, len(again) + 1):
+        when = f"{fault} at call {second} of -resume, {again[second - 1]}, after a kill at call {at}, {calls[at - 1]}"
         trials.again()
-        trials.faulty(at=at, run=f"cp {new} {target}.new && mv -f {target}.new {target}")
-        if at <= len(calls):
-            found = trials.contents()
-            assert trials.new in found or trials.packed_new in found, when
-            trials.batch("-resume", "-odir", "out")
-            found = trials.contents()
-            assert trials.new in found or trials.packed_new in found, f"after -resume, {when}"
+        trials.kill(at, "before", when)
+        if fault == "kill":
+            trials.faulty(*RESUME, at=second, kill="before")
+        else:
+            trials.said_is_true(trials.faulty(*RESUME, at=second, error=errno.EIO), when)
+        trials.nothing_is_lost(when)
+        trials.ends_well(when)
