@@ -291,20 +291,22 @@ class Intake:
             os.unlink(job.hidden)
         job.removal = REMOVED
 
-    def put_back(self, job: Job) -> None:
-        """Gives a hidden input its name again; if another file has it, a name beside it."""
+    def put_back(self, job: Job) -> bool:
+        """Gives a hidden input its name again, or if another file has it, a name beside it, which is said."""
         for name in (job.input, job.input + b".kept-" + self.run.token.encode()):
             try:
                 move_new(job.hidden, name)
                 job.removal = KEPT
                 if name != job.input:
                     say(f"the input {quoted(job.input)} stays as {quoted(name)}, since another file took its name")
-                return
+                return name == job.input
             except FileExistsError:
                 continue
             except OSError as problem:
                 say(f"the input {quoted(job.input)} stays as {quoted(job.hidden)}: {os.fsdecode(told(problem))}")
-                return
+                return False
+        say(f"the input {quoted(job.input)} stays as {quoted(job.hidden)}, since other files took its name")
+        return False
 
 
 def old_of(job: Job) -> bytes:
@@ -373,8 +375,15 @@ class Settler:
             job.removal = KEPT if look(job.input) else REMOVED
         elif self.finish and job.source and seen[1:4] == job.source[1:4] and digest(job.hidden)[1] == job.input_sum \
                 and self.is_at(job, job.output):
-            self.intake.remove_hidden(job)
-            say(f"the removal of {quoted(job.input)} was cut off, and is finished")
+            try:
+                self.intake.remove_hidden(job)
+                say(f"the removal of {quoted(job.input)} was cut off, and is finished")
+            except Clash as problem:
+                say(str(problem))
+                self.put_back(job)
         else:
-            self.intake.put_back(job)
+            self.put_back(job)
+
+    def put_back(self, job: Job) -> None:
+        if self.intake.put_back(job):
             say(f"the removal of {quoted(job.input)} was cut off; it is there again")

@@ -108,7 +108,7 @@ static void done(long mark) {
     int name(const char *path, int flags, ...) {                                                                       \
         va_list words;                                                                                                 \
         va_start(words, flags);                                                                                        \
-        mode_t mode = flags & O_CREAT ? va_arg(words, mode_t) : 0;                                                     \
+        mode_t mode = (flags & O_CREAT) ? va_arg(words, mode_t) : 0;                                                   \
         va_end(words);                                                                                                 \
         long mark;                                                                                                     \
         if (fails(#name, below(path), &mark))                                                                          \
