@@ -70,7 +70,7 @@ def test_a_kill_after_each_call(trials, part):
 
 @every_part
 def test_an_error_of_each_call(trials, part):
-    for at, when in each(trials, part, after=2):
+    for at, when in each(trials, part, after=1):
         trials.error(at, errno.EIO, when)
         trials.ends_well(when)
 
@@ -85,7 +85,7 @@ def test_a_full_disk_at_each_call(trials, part):
 
 @every_part
 def test_an_input_that_is_replaced_before_each_call(trials, part):
-    for at, when in each(trials, part, after=1):
+    for at, when in each(trials, part):
         trials.replaced(at, when)
 
 
