@@ -168,6 +168,14 @@ static ssize_t put_at(int fd, const void *bytes, size_t count, off_t at) {
 ssize_t pwrite(int fd, const void *bytes, size_t count, off_t at) { return put_at(fd, bytes, count, at); }
 ssize_t pwrite64(int fd, const void *bytes, size_t count, off_t at) { return put_at(fd, bytes, count, at); }
 
+/* So that a copy is read and written, and the bytes are known. */
+ssize_t copy_file_range(int from, off64_t *at, int to, off64_t *to_at, size_t count, unsigned flags) {
+    if (!fd_is_below(to))
+        return syscall(SYS_copy_file_range, from, at, to, to_at, count, flags);
+    errno = ENOSYS;
+    return -1;
+}
+
 static int on_fd(const char *kind, int fd, long call, const char *more, long first, long second) {
     int watched = fd_is_below(fd);
     unsigned long number = watched ? inode(fd) : 0;

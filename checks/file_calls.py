@@ -41,7 +41,7 @@ class Watcher:
                        "CALLS_LOG": str(self.log), "CALLS_AT": str(at), "CALLS_HOW": how, "CALLS_ERROR": str(error),
                        "PYTHONDONTWRITEBYTECODE": "1", **more}
         return subprocess.run(line, env=environment, stdin=subprocess.DEVNULL, stdout=subprocess.PIPE,
-                              stderr=subprocess.PIPE, timeout=30, check=False)
+                              stderr=subprocess.PIPE, timeout=300, check=False)
 
     def calls(self) -> "list[Call]":
         """The calls of the last run."""

@@ -67,9 +67,9 @@ def found_by(program: str, folder: Path, command: str, fault: str) -> list[str]:
     wrapper = folder / "las"
     wrapper.write_text(WRAPPER.format(python=sys.executable, program=program, command=command, fault=fault))
     wrapper.chmod(0o755)
-    line = [sys.executable, "-m", "pytest", "-c", programs.TOP / "checks" / "pytest.ini", "--rootdir",
-            programs.TOP / "checks", "-p", "no:xdist", "-rfE", "--tb=no", "--program", wrapper,
-            programs.TOP / "checks" / "test_whole_runs.py"]
+    here = programs.TOP / "checks"
+    line = [sys.executable, "-m", "pytest", "-c", f"{here}/pytest.ini", "--rootdir", f"{here}", "-p", "no:xdist",
+            "-rfE", "--tb=no", f"--program={wrapper}", f"{here}/test_whole_runs.py"]
     bare = {name: text for name, text in os.environ.items() if not name.startswith("PYTEST_")}
     run = subprocess.run(line, cwd=folder, check=False, stdin=subprocess.DEVNULL, stdout=subprocess.PIPE,
                          stderr=subprocess.STDOUT, env={**bare, "PYTHONDONTWRITEBYTECODE": "1"})

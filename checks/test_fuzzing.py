@@ -12,7 +12,7 @@ from programs import TOP
 
 SECONDS = 60
 
-pytestmark = [pytest.mark.kit, pytest.mark.alone]
+pytestmark = [pytest.mark.kit, pytest.mark.alone, pytest.mark.huge]  # laz_c is proved once more for it
 
 
 def needs_fuzzer() -> None:

@@ -1,11 +1,13 @@
 """`install` with each of its steps failing, killed at each, and on a full disk: nothing half is left under a name,
 another run mends it, and what it put there can be taken away.
 """
+import os
 import subprocess
 from pathlib import Path
 
 import pytest
 
+from file_calls import Call, Watcher
 from install_trials import Trial, differences, final
 
 HOWS = ["fails", "before", "after", "interrupt"]
@@ -204,3 +206,46 @@ def test_an_upgrade_on_a_full_disk_leaves_what_is_installed(tmp_path: Path, smal
     subprocess.run(["mount", "-o", "remount,size=64000000", str(disk)], check=True)
     assert trial.install().returncode == 0
     assert trial.version() == "version 2"
+
+
+def calls_of_install(trial: Trial, folder: Path) -> "list[Call]":
+    """The calls that change files below the prefix, of all the commands that `install` runs, in their order."""
+    watcher = Watcher(folder, trial.prefix)
+    done = watcher.run(str(trial.folder / "install"), str(trial.prefix), TMPDIR=str(trial.temporary))
+    assert done.returncode == 0, done.stderr
+    return watcher.calls()
+
+
+@pytest.mark.parametrize("upgrades", [False, True])
+def test_what_gets_a_name_is_on_the_disk_before_and_its_folder_after(trial: Trial, tmp_path: Path,
+                                                                     upgrades: bool) -> None:
+    """In the order of the calls: each copy is synced after its last byte and before its move, the list is there before
+    the first copy, and the folders are synced before the list says that all is done.
+    """
+    if upgrades:
+        assert trial.install().returncode == 0
+        trial.release(2)
+    calls = calls_of_install(trial, tmp_path)
+    inodes, clean, moves, synced_at = {}, set(), [], {}
+    for at, call in enumerate(calls):
+        if call.kind == "create":
+            inodes[call.more[0]] = call.number
+        elif call.kind == "write":
+            clean.discard(call.number)
+        elif call.kind == "sync":
+            clean.add(call.number)
+            synced_at[call.number] = at
+        elif call.kind == "move":
+            moves.append((at, call.more[1]))
+            assert inodes[call.more[0]] in clean or os.path.islink(call.more[1]), call
+    listed = str(trial.prefix / "share" / "las" / "installed")
+    first, last = (next(at for at, name in order if name == listed) for order in (moves, moves[::-1]))
+    copies = [at for at, call in enumerate(calls) if call.kind == "create" and "installed" not in call.more[0]]
+    assert first < min(copies)
+    assert max(at for at, name in moves if name != listed) < last
+    assert len(moves) > 20
+    for at, name in moves:
+        folder = os.stat(os.path.dirname(name)).st_ino
+        assert at < synced_at[folder], name
+        if name != listed:
+            assert synced_at[folder] < last or os.path.dirname(name) == os.path.dirname(listed), name

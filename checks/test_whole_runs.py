@@ -11,8 +11,9 @@ from test_make import made
 
 pytestmark = pytest.mark.files
 MADE = made(1, 3, 0, 0)
+Whole = tuple[dict[str, bytes], list[str], bytes, dict[str, bytes]]
 # the files that are there, the words, standard output and the outputs of a run that is done
-DONE = {
+DONE: dict[str, Whole] = {
     "laszip": ({"a.las": ONE}, ["-i", "a.las", "-o", "b.laz"], b"", {"b.laz": packed_one()}),
     "las2las": ({"a.las": FILE}, ["-i", "a.las", "-o", "b.las", "-keep_class", "1"], b"",
                 {"b.las": head(1, (1, 0, 0, 0, 0)) + THREE[1]}),

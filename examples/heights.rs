@@ -31,7 +31,7 @@ struct Head {
 }
 
 #[link(name = "laz")]
-unsafe extern "C" {
+extern "C" {
     fn laz_c_need(front: *const u8, length: usize, size: u64, offset: *mut u32, cause: *mut u32) -> u32;
     fn laz_c_head(bytes: *const u8, length: usize, size: u64, head: *mut Head) -> u32;
     fn laz_c_chunks(bytes: *const u8, length: usize, chunk: u32, points: u32) -> u32;
@@ -125,10 +125,10 @@ fn heights(file: &[u8]) -> Result<(u32, Option<(i32, i32)>), Cause> {
 }
 
 fn main() {
-    let Some(name) = std::env::args_os().nth(1) else {
+    let name = std::env::args_os().nth(1).unwrap_or_else(|| {
         eprintln!("usage: heights FILE");
         exit(2)
-    };
+    });
     let file = std::fs::read(&name).unwrap_or_else(|error| {
         eprintln!("heights: {}: {error}", name.to_string_lossy());
         exit(3)

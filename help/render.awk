@@ -63,7 +63,7 @@ function read_options(    found, rest, list, n, i, j, at) {
     }
 }
 
-# statuses or causes: a first line, then a text
+# statuses, causes or the environment: a first line, then a text
 function read_pairs(file,    found, i) {
     pairs = paragraphs(folder "/" file, found)
     for (i = 1; i <= pairs; i++) { pair[i] = first_line(found[i]); pair_text[i] = other_lines(found[i]) }
@@ -211,6 +211,9 @@ function man(    i, name, j) {
     print ".SH EXAMPLES"
     for (i = 1; i <= count; i++) for (j = 1; j <= examples[commands[i]]; j++) man_example(commands[i], j)
     print ".SH EXIT STATUS\nStatuses 1 to 6 put one line on standard error."
+    for (i = 1; i <= pairs; i++) print ".TP\n\\fB" pair[i] "\\fR\n" roff(joined(pair_text[i]))
+    read_pairs("environment")
+    print ".SH ENVIRONMENT"
     for (i = 1; i <= pairs; i++) print ".TP\n\\fB" pair[i] "\\fR\n" roff(joined(pair_text[i]))
     man_causes()
 }

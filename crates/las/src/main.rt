@@ -5,6 +5,7 @@ ghost use Rattle.std.specs.Prelude.{◌^◌, ◌≤◌, ℕ, All};
 ghost use Rattle.las_info.specs.Tallies.{count_at};
 
 mod command_line;
+mod safety;
 mod standard_streams;
 mod taps;
 
@@ -12,11 +13,12 @@ use command_line::text_words;
 use las_info::Tap;
 use las_outside::{Files, OpenGate, RealFiles, RealSink, Sink};
 use las_run::run;
+use safety::{Safety, asked};
 use standard_streams::fill_all;
 use std::alloc::Global;
 use std::env::Env;
 use std::io;
-use std::process::ExitCode;
+use std::process::{self, ExitCode};
 use std::thread::Threads;
 use taps::{OwnTaps, taps};
 
@@ -71,9 +73,14 @@ fn main(rt: HostRuntime) -> ExitCode {
         return no_memory(&mut err);
     };
     let mut out = RealSink::out(&rt);
-    let mut files = RealFiles::new(&rt);
+    let safety = asked(&rt);
+    let mut files = match safety {
+        Safety::Plain => RealFiles::new(&rt),
+        Safety::Safe | Safety::Keep => RealFiles::with_drafts(&rt, process::id(rt.process())),
+    };
     match obey(&rt, rt.alloc(), &mut files, &mut out, &mut err, taps) {
-        Ok(status) => ExitCode::from(status),
+        Ok(status) if safety == Safety::Plain => ExitCode::from(status),
+        Ok(status) => ExitCode::from(files.end(status, safety == Safety::Keep, &mut err)),
         Err(_) => no_memory(&mut err),
     }
 }

@@ -106,6 +106,8 @@ fn fill<R: Threads + Sync, F: Files, G: Gate>(
         → IfErr result (EndsConverting (F.seen files.old).held before.held (F.seen files.old) (F.seen files.new)
         keeping reader.old out bytes)) }
     ensures calm { OnOk result (IsCalm (F.seen files.old) (F.seen files.new)) }
+    ensures calm_refused { (cause : Refusal) → IsErrOf result (Refused cause)
+        → IsCalm (F.seen files.old) (F.seen files.new) }
     ensures frame { ReadsAndWrites (bytes_left reader.old) (F.seen files.old) (F.seen files.new) }
 {
     let mut writer = writer;
@@ -170,6 +172,9 @@ pub fn convert<R: Threads + Sync, F: Files, G: Gate>(
         → ((i : ℕ) × (cause ≡ BadChunk i)) ⊎ ((k : ℕ) × (cause ≡ RawRange k)) }
     ensures looked { (i : ℕ) → IsErrOf result (Refused (BadChunk i))
         → OfFile reader (F.seen files.old) (λ file. IsFirst passage.old.sieve.settings.pick) }
+    // No call has failed if the file is refused.
+    ensures calm_refused { (cause : Refusal) → IsErrOf result (Refused cause)
+        → IsCalm (F.seen files.old) (F.seen files.new) }
     // No more is asked for than the reader has left, however the call ends.
     ensures frame { ReadsAndWrites (bytes_left reader) (F.seen files.old) (F.seen files.new) }
 {

@@ -148,6 +148,9 @@ pub fn look_through<R: Threads + Sync, F: Files, G: Gate>(
     ensures bad { (cause : Refusal) → IsErrOf result (Refused cause) → (i : ℕ) × (cause ≡ BadChunk i) }
     ensures settings { sieve.new.settings ≡ sieve.old.settings }
     ensures never { IsErrOf result Write → ⊥ }
+    // No call has failed if the file is refused.
+    ensures calm_refused { (cause : Refusal) → IsErrOf result (Refused cause)
+        → IsCalm (F.seen files.old) (F.seen files.new) }
     // No more is asked for than the reader has left, however the call ends.
     ensures reads { Reads (bytes_left reader) (F.seen files.old) (F.seen files.new) }
     ensures calm { OnOk result (IsCalm (F.seen files.old) (F.seen files.new)) }

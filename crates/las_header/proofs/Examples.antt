@@ -1,9 +1,9 @@
 -- Values that compute: heads of each version, what they are refused for when some bytes are others, and heads that are
 -- changed.
-use Rattle.std.proofs.Common.{◌≡◌, ℕ, ◌+◌, ◌^◌, List, [], ◌∷◌, ◌++◌, replicate, codes, length, Option, Some, None, refl}
+use Rattle.std.proofs.Common.{◌≡◌, ℕ, ◌+◌, ◌^◌, List, [], ◌∷◌, ◌++◌, replicate, codes, length, take, Option, Some, None, refl}
 use Rattle.std.specs.List.{splice}
 use Rattle.byteorder.specs.Endian.{little_bytes}
-use Rattle.las_header.specs.declared.limits.TheConstants.{LASZIP_DESCRIPTION, LAST_MINOR, MAX_EXTRA, MAX_PLAIN_OFFSET}
+use Rattle.las_header.specs.declared.limits.TheConstants.{COUNTS_AT, COUNTS_SIZE, HEADER_BLOCK, HEADER_BLOCK_1_3, HEADER_BLOCK_1_4, LAST_FORMAT, LAST_MINOR, LASZIP_DESCRIPTION, LASZIP_RECORD_ID, LASZIP_USER_ID, LONG_COUNTS_AT, LONG_COUNTS_SIZE, MAX_EXTRA, MAX_LASZIP_PAYLOAD, MAX_OFFSET, MAX_PLAIN_OFFSET, POINT_RECORD, VLR_HEAD}
 use Rattle.las_header.specs.declared.refusal.Refusal.{Refusal}
 use Rattle.las_header.specs.declared.refusal.Refusal.TheVariants as cause
 use Rattle.las_header.specs.Numbers.{number_at, with_number_at}
@@ -178,3 +178,51 @@ greatest_plain_offset = (refl, refl)
 
 laszip_description : LASZIP_DESCRIPTION ≡ codes "laszip version 2 items" ++ replicate 10 0
 laszip_description = refl
+
+-- by which the laszip VLR is known
+laszip_user_id : LASZIP_USER_ID ≡ codes "laszip encoded" ++ 0 ∷ 0 ∷ []
+laszip_user_id = refl
+
+laszip_record_id : LASZIP_RECORD_ID ≡ 22204
+laszip_record_id = refl
+
+-- what it begins with: two zeros, the user ID, and the record ID with its lowest byte first
+laszip_front : take 20 (laszip_vlr []) ≡ 0 ∷ 0 ∷ codes "laszip encoded" ++ 0 ∷ 0 ∷ 188 ∷ 86 ∷ []
+laszip_front = refl
+
+-- the numbers that the definitions take from the code
+counts_at_is : COUNTS_AT ≡ 107
+counts_at_is = refl
+
+counts_size_is : COUNTS_SIZE ≡ 24
+counts_size_is = refl
+
+header_block_is : HEADER_BLOCK ≡ 227
+header_block_is = refl
+
+header_block_1_3_is : HEADER_BLOCK_1_3 ≡ 235
+header_block_1_3_is = refl
+
+header_block_1_4_is : HEADER_BLOCK_1_4 ≡ 375
+header_block_1_4_is = refl
+
+last_format_is : LAST_FORMAT ≡ 3
+last_format_is = refl
+
+long_counts_at_is : LONG_COUNTS_AT ≡ 247
+long_counts_at_is = refl
+
+long_counts_size_is : LONG_COUNTS_SIZE ≡ 128
+long_counts_size_is = refl
+
+max_laszip_payload_is : MAX_LASZIP_PAYLOAD ≡ 58
+max_laszip_payload_is = refl
+
+max_offset_is : MAX_OFFSET ≡ 16777216
+max_offset_is = refl
+
+point_record_is : POINT_RECORD ≡ 20
+point_record_is = refl
+
+vlr_head_is : VLR_HEAD ≡ 54
+vlr_head_is = refl

@@ -1,5 +1,6 @@
 -- Values that compute: what is drawn, records of each format, and the file of no records.
 use Rattle.std.proofs.Common.{◌≡◌, ℕ, [], ◌∷◌, length, pos, refl}
+use Rattle.las_make.specs.declared.settings.TheConstants.{MAX_POINTS}
 use Rattle.las_header.specs.Counting.{short_bytes}
 use Rattle.las_header.specs.Numbers.{number_at}
 use Rattle.las_points.specs.Record.{x_of}
@@ -49,3 +50,7 @@ with_both = refl
 empty : length (made_file (settings_of 0 1 0 0)) ≡ 227
 unfolding blank_head short_bytes
 empty = refl
+
+-- the numbers that the definitions take from the code
+max_points_is : MAX_POINTS ≡ 10000000
+max_points_is = refl

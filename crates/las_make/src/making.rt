@@ -1,10 +1,12 @@
 //! Both files, one after the other.
-ghost use Rattle.std.specs.Prelude.{◌≡◌, ◌≢◌, IfErr, IfOk, IsSome, OnOk, length};
+ghost use Rattle.std.specs.Prelude.{◌≡◌, ◌≢◌, IfErr, IfOk, IsErrOf, IsSome, OnOk, length};
+ghost use Rattle.las_header.specs.declared.refusal.Refusal.{Refusal};
 ghost use Rattle.las_outside.specs.Frames.{IsCalm};
 ghost use Rattle.las_outside.specs.Limits.{AreWorkers, IsChunkSize};
 ghost use Rattle.las_outside.specs.Outside.{Later};
 ghost use Rattle.laz_reader.specs.Asking.{AsksAtMost};
 ghost use Rattle.laz_forms.specs.Packing.{packed_file};
+ghost use Rattle.las_make.specs.declared.fault.MakeFault.TheVariants.{Changed};
 ghost use Rattle.las_make.specs.Made.{IsInRange, made_file};
 ghost use Rattle.las_make.specs.Making.{FailsMaking, with_made};
 
@@ -56,6 +58,9 @@ pub fn make<R: Threads + Sync, F: Files, G: Gate>(
     ensures fails { IfErr result
         (FailsMaking plain.now packed.now settings chunk (F.seen files.old) (F.seen files.new)) }
     ensures calm { OnOk result (IsCalm (F.seen files.old) (F.seen files.new)) }
+    // No call has failed if the file is refused when it is read again.
+    ensures calm_changed { (cause : Refusal) → IsErrOf result (Changed cause)
+        → IsCalm (F.seen files.old) (F.seen files.new) }
     // Over known files the plain file is read once, however the call ends.
     ensures asked { IsSome (F.seen files.old).held
         → AsksAtMost (length (made_file settings)) (F.seen files.old) (F.seen files.new) }

@@ -1,5 +1,6 @@
 //! The packed file, from the plain file that is read again.
-ghost use Rattle.std.specs.Prelude.{◌≡◌, ◌≢◌, ◌+◌, IfErr, OnOk};
+ghost use Rattle.std.specs.Prelude.{◌≡◌, ◌≢◌, ◌+◌, IfErr, IsErrOf, OnOk};
+ghost use Rattle.las_header.specs.declared.refusal.Refusal.{Refusal};
 ghost use Rattle.las_outside.specs.Files.{WhereKnown, with_file};
 ghost use Rattle.las_outside.specs.Frames.{IsCalm};
 ghost use Rattle.las_outside.specs.Limits.{AreWorkers, IsChunkSize};
@@ -8,6 +9,7 @@ ghost use Rattle.laz_reader.specs.Asking.{AsksAtMost, asked_to_open};
 ghost use Rattle.laz_forms.specs.Sizes.{points_size};
 ghost use Rattle.laz_forms.specs.Laws.{CanBePacked};
 ghost use Rattle.laz_forms.specs.Packing.{packed_file};
+ghost use Rattle.las_make.specs.declared.fault.MakeFault.TheVariants.{Changed};
 ghost use Rattle.las_make.specs.Making.{FailsPacking, fault_of};
 
 use crate::MakeFault;
@@ -46,6 +48,8 @@ pub(crate) fn pack_plain<R: Threads + Sync, F: Files, G: Gate>(
     ensures ends { IfErr result
         (FailsPacking plain.now packed.now chunk (F.seen files.old) (F.seen files.new)) }
     ensures calm { OnOk result (IsCalm (F.seen files.old) (F.seen files.new)) }
+    ensures calm_changed { (cause : Refusal) → IsErrOf result (Changed cause)
+        → IsCalm (F.seen files.old) (F.seen files.new) }
     ensures asked { WhereKnown (F.seen files.old).held plain.now (λ file.
         AsksAtMost (asked_to_open file + points_size file) (F.seen files.old) (F.seen files.new)) }
     ensures later { Later (F.seen files.old) (F.seen files.new) }

@@ -3,6 +3,7 @@ use Rattle.std.proofs.Common.{◌≡◌, ℕ, List, Some, None, refl}
 use Rattle.std.specs.Prelude.{replicate, slice_set}
 use Rattle.las_header.specs.Numbers.{number_at}
 use Rattle.laz_forms.specs.declared.fault.Fault.TheVariants as fault
+use Rattle.las_merge.specs.declared.appending.TheConstants.{PIECE}
 use Rattle.las_merge.specs.declared.field.Field.TheVariants.{Format, Length, Scales, Offsets, Bounds}
 use Rattle.las_merge.specs.declared.fault.MergeFault.TheVariants.{At, Write}
 use Rattle.las_merge.specs.Fields.{first_difference}
@@ -67,3 +68,7 @@ write_fault = refl
 
 read_fault : fault_of 3 fault.Read ≡ At 3 fault.Read
 read_fault = refl
+
+-- chunks are copied in pieces of 2^20 bytes
+piece : PIECE ≡ 1048576
+piece = refl

@@ -16,6 +16,7 @@ ghost use Rattle.las_merge.specs.Inputs.{IfKnown};
 ghost use Rattle.las_merge.specs.Copying.{BeginsWith, CopiesTo, CopiesUpTo, FailsCopying, HasRoom};
 ghost use Rattle.las_merge.specs.Copying.{IsFaultOf};
 ghost use Rattle.las_merge.specs.Opening.{IsOpen, fault_of, names_read, points_read};
+ghost use Rattle.las_merge.specs.Packed.{IsNoFault};
 
 use crate::MergeFault;
 use crate::input::Input;
@@ -99,6 +100,8 @@ fn copy_next<R: Threads + Sync, F: Files, G: Gate>(
     ensures most { OnOk result (writer.new.most ≡ writer.old.most) }
     ensures cause { IfErr result (IsFaultOf (F.seen files.old) (F.seen files.new) number) }
     ensures calm { OnOk result (IsCalm (F.seen files.old) (F.seen files.new)) }
+    ensures calm_kept { IfErr result (λ fault. IsNoFault fault
+        → IsCalm (F.seen files.old) (F.seen files.new)) }
     ensures asked { WhereKnown (F.seen files.old).held input.now.name (λ file.
         AsksAtMost (asked_to_read (Some file)) (F.seen files.old) (F.seen files.new)) }
     ensures later { Later (F.seen files.old) (F.seen files.new) }
@@ -136,6 +139,8 @@ pub(crate) fn copy_inputs<R: Threads + Sync, F: Files, G: Gate>(
         (FailsCopying (F.seen files.old) (F.seen files.new) (names_read inputs.items) writer.old) }
     ensures open { OnOk result (writer.new.failed ≡ false) }
     ensures calm { OnOk result (IsCalm (F.seen files.old) (F.seen files.new)) }
+    ensures calm_kept { IfErr result (λ fault. IsNoFault fault
+        → IsCalm (F.seen files.old) (F.seen files.new)) }
     ensures asked { IfKnown (F.seen files.old).held (λ known. AsksAtMost
         (asked_of_all asked_to_read known (names_read inputs.items)) (F.seen files.old) (F.seen files.new)) }
     ensures later { Later (F.seen files.old) (F.seen files.new) }

@@ -19,7 +19,7 @@ ghost use Rattle.las_merge.specs.Appending.{IsCopyFault, LeavesPrefix, LiesIn};
 ghost use Rattle.las_merge.specs.Inputs.{IfKnown, names_of};
 ghost use Rattle.las_merge.specs.Opening.{first_read, points_read};
 ghost use Rattle.las_merge.specs.Outcomes.{SaysCopying};
-ghost use Rattle.las_merge.specs.Packed.{CanCopyFrom, asked_to_copy};
+ghost use Rattle.las_merge.specs.Packed.{CanCopyFrom, IsNoFault, asked_to_copy};
 ghost use Rattle.las_merge.specs.Summing.{copied_text, summed_head};
 
 use crate::MergeFault;
@@ -186,6 +186,9 @@ pub fn merge_copied<F: Files>(
     requires names { All (λ name. string_bytes name ≢ output.now) inputs.now }
 
     ensures says { SaysCopying (names_of inputs.now) output.now (F.seen files.old) (F.seen files.new) result }
+    // No call has failed if the inputs are refused or can't be copied.
+    ensures calm_kept { IfErr result (λ fault. IsNoFault fault
+        → IsCalm (F.seen files.old) (F.seen files.new)) }
     // Each input is asked once for what is read of it.
     ensures asked { OnOk result (IfKnown (F.seen files.old).held (λ known.
         (merged : List (List ℕ)) (parts : List (List Chunk)) → CanCopyFrom known (names_of inputs.now) merged parts

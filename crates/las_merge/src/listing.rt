@@ -8,6 +8,7 @@ ghost use Rattle.las_merge.specs.Inputs.{names_of};
 ghost use Rattle.las_merge.specs.Listing.{AddsChunks, EndsListing, FailsNextPacked, Lists, input_of};
 ghost use Rattle.las_merge.specs.Listing.{listed_as, source_of};
 ghost use Rattle.las_merge.specs.Opening.{AreOpen, InputSeen, IsNext};
+ghost use Rattle.las_merge.specs.Packed.{IsNoFault};
 
 use crate::MergeFault;
 use crate::input::Input;
@@ -149,6 +150,8 @@ fn list_next<F: Files>(
         (FailsNextPacked name.now listed.old.inputs.items (F.seen files.old) (F.seen files.new)) }
     ensures reads { OnlyReads (F.seen files.old) (F.seen files.new) }
     ensures calm { OnOk result (IsCalm (F.seen files.old) (F.seen files.new)) }
+    ensures calm_kept { IfErr result (λ fault. IsNoFault fault
+        → IsCalm (F.seen files.old) (F.seen files.new)) }
 {
     let number = listed.inputs.len() as u32;
     let reader = match Reader::open(alloc, files, name) {
@@ -182,6 +185,8 @@ pub(crate) fn list_inputs<F: Files>(
     ensures ends { IfErr result (EndsListing (names_of names.now) (F.seen files.old) (F.seen files.new)) }
     ensures reads { OnlyReads (F.seen files.old) (F.seen files.new) }
     ensures calm { OnOk result (IsCalm (F.seen files.old) (F.seen files.new)) }
+    ensures calm_kept { IfErr result (λ fault. IsNoFault fault
+        → IsCalm (F.seen files.old) (F.seen files.new)) }
 {
     let mut listed = Listed {
         inputs: Vec::new(alloc),

@@ -19,6 +19,7 @@ ghost use Rattle.las_merge.specs.Copying.{CopiesAll, EndsMerging, FailsBeginning
 ghost use Rattle.las_merge.specs.Inputs.{IfKnown, names_of};
 ghost use Rattle.las_merge.specs.Opening.{IsOpen, names_read, points_read};
 ghost use Rattle.las_merge.specs.Outcomes.{SaysMerging};
+ghost use Rattle.las_merge.specs.Packed.{IsNoFault};
 
 use crate::MergeFault;
 use crate::copying::copy_inputs;
@@ -126,6 +127,8 @@ fn fill<R: Threads + Sync, F: Files, G: Gate>(
         → IfErr result (EndsMerging (F.seen files.old).held before.held (F.seen files.old) (F.seen files.new)
         (names_read inputs.items) out) }
     ensures calm { OnOk result (IsCalm (F.seen files.old) (F.seen files.new)) }
+    ensures calm_kept { IfErr result (λ fault. IsNoFault fault
+        → IsCalm (F.seen files.old) (F.seen files.new)) }
     ensures asked { IfKnown (F.seen files.old).held (λ known. AsksAtMost
         (asked_of_all asked_to_read known (names_read inputs.items)) (F.seen files.old) (F.seen files.new)) }
     ensures later { Later (F.seen files.old) (F.seen files.new) }
@@ -178,6 +181,9 @@ pub fn merge<R: Threads + Sync, F: Files, G: Gate>(
     requires names { All (λ name. string_bytes name ≢ output.now) inputs.now }
 
     ensures says { SaysMerging (names_of inputs.now) output.now chunk (F.seen files.old) (F.seen files.new) result }
+    // No call has failed if the inputs are refused or can't be merged.
+    ensures calm_kept { IfErr result (λ fault. IsNoFault fault
+        → IsCalm (F.seen files.old) (F.seen files.new)) }
     // However the call ends, no more is asked for than what opening each input twice and reading it once takes.
     ensures asked { IfKnown (F.seen files.old).held (λ known.
         AsksAtMost (asked_to_merge known (names_of inputs.now)) (F.seen files.old) (F.seen files.new)) }

@@ -12,6 +12,7 @@ ghost use Rattle.las_merge.specs.Inputs.{IfKnown, names_of};
 ghost use Rattle.las_merge.specs.Copying.{IsFaultOf};
 ghost use Rattle.las_merge.specs.Opening.{AreOpen, EndsOpening, FailsAt, FailsNext, InputSeen, IsAgain, IsNext, IsOpen};
 ghost use Rattle.las_merge.specs.Opening.{fault_of, first_read, points_read};
+ghost use Rattle.las_merge.specs.Packed.{IsNoFault};
 
 use crate::field::first_difference;
 use crate::input::Input;
@@ -60,6 +61,8 @@ fn open_input<F: Files>(
         AsksAtMost (asked_to_compare (finmap.get known name.now)) (F.seen files.old) (F.seen files.new)) }
     ensures reads { OnlyReads (F.seen files.old) (F.seen files.new) }
     ensures calm { OnOk result (IsCalm (F.seen files.old) (F.seen files.new)) }
+    ensures calm_kept { IfErr result (λ fault. IsNoFault fault
+        → IsCalm (F.seen files.old) (F.seen files.new)) }
 {
     let reader = match Reader::open(alloc, files, name) {
         Ok(reader) => reader,
@@ -90,6 +93,8 @@ fn open_next<F: Files>(
         AsksAtMost (asked_to_compare (finmap.get known name.now)) (F.seen files.old) (F.seen files.new)) }
     ensures reads { OnlyReads (F.seen files.old) (F.seen files.new) }
     ensures calm { OnOk result (IsCalm (F.seen files.old) (F.seen files.new)) }
+    ensures calm_kept { IfErr result (λ fault. IsNoFault fault
+        → IsCalm (F.seen files.old) (F.seen files.new)) }
 {
     let number = inputs.len() as u32;
     let input = open_input(alloc, files, number, name)?;
@@ -117,6 +122,8 @@ pub(crate) fn open_inputs<F: Files>(
         AsksAtMost (asked_of_all asked_to_compare known (names_of names.now)) (F.seen files.old) (F.seen files.new)) }
     ensures reads { OnlyReads (F.seen files.old) (F.seen files.new) }
     ensures calm { OnOk result (IsCalm (F.seen files.old) (F.seen files.new)) }
+    ensures calm_kept { IfErr result (λ fault. IsNoFault fault
+        → IsCalm (F.seen files.old) (F.seen files.new)) }
 {
     let mut inputs = Vec::new(alloc);
     'inputs: for name in names {
@@ -140,6 +147,8 @@ pub(crate) fn open_again<F: Files>(
         (λ file. AsksAtMost (asked_to_open file) (F.seen files.old) (F.seen files.new)) }
     ensures reads { OnlyReads (F.seen files.old) (F.seen files.new) }
     ensures calm { OnOk result (IsCalm (F.seen files.old) (F.seen files.new)) }
+    ensures calm_kept { IfErr result (λ fault. IsNoFault fault
+        → IsCalm (F.seen files.old) (F.seen files.new)) }
 {
     let reader = match Reader::open(alloc, files, &input.name) {
         Ok(reader) => reader,

@@ -1,4 +1,6 @@
 pub mod Calls
+pub mod DraftNames
+pub mod Drafting
 pub mod Drafts
 pub mod Faults
 pub mod Files
@@ -7,4 +9,5 @@ pub mod Limits
 pub mod MemFiles
 pub mod MemSink
 pub mod Outside
+pub mod RealFiles
 pub mod Sinks

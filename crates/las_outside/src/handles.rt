@@ -1,12 +1,19 @@
 //! The handles of the files of a run: they stay open as long as the system allows, and closed ones are opened again.
 
+ghost use Rattle.std.specs.Prelude.{◌≡◌, ◌+◌, ◌<◌, OnOk, OnErr};
+
+use crate::draft_file::DraftFile;
+use crate::draft_list::DraftList;
+use crate::draft_name::draft_path;
 use crate::file_identity::FileIdentity;
+use crate::file_state::FileState;
 use crate::known_files::KnownFiles;
+use crate::target::{Target, refuse_special};
 use std::alloc::Global;
 use std::collections::HashMap;
-use std::fs::{self, File, Metadata, OpenOptions};
+use std::fs::{self, File, OpenOptions, TryLockError};
 use std::io::{self, ErrorKind};
-use std::os::unix::fs::FileExt;
+use std::os::unix::fs::{FileExt, OpenOptionsExt};
 use std::rt::Files as System;
 
 /// The most handles that are open at a time: one for each part of a file that is split into 512, and some for inputs.
@@ -17,6 +24,12 @@ const MOST_OPEN: usize = 528;
 const NONE_IN_SYSTEM: i32 = 23;
 
 const NONE_IN_PROCESS: i32 = 24;
+
+// How many hidden names are tried for a draft.
+const MOST_NAMES: u16 = 0xffff;
+
+// The permissions of a draft until it gets those of an older file.
+const OWNER_ONLY: u32 = 0o600;
 
 /// What a handle is for. A file that a run writes and reads has two.
 #[derive(Clone, Copy)]
@@ -62,6 +75,14 @@ impl Handle {
         self.end = None;
         self.file.write_all_at(bytes, pos)
     }
+
+    // Makes the file hold nothing.
+    fn empty(&mut self) -> io::Result<()> {
+        self.end = None;
+        self.file.set_len(0)?;
+        self.end = Some(0);
+        Ok(())
+    }
 }
 
 /// The files that a run has opened, and the handles of those that were used last.
@@ -87,17 +108,18 @@ impl Handles {
         }
     }
 
-    /// A handle of a file that is there.
+    /// A handle of a file that is there. That of an output leads to its draft, if it has one.
     ///
     /// It is an error if the name leads to no regular file, or to another file than at its first use.
     pub fn get<R: System<File = File>>(
         &mut self,
         rt: &R,
+        drafts: &DraftList,
         access: Access,
         name: &str,
     ) -> io::Result<&mut Handle> {
         if !self.of(access).contains_key(name) {
-            self.open_again(rt, access, name)?;
+            self.open_again(rt, access, name, drafts.path_of(name))?;
         }
         let used = self.next_use();
         match self.of(access).get_mut(name) {
@@ -122,12 +144,163 @@ impl Handles {
         self.writers.remove(name);
         let mut options = OpenOptions::new();
         let options = options.write(true).create(true);
-        let (file, identity) = self.open_file(rt, options, name)?;
-        self.known.note_output(name, identity)?;
+        let (file, state) = self.open_file(rt, options, name)?;
+        self.known.note_output(name, state)?;
         // A new file is empty as it stands. Some systems write a file that was cut to the disk when it is closed.
         if file.metadata()?.len() > 0 {
             file.set_len(0)?;
         }
+        self.keep(Access::Write, name, file, Some(0))
+    }
+
+    /// Makes a new draft, or one that the run has made, hold nothing.
+    ///
+    /// It is an error if the name leads to anything but a regular file or a new one, to a file that can't be written, or
+    /// to one that the run has as an input or under another name. Then nothing was made.
+    pub fn create_draft<R: System<File = File> + AllocGlobal>(
+        &mut self,
+        rt: &R,
+        drafts: &mut DraftList,
+        process: u32,
+        name: &str,
+    ) -> io::Result<()> {
+        if drafts.of(name).is_some() {
+            return self.get(rt, drafts, Access::Write, name)?.empty();
+        }
+        let target = Target::of(rt, name)?;
+        let place = FileIdentity::of(&fs::metadata(rt, target.folder())?);
+        self.refuse_lost(rt, drafts, place, &target)?;
+        drafts.make_room()?;
+        let name_kept = String::from_str(self.alloc, name)?;
+        for number in 0..MOST_NAMES {
+            let path = draft_path(
+                self.alloc,
+                target.prefix.as_str(),
+                target.file_name.as_str(),
+                process,
+                number,
+            )?;
+            if let Some(file) = self.create_new(rt, &target, path.as_str())? {
+                return self.begin(
+                    drafts,
+                    name,
+                    file,
+                    DraftFile {
+                        name: name_kept,
+                        target,
+                        place,
+                        path,
+                        identity: None,
+                    },
+                );
+            }
+        }
+        Err(io::Error::from(ErrorKind::AlreadyExists))
+    }
+
+    /// Has the system write the first draft that was not synced to the disk. After an error no draft counts as synced
+    /// that did not before.
+    pub fn sync_next<R: System<File = File>>(
+        &mut self,
+        rt: &R,
+        drafts: &mut DraftList,
+    ) -> io::Result<()>
+        requires { drafts.old.synced < drafts.old.begun }
+        ensures ok { OnOk result (drafts.new ≡ record drafts.old { synced = drafts.old.synced + 1 }) }
+        ensures err { OnErr result (drafts.new ≡ drafts.old) }
+    {
+        self.sync_draft(rt, drafts, drafts.synced())?;
+        drafts.note_synced();
+        Ok(())
+    }
+
+    /// A folder, open to be synced.
+    pub fn open_folder<R: System<File = File>>(&mut self, rt: &R, path: &str) -> io::Result<File> {
+        let mut options = OpenOptions::new();
+        self.open_closing(rt, options.read(true), path)
+    }
+
+    /// The files that the run has opened or made.
+    pub fn known(&self) -> &KnownFiles {
+        &self.known
+    }
+
+    // Has the system write the draft of this number to the disk.
+    fn sync_draft<R: System<File = File>>(
+        &mut self,
+        rt: &R,
+        drafts: &DraftList,
+        number: usize,
+    ) -> io::Result<()> {
+        let Some(draft) = drafts.get(number) else {
+            return Err(io::Error::from(ErrorKind::NotFound));
+        };
+        let handle = self.get(rt, drafts, Access::Write, draft.name.as_str())?;
+        draft.sync(rt, &handle.file)
+    }
+
+    // It is an error if an output may not replace what stands at its place: a file that the run has as an input, or
+    // under another name, or one that can't be written. The system would let a run replace the last of these too.
+    fn refuse_lost<R: System<File = File>>(
+        &mut self,
+        rt: &R,
+        drafts: &DraftList,
+        place: FileIdentity,
+        target: &Target,
+    ) -> io::Result<()> {
+        if drafts.has_place(place, target) {
+            return Err(io::Error::from(ErrorKind::InvalidInput));
+        }
+        if let Some(older) = &target.older {
+            if self.known.has(older.identity) {
+                return Err(io::Error::from(ErrorKind::InvalidInput));
+            }
+            let mut options = OpenOptions::new();
+            let _ = self.open_closing(rt, options.write(true), target.path.as_str())?;
+        }
+        Ok(())
+    }
+
+    // Creates a draft, and locks it if the file system has locks. There is none if something has this name already, or
+    // if another program has locked the file since.
+    fn create_new<R: System<File = File>>(
+        &mut self,
+        rt: &R,
+        target: &Target,
+        path: &str,
+    ) -> io::Result<Option<File>> {
+        if self.open() >= MOST_OPEN {
+            self.close_oldest();
+        }
+        let mut options = OpenOptions::new();
+        options.write(true).create_new(true);
+        if target.older.is_some() {
+            options.mode(OWNER_ONLY);
+        }
+        match self.open_closing(rt, &options, path) {
+            Ok(file) => match file.try_lock() {
+                Err(TryLockError::WouldBlock) => Ok(None),
+                _ => Ok(Some(file)),
+            },
+            Err(error) if error.kind() == ErrorKind::AlreadyExists => Ok(None),
+            Err(error) => Err(error),
+        }
+    }
+
+    // Adds a draft that was created to the list, so that it is removed if the run fails from now on.
+    fn begin(
+        &mut self,
+        drafts: &mut DraftList,
+        name: &str,
+        file: File,
+        mut draft: DraftFile,
+    ) -> io::Result<()> {
+        let found = file.metadata();
+        if let Ok(found) = &found {
+            draft.identity = Some(FileIdentity::of(found));
+        }
+        drafts.add(draft)?;
+        self.known.note_output(name, FileState::of(&found?))?;
         self.keep(Access::Write, name, file, Some(0))
     }
 
@@ -165,15 +338,16 @@ impl Handles {
         rt: &R,
         access: Access,
         name: &str,
+        path: &str,
     ) -> io::Result<()> {
-        refuse_special(&fs::metadata(rt, name)?)?;
+        refuse_special(&fs::metadata(rt, path)?)?;
         let mut options = OpenOptions::new();
         let options = match access {
             Access::Read => options.read(true),
             Access::Write => options.write(true),
         };
-        let (file, identity) = self.open_file(rt, options, name)?;
-        self.known.note(name, identity)?;
+        let (file, state) = self.open_file(rt, options, path)?;
+        self.known.note(name, state)?;
         self.keep(access, name, file, None)
     }
 
@@ -182,15 +356,15 @@ impl Handles {
         &mut self,
         rt: &R,
         options: &OpenOptions,
-        name: &str,
-    ) -> io::Result<(File, FileIdentity)> {
+        path: &str,
+    ) -> io::Result<(File, FileState)> {
         if self.open() >= MOST_OPEN {
             self.close_oldest();
         }
-        let file = self.open_closing(rt, options, name)?;
+        let file = self.open_closing(rt, options, path)?;
         let found = file.metadata()?;
         refuse_special(&found)?;
-        Ok((file, FileIdentity::of(&found)))
+        Ok((file, FileState::of(&found)))
     }
 
     // Opens a file. As long as the system has no handle for it, the one that was used least lately is closed.
@@ -198,15 +372,15 @@ impl Handles {
         &mut self,
         rt: &R,
         options: &OpenOptions,
-        name: &str,
+        path: &str,
     ) -> io::Result<File> {
         for _closed in 0..MOST_OPEN {
-            match options.open(rt, name) {
+            match options.open(rt, path) {
                 Err(error) if is_none_left(&error) && self.open() > 0 => self.close_oldest(),
                 outcome => return outcome,
             }
         }
-        options.open(rt, name)
+        options.open(rt, path)
     }
 
     // Keeps an open file.
@@ -221,13 +395,4 @@ impl Handles {
 // Whether an error says that the system has no more handles.
 fn is_none_left(error: &io::Error) -> bool {
     matches!(error.raw_os_error(), Some(NONE_IN_SYSTEM | NONE_IN_PROCESS))
-}
-
-// A folder, a device or a FIFO is no file here. To open a FIFO may take for ever, so this is asked before.
-fn refuse_special(found: &Metadata) -> io::Result<()> {
-    if found.is_file() {
-        Ok(())
-    } else {
-        Err(io::Error::from(ErrorKind::InvalidInput))
-    }
 }

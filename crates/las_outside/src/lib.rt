@@ -2,8 +2,12 @@
 #![tactic(auto)]
 
 mod calls;
+mod draft_file;
+mod draft_list;
+mod draft_name;
 mod failed;
 mod file_identity;
+mod file_state;
 mod files;
 mod gate;
 mod handles;
@@ -12,9 +16,11 @@ mod mem_files;
 mod mem_room;
 mod mem_sink;
 mod pieces;
+mod publishing;
 mod real_files;
 mod real_sink;
 mod sink;
+mod target;
 
 pub use failed::Failed;
 pub use files::Files;

@@ -12,10 +12,11 @@ use Rattle.las_words.specs.declared.command.WordFault.{WordFault}
 use Rattle.las_words.specs.declared.command.WordFault.TheVariants as fault
 use Rattle.las_words.specs.Asked.{Asked, Las2lasOptions, OneInput, Work, asked_by, las2las, lasinfo, lassplit, laszip, reads, work_by}
 use Rattle.las_words.specs.Says.{Said, asks, usage}
-use Rattle.laz_reader.specs.Asking.{AsksAtMost, asked_to_open, bytes_left}
-use Rattle.laz_forms.specs.Pieces.{ArePieces, Piece, bytes_in}
+use Rattle.laz_reader.specs.Asking.{AsksAtMost, asked_for_pieces, asked_in, asked_to_open, bytes_left}
+use Rattle.laz_forms.specs.Packing.{record_layout}
+use Rattle.laz_forms.specs.Pieces.{ArePieces, Piece}
 use Rattle.laz_forms.specs.Ranges.{Range, parts_of}
-use Rattle.laz_reader.specs.Reading.{IsNewReader, ReaderSeen, StandsFor}
+use Rattle.laz_reader.specs.Reading.{IsNewReader, ReaderSeen, StandsFor, chunk_of}
 use Rattle.laz_reader.proofs.Public.{if_less}
 use Rattle.laz_forms.proofs.Public.{known_three, one_pieces, refused_once, none_some, known_then}
 use Rattle.las_run.specs.Asking.{AsksFor, AsksOf, AsksWhole, TakesAll, WorkAsks, in_first_reading, in_readings}
@@ -64,7 +65,7 @@ by_input input pick start stop old new missing there known held = by (finmap.get
 pub asks_opening : (input : List ℕ) (pick : Pick) (start stop : ℕ) (old new : Outside) → (IsMissing old.held input → new.asked ≡ old.asked)
     → ((IsMissing old.held input → ⊥) → WhereKnown old.held input (λ file. AsksAtMost (asked_to_open file) old new)) → AsksFor input pick start stop old new
 asks_opening input pick start stop old new missing opened =
-    by_input input pick start stop old new missing (λ there. known_then old.held input (λ file. AsksAtMost (asked_to_open file) old new) (λ file. AsksOf (Some file) pick start stop old new) (λ file most. (λ cause is. most, λ pieces are. let less = in_one pick (asked_to_open file) (bytes_in (parts_of file (range_in start stop file) pieces)) in omega (arith, most, less))) (opened there))
+    by_input input pick start stop old new missing (λ there. known_then old.held input (λ file. AsksAtMost (asked_to_open file) old new) (λ file. AsksOf (Some file) pick start stop old new) (λ file most. (λ cause is. most, λ pieces are. let less = in_one pick (asked_to_open file) (asked_in file (parts_of file (range_in start stop file) pieces)) in omega (arith, most, less))) (opened there))
 
 -- no file that was asked for anything
 pub asks_nothing : (input : List ℕ) (pick : Pick) (start stop : ℕ) (old new : Outside) → new ≡ old → AsksFor input pick start stop old new
@@ -75,7 +76,7 @@ asks_nothing input pick start stop old new same =
 -- what a reader that has read nothing has left, as pieces of its file
 pub left_bytes : (reader : ReaderSeen) (file : List ℕ) (pieces : List Piece) (start stop : ℕ) → StandsFor reader file → reader.next ≡ reader.first
     → reader.range ≡ record { start = min start (points_of reader.head.bytes); stop = min stop (points_of reader.head.bytes) } → ArePieces file pieces
-    → bytes_left reader ≤ bytes_in (parts_of file (range_in start stop file) pieces)
+    → bytes_left reader ≤ asked_in file (parts_of file (range_in start stop file) pieces)
 left_bytes reader file pieces start stop s unread range are =
     let head : reader.head.bytes ≡ head_of file = ap (λ (v : HeadView). v.bytes) s.head in
     let range_at : List ℕ → Range = λ b. record { start = min start (points_of b); stop = min stop (points_of b) } in
@@ -86,8 +87,10 @@ left_bytes reader file pieces start stop s unread range are =
     ∙ ap (λ (n : ℕ). drop n (parts_of file reader.range s.pieces)) none
     ∙ ap (λ (r : Range). parts_of file r s.pieces) is
     ∙ ap (parts_of file (range_in start stop file)) (one_pieces file s.pieces pieces s.are are) in
-    let whole : bytes_in reader.left ≡ bytes_in (parts_of file (range_in start stop file) pieces) = ap bytes_in left in
-    let less = if_less reader.bad (bytes_in reader.left) in
+    let asked : Option ℕ → List ℕ → ℕ = λ chunk bytes. asked_for_pieces chunk (record_layout bytes) reader.left in
+    let whole : asked reader.chunk reader.head.bytes ≡ asked_in file (parts_of file (range_in start stop file) pieces) =
+    ap (λ (c : Option ℕ). asked c reader.head.bytes) s.chunk ∙ ap (asked (chunk_of (head_of file))) head ∙ ap (asked_in file) left in
+    let less = if_less reader.bad (asked reader.chunk reader.head.bytes) in
     omega (arith, whole, less)
 
 -- the bytes of the readings: opening, a first reading if there are two, and the last one
@@ -100,11 +103,11 @@ in_all Highest opening more = omega arith
 pub asks_both : (reader : ReaderSeen) (input : List ℕ) (pick : Pick) (start stop : ℕ) (old mid new : Outside) → WhereKnown old.held input (StandsFor reader)
     → ((IsMissing old.held input → ⊥) → WhereKnown old.held input (λ file. AsksAtMost (asked_to_open file) old mid))
     → WhereKnown old.held input (λ file. (pieces : List Piece) → ArePieces file pieces
-    → AsksAtMost (in_first_reading pick (asked_to_open file + bytes_in (parts_of file (range_in start stop file) pieces))
-    + bytes_in (parts_of file (range_in start stop file) pieces)) mid new)
+    → AsksAtMost (in_first_reading pick (asked_to_open file + asked_in file (parts_of file (range_in start stop file) pieces))
+    + asked_in file (parts_of file (range_in start stop file) pieces)) mid new)
     → AsksFor input pick start stop old new
 asks_both reader input pick start stop old mid new stands opened rest =
-    let more_of : (file : List ℕ) → List Piece → ℕ = λ file pieces. bytes_in (parts_of file (range_in start stop file) pieces) in
+    let more_of : (file : List ℕ) → List Piece → ℕ = λ file pieces. asked_in file (parts_of file (range_in start stop file) pieces) in
     let Opened : List ℕ → Type 0 = λ file. AsksAtMost (asked_to_open file) old mid in
     let Rest : List ℕ → Type 0 = λ file. (pieces : List Piece) → ArePieces file pieces → AsksAtMost (in_first_reading pick (asked_to_open file + more_of file pieces) + more_of file pieces) mid new in
     by_input input pick start stop old new (not_missing old.held input (StandsFor reader) stands) (λ there.
@@ -128,7 +131,7 @@ in_first Highest opening more looked again twice a b = omega (arith, a, b)
 module _ (reader : ReaderSeen) (input : List ℕ) (start stop : ℕ) (pick : Pick) (old : Outside) (stands : WhereKnown old.held input (StandsFor reader)) (unread : reader.next ≡ reader.first)
     (range : reader.range ≡ record { start = min start (points_of reader.head.bytes); stop = min stop (points_of reader.head.bytes) }) where
   abbrev more_in : (file : List ℕ) → List Piece → ℕ
-  more_in file pieces = bytes_in (parts_of file (range_in start stop file) pieces)
+  more_in file pieces = asked_in file (parts_of file (range_in start stop file) pieces)
 
   abbrev AsksIn : (new : Outside) → (most : List ℕ → List Piece → ℕ) → Type 0
   AsksIn new most = WhereKnown old.held input (λ file. (pieces : List Piece) → ArePieces file pieces → AsksAtMost (most file pieces) old new)
@@ -169,9 +172,9 @@ module _ (reader : ReaderSeen) (input : List ℕ) (start stop : ℕ) (pick : Pic
 -- an input that was not read to the end
 pub asks_stopped : (input : List ℕ) (start stop : ℕ) (pick : Pick) (old new : Outside)
     → WhereKnown old.held input (λ file. (pieces : List Piece) → ArePieces file pieces
-    → AsksAtMost (in_first_reading pick (asked_to_open file + bytes_in (parts_of file (range_in start stop file) pieces))) old new)
+    → AsksAtMost (in_first_reading pick (asked_to_open file + asked_in file (parts_of file (range_in start stop file) pieces))) old new)
     → WhereKnown old.held input (λ file. (pieces : List Piece) → ArePieces file pieces
-    → AsksAtMost (in_first_reading pick (asked_to_open file + bytes_in (parts_of file (range_in start stop file) pieces)) + bytes_in (parts_of file (range_in start stop file) pieces)) old new)
+    → AsksAtMost (in_first_reading pick (asked_to_open file + asked_in file (parts_of file (range_in start stop file) pieces)) + asked_in file (parts_of file (range_in start stop file) pieces)) old new)
 asks_stopped input start stop pick old new asked = known_then old.held input _ _ (λ file h pieces are. let most = h pieces are in omega (arith, most)) asked
 
 -- of words that were read: what the command asks, if what asks nothing is no exception
@@ -234,5 +237,5 @@ asks_all reader input old mid new fresh head stands opened rest =
     let range_at : ℕ → ℕ → Range = λ start stop. record { start = start; stop = stop } in
     let range : reader.range ≡ range_at (min 0 points) (min (2 ^ 32 - 1) points) = fresh.whole.all ∙ ap (λ (n : ℕ). range_at n points) first ∙ ap (range_at (min 0 points)) last in
     asks_both reader input First 0 (2 ^ 32 - 1) old mid new stands opened
-    (known_then old.held input (StandsFor reader) (λ file. (pieces : List Piece) → ArePieces file pieces → AsksAtMost (in_first_reading First (asked_to_open file + bytes_in (parts_of file (range_in 0 (2 ^ 32 - 1) file) pieces)) + bytes_in (parts_of file (range_in 0 (2 ^ 32 - 1) file) pieces)) mid new)
+    (known_then old.held input (StandsFor reader) (λ file. (pieces : List Piece) → ArePieces file pieces → AsksAtMost (in_first_reading First (asked_to_open file + asked_in file (parts_of file (range_in 0 (2 ^ 32 - 1) file) pieces)) + asked_in file (parts_of file (range_in 0 (2 ^ 32 - 1) file) pieces)) mid new)
     (λ file s. λ pieces are. omega (arith, rest, left_bytes reader file pieces 0 (2 ^ 32 - 1) s fresh.unread range are)) stands)

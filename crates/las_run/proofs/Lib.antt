@@ -1,4 +1,5 @@
 mod Asking
+mod Calm
 mod Commands
 mod Converting
 mod Endings

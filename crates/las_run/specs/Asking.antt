@@ -7,8 +7,8 @@ use Rattle.las_outside.specs.Outside.{Outside}
 use Rattle.las_thin.specs.declared.pick.Pick.{Pick}
 use Rattle.las_thin.specs.declared.pick.Pick.TheVariants.{First, Lowest, Highest}
 use Rattle.las_words.specs.Asked.{OneInput, Work, las2las, lasinfo, lassplit, laszip, reads}
-use Rattle.laz_reader.specs.Asking.{AsksAtMost, asked_to_open}
-use Rattle.laz_forms.specs.Pieces.{ArePieces, Piece, bytes_in}
+use Rattle.laz_reader.specs.Asking.{AsksAtMost, asked_in, asked_to_open}
+use Rattle.laz_forms.specs.Pieces.{ArePieces, Piece}
 use Rattle.laz_forms.specs.Ranges.{parts_of}
 use Rattle.laz_forms.specs.Refusing.{IsRefusal}
 use Rattle.las_run.specs.declared.conversion.Conversion.{Conversion}
@@ -32,23 +32,24 @@ abbrev pub AsksToLook : Conversion → (file : List ℕ) → (old new : Outside)
 AsksToLook conversion file old new =
     (pieces : List Piece) → ArePieces file pieces → AsksAtMost
     (in_first_reading conversion.pick (asked_to_open file
-    + bytes_in (parts_of file (range_in conversion.start conversion.stop file) pieces))) old new
+    + asked_in file (parts_of file (range_in conversion.start conversion.stop file) pieces))) old new
 
 abbrev pub AsksAfterOpening : Conversion → (file : List ℕ) → (old new : Outside) → Type 0
 AsksAfterOpening conversion file old new =
     (pieces : List Piece) → ArePieces file pieces → AsksAtMost
     (in_first_reading conversion.pick (asked_to_open file
-    + bytes_in (parts_of file (range_in conversion.start conversion.stop file) pieces))
-    + bytes_in (parts_of file (range_in conversion.start conversion.stop file) pieces)) old new
+    + asked_in file (parts_of file (range_in conversion.start conversion.stop file) pieces))
+    + asked_in file (parts_of file (range_in conversion.start conversion.stop file) pieces)) old new
 
 -- What is asked of an input: nothing if it is missing; if it is refused when it is opened, at most what opening it
--- takes; and else, in each reading, at most that, and the bytes of those of its pieces that meet the range.
+-- takes; and else, in each reading, at most that, and the bytes of those of its pieces that meet the range, but none of
+-- a chunk that may not hold its records.
 abbrev pub AsksOf : (input : Option (List ℕ)) → Pick → (start stop : ℕ) → (old new : Outside) → Type 0
 AsksOf None pick start stop old new = new.asked ≡ old.asked
 AsksOf (Some file) pick start stop old new =
     ((cause : Refusal) → IsRefusal file (Some cause) → AsksAtMost (asked_to_open file) old new)
     × ((pieces : List Piece) → ArePieces file pieces → AsksAtMost
-    (in_readings pick (asked_to_open file + bytes_in (parts_of file (range_in start stop file) pieces))) old new)
+    (in_readings pick (asked_to_open file + asked_in file (parts_of file (range_in start stop file) pieces))) old new)
 
 -- If the files are known, no more is asked of the input of this name, however the run ends.
 abbrev pub AsksFor : (input : List ℕ) → Pick → (start stop : ℕ) → (old new : Outside) → Type 0

@@ -13,6 +13,7 @@ pub mod Endings
 pub mod Lines
 pub mod Tools
 pub mod Runs
+pub mod Calm
 pub mod Ends
 pub mod Asking
 pub mod EndingLaws

@@ -4,6 +4,7 @@ use Rattle.las_header.specs.declared.refusal.Refusal.{Refusal}
 use Rattle.las_header.specs.declared.refusal.Refusal.TheVariants.{BadChunk}
 use Rattle.las_outside.specs.Faults.{Rose}
 use Rattle.las_outside.specs.Files.{FileMap, IsMissing}
+use Rattle.las_outside.specs.Frames.{IsCalm}
 use Rattle.las_outside.specs.Outside.{Later}
 use Rattle.las_outside.specs.Sinks.{Puts, written_after}
 use Rattle.las_words.specs.Asked.{Las2lasOptions, OneInput, las2las, reads}
@@ -52,8 +53,9 @@ pub record KeepsPromises (run : RunSeen) : Type 0 where
   -- Over known files, a run ends as defined, unless memory is short or a count of faults rose.
   pub complete : (known : FileMap) (ending : Ending) → IsDue run known ending → EndsUnlessExcused run known ending
   -- Over known files, and whatever ends the run, `las2las` asks for no more of its input than opening it takes, and the
-  -- bytes of those of its pieces that meet the range: no piece if it is refused when it is opened, and nothing at all
-  -- if it is missing. With the lowest or the highest of a cell the input is read twice, and this is asked for twice.
+  -- bytes of those of its pieces that meet the range: of a chunk whose number of bytes no chunk of its number of records
+  -- can have none, no piece if it is refused when it is opened, and nothing at all if it is missing. With the lowest or
+  -- the highest of a cell the input is read twice, and this is asked for twice.
   pub asks : (input : List ℕ) (options : Las2lasOptions) (workers : ℕ)
       → run.task.said ≡ words.asks (record { work = reads input (las2las options); workers = workers })
       → AsksFor input options.sieve.pick options.start options.stop run.files run.files_now
@@ -62,6 +64,9 @@ pub record KeepsPromises (run : RunSeen) : Type 0 where
       → run.task.said ≡ words.asks (record { work = reads input own; workers = workers })
       → TakesAll own → AsksWhole input run.files run.files_now
   -- ---- faults, and what is left
+  -- If neither memory nor a failure ended the run, none was passed over: no count of faults moved, whether the files are
+  -- known or not.
+  pub calm : IsDecided run.status → IsCalm run.files run.files_now × (run.out_now.faults ≡ run.out.faults)
   -- Status 3 comes only from an input that is known to be missing, or from a read that failed,
   pub read : run.status ≡ 3 → Any (IsMissing run.files.held) (inputs_of run.task.said)
       ⊎ Rose run.files.read_faults run.files_now.read_faults

@@ -5,6 +5,7 @@ ghost use Rattle.las_outside.specs.Files.{IsMissing, WhereKnown};
 ghost use Rattle.las_outside.specs.Frames.{IsCalm, OnlyReads};
 ghost use Rattle.laz_reader.specs.Asking.{AsksAtMost, asked_to_open};
 ghost use Rattle.laz_reader.specs.Reading.{AgreesWithHead, IsNewReader, StandsFor};
+ghost use Rattle.las_run.specs.Calm.{IsNoFailure};
 ghost use Rattle.las_run.specs.Ends.{StopsOpening, stop_by, stopped_by};
 
 use crate::stop::Stop;
@@ -25,6 +26,8 @@ pub fn open_input<F: Files>(
     ensures head { IfOk result (λ reader. IsHead reader.head.bytes) }
     ensures calm { OnOk result (IsCalm (F.seen files.old) (F.seen files.new)) }
     ensures stops { IfErr result (StopsOpening number name.now (F.seen files.old) (F.seen files.new)) }
+    ensures calm_stopped { IfErr result (λ stop. IsNoFailure stop
+        → IsCalm (F.seen files.old) (F.seen files.new)) }
     ensures asked_of { (IsMissing (F.seen files.old).held name.now → ⊥) → WhereKnown (F.seen files.old).held name.now
         (λ file. AsksAtMost (asked_to_open file) (F.seen files.old) (F.seen files.new)) }
     ensures missing { IsMissing (F.seen files.old).held name.now

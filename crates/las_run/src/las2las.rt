@@ -16,6 +16,7 @@ ghost use Rattle.las_words.specs.Texts.{texts};
 ghost use Rattle.laz_reader.specs.Asking.{AsksAtMost, ReadsAndWrites, asked_to_open, bytes_left};
 ghost use Rattle.laz_reader.specs.Reading.{AgreesWithHead, IsFreshReader, IsNewReader, StandsFor};
 ghost use Rattle.las_run.specs.Asking.{AsksAfterOpening, AsksFor, AsksToLook};
+ghost use Rattle.las_run.specs.Calm.{IsNoFailure};
 ghost use Rattle.las_run.specs.Ends.{Ends, EndsCommand, StopsOpening, cause_of, changes, quiet};
 ghost use Rattle.las_run.specs.Runs.{task_for};
 ghost use Rattle.las_run.specs.Tools.{ConvertsTaken, chunk_if, las2las_options, range_for, sieve_in};
@@ -58,6 +59,10 @@ pub fn las2las<R: Threads + Sync, F: Files, O: Sink, G: Gate>(
         Ends (task_for (map (λ tap. tap_seen tap) taps.items) (reads request.now.input.now (las2las options))
         machine.entry.workers) (changes (F.seen files.old) (F.seen files.new) (O.seen out.old) (O.seen out.new))
         (cause_of (request.now.input.now ∷ []) result) }
+    ensures calm { OnOk result (IsCalm (F.seen files.old) (F.seen files.new)) }
+    ensures calm_stopped { IfErr result (λ stop. IsNoFailure stop
+        → IsCalm (F.seen files.old) (F.seen files.new)) }
+    ensures calm_out { OnOk result ((O.seen out.new).faults ≡ (O.seen out.old).faults) }
     ensures asks { let conversion = request.now.conversion in
         AsksFor request.now.input.now conversion.pick conversion.start conversion.stop (F.seen files.old)
         (F.seen files.new) }
@@ -95,6 +100,10 @@ fn select<R: Threads + Sync, F: Files, O: Sink, G: Gate>(
         request.now.input.now request.now.output.now (steps_of request.now.plan.now) in
         EndsCommand Makes request.now.input.now
         (changes (F.seen files.old) (F.seen files.new) (O.seen out.old) (O.seen out.new)) result }
+    ensures calm { OnOk result (IsCalm (F.seen files.old) (F.seen files.new)) }
+    ensures calm_stopped { IfErr result (λ stop. IsNoFailure stop
+        → IsCalm (F.seen files.old) (F.seen files.new)) }
+    ensures calm_out { OnOk result ((O.seen out.new).faults ≡ (O.seen out.old).faults) }
     ensures asked { WhereKnown (F.seen files.old).held request.now.input.now (λ file.
         AsksAfterOpening request.now.conversion file (F.seen files.old) (F.seen files.new)) }
     ensures later { Later (F.seen files.old) (F.seen files.new) }
@@ -155,6 +164,8 @@ fn prepare<R: Threads + Sync, F: Files, G: Gate>(
         → let Makes = ConvertsTaken request.now.conversion chosen request.now.input.now output
         (steps_of request.now.plan.now) in
         EndsCommand Makes request.now.input.now (quiet (F.seen files.old) (F.seen files.new) out) (Err stop)) }
+    ensures calm_stopped { IfErr result (λ stop. IsNoFailure stop
+        → IsCalm (F.seen files.old) (F.seen files.new)) }
     ensures reads { OnlyReads (F.seen files.old) (F.seen files.new) }
     ensures asked { WhereKnown (F.seen files.old).held request.now.input.now (λ file.
         AsksToLook request.now.conversion file (F.seen files.old) (F.seen files.new)) }
@@ -178,6 +189,8 @@ fn open_again<F: Files>(alloc: Global, files: &mut F, request: &Request<'_>) -> 
         WhereKnown (F.seen files.old).held request.now.input.now (StandsFor reader)) }
     ensures calm { OnOk result (IsCalm (F.seen files.old) (F.seen files.new)) }
     ensures stops { IfErr result (StopsOpening 0 request.now.input.now (F.seen files.old) (F.seen files.new)) }
+    ensures calm_stopped { IfErr result (λ stop. IsNoFailure stop
+        → IsCalm (F.seen files.old) (F.seen files.new)) }
     ensures asked_of { (IsMissing (F.seen files.old).held request.now.input.now → ⊥)
         → WhereKnown (F.seen files.old).held request.now.input.now
         (λ file. AsksAtMost (asked_to_open file) (F.seen files.old) (F.seen files.new)) }
@@ -213,6 +226,10 @@ fn write_kept<R: Threads + Sync, F: Files, O: Sink, G: Gate>(
         reader.name request.now.output.now (steps_of request.now.plan.now) in
         EndsCommand Makes reader.name
         (changes (F.seen files.old) (F.seen files.new) (O.seen out.old) (O.seen out.new)) result }
+    ensures calm { OnOk result (IsCalm (F.seen files.old) (F.seen files.new)) }
+    ensures calm_stopped { IfErr result (λ stop. IsNoFailure stop
+        → IsCalm (F.seen files.old) (F.seen files.new)) }
+    ensures calm_out { OnOk result ((O.seen out.new).faults ≡ (O.seen out.old).faults) }
     ensures frame { ReadsAndWrites (bytes_left reader) (F.seen files.old) (F.seen files.new) }
 {
     let Request { output, plan, .. } = *request;

@@ -1,10 +1,10 @@
 //! The command `lasinfo`: what is in a file.
-ghost use Rattle.std.specs.Prelude.{◌≡◌, ◌^◌, ◌≤◌, ◌∷◌, [], ℕ, All, length, map};
+ghost use Rattle.std.specs.Prelude.{◌≡◌, ◌^◌, ◌≤◌, ◌∷◌, [], ℕ, All, IfErr, OnOk, length, map};
 ghost use Rattle.las_header.specs.Heads.{IsHead};
 ghost use Rattle.las_info.specs.Tallies.{count_at};
 ghost use Rattle.las_outside.specs.Files.{WhereKnown};
 ghost use Rattle.las_outside.specs.Limits.{AreWorkers};
-ghost use Rattle.las_outside.specs.Frames.{Reads};
+ghost use Rattle.las_outside.specs.Frames.{IsCalm, Reads};
 ghost use Rattle.las_outside.specs.Outside.{Later};
 ghost use Rattle.las_words.specs.Asked.{AreChosen, lasinfo, reads};
 ghost use Rattle.las_words.specs.Texts.{texts};
@@ -12,6 +12,7 @@ ghost use Rattle.laz_reader.specs.Asking.{bytes_left};
 ghost use Rattle.laz_reader.specs.Reading.{AgreesWithHead, IsNewReader, StandsFor};
 ghost use Rattle.std.specs.Option.{option_map};
 ghost use Rattle.las_run.specs.Asking.{AsksWhole};
+ghost use Rattle.las_run.specs.Calm.{IsNoFailure};
 ghost use Rattle.las_run.specs.Ends.{Ends, EndsCommand, cause_of, changes, stopped_report};
 ghost use Rattle.las_run.specs.Runs.{task_for};
 ghost use Rattle.las_run.specs.Tools.{Reports};
@@ -41,6 +42,10 @@ pub fn lasinfo<R: Threads + Sync, F: Files, O: Sink, G: Gate>(
         Ends (task_for (map (λ tap. tap_seen tap) taps.items) work machine.entry.workers)
         (changes (F.seen files.old) (F.seen files.new) (O.seen out.old) (O.seen out.new))
         (cause_of (input.now ∷ []) result) }
+    ensures calm { OnOk result (IsCalm (F.seen files.old) (F.seen files.new)) }
+    ensures calm_stopped { IfErr result (λ stop. IsNoFailure stop
+        → IsCalm (F.seen files.old) (F.seen files.new)) }
+    ensures calm_out { OnOk result ((O.seen out.new).faults ≡ (O.seen out.old).faults) }
     ensures asks { AsksWhole input.now (F.seen files.old) (F.seen files.new) }
     ensures later { Later (F.seen files.old) (F.seen files.new) }
 {
@@ -66,6 +71,10 @@ fn inform<R: Threads + Sync, F: Files, O: Sink, G: Gate>(
     requires stands { WhereKnown (F.seen files.old).held reader.name (StandsFor reader) }
     ensures ends { EndsCommand (Reports (map (λ tap. tap_seen tap) taps.items) reader.name (texts tallies.now))
         reader.name (changes (F.seen files.old) (F.seen files.new) (O.seen out.old) (O.seen out.new)) result }
+    ensures calm { OnOk result (IsCalm (F.seen files.old) (F.seen files.new)) }
+    ensures calm_stopped { IfErr result (λ stop. IsNoFailure stop
+        → IsCalm (F.seen files.old) (F.seen files.new)) }
+    ensures calm_out { OnOk result ((O.seen out.new).faults ≡ (O.seen out.old).faults) }
     ensures reads { Reads (bytes_left reader) (F.seen files.old) (F.seen files.new) }
 {
     let mut reader = reader;

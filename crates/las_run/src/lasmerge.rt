@@ -1,11 +1,13 @@
 //! The command `lasmerge`: files that were written under one header become one file.
-ghost use Rattle.std.specs.Prelude.{◌≡◌, ◌≢◌, ◌≤◌, All, List, false, length, string_bytes, true};
+ghost use Rattle.std.specs.Prelude.{◌≡◌, ◌≢◌, ◌≤◌, All, IfErr, List, OnOk, false, length, string_bytes, true};
+ghost use Rattle.las_outside.specs.Frames.{IsCalm};
 ghost use Rattle.las_outside.specs.Limits.{AreWorkers, IsChunkSize};
 ghost use Rattle.las_outside.specs.Outside.{Later};
 ghost use Rattle.las_outside.specs.Sinks.{SinkView};
 ghost use Rattle.las_words.specs.Asked.{lasmerge};
 ghost use Rattle.las_words.specs.Texts.{texts};
 ghost use Rattle.las_info.specs.Tallies.{TapSeen};
+ghost use Rattle.las_run.specs.Calm.{IsNoFailure};
 ghost use Rattle.las_run.specs.Ends.{Ends, cause_of, quiet, stopped_merge};
 ghost use Rattle.las_run.specs.Runs.{task_for};
 ghost use Rattle.las_run.specs.Tools.{merge_options};
@@ -37,6 +39,9 @@ pub fn lasmerge<R: Threads + Sync, F: Files, G: Gate>(
         → let work = lasmerge (merge_options (texts inputs.now) output.now packing copy) in
         Ends (task_for taps work machine.entry.workers) (quiet (F.seen files.old) (F.seen files.new) out)
         (cause_of (texts inputs.now) result) }
+    ensures calm { OnOk result (IsCalm (F.seen files.old) (F.seen files.new)) }
+    ensures calm_stopped { IfErr result (λ stop. IsNoFailure stop
+        → IsCalm (F.seen files.old) (F.seen files.new)) }
     ensures later { Later (F.seen files.old) (F.seen files.new) }
 {
     if copy {
@@ -70,6 +75,9 @@ fn join_inputs<R: Threads + Sync, F: Files, G: Gate>(
         → let work = lasmerge (merge_options (texts inputs.now) output.now packing false) in
         Ends (task_for taps work machine.entry.workers) (quiet (F.seen files.old) (F.seen files.new) out)
         (cause_of (texts inputs.now) result) }
+    ensures calm { OnOk result (IsCalm (F.seen files.old) (F.seen files.new)) }
+    ensures calm_stopped { IfErr result (λ stop. IsNoFailure stop
+        → IsCalm (F.seen files.old) (F.seen files.new)) }
     ensures later { Later (F.seen files.old) (F.seen files.new) }
 {
     let chunk = if packing.packed {
@@ -96,6 +104,9 @@ fn copy_inputs<F: Files>(
         → let work = lasmerge (merge_options (texts inputs.now) output.now packing true) in
         Ends (task_for taps work workers) (quiet (F.seen files.old) (F.seen files.new) out)
         (cause_of (texts inputs.now) result) }
+    ensures calm { OnOk result (IsCalm (F.seen files.old) (F.seen files.new)) }
+    ensures calm_stopped { IfErr result (λ stop. IsNoFailure stop
+        → IsCalm (F.seen files.old) (F.seen files.new)) }
     ensures later { Later (F.seen files.old) (F.seen files.new) }
 {
     stopped_merge(merge_copied(alloc, files, inputs, output))

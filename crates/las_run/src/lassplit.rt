@@ -1,15 +1,19 @@
 //! The command `lassplit`: the records of a file go into numbered parts.
-ghost use Rattle.std.specs.Prelude.{◌≡◌, ◌≢◌, ◌^◌, ◌<◌, ◌∷◌, [], ℕ, IfOk, List, string_bytes};
+ghost use Rattle.std.specs.Prelude.{◌≡◌, ◌≢◌, ◌^◌, ◌<◌, ◌∷◌, [], ℕ, IfErr, IfOk, IsErrOf, List, OnOk, string_bytes};
+ghost use Rattle.las_header.specs.declared.refusal.Refusal.{Refusal};
 ghost use Rattle.las_filter.specs.Parts.{IsRule, part_name};
 ghost use Rattle.las_outside.specs.Files.{WhereKnown};
+ghost use Rattle.las_outside.specs.Frames.{IsCalm};
 ghost use Rattle.las_outside.specs.Limits.{AreWorkers};
 ghost use Rattle.las_outside.specs.Outside.{Later};
 ghost use Rattle.las_outside.specs.Sinks.{SinkView};
 ghost use Rattle.las_words.specs.Asked.{lassplit, reads};
+ghost use Rattle.laz_forms.specs.declared.fault.Fault.TheVariants.{Refused};
 ghost use Rattle.laz_reader.specs.Asking.{ReadsAndWrites, bytes_left};
 ghost use Rattle.laz_reader.specs.Reading.{AgreesWithHead, IsNewReader, StandsFor};
 ghost use Rattle.las_info.specs.Tallies.{TapSeen};
 ghost use Rattle.las_run.specs.Asking.{AsksWhole};
+ghost use Rattle.las_run.specs.Calm.{IsNoFailure};
 ghost use Rattle.las_run.specs.Ends.{Ends, EndsCommand, cause_of, quiet, stopped_by};
 ghost use Rattle.las_run.specs.Runs.{task_for};
 ghost use Rattle.las_run.specs.Tools.{Splits};
@@ -41,6 +45,9 @@ pub fn lassplit<R: Threads + Sync, F: Files, G: Gate>(
         → let work = reads input.now (lassplit (record { stem = stem.now; end = end.now; rule = rule.now })) in
         Ends (task_for taps work machine.entry.workers) (quiet (F.seen files.old) (F.seen files.new) out)
         (cause_of (input.now ∷ []) result) }
+    ensures calm { OnOk result (IsCalm (F.seen files.old) (F.seen files.new)) }
+    ensures calm_stopped { IfErr result (λ stop. IsNoFailure stop
+        → IsCalm (F.seen files.old) (F.seen files.new)) }
     ensures asks { AsksWhole input.now (F.seen files.old) (F.seen files.new) }
     ensures later { Later (F.seen files.old) (F.seen files.new) }
 {
@@ -80,6 +87,9 @@ fn write_parts<R: Threads + Sync, F: Files, G: Gate>(
     ensures ends { (out : SinkView) → EndsCommand
         (Splits reader.name (string_bytes names.now.stem) (string_bytes names.now.end) rule.now)
         reader.name (quiet (F.seen files.old) (F.seen files.new) out) (stopped_by 0 result) }
+    ensures calm { OnOk result (IsCalm (F.seen files.old) (F.seen files.new)) }
+    ensures calm_refused { (cause : Refusal) → IsErrOf result (Refused cause)
+        → IsCalm (F.seen files.old) (F.seen files.new) }
     ensures frame { ReadsAndWrites (bytes_left reader) (F.seen files.old) (F.seen files.new) }
 {
     match split(

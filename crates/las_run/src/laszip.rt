@@ -1,14 +1,18 @@
 //! The command `laszip`: a plain file is packed, and a packed one unpacked.
-ghost use Rattle.std.specs.Prelude.{◌≡◌, ◌≢◌, ◌∷◌, [], List};
+ghost use Rattle.std.specs.Prelude.{◌≡◌, ◌≢◌, ◌∷◌, [], IfErr, IsErrOf, List, OnOk};
+ghost use Rattle.las_header.specs.declared.refusal.Refusal.{Refusal};
 ghost use Rattle.las_outside.specs.Files.{WhereKnown};
+ghost use Rattle.las_outside.specs.Frames.{IsCalm};
 ghost use Rattle.las_outside.specs.Limits.{AreWorkers, IsChunkSize};
 ghost use Rattle.las_outside.specs.Outside.{Later};
 ghost use Rattle.las_outside.specs.Sinks.{SinkView};
 ghost use Rattle.las_words.specs.Asked.{laszip, reads};
+ghost use Rattle.laz_forms.specs.declared.fault.Fault.TheVariants.{Refused};
 ghost use Rattle.laz_reader.specs.Asking.{ReadsAndWrites, bytes_left};
 ghost use Rattle.laz_reader.specs.Reading.{AgreesWithHead, IsNewReader, StandsFor};
 ghost use Rattle.las_info.specs.Tallies.{TapSeen};
 ghost use Rattle.las_run.specs.Asking.{AsksWhole};
+ghost use Rattle.las_run.specs.Calm.{IsNoFailure};
 ghost use Rattle.las_run.specs.Ends.{Ends, EndsCommand, cause_of, quiet, stopped_by};
 ghost use Rattle.las_run.specs.Runs.{task_for};
 ghost use Rattle.las_run.specs.Tools.{Zips};
@@ -34,6 +38,9 @@ pub fn laszip<R: Threads + Sync, F: Files, G: Gate>(
     ensures ends { (taps : List TapSeen) (out : SinkView) → Ends
         (task_for taps (reads input.now (laszip (record { output = output.now; chunk = chunk }))) machine.entry.workers)
         (quiet (F.seen files.old) (F.seen files.new) out) (cause_of (input.now ∷ []) result) }
+    ensures calm { OnOk result (IsCalm (F.seen files.old) (F.seen files.new)) }
+    ensures calm_stopped { IfErr result (λ stop. IsNoFailure stop
+        → IsCalm (F.seen files.old) (F.seen files.new)) }
     ensures asks { AsksWhole input.now (F.seen files.old) (F.seen files.new) }
     ensures later { Later (F.seen files.old) (F.seen files.new) }
 {
@@ -57,6 +64,9 @@ fn zip<R: Threads + Sync, F: Files, G: Gate>(
     requires stands { WhereKnown (F.seen files.old).held reader.name (StandsFor reader) }
     ensures ends { (out : SinkView) → EndsCommand (Zips reader.name output.now chunk) reader.name
         (quiet (F.seen files.old) (F.seen files.new) out) (stopped_by 0 result) }
+    ensures calm { OnOk result (IsCalm (F.seen files.old) (F.seen files.new)) }
+    ensures calm_refused { (cause : Refusal) → IsErrOf result (Refused cause)
+        → IsCalm (F.seen files.old) (F.seen files.new) }
     ensures frame { ReadsAndWrites (bytes_left reader) (F.seen files.old) (F.seen files.new) }
 {
     let Machine {

@@ -1,11 +1,13 @@
 //! The command `make`: a plain file, and its packed form.
-ghost use Rattle.std.specs.Prelude.{◌≡◌, ◌≢◌, ◌∷◌, [], ℕ, List, OnErr, OnOk, take};
+ghost use Rattle.std.specs.Prelude.{◌≡◌, ◌≢◌, ◌∷◌, [], ℕ, IfErr, List, OnErr, OnOk, take};
 ghost use Rattle.las_info.specs.Tallies.{TapSeen};
 ghost use Rattle.las_make.specs.Made.{IsInRange};
+ghost use Rattle.las_outside.specs.Frames.{IsCalm};
 ghost use Rattle.las_outside.specs.Limits.{AreWorkers, IsChunkSize};
 ghost use Rattle.las_outside.specs.Outside.{Later};
 ghost use Rattle.las_outside.specs.Sinks.{with_fault, with_more};
 ghost use Rattle.las_words.specs.Asked.{make};
+ghost use Rattle.las_run.specs.Calm.{IsNoFailure};
 ghost use Rattle.las_run.specs.Ends.{Ends, cause_of, changes, stop_making};
 ghost use Rattle.las_run.specs.Runs.{task_for};
 ghost use Rattle.las_run.specs.Tools.{made_text, options_with};
@@ -17,7 +19,7 @@ use las_outside::{Failed, Files, Gate, Sink, put_all};
 use laz_workers::Machine;
 use std::thread::Threads;
 
-/// Writes a plain file of drawn points and its packed form, in chunks of `chunk` points, and puts their sizes.
+/// Writes a plain file of random points and its packed form, in chunks of `chunk` points, and puts their sizes.
 pub fn make<R: Threads + Sync, F: Files, O: Sink, G: Gate>(
     machine: Machine<'_, R, G>,
     files: &mut F,
@@ -35,6 +37,10 @@ pub fn make<R: Threads + Sync, F: Files, O: Sink, G: Gate>(
         Ends (task_for taps work machine.entry.workers)
         (changes (F.seen files.old) (F.seen files.new) (O.seen out.old) (O.seen out.new))
         (cause_of (output.now ∷ packed.now ∷ []) result) }
+    ensures calm { OnOk result (IsCalm (F.seen files.old) (F.seen files.new)) }
+    ensures calm_stopped { IfErr result (λ stop. IsNoFailure stop
+        → IsCalm (F.seen files.old) (F.seen files.new)) }
+    ensures calm_out { OnOk result ((O.seen out.new).faults ≡ (O.seen out.old).faults) }
     ensures later { Later (F.seen files.old) (F.seen files.new) }
 {
     match las_make::make(machine, files, output, packed, settings, chunk) {

@@ -1,6 +1,7 @@
 //! The top call.
-ghost use Rattle.std.specs.Prelude.{◌≡◌, ◌≤◌, ◌^◌, ℕ, Err, Ok, All, map};
+ghost use Rattle.std.specs.Prelude.{◌≡◌, ◌≤◌, ◌^◌, ℕ, Err, IfErr, Ok, OnOk, All, map};
 ghost use Rattle.std.specs.Result.{ForOk};
+ghost use Rattle.las_outside.specs.Frames.{IsCalm};
 ghost use Rattle.las_outside.specs.Outside.{Later};
 ghost use Rattle.las_info.specs.Tallies.{count_at};
 ghost use Rattle.las_words.specs.declared.command.WordFault.{WordFault};
@@ -9,6 +10,7 @@ ghost use Rattle.las_words.specs.Says.{asks};
 ghost use Rattle.las_words.specs.Texts.{texts};
 ghost use Rattle.las_words.specs.declared.command.Command.{Command};
 ghost use Rattle.las_run.specs.Asking.{WorkAsks};
+ghost use Rattle.las_run.specs.Calm.{IsNoFailure};
 ghost use Rattle.las_run.specs.Runs.{Task, files_read, task_of};
 ghost use Rattle.las_run.specs.Ends.{Ends, IsRead, cause_of, changes, names_read, stop_of};
 ghost use Rattle.las_run.specs.Promises.{KeepsPromises};
@@ -39,7 +41,7 @@ use std::thread::Threads;
 /// The commands are `laszip`, which packs a plain file and unpacks a packed one; `las2las`, which filters, thins and
 /// changes records, and tallies those that are kept; `lasinfo`, which reports what is in a file; `lassplit`, which
 /// splits one into parts; `lasmerge`, which merges files that were written under one header; and `make`, which makes a
-/// file of drawn points and its packed form. A name is a text: to contracts, two names are two files.
+/// file of random points and its packed form. A name is a text: to contracts, two names are two files.
 ///
 /// The status is fixed before the line is put, and a fault of `err` changes nothing else.
 ///
@@ -88,6 +90,10 @@ fn work<R: Threads + Sync, F: Files, O: Sink, G: Gate>(
         → WorkAsks (work_by command) (F.seen files.old) (F.seen files.new) }
     ensures unread { (fault : WordFault) → said.now ≡ Err fault
         → (result ≡ Err (stop_of fault)) × (F.seen files.new ≡ F.seen files.old) }
+    ensures calm { OnOk result (IsCalm (F.seen files.old) (F.seen files.new)) }
+    ensures calm_stopped { IfErr result (λ stop. IsNoFailure stop
+        → IsCalm (F.seen files.old) (F.seen files.new)) }
+    ensures calm_out { OnOk result ((O.seen out.new).faults ≡ (O.seen out.old).faults) }
     ensures later { Later (F.seen files.old) (F.seen files.new) }
 {
     match said {
@@ -123,6 +129,10 @@ fn obey<R: Threads + Sync, F: Files, O: Sink, G: Gate>(
         (changes (F.seen files.old) (F.seen files.new) (O.seen out.old) (O.seen out.new))
         (cause_of (files_read (work_by command.now)) result) }
     ensures asks { WorkAsks (work_by command.now) (F.seen files.old) (F.seen files.new) }
+    ensures calm { OnOk result (IsCalm (F.seen files.old) (F.seen files.new)) }
+    ensures calm_stopped { IfErr result (λ stop. IsNoFailure stop
+        → IsCalm (F.seen files.old) (F.seen files.new)) }
+    ensures calm_out { OnOk result ((O.seen out.new).faults ≡ (O.seen out.old).faults) }
     ensures later { Later (F.seen files.old) (F.seen files.new) }
 {
     match command {

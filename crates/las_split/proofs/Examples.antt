@@ -1,5 +1,6 @@
 -- Values that compute: the numbers and the parts of five records, and how many parts there may be.
 use Rattle.std.proofs.Common.{◌≡◌, ℕ, ◌+◌, ◌<◌, ◌==◌, ◌&&◌, Bool, true, false, cond, not, leb, List, [], ◌∷◌, ◌++◌}
+use Rattle.las_split.specs.declared.limits.TheConstants.{MAX_PARTS}
 use Rattle.std.proofs.Common.{filter, length, replicate, refl, ap, ◌∙◌, arith}
 use Rattle.std.proofs.lemmas.Bool.{leb-true}
 use Rattle.las_header.specs.Numbers.{number_at}
@@ -99,3 +100,7 @@ one_too_many =
       full = count_of_parts (Every 1) (replicate 512 first) 512 refl refl;
       more = count_of_parts (Every 1) (replicate 512 first ++ first ∷ []) 513 refl refl;
     }
+
+-- the numbers that the definitions take from the code
+max_parts_is : MAX_PARTS ≡ 512
+max_parts_is = refl

@@ -145,6 +145,9 @@ pub fn split<R: Threads + Sync, F: Files, G: Gate>(
         × (numbers.items ≡ numbers_of_parts rule.now records))) }
     ensures bad { (cause : Refusal) → IsErrOf result (Refused cause)
         → ((i : ℕ) × (cause ≡ BadChunk i)) ⊎ (cause ≡ TooManyParts) }
+    // No call has failed if the file is refused.
+    ensures calm_refused { (cause : Refusal) → IsErrOf result (Refused cause)
+        → IsCalm (F.seen files.old) (F.seen files.new) }
     // No more is asked for than the reader has left, however the call ends.
     ensures frame { ReadsAndWrites (bytes_left reader) (F.seen files.old) (F.seen files.new) }
 {

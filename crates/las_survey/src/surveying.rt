@@ -94,6 +94,9 @@ pub fn survey<R: Threads + Sync, F: Files, G: Gate>(
     ensures bad { (cause : Refusal) → IsErrOf result (Refused cause) → (i : ℕ) × (cause ≡ BadChunk i)
         × OfFile reader.old (F.seen files.old) (λ file.
         (blocks : List (List ℕ)) × AreOnlyRecords file blocks (Some i)) }
+    // No call has failed if the file is refused.
+    ensures calm_refused { (cause : Refusal) → IsErrOf result (Refused cause)
+        → IsCalm (F.seen files.old) (F.seen files.new) }
     ensures head { OnOk result (reader.new.head ≡ reader.old.head) }
     // No more is asked for than the reader has left, however the call ends.
     ensures reads { Reads (bytes_left reader.old) (F.seen files.old) (F.seen files.new) }

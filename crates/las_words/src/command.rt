@@ -91,7 +91,7 @@ pub enum Command {
         /// the inputs have, and the chunk size and the number of workers have no effect.
         copy: bool,
     },
-    /// Makes a plain file and a packed one of points that are drawn by a seed.
+    /// Makes a plain file and a packed one of random points, by a seed.
     Make {
         /// The name of the plain output.
         output: String,

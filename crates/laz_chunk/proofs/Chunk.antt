@@ -1,7 +1,7 @@
 -- A whole chunk, as it is packed and unpacked.
 use Rattle.std.proofs.Common.{◌≡◌, ℕ, ◌+◌, ◌*◌, ◌-◌, ◌≤◌, List, [], ◌++◌, length, take, drop, sym, ap, subst, ◌∙◌}
 use Rattle.std.proofs.lemmas.List.{length-take-le}
-use Rattle.laz_range.specs.Coding.{Coding, Codes}
+use Rattle.laz_range.specs.Coding.{Coding, CodesInSteps}
 use Rattle.laz_range.specs.Choice.{AreAsked, all_cuts}
 use Rattle.laz_range.specs.Decoding.{Decoding, HasRead, Refuses, Takes}
 use Rattle.laz_range.specs.Span.{Begins, IsBytes, Span, after, bytes_of, span}
@@ -11,7 +11,7 @@ use Rattle.laz_integer.specs.Events.{cuts_of}
 use Rattle.laz_chunk.specs.declared.items.Items.{Items}
 use Rattle.laz_chunk.specs.Layouts.{Layout, record_length}
 use Rattle.laz_chunk.specs.Records.{record_at, records_in}
-use Rattle.laz_chunk.specs.Stands.{AreChunkPoints, ItemsStand}
+use Rattle.laz_chunk.specs.Stands.{AreChunkPoints, ItemsStand, StandSometime, layout_in}
 use Rattle.laz_chunk.specs.Chunks.{AreRecords, History, Holds, IsSpelled, Spelling, chunk_bytes, count_of, first_of, further, grown, initial_history, joined, record_cuts, spelled_records, written}
 use Rattle.laz_chunk.proofs.Ends.{Streamed, holds-made, none-opened, none-read, one-read, only-made, read-streamed, streamed}
 use Rattle.laz_chunk.proofs.Lawful.{cuts-joined}
@@ -66,20 +66,25 @@ unpacked-only l count bytes records front rest items a b some enough is all smal
     only-made l count bytes records front rest some are enough is h.first all small (one.0 ∙ t.2)
 
 -- ---- packing
+pub started-sometime : (l : Layout) (bytes : List ℕ) (items : Items) → layout_in items ≡ l → length bytes ≡ record_length l → IsBytes bytes → Started l bytes items → StandSometime items
+started-sometime l bytes items e long small s =
+    let h : History = initial_history (record_at l bytes) in
+    record { history = h; points = subst (λ (k : Layout). AreChunkPoints k.extra h.1) (sym e) (points-first l bytes long small); stand = s }
+
 abbrev pub Put : Layout → ℕ → Items → List ℕ → Coding → Coding → Type 0
-Put l n items rest a b = (h : History) → AreChunkPoints l.extra h.1 → ItemsStand h.0 h.1 items → Codes a b (all_cuts grown record_cuts h (written l h (records_in l n rest)))
+Put l n items rest a b = (h : History) → AreChunkPoints l.extra h.1 → ItemsStand h.0 h.1 items → CodesInSteps a b (all_cuts grown record_cuts h (written l h (records_in l n rest)))
 
 pub packed-stream : (l : Layout) (records rest : List ℕ) (items : Items) (a b : Coding) → record_length l ≤ length records → IsBytes records → rest ≡ drop (record_length l) records → Started l (take (record_length l) records) items
-    → Put l (count_of l records - 1) items rest a b → Codes a b (cuts_of (joined (written l (initial_history (first_of l records)) (further l records))))
+    → Put l (count_of l records - 1) items rest a b → CodesInSteps a b (cuts_of (joined (written l (initial_history (first_of l records)) (further l records))))
 packed-stream l records rest items a b some small e s put =
     let m : ℕ = record_length l in
     let h : History = initial_history (first_of l records) in
     let fit = points-first l (take m records) (length-take-le m records some) (IsBytes-take m records small) in
-    let codes = subst (λ (r : List ℕ). Codes a b (all_cuts grown record_cuts h (written l h (records_in l (count_of l records - 1) r)))) e (put h fit s) in
-    subst (λ (cs : List Cut). Codes a b cs) (cuts-joined h (written l h (further l records))) codes
+    let codes = subst (λ (r : List ℕ). CodesInSteps a b (all_cuts grown record_cuts h (written l h (records_in l (count_of l records - 1) r)))) e (put h fit s) in
+    subst (λ (cs : List Cut). CodesInSteps a b cs) (cuts-joined h (written l h (further l records))) codes
 
 pub packed-is : (l : Layout) (records before out : List ℕ) (n size : ℕ) (a b : Coding) → size ≡ record_length l → record_length l ≤ length records → before ≡ take (record_length l) records → take (length before + n) out ≡ before ++ bytes_of b.span
-    → a.span ≡ span [] → Codes a b (cuts_of (joined (written l (initial_history (first_of l records)) (further l records)))) → take (size + n) out ≡ chunk_bytes l records
+    → a.span ≡ span [] → CodesInSteps a b (cuts_of (joined (written l (initial_history (first_of l records)) (further l records)))) → take (size + n) out ≡ chunk_bytes l records
 packed-is l records before out n size a b e some is front initial codes =
     let long : length before ≡ size = ap length is ∙ (length-take-le (record_length l) records some ∙ sym e) in
     let spans : b.span ≡ span (cuts_of (joined (written l (initial_history (first_of l records)) (further l records)))) =

@@ -2,9 +2,9 @@
 use Rattle.std.proofs.Common.{◌≡◌, ℕ, zero, suc, ◌+◌, ◌*◌, ◌-◌, ◌≤◌, add-one, List, [], ◌∷◌, ◌++◌, length, take, drop, refl, sym, ap, subst, ◌∙◌, arith}
 use Rattle.std.proofs.lemmas.List.{drop-drop, drop-take, drop_at, length-take-le, take_at}
 use borrow.Rule.Slice.PartMut.{put_mid}
-use Rattle.laz_range.specs.Coding.{Coding, Codes}
+use Rattle.laz_range.specs.Coding.{Coding, Codes, CodesInSteps}
 use Rattle.laz_range.specs.Choice.{all_cuts, state_after}
-use Rattle.laz_range.proofs.Public.{all_cuts-push, state_after-push, Codes-append}
+use Rattle.laz_range.proofs.Public.{all_cuts-push, state_after-push, CodesInSteps-step}
 use Rattle.laz_chunk.specs.Layouts.{Layout, record_length}
 use Rattle.laz_chunk.specs.Records.{Record, record_at, records_in}
 use Rattle.laz_chunk.specs.Chunks.{History, Spelling, grown, record_cuts, spelled_records, writing, written}
@@ -49,11 +49,11 @@ records-set l i at k xs ys size place within =
     ap (λ (n : ℕ). records_in l n new) (add-one i) ∙ (records-more l i new ∙ two_lists _ _ _ _ (records-front l i new xs before) (ap (λ (b : List ℕ). record_at l b ∷ []) here))
 
 -- ---- a record more is written
-pub codes-push : (l : Layout) (h : History) (rs : List Record) (r : Record) (ss : List Record) (a b c : Coding) → ss ≡ rs ++ r ∷ [] → Codes a b (all_cuts grown record_cuts h (written l h rs))
-    → (let g = state_after grown h (written l h rs) in Codes b c (record_cuts g (writing l g r))) → Codes a c (all_cuts grown record_cuts h (written l h ss))
-codes-push l h rs r ss a b c e f g =
+pub codes-push : (l : Layout) (h : History) (rs : List Record) (r : Record) (ss : List Record) (a b m c : Coding) → ss ≡ rs ++ r ∷ [] → CodesInSteps a b (all_cuts grown record_cuts h (written l h rs)) → CodesInSteps b m []
+    → (let g = state_after grown h (written l h rs) in Codes m c (record_cuts g (writing l g r))) → CodesInSteps a c (all_cuts grown record_cuts h (written l h ss))
+codes-push l h rs r ss a b m c e f w g =
     rw (e, written-push l h rs r, all_cuts-push grown record_cuts h (written l h rs) (writing l (state_after grown h (written l h rs)) r))
-    (Codes-append a b c (all_cuts grown record_cuts h (written l h rs)) (record_cuts (state_after grown h (written l h rs)) (writing l (state_after grown h (written l h rs)) r)) f g)
+    (CodesInSteps-step a b m c (all_cuts grown record_cuts h (written l h rs)) (record_cuts (state_after grown h (written l h rs)) (writing l (state_after grown h (written l h rs)) r)) f w g)
 
 pub after-push : (l : Layout) (h : History) (rs : List Record) (r : Record) (ss : List Record) → ss ≡ rs ++ r ∷ [] → state_after grown h (written l h ss) ≡ (let g = state_after grown h (written l h rs) in grown g (writing l g r))
 after-push l h rs r ss e =

@@ -2,7 +2,7 @@
 use Rattle.std.proofs.Common.{◌≡◌, ℕ, ◌+◌, ◌*◌, ◌-◌, ◌<◌, ◌≤◌, List, [], ◌∷◌, ◌++◌, length, take, drop, Option, refl}
 use Rattle.std.proofs.Common.{sym, ap, subst, ◌∙◌, arith}
 use Rattle.std.proofs.lemmas.List.{length-drop, length-take-le}
-use Rattle.laz_range.specs.Coding.{Coding, Codes}
+use Rattle.laz_range.specs.Coding.{Coding, Codes, CodesInSteps}
 use Rattle.laz_range.specs.Choice.{AreAsked, all_cuts, state_after}
 use Rattle.laz_range.specs.Decoding.{Decoding, Takes}
 use Rattle.laz_range.specs.Span.{IsBytes}
@@ -52,10 +52,10 @@ CodesRecord l old new a b bytes =
 abbrev pub Stand : Layout → History → Items → Type 0
 Stand l g items = AreChunkPoints l.extra g.1 × ItemsStand g.0 g.1 items
 
-pub put-step : (l k : Layout) (h : History) (i count size : ℕ) (a : List ℕ) (old new : Items) (b c d : Coding) → k ≡ l → size ≡ record_length l → length a ≡ record_length l * count → i < count → IsBytes a
-    → Codes b c (all_cuts grown record_cuts h (written l h (records_in l i a))) → Stand l (state_after grown h (written l h (records_in l i a))) old → CodesRecord k old new c d (part i size a)
-    → Codes b d (all_cuts grown record_cuts h (written l h (records_in l (i + 1) a))) × Stand l (state_after grown h (written l h (records_in l (i + 1) a))) new
-put-step l k h i count size a old new b c d at e long few small codes stands one =
+pub put-step : (l k : Layout) (h : History) (i count size : ℕ) (a : List ℕ) (old new : Items) (b e c d : Coding) → k ≡ l → size ≡ record_length l → length a ≡ record_length l * count → i < count → IsBytes a
+    → CodesInSteps b e (all_cuts grown record_cuts h (written l h (records_in l i a))) → CodesInSteps e c [] → Stand l (state_after grown h (written l h (records_in l i a))) old → CodesRecord k old new c d (part i size a)
+    → CodesInSteps b d (all_cuts grown record_cuts h (written l h (records_in l (i + 1) a))) × Stand l (state_after grown h (written l h (records_in l (i + 1) a))) new
+put-step l k h i count size a old new b f c d at e long few small codes widened stands one =
     let m : ℕ = record_length l in
     let bytes : List ℕ = part i size a in
     let g : History = state_after grown h (written l h (records_in l i a)) in
@@ -65,9 +65,15 @@ put-step l k h i count size a old new b c d at e long few small codes stands one
     let here = subst (λ (k : Layout). CodesRecord k old new c d bytes) at one g stands.0 stands.1 in
     let tiny : IsBytes bytes = IsBytes-take (i * size + size - i * size) (drop (i * size) a) (IsBytes-drop (i * size) a small) in
     let more = points-more l g.1 bytes (writing l g (record_at l bytes)).0 stands.0 own tiny in (
-      codes-push l h (records_in l i a) (record_at l bytes) (records_in l (i + 1) a) b c d next codes here.0,
+      codes-push l h (records_in l i a) (record_at l bytes) (records_in l (i + 1) a) b f c d next codes widened here.0,
       subst (λ (g : History). Stand l g new) (sym (after-push l h (records_in l i a) (record_at l bytes) (records_in l (i + 1) a) next)) (more, here.1),
     )
+
+-- the room is as long after a record
+pub put-more : (l k : Layout) (g : History) (a : List ℕ) (old new : Items) (c d : Coding) → k ≡ l → Stand l g old → CodesRecord k old new c d a → d.more ≡ c.more
+put-more l k g a old new c d at stands one =
+    let here = subst (λ (k : Layout). CodesRecord k old new c d a) at one g stands.0 stands.1 in
+    here.0.more
 
 -- ---- reading
 abbrev pub ReadsRecord : Layout → History → Record → Items → Decoding → Decoding → Type 0

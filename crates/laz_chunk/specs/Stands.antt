@@ -54,13 +54,6 @@ pub record ItemsStand (events : List Event) (points : List ChunkPoint) (items : 
   pub colour : ColoursStand events (colours_of points) items.rgb
   pub extra : ExtrasStand events (extras_of points) items.extra
 
--- A part was read, by the one spelling that begins the rest of the bytes; what the item stands for then has it, too.
-pub record ReadsPart {V : Type 0} (IsAsked : List Event × V → Type 0) (earlier : List Event) (value : V)
-    (old new : Decoding) (Stands : List Event → Type 0) : Type 0 where
-  pub events : List Event
-  pub takes : Takes IsAsked (spelled_cuts earlier) old new (events, value)
-  pub stands : Stands events
-
 -- The fields of a record hold what its bytes can.
 pub record IsRecord (r : Record) : Type 0 where
   pub point : IsPoint r.point
@@ -73,3 +66,16 @@ pub record AreChunkPoints (extra : ℕ) (points : List ChunkPoint) : Type 0 wher
   pub some : 1 ≤ length points
   pub fields : All (λ p. IsRecord p.fields) points
   pub lengths : All (λ p. length p.fields.extra ≡ extra) points
+
+-- The items stand for some chunk's events and points.
+pub record StandSometime (items : Items) : Type 0 where
+  pub history : List Event × List ChunkPoint
+  pub points : AreChunkPoints (layout_in items).extra history.1
+  pub stand : ItemsStand history.0 history.1 items
+
+-- A part was read, by the one spelling that begins the rest of the bytes; what the item stands for then has it, too.
+pub record ReadsPart {V : Type 0} (IsAsked : List Event × V → Type 0) (earlier : List Event) (value : V)
+    (old new : Decoding) (Stands : List Event → Type 0) : Type 0 where
+  pub events : List Event
+  pub takes : Takes IsAsked (spelled_cuts earlier) old new (events, value)
+  pub stands : Stands events

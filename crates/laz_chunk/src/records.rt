@@ -1,12 +1,12 @@
 //! The records of a chunk, by their items.
 ghost use Rattle.std.specs.Prelude.{◌≡◌, ◌+◌, ◌*◌, ◌≤◌, ◌++◌, ◌∷◌, List, ℕ, length, false, MatchResult, OnOk};
-ghost use Rattle.laz_range.specs.Coding.{Codes};
+ghost use Rattle.laz_range.specs.Coding.{Codes, CodesInSteps};
 ghost use Rattle.laz_range.specs.Choice.{AreAsked, all_cuts};
 ghost use Rattle.laz_range.specs.Decoding.{Refuses, Takes};
 ghost use Rattle.laz_integer.specs.Events.{Event, cuts_after};
 ghost use Rattle.laz_chunk.specs.Layouts.{Layout, most_events, record_length};
 ghost use Rattle.laz_chunk.specs.Records.{ChunkPoint, Record, SpellsRecord, record_at, record_events, records_in};
-ghost use Rattle.laz_chunk.specs.Stands.{AreChunkPoints, ItemsStand, ReadsPart, items_of, layout_in};
+ghost use Rattle.laz_chunk.specs.Stands.{AreChunkPoints, ItemsStand, ReadsPart, StandSometime, items_of, layout_in};
 ghost use Rattle.laz_chunk.specs.Chunks.{History, IsSpelled, Spelling, grown, initial_history, record_cuts};
 ghost use Rattle.laz_chunk.specs.Chunks.{spelled_records, writing, written};
 
@@ -114,6 +114,14 @@ struct Extent {
     count: usize,
 }
 
+// How long each of some records is, how many there are, and how many bytes one takes at most when it is coded.
+#[derive(Clone, Copy)]
+struct Packed {
+    size: usize,
+    count: usize,
+    most: usize,
+}
+
 // Codes records whose items have these types.
 #[inline(always)]
 fn put_all<T: TimePart, C: ColourPart>(
@@ -123,31 +131,35 @@ fn put_all<T: TimePart, C: ColourPart>(
     colours: &mut C,
     extra: &mut Option<Bytes>,
     records: &[u8],
-    extent: Extent,
+    packed: Packed,
 )
     requires size { let items = items_of point10.old (T.item times.old) (C.item colours.old) extra.old
-        in extent.size ≡ record_length (layout_in items) }
+        in packed.size ≡ record_length (layout_in items) }
     requires records { let items = items_of point10.old (T.item times.old) (C.item colours.old) extra.old
-        in length records.now ≡ record_length (layout_in items) * extent.count }
+        in length records.now ≡ record_length (layout_in items) * packed.count }
     requires left { let items = items_of point10.old (T.item times.old) (C.item colours.old) extra.old
-        in 3 * most_events (layout_in items) * extent.count ≤ encoder.old.left }
+        in 3 * most_events (layout_in items) * packed.count ≤ encoder.old.left + encoder.old.more }
+    requires most { let items = items_of point10.old (T.item times.old) (C.item colours.old) extra.old
+        in packed.most ≡ 3 * most_events (layout_in items) }
+    requires stands { StandSometime (items_of point10.old (T.item times.old) (C.item colours.old) extra.old) }
     ensures layout { let items = items_of point10.old (T.item times.old) (C.item colours.old) extra.old
         in layout_in (items_of point10.new (T.item times.new) (C.item colours.new) extra.new) ≡ layout_in items }
     ensures codes { let items = items_of point10.old (T.item times.old) (C.item colours.old) extra.old
         in (h : History) → AreChunkPoints (layout_in items).extra h.1 → ItemsStand h.0 h.1 items
         → let l = layout_in items in
-        Codes encoder.old encoder.new
-        (all_cuts grown record_cuts h (written l h (records_in l extent.count records.now))) }
+        CodesInSteps encoder.old encoder.new
+        (all_cuts grown record_cuts h (written l h (records_in l packed.count records.now))) }
 {
-    for i in 0..extent.count {
-        let at = i * extent.size;
+    for i in 0..packed.count {
+        encoder.keep_left(packed.most);
+        let at = i * packed.size;
         code_record(
             encoder,
             point10,
             times,
             colours,
             extra,
-            &records[at..at + extent.size],
+            &records[at..at + packed.size],
         );
     }
 }
@@ -204,26 +216,29 @@ pub(crate) fn put_records(
     records: &[u8],
     size: usize,
     count: usize,
+    most: usize,
 )
     requires size { size ≡ record_length (layout_in items.old) }
     requires records { length records.now ≡ record_length (layout_in items.old) * count }
-    requires left { 3 * most_events (layout_in items.old) * count ≤ encoder.old.left }
+    requires left { 3 * most_events (layout_in items.old) * count ≤ encoder.old.left + encoder.old.more }
+    requires most { most ≡ 3 * most_events (layout_in items.old) }
+    requires stands { StandSometime items.old }
     ensures layout { layout_in items.new ≡ layout_in items.old }
     ensures codes { (h : History) → AreChunkPoints (layout_in items.old).extra h.1 → ItemsStand h.0 h.1 items.old
         → let l = layout_in items.old in
-        Codes encoder.old encoder.new
+        CodesInSteps encoder.old encoder.new
         (all_cuts grown record_cuts h (written l h (records_in l count records.now))) }
 {
     let (point10, extra) = (&mut items.point10, &mut items.extra);
     let mut none = Absent;
-    let extent = Extent { size, count };
+    let packed = Packed { size, count, most };
     match &mut items.gps_time {
         Some(times) => match &mut items.rgb {
-            Some(colours) => put_all(encoder, point10, times, colours, extra, records, extent),
-            None => put_all(encoder, point10, times, &mut none, extra, records, extent),
+            Some(colours) => put_all(encoder, point10, times, colours, extra, records, packed),
+            None => put_all(encoder, point10, times, &mut none, extra, records, packed),
         },
         None => match &mut items.rgb {
-            Some(colours) => put_all(encoder, point10, &mut none, colours, extra, records, extent),
+            Some(colours) => put_all(encoder, point10, &mut none, colours, extra, records, packed),
             None => put_all(
                 encoder,
                 point10,
@@ -231,7 +246,7 @@ pub(crate) fn put_records(
                 &mut Absent,
                 extra,
                 records,
-                extent,
+                packed,
             ),
         },
     }

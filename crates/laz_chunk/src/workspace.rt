@@ -1,5 +1,6 @@
 //! A chunk, packed and unpacked.
 ghost use Rattle.std.specs.Prelude.{◌≡◌, ◌+◌, ◌-◌, ◌*◌, ◌%◌, ◌<◌, ◌≤◌, ℕ, List, length, take, IfOk, OnOk, OnErr};
+ghost use Rattle.std.specs.Prelude.{vec_capacity};
 ghost use Rattle.laz_chunk.specs.Layouts.{layout, layout_of, record_length, room_for};
 ghost use Rattle.laz_chunk.specs.Stands.{layout_in};
 ghost use Rattle.laz_chunk.specs.Chunks.{AreRecords, Holds, chunk_bytes, count_of};
@@ -79,11 +80,29 @@ fn add_items(items: &mut Items, alloc: Global, format: u8, extra: u16) -> Result
     Ok(())
 }
 
+// Writes zeros after bytes until there are at least so many. There is capacity for them.
+fn lengthen(bytes: &mut Vec<u8>, least: usize)
+    requires { least ≤ vec_capacity bytes.old }
+    ensures least { least ≤ length bytes.new.items }
+    ensures longer { length bytes.old.items ≤ length bytes.new.items }
+    ensures within { (n : ℕ) → length bytes.old.items ≤ n → least ≤ n → length bytes.new.items ≤ n }
+    ensures capacity { vec_capacity bytes.old ≤ vec_capacity bytes.new }
+{
+    if bytes.len() >= least {
+        return;
+    }
+    match bytes.resize(least, 0) {
+        Ok(()) => {}
+        Err(_) => unreachable!(),
+    }
+}
+
 // Writes the first record to the front.
 fn put_first(out: &mut Vec<u8>, first: &[u8])
     requires room { length first.now ≤ length out.old.items }
     ensures front { take (length first.now) out.new.items ≡ first.now }
     ensures room { length out.new.items ≡ length out.old.items }
+    ensures capacity { vec_capacity out.new ≡ vec_capacity out.old }
 {
     let (front, _) = out.split_at_mut(first.len());
     front.copy_from_slice(first);
@@ -122,17 +141,38 @@ impl Workspace {
         ensures room { length out.new.items ≡ length out.old.items }
         ensures same { self.new ≡ self.old }
     {
+        let limit = out.len();
+        self.pack_within(records, out, limit)
+    }
+
+    /// The same as [`pack`](Self::pack), but `out` may be shorter at first. It is lengthened as far as is needed, and to
+    /// no more than `limit` bytes, which are at least `room_for`. There is capacity for so many.
+    pub fn pack_within(&mut self, records: &[u8], out: &mut Vec<u8>, limit: usize) -> usize
+        requires some { record_length (layout self.old) ≤ length records.now }
+        requires whole { length records.now % record_length (layout self.old) ≡ 0 }
+        requires room { room_for (layout self.old) (count_of (layout self.old) records.now) ≤ limit }
+        requires within { length out.old.items ≤ limit }
+        requires capacity { limit ≤ vec_capacity out.old }
+        ensures bytes { take result out.new.items ≡ chunk_bytes (layout self.old) records.now }
+        ensures count { result ≡ length (chunk_bytes (layout self.old) records.now) }
+        ensures longer { length out.old.items ≤ length out.new.items }
+        ensures within { length out.new.items ≤ limit }
+        ensures capacity { limit ≤ vec_capacity out.new }
+        ensures same { self.new ≡ self.old }
+    {
         let size = record_length(self.format, self.extra);
+        lengthen(out, size + 4);
         let (first, rest) = records.split_at(size);
         start_record(&mut self.items, first);
         put_first(out, first);
-        let mut encoder = Encoder::with_room(mem::replace(out, Vec::new(self.alloc)), size);
+        let mut encoder = Encoder::within(mem::replace(out, Vec::new(self.alloc)), size, limit);
         put_records(
             &mut encoder,
             &mut self.items,
             rest,
             size,
             records.len() / size - 1,
+            3 * (38 + self.extra as usize),
         );
         let (room, count) = encoder.finish();
         *out = room;

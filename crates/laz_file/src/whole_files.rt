@@ -46,6 +46,8 @@ fn fill<R: Threads + Sync, F: Files, G: Gate>(
         (λ before out bytes. IfErr result (EndsCopying (F.seen files.old).held before.held (F.seen files.old)
         (F.seen files.new) reader.old out bytes)) }
     ensures calm { OnOk result (IsCalm (F.seen files.old) (F.seen files.new)) }
+    ensures calm_refused { (cause : Refusal) → IsErrOf result (Refused cause)
+        → IsCalm (F.seen files.old) (F.seen files.new) }
     ensures frame { ReadsAndWrites (bytes_left reader.old) (F.seen files.old) (F.seen files.new) }
 {
     let mut writer = writer;
@@ -127,6 +129,9 @@ pub fn unpack<R: Threads + Sync, F: Files, G: Gate>(
 
     ensures ends { EndsMaking (Unpacks output.now) reader.name (F.seen files.old) (F.seen files.new) result }
     ensures bad { (cause : Refusal) → IsErrOf result (Refused cause) → (i : ℕ) × (cause ≡ BadChunk i) }
+    // No call has failed if the file is refused.
+    ensures calm_refused { (cause : Refusal) → IsErrOf result (Refused cause)
+        → IsCalm (F.seen files.old) (F.seen files.new) }
     // No more is asked for than the reader has left, however the call ends.
     ensures frame { ReadsAndWrites (bytes_left reader) (F.seen files.old) (F.seen files.new) }
 {

@@ -1,5 +1,6 @@
 -- Worked values of the definitions.
 use Rattle.std.proofs.Common.{◌≡◌, ℕ, ◌+◌, pos, List, [], ◌∷◌, ◌++◌, refl}
+use Rattle.laz_gpstime.specs.declared.limits.TheConstants.{FULL, MULTI, MULTI_MINUS, TOTAL, UNCHANGED}
 use Rattle.laz_integer.specs.Corrector.{digits_within, width_of, corrector_index}
 use Rattle.laz_integer.specs.Events.{Bits, Event}
 use Rattle.laz_integer.specs.Integer.{IntEvents, rest_events}
@@ -163,3 +164,19 @@ ten_below = refl
 
 pub more_below : difference_symbol 10 4294967186 ≡ 510
 more_below = refl
+
+-- the numbers that the definitions take from the code
+full_is : FULL ≡ 512
+full_is = refl
+
+multi_is : MULTI ≡ 500
+multi_is = refl
+
+multi_minus_is : MULTI_MINUS ≡ 10
+multi_minus_is = refl
+
+total_is : TOTAL ≡ 516
+total_is = refl
+
+unchanged_is : UNCHANGED ≡ 511
+unchanged_is = refl

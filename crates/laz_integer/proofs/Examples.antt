@@ -1,5 +1,6 @@
 -- Worked values of the definitions.
 use Rattle.std.proofs.Common.{◌≡◌, ℕ, pos, negsuc, true, false, List, [], ◌∷◌, map, refl}
+use Rattle.laz_integer.specs.declared.limits.TheConstants.{HIGH_BITS, MAX_BITS, MAX_CONTEXTS, MAX_INT_BYTES, MAX_SHORT_INT_BYTES, SHORT_BITS}
 use Rattle.std.specs.Prelude.{codes}
 use Rattle.laz_range.specs.Cut.{Part, Bit}
 use Rattle.laz_range.specs.Span.{span, bytes_of, renormal_step, subspan}
@@ -111,3 +112,22 @@ one_bit = record { bits = 1; contexts = 1; zero_or_one = new_bit_model; bank = m
 one_bit_cuts : int_cuts one_bit 0 0 1 ≡ Part 0 16384 ∷ Bit 4096 true ∷ []
 unfolding one_bit int_sizes rest_events new_model starts_of
 one_bit_cuts = refl
+
+-- the numbers that the definitions take from the code
+high_bits_is : HIGH_BITS ≡ 8
+high_bits_is = refl
+
+max_bits_is : MAX_BITS ≡ 32
+max_bits_is = refl
+
+max_contexts_is : MAX_CONTEXTS ≡ 32
+max_contexts_is = refl
+
+max_int_bytes_is : MAX_INT_BYTES ≡ 12
+max_int_bytes_is = refl
+
+max_short_int_bytes_is : MAX_SHORT_INT_BYTES ≡ 9
+max_short_int_bytes_is = refl
+
+short_bits_is : SHORT_BITS ≡ 27
+short_bits_is = refl

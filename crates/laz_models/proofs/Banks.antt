@@ -1,12 +1,13 @@
 -- The models of a bank, one of which changes. Cited by crates above.
-use Rattle.std.proofs.Common.{◌≡◌, true, false, ◌⊎◌, ℕ, ◌+◌, ◌-◌, ◌<◌, ◌≤◌, List, [], ◌∷◌, ◌++◌, length, map, set, get_or, refl, sym, ap, ◌∙◌, arith, ⊎_elim, inl, inr}
+use Rattle.std.proofs.Common.{◌≡◌, true, false, ◌⊎◌, ℕ, ◌+◌, ◌-◌, ◌<◌, ◌≤◌, List, [], ◌∷◌, ◌++◌, length, map, set, drop, get_or, refl, sym, ap, ◌∙◌, arith, ⊎_elim, inl, inr}
 use Rattle.std.proofs.lemmas.Bool.{cases_eq, cases_lt}
-use Rattle.std.proofs.lemmas.List.{length-map, length-set, length-take-le, length-replicate, get_or-map, get_or-set_same, get_or-set_other, get_or_default, set-get_or, map-set, same_lists}
+use Rattle.std.proofs.lemmas.List.{length-append, length-map, length-set, length-take-le, length-replicate, take-append-le, get_or_append_left, get_or-map, get_or-set_same, get_or-set_other, get_or_default, set-get_or, map-set, same_lists}
 use Rattle.std.proofs.lemmas.List.Edits.{length-between, get_or-between}
+use Rattle.std.proofs.lemmas.Slice.{between_is}
 use Rattle.laz_models.specs.Bank.{model_at, alphabet_sizes}
 use Rattle.laz_models.specs.Counting.{Counting, AreStarts, after_symbol, new_model, new_cycle, counts_with}
 use Rattle.laz_models.specs.Dist.{alphabet_size, StandsFor}
-use Rattle.laz_models.specs.Place.{cells_of, counting_in, counting_of, dist_extent, first_in, IsShaped, IsModel, IsPlaced, AreFirst, IsBank, SamePlace, SameOutside}
+use Rattle.laz_models.specs.Place.{cells_of, counting_in, counting_of, dist_extent, first_in, EndWithin, IsShaped, IsModel, IsPlaced, AreFirst, IsBank, SamePlace, SameOutside}
 use Rattle.laz_models.specs.declared.place.Place.{Place}
 use Rattle.laz_models.proofs.Models.{new_model-starts, first-AreStarts, counting_of-first, counting_of-laid}
 use Rattle.laz_models.proofs.Parts.{after_symbol-last, after_symbol-more}
@@ -42,7 +43,7 @@ fits-place p cells model =
     (λ (laid : p.remaining ≡ 0 → ⊥).
     let some : 0 < p.remaining = omega (arith, laid) in
     rw (counting_of-laid p cells some)
-    (record { size = length-take-le p.size cells (omega (arith, model.length)); starts = (model.laid some).starts }))
+    (record { size = length-take-le p.size cells (omega (arith, model.length some)); starts = (model.laid some).starts }))
     (cases_eq p.remaining 0)
 
 -- ---- one model of a bank
@@ -82,7 +83,7 @@ many-at bank places cells m view invariant below =
 pub cells_of-apart : (p q : Place) (old new : List ℕ) → SameOutside p.start p.end old new → q.start ≤ q.end → q.end ≤ length old → (q.end ≤ p.start) ⊎ (p.end ≤ q.start) → cells_of q new ≡ cells_of q old
 cells_of-apart p q old new same order within apart =
     let size : length (cells_of q old) ≡ q.end - q.start = length-between old q.start q.end within in
-    let size_new : length (cells_of q new) ≡ q.end - q.start = length-between new q.start q.end (omega (arith, same.length)) in
+    let size_new : length (cells_of q new) ≡ q.end - q.start = length-between new q.start q.end (omega (arith, same.longer)) in
     same_lists (cells_of q new) (cells_of q old) (size_new ∙ sym size)
     (λ k d below.
     let inside : q.start + k < q.end = omega arith in
@@ -90,8 +91,8 @@ cells_of-apart p q old new same order within apart =
     let at_new : get_or (cells_of q new) k 0 ≡ get_or new (q.start + k) 0 = get_or-between new q.start q.end k 0 inside in
     let kept : get_or new (q.start + k) 0 ≡ get_or old (q.start + k) 0 =
     ⊎_elim
-    (λ (before : q.end ≤ p.start). same.before (q.start + k) (omega arith))
-    (λ (behind : p.end ≤ q.start). same.after (q.start + k) (omega arith))
+    (λ (before : q.end ≤ p.start). same.before (q.start + k) (omega arith) (omega arith))
+    (λ (behind : p.end ≤ q.start). same.after (q.start + k) (omega arith) (omega arith))
     apart in
     get_or_default (cells_of q new) k d 0 below ∙ (at_new ∙ (kept ∙ (sym at_old ∙ get_or_default (cells_of q old) k 0 d (omega arith)))))
 
@@ -120,12 +121,50 @@ others-apart places cells m k p d invariant here there read ne =
 pub in-order : (q : Place) → IsShaped q → q.start ≤ q.end
 in-order q shape = omega (arith, shape.extent)
 
--- another model keeps its cells
+-- a new model needs no cells
+pub new-placed : (q : Place) (old new : List ℕ) → IsPlaced q old → q.remaining ≡ 0 → IsPlaced q new
+new-placed q old new placed first =
+    record {
+      model = record {
+        shape = placed.model.shape;
+        length = λ some. absurd (omega (arith, some, first));
+        even = placed.model.even;
+        dist = placed.model.dist;
+        laid = λ some. absurd (omega (arith, some, first));
+      };
+      within = λ some. absurd (omega (arith, some, first));
+    }
+
+-- a model whose cells stay, if they are there, stays
+pub record StaysAt (q : Place) (old new : List ℕ) : Type 0 where
+  pub placed : IsPlaced q new
+  pub counting : counting_in new q ≡ counting_in old q
+
+pub stays-at : (q : Place) (old new : List ℕ) → IsPlaced q old → length old ≤ length new → (q.end ≤ length old → cells_of q new ≡ cells_of q old) → StaysAt q old new
+stays-at q old new placed longer keep =
+    ⊎_elim {C = StaysAt q old new}
+    (λ (first : q.remaining ≡ 0).
+    record {
+      placed = new-placed q old new placed first;
+      counting = counting_of-first q (cells_of q new) first ∙ sym (counting_of-first q (cells_of q old) first);
+    })
+    (λ (laid : q.remaining ≡ 0 → ⊥).
+    let some : 0 < q.remaining = omega (arith, laid) in
+    let within : q.end ≤ length old = placed.within some in
+    let kept : cells_of q new ≡ cells_of q old = keep within in
+    record {
+      placed = record { model = rw kept placed.model; within = λ _. omega (arith, within, longer) };
+      counting = ap (counting_of q) kept;
+    })
+    (cases_eq q.remaining 0)
+
+-- another model stays
 pub others-keep : (places : List Place) (old new : List ℕ) (m k : ℕ) (p d : Place) → IsBank places old → m < length places → k < length places → p ≡ get_or places m p → (k ≡ m → ⊥)
-    → SameOutside p.start p.end old new → cells_of (get_or places k d) new ≡ cells_of (get_or places k d) old
+    → SameOutside p.start p.end old new → StaysAt (get_or places k d) old new
 others-keep places old new m k p d invariant here there read ne same =
     let placed : IsPlaced (get_or places k d) old = invariant.placed k d there in
-    cells_of-apart p (get_or places k d) old new same (in-order (get_or places k d) placed.model.shape) placed.within (others-apart places old m k p d invariant here there read ne)
+    stays-at (get_or places k d) old new placed same.longer
+    (λ within. cells_of-apart p (get_or places k d) old new same (in-order (get_or places k d) placed.model.shape) within (others-apart places old m k p d invariant here there read ne))
 
 -- the bank after one model has changed
 pub IsBank-set : (places : List Place) (old new : List ℕ) (m : ℕ) (p q : Place) → IsBank places old → m < length places → p ≡ get_or places m p → SamePlace p q → IsPlaced q new
@@ -137,9 +176,8 @@ IsBank-set places old new m p q invariant here read same good outside =
           ⊎_elim {C = IsPlaced (get_or (set places m q) k d) new}
           (λ (e : k ≡ m). rw (e, get_or-set_same places m q d here) good)
           (λ (ne : k ≡ m → ⊥).
-          let placed : IsPlaced (get_or places k d) old = invariant.placed k d (omega arith) in
           let kept = others-keep places old new m k p d invariant here (omega arith) read ne outside in
-          rw (get_or-set_other places m k q d ne) (record { model = rw kept placed.model; within = omega (arith, placed.within, outside.length) }))
+          rw (get_or-set_other places m k q d ne) kept.placed)
           (cases_eq k m);
       apart = λ i j d order below.
           let a = place-set places m p q d i here read same in
@@ -163,7 +201,7 @@ view-set places old new m p q invariant here read outside =
     let kept = others-keep places old new m k p p invariant here there read ne outside in
     read_new
     ∙ (ap (counting_in new) (get_or-set_other places m k q p ne)
-    ∙ (ap (counting_of (get_or places k p)) kept
+    ∙ (kept.counting
     ∙ (sym (get_or-map (counting_in old) places k p d there)
     ∙ sym (get_or-set_other (map (counting_in old) places) m k (counting_of q (cells_of q new)) d ne)))))
     (cases_eq k m))
@@ -184,11 +222,31 @@ AreFirst-set places old new m p q are here read same outside =
           let is = are.there k d inside in
           let now : get_or places m d ≡ p = get_or_default places m d p here ∙ sym read in
           let cells = first_in-apart p (get_or places k d).size (get_or places k d).first old new outside is.within (rw now at (are.apart k d inside m d here)) in
-          rw (kept.size, kept.first) (record { within = omega (arith, is.within, outside.length); even = rw cells is.even });
+          rw (kept.size, kept.first) (record { within = omega (arith, is.within, outside.longer); even = rw cells is.even });
       apart = λ k d below i e among.
           let a = place-set places m p q d k here read same in
           let b = place-set places m p q e i here read same in
           rw (a.size, a.first, b.start, b.end) (are.apart k d (omega arith) i e (omega arith));
+    }
+
+-- the places end where they did
+pub EndWithin-set : (places : List Place) (m end more : ℕ) (p q : Place) → EndWithin places end → end ≤ more → m < length places → p ≡ get_or places m p → SamePlace p q → EndWithin (set places m q) more
+EndWithin-set places m end more p q within longer here read same = λ k d below.
+    let kept = place-set places m p q d k here read same in
+    omega (arith, kept.end, longer, within k d (omega (arith, below, length-set places m q)))
+
+-- ---- more cells behind those that are there
+pub append-stays : (p : Place) (cells more : List ℕ) → IsPlaced p cells → StaysAt p cells (cells ++ more)
+append-stays p cells more placed =
+    stays-at p cells (cells ++ more) placed (omega (arith, length-append cells more))
+    (λ within. between_is (cells ++ more) p.start p.end ∙ (ap (drop p.start) (take-append-le p.end cells more within) ∙ sym (between_is cells p.start p.end)))
+
+pub append-outside : (start end : ℕ) (cells more new : List ℕ) → SameOutside start end (cells ++ more) new → SameOutside start end cells new
+append-outside start end cells more new same =
+    record {
+      longer = omega (arith, same.longer, length-append cells more);
+      before = λ i below there. same.before i below (omega (arith, length-append cells more, there)) ∙ get_or_append_left cells more 0 i there;
+      after = λ i behind there. same.after i behind (omega (arith, length-append cells more, there)) ∙ get_or_append_left cells more 0 i there;
     }
 
 -- ---- what the longer list gives

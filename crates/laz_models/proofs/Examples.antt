@@ -1,5 +1,6 @@
 -- Worked values of the definitions, which compute.
 use Rattle.std.proofs.Common.{◌≡◌, true, false, [], ◌∷◌, refl}
+use Rattle.laz_models.specs.declared.limits.TheConstants.{BIT_PARTS, GUARD, MAX_BIT_COUNT, MAX_COUNT, MAX_MODELS, MAX_SYMBOLS, SYMBOL_PARTS}
 use Rattle.laz_models.specs.BitCounting.{small_bit_counts}
 use Rattle.laz_models.specs.BitDist.{bit_cycle, bit_counts_at, p0_of}
 use Rattle.laz_models.specs.Counting.{starts_of, small_counts}
@@ -60,3 +61,25 @@ bit_halving = (refl, refl, refl)
 -- In steps of 128 places a part that begins at 0, 1, 128 or 129 has begun at entry 0, 1, 1 or 2.
 first_entries : (first_entry 0 7 ≡ 0) × (first_entry 1 7 ≡ 1) × (first_entry 128 7 ≡ 1) × (first_entry 129 7 ≡ 2)
 first_entries = (refl, refl, refl, refl)
+
+-- the numbers that the definitions take from the code
+bit_parts_is : BIT_PARTS ≡ 8192
+bit_parts_is = refl
+
+guard_is : GUARD ≡ 65535
+guard_is = refl
+
+max_bit_count_is : MAX_BIT_COUNT ≡ 8192
+max_bit_count_is = refl
+
+max_count_is : MAX_COUNT ≡ 32768
+max_count_is = refl
+
+max_models_is : MAX_MODELS ≡ 1024
+max_models_is = refl
+
+max_symbols_is : MAX_SYMBOLS ≡ 2048
+max_symbols_is = refl
+
+symbol_parts_is : SYMBOL_PARTS ≡ 32768
+symbol_parts_is = refl

@@ -6,7 +6,7 @@ use Rattle.std.proofs.lemmas.Slice.{between_is}
 use Rattle.laz_models.specs.Bank.{alphabet_sizes}
 use Rattle.laz_models.specs.Counting.{Counting, new_model}
 use Rattle.laz_models.specs.Dist.{alphabet_size}
-use Rattle.laz_models.specs.Place.{cells_of, counting_in, as_new, dist_extent, first_in, AreFirst, IsApart, IsFirst, IsShaped, IsPlaced, IsBank, IsLayout}
+use Rattle.laz_models.specs.Place.{cells_of, counting_in, as_new, dist_extent, first_in, AreFirst, EndWithin, IsApart, IsFirst, IsShaped, IsPlaced, IsBank, IsLayout}
 use Rattle.laz_models.specs.declared.place.Place.{Place}
 use Rattle.laz_models.proofs.Banks.{size-new_model, fits-place}
 use Rattle.laz_models.proofs.Models.{counting_of-first}
@@ -55,6 +55,20 @@ layout-push places sizes end n p layout new start =
           j d below order;
     }
 
+-- there is room for more
+pub layout-room : (places : List Place) (sizes : List ℕ) (end more : ℕ) → IsLayout places sizes end → end ≤ more → IsLayout places sizes more
+layout-room places sizes end more layout longer =
+    record {
+      count = layout.count;
+      shape = layout.shape;
+      size = layout.size;
+      first = layout.first;
+      even = layout.even;
+      dist = layout.dist;
+      within = λ m d below. omega (arith, layout.within m d below, longer);
+      apart = layout.apart;
+    }
+
 -- ---- the distributions of new models
 -- more of them after those that are there
 pub IsFirst-append : (n first : ℕ) (firsts more : List ℕ) → IsFirst n first firsts → IsFirst n first (firsts ++ more)
@@ -92,6 +106,11 @@ AreFirst-new places cells are =
           rw (get_or-map as_new places m d d here, get_or-map as_new places k e e there) (are.apart m d here k e there);
     }
 
+pub EndWithin-new : (places : List Place) (end : ℕ) → EndWithin places end → EndWithin (map as_new places) end
+EndWithin-new places end within = λ m d below.
+    let here : m < length places = omega (arith, length-map places as_new) in
+    rw (get_or-map as_new places m d d here) (within m d here)
+
 -- ---- the bank of a layout
 pub layout-view : (places : List Place) (sizes cells : List ℕ) (end : ℕ) → IsLayout places sizes end → map (counting_in cells) places ≡ map new_model sizes
 layout-view places sizes cells end layout =
@@ -117,12 +136,12 @@ first-IsBank places cells bank =
           (record {
             model = record {
               shape = record { many = shape.many; few = shape.few; shift = shape.shift; extent = shape.extent };
-              length = placed.model.length;
+              length = λ some. absurd (omega arith);
               even = λ _. refl;
               dist = λ _. refl;
               laid = λ some. absurd (omega arith);
             };
-            within = placed.within;
+            within = λ some. absurd (omega arith);
           });
       apart = λ i j d order below.
           let there : j < length places = omega arith in

@@ -29,20 +29,21 @@ adds_at p cells s x placed below more read =
     let shape = placed.model.shape in
     let laid = placed.model.laid (omega arith) in
     let inside : s < p.end - p.start = omega (arith, shape.extent) in
-    let size : p.size ≤ length (cells_of p cells) = omega (arith, placed.model.length) in
+    let some : 0 < p.remaining = omega arith in
+    let size : p.size ≤ length (cells_of p cells) = omega (arith, placed.model.length some) in
     let same : cells_of p (set cells (p.start + s) (x + 1)) ≡ set (cells_of p cells) s (get_or (cells_of p cells) s 0 + 1) =
-    cells_of-set p cells s (x + 1) inside placed.within ∙ ap (λ y. set (cells_of p cells) s (y + 1)) (read ∙ sym (cells_of-get p cells s inside)) in
+    cells_of-set p cells s (x + 1) inside (placed.within some) ∙ ap (λ y. set (cells_of p cells) s (y + 1)) (read ∙ sym (cells_of-get p cells s inside)) in
     let a = adds p (cells_of p cells) s laid size below more in
     record {
       placed = record {
         model = record {
           shape = record { many = shape.many; few = shape.few; shift = shape.shift; extent = shape.extent };
-          length = ap length same ∙ (length-set (cells_of p cells) s (get_or (cells_of p cells) s 0 + 1) ∙ placed.model.length);
+          length = λ _. ap length same ∙ (length-set (cells_of p cells) s (get_or (cells_of p cells) s 0 + 1) ∙ placed.model.length some);
           even = λ e. absurd (omega (arith, e, more));
           dist = λ e. absurd (omega (arith, e, more));
           laid = λ _. rw same a.laid;
         };
-        within = omega (arith, length-set cells (p.start + s) (x + 1), placed.within);
+        within = λ _. omega (arith, length-set cells (p.start + s) (x + 1), placed.within some);
       };
       after_symbol = rw (same, counting_of-laid p (cells_of p cells) (omega arith)) (counting_of-laid (one_fewer p) (set (cells_of p cells) s (get_or (cells_of p cells) s 0 + 1)) (omega arith) ∙ a.after_symbol);
     }
@@ -50,7 +51,7 @@ adds_at p cells s x placed below more read =
 pub count-fits-at : (p : Place) (cells : List ℕ) (s x : ℕ) → IsPlaced p cells → s < p.size → 0 < p.remaining → x ≡ get_or cells (p.start + s) 0 → x + 1 < 65536
 count-fits-at p cells s x placed below laid read =
     let inside : s < p.end - p.start = omega (arith, placed.model.shape.extent) in
-    omega (arith, read, cells_of-get p cells s inside, count-fits p (cells_of p cells) s (placed.model.laid laid) placed.model.shape.few (omega (arith, placed.model.length)) below)
+    omega (arith, read, cells_of-get p cells s inside, count-fits p (cells_of p cells) s (placed.model.laid laid) placed.model.shape.few (omega (arith, placed.model.length laid)) below)
 
 -- ---- where a model's distribution lies
 -- after its counts, if it is not in its first cycle
@@ -87,7 +88,7 @@ has_dist p cells placed first =
     let there : p.dist ≡ p.start + p.size = laid.dist ∙ cond-false _ _ _ later in
     rw (dist_in-own p cells model.shape there)
     (record {
-      within = omega (arith, there, model.shape.extent, placed.within);
+      within = omega (arith, there, model.shape.extent, placed.within some);
       is = laid.own later;
       starts = sym (starts-own p own some later);
       table = λ indexed. laid.table indexed later;

@@ -95,7 +95,7 @@ IsSound-state p cells model =
     (λ (laid : p.remaining ≡ 0 → ⊥).
     let some : 0 < p.remaining = omega (arith, laid) in
     let is = model.laid some in
-    let size : length (take p.size cells) ≡ p.size = length-take-le p.size cells (omega (arith, model.length)) in
+    let size : length (take p.size cells) ≡ p.size = length-take-le p.size cells (omega (arith, model.length some)) in
     rw (counting_of-laid p cells some)
     (record {
       counts = is.counts;

@@ -127,28 +127,28 @@ cells_of p cells = slice_range cells p.start p.end
 unfoldable pub counting_of : Place → List ℕ → Counting
 counting_of p cells = if p.remaining == 0 then new_model p.size else laid_state p cells
 
--- What holds of a model between any two calls.
+-- What holds of a model between any two calls. Cells of a new model are not needed before its first symbol is counted.
 pub record IsModel (p : Place) (cells : List ℕ) : Type 0 where
   pub shape : IsShaped p
-  pub length : length cells ≡ extent p.size
+  pub length : 0 < p.remaining → length cells ≡ extent p.size
   pub even : p.remaining ≡ 0 → p.even ≡ true
   pub dist : p.remaining ≡ 0 → p.dist ≡ p.first
   pub laid : 0 < p.remaining → IsLaid p cells
 
--- All cells except those from `start` up to `end` are unchanged.
+-- All cells that there were, except those from `start` up to `end`, are unchanged.
 pub record SameOutside (start end : ℕ) (old new : List ℕ) : Type 0 where
-  pub length : length new ≡ length old
-  pub before : (i : ℕ) → i < start → slice_index new i ≡ slice_index old i
-  pub after : (i : ℕ) → end ≤ i → slice_index new i ≡ slice_index old i
+  pub longer : length old ≤ length new
+  pub before : (i : ℕ) → i < start → i < length old → slice_index new i ≡ slice_index old i
+  pub after : (i : ℕ) → end ≤ i → i < length old → slice_index new i ≡ slice_index old i
 
 -- What the model at a place knows.
 abbrev pub counting_in : List ℕ → Place → Counting
 counting_in cells p = counting_of p (cells_of p cells)
 
--- A model lies at a place among the cells of all models.
+-- A model lies at a place among the cells of all models, which need not be there as long as it is new.
 pub record IsPlaced (p : Place) (cells : List ℕ) : Type 0 where
   pub model : IsModel p (cells_of p cells)
-  pub within : p.end ≤ length cells
+  pub within : 0 < p.remaining → p.end ≤ length cells
 
 -- The models of a bank lie one after another, and no two share a cell.
 pub record IsBank (places : List Place) (cells : List ℕ) : Type 0 where
@@ -173,7 +173,7 @@ pub record AreFirst (places : List Place) (cells : List ℕ) : Type 0 where
 abbrev pub EndWithin : List Place → ℕ → Type 0
 EndWithin places end = (m : ℕ) (d : Place) → m < length places → (slice_index_or places m d).end ≤ end
 
--- The places of new models of these alphabet sizes, the last of which ends at `end`.
+-- The places of new models of these alphabet sizes, which end within `end` cells.
 pub record IsLayout (places : List Place) (sizes : List ℕ) (end : ℕ) : Type 0 where
   pub count : length places ≡ length sizes
   pub shape : (m : ℕ) (d : Place) → m < length places → IsShaped (slice_index_or places m d)

@@ -14,6 +14,7 @@ use std::marker::Model;
 
 /// Models of symbols whose counts, distributions and look-up tables lie in one vector. Between them lie the
 /// distributions of new models, one for each run of models of the same size, which are written when the bank is made.
+/// The cells behind the last of them are set aside then, and are written as far as models are used.
 ///
 /// Each model stands for the list of symbols that it has counted since the bank was made or reset, and answers the
 /// distribution of that list. Only `new` takes memory.
@@ -24,15 +25,16 @@ pub struct ModelBank {
 }
 
 impl Model for ModelBank {
-    ghost use Rattle.std.specs.Prelude.{List, map};
+    ghost use Rattle.std.specs.Prelude.{List, map, vec_capacity};
     ghost use Rattle.laz_models.specs.Counting.{Counting};
-    ghost use Rattle.laz_models.specs.Place.{AreFirst, IsBank, counting_in};
+    ghost use Rattle.laz_models.specs.Place.{AreFirst, EndWithin, IsBank, counting_in};
 
     ghost Value = { List Counting };
 
     ghost view = { λ b. map (counting_in b.cells.items) b.places.items };
 
-    ghost invariant = { λ b. IsBank b.places.items b.cells.items × AreFirst b.places.items b.cells.items };
+    ghost invariant = { λ b. IsBank b.places.items b.cells.items × AreFirst b.places.items b.cells.items
+        × EndWithin b.places.items (vec_capacity b.cells) };
 }
 
 impl ModelBank {

@@ -232,7 +232,8 @@ fn lay_out(cells: &mut [u16], place: &mut Place)
 
 /// Lays the counts of a model out if it is new.
 fn lay_out_if_new(cells: &mut [u16], place: &mut Place)
-    requires { IsModel place.old cells.old }
+    requires model { IsModel place.old cells.old }
+    requires length { length cells.old ≡ extent place.old.size }
     ensures state { laid_state place.new cells.new ≡ counting_of place.old cells.old }
     ensures good { IsLaid place.new cells.new }
     ensures place { SamePlace place.old place.new }
@@ -262,6 +263,7 @@ fn add(cells: &mut [u16], place: &mut Place, s: u32, index: bool)
 /// Counts a symbol. `index` says whether a look-up table is written if a cycle begins.
 pub fn count(cells: &mut [u16], place: &mut Place, s: u32, index: bool)
     requires model { IsModel place.old cells.old }
+    requires length { length cells.old ≡ extent place.old.size }
     requires symbol { s < place.old.size }
     ensures after_symbol { counting_of place.new cells.new ≡ after_symbol (counting_of place.old cells.old) s }
     ensures good { IsModel place.new cells.new }

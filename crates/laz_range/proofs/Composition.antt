@@ -127,4 +127,4 @@ TakesNone-step {S} next P cuts st now i n a b c xs at within f g =
 
 -- ---- writing
 pub Codes-none : (a : Coding) → Codes a a []
-Codes-none a = record { span = refl; before = refl; left = refl; used = omega arith }
+Codes-none a = record { span = refl; before = refl; left = refl; used = omega arith; more = refl }

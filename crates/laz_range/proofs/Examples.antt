@@ -1,5 +1,6 @@
 -- Worked values of the definitions, which compute.
 use Rattle.std.proofs.Common.{◌≡◌, true, [], ◌∷◌, Some, None, refl}
+use Rattle.laz_range.specs.declared.limits.TheConstants.{BIT_PARTS, GUARD, MAX_LENGTH, MAX_RAW_BITS, MIN_LENGTH, SYMBOL_PARTS}
 use Rattle.std.specs.Option.{option_and_then}
 use Rattle.laz_range.specs.Cut.{Part, Bit, Raw, raw_cuts, start_in, width_in}
 use Rattle.laz_range.specs.Span.{renormal_step, subspan, span, number, digits, bytes_of, bytes_for}
@@ -81,3 +82,22 @@ not_254 = refl
 -- a quotient of 2 ^ 8, which is no raw value of 8 bits
 no_raw_value : quotient (record { value = 4294967040; len = 4294967295; rest = [] }) 8 ≡ 256
 no_raw_value = refl
+
+-- the numbers that the definitions take from the code
+bit_parts_is : BIT_PARTS ≡ 8192
+bit_parts_is = refl
+
+guard_is : GUARD ≡ 65535
+guard_is = refl
+
+max_length_is : MAX_LENGTH ≡ 4294967295
+max_length_is = refl
+
+max_raw_bits_is : MAX_RAW_BITS ≡ 19
+max_raw_bits_is = refl
+
+min_length_is : MIN_LENGTH ≡ 16777216
+min_length_is = refl
+
+symbol_parts_is : SYMBOL_PARTS ≡ 32768
+symbol_parts_is = refl

@@ -9,4 +9,4 @@ pub use Rattle.laz_range.proofs.Loops.{Nothing-more, Nothing-push, Only-push, al
 pub use Rattle.laz_range.proofs.Reach.{after-IsSpan, bytes-fit, initial_span-IsSpan, last-within, length-digits}
 pub use Rattle.laz_range.proofs.Refusals.{Refuses-NoneBegins, Refuses-first, Refuses-none, Refuses-second, Refuses-step, Refuses-through}
 pub use Rattle.laz_range.proofs.Streams.{Fits-Begins, IsBytes-drop, IsBytes-take, after-few, none-fits, one-fits, read-fits, unopened-fits}
-pub use Rattle.laz_range.proofs.Whole.{Codes-append, fronts, one}
+pub use Rattle.laz_range.proofs.Whole.{Codes-append, CodesInSteps-none, CodesInSteps-step, fronts, one}

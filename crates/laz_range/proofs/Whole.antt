@@ -5,7 +5,7 @@ use Rattle.std.proofs.lemmas.Bool.{cases_lt, cond-true, cond-false, and_from, an
 use Rattle.std.specs.List.{AllByRecursion}
 use Rattle.laz_range.specs.Cut.{Cut, IsCut, AreAlike}
 use Rattle.laz_range.specs.Span.{Span, IsSpan, after, initial_span, cut, number, Begins, IsBytes}
-use Rattle.laz_range.specs.Coding.{Coding, Codes}
+use Rattle.laz_range.specs.Coding.{Coding, Codes, CodesInSteps}
 use Rattle.laz_range.specs.Reading.{Reading, follow_all, reading, initial_reading}
 use Rattle.laz_range.proofs.Reach.{cut-IsSpan, initial_span-IsSpan}
 use Rattle.laz_range.proofs.Begin.{SomeIff-then, follow_all-is, Begins-after}
@@ -63,4 +63,19 @@ Codes-append a b c xs ys f g =
       before = g.before ∙ f.before;
       left = omega (arith, f.left, g.left);
       used = omega (arith, f.used, g.used, length-append xs ys);
+      more = g.more ∙ f.more;
+    }
+
+-- ---- with a room that was lengthened at times
+pub CodesInSteps-none : (a : Coding) → CodesInSteps a a []
+CodesInSteps-none a = record { span = refl; before = refl; room = refl; more = omega arith }
+
+-- the room was lengthened, and then cuts were coded
+pub CodesInSteps-step : (a b c d : Coding) (xs ys : List Cut) → CodesInSteps a b xs → CodesInSteps b c [] → Codes c d ys → CodesInSteps a d (xs ++ ys)
+CodesInSteps-step a b c d xs ys f w g =
+    record {
+      span = g.span ∙ (ap (λ s. after s ys) (w.span ∙ f.span) ∙ sym (after-append a.span xs ys));
+      before = g.before ∙ (w.before ∙ f.before);
+      room = omega (arith, f.room, w.room, g.left, g.more);
+      more = omega (arith, f.more, w.more, g.more);
     }

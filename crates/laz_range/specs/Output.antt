@@ -1,5 +1,5 @@
 -- The output of an encoder.
-use Rattle.std.specs.Prelude.{◌≡◌, ℕ, ◌+◌, ◌-◌, ◌*◌, ◌/◌, ◌%◌, ◌^◌, ◌≤◌, List, length, take, drop}
+use Rattle.std.specs.Prelude.{◌≡◌, ℕ, ◌+◌, ◌-◌, ◌*◌, ◌/◌, ◌%◌, ◌^◌, ◌≤◌, List, length, take, drop, vec_capacity}
 use Rattle.laz_range.specs.Span.{Span, number, IsBytes}
 use Rattle.laz_range.specs.Coding.{Coding}
 use Rattle.laz_range.specs.declared.output.Output.{Output}
@@ -27,14 +27,26 @@ pub record HasRoom (o : Output) : Type 0 where
   pub room : o.next + 4 ≤ length o.bytes.items
   pub bytes : IsBytes o.bytes.items
   pub window : IsWindow o.low o.next o.bytes.items
+  pub size : length o.bytes.items ≤ o.size
+  pub capacity : o.size ≤ vec_capacity o.bytes
 
 -- At most n more bytes were written, and all bytes before `at` stay.
 pub record Writes (n : ℕ) (old new : Output) : Type 0 where
   pub at : new.at ≡ old.at
   pub before : take new.at new.bytes.items ≡ take old.at old.bytes.items
   pub length : length new.bytes.items ≡ length old.bytes.items
+  pub size : new.size ≡ old.size
   pub from : old.next ≤ new.next
   pub upto : new.next ≤ old.next + n
+
+-- The room was lengthened, and nothing else was changed.
+pub record Widens (old new : Output) : Type 0 where
+  pub at : new.at ≡ old.at
+  pub before : take new.at new.bytes.items ≡ take old.at old.bytes.items
+  pub span : span_of new ≡ span_of old
+  pub next : new.next ≡ old.next
+  pub size : new.size ≡ old.size
+  pub length : length old.bytes.items ≤ length new.bytes.items
 
 -- What contracts see of an encoder with this output.
 abbrev pub coding_of : Output → Coding
@@ -43,4 +55,5 @@ coding_of o =
       before = take o.at o.bytes.items;
       span = span_of o;
       left = length o.bytes.items - o.at - 4 - (o.next - o.at);
+      more = o.size - length o.bytes.items;
     }

@@ -1,12 +1,13 @@
 //! The encoder.
 ghost use Rattle.std.specs.Prelude.{◌≡◌, ◌+◌, ◌<◌, ◌≤◌, ◌^◌, min, [], ◌∷◌, ◌++◌, length, take, slice_range};
+ghost use Rattle.std.specs.Prelude.{vec_capacity};
 ghost use Rattle.laz_range.specs.Cut.{Part, Bit, Raw, raw_cuts};
 ghost use Rattle.laz_range.specs.Span.{initial_span, bytes_of, Fits};
-ghost use Rattle.laz_range.specs.Coding.{Codes};
+ghost use Rattle.laz_range.specs.Coding.{Codes, CodesInSteps};
 ghost use Rattle.laz_range.specs.declared.limits.TheConstants.{GUARD};
 
 use crate::limits::{BIT_PARTS, MAX_LENGTH, MAX_RAW_BITS, SYMBOL_PARTS};
-use crate::output::{Output, end, narrow};
+use crate::output::{Output, end, narrow, widen};
 use crate::search::{bit_part, part_to};
 use crate::window::last_four;
 use std::marker::Model;
@@ -16,6 +17,7 @@ use std::marker::Model;
 /// Contracts see it as the bytes before the place where it began to write, as the span of its events (low, len and
 /// shifts; low has no upper bound), and as `left`: how many more bytes its room has, besides the four that end the
 /// stream. An event takes at most three bytes. A raw value of more than 19 bits is two events and takes at most four.
+/// `more` is by how many bytes `keep_left` may lengthen the room. Events never do.
 #[derive(Drop)]
 pub struct Encoder {
     output: Output,
@@ -40,6 +42,22 @@ impl Encoder {
         ensures span { result.span ≡ initial_span }
         ensures before { result.before ≡ take at room.items }
         ensures left { result.left + at + 4 ≡ length room.items }
+        ensures more { result.more ≡ 0 }
+    {
+        let size = room.len();
+        Encoder::within(room, at, size)
+    }
+
+    /// The same as [`with_room`](Self::with_room), but [`keep_left`](Self::keep_left) may lengthen the room, up to `size`
+    /// bytes. There is capacity for so many.
+    pub fn within(room: Vec<u8>, at: usize, size: usize) -> Self
+        requires start { at + 4 ≤ length room.items }
+        requires size { length room.items ≤ size }
+        requires capacity { size ≤ vec_capacity room }
+        ensures span { result.span ≡ initial_span }
+        ensures before { result.before ≡ take at room.items }
+        ensures left { result.left + at + 4 ≡ length room.items }
+        ensures more { result.more + length room.items ≡ size }
     {
         Encoder {
             output: Output {
@@ -48,7 +66,20 @@ impl Encoder {
                 at,
                 next: at,
                 length: MAX_LENGTH,
+                size,
             },
+        }
+    }
+
+    /// Lengthens the room if fewer than `least` bytes are left.
+    #[inline(always)]
+    pub fn keep_left(&mut self, least: usize)
+        requires { least ≤ self.old.left + self.old.more }
+        ensures left { least ≤ self.new.left }
+        ensures codes { CodesInSteps self.old self.new [] }
+    {
+        if self.output.bytes.len() - self.output.next < least + 4 {
+            widen(&mut self.output, least);
         }
     }
 
@@ -141,6 +172,7 @@ impl Encoder {
         ensures front { take (length self.before + result.1) result.0.items ≡ self.before ++ bytes_of self.span }
         ensures before { take (length self.before) result.0.items ≡ self.before }
         ensures length { length result.0.items ≡ length self.before + result.1 + self.left }
+        ensures capacity { length self.before + result.1 + self.left + self.more ≤ vec_capacity result.0 }
     {
         let Encoder { output } = self;
         end(output)

@@ -1,7 +1,7 @@
 //! The bytes of an encoder, and its present interval.
-ghost use Rattle.std.specs.Prelude.{◌≡◌, ℕ, ◌+◌, ◌*◌, ◌/◌, ◌%◌, ◌^◌, ◌<◌, ◌≤◌, ◌-◌, length, take, drop};
+ghost use Rattle.std.specs.Prelude.{◌≡◌, ℕ, ◌+◌, ◌*◌, ◌/◌, ◌%◌, ◌^◌, ◌<◌, ◌≤◌, ◌-◌, length, take, drop, vec_capacity};
 ghost use Rattle.laz_range.specs.Span.{Span, subspan, IsSpan, number, bytes_of, final_number, IsBytes};
-ghost use Rattle.laz_range.specs.Output.{low_of, span_of, HasRoom, IsWindow, Spells, Writes};
+ghost use Rattle.laz_range.specs.Output.{low_of, span_of, HasRoom, IsWindow, Spells, Widens, Writes};
 
 use crate::carry::carry_into;
 use crate::lacking::bytes_lacking;
@@ -10,7 +10,7 @@ use crate::window::put_window;
 
 /// The bytes from `at` up to `next` are written. They and the lower half of `low` spell the low end of the interval,
 /// whose length is `length`. The upper half of `low` is the last four bytes before `next`, so that a carry runs into
-/// them by itself.
+/// them by itself. The bytes may be lengthened up to `size` bytes: there is capacity for so many.
 // `low` and `length` are not neighbours: written one by one and read as one word, they would stall the store buffer.
 #[derive(Drop)]
 pub struct Output {
@@ -19,7 +19,11 @@ pub struct Output {
     pub at: usize,
     pub next: usize,
     pub length: u32,
+    pub size: usize,
 }
+
+/// By how many bytes a room is lengthened at a time, if it may be.
+const STEP: usize = 0x8000;
 
 /// Adds to the low end, with a carry into the bytes before the last four. Returns the sum, which takes the place of
 /// `low`.
@@ -80,6 +84,25 @@ pub fn narrow(output: &mut Output, from: u32, width: u32)
     output.length = width << (8 * more);
 }
 
+/// Lengthens the bytes, so that `least` of them are left. There is capacity for them.
+// Rare, so it is kept out of line.
+#[cold]
+#[inline(never)]
+pub fn widen(output: &mut Output, least: usize)
+    requires placed { HasRoom output.old }
+    requires enough { output.old.next + 4 + least ≤ output.old.size }
+    ensures left { output.new.next + 4 + least ≤ length output.new.bytes.items }
+    ensures widens { Widens output.old output.new }
+    ensures placed { HasRoom output.new }
+{
+    let step = output.bytes.len().saturating_add(STEP).min(output.size);
+    let size = step.max(output.next + 4 + least);
+    match output.bytes.resize(size, 0) {
+        Ok(()) => {}
+        Err(_) => unreachable!(),
+    }
+}
+
 /// Writes the last bytes of a stream.
 fn write_last(bytes: &mut [u8], at: usize, next: usize, low: u64, len: u32)
     requires order { at ≤ next }
@@ -109,6 +132,7 @@ pub fn end(output: Output) -> (Vec<u8>, usize)
     ensures bytes { drop output.at (take (output.at + result.1) result.0.items) ≡ bytes_of (span_of output) }
     ensures before { take output.at result.0.items ≡ take output.at output.bytes.items }
     ensures length { length result.0.items ≡ length output.bytes.items }
+    ensures capacity { output.size ≤ vec_capacity result.0 }
 {
     let Output {
         mut bytes,
@@ -116,6 +140,7 @@ pub fn end(output: Output) -> (Vec<u8>, usize)
         at,
         next,
         length,
+        size: _,
     } = output;
     write_last(&mut bytes, at, next, low, length);
     (bytes, next - at + 4)

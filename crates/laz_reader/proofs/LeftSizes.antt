@@ -4,14 +4,15 @@ use Rattle.std.specs.Prelude.{sum}
 use Rattle.las_header.specs.Fields.{head_of, is_packed, point_offset_of, points_of, record_length_of}
 use Rattle.las_header.specs.Heads.{HeadView}
 use Rattle.laz_table.specs.Chunks.{fixed_sizes}
-use Rattle.laz_reader.specs.Asking.{bytes_left}
+use Rattle.laz_reader.specs.Asking.{asked_for_pieces, bytes_left}
+use Rattle.laz_forms.specs.Packing.{record_layout}
 use Rattle.laz_forms.specs.Pieces.{ArePiecesIf, Piece, pieces_from}
 use Rattle.laz_forms.specs.Ranges.{Range, parts_of, whole_range}
 use Rattle.laz_reader.specs.Reading.{ReaderSeen, ReadsAll, StandsFor}
 use Rattle.laz_forms.specs.Refusing.{blocks_in, chunks_place, table_part, table_place}
 use Rattle.laz_forms.specs.Sizes.{points_size}
 use Rattle.laz_reader.proofs.AllParts.{all_of}
-use Rattle.laz_reader.proofs.Asking.{sizes_in}
+use Rattle.laz_reader.proofs.Asking.{asked_few, sizes_in}
 use Rattle.laz_reader.proofs.PieceLists.{summed}
 use Rattle.laz_reader.proofs.TableFront.{accepted_bytes}
 use Rattle.laz_models.proofs.Public.{sum-cons}
@@ -36,10 +37,15 @@ pub if_less : (b : Bool) (n : ℕ) → cond b 0 n ≤ n
 if_less true n = omega arith
 if_less false n = omega arith
 
+pub left_few : (reader : ReaderSeen) → bytes_left reader ≤ sum (sizes_in reader.left)
+left_few reader =
+    let l = record_layout reader.head.bytes in
+    omega (arith, if_less reader.bad (asked_for_pieces reader.chunk l reader.left), asked_few reader.chunk l reader.left)
+
 pub left_size : (reader : ReaderSeen) (file : List ℕ) → ReadsAll reader → StandsFor reader file → bytes_left reader ≤ points_size file
 left_size reader file new s =
     let none : reader.next - reader.first ≡ 0 = omega (arith, new.first) in
     let range : reader.range ≡ whole_range (head_of file) = new.all ∙ ap (λ (h : HeadView). whole_range h.bytes) s.head in
     let left : reader.left ≡ s.pieces =
     s.left ∙ ap (λ (n : ℕ). drop n (parts_of file reader.range s.pieces)) none ∙ ap (λ (r : Range). parts_of file r s.pieces) range ∙ (all_of file s.pieces s.are).0 in
-    omega (arith, if_less reader.bad (sum (sizes_in reader.left)), ap (λ (ps : List Piece). sum (sizes_in ps)) left, size_if file (is_packed (head_of file)) refl s.pieces s.are)
+    omega (arith, left_few reader, ap (λ (ps : List Piece). sum (sizes_in ps)) left, size_if file (is_packed (head_of file)) refl s.pieces s.are)

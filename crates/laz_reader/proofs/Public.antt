@@ -5,7 +5,7 @@ pub use Rattle.laz_reader.proofs.FirstPieces.{fewer_first, hold_length, inside, 
 pub use Rattle.laz_reader.proofs.Frames.{after_writes, then_writes}
 pub use Rattle.laz_reader.proofs.Heads.{head_given}
 pub use Rattle.laz_reader.proofs.Joins.{joined}
-pub use Rattle.laz_reader.proofs.LeftSizes.{left_size, if_less}
+pub use Rattle.laz_reader.proofs.LeftSizes.{left_few, left_size, if_less}
 pub use Rattle.laz_reader.proofs.Opened.{all_points}
 pub use Rattle.laz_reader.proofs.Parts.{empty_parts}
 pub use Rattle.laz_reader.proofs.PieceLists.{summed}

@@ -1,9 +1,13 @@
 -- How many bytes of a file calls ask for.
-use Rattle.std.specs.Prelude.{ℕ, ◌+◌, ◌*◌, ◌≤◌, max, if◌then◌else◌, List, map, sum, Option, Some, None}
+use Rattle.std.specs.Prelude.{ℕ, ◌+◌, ◌*◌, ◌≤◌, max, if◌then◌else◌, List, [], ◌∷◌, map, sum, Option, Some, None}
 use Rattle.las_header.specs.Fields.{head_of, is_packed, point_offset_of}
 use Rattle.las_outside.specs.Outside.{Later, Outside}
 use Rattle.laz_table.specs.declared.limits.TheConstants.{MAX_CHUNK_BYTES, MIN_TABLE_BYTES}
-use Rattle.laz_reader.specs.Reading.{ReaderSeen, table_size}
+use Rattle.laz_chunk.specs.Layouts.{Layout}
+use Rattle.laz_reader.specs.Reading.{ReaderSeen, chunk_of, table_size}
+use Rattle.laz_reader.specs.Unpacking.{may_hold}
+use Rattle.laz_forms.specs.Packing.{record_layout}
+use Rattle.laz_forms.specs.Pieces.{Piece}
 use Rattle.laz_forms.specs.Refusing.{table_part}
 
 -- A call asks for at most this many bytes.
@@ -38,7 +42,30 @@ asked_for_table file = if is_packed (head_of file) then 16 + table_size (table_p
 abbrev pub asked_to_open : (file : List ℕ) → ℕ
 asked_to_open file = asked_for_head file + asked_for_table file
 
--- how many bytes a reader may still ask for: those of the pieces that are left, and none if the next one is known to be
--- bad
+-- how many bytes are asked for to read each of these chunks, with these numbers of records and of bytes: none of one
+-- that may not hold so many records
+abbrev pub size_asked : Layout → (count size : ℕ) → ℕ
+size_asked l count size = if may_hold l count size then size else 0
+
+abbrev pub sizes_asked : Layout → (points bytes : List ℕ) → List ℕ
+sizes_asked l [] bytes = []
+sizes_asked l (n ∷ points) [] = []
+sizes_asked l (n ∷ points) (s ∷ bytes) = size_asked l n s ∷ sizes_asked l points bytes
+
+-- how many are asked for to read pieces: of a packed file those of the chunks that may hold their records
+abbrev pub asked_for_piece : (chunk : Option ℕ) → Layout → Piece → ℕ
+asked_for_piece None l piece = piece.size
+asked_for_piece (Some chunk) l piece = size_asked l piece.count piece.size
+
+abbrev pub asked_for_pieces : (chunk : Option ℕ) → Layout → List Piece → ℕ
+asked_for_pieces chunk l pieces = sum (map (asked_for_piece chunk l) pieces)
+
+-- how many are asked for to read these pieces of a file
+abbrev pub asked_in : (file : List ℕ) → List Piece → ℕ
+asked_in file pieces = asked_for_pieces (chunk_of (head_of file)) (record_layout (head_of file)) pieces
+
+-- how many bytes a reader may still ask for: those of the pieces that are left, but of a chunk that may not hold its
+-- records none, and none at all if the next one is known to be bad
 abbrev pub bytes_left : ReaderSeen → ℕ
-bytes_left reader = if reader.bad then 0 else sum (map (λ piece. piece.size) reader.left)
+bytes_left reader =
+    if reader.bad then 0 else asked_for_pieces reader.chunk (record_layout reader.head.bytes) reader.left

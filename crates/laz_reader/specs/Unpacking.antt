@@ -1,8 +1,8 @@
 -- The job of unpacking chunks: its inputs, and which blocks of records it may answer.
-use Rattle.std.specs.Prelude.{◌≡◌, ℕ, ◌*◌, ◌≤◌, List, ◌++◌, length, drop, Option, Some, None}
+use Rattle.std.specs.Prelude.{◌≡◌, ℕ, ◌+◌, ◌*◌, ◌≤◌, nat_le, Bool, ◌&&◌, List, ◌++◌, length, drop, Option, Some, None}
 use Rattle.byteorder.specs.Endian.{little_bytes}
 use Rattle.las_header.specs.Numbers.{number_at}
-use Rattle.laz_chunk.specs.Layouts.{Layout, record_length}
+use Rattle.laz_chunk.specs.Layouts.{Layout, record_length, room_for}
 use Rattle.laz_chunk.specs.Chunks.{AreRecords, Holds}
 
 -- the input for a chunk: its number of records as four bytes, then its bytes
@@ -20,6 +20,11 @@ chunk_in input = drop 4 input
 -- An input has a number of records, which is this one.
 abbrev pub IsInput : (count : ℕ) → (input : List ℕ) → Type 0
 IsInput count input = (4 ≤ length input) × (count_in input ≡ count)
+
+-- whether a chunk of this many bytes may hold this many records: it has the first record and the four bytes that end
+-- its stream, and no more bytes than are enough for so many records. A chunk of no record may not be
+abbrev pub may_hold : (l : Layout) → (count size : ℕ) → Bool
+may_hold l count size = nat_le (record_length l + 4) size && nat_le size (room_for l count)
 
 -- An input is one for a chunk of at least one record, and a room of this many bytes is enough for its records.
 pub record FitsUnpacked (l : Layout) (input : List ℕ) (room : ℕ) : Type 0 where

@@ -6,6 +6,7 @@ ghost use Rattle.las_header.specs.declared.refusal.Refusal.TheVariants.{BadChunk
 ghost use Rattle.las_outside.specs.Frames.{IsCalm, Reads};
 ghost use Rattle.laz_chunk.specs.Layouts.{layout};
 ghost use Rattle.laz_workers.specs.Rooms.{lengths_of, rooms_of};
+ghost use Rattle.laz_reader.specs.Asking.{sizes_asked};
 ghost use Rattle.laz_reader.specs.Batches.{BlocksAre, CanUnpack, IsBadChunk, IsRun};
 ghost use Rattle.laz_forms.specs.declared.fault.Fault.TheVariants.{Refused};
 ghost use Rattle.laz_reader.specs.Reading.{EndsReading, FailsReading};
@@ -55,8 +56,8 @@ pub(crate) fn next_chunks<R: Threads + Sync, F: Files, G: Gate>(
     ensures hands { length crew.new ≡ length crew.old }
     ensures rooms { lengths_of (rooms_of crew.new) ≡ lengths_of (rooms_of crew.old) }
     ensures spaces { All (λ hand. hand.space ≡ job.now) crew.new }
-    ensures reads { Reads (sum (take (min (2 * length crew.old) (length run.now.points.now)) run.now.bytes.now))
-        (F.seen files.old) (F.seen files.new) }
+    ensures reads { Reads (sum (take (min (2 * length crew.old) (length run.now.points.now))
+        (sizes_asked (layout job.now) run.now.points.now run.now.bytes.now))) (F.seen files.old) (F.seen files.new) }
     ensures calm { OnOk result (IsCalm (F.seen files.old) (F.seen files.new)) }
     ensures ends { IfErr result (EndsReading ⊥ (F.seen files.old) (F.seen files.new)) }
 {

@@ -1,13 +1,13 @@
 //! The inputs of a batch of chunks.
 ghost use Rattle.std.specs.Prelude.{◌≡◌, ℕ, ◌+◌, ◌^◌, ◌<◌, ◌≤◌, [], List, length, take, drop, min, sum, All};
-ghost use Rattle.std.specs.Prelude.{slice_index, slice_index_or, IfErr, OnOk};
+ghost use Rattle.std.specs.Prelude.{slice_index, slice_index_or, IfErr, OnOk, false, true};
 ghost use Rattle.las_outside.specs.Files.{WhereKnown};
 ghost use Rattle.las_outside.specs.Frames.{IsCalm, Reads};
 ghost use Rattle.laz_chunk.specs.Layouts.{layout};
 ghost use Rattle.laz_workers.specs.Work.{texts};
 ghost use Rattle.laz_forms.specs.Pieces.{Piece, piece_bytes, pieces_from};
 ghost use Rattle.laz_reader.specs.Reading.{FailsReading, LiesIn};
-ghost use Rattle.laz_reader.specs.Unpacking.{HoldsNone, IsInput, unpack_input};
+ghost use Rattle.laz_reader.specs.Unpacking.{HoldsNone, IsInput, may_hold, unpack_input};
 
 use crate::reading::read_exactly;
 use crate::unpack_job::UnpackJob;
@@ -21,6 +21,10 @@ pub(crate) fn batch_of(job: &UnpackJob, points: &[u32], bytes: &[u32], most: usi
     requires same { length points.now ≡ length bytes.now }
     ensures within { result ≤ min most (length points.now) }
     ensures some { (k : ℕ) → k < result → 1 ≤ slice_index points.now k }
+    ensures may { (k : ℕ) → k < result
+        → may_hold (layout job.now) (slice_index points.now k) (slice_index bytes.now k) ≡ true }
+    ensures may_not { result < min most (length points.now)
+        → may_hold (layout job.now) (slice_index points.now result) (slice_index bytes.now result) ≡ false }
     ensures cut { result < min most (length points.now) → (chunk : List ℕ)
         → length chunk ≡ slice_index bytes.now result
         → HoldsNone (layout job.now) (slice_index points.now result) chunk }

@@ -1,7 +1,7 @@
 //! The job of unpacking chunks.
 ghost use Rattle.std.specs.Prelude.{◌≡◌, ℕ, ◌<◌, ◌≤◌, true, false, List, length};
 ghost use Rattle.laz_chunk.specs.Layouts.{layout, record_length as length_of};
-ghost use Rattle.laz_reader.specs.Unpacking.{FitsUnpacked, HoldsNone, UnpackAnswer};
+ghost use Rattle.laz_reader.specs.Unpacking.{FitsUnpacked, HoldsNone, UnpackAnswer, may_hold};
 
 use las_header::{size_of, u32_at};
 use laz_chunk::{Workspace, room_for};
@@ -50,6 +50,7 @@ impl UnpackJob {
     /// Whether a chunk of `size` bytes may hold `count` records: whether the number of bytes is one that a chunk of so
     /// many records can have. The bytes are not looked at.
     pub fn may_hold(&self, count: u32, size: u32) -> bool
+        ensures exact { result ≡ may_hold (layout self.now) count size }
         ensures some { result ≡ true → 1 ≤ count }
         ensures none { result ≡ false → (bytes : List ℕ) → length bytes ≡ size
             → HoldsNone (layout self.now) count bytes }

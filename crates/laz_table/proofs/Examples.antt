@@ -1,5 +1,6 @@
 -- Worked values of the definitions: entries, tables, chunks, payloads, and what a laszip VLR is refused for.
 use Rattle.std.proofs.Common.{◌≡◌, ℕ, pos, negsuc, true, false, List, [], ◌∷◌, ◌++◌, Some, None, refl, replicate}
+use Rattle.laz_table.specs.declared.limits.TheConstants.{ARITHMETIC_CODER, CHUNKED_COMPRESSOR, COUNTED_CHUNKS, ITEM_VERSION, MAX_CHUNKS, MAX_CHUNK_BYTES, MAX_CHUNK_POINTS, MIN_TABLE_BYTES, PAYLOAD_ITEM, PAYLOAD_START, TABLE_CONTEXTS, TABLE_START}
 use Rattle.std.proofs.Common.{codes, subst, arith, rules}
 use Rattle.std.specs.List.{splice}
 use Rattle.byteorder.specs.Endian.{little_bytes}
@@ -259,3 +260,40 @@ one_vlr = (refl, refl)
 not_refused : (lacks_vlr packed ≡ false) × (first_cause (vlr_causes packed) ≡ None)
 unfolding number_at
 not_refused = (refl, refl)
+
+-- the numbers that the definitions take from the code
+arithmetic_coder_is : ARITHMETIC_CODER ≡ 0
+arithmetic_coder_is = refl
+
+chunked_compressor_is : CHUNKED_COMPRESSOR ≡ 2
+chunked_compressor_is = refl
+
+counted_chunks_is : COUNTED_CHUNKS ≡ 4294967295
+counted_chunks_is = refl
+
+item_version_is : ITEM_VERSION ≡ 2
+item_version_is = refl
+
+max_chunks_is : MAX_CHUNKS ≡ 16777216
+max_chunks_is = refl
+
+max_chunk_bytes_is : MAX_CHUNK_BYTES ≡ 24
+max_chunk_bytes_is = refl
+
+max_chunk_points_is : MAX_CHUNK_POINTS ≡ 250000
+max_chunk_points_is = refl
+
+min_table_bytes_is : MIN_TABLE_BYTES ≡ 12
+min_table_bytes_is = refl
+
+payload_item_is : PAYLOAD_ITEM ≡ 6
+payload_item_is = refl
+
+payload_start_is : PAYLOAD_START ≡ 34
+payload_start_is = refl
+
+table_contexts_is : TABLE_CONTEXTS ≡ 2
+table_contexts_is = refl
+
+table_start_is : TABLE_START ≡ 8
+table_start_is = refl

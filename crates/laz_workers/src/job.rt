@@ -1,5 +1,7 @@
-ghost use Rattle.std.specs.Prelude.{◌≡◌, ℕ, List, Option, vec_len};
+ghost use Rattle.std.specs.Prelude.{◌≡◌, ℕ, List, Option, ◌≤◌, vec_capacity, vec_len};
 ghost use Rattle.laz_workers.specs.Work.{Answers};
+
+use crate::room::lengthen;
 
 /// The work that hands do on inputs, each by itself.
 ///
@@ -27,4 +29,26 @@ pub trait Job: Sync {
         ensures answer { Answers (answer self.now input.now) result room.new.items }
         ensures room { vec_len room.new ≡ vec_len room.old }
         ensures suits { suits self.now space.new };
+
+    /// The same as [`work`](Self::work), in a room that may be shorter at first. It is lengthened as far as is needed,
+    /// and to no more than `size` bytes. There is capacity for so many.
+    fn work_within(
+        &self,
+        input: &[u8],
+        space: &mut Self::Space,
+        room: &mut Vec<u8>,
+        size: usize,
+    ) -> Option<usize>
+        requires fits { fits self.now input.now size }
+        requires suits { suits self.now space.old }
+        requires within { vec_len room.old ≤ size }
+        requires capacity { size ≤ vec_capacity room.old }
+        ensures answer { Answers (answer self.now input.now) result room.new.items }
+        ensures within { vec_len room.new ≤ size }
+        ensures capacity { size ≤ vec_capacity room.new }
+        ensures suits { suits self.now space.new }
+    {
+        lengthen(room, size);
+        self.work(input, space, room)
+    }
 }

@@ -16,7 +16,7 @@ use crate::hand::Hand;
 use crate::held::Held;
 use crate::job::Job;
 use crate::pass::Pass;
-use crate::room::{Room, lengthen};
+use crate::room::Room;
 use las_outside::Gate;
 use std::thread;
 use std::thread::Threads;
@@ -39,8 +39,8 @@ fn work_number<J: Job, G: Gate>(
     ensures suits { J.suits job.now space.new }
 {
     gate.enter(number);
-    lengthen(&mut room.bytes, room.size);
-    let answer = job.work(&inputs[number as usize], space, &mut room.bytes);
+    let size = room.size;
+    let answer = job.work_within(&inputs[number as usize], space, &mut room.bytes, size);
     room.held = match answer {
         Some(length) => Held::Full { number, length },
         None => Held::Refused { number },

@@ -38,4 +38,14 @@ impl Job for PackJob {
     fn work(&self, input: &[u8], space: &mut Workspace, room: &mut Vec<u8>) -> Option<usize> {
         Some(space.pack(input, room))
     }
+
+    fn work_within(
+        &self,
+        input: &[u8],
+        space: &mut Workspace,
+        room: &mut Vec<u8>,
+        size: usize,
+    ) -> Option<usize> {
+        Some(space.pack_within(input, room, size))
+    }
 }

@@ -128,16 +128,29 @@ impl Packing {
         Ok(n)
     }
 
-    // Whether a block is full and the next one, so that it may be kept back as it stands.
-    fn takes_whole(&self, block: &[u8]) -> bool
-        ensures { IsTrue result → (self.now.rest ≡ []) × (length block.now ≡ block_size self.now.plan) }
-    {
-        self.rest.is_empty() && block.len() == self.block
+    // Whether a buffer has as much room as the one that would be filled next.
+    fn is_as_large(&self, block: &Vec<u8>) -> bool {
+        match self.spare.last() {
+            Some(buffer) => buffer.capacity() <= block.capacity(),
+            None => false,
+        }
     }
 
-    // Keeps back a full block as it stands. Its place is taken by a buffer that is spare, whatever that holds.
+    // Whether the records of a block are the next ones of a block that is empty, so that they may be taken as they stand:
+    // all of it, or its front, if more may be put behind them.
+    fn takes_whole(&self, block: &Vec<u8>) -> bool
+        ensures { IsTrue result → (self.now.rest ≡ []) × (length block.now.items ≤ block_size self.now.plan) }
+    {
+        if !self.rest.is_empty() || block.len() > self.block {
+            return false;
+        }
+        block.len() == self.block || self.is_as_large(block)
+    }
+
+    // Takes the records of a block as they stand, and keeps the block back if it is full. Its place is taken by a buffer
+    // that is spare, whatever that holds.
     fn take_block(&mut self, block: &mut Vec<u8>) -> Result<(), AllocError>
-        requires full { length block.old.items ≡ block_size self.old.plan }
+        requires within { length block.old.items ≤ block_size self.old.plan }
         requires next { self.old.rest ≡ [] }
         requires some { 0 < block_size self.old.plan }
         ensures taken { OnOk result (Took self.old self.new block.old.items) }
@@ -147,7 +160,23 @@ impl Packing {
             self.rest = buffer;
         }
         mem::swap(&mut self.rest, block);
+        if self.rest.len() < self.block {
+            return Ok(());
+        }
         self.keep()
+    }
+
+    // If all blocks were packed, exchanges a buffer with the one that held the last of them, whose memory was in use
+    // already.
+    fn exchange(&mut self, buffer: &mut Vec<u8>)
+        ensures { self.new ≡ self.old }
+    {
+        if !self.kept.is_empty() {
+            return;
+        }
+        if let Some(last) = self.spare.last_mut() {
+            mem::swap(last, buffer);
+        }
     }
 
     /// Packs the blocks that are kept back, all together, and appends their chunks in order.
@@ -203,11 +232,13 @@ impl Packing {
         self.pointer
     }
 
-    // Whether as many full blocks are kept back as the workers pack together.
+    // Whether as many full blocks are kept back as the workers pack together: two for each of them. One alone packs each
+    // by itself, so that no more buffers are in use.
     fn is_full(&self) -> bool
-        ensures { IsTrue result ↔ (length self.now.kept ≡ 2 * self.now.plan.workers) }
+        ensures { (length self.now.kept ≡ 2 * self.now.plan.workers) → IsTrue result }
     {
-        self.kept.len() == 2 * self.crew.hands()
+        let hands = self.crew.hands();
+        self.kept.len() == 2 * hands || (hands == 1 && !self.kept.is_empty())
     }
 
     // Packs and appends the blocks that are kept back, if these are as many as the workers pack together.
@@ -302,6 +333,8 @@ impl Packing {
             return self.add(rt, alloc, files, gate, name, block);
         }
         self.take_block(block)?;
-        self.append_batch(rt, alloc, files, gate, name)
+        let appended = self.append_batch(rt, alloc, files, gate, name);
+        self.exchange(block);
+        appended
     }
 }

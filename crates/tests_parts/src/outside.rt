@@ -188,8 +188,8 @@ fn is_created<R: System<File = File> + AllocGlobal + Drop>(
     files: &mut RealFiles<R>,
     name: &str,
 ) -> bool
-    requires { files.old.held ≡ None }
-    ensures { files.new.held ≡ None }
+    requires { files.old.outside.held ≡ None }
+    ensures { files.new.outside.held ≡ None }
 {
     files.create(name).is_ok()
 }
@@ -199,8 +199,8 @@ fn is_appended<R: System<File = File> + AllocGlobal + Drop>(
     name: &str,
     text: &str,
 ) -> bool
-    requires { files.old.held ≡ None }
-    ensures { files.new.held ≡ None }
+    requires { files.old.outside.held ≡ None }
+    ensures { files.new.outside.held ≡ None }
 {
     files.append(name, text.as_bytes()).is_ok()
 }
@@ -211,8 +211,8 @@ fn is_patched<R: System<File = File> + AllocGlobal + Drop>(
     name: &str,
     text: &str,
 ) -> bool
-    requires { files.old.held ≡ None }
-    ensures { files.new.held ≡ None }
+    requires { files.old.outside.held ≡ None }
+    ensures { files.new.outside.held ≡ None }
 {
     let (at, patch) = pair(text);
     files
@@ -226,8 +226,8 @@ fn has_size<R: System<File = File> + AllocGlobal + Drop>(
     name: &str,
     text: &str,
 ) -> bool
-    requires { files.old.held ≡ None }
-    ensures { files.new.held ≡ None }
+    requires { files.old.outside.held ≡ None }
+    ensures { files.new.outside.held ≡ None }
 {
     match files.size(name) {
         Ok(size) => text != "none" && size == number(text) as u64,
@@ -241,8 +241,8 @@ fn is_read<R: System<File = File> + AllocGlobal + Drop>(
     name: &str,
     text: &str,
 ) -> bool
-    requires { files.old.held ≡ None }
-    ensures { files.new.held ≡ None }
+    requires { files.old.outside.held ≡ None }
+    ensures { files.new.outside.held ≡ None }
 {
     let (at, wanted) = pair(text);
     let mut bytes = [0; 5];
@@ -260,8 +260,8 @@ fn bytes_are_done<R: System<File = File> + AllocGlobal + Drop>(
     name: &str,
     text: &str,
 ) -> bool
-    requires { files.old.held ≡ None }
-    ensures { files.new.held ≡ None }
+    requires { files.old.outside.held ≡ None }
+    ensures { files.new.outside.held ≡ None }
 {
     match step {
         "append" => is_appended(files, name, text),
@@ -280,8 +280,8 @@ fn is_done<R: System<File = File> + AllocGlobal + Drop>(
     name: &str,
     text: &str,
 ) -> bool
-    requires { files.old.held ≡ None }
-    ensures { files.new.held ≡ None }
+    requires { files.old.outside.held ≡ None }
+    ensures { files.new.outside.held ≡ None }
 {
     match step {
         "create" => is_created(files, name),
@@ -306,8 +306,8 @@ fn is_done_by_number<R: System<File = File> + AllocGlobal + Drop>(
     number: usize,
     step: &str,
 ) -> bool
-    requires { files.old.held ≡ None }
-    ensures { files.new.held ≡ None }
+    requires { files.old.outside.held ≡ None }
+    ensures { files.new.outside.held ≡ None }
 {
     let (step, text) = pair(step);
     match numbered(rt, number) {
@@ -322,8 +322,8 @@ fn are_done<R: System<File = File> + AllocGlobal + Drop>(
     files: &mut RealFiles<R>,
     text: &str,
 ) -> bool
-    requires { files.old.held ≡ None }
-    ensures { files.new.held ≡ None }
+    requires { files.old.outside.held ≡ None }
+    ensures { files.new.outside.held ≡ None }
 {
     let (first, rest) = pair(text);
     let (count, step) = pair(rest);
@@ -342,8 +342,8 @@ fn line_is_done<R: System<File = File> + AllocGlobal + Drop>(
     files: &mut RealFiles<R>,
     line: &str,
 ) -> bool
-    requires { files.old.held ≡ None }
-    ensures { files.new.held ≡ None }
+    requires { files.old.outside.held ≡ None }
+    ensures { files.new.outside.held ≡ None }
 {
     let (word, rest) = pair(line);
     let (name, text) = pair(rest);
@@ -360,7 +360,7 @@ fn first_wrong<R: System<File = File> + AllocGlobal + Drop>(
     files: &mut RealFiles<R>,
     script: &'static str,
 ) -> &'static str
-    requires { files.old.held ≡ None }
+    requires { files.old.outside.held ≡ None }
 {
     for line in script.lines() {
         if !line_is_done(rt, files, line) {

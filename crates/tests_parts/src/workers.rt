@@ -207,11 +207,10 @@ fn is_worked<R: Threads + Sync>(
 // gate holds the numbers below BELOW, each until ENTERED have entered and LEFT have left, for TURNS turns at most. MISSED
 // of them are held to the last turn.
 //
-// In the second row number 0 is held for a thousand turns, since no input leaves twice, and some inputs are refused. In
+// In the first row number 0 is held for a thousand turns, since no input leaves twice, and some inputs are refused. In
 // the one of a free hand, one hand is held at number 0, and the other works both other inputs: numbers that were dealt to
 // hands before the fan-out would leave one of them with the held hand.
 const ROWS: &str = "\
-two hands meet = 2 1 2 0 200000000 0 10 20
 sixteen inputs stand by number = 8 1 0 17 1000 1 3 250 5 199 200 0 1 2 77 255 100 9 8 7 6 5
 one hand works two inputs = 1 0 0 0 200000000 0 201 41
 0 inputs and 1 hands = 1 0 0 0 200000000 0
@@ -276,6 +275,20 @@ fn first_wrong<R: Threads + Sync>(rt: &R, alloc: Global) -> &'static str {
         }
     }
     ""
+}
+
+// Two hands work side by side: number 0 is held until both have entered.
+#[test]
+fn two_hands_meet(rt: HostRuntime) {
+    let row = "two hands meet = 2 1 2 0 200000000 0 10 20";
+    none_is(
+        if row_is_so(&rt, rt.alloc(), row) {
+            ""
+        } else {
+            row
+        },
+        &rt,
+    );
 }
 
 #[test]

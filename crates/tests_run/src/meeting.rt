@@ -55,24 +55,45 @@ records 2 0 0 0 512
 put a
 packed
 put w
-room b c
+room b c d e f g m n
+room p_0000000.las p_0000001.las
 ";
 
-// Two chunks meet when they are packed, and when they are unpacked.
-fn both_meet<R: Threads + Sync + AllocGlobal + Abort>(
+// Runs whose chunks are packed, or unpacked, by two workers: of each command, and both ways if it does both. `a` is plain,
+// and `w` is packed in two chunks.
+const RUNS: &str = "\
+laszip -i a -o b -chunk_size 256 -cores 2
+laszip -i w -o c -cores 2
+las2las -i a -o d -olaz -chunk_size 256 -cores 2
+las2las -i w -o e -cores 2
+lasinfo -i w -cores 2
+lassplit -i w -o p.las -split 256 -cores 2
+lasmerge -i a -o f -olaz -chunk_size 256 -cores 2
+lasmerge -i w -o g -cores 2
+make -o m -z n -points 512 -seed 1 -chunk_size 256 -cores 2
+";
+
+// Two chunks meet in each run.
+fn all_meet<R: Threads + Sync + AllocGlobal + Abort>(
     rt: &R,
     world: &mut World,
 ) -> Result<(), AllocError> {
     world.play(rt, "inputs", INPUTS, "")?;
-    meet(rt, world, "laszip -i a -o b -chunk_size 256 -cores 2")?;
-    meet(rt, world, "laszip -i w -o c -cores 2")?;
-    world.play(rt, "outputs", "same b w\nsame c a", "")
+    for line in RUNS.lines() {
+        meet(rt, world, line)?;
+    }
+    world.play(
+        rt,
+        "outputs",
+        "same b w\nsame c a\nsame d w\nsame e a\nsame g a",
+        "",
+    )
 }
 
 // The same in a world of its own.
 fn meet_alone<R: Threads + Sync + AllocGlobal + Abort>(rt: &R) -> Result<(), AllocError> {
     let mut world = World::new(rt.alloc())?;
-    both_meet(rt, &mut world)
+    all_meet(rt, &mut world)
 }
 
 #[test]

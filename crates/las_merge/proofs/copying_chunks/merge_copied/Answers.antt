@@ -1,3 +1,4 @@
+use Rattle.laz_forms.proofs.Public.{if_err}
 use Rattle.std.proofs.Common.{◌≡◌, ◌≢◌, inr, Err, IfErr, OnErr, OnOk, ℕ, ◌^◌, ◌<◌, ◌≤◌, List, length, Option, Some, false, sym, ◌∙◌, ap, subst, arith}
 use Rattle.std.specs.Prelude.{All, string_bytes, sum_by}
 use Rattle.std.specs.declared.alloc.Global.{Global}
@@ -229,3 +230,6 @@ returns-in_err-listed-clause-asked g c = IfOk-from_err c.from_residual.result _ 
 pub returns-in_err-points-clause-asked : goal.returns-in_err-points-clause-asked
 returns-in_err-points-clause-asked g c =
     IfOk-from_err c.from_residual-in_err-points.result _ c.from_residual-in_err-points.ensures.0
+
+pub returns-in_err-listed-clause-calm_kept : goal.returns-in_err-listed-clause-calm_kept
+returns-in_err-listed-clause-calm_kept g c = if_err _ c.from_residual.result _ c.from_residual.ensures.1 c.in_err-listed.ensures.calm_kept

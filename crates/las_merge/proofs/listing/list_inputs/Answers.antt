@@ -105,3 +105,9 @@ returns-in_err-list_next-clause-all g c = IfOk-from_err c.from_residual.result _
 
 pub returns-in_err-list_next-clause-calm : goal.returns-in_err-list_next-clause-calm
 returns-in_err-list_next-clause-calm g c = IfOk-from_err c.from_residual.result _ c.from_residual.ensures.0
+
+pub returns-in_err-list_next-clause-calm_kept : goal.returns-in_err-list_next-clause-calm_kept
+returns-in_err-list_next-clause-calm_kept g c =
+    let k = (goal.at.returns-in_err-list_next-clause-calm_kept g c).After-list_next in
+    if_err _ c.from_residual.result _ c.from_residual.ensures.1
+    (λ no. calm-trans (start g k) (old g k) (new g k) c.inputs.invariant.calm (c.in_err-list_next.ensures.calm_kept no))

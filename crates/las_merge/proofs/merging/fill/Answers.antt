@@ -124,3 +124,6 @@ returns-in-Ok-clause-later g c = later-trans _ _ _ c.copy_inputs.ensures.later c
 
 pub returns-in-Err-clause-later : goal.returns-in-Err-clause-later
 returns-in-Err-clause-later g c = later-trans _ _ _ c.copy_inputs.ensures.later c.finish.ensures.writes.later
+
+pub returns-in_err-copy_inputs-clause-calm_kept : goal.returns-in_err-copy_inputs-clause-calm_kept
+returns-in_err-copy_inputs-clause-calm_kept g c = if_err _ c.from_residual.result _ c.from_residual.ensures.1 c.in_err-copy_inputs.ensures.calm_kept

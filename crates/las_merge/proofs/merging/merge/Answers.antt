@@ -1,3 +1,4 @@
+use Rattle.laz_forms.proofs.Public.{if_err}
 use Rattle.std.proofs.Common.{◌≡◌, ℕ, ◌^◌, ◌<◌, ◌≤◌, List, [], Option, Some, length, sym, ◌∙◌, ap, subst, arith, ◌*◌}
 use Rattle.std.specs.Prelude.{string_bytes}
 use Rattle.std.specs.FinMap as finmap
@@ -163,3 +164,6 @@ fill-requires-clause-room g c κs within =
     c.in_ok-writer.ensures.fresh.1 ∙ c.in_ok-most.ensures.points
     ∙ ap (λ (rs : List InputSeen). points_read rs) c.deref.ensures.value in
     subst (λ (n : ℕ). w.size * n ≤ w.size * w.most) most (omega arith)
+
+pub returns-in_err-opened-clause-calm_kept : goal.returns-in_err-opened-clause-calm_kept
+returns-in_err-opened-clause-calm_kept g c = if_err _ c.from_residual.result _ c.from_residual.ensures.1 c.in_err-opened.ensures.calm_kept

@@ -6,8 +6,8 @@ use Rattle.las_words.specs.Asked.{Asked, las2las, reads}
 use Rattle.las_words.specs.Texts.{texts}
 use Rattle.las_filter.specs.Kept.{steps_of}
 use Rattle.las_outside.specs.Files.{FileMap, WhereKnown}
-use Rattle.laz_reader.specs.Asking.{AsksAtMost, asked_to_open}
-use Rattle.laz_forms.specs.Pieces.{ArePieces, Piece, bytes_in}
+use Rattle.laz_reader.specs.Asking.{AsksAtMost, asked_in, asked_to_open}
+use Rattle.laz_forms.specs.Pieces.{ArePieces, Piece}
 use Rattle.laz_forms.specs.Ranges.{parts_of}
 use Rattle.laz_reader.specs.Reading.{StandsFor}
 use Rattle.laz_forms.specs.Refusing.{IsAcceptedFile}
@@ -120,7 +120,7 @@ returns-clause-asks g c =
     let input = c.args.request.now.input.now in
     let conversion = c.args.request.now.conversion in
     let bytes : (file : List ℕ) → List Piece → ℕ =
-    λ file pieces. bytes_in (parts_of file (range_in conversion.start conversion.stop file) pieces) in
+    λ file pieces. asked_in file (parts_of file (range_in conversion.start conversion.stop file) pieces) in
     let Rest : List ℕ → Type 0 = λ file. (pieces : List Piece) → ArePieces file pieces
     → AsksAtMost (in_first_reading conversion.pick (asked_to_open file + bytes file pieces) + bytes file pieces) mid
     new in

@@ -2,9 +2,8 @@ use Rattle.std.proofs.Common.{◌+◌, List, ℕ, map, subst}
 use Rattle.std.proofs.lemmas.Result.{err_from_is_err_and}
 use Rattle.las_filter.specs.Kept.{steps_of}
 use Rattle.las_info.specs.Tallies.{TapSeen}
-use Rattle.laz_reader.specs.Asking.{asked_to_open}
+use Rattle.laz_reader.specs.Asking.{asked_in, asked_to_open}
 use Rattle.laz_forms.specs.Ranges.{parts_of}
-use Rattle.laz_forms.specs.Pieces.{bytes_in}
 use Rattle.las_run.specs.Asking.{in_first_reading}
 use Rattle.las_run.specs.Ends.{Change, EndsCommand}
 use Rattle.las_run.specs.Tools.{ConvertsTaken, range_in}
@@ -55,5 +54,5 @@ returns-clause-asked g c =
     (g.F.Files.seen c.args.files.now) h.stands h.fresh.unread h.range
     (g.F.Files.seen c.prepare.new.files) (g.F.Files.seen c.write_kept.new.files)
     (λ file pieces. in_first_reading places.pick
-    (asked_to_open file + bytes_in (parts_of file (range_in places.start places.stop file) pieces))) h.asked
+    (asked_to_open file + asked_in file (parts_of file (range_in places.start places.stop file) pieces))) h.asked
     c.write_kept.ensures.frame.asked

@@ -10,8 +10,11 @@ use Rattle.las_thin.specs.Sieving.{Settings, Sieving}
 use Rattle.laz_file.specs.Endings.{EndsMaking}
 use Rattle.laz_forms.specs.Outputs.{records_after}
 use Rattle.las_run.specs.declared.stop.Stop.{Stop}
+use Rattle.las_outside.specs.Frames.{IsCalm}
+use Rattle.las_run.specs.Calm.{IsNoFailure}
 use Rattle.las_run.specs.Ends.{Change, EndsCommand}
 use Rattle.las_run.specs.Tools.{ConvertsTaken, chunk_for, range_in, sieve_in}
+use Rattle.las_run.proofs.Calm.{stop_kept}
 use Rattle.las_run.proofs.Converting.{ends_stopping, ends_tallying, known_as, made_sought, not_put, some_lines}
 use Rattle.las_run.proofs.Converting.{sought_range, text_told}
 use Rattle.las_run.proofs.Making.{record_late}
@@ -98,3 +101,8 @@ returns-clause-ends g c =
     (made_sought reader places.start places.stop plan settings output size old new (Err fault) c.requires.range
     c.requires.stands (known_as Made own settings c.chunk_of-chunk.result size sieved c.chunk_of-chunk.ensures.chunk
     h.ends)))
+
+pub returns-clause-calm_stopped : goal.returns-clause-calm_stopped
+returns-clause-calm_stopped g c = λ kept.
+    stop_kept 0 c.in-Err.fault (IsCalm (g.F.Files.seen c.args.files.now) (g.F.Files.seen c.convert.new.files))
+    (λ cause is. c.in-Err.ensures.calm_refused cause (ap Err is)) (subst IsNoFailure c.stop.ensures kept)

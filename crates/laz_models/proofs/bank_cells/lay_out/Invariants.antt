@@ -5,7 +5,8 @@ use Rattle.laz_models.proofs.bank_cells.lay_out.Given as goal
 abbrev pub invariant-loop-size : goal.invariant-loop-size
 invariant-loop-size l =
     record {
-      layout : IsLayout l.places.items (take l.size-index l.sizes) (length l.cells.items);
+      layout : IsLayout l.places.items (take l.size-index l.sizes) l.end;
       firsts : AreFirst l.places.items l.cells.items;
-      room : length l.cells.items ≤ 12292 * l.size-index;
+      short : length l.cells.items ≤ l.end;
+      room : l.end ≤ 12292 * l.size-index;
     }

@@ -33,4 +33,6 @@ returns-clause-placed c =
       room = rw items (room_on c.args.width n o.next (length ys) c.bytes_lacking-more.ensures.fits c.bytes_lacking-more.ensures.few (omega (arith, c.write-sum.auto.bytes, c.requires.left)) (λ few. omega (arith, c.write-sum.auto.bytes, c.requires.short few)));
       bytes = rw items c.write-sum.ensures.bytes;
       window = rw items (window_on o.next c.write-sum.result n ys c.write-sum.ensures.bytes c.bytes_lacking-more.ensures.few (omega (arith, c.write-sum.auto.bytes, c.requires.placed.room)) c.write-sum.ensures.window);
+      size = rw items (omega (arith, c.write-sum.auto.bytes, c.requires.placed.size));
+      capacity = c.requires.placed.capacity;
     }

@@ -13,7 +13,8 @@ use Rattle.laz_chunk.specs.Layouts.{layout, record_length}
 use Rattle.laz_reader.specs.Unpacking.{HoldsNone}
 use Rattle.laz_forms.proofs.Public.{known_then}
 use Rattle.laz_reader.proofs.Heads.{same_cause, never_refused}
-use Rattle.laz_reader.proofs.Asking.{sum_front, sum_take}
+use Rattle.laz_reader.specs.Asking.{sizes_asked}
+use Rattle.laz_reader.proofs.Asking.{may_asked, sum_front, sum_take}
 use Rattle.laz_reader.proofs.BatchAnswers.{cut_short, front_lies, front_none, front_only}
 use Rattle.laz_reader.proofs.chunks.next_chunks.Goals as goal
 
@@ -105,7 +106,12 @@ returns-in_err-good g c =
       reads = let most = min (2 * length c.args.crew.now) (length c.args.run.now.points.now) in
           let fits : c.batch_of-batch.result ≤ most =
           omega (arith, c.batch_of-batch.ensures.within, c.requires.inputs) in
-          reads-more _ _ _ _ (sum_take c.batch_of-batch.result most c.args.run.now.bytes.now fits)
+          let counts = c.args.run.now.points.now in
+          let sizes = c.args.run.now.bytes.now in
+          let l = layout c.args.job.now in
+          let may = may_asked l c.batch_of-batch.result counts sizes (omega (arith, c.batch_of-batch.ensures.within))
+          c.requires.run.same c.batch_of-batch.ensures.may in
+          reads-more _ _ _ _ (omega (arith, may, sum_take c.batch_of-batch.result most (sizes_asked l counts sizes) fits))
           c.work_chunks.ensures.reads;
       calm = IfOk-from_err c.from_residual.result _ c.from_residual.ensures.0;
       ends = let old = g.F.Files.seen c.args.files.now in
@@ -142,7 +148,12 @@ returns-then-good-eq0 g c =
       reads = let most = min (2 * length c.args.crew.now) (length c.args.run.now.points.now) in
           let fits : c.batch_of-batch.result ≤ most =
           omega (arith, c.batch_of-batch.ensures.within, c.requires.inputs) in
-          reads-more _ _ _ _ (sum_take c.batch_of-batch.result most c.args.run.now.bytes.now fits)
+          let counts = c.args.run.now.points.now in
+          let sizes = c.args.run.now.bytes.now in
+          let l = layout c.args.job.now in
+          let may = may_asked l c.batch_of-batch.result counts sizes (omega (arith, c.batch_of-batch.ensures.within))
+          c.requires.run.same c.batch_of-batch.ensures.may in
+          reads-more _ _ _ _ (omega (arith, may, sum_take c.batch_of-batch.result most (sizes_asked l counts sizes) fits))
           c.work_chunks.ensures.reads;
       calm = tt;
       ends = c.in_ok-good.ensures.calm.reads;
@@ -201,7 +212,12 @@ returns g c =
       reads = let most = min (2 * length c.args.crew.now) (length c.args.run.now.points.now) in
           let fits : c.batch_of-batch.result ≤ most =
           omega (arith, c.batch_of-batch.ensures.within, c.requires.inputs) in
-          reads-more _ _ _ _ (sum_take c.batch_of-batch.result most c.args.run.now.bytes.now fits)
+          let counts = c.args.run.now.points.now in
+          let sizes = c.args.run.now.bytes.now in
+          let l = layout c.args.job.now in
+          let may = may_asked l c.batch_of-batch.result counts sizes (omega (arith, c.batch_of-batch.ensures.within))
+          c.requires.run.same c.batch_of-batch.ensures.may in
+          reads-more _ _ _ _ (omega (arith, may, sum_take c.batch_of-batch.result most (sizes_asked l counts sizes) fits))
           c.work_chunks.ensures.reads;
       calm = c.in_ok-good.ensures.calm;
       ends = tt;

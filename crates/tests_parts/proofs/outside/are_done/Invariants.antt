@@ -3,4 +3,4 @@ use Rattle.std.specs.Prelude.{None}
 use Rattle.tests_parts.proofs.outside.are_done.Given as goal
 
 abbrev pub invariant-loop-index : goal.invariant-loop-index
-invariant-loop-index g l = l.files.held ≡ None
+invariant-loop-index g l = l.files.outside.held ≡ None

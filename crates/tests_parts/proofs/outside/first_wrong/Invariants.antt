@@ -3,4 +3,4 @@ use Rattle.std.specs.Prelude.{None}
 use Rattle.tests_parts.proofs.outside.first_wrong.Given as goal
 
 abbrev pub invariant-loop-line : goal.invariant-loop-line
-invariant-loop-line g l = l.files.held ≡ None
+invariant-loop-line g l = l.files.outside.held ≡ None

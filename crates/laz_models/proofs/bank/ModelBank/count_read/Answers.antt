@@ -4,7 +4,7 @@ use Rattle.laz_models.specs.Bank.{model_at}
 use Rattle.laz_models.specs.Counting.{after_symbol, new_model}
 use Rattle.laz_models.specs.Dist.{alphabet_size}
 use Rattle.laz_models.specs.Place.{counting_in}
-use Rattle.laz_models.proofs.Banks.{at, AreFirst-set, IsBank-set, view-set, StandsFor-push, sizes-set}
+use Rattle.laz_models.proofs.Banks.{at, AreFirst-set, EndWithin-set, IsBank-set, view-set, StandsFor-push, sizes-set}
 use Rattle.laz_models.proofs.Sounds.{AreSound-bank}
 use Rattle.laz_models.proofs.bank.ModelBank.count_read.Goals as goal
 
@@ -18,6 +18,7 @@ invariant_of-self c =
     let here : c.args.m < length c.self.inside.places.items = omega (arith, ap length c.self.view_is, length-map c.self.inside.places.items (counting_in c.self.inside.cells.items), c.requires.model) in (
       IsBank-set c.self.inside.places.items c.self.inside.cells.items c.count_at.new.cells.items c.args.m c.index_mut.result.now c.count_at.new.place c.self.invariant.0 here c.index_mut.ensures.value c.count_at.ensures.place c.count_at.ensures.good c.count_at.ensures.others,
       AreFirst-set c.self.inside.places.items c.self.inside.cells.items c.count_at.new.cells.items c.args.m c.index_mut.result.now c.count_at.new.place c.self.invariant.1 here c.index_mut.ensures.value c.count_at.ensures.place c.count_at.ensures.others,
+      EndWithin-set c.self.inside.places.items c.args.m _ _ c.index_mut.result.now c.count_at.new.place c.self.invariant.2 c.count_at.ensures.capacity here c.index_mut.ensures.value c.count_at.ensures.place,
     )
 
 pub returns-clause-after_symbol : goal.returns-clause-after_symbol

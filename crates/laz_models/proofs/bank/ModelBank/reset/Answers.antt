@@ -5,14 +5,14 @@ use Rattle.laz_models.specs.Bank.{model_at}
 use Rattle.laz_models.specs.Dist.{alphabet_size}
 use Rattle.laz_models.specs.Place.{counting_in}
 use Rattle.laz_models.proofs.Banks.{StandsFor-new_model, many-at}
-use Rattle.laz_models.proofs.Layouts.{AreFirst-new, first-IsBank, first-view, sizes-reset}
+use Rattle.laz_models.proofs.Layouts.{AreFirst-new, EndWithin-new, first-IsBank, first-view, sizes-reset}
 use Rattle.laz_models.proofs.Sounds.{AreSound-bank}
 use Rattle.laz_models.proofs.bank.ModelBank.reset.Goals as goal
 
 pub invariant_of-self : goal.invariant_of-self
 invariant_of-self c =
     rw c.reset_all.ensures
-    (first-IsBank c.self.inside.places.items c.self.inside.cells.items c.self.invariant.0, AreFirst-new c.self.inside.places.items c.self.inside.cells.items c.self.invariant.1)
+    (first-IsBank c.self.inside.places.items c.self.inside.cells.items c.self.invariant.0, AreFirst-new c.self.inside.places.items c.self.inside.cells.items c.self.invariant.1, EndWithin-new c.self.inside.places.items _ c.self.invariant.2)
 
 pub returns-clause-new_model : goal.returns-clause-new_model
 returns-clause-new_model c =

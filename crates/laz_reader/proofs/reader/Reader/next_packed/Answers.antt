@@ -19,7 +19,8 @@ use Rattle.laz_reader.specs.Keeping.{cuts_from}
 use Rattle.laz_reader.specs.Reading.{AreCutFrom, AreWholeBlocks, HaveRoom, Position, ReaderSeen, StandsFor, pieces_left}
 use Rattle.laz_reader.specs.Reading.{EndsReading}
 use Rattle.laz_forms.specs.Records.{HoldOnly, IsBadPiece}
-use Rattle.laz_reader.proofs.Asking.{asked_all, asked_batch}
+use Rattle.laz_reader.specs.Asking.{sizes_asked}
+use Rattle.laz_reader.proofs.Asking.{asked_all, asked_batch, asked_since}
 use Rattle.laz_forms.proofs.Public.{known_as, known_both, known_then}
 use Rattle.laz_reader.proofs.Heads.{residual_is, same_cause}
 use Rattle.laz_reader.proofs.Batches.{as_many, bad_left, batch_bad, batch_blocks, batch_count, batch_cuts, batch_end, batch_few, batch_hold, batch_length, batch_lie, batch_most, batch_rooms, batch_whole, crew_later, front_cuts, IsListed, length_slice, listed, packed_step, placed_later, positive, slice_part}
@@ -131,6 +132,16 @@ module _ (g : Over) (c : After-min-most g) where
 
   name : c.deref.result.now ≡ now.name
   name = c.deref.ensures ∙ ap (λ (s : ReaderSeen). s.name) c.self.view_is
+
+  -- how many bytes are asked for each
+  abbrev asked_sizes : List ℕ
+  asked_sizes = sizes_asked (record_layout now.head.bytes) counts sizes
+
+  layout_asked : (old later most : ℕ)
+      → later ≤ old + sum (take most (sizes_asked (layout c.new-job.result) counts sizes))
+      → later ≤ old + sum (take most asked_sizes)
+  layout_asked old later most asked =
+      subst (λ (f : Format). later ≤ old + sum (take most (sizes_asked (layout f) counts sizes))) format asked
 
   fine : now.bad ≡ false
   fine = sym (ap (λ (s : ReaderSeen). s.bad) c.self.view_is) ∙ c.if-self.false
@@ -301,14 +312,19 @@ pub returns-clause-asked : goal.returns-clause-asked
 returns-clause-asked g c =
     let k = (goal.at.returns-clause-asked g c).After-min-most in
     let old = (g.F.Files.seen c.args.files.now).asked in
-    let later = (g.F.Files.seen c.next_chunks.new.files).asked in
+    let new = (g.F.Files.seen c.next_chunks.new.files).asked in
     let n = c.in_ok-good.good in
     let most = c.min-most.result in
-    let asked : later ≤ old + sum (take most (sizes g k)) =
-    subst (λ (j : ℕ). later ≤ old + sum (take j (sizes g k))) (sym (most_is g k)) c.next_chunks.ensures.reads.asked in
+    let asked : new ≤ old + sum (take most (asked_sizes g k)) =
+    subst (λ (j : ℕ). new ≤ old + sum (take j (asked_sizes g k))) (sym (most_is g k))
+    (layout_asked g k old new _ c.next_chunks.ensures.reads.asked) in
     let left = left_later g k n c.total.result (under n _ _ c.in_ok-good.ensures.within) c.total.ensures in
-    asked_batch (now g k) _ _ _ _ _ n most (lists g k).same (lists g k).left (fine g k) _ old later asked left
-    (as_long n _ most c.in_ok-good.ensures.within (sym (most_is g k)))
+    let r = c.self.inside in
+    asked_since _ (now g k) (nat_lt n most)
+    (pieces_left r.chunk (record_length_of r.head.bytes) (later g k n c.total.result) r.points.items r.bytes.items) new _
+    c.self.view_is
+    (asked_batch (now g k) _ _ _ _ _ n most (lists g k).some (lists g k).same (lists g k).left (fine g k) _ old new asked left
+    (as_long n _ most c.in_ok-good.ensures.within (sym (most_is g k))))
 
 pub returns-clause-reads : goal.returns-clause-reads
 returns-clause-reads g c = record {
@@ -409,7 +425,8 @@ returns-in_err-good g c =
           record {
             only = reads.only;
             asked =
-                asked_all (now g k) _ _ _ _ _ 0 most (lists g k).same (lists g k).left (fine g k) old later reads.asked;
+                asked_all (now g k) _ _ _ _ _ 0 most (lists g k).some (lists g k).same (lists g k).left (fine g k) old later
+                (layout_asked g k old later most reads.asked);
           };
       calm = IfOk-from_err c.from_residual.result _ c.from_residual.ensures.0;
       ends = let old = g.F.Files.seen c.args.files.now in

@@ -4,7 +4,7 @@ use Rattle.std.proofs.lemmas.Result.{IfOk-from_err}
 use Rattle.std.proofs.Common.{◌≡◌, ◌*◌, ◌+◌, ◌-◌, ◌∙◌, refl, sym, ap, subst, false, ℕ, List, [], ◌∷◌, None, take, drop, arith}
 use Rattle.las_header.specs.Fields.{record_length_of}
 use Rattle.laz_reader.specs.Reading.{AreWholeBlocks, Position, ReaderSeen, pieces_left, FailsReading}
-use Rattle.laz_reader.proofs.Asking.{asked_block, asked_part}
+use Rattle.laz_reader.proofs.Asking.{asked_block, asked_part, asked_since}
 use Rattle.laz_forms.proofs.Public.{known_as, known_both, known_then}
 use Rattle.laz_reader.proofs.Batches.{block_held, first_size, parts, plain_fine, block_is, block_lies, block_rest, block_whole, IsNextBlock, one_lent, plain_left, stands_plain}
 use Rattle.laz_reader.proofs.reader.Reader.next_plain.Given.{Over}
@@ -111,7 +111,7 @@ returns-in_err-read_part-clause-reads g c =
     let reads = c.read_part.ensures.reads in
     record {
       only = reads.only;
-      asked = asked_part c.args.self.now _ _ _ (parts (block g k)) (first_size (block g k)) (fine g k) old new reads.asked;
+      asked = asked_part c.args.self.now _ _ _ c.requires.plain (parts (block g k)) (first_size (block g k)) (fine g k) old new reads.asked;
     }
 
 pub returns-clause-asked : goal.returns-clause-asked
@@ -119,8 +119,11 @@ returns-clause-asked g c =
     let k = (goal.at.returns-clause-asked g c).After-deref in
     let old = (g.F.Files.seen c.args.files.now).asked in
     let new = (g.F.Files.seen c.read_part.new.files).asked in
-    asked_block c.args.self.now c.self.inside.bad _ _ _ _ (parts (block g k)) (first_size (block g k))
-    (left_later g k ∙ ap (drop 1) (parts (block g k))) (fine g k) (not_bad g k) old new c.read_part.ensures.reads.asked
+    let r = c.self.inside in
+    asked_since _ c.args.self.now r.bad (pieces_left r.chunk (size g k) (later g k) r.points.items r.bytes.items) new _
+    c.self.view_is
+    (asked_block c.args.self.now c.self.inside.bad _ _ _ _ c.requires.plain (parts (block g k)) (first_size (block g k))
+    (left_later g k ∙ ap (drop 1) (parts (block g k))) (fine g k) (not_bad g k) old new c.read_part.ensures.reads.asked)
 
 pub returns-clause-reads : goal.returns-clause-reads
 returns-clause-reads g c = record {

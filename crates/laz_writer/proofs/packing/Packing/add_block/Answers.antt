@@ -19,12 +19,12 @@ returns-in_err-take_block-clause-stopped g c before front bytes s room =
     let n = stands_within before _ c.args.name.now front p bytes c.args.block.now.items 0 same in
     if_err _ c.from_residual.result Memory c.from_residual.ensures.1 n
 
-pub append_batch-requires-clause-few : goal.append_batch-requires-clause-few
-append_batch-requires-clause-few g c κs within =
+pub append_batch-appended-requires-clause-few : goal.append_batch-appended-requires-clause-few
+append_batch-appended-requires-clause-few g c κs within =
     omega (arith, few_more c.args.self.now c.take_block.new.self _ c.in_ok-take_block.ensures.taken, ap (λ (x : Plan). x.workers) c.take_block.ensures.plan, c.requires.few)
 
-pub append_batch-requires-clause-stands : goal.append_batch-requires-clause-stands
-append_batch-requires-clause-stands g c κs within =
+pub append_batch-appended-requires-clause-stands : goal.append_batch-appended-requires-clause-stands
+append_batch-appended-requires-clause-stands g c κs within =
     let h = c.requires.stands in
     let block = c.args.block.now.items in
     (h.0, h.1, h.2 ++ block, took_in h.0 _ c.args.name.now h.1 c.args.self.now h.2 h.3 c.take_block.new.self block c.in_ok-take_block.ensures.taken h.4)
@@ -32,15 +32,16 @@ append_batch-requires-clause-stands g c κs within =
 pub returns-clause-stands : goal.returns-clause-stands
 returns-clause-stands g c before front bytes s room =
     let block = c.args.block.now.items in
-    c.append_batch.ensures.stands before front (bytes ++ block) (took_in before _ c.args.name.now front c.args.self.now bytes s c.take_block.new.self block c.in_ok-take_block.ensures.taken room)
+    rw c.exchange.ensures
+    (c.append_batch-appended.ensures.stands before front (bytes ++ block) (took_in before _ c.args.name.now front c.args.self.now bytes s c.take_block.new.self block c.in_ok-take_block.ensures.taken room))
 
 pub returns-clause-stopped : goal.returns-clause-stopped
 returns-clause-stopped g c before front bytes s room =
     let block = c.args.block.now.items in
-    let now = g.F.Files.seen c.append_batch.new.files in
+    let now = g.F.Files.seen c.append_batch-appended.new.files in
     let u = took_in before _ c.args.name.now front c.args.self.now bytes s c.take_block.new.self block c.in_ok-take_block.ensures.taken room in
-    subst (λ (x : Plan). IfErr c.append_batch.result (λ (fault : Fault). (n : ℕ) × Stops fault (with_bytes before c.args.name.now (take n (front ++ full_chunks x (bytes ++ block)))) now))
-    c.take_block.ensures.plan (c.append_batch.ensures.stopped before front (bytes ++ block) u)
+    subst (λ (x : Plan). IfErr c.append_batch-appended.result (λ (fault : Fault). (n : ℕ) × Stops fault (with_bytes before c.args.name.now (take n (front ++ full_chunks x (bytes ++ block)))) now))
+    c.take_block.ensures.plan (c.append_batch-appended.ensures.stopped before front (bytes ++ block) u)
 
 pub add-requires-clause-few : goal.add-requires-clause-few
 add-requires-clause-few g c κs within = c.requires.few
