@@ -135,6 +135,11 @@ def folder_of(path: bytes) -> bytes:
     return os.path.dirname(path) or b"."
 
 
+def folders_of(paths: Iterable[bytes]) -> set[bytes]:
+    """The folders of many paths, most of which share one."""
+    return {folder_of(head) for head in {path[:path.rfind(b"/") + 1] for path in paths}}
+
+
 def make_folders(path: bytes) -> None:
     """Makes a folder and those above it, and syncs each that has a new one in it."""
     if os.path.isdir(path):

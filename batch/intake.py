@@ -12,7 +12,7 @@ from typing import Optional
 from .files import Identity, digest, exchange, folder_of, look, make_folders, move_new, sync_folder
 from .plan import NOT_OURS, key_of
 from .rows import Row, draft_of
-from .state import DONE, FAILED, HIDING, KEPT, MADE, REMOVED, TODO, Job, Made, Run, State
+from .state import DONE, HIDING, KEPT, MADE, REMOVED, TODO, Job, Made, Run, State
 from .texts import quoted, say
 from .words import made_by
 
@@ -25,7 +25,7 @@ class Clash(Exception):
 
 def told(problem: BaseException) -> bytes:
     text = problem.strerror if isinstance(problem, OSError) and problem.strerror else str(problem)
-    name = f": {problem.filename}" if isinstance(problem, OSError) and problem.filename else ""
+    name = f": {quoted(os.fsencode(problem.filename))}" if isinstance(problem, OSError) and problem.filename else ""
     return os.fsencode(text + name)
 
 
@@ -130,16 +130,18 @@ class Intake:
                 job.fail("4", b"the state can't be written: " + told(self.trouble))
                 drop(job.draft)
             return
+        settled = []
         for job in jobs:
             try:
                 self.give_name(job)
             except Clash as problem:
                 job.fail(NOT_OURS, os.fsencode(str(problem)))
-            except OSError as problem:
-                job.fail("4", told(problem))
-            if job.state == FAILED:
                 drop(job.draft)
-        self.settle_names(jobs)
+            except OSError as problem:
+                job.status, job.said = "4", told(problem)
+                continue  # perhaps it has its name: it stays `made` in the state, and the next start looks
+            settled.append(job)
+        self.settle_names(settled)
         if self.run.settings.get("delete") or self.run.settings.get("trash"):
             self.remove_inputs([job for job in jobs if job.state == DONE])
 
@@ -280,25 +282,31 @@ class Intake:
                 move_new(job.hidden, target)
             except FileExistsError:
                 raise Clash(f"{quoted(target)} is there already, and the input stays") from None
-            sync_folder(folder_of(target))
+            try:
+                sync_folder(folder_of(target))
+            except OSError as problem:
+                say(f"{quoted(job.input)} is now {quoted(target)}, whose folder can't be synced: "
+                    f"{os.fsdecode(told(problem))}")
         else:
             os.unlink(job.hidden)
         job.removal = REMOVED
 
-    def put_back(self, job: Job) -> None:
-        """Gives a hidden input its name again; if another file has it, a name beside it."""
+    def put_back(self, job: Job) -> bool:
+        """Gives a hidden input its name again, or if another file has it, a name beside it, which is said."""
         for name in (job.input, job.input + b".kept-" + self.run.token.encode()):
             try:
                 move_new(job.hidden, name)
                 job.removal = KEPT
                 if name != job.input:
                     say(f"the input {quoted(job.input)} stays as {quoted(name)}, since another file took its name")
-                return
+                return name == job.input
             except FileExistsError:
                 continue
             except OSError as problem:
                 say(f"the input {quoted(job.input)} stays as {quoted(job.hidden)}: {os.fsdecode(told(problem))}")
-                return
+                return False
+        say(f"the input {quoted(job.input)} stays as {quoted(job.hidden)}, since other files took its name")
+        return False
 
 
 def old_of(job: Job) -> bytes:
@@ -326,7 +334,10 @@ class Settler:
         self.intake.save(hiding)
 
     def name(self, job: Job) -> None:
-        """A job whose draft was to get its name: it has it, gets it now, or is to do again."""
+        """A job whose draft was to get its name: it has it, gets it now, or is to do again.
+
+        If that can't be told, since a call fails, las-batch ends, and the state stays as it is.
+        """
         part, old = job.draft, old_of(job)
         try:
             if self.is_at(job, job.output):
@@ -337,9 +348,9 @@ class Settler:
                 self.intake.give_name(job)
             else:
                 job.state = TODO
-        except (Clash, OSError) as problem:
-            job.fail(NOT_OURS if isinstance(problem, Clash) else "4", told(problem))
-            drop(part)
+        except Clash as problem:
+            job.fail(NOT_OURS, told(problem))
+            drop(job.draft)
 
     @staticmethod
     def is_at(job: Job, path: bytes) -> bool:
@@ -364,8 +375,15 @@ class Settler:
             job.removal = KEPT if look(job.input) else REMOVED
         elif self.finish and job.source and seen[1:4] == job.source[1:4] and digest(job.hidden)[1] == job.input_sum \
                 and self.is_at(job, job.output):
-            self.intake.remove_hidden(job)
-            say(f"the removal of {quoted(job.input)} was cut off, and is finished")
+            try:
+                self.intake.remove_hidden(job)
+                say(f"the removal of {quoted(job.input)} was cut off, and is finished")
+            except Clash as problem:
+                say(str(problem))
+                self.put_back(job)
         else:
-            self.intake.put_back(job)
+            self.put_back(job)
+
+    def put_back(self, job: Job) -> None:
+        if self.intake.put_back(job):
             say(f"the removal of {quoted(job.input)} was cut off; it is there again")

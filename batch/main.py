@@ -4,6 +4,7 @@ from __future__ import annotations
 import contextlib
 import errno
 import fcntl
+import gc
 import gzip
 import os
 import re
@@ -17,9 +18,9 @@ from typing import Any, Optional
 
 from .bag import BAG_FOLDER, seal_bag
 from .engines import Engine, Here, Hosts, Slurm, Stop, new_place, still_runs
-from .files import folder_of, kind_of_disk, make_folders, on_network
+from .files import folder_of, folders_of, kind_of_disk, make_folders, on_network
 from .guard import Guard, sweep
-from .intake import Intake, Settler
+from .intake import Intake, Settler, told
 from .manifest import check_manifest, write_manifests
 from .plan import Plan, Planner, check_names, check_text, key_of, look_at_all, pairs_of
 from .report import FAILED_HEAD, LOG_HEAD, Bar, Log, counts, report, write_failed
@@ -80,6 +81,7 @@ class Batch:
         needed("sbatch" if self.words.has("slurm") else "parallel", *(["rsync"] if self.words.has("ship") else []))
         self.las, self.version = find_las(self.top)
         self.stop = Stop()
+        gc.disable()  # a plan has no cycles, and its many objects would be searched for them again and again
         return self.resume() if self.words.has("resume") else self.begin()
 
     # the state
@@ -272,6 +274,8 @@ class Batch:
     # the jobs
 
     def execute(self, run: Run, jobs: list[Job], todo: list[Job], plan: Plan) -> int:
+        gc.freeze()
+        gc.enable()
         run.token = secrets.token_hex(8)
         with self.state.writing():
             self.state.put_run(run)
@@ -302,19 +306,17 @@ class Batch:
     @staticmethod
     def make_outputs_folders(todo: list[Job]) -> None:
         problems: dict[bytes, bytes] = {}
-        for job in todo:
-            folder = folder_of(job.output)
-            if folder not in problems:
-                try:
-                    make_folders(folder)
-                    problems[folder] = b""
-                except OSError as problem:
-                    problems[folder] = os.fsencode(f"write fault: {quoted(folder)}: {problem.strerror}")
-            if problems[folder]:
-                job.fail("4", problems[folder])
+        for folder in folders_of(job.output for job in todo):
+            try:
+                make_folders(folder)
+            except OSError as problem:
+                problems[folder] = os.fsencode(f"write fault: {quoted(folder)}: {problem.strerror}")
+        for job in todo if problems else []:
+            if folder_of(job.output) in problems:
+                job.fail("4", problems[folder_of(job.output)])
 
     def start(self, run: Run, intake: Intake, todo: list[Job], bar: Bar) -> None:
-        folders = list({folder_of(job.output) for job in todo})
+        folders = list(folders_of(job.output for job in todo))
         array = bool(run.settings["slurm"])
         guard = Guard(run.token, [] if array else folders)
         goes_on = False
@@ -404,5 +406,5 @@ def main(top: bytes, words: list[str]) -> int:
         say(str(problem))
         return 2
     except (OSError, sqlite3.Error) as problem:
-        say(f"{problem}")
+        say(os.fsdecode(told(problem)))
         return 1

@@ -34,6 +34,9 @@ CREATE TABLE made (output BLOB PRIMARY KEY, input BLOB NOT NULL, source TEXT NOT
 """
 FIELDS = ("number input output older adopt state removal status said host begun took source draft found input_sum "
           "output_sum plain_sum hidden").split()
+NEW = ("INSERT INTO job (number, input, output, older, adopt, state, status, said, source, removal, host, begun, took, "
+       "draft, input_sum, output_sum, plain_sum, hidden) "
+       "VALUES (?, ?, ?, ?, ?, ?, ?, ?, ?, 0, '', 0, 0, x'', '', '', '', x'')")
 PUT = f"INSERT OR REPLACE INTO job ({', '.join(FIELDS)}) VALUES ({', '.join('?' * len(FIELDS))})"
 
 
@@ -66,6 +69,11 @@ class Job:
         return (self.number, self.input, self.output, older, self.adopt, self.state, self.removal, self.status,
                 self.said, self.host, self.begun, self.took, source, self.draft, found, self.input_sum,
                 self.output_sum, self.plain_sum, self.hidden)
+
+    def new_row(self) -> tuple[Any, ...]:
+        """The fields that a job has before it is begun."""
+        older, source = (one.text() if one else None for one in (self.older, self.source))
+        return (self.number, self.input, self.output, older, self.adopt, self.state, self.status, self.said, source)
 
     @classmethod
     def of(cls, row: tuple[Any, ...]) -> Job:
@@ -211,7 +219,7 @@ class State:
         with self.writing():
             self.base.execute("DELETE FROM job")
             self.put_run(run)
-            self.put_jobs(jobs)
+            self.base.executemany(NEW, (job.new_row() for job in jobs))
 
     def made(self) -> dict[bytes, Made]:
         return {row[0]: Made.of(row) for row in self.base.execute("SELECT * FROM made")}

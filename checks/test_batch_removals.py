@@ -1,4 +1,5 @@
 """Runs cut off between the removal of an input and the note of it: what -resume and other runs make of them."""
+import json
 import os
 import sqlite3
 
@@ -57,6 +58,21 @@ def test_resume_puts_a_hidden_input_back_that_is_another_file(tiles, hidden):
     run = tiles.batch("-resume", "-odir", "out")
     assert b"it is there again" in run.stderr
     assert tiles.path("tiles/a.las").read_bytes() == data and not hidden.exists()
+
+
+def test_resume_puts_a_hidden_input_back_whose_place_in_the_trash_was_taken(tiles, hidden):
+    tiles.path("trash").mkdir()
+    tiles.path("trash/a.las").write_bytes(b"another's")
+    base = sqlite3.connect(tiles.path("out/.las-batch/state.db"))
+    with base:
+        settings = json.loads(base.execute("SELECT settings FROM run").fetchone()[0])
+        settings.update(delete=False, trash=str(tiles.path("trash")))
+        base.execute("UPDATE run SET settings = ?", (json.dumps(settings),))
+    base.close()
+    run = tiles.batch("-resume", "-odir", "out")
+    assert b"is there already, and the input stays" in run.stderr and b"Traceback" not in run.stderr
+    assert tiles.path("tiles/a.las").read_bytes() == tiles.path("kept").read_bytes() and not hidden.exists()
+    assert tiles.path("trash/a.las").read_bytes() == b"another's"
 
 
 def test_another_run_puts_a_hidden_input_back(tiles, hidden):

@@ -1,0 +1,115 @@
+"""File calls of las-batch in turn: one fails, the process is killed there, or an input is replaced before it.
+
+The first part of the calls is those that give names, take them away, and what follows each; `--huge` tries every call.
+"""
+import errno
+import subprocess
+from pathlib import Path
+
+import pytest
+
+import needs
+from batch_trials import TELLING, Trials
+
+PARTS = 32  # of all calls, beside the first
+
+
+@pytest.fixture(scope="module")
+def library(tmp_path_factory):
+    compiler = needs.command("gcc", "gcc")
+    built = tmp_path_factory.mktemp("faults") / "faults.so"
+    source = Path(__file__).with_name("batch_faults.c")
+    subprocess.run([compiler, "-O2", "-Wall", "-Wextra", "-Werror", "-shared", "-fPIC", "-o", built, source, "-ldl"],
+                   check=True)
+    return built
+
+
+@pytest.fixture
+def trials(program, tmp_path, library):
+    needs.command("parallel", "parallel")
+    needs.command("flock", "util-linux")
+    return Trials(tmp_path, program, library)
+
+
+def those_of(part, calls, after=0):
+    """The calls of one part. Part 0 is those that tell, and so many calls after each."""
+    assert len(calls) > 200 and "renameat2" in calls, calls
+    if part == 0:
+        telling = [at for at, name in enumerate(calls, 1) if name in TELLING]
+        return sorted({at + more for at in telling for more in range(after + 1)} & set(range(len(calls) + 1)))
+    return range(part, len(calls) + 1, PARTS)
+
+
+def each(trials, part, after=0):
+    """Each call of a part, in a folder as it was, with the words for it."""
+    calls = trials.calls()
+    for at in those_of(part, calls, after):
+        trials.again()
+        yield at, f"at call {at} of {len(calls)}, {calls[at - 1]}"
+
+
+every_part = pytest.mark.parametrize("part", [
+    pytest.param(0, marks=pytest.mark.slow),
+    *(pytest.param(at, marks=pytest.mark.huge) for at in range(1, PARTS + 1))])
+
+
+@every_part
+def test_a_kill_before_each_call(trials, part):
+    for at, when in each(trials, part, after=1):
+        trials.kill(at, "before", when)
+        trials.ends_well(when)
+
+
+@pytest.mark.huge
+@pytest.mark.parametrize("part", range(PARTS + 1))
+def test_a_kill_after_each_call(trials, part):
+    for at, when in each(trials, part):
+        trials.kill(at, "after", when)
+        trials.ends_well(when)
+
+
+@every_part
+def test_an_error_of_each_call(trials, part):
+    for at, when in each(trials, part, after=1):
+        trials.error(at, errno.EIO, when)
+        trials.ends_well(when)
+
+
+@pytest.mark.huge
+@pytest.mark.parametrize("part", range(PARTS + 1))
+def test_a_full_disk_at_each_call(trials, part):
+    for at, when in each(trials, part):
+        trials.error(at, errno.ENOSPC, when)
+        trials.ends_well(when)
+
+
+@every_part
+def test_an_input_that_is_replaced_before_each_call(trials, part):
+    for at, when in each(trials, part):
+        trials.replaced(at, when)
+
+
+RESUME = ["-resume", "-odir", "out"]
+
+
+@pytest.mark.huge
+@pytest.mark.parametrize("fault", ["kill", "error"])
+@pytest.mark.parametrize("first", range(14))
+def test_a_resume_that_is_cut_off_as_well(trials, first, fault):
+    """A run is killed before one of the calls that tell; then `-resume` has a fault at each of its own."""
+    calls = trials.calls()
+    killed = [at for at, name in enumerate(calls, 1) if name in TELLING]
+    at = killed[first]
+    trials.again()
+    trials.kill(at, "before", f"at call {at}")
+    again = trials.calls(*RESUME)
+    for second in those_of(0, again, after=1) if len(again) > 200 else range(1, len(again) + 1):
+        when = f"{fault} at call {second} of -resume, {again[second - 1]}, after a kill at call {at}, {calls[at - 1]}"
+        trials.again()
+        trials.kill(at, "before", when)
+        if fault == "kill":
+            trials.faulty(*RESUME, at=second, kill="before")
+        else:
+            trials.said_is_true(trials.faulty(*RESUME, at=second, error=errno.EIO), when)
+        trials.nothing_is_lost(when)
+        trials.ends_well(when)
