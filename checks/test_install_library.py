@@ -109,7 +109,7 @@ def test_cmake_refuses_another_first_number(trial: Trial) -> None:
 
 @pytest.mark.parametrize("folder", ["lib", "lib/glibc-hwcaps/x86-64-v3"])
 def test_a_library_with_a_version_in_its_name_gets_its_links(trial: Trial, folder: str) -> None:
-    with_soname(trial)
+    with_soname(trial, "liblaz.so.1")
     assert trial.install().returncode == 0
     version = (TOP / "help" / "version").read_text().strip()
     there = trial.prefix / folder
@@ -122,7 +122,7 @@ def test_a_library_with_a_version_in_its_name_gets_its_links(trial: Trial, folde
 
 def test_a_program_linked_to_a_library_with_a_version_starts(trial: Trial) -> None:
     needs.command("pkg-config", "pkg-config")
-    with_soname(trial)
+    with_soname(trial, "liblaz.so.1")
     assert trial.install().returncode == 0
     prints_heights(shell(trial, 'eval cc -O1 \\"\\$HEIGHTS\\" "$(pkg-config --cflags --libs liblaz)" -o shared\n'
                                 './shared "$TILE"'))
