@@ -119,12 +119,14 @@ class Listing:
 
     def look(self, path: bytes, follow: bool = False) -> Optional[Identity]:
         folder, _, name = path.rpartition(b"/")
-        if folder not in self.folders:
+        names = self.folders.get(folder)
+        if names is None:
             try:
-                self.folders[folder] = set(os.listdir(folder or b"/"))
+                names = set(os.listdir(folder or b"/"))
             except (FileNotFoundError, NotADirectoryError):
-                self.folders[folder] = set()
-        return look(path, follow) if name in self.folders[folder] else None
+                names = set()
+            self.folders[folder] = names
+        return look(path, follow) if name in names else None
 
 
 def check_names(pairs: list[tuple[bytes, bytes]], found: dict[bytes, Optional[Identity]]) -> None:
@@ -185,7 +187,6 @@ class Planner:
             self.plan.refused.append(job)
             return
         there = self.listing.look(job.output)
-        record = self.made.get(key_of(job.output, self.folder))
         if there is None:
             self.do(job, "new")
         elif not there.regular():
@@ -194,7 +195,7 @@ class Planner:
             job.older = there
             self.do(job, "forced")
         else:
-            self.known(job, source, there, record)
+            self.known(job, source, there, self.made.get(key_of(job.output, self.folder)))
 
     def do(self, job: Job, reason: str) -> None:
         self.plan.jobs.append(job)

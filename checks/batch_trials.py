@@ -118,9 +118,16 @@ class Trials(Tiles):
             self.all_is_done(when)
 
     def replaced(self, at: int, when: str) -> None:
-        """A new delivery takes the place of an input before a call: it is there afterwards, and after -resume."""
-        new, target = self.folder.parent / "new.las", self.path("tiles/a.las")
-        self.faulty(at=at, run=f"cp {new} {target}.new && mv -f {target}.new {target}")
+        """A new delivery takes the place of an input before a call: it is there afterwards, and after -resume.
+
+        A run that reads two rows at once has fewer calls: then this one is perhaps not reached, and nothing is brought.
+        """
+        new, target, mark = self.folder.parent / "new.las", self.path("tiles/a.las"), self.folder.parent / "reached"
+        mark.unlink(missing_ok=True)
+        self.faulty(at=at, run=f"cp {new} {target}.new && mv -f {target}.new {target} && : >{mark}")
+        if not mark.exists():
+            assert at > 150, when
+            return
         for turn in (when, f"after -resume, {when}"):
             found = self.contents()
             assert self.new in found or self.packed_new in found, turn
