@@ -12,7 +12,7 @@ from batch_places import processes_with, wait_until
 from batch_servers import SshServer
 from batch_tiles import Stock, StockTiles, ended
 
-pytestmark = [pytest.mark.servers, pytest.mark.root, pytest.mark.alone]
+pytestmark = [pytest.mark.servers, pytest.mark.root, pytest.mark.alone, pytest.mark.slow]
 
 
 @pytest.fixture(scope="module")

@@ -219,6 +219,7 @@ def planned(tiles, output):
 
 
 @pytest.mark.alone
+@pytest.mark.slow
 def test_100_000_inputs_are_planned_in_seconds_and_300_mb(tiles):
     """docs/batch.md has the figure of a quiet machine; a busy one takes up to twice that."""
     for at in range(100_000):

@@ -14,7 +14,7 @@ from batch_places import wait_until
 from batch_servers import Slurm
 from batch_tiles import Stock, StockTiles, ended
 
-pytestmark = [pytest.mark.servers, pytest.mark.root, pytest.mark.alone]
+pytestmark = [pytest.mark.servers, pytest.mark.root, pytest.mark.alone, pytest.mark.slow]
 BAD = "bad/a'b\"c.las"
 
 

@@ -81,6 +81,7 @@ def test_make_takes_for_one_chunk_what_one_worker_takes(place):
     assert place.read("made.laz") == made
 
 
+@pytest.mark.slow
 def test_six_chunk_lists_of_134_mb_are_opened_in_the_room_of_fewer_than_three(place):
     place.write("list.laz", listing_file())
     words = ["lasmerge", *["-i", "list.laz"] * 6, "-o", "lists.las", "-cores", "1"]

@@ -184,7 +184,7 @@ class TestReadme:
         for step in PAGE:
             if step.reason is None:
                 began = time.monotonic()
-                said = inside(clone, f"cd clone && {{ {step.commands}}}")
+                said = inside(clone, f"cd clone && {{ {step.commands}\n}}")
                 print(f"{time.monotonic() - began:.2f} s: {step.name}")
                 assert said == (step.printed or ""), step.name
 
