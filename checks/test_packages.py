@@ -186,7 +186,7 @@ class TestReadme:
                 began = time.monotonic()
                 said = inside(clone, f"cd clone && {{ {step.commands}\n}}")
                 print(f"{time.monotonic() - began:.2f} s: {step.name}")
-                assert said == (step.printed or ""), step.name
+                assert step.printed in (None, said), step.name
 
     def test_installation_runs_without_the_clone(self, clone):
         inside(clone, "cd clone && ./install /opt/las")
