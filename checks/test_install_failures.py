@@ -124,6 +124,7 @@ def test_a_removal_that_ends_at_a_step_can_be_repeated(trial: Trial, how: str) -
         (trial.prefix / "bin" / "mine").unlink()
 
 
+@pytest.mark.slow
 @pytest.mark.parametrize("how", HOWS)
 def test_some_steps_of_a_first_install(trial: Trial, how: str) -> None:
     """A few of the steps, in each run of the suite; all of them take `--all`."""
@@ -140,6 +141,7 @@ def test_some_steps_of_a_first_install(trial: Trial, how: str) -> None:
         assert is_empty(trial), at
 
 
+@pytest.mark.slow
 @pytest.mark.parametrize("how", HOWS)
 def test_some_steps_of_an_upgrade(trial: Trial, how: str) -> None:
     assert trial.install().returncode == 0

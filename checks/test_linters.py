@@ -31,6 +31,9 @@ def clean(*line, **options):
     assert run.returncode == 0, (run.stdout + run.stderr).decode()
 
 
+pytestmark = pytest.mark.slow  # they look at the sources, and not at the program
+
+
 @pytest.mark.parametrize("script", SHELL, ids=str)
 def test_shellcheck(script):
     needs.command("shellcheck", "shellcheck")
