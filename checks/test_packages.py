@@ -166,8 +166,13 @@ def clone(debian):
     (debian / "clone").mkdir()
     subprocess.run(["tar", "-x", "-C", debian / "clone"], input=data, check=True)
     subprocess.run(["mount", "-t", "proc", "proc", debian / "proc"], check=True)
+    subprocess.run(["mount", "-t", "devpts", "-o", "newinstance,ptmxmode=0666", "devpts", debian / "dev" / "pts"],
+                   check=True)
+    (debian / "dev" / "ptmx").unlink(missing_ok=True)
+    (debian / "dev" / "ptmx").symlink_to("pts/ptmx")
     yield debian
-    subprocess.run(["umount", "-l", debian / "proc"], check=False)
+    for name in ("dev/pts", "proc"):
+        subprocess.run(["umount", "-l", debian / name], check=False)
 
 
 @pytest.mark.huge
