@@ -8,7 +8,6 @@ use Rattle.laz_forms.specs.Existing.{HasSomeInRange}
 use Rattle.laz_forms.specs.Pieces.{Piece}
 use Rattle.laz_forms.specs.Ranges.{Range, parts_of}
 use Rattle.laz_forms.specs.Records.{AreRead, AreRecordsIn, HoldBlocks}
-use Rattle.laz_forms.proofs.Public.{and_then, there}
 use Rattle.las_thin.specs.declared.pick.Pick.{Pick}
 use Rattle.las_thin.specs.declared.pick.Pick.TheVariants.{First, Lowest, Highest}
 use Rattle.las_thin.specs.Kept.{kept_behind}
@@ -48,4 +47,4 @@ module _ (keeping : Keeping) (file : List ℕ) (range : Range) (blocks : List (L
 
 pub converts_to_something : HasSomeInRange → ConvertsToSomething
 converts_to_something has plan settings file range accepted small =
-    and_then (has file range accepted small) (λ r. there (converts_some (kept_behind plan settings) file range r.0 settings.pick r.1 r.2))
+    let r = has file range accepted small in converts_some (kept_behind plan settings) file range r.0 settings.pick r.1 r.2

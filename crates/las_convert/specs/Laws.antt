@@ -7,7 +7,6 @@ use Rattle.las_filter.specs.Kept.{Steps, kept}
 use Rattle.las_thin.specs.Kept.{kept_behind}
 use Rattle.las_thin.specs.Sieving.{IsFirst, Settings, all_pass}
 use Rattle.laz_range.specs.Span.{IsBytes}
-use Rattle.laz_forms.specs.Existing.{IsNotNone}
 use Rattle.laz_forms.specs.Pieces.{ArePieces, Piece}
 use Rattle.laz_forms.specs.Ranges.{Range, whole_range}
 use Rattle.laz_forms.specs.Records.{AreRecordsOf, HoldBlocks}
@@ -58,8 +57,8 @@ ConvertsInOneWay = (plan : Steps) (settings : Settings) (file : List ℕ) (range
     (refusal : Option Refusal) → IsAcceptedFile file → IsBytes file
     → ConvertsTo plan settings file range records refusal → OnlyConverts plan settings file range records refusal
 
--- That converting a range of an accepted file gives nothing is refuted.
+-- Converting a range of an accepted file gives something.
 abbrev pub ConvertsToSomething : Type 0
 ConvertsToSomething = (plan : Steps) (settings : Settings) (file : List ℕ) (range : Range) → IsAcceptedFile file
     → IsBytes file
-    → IsNotNone ((records : List ℕ) × (refusal : Option Refusal) × ConvertsTo plan settings file range records refusal)
+    → (records : List ℕ) × (refusal : Option Refusal) × ConvertsTo plan settings file range records refusal

@@ -22,7 +22,7 @@ pub fn converting_ends_in_one_way()
     records_have_one_answer();
 }
 
-/// That converting a range of an accepted file gives nothing is refuted, whatever the bytes of the file are.
+/// Converting a range of an accepted file gives something, whatever the bytes of the file are.
 pub fn converting_gives_something()
     ensures { ConvertsToSomething }
 {

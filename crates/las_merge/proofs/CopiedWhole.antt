@@ -20,10 +20,12 @@ use Rattle.las_merge.specs.declared.fault.MergeFault.{MergeFault}
 use Rattle.las_merge.specs.declared.fault.MergeFault.TheVariants.{At, Unequal, TooManyPoints, TooManyChunks, Write}
 use Rattle.las_merge.specs.declared.fault.MergeFault.TheVariants.{Memory}
 use Rattle.las_merge.specs.Appending.{IsCopyFault, LeavesPrefix, LiesIn, SourceSeen}
+use Rattle.las_merge.specs.Asking.{asked_of_all, asked_to_compare, asked_to_read}
 use Rattle.las_merge.specs.Listing.{IsListed, IsPackedInput, ListedInput, ListsChunks, all_pieces, source_of}
 use Rattle.las_merge.specs.Opening.{AreOpen, InputSeen, IsOpen, first_read, names_read, points_read}
 use Rattle.las_merge.specs.Packed.{AreFirstPacked, CanCopyFrom, IsKeptFromCopying, IsNoFault, IsPacked, asked_to_copy}
 use Rattle.las_merge.specs.Summing.{copied_text, summed_head}
+use Rattle.las_merge.proofs.AskedToCopy.{copied_bytes}
 use Rattle.las_merge.proofs.Ends.{AreOther, first_take, take_length}
 use Rattle.las_merge.proofs.Known.{file_length, first_by, name_length, read_points}
 use Rattle.las_merge.proofs.Listed.{IsRead, asked_all, files_in, have_all, length_all, lie_all, list_packed, packed_all}
@@ -171,6 +173,18 @@ module _ (held : Option FileMap) (names : List (List ℕ)) (inputs : List InputS
     asked_few =
         let size : SourceSeen → ℕ = λ s. s.size in
         omega (arith, lists.once, ap (sum_by size) lists.sources_are, asked_all known lists.listed read)
+
+    pub asked_whole : sum_by (λ s. s.size) sources + asked_of_all asked_to_compare known names ≤ asked_of_all asked_to_read known names
+    asked_whole =
+        let size : SourceSeen → ℕ = λ s. s.size in
+        let same : names_read (map (λ l. l.input) lists.listed) ≡ names = ap names_read (sym lists.inputs_are) ∙ names_are held names inputs opened all in
+        omega (
+          arith,
+          copied_bytes known lists.listed here.opened read,
+          ap (sum_by size) lists.sources_are,
+          ap (asked_of_all asked_to_compare known) same,
+          ap (asked_of_all asked_to_read known) same,
+        )
 
     pub text_is : (head table : List ℕ) (place : ℕ) → many ≡ false → head ≡ packed_head (summed_head inputs) 4294967295
         → place ≡ length head + 8 + sum sizes → table ≡ table_bytes counts sizes

@@ -14,10 +14,9 @@ use Rattle.laz_range.specs.Span.{IsBytes}
 use Rattle.laz_table.specs.declared.limits.TheConstants.{MAX_CHUNKS}
 use Rattle.laz_copied.specs.Copied.{Chunk, HaveChunks, all_of, chunk_at, first_head, points_in}
 use Rattle.laz_forms.specs.declared.fault.Fault.TheVariants as fault
-use Rattle.laz_forms.specs.Existing.{HasAnAnswer, HasPieces, HasSomeRecords, IsNotNone}
+use Rattle.laz_forms.specs.Existing.{HasAnAnswer, HasPieces, HasSomeRecords}
 use Rattle.laz_forms.specs.Records.{AreRecordsOf}
 use Rattle.laz_forms.specs.Refusing.{IsAcceptedFile, IsRefusal}
-use Rattle.laz_forms.proofs.Public.{and_then, there}
 use Rattle.las_merge.specs.declared.field.Field.{Field}
 use Rattle.las_merge.specs.declared.fault.MergeFault.{MergeFault}
 use Rattle.las_merge.specs.declared.fault.MergeFault.TheVariants.{At, Unequal, TooManyPoints, TooManyChunks}
@@ -62,34 +61,34 @@ module _ (known : FileMap) (names : List (List ℕ)) where
   Kept = ((cause : MergeFault) × IsKeptBy known names cause) ⊎ ((files : List (List ℕ)) × AreFirst known names files × (length files ≡ length names))
 
   -- after these files comes one input more, and then others
-  module _ (answers : HasAnAnswer) (n : ℕ) (rest : (files : List (List ℕ)) → length files + n ≡ length names → AreFirst known names files → IsNotNone Kept)
+  module _ (answers : HasAnAnswer) (n : ℕ) (rest : (files : List (List ℕ)) → length files + n ≡ length names → AreFirst known names files → Kept)
       (files : List (List ℕ)) (end : length files + suc n ≡ length names) (f : AreFirst known names files) where
     reaches : Reaches known names (length files) files
     reaches = record { first = f; number_is = refl; within = omega (arith, end) }
 
-    goes_on : (file : List ℕ) → finmap.get known (item_at names (length files)) ≡ Some file → IsAcceptedFile file → (1 ≤ length files → LikeFirst files file) → IsNotNone Kept
+    goes_on : (file : List ℕ) → finmap.get known (item_at names (length files)) ≡ Some file → IsAcceptedFile file → (1 ≤ length files → LikeFirst files file) → Kept
     goes_on file held accepted alike = rest (files ++ file ∷ []) (omega (arith, end, length-append files (file ∷ []))) (one_more files file f (omega (arith, end)) held accepted alike)
 
-    compared : (file : List ℕ) → finmap.get known (item_at names (length files)) ≡ Some file → IsAcceptedFile file → (d : Option Field) → first_difference (first_head files) (head_of file) ≡ d → IsNotNone Kept
+    compared : (file : List ℕ) → finmap.get known (item_at names (length files)) ≡ Some file → IsAcceptedFile file → (d : Option Field) → first_difference (first_head files) (head_of file) ≡ d → Kept
     compared file held accepted None same = goes_on file held accepted (λ some. same)
     compared file held accepted (Some field) differs = elim (cases_lt 0 (length files)) [
-      | inl some ↦ there (inl (Unequal (length files) field, (files, file, reaches, omega (arith, some), held, accepted, differs)))
+      | inl some ↦ inl (Unequal (length files) field, (files, file, reaches, omega (arith, some), held, accepted, differs))
       | inr none ↦ goes_on file held accepted (λ some. absurd (omega (arith, some, none)))
     ]
 
-    opened : (file : List ℕ) → finmap.get known (item_at names (length files)) ≡ Some file → (answer : Option Refusal) → IsRefusal file answer → IsNotNone Kept
-    opened file held (Some cause) is = there (inl (At (length files) (fault.Refused cause), (files, file, reaches, held, is)))
+    opened : (file : List ℕ) → finmap.get known (item_at names (length files)) ≡ Some file → (answer : Option Refusal) → IsRefusal file answer → Kept
+    opened file held (Some cause) is = inl (At (length files) (fault.Refused cause), (files, file, reaches, held, is))
     opened file held None is = compared file held is (first_difference (first_head files) (head_of file)) refl
 
-    looked_up : (o : Option (List ℕ)) → finmap.get known (item_at names (length files)) ≡ o → IsNotNone Kept
-    looked_up None missing = there (inl (At (length files) fault.Read, (files, reaches, missing)))
-    looked_up (Some file) held = and_then (answers file) (λ a. opened file held a.0 a.1)
+    looked_up : (o : Option (List ℕ)) → finmap.get known (item_at names (length files)) ≡ o → Kept
+    looked_up None missing = inl (At (length files) fault.Read, (files, reaches, missing))
+    looked_up (Some file) held = let a = answers file in opened file held a.0 a.1
 
-    one_input : IsNotNone Kept
+    one_input : Kept
     one_input = looked_up (finmap.get known (item_at names (length files))) refl
 
-  kept_or_all : HasAnAnswer → (n : ℕ) (files : List (List ℕ)) → length files + n ≡ length names → AreFirst known names files → IsNotNone Kept
-  kept_or_all answers zero files end f = there (inr (files, f, omega (arith, end)))
+  kept_or_all : HasAnAnswer → (n : ℕ) (files : List (List ℕ)) → length files + n ≡ length names → AreFirst known names files → Kept
+  kept_or_all answers zero files end f = inr (files, f, omega (arith, end))
   kept_or_all answers (suc n) files end f = one_input answers n (kept_or_all answers n) files end f
 
   merged_or : Kept → ((cause : MergeFault) × IsKeptBy known names cause) ⊎ ((files : List (List ℕ)) × CanMerge known names files)
@@ -100,7 +99,7 @@ module _ (known : FileMap) (names : List (List ℕ)) where
   ]
 
 pub are_kept_or_merged : HasAnAnswer → AreKeptOrMerged
-are_kept_or_merged answers known names = and_then (kept_or_all known names answers (length names) [] (omega arith) (no_files known names)) (λ k. there (merged_or known names k))
+are_kept_or_merged answers known names = let k = kept_or_all known names answers (length names) [] (omega arith) (no_files known names) in merged_or known names k
 
 -- ---- the records of files
 
@@ -112,17 +111,16 @@ merges_more file files part has records (Some place) m = (
   record { parts = part ∷ m.parts; blocks = m.blocks; within = omega (arith, m.within); earlier = (has, m.earlier); bad = m.bad; records_are = refl },
 )
 
-merge_or : (file : List ℕ) (files : List (List ℕ)) → IsNotNone ((records : List ℕ) × (bad : Option BadPlace) × MergesTo files records bad) → (blocks : List (List ℕ)) (bad : Option ℕ) → AreRecordsOf file blocks bad
-    → IsNotNone ((records : List ℕ) × (bad : Option BadPlace) × MergesTo (file ∷ files) records bad)
-merge_or file files rest blocks None are = and_then rest (λ m. there (merges_more file files (concat blocks) (blocks, are, refl) m.0 m.1 m.2))
+merge_or : (file : List ℕ) (files : List (List ℕ)) → ((records : List ℕ) × (bad : Option BadPlace) × MergesTo files records bad) → (blocks : List (List ℕ)) (bad : Option ℕ) → AreRecordsOf file blocks bad
+    → ((records : List ℕ) × (bad : Option BadPlace) × MergesTo (file ∷ files) records bad)
+merge_or file files rest blocks None are = let m = rest in merges_more file files (concat blocks) (blocks, are, refl) m.0 m.1 m.2
 merge_or file files rest blocks (Some i) are =
-    there (concat blocks, Some (record { file = 0; chunk = i }), record { parts = []; blocks = blocks; within = omega arith; earlier = tt; bad = are; records_are = refl })
+    (concat blocks, Some (record { file = 0; chunk = i }), record { parts = []; blocks = blocks; within = omega arith; earlier = tt; bad = are; records_are = refl })
 
 pub merges_to_something : HasSomeRecords → MergesToSomething
-merges_to_something has [] accepted small = there ([], None, ([], tt, refl))
+merges_to_something has [] accepted small = ([], None, ([], tt, refl))
 merges_to_something has (file ∷ files) accepted small =
-    and_then (has file (accepted 0 [] (omega arith)) (small 0 [] (omega arith)))
-    (λ r. merge_or file files (merges_to_something has files (λ k d lt. accepted (suc k) d (omega (arith, lt))) (λ k d lt. small (suc k) d (omega (arith, lt)))) r.0 r.1 r.2)
+    let r = has file (accepted 0 [] (omega arith)) (small 0 [] (omega arith)) in merge_or file files (merges_to_something has files (λ k d lt. accepted (suc k) d (omega (arith, lt))) (λ k d lt. small (suc k) d (omega (arith, lt)))) r.0 r.1 r.2
 
 -- ---- inputs whose chunks are to be copied
 
@@ -130,47 +128,46 @@ module _ (known : FileMap) (names : List (List ℕ)) where
   abbrev KeptPacked : Type 0
   KeptPacked = ((cause : MergeFault) × IsKeptFromCopying known names cause) ⊎ ((files : List (List ℕ)) × AreFirstPacked known names files × (length files ≡ length names))
 
-  module _ (answers : HasAnAnswer) (n : ℕ) (rest : (files : List (List ℕ)) → length files + n ≡ length names → AreFirstPacked known names files → IsNotNone KeptPacked)
+  module _ (answers : HasAnAnswer) (n : ℕ) (rest : (files : List (List ℕ)) → length files + n ≡ length names → AreFirstPacked known names files → KeptPacked)
       (files : List (List ℕ)) (end : length files + suc n ≡ length names) (f : AreFirstPacked known names files) where
     packed_so_far : ReachesPacked known names (length files) files
     packed_so_far = record { first = f; number_is = refl; within = omega (arith, end) }
 
-    copy_goes_on : (file : List ℕ) → finmap.get known (item_at names (length files)) ≡ Some file → IsAcceptedFile file → IsPacked file → (1 ≤ length files → LikeFirst files file) → IsNotNone KeptPacked
+    copy_goes_on : (file : List ℕ) → finmap.get known (item_at names (length files)) ≡ Some file → IsAcceptedFile file → IsPacked file → (1 ≤ length files → LikeFirst files file) → KeptPacked
     copy_goes_on file held accepted packed alike =
         rest (files ++ file ∷ []) (omega (arith, end, length-append files (file ∷ [])))
         (record { first = one_more known names files file f.first (omega (arith, end)) held accepted alike; packed = All-push IsPacked files file f.packed packed })
 
-    copy_compared : (file : List ℕ) → finmap.get known (item_at names (length files)) ≡ Some file → IsAcceptedFile file → IsPacked file → (d : Option Field) → first_difference (first_head files) (head_of file) ≡ d → IsNotNone KeptPacked
+    copy_compared : (file : List ℕ) → finmap.get known (item_at names (length files)) ≡ Some file → IsAcceptedFile file → IsPacked file → (d : Option Field) → first_difference (first_head files) (head_of file) ≡ d → KeptPacked
     copy_compared file held accepted packed None same = copy_goes_on file held accepted packed (λ some. same)
     copy_compared file held accepted packed (Some field) differs = elim (cases_lt 0 (length files)) [
-      | inl some ↦ there (inl (Unequal (length files) field, (files, file, packed_so_far, omega (arith, some), held, accepted, packed, differs)))
+      | inl some ↦ inl (Unequal (length files) field, (files, file, packed_so_far, omega (arith, some), held, accepted, packed, differs))
       | inr none ↦ copy_goes_on file held accepted packed (λ some. absurd (omega (arith, some, none)))
     ]
 
-    copy_by_form : (file : List ℕ) → finmap.get known (item_at names (length files)) ≡ Some file → IsAcceptedFile file → (packed : Bool) → is_packed (head_of file) ≡ packed → IsNotNone KeptPacked
+    copy_by_form : (file : List ℕ) → finmap.get known (item_at names (length files)) ≡ Some file → IsAcceptedFile file → (packed : Bool) → is_packed (head_of file) ≡ packed → KeptPacked
     copy_by_form file held accepted true packed = copy_compared file held accepted packed (first_difference (first_head files) (head_of file)) refl
-    copy_by_form file held accepted false plain = there (inl (At (length files) (fault.Refused NotPacked), (files, file, packed_so_far, held, inl (refl, accepted, plain))))
+    copy_by_form file held accepted false plain = inl (At (length files) (fault.Refused NotPacked), (files, file, packed_so_far, held, inl (refl, accepted, plain)))
 
-    copy_opened : (file : List ℕ) → finmap.get known (item_at names (length files)) ≡ Some file → (answer : Option Refusal) → IsRefusal file answer → IsNotNone KeptPacked
-    copy_opened file held (Some cause) is = there (inl (At (length files) (fault.Refused cause), (files, file, packed_so_far, held, inr is)))
+    copy_opened : (file : List ℕ) → finmap.get known (item_at names (length files)) ≡ Some file → (answer : Option Refusal) → IsRefusal file answer → KeptPacked
+    copy_opened file held (Some cause) is = inl (At (length files) (fault.Refused cause), (files, file, packed_so_far, held, inr is))
     copy_opened file held None is = copy_by_form file held is (is_packed (head_of file)) refl
 
-    copy_looked_up : (o : Option (List ℕ)) → finmap.get known (item_at names (length files)) ≡ o → IsNotNone KeptPacked
-    copy_looked_up None missing = there (inl (At (length files) fault.Read, (files, packed_so_far, missing)))
-    copy_looked_up (Some file) held = and_then (answers file) (λ a. copy_opened file held a.0 a.1)
+    copy_looked_up : (o : Option (List ℕ)) → finmap.get known (item_at names (length files)) ≡ o → KeptPacked
+    copy_looked_up None missing = inl (At (length files) fault.Read, (files, packed_so_far, missing))
+    copy_looked_up (Some file) held = let a = answers file in copy_opened file held a.0 a.1
 
-    one_packed_input : IsNotNone KeptPacked
+    one_packed_input : KeptPacked
     one_packed_input = copy_looked_up (finmap.get known (item_at names (length files))) refl
 
-  kept_or_all_packed : HasAnAnswer → (n : ℕ) (files : List (List ℕ)) → length files + n ≡ length names → AreFirstPacked known names files → IsNotNone KeptPacked
-  kept_or_all_packed answers zero files end f = there (inr (files, f, omega (arith, end)))
+  kept_or_all_packed : HasAnAnswer → (n : ℕ) (files : List (List ℕ)) → length files + n ≡ length names → AreFirstPacked known names files → KeptPacked
+  kept_or_all_packed answers zero files end f = inr (files, f, omega (arith, end))
   kept_or_all_packed answers (suc n) files end f = one_packed_input answers n (kept_or_all_packed answers n) files end f
 
-chunks_there : HasPieces → (files : List (List ℕ)) → All IsAcceptedFile files → All IsBytes files → IsNotNone ((parts : List (List Chunk)) × HaveChunks files parts)
-chunks_there has [] accepted small = there ([], tt)
+chunks_there : HasPieces → (files : List (List ℕ)) → All IsAcceptedFile files → All IsBytes files → ((parts : List (List Chunk)) × HaveChunks files parts)
+chunks_there has [] accepted small = ([], tt)
 chunks_there has (file ∷ files) accepted small =
-    and_then (has file (accepted 0 [] (omega arith)) (small 0 [] (omega arith)))
-    (λ p. and_then (chunks_there has files (λ k d lt. accepted (suc k) d (omega (arith, lt))) (λ k d lt. small (suc k) d (omega (arith, lt)))) (λ r. there (map (chunk_at file) p.0 ∷ r.0, ((p.0, p.1, refl), r.1))))
+    let p = has file (accepted 0 [] (omega arith)) (small 0 [] (omega arith)) in (let r = chunks_there has files (λ k d lt. accepted (suc k) d (omega (arith, lt))) (λ k d lt. small (suc k) d (omega (arith, lt))) in (map (chunk_at file) p.0 ∷ r.0, ((p.0, p.1, refl), r.1)))
 
 -- the first inputs hold bytes
 pub bytes_of_first : (known : FileMap) (names files : List (List ℕ)) → HoldBytes known → AreFirst known names files → All IsBytes files
@@ -186,13 +183,13 @@ module _ (has : HasPieces) (known : FileMap) (names : List (List ℕ)) (hold : H
     | inr chunks ↦ inr (files, parts, record { first = f; all = all; few = few; have = have; chunks = chunks })
   ]
 
-  copied_or : KeptPacked known names → IsNotNone Copied
-  copied_or (inl kept) = there (inl kept)
+  copied_or : KeptPacked known names → Copied
+  copied_or (inl kept) = inl kept
   copied_or (inr all) = elim (cases_lt (points_in all.0) (2 ^ 32)) [
-    | inl few ↦ and_then (chunks_there has all.0 all.1.first.accepted (bytes_of_first known names all.0 hold all.1.first)) (λ c. there (copied_if all.0 c.0 all.1 all.2 few c.1))
-    | inr many ↦ there (inl (TooManyPoints, (all.0, all.1, all.2, many)))
+    | inl few ↦ let c = chunks_there has all.0 all.1.first.accepted (bytes_of_first known names all.0 hold all.1.first) in copied_if all.0 c.0 all.1 all.2 few c.1
+    | inr many ↦ inl (TooManyPoints, (all.0, all.1, all.2, many))
   ]
 
 pub are_kept_or_copied : HasAnAnswer → HasPieces → AreKeptOrCopied
 are_kept_or_copied answers has known names hold =
-    and_then (kept_or_all_packed known names answers (length names) [] (omega arith) (record { first = no_files known names; packed = All-nil IsPacked })) (copied_or has known names hold)
+    copied_or has known names hold (kept_or_all_packed known names answers (length names) [] (omega arith) (record { first = no_files known names; packed = All-nil IsPacked }))

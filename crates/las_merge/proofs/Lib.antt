@@ -15,6 +15,7 @@ mod Whole
 mod Parts
 mod Appended
 mod Listed
+mod AskedToCopy
 mod KeptPacked
 mod CopiedOnce
 mod CopiedLaws

@@ -16,6 +16,7 @@ ghost use Rattle.laz_file.specs.Copying.{with_reads};
 ghost use Rattle.las_merge.specs.declared.fault.MergeFault.{MergeFault};
 ghost use Rattle.las_merge.specs.declared.fault.MergeFault.TheVariants.{Write};
 ghost use Rattle.las_merge.specs.Appending.{IsCopyFault, LeavesPrefix, LiesIn};
+ghost use Rattle.las_merge.specs.Asking.{asked_of_all, asked_to_read};
 ghost use Rattle.las_merge.specs.Inputs.{IfKnown, names_of};
 ghost use Rattle.las_merge.specs.Opening.{first_read, points_read};
 ghost use Rattle.las_merge.specs.Outcomes.{SaysCopying};
@@ -189,7 +190,10 @@ pub fn merge_copied<F: Files>(
     // No call has failed if the inputs are refused or can't be copied.
     ensures calm_kept { IfErr result (λ fault. IsNoFault fault
         → IsCalm (F.seen files.old) (F.seen files.new)) }
-    // Each input is asked once for what is read of it.
+    // However the call ends, no more is asked for than what opening each input once and reading it once takes,
+    ensures asked_always { IfKnown (F.seen files.old).held (λ known.
+        AsksAtMost (asked_of_all asked_to_read known (names_of inputs.now)) (F.seen files.old) (F.seen files.new)) }
+    // and no more of its head, its table and its chunks if all is done.
     ensures asked { OnOk result (IfKnown (F.seen files.old).held (λ known.
         (merged : List (List ℕ)) (parts : List (List Chunk)) → CanCopyFrom known (names_of inputs.now) merged parts
         → AsksAtMost (asked_to_copy merged parts) (F.seen files.old) (F.seen files.new))) }

@@ -43,9 +43,8 @@ pub fn copied_inputs_are_merged()
     ensures merged { UnpackToMerged }
 {}
 
-/// Something comes of a merge, whatever the inputs are: that nothing keeps them from being merged, or their chunks from
-/// being copied, and that they can't be merged or copied, is refuted. So it is that merging accepted files gives
-/// nothing.
+/// Something comes of a merge, whatever the inputs are: something keeps them from being merged, or they can be merged,
+/// and so with the copying of their chunks. Merging accepted files gives records.
 pub fn merging_gives_something()
     ensures merged { AreKeptOrMerged }
     ensures records { MergesToSomething }

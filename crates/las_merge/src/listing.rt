@@ -2,9 +2,12 @@
 ghost use Rattle.std.specs.Prelude.{◌≡◌, ◌+◌, ◌-◌, ◌*◌, ◌^◌, ◌<◌, ◌≤◌, ◌++◌, ◌∷◌, ℕ, [], length, sum, map};
 ghost use Rattle.std.specs.Prelude.{vec_len};
 ghost use Rattle.std.specs.Prelude.{true, false, IfErr, IfOk, OnOk};
+ghost use Rattle.std.specs.FinMap as finmap;
 ghost use Rattle.las_outside.specs.Frames.{IsCalm, OnlyReads};
 ghost use Rattle.laz_table.specs.declared.limits.TheConstants.{MAX_CHUNKS};
-ghost use Rattle.las_merge.specs.Inputs.{names_of};
+ghost use Rattle.laz_reader.specs.Asking.{AsksAtMost};
+ghost use Rattle.las_merge.specs.Asking.{asked_of_all, asked_to_compare};
+ghost use Rattle.las_merge.specs.Inputs.{IfKnown, names_of};
 ghost use Rattle.las_merge.specs.Listing.{AddsChunks, EndsListing, FailsNextPacked, Lists, input_of};
 ghost use Rattle.las_merge.specs.Listing.{listed_as, source_of};
 ghost use Rattle.las_merge.specs.Opening.{AreOpen, InputSeen, IsNext};
@@ -148,6 +151,8 @@ fn list_next<F: Files>(
         (asked + ((F.seen files.new).asked - (F.seen files.old).asked))) }
     ensures ends { IfErr result
         (FailsNextPacked name.now listed.old.inputs.items (F.seen files.old) (F.seen files.new)) }
+    ensures asked { IfKnown (F.seen files.old).held (λ known.
+        AsksAtMost (asked_to_compare (finmap.get known name.now)) (F.seen files.old) (F.seen files.new)) }
     ensures reads { OnlyReads (F.seen files.old) (F.seen files.new) }
     ensures calm { OnOk result (IsCalm (F.seen files.old) (F.seen files.new)) }
     ensures calm_kept { IfErr result (λ fault. IsNoFault fault
@@ -183,6 +188,8 @@ pub(crate) fn list_inputs<F: Files>(
         ((F.seen files.new).asked - (F.seen files.old).asked)) }
     ensures all { IfOk result (λ listed. length listed.inputs.items ≡ length names.now) }
     ensures ends { IfErr result (EndsListing (names_of names.now) (F.seen files.old) (F.seen files.new)) }
+    ensures asked { IfKnown (F.seen files.old).held (λ known.
+        AsksAtMost (asked_of_all asked_to_compare known (names_of names.now)) (F.seen files.old) (F.seen files.new)) }
     ensures reads { OnlyReads (F.seen files.old) (F.seen files.new) }
     ensures calm { OnOk result (IsCalm (F.seen files.old) (F.seen files.new)) }
     ensures calm_kept { IfErr result (λ fault. IsNoFault fault

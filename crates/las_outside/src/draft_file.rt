@@ -42,14 +42,8 @@ impl DraftFile {
         }
     }
 
-    /// Gives the draft what it keeps of an older file, and has the system write it to the disk.
-    ///
-    /// It is an error if its name leads to another file by now.
-    pub fn sync<R: System<File = File>>(&self, rt: &R, file: &File) -> io::Result<()> {
-        if let Some(older) = &self.target.older {
-            older.give_to(file)?;
-        }
-        file.sync_all()?;
+    /// It is an error if the draft's name leads to another file by now.
+    pub fn refuse_moved<R: System<File = File>>(&self, rt: &R) -> io::Result<()> {
         if self.is_there(rt)? {
             Ok(())
         } else {

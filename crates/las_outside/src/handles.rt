@@ -6,14 +6,14 @@ use crate::draft_file::DraftFile;
 use crate::draft_list::DraftList;
 use crate::draft_name::draft_path;
 use crate::file_identity::FileIdentity;
-use crate::file_state::FileState;
-use crate::known_files::KnownFiles;
+use crate::known_files::{ComparedFile, KnownFiles};
+use crate::opened_file::OpenedFile;
 use crate::target::{Target, refuse_special};
 use std::alloc::Global;
 use std::collections::HashMap;
-use std::fs::{self, File, OpenOptions, TryLockError};
+use std::fs::{self, File, OpenOptions};
 use std::io::{self, ErrorKind};
-use std::os::unix::fs::{FileExt, OpenOptionsExt};
+use std::os::unix::fs::OpenOptionsExt;
 use std::rt::Files as System;
 
 /// The most handles that are open at a time: one for each part of a file that is split into 512, and some for inputs.
@@ -41,7 +41,7 @@ pub enum Access {
 /// An open file.
 #[derive(Drop)]
 pub struct Handle {
-    file: File,
+    file: ComparedFile,
     // how long the file is, if that is known
     end: Option<u64>,
     // which of all uses of handles the last one of this was
@@ -51,12 +51,12 @@ pub struct Handle {
 impl Handle {
     /// The length of the file now.
     pub fn len(&self) -> io::Result<u64> {
-        Ok(self.file.metadata()?.len())
+        self.file.len()
     }
 
     /// Fills the buffer with the bytes from a position on.
     pub fn read_at(&self, pos: u64, buf: &mut [u8]) -> io::Result<()> {
-        self.file.read_exact_at(buf, pos)
+        self.file.read_at(pos, buf)
     }
 
     /// Writes bytes after those that are there. The system is asked for the length only if it is not known.
@@ -65,7 +65,7 @@ impl Handle {
             Some(end) => end,
             None => self.len()?,
         };
-        self.file.write_all_at(bytes, end)?;
+        self.file.write_at(end, bytes)?;
         self.end = end.checked_add(bytes.len() as u64);
         Ok(())
     }
@@ -73,13 +73,13 @@ impl Handle {
     /// Writes bytes over those from a position on.
     pub fn patch(&mut self, pos: u64, bytes: &[u8]) -> io::Result<()> {
         self.end = None;
-        self.file.write_all_at(bytes, pos)
+        self.file.write_at(pos, bytes)
     }
 
     // Makes the file hold nothing.
     fn empty(&mut self) -> io::Result<()> {
         self.end = None;
-        self.file.set_len(0)?;
+        self.file.empty()?;
         self.end = Some(0);
         Ok(())
     }
@@ -144,12 +144,9 @@ impl Handles {
         self.writers.remove(name);
         let mut options = OpenOptions::new();
         let options = options.write(true).create(true);
-        let (file, state) = self.open_file(rt, options, name)?;
-        self.known.note_output(name, state)?;
-        // A new file is empty as it stands. Some systems write a file that was cut to the disk when it is closed.
-        if file.metadata()?.len() > 0 {
-            file.set_len(0)?;
-        }
+        let opened = self.open_file(rt, options, name)?;
+        let file = self.known.note_output(name, opened)?;
+        file.empty()?;
         self.keep(Access::Write, name, file, Some(0))
     }
 
@@ -180,11 +177,11 @@ impl Handles {
                 process,
                 number,
             )?;
-            if let Some(file) = self.create_new(rt, &target, path.as_str())? {
+            if let Some(opened) = self.create_new(rt, &target, path.as_str())? {
                 return self.begin(
                     drafts,
                     name,
-                    file,
+                    opened,
                     DraftFile {
                         name: name_kept,
                         target,
@@ -215,7 +212,11 @@ impl Handles {
     }
 
     /// A folder, open to be synced.
-    pub fn open_folder<R: System<File = File>>(&mut self, rt: &R, path: &str) -> io::Result<File> {
+    pub fn open_folder<R: System<File = File>>(
+        &mut self,
+        rt: &R,
+        path: &str,
+    ) -> io::Result<OpenedFile> {
         let mut options = OpenOptions::new();
         self.open_closing(rt, options.read(true), path)
     }
@@ -236,7 +237,8 @@ impl Handles {
             return Err(io::Error::from(ErrorKind::NotFound));
         };
         let handle = self.get(rt, drafts, Access::Write, draft.name.as_str())?;
-        draft.sync(rt, &handle.file)
+        handle.file.sync(draft.target.older)?;
+        draft.refuse_moved(rt)
     }
 
     // It is an error if an output may not replace what stands at its place: a file that the run has as an input, or
@@ -268,7 +270,7 @@ impl Handles {
         rt: &R,
         target: &Target,
         path: &str,
-    ) -> io::Result<Option<File>> {
+    ) -> io::Result<Option<OpenedFile>> {
         if self.open() >= MOST_OPEN {
             self.close_oldest();
         }
@@ -278,10 +280,13 @@ impl Handles {
             options.mode(OWNER_ONLY);
         }
         match self.open_closing(rt, &options, path) {
-            Ok(file) => match file.try_lock() {
-                Err(TryLockError::WouldBlock) => Ok(None),
-                _ => Ok(Some(file)),
-            },
+            Ok(opened) => {
+                if opened.lock() {
+                    Ok(Some(opened))
+                } else {
+                    Ok(None)
+                }
+            }
             Err(error) if error.kind() == ErrorKind::AlreadyExists => Ok(None),
             Err(error) => Err(error),
         }
@@ -292,15 +297,14 @@ impl Handles {
         &mut self,
         drafts: &mut DraftList,
         name: &str,
-        file: File,
+        opened: OpenedFile,
         mut draft: DraftFile,
     ) -> io::Result<()> {
-        let found = file.metadata();
-        if let Ok(found) = &found {
-            draft.identity = Some(FileIdentity::of(found));
+        if let Ok(state) = opened.state() {
+            draft.identity = Some(state.identity);
         }
         drafts.add(draft)?;
-        self.known.note_output(name, FileState::of(&found?))?;
+        let file = self.known.note_output(name, opened)?;
         self.keep(Access::Write, name, file, Some(0))
     }
 
@@ -346,25 +350,22 @@ impl Handles {
             Access::Read => options.read(true),
             Access::Write => options.write(true),
         };
-        let (file, state) = self.open_file(rt, options, path)?;
-        self.known.note(name, state)?;
+        let opened = self.open_file(rt, options, path)?;
+        let file = self.known.note(name, opened)?;
         self.keep(access, name, file, None)
     }
 
-    // Opens a file, and says which one it is. If many are open, the handle that was used least lately is closed first.
+    // Opens a file. If many are open, the handle that was used least lately is closed first.
     fn open_file<R: System<File = File>>(
         &mut self,
         rt: &R,
         options: &OpenOptions,
         path: &str,
-    ) -> io::Result<(File, FileState)> {
+    ) -> io::Result<OpenedFile> {
         if self.open() >= MOST_OPEN {
             self.close_oldest();
         }
-        let file = self.open_closing(rt, options, path)?;
-        let found = file.metadata()?;
-        refuse_special(&found)?;
-        Ok((file, FileState::of(&found)))
+        self.open_closing(rt, options, path)
     }
 
     // Opens a file. As long as the system has no handle for it, the one that was used least lately is closed.
@@ -373,18 +374,24 @@ impl Handles {
         rt: &R,
         options: &OpenOptions,
         path: &str,
-    ) -> io::Result<File> {
+    ) -> io::Result<OpenedFile> {
         for _closed in 0..MOST_OPEN {
-            match options.open(rt, path) {
+            match OpenedFile::open(rt, options, path) {
                 Err(error) if is_none_left(&error) && self.open() > 0 => self.close_oldest(),
                 outcome => return outcome,
             }
         }
-        options.open(rt, path)
+        OpenedFile::open(rt, options, path)
     }
 
     // Keeps an open file.
-    fn keep(&mut self, access: Access, name: &str, file: File, end: Option<u64>) -> io::Result<()> {
+    fn keep(
+        &mut self,
+        access: Access,
+        name: &str,
+        file: ComparedFile,
+        end: Option<u64>,
+    ) -> io::Result<()> {
         let name = String::from_str(self.alloc, name)?;
         let used = self.next_use();
         self.of(access).insert(name, Handle { file, end, used })?;

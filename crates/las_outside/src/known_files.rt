@@ -1,12 +1,68 @@
-//! The files that a run has opened, by name, also those whose handles are closed by now.
-ghost use Rattle.std.specs.Prelude.{◌≡◌, ◌⊎◌, All, IsTrue, OnOk, OnErr, string_bytes, take, vec_len};
+//! The files that a run has opened, by name, also those whose handles are closed by now, and the open files that were
+//! compared with them.
+ghost use Rattle.std.specs.Prelude.{◌≡◌, ◌⊎◌, All, Any, IsFalse, IsTrue, IfOk, IsErr, OnOk, OnErr};
+ghost use Rattle.std.specs.Prelude.{string_bytes, take, vec_len};
 
 use crate::file_identity::FileIdentity;
 use crate::file_state::FileState;
+use crate::opened_file::OpenedFile;
+use crate::target::OlderFile;
 use std::alloc::Global;
 use std::fs::{self, File};
 use std::io::{self, ErrorKind};
+use std::os::unix::fs::FileExt;
 use std::rt::Files as System;
+
+/// An open file that was compared with those that the run knows. Only `note` and `note_output` make one, so no other
+/// file is read, written or made empty.
+#[derive(Drop)]
+pub struct ComparedFile {
+    file: File,
+    identity: FileIdentity,
+    // whether the run made the file, as an output
+    is_output: bool,
+}
+
+impl ComparedFile {
+    /// The length of the file now.
+    pub fn len(&self) -> io::Result<u64> {
+        Ok(self.file.metadata()?.len())
+    }
+
+    /// Fills the buffer with the bytes from a position on.
+    pub fn read_at(&self, pos: u64, buf: &mut [u8]) -> io::Result<()> {
+        self.file.read_exact_at(buf, pos)
+    }
+
+    /// Writes bytes over those from a position on.
+    pub fn write_at(&self, pos: u64, bytes: &[u8]) -> io::Result<()> {
+        self.file.write_all_at(bytes, pos)
+    }
+
+    /// Makes the file hold nothing. Each file that is made empty is made so here.
+    ///
+    /// It is an error if the file is no output of the run. Then nothing was changed.
+    pub fn empty(&self) -> io::Result<()>
+        ensures { IsFalse self.now.is_output → IsErr result }
+    {
+        if !self.is_output {
+            return Err(io::Error::from(ErrorKind::InvalidInput));
+        }
+        // A new file is empty as it stands. Some systems write a file that was cut to the disk when it is closed.
+        if self.len()? > 0 {
+            self.file.set_len(0)?;
+        }
+        Ok(())
+    }
+
+    /// Gives the file what an output keeps of an older file, and has the system write it to the disk.
+    pub fn sync(&self, older: Option<OlderFile>) -> io::Result<()> {
+        if let Some(older) = older {
+            older.give_to(&self.file)?;
+        }
+        self.file.sync_all()
+    }
+}
 
 // A name, the file that it led to as it was then, and whether the run made that file, as an output.
 #[derive(Drop)]
@@ -43,6 +99,13 @@ impl KnownFile {
         }
     }
 
+    // Whether this is an output that the run has under this name.
+    fn is_output_named(&self, name: &str) -> bool
+        ensures { IsTrue result → (string_bytes self.now.name ≡ name.now) × IsTrue self.now.is_output }
+    {
+        self.name.as_str() == name && self.is_output
+    }
+
     // Whether the name still leads to the file, as it was.
     fn is_unchanged<R: System<File = File>>(&self, rt: &R) -> bool {
         match fs::metadata(rt, self.name.as_str()) {
@@ -69,39 +132,49 @@ impl KnownFiles {
     }
 
     /// Notes a file that was opened. It is an error if its name led to another file before.
-    pub fn note(&mut self, name: &str, state: FileState) -> io::Result<()>
-        ensures ok { OnOk result (All (λ file. string_bytes file.name ≡ name.now → file.identity ≡ state.identity)
-            self.old.files.items) }
+    pub fn note(&mut self, name: &str, opened: OpenedFile) -> io::Result<ComparedFile>
+        ensures ok { IfOk result (λ compared. All (λ file.
+            string_bytes file.name ≡ name.now → file.identity ≡ compared.identity) self.old.files.items) }
+        ensures output { IfOk result (λ compared. IsTrue compared.is_output
+            → Any (λ file. (string_bytes file.name ≡ name.now) × IsTrue file.is_output) self.old.files.items) }
         ensures kept { OnOk result (take (vec_len self.old.files) self.new.files.items ≡ self.old.files.items) }
         ensures err { OnErr result (self.new.files.items ≡ self.old.files.items) }
     {
-        if !self
-            .files
-            .iter()
-            .all(|file| file.agrees(name, state.identity))
-        {
+        let (file, state) = opened.into_parts()?;
+        let identity = state.identity;
+        if !self.files.iter().all(|file| file.agrees(name, identity)) {
             return Err(io::Error::from(ErrorKind::InvalidData));
         }
-        self.add_unless_there(name, state, false)
+        let is_output = self.has_output(name);
+        self.add_unless_there(name, state, false)?;
+        Ok(ComparedFile {
+            file,
+            identity,
+            is_output,
+        })
     }
 
     /// Notes a file that is about to be made empty. It is an error if the run has the file as an input, or under
     /// another name, and if its name led to another file before.
-    pub fn note_output(&mut self, name: &str, state: FileState) -> io::Result<()>
-        ensures ok { OnOk result (All (λ file. (file.identity ≡ state.identity) ⊎ (string_bytes file.name ≡ name.now)
-            → (file.identity ≡ state.identity) × (string_bytes file.name ≡ name.now) × IsTrue file.is_output)
+    pub fn note_output(&mut self, name: &str, opened: OpenedFile) -> io::Result<ComparedFile>
+        ensures ok { IfOk result (λ compared. All (λ file.
+            (file.identity ≡ compared.identity) ⊎ (string_bytes file.name ≡ name.now)
+            → (file.identity ≡ compared.identity) × (string_bytes file.name ≡ name.now) × IsTrue file.is_output)
             self.old.files.items) }
         ensures kept { OnOk result (take (vec_len self.old.files) self.new.files.items ≡ self.old.files.items) }
         ensures err { OnErr result (self.new.files.items ≡ self.old.files.items) }
     {
-        if !self
-            .files
-            .iter()
-            .all(|file| file.allows(name, state.identity))
-        {
+        let (file, state) = opened.into_parts()?;
+        let identity = state.identity;
+        if !self.files.iter().all(|file| file.allows(name, identity)) {
             return Err(io::Error::from(ErrorKind::InvalidInput));
         }
-        self.add_unless_there(name, state, true)
+        self.add_unless_there(name, state, true)?;
+        Ok(ComparedFile {
+            file,
+            identity,
+            is_output: true,
+        })
     }
 
     /// Whether the run has opened or made this file, under any name.
@@ -117,6 +190,19 @@ impl KnownFiles {
             }
         }
         None
+    }
+
+    // Whether the run has an output of this name.
+    fn has_output(&self, name: &str) -> bool
+        ensures { IsTrue result → Any (λ file. (string_bytes file.name ≡ name.now) × IsTrue file.is_output)
+            self.now.files.items }
+    {
+        for file in &self.files {
+            if file.is_output_named(name) {
+                return true;
+            }
+        }
+        false
     }
 
     // Adds a file, unless there is one of this name.

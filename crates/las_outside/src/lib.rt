@@ -15,6 +15,7 @@ mod known_files;
 mod mem_files;
 mod mem_room;
 mod mem_sink;
+mod opened_file;
 mod pieces;
 mod publishing;
 mod real_files;

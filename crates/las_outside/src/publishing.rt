@@ -7,6 +7,7 @@ use crate::Sink;
 use crate::draft_file::say;
 use crate::draft_list::DraftList;
 use crate::handles::Handles;
+use crate::opened_file::OpenedFile;
 use std::alloc::Global;
 use std::fs::File;
 use std::io::{self, ErrorKind};
@@ -15,7 +16,7 @@ use std::rt::Files as System;
 // An open folder, and the number of the first draft in it.
 #[derive(Drop)]
 struct Folder {
-    file: File,
+    opened: OpenedFile,
     number: usize,
 }
 
@@ -58,10 +59,10 @@ fn open_folders<R: System<File = File>>(
             continue;
         }
         last = folder;
-        let Ok(file) = handles.open_folder(rt, folder) else {
+        let Ok(opened) = handles.open_folder(rt, folder) else {
             return Err(number);
         };
-        if folders.push(Folder { file, number }).is_err() {
+        if folders.push(Folder { opened, number }).is_err() {
             return Err(number);
         }
     }
@@ -102,7 +103,7 @@ fn move_all<R: System<File = File>>(
 // Has the system write the names in the folders to the disk. Some file systems have no such call for a folder.
 fn sync_folders(folders: &[Folder]) -> Result<(), usize> {
     for folder in folders {
-        match folder.file.sync_all() {
+        match folder.opened.sync_folder() {
             Ok(()) => {}
             Err(error) if has_no_sync(&error) => {}
             Err(_) => return Err(folder.number),

@@ -10,7 +10,7 @@ use Rattle.las_thin.specs.declared.pick.Pick.TheVariants.{First, Lowest, Highest
 use Rattle.las_words.specs.declared.command.Command.{Command}
 use Rattle.las_words.specs.declared.command.WordFault.{WordFault}
 use Rattle.las_words.specs.declared.command.WordFault.TheVariants as fault
-use Rattle.las_words.specs.Asked.{Asked, Las2lasOptions, OneInput, Work, asked_by, las2las, lasinfo, lassplit, laszip, reads, work_by}
+use Rattle.las_words.specs.Asked.{Asked, Las2lasOptions, LasmergeOptions, OneInput, Work, asked_by, las2las, lasinfo, lasmerge, lassplit, laszip, reads, work_by}
 use Rattle.las_words.specs.Says.{Said, asks, usage}
 use Rattle.laz_reader.specs.Asking.{AsksAtMost, asked_for_pieces, asked_in, asked_to_open, bytes_left}
 use Rattle.laz_forms.specs.Packing.{record_layout}
@@ -19,7 +19,7 @@ use Rattle.laz_forms.specs.Ranges.{Range, parts_of}
 use Rattle.laz_reader.specs.Reading.{IsNewReader, ReaderSeen, StandsFor, chunk_of}
 use Rattle.laz_reader.proofs.Public.{if_less}
 use Rattle.laz_forms.proofs.Public.{known_three, one_pieces, refused_once, none_some, known_then}
-use Rattle.las_run.specs.Asking.{AsksFor, AsksOf, AsksWhole, TakesAll, WorkAsks, in_first_reading, in_readings}
+use Rattle.las_run.specs.Asking.{AsksFor, AsksOf, AsksToMerge, AsksWhole, TakesAll, WorkAsks, in_first_reading, in_readings}
 use Rattle.las_run.specs.Ends.{IsRead}
 use Rattle.las_run.specs.Tools.{range_in}
 use Rattle.las_run.proofs.Opening.{both_known}
@@ -202,6 +202,16 @@ pub asks_read : (said : Said) (read : Result Command WordFault) (input : List �
     → AsksFor input options.sieve.pick options.start options.stop old new
 asks_read said read input options workers old new is asked unread obeyed =
     asks_by said read (reads input (las2las options)) workers old new is asked unread obeyed (asks_nothing input options.sieve.pick options.start options.stop old new)
+
+-- of a merge
+pub asks_merged : (said : Said) (read : Result Command WordFault) (options : LasmergeOptions) (workers : ℕ) (old new : Outside)
+    → IsRead said read → said ≡ asks (record { work = lasmerge options; workers = workers })
+    → ((f : WordFault) → read ≡ Err f → new ≡ old)
+    → ((command : Command) → read ≡ Ok command → WorkAsks (work_by command) old new)
+    → AsksToMerge options old new
+asks_merged said read options workers old new is asked unread obeyed =
+    asks_by said read (lasmerge options) workers old new is asked unread obeyed
+    (λ same known held. let none : new.asked ≡ old.asked = ap (λ (o : Outside). o.asked) same in omega (arith, none))
 
 -- of a command that was obeyed
 pub asks_obeyed : (said : Result Command WordFault) (own command : Command) (old new : Outside) → said ≡ Ok own → said ≡ Ok command → WorkAsks (work_by own) old new → WorkAsks (work_by command) old new

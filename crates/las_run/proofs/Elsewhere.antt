@@ -8,15 +8,13 @@ use Rattle.las_header.specs.Plain.{plain_head}
 use Rattle.las_info.specs.Tallies.{TapSeen}
 use Rattle.las_outside.specs.Files.{FileMap}
 use Rattle.las_outside.specs.Outside.{Later}
-use Rattle.las_outside.proofs.Public.{get-with_value, same_other, same_or_not}
+use Rattle.las_outside.proofs.Public.{get-with_value, same_other}
 use Rattle.las_words.specs.Asked.{LasmergeOptions, OneInput, Work, laszip, las2las, lasinfo, lassplit, lasmerge, make, reads}
 use Rattle.las_words.specs.Says.{Said, asks, usage}
 use Rattle.las_convert.specs.Converting.{converted_output, has_output}
 use Rattle.las_merge.specs.Existing.{HoldBytes}
 use Rattle.las_split.specs.Outputs.{output_under}
 use Rattle.las_split.specs.Parts.{numbers_of_parts, part}
-use Rattle.laz_forms.specs.Existing.{IsNotNone}
-use Rattle.laz_forms.proofs.Public.{and_then, there}
 use Rattle.laz_file.specs.Endings.{OutputFile, named, output_file, with_all, Product}
 use Rattle.las_run.specs.EndingLaws.{SomeEndingIsDefined}
 use Rattle.las_run.specs.Endings.{Ending, IsLeft}
@@ -110,15 +108,7 @@ kept task files now ending name run left not =
     let all = first_named (IsWritten task.said) left.0 ending.outputs (runs_named task.taps task.said files ending run) in
     ap (λ (m : FileMap). finmap.get m name) left.3 ∙ stays (IsWritten task.said) (take left.0 ending.outputs) left.1 files name not all
 
--- ---- what is not refuted of bytes that a name has, or has not, holds
-same_if : (x y : Option (List ℕ)) → IsNotNone (x ≡ y) → x ≡ y
-same_if None None not = refl
-same_if None (Some y) not = absurd (not (λ e. absurd (cc)))
-same_if (Some x) None not = absurd (not (λ e. absurd (cc)))
-same_if (Some x) (Some y) not = elim (same_or_not x y) [
-  | inl same ↦ ap (λ (z : List ℕ). Some z) same.1
-  | inr other ↦ absurd (not (λ e. let same : x ≡ y = cc in other.1 same))
-]
+-- ---- what is left, without an ending that is given
 
 -- files that stay known
 still : (old now : Option FileMap) (known : FileMap) → is_some now ≡ is_some old → old ≡ Some known → (after : FileMap) × (now ≡ Some after)
@@ -127,15 +117,15 @@ still old (Some after) known same held = (after, refl)
 
 module _ (run : RunSeen) (known : FileMap) (some : SomeEndingIsDefined) (all_left : (known : FileMap) (ending : Ending) → IsDue run known ending → Leaves run known ending)
     (held : run.files.held ≡ Some known) (bytes : HoldBytes known) where
-  pub left_always : IsNotNone ((ending : Ending) × IsDue run known ending × Leaves run known ending)
-  left_always = and_then (some run.task known bytes) (λ e. let due : IsDue run known e.0 = record { known_is = held; defined = e.1 } in there (e.0, due, all_left known e.0 due))
+  pub left_always : (ending : Ending) × IsDue run known ending × Leaves run known ending
+  left_always =
+      let e = some run.task known bytes in
+      let due : IsDue run known e.0 = record { known_is = held; defined = e.1 } in
+      (e.0, due, all_left known e.0 due)
 
   pub others : (name : List ℕ) → Later run.files run.files_now → (IsWritten run.task.said name → ⊥) → IsAsBefore run known name
   others name later not =
-      let now = still run.files.held run.files_now.held known later.known held in (
-        now.0,
-        now.1,
-        same_if (finmap.get now.0 name) (finmap.get known name) (and_then left_always (λ l.
-            let same : l.2.0 ≡ now.0 = let both : Some l.2.0 ≡ Some now.0 = sym l.2.1 ∙ now.1 in cc in
-            there (kept run.task known now.0 l.0 name l.1.defined (subst (λ (m : FileMap). IsLeft l.0.outputs known m) same l.2.2) not))),
-      )
+      let now = still run.files.held run.files_now.held known later.known held in
+      let l = left_always in
+      let same : l.2.0 ≡ now.0 = let both : Some l.2.0 ≡ Some now.0 = sym l.2.1 ∙ now.1 in cc in
+      (now.0, now.1, kept run.task known now.0 l.0 name l.1.defined (subst (λ (m : FileMap). IsLeft l.0.outputs known m) same l.2.2) not)

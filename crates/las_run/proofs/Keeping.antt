@@ -4,9 +4,9 @@ use Rattle.las_outside.specs.Files.{FileMap}
 use Rattle.las_outside.specs.Frames.{IsCalm}
 use Rattle.las_outside.specs.Outside.{Later}
 use Rattle.las_outside.specs.Sinks.{Puts}
-use Rattle.las_words.specs.Asked.{Las2lasOptions, OneInput, las2las, reads}
+use Rattle.las_words.specs.Asked.{Las2lasOptions, LasmergeOptions, OneInput, las2las, lasmerge, reads}
 use Rattle.las_words.specs.Says as words
-use Rattle.las_run.specs.Asking.{AsksFor, AsksWhole, TakesAll}
+use Rattle.las_run.specs.Asking.{AsksFor, AsksToMerge, AsksWhole, TakesAll}
 use Rattle.las_run.specs.EndingLaws.{SomeEndingIsDefined}
 use Rattle.las_run.specs.Endings.{Cause, Done, Memory, Usage, Unread, Unwritten, Refused, Differs, HasTooMany, Ending, status_of}
 use Rattle.las_run.specs.Ends.{Ends, EndsAs, IsTheEnding}
@@ -100,12 +100,16 @@ module _ (run : RunSeen) where
   AsksAll = (input : List ℕ) (own : OneInput) (workers : ℕ) → run.task.said ≡ words.asks (record { work = reads input own; workers = workers })
       → TakesAll own → AsksWhole input run.files run.files_now
 
+  abbrev pub AsksMerged : Type 0
+  AsksMerged = (options : LasmergeOptions) (workers : ℕ) → run.task.said ≡ words.asks (record { work = lasmerge options; workers = workers })
+      → AsksToMerge options run.files run.files_now
+
   -- no count of faults moved
   abbrev pub StaysCalm : Type 0
   StaysCalm = IsDecided run.status → IsCalm run.files run.files_now × (run.out_now.faults ≡ run.out.faults)
 
-  pub keeps : (cause : Cause) → run.status ≡ status_of cause → Puts (line_of cause) run.err run.err_now → Ends run.task (change_of run) cause → EndsUnasked → Asks → AsksAll → Later run.files run.files_now → run.status ≤ 6 → SomeEndingIsDefined → StaysCalm → KeepsPromises run
-  keeps cause is line e unasked asks whole later few some calm =
+  pub keeps : (cause : Cause) → run.status ≡ status_of cause → Puts (line_of cause) run.err run.err_now → Ends run.task (change_of run) cause → EndsUnasked → Asks → AsksAll → AsksMerged → Later run.files run.files_now → run.status ≤ 6 → SomeEndingIsDefined → StaysCalm → KeepsPromises run
+  keeps cause is line e unasked asks whole merged later few some calm =
       let all : (known : FileMap) (ending : Ending) → IsDue run known ending → EndsUnlessExcused run known ending = λ known ending due. complete cause known ending (is, line) e due in
       let all_left : (known : FileMap) (ending : Ending) → IsDue run known ending → Leaves run known ending = λ known ending due. left run.task (change_of run) cause e known ending due.known_is due.defined in
       record {
@@ -121,6 +125,7 @@ module _ (run : RunSeen) where
         complete = all;
         asks = asks;
         asks_whole = whole;
+        asks_merge = merged;
         calm = calm;
         read = λ three. read_cause run.task (change_of run) cause e (sym is ∙ three);
         write = λ four. write_cause run.task (change_of run) cause e (sym is ∙ four);

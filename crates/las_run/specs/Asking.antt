@@ -1,12 +1,14 @@
 -- How many bytes of its input a command asks for.
-use Rattle.std.specs.Prelude.{◌≡◌, ℕ, ◌+◌, ◌*◌, ◌-◌, ◌^◌, List, Option, Some, None}
+use Rattle.std.specs.Prelude.{◌≡◌, ℕ, ◌+◌, ◌*◌, ◌-◌, ◌^◌, Bool, true, false, List, Option, Some, None}
 use Rattle.std.specs.FinMap as finmap
 use Rattle.las_header.specs.declared.refusal.Refusal.{Refusal}
 use Rattle.las_outside.specs.Files.{FileMap}
 use Rattle.las_outside.specs.Outside.{Outside}
 use Rattle.las_thin.specs.declared.pick.Pick.{Pick}
 use Rattle.las_thin.specs.declared.pick.Pick.TheVariants.{First, Lowest, Highest}
-use Rattle.las_words.specs.Asked.{OneInput, Work, las2las, lasinfo, lassplit, laszip, reads}
+use Rattle.las_words.specs.Asked.{LasmergeOptions, OneInput, Work, las2las, lasinfo, lasmerge, lassplit, laszip, make}
+use Rattle.las_words.specs.Asked.{reads}
+use Rattle.las_merge.specs.Asking.{asked_of_all, asked_to_merge, asked_to_read}
 use Rattle.laz_reader.specs.Asking.{AsksAtMost, asked_in, asked_to_open}
 use Rattle.laz_forms.specs.Pieces.{ArePieces, Piece}
 use Rattle.laz_forms.specs.Ranges.{parts_of}
@@ -65,11 +67,23 @@ abbrev pub TakesAll : OneInput → Type 0
 TakesAll (las2las options) = ⊥
 TakesAll own = Unit {0}
 
--- This holds of a command with one input.
+-- at most, of the inputs of a merge: to copy their chunks each is opened and read once, and to merge their records each
+-- is opened twice
+abbrev pub asked_for_merge : (copy : Bool) → FileMap → (names : List (List ℕ)) → ℕ
+asked_for_merge true known names = asked_of_all asked_to_read known names
+asked_for_merge false known names = asked_to_merge known names
+
+-- If the files are known, a merge asks for no more, however the run ends.
+abbrev pub AsksToMerge : LasmergeOptions → (old new : Outside) → Type 0
+AsksToMerge options old new = (known : FileMap) → old.held ≡ Some known
+    → AsksAtMost (asked_for_merge options.copy known options.inputs) old new
+
+-- This holds of a command with inputs.
 abbrev pub WorkAsks : Work → (old new : Outside) → Type 0
 WorkAsks (reads input (las2las options)) old new =
     AsksFor input options.sieve.pick options.start options.stop old new
 WorkAsks (reads input (laszip options)) old new = AsksWhole input old new
 WorkAsks (reads input (lasinfo options)) old new = AsksWhole input old new
 WorkAsks (reads input (lassplit options)) old new = AsksWhole input old new
-WorkAsks work old new = Unit {0}
+WorkAsks (lasmerge options) old new = AsksToMerge options old new
+WorkAsks (make options) old new = Unit {0}

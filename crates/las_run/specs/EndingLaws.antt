@@ -17,7 +17,6 @@ use Rattle.las_merge.specs.Existing.{HoldBytes}
 use Rattle.las_split.specs.Outputs.{part_files}
 use Rattle.las_split.specs.Splitting.{SplitsTo}
 use Rattle.laz_range.specs.Span.{IsBytes}
-use Rattle.laz_forms.specs.Existing.{IsNotNone}
 use Rattle.laz_forms.specs.Laws.{CanBePacked}
 use Rattle.laz_forms.specs.Outputs.{finished}
 use Rattle.laz_forms.specs.Packing.{packed_file}
@@ -31,10 +30,10 @@ abbrev pub EndsInOneWay : Type 0
 EndsInOneWay = (task : Task) (files : FileMap) (one other : Ending) → HoldBytes files
     → RunOf task files one → RunOf task files other → one ≡ other
 
--- That none is defined is refuted, for every task and any files of bytes.
+-- One is defined, for every task and any files of bytes.
 abbrev pub SomeEndingIsDefined : Type 0
 SomeEndingIsDefined = (task : Task) (files : FileMap) → HoldBytes files
-    → IsNotNone ((ending : Ending) × RunOf task files ending)
+    → (ending : Ending) × RunOf task files ending
 
 -- the name of the input of a command that has one
 abbrev pub input_of : Work → Option (List ℕ)

@@ -7,14 +7,13 @@ use Rattle.las_outside.specs.Files.{FileMap, IsMissing}
 use Rattle.las_outside.specs.Frames.{IsCalm}
 use Rattle.las_outside.specs.Outside.{Later}
 use Rattle.las_outside.specs.Sinks.{Puts, written_after}
-use Rattle.las_words.specs.Asked.{Las2lasOptions, OneInput, las2las, reads}
+use Rattle.las_words.specs.Asked.{Las2lasOptions, LasmergeOptions, OneInput, las2las, lasmerge, reads}
 use Rattle.las_words.specs.Says as words
 use Rattle.las_merge.specs.Existing.{HoldBytes}
-use Rattle.laz_forms.specs.Existing.{IsNotNone}
 use Rattle.laz_forms.specs.Laws.{CanBePacked}
 use Rattle.laz_forms.specs.Packing.{packed_file}
 use Rattle.laz_forms.specs.Refusing.{IsRefusal}
-use Rattle.las_run.specs.Asking.{AsksFor, AsksWhole, TakesAll}
+use Rattle.las_run.specs.Asking.{AsksFor, AsksToMerge, AsksWhole, TakesAll}
 use Rattle.las_run.specs.Endings.{Cause, ComesFirst, Done, Refused, Ending, status_of}
 use Rattle.las_run.specs.Ends.{Ends, IsTheEnding}
 use Rattle.las_run.specs.Headline.{IsLaszip, IsPackedOf, Refuses, Writes, unpacked}
@@ -63,6 +62,11 @@ pub record KeepsPromises (run : RunSeen) : Type 0 where
   pub asks_whole : (input : List ℕ) (own : OneInput) (workers : ℕ)
       → run.task.said ≡ words.asks (record { work = reads input own; workers = workers })
       → TakesAll own → AsksWhole input run.files run.files_now
+  -- `lasmerge` asks for no more of its inputs than opening each twice and reading it once takes, or opening each once if
+  -- it copies their chunks.
+  pub asks_merge : (options : LasmergeOptions) (workers : ℕ)
+      → run.task.said ≡ words.asks (record { work = lasmerge options; workers = workers })
+      → AsksToMerge options run.files run.files_now
   -- ---- faults, and what is left
   -- If neither memory nor a failure ended the run, none was passed over: no count of faults moved, whether the files are
   -- known or not.
@@ -75,10 +79,9 @@ pub record KeepsPromises (run : RunSeen) : Type 0 where
       ⊎ Rose run.out.faults run.out_now.faults
   -- Over known files, whatever ended the run: each output is unfinished or not there, and all else is as before.
   pub left : (known : FileMap) (ending : Ending) → IsDue run known ending → Leaves run known ending
-  -- The same without an ending that is given, for files of bytes: that nothing is so left of an ending which is defined
-  -- is refuted.
+  -- The same without an ending that is given, for files of bytes: one is defined, and this is left of it.
   pub left_always : (known : FileMap) → run.files.held ≡ Some known → HoldBytes known
-      → IsNotNone ((ending : Ending) × IsDue run known ending × Leaves run known ending)
+      → (ending : Ending) × IsDue run known ending × Leaves run known ending
   -- Every name that the command does not write is as before.
   pub others : (known : FileMap) (name : List ℕ) → run.files.held ≡ Some known → HoldBytes known
       → (IsWritten run.task.said name → ⊥) → IsAsBefore run known name

@@ -7,6 +7,7 @@ ghost use Rattle.las_outside.specs.Sinks.{SinkView};
 ghost use Rattle.las_words.specs.Asked.{lasmerge};
 ghost use Rattle.las_words.specs.Texts.{texts};
 ghost use Rattle.las_info.specs.Tallies.{TapSeen};
+ghost use Rattle.las_run.specs.Asking.{AsksToMerge};
 ghost use Rattle.las_run.specs.Calm.{IsNoFailure};
 ghost use Rattle.las_run.specs.Ends.{Ends, cause_of, quiet, stopped_merge};
 ghost use Rattle.las_run.specs.Runs.{task_for};
@@ -39,6 +40,8 @@ pub fn lasmerge<R: Threads + Sync, F: Files, G: Gate>(
         → let work = lasmerge (merge_options (texts inputs.now) output.now packing copy) in
         Ends (task_for taps work machine.entry.workers) (quiet (F.seen files.old) (F.seen files.new) out)
         (cause_of (texts inputs.now) result) }
+    ensures asks { AsksToMerge (merge_options (texts inputs.now) output.now packing copy)
+        (F.seen files.old) (F.seen files.new) }
     ensures calm { OnOk result (IsCalm (F.seen files.old) (F.seen files.new)) }
     ensures calm_stopped { IfErr result (λ stop. IsNoFailure stop
         → IsCalm (F.seen files.old) (F.seen files.new)) }
@@ -75,6 +78,8 @@ fn join_inputs<R: Threads + Sync, F: Files, G: Gate>(
         → let work = lasmerge (merge_options (texts inputs.now) output.now packing false) in
         Ends (task_for taps work machine.entry.workers) (quiet (F.seen files.old) (F.seen files.new) out)
         (cause_of (texts inputs.now) result) }
+    ensures asks { AsksToMerge (merge_options (texts inputs.now) output.now packing false)
+        (F.seen files.old) (F.seen files.new) }
     ensures calm { OnOk result (IsCalm (F.seen files.old) (F.seen files.new)) }
     ensures calm_stopped { IfErr result (λ stop. IsNoFailure stop
         → IsCalm (F.seen files.old) (F.seen files.new)) }
@@ -104,6 +109,8 @@ fn copy_inputs<F: Files>(
         → let work = lasmerge (merge_options (texts inputs.now) output.now packing true) in
         Ends (task_for taps work workers) (quiet (F.seen files.old) (F.seen files.new) out)
         (cause_of (texts inputs.now) result) }
+    ensures asks { AsksToMerge (merge_options (texts inputs.now) output.now packing true)
+        (F.seen files.old) (F.seen files.new) }
     ensures calm { OnOk result (IsCalm (F.seen files.old) (F.seen files.new)) }
     ensures calm_stopped { IfErr result (λ stop. IsNoFailure stop
         → IsCalm (F.seen files.old) (F.seen files.new)) }

@@ -18,9 +18,8 @@ pub fn one_ending()
     merging_ends_in_one_way();
 }
 
-/// That no ending is defined for a task is refuted, for every command and whatever the bytes of the files are: also for
-/// packed files of other writers, and for merges. Together with `one_ending`, each run has its one ending. Which one it
-/// is can be told of a packed file only by reading it, so this law names none.
+/// An ending is defined for every task, for every command and whatever the bytes of the files are: also for packed files
+/// of other writers, and for merges. Together with `one_ending`, each run has its one ending.
 pub fn no_task_is_without_an_ending()
     ensures { SomeEndingIsDefined }
 {

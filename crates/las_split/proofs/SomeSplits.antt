@@ -8,7 +8,6 @@ use Rattle.las_header.specs.declared.refusal.Refusal.TheVariants.{BadChunk, TooM
 use Rattle.laz_forms.specs.Existing.{HasSomeRecords}
 use Rattle.laz_forms.specs.Pieces.{Piece}
 use Rattle.laz_forms.specs.Records.{AreRead, AreRecordsOf, HoldBlocks}
-use Rattle.laz_forms.proofs.Public.{and_then, there}
 use Rattle.las_split.specs.Laws.{SplitsToSomething}
 use Rattle.las_split.specs.declared.limits.TheConstants.{MAX_PARTS}
 use Rattle.las_split.specs.Parts.{number_by, numbers_of_parts}
@@ -69,4 +68,4 @@ splits_some rule file blocks bad are =
     ]
 
 pub splits_to_something : HasSomeRecords → SplitsToSomething
-splits_to_something has rule file accepted small = and_then (has file accepted small) (λ r. there (splits_some rule file r.0 r.1 r.2))
+splits_to_something has rule file accepted small = let r = has file accepted small in splits_some rule file r.0 r.1 r.2

@@ -3,7 +3,6 @@ use Rattle.std.specs.Prelude.{ℕ, List, Option}
 use Rattle.las_filter.specs.declared.rule.Rule.{Rule}
 use Rattle.las_header.specs.declared.refusal.Refusal.{Refusal}
 use Rattle.laz_range.specs.Span.{IsBytes}
-use Rattle.laz_forms.specs.Existing.{IsNotNone}
 use Rattle.laz_forms.specs.Refusing.{IsAcceptedFile}
 use Rattle.las_split.specs.Splitting.{OnlySplits, SplitsTo}
 
@@ -12,7 +11,7 @@ abbrev pub SplitsInOneWay : Type 0
 SplitsInOneWay = (rule : Rule) (file : List ℕ) (records : List (List ℕ)) (refusal : Option Refusal)
     → IsAcceptedFile file → IsBytes file → SplitsTo rule file records refusal → OnlySplits rule file records refusal
 
--- That splitting an accepted file gives nothing is refuted.
+-- Splitting an accepted file gives something.
 abbrev pub SplitsToSomething : Type 0
 SplitsToSomething = (rule : Rule) (file : List ℕ) → IsAcceptedFile file → IsBytes file
-    → IsNotNone ((records : List (List ℕ)) × (refusal : Option Refusal) × SplitsTo rule file records refusal)
+    → (records : List (List ℕ)) × (refusal : Option Refusal) × SplitsTo rule file records refusal

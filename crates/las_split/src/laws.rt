@@ -17,7 +17,7 @@ pub fn splitting_ends_in_one_way()
     records_have_one_answer();
 }
 
-/// That splitting an accepted file gives nothing is refuted, whatever its bytes are.
+/// Splitting an accepted file gives something, whatever its bytes are.
 pub fn splitting_gives_something()
     ensures { SplitsToSomething }
 {

@@ -1,3 +1,4 @@
 mod Causes
+mod Examples
 mod Reading
 mod TableLists

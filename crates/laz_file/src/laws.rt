@@ -28,9 +28,8 @@ pub fn records_have_one_answer()
     one_is_held();
 }
 
-/// No file is without an answer: that it is neither refused nor accepted is refuted, whatever its bytes are. So it is
-/// that an accepted file has no pieces, or no records before its end or its first bad chunk, and that a range of it has
-/// none.
+/// No file is without an answer: it is refused or accepted, whatever its bytes are. An accepted file has pieces, and
+/// records before its end or its first bad chunk, and so has a range of it.
 pub fn no_file_is_without_an_answer()
     ensures answer { HasAnAnswer }
     ensures pieces { HasPieces }

@@ -5,6 +5,12 @@ mod Blocks
 mod Sums
 mod Finished
 mod OneAnswer
+mod Searching
+mod SearchedFields
+mod SearchedPoints
+mod SearchedParts
+mod SearchedChunks
+mod SearchedTables
 mod Existing
 mod Accepted
 mod Payloads

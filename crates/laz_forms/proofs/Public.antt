@@ -7,7 +7,7 @@ pub use Rattle.laz_forms.proofs.Counted.{counted_format, counted_lengths, counte
 pub use Rattle.laz_forms.proofs.Counted.{packed_longer}
 pub use Rattle.laz_forms.proofs.CountedForms.{are_counted, IsBytes-splice, short-are, long-are, set-are}
 pub use Rattle.laz_forms.proofs.Examples.{chunk, head, last_pointer, one, one_packed, pointer, vlr}
-pub use Rattle.laz_forms.proofs.Existing.{and_then, has_an_answer, has_pieces, has_records, has_records_in, there}
+pub use Rattle.laz_forms.proofs.Existing.{has_an_answer, has_pieces, has_records, has_records_in}
 pub use Rattle.laz_forms.proofs.Filling.{read_more}
 pub use Rattle.laz_forms.proofs.Finished.{counted_file_is, finished_is, head-by, long-size, short-size}
 pub use Rattle.laz_forms.proofs.Fronts.{layout-length}

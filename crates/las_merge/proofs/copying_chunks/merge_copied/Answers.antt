@@ -21,8 +21,9 @@ use Rattle.las_merge.specs.Opening.{InputSeen, points_read}
 use Rattle.las_merge.specs.Outcomes.{SaysCopying}
 use Rattle.las_merge.specs.Packed.{CanCopyFrom, asked_to_copy}
 use Rattle.las_merge.specs.Summing.{copied_text}
+use Rattle.las_merge.proofs.AskedToCopy.{compared_less}
 use Rattle.las_merge.proofs.CopiedOnce.{copied_once}
-use Rattle.las_merge.proofs.CopiedWhole.{asked_few, before_copied, can_copy, copy_is_fault, copy_within, files}
+use Rattle.las_merge.proofs.CopiedWhole.{asked_few, asked_whole, before_copied, can_copy, copy_is_fault, copy_within, files}
 use Rattle.las_merge.proofs.CopiedWhole.{head_one, head_packed, left_by, many_chunks, many_points}
 use Rattle.las_merge.proofs.CopiedWhole.{parts, sources_lie, sources_long, sources_other, text_is}
 use Rattle.las_merge.proofs.CopyOutcomes.{says_chunks, says_listing, says_memory, says_points}
@@ -233,3 +234,41 @@ returns-in_err-points-clause-asked g c =
 
 pub returns-in_err-listed-clause-calm_kept : goal.returns-in_err-listed-clause-calm_kept
 returns-in_err-listed-clause-calm_kept g c = if_err _ c.from_residual.result _ c.from_residual.ensures.1 c.in_err-listed.ensures.calm_kept
+
+-- what was asked for when the inputs were listed, or could not be
+pub returns-in_err-listed-clause-asked_always : goal.returns-in_err-listed-clause-asked_always
+returns-in_err-listed-clause-asked_always g c known is =
+    omega (arith, c.list_inputs.ensures.asked known is, compared_less known (names_of c.args.inputs.now))
+
+pub returns-in_err-points-clause-asked_always : goal.returns-in_err-points-clause-asked_always
+returns-in_err-points-clause-asked_always g c known is =
+    omega (arith, c.list_inputs.ensures.asked known is, compared_less known (names_of c.args.inputs.now))
+
+pub returns-then-listed-clause-asked_always : goal.returns-then-listed-clause-asked_always
+returns-then-listed-clause-asked_always g c known is =
+    omega (arith, c.list_inputs.ensures.asked known is, compared_less known (names_of c.args.inputs.now))
+
+pub returns-in-Err-clause-asked_always : goal.returns-in-Err-clause-asked_always
+returns-in-Err-clause-asked_always g c known is =
+    omega (arith, c.list_inputs.ensures.asked known is, compared_less known (names_of c.args.inputs.now))
+
+pub returns-clause-asked_always : goal.returns-clause-asked_always
+returns-clause-asked_always g c known is =
+    let k = (goal.at.returns-clause-asked_always g c).In_ok-listed in
+    let ens = c.in_ok-listed.ensures in
+    let size : SourceSeen → ℕ = λ s. s.size in
+    omega (
+      arith,
+      c.list_inputs.ensures.asked known is,
+      asked_whole _ _ _ _ _ _ _ _ ens.opened ens.lists (all g k) (some g k) known is,
+      c.write.ensures.frame.asked,
+      ap (sum_by size) c.deref-2.ensures.value,
+    )
+
+pub returns-clause-calm_kept : goal.returns-clause-calm_kept
+returns-clause-calm_kept g c =
+    let mid = g.F.Files.seen c.list_inputs.new.files in
+    let new = g.F.Files.seen c.write.new.files in
+    let IsFault : MergeFault → Type 0 = IsCopyFault (λ n. n < length c.deref-2.result.now) mid new in
+    IfErr-weaker c.write.result IsFault _
+    (λ e h kind. absurd (copy_is_fault (λ n. n < length c.deref-2.result.now) mid new e h kind)) c.write.ensures.cause

@@ -1,13 +1,16 @@
 use Rattle.std.proofs.lemmas.Result.{IfOk-from_err}
-use Rattle.std.proofs.Common.{◌≡◌, ◌+◌, ◌-◌, ◌<◌, ◌∷◌, ℕ, List, [], Option, length, sym, ap, subst, length-append}
+use Rattle.std.proofs.Common.{◌≡◌, ◌+◌, ◌-◌, ◌<◌, ◌≤◌, ◌∷◌, ◌∙◌, ℕ, suc, List, [], Option, Some, length, take, sym, ap, subst, length-append}
 use Rattle.std.proofs.Common.{arith}
 use Rattle.las_outside.specs.Files.{FileMap}
 use Rattle.las_outside.specs.Outside.{Outside}
 use Rattle.las_outside.proofs.Public.{calm-trans, only_reads-trans}
 use Rattle.laz_forms.proofs.Public.{if_err}
+use Rattle.std.specs.FinMap as finmap
+use Rattle.las_merge.specs.Asking.{asked_of_all, asked_to_compare}
 use Rattle.las_merge.specs.Inputs.{item_at, names_of}
 use Rattle.las_merge.specs.Listing.{ListsChunks}
 use Rattle.las_merge.specs.Opening.{InputSeen}
+use Rattle.las_merge.proofs.Asked.{sum_next, sum_some}
 use Rattle.las_merge.proofs.KeptPacked.{next_ends_packed}
 use Rattle.las_merge.proofs.Listed.{list_packed}
 use Rattle.las_merge.proofs.Opened.{name_at, open_more, within_names}
@@ -53,6 +56,37 @@ module _ (g : Over) (c : After-list_next g) where
     c.inputs.invariant.count,
   )
 
+  asked_so_far : (known : FileMap) → start.held ≡ Some known
+      → new.asked ≤ start.asked + asked_of_all asked_to_compare known (take (suc c.inputs.name-index) names)
+  asked_so_far known is =
+      let cost = λ (name : List ℕ). asked_to_compare (finmap.get known name) in
+      let i = c.inputs.name-index in
+      let here = c.list_next.ensures.asked known (c.inputs.invariant.reads.held ∙ is) in
+      let at : c.deref.result.now ≡ item_at names i = name_at c.args.names.now i c.name-item.result c.deref.result.now
+      c.inputs-test.true c.name-item.is c.deref.ensures in
+      omega (
+        arith,
+        c.inputs.invariant.asked known is,
+        here,
+        ap cost at,
+        sum_next cost names i (within_names c.args.names.now i c.inputs-test.true),
+      )
+
+pub returns-in_err-list_next-clause-asked : goal.returns-in_err-list_next-clause-asked
+returns-in_err-list_next-clause-asked g c known is =
+    let k = (goal.at.returns-in_err-list_next-clause-asked g c).After-list_next in
+    let cost = λ (name : List ℕ). asked_to_compare (finmap.get known name) in
+    omega (arith, asked_so_far g k known is, sum_some cost (names g k) (suc c.inputs.name-index))
+
+pub returns-clause-asked : goal.returns-clause-asked
+returns-clause-asked g c known is =
+    omega (
+      arith,
+      c.inputs.invariant.asked known is,
+      sum_some
+          (λ (name : List ℕ). asked_to_compare (finmap.get known name)) (names_of c.args.names.now) c.inputs.name-index,
+    )
+
 pub returns-in_err-list_next-clause-ends : goal.returns-in_err-list_next-clause-ends
 returns-in_err-list_next-clause-ends g c =
     let k = (goal.at.returns-in_err-list_next-clause-ends g c).After-list_next in
@@ -92,6 +126,13 @@ inputs-preserved g c =
       );
       reads = only_reads-trans start old new c.inputs.invariant.reads c.list_next.ensures.reads;
       calm = calm-trans start old new c.inputs.invariant.calm c.in_ok-list_next.ensures.calm;
+      asked = λ known is.
+          let one : c.inputs.name-index + 1 ≡ suc c.inputs.name-index = omega arith in
+          omega (
+            arith,
+            asked_so_far g k known is,
+            ap (λ (m : ℕ). asked_of_all asked_to_compare known (take m (names g k))) one,
+          );
     }
 
 pub returns-in_err-list_next-clause-opened : goal.returns-in_err-list_next-clause-opened

@@ -13,7 +13,9 @@ use Rattle.las_merge.specs.Fields.{first_difference}
 use Rattle.las_merge.specs.Listing.{FailsNextPacked, ListedInput, ListsChunks}
 use Rattle.las_merge.specs.Opening.{InputSeen, first_read}
 use Rattle.las_merge.specs.Packed.{IsRefusedToCopy}
+use Rattle.las_merge.specs.Asking.{asked_to_compare}
 use Rattle.las_merge.proofs.Again.{open_by}
+use Rattle.las_merge.proofs.Asked.{asked_one}
 use Rattle.las_merge.proofs.KeptPacked.{fails_open}
 use Rattle.las_merge.proofs.Listed.{list_more, listed_by}
 use Rattle.las_merge.proofs.listing.list_next.Given.{Over}
@@ -106,3 +108,28 @@ returns-in-Ok-add-clause-lists g c asked lists =
     (listed_by held c.args.name.now reader c.in-Ok.ensures.whole c.in-Ok.ensures.stands packed) bound c.in-Ok-add.ensures.added few in
     subst (λ (is : List InputSeen). ListsChunks held is now.sources.items now.lists.many now.lists.counts.items now.lists.sizes.items (asked + spent)) (sym c.in-Ok-add.ensures.inputs)
     (subst (λ (ss : List SourceSeen). ListsChunks held (was.inputs.items ++ l.input ∷ []) ss now.lists.many now.lists.counts.items now.lists.sizes.items (asked + spent)) (sym c.in-Ok-add.ensures.sources) more)
+
+pub returns-in-Err-clause-asked : goal.returns-in-Err-clause-asked
+returns-in-Err-clause-asked g c =
+    asked_one (g.F.Files.seen c.args.files.now).held c.args.name.now asked_to_compare (g.F.Files.seen c.args.files.now) (g.F.Files.seen c.open.new.files)
+    (λ gone. let same = c.open.ensures.missing gone in omega (arith, same)) c.open.ensures.asked_of
+
+pub returns-then-not-packed-clause-asked : goal.returns-then-not-packed-clause-asked
+returns-then-not-packed-clause-asked g c =
+    asked_one (g.F.Files.seen c.args.files.now).held c.args.name.now asked_to_compare (g.F.Files.seen c.args.files.now) (g.F.Files.seen c.open.new.files)
+    (λ gone. let same = c.open.ensures.missing gone in omega (arith, same)) c.open.ensures.asked_of
+
+pub returns-in-Some-clause-asked : goal.returns-in-Some-clause-asked
+returns-in-Some-clause-asked g c =
+    asked_one (g.F.Files.seen c.args.files.now).held c.args.name.now asked_to_compare (g.F.Files.seen c.args.files.now) (g.F.Files.seen c.open.new.files)
+    (λ gone. let same = c.open.ensures.missing gone in omega (arith, same)) c.open.ensures.asked_of
+
+pub returns-in-Ok-add-clause-asked : goal.returns-in-Ok-add-clause-asked
+returns-in-Ok-add-clause-asked g c =
+    asked_one (g.F.Files.seen c.args.files.now).held c.args.name.now asked_to_compare (g.F.Files.seen c.args.files.now) (g.F.Files.seen c.open.new.files)
+    (λ gone. let same = c.open.ensures.missing gone in omega (arith, same)) c.open.ensures.asked_of
+
+pub returns-in-Err-add-clause-asked : goal.returns-in-Err-add-clause-asked
+returns-in-Err-add-clause-asked g c =
+    asked_one (g.F.Files.seen c.args.files.now).held c.args.name.now asked_to_compare (g.F.Files.seen c.args.files.now) (g.F.Files.seen c.open.new.files)
+    (λ gone. let same = c.open.ensures.missing gone in omega (arith, same)) c.open.ensures.asked_of

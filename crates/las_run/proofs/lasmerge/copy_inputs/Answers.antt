@@ -18,3 +18,6 @@ returns-clause-ends g c =
     let asked : Asked = record { work = lasmerge options; workers = c.args.workers } in
     λ taps out. subst (λ (o : Result (Unit {0}) Stop). Ends (task_with taps asked) (quiet old new out) (cause_of inputs o)) (sym c.stopped_merge.ensures)
     (ends_copying taps options c.args.workers old new out c.merge_copied.result c.merge_copied.ensures.says)
+
+pub returns-clause-asks : goal.returns-clause-asks
+returns-clause-asks g c = c.merge_copied.ensures.asked_always

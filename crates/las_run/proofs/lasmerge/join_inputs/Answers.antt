@@ -32,3 +32,6 @@ returns-clause-ends g c =
     (cause_of inputs o)) (sym c.stopped_merge.ensures)
     (ends_merging taps options c.args.machine.workers old new out c.if-packing.chunk c.merge.result size_is
     c.merge.ensures.says)
+
+pub returns-clause-asks : goal.returns-clause-asks
+returns-clause-asks g c = c.merge.ensures.asked

@@ -15,7 +15,8 @@ use Rattle.las_run.specs.declared.conversion.Conversion.{Conversion}
 use Rattle.las_run.specs.Tools.{las2las_options, options_with}
 use Rattle.las_run.proofs.Saying.{by_task}
 use Rattle.las_run.proofs.top_call.obey.Given.{Over}
-use Rattle.las_run.proofs.top_call.obey.Goals.{After-las2las, After-lasinfo, After-lassplit, After-laszip}
+use Rattle.las_run.proofs.top_call.obey.Goals.{After-las2las, After-lasinfo, After-lasmerge, After-lassplit}
+use Rattle.las_run.proofs.top_call.obey.Goals.{After-laszip}
 use Rattle.las_run.proofs.top_call.obey.Goals as goal
 
 -- What a command asks for is what the call that serves it was given, word for word.
@@ -132,25 +133,29 @@ returns-in-Lassplit-clause-ends g c =
     (lassplit_asked g (goal.at.returns-in-Lassplit-clause-ends g c).After-lassplit)
     (c.lassplit.ensures.ends task.taps (g.O.Sink.seen c.args.out.now))
 
+-- the work of `lasmerge`, as its call was given it
+module _ (g : Over) (c : After-lasmerge g) where
+  abbrev lasmerge_given : (inputs : List (List ℕ)) (output : List ℕ) → Asked
+  lasmerge_given inputs output = record {
+    work = lasmerge (record {
+      inputs = inputs;
+      output = output;
+      packed = c.in-Lasmerge.packing.packed;
+      chunk = c.in-Lasmerge.packing.chunk;
+      copy = c.in-Lasmerge.copy;
+    });
+    workers = c.in-Lasmerge.workers;
+  }
+
+  lasmerge_asked : lasmerge_given (texts c.deref-in-Lasmerge.result.now) c.deref-in-Lasmerge-2.result.now ≡ asked_by c.args.command.now
+  lasmerge_asked =
+      ap (λ ts. lasmerge_given (texts ts) c.deref-in-Lasmerge-2.result.now) c.deref-in-Lasmerge.ensures.value
+      ∙ ap (lasmerge_given (texts c.in-Lasmerge.inputs.items)) c.deref-in-Lasmerge-2.ensures ∙ sym (ap asked_by c.in-Lasmerge.is)
+
 pub returns-in-Lasmerge-clause-ends : goal.returns-in-Lasmerge-clause-ends
 returns-in-Lasmerge-clause-ends g c =
-    let w = c.in-Lasmerge in
-    let output = c.deref-in-Lasmerge-2.result.now in
-    let asks_for : (inputs : List (List ℕ)) (output : List ℕ)
-    → Asked = λ inputs output. record {
-      work = lasmerge (record {
-        inputs = inputs;
-        output = output;
-        packed = w.packing.packed;
-        chunk = w.packing.chunk;
-        copy = w.copy;
-      });
-      workers = w.workers;
-    } in
-    let asked : asks_for (texts c.deref-in-Lasmerge.result.now) output ≡ asked_by c.args.command.now =
-    ap (λ ts. asks_for (texts ts) output) c.deref-in-Lasmerge.ensures.value
-    ∙ ap (asks_for (texts w.inputs.items)) c.deref-in-Lasmerge-2.ensures ∙ sym (ap asked_by w.is) in
-    λ task taps said. by_task task _ _ _ c.lasmerge.result said asked
+    λ task taps said. by_task task _ _ _ c.lasmerge.result said
+    (lasmerge_asked g (goal.at.returns-in-Lasmerge-clause-ends g c).After-lasmerge)
     (c.lasmerge.ensures.ends task.taps (g.O.Sink.seen c.args.out.now))
 
 pub returns-in-Make-clause-ends : goal.returns-in-Make-clause-ends
@@ -186,8 +191,9 @@ returns-in-Lassplit-clause-asks g c =
     (lassplit_asked g (goal.at.returns-in-Lassplit-clause-asks g c).After-lassplit) c.lassplit.ensures.asks
 
 pub returns-in-Lasmerge-clause-asks : goal.returns-in-Lasmerge-clause-asks
-returns-in-Lasmerge-clause-asks g c = subst (λ (command : Command). WorkAsks (work_by command)
-    (g.F.Files.seen c.args.files.now) (g.F.Files.seen c.lasmerge.new.files)) (sym c.in-Lasmerge.is) tt
+returns-in-Lasmerge-clause-asks g c =
+    subst (λ (a : Asked). WorkAsks a.work (g.F.Files.seen c.args.files.now) (g.F.Files.seen c.lasmerge.new.files))
+    (lasmerge_asked g (goal.at.returns-in-Lasmerge-clause-asks g c).After-lasmerge) c.lasmerge.ensures.asks
 
 pub returns-in-Make-clause-asks : goal.returns-in-Make-clause-asks
 returns-in-Make-clause-asks g c = subst (λ (command : Command). WorkAsks (work_by command)

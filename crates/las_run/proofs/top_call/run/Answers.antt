@@ -7,8 +7,8 @@ use Rattle.las_run.specs.Ends.{cause_of, names_read, stop_of}
 use Rattle.las_outside.specs.Frames.{IsCalm}
 use Rattle.las_run.specs.Seen.{RunSeen, change_of}
 use Rattle.las_run.proofs.Calm.{out_settled, settled}
-use Rattle.las_run.proofs.Asking.{asks_read, asks_whole}
-use Rattle.las_run.proofs.Keeping.{Asks, AsksAll, EndsUnasked, StaysCalm, keeps}
+use Rattle.las_run.proofs.Asking.{asks_merged, asks_read, asks_whole}
+use Rattle.las_run.proofs.Keeping.{Asks, AsksAll, AsksMerged, EndsUnasked, StaysCalm, keeps}
 use Rattle.las_run.proofs.Saying.{is_read_of, names_of_taps, not_read, two_or_one}
 use Rattle.las_run.proofs.top_call.run.Goals as goal
 
@@ -38,6 +38,8 @@ returns g c =
     asks_read task.said said input options workers run.files run.files_now read asked (λ f unread. (c.work-outcome.ensures.unread f unread).1) c.work-outcome.ensures.asks in
     let whole : AsksAll run = λ input own workers asked.
     asks_whole task.said said input own workers run.files run.files_now read asked (λ f unread. (c.work-outcome.ensures.unread f unread).1) c.work-outcome.ensures.asks in
+    let merged : AsksMerged run = λ options workers asked.
+    asks_merged task.said said options workers run.files run.files_now read asked (λ f unread. (c.work-outcome.ensures.unread f unread).1) c.work-outcome.ensures.asks in
     let calm : StaysCalm run = λ decided.
     let outcome = c.work-outcome.result in
     let w = c.work-outcome.ensures in
@@ -45,4 +47,4 @@ returns g c =
       settled names outcome (IsCalm run.files run.files_now) run.status is w.calm w.calm_stopped decided,
       out_settled task (change_of run) names outcome run.status is w.calm_out e decided,
     ) in
-    keeps run (cause_of names c.work-outcome.result) is c.report.ensures.line (c.work-outcome.ensures.ends task refl read) unasked asks whole c.work-outcome.ensures.later c.status.ensures.known c.no_task_is_without_an_ending.ensures calm
+    keeps run (cause_of names c.work-outcome.result) is c.report.ensures.line (c.work-outcome.ensures.ends task refl read) unasked asks whole merged c.work-outcome.ensures.later c.status.ensures.known c.no_task_is_without_an_ending.ensures calm
