@@ -3,7 +3,8 @@
 #
 # In a checkout it runs a build of one's own that is as new as the sources, else the released program if that was built
 # from the present sources, else it proves and builds the program first (release/choose.sh). Which program that is, is
-# kept in a stamp, which holds while no source was changed, added or removed. Installed, it runs an installed program.
+# kept in a stamp, which holds while no source was changed, added or removed. Installed, it runs an installed program. Of
+# the released or installed programs it takes the best that fits the machine, or the one that LAS_PROGRAM names.
 set -u
 
 # a limit on file size is then a write fault of the program, and not the signal that ends it
@@ -23,11 +24,12 @@ help=$top/help
 [ -f "$top/crates.txt" ] || help=$top/../share/las/help
 
 # What has to stay as it is for the program $1 to be the right one: the sources, the release, the build, the program,
-# and the machine, since it is chosen by the processor. It is called in a subshell, which it replaces.
+# and the machine with its C library, by which it is chosen. It is called in a subshell, which it replaces.
 listing() {
     printf '%s\n%s\n' "$1" "$boot"
     CDPATH='' cd -P -- "$top" && exec find crates.txt release/BUILT_FROM crates/las/out/las \
         crates/las/out/las.built_from crates/las/out/las.stamp crates/*/src "$1" \
+        /lib64/ld-linux-x86-64.so.2 /lib/ld-linux-aarch64.so.1 \
         -printf '%p %y %s %T@ %C@ %D %i\n' 2>/dev/null
 }
 
@@ -41,19 +43,17 @@ stamped() {
 find_program() {
     if [ ! -f "$top/crates.txt" ]; then
         . "$top/../share/las/processor.sh"
-        program=$top/../libexec/las/las-x86-64-v2
-        if [ -x "${program%2}3" ] && runs_v3; then program=${program%2}3; fi
-        [ -x "$program" ] || program=${program%2}3
+        choose_in "$top/../libexec/las" || exit 1
         return
     fi
     kept=${XDG_CACHE_HOME:-${HOME:+$HOME/.cache}}
     kept=${kept:-/dev/null}/las
     boot=
     read -r boot 2>/dev/null </proc/sys/kernel/random/boot_id
-    stamped "$top/release/out/stamp" && return
+    [ -z "${LAS_PROGRAM-}" ] && stamped "$top/release/out/stamp" && return
     # (of a checkout that can't be written)
     kept_stamp=$kept/checkouts$(CDPATH='' cd -P -- "$top" && pwd -P)/stamp
-    stamped "$kept_stamp" && return
+    [ -z "${LAS_PROGRAM-}" ] && stamped "$kept_stamp" && return
     program=$(. "$top/release/choose.sh" </dev/null) || exit 1
 }
 

@@ -52,3 +52,20 @@ note_build() {
     } >"$own.built_from"
 }
 
+# The tools that join and link the objects of the library
+linker() { printf '%s, %s\n' "$(ld --version | head -n 1)" "$(objcopy --version | head -n 1)"; }
+
+# Joins the archive $1 of the proved code and the three calls by which it asks the C library for memory to the object
+# laz.o in the folder $2. Only the calls of las.h keep their names, so that two such libraries can stand in one program.
+# For another processor $3 is the beginning of its tools' names, and $4 has the three calls.
+joined() {
+    "${3-}ld" -r --whole-archive "$1" "${4-$(dirname -- "$(rt doc)")/c/liblibc_c.a}" -o "$2/laz.o" || return 1
+    "${3-}objcopy" --wildcard --keep-global-symbol='laz_c_*' --strip-debug --remove-section=.comment "$2/laz.o"
+}
+
+# The tools that compile the sources for whole files, and the module for other machines
+compiler() {
+    tools=$(dirname -- "$(rt doc)")/toolchain/bin
+    printf '%s, %s, %s\n' "$("$tools/clang" --version 2>/dev/null | head -n 1)" \
+        "$("$tools/ld.lld" -flavor wasm --version 2>/dev/null | head -n 1)" "$(wasm-opt --version 2>/dev/null || echo 'no wasm-opt')"
+}

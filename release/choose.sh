@@ -37,22 +37,37 @@ unpacked() {
     fi
 }
 
-# Prints the path of the released program, if the release is of the sources with the sum $1 and can run here.
-released() {
-    [ "$(named "$top/release/BUILT_FROM" sources)" = "$1" ] && runs_v2 || return 1
-    for level in v3 v2; do
-        [ $level = v2 ] || runs_v3 || continue
-        sum=$(named "$top/release/BUILT_FROM" las-x86-64-$level)
-        [ -n "$sum" ] && [ -f "$top/release/las-x86-64-$level.gz" ] || continue
-        if unpacked las-x86-64-$level "$sum" "$top/release/out"; then return; fi
-        if unpacked las-x86-64-$level "$sum" "$kept"; then return; fi
-        # neither place can be written: the launcher removes this one after the run
-        once=$(mktemp -d "${TMPDIR:-/tmp}/las-once.XXXXXX" 2>/dev/null) || continue
-        if unpacked las-x86-64-$level "$sum" "$once"; then return; fi
-        rmdir -- "$once"
+# Prints the path of the released program $1 with the sum $2, unpacked where it can be, if it starts there.
+unpacked_somewhere() {
+    for folder in "$top/release/out" "$kept" once; do
+        if [ "$folder" = once ]; then
+            # neither place can be written: the launcher removes this one after the run
+            once=$(mktemp -d "${TMPDIR:-/tmp}/las-once.XXXXXX" 2>/dev/null) || return 1
+            folder=$once
+        fi
+        place=$(unpacked "$1" "$2" "$folder") || continue
+        if [ -n "${LAS_PROGRAM-}" ]; then does_start "$place" || break; else starts "$place" || break; fi
+        printf '%s\n' "$place"
+        return
     done
-    [ -n "${once-}" ] &&
-        say "the released program could not be unpacked, or is not the one that release/BUILT_FROM names"
+    case ${once-} in */las-once.*) rm -rf -- "$once" ;; esac
+    return 1
+}
+
+# Prints the path of the first released program that fits, or of the one that LAS_PROGRAM names, if the release is of the
+# sources with the sum $1. Ends with status 2 if none is for this machine, which it says.
+released() {
+    [ "$(named "$top/release/BUILT_FROM" sources)" = "$1" ] || return 1
+    suiting=
+    for candidate in ${LAS_PROGRAM:-$PROGRAMS}; do
+        sum=$(named "$top/release/BUILT_FROM" "$candidate")
+        if [ -z "$sum" ] || [ ! -f "$top/release/$candidate.gz" ] || ! suits "$candidate"; then continue; fi
+        suiting=1
+        if unpacked_somewhere "$candidate" "$sum"; then return; fi
+    done
+    [ -z "${LAS_PROGRAM-}" ] || return 1
+    if [ -z "$suiting" ]; then say_none && return 2; fi
+    say "no released program could be unpacked and started, or it is not the one that release/BUILT_FROM names"
     return 1
 }
 
@@ -81,12 +96,20 @@ is_full() {
 NEEDED_KB=1000000
 before=$(source_listing)
 sources=$("$top/release/sources") || { say "the sources can't be read"; exit 1; }
-if is_own_build "$sources"; then
+is_named_well || exit 1
+if [ -n "${LAS_PROGRAM-}" ]; then
+    # (no stamp: the next start may be without the name)
+    released "$sources" && exit
+    say "$LAS_PROGRAM, which LAS_PROGRAM names, is not released from these sources, or does not start here"
+    exit 1
+elif is_own_build "$sources"; then
     chosen=$top/crates/las/out/las
 elif chosen=$(released "$sources"); then
     :
+elif [ $? -eq 2 ]; then
+    exit 1
 elif ! command -v rt >/dev/null; then
-    say "no released program is of these sources and this processor, and the command rt of Rattle is missing"
+    say "no released program is of these sources, and the command rt of Rattle is missing"
     exit 1
 elif is_full; then
     exit 1

@@ -15,6 +15,7 @@ from pathlib import Path
 TOP = Path(__file__).resolve().parent.parent
 NAME = "balsamvise"
 LICENCES = ("LICENSE-APACHE", "LICENSE-MIT")
+MACHINES = ("x86_64", "aarch64")
 SUMMARY = "packs the point clouds of laser scanners without loss, proved"
 
 
@@ -55,9 +56,11 @@ def released(name: str) -> bytes:
     return data
 
 
-def staged(folder: Path, prefix: str) -> Path:
-    """What `./install` puts below a folder. Answers the folder of the prefix, without the list of installed files."""
-    run = subprocess.run([TOP / "install", prefix], env=dict(os.environ, DESTDIR=str(folder)),
+def staged(folder: Path, prefix: str, machine: str) -> Path:
+    """What `./install` puts below a folder for a machine, x86_64 or aarch64. Answers the folder of the prefix, without
+    the list of installed files.
+    """
+    run = subprocess.run([TOP / "install", prefix], env=dict(os.environ, DESTDIR=str(folder), LAS_MACHINE=machine),
                          stdin=subprocess.DEVNULL, stdout=subprocess.DEVNULL, check=False)
     if run.returncode != 0:
         fail("./install failed")
@@ -82,6 +85,30 @@ def add_documents(folder: Path) -> None:
         shutil.copy(TOP / "examples" / name, folder / "examples" / name)
     for path in folder.rglob("*"):
         path.chmod(0o755 if path.is_dir() else 0o644)
+
+
+COMMAND = """#!/usr/bin/env python3
+\"\"\"Commands over point clouds: balsamvise COMMAND ...\"\"\"
+{path}
+from balsamvise.__main__ import main
+
+sys.exit(main())
+"""
+
+
+def add_command(folder: Path, modules: str = "") -> None:
+    """The command `balsamvise`, over the package in a folder beside that of the command, or over the installed one.
+
+    The library is in the folder of that folder then.
+    """
+    lines = ["import os", "import sys", "", "here = os.path.dirname(os.path.realpath(__file__))",
+             f"sys.path.insert(0, os.path.join(here, {modules!r}))",
+             f"os.environ.setdefault(\"BALSAMVISE_LIBRARY\", os.path.join(here, {os.path.dirname(modules)!r}))"]
+    lines = lines if modules else ["import sys", ""]
+    folder.mkdir(parents=True, exist_ok=True)
+    path = folder / "balsamvise"
+    path.write_text(COMMAND.format(path="\n".join(lines)))
+    path.chmod(0o755)
 
 
 def write_whole(path: Path, data: bytes) -> None:
