@@ -12,19 +12,22 @@ this package, in the `lib` folder of the Python installation, in `/usr/local/lib
 finds `liblaz.so.1`. In each folder the library in `glibc-hwcaps/x86-64-v3` comes first if the processor runs it. A
 wheel has the library inside.
 """
+from .crs import Crs
 from .errors import CAUSES, LibraryMissing, ProcessorTooOld, Refused
-from .head import Head, Vlr
+from .extra_bytes import ExtraBytes
+from .head import Head
 from .library import check_processor
-from .points import Points, dtype_of
+from .points import Point, Points, concatenate, dtype_of
 from .reading import LasFile, read
 from .reading import open_file as open
-from .writing import write
+from .vlrs import Vlr, Vlrs
+from .writing import LasWriter, append, create, write
 
 __version__ = "1.2.0"
 
 __all__ = [
-    "CAUSES", "Head", "LasFile", "LibraryMissing", "Points", "ProcessorTooOld", "Refused", "Vlr", "dtype_of", "open",
-    "read", "write",
+    "CAUSES", "Crs", "ExtraBytes", "Head", "LasFile", "LasWriter", "LibraryMissing", "Point", "Points",
+    "ProcessorTooOld", "Refused", "Vlr", "Vlrs", "append", "concatenate", "create", "dtype_of", "open", "read", "write",
 ]
 
 check_processor()

@@ -22,7 +22,8 @@ class Refused(ValueError):
     cause: str
     """The name of the cause, as `Trailing`."""
     chunk: int | None
-    """The number of the first bad chunk, from 0, if the cause is `BadChunk`; else None."""
+    """The number of the first bad chunk, from 0, if the cause is `BadChunk`; else None, and also if there are more
+    chunks than bytes for them."""
 
     def __init__(self, name: str, number: int, chunk: int | None = None) -> None:
         self.name = name

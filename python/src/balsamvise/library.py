@@ -8,6 +8,7 @@ from dataclasses import dataclass
 
 import numpy as np
 
+from .arrays import Array
 from .errors import LibraryMissing, ProcessorTooOld, Refused
 
 VARIABLE = "BALSAMVISE_LIBRARY"
@@ -140,7 +141,7 @@ def _calls() -> ctypes.CDLL:
     return _library
 
 
-def _address(array: np.ndarray) -> tuple[int, int]:
+def _address(array: Array) -> tuple[int, int]:
     """The place and the length, in bytes, of an array without gaps."""
     if not array.flags.c_contiguous:
         raise ValueError("the array has gaps")
@@ -181,9 +182,9 @@ def read_head(name: str, data: bytes, size: int) -> RawHead:
 class ChunkList:
     """The chunks of a packed file, in order."""
 
-    sizes: np.ndarray
+    sizes: Array
     """The number of points of each chunk."""
-    counts: np.ndarray
+    counts: Array
     """The number of bytes of each chunk."""
 
 
@@ -205,12 +206,12 @@ def table_room(chunks: int) -> int:
     return int(_calls().laz_c_table_room(chunks))
 
 
-def unpack(format: int, extra: int, data: bytes, count: int, records: np.ndarray) -> bool:
+def unpack(format: int, extra: int, data: bytes, count: int, records: Array) -> bool:
     """Unpacks a chunk to `records`, an array without gaps; False if the chunk holds no `count` records."""
     return _done(_calls().laz_c_unpack(format, extra, *_bytes(data), count, *_address(records)))
 
 
-def pack(format: int, extra: int, records: np.ndarray) -> bytes:
+def pack(format: int, extra: int, records: Array) -> bytes:
     """The chunk of records, an array of structs without gaps."""
     calls = _calls()
     room = np.empty(calls.laz_c_room(format, extra, len(records)), np.uint8)
@@ -227,10 +228,12 @@ def payload_of(format: int, extra: int, chunk: int) -> bytes:
     return room[: written.value].tobytes()
 
 
-def table_of(counts: np.ndarray) -> bytes:
-    """The chunk table of chunks of a fixed number of points, by their numbers of bytes."""
+def table_of(counts: Array, sizes: Array | None = None) -> bytes:
+    """The chunk table, by the numbers of bytes of the chunks, and their numbers of points if each has one of its own.
+    """
     calls = _calls()
     room = np.empty(calls.laz_c_table_room(len(counts)), np.uint8)
     written = ctypes.c_size_t()
-    _done(calls.laz_c_table_of(None, 0, counts.ctypes.data, len(counts), *_address(room), ctypes.byref(written)))
+    given = (None, 0) if sizes is None else (sizes.ctypes.data, len(sizes))
+    _done(calls.laz_c_table_of(*given, counts.ctypes.data, len(counts), *_address(room), ctypes.byref(written)))
     return room[: written.value].tobytes()

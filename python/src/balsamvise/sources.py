@@ -41,6 +41,11 @@ class PathSource:
     def close(self) -> None:
         self._file.close()
 
+    def stamp(self) -> tuple[int, ...]:
+        """What changes if the file is written to: its size and times."""
+        status = os.fstat(self._file.fileno())
+        return status.st_size, status.st_mtime_ns, status.st_ctime_ns
+
     def read(self, at: int, length: int) -> bytes:
         """So many bytes from a place of the file."""
         parts = []
@@ -74,6 +79,10 @@ class StreamSource:
 
     def close(self) -> None:
         pass
+
+    def stamp(self) -> tuple[int, ...]:
+        """Nothing: a stream does not tell."""
+        return ()
 
     def read(self, at: int, length: int) -> bytes:
         """So many bytes from a place of the stream."""

@@ -3,6 +3,8 @@ from __future__ import annotations
 
 import numpy as np
 
+from .arrays import Array
+
 _STEP = 1024
 
 
@@ -29,7 +31,7 @@ class EvenSums:
 class Sums:
     """The sums of the first numbers of a list of unsigned numbers of 32 bits, from a start on."""
 
-    def __init__(self, numbers: np.ndarray, start: int = 0) -> None:
+    def __init__(self, numbers: Array, start: int = 0) -> None:
         self._numbers = numbers
         starts = np.arange(0, len(numbers), _STEP)
         steps = np.add.reduceat(numbers, starts, dtype=np.int64) if len(numbers) > 0 else np.empty(0, np.int64)
