@@ -45,12 +45,22 @@ esac
 
 TOOLS = ("sh awk cat chmod cmp cut df dirname env find grep gzip mkdir mktemp mv readlink rm rmdir sed sha256sum sleep "
          "sort tail tee tr true uname wc xargs").split()
-RELEASE = ("sources", "choose.sh", "build.sh", "processor.sh", "make", "build_for", "library", "spdx")
-PACKED = ("las-x86-64-v2", "las-x86-64-v3", "liblaz.a", "liblaz.so", "liblaz-x86-64-v3.so")
+RELEASE = ("sources", "choose.sh", "build.sh", "processor.sh", "systems.sh", "make", "build_for", "link", "library",
+           "spdx", "module", "wasm")
+C_SOURCES = ("c/las.h", "c/laz_file.h", "c/laz_reader.c", "c/laz_writer.c", "c/laz_paths.c")
+PROGRAMS = ("las-x86-64-v2", "las-x86-64-v3", "las-x86-64-static", "las-aarch64", "las-aarch64-static")
+PACKED = (*PROGRAMS, "las-x86-64.o", "las-aarch64.o", "liblaz.a", "liblaz.so", "liblaz-x86-64-v3.so",
+          "liblaz-aarch64.a", "liblaz-aarch64.so", "laz.wasm", "liblaz-x86_64-pc-windows-gnu.a",
+          "liblaz-x86_64-apple-macosx11-untried.a", "liblaz-aarch64-apple-macosx11-untried.a")
 
 
 def sum_of(data: bytes) -> str:
     return hashlib.sha256(data).hexdigest()
+
+
+def packages() -> str:
+    """The cross packages of this machine, with their versions, as release/make notes them."""
+    return good(["sh", "-c", ". release/systems.sh; package_versions"], cwd=TOP).strip()
 
 
 class Checkout:
@@ -66,10 +76,11 @@ class Checkout:
         for name in ("las", "install", "las-batch", "las-batch-job"):
             shutil.copy(TOP / name, self.path(name))
         shutil.copytree(TOP / "help", self.path("help"))
+        shutil.copytree(TOP / "web", self.path("web"))
         self.path("release").mkdir()
         for name in RELEASE:
             shutil.copy(TOP / "release" / name, self.path("release", name))
-        for name in ("c/las.h", "c/liblaz.pc.in", "docs/licences.md", "CHANGELOG.md"):
+        for name in (*C_SOURCES, "c/laz.hpp", "c/liblaz.pc.in", "docs/licences.md", "CHANGELOG.md"):
             self.path(name).parent.mkdir(exist_ok=True)
             shutil.copy(TOP / name, self.path(name))
         self.crates(("low", "pub fn one() {}\n"), ("las", "fn main() {}\n"), ("other", "fn main() {}\n"))
@@ -93,7 +104,8 @@ class Checkout:
 
     def release(self, program: bytes = TELLER.encode()) -> None:
         """Makes a release of the present sources, of which each file unpacks to this program."""
-        lines = ["kit kit of a check", "linker of a check", f"sources {self.sources()}"]
+        lines = ["kit kit of a check", "linker of a check", f"packages {packages()}", f"sources {self.sources()}",
+                 f"c_sources {self.c_sources()}"]
         for name in PACKED:
             self.path("release", name + ".gz").write_bytes(gzip.compress(program))
             lines.append(f"{name} {sum_of(program)}")
@@ -106,6 +118,11 @@ class Checkout:
 
     def sources(self) -> str:
         return quiet([self.path("release", "sources")]).stdout.decode().strip()
+
+    def c_sources(self) -> str:
+        """The sum of the sources for whole files, as release/make notes it."""
+        names = [name.rpartition("/")[2] for name in C_SOURCES]
+        return sum_of(good(["sha256sum", *names], cwd=self.path("c")).encode())
 
     def own(self, program: bytes = TELLER.encode()) -> Path:
         """Puts a build of one's own there, of which nothing is noted."""

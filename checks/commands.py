@@ -1,5 +1,6 @@
 """Runs of any command line, with both streams kept; a process that begins as another user or with closed streams."""
 import os
+import signal
 import subprocess
 from collections.abc import Callable, Iterable, Sequence
 from pathlib import Path
@@ -30,6 +31,12 @@ def become_nobody() -> None:
     os.setgroups([])
     os.setgid(NOBODY)
     os.setuid(NOBODY)
+
+
+def heed_signals() -> None:
+    """For `preexec_fn`: signals end the process, also if those who started the checks ignore them, as `nohup` does."""
+    for number in (signal.SIGHUP, signal.SIGINT, signal.SIGTERM):
+        signal.signal(number, signal.SIG_DFL)
 
 
 def without(closed: Iterable[int]) -> Callable[[], None]:

@@ -20,7 +20,9 @@ MARKERS = [
     "root: needs to be root, to mount a disk or to become another user",
     "servers: starts a server on this machine, as ssh or Slurm",
     "kit: needs `rt` of the Rattle kit",
+    "systems: long trials of the programs for other systems: `-m systems` runs these, beside the gate",
     "files: a whole run of the program on real files, and nothing else: tried on each build of the program",
+    "browser: needs browsers or Wine: `./check --browser` runs these alone, beside the gate, as .ci/check_web does",
     "alone: measures time or memory, or fills a disk: runs after the rest, one at a time",
 ]
 
@@ -31,15 +33,20 @@ def pytest_addoption(parser):
                                                       "that the launcher runs")
     group.addoption("--all", action="store_true", help="slow cases too; what is missing for a case is a failure")
     group.addoption("--huge", action="store_true", help="the cases marked `huge`, alone; what is missing is a failure")
+    group.addoption("--browser", action="store_true", help="the cases marked `browser`, alone; what is missing is a "
+                                                           "failure")
     group.addoption("--alone", choices=["only", "without"], help="cases marked `alone` alone, or all others")
 
 
 def pytest_configure(config):
     for marker in MARKERS:
         config.addinivalue_line("markers", marker)
-    if config.getoption("--program"):
-        os.environ["LAS_PROGRAM"] = os.path.abspath(config.getoption("--program"))
-    needs.required = config.getoption("--all") or config.getoption("--huge")
+    named = config.getoption("--program") or os.environ.get("LAS_PROGRAM")
+    # (the launcher, which is checked too, takes LAS_PROGRAM for the name of a released program)
+    os.environ.pop("LAS_PROGRAM", None)
+    if named:
+        config.option.program = programs.named = os.path.abspath(named)
+    needs.required = any(config.getoption(word) for word in ("--all", "--huge", "--browser"))
 
 
 def pytest_report_header(config):
@@ -48,7 +55,10 @@ def pytest_report_header(config):
 
 def pytest_collection_modifyitems(config, items):
     wanted = config.getoption("--alone")
-    kept = [item for item in items if ("huge" in item.keywords) == config.getoption("--huge")]
+    beside = "systems" in config.getoption("-m")
+    kept = [item for item in items if all((word in item.keywords) == config.getoption(f"--{word}")
+                                          for word in ("huge", "browser"))
+            and ("systems" in item.keywords) == beside]
     if wanted:
         kept = [item for item in kept if ("alone" in item.keywords) == (wanted == "only")]
     chosen = set(kept)

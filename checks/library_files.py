@@ -54,7 +54,7 @@ def build(folder: Path) -> None:
     major = (TOP / "help" / "version").read_text().partition(".")[0]
     for shared_library in ("liblaz.so", V3):
         os.symlink("liblaz.so", folder / f"{shared_library}.{major}")
-    for name in ("las.h", "liblaz.pc.in"):
+    for name in ("las.h", "laz.hpp", "liblaz.pc.in"):
         (folder / name).write_bytes((TOP / "c" / name).read_bytes())
 
 
@@ -63,7 +63,9 @@ def library(tmp_path_factory: pytest.TempPathFactory) -> Path:
 
 
 def c_program(tmp_path_factory: pytest.TempPathFactory) -> Path:
-    """c/check.c over liblaz.a, with sanitizers."""
+    """c/check.c over liblaz.a, with sanitizers; or a program of it that LAS_C_PROGRAM names, of another system."""
+    if os.environ.get("LAS_C_PROGRAM"):
+        return Path(os.environ["LAS_C_PROGRAM"])
     needs.command("gcc", "gcc")
     there = library(tmp_path_factory)
 

@@ -1,10 +1,7 @@
 """How a run ended and what it took, and runs that stand still while a file is changed."""
-import os
-import resource
 import signal
 import subprocess
-import tempfile
-import time
+import sys
 from typing import Any, Optional
 
 from places import Place
@@ -12,25 +9,36 @@ from places import Place
 MEGABYTE = 1_000_000
 
 
+# What a run takes is told by a small process that started it: Linux counts what a process held before it became the
+# program, and the suite itself may be large.
+RUN = """import os, resource, subprocess, sys, time
+space = int(sys.argv[1])
+def limits():
+    if space:
+        resource.setrlimit(resource.RLIMIT_AS, (space, space))
+started = time.monotonic()
+process = subprocess.Popen(sys.argv[2:], preexec_fn=limits, stdin=subprocess.DEVNULL, stdout=subprocess.DEVNULL)
+_, status, usage = os.wait4(process.pid, 0)
+print(os.waitstatus_to_exitcode(status), time.monotonic() - started, usage.ru_maxrss)
+"""
+# For a program in Python: the most megabytes that it held since it was started.
+MOST = """import re
+def most():
+    return int(re.search("VmHWM:[^0-9]*([0-9]+)", open("/proc/self/status").read())[1]) // 1024
+"""
+
+
 class Taken:
     """How a run ended, and what it took: seconds, and the greatest resident size in bytes."""
 
     def __init__(self, place: Place, words: list[str], space: Optional[int] = None) -> None:
-        def limits() -> None:
-            if space is not None:
-                resource.setrlimit(resource.RLIMIT_AS, (space, space))
-
-        with tempfile.TemporaryFile() as errors:
-            started = time.monotonic()
-            process = subprocess.Popen([place.program, *words], cwd=place.folder, preexec_fn=limits,
-                                       stdin=subprocess.DEVNULL, stdout=subprocess.DEVNULL, stderr=errors)
-            _, status, usage = os.wait4(process.pid, 0)
-            process.returncode = os.waitstatus_to_exitcode(status)
-            self.seconds = time.monotonic() - started
-            errors.seek(0)
-            self.line = errors.read()
-        self.status = process.returncode
-        self.bytes = usage.ru_maxrss * 1024
+        run = subprocess.run([sys.executable, "-S", "-c", RUN, str(space or 0), place.program, *words],
+                             cwd=place.folder, capture_output=True, check=True)
+        status, seconds, kibibytes = run.stdout.split()
+        self.line = run.stderr
+        self.status = int(status)
+        self.seconds = float(seconds)
+        self.bytes = int(kibibytes) * 1024
 
     def ended(self, status: int, line: bytes = b"", most: Optional[int] = None) -> None:
         """The status, the line, and the most bytes that the run may have taken."""

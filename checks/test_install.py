@@ -12,8 +12,10 @@ from places import Place
 
 INSTALLED = ["bin/las", "bin/las-batch", "bin/las-batch-job", "share/las/help/batch", "libexec/las/las-x86-64-v2",
              "libexec/las/las-x86-64-v3", "lib/liblaz.a", "lib/liblaz.so", "lib/pkgconfig/liblaz.pc", "include/las.h",
-             "lib/glibc-hwcaps/x86-64-v3/liblaz.so", "share/man/man1/las.1", "share/bash-completion/completions/las",
-             "share/las/help/options"]
+             "include/laz.hpp", "lib/glibc-hwcaps/x86-64-v3/liblaz.so", "share/man/man1/las.1",
+             "share/bash-completion/completions/las", "share/las/help/options", "share/doc/las/web/viewer.html",
+             "share/doc/las/web/laz.wasm", "share/doc/las/web/laz.mjs", "share/doc/las/web/laz.d.mts",
+             "share/doc/las/web/las.mjs"]
 
 
 def tree(folder):

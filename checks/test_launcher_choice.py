@@ -7,6 +7,7 @@ import tempfile
 
 import pytest
 
+import checkouts
 import commands
 from checkouts import TELLER, Checkout, sum_of
 
@@ -192,7 +193,7 @@ def test_twelve_first_starts_at_once(checkout):
 
 
 def test_unpacked_program_that_was_damaged_is_unpacked_again(checkout):
-    for name in ("las-x86-64-v2", "las-x86-64-v3"):
+    for name in checkouts.PROGRAMS:
         assert checkout.ran("laszip") == ("released", "")
         place = checkout.path("release", "out", name)
         if place.exists():
@@ -205,15 +206,15 @@ def other_release(checkout):
     """A checkout with a release that does not unpack to what it says."""
     checkout.ran("laszip")
     shutil.rmtree(checkout.path("release", "out"))
-    for name in ("las-x86-64-v2.gz", "las-x86-64-v3.gz"):
-        checkout.path("release", name).write_bytes(gzip.compress(b"#!/bin/sh\necho other\n"))
+    for name in checkouts.PROGRAMS:
+        checkout.path("release", f"{name}.gz").write_bytes(gzip.compress(b"#!/bin/sh\necho other\n"))
     return checkout
 
 
 def test_release_that_is_not_the_one_it_says(other_release):
     found, said = other_release.ran("laszip")
     assert found is None
-    assert "could not be unpacked" in said
+    assert "no released program could be unpacked and started" in said
 
 
 def test_release_that_is_not_the_one_it_says_is_built_instead(other_release):

@@ -11,6 +11,7 @@ from pathlib import Path
 
 import pytest
 
+import commands
 from places import Place
 from programs import LAUNCHER, TOP
 
@@ -51,7 +52,7 @@ def wait_for(path: Path) -> None:
 def start(place: Place, *words: str, **more: str) -> "subprocess.Popen[bytes]":
     return subprocess.Popen(list(words), cwd=place.folder, env={**os.environ, **more}, start_new_session=True,
                             stdin=subprocess.DEVNULL, stdout=subprocess.DEVNULL, stderr=subprocess.PIPE,
-                            preexec_fn=lambda: signal.signal(signal.SIGINT, signal.SIG_DFL))
+                            preexec_fn=commands.heed_signals)
 
 
 def ended(process: "subprocess.Popen[bytes]") -> "tuple[int, str]":

@@ -49,7 +49,7 @@ def test_library_is_built_twice_alike(library, tmp_path):
 @pytest.mark.parametrize("name", ["liblaz.so", V3])
 def test_header_and_library_have_the_same_calls(library, name):
     needs.command("nm", "binutils")
-    header = set(re.findall(r"\b(laz_c_\w+)\(", (TOP / "c" / "las.h").read_text()))
+    header = set(re.findall(r"^(?! \*)[a-z].*?\b(laz_\w+)\(", (TOP / "c" / "las.h").read_text(), re.MULTILINE))
     names = commands.good(["nm", "-D", "--defined-only", library / name])
     assert sorted(line.split()[-1] for line in names.splitlines()) == sorted(header)
 
@@ -152,11 +152,12 @@ def test_c_program_of_the_page(documented):
     assert sorted(built_as_documented(place).splitlines()) == wanted
 
 
-def test_c_program_of_the_page_refuses_a_plain_file(documented):
-    place, _ = documented
+def test_c_program_of_the_page_reads_a_plain_file_and_refuses_others(documented):
+    place, wanted = documented
     built_as_documented(place)
-    run = commands.quiet([place / "heights", "m.las"], cwd=place)
-    assert (run.returncode, run.stdout) == (5, b"")
+    assert sorted(commands.good([place / "heights", "m.las"], cwd=place).splitlines()) == wanted
+    run = commands.quiet([place / "heights", "heights"], cwd=place)
+    assert (run.returncode, run.stdout, run.stderr) == (2, b"", b"heights: refused: 2 Magic\n")
 
 
 def test_page_shows_the_c_program_as_it_is():
@@ -168,7 +169,7 @@ def test_c_program_by_pkg_config(documented):
     place, wanted = documented
     needs.command("pkg-config", "pkg-config")
     script = """mkdir -p there/lib/pkgconfig there/include
-cp -r lib/liblaz.so* lib/glibc-hwcaps there/lib; cp lib/las.h there/include
+cp -r lib/liblaz.so* lib/glibc-hwcaps there/lib; cp lib/las.h lib/laz.hpp there/include
 sed "s|@prefix@|$PWD/there|; s|@version@|1.0|" lib/liblaz.pc.in >there/lib/pkgconfig/liblaz.pc
 export PKG_CONFIG_PATH="$PWD/there/lib/pkgconfig"
 cc -O2 c/heights.c $(pkg-config --cflags --libs liblaz) -o shared

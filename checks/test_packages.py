@@ -52,13 +52,34 @@ def packages(tmp_path_factory):
     return made_by("deb", tmp_path_factory.mktemp("deb"))
 
 
-def debs(packages):
-    return [path for name, path in packages.items() if name.endswith(".deb")]
+def debs(packages, end=".deb"):
+    return [path for name, path in packages.items() if name.endswith(end)]
 
 
-def test_debian_packages_are_four(packages):
-    wanted = [f"{name}_{VERSION}_amd64.deb" for name in ("balsamvise", "liblaz-dev", "liblaz1", "python3-balsamvise")]
+def test_debian_packages_are_four_for_each_processor(packages):
+    wanted = [f"{name}_{VERSION}_{architecture}.deb"
+              for name in ("balsamvise", "liblaz-dev", "liblaz1", "python3-balsamvise")
+              for architecture in ("amd64", "arm64")]
     assert sorted(path.name for path in debs(packages)) == wanted
+
+
+def test_packages_for_arm64_hold_programs_of_aarch64_and_no_static_one(packages, tmp_path):
+    for name, place in (("balsamvise", "usr/libexec/las"), ("liblaz1", "usr/lib/aarch64-linux-gnu")):
+        tree = tmp_path / name
+        subprocess.run(["dpkg-deb", "-x", packages[f"{name}_{VERSION}_arm64.deb"], tree], check=True)
+        files = [path for path in (tree / place).rglob("*") if path.is_file() and not path.is_symlink()]
+        assert {path.name for path in files} == ({"las-aarch64"} if name == "balsamvise" else {f"liblaz.so.{VERSION}"})
+        assert {machine_of(path) for path in files} == {AARCH64}
+
+
+AARCH64, X86_64 = 183, 62
+
+
+def machine_of(path: Path) -> int:
+    """The processor that a program or shared library is for, by its ELF head."""
+    head = path.read_bytes()[:20]
+    assert head[:4] == b"\x7fELF"
+    return int.from_bytes(head[18:20], "little")
 
 
 def test_lintian_has_no_error_and_no_warning(packages):
@@ -117,7 +138,7 @@ def inside(root: Path, script: str, **more: str) -> str:
 def installed(debian, packages):
     """The folder with all four packages."""
     (debian / "packages").mkdir()
-    for path in debs(packages):
+    for path in debs(packages, "_amd64.deb"):
         shutil.copy(path, debian / "packages")
     inside(debian, "apt-get update && apt-get install -y --no-install-recommends /packages/*.deb")
     shutil.copy(SAMPLE, debian / "tile.laz")
@@ -229,7 +250,7 @@ READS = "import balsamvise; print(len(balsamvise.read('tile.laz', threads=2)), b
 @pytest.mark.parametrize("form", ["wheel", "sdist"])
 def test_python_package_is_installed_and_reads_the_sample(wheels, form, tmp_path):
     python = environment(tmp_path / "venv")
-    name, = (name for name in wheels if name.endswith(".whl" if form == "wheel" else ".tar.gz"))
+    name, = (name for name in wheels if name.endswith("_x86_64.whl" if form == "wheel" else ".tar.gz"))
     words = ["--no-build-isolation"] if form == "sdist" else []
     subprocess.run([python, "-m", "pip", "install", "-q", "--no-index", *words, wheels[name]], check=True)
     shutil.copy(SAMPLE, tmp_path / "tile.laz")
@@ -238,14 +259,22 @@ def test_python_package_is_installed_and_reads_the_sample(wheels, form, tmp_path
     assert run.stdout.decode() == f"20493 {VERSION}\n"
 
 
-def test_wheel_says_what_it_holds(wheels):
-    name, = (name for name in wheels if name.endswith(".whl"))
+TAGS = {"manylinux_2_14_x86_64": X86_64, "manylinux_2_17_aarch64": AARCH64}
+
+
+@pytest.mark.parametrize("tag", TAGS)
+def test_wheel_says_what_it_holds(wheels, tmp_path, tag):
+    name, = (name for name in wheels if name.endswith(f"-py3-none-{tag}.whl"))
     with zipfile.ZipFile(wheels[name]) as archive:
         names = archive.namelist()
         record = archive.read(f"balsamvise-{VERSION}.dist-info/RECORD").decode().splitlines()
+        said = archive.read(f"balsamvise-{VERSION}.dist-info/WHEEL").decode()
+        archive.extract("balsamvise/liblaz.so", tmp_path)
+    assert f"\nTag: py3-none-{tag}\n" in said
     assert sorted(line.split(",")[0] for line in record) == sorted(names)
-    assert {"balsamvise/liblaz.so", "balsamvise/glibc-hwcaps/x86-64-v3/liblaz.so",
-            f"balsamvise-{VERSION}.dist-info/licenses/LICENSE-MIT"} <= set(names)
+    assert {"balsamvise/liblaz.so", f"balsamvise-{VERSION}.dist-info/licenses/LICENSE-MIT"} <= set(names)
+    assert ("balsamvise/glibc-hwcaps/x86-64-v3/liblaz.so" in names) == (TAGS[tag] == X86_64)
+    assert machine_of(tmp_path / "balsamvise" / "liblaz.so") == TAGS[tag]
 
 
 def test_import_on_an_old_processor_says_so(tmp_path):
@@ -265,15 +294,35 @@ def test_import_on_an_old_processor_says_so(tmp_path):
     assert "lahf_lm, popcnt, sse4_1, sse4_2" in run.stderr.decode()
 
 
-@pytest.fixture
-def unpacked(tmp_path):
-    """The archive, unpacked in a folder with a blank in its name."""
-    made = made_by("tar", tmp_path / "made")
-    name, = (name for name in made if name.endswith(".tar.gz"))
+@pytest.fixture(scope="module")
+def archives(tmp_path_factory):
+    return made_by("tar", tmp_path_factory.mktemp("tar"))
+
+
+def unpacked_for(machine, archives, tmp_path):
+    """The archive for a machine, unpacked in a folder with a blank in its name."""
+    name, = (name for name in archives if name.endswith(f"-linux-{machine}.tar.gz"))
     place = tmp_path / "a folder"
-    with tarfile.open(made[name]) as archive:
+    with tarfile.open(archives[name]) as archive:
         archive.extractall(place)
     return place / name[:-len(".tar.gz")]
+
+
+@pytest.fixture
+def unpacked(archives, tmp_path):
+    return unpacked_for("x86_64", archives, tmp_path)
+
+
+ARCHIVED = {"x86_64": ("las-x86-64-static", "las-x86-64-v2", "las-x86-64-v3"),
+            "aarch64": ("las-aarch64", "las-aarch64-static")}
+
+
+@pytest.mark.parametrize("machine", ARCHIVED)
+def test_archive_has_the_programs_of_one_processor(archives, tmp_path, machine):
+    root = unpacked_for(machine, archives, tmp_path)
+    assert tuple(sorted(os.listdir(root / "libexec" / "las"))) == ARCHIVED[machine]
+    files = [*(root / "libexec" / "las").iterdir(), *(root / "lib").rglob("liblaz.so")]
+    assert {machine_of(path) for path in files} == {X86_64 if machine == "x86_64" else AARCH64}
 
 
 def test_archive_runs_where_it_lies(unpacked, tmp_path):

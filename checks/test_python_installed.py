@@ -83,12 +83,14 @@ def test_python_program_of_the_page(place, tmp_path):
     assert (tmp_path / "first.laz").is_file()
 
 
-def test_plot_of_the_page(place, tmp_path):
+def test_commands_of_the_page(place, tmp_path):
     needs.module("matplotlib", "python3-matplotlib")
-    for name in ("venv", "python", "m.laz"):
-        os.symlink(place / name, tmp_path / name)
-    lines, = [block for block in blocks("sh") if "plot.py" in block]
-    commands.good(["sh", "-euc", lines], cwd=tmp_path, env=environment(place, BALSAMVISE_LIBRARY=str(place / "lib")))
+    os.symlink(place / "venv", tmp_path / "venv")
+    shutil.copy(place / "m.laz", tmp_path)
+    lines, = [block for block in blocks("sh") if "fit-box" in block]
+    said = commands.good(["sh", "-euc", lines], cwd=tmp_path,
+                         env=environment(place, BALSAMVISE_LIBRARY=str(place / "lib")))
+    assert said == "m.laz: the box is mended\nfew.laz: 1000 points\n"
     image = (tmp_path / "m.png").read_bytes()
     assert image[:8] == b"\x89PNG\r\n\x1a\n"
     assert len(image) > 10_000

@@ -1,5 +1,6 @@
 """What reading takes in memory by the Python package: by the chunks in flight, not by those that a file claims."""
 import gzip
+import inspect
 import os
 import struct
 import subprocess
@@ -8,21 +9,19 @@ from pathlib import Path
 
 import pytest
 
+import library_files
 import needs
+from measured import MOST
 from programs import TOP
 
 CHUNKS = 2**24
-READ = """import resource, sys
+READ = MOST + """import sys
 sys.path.insert(0, sys.argv[1])
 import balsamvise
-def most():
-    return resource.getrusage(resource.RUSAGE_SELF).ru_maxrss // 1024
-file = balsamvise.open(sys.argv[2])
-opened = most()
 try:
-    file.read(int(sys.argv[3]))
+    balsamvise.read(sys.argv[2], int(sys.argv[3]))
 except balsamvise.Refused as error:
-    print(opened, most(), error.cause, error.chunk)
+    print(most(), error.cause, error.chunk)
 """
 MAKE = """import struct, sys
 sys.path.insert(0, sys.argv[1])
@@ -55,12 +54,64 @@ def test_the_file_is_small(claims: "tuple[Path, dict[str, str]]") -> None:
 
 @pytest.mark.alone
 @pytest.mark.parametrize("threads", [1, 2, 64, 256])
-def test_reading_takes_no_memory_for_chunks_that_wait(claims: "tuple[Path, dict[str, str]]", threads: int) -> None:
-    """Opening it keeps 64 MB for the sizes of all chunks, and takes below 350 MB; reading adds next to nothing."""
+def test_more_chunks_than_the_file_has_bytes_for_take_no_memory(claims: "tuple[Path, dict[str, str]]",
+                                                                threads: int) -> None:
+    """It is refused before a list of them is made, which would take 260 MB."""
     path, environment = claims
     line = [sys.executable, "-c", READ, str(TOP / "python" / "src"), str(path), str(threads)]
     done = subprocess.run(line, env=environment, stdout=subprocess.PIPE, check=True, timeout=120)
-    opened, most, cause, chunk = done.stdout.decode().split()
-    assert (cause, chunk) == ("BadChunk", "0")
-    assert int(opened) < 350
-    assert int(most) - int(opened) < 60
+    most, cause, chunk = done.stdout.decode().split()
+    assert (cause, chunk) == ("BadChunk", "None")
+    assert int(most) < 100
+
+
+SPOILT = """from __future__ import annotations
+import io, random, struct, sys
+sys.path.insert(0, sys.argv[1])
+import balsamvise, numpy
+""" + MOST + inspect.getsource(library_files.damaged) + """
+count, claims = int(sys.argv[2]), sys.argv[3]
+choose = random.Random(53)
+files = []
+for format_, extra in ((0, 0), (1, 4), (3, 192)):
+    dtype = balsamvise.dtype_of(format_, extra)
+    records = numpy.random.default_rng(1).integers(0, 256, 90 * dtype.itemsize, numpy.uint8).view(dtype)
+    head = balsamvise.Head.new(format_, extra=extra, minor=4, crs=25832)
+    points = balsamvise.Points(records, head)
+    if extra:
+        points.head = head.changed(vlrs=[balsamvise.Vlr(b"LASF_Spec", 4, balsamvise.ExtraBytes.new("a", "u2").data)])
+    stream = io.BytesIO()
+    balsamvise.write(stream, points.head, points, packed=True, chunk=25)
+    files.append(stream.getvalue())
+with open(claims, "rb") as file:
+    claimed = file.read()
+causes = {}
+for number in range(count):
+    data = claimed if number == count // 2 else damaged(choose.choice(files), choose)
+    threads = choose.choice([1, 1, 2, 8, 64])
+    try:
+        with balsamvise.open(io.BytesIO(data)) as file:
+            repr(file)
+            if choose.random() < 0.5:
+                points = file.read(threads)
+                [numpy.asarray(points[name]) for name in points.fields]
+            else:
+                list(file.chunks(7, threads=threads))
+        cause = "read"
+    except balsamvise.Refused as error:
+        cause = error.cause
+    causes[cause] = causes.get(cause, 0) + 1
+print(most(), *sorted(causes))
+"""
+
+
+@pytest.mark.alone
+@pytest.mark.parametrize("count", [500, pytest.param(20_000, marks=pytest.mark.huge)])
+def test_spoilt_files_are_refused_by_name_or_read_below_300_mb(claims: "tuple[Path, dict[str, str]]",
+                                                               count: int) -> None:
+    path, environment = claims
+    line = [sys.executable, "-W", "ignore", "-c", SPOILT, str(TOP / "python" / "src"), str(count), str(path)]
+    done = subprocess.run(line, env=environment, stdout=subprocess.PIPE, check=True, timeout=3000)
+    most, *causes = done.stdout.decode().split()
+    assert {"read", "BadChunk", "Table"} <= set(causes)
+    assert int(most) < 300

@@ -8,7 +8,6 @@ import shutil
 import struct
 import subprocess
 import sys
-import types
 
 import pytest
 
@@ -194,7 +193,8 @@ def test_head_is_kept_by(balsamvise, files, copy):
 
 def test_fields_are_plain_arrays(balsamvise, np, files):
     points = balsamvise.read(files("1_0.laz"))
-    assert type(points["intensity"]) is np.ndarray
+    assert isinstance(points["intensity"], np.ndarray)
+    assert np.shares_memory(points["intensity"], points)
     assert pickle.loads(pickle.dumps(points)).tobytes() == points.tobytes()
 
 
@@ -396,56 +396,6 @@ def test_write_goes_through_a_symbolic_link(balsamvise, files, old):
     assert link.is_symlink()
     assert old.stat().st_mode & 0o777 == 0o640
     assert balsamvise.read(str(old)).tobytes() == points.tobytes()
-
-
-class LaspyHeader:
-    """What the backend asks of laspy's header."""
-
-    def __init__(self, head):
-        self._head = head
-        self.point_format = types.SimpleNamespace(id=head.format, size=head.record_length)
-        self.vlrs = []
-
-    def write_to(self, stream, ensure_same_size=False, encoding_errors="strict"):
-        stream.write(self._head.packed(self.vlrs[-1]))
-
-
-@pytest.fixture
-def backend(balsamvise):
-    """The backend for laspy, which is tried with stand-ins for laspy's objects."""
-    return importlib.import_module("balsamvise.laspy_backend")
-
-
-def test_laspy_reads(balsamvise, files, backend):
-    assert backend.LazBackend().is_available()
-    wanted = balsamvise.read(files("3_4.laz"))
-    reader = backend.LazBackend().create_reader(io.BytesIO(content(files("3_4.laz"))), None)
-    assert bytes(reader.read_n_points(300)) == wanted[:300].tobytes()
-    assert bytes(reader.read_n_points(5)) == wanted[300:305].tobytes()
-    reader.seek(990)
-    assert bytes(reader.read_n_points(50)) == wanted[990:].tobytes()
-    assert bytes(reader.read_n_points(50)) == b""
-    reader.close()
-    assert reader.source.closed
-
-
-def test_laspy_writes(balsamvise, np, files, tmp_path, backend):
-    class PayloadWriter(backend.PointWriter):
-        def _vlr(self, payload):
-            return payload
-
-    wanted = balsamvise.read(files("3_4.laz"))
-    array = np.concatenate([np.asarray(wanted)] * 120)
-    head = wanted.head.for_points(array, 3, 4, True)
-    stream, header = io.BytesIO(), LaspyHeader(head)
-    writer = PayloadWriter(stream, LaspyHeader(head))
-    writer.write_initial_header_and_vlrs(header)
-    for at in range(0, len(array), 7001):
-        writer.write_points(types.SimpleNamespace(array=array[at:at + 7001]))
-    writer.done()
-    writer.write_updated_header(header)
-    balsamvise.write(str(tmp_path / "a.laz"), head, array)
-    assert stream.getvalue() == content(tmp_path / "a.laz")
 
 
 CALLS = {

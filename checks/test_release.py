@@ -1,11 +1,12 @@
 """The release step of the gate refuses a stale release, another program, and no release."""
 import gzip
+import re
 
 import pytest
 
 import needs
 import commands
-from checkouts import TELLER, Checkout
+from checkouts import PACKED, TELLER, Checkout, packages
 
 NO_BUILD = "there is no crates/las/out/las"
 
@@ -22,10 +23,29 @@ def changed_program(at):
     at.path("release", "las-x86-64-v3.gz").write_bytes(gzip.compress(b"other"))
 
 
+# What these give (the real ones need proved crates); a program of aarch64 is run as the others.
+BUILD_FOR = '#!/bin/sh\ncp "$TELLER" "$2" && echo "logic=proved target=$1"\n'
+LINK = '#!/bin/sh\ncp "$GIVES" "$3"\n'
+LIBRARY = ('#!/bin/sh\nshift 4\n[ $# = 1 ] || exit 1\nset -- 1 2 "$1"\n'
+           'mkdir -p "$3/glibc-hwcaps/x86-64-v3" "$3/aarch64"\n'
+           'for target in x86-64-v2 x86-64-v3 aarch64; do\n'
+           'echo "$target logic=proved target=$target"\ndone >"$3/verdicts"\n'
+           'for name in liblaz.a liblaz.so glibc-hwcaps/x86-64-v3/liblaz.so aarch64/liblaz.a aarch64/liblaz.so; do\n'
+           'cp "$TELLER" "$3/$name"\ndone\n')
+WASM = ('#!/bin/sh\nmkdir -p "$2"\nfor name in laz.wasm liblaz-x86_64-pc-windows-gnu.a '
+        'liblaz-x86_64-apple-macosx11-untried.a liblaz-aarch64-apple-macosx11-untried.a; do\n'
+        'cp "$TELLER" "$2/$name"\ndone\n')
+QEMU = '#!/bin/sh\nshift 2\nexec "$@"\n'
+
+
 def built(at):
     at.own()
-    # (the real one needs proved crates)
-    at.path("release", "build_for").write_bytes(b'#!/bin/sh\n[ "$1" = x86-64-v3 ] && cp "$TELLER" "$2"\n')
+    at.environment["GIVES"] = str(at.path("teller"))
+    for folder, name, text in (("release", "build_for", BUILD_FOR), ("release", "link", LINK),
+                               ("release", "library", LIBRARY), ("release", "wasm", WASM),
+                               ("bin", "qemu-aarch64", QEMU)):
+        at.path(folder, name).write_text(text)
+        at.path(folder, name).chmod(0o755)
 
 
 def other_v2(at):
@@ -49,6 +69,34 @@ def other_document(at):
     at.path("release", "balsamvise.spdx.json").write_text("{}")
 
 
+def other_linked(at):
+    built(at)
+    at.path("linked").write_text("other")
+    at.environment["GIVES"] = str(at.path("linked"))
+
+
+def other_packages(at):
+    """What other packages give is tried: here a program that copies, so that it packs and unpacks the sample."""
+    other_linked(at)
+    at.path("linked").write_text('#!/bin/sh\ncp "$3" "$5"\n')
+    at.path("linked").chmod(0o755)
+    at.path("examples").mkdir()
+    at.path("examples", "tile.laz").write_bytes(b"sample")
+    place = at.path("release", "BUILT_FROM")
+    place.write_text(re.sub(r"libc6-dev [^,]+", "libc6-dev 1.0", place.read_text()))
+    at.document()
+
+
+def other_packages_and_a_bad_program(at):
+    other_packages(at)
+    at.path("linked").write_text("#!/bin/sh\nexit 0\n")
+
+
+def incomplete(at):
+    place = at.path("release", "BUILT_FROM")
+    place.write_text(re.sub(r"^las-aarch64-static .*\n", "", place.read_text(), flags=re.MULTILINE))
+
+
 def no_release(at):
     built(at)
     at.path("release", "BUILT_FROM").unlink()
@@ -57,9 +105,14 @@ def no_release(at):
 STATES = {
     "a release without a build": (no_build, 1, NO_BUILD),
     "a stale release": (stale, 1, "the release is stale: sources were changed after it: run release/make"),
-    "a packed program that was changed": (changed_program, 1, "is not the program that release/BUILT_FROM names"),
+    "a packed program that was changed": (changed_program, 1, "is not the file that release/BUILT_FROM names"),
     "an SPDX document of another release": (other_document, 1, "is not what release/spdx prints of the release"),
     "a release of these programs": (built, 0, ""),
+    "another static program": (other_linked, 1, "las-aarch64.gz is not the program that the proved sources give"),
+    "other packages": (other_packages, 0, "libc6-dev (1.0 there, "),
+    "other packages and a program that does not pack": (
+        other_packages_and_a_bad_program, 1, "las-aarch64, linked with the packages of this machine, does not pack"),
+    "a release without a program": (incomplete, 1, "the release has no las-aarch64-static"),
     "another program for x86-64-v2": (
         other_v2, 1, "the release for x86-64-v2 is not the program that the proved sources give"),
     "another program for x86-64-v3": (
@@ -67,6 +120,27 @@ STATES = {
     "a release of another kit": (other_kit, 3, "bytes can't be compared"),
     "no release": (no_release, 1, "there is no release: run release/make"),
 }
+
+
+def test_release_that_is_made_anew_passes(tmp_path):
+    """What is there of a build is packed, with what it was built from, the verdicts among it."""
+    at = Checkout(tmp_path, b'#!/bin/sh\ncp "$3" "$5"\n')
+    built(at)
+    at.own(b'#!/bin/sh\ncp "$3" "$5"\n')
+    at.path("teller").chmod(0o755)
+    at.path("examples").mkdir()
+    at.path("examples", "tile.laz").write_bytes(b"sample")
+    for name in PACKED:
+        at.path("release", f"{name}.gz").unlink()
+    at.path("release", "BUILT_FROM").unlink()
+    printed = commands.good([at.path("release", "make"), "--as-built"], env=at.with_rt())
+    lines = dict(line.split(" ", 1) for line in printed.splitlines())
+    assert {*PACKED} <= {*lines}
+    assert lines["packages"] == packages()
+    assert lines["verdict:las:aarch64"] == "logic=proved target=aarch64"
+    assert lines["verdict:laz_c:x86-64-v3"] == "logic=proved target=x86-64-v3"
+    assert {path.name for path in at.path("release").glob("*.gz")} == {f"{name}.gz" for name in PACKED}
+    assert "give" in commands.good([at.path("release", "make"), "--check"], env=at.with_rt())
 
 
 @pytest.mark.parametrize("state", STATES)
@@ -78,5 +152,5 @@ def test_gate_on(tmp_path, state):
     make(at)
     run = commands.quiet([at.path("release", "make"), "--check"], env=at.with_rt())
     assert run.returncode == status, run.stderr
-    assert part in run.stderr.decode()
+    assert part in (run.stderr if status else run.stdout).decode()
     assert bool(run.stderr) == bool(status)

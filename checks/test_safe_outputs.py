@@ -11,6 +11,7 @@ from pathlib import Path
 import pytest
 
 import changed_calls
+import commands
 import needs
 import power_loss
 import runs
@@ -189,7 +190,8 @@ def test_a_signal_leaves_a_good_older_output(calls, place, number):
     done = calls.aside / "waits"
     done.unlink(missing_ok=True)
     environment = calls.settings("1", kind="write", at=2, do="wait", done=done)
-    with subprocess.Popen([place.program, *words], cwd=place.folder, env=environment) as child:
+    with subprocess.Popen([place.program, *words], cwd=place.folder, env=environment,
+                          preexec_fn=commands.heed_signals) as child:
         changed_calls.wait_until(done.exists, child)
         child.send_signal(number)
         assert child.wait(changed_calls.END) == -number

@@ -33,6 +33,7 @@ PLACES = {
     "header for C, as a number": (str(NUMBER), r"^#define LAZ_LIBRARY_VERSION_NUMBER (\d+)$", ["c", "las.h"]),
     "library for C": (str(NUMBER), r"^    ensures \{ result ≡ (\d+) \}$", ["crates", "laz_c", "src", "version.rt"]),
     "package for Python": (VERSION, r'^__version__ = "(.*)"$', ["python", "src", "balsamvise", "__init__.py"]),
+    "package for Node": (VERSION, r'^    "version": "(.*)",$', ["web", "package.json"]),
     "page of las": (VERSION, r'^\.TH LAS 1 "[^"]*" "las (.*?)"', ["help", "las.1"]),
     "citation": (VERSION, r"^version: (.*)$", ["CITATION.cff"]),
     "changes": (VERSION, r"^## (\d+\.\d+\.\d+), \d{4}-\d\d-\d\d$", ["CHANGELOG.md"]),
@@ -58,7 +59,7 @@ def test_citation_has_the_date_of_the_changes():
 
 def test_version_is_set_everywhere_by_one_script(tmp_path):
     names = ["c/las.h", "python/src/balsamvise/__init__.py", "CITATION.cff", "crates/laz_c/src/version.rt",
-             "release/set_version"]
+             "web/package.json", "release/set_version"]
     shutil.copytree(TOP / "help", tmp_path / "help")
     for name in names:
         (tmp_path / name).parent.mkdir(parents=True, exist_ok=True)
@@ -69,6 +70,7 @@ def test_version_is_set_everywhere_by_one_script(tmp_path):
     header = (tmp_path / "c/las.h").read_text()
     assert '#define LAZ_LIBRARY_VERSION "3.14.7"\n#define LAZ_LIBRARY_VERSION_NUMBER 31407\n' in header
     assert '__version__ = "3.14.7"' in (tmp_path / "python/src/balsamvise/__init__.py").read_text()
+    assert '    "version": "3.14.7",\n' in (tmp_path / "web/package.json").read_text()
     assert "version: 3.14.7\n" in (tmp_path / "CITATION.cff").read_text()
     assert '"las 3.14.7"' in (tmp_path / "help/las.1").read_text()
     assert "= 31_407;" in (tmp_path / "crates/laz_c/src/version.rt").read_text()
@@ -107,7 +109,9 @@ def test_spdx_document_is_that_of_the_release():
 
 def test_spdx_document_names_each_released_file_with_its_sum():
     built = dict(line.split(" ", 1) for line in text("release", "BUILT_FROM").splitlines())
-    sums = {name: value for name, value in built.items() if name not in ("kit", "linker", "sources")}
+    sums = {name: value for name, value in built.items()
+            if name not in ("kit", "linker", "compiler", "tools", "packages", "sources", "c_sources")
+            and not name.startswith("verdict:")}
     listed = {re.sub(r"\./release/(.*)\.gz#unpacked", r"\1", file["fileName"]): file["checksums"][0]["checksumValue"]
               for file in document()[1]["files"]}
     assert listed == sums

@@ -1,0 +1,95 @@
+"""The library for C on Windows, run under Wine; those for macOS, as far as they can be looked at without a Mac."""
+import gzip
+import os
+import random
+import subprocess
+
+import pytest
+
+import commands
+import library_files
+import needs
+from programs import TOP
+
+ARCHIVES = {
+    "windows": "liblaz-x86_64-pc-windows-gnu.a", "macOS on Intel": "liblaz-x86_64-apple-macosx11-untried.a",
+    "macOS on Apple silicon": "liblaz-aarch64-apple-macosx11-untried.a"}
+CALLS = {"laz_c_" + name for name in ("version", "need", "head", "chunks", "table", "room", "unpack", "pack", "vlr",
+                                      "table_room", "table_of")}
+
+
+def member(data: bytes) -> bytes:
+    """The object of an archive: the last of its members, of which the others are lists of names."""
+    assert data[:8] == b"!<arch>\n"
+    at, last = 8, b""
+    while at < len(data):
+        name, size = data[at:at + 16].decode().strip(), int(data[at + 48:at + 58])
+        last = data[at + 60:at + 60 + size]
+        if name.startswith("#1/"):  # the name stands before the bytes
+            last = last[int(name[3:]):]
+        at += 60 + size + size % 2
+    return last
+
+
+@pytest.mark.parametrize("name", ARCHIVES)
+def test_archive_is_of_its_system_and_has_each_call(name):
+    data = gzip.decompress((TOP / "release" / f"{ARCHIVES[name]}.gz").read_bytes())
+    begins = {"windows": b"\x64\x86", "macOS on Intel": b"\xcf\xfa\xed\xfe\x07\0\0\x01",
+              "macOS on Apple silicon": b"\xcf\xfa\xed\xfe\x0c\0\0\x01"}
+    assert member(data).startswith(begins[name])
+    for call in CALLS:
+        assert call.encode() in data, call
+    assert b"/tmp/" not in data
+
+
+@pytest.fixture(scope="module")
+def programs(tmp_path_factory):
+    """checks/portable_cases.c over the library of Linux, and over that of Windows."""
+    compiler = needs.command("x86_64-w64-mingw32-gcc", "gcc-mingw-w64-x86-64")
+    folder = tmp_path_factory.mktemp("programs")
+    (folder / "liblaz.a").write_bytes(gzip.decompress((TOP / "release" / f"{ARCHIVES['windows']}.gz").read_bytes()))
+    flags = ["-std=c11", "-O2", "-Wall", "-Wextra", "-Werror", f"-I{TOP / 'c'}", TOP / "checks" / "portable_cases.c"]
+    commands.good([compiler, *flags, folder / "liblaz.a", "-o", folder / "cases.exe"])
+    commands.good([compiler, "-O2", f"-I{TOP / 'c'}", TOP / "c" / "heights.c", folder / "liblaz.a", "-o",
+                   folder / "heights.exe"])
+    native = library_files.library(tmp_path_factory) / "liblaz.a"
+    commands.good([needs.command("gcc", "gcc"), *flags, native, "-o", folder / "cases"])
+    return folder
+
+
+def under_wine(folder, *line):
+    wine = next((path for path in ("/usr/lib/wine/wine64", "/usr/bin/wine64", "/usr/bin/wine") if os.path.exists(path)),
+                None)
+    if wine is None:
+        needs.missing("wine64 is missing", "wine64")
+    settings = {**os.environ, "WINEPREFIX": str(folder / "wine"), "WINEDEBUG": "-all", "DISPLAY": ""}
+    run = subprocess.run([wine, *line], cwd=folder, env=settings, stdin=subprocess.DEVNULL, stdout=subprocess.PIPE,
+                         stderr=subprocess.PIPE, timeout=1200, check=False)
+    assert run.returncode == 0, run.stderr.decode(errors="replace")[-2000:]
+    return run.stdout.decode().replace("\r\n", "\n")
+
+
+@pytest.mark.browser
+def test_windows_answers_as_linux(programs, tmp_path_factory, program):
+    files = library_files.plain_files(tmp_path_factory, program)
+    whole = [files / f"{format_}_{extra}{kind}.laz" for format_, extra in library_files.LAYOUTS
+             for kind in ("", ".counted")]
+    choose, names = random.Random(5), list(whole)
+    for number in range(400):
+        path = programs / f"{number}.laz"
+        path.write_bytes(library_files.damaged(choose.choice(whole).read_bytes(), choose))
+        names.append(path)
+    (programs / "list").write_text("".join(f"{name}\n" for name in names))
+    (programs / "windows").write_text("".join(f"Z:{name}\n" for name in names))
+    wanted = commands.good([programs / "cases", "list"], cwd=programs)
+    lines = wanted.splitlines()
+    assert len(lines) == len(names)
+    assert all(line.split()[1] == line.split()[2] for line in lines[:32])  # packed again to the same bytes
+    assert sum(line.startswith("21 ") for line in lines) > 50
+    assert under_wine(programs, "cases.exe", "windows") == wanted
+
+
+@pytest.mark.browser
+def test_heights_of_the_sample(programs):
+    said = under_wine(programs, "heights.exe", f"Z:{TOP / 'examples' / 'tile.laz'}")
+    assert said.startswith("points 20493\n")
