@@ -132,7 +132,10 @@ def crates_linked_in() -> set[str]:
     """The crates of the kit that the program and the library stand on, by crates.txt."""
     lines = [line.split(":", 1) for line in text("crates.txt").splitlines() if line and not line.startswith("#")]
     listed = {name.split()[0]: words.split() for name, words in lines}
-    return {word for name in ("las_run", "laz_c") for word in listed[name] if word not in listed}
+    found: "list[str]" = ["las_run", "laz_c"]
+    for name in found:
+        found += [word for word in listed.get(name, []) if word not in found]
+    return {name for name in found if name not in listed}
 
 
 def test_each_crate_of_the_kit_is_named_with_its_licence():

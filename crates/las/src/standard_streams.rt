@@ -14,7 +14,7 @@ pub struct Fillers {
     third: Option<PipeReader>,
 }
 
-// Written out, so that letting them go is one call in each caller.
+// By hand, so that each caller drops them by one call.
 impl Drop for Fillers {
     fn drop(self) {
         let Fillers {

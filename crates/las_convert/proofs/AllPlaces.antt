@@ -6,7 +6,7 @@ use Rattle.las_header.specs.Fields.{head_of}
 use Rattle.las_thin.specs.declared.pick.Pick.{Pick}
 use Rattle.las_thin.specs.declared.pick.Pick.TheVariants.{First, Lowest, Highest}
 use Rattle.las_thin.specs.Kept.{kept_behind}
-use Rattle.las_thin.specs.Sieving.{IsFirst, all_pass}
+use Rattle.las_thin.specs.Sieving.{PicksFirst, all_pass}
 use Rattle.las_thin.proofs.Public.{keeps_as_the_plan}
 use Rattle.laz_forms.specs.Pieces.{Piece}
 use Rattle.laz_forms.specs.Ranges.{whole_range}
@@ -29,7 +29,7 @@ all_twice keeping file records blocks (Some k) are keeps = (blocks, (whole_of_al
 pub converts_all_records : ConvertsAllRecords
 converts_all_records plan settings file records blocks bad first are keeps = by settings.pick first
   where
-    by : (pick : Pick) → IsFirst pick → ConvertsBy pick (kept_behind plan settings) file (whole_range (head_of file)) records (bad_chunk bad)
+    by : (pick : Pick) → PicksFirst pick → ConvertsBy pick (kept_behind plan settings) file (whole_range (head_of file)) records (bad_chunk bad)
     by First f = all_once (kept_behind plan settings) file records blocks bad are keeps
     by Lowest f = absurd f
     by Highest f = absurd f
@@ -45,7 +45,7 @@ converts_first_records plan settings file records pieces number blocks k first a
       hold = subst (λ (ps : List Piece). HoldBlocks file (take number ps) blocks) (sym (all_of file pieces are).0) hold;
     }
 
-    by : (pick : Pick) → IsFirst pick → ConvertsBy pick (kept_behind plan settings) file (whole_range (head_of file)) records (Some (RawRange k))
+    by : (pick : Pick) → PicksFirst pick → ConvertsBy pick (kept_behind plan settings) file (whole_range (head_of file)) records (Some (RawRange k))
     by First f = (blocks, begin, keeps)
     by Lowest f = absurd f
     by Highest f = absurd f
@@ -53,7 +53,7 @@ converts_first_records plan settings file records pieces number blocks k first a
 pub converts_whole_files : ConvertsWholeFiles
 converts_whole_files plan settings file records blocks raw_range other are keeps = by settings.pick other
   where
-    by : (pick : Pick) → (IsFirst pick → ⊥) → ConvertsBy pick (kept_behind plan settings) file (whole_range (head_of file)) records (raw_record raw_range)
+    by : (pick : Pick) → (PicksFirst pick → ⊥) → ConvertsBy pick (kept_behind plan settings) file (whole_range (head_of file)) records (raw_record raw_range)
     by First f = absurd (f tt)
     by Lowest f = all_twice (kept_behind plan settings) file records blocks raw_range are keeps
     by Highest f = all_twice (kept_behind plan settings) file records blocks raw_range are keeps

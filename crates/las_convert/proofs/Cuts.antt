@@ -3,10 +3,12 @@ use Rattle.std.proofs.Common.{◌≡◌, ℕ, zero, suc, Bool, true, false, Opti
 use Rattle.std.specs.List.{concat}
 use Rattle.std.proofs.lemmas.List.{append-nil, drop-drop}
 use Rattle.las_header.specs.Plain.{cut_records}
+use Rattle.las_header.proofs.Public.{cut_length}
 use borrow.Rule.Slice.PartMut.{put_mid}
 use Rattle.std.proofs.lemmas.Slice.{take-put_mid, take-put_mid_below}
 use Rattle.las_convert.specs.Adding.{Adds, Keeping}
 use Rattle.las_convert.proofs.Adding.{GrowsBy, IsKeeping, adds_dropped, adds_kept, adds_more, adds_refused, adds_then}
+use Rattle.laz_reader.proofs.Public.{concat_last}
 
 -- one record more
 pub cut_more : (size t : ℕ) (bytes : List ℕ) → cut_records size (t + 1) bytes ≡ cut_records size t bytes ++ take size (drop (size * t) bytes) ∷ []
@@ -37,13 +39,9 @@ cut_rest size (suc t) n bytes =
 
 -- ---- one record of a block more
 
-pub length_cut : (size t : ℕ) (bytes : List ℕ) → length (cut_records size t bytes) ≡ t
-length_cut size zero bytes = refl
-length_cut size (suc t) bytes = ap suc (length_cut size t (drop size bytes))
-
 -- how many records there are with those of a block so far
 pub reached : (before : List (List ℕ)) (size t : ℕ) (block : List ℕ) (read place : ℕ) → length before ≡ read → place ≡ read + t → length (before ++ cut_records size t block) ≡ place
-reached before size t block read place one two = omega (arith, length-append before (cut_records size t block), length_cut size t block, one, two)
+reached before size t block read place one two = omega (arith, length-append before (cut_records size t block), cut_length size t block, one, two)
 
 pub next_cut : (size t : ℕ) (block rest point : List ℕ) → rest ≡ drop (size * t) block → point ≡ take size rest → cut_records size (t + 1) block ≡ cut_records size t block ++ point ∷ []
 next_cut size t block rest point left first = cut_more size t block ∙ ap (λ (xs : List ℕ). cut_records size t block ++ xs ∷ []) (ap (take size) (sym left) ∙ sym first)
@@ -90,10 +88,6 @@ pub record KeptSo (Adds : Adding) (size t at : ℕ) (block buffer : List ℕ) : 
 pub kept_first : (Adds : Adding) (size : ℕ) (block buffer : List ℕ) → Adds [] [] false → KeptSo Adds size 0 0 block buffer
 kept_first Adds size block buffer none = record { ones = []; bytes = refl; size_is = omega arith; adds = none }
 
-concat-one : (os : List (List ℕ)) (new : List ℕ) → concat (os ++ new ∷ []) ≡ concat os ++ new
-concat-one [] new = append-nil new
-concat-one (o ∷ os) new = ap (λ (t : List ℕ). o ++ t) (concat-one os new) ∙ sym (append_assoc o (concat os) new)
-
 module _ (Adds : Adding) (size t at : ℕ) (block buffer : List ℕ) (so : KeptSo Adds size t at block buffer) where
   pub kept_dropped : {n : ℕ} {now : List ℕ} → n ≡ at → now ≡ buffer
       → ((ones : List (List ℕ)) → Adds (cut_records size t block) ones false
@@ -116,7 +110,7 @@ module _ (Adds : Adding) (size t at : ℕ) (block buffer : List ℕ) (so : KeptS
         ones = so.ones ++ new ∷ [];
         bytes = ap (λ (m : ℕ). take m now) n_is ∙ ap (take (at + size)) now_is
             ∙ take-put_mid at k buffer new (at + size) here within ∙ ap (λ (xs : List ℕ). xs ++ new) so.bytes
-            ∙ sym (concat-one so.ones new);
+            ∙ sym (concat_last so.ones new);
         size_is = omega (arith, n_is, so.size_is, more);
         adds = go so.ones so.adds;
       }

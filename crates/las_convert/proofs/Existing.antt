@@ -46,5 +46,5 @@ module _ (keeping : Keeping) (file : List ℕ) (range : Range) (blocks : List (L
   converts_some Highest bad are = twice bad (kept_in keeping file blocks).raw_range are refl
 
 pub converts_to_something : HasSomeInRange → ConvertsToSomething
-converts_to_something has plan settings file range accepted small =
-    let r = has file range accepted small in converts_some (kept_behind plan settings) file range r.0 settings.pick r.1 r.2
+converts_to_something has plan settings file range accepted =
+    let r = has file range accepted in converts_some (kept_behind plan settings) file range r.0 settings.pick r.1 r.2

@@ -18,11 +18,10 @@ use Rattle.laz_forms.proofs.Public.{concat-append, even_all}
 use Rattle.laz_writer.proofs.Public.{cut-append}
 use Rattle.laz_file.proofs.Public.{even_for, part_stands, part_then, takes_none, takes_read, takes_then}
 use Rattle.las_convert.specs.Adding.{Adds, Goes, HaveCounted, IsAfter, Keeping, LeavesKept}
-use Rattle.las_convert.proofs.Cuts.{length_cut}
 use Rattle.las_convert.proofs.Shown.{counted_more, seen_by, shown_none, shown_then}
 use Rattle.las_convert.proofs.Adding.{adds_none, adds_then}
 use Rattle.las_header.specs.Plain.{cut_all}
-use Rattle.las_header.proofs.Public.{cut_none}
+use Rattle.las_header.proofs.Public.{cut_none, cut_length}
 
 -- ---- whole records
 
@@ -91,7 +90,7 @@ module _ (keeping : Keeping) (past : List (List ℕ)) (size : ℕ) (some : 0 < s
 
 -- how many records bytes are
 pub count_is : (size : ℕ) (bytes : List ℕ) → length (cut_all size bytes) ≡ length bytes / size
-count_is size bytes = length_cut size (length bytes / size) bytes
+count_is size bytes = cut_length size (length bytes / size) bytes
 
 -- whole records that take no more bytes
 pub few_ones : (size len bytes k : ℕ) → 0 < size → len ≡ size * k → len ≤ bytes → (len / size ≡ k) × (k ≤ bytes / size)

@@ -11,7 +11,7 @@ use Rattle.las_thin.specs.declared.pick.Pick.{Pick}
 use Rattle.las_thin.specs.declared.pick.Pick.TheVariants.{First, Lowest, Highest}
 use Rattle.las_thin.specs.Kept.{kept_behind, passing}
 use Rattle.las_thin.specs.Placed.{Placed}
-use Rattle.las_thin.specs.Sieving.{IsFirst, Settings, Sieving}
+use Rattle.las_thin.specs.Sieving.{PicksFirst, Settings, Sieving}
 use Rattle.las_thin.specs.Sieving as sieve
 use Rattle.laz_file.specs.Copying.{AreOnlyRecordsIn, EndsAfter, HoldFirst}
 use Rattle.laz_forms.specs.Outputs.{records_after}
@@ -43,11 +43,11 @@ bad_twice keeping file range blocks i all = record { are = (blocks, all.are, ref
     only others (Some (RawRange k)) c = let clash : None ≡ Some i = (all.only c.0 None c.1).1 in absurd cc
     only others (Some _) c = absurd c
 
-bad_by : (plan : Steps) (settings : Settings) (file : List ℕ) (range : Range) (blocks : List (List ℕ)) (i : ℕ) (cause : Refusal) → (IsFirst settings.pick → ⊥) → cause ≡ BadChunk i → AreOnlyRecordsIn file range blocks (Some i) → OnlyConverts plan settings file range [] (Some cause)
+bad_by : (plan : Steps) (settings : Settings) (file : List ℕ) (range : Range) (blocks : List (List ℕ)) (i : ℕ) (cause : Refusal) → (PicksFirst settings.pick → ⊥) → cause ≡ BadChunk i → AreOnlyRecordsIn file range blocks (Some i) → OnlyConverts plan settings file range [] (Some cause)
 bad_by plan settings file range blocks i cause other is all =
     subst (λ (x : Refusal). OnlyConverts plan settings file range [] (Some x)) (sym is) (only_by plan settings file range [] (Some (BadChunk i)) (by settings.pick other))
   where
-    by : (pick : Pick) → (IsFirst pick → ⊥) → OnlyBy pick (kept_behind plan settings) file range [] (Some (BadChunk i))
+    by : (pick : Pick) → (PicksFirst pick → ⊥) → OnlyBy pick (kept_behind plan settings) file range [] (Some (BadChunk i))
     by First f = absurd (f tt)
     by Lowest f = let o = bad_twice (kept_behind plan settings) file range blocks i all in record { are = o.are; only = o.only }
     by Highest f = let o = bad_twice (kept_behind plan settings) file range blocks i all in record { are = o.are; only = o.only }
@@ -62,7 +62,7 @@ module _ (held : Option FileMap) (plan : Steps) (first ready : ReaderSeen) (buff
   range_is : ready.range ≡ first.range
   range_is = ap (λ (r : ReaderSeen). r.range) is
 
-  pub ready_here : (blocks : List (List ℕ)) (sieving : Sieving) → HoldFirst held ready (length ready.left) blocks → sieve.StandsFor (passing plan (records_after ready.head.bytes (concat blocks))) [] sieving → IsReady held first.name plan first.range sieving
+  pub ready_here : (blocks : List (List ℕ)) (sieving : Sieving) → HoldFirst held ready (length ready.left) blocks → sieve.HasSifted (passing plan (records_after ready.head.bytes (concat blocks))) [] sieving → IsReady held first.name plan first.range sieving
   ready_here blocks sieving hold looked =
       let records = passing plan (records_after ready.head.bytes (concat blocks)) in
       let here = subst (λ (n : List ℕ). WhereKnown held n (λ file. HoldOnly file (take (length ready.left) ready.left) blocks)) named hold.hold in (
@@ -76,7 +76,7 @@ module _ (held : Option FileMap) (plan : Steps) (first ready : ReaderSeen) (buff
             stands here,
       )
 
-  pub refused_here : (settings : Settings) (n : ℕ) (blocks : List (List ℕ)) (cause : Refusal) → (IsFirst settings.pick → ⊥) → HoldFirst held ready n blocks → EndsAfter held ready n (Some cause) → WhereKnown held first.name (λ file. OnlyConverts plan settings file first.range [] (Some cause))
+  pub refused_here : (settings : Settings) (n : ℕ) (blocks : List (List ℕ)) (cause : Refusal) → (PicksFirst settings.pick → ⊥) → HoldFirst held ready n blocks → EndsAfter held ready n (Some cause) → WhereKnown held first.name (λ file. OnlyConverts plan settings file first.range [] (Some cause))
   refused_here settings n blocks cause other hold ends =
       let here = subst (λ (m : List ℕ). WhereKnown held m (λ file. HoldOnly file (take n ready.left) blocks)) named hold.hold in
       let bad = subst (λ (m : List ℕ). WhereKnown held m (λ file. IsBadPiece file ready.left n)) named ends.2 in

@@ -1,9 +1,10 @@
 -- How converting a file ends, as a call that makes files.
-use Rattle.std.proofs.Common.{◌≡◌, ◌≢◌, ◌⊎◌, inl, inr, ℕ, Bool, true, false, if◌then◌else◌, List, [], ◌∷◌, map, Option}
-use Rattle.std.proofs.Common.{Some, None, is_none, Result, Ok, Err, IfErr, OnOk, refl, sym, ◌∙◌, ap, subst, arith}
+use Rattle.std.proofs.Common.{◌≡◌, ◌⊎◌, inl, inr, ℕ, Bool, true, false, if◌then◌else◌, List, [], ◌∷◌, map, Option}
+use Rattle.std.proofs.Common.{Some, None, is_none, Result, Ok, Err, IfErr, OnOk, refl, sym, ◌∙◌, ap, subst}
 use Rattle.std.specs.Prelude.{IsErrAnd}
 use Rattle.std.specs.FinMap as finmap
 use Rattle.std.proofs.lemmas.Result.{on_ok_weaker}
+use Rattle.std.proofs.lemmas.Option.{none-some}
 use Rattle.las_filter.specs.Kept.{Steps}
 use Rattle.las_header.specs.declared.refusal.Refusal.{Refusal}
 use Rattle.las_header.specs.declared.refusal.Refusal.TheVariants.{BadChunk, RawRange}
@@ -18,7 +19,7 @@ use Rattle.las_thin.specs.declared.pick.Pick.{Pick}
 use Rattle.las_thin.specs.declared.pick.Pick.TheVariants.{First, Lowest, Highest}
 use Rattle.las_thin.specs.Kept.{kept_behind}
 use Rattle.las_thin.specs.Placed.{Placed}
-use Rattle.las_thin.specs.Sieving.{IsFirst, Settings}
+use Rattle.las_thin.specs.Sieving.{PicksFirst, Settings}
 use Rattle.laz_forms.specs.declared.fault.Fault.{Fault}
 use Rattle.laz_forms.specs.declared.fault.Fault.TheVariants.{Refused, Read, Write, Memory}
 use Rattle.laz_forms.specs.FileFaults.{HasCause}
@@ -28,7 +29,7 @@ use Rattle.laz_forms.proofs.Public.{known_both, known_then}
 use Rattle.laz_file.specs.Copying.{LeavesUnfinished}
 use Rattle.laz_file.specs.Endings.{EndsMaking, IsOnlyProduct, LeavesFiles, LeavesOf, MakesAs, MakesOutput, OutputFile}
 use Rattle.laz_file.specs.Endings.{Product, at_end, files_after, output_file, writes}
-use Rattle.laz_file.proofs.Public.{ends_err, err_at, left_before, left_done}
+use Rattle.laz_file.proofs.Public.{ends_err, err_at, left_before, left_done, left_one, some_files}
 use Rattle.laz_reader.specs.Reading.{EndsReading, ReaderSeen, StandsFor}
 use Rattle.laz_writer.specs.Writing.{WriterSeen}
 use Rattle.las_convert.specs.Adding.{kept_by}
@@ -54,8 +55,6 @@ ends_since old mid new Write same ends = ends
 ends_since old mid new Memory same ends = ends ∙ same
 
 -- ---- whether there is an output
-none_is_some : (i : ℕ) → ◌≡◌ {A = Option ℕ} (Some i) None → ⊥
-none_is_some i e = absurd (cc)
 
 -- records that were looked at hold no bad chunk
 if_looked : (pick : Pick) (plan : Steps) (settings : Settings) (file : List ℕ) (range : Range) (records : List ℕ)
@@ -65,31 +64,17 @@ if_looked : (pick : Pick) (plan : Steps) (settings : Settings) (file : List ℕ)
 if_looked First plan settings file range records refusal placed looked converts = refl
 if_looked Lowest plan settings file range records None placed looked converts = refl
 if_looked Lowest plan settings file range records (Some (BadChunk i)) placed looked converts = absurd
-    (none_is_some i (looked.1.only converts.0 (Some i) converts.1).1)
+    (none-some i (sym (looked.1.only converts.0 (Some i) converts.1).1))
 if_looked Lowest plan settings file range records (Some cause) placed looked converts = refl
 if_looked Highest plan settings file range records None placed looked converts = refl
 if_looked Highest plan settings file range records (Some (BadChunk i)) placed looked converts = absurd
-    (none_is_some i (looked.1.only converts.0 (Some i) converts.1).1)
+    (none-some i (sym (looked.1.only converts.0 (Some i) converts.1).1))
 if_looked Highest plan settings file range records (Some cause) placed looked converts = refl
 
 -- ---- outputs
 name_at : (done : Bool) (file : OutputFile) → (at_end done file).0 ≡ file.name
 name_at true file = refl
 name_at false file = refl
-
-left_one : (out : Output) (records : List ℕ) (held now : Option FileMap) (files : FileMap)
-    → LeavesUnfinished out records held now → held ≡ Some files → (after : FileMap) × (now ≡ Some after)
-    × LeavesFiles (output_file out records ∷ []) files after
-left_one out records held now files (inl same) known = (files, same ∙ known, (0, [], inl tt, refl))
-left_one out records held now files (inr left) known = (
-  finmap.insert files out.name left.0,
-  left.2
-      ∙ ap (λ (h : Option FileMap). with_file h out.name left.0) known,
-  (1, left.0 ∷ [], inr (omega arith, inr (left.1, tt)), refl),
-)
-
-some_files : (files : List OutputFile) (o : OutputFile) → files ≡ o ∷ [] → files ≢ []
-some_files files o is empty = absurd (cc)
 
 -- ---- what converting makes of a file
 module _ (wanted : Wanted) (output : List ℕ) (chunk : Option ℕ) (name : List ℕ) (old new : Outside) where
@@ -166,7 +151,7 @@ module _ (wanted : Wanted) (output : List ℕ) (chunk : Option ℕ) (name : List
 
   some_output : WhereKnown old.held name HasOutputs → MakesOutput Makes name old
   some_output outputs = known_then old.held name HasOutputs _
-      (λ file has product makes. some_files product.files _
+      (λ file has product makes. some_files product.files _ _
       (ap (λ (p : Product). p.files) (product_is file has product makes))) outputs
 
   pub ends_fault : (T : Type 0) (fault : Fault) → HasCause old new fault → WhereKnown old.held name HasOutputs
@@ -187,7 +172,7 @@ module _ (wanted : Wanted) (output : List ℕ) (chunk : Option ℕ) (name : List
 
 -- ---- the first of two readings stops
 -- a bad chunk that it found leaves no output
-no_output : (pick : Pick) (i : ℕ) → (IsFirst pick → ⊥) → has_output pick (Some (BadChunk i)) ≡ false
+no_output : (pick : Pick) (i : ℕ) → (PicksFirst pick → ⊥) → has_output pick (Some (BadChunk i)) ≡ false
 no_output First i twice = absurd (twice tt)
 no_output Lowest i twice = refl
 no_output Highest i twice = refl
@@ -205,7 +190,7 @@ module _ (plan : Steps) (settings : Settings) (range : Range) (name : List ℕ) 
   pub stops_short : StopsLooking asked name old new Memory
   stops_short output chunk = unchanged output chunk
 
-  stops : (IsFirst settings.pick → ⊥) → (fault : Fault)
+  stops : (PicksFirst settings.pick → ⊥) → (fault : Fault)
       → ((cause : Refusal) → fault ≡ Refused cause
       → WhereKnown old.held name (λ file. OnlyConverts plan settings file range [] (Some cause)))
       → ((cause : Refusal) → fault ≡ Refused cause → (i : ℕ) × (cause ≡ BadChunk i)) → EndsReading ⊥ old new fault
@@ -230,7 +215,7 @@ module _ (plan : Steps) (settings : Settings) (range : Range) (name : List ℕ) 
   stops twice Write refused bad ends output chunk = absurd ends
   stops twice Memory refused bad ends output chunk = unchanged output chunk
 
-  pub stops_looking : {T : Type 0} → (IsFirst settings.pick → ⊥) → (outcome : Result T Fault)
+  pub stops_looking : {T : Type 0} → (PicksFirst settings.pick → ⊥) → (outcome : Result T Fault)
       → ((cause : Refusal) → outcome ≡ Err (Refused cause)
       → WhereKnown old.held name (λ file. OnlyConverts plan settings file range [] (Some cause)))
       → ((cause : Refusal) → outcome ≡ Err (Refused cause) → (i : ℕ) × (cause ≡ BadChunk i))
@@ -373,5 +358,5 @@ module _ {old mid : Outside} {plan : Steps} {settings : Settings} {looked : List
           (refused_as cause is)
 
       pub looked_by : (i : ℕ) → outcome ≡ Err (Refused (BadChunk i))
-          → WhereKnown old.held first.name (λ file. IsFirst settings.pick)
+          → WhereKnown old.held first.name (λ file. PicksFirst settings.pick)
       looked_by i is = once new start i (refused_as (BadChunk i) is)

@@ -2,6 +2,7 @@
 use Rattle.std.proofs.Common.{◌≡◌, ℕ, ◌%◌, List, [], length, take, Option, Some, None, refl, sym, ◌∙◌, ap, subst, arith}
 use Rattle.std.specs.Prelude.{All}
 use Rattle.std.specs.List.{concat}
+use Rattle.std.proofs.lemmas.Option.{none-some}
 use Rattle.las_header.specs.declared.refusal.Refusal.{Refusal}
 use Rattle.las_header.specs.declared.refusal.Refusal.TheVariants.{BadChunk, RawRange}
 use Rattle.las_header.specs.Fields.{head_of, record_length_of}
@@ -9,14 +10,14 @@ use Rattle.las_filter.specs.Kept.{Kept}
 use Rattle.las_thin.specs.declared.pick.Pick.{Pick}
 use Rattle.las_thin.specs.declared.pick.Pick.TheVariants.{First, Lowest, Highest}
 use Rattle.las_thin.specs.Kept.{kept_behind}
-use Rattle.las_thin.specs.Sieving.{IsFirst}
+use Rattle.las_thin.specs.Sieving.{PicksFirst}
 use Rattle.laz_range.specs.Span.{IsBytes}
 use Rattle.laz_forms.specs.Laws.{HasOneBlock, HasOneInRange}
 use Rattle.laz_forms.specs.Pieces.{Piece}
 use Rattle.laz_forms.specs.Ranges.{Range, parts_of}
 use Rattle.laz_forms.specs.Records.{AreRead, AreRecordsIn, HoldBlocks, HoldOnly}
 use Rattle.laz_forms.specs.Refusing.{IsAcceptedFile}
-use Rattle.laz_forms.proofs.Public.{accepted_is_head, one_pieces, none_some, some_same}
+use Rattle.laz_forms.proofs.Public.{accepted_is_head, one_pieces, some_same}
 use Rattle.laz_file.proofs.Public.{even_in, begins-with, only-blocks}
 use Rattle.las_convert.specs.Adding.{Keeping, kept_by}
 use Rattle.las_convert.specs.Converting.{AreFirstRecords, ConvertsBy, ConvertsOnce, ConvertsTwice, Keeps, kept_in}
@@ -47,15 +48,15 @@ module _ (keeping : Keeping) (file : List ℕ) (range : Range) (small : IsBytes 
   -- ---- a range that is read twice
   twice : (records others : List ℕ) (refusal other : Option Refusal) → ConvertsTwice keeping file range records refusal → ConvertsTwice keeping file range others other → (others ≡ records) × (other ≡ refusal)
   twice records others None None a b = ((same_read a.0 b.0 records others None None None None a.1 b.1 a.2 b.2).1.0, refl)
-  twice records others None (Some (BadChunk j)) a b = absurd (none_some j (sym (same_bad a.0 b.0 None (Some j) a.1 b.1)))
-  twice records others None (Some (RawRange j)) a b = absurd (none_some j (sym (same_read a.0 b.0 records others None None None (Some j) a.1 b.1 a.2 b.2).1.1))
+  twice records others None (Some (BadChunk j)) a b = absurd (none-some j (sym (same_bad a.0 b.0 None (Some j) a.1 b.1)))
+  twice records others None (Some (RawRange j)) a b = absurd (none-some j (sym (same_read a.0 b.0 records others None None None (Some j) a.1 b.1 a.2 b.2).1.1))
   twice records others None (Some _) a b = absurd b
-  twice records others (Some (BadChunk i)) None a b = absurd (none_some i (same_bad a.0 b.0 (Some i) None a.1 b.1))
+  twice records others (Some (BadChunk i)) None a b = absurd (none-some i (same_bad a.0 b.0 (Some i) None a.1 b.1))
   twice records others (Some (BadChunk i)) (Some (BadChunk j)) a b = (b.2 ∙ sym a.2, ap (λ (n : ℕ). Some (BadChunk n)) (some_same j i (same_bad a.0 b.0 (Some i) (Some j) a.1 b.1)))
-  twice records others (Some (BadChunk i)) (Some (RawRange j)) a b = absurd (none_some i (same_bad a.0 b.0 (Some i) None a.1 b.1))
+  twice records others (Some (BadChunk i)) (Some (RawRange j)) a b = absurd (none-some i (same_bad a.0 b.0 (Some i) None a.1 b.1))
   twice records others (Some (BadChunk i)) (Some _) a b = absurd b
-  twice records others (Some (RawRange k)) None a b = absurd (none_some k (same_read a.0 b.0 records others None None (Some k) None a.1 b.1 a.2 b.2).1.1)
-  twice records others (Some (RawRange k)) (Some (BadChunk j)) a b = absurd (none_some j (sym (same_bad a.0 b.0 None (Some j) a.1 b.1)))
+  twice records others (Some (RawRange k)) None a b = absurd (none-some k (same_read a.0 b.0 records others None None (Some k) None a.1 b.1 a.2 b.2).1.1)
+  twice records others (Some (RawRange k)) (Some (BadChunk j)) a b = absurd (none-some j (sym (same_bad a.0 b.0 None (Some j) a.1 b.1)))
   twice records others (Some (RawRange k)) (Some (RawRange j)) a b =
       let e = same_read a.0 b.0 records others None None (Some k) (Some j) a.1 b.1 a.2 b.2 in
       (e.1.0, ap (λ (n : ℕ). Some (RawRange n)) (some_same j k e.1.1))
@@ -90,10 +91,10 @@ module _ (keeping : Keeping) (file : List ℕ) (range : Range) (small : IsBytes 
 
     once : (records others : List ℕ) (refusal other : Option Refusal) → ConvertsOnce keeping file range records refusal → ConvertsOnce keeping file range others other → (others ≡ records) × (other ≡ refusal)
     once records others None None a b = ((same_read a.0 b.0 records others None None None None a.1 b.1 a.2 b.2).1.0, refl)
-    once records others None (Some (BadChunk j)) a b = absurd (none_some j (sym (same_bad a.0 b.0 None (Some j) a.1 b.1)))
+    once records others None (Some (BadChunk j)) a b = absurd (none-some j (sym (same_bad a.0 b.0 None (Some j) a.1 b.1)))
     once records others None (Some (RawRange j)) a b = absurd (refused_too b.0 a.0 j None b.1 b.2.raw_range_is a.1 a.2.raw_range_is)
     once records others None (Some _) a b = absurd b
-    once records others (Some (BadChunk i)) None a b = absurd (none_some i (same_bad a.0 b.0 (Some i) None a.1 b.1))
+    once records others (Some (BadChunk i)) None a b = absurd (none-some i (same_bad a.0 b.0 (Some i) None a.1 b.1))
     once records others (Some (BadChunk i)) (Some (BadChunk j)) a b =
         let e = same_read a.0 b.0 records others (Some i) (Some j) None None a.1 b.1 a.2 b.2 in
         (e.1.0, ap (λ (n : ℕ). Some (BadChunk n)) (some_same j i e.0))
@@ -114,7 +115,7 @@ converts_in_one_way held one plan settings file range records refusal accepted s
     by : (pick : Pick) → settings.pick ≡ pick → ConvertsBy pick (kept_behind plan settings) file range records refusal → OnlyBy pick (kept_behind plan settings) file range records refusal
     by First e c =
         let own : Keeping = kept_by settings [] plan in
-        let same : (rs : List (List ℕ)) → own rs ≡ kept_behind plan settings rs = λ rs. kept_as_first settings [] plan rs (subst IsFirst (sym e) tt) in
+        let same : (rs : List (List ℕ)) → own rs ≡ kept_behind plan settings rs = λ rs. kept_as_first settings [] plan rs (subst PicksFirst (sym e) tt) in
         let mine = once_same (kept_behind plan settings) own (λ rs. sym (same rs)) file range records refusal c in
         once_only own (kept_behind plan settings) same file range records refusal
         (record { are = mine; only = λ others other d. once own file range small one (sieve_keeps settings [] plan) accepted held records others refusal other mine d })

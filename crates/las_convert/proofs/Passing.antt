@@ -11,7 +11,7 @@ use Rattle.las_thin.specs.declared.pick.Pick.{Pick}
 use Rattle.las_thin.specs.declared.pick.Pick.TheVariants.{First, Lowest, Highest}
 use Rattle.las_thin.specs.Placed.{Placed, placed, last_place}
 use Rattle.las_thin.specs.Kept.{numbered, passing, kept_behind, kept_of_placed, kept_where}
-use Rattle.las_thin.specs.Sieving.{Settings, Sieving, IsFirst, all_pass, dropped_to, picks_first, sifted, stays}
+use Rattle.las_thin.specs.Sieving.{Settings, Sieving, PicksFirst, all_pass, dropped_to, picks_first, sifted, stays}
 use Rattle.las_thin.specs.Sieving.{thinned_to}
 use Rattle.las_thin.specs.Sieving as sieve
 use Rattle.las_thin.proofs.Public.{by_bool, passing-push, first_keeps_one_by_one, keeps_as_the_plan, keeps_one_by_one, keeps_what_stays}
@@ -21,12 +21,12 @@ use Rattle.las_convert.proofs.Adding.{IsKeeping}
 
 -- ---- what is kept, one record at a time
 
-pub first_pick : (pick : Pick) → picks_first pick ≡ true → IsFirst pick
+pub first_pick : (pick : Pick) → picks_first pick ≡ true → PicksFirst pick
 first_pick First e = tt
 first_pick Lowest e = absurd (let clash : false ≡ true = e in cc)
 first_pick Highest e = absurd (let clash : false ≡ true = e in cc)
 
-pub is_first : (pick : Pick) → IsFirst pick → picks_first pick ≡ true
+pub is_first : (pick : Pick) → PicksFirst pick → picks_first pick ≡ true
 is_first First first = refl
 is_first Lowest first = absurd first
 is_first Highest first = absurd first
@@ -37,7 +37,7 @@ keeps_one_more settings looked plan before point = by (picks_first settings.pick
     a : Placed
     a = placed (length before) point
 
-    by : (b : Bool) → (b ≡ true → IsFirst settings.pick)
+    by : (b : Bool) → (b ≡ true → PicksFirst settings.pick)
         → cond b (kept_behind plan settings (before ++ point ∷ [])) (kept_where (stays settings looked) plan (before ++ point ∷ []))
         ≡ cond (is_some (cond b (kept_behind plan settings before) (kept_where (stays settings looked) plan before)).raw_range
         || not (keeps_all plan.keeps point && stays settings (cond b (passing plan before ++ placed (length before) point ∷ []) looked) (placed (length before) point)))
@@ -76,7 +76,7 @@ pub kept_as_plan : (settings : Settings) (looked : List Placed) (plan : Steps) (
 kept_as_plan settings looked plan records is =
     sym (keeps_as_the_plan plan records) ∙ ap (λ (s : Settings). kept_by s looked plan records) (sym is)
 
-pub kept_as_first : (settings : Settings) (looked : List Placed) (plan : Steps) (records : List (List ℕ)) → IsFirst settings.pick → kept_by settings looked plan records ≡ kept_behind plan settings records
+pub kept_as_first : (settings : Settings) (looked : List Placed) (plan : Steps) (records : List (List ℕ)) → PicksFirst settings.pick → kept_by settings looked plan records ≡ kept_behind plan settings records
 kept_as_first settings looked plan records first =
     ap (λ (b : Bool). cond b (kept_behind plan settings records) (kept_where (stays settings looked) plan records)) (is_first settings.pick first)
 
@@ -89,14 +89,14 @@ kept_as_looked settings plan records = by (picks_first settings.pick)
     by false = sym (keeps_what_stays plan settings records)
 
 -- a sieve that no more records came to
-pub no_more : (looked : List Placed) (plan : Steps) (before : List (List ℕ)) (sieving : Sieving) → sieve.StandsFor looked (passing plan before) sieving → sieve.StandsFor looked (passing plan (before ++ [])) sieving
-no_more looked plan before sieving stands = subst (λ (records : List (List ℕ)). sieve.StandsFor looked (passing plan records) sieving) (sym (append-nil before)) stands
+pub no_more : (looked : List Placed) (plan : Steps) (before : List (List ℕ)) (sieving : Sieving) → sieve.HasSifted looked (passing plan before) sieving → sieve.HasSifted looked (passing plan (before ++ [])) sieving
+no_more looked plan before sieving stands = subst (λ (records : List (List ℕ)). sieve.HasSifted looked (passing plan records) sieving) (sym (append-nil before)) stands
 
 -- a sieve that no record came to, of a passage whose buffer has grown
-pub after_start : (plan : Steps) (looked : List Placed) (old new : Sieving) (read now : ℕ) → new ≡ old → now ≡ read → read ≡ 0 → sieve.StandsFor looked [] old → IsAfter plan looked [] new now
+pub after_start : (plan : Steps) (looked : List Placed) (old new : Sieving) (read now : ℕ) → new ≡ old → now ≡ read → read ≡ 0 → sieve.HasSifted looked [] old → IsAfter plan looked [] new now
 after_start plan looked old new read now same still none stands = record {
   read_is = sym (still ∙ none);
-  stands = λ other. subst (λ (s : Sieving). sieve.StandsFor looked [] s) (sym same) stands;
+  stands = λ other. subst (λ (s : Sieving). sieve.HasSifted looked [] s) (sym same) stands;
 }
 
 -- ---- places of the records that pass

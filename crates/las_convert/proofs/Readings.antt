@@ -11,7 +11,7 @@ use Rattle.las_thin.specs.declared.pick.Pick.{Pick}
 use Rattle.las_thin.specs.declared.pick.Pick.TheVariants.{First, Lowest, Highest}
 use Rattle.las_thin.specs.Kept.{kept_behind, passing}
 use Rattle.las_thin.specs.Placed.{Placed}
-use Rattle.las_thin.specs.Sieving.{IsFirst, Settings}
+use Rattle.las_thin.specs.Sieving.{PicksFirst, Settings}
 use Rattle.laz_file.specs.Copying.{LeavesUnfinished}
 use Rattle.laz_forms.specs.Outputs.{Output, records_after}
 use Rattle.laz_forms.specs.Ranges.{Range}
@@ -59,7 +59,7 @@ module _ (plan : Steps) (settings : Settings) (looked : List Placed) (first : Re
   behind = kept_behind plan settings
 
   as_first : settings.pick ≡ First → (records : List (List ℕ)) → keeping records ≡ behind records
-  as_first e records = kept_as_first settings looked plan records (subst IsFirst (sym e) tt)
+  as_first e records = kept_as_first settings looked plan records (subst PicksFirst (sym e) tt)
 
   as_looked : (blocks : List (List ℕ)) → looked ≡ passing plan (records_after (head_of file) (concat blocks)) → kept_in keeping file blocks ≡ kept_in behind file blocks
   as_looked blocks is =
@@ -92,10 +92,10 @@ module _ (plan : Steps) (settings : Settings) (looked : List Placed) (first : Re
           record { are = o.are; only = o.only }
 
   -- a bad chunk is found in the first reading, if there are two
-  pub bad_once : IsBadPiece file first.left n → IsFirst settings.pick
+  pub bad_once : IsBadPiece file first.left n → PicksFirst settings.pick
   bad_once bad = by settings.pick ready
     where
-      by : (pick : Pick) → AreLooked pick plan file first.range looked → IsFirst pick
+      by : (pick : Pick) → AreLooked pick plan file first.range looked → PicksFirst pick
       by First r = tt
       by Lowest r = absurd (twice_good keeping (sieve_keeps settings looked plan) first file st new some n xs within whole hold behind r.0 r.1 (as_looked r.0 r.2) bad)
       by Highest r = absurd (twice_good keeping (sieve_keeps settings looked plan) first file st new some n xs within whole hold behind r.0 r.1 (as_looked r.0 r.2) bad)
@@ -103,7 +103,7 @@ module _ (plan : Steps) (settings : Settings) (looked : List Placed) (first : Re
   pub settled_bad : (ones : List (List ℕ)) → Adds keeping [] (cut_all (record_length_of first.head.bytes) (concat xs)) ones false → (cause : Refusal) → cause ≡ BadChunk (first.first + n) → IsBadPiece file first.left n → OnlyConverts plan settings file first.range (concat ones) (Some cause)
   settled_bad ones adds cause is bad = only_by plan settings file first.range (concat ones) (Some cause) (by settings.pick refl (bad_once bad))
     where
-      by : (pick : Pick) → settings.pick ≡ pick → IsFirst pick → OnlyBy pick behind file first.range (concat ones) (Some cause)
+      by : (pick : Pick) → settings.pick ≡ pick → PicksFirst pick → OnlyBy pick behind file first.range (concat ones) (Some cause)
       by First e r = once_only keeping behind (as_first e) file first.range (concat ones) (Some cause) (converts_bad keeping (sieve_keeps settings looked plan) first file st new some n xs within whole hold ones adds cause is bad)
       by Lowest e r = absurd r
       by Highest e r = absurd r

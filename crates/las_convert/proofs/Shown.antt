@@ -3,12 +3,11 @@ use Rattle.std.proofs.Common.{◌≡◌, ℕ, ◌+◌, ◌/◌, ◌%◌, ◌^◌
 use Rattle.std.specs.Prelude.{All}
 use Rattle.std.proofs.lemmas.List.Elements.{All-head, All-tail, All-cons, All-nil}
 use Rattle.las_header.specs.Plain.{cut_all}
-use Rattle.las_header.proofs.Public.{cut_none}
+use Rattle.las_header.proofs.Public.{cut_none, cut_length}
 use Rattle.las_info.specs.Tallies.{TapSeen, count_at, shown_all}
 use Rattle.las_info.proofs.Public.{shown-few, all_seen, mapped, none_taps, taps-both}
 use Rattle.laz_writer.proofs.Public.{cut-append}
 use Rattle.las_convert.specs.Adding.{HaveCounted}
-use Rattle.las_convert.proofs.Cuts.{length_cut}
 
 -- taps that saw the records of these bytes
 abbrev pub seen_by : (size : ℕ) → (bytes : List ℕ) → List TapSeen → List TapSeen
@@ -39,7 +38,7 @@ few_seen n m records (t ∷ taps) less few =
 
 pub counted_more : (n m size : ℕ) (bytes : List ℕ) (taps seen : List TapSeen) → n + length bytes / size ≤ m → seen ≡ seen_by size bytes taps → HaveCounted n taps → HaveCounted m seen
 counted_more n m size bytes taps seen less is few =
-    subst (HaveCounted m) (sym is) (few_seen n m (cut_all size bytes) taps (omega (arith, less, length_cut size (length bytes / size) bytes)) few)
+    subst (HaveCounted m) (sym is) (few_seen n m (cut_all size bytes) taps (omega (arith, less, cut_length size (length bytes / size) bytes)) few)
 
 more_room : (n k : ℕ) (taps : List TapSeen) → n + k < 2 ^ 63 → HaveCounted n taps → All (λ tap. (bin : ℕ) → count_at tap.tally bin + k < 2 ^ 64) taps
 more_room n k [] less few = All-nil (λ (tap : TapSeen). (bin : ℕ) → count_at tap.tally bin + k < 2 ^ 64)

@@ -20,9 +20,9 @@ use Rattle.laz_writer.specs.Writing.{WriterSeen}
 use Rattle.laz_forms.proofs.Public.{cut-joined}
 use Rattle.las_convert.specs.Adding.{Adds, ChangesNothing, Goes, Keeping, LeavesKept, kept_by}
 use Rattle.las_convert.proofs.Adding.{kept_from}
-use Rattle.las_convert.proofs.Cuts.{length_cut}
 use Rattle.las_convert.proofs.Passing.{kept_as_plan}
 use Rattle.las_header.specs.Plain.{cut_all}
+use Rattle.las_header.proofs.Public.{cut_length}
 
 -- ---- what a plan without filters and changes keeps
 
@@ -83,7 +83,7 @@ module _ (keeping : Keeping) (all : KeepsAll keeping) (size : ℕ) (bytes : List
   goes_unchanged v taps none takes =
       let long : length (concat (cut_all size bytes)) ≡ length bytes = ap (λ (t : List ℕ). length t) joined in
       let count : size * length (cut_all size bytes) ≡ size * (length bytes / size) =
-      ap (λ (n : ℕ). size * n) (length_cut size (length bytes / size) bytes) in
+      ap (λ (n : ℕ). size * n) (cut_length size (length bytes / size) bytes) in
       record {
         ones = cut_all size bytes;
         adds = adds_unchanged keeping all [] (cut_all size bytes);

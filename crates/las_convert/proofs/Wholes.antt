@@ -9,7 +9,7 @@ use Rattle.las_header.specs.Plain.{plain_of, cut_all}
 use Rattle.las_filter.specs.Kept.{Steps}
 use Rattle.las_info.specs.Tallies.{TapSeen, shown_all}
 use Rattle.las_thin.specs.Placed.{Placed}
-use Rattle.las_thin.specs.Sieving.{IsFirst, Settings}
+use Rattle.las_thin.specs.Sieving.{PicksFirst, Settings}
 use Rattle.las_outside.specs.Files.{FileMap, WhereKnown, with_file}
 use Rattle.las_outside.specs.Outside.{Outside}
 use Rattle.laz_file.specs.Copying.{HoldFirst, LeavesUnfinished}
@@ -165,10 +165,10 @@ module _ {old mid : Outside} {plan : Steps} {settings : Settings} {looked : List
           (known_both old.held first.name (λ file. StandsFor first file × AreLooked settings.pick plan file first.range looked) (λ file. HoldOnly file (take r.n first.left) r.blocks) (λ file. (StandsFor first file × AreLooked settings.pick plan file first.range looked) × HoldOnly file (take r.n first.left) r.blocks) (λ file st ho. (st, ho)) both h.hold) bad
 
   -- a bad chunk comes in the only reading
-  pub once : (i : ℕ) → RefusesKept mid.held old.held new.held keeping reader out [] (BadChunk i) → WhereKnown old.held first.name (λ file. IsFirst settings.pick)
+  pub once : (i : ℕ) → RefusesKept mid.held old.held new.held keeping reader out [] (BadChunk i) → WhereKnown old.held first.name (λ file. PicksFirst settings.pick)
   once i r = by r.refused r.ends
     where
-      by : (b : Bool) → EndsKeeping mid.held reader r.n (length r.ones) b (Some (BadChunk i)) → WhereKnown old.held first.name (λ file. IsFirst settings.pick)
+      by : (b : Bool) → EndsKeeping mid.held reader r.n (length r.ones) b (Some (BadChunk i)) → WhereKnown old.held first.name (λ file. PicksFirst settings.pick)
       by true e = absurd (let clash : BadChunk i ≡ RawRange (length r.ones) = some_same (BadChunk i) (RawRange (length r.ones)) e in cc)
       by false e =
           let h = first_hold r.n r.blocks r.hold in
@@ -177,7 +177,7 @@ module _ {old mid : Outside} {plan : Steps} {settings : Settings} {looked : List
           (subst (λ (k : Option FileMap). WhereKnown k first.name (λ file. IsBadPiece file first.left r.n)) written
           (subst (λ (x : ReaderSeen). WhereKnown mid.held x.name (λ file. IsBadPiece file x.left r.n)) start.ready e.2))
           in
-          known_both old.held first.name (λ file. (StandsFor first file × AreLooked settings.pick plan file first.range looked) × HoldOnly file (take r.n first.left) r.blocks) (λ file. IsBadPiece file first.left r.n) (λ file. IsFirst settings.pick)
+          known_both old.held first.name (λ file. (StandsFor first file × AreLooked settings.pick plan file first.range looked) × HoldOnly file (take r.n first.left) r.blocks) (λ file. IsBadPiece file first.left r.n) (λ file. PicksFirst settings.pick)
           (λ file a b. bad_once plan settings looked first file a.0.0 start.unread some r.n r.blocks h.within h.whole
           a.1 a.0.1 b)
           (known_both old.held first.name (λ file. StandsFor first file × AreLooked settings.pick plan file first.range looked) (λ file. HoldOnly file (take r.n first.left) r.blocks) (λ file. (StandsFor first file × AreLooked settings.pick plan file first.range looked) × HoldOnly file (take r.n first.left) r.blocks) (λ file st ho. (st, ho)) both h.hold) bad

@@ -57,19 +57,19 @@ pub record ChangesNothing {Tap : Type 0} (plan : Steps) (settings : Settings) (t
   pub all_pass_it : settings ≡ all_pass
   pub no_tap : taps ≡ []
 
--- P of each list of records that a sieve can have looked at, and of each that may have come by it: so many.
+-- P of each list of records that a sieve can have looked at, and of each of this length that may have come by it.
 abbrev pub OfSieve : Steps → Sieving → (place : ℕ) → (P : (looked : List Placed) → (before : List (List ℕ)) → Type 0)
     → Type 0
 OfSieve plan sieving place P =
     (looked : List Placed) (before : List (List ℕ)) → length before ≡ place
-    → sieve.StandsFor looked (passing plan before) sieving → P looked before
+    → sieve.HasSifted looked (passing plan before) sieving → P looked before
 
 -- A sieve has looked at these records, and was asked for those of some records that pass the filters; if all records
 -- pass it, it need not be asked. `read` is the number of these records.
 pub record IsAfter (plan : Steps) (looked : List Placed) (before : List (List ℕ)) (sieving : Sieving) (read : ℕ)
     : Type 0 where
   pub read_is : length before ≡ read
-  pub stands : (sieving.settings ≡ all_pass → ⊥) → sieve.StandsFor looked (passing plan before) sieving
+  pub stands : (sieving.settings ≡ all_pass → ⊥) → sieve.HasSifted looked (passing plan before) sieving
 
 -- The sieve has come by some records, or by none yet.
 abbrev pub AfterSome : Steps → Sieving → (read : ℕ) → Type 0

@@ -110,7 +110,7 @@ AreLooked pick plan file range looked =
 -- looked at all of them that pass the filters.
 abbrev pub IsReady : (held : Option FileMap) → (name : List ℕ) → Steps → Range → Sieving → Type 0
 IsReady held name plan range sieving =
-    (looked : List Placed) × sieve.StandsFor looked [] sieving
+    (looked : List Placed) × sieve.HasSifted looked [] sieving
     × WhereKnown held name (λ file. AreLooked sieving.settings.pick plan file range looked)
 
 -- ---- what a conversion makes

@@ -5,7 +5,7 @@ use Rattle.las_header.specs.declared.refusal.Refusal.TheVariants.{BadChunk, RawR
 use Rattle.las_header.specs.Fields.{head_of}
 use Rattle.las_filter.specs.Kept.{Steps, kept}
 use Rattle.las_thin.specs.Kept.{kept_behind}
-use Rattle.las_thin.specs.Sieving.{IsFirst, Settings, all_pass}
+use Rattle.las_thin.specs.Sieving.{PicksFirst, Settings, all_pass}
 use Rattle.laz_range.specs.Span.{IsBytes}
 use Rattle.laz_forms.specs.Pieces.{ArePieces, Piece}
 use Rattle.laz_forms.specs.Ranges.{Range, whole_range}
@@ -27,21 +27,21 @@ raw_record (Some k) = Some (RawRange k)
 -- all places gives.
 abbrev pub ConvertsAllRecords : Type 0
 ConvertsAllRecords = (plan : Steps) (settings : Settings) (file records : List ℕ) (blocks : List (List ℕ))
-    (bad : Option ℕ) → IsFirst settings.pick → AreRecordsOf file blocks bad
+    (bad : Option ℕ) → PicksFirst settings.pick → AreRecordsOf file blocks bad
     → Keeps (kept_behind plan settings) file blocks records None
     → ConvertsTo plan settings file (whole_range (head_of file)) records (bad_chunk bad)
 
 -- So is what is kept of the first pieces of the file, if a record of them is refused.
 abbrev pub ConvertsFirstRecords : Type 0
 ConvertsFirstRecords = (plan : Steps) (settings : Settings) (file records : List ℕ) (pieces : List Piece) (number : ℕ)
-    (blocks : List (List ℕ)) (k : ℕ) → IsFirst settings.pick → ArePieces file pieces
+    (blocks : List (List ℕ)) (k : ℕ) → PicksFirst settings.pick → ArePieces file pieces
     → HoldBlocks file (take number pieces) blocks → Keeps (kept_behind plan settings) file blocks records (Some k)
     → ConvertsTo plan settings file (whole_range (head_of file)) records (Some (RawRange k))
 
 -- If the lowest or the highest stays, it is what is kept of all records of the file, also if one is refused.
 abbrev pub ConvertsWholeFiles : Type 0
 ConvertsWholeFiles = (plan : Steps) (settings : Settings) (file records : List ℕ) (blocks : List (List ℕ))
-    (raw_range : Option ℕ) → (IsFirst settings.pick → ⊥) → AreRecordsOf file blocks None
+    (raw_range : Option ℕ) → (PicksFirst settings.pick → ⊥) → AreRecordsOf file blocks None
     → Keeps (kept_behind plan settings) file blocks records raw_range
     → ConvertsTo plan settings file (whole_range (head_of file)) records (raw_record raw_range)
 
@@ -60,5 +60,4 @@ ConvertsInOneWay = (plan : Steps) (settings : Settings) (file : List ℕ) (range
 -- Converting a range of an accepted file gives something.
 abbrev pub ConvertsToSomething : Type 0
 ConvertsToSomething = (plan : Steps) (settings : Settings) (file : List ℕ) (range : Range) → IsAcceptedFile file
-    → IsBytes file
     → (records : List ℕ) × (refusal : Option Refusal) × ConvertsTo plan settings file range records refusal

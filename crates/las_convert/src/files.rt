@@ -8,7 +8,7 @@ ghost use Rattle.las_header.specs.Fields.{head_of};
 ghost use Rattle.las_filter.specs.Changes.{HasClass};
 ghost use Rattle.las_filter.specs.Kept.{steps_of};
 ghost use Rattle.las_info.specs.Tallies.{count_at, shown_all};
-ghost use Rattle.las_thin.specs.Sieving.{IsFirst};
+ghost use Rattle.las_thin.specs.Sieving.{PicksFirst};
 ghost use Rattle.las_outside.specs.Files.{WhereKnown};
 ghost use Rattle.las_outside.specs.Frames.{IsCalm, OnlyWrites};
 ghost use Rattle.las_outside.specs.Limits.{AreWorkers, IsChunkSize};
@@ -77,7 +77,7 @@ fn block_bytes(reader: &Reader) -> usize {
 }
 
 // Converts all records that a reader has left into a writer, and finishes the output. After a refusal it is stopped.
-fn fill<R: Threads + Sync, F: Files, G: Gate>(
+fn convert_and_finish<R: Threads + Sync, F: Files, G: Gate>(
     machine: Machine<'_, R, G>,
     files: &mut F,
     plan: &Plan,
@@ -171,7 +171,7 @@ pub fn convert<R: Threads + Sync, F: Files, G: Gate>(
     ensures bad { (cause : Refusal) → IsErrOf result (Refused cause)
         → ((i : ℕ) × (cause ≡ BadChunk i)) ⊎ ((k : ℕ) × (cause ≡ RawRange k)) }
     ensures looked { (i : ℕ) → IsErrOf result (Refused (BadChunk i))
-        → OfFile reader (F.seen files.old) (λ file. IsFirst passage.old.sieve.settings.pick) }
+        → OfFile reader (F.seen files.old) (λ file. PicksFirst passage.old.sieve.settings.pick) }
     // No call has failed if the file is refused.
     ensures calm_refused { (cause : Refusal) → IsErrOf result (Refused cause)
         → IsCalm (F.seen files.old) (F.seen files.new) }
@@ -190,7 +190,7 @@ pub fn convert<R: Threads + Sync, F: Files, G: Gate>(
         chunk,
         machine.workers,
     )?;
-    fill(
+    convert_and_finish(
         machine,
         files,
         plan,

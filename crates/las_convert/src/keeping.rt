@@ -6,7 +6,7 @@ ghost use Rattle.las_filter.specs.Changes.{HasClass, changed};
 ghost use Rattle.las_filter.specs.Kept.{steps_of};
 ghost use Rattle.las_thin.specs.Kept.{passing};
 ghost use Rattle.las_thin.specs.Placed.{Placed};
-ghost use Rattle.las_thin.specs.Sieving.{StandsFor};
+ghost use Rattle.las_thin.specs.Sieving.{HasSifted};
 ghost use Rattle.las_convert.specs.Adding.{Adds, AddsAlways, AfterAny, AfterSome, HoldsKept, IsAfter, OfAfter, OfSieve};
 ghost use Rattle.las_convert.specs.Adding.{kept_by};
 ghost use Rattle.las_convert.specs.Passing.{passes_after};
@@ -93,12 +93,12 @@ fn keep_plain(plan: &Plan, size: usize, block: &[u8], buffer: &mut [u8]) -> Part
 fn passes(plan: &Plan, sieve: &mut Sieve, place: u64, point: &[u8]) -> Result<bool, AllocError>
     requires long { POINT_RECORD ≤ length point.now }
     requires asked { (looked : List Placed) × (before : List (List ℕ)) × (length before ≡ place)
-        × StandsFor looked (passing (steps_of plan.now) before) sieve.old }
+        × HasSifted looked (passing (steps_of plan.now) before) sieve.old }
     ensures settings { sieve.new.settings ≡ sieve.old.settings }
     ensures answer { OfSieve (steps_of plan.now) sieve.old place (λ looked before. IfOk result
         (λ passes. passes ≡ passes_after sieve.old.settings looked (steps_of plan.now) before point.now)) }
     ensures stands { OfSieve (steps_of plan.now) sieve.old place (λ looked before. OnOk result
-        (StandsFor looked (passing (steps_of plan.now) (before ++ point.now ∷ [])) sieve.new)) }
+        (HasSifted looked (passing (steps_of plan.now) (before ++ point.now ∷ [])) sieve.new)) }
 {
     if plan.keeps(point) {
         return sieve.passes(place, point);
@@ -122,7 +122,7 @@ fn keep_sifted(
     requires classes { All HasClass plan.now.changes.items }
     requires few { read + length block.now / size < 2 ^ 32 }
     requires asked { (looked : List Placed) × (before : List (List ℕ)) × (length before ≡ read)
-        × StandsFor looked (passing (steps_of plan.now) before) sieve.old }
+        × HasSifted looked (passing (steps_of plan.now) before) sieve.old }
     ensures settings { sieve.new.settings ≡ sieve.old.settings }
     ensures within { IfOk result (λ part. part.length ≤ length block.now) }
     ensures kept { OfSieve (steps_of plan.now) sieve.old read (λ looked before. IfOk result (HoldsKept
@@ -130,7 +130,7 @@ fn keep_sifted(
         size)) }
     ensures stands { OfSieve (steps_of plan.now) sieve.old read (λ looked before. IfOk result (λ part.
         part.refused ≡ false
-        → StandsFor looked (passing (steps_of plan.now) (before ++ cut_all size block.now)) sieve.new)) }
+        → HasSifted looked (passing (steps_of plan.now) (before ++ cut_all size block.now)) sieve.new)) }
 {
     let mut rest = block;
     let mut at = 0;

@@ -10,7 +10,7 @@ ghost use Rattle.las_outside.specs.Files.{WhereKnown};
 ghost use Rattle.las_outside.specs.Frames.{IsCalm, Reads};
 ghost use Rattle.las_outside.specs.Limits.{AreWorkers};
 ghost use Rattle.las_thin.specs.Kept.{passing};
-ghost use Rattle.las_thin.specs.Sieving.{IsFirst};
+ghost use Rattle.las_thin.specs.Sieving.{PicksFirst};
 ghost use Rattle.las_thin.specs.Sieving as sifting;
 ghost use Rattle.laz_forms.specs.declared.fault.Fault.TheVariants.{Refused, Write};
 ghost use Rattle.laz_reader.specs.Asking.{bytes_left};
@@ -34,13 +34,13 @@ use std::thread::Threads;
 // included that the filters drop. `Err` means out of memory.
 fn look_at(plan: &Plan, sieve: &mut Sieve, place: u64, point: &[u8]) -> Result<(), AllocError>
     requires long { POINT_RECORD ≤ length point.now }
-    requires pick { ¬ IsFirst sieve.old.settings.pick }
+    requires pick { ¬ PicksFirst sieve.old.settings.pick }
     requires looked { (before : List (List ℕ)) × (length before ≡ place)
-        × sifting.StandsFor (passing (steps_of plan.now) before) [] sieve.old }
+        × sifting.HasSifted (passing (steps_of plan.now) before) [] sieve.old }
     ensures settings { sieve.new.settings ≡ sieve.old.settings }
     ensures stands { (before : List (List ℕ)) → length before ≡ place
-        → sifting.StandsFor (passing (steps_of plan.now) before) [] sieve.old
-        → OnOk result (sifting.StandsFor (passing (steps_of plan.now) (before ++ point.now ∷ [])) [] sieve.new) }
+        → sifting.HasSifted (passing (steps_of plan.now) before) [] sieve.old
+        → OnOk result (sifting.HasSifted (passing (steps_of plan.now) (before ++ point.now ∷ [])) [] sieve.new) }
 {
     if plan.keeps(point) {
         return sieve.look(place, point);
@@ -60,14 +60,14 @@ fn look_block(
     requires size { POINT_RECORD ≤ size }
     requires whole { length block.now % size ≡ 0 }
     requires few { read + length block.now / size < 2 ^ 32 }
-    requires pick { ¬ IsFirst sieve.old.settings.pick }
+    requires pick { ¬ PicksFirst sieve.old.settings.pick }
     requires looked { (before : List (List ℕ)) × (length before ≡ read)
-        × sifting.StandsFor (passing (steps_of plan.now) before) [] sieve.old }
+        × sifting.HasSifted (passing (steps_of plan.now) before) [] sieve.old }
     ensures settings { sieve.new.settings ≡ sieve.old.settings }
     ensures stands { (before : List (List ℕ)) → length before ≡ read
-        → sifting.StandsFor (passing (steps_of plan.now) before) [] sieve.old
+        → sifting.HasSifted (passing (steps_of plan.now) before) [] sieve.old
         → OnOk result
-        (sifting.StandsFor (passing (steps_of plan.now) (before ++ cut_all size block.now)) [] sieve.new) }
+        (sifting.HasSifted (passing (steps_of plan.now) (before ++ cut_all size block.now)) [] sieve.new) }
 {
     let mut rest = block;
     let mut place = read;
@@ -92,12 +92,12 @@ fn look_records<R: Threads + Sync, F: Files, G: Gate>(
     requires open { reader.old.failed ≡ false }
     requires crew { IsCrewOf reader.old crew.old }
     requires few { records_in reader.old.left < 2 ^ 32 }
-    requires pick { ¬ IsFirst sieve.old.settings.pick }
-    requires unlooked { sifting.StandsFor [] [] sieve.old }
+    requires pick { ¬ PicksFirst sieve.old.settings.pick }
+    requires unlooked { sifting.HasSifted [] [] sieve.old }
     requires stands { WhereKnown (F.seen files.old).held reader.old.name (StandsFor reader.old) }
     ensures looked { OnOk result ((blocks : List (List ℕ))
         × HoldFirst (F.seen files.old).held reader.old (length reader.old.left) blocks
-        × sifting.StandsFor (passing (steps_of plan.now) (records_after reader.old.head.bytes (concat blocks))) []
+        × sifting.HasSifted (passing (steps_of plan.now) (records_after reader.old.head.bytes (concat blocks))) []
         sieve.new) }
     ensures bad { (cause : Refusal) → IsErrOf result (Refused cause)
         → (n : ℕ) × (blocks : List (List ℕ)) × HoldFirst (F.seen files.old).held reader.old n blocks
@@ -137,8 +137,8 @@ pub fn look_through<R: Threads + Sync, F: Files, G: Gate>(
     requires fresh { IsFreshReader reader.name reader }
     requires whole { AgreesWithHead reader }
     requires workers { AreWorkers machine.workers }
-    requires pick { ¬ IsFirst sieve.old.settings.pick }
-    requires unlooked { sifting.StandsFor [] [] sieve.old }
+    requires pick { ¬ PicksFirst sieve.old.settings.pick }
+    requires unlooked { sifting.HasSifted [] [] sieve.old }
     requires stands { OfFile reader (F.seen files.old) (StandsFor reader) }
 
     ensures ready { OnOk result

@@ -25,7 +25,7 @@ pub struct Passage {
     pub(crate) buffer: Vec<u8>,
 }
 
-// Written out, so that letting a passage go is one call in each caller.
+// By hand, so that each caller drops a passage by one call.
 impl Drop for Passage {
     fn drop(self) {
         let Passage {

@@ -1,7 +1,7 @@
 -- What is known if no condition of a list holds, and that the front of a file decides the conditions of its front.
 use Rattle.std.proofs.Common.{◌≡◌, ℕ, zero, suc, ◌+◌, ◌^◌, ◌<◌, ◌≤◌, Bool, true, false, not, ◌&&◌, ◌||◌, cond, nat_lt, nat_le, nat_eq, ◌==◌, ltb-false, List, [], ◌∷◌, length, take, codes, slice_index, None, refl, sym, ap, ◌∙◌, arith}
 use Rattle.std.specs.List.{starts_with}
-use Rattle.std.proofs.lemmas.Bool.{eqb-true, leb-false, lt-leb, or_parts, not-false, and_left, or_from}
+use Rattle.std.proofs.lemmas.Bool.{eqb-true, leb-false, or_parts, not-false, and_left, or_from, le-ltb}
 use Rattle.std.proofs.Math.Nat.{pow-succ'}
 use Rattle.std.proofs.lemmas.List.{take-take, get_or-take, length-take-le}
 use Rattle.byteorder.specs.Endian.{little_from}
@@ -224,10 +224,6 @@ pub first_none : (a : Bool) (x : Refusal) (cs : List (Bool × Refusal)) → a �
 first_none true x cs e f = absurd (cc)
 first_none false x cs e f = f
 
--- a number that is not below another
-lt-leb-false : (n m : ℕ) → m ≤ n → nat_lt n m ≡ false
-lt-leb-false n m h = lt-leb (suc n) m (omega arith)
-
 header_within : (head : List ℕ) → IsHead head → header_size_of head ≤ length head
 header_within head is = omega (arith, header_before (vlr_count_of head) head, is.vlrs)
 
@@ -243,14 +239,14 @@ front_is_fine head size is within near =
     let version_causes = (has_other_version head, cause.Version) ∷ header_causes in
     let magic_causes = (lacks_signature head, cause.Magic) ∷ version_causes in
     let inside = or_from (nat_lt (point_offset_of head) (header_size_of head)) (nat_lt size (point_offset_of head))
-    (lt-leb-false _ _ (omega (arith, after, is.whole))) (lt-leb-false _ _ (omega (arith, is.whole, within))) in
-    let far = lt-leb-false (offset_limit head) (point_offset_of head) (omega (arith, is.whole, near)) in
+    (le-ltb _ _ (omega (arith, after, is.whole))) (le-ltb _ _ (omega (arith, is.whole, within))) in
+    let far = le-ltb (offset_limit head) (point_offset_of head) (omega (arith, is.whole, near)) in
     let offset = first_none (has_bad_offset head size) cause.Offset [] (or_from _ _ inside far) refl in
-    let header = first_none (has_short_header head) cause.HeaderSize offset_causes (lt-leb-false _ _ is.header_size) offset in
-    let number = or_from (not (major_of head == 1)) (nat_lt 4 (minor_of head)) (ap (λ (m : ℕ). not (m == 1)) is.major) (lt-leb-false 4 (minor_of head) is.minor) in
+    let header = first_none (has_short_header head) cause.HeaderSize offset_causes (le-ltb _ _ is.header_size) offset in
+    let number = or_from (not (major_of head == 1)) (nat_lt 4 (minor_of head)) (ap (λ (m : ℕ). not (m == 1)) is.major) (le-ltb 4 (minor_of head) is.minor) in
     let version = first_none (has_other_version head) cause.Version header_causes number header in
     let magic = first_none (lacks_signature head) cause.Magic version_causes (not_true (starts_with nat_eq head (codes "LASF")) is.signature) version in
-    first_none (is_short size) cause.Short magic_causes (lt-leb-false size 227 (omega (arith, is.block, within))) magic
+    first_none (is_short size) cause.Short magic_causes (le-ltb size 227 (omega (arith, is.block, within))) magic
 
 -- and none of the head of a packed file
 pub packed_is_fine : PackedIsFine
@@ -268,9 +264,9 @@ packed_is_fine head size is packed =
     let early = first_none (ends_early head size) cause.Count on_causes (and_left _ _ plain) on in
     let counts = first_none (has_bad_counts head) cause.PointCounts early_causes is.counts early in
     let extended = first_none (has_extended_vlrs head) cause.Extended counts_causes (no_extended head (has_long_counts head) refl is) counts in
-    let lengths = first_none (has_bad_record_length head) cause.RecordLength extended_causes (or_from _ _ (lt-leb-false _ _ is.record_length) (lt-leb-false _ _ is.extra)) extended in
-    let format = first_none (has_other_format head) cause.Format length_causes (lt-leb-false _ _ is.format) lengths in
-    first_none (has_long_vlrs head) cause.Vlrs format_causes (lt-leb-false _ _ (omega (arith, is.vlrs, is.whole))) format
+    let lengths = first_none (has_bad_record_length head) cause.RecordLength extended_causes (or_from _ _ (le-ltb _ _ is.record_length) (le-ltb _ _ is.extra)) extended in
+    let format = first_none (has_other_format head) cause.Format length_causes (le-ltb _ _ is.format) lengths in
+    first_none (has_long_vlrs head) cause.Vlrs format_causes (le-ltb _ _ (omega (arith, is.vlrs, is.whole))) format
 
 -- What `need` accepted of a file's front is what `Head::read` needs of the bytes before its points. Meant for callers.
 pub record CanRead (head : List ℕ) (size : ℕ) : Type 0 where

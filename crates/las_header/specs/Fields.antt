@@ -52,6 +52,13 @@ record_length_of head = number_at 2 105 head
 abbrev pub format_size : ℕ → ℕ
 format_size format = POINT_RECORD + 8 * (format % 2) + 6 * (format / 2)
 
+-- the formats, of 0 to 3, whose records have a GPS time, and those whose records have colours
+abbrev pub has_time : (format : ℕ) → Bool
+has_time format = format % 2 == 1
+
+abbrev pub has_colours : (format : ℕ) → Bool
+has_colours format = nat_le 2 format
+
 -- number of points by return, for the returns 1 to 5
 abbrev pub returns_of : List ℕ → List ℕ
 returns_of head = numbers_at 4 5 111 head

@@ -43,6 +43,15 @@ pub const LASZIP_DESCRIPTION: [u8; 32] = *b"laszip version 2 items\0\0\0\0\0\0\0
 /// The record ID of a laszip VLR.
 pub const LASZIP_RECORD_ID: u16 = 22_204;
 
+/// The place in a head of the scales of x, y and z, as doubles.
+pub const SCALES_AT: usize = 131;
+
+/// The place in a head of the offsets of x, y and z, as doubles.
+pub const OFFSETS_AT: usize = 155;
+
+/// The place in a head of the greatest and the least x, y and z, as doubles.
+pub const BOUNDS_AT: usize = 179;
+
 /// The place in a head of the number of points and the numbers of points by return 1 to 5, as `u32`.
 pub const COUNTS_AT: usize = 107;
 

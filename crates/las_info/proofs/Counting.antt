@@ -6,7 +6,7 @@ use Rattle.std.specs.Cmp.{nat_cmp_total}
 use Rattle.std.specs.Ordering.{eq_by_cmp, nat_cmp}
 use Rattle.std.specs.FinMap as map
 use Rattle.std.specs.FinMap.{get-empty, get-insert}
-use Rattle.las_info.specs.Tallies.{TapSeen, Tally, count_at, shown, shown_all, tally_after, with_one}
+use Rattle.las_info.specs.Tallies.{TapSeen, Tally, count_at, shown_one, shown_all, tally_after, with_one}
 
 -- no bin has a count above 0
 pub count-none : (bin : ℕ) → count_at map.empty bin ≡ 0
@@ -23,17 +23,16 @@ count-one tally bin other =
     ap (λ o. unwrap_or o 0) (get-insert nat_cmp_total tally bin (count_at tally bin + 1) other)
     ∙ either (eq_by_cmp nat_cmp other bin) (count_at tally bin + 1) (map.get tally other)
 
-below : (b : Bool) (m n most : ℕ) → m ≤ most → n ≤ most → cond b m n ≤ most
-below true m n most p q = p
-below false m n most p q = q
-
 -- no count grows by more than one
 pub count-more : (tally : Tally) (bin other most : ℕ) → count_at tally bin ≤ most → count_at tally other ≤ most
     → count_at (with_one tally bin) other ≤ most + 1
 count-more tally bin other most here there =
     subst (λ n. n ≤ most + 1) (sym (count-one tally bin other))
-    (below (eq_by_cmp nat_cmp other bin) (count_at tally bin + 1) (count_at tally other) (most + 1) (omega (arith, here))
-    (omega (arith, there)))
+    (by (eq_by_cmp nat_cmp other bin))
+  where
+    by : (b : Bool) → cond b (count_at tally bin + 1) (count_at tally other) ≤ most + 1
+    by true = omega (arith, here)
+    by false = omega (arith, there)
 
 -- a tally after one record more
 pub tally-grows : (bin_of : List ℕ → ℕ) (tally : Tally) (records : List (List ℕ)) (point : List ℕ)
@@ -43,7 +42,7 @@ tally-grows bin_of tally (r ∷ records) point = tally-grows bin_of (with_one ta
 
 -- a tap whose parts are those of a tap that was shown a record
 pub same_tap : (old new : TapSeen) (point : List ℕ) → new.name ≡ old.name → ((other : List ℕ) → new.bin other ≡ old.bin other)
-    → new.tally ≡ with_one old.tally (old.bin point) → new ≡ shown old point
+    → new.tally ≡ with_one old.tally (old.bin point) → new ≡ shown_one old point
 same_tap old new point name rule tally =
     ap (λ (n : List ℕ). record { name = n; bin = new.bin; tally = new.tally }) name
     ∙ ap (λ (b : List ℕ → ℕ). record { name = old.name; bin = b; tally = new.tally }) (fun_ext rule)
@@ -51,7 +50,7 @@ same_tap old new point name rule tally =
 
 -- a tap that was shown some records, and one more
 pub shown-more : (tap : TapSeen) (records : List (List ℕ)) (point : List ℕ)
-    → shown (shown_all tap records) point ≡ shown_all tap (records ++ point ∷ [])
+    → shown_one (shown_all tap records) point ≡ shown_all tap (records ++ point ∷ [])
 shown-more tap records point =
     ap (λ (t : Tally). record { name = tap.name; bin = tap.bin; tally = t }) (sym (tally-grows tap.bin tap.tally records point))
 
@@ -60,7 +59,7 @@ pub shown-few : (tap : TapSeen) (records : List (List ℕ)) (bin most : ℕ) →
     → count_at (shown_all tap records).tally bin ≤ most + length records
 shown-few tap [] bin most few = omega (arith, few bin)
 shown-few tap (r ∷ records) bin most few =
-    let rest = shown-few (shown tap r) records bin (most + 1) (λ b. count-more tap.tally (tap.bin r) b most (few (tap.bin r)) (few b)) in
+    let rest = shown-few (shown_one tap r) records bin (most + 1) (λ b. count-more tap.tally (tap.bin r) b most (few (tap.bin r)) (few b)) in
     omega (arith, rest)
 
 -- a tap whose parts are those of another
@@ -87,3 +86,9 @@ pub two_counted : (bin_of : List ℕ → ℕ) (old now new : Tally) (done : List
     → bin ≡ bin_of point → second ≡ bin_of other → new ≡ with_one (with_one now bin) second → new ≡ tally_after bin_of old ((done ++ point ∷ []) ++ other ∷ [])
 two_counted bin_of old now new done point other bin second are first last both =
     one_counted bin_of old (with_one now bin) new (done ++ point ∷ []) other second (one_counted bin_of old now (with_one now bin) done point bin are first refl) last both
+
+-- a tap that is seen so, with a tally of nothing, has room
+pub tap_room : (seen read : TapSeen) (bin : ℕ) → seen ≡ read → read.tally ≡ map.empty → count_at seen.tally bin ≤ 2 ^ 63
+tap_room seen read bin same is =
+    let none : count_at read.tally bin ≡ 0 = ap (λ (t : Tally). count_at t bin) is ∙ count-none bin in
+    subst (λ (t : TapSeen). count_at t.tally bin ≤ 2 ^ 63) (sym same) (omega (arith, none))

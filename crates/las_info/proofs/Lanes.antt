@@ -5,7 +5,7 @@ use Rattle.std.specs.Int.{int_max, int_min, w32}
 use Rattle.std.specs.Simd.Lanes.{sel_l, top, zip2}
 use Rattle.std.proofs.lemmas.Int.{ints, to_z-of_z}
 use Rattle.las_info.specs.declared.extents.Extents.{Extents}
-use Rattle.las_info.specs.Extents.{extents_in, range_in, widened}
+use Rattle.las_info.specs.Extents.{extents_in, lane_range, widened}
 use lib.Signed.{lt_z}
 
 -- whether each lane of the first is below that of the second, as a mask
@@ -87,7 +87,7 @@ length-zip2_four f xs x y z w n = ap (λ (l : List ℤ). length (zip2 f l (x ∷
 -- the extents in lanes that were widened by a record's
 pub lanes_widened : (low high : List ℤ) (x y z w : ℤ) → length low ≡ 4 → length high ≡ 4
     → extents_in (zip2 int_min low (x ∷ y ∷ z ∷ w ∷ [])) (zip2 int_max high (x ∷ y ∷ z ∷ w ∷ []))
-    ≡ record { x = widened (range_in low high 0) x; y = widened (range_in low high 1) y; z = widened (range_in low high 2) z }
+    ≡ record { x = widened (lane_range low high 0) x; y = widened (lane_range low high 1) y; z = widened (lane_range low high 2) z }
 lanes_widened low high x y z w p q =
     λ i. extents_in (zip2 int_min (four low p i) (x ∷ y ∷ z ∷ w ∷ [])) (zip2 int_max (four high q i) (x ∷ y ∷ z ∷ w ∷ []))
 

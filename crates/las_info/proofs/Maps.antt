@@ -9,7 +9,7 @@ use Rattle.std.specs.FinMap.Entries.{find, is_sorted, below_all}
 use Rattle.std.proofs.lemmas.Bool.{cases_lt, cases_eq, eqb-false, eqb-true}
 use Rattle.std.proofs.lemmas.List.{get_or-set_other, get_or-set_same, set-get_or}
 use Rattle.las_info.specs.Cells.{bins_from}
-use Rattle.las_info.specs.Tallies.{Tally, count_at, with_more, with_one}
+use Rattle.las_info.specs.Tallies.{Tally, count_at, with_many, with_one}
 
 less : (x y : ℕ) → x < y → nat_cmp x y ≡ Less
 less x y lt = sym (nat_cmp_is x y Less lt)
@@ -128,7 +128,7 @@ set-twice (x ∷ xs) zero a b = refl
 set-twice (x ∷ xs) (suc i) a b = ap (λ (t : List ℕ). x ∷ t) (set-twice xs i a b)
 
 -- a number more in a bin
-pub made-more : (more : ℕ) (xs ys : List ℕ) (bin : ℕ) → bin < length xs → ys ≡ set xs bin (get_or xs bin 0 + more) → made ys ≡ with_more (made xs) bin more
+pub made-more : (more : ℕ) (xs ys : List ℕ) (bin : ℕ) → bin < length xs → ys ≡ set xs bin (get_or xs bin 0 + more) → made ys ≡ with_many (made xs) bin more
 made-more zero xs ys bin lt is =
     let none : get_or xs bin 0 + 0 ≡ get_or xs bin 0 = omega arith in
     ap made (is ∙ ap (λ (n : ℕ). set xs bin n) none ∙ set-get_or xs bin 0)
@@ -138,7 +138,7 @@ made-more (suc more) xs ys bin lt is =
     let long : bin < length one = omega (arith, lt, length-set xs bin (get_or xs bin 0 + 1)) in
     made-more more one ys bin long
     (is ∙ ap (λ (n : ℕ). set xs bin n) (sym here) ∙ sym (set-twice xs bin (get_or xs bin 0 + 1) (get_or one bin 0 + more)))
-    ∙ ap (λ t. with_more t bin more) (made-set xs one bin lt refl)
+    ∙ ap (λ t. with_many t bin more) (made-set xs one bin lt refl)
 
 -- one more in a bin, and then one more in another or the same: both counts are read before either is written
 get_after : (b : Bool) (xs : List ℕ) (i j : ℕ) → (i == j) ≡ b → i < length xs → get_or (set xs i (get_or xs i 0 + 1)) j 0 ≡ get_or xs j 0 + cond b 1 0

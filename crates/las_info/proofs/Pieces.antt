@@ -6,7 +6,7 @@ use Rattle.std.proofs.lemmas.List.{append-nil, drop-append-le, length-drop, leng
 use Rattle.las_header.specs.Plain.{cut_records}
 use Rattle.las_header.proofs.Public.{cut_length}
 use Rattle.las_info.specs.Surveys.{IsShown, SurveySeen}
-use Rattle.las_info.specs.Tallies.{HasRoomFor, TapSeen, Tally, count_at, tally_after, with_more, with_one}
+use Rattle.las_info.specs.Tallies.{HasRoomToCount, TapSeen, Tally, count_at, tally_after, with_many, with_one}
 use Rattle.las_info.proofs.Counting.{room_left}
 use Rattle.las_info.proofs.Cuts.{Cuts}
 use Rattle.las_info.proofs.Shown.{tally-both}
@@ -76,8 +76,8 @@ count_of size n bytes some long = ap (λ (k : ℕ). k / size) long ∙ mul-div_c
 -- ---- a tally after the records of a piece
 
 -- there is room for a piece
-pub room_for : (bin_of : List ℕ → ℕ) (old now : Tally) (done : List (List ℕ)) (n t more : ℕ) → HasRoomFor n old → length done ≡ t → t + more ≤ n → now ≡ tally_after bin_of old done
-    → HasRoomFor more now
+pub room_for : (bin_of : List ℕ → ℕ) (old now : Tally) (done : List (List ℕ)) (n t more : ℕ) → HasRoomToCount n old → length done ≡ t → t + more ≤ n → now ≡ tally_after bin_of old done
+    → HasRoomToCount more now
 room_for bin_of old now done n t more room is within are = record {
   fits = λ bin. omega (arith, room_left bin_of old done n t more bin room.fits is within, ap (λ (s : Tally). count_at s bin) are);
 }
@@ -119,7 +119,7 @@ first_of_piece size n t k m block piece rest further done cuts p =
 
 -- records that all have a bin
 pub one_bin : (bin_of : List ℕ → ℕ) (tally : Tally) (bin : ℕ) (records : List (List ℕ)) → All (λ point. bin_of point ≡ bin) records
-    → with_more tally bin (length records) ≡ tally_after bin_of tally records
+    → with_many tally bin (length records) ≡ tally_after bin_of tally records
 one_bin bin_of tally bin [] all = refl
 one_bin bin_of tally bin (r ∷ records) all =
     let here : bin_of r ≡ bin = all 0 [] (omega arith) in

@@ -1,5 +1,5 @@
 -- Records of a block that are summed up one by one, in the form in which that is fast.
-use Rattle.std.proofs.Common.{◌≡◌, ℕ, zero, suc, ◌+◌, ◌/◌, ◌%◌, ◌<◌, ◌≤◌, arith, List, [], ◌∷◌, ◌++◌, Option, Some, take, drop, length, refl, sym, ◌∙◌, ap, subst, append_assoc, slice_index, slice_set}
+use Rattle.std.proofs.Common.{◌≡◌, ℕ, suc, ◌+◌, ◌/◌, ◌%◌, ◌<◌, ◌≤◌, arith, List, [], ◌∷◌, ◌++◌, Option, Some, take, drop, length, sym, ◌∙◌, ap, subst, append_assoc, slice_index, slice_set}
 use Rattle.std.proofs.Math.Nat.{add-div_left, add-mod_left, div-eq_of_lt}
 use Rattle.std.proofs.lemmas.List.{append-nil, length-drop}
 use Rattle.las_header.specs.Plain.{cut_records}
@@ -48,10 +48,6 @@ pub running_all : (size n t : ℕ) (block rest : List ℕ) (before : List (List 
     → Running size n t block rest before returns extents → RunOf (before ++ cut_records size n block) returns extents
 running_all size n t block rest before returns extents end s =
     subst (λ (rs : List (List ℕ)). RunOf (before ++ rs) returns extents) (cuts_all size n t block rest s.done end s.cuts) s.are
-
-pub length-cut_records : (size n : ℕ) (block : List ℕ) → length (cut_records size n block) ≡ n
-length-cut_records size zero block = refl
-length-cut_records size (suc n) block = ap suc (length-cut_records size n (drop size block))
 
 pub summary_of_run : (records : List (List ℕ)) (points : ℕ) (returns total : List ℕ) (extents : Extents) → RunOf records returns extents
     → points ≡ length records → total ≡ drop 1 returns

@@ -4,7 +4,7 @@ use Rattle.std.specs.Prelude.{All}
 use Rattle.std.proofs.lemmas.List.Elements.{All-head, All-tail, All-cons, All-nil}
 use Rattle.las_info.specs.Summaries.{SummarySeen, summary_of}
 use Rattle.std.proofs.lemmas.List.{take_all}
-use Rattle.las_info.specs.Tallies.{IsShownSome, TapSeen, Tally, count_at, shown, shown_all, tally_after, with_one}
+use Rattle.las_info.specs.Tallies.{IsShownSome, TapSeen, Tally, count_at, shown_one, shown_all, tally_after, with_one}
 use Rattle.las_info.proofs.Counting.{shown-few, shown-more}
 use Rattle.las_info.specs.Surveys.{IsShown, SurveySeen}
 
@@ -82,9 +82,9 @@ room_next old now done n t point room is count more =
     subst (λ (tap : TapSeen). count_at tap.tally (tap.bin point) < 2 ^ 64 - 1) (sym is) (all (old.bin point))
 
 -- the next record is shown
-pub next_shown : (old now new : TapSeen) (done : List (List ℕ)) (point : List ℕ) → now ≡ shown_all old done → new ≡ shown now point
+pub next_shown : (old now new : TapSeen) (done : List (List ℕ)) (point : List ℕ) → now ≡ shown_all old done → new ≡ shown_one now point
     → new ≡ shown_all old (done ++ point ∷ [])
-next_shown old now new done point is next = next ∙ ap (λ (tap : TapSeen). shown tap point) is ∙ shown-more old done point
+next_shown old now new done point is next = next ∙ ap (λ (tap : TapSeen). shown_one tap point) is ∙ shown-more old done point
 
 -- how many were counted
 pub points_counted : (taps : List TapSeen) (records : List (List ℕ)) (survey : SurveySeen) → IsShown taps records survey → survey.summary.counts.points ≡ length records

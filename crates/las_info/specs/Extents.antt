@@ -32,9 +32,9 @@ extents_with (Some extents) point = Some record {
 }
 
 -- a range whose ends stand in one lane of the least numbers and of the greatest
-abbrev pub range_in : (low high : List ℤ) → (lane : ℕ) → Range
-range_in low high lane = record { low = slice_index_or low lane (pos 0); high = slice_index_or high lane (pos 0) }
+abbrev pub lane_range : (low high : List ℤ) → (lane : ℕ) → Range
+lane_range low high lane = record { low = slice_index_or low lane (pos 0); high = slice_index_or high lane (pos 0) }
 
 -- extents whose ends stand in lanes: x in the first, y in the second and z in the third
 abbrev pub extents_in : (low high : List ℤ) → Extents
-extents_in low high = record { x = range_in low high 0; y = range_in low high 1; z = range_in low high 2 }
+extents_in low high = record { x = lane_range low high 0; y = lane_range low high 1; z = lane_range low high 2 }

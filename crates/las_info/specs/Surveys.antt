@@ -17,7 +17,7 @@ pub record IsShown (taps : List TapSeen) (records : List (List ℕ)) (survey : S
 abbrev pub survey_of : SummarySeen → List TapSeen → SurveySeen
 survey_of summary taps = record { summary = summary; taps = taps }
 
--- A survey was shown some records, and has room for so many more: with them it counts fewer than 2^32, and none of its
+-- A survey was shown some records, and has room for this many more: with them it counts fewer than 2^32, and none of its
 -- taps had counted more than 2^63 in a bin before the first.
 abbrev pub HasRoomForMore : SurveySeen → (count : ℕ) → Type 0
 HasRoomForMore survey count = (taps : List TapSeen) × (before : List (List ℕ)) × IsShown taps before survey

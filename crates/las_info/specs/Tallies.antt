@@ -16,9 +16,9 @@ abbrev pub with_one : Tally → (bin : ℕ) → Tally
 with_one tally bin = map.insert tally bin (count_at tally bin + 1)
 
 -- a tally with a number of records more in a bin, one after another
-abbrev pub with_more : Tally → (bin more : ℕ) → Tally
-with_more tally bin zero = tally
-with_more tally bin (suc more) = with_more (with_one tally bin) bin more
+abbrev pub with_many : Tally → (bin more : ℕ) → Tally
+with_many tally bin zero = tally
+with_many tally bin (suc more) = with_many (with_one tally bin) bin more
 
 -- a tally after records, each counted in its bin
 abbrev pub tally_after : (bin_of : List ℕ → ℕ) → Tally → (records : List (List ℕ)) → Tally
@@ -31,15 +31,15 @@ pub record TapSeen : Type 0 where
   pub tally : Tally
 
 -- a tap that was shown a record: it counts one more in the record's bin
-abbrev pub shown : TapSeen → (point : List ℕ) → TapSeen
-shown tap point = record tap { tally = with_one tap.tally (tap.bin point) }
+abbrev pub shown_one : TapSeen → (point : List ℕ) → TapSeen
+shown_one tap point = record tap { tally = with_one tap.tally (tap.bin point) }
 
 -- a tap that was shown some records, one after another
 abbrev pub shown_all : TapSeen → (records : List (List ℕ)) → TapSeen
 shown_all tap records = record tap { tally = tally_after tap.bin tap.tally records }
 
 -- There is room for a number of records more: no bin comes to a count of 2^64, if all of them have it.
-pub record HasRoomFor (records : ℕ) (tally : Tally) : Type 0 where
+pub record HasRoomToCount (records : ℕ) (tally : Tally) : Type 0 where
   pub fits : (bin : ℕ) → count_at tally bin + records < 2 ^ 64
 
 -- A tap was shown records from the first of these on, perhaps not all of them.

@@ -2,7 +2,7 @@
 ghost use Rattle.std.specs.Prelude.{◌≡◌, ◌/◌, ◌%◌, ◌≤◌, ℕ, length, take, OnErr, OnOk};
 ghost use Rattle.las_header.specs.declared.limits.TheConstants.{POINT_RECORD};
 ghost use Rattle.las_header.specs.Plain.{cut_records};
-ghost use Rattle.las_info.specs.Tallies.{HasRoomFor, tally_after};
+ghost use Rattle.las_info.specs.Tallies.{HasRoomToCount, tally_after};
 
 use crate::bins::Bins;
 use crate::tally::Counted;
@@ -17,7 +17,7 @@ pub(crate) fn count_block<B: Bins>(
 ) -> Result<(), AllocError>
     requires size { POINT_RECORD ≤ size }
     requires whole { length block.now % size ≡ 0 }
-    requires room { HasRoomFor (length block.now / size) counted.old }
+    requires room { HasRoomToCount (length block.now / size) counted.old }
     ensures ok { OnOk result (counted.new
         ≡ tally_after B.bin_of counted.old (cut_records size (length block.now / size) block.now)) }
     ensures err { OnErr result ((n : ℕ) × (counted.new

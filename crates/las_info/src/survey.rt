@@ -4,7 +4,7 @@ ghost use Rattle.std.specs.Prelude.{length, map, All};
 ghost use Rattle.std.specs.List.{AllZip};
 ghost use Rattle.las_header.specs.declared.limits.TheConstants.{POINT_RECORD};
 ghost use Rattle.las_info.specs.Summaries.{summary_of};
-ghost use Rattle.las_info.specs.Tallies.{HasRoomFor, IsShownSome, TapSeen, count_at, shown, shown_all};
+ghost use Rattle.las_info.specs.Tallies.{HasRoomToCount, IsShownSome, TapSeen, count_at, shown_one, shown_all};
 ghost use Rattle.las_info.specs.Surveys.{HasRoomForMore, IsShown, survey_of};
 ghost use Rattle.las_header.specs.Plain.{cut_records};
 
@@ -17,7 +17,7 @@ use std::alloc::AllocError;
 fn show_one(tap: &mut Box<dyn Tap>, point: &[u8]) -> Result<(), AllocError>
     requires long { POINT_RECORD ≤ length point.now }
     requires room { count_at (tap_seen tap.old).tally ((tap_seen tap.old).bin point.now) < 2 ^ 64 - 1 }
-    ensures shown { OnOk result (tap_seen tap.new ≡ shown (tap_seen tap.old) point.now) }
+    ensures shown { OnOk result (tap_seen tap.new ≡ shown_one (tap_seen tap.old) point.now) }
     ensures err { OnErr result (tap_seen tap.new ≡ tap_seen tap.old) }
 {
     tap.see(point)
@@ -28,7 +28,7 @@ pub(crate) fn show_all(taps: &mut [Box<dyn Tap>], point: &[u8]) -> Result<(), Al
     requires long { POINT_RECORD ≤ length point.now }
     requires room { All (λ tap. count_at (tap_seen tap).tally ((tap_seen tap).bin point.now) < 2 ^ 64 - 1) taps.old }
     ensures shown { OnOk result (map (λ tap. tap_seen tap) taps.new
-        ≡ map (λ tap. shown (tap_seen tap) point.now) taps.old) }
+        ≡ map (λ tap. shown_one (tap_seen tap) point.now) taps.old) }
 {
     for i in 0..taps.len() {
         show_one(&mut taps[i], point)?;
@@ -40,7 +40,7 @@ pub(crate) fn show_all(taps: &mut [Box<dyn Tap>], point: &[u8]) -> Result<(), Al
 fn show_through(tap: &mut Box<dyn Tap>, size: usize, block: &[u8]) -> Result<(), AllocError>
     requires size { POINT_RECORD ≤ size }
     requires whole { length block.now % size ≡ 0 }
-    requires room { HasRoomFor (length block.now / size) (tap_seen tap.old).tally }
+    requires room { HasRoomToCount (length block.now / size) (tap_seen tap.old).tally }
     ensures shown { OnOk result (tap_seen tap.new
         ≡ shown_all (tap_seen tap.old) (cut_records size (length block.now / size) block.now)) }
     ensures err { OnErr result (IsShownSome (cut_records size (length block.now / size) block.now)
@@ -101,7 +101,7 @@ impl Survey {
         ensures counted { OnOk result ((records : List (List ℕ)) → self.old.summary ≡ summary_of records
             → self.new.summary ≡ summary_of (records ++ point.now ∷ [])) }
         ensures shown { OnOk result (map (λ tap. tap_seen tap) self.new.taps.items
-            ≡ map (λ tap. shown (tap_seen tap) point.now) self.old.taps.items) }
+            ≡ map (λ tap. shown_one (tap_seen tap) point.now) self.old.taps.items) }
     {
         self.summary.add(point);
         show_all(&mut self.taps, point)

@@ -3,7 +3,7 @@ ghost use Rattle.std.specs.Prelude.{◌≡◌, ◌+◌, ◌-◌, ◌^◌, ◌<�
 ghost use Rattle.std.specs.Prelude.{◌==◌, ◌⊎◌, if◌then◌else◌, vec_len};
 ghost use Rattle.std.specs.FinMap as map;
 ghost use Rattle.las_info.specs.Cells.{bins_from};
-ghost use Rattle.las_info.specs.Tallies.{count_at, with_more, with_one};
+ghost use Rattle.las_info.specs.Tallies.{count_at, with_many, with_one};
 
 use std::alloc::{AllocError, Global};
 use std::marker::Model;
@@ -130,7 +130,7 @@ impl Counted {
     /// Adds a number to a bin. `Err` means out of memory, and nothing has changed.
     pub(crate) fn add_more(&mut self, bin: u32, more: u64) -> Result<(), AllocError>
         requires { count_at self.old bin + more < 2 ^ 64 }
-        ensures ok { OnOk result (self.new ≡ with_more self.old bin more) }
+        ensures ok { OnOk result (self.new ≡ with_many self.old bin more) }
         ensures err { OnErr result (self.new ≡ self.old) }
     {
         reach(&mut self.counts, bin as usize)?;

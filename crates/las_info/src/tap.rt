@@ -1,7 +1,7 @@
 //! What tallies records.
 ghost use Rattle.std.specs.Prelude.{◌≡◌, ◌-◌, ◌/◌, ◌%◌, ◌^◌, ◌<◌, ◌≤◌, ℕ, List, length, IfOk, OnErr, OnOk};
 ghost use Rattle.std.specs.FinMap as map;
-ghost use Rattle.las_info.specs.Tallies.{HasRoomFor, IsShownSome, TapSeen, count_at, shown_all, with_one};
+ghost use Rattle.las_info.specs.Tallies.{HasRoomToCount, IsShownSome, TapSeen, count_at, shown_all, with_one};
 ghost use Rattle.las_header.specs.declared.limits.TheConstants.{POINT_RECORD};
 ghost use Rattle.las_header.specs.Plain.{cut_records};
 
@@ -40,7 +40,7 @@ pub trait Tap: Drop {
     fn see_block(&mut self, size: usize, block: &[u8]) -> Result<(), AllocError>
         requires size { POINT_RECORD ≤ size }
         requires whole { length block.now % size ≡ 0 }
-        requires room { HasRoomFor (length block.now / size) (tap_seen self.old).tally }
+        requires room { HasRoomToCount (length block.now / size) (tap_seen self.old).tally }
         ensures ok { OnOk result (tap_seen self.new
             ≡ shown_all (tap_seen self.old) (cut_records size (length block.now / size) block.now)) }
         ensures err { OnErr result (IsShownSome (cut_records size (length block.now / size) block.now)

@@ -3,20 +3,21 @@ use Rattle.std.proofs.Common.{◌≡◌, ℕ, ◌+◌, ◌*◌, ◌/◌, ◌%◌
 use Rattle.std.proofs.Math.Nat.{mod-add-mod}
 use Rattle.std.proofs.lemmas.Bool.Decides.{nat_tests}
 use Rattle.las_make.specs.declared.drawing.Draws.{Draws}
-use Rattle.las_make.specs.Drawing.{Advances, draw, draws_at, draws_each, has_colours, next_state, state_after}
+use Rattle.las_make.specs.Drawing.{DrawsNext, draw, draws_at, draws_each, next_state, state_drawn}
+use Rattle.las_header.specs.Fields.{has_colours}
 
-pub first_state : (seed : ℕ) → seed ≡ state_after seed 0
-unfolding state_after
+pub first_state : (seed : ℕ) → seed ≡ state_drawn seed 0
+unfolding state_drawn
 first_state seed = refl
 
-pub advances : (state : ℕ) → let new = (state * 6364136223846793005 % 2 ^ 64 + 1442695040888963407) % 2 ^ 64 in Advances state (new / 2 ^ 32) new
-unfolding state_after draw next_state
+pub advances : (state : ℕ) → let new = (state * 6364136223846793005 % 2 ^ 64 + 1442695040888963407) % 2 ^ 64 in DrawsNext state (new / 2 ^ 32) new
+unfolding state_drawn draw next_state
 advances state seed n is =
     let next = mod-add-mod (state * 6364136223846793005) (2 ^ 64) 1442695040888963407 ∙ ap next_state is in
-    (ap (λ (s : ℕ). s / 2 ^ 32) next, next ∙ ap (state_after seed) (sym (add-one n)))
+    (ap (λ (s : ℕ). s / 2 ^ 32) next, next ∙ ap (state_drawn seed) (sym (add-one n)))
 
-moved : (seed n m s : ℕ) → n ≡ m → s ≡ state_after seed n → s ≡ state_after seed m
-moved seed n m s same is = is ∙ ap (state_after seed) same
+moved : (seed n m s : ℕ) → n ≡ m → s ≡ state_drawn seed n → s ≡ state_drawn seed m
+moved seed n m s same is = is ∙ ap (state_drawn seed) same
 
 -- after the seven numbers of every record
 pub record Seven (seed n : ℕ) (d : Draws) (state : ℕ) : Type 0 where
@@ -27,9 +28,9 @@ pub record Seven (seed n : ℕ) (d : Draws) (state : ℕ) : Type 0 where
   pub returns : d.returns ≡ draw seed (n + 4)
   pub number : d.number ≡ draw seed (n + 5)
   pub class : d.class ≡ draw seed (n + 6)
-  pub state_is : state ≡ state_after seed (n + 7)
+  pub state_is : state ≡ state_drawn seed (n + 7)
 
-pub seven_drawn : (seed n a b c d e f g h : ℕ) (ds : Draws) → a ≡ state_after seed n → Advances a ds.x b → Advances b ds.y c → Advances c ds.z d → Advances d ds.intensity e → Advances e ds.returns f → Advances f ds.number g → Advances g ds.class h → Seven seed n ds h
+pub seven_drawn : (seed n a b c d e f g h : ℕ) (ds : Draws) → a ≡ state_drawn seed n → DrawsNext a ds.x b → DrawsNext b ds.y c → DrawsNext c ds.z d → DrawsNext d ds.intensity e → DrawsNext e ds.returns f → DrawsNext f ds.number g → DrawsNext g ds.class h → Seven seed n ds h
 seven_drawn seed n a b c d e f g h ds is x y z i r m k =
     let b_is = (x seed n is).1 in
     let c_is = moved seed (n + 1 + 1) (n + 2) c (omega arith) (y seed (n + 1) b_is).1 in
@@ -70,12 +71,12 @@ few_formats format few = grind (arith, nat_tests)
 pub many_formats : (format : ℕ) → 2 ≤ format → has_colours format ≡ true
 many_formats format many = grind (arith, nat_tests)
 
-pub state_with : (format seed n state last : ℕ) → 2 ≤ format → (state ≡ state_after seed (n + 7)) → (state ≡ state_after seed (n + 7) → last ≡ state_after seed (n + 7 + 1)) → last ≡ state_after seed (n + draws_each format)
+pub state_with : (format seed n state last : ℕ) → 2 ≤ format → (state ≡ state_drawn seed (n + 7)) → (state ≡ state_drawn seed (n + 7) → last ≡ state_drawn seed (n + 7 + 1)) → last ≡ state_drawn seed (n + draws_each format)
 state_with format seed n state last many is next =
     let each : draws_each format ≡ 8 = ap (λ (b : Bool). cond b 8 7) (many_formats format many) in
     moved seed (n + 7 + 1) (n + draws_each format) last (omega (arith, each)) (next is)
 
-pub state_without : (format seed n state : ℕ) → format < 2 → state ≡ state_after seed (n + 7) → state ≡ state_after seed (n + draws_each format)
+pub state_without : (format seed n state : ℕ) → format < 2 → state ≡ state_drawn seed (n + 7) → state ≡ state_drawn seed (n + draws_each format)
 state_without format seed n state few is =
     let each : draws_each format ≡ 7 = ap (λ (b : Bool). cond b 8 7) (few_formats format few) in
     moved seed (n + 7) (n + draws_each format) state (omega (arith, each)) is

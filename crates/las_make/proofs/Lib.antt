@@ -6,6 +6,7 @@ mod MadeBytes
 mod Accepting
 mod Written
 mod Reread
+mod Since
 mod Ended
 mod Placed
 mod Steps

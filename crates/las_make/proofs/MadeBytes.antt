@@ -10,10 +10,10 @@ use Rattle.laz_range.specs.Span.{IsBytes}
 use Rattle.laz_table.proofs.Public.{IsBytes-append, IsBytes-little}
 use Rattle.las_make.specs.declared.drawing.Draws.{Draws}
 use Rattle.las_make.specs.declared.settings.Settings.{Settings}
-use Rattle.las_make.specs.Drawing.{has_colours, has_time}
 use Rattle.las_make.specs.Records.{base_fields, class_made, colour_fields, extra_bytes, flags_made, green_made, intensity_made, record_bytes, red_made, returns_made, time_field, x_made, y_made, z_made}
 use Rattle.las_make.specs.Made.{blank_head, made_length, made_record, records_from, scale_bytes}
 use Rattle.las_make.proofs.Steps.{drawn_for}
+use Rattle.las_header.specs.Fields.{has_colours, has_time}
 
 no-bytes : IsBytes []
 no-bytes i = lit< tt

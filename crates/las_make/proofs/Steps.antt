@@ -15,7 +15,7 @@ use Rattle.las_points.specs.Record.{return_number_of}
 use Rattle.las_points.specs.Tally.{count_of_return, counts_of}
 use Rattle.las_make.specs.declared.drawing.Draws.{Draws}
 use Rattle.las_make.specs.declared.settings.Settings.{Settings}
-use Rattle.las_make.specs.Drawing.{draws_at, draws_each, state_after}
+use Rattle.las_make.specs.Drawing.{draws_at, draws_each, state_drawn}
 use Rattle.las_make.specs.Records.{base_fields, flags_made, record_bytes}
 use Rattle.las_make.specs.Made.{IsBefore, made_length, made_record, records_from}
 
@@ -23,10 +23,10 @@ use Rattle.las_make.specs.Made.{IsBefore, made_length, made_record, records_from
 abbrev pub drawn_for : Settings → (k : ℕ) → Draws
 drawn_for settings k = draws_at settings.format settings.seed (draws_each settings.format * k)
 
-pub state_next : (s : Settings) (k j state new : ℕ) → IsBefore s k state → ((seed n : ℕ) → state ≡ state_after seed n → new ≡ state_after seed (n + draws_each s.format)) → k + 1 ≡ j → IsBefore s j new
+pub state_next : (s : Settings) (k j state new : ℕ) → IsBefore s k state → ((seed n : ℕ) → state ≡ state_drawn seed n → new ≡ state_drawn seed (n + draws_each s.format)) → k + 1 ≡ j → IsBefore s j new
 state_next s k j state new is draws next =
     let more : draws_each s.format * k + draws_each s.format ≡ draws_each s.format * (k + 1) = omega arith in
-    draws s.seed (draws_each s.format * k) is ∙ ap (λ (n : ℕ). state_after s.seed n) (more ∙ ap (λ (n : ℕ). draws_each s.format * n) next)
+    draws s.seed (draws_each s.format * k) is ∙ ap (λ (n : ℕ). state_drawn s.seed n) (more ∙ ap (λ (n : ℕ). draws_each s.format * n) next)
 
 one_more : (s : Settings) (from i k : ℕ) → from + i ≡ k → records_from s from (i + 1) ≡ records_from s from i ++ made_record s k ∷ []
 one_more s from i k is = map-range_with_len_more (made_record s) from i k is

@@ -1,6 +1,7 @@
 -- The numbers from which records are made: those of a linear congruential generator modulo 2^64, with the multiplier
 -- and the increment of D. Knuth's MMIX.
-use Rattle.std.specs.Prelude.{◌≡◌, ℕ, zero, suc, ◌+◌, ◌*◌, ◌/◌, ◌%◌, ◌^◌, ◌==◌, nat_le, Bool, if◌then◌else◌}
+use Rattle.std.specs.Prelude.{◌≡◌, ℕ, zero, suc, ◌+◌, ◌*◌, ◌/◌, ◌%◌, ◌^◌, if◌then◌else◌}
+use Rattle.las_header.specs.Fields.{has_colours}
 use Rattle.las_make.specs.declared.drawing.Draws.{Draws}
 
 -- the state after another one
@@ -8,25 +9,18 @@ unfoldable pub next_state : ℕ → ℕ
 next_state state = (state * 6364136223846793005 + 1442695040888963407) % 2 ^ 64
 
 -- the state after this many draws: the first is the seed
-unfoldable pub state_after : (seed draws : ℕ) → ℕ
-state_after seed zero = seed
-state_after seed (suc n) = next_state (state_after seed n)
+unfoldable pub state_drawn : (seed draws : ℕ) → ℕ
+state_drawn seed zero = seed
+state_drawn seed (suc n) = next_state (state_drawn seed n)
 
 -- the number of a draw, counted from 0: the upper half of the state after it
 unfoldable pub draw : (seed number : ℕ) → ℕ
-draw seed n = state_after seed (suc n) / 2 ^ 32
+draw seed n = state_drawn seed (suc n) / 2 ^ 32
 
 -- A draw gave the number that is due, and left the state after it.
-abbrev pub Advances : (old result new : ℕ) → Type 0
-Advances old result new =
-    (seed n : ℕ) → old ≡ state_after seed n → (result ≡ draw seed n) × (new ≡ state_after seed (n + 1))
-
--- the formats with a GPS time, and those with colours
-abbrev pub has_time : (format : ℕ) → Bool
-has_time format = format % 2 == 1
-
-abbrev pub has_colours : (format : ℕ) → Bool
-has_colours format = nat_le 2 format
+abbrev pub DrawsNext : (old result new : ℕ) → Type 0
+DrawsNext old result new =
+    (seed n : ℕ) → old ≡ state_drawn seed n → (result ≡ draw seed n) × (new ≡ state_drawn seed (n + 1))
 
 -- how many numbers are drawn for a record: an eighth for its colours
 abbrev pub draws_each : (format : ℕ) → ℕ

@@ -8,7 +8,7 @@ use Rattle.las_header.specs.Fields.{format_size}
 use Rattle.las_points.specs.Tally.{counts_of}
 use Rattle.las_make.specs.declared.settings.Settings.{Settings}
 use Rattle.las_make.specs.declared.settings.TheConstants.{MAX_POINTS}
-use Rattle.las_make.specs.Drawing.{draws_at, draws_each, state_after}
+use Rattle.las_make.specs.Drawing.{draws_at, draws_each, state_drawn}
 use Rattle.las_make.specs.Records.{record_bytes}
 
 -- The settings are in range.
@@ -32,7 +32,7 @@ made_records settings = records_from settings 0 settings.points
 
 -- The state of the generator is that before the record of this number.
 abbrev pub IsBefore : Settings → (k state : ℕ) → Type 0
-IsBefore settings k state = state ≡ state_after settings.seed (draws_each settings.format * k)
+IsBefore settings k state = state ≡ state_drawn settings.seed (draws_each settings.format * k)
 
 -- a scale of 0.01, as the bytes of its double
 abbrev pub scale_bytes : List ℕ

@@ -1,9 +1,8 @@
 -- What `make` writes, and what it leaves after a fault.
-use Rattle.std.specs.Prelude.{◌≡◌, ◌⊎◌, ℕ, false, List, drop, Option, None}
+use Rattle.std.specs.Prelude.{◌≡◌, ◌⊎◌, ℕ, false, List, Option, None}
 use Rattle.std.specs.List.{concat}
-use Rattle.las_header.specs.Fields.{point_offset_of}
 use Rattle.las_outside.specs.Faults.{Rose}
-use Rattle.las_outside.specs.Files.{FileMap, WhereKnown, with_file}
+use Rattle.las_outside.specs.Files.{FileMap, with_file}
 use Rattle.las_outside.specs.Outside.{Outside}
 use Rattle.laz_forms.specs.declared.fault.Fault.{Fault}
 use Rattle.laz_forms.specs.declared.fault.Fault.TheVariants as file
@@ -49,11 +48,11 @@ LeavesMade plain packed settings chunk old new =
 -- ---- how it goes
 
 -- what a fault stands for while the plain file is written or read again
-abbrev pub fault_of : Fault → MakeFault
-fault_of (file.Refused cause) = Changed cause
-fault_of file.Read = ReadPlain
-fault_of file.Write = Write
-fault_of file.Memory = Memory
+abbrev pub make_fault : Fault → MakeFault
+make_fault (file.Refused cause) = Changed cause
+make_fault file.Read = ReadPlain
+make_fault file.Write = Write
+make_fault file.Memory = Memory
 
 -- A fault of a call that only writes: with a failed write more, or out of memory.
 abbrev pub FailsWriting : (old new : Outside) → Fault → Type 0
@@ -61,28 +60,6 @@ FailsWriting old new (file.Refused cause) = ⊥
 FailsWriting old new file.Read = ⊥
 FailsWriting old new file.Write = Rose old.write_faults new.write_faults
 FailsWriting old new file.Memory = Unit {0}
-
--- What packing a plain file leaves, if it fails.
-abbrev pub LeavesForm : (plain packed : List ℕ) → (chunk : ℕ) → (old new : Option FileMap) → Type 0
-LeavesForm plain packed chunk old new =
-    WhereKnown old plain (λ file. LeavesUnfinished (packed_output packed file chunk) (drop (point_offset_of file) file)
-    old new)
-
--- The same if it fails because it could not read.
-abbrev pub LeavesFormInPart : (plain packed : List ℕ) → (chunk : ℕ) → (old new : Option FileMap) → Type 0
-LeavesFormInPart plain packed chunk old new =
-    WhereKnown old plain (λ file. LeavesInPart (packed_output packed file chunk) (drop (point_offset_of file) file)
-    old new)
-
--- How packing a plain file, which can be packed, fails.
-abbrev pub FailsPacking : (plain packed : List ℕ) → (chunk : ℕ) → (old new : Outside) → MakeFault → Type 0
-FailsPacking plain packed chunk old new ReadPlain =
-    Rose old.read_faults new.read_faults × LeavesFormInPart plain packed chunk old.held new.held
-FailsPacking plain packed chunk old new (Changed cause) = (old.held ≡ None) × (new.held ≡ None)
-FailsPacking plain packed chunk old new ReadPacked = ⊥
-FailsPacking plain packed chunk old new Write =
-    Rose old.write_faults new.write_faults × LeavesForm plain packed chunk old.held new.held
-FailsPacking plain packed chunk old new Memory = LeavesForm plain packed chunk old.held new.held
 
 -- How making ends with a fault.
 abbrev pub FailsMaking : (plain packed : List ℕ) → Settings → (chunk : ℕ) → (old new : Outside) → MakeFault → Type 0

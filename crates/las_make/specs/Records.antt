@@ -3,7 +3,7 @@ use Rattle.std.specs.Prelude.{ℕ, ◌+◌, ◌*◌, ◌/◌, ◌%◌, ◌^◌, 
 use Rattle.std.specs.List.{range_with_len}
 use Rattle.byteorder.specs.Endian.{little_bytes}
 use Rattle.las_make.specs.declared.drawing.Draws.{Draws}
-use Rattle.las_make.specs.Drawing.{has_colours, has_time}
+use Rattle.las_header.specs.Fields.{has_colours, has_time}
 
 -- the coordinates: rows of 1,000 records that stand 10 apart, each up to 15 off its place, at heights of 5,000 to 5,063
 abbrev pub x_made : (k : ℕ) → Draws → ℕ
@@ -22,12 +22,12 @@ intensity_made d = d.intensity % 4096
 abbrev pub returns_made : Draws → ℕ
 returns_made d = 1 + d.returns % 4
 
-abbrev pub number_made : Draws → ℕ
-number_made d = 1 + d.number % returns_made d
+abbrev pub return_made : Draws → ℕ
+return_made d = 1 + d.number % returns_made d
 
 -- the flag byte: the scan direction changes with each row
 abbrev pub flags_made : (k : ℕ) → Draws → ℕ
-flags_made k d = number_made d + 8 * returns_made d + 64 * (k / 1000 % 2)
+flags_made k d = return_made d + 8 * returns_made d + 64 * (k / 1000 % 2)
 
 -- the class, 1 to 6, with no class flag
 abbrev pub class_made : Draws → ℕ

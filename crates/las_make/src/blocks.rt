@@ -9,7 +9,7 @@ use crate::settings::{Settings, record_length};
 
 /// Fills a place with as many records, one after another, from this number on. The generator has drawn for all records
 /// before them. No memory is taken.
-pub(crate) fn fill(
+pub(crate) fn put_records(
     place: &mut [u8],
     settings: Settings,
     from: u32,

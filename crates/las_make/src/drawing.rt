@@ -1,6 +1,6 @@
 //! The numbers from which records are made.
 ghost use Rattle.std.specs.Prelude.{◌≡◌, ◌+◌, ℕ};
-ghost use Rattle.las_make.specs.Drawing.{Advances, draws_at, draws_each, state_after};
+ghost use Rattle.las_make.specs.Drawing.{DrawsNext, draws_at, draws_each, state_drawn};
 
 const MULTIPLIER: u64 = 6_364_136_223_846_793_005;
 
@@ -28,7 +28,7 @@ pub(crate) struct Generator {
 
 impl Generator {
     pub(crate) fn new(seed: u32) -> Generator
-        ensures { result.state ≡ state_after seed 0 }
+        ensures { result.state ≡ state_drawn seed 0 }
     {
         Generator {
             state: u64::from(seed),
@@ -38,7 +38,7 @@ impl Generator {
     // Draws the next number.
     #[inline(always)]
     fn draw(&mut self) -> u32
-        ensures { Advances self.old.state result self.new.state }
+        ensures { DrawsNext self.old.state result self.new.state }
     {
         self.state = self.state.wrapping_mul(MULTIPLIER).wrapping_add(INCREMENT);
         (self.state >> 32) as u32
@@ -47,9 +47,9 @@ impl Generator {
     /// Draws the numbers of the next record.
     #[inline]
     pub(crate) fn draws(&mut self, format: u8) -> Draws
-        ensures numbers { (seed n : ℕ) → self.old.state ≡ state_after seed n → result ≡ draws_at format seed n }
-        ensures state { (seed n : ℕ) → self.old.state ≡ state_after seed n
-            → self.new.state ≡ state_after seed (n + draws_each format) }
+        ensures numbers { (seed n : ℕ) → self.old.state ≡ state_drawn seed n → result ≡ draws_at format seed n }
+        ensures state { (seed n : ℕ) → self.old.state ≡ state_drawn seed n
+            → self.new.state ≡ state_drawn seed (n + draws_each format) }
     {
         let x = self.draw();
         let y = self.draw();

@@ -1,3 +1,4 @@
+//! Why files are not made.
 use las_header::Refusal;
 use thiserror::Error;
 

@@ -70,12 +70,14 @@ pub fn make<R: Threads + Sync, F: Files, G: Gate>(
         Ok(size) => size,
         Err(fault) => return Err(fault_of(fault)),
     };
-    pack_plain(machine, files, plain, packed, chunk)?;
-    match files.size(packed) {
-        Ok(packed_size) => Ok(Sizes {
-            plain: plain_size,
-            packed: packed_size,
-        }),
-        Err(_) => Err(MakeFault::ReadPacked),
+    match pack_plain(machine, files, plain, packed, chunk) {
+        Ok(()) => match files.size(packed) {
+            Ok(packed_size) => Ok(Sizes {
+                plain: plain_size,
+                packed: packed_size,
+            }),
+            Err(_) => Err(MakeFault::ReadPacked),
+        },
+        Err(fault) => Err(fault_of(fault)),
     }
 }

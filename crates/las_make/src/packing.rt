@@ -1,16 +1,18 @@
 //! The packed file, from the plain file that is read again.
-ghost use Rattle.std.specs.Prelude.{◌≡◌, ◌≢◌, ◌+◌, IfErr, IsErrOf, OnOk};
+ghost use Rattle.std.specs.Prelude.{◌≡◌, ◌≢◌, ◌+◌, drop, IsErrOf};
 ghost use Rattle.las_header.specs.declared.refusal.Refusal.{Refusal};
-ghost use Rattle.las_outside.specs.Files.{WhereKnown, with_file};
+ghost use Rattle.las_header.specs.Fields.{point_offset_of};
+ghost use Rattle.las_outside.specs.Files.{WhereKnown};
 ghost use Rattle.las_outside.specs.Frames.{IsCalm};
 ghost use Rattle.las_outside.specs.Limits.{AreWorkers, IsChunkSize};
 ghost use Rattle.las_outside.specs.Outside.{Later};
 ghost use Rattle.laz_reader.specs.Asking.{AsksAtMost, asked_to_open};
 ghost use Rattle.laz_forms.specs.Sizes.{points_size};
 ghost use Rattle.laz_forms.specs.Laws.{CanBePacked};
-ghost use Rattle.laz_forms.specs.Packing.{packed_file};
-ghost use Rattle.las_make.specs.declared.fault.MakeFault.TheVariants.{Changed};
-ghost use Rattle.las_make.specs.Making.{FailsPacking, fault_of};
+ghost use Rattle.laz_forms.specs.declared.fault.Fault.TheVariants.{Read, Refused};
+ghost use Rattle.laz_file.specs.Copying.{LeavesInPart, Packs, packed_output};
+ghost use Rattle.laz_file.specs.Endings.{EndsMaking};
+ghost use Rattle.las_make.specs.Making.{make_fault};
 
 use crate::MakeFault;
 use las_header::Refusal;
@@ -21,7 +23,7 @@ use std::thread::Threads;
 
 /// What a fault stands for while the plain file is written or read again.
 pub(crate) fn fault_of(fault: Fault) -> MakeFault
-    ensures { result ≡ fault_of fault }
+    ensures { result ≡ make_fault fault }
 {
     match fault {
         Fault::Refused(cause) => MakeFault::Changed(cause),
@@ -38,30 +40,26 @@ pub(crate) fn pack_plain<R: Threads + Sync, F: Files, G: Gate>(
     plain: &str,
     packed: &str,
     chunk: u32,
-) -> Result<(), MakeFault>
+) -> Result<(), Fault>
     requires chunk { IsChunkSize chunk }
     requires workers { AreWorkers machine.workers }
     requires names { packed.now ≢ plain.now }
     requires accepted { WhereKnown (F.seen files.old).held plain.now (λ file. CanBePacked file chunk) }
-    ensures packed { OnOk result (WhereKnown (F.seen files.old).held plain.now (λ file.
-        (F.seen files.new).held ≡ with_file (F.seen files.old).held packed.now (packed_file file chunk))) }
-    ensures ends { IfErr result
-        (FailsPacking plain.now packed.now chunk (F.seen files.old) (F.seen files.new)) }
-    ensures calm { OnOk result (IsCalm (F.seen files.old) (F.seen files.new)) }
-    ensures calm_changed { (cause : Refusal) → IsErrOf result (Changed cause)
+    ensures ends { EndsMaking (Packs packed.now chunk) plain.now (F.seen files.old) (F.seen files.new) result }
+    ensures in_part { IsErrOf result Read → WhereKnown (F.seen files.old).held plain.now (λ file.
+        LeavesInPart (packed_output packed.now file chunk) (drop (point_offset_of file) file)
+        (F.seen files.old).held (F.seen files.new).held) }
+    ensures calm_refused { (cause : Refusal) → IsErrOf result (Refused cause)
         → IsCalm (F.seen files.old) (F.seen files.new) }
     ensures asked { WhereKnown (F.seen files.old).held plain.now (λ file.
         AsksAtMost (asked_to_open file + points_size file) (F.seen files.old) (F.seen files.new)) }
     ensures later { Later (F.seen files.old) (F.seen files.new) }
 {
-    let reader = match Reader::open(machine.alloc, files, plain) {
-        Ok(reader) => reader,
-        Err(fault) => return Err(fault_of(fault)),
-    };
+    let reader = Reader::open(machine.alloc, files, plain)?;
     if reader.chunk().is_some() {
-        return Err(MakeFault::Changed(Refusal::StrayVlr));
+        return Err(Fault::Refused(Refusal::StrayVlr));
     }
-    match pack(
+    pack(
         machine.rt,
         machine.alloc,
         files,
@@ -70,8 +68,5 @@ pub(crate) fn pack_plain<R: Threads + Sync, F: Files, G: Gate>(
         packed,
         chunk,
         machine.workers,
-    ) {
-        Ok(()) => Ok(()),
-        Err(fault) => Err(fault_of(fault)),
-    }
+    )
 }

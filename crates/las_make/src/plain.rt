@@ -10,7 +10,7 @@ ghost use Rattle.laz_writer.specs.Writing.{Stands};
 ghost use Rattle.las_make.specs.Made.{IsBefore, IsInRange, made_file, made_length, made_records, records_from};
 ghost use Rattle.las_make.specs.Making.{FailsWriting, LeavesPlain};
 
-use crate::blocks::fill;
+use crate::blocks::put_records;
 use crate::counting::count_records;
 use crate::drawing::Generator;
 use crate::head::blank_head;
@@ -67,7 +67,7 @@ fn push_block<R: Threads + Sync, F: Files, G: Gate>(
 {
     let count = PLAIN_BLOCK.min(settings.points - from);
     let end = record_length(settings) * count as usize;
-    fill(&mut buffer[..end], settings, from, count, generator);
+    put_records(&mut buffer[..end], settings, from, count, generator);
     writer.push(
         machine.rt,
         machine.alloc,

@@ -1,3 +1,4 @@
+//! What decides the bytes of a made file.
 ghost use Rattle.std.specs.Prelude.{◌≡◌};
 ghost use Rattle.las_make.specs.Made.{IsInRange, made_length};
 

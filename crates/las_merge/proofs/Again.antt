@@ -21,11 +21,11 @@ use Rattle.laz_reader.proofs.Public.{all_points}
 use Rattle.laz_file.proofs.Public.{part_stands, part_then, takes_none, takes_read, takes_then}
 use Rattle.las_merge.specs.declared.fault.MergeFault.{MergeFault}
 use Rattle.las_merge.specs.declared.fault.MergeFault.TheVariants.{At, Unequal, TooManyPoints, TooManyChunks, Write, Memory}
-use Rattle.las_merge.specs.Copying.{BeginsWith, HasRoom, IsFaultOf}
+use Rattle.las_merge.specs.Copying.{BeginsWith, HasRoomForInput, IsFaultOf}
 use Rattle.las_merge.specs.declared.field.Field.{Field}
 use Rattle.las_merge.specs.declared.field.Field.TheVariants.{Format, Length, Scales, Offsets, Bounds}
-use Rattle.las_merge.specs.Fields.{first_difference, first_in, is_same}
-use Rattle.las_merge.specs.Opening.{InputSeen, IsAgain, IsItsFile, IsOpen, fault_of}
+use Rattle.las_merge.specs.Fields.{first_difference, first_differing, is_same}
+use Rattle.las_merge.specs.Opening.{InputSeen, IsAgain, IsItsFile, IsOpen, merge_fault}
 use Rattle.las_merge.proofs.Opened.{no_difference}
 
 -- ---- faults
@@ -34,7 +34,7 @@ pub some_none : {X : Type 0} (x : X) → Some x ≡ None → ⊥
 some_none x e = absurd (cc)
 
 -- a fault of the call that copies an input
-pub fault_by : (old new : Outside) (number : ℕ) (f : Fault) → HasCause old new f → IsFaultOf old new number (fault_of number f)
+pub fault_by : (old new : Outside) (number : ℕ) (f : Fault) → HasCause old new f → IsFaultOf old new number (merge_fault number f)
 fault_by old new number (fault.Refused cause) h = absurd h
 fault_by old new number fault.Read h = (refl, h)
 fault_by old new number fault.Write h = h
@@ -98,7 +98,7 @@ module _ (held : Option FileMap) (input : InputSeen) (stands : WhereKnown held i
       (λ file is there. other (ap points_of (sym (same_head reader file is there)))) stands k
 
   -- how opening it again fails
-  pub fails_again : (old new : Outside) → old.held ≡ held → (number : ℕ) (f : Fault) → ((cause : Refusal) → f ≡ fault.Refused cause → WhereKnown held input.name (λ file. IsRefusal file (Some cause))) → EndsReading (IsMissing held input.name) old new f → IsFaultOf old new number (fault_of number f)
+  pub fails_again : (old new : Outside) → old.held ≡ held → (number : ℕ) (f : Fault) → ((cause : Refusal) → f ≡ fault.Refused cause → WhereKnown held input.name (λ file. IsRefusal file (Some cause))) → EndsReading (IsMissing held input.name) old new f → IsFaultOf old new number (merge_fault number f)
   fails_again old new same number (fault.Refused cause) refused ends = (refl, same ∙ not_refused cause (refused cause refl))
   fails_again old new same number fault.Read refused (inl missing) = absurd (not_missing missing)
   fails_again old new same number fault.Read refused (inr rose) = (refl, rose)
@@ -125,7 +125,7 @@ second_same false b x f g e = absurd (some_none g e)
 pub same_length : (head other : List ℕ) → first_difference head other ≡ None → record_length_of other ≡ record_length_of head
 same_length head other e =
     sym (eqb-true (record_length_of head) (record_length_of other)
-    (second_same (is_same Format head other) (is_same Length head other) (first_in (Scales ∷ Offsets ∷ Bounds ∷ []) head other) Length Format e))
+    (second_same (is_same Format head other) (is_same Length head other) (first_differing (Scales ∷ Offsets ∷ Bounds ∷ []) head other) Length Format e))
 
 pub again_by : (held : Option FileMap) (input : InputSeen) (reader : ReaderSeen) → IsNewReader input.name reader → AgreesWithHead reader → WhereKnown held input.name (StandsFor reader) → first_difference input.head.bytes reader.head.bytes ≡ None → points_of reader.head.bytes ≡ points_of input.head.bytes → IsAgain held input reader
 again_by held input reader fresh agrees stands same points = record {
@@ -137,7 +137,7 @@ again_by held input reader fresh agrees stands same points = record {
 
 -- ---- what is copied after that
 
-pub room_for : (held : Option FileMap) (input : InputSeen) (reader : ReaderSeen) (w : WriterSeen) → IsAgain held input reader → HasRoom input w → CanTake reader w
+pub room_for : (held : Option FileMap) (input : InputSeen) (reader : ReaderSeen) (w : WriterSeen) → IsAgain held input reader → HasRoomForInput input w → CanTake reader w
 room_for held input reader w again has = record {
   sound = has.sound;
   size = has.size ∙ sym again.size;

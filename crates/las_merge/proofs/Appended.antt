@@ -17,15 +17,15 @@ use Rattle.laz_forms.specs.declared.fault.Fault.TheVariants as fault
 use Rattle.laz_file.specs.Copying.{with_reads}
 use Rattle.las_merge.specs.declared.fault.MergeFault.{MergeFault}
 use Rattle.las_merge.specs.declared.fault.MergeFault.TheVariants.{At, Unequal, TooManyPoints, TooManyChunks, Write, Memory}
-use Rattle.las_merge.specs.Appending.{IsCopyFault, LeavesPrefix, SourceSeen, part_in, part_of}
+use Rattle.las_merge.specs.Appending.{IsCopyFault, LeavesPrefix, SourceSeen, source_bytes, part_of}
 
 -- bytes that were read are the part, if the files are known
 some_bytes : (o : Option (List ℕ)) (P : List ℕ → Type 0) → IsSomeAnd o P → P (unwrap_or o [])
 some_bytes None P h = absurd h
 some_bytes (Some file) P h = h
 
-pub read_part : (held : Option FileMap) (name buf : List ℕ) (at n : ℕ) (put : List ℕ → Option FileMap) → WhereKnown held name (λ file. buf ≡ take n (drop at file)) → (held ≡ None → (x y : List ℕ) → put x ≡ put y) → put buf ≡ put (part_in held name at n)
-read_part None name buf at n put known none = none refl buf (part_in None name at n)
+pub read_part : (held : Option FileMap) (name buf : List ℕ) (at n : ℕ) (put : List ℕ → Option FileMap) → WhereKnown held name (λ file. buf ≡ take n (drop at file)) → (held ≡ None → (x y : List ℕ) → put x ≡ put y) → put buf ≡ put (source_bytes held name at n)
+read_part None name buf at n put known none = none refl buf (source_bytes None name at n)
 read_part (Some files) name buf at n put known none = ap put (some_bytes (map.get files name) (λ file. buf ≡ take n (drop at file)) known)
 
 none_put : (before : Option FileMap) (name text : List ℕ) → with_file before name text ≡ None → (x y : List ℕ) → with_file before name x ≡ with_file before name y
@@ -33,21 +33,21 @@ none_put None name text e x y = refl
 none_put (Some files) name text e x y = absurd (cc)
 
 -- one part more
-pub part_more : (held : Option FileMap) (name : List ℕ) (place done size : ℕ) → part_in held name place done ++ part_in held name (place + done) size ≡ part_in held name place (done + size)
+pub part_more : (held : Option FileMap) (name : List ℕ) (place done size : ℕ) → source_bytes held name place done ++ source_bytes held name (place + done) size ≡ source_bytes held name place (done + size)
 part_more held name place done size =
     let rest = drop place (bytes_of held name) in
     ap (λ (t : List ℕ). take done rest ++ take size t) (sym (drop-drop done place (bytes_of held name))) ∙ sym (take-add done size rest)
 
 pub part_prefix : (held : Option FileMap) (name : List ℕ) (place done piece size k : ℕ) → done + piece ≤ size
-    → (n : ℕ) × (part_in held name place done ++ take k (part_in held name (place + done) piece) ≡ take n (part_in held name place size))
+    → (n : ℕ) × (source_bytes held name place done ++ take k (source_bytes held name (place + done) piece) ≡ take n (source_bytes held name place size))
 part_prefix held name place done piece size k within =
-    let one = part_in held name place done in
-    let two = part_in held name (place + done) piece in
-    let rest = part_in held name (place + done + piece) (size - done - piece) in
+    let one = source_bytes held name place done in
+    let two = source_bytes held name (place + done) piece in
+    let rest = source_bytes held name (place + done + piece) (size - done - piece) in
     let all : done + (piece + (size - done - piece)) ≡ size = omega (arith, within) in
-    let whole : one ++ (two ++ rest) ≡ part_in held name place size =
+    let whole : one ++ (two ++ rest) ≡ source_bytes held name place size =
     ap (λ (t : List ℕ). one ++ t) (part_more held name (place + done) piece (size - done - piece))
-    ∙ part_more held name place done (piece + (size - done - piece)) ∙ ap (λ (m : ℕ). part_in held name place m) all in
+    ∙ part_more held name place done (piece + (size - done - piece)) ∙ ap (λ (m : ℕ). source_bytes held name place m) all in
     (length one + min k (length two), prefix_of one two rest k ∙ ap (take (length one + min k (length two))) whole)
 
 -- ---- the outside
@@ -79,17 +79,17 @@ module _ (before old cur : Outside) (input output text buf : List ℕ) (place n 
   cur_is = read ∙ ap (λ (o : Outside). with_asked o n) was
 
   -- what was read is the part, as far as the files tell
-  as_part : (f : List ℕ → List ℕ) → with_file before.held output (f buf) ≡ with_file before.held output (f (part_in old.held input place n))
+  as_part : (f : List ℕ → List ℕ) → with_file before.held output (f buf) ≡ with_file before.held output (f (source_bytes old.held input place n))
   as_part f =
       read_part old.held input buf place n (λ x. with_file before.held output (f x)) known
       (λ none x y. none_put before.held output text (sym (ap (λ (o : Outside). o.held) was) ∙ none) (f x) (f y))
 
-  pub piece_copied : (now : Outside) → now ≡ with_bytes cur output (bytes_of cur.held output ++ buf) → now ≡ with_bytes (with_reads before now) output (text ++ part_in old.held input place n)
+  pub piece_copied : (now : Outside) → now ≡ with_bytes cur output (bytes_of cur.held output ++ buf) → now ≡ with_bytes (with_reads before now) output (text ++ source_bytes old.held input place n)
   piece_copied now is =
       let put = changed_after (with_asked before n) output text (λ b. b ++ buf) cur now cur_is is in
-      text_now before now output (text ++ buf) (text ++ part_in old.held input place n) (reads_now before (with_asked before n) now output (text ++ buf) put refl refl) (as_part (λ x. text ++ x))
+      text_now before now output (text ++ buf) (text ++ source_bytes old.held input place n) (reads_now before (with_asked before n) now output (text ++ buf) put refl refl) (as_part (λ x. text ++ x))
 
-  pub piece_left : (now : Outside) (k : ℕ) → now ≡ with_write_fault (with_bytes cur output (bytes_of cur.held output ++ take k buf)) → now.held ≡ with_file before.held output (text ++ take k (part_in old.held input place n))
+  pub piece_left : (now : Outside) (k : ℕ) → now ≡ with_write_fault (with_bytes cur output (bytes_of cur.held output ++ take k buf)) → now.held ≡ with_file before.held output (text ++ take k (source_bytes old.held input place n))
   piece_left now k is =
       after before.held output text (λ b. b ++ take k buf) cur.held now.held (ap (λ (o : Outside). o.held) cur_is) (ap (λ (o : Outside). o.held) is)
       ∙ as_part (λ x. text ++ take k x)
@@ -110,7 +110,7 @@ pub still_known : (before old cur : Option FileMap) (name other xs ys : List ℕ
 still_known before old cur name other xs ys P ne was is known =
     subst (λ (h : Option FileMap). WhereKnown h other P) (sym is) (other_same before name other xs ys P ne (subst (λ (h : Option FileMap). WhereKnown h other P) was known))
 
-pub still_part : (before old cur : Option FileMap) (name other xs ys : List ℕ) (place size : ℕ) → other ≢ name → old ≡ with_file before name xs → cur ≡ with_file before name ys → part_in cur other place size ≡ part_in old other place size
+pub still_part : (before old cur : Option FileMap) (name other xs ys : List ℕ) (place size : ℕ) → other ≢ name → old ≡ with_file before name xs → cur ≡ with_file before name ys → source_bytes cur other place size ≡ source_bytes old other place size
 still_part before old cur name other xs ys place size ne was is =
     ap (λ (b : List ℕ). take size (drop place b))
     (ap (λ (h : Option FileMap). bytes_of h other) is ∙ other_bytes before name other ys xs ne ∙ ap (λ (h : Option FileMap). bytes_of h other) (sym was))

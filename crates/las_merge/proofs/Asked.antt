@@ -8,10 +8,9 @@ use Rattle.las_outside.specs.Outside.{Outside}
 use Rattle.las_outside.proofs.Public.{get-with_value, same_other}
 use Rattle.laz_reader.specs.Asking.{AsksAtMost, asked_to_open, bytes_left}
 use Rattle.laz_reader.specs.Reading.{ReaderSeen, ReadsAll, StandsFor}
-use Rattle.laz_forms.specs.Sizes.{points_size}
 use Rattle.laz_forms.proofs.Public.{known_both}
-use Rattle.laz_reader.proofs.Public.{left_size}
-use Rattle.las_merge.specs.Asking.{asked_of_all}
+use Rattle.laz_reader.proofs.Public.{left_asked}
+use Rattle.las_merge.specs.Asking.{IsAskedToRead, asked_of_all}
 use Rattle.las_merge.specs.Inputs.{IfKnown, item_at}
 use Rattle.laz_models.proofs.Public.{sum-cons}
 
@@ -57,11 +56,11 @@ pub asked_there : (held : Option FileMap) (name : List ℕ) (asked : Option (Lis
 asked_there held name asked old new most known is = of_some asked old new (finmap.get known name) (subst (λ (h : Option FileMap). WhereKnown h name (λ file. AsksAtMost (asked (Some file)) old new)) is most)
 
 -- an input that was opened again, and read
-pub asked_again : (held : Option FileMap) (name : List ℕ) (reader : ReaderSeen) (old mid new : Outside) → ReadsAll reader → WhereKnown held name (StandsFor reader) → WhereKnown held name (λ file. AsksAtMost (asked_to_open file) old mid) → AsksAtMost (bytes_left reader) mid new
-    → WhereKnown held name (λ file. AsksAtMost (asked_to_open file + points_size file) old new)
-asked_again held name reader old mid new all stands opened rest =
-    known_both held name (StandsFor reader) (λ file. AsksAtMost (asked_to_open file) old mid) (λ file. AsksAtMost (asked_to_open file + points_size file) old new)
-    (λ file s most. omega (arith, most, rest, left_size reader file all s)) stands opened
+pub asked_again : (held : Option FileMap) (name : List ℕ) (reader : ReaderSeen) (old mid new : Outside) (asked : Option (List ℕ) → ℕ) → IsAskedToRead asked → ReadsAll reader → WhereKnown held name (StandsFor reader) → WhereKnown held name (λ file. AsksAtMost (asked_to_open file) old mid) → AsksAtMost (bytes_left reader) mid new
+    → WhereKnown held name (λ file. AsksAtMost (asked (Some file)) old new)
+asked_again held name reader old mid new asked bound all stands opened rest =
+    known_both held name (StandsFor reader) (λ file. AsksAtMost (asked_to_open file) old mid) (λ file. AsksAtMost (asked (Some file)) old new)
+    (λ file s most. omega (arith, most, rest, left_asked reader file all s, bound.to_read file s.pieces s.are)) stands opened
 
 -- ---- inputs beside the output
 

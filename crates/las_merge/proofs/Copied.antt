@@ -14,9 +14,9 @@ use Rattle.laz_forms.specs.Outputs.{Output}
 use Rattle.laz_writer.specs.Writing.{Stands, WriterSeen}
 use Rattle.laz_forms.proofs.Public.{concat-append}
 use Rattle.laz_file.proofs.Public.{known_taken, part_then, takes_none, takes_then}
-use Rattle.las_merge.specs.Copying.{AreCopied, CopiesAll, CopiesInto, CopiesTo, HasRoom, OnlyRecords}
+use Rattle.las_merge.specs.Copying.{AreCopied, CopiesAll, CopiesInto, CopiesTo, HasRoomForInput, OnlyRecords}
 use Rattle.las_merge.specs.Inputs.{item_at}
-use Rattle.las_merge.specs.Opening.{InputSeen, IsItsFile, IsOpen, names_read, points_read}
+use Rattle.las_merge.specs.Opening.{InputSeen, IsItsFile, IsOpen, input_names, points_read}
 
 -- The records of the first readers were copied, and these readers are left.
 pub record HasCopied (old now : Outside) (readers rest : List InputSeen) (number : ℕ) (w v : WriterSeen) : Type 0 where
@@ -25,7 +25,7 @@ pub record HasCopied (old now : Outside) (readers rest : List InputSeen) (number
   pub split : readers ≡ done ++ rest
   pub count : length done ≡ number
   pub few : length parts ≡ number
-  pub copied : AreCopied old.held (names_read done) parts
+  pub copied : AreCopied old.held (input_names done) parts
   pub takes : Takes old now w v (concat parts)
 
 pub has_none : (old : Outside) (readers : List InputSeen) (w : WriterSeen) → HasCopied old old readers readers 0 w w
@@ -44,34 +44,34 @@ copied_longer held names more [] all = tt
 copied_longer held [] more (p ∷ ps) all = absurd all
 copied_longer held (n ∷ ns) more (p ∷ ps) all = (all.0, copied_longer held ns more ps all.1)
 
-names-append : (xs ys : List InputSeen) → names_read (xs ++ ys) ≡ names_read xs ++ names_read ys
+names-append : (xs ys : List InputSeen) → input_names (xs ++ ys) ≡ input_names xs ++ input_names ys
 names-append [] ys = refl
 names-append (x ∷ xs) ys = ap (λ (ns : List (List ℕ)). x.name ∷ ns) (names-append xs ys)
 
-names-length : (xs : List InputSeen) → length (names_read xs) ≡ length xs
+names-length : (xs : List InputSeen) → length (input_names xs) ≡ length xs
 names-length [] = refl
 names-length (x ∷ xs) = omega (arith, names-length xs)
 
 module _ (old now : Outside) (readers rest : List InputSeen) (reader : InputSeen) (number : ℕ) (w v : WriterSeen) (has : HasCopied old now readers (reader ∷ rest) number w v) where
-  names_are : names_read readers ≡ names_read has.done ++ (reader.name ∷ names_read rest)
-  names_are = ap names_read has.split ∙ names-append has.done (reader ∷ rest)
+  names_are : input_names readers ≡ input_names has.done ++ (reader.name ∷ input_names rest)
+  names_are = ap input_names has.split ∙ names-append has.done (reader ∷ rest)
 
-  names_count : length (names_read has.done) ≡ number
+  names_count : length (input_names has.done) ≡ number
   names_count = names-length has.done ∙ has.count
 
   -- some records of the next input
-  pub into_next : (P : (name part : List ℕ) → Type 0) (part : List ℕ) → P reader.name part → CopiesInto old.held (names_read readers) number (concat has.parts ++ part) P
+  pub into_next : (P : (name part : List ℕ) → Type 0) (part : List ℕ) → P reader.name part → CopiesInto old.held (input_names readers) number (concat has.parts ++ part) P
   into_next P part here =
-      let at : item_at (names_read readers) number ≡ reader.name =
+      let at : item_at (input_names readers) number ≡ reader.name =
       ap (λ (ns : List (List ℕ)). item_at ns number) names_are
-      ∙ ap (λ (k : ℕ). item_at (names_read has.done ++ (reader.name ∷ names_read rest)) k) (sym names_count)
-      ∙ get_or-append_seam (names_read has.done) reader.name (names_read rest) [] in
+      ∙ ap (λ (k : ℕ). item_at (input_names has.done ++ (reader.name ∷ input_names rest)) k) (sym names_count)
+      ∙ get_or-append_seam (input_names has.done) reader.name (input_names rest) [] in
       record {
         parts = has.parts;
         part = part;
-        copied = subst (λ (ns : List (List ℕ)). AreCopied old.held ns has.parts) (sym names_are) (copied_longer old.held (names_read has.done) (reader.name ∷ names_read rest) has.parts has.copied);
+        copied = subst (λ (ns : List (List ℕ)). AreCopied old.held ns has.parts) (sym names_are) (copied_longer old.held (input_names has.done) (reader.name ∷ input_names rest) has.parts has.copied);
         number_is = has.few;
-        within = omega (arith, ap (λ (ns : List (List ℕ)). length ns) names_are, length-append (names_read has.done) (reader.name ∷ names_read rest), names_count);
+        within = omega (arith, ap (λ (ns : List (List ℕ)). length ns) names_are, length-append (input_names has.done) (reader.name ∷ input_names rest), names_count);
         here = subst (λ (n : List ℕ). P n part) (sym at) here;
         records_are = refl;
       }
@@ -85,7 +85,7 @@ module _ (old now : Outside) (readers rest : List InputSeen) (reader : InputSeen
     count = omega (arith, length-append has.done (reader ∷ []), has.count);
     few = omega (arith, length-append has.parts (part ∷ []), has.few);
     copied = subst (λ (ns : List (List ℕ)). AreCopied old.held ns (has.parts ++ part ∷ [])) (sym (names-append has.done (reader ∷ [])))
-        (copied_more old.held (names_read has.done) has.parts reader.name part (has.few ∙ sym names_count) has.copied here);
+        (copied_more old.held (input_names has.done) has.parts reader.name part (has.few ∙ sym names_count) has.copied here);
     takes = subst (λ (t : List ℕ). Takes old later w u t) (sym (concat-append has.parts (part ∷ []) ∙ ap (λ (t : List ℕ). concat has.parts ++ t) (append-nil part)))
         (takes_then old now later w v u (concat has.parts) part has.takes takes);
   }
@@ -97,12 +97,12 @@ module _ (old now : Outside) (readers rest : List InputSeen) (reader : InputSeen
   leaves_next later part left = part_then old now later w v (concat has.parts) part has.takes left
 
 -- all inputs were copied
-pub copies_all : (old now : Outside) (readers : List InputSeen) (number : ℕ) (w v : WriterSeen) (has : HasCopied old now readers [] number w v) → CopiesAll old.held (names_read readers) (concat has.parts)
+pub copies_all : (old now : Outside) (readers : List InputSeen) (number : ℕ) (w v : WriterSeen) (has : HasCopied old now readers [] number w v) → CopiesAll old.held (input_names readers) (concat has.parts)
 copies_all old now readers number w v has =
     let same : readers ≡ has.done = has.split ∙ append-nil has.done in
     record {
       parts = has.parts;
-      copied = subst (λ (rs : List InputSeen). AreCopied old.held (names_read rs) has.parts) (sym same) has.copied;
+      copied = subst (λ (rs : List InputSeen). AreCopied old.held (input_names rs) has.parts) (sym same) has.copied;
       all = omega (arith, has.few, has.count, names-length readers, ap (λ (rs : List InputSeen). length rs) same);
       records_are = refl;
     }
@@ -143,7 +143,7 @@ module _ (old now : Outside) (readers rest : List InputSeen) (reader : InputSeen
   next_size : All (λ r. record_length_of r.head.bytes ≡ w.size) readers → v.size ≡ record_length_of reader.head.bytes
   next_size all = same_size ∙ sym (all_here (λ r. record_length_of r.head.bytes ≡ w.size) readers has.done rest reader has.split all)
 
-  pub next_room : All (λ r. record_length_of r.head.bytes ≡ w.size) readers → v.failed ≡ false → v.taken + v.size * points_read (reader ∷ rest) ≤ v.size * v.most → HasRoom reader v
+  pub next_room : All (λ r. record_length_of r.head.bytes ≡ w.size) readers → v.failed ≡ false → v.taken + v.size * points_read (reader ∷ rest) ≤ v.size * v.most → HasRoomForInput reader v
   next_room sizes sound room =
       let size = next_size sizes in
       let here = ap (λ (n : ℕ). v.size * n) (points-cons reader rest) in

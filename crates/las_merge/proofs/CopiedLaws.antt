@@ -12,13 +12,13 @@ use Rattle.laz_forms.specs.Outputs.{finished, records_after}
 use Rattle.laz_forms.specs.Records.{Unpacks}
 use Rattle.laz_forms.specs.Refusing.{IsAcceptedFile}
 use Rattle.laz_forms.proofs.Public.{counted_file_is, concat-append}
-use Rattle.laz_copied.specs.Copied.{Chunk, all_of, copied_file, first_head, points_in}
+use Rattle.laz_copied.specs.Copied.{Chunk, all_of, copied_file, first_head, points_of_files}
 use Rattle.laz_copied.specs.Laws.{AreRight, CanBeCopied, CanCopy, HaveBlocks}
 use Rattle.laz_copied.proofs.Public.{accepted, records, merged, plain_head_is, records_whole}
 use Rattle.las_merge.specs.declared.field.Field.{Field}
 use Rattle.las_merge.specs.declared.field.Field.TheVariants.{Format, Length, Scales, Offsets, Bounds}
 use Rattle.las_merge.specs.CopiedLaws.{AreAcceptedAsOne, AreCopied, HasRightHead, HaveMergedRecords, UnpackToMerged}
-use Rattle.las_merge.specs.Fields.{first_difference, first_in, is_same}
+use Rattle.las_merge.specs.Fields.{first_difference, first_differing, is_same}
 use Rattle.las_merge.specs.Merging.{HaveRecords, merged_output}
 use Rattle.las_merge.specs.Packed.{IsPacked}
 use Rattle.las_merge.proofs.Again.{same_length, some_none}
@@ -31,7 +31,7 @@ first-true false x f e = absurd (some_none f e)
 same_format : (head other : List ℕ) → first_difference head other ≡ None → format_of other ≡ format_of head
 same_format head other e =
     sym (eqb-true (format_of head) (format_of other)
-    (first-true (is_same Format head other) (first_in (Length ∷ Scales ∷ Offsets ∷ Bounds ∷ []) head other) Format e))
+    (first-true (is_same Format head other) (first_differing (Length ∷ Scales ∷ Offsets ∷ Bounds ∷ []) head other) Format e))
 
 each_by : (first : List ℕ) (files : List (List ℕ)) → All IsAcceptedFile files → All IsPacked files → All IsBytes files → All (λ file. first_difference first (head_of file) ≡ None) files → AllByRecursion (CanBeCopied first) files
 each_by first [] accepted packed bytes alike = tt
@@ -97,6 +97,6 @@ unpack_to_merged known names files parts rs name c m right sets =
     let whole = concat (all_of b.blocks) in
     let same : rs ≡ whole = m.2 ∙ sym b.same in
     let is : finished out whole ≡ counted_file (plain_of (first_head files)) (records_after (plain_of (first_head files)) whole) =
-    counted_file_is out (points_in files) whole (plain_head_is files parts can) refl refl (records_whole files parts b.blocks can b.have) in
+    counted_file_is out (points_of_files files) whole (plain_head_is files parts can) refl refl (records_whole files parts b.blocks can b.have) in
     let unpacks = merged files parts b.blocks can b.have (right_by files b.blocks right b.have) sets in
     subst (λ (t : List ℕ). Unpacks (copied_file files (all_of parts)) t) (sym is ∙ ap (finished out) (sym same)) unpacks

@@ -1,5 +1,7 @@
 -- What keeps packed inputs from being copied is one cause, and else they are copied as one list of files and chunks.
 use Rattle.std.proofs.Common.{◌≡◌, inl, inr, ℕ, ◌<◌, Bool, true, false, List, [], ◌∷◌, length, map, Some, None, refl, sym, ◌∙◌, ap, subst, arith}
+use Rattle.std.proofs.lemmas.Option.{none-some}
+use Rattle.std.proofs.lemmas.Bool.{true≢false}
 use Rattle.las_header.specs.declared.refusal.Refusal.{Refusal}
 use Rattle.las_header.specs.Fields.{head_of, is_packed}
 use Rattle.las_outside.specs.Files.{FileMap}
@@ -7,8 +9,8 @@ use Rattle.laz_forms.specs.declared.fault.Fault.{Fault}
 use Rattle.laz_forms.specs.declared.fault.Fault.TheVariants as fault
 use Rattle.laz_forms.specs.Pieces.{Piece}
 use Rattle.laz_forms.specs.Refusing.{IsAcceptedFile}
-use Rattle.laz_forms.proofs.Public.{one_pieces, refused_once, some_same, none_some}
-use Rattle.laz_copied.specs.Copied.{AreChunks, Chunk, HaveChunks, all_of, chunk_at, points_in}
+use Rattle.laz_forms.proofs.Public.{one_pieces, refused_once, some_same}
+use Rattle.laz_copied.specs.Copied.{AreChunks, Chunk, HaveChunks, all_of, chunk_at, points_of_files}
 use Rattle.las_merge.specs.declared.fault.MergeFault.{MergeFault}
 use Rattle.las_merge.specs.declared.fault.MergeFault.TheVariants.{At, Unequal, TooManyPoints, TooManyChunks, Write, Memory}
 use Rattle.las_merge.specs.CopiedLaws.{AreCopiedOnce, IsKeptFromCopyingByOne, IsKeptOrCopied}
@@ -17,18 +19,15 @@ use Rattle.las_merge.specs.Packed.{AreFirstPacked, CanCopyFrom, IsKeptFromCopyin
 use Rattle.las_merge.proofs.Kept.{file_same, one_field, past_missing, past_unequal, same_files}
 use Rattle.las_merge.proofs.OneCause.{Excludes, Halts, by_one, not_both, number_of}
 
-both-ways : (b : Bool) → b ≡ true → b ≡ false → ⊥
-both-ways b e f = absurd (let g : true ≡ false = sym e ∙ f in cc)
-
 -- a file that can be among those that are copied is not refused
 not_refused_here : (file : List ℕ) (cause : Refusal) → IsRefusedToCopy file cause → IsAcceptedFile file → IsPacked file → ⊥
-not_refused_here file cause (inl plain) accepted packed = both-ways (is_packed (head_of file)) packed plain.2
-not_refused_here file cause (inr refused) accepted packed = none_some cause (refused_once file None (Some cause) accepted refused)
+not_refused_here file cause (inl plain) accepted packed = true≢false (sym packed ∙ plain.2)
+not_refused_here file cause (inr refused) accepted packed = none-some cause (refused_once file None (Some cause) accepted refused)
 
 one_refusal : (file : List ℕ) (cause worse : Refusal) → IsRefusedToCopy file cause → IsRefusedToCopy file worse → worse ≡ cause
 one_refusal file cause worse (inl k) (inl l) = l.0 ∙ sym k.0
-one_refusal file cause worse (inl k) (inr l) = absurd (none_some worse (refused_once file None (Some worse) k.1 l))
-one_refusal file cause worse (inr k) (inl l) = absurd (none_some cause (refused_once file None (Some cause) l.1 k))
+one_refusal file cause worse (inl k) (inr l) = absurd (none-some worse (refused_once file None (Some worse) k.1 l))
+one_refusal file cause worse (inr k) (inl l) = absurd (none-some cause (refused_once file None (Some cause) l.1 k))
 one_refusal file cause worse (inr k) (inr l) = some_same worse cause (refused_once file (Some worse) (Some cause) l k)
 
 -- chunks of files
@@ -111,13 +110,13 @@ module _ (known : FileMap) (names : List (List ℕ)) where
     both_unequal = λ number field worse k l.
         one_field known names number field worse k.0 l.0 k.1 l.1 k.2.first.first l.2.first.first k.2.number_is
         l.2.number_is k.3 k.4 l.4 k.7 l.7;
-    refused_missing = λ number cause k l. none_some k.1 (sym l.2 ∙ k.3);
+    refused_missing = λ number cause k l. none-some k.1 (sym l.2 ∙ k.3);
     refused_unequal = λ number cause field k l.
         let same = file_same known names number k.1 l.1 k.3 l.4 in
         not_refused_here k.1 cause k.4 (subst IsAcceptedFile same l.5) (subst IsPacked same l.6);
-    missing_unequal = λ number field k l. none_some l.1 (sym k.2 ∙ l.4);
+    missing_unequal = λ number field k l. none-some l.1 (sym k.2 ∙ l.4);
     points_chunks = λ k l.
-        absurd (omega (arith, ap points_in (all_same k.0 l.0 k.1 l.2 k.2 l.3), k.3, l.4));
+        absurd (omega (arith, ap points_of_files (all_same k.0 l.0 k.1 l.2 k.2 l.3), k.3, l.4));
     not_writing = λ number k. k;
     not_memory = λ number k. k;
     not_write = λ k. k;
@@ -127,7 +126,7 @@ module _ (known : FileMap) (names : List (List ℕ)) where
   module _ (files : List (List ℕ)) (parts : List (List Chunk)) (can : CanCopyFrom known names files parts) where
     too_many_points : IsKeptFromCopying known names TooManyPoints → ⊥
     too_many_points k =
-        absurd (omega (arith, ap points_in (all_same files k.0 can.first k.1 can.all k.2), can.few, k.3))
+        absurd (omega (arith, ap points_of_files (all_same files k.0 can.first k.1 can.all k.2), can.few, k.3))
 
     too_many_chunks : IsKeptFromCopying known names TooManyChunks → ⊥
     too_many_chunks k =

@@ -15,14 +15,14 @@ use Rattle.laz_forms.specs.declared.fault.Fault.{Fault}
 use Rattle.laz_forms.specs.declared.fault.Fault.TheVariants as fault
 use Rattle.laz_forms.specs.Packing.{packed_head}
 use Rattle.laz_forms.specs.Pieces.{Piece}
-use Rattle.laz_copied.specs.Copied.{Chunk, all_of, copied_file, points_in}
+use Rattle.laz_copied.specs.Copied.{Chunk, all_of, copied_file, points_of_files}
 use Rattle.las_merge.specs.declared.fault.MergeFault.{MergeFault}
 use Rattle.las_merge.specs.declared.fault.MergeFault.TheVariants.{At, Unequal, TooManyPoints, TooManyChunks, Write}
 use Rattle.las_merge.specs.declared.fault.MergeFault.TheVariants.{Memory}
-use Rattle.las_merge.specs.Appending.{IsCopyFault, LeavesPrefix, LiesIn, SourceSeen}
-use Rattle.las_merge.specs.Asking.{asked_of_all, asked_to_compare, asked_to_read}
-use Rattle.las_merge.specs.Listing.{IsListed, IsPackedInput, ListedInput, ListsChunks, all_pieces, source_of}
-use Rattle.las_merge.specs.Opening.{AreOpen, InputSeen, IsOpen, first_read, names_read, points_read}
+use Rattle.las_merge.specs.Appending.{IsCopyFault, LeavesPrefix, PartLiesIn, SourceSeen}
+use Rattle.las_merge.specs.Asking.{asked_of_all, asked_to_compare, asked_with_chunks}
+use Rattle.las_merge.specs.Listing.{IsListed, IsPackedInput, ListedInput, ListsChunks, all_pieces, chunks_source}
+use Rattle.las_merge.specs.Opening.{AreOpen, InputSeen, IsOpen, first_read, input_names, points_read}
 use Rattle.las_merge.specs.Packed.{AreFirstPacked, CanCopyFrom, IsKeptFromCopying, IsNoFault, IsPacked, asked_to_copy}
 use Rattle.las_merge.specs.Summing.{copied_text, summed_head}
 use Rattle.las_merge.proofs.AskedToCopy.{copied_bytes}
@@ -62,8 +62,8 @@ first_one : (held : Option FileMap) (inputs : List InputSeen) → 1 ≤ length i
 first_one held [] some packed opened = absurd (omega (arith, some))
 first_one held (i ∷ is) some packed opened = (opened 0 i (omega arith)).one (packed 0 i (omega arith))
 
-other_sources : (listed : List ListedInput) (name : List ℕ) → AreOther (names_read (map (λ l. l.input) listed)) name
-    → All (λ s. s.name ≢ name) (map source_of listed)
+other_sources : (listed : List ListedInput) (name : List ℕ) → AreOther (input_names (map (λ l. l.input) listed)) name
+    → All (λ s. s.name ≢ name) (map chunks_source listed)
 other_sources [] name other k d lt = absurd (omega (arith, lt))
 other_sources (l ∷ ls) name other zero d lt = other 0 [] (omega arith)
 other_sources (l ∷ ls) name other (suc k) d lt = other_sources ls name
@@ -86,11 +86,11 @@ module _ (held : Option FileMap) (names : List (List ℕ)) (inputs : List InputS
   sources_other name other =
       subst (λ (ss : List SourceSeen). All (λ s. s.name ≢ name) ss) (sym lists.sources_are)
       (other_sources lists.listed name (subst (λ (ns : List (List ℕ)). AreOther ns name)
-      (sym (ap names_read (sym lists.inputs_are) ∙ names_are held names inputs opened all)) other))
+      (sym (ap input_names (sym lists.inputs_are) ∙ names_are held names inputs opened all)) other))
 
-  pub sources_lie : All (LiesIn held) sources
+  pub sources_lie : All (PartLiesIn held) sources
   sources_lie =
-      subst (λ (ss : List SourceSeen). All (LiesIn held) ss) (sym lists.sources_are)
+      subst (λ (ss : List SourceSeen). All (PartLiesIn held) ss) (sym lists.sources_are)
       (lie_all held lists.listed (subst (λ (is : List InputSeen). All (IsOpen held) is) lists.inputs_are opened.opened)
       lists.each)
 
@@ -99,7 +99,7 @@ module _ (held : Option FileMap) (names : List (List ℕ)) (inputs : List InputS
       ∙ sym (ap (λ (is : List InputSeen). length is) lists.inputs_are) ∙ all
 
   pub sources_long : length sources ≡ length names
-  sources_long = ap (λ (ss : List SourceSeen). length ss) lists.sources_are ∙ length-map lists.listed source_of ∙ long
+  sources_long = ap (λ (ss : List SourceSeen). length ss) lists.sources_are ∙ length-map lists.listed chunks_source ∙ long
 
   -- ---- their files, if these are known
   module _ (known : FileMap) (is : held ≡ Some known) where
@@ -131,10 +131,10 @@ module _ (held : Option FileMap) (names : List (List ℕ)) (inputs : List InputS
     pub all_files : length files ≡ length names
     all_files =
         let list = map (λ (l : ListedInput). l.input) lists.listed in
-        file_length known (names_read list) ∙ name_length known list
+        file_length known (input_names list) ∙ name_length known list
         ∙ length-map lists.listed (λ (l : ListedInput). l.input) ∙ long
 
-    points_same : points_in files ≡ points_read inputs
+    points_same : points_of_files files ≡ points_read inputs
     points_same = read_points known (map (λ l. l.input) lists.listed) here.opened
         ∙ sym (ap points_read lists.inputs_are)
 
@@ -163,7 +163,7 @@ module _ (held : Option FileMap) (names : List (List ℕ)) (inputs : List InputS
         arith,
         lists.few,
         length_all known lists.listed,
-        ap length (lists.counts_are e),
+        ap length (lists.points_are e),
         length-map
             (all_pieces lists.listed) (λ (p : Piece). p.count),
       );
@@ -174,16 +174,16 @@ module _ (held : Option FileMap) (names : List (List ℕ)) (inputs : List InputS
         let size : SourceSeen → ℕ = λ s. s.size in
         omega (arith, lists.once, ap (sum_by size) lists.sources_are, asked_all known lists.listed read)
 
-    pub asked_whole : sum_by (λ s. s.size) sources + asked_of_all asked_to_compare known names ≤ asked_of_all asked_to_read known names
+    pub asked_whole : sum_by (λ s. s.size) sources + asked_of_all asked_to_compare known names ≤ asked_of_all asked_with_chunks known names
     asked_whole =
         let size : SourceSeen → ℕ = λ s. s.size in
-        let same : names_read (map (λ l. l.input) lists.listed) ≡ names = ap names_read (sym lists.inputs_are) ∙ names_are held names inputs opened all in
+        let same : input_names (map (λ l. l.input) lists.listed) ≡ names = ap input_names (sym lists.inputs_are) ∙ names_are held names inputs opened all in
         omega (
           arith,
           copied_bytes known lists.listed here.opened read,
           ap (sum_by size) lists.sources_are,
           ap (asked_of_all asked_to_compare known) same,
-          ap (asked_of_all asked_to_read known) same,
+          ap (asked_of_all asked_with_chunks known) same,
         )
 
     pub text_is : (head table : List ℕ) (place : ℕ) → many ≡ false → head ≡ packed_head (summed_head inputs) 4294967295
@@ -196,7 +196,7 @@ module _ (held : Option FileMap) (names : List (List ℕ)) (inputs : List InputS
         sizes = place_is ∙ ap (λ (h : List ℕ). length h + 8 + sum sizes) same in
         (λ i. copied_text (is i) (same i) place (lists.sources_are i) (table_is i))
         ∙ text_by known lists.listed place counts sizes read here.opened (omega (arith, long, some))
-        (lists.counts_are e) (lists.sizes_are e) there
+        (lists.points_are e) (lists.bytes_are e) there
 
 -- ---- the first of inputs that can be copied
 pub before_copied : (known : FileMap) (names files : List (List ℕ)) (parts : List (List Chunk)) (number : ℕ)

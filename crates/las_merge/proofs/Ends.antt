@@ -18,9 +18,9 @@ use Rattle.las_merge.specs.declared.fault.MergeFault.TheVariants.{At, Unequal, T
 use Rattle.las_merge.specs.Copying.{AreCopied, BeginsWith, CopiesAll, CopiesInto, CopiesTo, LeavesMid, OnlyRecords}
 use Rattle.las_merge.specs.Fields.{first_difference}
 use Rattle.laz_copied.specs.Copied.{first_head}
-use Rattle.las_merge.specs.Inputs.{AreFirst, CanMerge, IsKeptBy, Reaches, item_at}
+use Rattle.las_merge.specs.Inputs.{AreFirstInputs, CanMerge, IsKeptBy, Reaches, item_at}
 use Rattle.las_merge.specs.Merging.{LeavesMerged, OnlyMerges}
-use Rattle.las_merge.specs.Opening.{AreOpen, InputSeen, IsItsFile, IsOpen, OpensTo, first_read, names_read, points_read}
+use Rattle.las_merge.specs.Opening.{AreOpen, InputSeen, IsItsFile, IsOpen, OpensTo, first_read, input_names, points_read}
 use Rattle.las_merge.proofs.Known.{file_at, file_length, file_of, files_of, first_by, held_at, name_length, only_by, read_first, read_head, read_points}
 use Rattle.las_merge.proofs.Merges.{merges_begin, only_all, only_bad}
 
@@ -28,10 +28,10 @@ use Rattle.las_merge.proofs.Merges.{merges_begin, only_all, only_bad}
 
 module _ (known : FileMap) (names : List (List ℕ)) where
   abbrev read_files : List InputSeen → List (List ℕ)
-  read_files readers = files_of known (names_read readers)
+  read_files readers = files_of known (input_names readers)
 
   count_files : (readers : List InputSeen) → length (read_files readers) ≡ length readers
-  count_files readers = file_length known (names_read readers) ∙ name_length known readers
+  count_files readers = file_length known (input_names readers) ∙ name_length known readers
 
   reaches_by : (number : ℕ) (readers : List InputSeen) → OpensTo (Some known) names number readers → Reaches known names number (read_files readers)
   reaches_by number readers o = record { first = first_by known names readers o.opened; number_is = count_files readers ∙ o.number_is; within = o.within }
@@ -76,15 +76,15 @@ module _ (held : Option FileMap) (known : FileMap) (is : held ≡ Some known) (n
   pub many_by : (readers : List InputSeen) → AreOpen held names readers → length readers ≡ length names → 2 ^ 32 ≤ points_read readers → IsKeptBy known names TooManyPoints
   many_by readers o all many = many_at known names readers (subst (λ (h : Option FileMap). AreOpen h names readers) is o) all many
 
-  pub can_by : (readers : List InputSeen) → AreOpen held names readers → length readers ≡ length names → points_read readers < 2 ^ 32 → CanMerge known names (files_of known (names_read readers))
+  pub can_by : (readers : List InputSeen) → AreOpen held names readers → length readers ≡ length names → points_read readers < 2 ^ 32 → CanMerge known names (files_of known (input_names readers))
   can_by readers o all few = can_at known names readers (subst (λ (h : Option FileMap). AreOpen h names readers) is o) all few
 
-  pub before_by : (number : ℕ) (readers : List InputSeen) → OpensTo held names number readers → (before : List (List ℕ)) × AreFirst known names before × (length before ≡ number)
+  pub before_by : (number : ℕ) (readers : List InputSeen) → OpensTo held names number readers → (before : List (List ℕ)) × AreFirstInputs known names before × (length before ≡ number)
   before_by number readers o =
       let here = subst (λ (h : Option FileMap). OpensTo h names number readers) is o in
-      (files_of known (names_read readers), first_by known names readers here.opened, count_files known names readers ∙ o.number_is)
+      (files_of known (input_names readers), first_by known names readers here.opened, count_files known names readers ∙ o.number_is)
 
-  pub first_head_by : (readers : List InputSeen) → AreOpen held names readers → 1 ≤ length readers → first_read readers ≡ first_head (files_of known (names_read readers))
+  pub first_head_by : (readers : List InputSeen) → AreOpen held names readers → 1 ≤ length readers → first_read readers ≡ first_head (files_of known (input_names readers))
   first_head_by readers o some = read_first known readers (subst (λ (h : Option FileMap). AreOpen h names readers) is o).opened some
 
 -- the first of inputs that can be merged
@@ -93,7 +93,7 @@ take_length zero xs few = refl
 take_length (suc n) [] few = absurd (omega (arith, few))
 take_length (suc n) (x ∷ xs) few = omega (arith, take_length n xs (omega (arith, few)))
 
-pub first_take : (known : FileMap) (names : List (List ℕ)) (n : ℕ) (files : List (List ℕ)) → n ≤ length files → AreFirst known names files → AreFirst known names (take n files)
+pub first_take : (known : FileMap) (names : List (List ℕ)) (n : ℕ) (files : List (List ℕ)) → n ≤ length files → AreFirstInputs known names files → AreFirstInputs known names (take n files)
 first_take known names zero files few f = record { within = omega arith; held = λ k lt. absurd (omega (arith, lt)); accepted = λ k d lt. absurd (omega (arith, lt)); alike = λ k d lt. absurd (omega (arith, lt)) }
 first_take known names (suc n) [] few f = absurd (omega (arith, few))
 first_take known names (suc n) (x ∷ xs) few f =
@@ -105,7 +105,7 @@ first_take known names (suc n) (x ∷ xs) few f =
       alike = All-take (λ (file : List ℕ). first_difference (first_head (x ∷ xs)) (head_of file) ≡ None) (suc n) (x ∷ xs) f.alike;
     }
 
-pub first_before : (known : FileMap) (names files : List (List ℕ)) (number : ℕ) → CanMerge known names files → number < length names → (before : List (List ℕ)) × AreFirst known names before × (length before ≡ number)
+pub first_before : (known : FileMap) (names files : List (List ℕ)) (number : ℕ) → CanMerge known names files → number < length names → (before : List (List ℕ)) × AreFirstInputs known names before × (length before ≡ number)
 first_before known names files number can within =
     (take number files, first_take known names number files (omega (arith, within, can.all)) can.first, take_length number files (omega (arith, within, can.all)))
 

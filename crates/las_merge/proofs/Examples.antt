@@ -3,11 +3,12 @@ use Rattle.std.proofs.Common.{◌≡◌, ℕ, List, Some, None, refl}
 use Rattle.std.specs.Prelude.{replicate, slice_set}
 use Rattle.las_header.specs.Numbers.{number_at}
 use Rattle.laz_forms.specs.declared.fault.Fault.TheVariants as fault
+use Rattle.las_header.specs.declared.limits.TheConstants.{BOUNDS_AT, OFFSETS_AT, SCALES_AT}
 use Rattle.las_merge.specs.declared.appending.TheConstants.{PIECE}
 use Rattle.las_merge.specs.declared.field.Field.TheVariants.{Format, Length, Scales, Offsets, Bounds}
 use Rattle.las_merge.specs.declared.fault.MergeFault.TheVariants.{At, Write}
 use Rattle.las_merge.specs.Fields.{first_difference}
-use Rattle.las_merge.specs.Opening.{fault_of}
+use Rattle.las_merge.specs.Opening.{merge_fault}
 
 -- a head of nothing but zeros, and one with another byte at a place
 abbrev zeros : List ℕ
@@ -15,6 +16,10 @@ zeros = replicate 227 0
 
 abbrev with_byte : (place byte : ℕ) → List ℕ
 with_byte place byte = slice_set zeros place byte
+
+-- the places of the fields that are compared
+places_are : (SCALES_AT ≡ 131) × (OFFSETS_AT ≡ 155) × (BOUNDS_AT ≡ 179)
+places_are = (refl, refl, refl)
 
 -- bit 7 of the format byte is not compared, and every other one is
 packed_or_plain : first_difference zeros (with_byte 104 128) ≡ None
@@ -63,10 +68,10 @@ unfolding number_at
 scales_before_bounds = refl
 
 -- a write that failed is no input's
-write_fault : fault_of 3 fault.Write ≡ Write
+write_fault : merge_fault 3 fault.Write ≡ Write
 write_fault = refl
 
-read_fault : fault_of 3 fault.Read ≡ At 3 fault.Read
+read_fault : merge_fault 3 fault.Read ≡ At 3 fault.Read
 read_fault = refl
 
 -- chunks are copied in pieces of 2^20 bytes

@@ -12,7 +12,7 @@ use Rattle.las_header.specs.Fields.{head_of, is_packed}
 use Rattle.las_outside.specs.Files.{FileMap}
 use Rattle.laz_range.specs.Span.{IsBytes}
 use Rattle.laz_table.specs.declared.limits.TheConstants.{MAX_CHUNKS}
-use Rattle.laz_copied.specs.Copied.{Chunk, HaveChunks, all_of, chunk_at, first_head, points_in}
+use Rattle.laz_copied.specs.Copied.{Chunk, HaveChunks, all_of, chunk_at, first_head, points_of_files}
 use Rattle.laz_forms.specs.declared.fault.Fault.TheVariants as fault
 use Rattle.laz_forms.specs.Existing.{HasAnAnswer, HasPieces, HasSomeRecords}
 use Rattle.laz_forms.specs.Records.{AreRecordsOf}
@@ -22,7 +22,7 @@ use Rattle.las_merge.specs.declared.fault.MergeFault.{MergeFault}
 use Rattle.las_merge.specs.declared.fault.MergeFault.TheVariants.{At, Unequal, TooManyPoints, TooManyChunks}
 use Rattle.las_merge.specs.Existing.{AreKeptOrCopied, AreKeptOrMerged, HoldBytes, MergesToSomething}
 use Rattle.las_merge.specs.Fields.{first_difference}
-use Rattle.las_merge.specs.Inputs.{AreFirst, CanMerge, IsKeptBy, Reaches, item_at}
+use Rattle.las_merge.specs.Inputs.{AreFirstInputs, CanMerge, IsKeptBy, Reaches, item_at}
 use Rattle.las_merge.specs.Merging.{BadPlace, HasRecords, MergesTo}
 use Rattle.las_merge.specs.Packed.{AreFirstPacked, CanCopyFrom, IsKeptFromCopying, IsPacked, ReachesPacked}
 use Rattle.las_merge.proofs.Opened.{no_difference}
@@ -37,7 +37,7 @@ alike_more [] file all here = All-push (LikeFirst (file ∷ [])) [] file (All-ni
 alike_more (x ∷ xs) file all here = All-push (LikeFirst (x ∷ xs)) (x ∷ xs) file all (here (omega arith))
 
 module _ (known : FileMap) (names : List (List ℕ)) where
-  one_more : (files : List (List ℕ)) (file : List ℕ) → AreFirst known names files → length files < length names → finmap.get known (item_at names (length files)) ≡ Some file → IsAcceptedFile file → (1 ≤ length files → LikeFirst files file) → AreFirst known names (files ++ file ∷ [])
+  one_more : (files : List (List ℕ)) (file : List ℕ) → AreFirstInputs known names files → length files < length names → finmap.get known (item_at names (length files)) ≡ Some file → IsAcceptedFile file → (1 ≤ length files → LikeFirst files file) → AreFirstInputs known names (files ++ file ∷ [])
   one_more files file f within held accepted alike =
       let long : length (files ++ file ∷ []) ≡ length files + 1 = omega (arith, length-append files (file ∷ [])) in
       record {
@@ -52,17 +52,17 @@ module _ (known : FileMap) (names : List (List ℕ)) where
         alike = alike_more files file f.alike alike;
       }
 
-  no_files : AreFirst known names []
+  no_files : AreFirstInputs known names []
   no_files = record { within = omega arith; held = λ k lt. absurd (omega (arith, lt)); accepted = All-nil IsAcceptedFile; alike = All-nil (LikeFirst []) }
 
   -- ---- inputs that are to be merged
 
   abbrev Kept : Type 0
-  Kept = ((cause : MergeFault) × IsKeptBy known names cause) ⊎ ((files : List (List ℕ)) × AreFirst known names files × (length files ≡ length names))
+  Kept = ((cause : MergeFault) × IsKeptBy known names cause) ⊎ ((files : List (List ℕ)) × AreFirstInputs known names files × (length files ≡ length names))
 
   -- after these files comes one input more, and then others
-  module _ (answers : HasAnAnswer) (n : ℕ) (rest : (files : List (List ℕ)) → length files + n ≡ length names → AreFirst known names files → Kept)
-      (files : List (List ℕ)) (end : length files + suc n ≡ length names) (f : AreFirst known names files) where
+  module _ (answers : HasAnAnswer) (n : ℕ) (rest : (files : List (List ℕ)) → length files + n ≡ length names → AreFirstInputs known names files → Kept)
+      (files : List (List ℕ)) (end : length files + suc n ≡ length names) (f : AreFirstInputs known names files) where
     reaches : Reaches known names (length files) files
     reaches = record { first = f; number_is = refl; within = omega (arith, end) }
 
@@ -87,13 +87,13 @@ module _ (known : FileMap) (names : List (List ℕ)) where
     one_input : Kept
     one_input = looked_up (finmap.get known (item_at names (length files))) refl
 
-  kept_or_all : HasAnAnswer → (n : ℕ) (files : List (List ℕ)) → length files + n ≡ length names → AreFirst known names files → Kept
+  kept_or_all : HasAnAnswer → (n : ℕ) (files : List (List ℕ)) → length files + n ≡ length names → AreFirstInputs known names files → Kept
   kept_or_all answers zero files end f = inr (files, f, omega (arith, end))
   kept_or_all answers (suc n) files end f = one_input answers n (kept_or_all answers n) files end f
 
   merged_or : Kept → ((cause : MergeFault) × IsKeptBy known names cause) ⊎ ((files : List (List ℕ)) × CanMerge known names files)
   merged_or (inl kept) = inl kept
-  merged_or (inr all) = elim (cases_lt (points_in all.0) (2 ^ 32)) [
+  merged_or (inr all) = elim (cases_lt (points_of_files all.0) (2 ^ 32)) [
     | inl few ↦ inr (all.0, record { first = all.1; all = all.2; few = few })
     | inr many ↦ inl (TooManyPoints, (all.0, all.1, all.2, many))
   ]
@@ -118,9 +118,9 @@ merge_or file files rest blocks (Some i) are =
     (concat blocks, Some (record { file = 0; chunk = i }), record { parts = []; blocks = blocks; within = omega arith; earlier = tt; bad = are; records_are = refl })
 
 pub merges_to_something : HasSomeRecords → MergesToSomething
-merges_to_something has [] accepted small = ([], None, ([], tt, refl))
-merges_to_something has (file ∷ files) accepted small =
-    let r = has file (accepted 0 [] (omega arith)) (small 0 [] (omega arith)) in merge_or file files (merges_to_something has files (λ k d lt. accepted (suc k) d (omega (arith, lt))) (λ k d lt. small (suc k) d (omega (arith, lt)))) r.0 r.1 r.2
+merges_to_something has [] accepted = ([], None, ([], tt, refl))
+merges_to_something has (file ∷ files) accepted =
+    let r = has file (accepted 0 [] (omega arith)) in merge_or file files (merges_to_something has files (λ k d lt. accepted (suc k) d (omega (arith, lt)))) r.0 r.1 r.2
 
 -- ---- inputs whose chunks are to be copied
 
@@ -164,20 +164,20 @@ module _ (known : FileMap) (names : List (List ℕ)) where
   kept_or_all_packed answers zero files end f = inr (files, f, omega (arith, end))
   kept_or_all_packed answers (suc n) files end f = one_packed_input answers n (kept_or_all_packed answers n) files end f
 
-chunks_there : HasPieces → (files : List (List ℕ)) → All IsAcceptedFile files → All IsBytes files → ((parts : List (List Chunk)) × HaveChunks files parts)
-chunks_there has [] accepted small = ([], tt)
-chunks_there has (file ∷ files) accepted small =
-    let p = has file (accepted 0 [] (omega arith)) (small 0 [] (omega arith)) in (let r = chunks_there has files (λ k d lt. accepted (suc k) d (omega (arith, lt))) (λ k d lt. small (suc k) d (omega (arith, lt))) in (map (chunk_at file) p.0 ∷ r.0, ((p.0, p.1, refl), r.1)))
+chunks_there : HasPieces → (files : List (List ℕ)) → All IsAcceptedFile files → ((parts : List (List Chunk)) × HaveChunks files parts)
+chunks_there has [] accepted = ([], tt)
+chunks_there has (file ∷ files) accepted =
+    let p = has file (accepted 0 [] (omega arith)) in (let r = chunks_there has files (λ k d lt. accepted (suc k) d (omega (arith, lt))) in (map (chunk_at file) p.0 ∷ r.0, ((p.0, p.1, refl), r.1)))
 
 -- the first inputs hold bytes
-pub bytes_of_first : (known : FileMap) (names files : List (List ℕ)) → HoldBytes known → AreFirst known names files → All IsBytes files
+pub bytes_of_first : (known : FileMap) (names files : List (List ℕ)) → HoldBytes known → AreFirstInputs known names files → All IsBytes files
 bytes_of_first known names files hold f k d lt = subst IsBytes (get_or_default files k [] d lt) (hold (item_at names k) (item_at files k) (f.held k lt))
 
-module _ (has : HasPieces) (known : FileMap) (names : List (List ℕ)) (hold : HoldBytes known) where
+module _ (has : HasPieces) (known : FileMap) (names : List (List ℕ)) where
   abbrev Copied : Type 0
   Copied = ((cause : MergeFault) × IsKeptFromCopying known names cause) ⊎ ((files : List (List ℕ)) × (parts : List (List Chunk)) × CanCopyFrom known names files parts)
 
-  copied_if : (files : List (List ℕ)) (parts : List (List Chunk)) → AreFirstPacked known names files → length files ≡ length names → points_in files < 2 ^ 32 → HaveChunks files parts → Copied
+  copied_if : (files : List (List ℕ)) (parts : List (List Chunk)) → AreFirstPacked known names files → length files ≡ length names → points_of_files files < 2 ^ 32 → HaveChunks files parts → Copied
   copied_if files parts f all few have = elim (cases_lt MAX_CHUNKS (length (all_of parts))) [
     | inl many ↦ inl (TooManyChunks, (files, parts, f, all, few, have, many))
     | inr chunks ↦ inr (files, parts, record { first = f; all = all; few = few; have = have; chunks = chunks })
@@ -185,11 +185,11 @@ module _ (has : HasPieces) (known : FileMap) (names : List (List ℕ)) (hold : H
 
   copied_or : KeptPacked known names → Copied
   copied_or (inl kept) = inl kept
-  copied_or (inr all) = elim (cases_lt (points_in all.0) (2 ^ 32)) [
-    | inl few ↦ let c = chunks_there has all.0 all.1.first.accepted (bytes_of_first known names all.0 hold all.1.first) in copied_if all.0 c.0 all.1 all.2 few c.1
+  copied_or (inr all) = elim (cases_lt (points_of_files all.0) (2 ^ 32)) [
+    | inl few ↦ let c = chunks_there has all.0 all.1.first.accepted in copied_if all.0 c.0 all.1 all.2 few c.1
     | inr many ↦ inl (TooManyPoints, (all.0, all.1, all.2, many))
   ]
 
 pub are_kept_or_copied : HasAnAnswer → HasPieces → AreKeptOrCopied
-are_kept_or_copied answers has known names hold =
-    copied_or has known names hold (kept_or_all_packed known names answers (length names) [] (omega arith) (record { first = no_files known names; packed = All-nil IsPacked }))
+are_kept_or_copied answers has known names =
+    copied_or has known names (kept_or_all_packed known names answers (length names) [] (omega arith) (record { first = no_files known names; packed = All-nil IsPacked }))

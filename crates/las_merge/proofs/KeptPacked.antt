@@ -18,7 +18,7 @@ use Rattle.las_merge.specs.declared.fault.MergeFault.TheVariants.{At, Unequal, T
 use Rattle.las_merge.specs.Fields.{first_difference}
 use Rattle.las_merge.specs.Inputs.{item_at}
 use Rattle.las_merge.specs.Listing.{EndsListing, FailsNextPacked, FailsToList, IsPackedInput}
-use Rattle.las_merge.specs.Opening.{AreOpen, InputSeen, IsItsFile, IsOpen, OpensTo, fault_of, first_read, names_read}
+use Rattle.las_merge.specs.Opening.{AreOpen, InputSeen, IsItsFile, IsOpen, OpensTo, merge_fault, first_read, input_names}
 use Rattle.las_merge.specs.Packed.{AreFirstPacked, IsKeptFromCopying, IsNoFault, IsPacked, IsRefusedToCopy, ReachesPacked}
 use Rattle.las_merge.proofs.Known.{file_length, file_of, files_of, first_by, held_at, name_length, read_first, read_head}
 
@@ -32,7 +32,7 @@ fails_since name start old new held reads fault.Memory h = h
 
 -- opening the next input failed
 pub fails_open : (old new : Outside) (name : List ℕ) (number : ℕ) (inputs : List InputSeen) → number ≡ length inputs → (f : Fault) → ((cause : Refusal) → f ≡ fault.Refused cause → WhereKnown old.held name (λ file. IsRefusal file (Some cause)))
-    → EndsReading (IsMissing old.held name) old new f → FailsNextPacked name inputs old new (fault_of number f)
+    → EndsReading (IsMissing old.held name) old new f → FailsNextPacked name inputs old new (merge_fault number f)
 fails_open old new name number inputs is (fault.Refused cause) refused ends = (is, known_then old.held name (λ file. IsRefusal file (Some cause)) (λ file. IsRefusedToCopy file cause) (λ file r. inr r) (refused cause refl))
 fails_open old new name number inputs is fault.Read refused ends = (is, ends)
 fails_open old new name number inputs is fault.Write refused ends = absurd ends
@@ -66,33 +66,33 @@ next_ends_packed names readers name start old new all packed within named held r
 
 -- ---- files that are known
 module _ (known : FileMap) where
-  pub packed_files : (readers : List InputSeen) → All (IsOpen (Some known)) readers → All IsPackedInput readers → All IsPacked (files_of known (names_read readers))
+  pub packed_files : (readers : List InputSeen) → All (IsOpen (Some known)) readers → All IsPackedInput readers → All IsPacked (files_of known (input_names readers))
   packed_files [] opened packed k d lt = absurd (omega (arith, lt))
   packed_files (r ∷ rs) opened packed zero d lt = ap is_packed (sym (read_head known r (opened 0 r (omega arith)))) ∙ packed 0 r (omega arith)
   packed_files (r ∷ rs) opened packed (suc k) d lt = packed_files rs (λ i e less. opened (suc i) e (omega (arith, less))) (λ i e less. packed (suc i) e (omega (arith, less))) k d (omega (arith, lt))
 
   module _ (names : List (List ℕ)) where
-    count_files : (readers : List InputSeen) → length (files_of known (names_read readers)) ≡ length readers
-    count_files readers = file_length known (names_read readers) ∙ name_length known readers
+    count_files : (readers : List InputSeen) → length (files_of known (input_names readers)) ≡ length readers
+    count_files readers = file_length known (input_names readers) ∙ name_length known readers
 
-    pub first_packed : (readers : List InputSeen) → AreOpen (Some known) names readers → All IsPackedInput readers → AreFirstPacked known names (files_of known (names_read readers))
+    pub first_packed : (readers : List InputSeen) → AreOpen (Some known) names readers → All IsPackedInput readers → AreFirstPacked known names (files_of known (input_names readers))
     first_packed readers o packed = record { first = first_by known names readers o; packed = packed_files readers o.opened packed }
 
-    reaches : (number : ℕ) (readers : List InputSeen) → OpensTo (Some known) names number readers → All IsPackedInput readers → ReachesPacked known names number (files_of known (names_read readers))
+    reaches : (number : ℕ) (readers : List InputSeen) → OpensTo (Some known) names number readers → All IsPackedInput readers → ReachesPacked known names number (files_of known (input_names readers))
     reaches number readers o packed = record { first = first_packed readers o.opened packed; number_is = count_files readers ∙ o.number_is; within = o.within }
 
     refused_at : (number : ℕ) (cause : Refusal) (readers : List InputSeen) → OpensTo (Some known) names number readers → All IsPackedInput readers → WhereKnown (Some known) (item_at names number) (λ file. IsRefusedToCopy file cause)
         → IsKeptFromCopying known names (At number (fault.Refused cause))
     refused_at number cause readers o packed k =
         let h = held_at known (item_at names number) (λ file. IsRefusedToCopy file cause) k in
-        (files_of known (names_read readers), file_of known (item_at names number), reaches number readers o packed, h.0, h.1)
+        (files_of known (input_names readers), file_of known (item_at names number), reaches number readers o packed, h.0, h.1)
 
     unequal_at : (number : ℕ) (field : Field) (readers : List InputSeen) (reader : InputSeen) → OpensTo (Some known) names number readers → 1 ≤ number → All IsPackedInput readers → reader.name ≡ item_at names number → IsOpen (Some known) reader → IsPackedInput reader
         → first_difference (first_read readers) reader.head.bytes ≡ Some field → IsKeptFromCopying known names (Unequal number field)
     unequal_at number field readers reader o some packed named open_one packed_one differs =
         let h = held_at known reader.name (IsItsFile reader) open_one.stands in
         let head = read_head known reader open_one in (
-          files_of known (names_read readers),
+          files_of known (input_names readers),
           file_of known reader.name,
           reaches number readers o packed,
           some,
@@ -120,4 +120,4 @@ module _ (known : FileMap) where
         → (before : List (List ℕ)) × AreFirstPacked known names before × (length before ≡ number)
     before_packed held is number readers o packed =
         let here = subst (λ (h : Option FileMap). OpensTo h names number readers) is o in
-        (files_of known (names_read readers), first_packed readers here.opened packed, count_files readers ∙ o.number_is)
+        (files_of known (input_names readers), first_packed readers here.opened packed, count_files readers ∙ o.number_is)

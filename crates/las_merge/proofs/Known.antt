@@ -10,9 +10,9 @@ use Rattle.las_outside.specs.Files.{FileMap, WhereKnown, bytes_of}
 use Rattle.laz_forms.specs.Refusing.{IsAcceptedFile}
 use Rattle.las_merge.specs.Copying.{AreCopied, OnlyRecords}
 use Rattle.las_merge.specs.Fields.{first_difference}
-use Rattle.laz_copied.specs.Copied.{first_head, points_in}
-use Rattle.las_merge.specs.Inputs.{AreFirst, item_at}
-use Rattle.las_merge.specs.Opening.{AreOpen, InputSeen, IsItsFile, IsOpen, first_read, names_read, points_read}
+use Rattle.laz_copied.specs.Copied.{first_head, points_of_files}
+use Rattle.las_merge.specs.Inputs.{AreFirstInputs, item_at}
+use Rattle.las_merge.specs.Opening.{AreOpen, InputSeen, IsItsFile, IsOpen, first_read, input_names, points_read}
 use Rattle.las_merge.proofs.Merges.{AllOnly}
 
 -- what is known of a file that is held
@@ -39,20 +39,20 @@ module _ (known : FileMap) where
   pub read_held : (reader : InputSeen) → IsOpen (Some known) reader → finmap.get known reader.name ≡ Some (file_of reader.name)
   read_held reader o = (held_at reader.name (IsItsFile reader) o.stands).0
 
-  pub read_points : (readers : List InputSeen) → All (IsOpen (Some known)) readers → points_in (files_of (names_read readers)) ≡ points_read readers
+  pub read_points : (readers : List InputSeen) → All (IsOpen (Some known)) readers → points_of_files (files_of (input_names readers)) ≡ points_read readers
   read_points [] all = refl
   read_points (r ∷ rs) all =
       let tail : All (IsOpen (Some known)) rs = λ k d lt. all (suc k) d (omega (arith, lt)) in
       let here : points_of (head_of (file_of r.name)) ≡ points_of r.head.bytes = ap points_of (sym (read_head r (all 0 r (omega arith)))) in
-      sum_by-cons (λ (file : List ℕ). points_of (head_of file)) (file_of r.name) (files_of (names_read rs))
-      ∙ (let e : points_of (head_of (file_of r.name)) + points_in (files_of (names_read rs)) ≡ points_of r.head.bytes + points_read rs = omega (arith, here, read_points rs tail) in e)
+      sum_by-cons (λ (file : List ℕ). points_of (head_of file)) (file_of r.name) (files_of (input_names rs))
+      ∙ (let e : points_of (head_of (file_of r.name)) + points_of_files (files_of (input_names rs)) ≡ points_of r.head.bytes + points_read rs = omega (arith, here, read_points rs tail) in e)
       ∙ sym (sum_by-cons (λ (reader : InputSeen). points_of reader.head.bytes) r rs)
 
-  pub read_first : (readers : List InputSeen) → All (IsOpen (Some known)) readers → 1 ≤ length readers → first_read readers ≡ first_head (files_of (names_read readers))
+  pub read_first : (readers : List InputSeen) → All (IsOpen (Some known)) readers → 1 ≤ length readers → first_read readers ≡ first_head (files_of (input_names readers))
   read_first [] all some = absurd (omega (arith, some))
   read_first (r ∷ rs) all some = read_head r (all 0 r (omega arith))
 
-  pub name_length : (readers : List InputSeen) → length (names_read readers) ≡ length readers
+  pub name_length : (readers : List InputSeen) → length (input_names readers) ≡ length readers
   name_length [] = refl
   name_length (r ∷ rs) = omega (arith, name_length rs)
 
@@ -64,36 +64,36 @@ module _ (known : FileMap) where
   file_at names k lt = get_or-map file_of names k [] [] lt
 
   -- each file is held, accepted, and like the first
-  held_by : (readers : List InputSeen) → All (IsOpen (Some known)) readers → (k : ℕ) → k < length readers → finmap.get known (item_at (names_read readers) k) ≡ Some (file_of (item_at (names_read readers) k))
+  held_by : (readers : List InputSeen) → All (IsOpen (Some known)) readers → (k : ℕ) → k < length readers → finmap.get known (item_at (input_names readers) k) ≡ Some (file_of (item_at (input_names readers) k))
   held_by [] all k lt = absurd (omega (arith, lt))
   held_by (r ∷ rs) all zero lt = read_held r (all 0 r (omega arith))
   held_by (r ∷ rs) all (suc k) lt = held_by rs (λ j d le. all (suc j) d (omega (arith, le))) k (omega (arith, lt))
 
-  accepted_by : (readers : List InputSeen) → All (IsOpen (Some known)) readers → All IsAcceptedFile (files_of (names_read readers))
+  accepted_by : (readers : List InputSeen) → All (IsOpen (Some known)) readers → All IsAcceptedFile (files_of (input_names readers))
   accepted_by [] all k d lt = absurd (omega (arith, lt))
   accepted_by (r ∷ rs) all zero d lt = (held_at r.name (IsItsFile r) (all 0 r (omega arith)).stands).1.accepted
   accepted_by (r ∷ rs) all (suc k) d lt = accepted_by rs (λ j e le. all (suc j) e (omega (arith, le))) k d (omega (arith, lt))
 
-  alike_by : (first : List ℕ) (readers : List InputSeen) → All (IsOpen (Some known)) readers → All (λ r. first_difference first r.head.bytes ≡ None) readers → All (λ file. first_difference first (head_of file) ≡ None) (files_of (names_read readers))
+  alike_by : (first : List ℕ) (readers : List InputSeen) → All (IsOpen (Some known)) readers → All (λ r. first_difference first r.head.bytes ≡ None) readers → All (λ file. first_difference first (head_of file) ≡ None) (files_of (input_names readers))
   alike_by first [] all same k d lt = absurd (omega (arith, lt))
   alike_by first (r ∷ rs) all same zero d lt = ap (λ (h : List ℕ). first_difference first h) (sym (read_head r (all 0 r (omega arith)))) ∙ same 0 r (omega arith)
   alike_by first (r ∷ rs) all same (suc k) d lt = alike_by first rs (λ j e le. all (suc j) e (omega (arith, le))) (λ j e le. same (suc j) e (omega (arith, le))) k d (omega (arith, lt))
 
-  alike_to : (names : List (List ℕ)) (readers : List InputSeen) → AreOpen (Some known) names readers → All (λ file. first_difference (first_head (files_of (names_read readers))) (head_of file) ≡ None) (files_of (names_read readers))
+  alike_to : (names : List (List ℕ)) (readers : List InputSeen) → AreOpen (Some known) names readers → All (λ file. first_difference (first_head (files_of (input_names readers))) (head_of file) ≡ None) (files_of (input_names readers))
   alike_to names [] o = λ k d lt. absurd (omega (arith, lt))
   alike_to names (r ∷ rs) o =
-      let first = first_head (files_of (names_read (r ∷ rs))) in
+      let first = first_head (files_of (input_names (r ∷ rs))) in
       alike_by first (r ∷ rs) o.opened (subst (λ (h : List ℕ). All (λ x. first_difference h x.head.bytes ≡ None) (r ∷ rs)) (read_first (r ∷ rs) o.opened (omega arith)) o.alike)
 
-  pub first_by : (names : List (List ℕ)) (readers : List InputSeen) → AreOpen (Some known) names readers → AreFirst known names (files_of (names_read readers))
+  pub first_by : (names : List (List ℕ)) (readers : List InputSeen) → AreOpen (Some known) names readers → AreFirstInputs known names (files_of (input_names readers))
   first_by names readers o =
-      let count : length (files_of (names_read readers)) ≡ length readers = file_length (names_read readers) ∙ name_length readers in
+      let count : length (files_of (input_names readers)) ≡ length readers = file_length (input_names readers) ∙ name_length readers in
       record {
         within = omega (arith, count, o.within);
         held = λ k lt.
             let below : k < length readers = omega (arith, lt, count) in
-            let same : item_at (names_read readers) k ≡ item_at names k = ap (λ (ns : List (List ℕ)). item_at ns k) o.named ∙ get_or-take (length readers) names k [] below in
-            ap (λ (n : List ℕ). finmap.get known n) (sym same) ∙ held_by readers o.opened k below ∙ ap (λ (file : List ℕ). Some file) (sym (file_at (names_read readers) k (omega (arith, below, name_length readers))));
+            let same : item_at (input_names readers) k ≡ item_at names k = ap (λ (ns : List (List ℕ)). item_at ns k) o.named ∙ get_or-take (length readers) names k [] below in
+            ap (λ (n : List ℕ). finmap.get known n) (sym same) ∙ held_by readers o.opened k below ∙ ap (λ (file : List ℕ). Some file) (sym (file_at (input_names readers) k (omega (arith, below, name_length readers))));
         accepted = accepted_by readers o.opened;
         alike = alike_to names readers o;
       }

@@ -14,8 +14,8 @@ use Rattle.laz_writer.specs.Writing.{Stands, WriterSeen}
 use Rattle.laz_file.proofs.Public.{err_at}
 use Rattle.las_merge.specs.declared.fault.MergeFault.{MergeFault}
 use Rattle.las_merge.specs.declared.fault.MergeFault.TheVariants.{At, Unequal, TooManyPoints, TooManyChunks, Write}
-use Rattle.las_merge.specs.Copying.{CopiesAll, EndsMerging, FailsBeginning, output_under}
-use Rattle.las_merge.specs.Opening.{AreOpen, EndsOpening, InputSeen, first_read, names_read, points_read}
+use Rattle.las_merge.specs.Copying.{CopiesAll, EndsMerging, FailsBeginning, output_of_merge}
+use Rattle.las_merge.specs.Opening.{AreOpen, EndsOpening, InputSeen, first_read, input_names, points_read}
 use Rattle.las_merge.specs.Outcomes.{SaysMerging}
 use Rattle.las_merge.proofs.Again.{never_known, none_after, none_before}
 use Rattle.las_merge.proofs.Ends.{AreOther, before_by, can_by, first_before, many_by, refused_by, unequal_by}
@@ -72,10 +72,10 @@ module _ (names : List (List ℕ)) (output : List ℕ) (chunk : Option ℕ) (old
       (few : points_read readers < 2 ^ 32) (mid now : Outside) (reads : OnlyReads old mid)
       (begun : OnlyWrites mid now) where
     -- The output was not begun.
-    pub says_beginning : (e : MergeFault) → FailsBeginning mid now (output_under output head chunk) e
+    pub says_beginning : (e : MergeFault) → FailsBeginning mid now (output_of_merge output head chunk) e
         → SaysMerging names output chunk old now (Err e)
     says_beginning e fails =
-        let P : MergeFault → Type 0 = FailsBeginning mid now (output_under output head chunk) in
+        let P : MergeFault → Type 0 = FailsBeginning mid now (output_of_merge output head chunk) in
         record {
           merged = tt;
           refused = λ number cause is. absurd (subst P (same_fault is) fails);
@@ -86,7 +86,7 @@ module _ (names : List (List ℕ)) (output : List ℕ) (chunk : Option ℕ) (old
           write = λ is. (
             subst (λ (n : ℕ). Rose n now.write_faults) reads.writes (subst P (same_fault is) fails).0,
             λ known holds.
-                (files_of known (names_read readers), can_by old.held known holds names readers opened all few),
+                (files_of known (input_names readers), can_by old.held known holds names readers opened all few),
           );
           never = λ number is. subst P (same_fault is) fails;
           few_chunks = λ is. subst P (same_fault is) fails;
@@ -97,21 +97,21 @@ module _ (names : List (List ℕ)) (output : List ℕ) (chunk : Option ℕ) (old
         }
 
     module _ (opening : IsCalm old mid) (beginning : IsCalm mid now) (other : AreOther names output)
-        (w : WriterSeen) (s : Stands mid now w (output_under output head chunk) []) (new : Outside)
+        (w : WriterSeen) (s : Stands mid now w (output_of_merge output head chunk) []) (new : Outside)
         (outcome : Result (Unit {0}) MergeFault) where
       abbrev Ends : MergeFault → Type 0
-      Ends e = EndsMerging now.held mid.held now new (names_read readers) (output_under output head chunk) e
+      Ends e = EndsMerging now.held mid.held now new (input_names readers) (output_of_merge output head chunk) e
 
       known_now : is_some now.held ≡ is_some old.held
       known_now = begun.later.known ∙ ap is_some reads.held
 
-      within_names : (number : ℕ) → number < length (names_read readers) → number < length names
+      within_names : (number : ℕ) → number < length (input_names readers) → number < length names
       within_names number = subst (λ (ns : List (List ℕ)). number < length ns)
           (names_are old.held names readers opened all)
 
       -- The output was begun.
-      pub says_filling : OnOk outcome ((records : List ℕ) × CopiesAll now.held (names_read readers) records
-          × (new.held ≡ with_file mid.held output (finished (output_under output head chunk) records)))
+      pub says_filling : OnOk outcome ((records : List ℕ) × CopiesAll now.held (input_names readers) records
+          × (new.held ≡ with_file mid.held output (finished (output_of_merge output head chunk) records)))
           → IfErr outcome Ends → OnOk outcome (IsCalm now new) → Later now new
           → SaysMerging names output chunk old new outcome
       says_filling done ends filled later = record {
@@ -132,7 +132,7 @@ module _ (names : List (List ℕ)) (output : List ℕ) (chunk : Option ℕ) (old
         at = λ number cause is.
             let e = err_at Ends outcome (At number cause) ends is in
             let within = within_names number
-            (at_number now.held mid.held now new (names_read readers) (output_under output head chunk) number cause e)
+            (at_number now.held mid.held now new (input_names readers) (output_of_merge output head chunk) number cause e)
             in (
               within,
               λ known holds. first_before known names (files_of known names) number
@@ -155,7 +155,7 @@ module _ (names : List (List ℕ)) (output : List ℕ) (chunk : Option ℕ) (old
         left = IfErr-weaker outcome Ends _
             (λ e here known holds. merged_left old.held names readers opened all output head chunk some head_is other
             mid now w reads.held s known holds few new.held
-            (ends_mid mid now new (names_read readers) w (output_under output head chunk) s e here)) ends;
+            (ends_mid mid now new (input_names readers) w (output_of_merge output head chunk) s e here)) ends;
         calm = on_ok_weaker outcome
             (λ c. calm-trans old mid new opening (calm-trans mid now new beginning c)) filled;
         later = later-trans old now new (later-trans old mid now reads.later begun.later) later;

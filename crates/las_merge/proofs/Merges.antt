@@ -1,8 +1,9 @@
 -- What merging files gives, one file after another.
 use Rattle.std.proofs.Common.{◌≡◌, ℕ, zero, suc, ◌<◌, List, [], ◌∷◌, ◌++◌, length, take, Option, Some, None, refl, sym, ◌∙◌, ap, append_assoc, arith}
 use Rattle.std.specs.List.{concat}
+use Rattle.std.proofs.lemmas.Option.{none-some}
 use Rattle.laz_forms.specs.Records.{AreRecordsOf}
-use Rattle.laz_forms.proofs.Public.{some_same, none_some}
+use Rattle.laz_forms.proofs.Public.{some_same}
 use Rattle.las_merge.specs.Copying.{BeginsWith, OnlyRecords}
 use Rattle.las_merge.specs.Inputs.{item_at}
 use Rattle.las_merge.specs.Merging.{BadPlace, HasRecords, HaveRecords, MergesTo, OnlyMerges}
@@ -45,7 +46,7 @@ module _ (file : List ℕ) (files : List (List ℕ)) (part : List ℕ) where
     after_bad : (number chunk : ℕ) (parts blocks : List (List ℕ)) (records : List ℕ) → number < length (file ∷ files) → HaveRecords (take number (file ∷ files)) parts → AreRecordsOf (item_at (file ∷ files) number) blocks (Some chunk)
         → records ≡ concat parts ++ concat blocks → IsAfter files part records (Some (record { file = number; chunk = chunk }))
     after_bad zero chunk parts blocks records within have bad is =
-        absurd (none_some chunk (sym (only_records file part None (Some chunk) blocks only bad).1))
+        absurd (none-some chunk (sym (only_records file part None (Some chunk) blocks only bad).1))
     after_bad (suc number) chunk [] blocks records within have bad is = absurd have
     after_bad (suc number) chunk (p ∷ ps) blocks records within have bad is =
         let same : p ≡ part = have.0.2 ∙ (only_records file part None None have.0.0 only have.0.1).0 in
@@ -64,7 +65,7 @@ module _ (file : List ℕ) (files : List (List ℕ)) (part : List ℕ) where
   -- the first file has a bad chunk
   module _ (chunk : ℕ) (only : OnlyRecords file part (Some chunk)) where
     no_records : (p : List ℕ) → HasRecords file p → ⊥
-    no_records p has = none_some chunk (only_records file part (Some chunk) None has.0 only has.1).1
+    no_records p has = none-some chunk (only_records file part (Some chunk) None has.0 only has.1).1
 
     bad_first_at : (number worse : ℕ) (parts blocks : List (List ℕ)) (records : List ℕ) → HaveRecords (take number (file ∷ files)) parts → AreRecordsOf (item_at (file ∷ files) number) blocks (Some worse) → records ≡ concat parts ++ concat blocks
         → (records ≡ part) × (let place : BadPlace = record { file = number; chunk = worse } in let first : BadPlace = record { file = 0; chunk = chunk } in Some place ≡ Some first)

@@ -17,9 +17,9 @@ use Rattle.las_merge.specs.declared.field.Field.{Field}
 use Rattle.las_merge.specs.declared.field.Field.TheVariants.{Format, Length, Scales, Offsets, Bounds}
 use Rattle.las_merge.specs.declared.fault.MergeFault.{MergeFault}
 use Rattle.las_merge.specs.declared.fault.MergeFault.TheVariants.{At, Unequal, TooManyPoints, TooManyChunks, Write, Memory}
-use Rattle.las_merge.specs.Fields.{field_bytes, first_difference, first_in, is_same}
+use Rattle.las_merge.specs.Fields.{field_bytes, first_difference, first_differing, is_same}
 use Rattle.las_merge.specs.Inputs.{item_at, names_of}
-use Rattle.las_merge.specs.Opening.{AreOpen, EndsOpening, FailsNext, FailsOpening, InputSeen, IsNext, IsOpen, first_read, names_read}
+use Rattle.las_merge.specs.Opening.{AreOpen, EndsOpening, FailsNext, FailsOpening, InputSeen, IsNextInput, IsOpen, first_read, input_names}
 
 -- ---- a head does not differ from itself
 
@@ -30,9 +30,9 @@ same_in Scales head = (bytes_eq-Decides (field_bytes 131 24 head) (field_bytes 1
 same_in Offsets head = (bytes_eq-Decides (field_bytes 155 24 head) (field_bytes 155 24 head)).1 refl
 same_in Bounds head = (bytes_eq-Decides (field_bytes 179 48 head) (field_bytes 179 48 head)).1 refl
 
-none_in : (fields : List Field) (head : List ℕ) → first_in fields head head ≡ None
+none_in : (fields : List Field) (head : List ℕ) → first_differing fields head head ≡ None
 none_in [] head = refl
-none_in (field ∷ fields) head = ap (λ (b : Bool). cond b (first_in fields head head) (Some field)) (same_in field head) ∙ none_in fields head
+none_in (field ∷ fields) head = ap (λ (b : Bool). cond b (first_differing fields head head) (Some field)) (same_in field head) ∙ none_in fields head
 
 pub no_difference : (head : List ℕ) → first_difference head head ≡ None
 no_difference head = none_in (Format ∷ Length ∷ Scales ∷ Offsets ∷ Bounds ∷ []) head
@@ -44,11 +44,11 @@ alike_more : (readers : List InputSeen) (reader : InputSeen) → All (λ r. firs
 alike_more [] reader all here = All-push (λ (r : InputSeen). first_difference reader.head.bytes r.head.bytes ≡ None) [] reader (All-nil (λ (r : InputSeen). first_difference reader.head.bytes r.head.bytes ≡ None)) (no_difference reader.head.bytes)
 alike_more (x ∷ xs) reader all here = All-push (λ (r : InputSeen). first_difference x.head.bytes r.head.bytes ≡ None) (x ∷ xs) reader all (here (omega arith))
 
-names_more : (readers : List InputSeen) (reader : InputSeen) → names_read (readers ++ reader ∷ []) ≡ names_read readers ++ reader.name ∷ []
+names_more : (readers : List InputSeen) (reader : InputSeen) → input_names (readers ++ reader ∷ []) ≡ input_names readers ++ reader.name ∷ []
 names_more [] reader = refl
 names_more (x ∷ xs) reader = ap (λ (ns : List (List ℕ)). x.name ∷ ns) (names_more xs reader)
 
-more_open : (held : Option FileMap) (names : List (List ℕ)) (readers : List InputSeen) (reader : InputSeen) → AreOpen held names readers → length readers < length names → IsNext held (item_at names (length readers)) readers reader → AreOpen held names (readers ++ reader ∷ [])
+more_open : (held : Option FileMap) (names : List (List ℕ)) (readers : List InputSeen) (reader : InputSeen) → AreOpen held names readers → length readers < length names → IsNextInput held (item_at names (length readers)) readers reader → AreOpen held names (readers ++ reader ∷ [])
 more_open held names readers reader all within next =
     let long : length (readers ++ reader ∷ []) ≡ length readers + 1 = omega (arith, length-append readers (reader ∷ [])) in
     record {
@@ -66,12 +66,12 @@ more_open held names readers reader all within next =
 -- and when its name is known, and the files are as they were
 pub open_more : (held now : Option FileMap) (names : List (List ℕ)) (name : List ℕ) (readers new : List InputSeen)
     (reader : InputSeen) → AreOpen held names readers → length readers < length names
-    → name ≡ item_at names (length readers) → now ≡ held → IsNext now name readers reader
+    → name ≡ item_at names (length readers) → now ≡ held → IsNextInput now name readers reader
     → new ≡ readers ++ reader ∷ [] → AreOpen held names new
 open_more held now names name readers new reader all within named same next is =
     subst (λ (rs : List InputSeen). AreOpen held names rs) (sym is) (more_open held names readers reader all within
-    (subst (λ (o : Option FileMap). IsNext o (item_at names (length readers)) readers reader) same
-    (subst (λ (n : List ℕ). IsNext now n readers reader) named next)))
+    (subst (λ (o : Option FileMap). IsNextInput o (item_at names (length readers)) readers reader) same
+    (subst (λ (n : List ℕ). IsNextInput now n readers reader) named next)))
 
 -- the input of a number, and its name
 pub within_names : (names : List (String Global)) (i : ℕ) → i < length names → i < length (names_of names)

@@ -28,11 +28,11 @@ use Rattle.laz_forms.proofs.Public.{plain_itself}
 use Rattle.las_merge.specs.Copying.{output_with}
 use Rattle.las_merge.specs.declared.field.Field.{Field}
 use Rattle.las_merge.specs.declared.field.Field.TheVariants.{Format, Length, Scales, Offsets, Bounds}
-use Rattle.las_merge.specs.Fields.{field_bytes, first_difference, first_in, is_same}
-use Rattle.laz_copied.specs.Copied.{first_head, points_in}
+use Rattle.las_merge.specs.Fields.{field_bytes, first_difference, first_differing, is_same}
+use Rattle.laz_copied.specs.Copied.{first_head, points_of_files}
 use Rattle.las_merge.specs.Inputs.{CanMerge}
 use Rattle.las_merge.specs.Merging.{HasRecords, HaveRecords, merged_output}
-use Rattle.las_merge.specs.Parts.{IsPart, PartsMerge, StandUnder, part_file, part_files}
+use Rattle.las_merge.specs.Parts.{IsPart, PartsMerge, StandUnder, part_file, part_packed_files}
 
 -- ---- a head that is counted
 
@@ -99,10 +99,10 @@ module _ (head : List ℕ) (is : IsHead head) where
   fields_same one other Offsets = (bytes_eq-Decides (field_bytes 155 24 (counted one)) (field_bytes 155 24 (counted other))).1 (same_between one 155 24 (omega arith) (omega arith) ∙ sym (same_between other 155 24 (omega arith) (omega arith)))
   fields_same one other Bounds = (bytes_eq-Decides (field_bytes 179 48 (counted one)) (field_bytes 179 48 (counted other))).1 (same_between one 179 48 (omega arith) (omega arith) ∙ sym (same_between other 179 48 (omega arith) (omega arith)))
 
-  none_differ : (one other : List ℕ) (fields : List Field) → first_in fields (counted one) (counted other) ≡ None
+  none_differ : (one other : List ℕ) (fields : List Field) → first_differing fields (counted one) (counted other) ≡ None
   none_differ one other [] = refl
   none_differ one other (field ∷ fields) =
-      ap (λ (b : Bool). cond b (first_in fields (counted one) (counted other)) (Some field)) (fields_same one other field) ∙ none_differ one other fields
+      ap (λ (b : Bool). cond b (first_differing fields (counted one) (counted other)) (Some field)) (fields_same one other field) ∙ none_differ one other fields
 
   -- counted for other records, it is as if it was counted once
   counted_twice : (one other : List ℕ) → with_counts (counts_of (records_after (counted one) other)) (counted one) ≡ counted other
@@ -155,48 +155,48 @@ module _ (head : List ℕ) (is : IsHead head) where
     rest_few : (part : List ℕ) (parts : List (List ℕ)) → length (concat (part ∷ parts)) < record_length_of head * 2 ^ 32 → (length part < record_length_of head * 2 ^ 32) × (length (concat parts) < record_length_of head * 2 ^ 32)
     rest_few part parts few = (omega (arith, few, length-append part (concat parts)), omega (arith, few, length-append part (concat parts)))
 
-    accepted_all : (parts : List (List ℕ)) → All (IsPart head) parts → length (concat parts) < record_length_of head * 2 ^ 32 → All IsAcceptedFile (part_files head parts)
+    accepted_all : (parts : List (List ℕ)) → All (IsPart head) parts → length (concat parts) < record_length_of head * 2 ^ 32 → All IsAcceptedFile (part_packed_files head parts)
     accepted_all [] each few = All-nil IsAcceptedFile
     accepted_all (p ∷ ps) each few =
         let f = rest_few p ps few in
-        All-cons IsAcceptedFile (part_file head p) (part_files head ps) (accepted_part p (each 0 p (omega arith)) f.0) (accepted_all ps (λ k d lt. each (suc k) d (omega (arith, lt))) f.1)
+        All-cons IsAcceptedFile (part_file head p) (part_packed_files head ps) (accepted_part p (each 0 p (omega arith)) f.0) (accepted_all ps (λ k d lt. each (suc k) d (omega (arith, lt))) f.1)
 
-    alike_all : (first : List ℕ) (parts : List (List ℕ)) → All (IsPart head) parts → length (concat parts) < record_length_of head * 2 ^ 32 → All (λ file. first_difference (counted first) (head_of file) ≡ None) (part_files head parts)
+    alike_all : (first : List ℕ) (parts : List (List ℕ)) → All (IsPart head) parts → length (concat parts) < record_length_of head * 2 ^ 32 → All (λ file. first_difference (counted first) (head_of file) ≡ None) (part_packed_files head parts)
     alike_all first [] each few = All-nil (λ (file : List ℕ). first_difference (counted first) (head_of file) ≡ None)
     alike_all first (p ∷ ps) each few =
         let f = rest_few p ps few in
-        All-cons (λ (file : List ℕ). first_difference (counted first) (head_of file) ≡ None) (part_file head p) (part_files head ps)
+        All-cons (λ (file : List ℕ). first_difference (counted first) (head_of file) ≡ None) (part_file head p) (part_packed_files head ps)
         (ap (λ (h : List ℕ). first_difference (counted first) h) (head_part p (each 0 p (omega arith)) f.0) ∙ none_differ first p (Format ∷ Length ∷ Scales ∷ Offsets ∷ Bounds ∷ []))
         (alike_all first ps (λ k d lt. each (suc k) d (omega (arith, lt))) f.1)
 
-    records_all : (parts : List (List ℕ)) → All (IsPart head) parts → length (concat parts) < record_length_of head * 2 ^ 32 → HaveRecords (part_files head parts) parts
+    records_all : (parts : List (List ℕ)) → All (IsPart head) parts → length (concat parts) < record_length_of head * 2 ^ 32 → HaveRecords (part_packed_files head parts) parts
     records_all [] each few = tt
     records_all (p ∷ ps) each few =
         let f = rest_few p ps few in
         (records_part p (each 0 p (omega arith)) f.0, records_all ps (λ k d lt. each (suc k) d (omega (arith, lt))) f.1)
 
-    points_all : (parts : List (List ℕ)) → All (IsPart head) parts → length (concat parts) < record_length_of head * 2 ^ 32 → record_length_of head * points_in (part_files head parts) ≡ length (concat parts)
+    points_all : (parts : List (List ℕ)) → All (IsPart head) parts → length (concat parts) < record_length_of head * 2 ^ 32 → record_length_of head * points_of_files (part_packed_files head parts) ≡ length (concat parts)
     points_all [] each few = omega arith
     points_all (p ∷ ps) each few =
         let f = rest_few p ps few in
         let one = points_part p (each 0 p (omega arith)) f.0 in
         let rest = points_all ps (λ k d lt. each (suc k) d (omega (arith, lt))) f.1 in
-        let sum_is = sum_by-cons (λ (file : List ℕ). points_of (head_of file)) (part_file head p) (part_files head ps) in
+        let sum_is = sum_by-cons (λ (file : List ℕ). points_of (head_of file)) (part_file head p) (part_packed_files head ps) in
         omega (arith, one, rest, ap (λ (n : ℕ). record_length_of head * n) sum_is, length-append p (concat ps))
 
-    few_points : (parts : List (List ℕ)) → All (IsPart head) parts → length (concat parts) < record_length_of head * 2 ^ 32 → points_in (part_files head parts) < 2 ^ 32
-    few_points parts each few = few_records (points_in (part_files head parts)) (concat parts) (sym (points_all parts each few)) few
+    few_points : (parts : List (List ℕ)) → All (IsPart head) parts → length (concat parts) < record_length_of head * 2 ^ 32 → points_of_files (part_packed_files head parts) < 2 ^ 32
+    few_points parts each few = few_records (points_of_files (part_packed_files head parts)) (concat parts) (sym (points_all parts each few)) few
 
-    first_part : (p : List ℕ) (ps : List (List ℕ)) → All (IsPart head) (p ∷ ps) → length (concat (p ∷ ps)) < record_length_of head * 2 ^ 32 → first_head (part_files head (p ∷ ps)) ≡ counted p
+    first_part : (p : List ℕ) (ps : List (List ℕ)) → All (IsPart head) (p ∷ ps) → length (concat (p ∷ ps)) < record_length_of head * 2 ^ 32 → first_head (part_packed_files head (p ∷ ps)) ≡ counted p
     first_part p ps each few = head_part p (each 0 p (omega arith)) (rest_few p ps few).0
 
-    plain_first : (p : List ℕ) (ps : List (List ℕ)) → All (IsPart head) (p ∷ ps) → length (concat (p ∷ ps)) < record_length_of head * 2 ^ 32 → plain_of (first_head (part_files head (p ∷ ps))) ≡ counted p
+    plain_first : (p : List ℕ) (ps : List (List ℕ)) → All (IsPart head) (p ∷ ps) → length (concat (p ∷ ps)) < record_length_of head * 2 ^ 32 → plain_of (first_head (part_packed_files head (p ∷ ps))) ≡ counted p
     plain_first p ps each few =
         let a = whole_part p (each 0 p (omega arith)) (rest_few p ps few).0 in
         ap plain_of (first_part p ps each few) ∙ sym (plain_itself (counted p) a.plain)
 
     finished_parts : (p : List ℕ) (ps : List (List ℕ)) → All (IsPart head) (p ∷ ps) → length (concat (p ∷ ps)) < record_length_of head * 2 ^ 32 → (name : List ℕ) (chunk : Option ℕ)
-        → finished (merged_output name (part_files head (p ∷ ps)) chunk) (concat (p ∷ ps)) ≡ finished (output_with name head chunk) (concat (p ∷ ps))
+        → finished (merged_output name (part_packed_files head (p ∷ ps)) chunk) (concat (p ∷ ps)) ≡ finished (output_with name head chunk) (concat (p ∷ ps))
     finished_parts p ps each few name chunk =
         let all = concat (p ∷ ps) in
         let a = whole_part p (each 0 p (omega arith)) (rest_few p ps few).0 in
@@ -205,16 +205,16 @@ module _ (head : List ℕ) (is : IsHead head) where
         ∙ ap (λ (h : List ℕ). file_of chunk h all) (counted_twice p all)
         ∙ sym (finished_is (output_with name head chunk) all is)
 
-    can_parts : (known : FileMap) (names : List (List ℕ)) (p : List ℕ) (ps : List (List ℕ)) → All (IsPart head) (p ∷ ps) → length (concat (p ∷ ps)) < record_length_of head * 2 ^ 32 → length (p ∷ ps) ≡ length names → StandUnder known names head (p ∷ ps) → CanMerge known names (part_files head (p ∷ ps))
+    can_parts : (known : FileMap) (names : List (List ℕ)) (p : List ℕ) (ps : List (List ℕ)) → All (IsPart head) (p ∷ ps) → length (concat (p ∷ ps)) < record_length_of head * 2 ^ 32 → length (p ∷ ps) ≡ length names → StandUnder known names head (p ∷ ps) → CanMerge known names (part_packed_files head (p ∷ ps))
     can_parts known names p ps each few count stand =
         let parts = p ∷ ps in
-        let long : length (part_files head parts) ≡ length parts = length-map parts (part_file head) in
+        let long : length (part_packed_files head parts) ≡ length parts = length-map parts (part_file head) in
         record {
           first = record {
             within = omega (arith, long, count);
             held = λ k lt. stand k (omega (arith, lt, long)) ∙ ap (λ (file : List ℕ). Some file) (sym (get_or-map (part_file head) parts k [] [] (omega (arith, lt, long))));
             accepted = accepted_all parts each few;
-            alike = subst (λ (h : List ℕ). All (λ file. first_difference h (head_of file) ≡ None) (part_files head parts)) (sym (first_part p ps each few)) (alike_all p parts each few);
+            alike = subst (λ (h : List ℕ). All (λ file. first_difference h (head_of file) ≡ None) (part_packed_files head parts)) (sym (first_part p ps each few)) (alike_all p parts each few);
           };
           all = long ∙ count;
           few = few_points parts each few;

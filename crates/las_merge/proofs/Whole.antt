@@ -17,11 +17,11 @@ use Rattle.laz_writer.proofs.Public.{held_text}
 use Rattle.laz_file.proofs.Public.{leaves_part, known_after}
 use Rattle.las_merge.specs.declared.fault.MergeFault.{MergeFault}
 use Rattle.las_merge.specs.declared.fault.MergeFault.TheVariants.{At, Unequal, TooManyPoints, TooManyChunks, Write, Memory}
-use Rattle.las_merge.specs.Copying.{CopiesAll, CopiesInto, CopiesTo, EndsMerging, FailsBeginning, LeavesMid, output_under}
+use Rattle.las_merge.specs.Copying.{CopiesAll, CopiesInto, CopiesTo, EndsMerging, FailsBeginning, LeavesMid, output_of_merge}
 use Rattle.laz_copied.specs.Copied.{first_head}
 use Rattle.las_merge.specs.Inputs.{CanMerge, item_at, names_of}
 use Rattle.las_merge.specs.Merging.{LeavesMerged, OnlyMerges, merged_output}
-use Rattle.las_merge.specs.Opening.{AreOpen, InputSeen, IsItsFile, IsOpen, first_read, names_read, points_read}
+use Rattle.las_merge.specs.Opening.{AreOpen, InputSeen, IsItsFile, IsOpen, first_read, input_names, points_read}
 use Rattle.las_merge.proofs.Ends.{AreOther, all_before, bad_of, can_by, first_head_by, into_before, leaves_of, merges_of, mid_before, to_before}
 use Rattle.las_merge.proofs.Filled.{into_part}
 use Rattle.las_merge.proofs.Known.{files_of}
@@ -32,7 +32,7 @@ other_names [] name other = λ k d lt. absurd (omega (arith, lt))
 other_names (x ∷ xs) name other = All-cons (λ (n : List ℕ). n ≢ name) (string_bytes x) (names_of xs) (other 0 x (omega arith)) (other_names xs name (λ k d lt. other (suc k) d (omega (arith, lt))))
 
 module _ (held : Option FileMap) (names : List (List ℕ)) (readers : List InputSeen) (opened : AreOpen held names readers) (all : length readers ≡ length names) where
-  pub names_are : names_read readers ≡ names
+  pub names_are : input_names readers ≡ names
   names_are = opened.named ∙ take_all (length readers) names (omega (arith, all))
 
   module _ (name head : List ℕ) (chunk : Option ℕ) (some : 1 ≤ length names) (head_is : head ≡ first_read readers) (other : AreOther names name) where
@@ -44,15 +44,15 @@ module _ (held : Option FileMap) (names : List (List ℕ)) (readers : List Input
     pub readers_other : (writer : List ℕ) → writer ≡ name → All (λ r. r.name ≢ writer) readers
     readers_other writer same k d lt e = reader_other k d lt (e ∙ same)
 
-    module _ (before now : Outside) (w : WriterSeen) (same : before.held ≡ held) (s : Stands before now w (output_under name head chunk) []) where
+    module _ (before now : Outside) (w : WriterSeen) (same : before.held ≡ held) (s : Stands before now w (output_of_merge name head chunk) []) where
       text : List ℕ
-      text = (held_text before now w (output_under name head chunk) [] s).0
+      text = (held_text before now w (output_of_merge name head chunk) [] s).0
 
       written : now.held ≡ with_file held name text
       unfolding text
       written =
-          ap (λ (o : Outside). o.held) (held_text before now w (output_under name head chunk) [] s).1
-          ∙ ap (λ (h : Option FileMap). with_file h name (held_text before now w (output_under name head chunk) [] s).0) same
+          ap (λ (o : Outside). o.held) (held_text before now w (output_of_merge name head chunk) [] s).1
+          ∙ ap (λ (h : Option FileMap). with_file h name (held_text before now w (output_of_merge name head chunk) [] s).0) same
 
       pub readers_open : All (IsOpen now.held) readers
       readers_open k d lt =
@@ -68,13 +68,13 @@ module _ (held : Option FileMap) (names : List (List ℕ)) (readers : List Input
         pub can_merge : CanMerge known names (files_of known names)
         can_merge = subst (λ (ns : List (List ℕ)). CanMerge known names (files_of known ns)) names_are (can_by held known is names readers opened all few)
 
-        output_is : output_under name head chunk ≡ merged_output name (files_of known names) chunk
+        output_is : output_of_merge name head chunk ≡ merged_output name (files_of known names) chunk
         output_is =
-            ap (λ (h : List ℕ). output_under name h chunk)
+            ap (λ (h : List ℕ). output_of_merge name h chunk)
             (head_is ∙ first_head_by held known is names readers opened (omega (arith, some, all)) ∙ ap (λ (ns : List (List ℕ)). first_head (files_of known ns)) names_are)
 
         -- all was merged
-        pub merged_all : (records : List ℕ) (new : Option FileMap) → CopiesAll now.held (names_read readers) records → new ≡ with_file before.held name (finished (output_under name head chunk) records)
+        pub merged_all : (records : List ℕ) (new : Option FileMap) → CopiesAll now.held (input_names readers) records → new ≡ with_file before.held name (finished (output_of_merge name head chunk) records)
             → (merged : List (List ℕ)) × (records : List ℕ) × CanMerge known names merged × OnlyMerges merged records None × (new ≡ with_file held name (finished (merged_output name merged chunk) records))
         merged_all records new copied now_is =
             let here = subst (λ (ns : List (List ℕ)). CopiesAll now.held ns records) names_are copied in
@@ -83,11 +83,11 @@ module _ (held : Option FileMap) (names : List (List ℕ)) (readers : List Input
               records,
               can_merge,
               merges_of known names records (subst (λ (h : Option FileMap). CopiesAll h names records) is there),
-              now_is ∙ ap (λ (h : Option FileMap). with_file h name (finished (output_under name head chunk) records)) same ∙ ap (λ (o : Output). with_file held name (finished o records)) output_is,
+              now_is ∙ ap (λ (h : Option FileMap). with_file h name (finished (output_of_merge name head chunk) records)) same ∙ ap (λ (o : Output). with_file held name (finished o records)) output_is,
             )
 
         -- the records before a bad chunk were merged
-        pub merged_bad : (number : ℕ) (cause : Refusal) (records : List ℕ) (new : Option FileMap) → CopiesInto now.held (names_read readers) number records (λ name part. CopiesTo now.held name part (Some cause)) → new ≡ with_file before.held name (stopped (output_under name head chunk) records)
+        pub merged_bad : (number : ℕ) (cause : Refusal) (records : List ℕ) (new : Option FileMap) → CopiesInto now.held (input_names readers) number records (λ name part. CopiesTo now.held name part (Some cause)) → new ≡ with_file before.held name (stopped (output_of_merge name head chunk) records)
             → (merged : List (List ℕ)) × (records : List ℕ) × (bad : ℕ) × (cause ≡ BadChunk bad) × CanMerge known names merged × OnlyMerges merged records (Some (record { file = number; chunk = bad })) × (new ≡ with_file held name (stopped (merged_output name merged chunk) records))
         merged_bad number cause records new copied now_is =
             let here = subst (λ (ns : List (List ℕ)). CopiesInto now.held ns number records (λ name part. CopiesTo now.held name part (Some cause))) names_are copied in
@@ -100,14 +100,14 @@ module _ (held : Option FileMap) (names : List (List ℕ)) (readers : List Input
               b.1,
               can_merge,
               b.2,
-              now_is ∙ ap (λ (h : Option FileMap). with_file h name (stopped (output_under name head chunk) records)) same ∙ ap (λ (o : Output). with_file held name (stopped o records)) output_is,
+              now_is ∙ ap (λ (h : Option FileMap). with_file h name (stopped (output_of_merge name head chunk) records)) same ∙ ap (λ (o : Output). with_file held name (stopped o records)) output_is,
             )
 
         -- something was left
-        pub merged_left : (new : Option FileMap) → LeavesMid now.held before.held new (names_read readers) (output_under name head chunk)
+        pub merged_left : (new : Option FileMap) → LeavesMid now.held before.held new (input_names readers) (output_of_merge name head chunk)
             → (new ≡ held) ⊎ ((merged : List (List ℕ)) × CanMerge known names merged × LeavesMerged (merged_output name merged chunk) merged held new)
         merged_left new left =
-            let out = output_under name head chunk in
+            let out = output_of_merge name head chunk in
             let here = subst (λ (ns : List (List ℕ)). LeavesMid now.held before.held new ns out) names_are left in
             let at_held = subst (λ (h : Option FileMap). LeavesMid now.held h new names out) same here in
             let there = mid_before held name text names out held new other (subst (λ (h : Option FileMap). LeavesMid h held new names out) written at_held) in
@@ -160,12 +160,12 @@ ends_mid before old new names w out s Memory e = e
 
 -- the output could not be begun
 pub left_begun : (held : Option FileMap) (names : List (List ℕ)) (readers : List InputSeen) (opened : AreOpen held names readers) (all : length readers ≡ length names) (name head : List ℕ) (chunk : Option ℕ) → 1 ≤ length names → head ≡ first_read readers → (known : FileMap) → held ≡ Some known → points_read readers < 2 ^ 32
-    → (before new : Outside) (cause : MergeFault) → before.held ≡ held → FailsBeginning before new (output_under name head chunk) cause → (new.held ≡ held) ⊎ ((merged : List (List ℕ)) × CanMerge known names merged × LeavesMerged (merged_output name merged chunk) merged held new.held)
+    → (before new : Outside) (cause : MergeFault) → before.held ≡ held → FailsBeginning before new (output_of_merge name head chunk) cause → (new.held ≡ held) ⊎ ((merged : List (List ℕ)) × CanMerge known names merged × LeavesMerged (merged_output name merged chunk) merged held new.held)
 left_begun held names readers opened all name head chunk some head_is known is few before new cause same fails =
-    let files = files_of known (names_read readers) in
-    let out_is : output_under name head chunk ≡ merged_output name files chunk = ap (λ (h : List ℕ). output_under name h chunk) (head_is ∙ first_head_by held known is names readers opened (omega (arith, some, all))) in
+    let files = files_of known (input_names readers) in
+    let out_is : output_of_merge name head chunk ≡ merged_output name files chunk = ap (λ (h : List ℕ). output_of_merge name h chunk) (head_is ∙ first_head_by held known is names readers opened (omega (arith, some, all))) in
     inr (
       files,
       can_by held known is names readers opened all few,
-      λ records bad m. subst (λ (o : Output). LeavesUnfinished o records held new.held) out_is (subst (λ (h : Option FileMap). LeavesUnfinished (output_under name head chunk) records h new.held) same (begin_left before new (output_under name head chunk) cause fails records)),
+      λ records bad m. subst (λ (o : Output). LeavesUnfinished o records held new.held) out_is (subst (λ (h : Option FileMap). LeavesUnfinished (output_of_merge name head chunk) records h new.held) same (begin_left before new (output_of_merge name head chunk) cause fails records)),
     )

@@ -9,8 +9,8 @@ use Rattle.las_merge.specs.declared.fault.MergeFault.TheVariants.{At, Unequal, T
 use Rattle.las_merge.specs.declared.fault.MergeFault.TheVariants.{Memory}
 
 -- the bytes of a file that stand from a place on, if the files are known
-abbrev pub part_in : Option FileMap → (name : List ℕ) → (place size : ℕ) → List ℕ
-part_in held name place size = take size (drop place (bytes_of held name))
+abbrev pub source_bytes : Option FileMap → (name : List ℕ) → (place size : ℕ) → List ℕ
+source_bytes held name place size = take size (drop place (bytes_of held name))
 
 -- What contracts see of a part of a file: the file's name, where the part begins, and how many bytes it has.
 pub record SourceSeen : Type 0 where
@@ -19,11 +19,11 @@ pub record SourceSeen : Type 0 where
   pub size : ℕ
 
 abbrev pub part_of : Option FileMap → SourceSeen → List ℕ
-part_of held source = part_in held source.name source.place source.size
+part_of held source = source_bytes held source.name source.place source.size
 
 -- The part lies in its file.
-abbrev pub LiesIn : Option FileMap → SourceSeen → Type 0
-LiesIn held source = WhereKnown held source.name (λ file. source.place + source.size ≤ length file)
+abbrev pub PartLiesIn : Option FileMap → SourceSeen → Type 0
+PartLiesIn held source = WhereKnown held source.name (λ file. source.place + source.size ≤ length file)
 
 -- A fault while inputs are copied has its cause: a read of an input failed, or a write of the output.
 abbrev pub IsCopyFault : (IsInput : ℕ → Type 0) → (old new : Outside) → MergeFault → Type 0

@@ -73,7 +73,7 @@ CopiesPart held names number records =
     CopiesInto held names number records (λ name part. WhereKnown held name (λ file. BeginsWith file part))
 
 -- A writer has not failed, and has room for the records of an input, which are as long as its own.
-pub record HasRoom (input : InputSeen) (writer : WriterSeen) : Type 0 where
+pub record HasRoomForInput (input : InputSeen) (writer : WriterSeen) : Type 0 where
   pub sound : writer.failed ≡ false
   pub size : writer.size ≡ record_length_of input.head.bytes
   pub room : writer.taken + writer.size * points_of input.head.bytes ≤ writer.size * writer.most
@@ -132,8 +132,8 @@ EndsMerging known was old now names out Memory = LeavesMid known was now.held na
 abbrev pub output_with : (name head : List ℕ) → (chunk : Option ℕ) → Output
 output_with name head chunk = record { name = name; head = head; chunk = chunk; counted = true }
 
-abbrev pub output_under : (name head : List ℕ) → (chunk : Option ℕ) → Output
-output_under name head chunk = output_with name (plain_of head) chunk
+abbrev pub output_of_merge : (name head : List ℕ) → (chunk : Option ℕ) → Output
+output_of_merge name head chunk = output_with name (plain_of head) chunk
 
 -- Beginning an output failed: it is left unfinished, whatever its records.
 abbrev pub FailsBeginning : (old new : Outside) → Output → MergeFault → Type 0

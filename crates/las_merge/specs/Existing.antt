@@ -22,11 +22,11 @@ AreKeptOrMerged = (known : FileMap) (names : List (List ℕ))
 
 -- Merging accepted files gives records.
 abbrev pub MergesToSomething : Type 0
-MergesToSomething = (files : List (List ℕ)) → All IsAcceptedFile files → All IsBytes files
+MergesToSomething = (files : List (List ℕ)) → All IsAcceptedFile files
     → (records : List ℕ) × (bad : Option BadPlace) × MergesTo files records bad
 
 -- Chunks of inputs can be copied, or something keeps the inputs from it.
 abbrev pub AreKeptOrCopied : Type 0
-AreKeptOrCopied = (known : FileMap) (names : List (List ℕ)) → HoldBytes known
+AreKeptOrCopied = (known : FileMap) (names : List (List ℕ))
     → ((cause : MergeFault) × IsKeptFromCopying known names cause)
     ⊎ ((files : List (List ℕ)) × (parts : List (List Chunk)) × CanCopyFrom known names files parts)

@@ -9,7 +9,7 @@ use Rattle.las_outside.specs.Files.{FileMap, IsMissing}
 use Rattle.las_outside.specs.Outside.{Outside}
 use Rattle.laz_forms.specs.declared.fault.Fault.TheVariants as fault
 use Rattle.laz_forms.specs.Refusing.{IsAcceptedFile, IsRefusal}
-use Rattle.laz_copied.specs.Copied.{first_head, points_in}
+use Rattle.laz_copied.specs.Copied.{first_head, points_of_files}
 use Rattle.las_merge.specs.declared.fault.MergeFault.{MergeFault}
 use Rattle.las_merge.specs.declared.fault.MergeFault.TheVariants.{At, Unequal, TooManyPoints, TooManyChunks, Write}
 use Rattle.las_merge.specs.declared.fault.MergeFault.TheVariants.{Memory}
@@ -24,7 +24,7 @@ abbrev pub item_at : List (List ℕ) → ℕ → List ℕ
 item_at items number = slice_index_or items number []
 
 -- The first inputs are these files: they are held, each is accepted when it is opened, and none differs from the first.
-pub record AreFirst (known : FileMap) (names files : List (List ℕ)) : Type 0 where
+pub record AreFirstInputs (known : FileMap) (names files : List (List ℕ)) : Type 0 where
   pub within : length files ≤ length names
   pub held : (k : ℕ) → k < length files → finmap.get known (item_at names k) ≡ Some (item_at files k)
   pub accepted : All IsAcceptedFile files
@@ -32,9 +32,9 @@ pub record AreFirst (known : FileMap) (names files : List (List ℕ)) : Type 0 w
 
 -- The inputs are these files, and they can be merged: they have fewer than 2^32 records.
 pub record CanMerge (known : FileMap) (names files : List (List ℕ)) : Type 0 where
-  pub first : AreFirst known names files
+  pub first : AreFirstInputs known names files
   pub all : length files ≡ length names
-  pub few : points_in files < 2 ^ 32
+  pub few : points_of_files files < 2 ^ 32
 
 abbrev pub CanBeMerged : (known : FileMap) → (names : List (List ℕ)) → Type 0
 CanBeMerged known names = (merged : List (List ℕ)) × CanMerge known names merged
@@ -42,11 +42,11 @@ CanBeMerged known names = (merged : List (List ℕ)) × CanMerge known names mer
 -- A merge comes to the input of this number: those before it are held, accepted and like the first.
 abbrev pub IsReached : (known : FileMap) → (names : List (List ℕ)) → (number : ℕ) → Type 0
 IsReached known names number =
-    (before : List (List ℕ)) × AreFirst known names before × (length before ≡ number)
+    (before : List (List ℕ)) × AreFirstInputs known names before × (length before ≡ number)
 
 -- The inputs before this one are these files.
 pub record Reaches (known : FileMap) (names : List (List ℕ)) (number : ℕ) (files : List (List ℕ)) : Type 0 where
-  pub first : AreFirst known names files
+  pub first : AreFirstInputs known names files
   pub number_is : length files ≡ number
   pub within : number < length names
 
@@ -65,7 +65,7 @@ IsKeptBy known names (Unequal number field) =
     × (finmap.get known (item_at names number) ≡ Some file) × IsAcceptedFile file
     × (first_difference (first_head files) (head_of file) ≡ Some field)
 IsKeptBy known names TooManyPoints =
-    (files : List (List ℕ)) × AreFirst known names files × (length files ≡ length names) × (2 ^ 32 ≤ points_in files)
+    (files : List (List ℕ)) × AreFirstInputs known names files × (length files ≡ length names) × (2 ^ 32 ≤ points_of_files files)
 IsKeptBy known names TooManyChunks = ⊥
 IsKeptBy known names Write = ⊥
 IsKeptBy known names Memory = ⊥

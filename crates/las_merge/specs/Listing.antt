@@ -30,15 +30,15 @@ pub record ListedInput : Type 0 where
   pub pieces : List Piece
 
 -- what is kept of an input that was opened, and what is kept with its pieces
-abbrev pub input_of : (name : List ℕ) → ReaderSeen → InputSeen
-input_of name reader = record { name = name; head = reader.head }
+abbrev pub input_opened : (name : List ℕ) → ReaderSeen → InputSeen
+input_opened name reader = record { name = name; head = reader.head }
 
 abbrev pub listed_as : (name : List ℕ) → ReaderSeen → ListedInput
-listed_as name reader = record { input = input_of name reader; pieces = reader.pieces }
+listed_as name reader = record { input = input_opened name reader; pieces = reader.pieces }
 
 -- the part of an input that its chunks are: they stand one after another, after the head and the pointer
-abbrev pub source_of : ListedInput → SourceSeen
-source_of listed = record {
+abbrev pub chunks_source : ListedInput → SourceSeen
+chunks_source listed = record {
   name = listed.input.name;
   place = length listed.input.head.bytes + 8;
   size = bytes_in listed.pieces;
@@ -62,30 +62,30 @@ asked_to_list (l ∷ listed) =
 -- The inputs have these numbers of points and of bytes in all their chunks, unless there are too many; and they were
 -- asked for this many bytes.
 pub record ListsChunks (held : Option FileMap) (inputs : List InputSeen) (sources : List SourceSeen) (many : Bool)
-    (counts sizes : List ℕ) (asked : ℕ) : Type 0 where
+    (points bytes : List ℕ) (asked : ℕ) : Type 0 where
   pub listed : List ListedInput
   pub inputs_are : inputs ≡ map (λ l. l.input) listed
-  pub sources_are : sources ≡ map source_of listed
+  pub sources_are : sources ≡ map chunks_source listed
   pub each : All (IsListed held) listed
-  pub few : length counts ≤ MAX_CHUNKS
+  pub few : length points ≤ MAX_CHUNKS
   pub once : asked ≤ asked_to_list listed
   pub many_are : many ≡ true → MAX_CHUNKS < length (all_pieces listed)
-  pub counts_are : many ≡ false → counts ≡ map (λ piece. piece.count) (all_pieces listed)
-  pub sizes_are : many ≡ false → sizes ≡ map (λ piece. piece.size) (all_pieces listed)
+  pub points_are : many ≡ false → points ≡ map (λ piece. piece.count) (all_pieces listed)
+  pub bytes_are : many ≡ false → bytes ≡ map (λ piece. piece.size) (all_pieces listed)
 
 -- The same of what is kept.
 abbrev pub Lists : (held : Option FileMap) → Listed → (asked : ℕ) → Type 0
 Lists held listed asked =
-    ListsChunks held listed.inputs.items listed.sources.items listed.lists.many listed.lists.counts.items
-    listed.lists.sizes.items asked
+    ListsChunks held listed.inputs.items listed.sources.items listed.lists.many listed.lists.points.items
+    listed.lists.bytes.items asked
 
 -- The lists get these numbers more, unless there would be too many, or were before.
-pub record AddsChunks (was now : Bool) (counts counts_now sizes sizes_now more_counts more_sizes : List ℕ) : Type 0
+pub record AddsChunks (was now : Bool) (points points_now bytes bytes_now more_points more_bytes : List ℕ) : Type 0
   where
     pub still_many : was ≡ true → now ≡ true
-    pub too_many : was ≡ false → now ≡ true → MAX_CHUNKS < length counts + length more_counts
-    pub counts_are : now ≡ false → counts_now ≡ counts ++ more_counts
-    pub sizes_are : now ≡ false → sizes_now ≡ sizes ++ more_sizes
+    pub too_many : was ≡ false → now ≡ true → MAX_CHUNKS < length points + length more_points
+    pub points_are : now ≡ false → points_now ≡ points ++ more_points
+    pub bytes_are : now ≡ false → bytes_now ≡ bytes ++ more_bytes
 
 -- How a packed input is not opened.
 abbrev pub FailsToList : (name : List ℕ) → (old new : Outside) → Fault → Type 0

@@ -19,11 +19,11 @@ use Rattle.las_merge.specs.Inputs.{item_at}
 
 -- what a fault of a call on the input of this number stands for: it is that input's, unless the output could not be
 -- written
-abbrev pub fault_of : (number : ℕ) → Fault → MergeFault
-fault_of number (fault.Refused cause) = At number (fault.Refused cause)
-fault_of number fault.Read = At number fault.Read
-fault_of number fault.Write = Write
-fault_of number fault.Memory = At number fault.Memory
+abbrev pub merge_fault : (number : ℕ) → Fault → MergeFault
+merge_fault number (fault.Refused cause) = At number (fault.Refused cause)
+merge_fault number fault.Read = At number fault.Read
+merge_fault number fault.Write = Write
+merge_fault number fault.Memory = At number fault.Memory
 
 -- What contracts see of an input that was opened: its name and its head.
 pub record InputSeen : Type 0 where
@@ -51,8 +51,8 @@ pub record IsAgain (held : Option FileMap) (input : InputSeen) (reader : ReaderS
   pub records : records_in reader.left ≡ points_of input.head.bytes
 
 -- the names of inputs
-abbrev pub names_read : List InputSeen → List (List ℕ)
-names_read inputs = map (λ input. input.name) inputs
+abbrev pub input_names : List InputSeen → List (List ℕ)
+input_names inputs = map (λ input. input.name) inputs
 
 -- the head of the first input
 abbrev pub first_read : List InputSeen → List ℕ
@@ -66,7 +66,7 @@ points_read inputs = sum_by (λ input. points_of input.head.bytes) inputs
 -- These are the first inputs, opened, and no head differs from the first.
 pub record AreOpen (held : Option FileMap) (names : List (List ℕ)) (inputs : List InputSeen) : Type 0 where
   pub within : length inputs ≤ length names
-  pub named : names_read inputs ≡ take (length inputs) names
+  pub named : input_names inputs ≡ take (length inputs) names
   pub opened : All (IsOpen held) inputs
   pub alike : All (λ input. first_difference (first_read inputs) input.head.bytes ≡ None) inputs
 
@@ -83,7 +83,7 @@ FailsAt number name old new fault =
     (cause : Fault) × (fault ≡ At number cause) × FailsOpening name old new cause
 
 -- The next input is opened, and its head does not differ from the first.
-pub record IsNext (held : Option FileMap) (name : List ℕ) (inputs : List InputSeen) (input : InputSeen) : Type 0 where
+pub record IsNextInput (held : Option FileMap) (name : List ℕ) (inputs : List InputSeen) (input : InputSeen) : Type 0 where
   pub named : input.name ≡ name
   pub opened : IsOpen held input
   pub alike : 1 ≤ length inputs → first_difference (first_read inputs) input.head.bytes ≡ None

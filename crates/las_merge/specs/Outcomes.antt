@@ -12,7 +12,7 @@ use Rattle.las_merge.specs.declared.fault.MergeFault.TheVariants.{At, Unequal, T
 use Rattle.las_merge.specs.declared.field.Field.{Field}
 use Rattle.las_merge.specs.Inputs.{CanBeMerged, IfKnown, IsKeptBy, IsReached, IsUnread, item_at}
 use Rattle.las_merge.specs.Merging.{IsLeftIn, IsMerged, IsRefusedIn}
-use Rattle.las_merge.specs.Packed.{CanBeCopied, CanCopyFrom, IsCopied, IsKeptFromCopying, IsLeftOfCopy, IsNoFault}
+use Rattle.las_merge.specs.Packed.{CanCopyInputs, CanCopyFrom, IsCopied, IsKeptFromCopying, IsLeftOfCopy, IsNoFault}
 use Rattle.las_merge.specs.Packed.{IsReachedPacked}
 
 -- What merging the inputs of these names by their records says of its outcome.
@@ -60,7 +60,7 @@ pub record SaysCopying (names : List (List ℕ)) (output : List ℕ) (old now : 
       → (number < length names) × IfKnown old.held (λ known. IsReachedPacked known names number)
   pub read : (number : ℕ) → IsErrOf outcome (At number fault.Read) → IsUnread (item_at names number) old now
   pub write : IsErrOf outcome Write
-      → Rose old.write_faults now.write_faults × IfKnown old.held (λ known. CanBeCopied known names)
+      → Rose old.write_faults now.write_faults × IfKnown old.held (λ known. CanCopyInputs known names)
   pub never : (number : ℕ) → IsErrOf outcome (At number fault.Write) → ⊥
   -- The output is begun only if the inputs can be copied, and then a prefix of it is left.
   pub left : OnErr outcome (IfKnown old.held (λ known. IsLeftOfCopy known names output old.held now.held))

@@ -11,12 +11,12 @@ use Rattle.laz_table.specs.declared.limits.TheConstants.{MAX_CHUNKS}
 use Rattle.laz_forms.specs.declared.fault.Fault.TheVariants as fault
 use Rattle.laz_reader.specs.Asking.{asked_for_chunks}
 use Rattle.laz_forms.specs.Refusing.{IsAcceptedFile, IsRefusal}
-use Rattle.laz_copied.specs.Copied.{Chunk, HaveChunks, byte_lists_in, copied_file, first_head, all_of, points_in}
+use Rattle.laz_copied.specs.Copied.{Chunk, HaveChunks, byte_lists_in, copied_file, first_head, all_of, points_of_files}
 use Rattle.las_merge.specs.declared.fault.MergeFault.{MergeFault}
 use Rattle.las_merge.specs.declared.fault.MergeFault.TheVariants.{At, Unequal, TooManyPoints, TooManyChunks, Write}
 use Rattle.las_merge.specs.declared.fault.MergeFault.TheVariants.{Memory}
 use Rattle.las_merge.specs.Fields.{first_difference}
-use Rattle.las_merge.specs.Inputs.{AreFirst, item_at}
+use Rattle.las_merge.specs.Inputs.{AreFirstInputs, item_at}
 
 -- a packed file
 abbrev pub IsPacked : (file : List ℕ) → Type 0
@@ -24,7 +24,7 @@ IsPacked file = is_packed (head_of file) ≡ true
 
 -- The first inputs are these files, as for merging, and all of them are packed.
 pub record AreFirstPacked (known : FileMap) (names files : List (List ℕ)) : Type 0 where
-  pub first : AreFirst known names files
+  pub first : AreFirstInputs known names files
   pub packed : All IsPacked files
 
 -- The inputs before this one are these files, all packed.
@@ -38,12 +38,12 @@ pub record ReachesPacked (known : FileMap) (names : List (List ℕ)) (number : �
 pub record CanCopyFrom (known : FileMap) (names files : List (List ℕ)) (parts : List (List Chunk)) : Type 0 where
   pub first : AreFirstPacked known names files
   pub all : length files ≡ length names
-  pub few : points_in files < 2 ^ 32
+  pub few : points_of_files files < 2 ^ 32
   pub have : HaveChunks files parts
   pub chunks : length (all_of parts) ≤ MAX_CHUNKS
 
-abbrev pub CanBeCopied : (known : FileMap) → (names : List (List ℕ)) → Type 0
-CanBeCopied known names = (files : List (List ℕ)) × (parts : List (List Chunk)) × CanCopyFrom known names files parts
+abbrev pub CanCopyInputs : (known : FileMap) → (names : List (List ℕ)) → Type 0
+CanCopyInputs known names = (files : List (List ℕ)) × (parts : List (List Chunk)) × CanCopyFrom known names files parts
 
 -- Copying comes to the input of this number: those before it are held, accepted, packed and like the first.
 abbrev pub IsReachedPacked : (known : FileMap) → (names : List (List ℕ)) → (number : ℕ) → Type 0
@@ -94,10 +94,10 @@ IsKeptFromCopying known names (Unequal number field) =
     × (first_difference (first_head files) (head_of file) ≡ Some field)
 IsKeptFromCopying known names TooManyPoints =
     (files : List (List ℕ)) × AreFirstPacked known names files × (length files ≡ length names)
-    × (2 ^ 32 ≤ points_in files)
+    × (2 ^ 32 ≤ points_of_files files)
 IsKeptFromCopying known names TooManyChunks =
     (files : List (List ℕ)) × (parts : List (List Chunk)) × AreFirstPacked known names files
-    × (length files ≡ length names) × (points_in files < 2 ^ 32) × HaveChunks files parts
+    × (length files ≡ length names) × (points_of_files files < 2 ^ 32) × HaveChunks files parts
     × (MAX_CHUNKS < length (all_of parts))
 IsKeptFromCopying known names Write = ⊥
 IsKeptFromCopying known names Memory = ⊥

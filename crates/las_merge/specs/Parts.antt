@@ -17,8 +17,8 @@ use Rattle.las_merge.specs.Merging.{MergesTo, merged_output}
 abbrev pub part_file : (head records : List ℕ) → List ℕ
 part_file head records = finished (output_with [] head None) records
 
-abbrev pub part_files : (head : List ℕ) → (parts : List (List ℕ)) → List (List ℕ)
-part_files head parts = map (part_file head) parts
+abbrev pub part_packed_files : (head : List ℕ) → (parts : List (List ℕ)) → List (List ℕ)
+part_packed_files head parts = map (part_file head) parts
 
 -- whole records of a head, as bytes
 pub record IsPart (head part : List ℕ) : Type 0 where
@@ -46,7 +46,7 @@ StandUnder known names head parts =
 abbrev pub PartsMerge : Type 0
 PartsMerge = (known : FileMap) (names : List (List ℕ)) (head : List ℕ) (parts : List (List ℕ)) → AreParts head parts
     → 1 ≤ length parts → length parts ≡ length names → StandUnder known names head parts
-    → CanMerge known names (part_files head parts) × MergesTo (part_files head parts) (concat parts) None
+    → CanMerge known names (part_packed_files head parts) × MergesTo (part_packed_files head parts) (concat parts) None
     × ((name : List ℕ) (chunk : Option ℕ)
-    → finished (merged_output name (part_files head parts) chunk) (concat parts)
+    → finished (merged_output name (part_packed_files head parts) chunk) (concat parts)
     ≡ finished (output_with name head chunk) (concat parts))

@@ -11,16 +11,16 @@ use Rattle.las_merge.specs.Appending.{SourceSeen, part_of}
 use Rattle.las_merge.specs.Opening.{InputSeen, first_read, points_read}
 
 -- the numbers of points by return of all inputs; a sum above the greatest number becomes that number
-abbrev pub returns_in : List InputSeen → List ℕ
-returns_in inputs = sums_up_to (2 ^ 32 - 1) 5 (λ input. returns_of input.head.bytes) inputs
+abbrev pub returns_summed : List InputSeen → List ℕ
+returns_summed inputs = sums_up_to (2 ^ 32 - 1) 5 (λ input. returns_of input.head.bytes) inputs
 
-abbrev pub long_returns_in : List InputSeen → List ℕ
-long_returns_in inputs = sums_up_to (2 ^ 64 - 1) 15 (λ input. returns_to_15 input.head.bytes) inputs
+abbrev pub long_returns_summed : List InputSeen → List ℕ
+long_returns_summed inputs = sums_up_to (2 ^ 64 - 1) 15 (λ input. returns_to_15 input.head.bytes) inputs
 
 -- the plain head of the first input, with the sums of the counts of all
 abbrev pub summed_head : List InputSeen → List ℕ
 summed_head inputs =
-    with_sums (points_read inputs) (returns_in inputs) (long_returns_in inputs) (plain_of (first_read inputs))
+    with_sums (points_read inputs) (returns_summed inputs) (long_returns_summed inputs) (plain_of (first_read inputs))
 
 -- what is written: a head and a pointer, parts of files, and a table
 abbrev pub copied_text : Option FileMap → (head : List ℕ) → (pointer : ℕ) → (sources : List SourceSeen)

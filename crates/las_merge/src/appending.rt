@@ -7,7 +7,7 @@ ghost use Rattle.las_outside.specs.Frames.{IsCalm, OnlyWrites};
 ghost use Rattle.las_outside.specs.Outside.{Outside, with_bytes, with_write_fault};
 ghost use Rattle.laz_reader.specs.Asking.{ReadsAndWrites};
 ghost use Rattle.laz_file.specs.Copying.{with_reads};
-ghost use Rattle.las_merge.specs.Appending.{IsCopyFault, LiesIn, part_in, part_of};
+ghost use Rattle.las_merge.specs.Appending.{IsCopyFault, PartLiesIn, source_bytes, part_of};
 
 use crate::MergeFault;
 use crate::source::Source;
@@ -50,10 +50,10 @@ fn copy_piece<F: Files>(
     requires held { (before : Outside) × (text : List ℕ) × (F.seen files.old ≡ with_bytes before output.now text) }
     ensures copied { (before : Outside) (text : List ℕ) → F.seen files.old ≡ with_bytes before output.now text
         → OnOk result (F.seen files.new ≡ with_bytes (with_reads before (F.seen files.new)) output.now
-        (text ++ part_in (F.seen files.old).held input.now place (length buffer.old))) }
+        (text ++ source_bytes (F.seen files.old).held input.now place (length buffer.old))) }
     ensures left { (before : Outside) (text : List ℕ) → F.seen files.old ≡ with_bytes before output.now text
         → OnErr result ((n : ℕ) × ((F.seen files.new).held ≡ with_file before.held output.now
-        (text ++ take n (part_in (F.seen files.old).held input.now place (length buffer.old))))) }
+        (text ++ take n (source_bytes (F.seen files.old).held input.now place (length buffer.old))))) }
     ensures cause { IfErr result (IsCopyFault (λ n. n ≡ number) (F.seen files.old) (F.seen files.new)) }
     ensures room { length buffer.new ≡ length buffer.old }
     ensures calm { OnOk result (IsCalm (F.seen files.old) (F.seen files.new)) }
@@ -86,10 +86,10 @@ fn copy_part<F: Files>(
     requires held { (before : Outside) × (text : List ℕ) × (F.seen files.old ≡ with_bytes before output.now text) }
     ensures copied { (before : Outside) (text : List ℕ) → F.seen files.old ≡ with_bytes before output.now text
         → OnOk result (F.seen files.new ≡ with_bytes (with_reads before (F.seen files.new)) output.now
-        (text ++ part_in (F.seen files.old).held input.now place size)) }
+        (text ++ source_bytes (F.seen files.old).held input.now place size)) }
     ensures left { (before : Outside) (text : List ℕ) → F.seen files.old ≡ with_bytes before output.now text
         → OnErr result ((n : ℕ) × ((F.seen files.new).held ≡ with_file before.held output.now
-        (text ++ take n (part_in (F.seen files.old).held input.now place size)))) }
+        (text ++ take n (source_bytes (F.seen files.old).held input.now place size)))) }
     ensures cause { IfErr result (IsCopyFault (λ n. n ≡ number) (F.seen files.old) (F.seen files.new)) }
     ensures room { length buffer.new ≡ length buffer.old }
     ensures calm { OnOk result (IsCalm (F.seen files.old) (F.seen files.new)) }
@@ -115,7 +115,7 @@ pub(crate) fn copy_all<F: Files>(
     requires some { 0 < length buffer.old }
     requires few { length sources.now ≤ 32 }
     requires names { All (λ source. source.name ≢ output.now) sources.now }
-    requires lie { All (LiesIn (F.seen files.old).held) sources.now }
+    requires lie { All (PartLiesIn (F.seen files.old).held) sources.now }
     requires held { (before : Outside) × (text : List ℕ) × (F.seen files.old ≡ with_bytes before output.now text) }
     ensures copied { (before : Outside) (text : List ℕ) → F.seen files.old ≡ with_bytes before output.now text
         → OnOk result (F.seen files.new ≡ with_bytes (with_reads before (F.seen files.new)) output.now

@@ -1,5 +1,5 @@
 //! The records of the inputs, which go one input after another into the output.
-ghost use Rattle.std.specs.Prelude.{◌≡◌, ◌≢◌, ◌*◌, ◌+◌, ◌<◌, ◌≤◌, ℕ, List, All, None, Some, false, length};
+ghost use Rattle.std.specs.Prelude.{◌≡◌, ◌≢◌, ◌*◌, ◌+◌, ◌<◌, ◌≤◌, ℕ, List, Option, All, None, Some, false, length};
 ghost use Rattle.std.specs.Prelude.{IfErr, IfOk, OnErr, OnOk};
 ghost use Rattle.las_header.specs.Fields.{points_of, record_length_of};
 ghost use Rattle.las_outside.specs.Files.{WhereKnown};
@@ -11,11 +11,11 @@ ghost use Rattle.laz_file.specs.Copying.{CanTake, LeavesPart, Takes};
 ghost use Rattle.laz_forms.specs.FileFaults.{HasCause};
 ghost use Rattle.laz_reader.specs.Reading.{IsNewReader, StandsFor, records_in};
 ghost use Rattle.laz_writer.specs.Writing.{IsBegun};
-ghost use Rattle.las_merge.specs.Asking.{asked_of_all, asked_to_read};
+ghost use Rattle.las_merge.specs.Asking.{IsAskedToRead, asked_of_all};
 ghost use Rattle.las_merge.specs.Inputs.{IfKnown};
-ghost use Rattle.las_merge.specs.Copying.{BeginsWith, CopiesTo, CopiesUpTo, FailsCopying, HasRoom};
+ghost use Rattle.las_merge.specs.Copying.{BeginsWith, CopiesTo, CopiesUpTo, FailsCopying, HasRoomForInput};
 ghost use Rattle.las_merge.specs.Copying.{IsFaultOf};
-ghost use Rattle.las_merge.specs.Opening.{IsOpen, fault_of, names_read, points_read};
+ghost use Rattle.las_merge.specs.Opening.{IsOpen, merge_fault, input_names, points_read};
 ghost use Rattle.las_merge.specs.Packed.{IsNoFault};
 
 use crate::MergeFault;
@@ -76,7 +76,7 @@ fn copy_input<R: Threads + Sync, F: Files, G: Gate>(
 }
 
 // Opens an input again, and copies its records: all of them, or those before its first bad chunk, which is the answer.
-// What is known of its chunks is let go at the end.
+// What is known of its chunks is dropped at the end.
 fn copy_next<R: Threads + Sync, F: Files, G: Gate>(
     machine: Machine<'_, R, G>,
     files: &mut F,
@@ -87,7 +87,7 @@ fn copy_next<R: Threads + Sync, F: Files, G: Gate>(
     requires workers { AreWorkers machine.workers }
     requires opened { IsOpen (F.seen files.old).held input.now }
     requires names { input.now.name ≢ writer.old.name }
-    requires room { HasRoom input.now writer.old }
+    requires room { HasRoomForInput input.now writer.old }
     requires stands { IsBegun (F.seen files.old) writer.old }
     ensures copied { IfOk result (λ end. (records : List ℕ)
         × CopiesTo (F.seen files.old).held input.now.name records end
@@ -102,8 +102,9 @@ fn copy_next<R: Threads + Sync, F: Files, G: Gate>(
     ensures calm { OnOk result (IsCalm (F.seen files.old) (F.seen files.new)) }
     ensures calm_kept { IfErr result (λ fault. IsNoFault fault
         → IsCalm (F.seen files.old) (F.seen files.new)) }
-    ensures asked { WhereKnown (F.seen files.old).held input.now.name (λ file.
-        AsksAtMost (asked_to_read (Some file)) (F.seen files.old) (F.seen files.new)) }
+    ensures asked { (asked : Option (List ℕ) → ℕ) → IsAskedToRead asked
+        → WhereKnown (F.seen files.old).held input.now.name (λ file.
+        AsksAtMost (asked (Some file)) (F.seen files.old) (F.seen files.new)) }
     ensures later { Later (F.seen files.old) (F.seen files.new) }
 {
     let reader = match open_again(machine.alloc, files, number, input) {
@@ -133,16 +134,16 @@ pub(crate) fn copy_inputs<R: Threads + Sync, F: Files, G: Gate>(
     requires sound { writer.old.failed ≡ false }
     requires stands { IsBegun (F.seen files.old) writer.old }
     ensures copied { IfOk result (λ end. (records : List ℕ)
-        × CopiesUpTo (F.seen files.old).held (names_read inputs.items) records end
+        × CopiesUpTo (F.seen files.old).held (input_names inputs.items) records end
         × Takes (F.seen files.old) (F.seen files.new) writer.old writer.new records) }
     ensures ends { IfErr result
-        (FailsCopying (F.seen files.old) (F.seen files.new) (names_read inputs.items) writer.old) }
+        (FailsCopying (F.seen files.old) (F.seen files.new) (input_names inputs.items) writer.old) }
     ensures open { OnOk result (writer.new.failed ≡ false) }
     ensures calm { OnOk result (IsCalm (F.seen files.old) (F.seen files.new)) }
     ensures calm_kept { IfErr result (λ fault. IsNoFault fault
         → IsCalm (F.seen files.old) (F.seen files.new)) }
-    ensures asked { IfKnown (F.seen files.old).held (λ known. AsksAtMost
-        (asked_of_all asked_to_read known (names_read inputs.items)) (F.seen files.old) (F.seen files.new)) }
+    ensures asked { (asked : Option (List ℕ) → ℕ) → IsAskedToRead asked → IfKnown (F.seen files.old).held (λ known.
+        AsksAtMost (asked_of_all asked known (input_names inputs.items)) (F.seen files.old) (F.seen files.new)) }
     ensures later { Later (F.seen files.old) (F.seen files.new) }
 {
     let mut number = 0;

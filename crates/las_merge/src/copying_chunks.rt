@@ -15,8 +15,8 @@ ghost use Rattle.laz_copied.specs.Copied.{Chunk};
 ghost use Rattle.laz_file.specs.Copying.{with_reads};
 ghost use Rattle.las_merge.specs.declared.fault.MergeFault.{MergeFault};
 ghost use Rattle.las_merge.specs.declared.fault.MergeFault.TheVariants.{Write};
-ghost use Rattle.las_merge.specs.Appending.{IsCopyFault, LeavesPrefix, LiesIn};
-ghost use Rattle.las_merge.specs.Asking.{asked_of_all, asked_to_read};
+ghost use Rattle.las_merge.specs.Appending.{IsCopyFault, LeavesPrefix, PartLiesIn};
+ghost use Rattle.las_merge.specs.Asking.{asked_of_all, asked_with_chunks};
 ghost use Rattle.las_merge.specs.Inputs.{IfKnown, names_of};
 ghost use Rattle.las_merge.specs.Opening.{first_read, points_read};
 ghost use Rattle.las_merge.specs.Outcomes.{SaysCopying};
@@ -45,7 +45,7 @@ struct Frame {
     buffer: Vec<u8>,
 }
 
-// Written out, so that letting them go is one call in each caller.
+// By hand, so that each caller drops them by one call.
 impl Drop for Frame {
     fn drop(self) {
         let Frame {
@@ -81,19 +81,19 @@ fn frame_of(alloc: Global, listed: &Listed, points: u32) -> Result<Frame, AllocE
     requires packed { is_packed (first_read listed.now.inputs.items) ≡ true }
     requires one { length (laszip_vlrs_of (first_read listed.now.inputs.items)) ≡ 1 }
     requires points { points ≡ points_read listed.now.inputs.items }
-    requires same { length listed.now.lists.counts.items ≡ length listed.now.lists.sizes.items }
-    requires few { length listed.now.lists.sizes.items ≤ MAX_CHUNKS }
+    requires same { length listed.now.lists.points.items ≡ length listed.now.lists.bytes.items }
+    requires few { length listed.now.lists.bytes.items ≤ MAX_CHUNKS }
     ensures head { IfOk result (λ frame. frame.head.bytes
         ≡ packed_head (summed_head listed.now.inputs.items) COUNTED_CHUNKS) }
     ensures place { IfOk result (λ frame. frame.place
-        ≡ length frame.head.bytes + 8 + sum listed.now.lists.sizes.items) }
+        ≡ length frame.head.bytes + 8 + sum listed.now.lists.bytes.items) }
     ensures table { IfOk result (λ frame. frame.table.items
-        ≡ table_bytes listed.now.lists.counts.items listed.now.lists.sizes.items) }
+        ≡ table_bytes listed.now.lists.points.items listed.now.lists.bytes.items) }
     ensures buffer { IfOk result (λ frame. length frame.buffer.items ≡ PIECE) }
 {
     let head = head_of(alloc, &listed.inputs, points)?;
-    let place = head.bytes().len() as u64 + 8 + total(&listed.lists.sizes);
-    let table = counted_table_of(alloc, &listed.lists.counts, &listed.lists.sizes)?;
+    let place = head.bytes().len() as u64 + 8 + total(&listed.lists.bytes);
+    let table = counted_table_of(alloc, &listed.lists.points, &listed.lists.bytes)?;
     let buffer = vec![in alloc; 0; PIECE]?;
     Ok(Frame {
         head,
@@ -137,7 +137,7 @@ fn write<F: Files>(
 ) -> Result<(), MergeFault>
     requires few { length sources.now ≤ 32 }
     requires names { All (λ source. source.name ≢ output.now) sources.now }
-    requires lie { All (LiesIn (F.seen files.old).held) sources.now }
+    requires lie { All (PartLiesIn (F.seen files.old).held) sources.now }
     requires buffer { 0 < length frame.old.buffer.items }
     ensures written { OnOk result (F.seen files.new
         ≡ with_bytes (with_reads (F.seen files.old) (F.seen files.new)) output.now
@@ -192,7 +192,7 @@ pub fn merge_copied<F: Files>(
         → IsCalm (F.seen files.old) (F.seen files.new)) }
     // However the call ends, no more is asked for than what opening each input once and reading it once takes,
     ensures asked_always { IfKnown (F.seen files.old).held (λ known.
-        AsksAtMost (asked_of_all asked_to_read known (names_of inputs.now)) (F.seen files.old) (F.seen files.new)) }
+        AsksAtMost (asked_of_all asked_with_chunks known (names_of inputs.now)) (F.seen files.old) (F.seen files.new)) }
     // and no more of its head, its table and its chunks if all is done.
     ensures asked { OnOk result (IfKnown (F.seen files.old).held (λ known.
         (merged : List (List ℕ)) (parts : List (List Chunk)) → CanCopyFrom known (names_of inputs.now) merged parts

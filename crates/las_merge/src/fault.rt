@@ -1,3 +1,4 @@
+//! Why files are not merged.
 use crate::Field;
 use laz_file::Fault;
 use thiserror::Error;

@@ -3,7 +3,7 @@ ghost use Rattle.std.specs.Prelude.{◌≡◌, ◌+◌, ◌≤◌, length};
 ghost use Rattle.std.specs.Str.{bytes_eq};
 ghost use Rattle.las_merge.specs.Fields.{field_bytes, first_difference, is_same};
 
-use las_header::Head;
+use las_header::{BOUNDS_AT, Head, OFFSETS_AT, SCALES_AT};
 
 /// What the heads of files that are merged have in common.
 #[derive(Clone, Copy, Debug, PartialEq, Eq)]
@@ -20,13 +20,7 @@ pub enum Field {
     Bounds,
 }
 
-// The places in a head of the scales, the offsets and the box. Each of the first two takes 24 bytes, and the box 48.
-const SCALES_AT: usize = 131;
-
-const OFFSETS_AT: usize = 155;
-
-const BOUNDS_AT: usize = 179;
-
+// How long the scales and the offsets are, each, and the box.
 const THREE_DOUBLES: usize = 24;
 
 const SIX_DOUBLES: usize = 48;

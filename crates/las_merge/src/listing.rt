@@ -8,16 +8,16 @@ ghost use Rattle.laz_table.specs.declared.limits.TheConstants.{MAX_CHUNKS};
 ghost use Rattle.laz_reader.specs.Asking.{AsksAtMost};
 ghost use Rattle.las_merge.specs.Asking.{asked_of_all, asked_to_compare};
 ghost use Rattle.las_merge.specs.Inputs.{IfKnown, names_of};
-ghost use Rattle.las_merge.specs.Listing.{AddsChunks, EndsListing, FailsNextPacked, Lists, input_of};
-ghost use Rattle.las_merge.specs.Listing.{listed_as, source_of};
-ghost use Rattle.las_merge.specs.Opening.{AreOpen, InputSeen, IsNext};
+ghost use Rattle.las_merge.specs.Listing.{AddsChunks, EndsListing, FailsNextPacked, Lists, input_opened};
+ghost use Rattle.las_merge.specs.Listing.{listed_as, chunks_source};
+ghost use Rattle.las_merge.specs.Opening.{AreOpen, InputSeen, IsNextInput};
 ghost use Rattle.las_merge.specs.Packed.{IsNoFault};
 
 use crate::MergeFault;
 use crate::input::Input;
 use crate::opening::{difference, fault_of};
 use crate::source::Source;
-use las_header::{Head, Refusal, u32_at};
+use las_header::{Head, Refusal};
 use las_outside::Files;
 use laz_file::{Fault, Reader};
 use laz_table::MAX_CHUNKS;
@@ -26,8 +26,8 @@ use std::alloc::{AllocError, Global};
 /// The numbers of points and of bytes of the chunks of all inputs, unless there are more than 2^24 chunks.
 #[derive(Drop)]
 pub(crate) struct ChunkLists {
-    pub(crate) counts: Vec<u32>,
-    pub(crate) sizes: Vec<u32>,
+    pub(crate) points: Vec<u32>,
+    pub(crate) bytes: Vec<u32>,
     // Whether there are more. The lists are then those of some of the inputs.
     pub(crate) many: bool,
 }
@@ -40,7 +40,7 @@ pub(crate) struct Listed {
     pub(crate) lists: ChunkLists,
 }
 
-// Written out, so that letting the lists go is one call in each caller.
+// By hand, so that each caller drops the lists by one call.
 impl Drop for Listed {
     fn drop(self) {
         let Listed {
@@ -72,56 +72,55 @@ impl ChunkLists {
     pub(crate) fn add(
         &mut self,
         chunks: u32,
-        counts: &[u32],
-        sizes: &[u32],
+        points: &[u32],
+        bytes: &[u32],
     ) -> Result<(), AllocError>
-        requires chunks { chunks ≡ length counts.now }
-        requires few { vec_len self.old.counts ≤ MAX_CHUNKS }
-        ensures added { OnOk result (AddsChunks self.old.many self.new.many self.old.counts.items
-            self.new.counts.items self.old.sizes.items self.new.sizes.items counts.now sizes.now) }
-        ensures few { OnOk result (vec_len self.new.counts ≤ MAX_CHUNKS) }
+        requires chunks { chunks ≡ length points.now }
+        requires few { vec_len self.old.points ≤ MAX_CHUNKS }
+        ensures added { OnOk result (AddsChunks self.old.many self.new.many self.old.points.items
+            self.new.points.items self.old.bytes.items self.new.bytes.items points.now bytes.now) }
+        ensures few { OnOk result (vec_len self.new.points ≤ MAX_CHUNKS) }
     {
-        if self.many || chunks > MAX_CHUNKS - self.counts.len() as u32 {
+        if self.many || chunks > MAX_CHUNKS - self.points.len() as u32 {
             self.many = true;
             return Ok(());
         }
-        self.counts.extend_from_slice(counts)?;
-        self.sizes.extend_from_slice(sizes)
+        self.points.extend_from_slice(points)?;
+        self.bytes.extend_from_slice(bytes)
     }
 }
 
 // Where the chunks of an input stand, one after another: after its head, and the eight bytes of its pointer.
-fn source_of(alloc: Global, name: &str, head: &Head, sizes: &[u32]) -> Result<Source, AllocError>
-    requires few { length sizes.now < 2 ^ 32 }
+fn source_of(alloc: Global, name: &str, head: &Head, bytes: &[u32]) -> Result<Source, AllocError>
+    requires few { length bytes.now < 2 ^ 32 }
     ensures { IfOk result (λ source. source
-        ≡ record { name = name.now; place = length head.now.bytes + 8; size = sum sizes.now }) }
+        ≡ record { name = name.now; place = length head.now.bytes + 8; size = sum bytes.now }) }
 {
     let name = String::from_str(alloc, name)?;
-    let offset = u32_at(head.bytes(), 96);
     Ok(Source {
         name,
-        place: u64::from(offset) + 8,
-        size: total(sizes),
+        place: u64::from(head.offset()) + 8,
+        size: total(bytes),
     })
 }
 
 impl Listed {
     // Adds an input that was opened.
     fn add(&mut self, alloc: Global, name: &str, reader: Reader) -> Result<(), AllocError>
-        requires few { vec_len self.old.lists.counts ≤ MAX_CHUNKS }
-        ensures inputs { OnOk result (self.new.inputs.items ≡ self.old.inputs.items ++ input_of name.now reader ∷ []) }
+        requires few { vec_len self.old.lists.points ≤ MAX_CHUNKS }
+        ensures inputs { OnOk result (self.new.inputs.items ≡ self.old.inputs.items ++ input_opened name.now reader ∷ []) }
         ensures sources { OnOk result (self.new.sources.items
-            ≡ self.old.sources.items ++ source_of (listed_as name.now reader) ∷ []) }
+            ≡ self.old.sources.items ++ chunks_source (listed_as name.now reader) ∷ []) }
         ensures added { OnOk result (AddsChunks self.old.lists.many self.new.lists.many
-            self.old.lists.counts.items self.new.lists.counts.items
-            self.old.lists.sizes.items self.new.lists.sizes.items
+            self.old.lists.points.items self.new.lists.points.items
+            self.old.lists.bytes.items self.new.lists.bytes.items
             (map (λ piece. piece.count) reader.pieces) (map (λ piece. piece.size) reader.pieces)) }
-        ensures few { OnOk result (vec_len self.new.lists.counts ≤ MAX_CHUNKS) }
+        ensures few { OnOk result (vec_len self.new.lists.points ≤ MAX_CHUNKS) }
     {
         let chunks = reader.chunks();
-        let (head, counts, sizes) = reader.into_chunks();
-        let source = source_of(alloc, name, &head, &sizes)?;
-        self.lists.add(chunks, &counts, &sizes)?;
+        let (head, points, bytes) = reader.into_chunks();
+        let source = source_of(alloc, name, &head, &bytes)?;
+        self.lists.add(chunks, &points, &bytes)?;
         let name = String::from_str(alloc, name)?;
         match self.inputs.push(Input { name, head }) {
             Ok(()) => {}
@@ -144,7 +143,7 @@ fn list_next<F: Files>(
     requires few { vec_len listed.old.inputs < 32 }
     requires lists { (asked : ℕ) × Lists (F.seen files.old).held listed.old asked }
     ensures next { OnOk result ((input : InputSeen)
-        × IsNext (F.seen files.old).held name.now listed.old.inputs.items input
+        × IsNextInput (F.seen files.old).held name.now listed.old.inputs.items input
         × (listed.new.inputs.items ≡ listed.old.inputs.items ++ input ∷ [])) }
     ensures lists { (asked : ℕ) → Lists (F.seen files.old).held listed.old asked
         → OnOk result (Lists (F.seen files.old).held listed.new
@@ -199,8 +198,8 @@ pub(crate) fn list_inputs<F: Files>(
         inputs: Vec::new(alloc),
         sources: Vec::new(alloc),
         lists: ChunkLists {
-            counts: Vec::new(alloc),
-            sizes: Vec::new(alloc),
+            points: Vec::new(alloc),
+            bytes: Vec::new(alloc),
             many: false,
         },
     };

@@ -1,5 +1,5 @@
 //! Whole files that are merged.
-ghost use Rattle.std.specs.Prelude.{◌≡◌, ◌≢◌, ◌⊎◌, ◌*◌, ◌<◌, ◌≤◌, ℕ, List, [], All, true, false, length};
+ghost use Rattle.std.specs.Prelude.{◌≡◌, ◌≢◌, ◌⊎◌, ◌*◌, ◌<◌, ◌≤◌, ℕ, List, Option, [], All, true, false, length};
 ghost use Rattle.std.specs.Prelude.{IfErr, IfOk, OnOk, string_bytes};
 ghost use Rattle.std.specs.Option.{ForSome};
 ghost use Rattle.las_header.specs.Fields.{is_packed, record_length_of};
@@ -14,10 +14,10 @@ ghost use Rattle.laz_reader.specs.Asking.{AsksAtMost};
 ghost use Rattle.laz_forms.specs.Outputs.{Output, finished};
 ghost use Rattle.laz_writer.specs.Writing.{Stands};
 ghost use Rattle.las_merge.specs.declared.fault.MergeFault.TheVariants.{Memory, Write};
-ghost use Rattle.las_merge.specs.Asking.{asked_of_all, asked_to_merge, asked_to_read};
-ghost use Rattle.las_merge.specs.Copying.{CopiesAll, EndsMerging, FailsBeginning, output_under, output_with};
+ghost use Rattle.las_merge.specs.Asking.{IsAskedToRead, asked_of_all, asked_to_merge};
+ghost use Rattle.las_merge.specs.Copying.{CopiesAll, EndsMerging, FailsBeginning, output_of_merge, output_with};
 ghost use Rattle.las_merge.specs.Inputs.{IfKnown, names_of};
-ghost use Rattle.las_merge.specs.Opening.{IsOpen, names_read, points_read};
+ghost use Rattle.las_merge.specs.Opening.{IsOpen, input_names, points_read};
 ghost use Rattle.las_merge.specs.Outcomes.{SaysMerging};
 ghost use Rattle.las_merge.specs.Packed.{IsNoFault};
 
@@ -88,11 +88,11 @@ fn begin<F: Files>(
     requires chunk { ForSome chunk IsChunkSize }
     requires workers { AreWorkers workers }
     ensures stands { IfOk result (λ writer. Stands (F.seen files.old) (F.seen files.new) writer
-        (output_under output.now head.now.bytes chunk) []) }
+        (output_of_merge output.now head.now.bytes chunk) []) }
     ensures fresh { IfOk result (λ writer. (writer.failed ≡ false) × (writer.most ≡ most) × (writer.taken ≡ 0)
         × (writer.size ≡ record_length_of head.now.bytes)) }
     ensures ends { IfErr result (FailsBeginning (F.seen files.old) (F.seen files.new)
-        (output_under output.now head.now.bytes chunk)) }
+        (output_of_merge output.now head.now.bytes chunk)) }
     ensures calm { OnOk result (IsCalm (F.seen files.old) (F.seen files.new)) }
     ensures writes { OnlyWrites (F.seen files.old) (F.seen files.new) }
 {
@@ -106,7 +106,7 @@ fn begin<F: Files>(
 }
 
 // Copies the records of all inputs into the output, and finishes it. After a bad chunk it is stopped.
-fn fill<R: Threads + Sync, F: Files, G: Gate>(
+fn join_and_finish<R: Threads + Sync, F: Files, G: Gate>(
     machine: Machine<'_, R, G>,
     files: &mut F,
     inputs: Vec<Input>,
@@ -121,16 +121,16 @@ fn fill<R: Threads + Sync, F: Files, G: Gate>(
     requires fresh { (writer.failed ≡ false) × (writer.taken ≡ 0) }
     requires stands { (before : Outside) × (out : Output) × Stands before (F.seen files.old) writer out [] }
     ensures finished { (before : Outside) (out : Output) → Stands before (F.seen files.old) writer out []
-        → OnOk result ((records : List ℕ) × CopiesAll (F.seen files.old).held (names_read inputs.items) records
+        → OnOk result ((records : List ℕ) × CopiesAll (F.seen files.old).held (input_names inputs.items) records
         × ((F.seen files.new).held ≡ with_file before.held out.name (finished out records))) }
     ensures ends { (before : Outside) (out : Output) → Stands before (F.seen files.old) writer out []
         → IfErr result (EndsMerging (F.seen files.old).held before.held (F.seen files.old) (F.seen files.new)
-        (names_read inputs.items) out) }
+        (input_names inputs.items) out) }
     ensures calm { OnOk result (IsCalm (F.seen files.old) (F.seen files.new)) }
     ensures calm_kept { IfErr result (λ fault. IsNoFault fault
         → IsCalm (F.seen files.old) (F.seen files.new)) }
-    ensures asked { IfKnown (F.seen files.old).held (λ known. AsksAtMost
-        (asked_of_all asked_to_read known (names_read inputs.items)) (F.seen files.old) (F.seen files.new)) }
+    ensures asked { (asked : Option (List ℕ) → ℕ) → IsAskedToRead asked → IfKnown (F.seen files.old).held (λ known.
+        AsksAtMost (asked_of_all asked known (input_names inputs.items)) (F.seen files.old) (F.seen files.new)) }
     ensures later { Later (F.seen files.old) (F.seen files.new) }
 {
     let mut writer = writer;
@@ -184,9 +184,10 @@ pub fn merge<R: Threads + Sync, F: Files, G: Gate>(
     // No call has failed if the inputs are refused or can't be merged.
     ensures calm_kept { IfErr result (λ fault. IsNoFault fault
         → IsCalm (F.seen files.old) (F.seen files.new)) }
-    // However the call ends, no more is asked for than what opening each input twice and reading it once takes.
-    ensures asked { IfKnown (F.seen files.old).held (λ known.
-        AsksAtMost (asked_to_merge known (names_of inputs.now)) (F.seen files.old) (F.seen files.new)) }
+    // However the call ends, no more is asked for than opening each input twice takes, and reading once its pieces that
+    // may hold their records.
+    ensures asked { (asked : Option (List ℕ) → ℕ) → IsAskedToRead asked → IfKnown (F.seen files.old).held (λ known.
+        AsksAtMost (asked_to_merge asked known (names_of inputs.now)) (F.seen files.old) (F.seen files.new)) }
 {
     let alloc = machine.alloc;
     let opened = open_inputs(alloc, files, inputs)?;
@@ -200,5 +201,5 @@ pub fn merge<R: Threads + Sync, F: Files, G: Gate>(
         most,
         machine.workers,
     )?;
-    fill(machine, files, opened, writer)
+    join_and_finish(machine, files, opened, writer)
 }

@@ -10,8 +10,8 @@ ghost use Rattle.las_merge.specs.Fields.{first_difference};
 ghost use Rattle.las_merge.specs.Asking.{asked_of_all, asked_to_compare};
 ghost use Rattle.las_merge.specs.Inputs.{IfKnown, names_of};
 ghost use Rattle.las_merge.specs.Copying.{IsFaultOf};
-ghost use Rattle.las_merge.specs.Opening.{AreOpen, EndsOpening, FailsAt, FailsNext, InputSeen, IsAgain, IsNext, IsOpen};
-ghost use Rattle.las_merge.specs.Opening.{fault_of, first_read, points_read};
+ghost use Rattle.las_merge.specs.Opening.{AreOpen, EndsOpening, FailsAt, FailsNext, InputSeen, IsAgain, IsNextInput, IsOpen};
+ghost use Rattle.las_merge.specs.Opening.{merge_fault, first_read, points_read};
 ghost use Rattle.las_merge.specs.Packed.{IsNoFault};
 
 use crate::field::first_difference;
@@ -24,7 +24,7 @@ use std::alloc::Global;
 
 /// A fault of a call on the input of this number: it is that input's, unless the output could not be written.
 pub(crate) fn fault_of(number: u32, fault: Fault) -> MergeFault
-    ensures { result ≡ fault_of number fault }
+    ensures { result ≡ merge_fault number fault }
 {
     match fault {
         Fault::Write => MergeFault::Write,
@@ -85,7 +85,7 @@ fn open_next<F: Files>(
     name: &str,
 ) -> Result<(), MergeFault>
     requires few { vec_len inputs.old < 32 }
-    ensures opened { OnOk result ((input : InputSeen) × IsNext (F.seen files.old).held name.now inputs.old.items input
+    ensures opened { OnOk result ((input : InputSeen) × IsNextInput (F.seen files.old).held name.now inputs.old.items input
         × (inputs.new.items ≡ inputs.old.items ++ input ∷ [])) }
     ensures ends { IfErr result
         (FailsNext name.now inputs.old.items (F.seen files.old) (F.seen files.new)) }

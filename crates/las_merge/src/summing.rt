@@ -21,7 +21,7 @@ fn returns_at(inputs: &[Input], i: usize) -> u32
 
 /// The numbers of points of the returns 1 to 5 of all inputs, by their heads. A sum above 2^32 - 1 is 2^32 - 1.
 pub(crate) fn returns_in(inputs: &[Input]) -> [u32; 5]
-    ensures { result ≡ sums.returns_in inputs.now }
+    ensures { result ≡ sums.returns_summed inputs.now }
 {
     [
         returns_at(inputs, 0),
@@ -74,7 +74,7 @@ fn long_returns_at(inputs: &[Input], i: usize) -> u64
 
 /// The numbers of points of the returns 1 to 15 of all inputs, by their heads. A sum above 2^64 - 1 is 2^64 - 1.
 pub(crate) fn long_returns_in(inputs: &[Input]) -> [u64; 15]
-    ensures { result ≡ sums.long_returns_in inputs.now }
+    ensures { result ≡ sums.long_returns_summed inputs.now }
 {
     let mut sums = [0; 15];
     for i in 0..15 {

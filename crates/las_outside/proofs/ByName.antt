@@ -7,7 +7,7 @@ use Rattle.std.proofs.lemmas.Map.Text.{is_eq-slice_cmp}
 use Rattle.std.proofs.lemmas.Slice.Eq.{bytes_eq-Decides}
 use Rattle.std.proofs.lemmas.Bool.{cases_Bool}
 use Rattle.las_outside.specs.Files.{FileMap}
-use Rattle.las_outside.specs.MemFiles.{RoomFor, RoomMap, with_value, by_name, files_in, rooms_in, IsFirst, IsAbsent}
+use Rattle.las_outside.specs.MemFiles.{RoomFor, RoomMap, with_or_without, by_name, files_in, rooms_in, IsFirstRoom, IsAbsent}
 
 abbrev Named : Type 0 → Type 0
 Named X = map.FinMap (slice_cmp nat_cmp) X
@@ -28,7 +28,7 @@ same_itself q k e = is_eq-slice_cmp q k ∙ (bytes_eq-Decides q k).1 e
 pub same_other : (q k : List ℕ) → q ≢ k → same q k ≡ false
 same_other q k ne = elim (same_or_not q k) [ inl equal ↦ absurd (ne equal.1) | inr other ↦ other.0 ]
 
-pub get-with_value : {X : Type 0} (m : Named X) (k : List ℕ) (o : Option X) (q : List ℕ) → map.get (with_value m k o) q ≡ cond (same q k) o (map.get m q)
+pub get-with_value : {X : Type 0} (m : Named X) (k : List ℕ) (o : Option X) (q : List ℕ) → map.get (with_or_without m k o) q ≡ cond (same q k) o (map.get m q)
 get-with_value m k None q = map.get-remove nat_list_cmp_total m k q
 get-with_value m k (Some x) q = map.get-insert nat_list_cmp_total m k x q
 
@@ -54,18 +54,18 @@ either_order q j k x y z ne = elim (same_or_not q j) [
 ]
 
 module _ {X : Type 0} (value : RoomFor → Option X) where
-  tail_first : (r : RoomFor) (rs : List RoomFor) (name : List ℕ) (i : ℕ) → IsFirst (r ∷ rs) name (suc i) → IsFirst rs name i
+  tail_first : (r : RoomFor) (rs : List RoomFor) (name : List ℕ) (i : ℕ) → IsFirstRoom (r ∷ rs) name (suc i) → IsFirstRoom rs name i
   tail_first r rs name i f = record {
     within = omega (arith, f.within);
     named = f.named;
     before = λ k d lt. f.before (suc k) d (omega (arith, lt));
   }
 
-  head_other : (r : RoomFor) (rs : List RoomFor) (name : List ℕ) (i : ℕ) → IsFirst (r ∷ rs) name (suc i) → r.name ≢ name
+  head_other : (r : RoomFor) (rs : List RoomFor) (name : List ℕ) (i : ℕ) → IsFirstRoom (r ∷ rs) name (suc i) → r.name ≢ name
   head_other r rs name i f = f.before zero r (omega arith)
 
   -- the first room for a name is what is found
-  pub get-first : (rs : List RoomFor) (name : List ℕ) (i : ℕ) (d : RoomFor) → IsFirst rs name i → map.get (by_name value rs) name ≡ value (get_or rs i d)
+  pub get-first : (rs : List RoomFor) (name : List ℕ) (i : ℕ) (d : RoomFor) → IsFirstRoom rs name i → map.get (by_name value rs) name ≡ value (get_or rs i d)
   get-first [] name i d f = absurd (omega (arith, f.within))
   get-first (r ∷ rs) name zero d f =
       get-with_value (by_name value rs) r.name (value r) name ∙ ap (λ (b : Bool). cond b (value r) (map.get (by_name value rs) name)) (same_itself name r.name (sym (f.named r)))
@@ -81,7 +81,7 @@ module _ {X : Type 0} (value : RoomFor → Option X) where
       ∙ ap (λ (b : Bool). cond b (value r) (map.get (by_name value rs) name)) (same_other name r.name (λ e. none zero r (omega arith) (sym e)))
       ∙ get-absent rs name (λ k d lt. none (suc k) d (omega (arith, lt)))
 
-  found_after_set : (rs : List RoomFor) (name : List ℕ) (i : ℕ) (n : RoomFor) → IsFirst rs name i → n.name ≡ name → (q : List ℕ) → map.get (by_name value (set rs i n)) q ≡ cond (same q name) (value n) (map.get (by_name value rs) q)
+  found_after_set : (rs : List RoomFor) (name : List ℕ) (i : ℕ) (n : RoomFor) → IsFirstRoom rs name i → n.name ≡ name → (q : List ℕ) → map.get (by_name value (set rs i n)) q ≡ cond (same q name) (value n) (map.get (by_name value rs) q)
   found_after_set [] name i n f is q = absurd (omega (arith, f.within))
   found_after_set (r ∷ rs) name zero n f is q =
       let rest = map.get (by_name value rs) q in
@@ -98,7 +98,7 @@ module _ {X : Type 0} (value : RoomFor → Option X) where
       ∙ ap (λ (o : Option X). cond (same q name) (value n) o) (sym (get-with_value (by_name value rs) r.name (value r) q))
 
   -- a change of the first room for a name
-  pub by_name-set : (rs : List RoomFor) (name : List ℕ) (i : ℕ) (n : RoomFor) → IsFirst rs name i → n.name ≡ name → by_name value (set rs i n) ≡ with_value (by_name value rs) name (value n)
+  pub by_name-set : (rs : List RoomFor) (name : List ℕ) (i : ℕ) (n : RoomFor) → IsFirstRoom rs name i → n.name ≡ name → by_name value (set rs i n) ≡ with_or_without (by_name value rs) name (value n)
   by_name-set rs name i n f is = same_named _ _ (λ q. found_after_set rs name i n f is q ∙ sym (get-with_value (by_name value rs) name (value n) q))
 
   found_after_push : (rs : List RoomFor) (name : List ℕ) (n : RoomFor) → IsAbsent rs name → n.name ≡ name → (q : List ℕ) → map.get (by_name value (rs ++ n ∷ [])) q ≡ cond (same q name) (value n) (map.get (by_name value rs) q)
@@ -111,11 +111,11 @@ module _ {X : Type 0} (value : RoomFor → Option X) where
       ∙ ap (λ (o : Option X). cond (same q name) (value n) o) (sym (get-with_value (by_name value rs) r.name (value r) q))
 
   -- a room for a name that had none
-  pub by_name-push : (rs : List RoomFor) (name : List ℕ) (n : RoomFor) → IsAbsent rs name → n.name ≡ name → by_name value (rs ++ n ∷ []) ≡ with_value (by_name value rs) name (value n)
+  pub by_name-push : (rs : List RoomFor) (name : List ℕ) (n : RoomFor) → IsAbsent rs name → n.name ≡ name → by_name value (rs ++ n ∷ []) ≡ with_or_without (by_name value rs) name (value n)
   by_name-push rs name n none is = same_named _ _ (λ q. found_after_push rs name n none is q ∙ sym (get-with_value (by_name value rs) name (value n) q))
 
 -- the value that is there already
-pub with_value_same : {X : Type 0} (m : Named X) (name : List ℕ) (o : Option X) → map.get m name ≡ o → with_value m name o ≡ m
+pub with_value_same : {X : Type 0} (m : Named X) (name : List ℕ) (o : Option X) → map.get m name ≡ o → with_or_without m name o ≡ m
 with_value_same m name o is = same_named _ _ (λ q. get-with_value m name o q ∙ back q)
   where
     back : (q : List ℕ) → cond (same q name) o (map.get m q) ≡ map.get m q
@@ -126,18 +126,18 @@ with_value_same m name o is = same_named _ _ (λ q. get-with_value m name o q �
 
 module _ {X : Type 0} (value : RoomFor → Option X) where
   -- the same of the room that was read there
-  pub found : (rs : List RoomFor) (name : List ℕ) (i : ℕ) (old : RoomFor) → IsFirst rs name i → old ≡ get_or rs i old → map.get (by_name value rs) name ≡ value old
+  pub found : (rs : List RoomFor) (name : List ℕ) (i : ℕ) (old : RoomFor) → IsFirstRoom rs name i → old ≡ get_or rs i old → map.get (by_name value rs) name ≡ value old
   found rs name i old first is = get-first value rs name i old first ∙ ap value (sym is)
 
-  pub changed : (rs : List RoomFor) (name : List ℕ) (i : ℕ) (old new : RoomFor) → IsFirst rs name i → old ≡ get_or rs i old → new.name ≡ old.name → by_name value (set rs i new) ≡ with_value (by_name value rs) name (value new)
+  pub changed : (rs : List RoomFor) (name : List ℕ) (i : ℕ) (old new : RoomFor) → IsFirstRoom rs name i → old ≡ get_or rs i old → new.name ≡ old.name → by_name value (set rs i new) ≡ with_or_without (by_name value rs) name (value new)
   changed rs name i old new first is names = by_name-set value rs name i new first (names ∙ ap (λ (r : RoomFor). r.name) is ∙ first.named old)
 
-  pub kept : (rs : List RoomFor) (name : List ℕ) (i : ℕ) (old new : RoomFor) → IsFirst rs name i → old ≡ get_or rs i old → new.name ≡ old.name → value new ≡ value old → by_name value (set rs i new) ≡ by_name value rs
+  pub kept : (rs : List RoomFor) (name : List ℕ) (i : ℕ) (old new : RoomFor) → IsFirstRoom rs name i → old ≡ get_or rs i old → new.name ≡ old.name → value new ≡ value old → by_name value (set rs i new) ≡ by_name value rs
   kept rs name i old new first is names stays =
       changed rs name i old new first is names ∙ with_value_same (by_name value rs) name (value new) (found rs name i old first is ∙ sym stays)
 
 -- The same of the files and of the rooms.
-module _ (rs : List RoomFor) (name : List ℕ) (i : ℕ) (old : RoomFor) (first : IsFirst rs name i) (is : old ≡ get_or rs i old) where
+module _ (rs : List RoomFor) (name : List ℕ) (i : ℕ) (old : RoomFor) (first : IsFirstRoom rs name i) (is : old ≡ get_or rs i old) where
   pub found_bytes : (files : FileMap) → files_in rs ≡ files → map.get files name ≡ old.bytes
   found_bytes files same_files = ap (λ (m : FileMap). map.get m name) (sym same_files) ∙ found (λ r. r.bytes) rs name i old first is
 
@@ -146,7 +146,7 @@ module _ (rs : List RoomFor) (name : List ℕ) (i : ℕ) (old : RoomFor) (first 
 
   pub files_changed : (files : FileMap) (new : RoomFor) (bytes : List ℕ) → files_in rs ≡ files → new.name ≡ old.name → new.bytes ≡ Some bytes → files_in (set rs i new) ≡ map.insert files name bytes
   files_changed files new bytes same_files names holds =
-      changed (λ r. r.bytes) rs name i old new first is names ∙ ap (with_value (files_in rs) name) holds ∙ ap (λ (m : FileMap). map.insert m name bytes) same_files
+      changed (λ r. r.bytes) rs name i old new first is names ∙ ap (with_or_without (files_in rs) name) holds ∙ ap (λ (m : FileMap). map.insert m name bytes) same_files
 
   pub files_kept : (files : FileMap) (new : RoomFor) → files_in rs ≡ files → new.name ≡ old.name → new.bytes ≡ old.bytes → files_in (set rs i new) ≡ files
   files_kept files new same_files names stays = kept (λ r. r.bytes) rs name i old new first is names stays ∙ same_files
@@ -167,7 +167,7 @@ module _ (rs : List RoomFor) (name : List ℕ) (none : IsAbsent rs name) where
 
   pub files_after_push : (files : FileMap) (new : RoomFor) (rs' : List RoomFor) → files_in rs ≡ files → rs' ≡ rs ++ new ∷ [] → new.name ≡ name → new.bytes ≡ None → files_in rs' ≡ files
   files_after_push files new rs' same_files pushed named empty =
-      ap files_in pushed ∙ by_name-push (λ r. r.bytes) rs name new none named ∙ ap (with_value (files_in rs) name) empty ∙ with_value_same (files_in rs) name None (get-absent (λ r. r.bytes) rs name none) ∙ same_files
+      ap files_in pushed ∙ by_name-push (λ r. r.bytes) rs name new none named ∙ ap (with_or_without (files_in rs) name) empty ∙ with_value_same (files_in rs) name None (get-absent (λ r. r.bytes) rs name none) ∙ same_files
 
   pub rooms_after_push : (rooms : RoomMap) (new : RoomFor) (rs' : List RoomFor) (room : ℕ) → rooms_in rs ≡ rooms → rs' ≡ rs ++ new ∷ [] → new.name ≡ name → new.room ≡ room → rooms_in rs' ≡ map.insert rooms name room
   rooms_after_push rooms new rs' room same_rooms pushed named wide =

@@ -1,6 +1,6 @@
 -- Worked values of the definitions.
 use Rattle.std.proofs.Common.{◌≡◌, [], ◌∷◌, ◌-◌, inl, inr, List, ℕ, Some, None, refl, arith}
-use Rattle.las_outside.specs.Calls.{keep_of, kept_of}
+use Rattle.las_outside.specs.Calls.{keep_of, kept_bytes}
 use Rattle.las_outside.specs.Faults.{last_count, count_after, Rose}
 use Rattle.las_outside.specs.Files.{with_patch}
 use Rattle.las_outside.specs.Sinks.{written_after}
@@ -34,7 +34,7 @@ not_listed : keep_of ((3, 10) ∷ (3, 4) ∷ (5, 0) ∷ []) 4 ≡ None
 not_listed = refl
 
 -- of 10 bytes that are to be kept 7 fit
-kept_in_part : kept_of (Some 10) 7 ≡ 7
+kept_in_part : kept_bytes (Some 10) 7 ≡ 7
 kept_in_part = refl
 
 -- a draft of four bytes, a patch of its first two and then one of its last

@@ -68,9 +68,9 @@ abbrev pub next_keep : Calls → Option ℕ
 next_keep calls = keep_of calls.failing_writes (next_call calls.writes)
 
 -- how many bytes of a write are kept, if this many fit: all that fit, or at most those that a listed call keeps
-abbrev pub kept_of : Option ℕ → ℕ → ℕ
-kept_of None fits = fits
-kept_of (Some keep) fits = min keep fits
+abbrev pub kept_bytes : Option ℕ → ℕ → ℕ
+kept_bytes None fits = fits
+kept_bytes (Some keep) fits = min keep fits
 
 -- after a call that read, which failed or succeeded
 abbrev pub after_read : Calls → Bool → Calls

@@ -30,15 +30,15 @@ room_for_code =
     (λ r. (r.name, (r.room, r.bytes))) (λ p. record { name = p.0; room = p.1.0; bytes = p.1.1 }) (λ _. refl)
 
 -- the map with this value at the name, or with none
-abbrev pub with_value : {X : Type 0} → map.FinMap (slice_cmp nat_cmp) X → List ℕ → Option X
+abbrev pub with_or_without : {X : Type 0} → map.FinMap (slice_cmp nat_cmp) X → List ℕ → Option X
     → map.FinMap (slice_cmp nat_cmp) X
-with_value values name None = map.remove values name
-with_value values name (Some x) = map.insert values name x
+with_or_without values name None = map.remove values name
+with_or_without values name (Some x) = map.insert values name x
 
 -- what rooms have for their names, the first room for a name before all others
 abbrev pub by_name : {X : Type 0} → (RoomFor → Option X) → List RoomFor → map.FinMap (slice_cmp nat_cmp) X
 by_name value [] = map.empty
-by_name value (r ∷ rs) = with_value (by_name value rs) r.name (value r)
+by_name value (r ∷ rs) = with_or_without (by_name value rs) r.name (value r)
 
 -- the files in a list of rooms
 abbrev pub files_in : List RoomFor → FileMap
@@ -49,7 +49,7 @@ abbrev pub rooms_in : List RoomFor → RoomMap
 rooms_in rooms = by_name (λ r. Some r.room) rooms
 
 -- At this index is the first room for a name.
-pub record IsFirst (rooms : List RoomFor) (name : List ℕ) (i : ℕ) : Type 0 where
+pub record IsFirstRoom (rooms : List RoomFor) (name : List ℕ) (i : ℕ) : Type 0 where
   pub within : i < length rooms
   pub named : (r : RoomFor) → (slice_index_or rooms i r).name ≡ name
   pub before : (k : ℕ) (r : RoomFor) → k < i → (slice_index_or rooms k r).name ≢ name

@@ -102,7 +102,7 @@ impl DraftFile {
     }
 }
 
-/// Puts a line on standard error. If that fails, the status still tells what it is about.
+/// Puts a line on standard error. If that fails, the status still says what it is about.
 pub fn say<E: Sink>(err: &mut E, cause: &str, name: &str) {
     let _ = put_all(err, &[cause.as_bytes(), name.as_bytes(), b"\n"]);
 }

@@ -1,3 +1,5 @@
+//! What the workers of a crew call around each input.
+
 /// Called when a worker begins an input and when it ends it.
 ///
 /// A gate answers nothing and changes nothing that a contract sees. The workers share it, so it is `Sync`, and both

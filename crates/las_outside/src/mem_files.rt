@@ -3,10 +3,10 @@ ghost use Rattle.std.specs.Prelude.{◌≡◌, ◌⊎◌, ◌+◌, ◌-◌, ◌�
 ghost use Rattle.std.specs.Prelude.{IsSomeAnd, IfOk, OnOk, OnErr, Some, None, MatchOption, length, take, drop, max};
 ghost use Rattle.std.specs.Prelude.{is_err, is_some, ◌&&◌};
 ghost use Rattle.std.specs.FinMap as map;
-ghost use Rattle.las_outside.specs.Calls.{no_calls, next_read_fails, next_keep, kept_of, after_read, after_write};
+ghost use Rattle.las_outside.specs.Calls.{no_calls, next_read_fails, next_keep, kept_bytes, after_read, after_write};
 ghost use Rattle.las_outside.specs.Calls.{after_asking};
 ghost use Rattle.las_outside.specs.Files.{bytes_of, with_patch};
-ghost use Rattle.las_outside.specs.MemFiles.{room_of, IsFirst, IsAbsent, outside_of};
+ghost use Rattle.las_outside.specs.MemFiles.{room_of, IsFirstRoom, IsAbsent, outside_of};
 ghost use Rattle.las_outside.specs.Outside.{Later};
 
 use crate::calls::Calls;
@@ -42,7 +42,7 @@ impl Model for MemFiles {
 
 // The index of the first room for a name.
 fn place_of(rooms: &[MemRoom], name: &str) -> Option<usize>
-    ensures { MatchOption result (IsAbsent rooms.now name.now) (λ i. IsFirst rooms.now name.now i) }
+    ensures { MatchOption result (IsAbsent rooms.now name.now) (λ i. IsFirstRoom rooms.now name.now i) }
 {
     for (i, room) in rooms.iter().enumerate() {
         if room.is_for(name) {
@@ -54,7 +54,7 @@ fn place_of(rooms: &[MemRoom], name: &str) -> Option<usize>
 
 // The bytes of a write that are kept: all, or the first ones if the call is listed.
 fn kept_bytes(listed: Option<usize>, bytes: &[u8]) -> &[u8]
-    ensures { result.now ≡ take (kept_of listed (length bytes.now)) bytes.now }
+    ensures { result.now ≡ take (kept_bytes listed (length bytes.now)) bytes.now }
 {
     match listed {
         Some(keep) => &bytes[..keep.min(bytes.len())],
@@ -286,7 +286,7 @@ impl Files for MemFiles {
             ≡ map.insert self.old.files name.now (bytes_of (Some self.old.files) name.now ++ bytes.now)) }
         ensures err { OnErr result (self.new.files
             ≡ map.insert self.old.files name.now (bytes_of (Some self.old.files) name.now
-            ++ take (kept_of (next_keep self.old.calls)
+            ++ take (kept_bytes (next_keep self.old.calls)
             (room_of self.old.rooms name.now - length (bytes_of (Some self.old.files) name.now))) bytes.now)) }
         ensures exactly { IsErr result ↔ (IsSome (next_keep self.old.calls)
             ⊎ (room_of self.old.rooms name.now < length (bytes_of (Some self.old.files) name.now) + length bytes.now)) }
@@ -308,7 +308,7 @@ impl Files for MemFiles {
         requires { IsSomeAnd (map.get self.old.files name.now) (λ old. pos + length bytes.now ≤ length old) }
         ensures files { self.new.files ≡ map.insert self.old.files name.now
             (with_patch (bytes_of (Some self.old.files) name.now) pos
-            (take (kept_of (next_keep self.old.calls) (length bytes.now)) bytes.now)) }
+            (take (kept_bytes (next_keep self.old.calls) (length bytes.now)) bytes.now)) }
         ensures exactly { IsErr result ↔ IsSome (next_keep self.old.calls) }
         ensures rooms { self.new.rooms ≡ self.old.rooms }
         ensures calls { self.new.calls ≡ after_write self.old.calls (is_err result) }

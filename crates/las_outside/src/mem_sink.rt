@@ -1,4 +1,4 @@
-//! A stream in memory, which tells what was put on it.
+//! A stream in memory, with what was put on it.
 ghost use Rattle.std.specs.Prelude.{◌≡◌, ◌⊎◌, ◌+◌, ◌-◌, ◌≤◌, ◌<◌, ◌↔◌, ◌++◌, ◌∷◌, [], ℕ, IsErr, IfOk, OnOk, OnErr};
 ghost use Rattle.std.specs.Prelude.{IsTrue, length, take, true, false, if◌then◌else◌};
 ghost use Rattle.las_outside.specs.MemSink.{next_put_fails, after_put, sink_of};

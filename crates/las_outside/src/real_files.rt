@@ -19,7 +19,7 @@ use std::rt::Files as System;
 ///
 /// Outputs are written under their own names, or each as a draft: a hidden file beside it that gets its name by `end`.
 ///
-/// Reads and writes are at positions. A file that the run has opened is told by its device and its number there,
+/// Reads and writes are at positions. A file that the run has opened is known by its device and its number there,
 /// whatever its name: to create it under another name, or to create an input, is a fault, and leaves it as it is. A
 /// folder, a device and a FIFO are no files: each call for one is a fault. A file that is open already is not looked at
 /// again; one that is opened again must be the one that it was. Each error of std is a fault, also one for lack of

@@ -1,6 +1,7 @@
 -- How many bytes a command asks for, by what its calls say of a reader.
-use Rattle.std.proofs.Common.{◌≡◌, ℕ, ◌+◌, ◌-◌, ◌^◌, ◌≤◌, min, List, drop, Option, Some, None, IsSomeAnd, Result, Ok, Err, refl, sym, ◌∙◌, ap, subst, arith}
+use Rattle.std.proofs.Common.{◌≡◌, ℕ, ◌+◌, ◌-◌, ◌^◌, ◌≤◌, min, List, drop, Option, Some, None, IsSomeAnd, Result, Ok, Err, refl, sym, ◌∙◌, ap, subst, arith, Bool, true, false}
 use Rattle.std.specs.FinMap as finmap
+use Rattle.std.proofs.lemmas.Option.{none-some}
 use Rattle.las_header.specs.Fields.{head_of, points_of}
 use Rattle.las_header.specs.Heads.{HeadView, IsHead}
 use Rattle.las_outside.specs.Files.{FileMap, IsMissing, WhereKnown}
@@ -18,8 +19,8 @@ use Rattle.laz_forms.specs.Pieces.{ArePieces, Piece}
 use Rattle.laz_forms.specs.Ranges.{Range, parts_of}
 use Rattle.laz_reader.specs.Reading.{IsNewReader, ReaderSeen, StandsFor, chunk_of}
 use Rattle.laz_reader.proofs.Public.{if_less}
-use Rattle.laz_forms.proofs.Public.{known_three, one_pieces, refused_once, none_some, known_then}
-use Rattle.las_run.specs.Asking.{AsksFor, AsksOf, AsksToMerge, AsksWhole, TakesAll, WorkAsks, in_first_reading, in_readings}
+use Rattle.laz_forms.proofs.Public.{known_three, one_pieces, refused_once, known_then}
+use Rattle.las_run.specs.Asking.{AsksFor, AsksOf, AsksToMerge, AsksToMergeIf, AsksWhole, TakesAll, WorkAsks, in_first_reading, in_readings}
 use Rattle.las_run.specs.Ends.{IsRead}
 use Rattle.las_run.specs.Tools.{range_in}
 use Rattle.las_run.proofs.Opening.{both_known}
@@ -48,8 +49,8 @@ by_input : (input : List ℕ) (pick : Pick) (start stop : ℕ) (old new : Outsid
     → ((IsMissing old.held input → ⊥) → WhereKnown old.held input (λ file. AsksOf (Some file) pick start stop old new)) → AsksFor input pick start stop old new
 by_input input pick start stop old new missing there known held = by (finmap.get known input) refl
   where
-    none_some : (o : Option (List ℕ)) (file : List ℕ) → o ≡ Some file → o ≡ None → ⊥
-    none_some o file is none = absurd (cc)
+    not_both : (o : Option (List ℕ)) (file : List ℕ) → o ≡ Some file → o ≡ None → ⊥
+    not_both o file is none = absurd (cc)
 
     of_some : (o : Option (List ℕ)) (file : List ℕ) → o ≡ Some file → IsSomeAnd o (λ file. AsksOf (Some file) pick start stop old new) → AsksOf (Some file) pick start stop old new
     of_some None file is p = absurd p
@@ -58,7 +59,7 @@ by_input input pick start stop old new missing there known held = by (finmap.get
     by : (o : Option (List ℕ)) → finmap.get known input ≡ o → AsksOf o pick start stop old new
     by None is = missing (subst (λ (h : Option FileMap). IsMissing h input) (sym held) is)
     by (Some file) is =
-        let here : IsMissing old.held input → ⊥ = λ gone. none_some (finmap.get known input) file is (subst (λ (h : Option FileMap). IsMissing h input) held gone) in
+        let here : IsMissing old.held input → ⊥ = λ gone. not_both (finmap.get known input) file is (subst (λ (h : Option FileMap). IsMissing h input) held gone) in
         of_some (finmap.get known input) file is (subst (λ (h : Option FileMap). WhereKnown h input (λ file. AsksOf (Some file) pick start stop old new)) held (there here))
 
 -- an input that could not be opened
@@ -113,7 +114,7 @@ asks_both reader input pick start stop old mid new stands opened rest =
     by_input input pick start stop old new (not_missing old.held input (StandsFor reader) stands) (λ there.
     known_three old.held input (StandsFor reader) Opened Rest (λ file. AsksOf (Some file) pick start stop old new)
     (λ file s front more. (
-      λ cause is. absurd (none_some cause (refused_once file None (Some cause) s.accepted is)),
+      λ cause is. absurd (none-some cause (refused_once file None (Some cause) s.accepted is)),
       λ pieces are.
           let last = more pieces are in
           let all = in_all pick (asked_to_open file) (more_of file pieces) in
@@ -211,7 +212,11 @@ pub asks_merged : (said : Said) (read : Result Command WordFault) (options : Las
     → AsksToMerge options old new
 asks_merged said read options workers old new is asked unread obeyed =
     asks_by said read (lasmerge options) workers old new is asked unread obeyed
-    (λ same known held. let none : new.asked ≡ old.asked = ap (λ (o : Outside). o.asked) same in omega (arith, none))
+    (λ same known held. by options.copy known (ap (λ (o : Outside). o.asked) same))
+  where
+    by : (copy : Bool) (known : FileMap) → new.asked ≡ old.asked → AsksToMergeIf copy known options.inputs old new
+    by true known none = omega (arith, none)
+    by false known none = λ asked bound. omega (arith, none)
 
 -- of a command that was obeyed
 pub asks_obeyed : (said : Result Command WordFault) (own command : Command) (old new : Outside) → said ≡ Ok own → said ≡ Ok command → WorkAsks (work_by own) old new → WorkAsks (work_by command) old new

@@ -23,7 +23,7 @@ use Rattle.las_run.specs.Runs.{Task, task_with}
 use Rattle.las_run.specs.Tools.{CopiesIn, cause_of_fault, copies}
 use Rattle.las_run.specs.Ends.{Ends, EndsAs, HasOutput, IsLeftBy, IsTheEnding, cause_of, quiet, stopped_merge}
 use Rattle.las_run.proofs.Endings.{left_if_done, nothing_left}
-use Rattle.las_run.proofs.Opening.{some_outputs}
+use Rattle.laz_file.proofs.Public.{some_files}
 
 -- ---- what the call says of its outcome
 module _ (inputs : List (List ℕ)) (output : List ℕ) (old new : Outside) where
@@ -94,7 +94,7 @@ module _ (taps : List TapSeen) (options : LasmergeOptions) (workers : ℕ) where
   has_output known merged parts ending can (inl k) =
       absurd (kept_or_copied known options.inputs merged parts k.0 k.1 can)
   has_output known merged parts ending can (inr m) =
-      some_outputs ending.outputs _ _ (ap (λ (e : Ending). e.outputs) m.3)
+      some_files ending.outputs _ _ (ap (λ (e : Ending). e.outputs) m.3)
 
   -- ---- how a run ends
   module _ (old new : Outside) (out : SinkView) where

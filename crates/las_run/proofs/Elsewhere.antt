@@ -12,8 +12,7 @@ use Rattle.las_outside.proofs.Public.{get-with_value, same_other}
 use Rattle.las_words.specs.Asked.{LasmergeOptions, OneInput, Work, laszip, las2las, lasinfo, lassplit, lasmerge, make, reads}
 use Rattle.las_words.specs.Says.{Said, asks, usage}
 use Rattle.las_convert.specs.Converting.{converted_output, has_output}
-use Rattle.las_merge.specs.Existing.{HoldBytes}
-use Rattle.las_split.specs.Outputs.{output_under}
+use Rattle.las_split.specs.Outputs.{part_output_under}
 use Rattle.las_split.specs.Parts.{numbers_of_parts, part}
 use Rattle.laz_file.specs.Endings.{OutputFile, named, output_file, with_all, Product}
 use Rattle.las_run.specs.EndingLaws.{SomeEndingIsDefined}
@@ -74,7 +73,7 @@ makes_named taps input (lasinfo options) file ending makes =
 makes_named taps input (lassplit options) file ending makes =
     let P = IsWrittenBy (reads input (lassplit options)) in
     let parts = makes.1 in
-    let part_of : ℕ → OutputFile = λ number. output_file (output_under options.stem options.end (plain_head file) number) (concat (part options.rule parts.0 number)) in
+    let part_of : ℕ → OutputFile = λ number. output_file (part_output_under options.stem options.end (plain_head file) number) (concat (part options.rule parts.0 number)) in
     as_named P ending _ makes.2
     (subst (λ (p : Product). AreNamed P p.files) (sym parts.3) (numbers_named P part_of (numbers_of_parts options.rule parts.0) (λ n. (n, refl))))
 
@@ -116,10 +115,10 @@ still old None known same held = absurd (let clash : false ≡ true = same ∙ a
 still old (Some after) known same held = (after, refl)
 
 module _ (run : RunSeen) (known : FileMap) (some : SomeEndingIsDefined) (all_left : (known : FileMap) (ending : Ending) → IsDue run known ending → Leaves run known ending)
-    (held : run.files.held ≡ Some known) (bytes : HoldBytes known) where
+    (held : run.files.held ≡ Some known) where
   pub left_always : (ending : Ending) × IsDue run known ending × Leaves run known ending
   left_always =
-      let e = some run.task known bytes in
+      let e = some run.task known in
       let due : IsDue run known e.0 = record { known_is = held; defined = e.1 } in
       (e.0, due, all_left known e.0 due)
 

@@ -130,8 +130,8 @@ module _ (run : RunSeen) where
         read = λ three. read_cause run.task (change_of run) cause e (sym is ∙ three);
         write = λ four. write_cause run.task (change_of run) cause e (sym is ∙ four);
         left = all_left;
-        left_always = λ known held bytes. elsewhere.left_always run known some all_left held bytes;
-        others = λ known name held bytes not. elsewhere.others run known some all_left held bytes name later not;
+        left_always = λ known held. elsewhere.left_always run known some all_left held;
+        others = λ known name held not. elsewhere.others run known some all_left held name later not;
         unchanged = λ known ending due first. untouched cause known ending e due (no_outputs_first run.task known ending due.defined first);
         untouched = λ known ending due none. untouched cause known ending e due none;
         out = quiet cause is e;

@@ -2,13 +2,12 @@
 use Rattle.std.proofs.Common.{◌≡◌, ◌≢◌, inl, inr, ℕ, List, [], ◌∷◌, take, length, lit<, Option, Some, None, Err, refl, sym, ◌∙◌, ap, subst, arith}
 use Rattle.std.specs.Prelude.{IsSome}
 use Rattle.std.specs.FinMap as finmap
-use Rattle.std.specs.List.{concat}
 use Rattle.las_info.specs.Tallies.{TapSeen}
 use Rattle.las_make.specs.declared.fault.MakeFault.{MakeFault}
 use Rattle.las_make.specs.declared.fault.MakeFault.TheVariants as made
 use Rattle.las_make.specs.declared.making.Sizes.{Sizes}
 use Rattle.las_make.specs.declared.settings.Settings.{Settings}
-use Rattle.las_make.specs.Made.{IsInRange, made_file, made_records}
+use Rattle.las_make.specs.Made.{IsInRange, made_file}
 use Rattle.las_make.specs.Making.{FailsMaking, LeavesMade, LeavesPacked, LeavesPlain, with_made}
 use Rattle.las_make.proofs.Public.{faults_left, whole_form}
 use Rattle.las_outside.specs.Faults.{Rose}
@@ -23,7 +22,7 @@ use Rattle.las_run.specs.Runs.{Task, task_with}
 use Rattle.las_run.specs.Tools.{made_text, makes, options_with}
 use Rattle.las_run.specs.Ends.{Change, Ends, HasOutput, IsLeftBy, IsTheEnding, cause_of, stop_making}
 use Rattle.las_run.proofs.Endings.{left_if_done, nothing_left}
-use Rattle.las_run.proofs.Opening.{some_outputs}
+use Rattle.laz_file.proofs.Public.{some_files}
 
 module _ (taps : List TapSeen) (output packed : List ℕ) (s : Settings) (range : IsInRange s) (chunk workers : ℕ) where
   abbrev asked : Asked
@@ -35,17 +34,11 @@ module _ (taps : List TapSeen) (output packed : List ℕ) (s : Settings) (range 
   abbrev ending : Ending
   ending = makes output packed s chunk
 
-  abbrev records : List ℕ
-  records = concat (made_records s)
-
-  abbrev form : List ℕ
-  form = packed_file (made_file s) chunk
-
   the_ending : (files : FileMap) → IsTheEnding task files ending
   the_ending files = record { defined = refl; only = λ other is. is }
 
   has_output : (change : Change) → HasOutput task change
-  has_output change files other known run = some_outputs other.outputs _ _ (ap (λ (e : Ending). e.outputs) run)
+  has_output change files other known run = some_files other.outputs _ _ (ap (λ (e : Ending). e.outputs) run)
 
   -- ---- what is left
   whole_plain : (files now : FileMap) → now ≡ finmap.insert files output (made_file s) → IsLeft ending.outputs files now

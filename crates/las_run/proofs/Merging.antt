@@ -1,15 +1,14 @@
 -- What the call that merges files says of its outcome, as how a run of `lasmerge` ends.
-use Rattle.std.proofs.Common.{◌≡◌, ◌≢◌, ◌⊎◌, inl, inr, ℕ, ◌<◌, false, List, [], length, Option, Some, None, Result, Ok}
+use Rattle.std.proofs.Common.{◌≡◌, ◌≢◌, inl, inr, ℕ, ◌<◌, false, List, [], length, Option, Some, None, Result, Ok}
 use Rattle.std.proofs.Common.{Err, refl, sym, ◌∙◌, ap, subst}
 use Rattle.std.specs.Prelude.{Contains, is_some}
 use Rattle.std.proofs.lemmas.List.{get_or_default}
 use Rattle.las_header.specs.declared.refusal.Refusal.{Refusal}
-use Rattle.las_header.specs.declared.refusal.Refusal.TheVariants.{BadChunk}
 use Rattle.las_info.specs.Tallies.{TapSeen}
 use Rattle.las_merge.specs.declared.fault.MergeFault.{MergeFault}
 use Rattle.las_merge.specs.declared.fault.MergeFault.TheVariants as merge
-use Rattle.las_merge.specs.Inputs.{AreFirst, CanMerge, IfKnown, IsKeptBy, item_at}
-use Rattle.las_merge.specs.Merging.{BadPlace, LeavesMerged, MergesTo, OnlyMerges, merged_output}
+use Rattle.las_merge.specs.Inputs.{AreFirstInputs, CanMerge, IfKnown, IsKeptBy, item_at}
+use Rattle.las_merge.specs.Merging.{BadPlace, IsLeftIn, IsMerged, IsRefusedIn, LeavesMerged, MergesTo, OnlyMerges, merged_output}
 use Rattle.las_merge.specs.Outcomes.{SaysMerging}
 use Rattle.las_merge.proofs.Public.{kept_by_one, kept_or_merged, merged_once}
 use Rattle.las_outside.specs.Files.{FileMap, IsMissing, with_file}
@@ -25,31 +24,7 @@ use Rattle.las_run.specs.Runs.{Task, task_with}
 use Rattle.las_run.specs.Ends.{Ends, EndsAs, HasOutput, IsLeftBy, IsTheEnding, cause_of, quiet, stopped_merge}
 use Rattle.las_run.proofs.Endings.{left_if_done, nothing_left}
 use Rattle.las_run.proofs.Making.{left_of_output}
-use Rattle.las_run.proofs.Opening.{some_outputs}
-
--- ---- what the call says of its outcome, for an output in chunks of this size, if there is one
-module _ (inputs : List (List ℕ)) (output : List ℕ) (size : Option ℕ) (old new : Outside) where
-  -- all is done
-  abbrev IsMerged : FileMap → Type 0
-  IsMerged known =
-      (merged : List (List ℕ)) × (records : List ℕ) × CanMerge known inputs merged × OnlyMerges merged records None
-      × (new.held ≡ with_file old.held output (points.finished (merged_output output merged size) records))
-
-  -- an input is refused
-  abbrev IsRefused : (number : ℕ) → Refusal → FileMap → Type 0
-  IsRefused number cause known =
-      (IsKeptBy known inputs (merge.At number (file.Refused cause)) × (new.held ≡ old.held))
-      ⊎ ((merged : List (List ℕ)) × (records : List ℕ) × (bad : ℕ) × (cause ≡ BadChunk bad)
-      × CanMerge known inputs merged
-      × OnlyMerges merged records (Some (record { file = number; chunk = bad }))
-      × (new.held ≡ with_file old.held output (points.stopped (merged_output output merged size) records)))
-
-  -- what is left
-  abbrev Leaves : FileMap → Type 0
-  Leaves known =
-      (new.held ≡ old.held)
-      ⊎ ((merged : List (List ℕ)) × CanMerge known inputs merged
-      × LeavesMerged (merged_output output merged size) merged old.held new.held)
+use Rattle.laz_file.proofs.Public.{some_files}
 
 -- ---- the endings of a merge
 module _ (taps : List TapSeen) (options : LasmergeOptions) (workers : ℕ) where
@@ -101,7 +76,7 @@ module _ (taps : List TapSeen) (options : LasmergeOptions) (workers : ℕ) where
   has_output : (known : FileMap) (merged : List (List ℕ)) (ending : Ending) → CanMerge known inputs merged
       → Runs known ending → ending.outputs ≢ []
   has_output known merged ending can (inl k) = absurd (kept_or_merged known inputs merged k.0 k.1 can)
-  has_output known merged ending can (inr m) = some_outputs ending.outputs _ _ (ap (λ (e : Ending). e.outputs) m.5)
+  has_output known merged ending can (inr m) = some_files ending.outputs _ _ (ap (λ (e : Ending). e.outputs) m.5)
 
   -- ---- how a run ends
   module _ (old new : Outside) (out : SinkView) where
@@ -116,7 +91,7 @@ module _ (taps : List TapSeen) (options : LasmergeOptions) (workers : ℕ) where
       with_more-none out,
     )
 
-    left_one : (files : FileMap) (ending : Ending) → old.held ≡ Some files → Leaves inputs output size old new files
+    left_one : (files : FileMap) (ending : Ending) → old.held ≡ Some files → IsLeftIn files inputs output size old.held new.held
         → Runs files ending → (now : FileMap) × (new.held ≡ Some now) × IsLeft ending.outputs files now
     left_one files ending known (inl same) run = (files, same ∙ known, nothing_left ending.outputs files)
     left_one files ending known (inr l) (inl k) = absurd (kept_or_merged files inputs l.0 k.0 k.1 l.1)
@@ -128,10 +103,10 @@ module _ (taps : List TapSeen) (options : LasmergeOptions) (workers : ℕ) where
         new.held files (leaves m.1 m.2 m.4) known in
         (left.0, left.1, subst (λ (e : Ending). IsLeft e.outputs files left.0) (sym m.5) left.2)
 
-    left_by : IfKnown old.held (Leaves inputs output size old new) → IsLeftBy task (quiet old new out)
+    left_by : IfKnown old.held (λ known. IsLeftIn known inputs output size old.held new.held) → IsLeftBy task (quiet old new out)
     left_by leaves files ending known run = left_one files ending known (leaves files known) run
 
-    done_ends : IfKnown old.held (IsMerged inputs output size old new) → EndsAs task (quiet old new out) Done
+    done_ends : IfKnown old.held (λ known. IsMerged known inputs output size old.held new.held) → EndsAs task (quiet old new out) Done
     done_ends made files known =
         let m = made files known in
         let text = points.finished (merged_output output m.0 (chunk_if options.packed options.chunk)) m.1 in (
@@ -142,18 +117,18 @@ module _ (taps : List TapSeen) (options : LasmergeOptions) (workers : ℕ) where
           with_more-none out,
         )
 
-    done_left : IfKnown old.held (IsMerged inputs output size old new) → IsLeftBy task (quiet old new out)
+    done_left : IfKnown old.held (λ known. IsMerged known inputs output size old.held new.held) → IsLeftBy task (quiet old new out)
     done_left made files ending known run =
         let e = done_ends made files known in
         let is : e.0 ≡ ending = sym (e.1.only ending run) in
         let done : ending.cause ≡ Done = ap (λ (x : Ending). x.cause) (sym is) ∙ e.2 in
         (files_of ending files, e.3 ∙ ap (λ (x : Ending). Some (files_of x files)) is, left_if_done ending files done)
 
-    refused_ends : (number : ℕ) (cause : Refusal) → IfKnown old.held (IsRefused inputs output size old new number cause)
+    refused_ends : (number : ℕ) (cause : Refusal) → IfKnown old.held (λ known. IsRefusedIn known inputs output size number cause old.held new.held)
         → EndsAs task (quiet old new out) (Refused (item_at inputs number) cause)
     refused_ends number cause refused files known = one (refused files known)
       where
-        one : IsRefused inputs output size old new number cause files
+        one : IsRefusedIn files inputs output size number cause old.held new.held
             → (ending : Ending) × IsTheEnding task files ending × (ending.cause ≡ Refused (item_at inputs number) cause)
             × (new.held ≡ Some (files_of ending files)) × (out ≡ with_more out ending.text)
         one (inl k) = let fault = merge.At number (file.Refused cause) in (
@@ -176,12 +151,12 @@ module _ (taps : List TapSeen) (options : LasmergeOptions) (workers : ℕ) where
 
     -- a refusal that comes when an input is opened changes nothing
     unchanged : (number : ℕ) (cause : Refusal) → Later old new
-        → IfKnown old.held (IsRefused inputs output size old new number cause) → ComesAtOpening cause
+        → IfKnown old.held (λ known. IsRefusedIn known inputs output size number cause old.held new.held) → ComesAtOpening cause
         → new.held ≡ old.held
     unchanged number cause later refused first = go old.held new.held later.known
         (λ files known. one files (refused files known))
       where
-        one : (files : FileMap) → IsRefused inputs output size old new number cause files → new.held ≡ old.held
+        one : (files : FileMap) → IsRefusedIn files inputs output size number cause old.held new.held → new.held ≡ old.held
         one files (inl k) = k.1
         one files (inr m) = absurd (subst ComesAtOpening m.3 first)
 
@@ -196,7 +171,7 @@ module _ (taps : List TapSeen) (options : LasmergeOptions) (workers : ℕ) where
     outputs can files ending known run = let m = can files known in has_output files m.0 ending m.1 run
 
     missing_ends : (number : ℕ) → number < length inputs
-        → IfKnown old.held (λ known. (before : List (List ℕ)) × AreFirst known inputs before × (length before ≡ number))
+        → IfKnown old.held (λ known. (before : List (List ℕ)) × AreFirstInputs known inputs before × (length before ≡ number))
         → IsMissing old.held (item_at inputs number) → new.held ≡ old.held
         → EndsAs task (quiet old new out) (Unread (item_at inputs number))
     missing_ends number within first missing same = kept_ends (merge.At number file.Read) (λ files known.

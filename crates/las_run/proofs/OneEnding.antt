@@ -3,6 +3,7 @@ use Rattle.std.proofs.Common.{◌≡◌, inl, inr, ℕ, Bool, true, false, List,
 use Rattle.std.specs.FinMap as finmap
 use Rattle.std.specs.List.{concat}
 use Rattle.std.specs.Option.{option_map}
+use Rattle.std.proofs.lemmas.Option.{none-some}
 use Rattle.las_header.specs.declared.refusal.Refusal.{Refusal}
 use Rattle.las_header.specs.declared.refusal.Refusal.TheVariants.{BadChunk}
 use Rattle.las_header.specs.Fields.{head_of, is_packed}
@@ -34,13 +35,10 @@ use Rattle.las_run.proofs.Reporting.{only_report}
 
 -- ---- an input is opened in one way
 
-none_cause : {X : Type 0} (c : Refusal) → ◌≡◌ {A = Option Refusal} None (Some c) → X
-none_cause c e = absurd (cc)
-
 one_accepted : (name file : List ℕ) (Makes : Ending → Type 0) (one other : Ending) → (IsAcceptedFile file → Makes one → Makes other → one ≡ other) → Accepts name file Makes one → Accepts name file Makes other → one ≡ other
 one_accepted name file Makes one other once (inl r) (inl s) = r.2 ∙ ap (λ (c : Refusal). ends_at_once (Refused name c)) (some_same r.0 s.0 (refused_once file (Some r.0) (Some s.0) r.1 s.1)) ∙ sym s.2
-one_accepted name file Makes one other once (inl r) (inr b) = none_cause r.0 (refused_once file None (Some r.0) b.0 r.1)
-one_accepted name file Makes one other once (inr a) (inl s) = none_cause s.0 (refused_once file None (Some s.0) a.0 s.1)
+one_accepted name file Makes one other once (inl r) (inr b) = absurd (none-some r.0 (refused_once file None (Some r.0) b.0 r.1))
+one_accepted name file Makes one other once (inr a) (inl s) = absurd (none-some s.0 (refused_once file None (Some s.0) a.0 s.1))
 one_accepted name file Makes one other once (inr a) (inr b) = once a.0 a.1 b.1
 
 one_opened : (name : List ℕ) (o : Option (List ℕ)) (Makes : List ℕ → Ending → Type 0) (one other : Ending) → ((file : List ℕ) → o ≡ Some file → IsAcceptedFile file → Makes file one → Makes file other → one ≡ other) → Opens name o Makes one → Opens name o Makes other → one ≡ other

@@ -2,14 +2,14 @@
 use Rattle.std.proofs.Common.{◌≡◌, ◌≢◌, inl, inr, ℕ, List, [], ◌∷◌, take, lit<, Option, Some, None, IsSomeAnd, Result, Ok, Err, refl, sym, ◌∙◌, ap, subst}
 use Rattle.std.specs.Prelude.{Contains}
 use Rattle.std.specs.FinMap as finmap
+use Rattle.std.proofs.lemmas.Option.{none-some}
 use Rattle.las_header.specs.declared.refusal.Refusal.{Refusal}
 use Rattle.las_outside.specs.Files.{FileMap, IsMissing, WhereKnown}
 use Rattle.las_outside.specs.Outside.{Outside}
 use Rattle.las_outside.specs.Sinks.{SinkView, with_fault, with_more}
 use Rattle.las_outside.proofs.Public.{with_more-none}
 use Rattle.laz_forms.specs.Refusing.{IsAcceptedFile, IsRefusal}
-use Rattle.laz_forms.proofs.Public.{refused_once, some_same, none_some}
-use Rattle.laz_file.specs.Endings.{OutputFile}
+use Rattle.laz_forms.proofs.Public.{refused_once, some_same}
 use Rattle.las_run.specs.declared.stop.Stop.{Stop}
 use Rattle.las_run.specs.declared.stop.Stop.TheVariants as stop
 use Rattle.las_run.specs.Endings.{Cause, Done, Unread, Refused, Ending, ends_at_once, files_of}
@@ -39,8 +39,6 @@ both_known (Some files) name P Q p q = go (finmap.get files name) p q
     go (Some file) p q = (p, q)
 
 -- ---- the first output of some
-pub some_outputs : (os : List OutputFile) (o : OutputFile) (rest : List OutputFile) → os ≡ o ∷ rest → os ≢ []
-some_outputs os o rest is empty = absurd (cc)
 
 -- ---- what a command makes after calls that have changed no file and failed nowhere
 module _ (Makes : List ℕ → Ending → Type 0) (input : List ℕ) (new : Outside) (out out_now : SinkView) where
@@ -92,10 +90,10 @@ module _ (task : Task) (name : List ℕ) (Makes : List ℕ → Ending → Type 0
   -- of a refused input, and of an accepted one
   only_refused : (file : List ℕ) (cause : Refusal) (other : Ending) → IsRefusal file (Some cause) → Accepts name file (Makes file) other → other ≡ ends_at_once (Refused name cause)
   only_refused file cause other is (inl r) = r.2 ∙ ap (λ (c : Refusal). ends_at_once (Refused name c)) (some_same r.0 cause (refused_once file (Some r.0) (Some cause) r.1 is))
-  only_refused file cause other is (inr a) = absurd (none_some cause (refused_once file None (Some cause) a.0 is))
+  only_refused file cause other is (inr a) = absurd (none-some cause (refused_once file None (Some cause) a.0 is))
 
   pub accepted_makes : (file : List ℕ) (other : Ending) → IsAcceptedFile file → Accepts name file (Makes file) other → Makes file other
-  accepted_makes file other is (inl r) = absurd (none_some r.0 (refused_once file None (Some r.0) is r.1))
+  accepted_makes file other is (inl r) = absurd (none-some r.0 (refused_once file None (Some r.0) is r.1))
   accepted_makes file other is (inr a) = a.1
 
   pub missing_ending : (files : FileMap) → finmap.get files name ≡ None → IsTheEnding task files (ends_at_once (Unread name))

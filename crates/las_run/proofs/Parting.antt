@@ -179,11 +179,3 @@ parts_are rule head rs (n ∷ ns) each bytes = go (parts_are rule head rs ns eac
         → IsPart head (slice_index_or (map (λ j. concat (part_from rule 0 rs j)) (n ∷ ns)) k d)
     go rest zero d within = part_is rule head 0 rs n each bytes
     go rest (suc k) d within = rest k d (omega (arith, within))
-
-pub length_whole : (size : ℕ) (rs : List (List ℕ)) → All (λ r. length r ≡ size) rs → length (concat rs) ≡ size * length rs
-length_whole size [] each = omega arith
-length_whole size (r ∷ rs) each =
-    let first : length r ≡ size = each 0 [] (omega arith) in
-    let rest = length_whole size rs (λ j d lt. each (suc j) d (omega (arith, lt))) in
-    let more : size * (length rs + 1) ≡ size * length rs + size = omega arith in
-    length-append r (concat rs) ∙ omega (arith, first, rest, more)

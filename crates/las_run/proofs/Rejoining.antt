@@ -8,13 +8,14 @@ use Rattle.las_filter.specs.declared.rule.Rule.TheVariants.{Every}
 use Rattle.las_filter.specs.Parts.{part_name}
 use Rattle.las_header.specs.Fields.{record_length_of}
 use Rattle.las_header.specs.Plain.{plain_head}
+use Rattle.las_header.proofs.Public.{length_whole}
 use Rattle.las_outside.specs.Files.{FileMap}
 use Rattle.laz_forms.specs.Outputs as points
 use Rattle.las_merge.specs.Copying.{output_with}
 use Rattle.las_merge.specs.Inputs.{item_at}
 use Rattle.las_merge.specs.Parts as merging
 use Rattle.las_merge.proofs.Public.{parts_merge}
-use Rattle.las_split.specs.Outputs.{output_under, part_files}
+use Rattle.las_split.specs.Outputs.{part_output_under, part_files}
 use Rattle.las_split.specs.Parts.{firsts, numbers_from, part}
 use Rattle.las_split.specs.Sorting as sorting
 use Rattle.las_split.proofs.Public.{head_some, distinct, firsts_once, AreDistinct}
@@ -22,7 +23,7 @@ use Rattle.laz_file.specs.Endings.{at_end, output_file, with_all, Product}
 use Rattle.las_run.specs.Endings.{Done, Ending, files_of}
 use Rattle.las_run.specs.EndingLaws.{AreWhole, MergesWhole, PartsOfSplitMerge, split_ending, whole_output}
 use Rattle.las_run.specs.Tools.{MergesIn, merges}
-use Rattle.las_run.proofs.Parting.{bytes_joined, join, length_whole, parts_are, parts_below, stands}
+use Rattle.las_run.proofs.Parting.{bytes_joined, join, parts_are, parts_below, stands}
 
 module _ (known : FileMap) (stem end output file : List ℕ) (n : ℕ) (size : Option ℕ) (records : List (List ℕ)) (some : 0 < n) (one : 1 ≤ length records) (whole : AreWhole (plain_head file) records) where
   abbrev head : List ℕ
@@ -59,15 +60,15 @@ module _ (known : FileMap) (stem end output file : List ℕ) (n : ℕ) (size : O
   names_are (k ∷ ns) = ap (λ (t : List (List ℕ)). part_name stem end k ∷ t) (names_are ns)
 
   -- what the split leaves, and under which names
-  left_are : (ns : List ℕ) → map (at_end true) (map (λ k. output_file (output_under stem end head k) (bytes_of k)) ns) ≡ pairs ns
+  left_are : (ns : List ℕ) → map (at_end true) (map (λ k. output_file (part_output_under stem end head k) (bytes_of k)) ns) ≡ pairs ns
   left_are [] = refl
   left_are (k ∷ ns) = ap (λ (t : List (List ℕ × List ℕ)). placed k ∷ t) (left_are ns)
 
-  made_are : (ns : List ℕ) → map (λ o. o.name) (map (λ k. output_file (output_under stem end head k) (bytes_of k)) ns) ≡ map (λ p. p.0) (pairs ns)
+  made_are : (ns : List ℕ) → map (λ o. o.name) (map (λ k. output_file (part_output_under stem end head k) (bytes_of k)) ns) ≡ map (λ p. p.0) (pairs ns)
   made_are [] = refl
   made_are (k ∷ ns) = ap (λ (t : List (List ℕ)). part_name stem end k ∷ t) (made_are ns)
 
-  abbrev task : sorting.Task
+  abbrev task : sorting.SplitTask
   task = record { stem = stem; end = end; head = head; rule = Every n }
 
   apart : AreDistinct (pairs numbers)
@@ -118,7 +119,7 @@ module _ (known : FileMap) (stem end output file : List ℕ) (n : ℕ) (size : O
       (omega (arith, some_numbers records one, length-map numbers bytes_of))
       (length-map numbers bytes_of ∙ sym (length-map numbers placed) ∙ sym (length-map (pairs numbers) (λ p. p.0)))
       stand in
-      let files = merging.part_files head (parts numbers) in (
+      let files = merging.part_packed_files head (parts numbers) in (
         merges names output size files (concat (parts numbers)) None,
         inr (files, concat (parts numbers), None, merge_is.0, merge_is.1, refl),
         refl,

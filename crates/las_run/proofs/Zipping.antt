@@ -1,6 +1,7 @@
 -- What the calls that pack and unpack say of their outcome, as what `laszip` makes of its input.
 use Rattle.std.proofs.Common.{◌≡◌, ℕ, Bool, true, false, cond, List, Option, Some, None, Result, Ok, Err, refl, sym, ◌∙◌, ap, subst}
 use Rattle.std.specs.Prelude.{IsErrOf, IsSome}
+use Rattle.std.proofs.lemmas.Option.{none-some}
 use Rattle.las_header.specs.declared.refusal.Refusal.{Refusal}
 use Rattle.las_header.specs.declared.refusal.Refusal.TheVariants.{BadChunk}
 use Rattle.las_header.specs.Fields.{head_of, is_packed}
@@ -21,11 +22,9 @@ use Rattle.las_run.specs.Ends.{EndsCommand, quiet, stopped_by}
 use Rattle.las_run.proofs.Making.{by_product, chunk_late, ends_done, ends_stopped}
 
 -- ---- what is known of a reader's file
-some_is_none : (n : ℕ) → ◌≡◌ {A = Option ℕ} (Some n) None → ⊥
-some_is_none n e = absurd (cc)
 
 plain_by : (packed : Bool) (n : ℕ) → cond packed (Some n) None ≡ None → packed ≡ false
-plain_by true n e = absurd (some_is_none n e)
+plain_by true n e = absurd (none-some n (sym e))
 plain_by false n e = refl
 
 packed_by : (packed : Bool) (n : ℕ) → IsSome (cond packed (Some n) None) → packed ≡ true

@@ -8,7 +8,7 @@ use Rattle.las_thin.specs.declared.pick.Pick.{Pick}
 use Rattle.las_thin.specs.declared.pick.Pick.TheVariants.{First, Lowest, Highest}
 use Rattle.las_words.specs.Asked.{LasmergeOptions, OneInput, Work, las2las, lasinfo, lasmerge, lassplit, laszip, make}
 use Rattle.las_words.specs.Asked.{reads}
-use Rattle.las_merge.specs.Asking.{asked_of_all, asked_to_merge, asked_to_read}
+use Rattle.las_merge.specs.Asking.{IsAskedToRead, asked_of_all, asked_with_chunks, asked_to_merge}
 use Rattle.laz_reader.specs.Asking.{AsksAtMost, asked_in, asked_to_open}
 use Rattle.laz_forms.specs.Pieces.{ArePieces, Piece}
 use Rattle.laz_forms.specs.Ranges.{parts_of}
@@ -67,16 +67,17 @@ abbrev pub TakesAll : OneInput → Type 0
 TakesAll (las2las options) = ⊥
 TakesAll own = Unit {0}
 
--- at most, of the inputs of a merge: to copy their chunks each is opened and read once, and to merge their records each
--- is opened twice
-abbrev pub asked_for_merge : (copy : Bool) → FileMap → (names : List (List ℕ)) → ℕ
-asked_for_merge true known names = asked_of_all asked_to_read known names
-asked_for_merge false known names = asked_to_merge known names
+-- To copy the chunks of inputs each is opened and read once, and to merge their records each is opened twice. Then a
+-- chunk that may not hold its records is not read.
+abbrev pub AsksToMergeIf : (copy : Bool) → FileMap → (names : List (List ℕ)) → (old new : Outside) → Type 0
+AsksToMergeIf true known names old new = AsksAtMost (asked_of_all asked_with_chunks known names) old new
+AsksToMergeIf false known names old new =
+    (asked : Option (List ℕ) → ℕ) → IsAskedToRead asked → AsksAtMost (asked_to_merge asked known names) old new
 
 -- If the files are known, a merge asks for no more, however the run ends.
 abbrev pub AsksToMerge : LasmergeOptions → (old new : Outside) → Type 0
-AsksToMerge options old new = (known : FileMap) → old.held ≡ Some known
-    → AsksAtMost (asked_for_merge options.copy known options.inputs) old new
+AsksToMerge options old new =
+    (known : FileMap) → old.held ≡ Some known → AsksToMergeIf options.copy known options.inputs old new
 
 -- This holds of a command with inputs.
 abbrev pub WorkAsks : Work → (old new : Outside) → Type 0

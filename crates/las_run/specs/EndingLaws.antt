@@ -1,5 +1,5 @@
 -- Laws of endings.
-use Rattle.std.specs.Prelude.{◌≡◌, ℕ, ◌^◌, ◌<◌, ◌≤◌, All, false, List, [], length, map, Option, Some, None}
+use Rattle.std.specs.Prelude.{◌≡◌, ℕ, ◌^◌, ◌<◌, ◌≤◌, All, true, false, List, [], length, map, Option, Some, None}
 use Rattle.std.specs.FinMap as finmap
 use Rattle.std.specs.List.{concat}
 use Rattle.las_filter.specs.declared.rule.Rule.{Rule}
@@ -30,10 +30,9 @@ abbrev pub EndsInOneWay : Type 0
 EndsInOneWay = (task : Task) (files : FileMap) (one other : Ending) → HoldBytes files
     → RunOf task files one → RunOf task files other → one ≡ other
 
--- One is defined, for every task and any files of bytes.
+-- One is defined, for every task, whatever the files hold.
 abbrev pub SomeEndingIsDefined : Type 0
-SomeEndingIsDefined = (task : Task) (files : FileMap) → HoldBytes files
-    → (ending : Ending) × RunOf task files ending
+SomeEndingIsDefined = (task : Task) (files : FileMap) → (ending : Ending) × RunOf task files ending
 
 -- the name of the input of a command that has one
 abbrev pub input_of : Work → Option (List ℕ)
@@ -108,6 +107,12 @@ abbrev pub PlainRecordsAreWhole : Type 0
 PlainRecordsAreWhole = (file : List ℕ) (rule : Rule) (records : List (List ℕ)) → IsAcceptedFile file
     → is_packed (head_of file) ≡ false → IsBytes file → SplitsTo rule file records None
     → AreWhole (plain_head file) records
+
+-- So are those of an accepted packed file, if its plain head has an offset within its limit.
+abbrev pub PackedRecordsAreWhole : Type 0
+PackedRecordsAreWhole = (file : List ℕ) (rule : Rule) (records : List (List ℕ)) → IsAcceptedFile file
+    → is_packed (head_of file) ≡ true → IsBytes file → length (plain_head file) ≤ MAX_PLAIN_OFFSET
+    → SplitsTo rule file records None → AreWhole (plain_head file) records
 
 -- what words say, but for the number of workers
 abbrev pub with_one_worker : Said → Said

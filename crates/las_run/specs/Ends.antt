@@ -20,7 +20,7 @@ use Rattle.las_make.specs.declared.settings.Settings.{Settings}
 use Rattle.las_make.specs.Making.{LeavesPackedInPart, with_made}
 use Rattle.las_merge.specs.declared.fault.MergeFault.{MergeFault}
 use Rattle.las_merge.specs.declared.fault.MergeFault.TheVariants as merge
-use Rattle.las_merge.specs.Inputs.{AreFirst, IfKnown, item_at}
+use Rattle.las_merge.specs.Inputs.{AreFirstInputs, IfKnown, item_at}
 use Rattle.las_info.specs.declared.reporting.ReportFault.{ReportFault}
 use Rattle.las_info.specs.declared.reporting.ReportFault.TheVariants as report
 use Rattle.las_run.specs.declared.stop.Stop.{Stop}
@@ -120,7 +120,7 @@ FailsToWrite task change =
 abbrev pub ComesToInput : (inputs : List (List ℕ)) → Change → (name : List ℕ) → Type 0
 ComesToInput inputs change name =
     (number : ℕ) × (name ≡ item_at inputs number) × (number < length inputs)
-    × IfKnown change.files.held (λ known. (before : List (List ℕ)) × AreFirst known inputs before
+    × IfKnown change.files.held (λ known. (before : List (List ℕ)) × AreFirstInputs known inputs before
     × (length before ≡ number))
 
 -- `make` had come to read the file of this name again: its plain file, which stands whole, and of the packed one no

@@ -9,7 +9,6 @@ use Rattle.las_outside.specs.Outside.{Later}
 use Rattle.las_outside.specs.Sinks.{Puts, written_after}
 use Rattle.las_words.specs.Asked.{Las2lasOptions, LasmergeOptions, OneInput, las2las, lasmerge, reads}
 use Rattle.las_words.specs.Says as words
-use Rattle.las_merge.specs.Existing.{HoldBytes}
 use Rattle.laz_forms.specs.Laws.{CanBePacked}
 use Rattle.laz_forms.specs.Packing.{packed_file}
 use Rattle.laz_forms.specs.Refusing.{IsRefusal}
@@ -79,11 +78,11 @@ pub record KeepsPromises (run : RunSeen) : Type 0 where
       ⊎ Rose run.out.faults run.out_now.faults
   -- Over known files, whatever ended the run: each output is unfinished or not there, and all else is as before.
   pub left : (known : FileMap) (ending : Ending) → IsDue run known ending → Leaves run known ending
-  -- The same without an ending that is given, for files of bytes: one is defined, and this is left of it.
-  pub left_always : (known : FileMap) → run.files.held ≡ Some known → HoldBytes known
+  -- The same without an ending that is given: one is defined, and this is left of it.
+  pub left_always : (known : FileMap) → run.files.held ≡ Some known
       → (ending : Ending) × IsDue run known ending × Leaves run known ending
   -- Every name that the command does not write is as before.
-  pub others : (known : FileMap) (name : List ℕ) → run.files.held ≡ Some known → HoldBytes known
+  pub others : (known : FileMap) (name : List ℕ) → run.files.held ≡ Some known
       → (IsWritten run.task.said name → ⊥) → IsAsBefore run known name
   -- Nothing has changed if the words are wrong, an input is missing or refused when it is opened, or the inputs can't
   -- be merged;

@@ -10,7 +10,7 @@ ghost use Rattle.las_outside.specs.Frames.{IsCalm, OnlyReads};
 ghost use Rattle.las_outside.specs.Limits.{AreWorkers, IsChunkSize};
 ghost use Rattle.las_outside.specs.Outside.{Later};
 ghost use Rattle.las_outside.specs.Sinks.{SinkView};
-ghost use Rattle.las_thin.specs.Sieving.{HasItsStep, IsStep, StandsFor as SievesFor};
+ghost use Rattle.las_thin.specs.Sieving.{HasItsStep, IsStep, HasSifted as SievesFor};
 ghost use Rattle.las_words.specs.Asked.{AreChosen, las2las, reads};
 ghost use Rattle.las_words.specs.Texts.{texts};
 ghost use Rattle.laz_reader.specs.Asking.{AsksAtMost, ReadsAndWrites, asked_to_open, bytes_left};

@@ -1,6 +1,6 @@
 //! Laws of the definitions that the top call's contract cites.
 ghost use Rattle.las_run.specs.EndingLaws.{EndsInOneWay, MissingInputsEnd, PackedFormsEnd, PartsOfSplitMerge};
-ghost use Rattle.las_run.specs.EndingLaws.{PlainInputsEnd, PlainRecordsAreWhole, SomeEndingIsDefined};
+ghost use Rattle.las_run.specs.EndingLaws.{PackedRecordsAreWhole, PlainInputsEnd, PlainRecordsAreWhole, SomeEndingIsDefined};
 ghost use Rattle.las_run.specs.EndingLaws.{WorkersDoNotMatter, WrongWordsEnd};
 
 use las_convert::{converting_ends_in_one_way, converting_gives_something};
@@ -45,8 +45,10 @@ pub fn workers_do_not_matter()
 
 /// The parts that `lassplit -split n` makes of a file, merged in their order, are the file's records again, under its
 /// plain head with their counts. This holds for whole records, one or more, whose plain head has an offset within its
-/// limit, and so for every accepted plain file that has a record.
+/// limit, and so for every accepted file that has a record: each plain one, and each packed one whose chunks all hold
+/// records and whose plain head is within the limit.
 pub fn parts_of_a_split_merge()
     ensures merge { PartsOfSplitMerge }
     ensures plain { PlainRecordsAreWhole }
+    ensures packed { PackedRecordsAreWhole }
 {}

@@ -5,7 +5,7 @@ ghost use Rattle.las_outside.specs.Frames.{IsCalm};
 ghost use Rattle.las_outside.specs.Outside.{Later};
 ghost use Rattle.las_info.specs.Tallies.{count_at};
 ghost use Rattle.las_words.specs.declared.command.WordFault.{WordFault};
-ghost use Rattle.las_words.specs.Asked.{IsSound, asked_by, work_by};
+ghost use Rattle.las_words.specs.Asked.{IsSoundAsked, asked_by, work_by};
 ghost use Rattle.las_words.specs.Says.{asks};
 ghost use Rattle.las_words.specs.Texts.{texts};
 ghost use Rattle.las_words.specs.declared.command.Command.{Command};
@@ -80,7 +80,7 @@ fn work<R: Threads + Sync, F: Files, O: Sink, G: Gate>(
     said: &Result<Command, WordFault>,
 ) -> Result<(), Stop>
     requires sound { ForOk said.now (λ command.
-        IsSound (map (λ tap. (tap_seen tap).name) taps.items) (asked_by command)) }
+        IsSoundAsked (map (λ tap. (tap_seen tap).name) taps.items) (asked_by command)) }
     requires room { All (λ tap. (bin : ℕ) → count_at (tap_seen tap).tally bin ≤ 2 ^ 63) taps.items }
     ensures ends { (task : Task) → task.taps ≡ map (λ tap. tap_seen tap) taps.items
         → IsRead task.said said.now → Ends task
@@ -122,7 +122,7 @@ fn obey<R: Threads + Sync, F: Files, O: Sink, G: Gate>(
     taps: Vec<Box<dyn Tap>>,
     command: &Command,
 ) -> Result<(), Stop>
-    requires sound { IsSound (map (λ tap. (tap_seen tap).name) taps.items) (asked_by command.now) }
+    requires sound { IsSoundAsked (map (λ tap. (tap_seen tap).name) taps.items) (asked_by command.now) }
     requires room { All (λ tap. (bin : ℕ) → count_at (tap_seen tap).tally bin ≤ 2 ^ 63) taps.items }
     ensures ends { (task : Task) → task.taps ≡ map (λ tap. tap_seen tap) taps.items
         → task.said ≡ asks (asked_by command.now) → Ends task

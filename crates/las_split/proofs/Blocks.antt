@@ -1,37 +1,25 @@
 -- Records of blocks, one block after another.
-use Rattle.std.proofs.Common.{◌≡◌, ℕ, zero, suc, ◌+◌, ◌*◌, ◌/◌, ◌<◌, ◌≤◌, ◌^◌, Bool, true, false, List, [], ◌∷◌, ◌++◌, length, take, drop, get_or, Option, sym, ◌∙◌, ap, subst, append_assoc, arith}
+use Rattle.std.proofs.Common.{◌≡◌, ℕ, suc, ◌+◌, ◌*◌, ◌/◌, ◌<◌, ◌≤◌, ◌^◌, Bool, true, false, List, [], ◌∷◌, ◌++◌, length, take, drop, get_or, Option, sym, ◌∙◌, ap, subst, append_assoc, arith}
 use Rattle.std.specs.Prelude.{All}
-use Rattle.std.proofs.lemmas.List.{length-drop, length-take-le, take-append-drop, take_all}
+use Rattle.std.proofs.lemmas.List.{length-take-le, take-append-drop, take_all}
 use Rattle.std.proofs.lemmas.List.Elements.{All-take}
 use Rattle.std.proofs.Math.Nat.{le_of_mul-le-mul_left, mul-div-le}
 use Rattle.std.proofs.Math.Seq.{drop-cons}
 use Rattle.las_header.specs.Fields.{points_of}
-use Rattle.las_header.specs.Plain.{cut_records, cut_all}
-use Rattle.las_header.proofs.Public.{cut_length}
+use Rattle.las_header.specs.Plain.{cut_all}
+use Rattle.las_header.proofs.Public.{cut_length, cut_whole}
 use Rattle.las_outside.specs.Files.{FileMap}
 use Rattle.laz_writer.specs.Writing.{WriterSeen}
-use Rattle.las_split.specs.Sorting.{FitAfter, HasRoom, InParts, LeavesBlock, LeavesPrefixes, SortsBlock, TakesBlock, Task}
+use Rattle.las_split.specs.Sorting.{FitAfter, PartsHaveRoom, InParts, LeavesBlock, LeavesPrefixes, SortsBlock, TakesBlock, SplitTask}
 use Rattle.las_split.specs.Splitting.{OpensTooMany}
 
 -- ---- whole records
 
 -- ---- a block that was sorted
 
--- each record of a block is whole
-cut_whole : (size n : ℕ) (bytes : List ℕ) → size * n ≤ length bytes → All (λ x. length x ≡ size) (cut_records size n bytes)
-cut_whole size zero bytes fits = λ k d lt. absurd (omega (arith, lt))
-cut_whole size (suc n) bytes fits =
-    let far : size * suc n ≡ size + size * n = omega arith in
-    by (omega (arith, fits, far)) (cut_whole size n (drop size bytes) (omega (arith, fits, far, length-drop size bytes)))
-  where
-    by : size ≤ length bytes → All (λ x. length x ≡ size) (cut_records size n (drop size bytes))
-        → (k : ℕ) (d : List ℕ) → k < length (cut_records size (suc n) bytes) → length (get_or (cut_records size (suc n) bytes) k d) ≡ size
-    by long rest zero d lt = length-take-le size bytes long
-    by long rest (suc k) d lt = rest k d (omega (arith, lt))
-
-module _ (task : Task) (was now : Option FileMap) (numbers : List ℕ) (writers : List WriterSeen) (texts : List (List ℕ)) (records : List (List ℕ)) (size taken : ℕ) (bytes : List ℕ) (s : SortsBlock task was now numbers writers texts records (cut_all size bytes) taken) where
+module _ (task : SplitTask) (was now : Option FileMap) (numbers : List ℕ) (writers : List WriterSeen) (texts : List (List ℕ)) (records : List (List ℕ)) (size taken : ℕ) (bytes : List ℕ) (s : SortsBlock task was now numbers writers texts records (cut_all size bytes) taken) where
   -- they fit into the parts
-  pub fit_here : (index : ℕ) → index ≡ length records → HasRoom task size index (length bytes) → FitAfter task records (take taken (cut_all size bytes))
+  pub fit_here : (index : ℕ) → index ≡ length records → PartsHaveRoom task size index (length bytes) → FitAfter task records (take taken (cut_all size bytes))
   fit_here index at room =
       let count = length bytes / size in
       let all : size * count ≤ length bytes = omega (arith, mul-div-le (length bytes) size) in
@@ -65,7 +53,7 @@ module _ (task : Task) (was now : Option FileMap) (numbers : List ℕ) (writers 
 -- ---- blocks after blocks
 
 -- blocks that were taken, and one more
-pub takes_then : (task : Task) (was now : Option FileMap) (ns : List ℕ) (ws : List WriterSeen) (records xs ys : List (List ℕ)) (all : Bool) → TakesBlock task was now ns ws (records ++ xs) ys all → TakesBlock task was now ns ws records (xs ++ ys) all
+pub takes_then : (task : SplitTask) (was now : Option FileMap) (ns : List ℕ) (ws : List WriterSeen) (records xs ys : List (List ℕ)) (all : Bool) → TakesBlock task was now ns ws (records ++ xs) ys all → TakesBlock task was now ns ws records (xs ++ ys) all
 takes_then task was now ns ws records xs ys true t = subst (λ (b : List (List ℕ)). InParts task was now ns ws b b) (append_assoc records xs ys) t
 takes_then task was now ns ws records xs ys false t = (
   xs ++ t.0,
@@ -76,7 +64,7 @@ takes_then task was now ns ws records xs ys false t = (
   subst (λ (b : List (List ℕ)). OpensTooMany task.rule b t.1) (append_assoc records xs t.0) t.5,
 )
 
-pub left_then : (task : Task) (was now : Option FileMap) (records xs ys : List (List ℕ)) → LeavesBlock task was now (records ++ xs) ys → LeavesBlock task was now records (xs ++ ys)
+pub left_then : (task : SplitTask) (was now : Option FileMap) (records xs ys : List (List ℕ)) → LeavesBlock task was now (records ++ xs) ys → LeavesBlock task was now records (xs ++ ys)
 left_then task was now records xs ys l = (
   xs ++ l.0,
   l.1,
@@ -85,7 +73,7 @@ left_then task was now records xs ys l = (
 )
 
 -- the place of the next record
-pub next_fits : (task : Task) (size next : ℕ) (block : List ℕ) → HasRoom task size next (length block) → next + length block / size < 2 ^ 32
+pub next_fits : (task : SplitTask) (size next : ℕ) (block : List ℕ) → PartsHaveRoom task size next (length block) → next + length block / size < 2 ^ 32
 next_fits task size next block room =
     let some : 0 < size = omega (arith, room.some) in
     let both : size * (next + length block / size) ≡ size * next + size * (length block / size) = omega arith in

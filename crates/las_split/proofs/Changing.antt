@@ -6,35 +6,35 @@ use Rattle.std.proofs.Math.Seq.{drop-cons}
 use Rattle.las_outside.specs.Files.{FileMap, with_file}
 use Rattle.las_split.specs.Files.{with_files}
 use Rattle.las_split.specs.Parts.{firsts}
-use Rattle.las_split.specs.Sorting.{Task, has, output_at}
+use Rattle.las_split.specs.Sorting.{SplitTask, is_among, output_at}
 use Rattle.las_split.proofs.PartNaming.{one_number}
 use Rattle.las_split.proofs.PuttingFiles.{AreDistinct, IsAbsent, one_changes, one_stands}
 
 -- no number is there twice
 abbrev pub AreOnce : List ℕ → Type 0
 AreOnce [] = Unit {0}
-AreOnce (n ∷ ns) = (has n ns ≡ false) × AreOnce ns
+AreOnce (n ∷ ns) = (is_among n ns ≡ false) × AreOnce ns
 
-absent_without : (m n : ℕ) (ns : List ℕ) → has m ns ≡ false → has m (filter (λ k. not (k == n)) ns) ≡ false
+absent_without : (m n : ℕ) (ns : List ℕ) → is_among m ns ≡ false → is_among m (filter (λ k. not (k == n)) ns) ≡ false
 absent_without m n [] e = refl
-absent_without m n (k ∷ ns) e = by (k == n) (k == m) refl (has m ns) e (absent_without m n ns)
+absent_without m n (k ∷ ns) e = by (k == n) (k == m) refl (is_among m ns) e (absent_without m n ns)
   where
-    by : (b c : Bool) → (k == m) ≡ c → (d : Bool) → (c || d) ≡ false → (d ≡ false → has m (filter (λ j. not (j == n)) ns) ≡ false) → has m (cond (not b) (k ∷ filter (λ j. not (j == n)) ns) (filter (λ j. not (j == n)) ns)) ≡ false
+    by : (b c : Bool) → (k == m) ≡ c → (d : Bool) → (c || d) ≡ false → (d ≡ false → is_among m (filter (λ j. not (j == n)) ns) ≡ false) → is_among m (cond (not b) (k ∷ filter (λ j. not (j == n)) ns) (filter (λ j. not (j == n)) ns)) ≡ false
     by b true is d e rest = absurd (cc)
     by true false is d e rest = rest e
-    by false false is d e rest = ap (λ (c : Bool). c || has m (filter (λ j. not (j == n)) ns)) is ∙ rest e
+    by false false is d e rest = ap (λ (c : Bool). c || is_among m (filter (λ j. not (j == n)) ns)) is ∙ rest e
 
 pub firsts_once : (ns : List ℕ) → AreOnce (firsts ns)
 firsts_once [] = tt
 firsts_once (n ∷ ns) = (gone n (firsts ns), kept n (firsts ns) (firsts_once ns))
   where
-    gone : (n : ℕ) (ms : List ℕ) → has n (filter (λ k. not (k == n)) ms) ≡ false
+    gone : (n : ℕ) (ms : List ℕ) → is_among n (filter (λ k. not (k == n)) ms) ≡ false
     gone n [] = refl
     gone n (m ∷ ms) = by (m == n) refl (gone n ms)
       where
-        by : (b : Bool) → (m == n) ≡ b → has n (filter (λ k. not (k == n)) ms) ≡ false → has n (cond (not b) (m ∷ filter (λ k. not (k == n)) ms) (filter (λ k. not (k == n)) ms)) ≡ false
+        by : (b : Bool) → (m == n) ≡ b → is_among n (filter (λ k. not (k == n)) ms) ≡ false → is_among n (cond (not b) (m ∷ filter (λ k. not (k == n)) ms) (filter (λ k. not (k == n)) ms)) ≡ false
         by true e rest = rest
-        by false e rest = ap (λ (c : Bool). c || has n (filter (λ k. not (k == n)) ms)) e ∙ rest
+        by false e rest = ap (λ (c : Bool). c || is_among n (filter (λ k. not (k == n)) ms)) e ∙ rest
 
     kept : (n : ℕ) (ms : List ℕ) → AreOnce ms → AreOnce (filter (λ k. not (k == n)) ms)
     kept n [] once = tt
@@ -45,12 +45,12 @@ firsts_once (n ∷ ns) = (gone n (firsts ns), kept n (firsts ns) (firsts_once ns
         by false rest = (absent_without m n ms once.0, rest)
 
 -- the names of parts with texts
-abbrev pub texts : Task → (text : ℕ → List ℕ) → List ℕ → List (List ℕ × List ℕ)
+abbrev pub texts : SplitTask → (text : ℕ → List ℕ) → List ℕ → List (List ℕ × List ℕ)
 texts task text numbers = map (λ n. ((output_at task n).name, text n)) numbers
 
 -- no two parts have one name
-module _ (task : Task) where
-  not_named : (n : ℕ) (ns : List ℕ) (ps : List (List ℕ × List ℕ)) → n < 2 ^ 32 → All (λ k. k < 2 ^ 32) ns → has n ns ≡ false → map (λ p. p.0) ps ≡ map (λ k. (output_at task k).name) ns → IsAbsent (output_at task n).name ps
+module _ (task : SplitTask) where
+  not_named : (n : ℕ) (ns : List ℕ) (ps : List (List ℕ × List ℕ)) → n < 2 ^ 32 → All (λ k. k < 2 ^ 32) ns → is_among n ns ≡ false → map (λ p. p.0) ps ≡ map (λ k. (output_at task k).name) ns → IsAbsent (output_at task n).name ps
   not_named n [] [] small few none names = tt
   not_named n [] (p ∷ ps) small few none names = absurd (cc)
   not_named n (k ∷ ns) [] small few none names = absurd (cc)
@@ -58,7 +58,7 @@ module _ (task : Task) where
       let first : p.0 ≡ (output_at task k).name = cc in
       let others : map (λ q. q.0) ps ≡ map (λ j. (output_at task j).name) ns = cc in
       let low : k < 2 ^ 32 = few 0 0 (omega arith) in
-      let apart = or_none (k == n) (has n ns) none in (
+      let apart = or_none (k == n) (is_among n ns) none in (
         λ e. (let same : k ≡ n = one_number task.stem task.end k n (omega (arith, low)) (omega (arith, small)) (sym first ∙ e) in let t : true ≡ false = sym (eq-eqb k n same) ∙ apart.0 in cc),
         not_named n ns ps small (λ j d lt. few (suc j) d (omega (arith, lt))) apart.1 others,
       )

@@ -5,19 +5,19 @@ use Rattle.las_outside.specs.Outside.{Outside}
 use Rattle.laz_writer.specs.Writing.{Stands, WriterSeen}
 use Rattle.las_split.specs.Files.{with_files}
 use Rattle.las_split.specs.Parts.{numbers_of_parts}
-use Rattle.las_split.specs.Sorting.{InParts, Task, bytes_at, output_at}
+use Rattle.las_split.specs.Sorting.{InParts, SplitTask, bytes_at, output_at}
 use Rattle.las_split.proofs.Changing.{texts}
 use Rattle.las_split.proofs.EndingParts.{EndedSo, emptied, ended_first, ended_last, more, next_held, next_is, put_back}
 use Rattle.las_split.proofs.SomeRecords.{some_opened}
 use Rattle.las_split.proofs.Standing.{stands_here, writers_length}
 
 -- a writer is the next, and stands for its part
-pub record IsNext (task : Task) (records : List (List ℕ)) (number : ℕ) (now : Outside) (w : WriterSeen) : Type 0 where
+pub record IsNext (task : SplitTask) (records : List (List ℕ)) (number : ℕ) (now : Outside) (w : WriterSeen) : Type 0 where
   pub sound : w.failed ≡ false
   pub stands : Stands now now w (output_at task number) (bytes_at task records number)
   pub some : 1 ≤ length records
 
-module _ (task : Task) (done : ℕ → List ℕ) (was : Option FileMap) (ns : List ℕ) (ws : List WriterSeen)
+module _ (task : SplitTask) (done : ℕ → List ℕ) (was : Option FileMap) (ns : List ℕ) (ws : List WriterSeen)
     (records : List (List ℕ)) where
   -- none is ended, and the writers were turned around
   pub none_ended : (now : Option FileMap) (given turned : List WriterSeen) (len : ℕ)

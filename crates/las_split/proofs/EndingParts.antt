@@ -11,14 +11,14 @@ use Rattle.las_split.specs.Files.{with_files}
 use Rattle.laz_file.specs.Endings.{AreDrafts, AreEnding, OutputFile, named}
 use Rattle.las_split.specs.Outputs.{LeavesParts, outputs_under}
 use Rattle.las_split.specs.Parts.{numbers_from, numbers_of_parts}
-use Rattle.las_split.specs.Sorting.{ArePrefixes, AreWriters, InParts, IsWriter, LeavesPrefixes, Task, bytes_at, output_at, standing}
+use Rattle.las_split.specs.Sorting.{ArePrefixes, AreWriters, InParts, IsWriter, LeavesPrefixes, SplitTask, bytes_at, output_at, standing}
 use Rattle.las_split.proofs.Changing.{AreOnce, firsts_once, next_done, next_part, next_stands, texts}
 use Rattle.las_split.proofs.Leaving.{file_at}
 use Rattle.las_split.proofs.Placing.{prefixes-append, whole_prefix}
 use Rattle.las_split.proofs.Standing.{writers_after, writers_at, writers_length}
 
 -- the first parts hold this text, and the others stand as they did
-pub record EndedSo (task : Task) (done : ℕ → List ℕ) (was now : Option FileMap) (ns : List ℕ) (ws rest : List WriterSeen) (records : List (List ℕ)) : Type 0 where
+pub record EndedSo (task : SplitTask) (done : ℕ → List ℕ) (was now : Option FileMap) (ns : List ℕ) (ws rest : List WriterSeen) (records : List (List ℕ)) : Type 0 where
   pub parts : Option FileMap
   pub began : InParts task was parts ns ws records records
   pub place : ℕ
@@ -39,7 +39,7 @@ snoc (z ∷ xs) (w ∷ ys) x y e =
     let both = snoc xs ys x y others in
     (ap (λ (t : List WriterSeen). z ∷ t) both.0 ∙ ap (λ (t : WriterSeen). t ∷ ys) first, both.1)
 
-module _ (task : Task) (done : ℕ → List ℕ) (was now : Option FileMap) (ns : List ℕ) (ws : List WriterSeen) (records : List (List ℕ)) where
+module _ (task : SplitTask) (done : ℕ → List ℕ) (was now : Option FileMap) (ns : List ℕ) (ws : List WriterSeen) (records : List (List ℕ)) where
   pub ended_first : (rest : List WriterSeen) → InParts task was now ns ws records records → rest ≡ reverse ws → EndedSo task done was now ns ws rest records
   ended_first rest i is = record {
     parts = now;
@@ -73,9 +73,6 @@ module _ (task : Task) (done : ℕ → List ℕ) (was now : Option FileMap) (ns 
 
     once : AreOnce ns
     once = subst AreOnce (sym e.began.numbers_are) (firsts_once (numbers_from task.rule 0 records))
-
-    pub number : ℕ
-    number = get_or ns e.place 0
 
     -- the next writer stands for its part
     pub next_is : IsWriter task (get_or ns e.place 0) w (bytes_at task records (get_or ns e.place 0))
@@ -151,7 +148,7 @@ module _ (task : Task) (done : ℕ → List ℕ) (was now : Option FileMap) (ns 
 -- ---- parts that are stopped
 
 -- stopping a part failed: all parts hold prefixes of what they would
-pub ended_prefixes : (task : Task) (was now : Option FileMap) (ns : List ℕ) (ws : List WriterSeen) (records : List (List ℕ)) (rest others : List WriterSeen) (w : WriterSeen) (e : EndedSo task (λ n. stopped (output_at task n) (bytes_at task records n)) was now ns ws rest records) (popped : rest ≡ others ++ w ∷ []) (new : Option FileMap) (k : ℕ)
+pub ended_prefixes : (task : SplitTask) (was now : Option FileMap) (ns : List ℕ) (ws : List WriterSeen) (records : List (List ℕ)) (rest others : List WriterSeen) (w : WriterSeen) (e : EndedSo task (λ n. stopped (output_at task n) (bytes_at task records n)) was now ns ws rest records) (popped : rest ≡ others ++ w ∷ []) (new : Option FileMap) (k : ℕ)
     → new ≡ with_file now (output_at task (get_or ns e.place 0)).name (take k (stopped (output_at task (get_or ns e.place 0)) (bytes_at task records (get_or ns e.place 0)))) → LeavesPrefixes task was new records
 ended_prefixes task was now ns ws records rest others w e popped new k to =
     let done = λ (n : ℕ). stopped (output_at task n) (bytes_at task records n) in

@@ -1,6 +1,7 @@
 -- Whatever the bytes of an accepted file are, splitting it gives one thing alone.
 use Rattle.std.proofs.Common.{◌≡◌, inl, inr, ℕ, ◌<◌, ◌≤◌, List, ◌∷◌, ◌++◌, take, Option, Some, None, refl, sym, ◌∙◌, ap, subst, append_assoc, arith}
 use Rattle.std.proofs.lemmas.Bool.{cases_lt}
+use Rattle.std.proofs.lemmas.Option.{none-some}
 use Rattle.las_filter.specs.declared.rule.Rule.{Rule}
 use Rattle.las_header.specs.declared.refusal.Refusal.{Refusal}
 use Rattle.las_header.specs.declared.refusal.Refusal.TheVariants.{BadChunk, TooManyParts}
@@ -10,7 +11,7 @@ use Rattle.laz_forms.specs.Laws.{HasOneBlock, HasOneRecords}
 use Rattle.laz_forms.specs.Pieces.{Piece}
 use Rattle.laz_forms.specs.Records.{AreRead, AreRecordsOf, HoldBlocks}
 use Rattle.laz_forms.specs.Refusing.{IsAcceptedFile}
-use Rattle.laz_forms.proofs.Public.{accepted_is_head, one_pieces, none_some, some_same}
+use Rattle.laz_forms.proofs.Public.{accepted_is_head, one_pieces, some_same}
 use Rattle.laz_reader.proofs.Public.{more_first}
 use Rattle.laz_file.proofs.Public.{even_of, begins-with, only-blocks}
 use Rattle.las_split.specs.Laws.{SplitsInOneWay}
@@ -57,10 +58,10 @@ module _ (rule : Rule) (file : List ℕ) (accepted : IsAcceptedFile file) (small
 
   once : (records others : List (List ℕ)) (refusal other : Option Refusal) → SplitsTo rule file records refusal → SplitsTo rule file others other → (others ≡ records) × (other ≡ refusal)
   once records others None None a b = ((same_read a.0 b.0 records others None None a.1 b.1 a.2 b.2).0, refl)
-  once records others None (Some (BadChunk j)) a b = absurd (none_some j (sym (same_read a.0 b.0 records others None (Some j) a.1 b.1 a.2 b.2).1))
+  once records others None (Some (BadChunk j)) a b = absurd (none-some j (sym (same_read a.0 b.0 records others None (Some j) a.1 b.1 a.2 b.2).1))
   once records others None (Some TooManyParts) a b = absurd (never_both others records a.0 None b a.1 a.2)
   once records others None (Some _) a b = absurd b
-  once records others (Some (BadChunk i)) None a b = absurd (none_some i (same_read a.0 b.0 records others (Some i) None a.1 b.1 a.2 b.2).1)
+  once records others (Some (BadChunk i)) None a b = absurd (none-some i (same_read a.0 b.0 records others (Some i) None a.1 b.1 a.2 b.2).1)
   once records others (Some (BadChunk i)) (Some (BadChunk j)) a b =
       let e = same_read a.0 b.0 records others (Some i) (Some j) a.1 b.1 a.2 b.2 in
       (e.0, ap (λ (n : ℕ). Some (BadChunk n)) (some_same j i e.1))

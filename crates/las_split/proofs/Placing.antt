@@ -12,17 +12,17 @@ use Rattle.laz_forms.proofs.Public.{concat-append, prefix_append}
 use Rattle.las_split.specs.declared.limits.TheConstants.{MAX_PARTS}
 use Rattle.las_split.specs.Files.{with_files}
 use Rattle.las_split.specs.Parts.{number_by, numbers_of_parts, part, part_from}
-use Rattle.las_split.specs.Sorting.{ArePrefixes, InParts, LeavesPrefixes, Task, bytes_at, has, output_at, standing}
+use Rattle.las_split.specs.Sorting.{ArePrefixes, InParts, LeavesPrefixes, SplitTask, bytes_at, is_among, output_at, standing}
 use Rattle.las_split.specs.Splitting.{OpensTooMany}
 use Rattle.las_split.proofs.PartLists.{no_part, part-append, parts_new, parts_old}
 use Rattle.las_split.proofs.PuttingFiles.{with_files-append}
 use Rattle.las_split.proofs.Standing.{stands_anywhere, text_is, writers-append, writers_length}
 
-pub has_at : (k : ℕ) (ns : List ℕ) (i : ℕ) → slice_get ns i ≡ Some k → has k ns ≡ true
+pub has_at : (k : ℕ) (ns : List ℕ) (i : ℕ) → slice_get ns i ≡ Some k → is_among k ns ≡ true
 has_at k [] i e = absurd (cc)
 has_at k (n ∷ ns) zero e =
     let same : n ≡ k = cc in
-    ap (λ (b : Bool). b || has k ns) (eq-eqb n k same)
+    ap (λ (b : Bool). b || is_among k ns) (eq-eqb n k same)
 has_at k (n ∷ ns) (suc i) e = ap (λ (b : Bool). (n == k) || b) (has_at k ns i e) ∙ or_true (n == k)
   where
     or_true : (b : Bool) → (b || true) ≡ true
@@ -31,14 +31,14 @@ has_at k (n ∷ ns) (suc i) e = ap (λ (b : Bool). (n == k) || b) (has_at k ns i
 
 -- ---- the bytes of a part of records and of more records
 
-pub bytes_begin : (task : Task) (xs ys : List (List ℕ)) (n : ℕ) → (more : List ℕ) × (bytes_at task (xs ++ ys) n ≡ bytes_at task xs n ++ more)
+pub bytes_begin : (task : SplitTask) (xs ys : List (List ℕ)) (n : ℕ) → (more : List ℕ) × (bytes_at task (xs ++ ys) n ≡ bytes_at task xs n ++ more)
 bytes_begin task xs ys n = (
   concat (part_from task.rule (0 + length xs) ys n),
   ap concat (part-append task.rule 0 xs ys n) ∙ concat-append (part task.rule xs n) (part_from task.rule (0 + length xs) ys n),
 )
 
 -- a prefix of what a part holds is one of what it holds with more records
-pub prefix_more : (task : Task) (xs ys : List (List ℕ)) (n k : ℕ) → (m : ℕ) × (take k (front (output_at task n) ++ bytes_at task xs n) ≡ take m (front (output_at task n) ++ bytes_at task (xs ++ ys) n))
+pub prefix_more : (task : SplitTask) (xs ys : List (List ℕ)) (n k : ℕ) → (m : ℕ) × (take k (front (output_at task n) ++ bytes_at task xs n) ≡ take m (front (output_at task n) ++ bytes_at task (xs ++ ys) n))
 prefix_more task xs ys n k =
     let b = bytes_begin task xs ys n in
     let p = prefix_append (front (output_at task n) ++ bytes_at task xs n) b.0 k in
@@ -48,14 +48,14 @@ pub whole_prefix : (text : List ℕ) → text ≡ take (length text) text
 whole_prefix text = sym (take_all (length text) text (omega arith))
 
 -- what the parts hold are prefixes of what they hold with more records
-pub all_prefixes : (task : Task) (xs ys : List (List ℕ)) (ns : List ℕ) → ArePrefixes task (bytes_at task (xs ++ ys)) ns (map (standing task (bytes_at task xs)) ns)
+pub all_prefixes : (task : SplitTask) (xs ys : List (List ℕ)) (ns : List ℕ) → ArePrefixes task (bytes_at task (xs ++ ys)) ns (map (standing task (bytes_at task xs)) ns)
 all_prefixes task xs ys [] = tt
 all_prefixes task xs ys (n ∷ ns) =
     let text = front (output_at task n) ++ bytes_at task xs n in
     let p = prefix_more task xs ys n (length text) in
     ((refl, (p.0, whole_prefix text ∙ p.1)), all_prefixes task xs ys ns)
 
-pub prefixes-append : (task : Task) (bytes : ℕ → List ℕ) (ns ms : List ℕ) (ps qs : List (List ℕ × List ℕ)) → ArePrefixes task bytes ns ps → ArePrefixes task bytes ms qs → ArePrefixes task bytes (ns ++ ms) (ps ++ qs)
+pub prefixes-append : (task : SplitTask) (bytes : ℕ → List ℕ) (ns ms : List ℕ) (ps qs : List (List ℕ × List ℕ)) → ArePrefixes task bytes ns ps → ArePrefixes task bytes ms qs → ArePrefixes task bytes (ns ++ ms) (ps ++ qs)
 prefixes-append task bytes [] ms [] qs one two = two
 prefixes-append task bytes [] ms (p ∷ ps) qs one two = absurd one
 prefixes-append task bytes (n ∷ ns) ms [] qs one two = absurd one
@@ -65,7 +65,7 @@ map-append : (f : ℕ → List ℕ × List ℕ) (ns ms : List ℕ) → map f (ns
 map-append f [] ms = refl
 map-append f (n ∷ ns) ms = ap (λ (t : List (List ℕ × List ℕ)). f n ∷ t) (map-append f ns ms)
 
-module _ (task : Task) (was now : Option FileMap) (ns : List ℕ) (ws : List WriterSeen) (opened written : List (List ℕ)) (i : InParts task was now ns ws opened written) (more : List (List ℕ)) (whole : opened ≡ written ++ more) where
+module _ (task : SplitTask) (was now : Option FileMap) (ns : List ℕ) (ws : List WriterSeen) (opened written : List (List ℕ)) (i : InParts task was now ns ws opened written) (more : List (List ℕ)) (whole : opened ≡ written ++ more) where
   -- what stands is what may be left
   pub leaves_here : (later : Option FileMap) → later ≡ now → LeavesPrefixes task was later opened
   leaves_here later same = record {
@@ -82,7 +82,7 @@ module _ (task : Task) (was now : Option FileMap) (ns : List ℕ) (ws : List Wri
     -- the part is there
     pub in_old : (place : ℕ) → slice_get ns place ≡ Some number → InParts task was now ns ws (opened ++ point ∷ []) written
     in_old place there =
-        let found : has (number_by task.rule (length opened) point) (numbers_of_parts task.rule opened) ≡ true = ap (λ (k : ℕ). has k (numbers_of_parts task.rule opened)) (sym is) ∙ ap (has number) (sym i.numbers_are) ∙ has_at number ns place there in
+        let found : is_among (number_by task.rule (length opened) point) (numbers_of_parts task.rule opened) ≡ true = ap (λ (k : ℕ). is_among k (numbers_of_parts task.rule opened)) (sym is) ∙ ap (is_among number) (sym i.numbers_are) ∙ has_at number ns place there in
         record {
           numbers_are = i.numbers_are ∙ sym (parts_old task.rule opened point found);
           few = i.few;
@@ -92,9 +92,9 @@ module _ (task : Task) (was now : Option FileMap) (ns : List ℕ) (ws : List Wri
           sized = i.sized;
         }
 
-    module _ (none : has number ns ≡ false) where
-      absent : has (number_by task.rule (length opened) point) (numbers_of_parts task.rule opened) ≡ false
-      absent = ap (λ (k : ℕ). has k (numbers_of_parts task.rule opened)) (sym is) ∙ ap (has number) (sym i.numbers_are) ∙ none
+    module _ (none : is_among number ns ≡ false) where
+      absent : is_among (number_by task.rule (length opened) point) (numbers_of_parts task.rule opened) ≡ false
+      absent = ap (λ (k : ℕ). is_among k (numbers_of_parts task.rule opened)) (sym is) ∙ ap (is_among number) (sym i.numbers_are) ∙ none
 
       numbers_new : numbers_of_parts task.rule (opened ++ point ∷ []) ≡ ns ++ number ∷ []
       numbers_new =
@@ -111,7 +111,7 @@ module _ (task : Task) (was now : Option FileMap) (ns : List ℕ) (ws : List Wri
           }
 
       no_bytes : bytes_at task written number ≡ []
-      no_bytes = nothing (part task.rule written number) (part_from task.rule (0 + length written) more number) (sym (part-append task.rule 0 written more number) ∙ ap (λ (t : List (List ℕ)). part task.rule t number) (sym whole) ∙ no_part task.rule opened number (ap (has number) (sym i.numbers_are) ∙ none))
+      no_bytes = nothing (part task.rule written number) (part_from task.rule (0 + length written) more number) (sym (part-append task.rule 0 written more number) ∙ ap (λ (t : List (List ℕ)). part task.rule t number) (sym whole) ∙ no_part task.rule opened number (ap (is_among number) (sym i.numbers_are) ∙ none))
         where
           nothing : (xs ys : List (List ℕ)) → xs ++ ys ≡ [] → concat xs ≡ []
           nothing [] ys e = refl

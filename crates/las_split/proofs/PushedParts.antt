@@ -9,6 +9,7 @@ use Rattle.std.proofs.Math.Nat.{mul-le-mul_left, mul-mod_right}
 use Rattle.std.proofs.Math.Seq.{drop-cons}
 use Rattle.las_filter.specs.declared.rule.Rule.{Rule}
 use Rattle.las_header.specs.Fields.{points_of, record_length_of}
+use Rattle.las_header.proofs.Public.{length_whole}
 use Rattle.las_outside.specs.Files.{FileMap, with_file}
 use Rattle.las_outside.specs.Outside.{Outside}
 use Rattle.laz_forms.specs.Outputs.{front}
@@ -17,7 +18,7 @@ use Rattle.laz_forms.proofs.Public.{concat-append}
 use Rattle.las_split.specs.declared.limits.TheConstants.{MAX_PARTS}
 use Rattle.las_split.specs.Files.{with_files}
 use Rattle.las_split.specs.Parts.{number_by, numbers_from, part, part_from}
-use Rattle.las_split.specs.Sorting.{AreGathered, ArePrefixes, AreWriters, FitAfter, InParts, IsWriter, LeavesPrefixes, PushedSo, Task, bytes_at, output_at, standing, text_of}
+use Rattle.las_split.specs.Sorting.{AreGathered, ArePrefixes, AreWriters, FitAfter, InParts, IsWriter, LeavesPrefixes, PushedSo, SplitTask, bytes_at, output_at, standing, part_bytes_of}
 use Rattle.las_split.proofs.Changing.{AreOnce, firsts_once, next_done, next_part, next_stands}
 use Rattle.las_split.proofs.PartLists.{part-append}
 use Rattle.las_split.proofs.Placing.{all_prefixes, prefixes-append, whole_prefix}
@@ -32,15 +33,6 @@ part_within rule at (x ∷ xs) n = by (number_by rule at x == n) (part_within ru
     by true less = omega (arith, less, length-append x (concat (part_from rule (at + 1) xs n)), length-append x (concat xs))
     by false less = omega (arith, less, length-append x (concat xs))
 
--- records of one size
-pub all_size : (size : ℕ) (xs : List (List ℕ)) → All (λ x. length x ≡ size) xs → length (concat xs) ≡ size * length xs
-all_size size [] all = omega arith
-all_size size (x ∷ xs) all =
-    let rest = all_size size xs (λ k d lt. all (suc k) d (omega (arith, lt))) in
-    let first : length x ≡ size = all 0 [] (omega arith) in
-    let more : size * suc (length xs) ≡ size + size * length xs = omega arith in
-    omega (arith, length-append x (concat xs), rest, first, more)
-
 pub part_size : (rule : Rule) (size at : ℕ) (xs : List (List ℕ)) (n : ℕ) → All (λ x. length x ≡ size) xs → length (concat (part_from rule at xs n)) ≡ size * length (part_from rule at xs n)
 part_size rule size at [] n all = omega arith
 part_size rule size at (x ∷ xs) n all = by (number_by rule at x == n) (part_size rule size (at + 1) xs n (λ k d lt. all (suc k) d (omega (arith, lt))))
@@ -53,10 +45,7 @@ part_size rule size at (x ∷ xs) n all = by (number_by rule at x == n) (part_si
         omega (arith, length-append x (concat (part_from rule (at + 1) xs n)), rest, first, more)
     by false rest = rest
 
-module _ (task : Task) (was now : Option FileMap) (ns : List ℕ) (ws : List WriterSeen) (records block : List (List ℕ)) where
-  all_records : List (List ℕ)
-  all_records = records ++ block
-
+module _ (task : SplitTask) (was now : Option FileMap) (ns : List ℕ) (ws : List WriterSeen) (records block : List (List ℕ)) where
   pub pushed_first : InParts task was now ns ws (records ++ block) records → PushedSo task was now ns ws 0 records block
   pushed_first i = record {
     numbers_are = i.numbers_are;
@@ -172,46 +161,46 @@ pub no_bytes : (text : List ℕ) → (length text == 0) ≡ true → text ≡ []
 no_bytes [] e = refl
 no_bytes (b ∷ text) e = absurd (omega (arith, eqb-true (length (b ∷ text)) 0 e))
 
-pub bytes_more : (task : Task) (records block : List (List ℕ)) (n : ℕ) → bytes_at task (records ++ block) n ≡ bytes_at task records n ++ text_of task records block n
+pub bytes_more : (task : SplitTask) (records block : List (List ℕ)) (n : ℕ) → bytes_at task (records ++ block) n ≡ bytes_at task records n ++ part_bytes_of task records block n
 bytes_more task records block n =
     let far : 0 + length records ≡ length records = omega arith in
     ap concat (part-append task.rule 0 records block n) ∙ concat-append (part task.rule records n) (part_from task.rule (0 + length records) block n)
     ∙ ap (λ (k : ℕ). bytes_at task records n ++ concat (part_from task.rule k block n)) far
 
 -- no record of the block is in a part that gets no bytes
-pub bytes_same : (task : Task) (records block : List (List ℕ)) (n : ℕ) → text_of task records block n ≡ [] → bytes_at task records n ≡ bytes_at task (records ++ block) n
+pub bytes_same : (task : SplitTask) (records block : List (List ℕ)) (n : ℕ) → part_bytes_of task records block n ≡ [] → bytes_at task records n ≡ bytes_at task (records ++ block) n
 bytes_same task records block n none = sym (bytes_more task records block n ∙ ap (λ (t : List ℕ). bytes_at task records n ++ t) none ∙ append-nil (bytes_at task records n))
 
-module _ (task : Task) (ns : List ℕ) (texts records block : List (List ℕ)) (s : AreGathered task ns texts records block) where
+module _ (task : SplitTask) (ns : List ℕ) (texts records block : List (List ℕ)) (s : AreGathered task ns texts records block) where
   pub texts_length : length texts ≡ length ns
-  texts_length = ap (λ (t : List (List ℕ)). length t) s ∙ length-map ns (text_of task records block)
+  texts_length = ap (λ (t : List (List ℕ)). length t) s ∙ length-map ns (part_bytes_of task records block)
 
-  pub text_at : (place : ℕ) → place < length ns → get_or texts place [] ≡ text_of task records block (get_or ns place 0)
-  text_at place within = ap (λ (t : List (List ℕ)). get_or t place []) s ∙ get_or-map (text_of task records block) ns place 0 [] within
+  pub text_at : (place : ℕ) → place < length ns → get_or texts place [] ≡ part_bytes_of task records block (get_or ns place 0)
+  text_at place within = ap (λ (t : List (List ℕ)). get_or t place []) s ∙ get_or-map (part_bytes_of task records block) ns place 0 [] within
 
 -- there is room for it
-pub room_for : (task : Task) (n : ℕ) (w : WriterSeen) (records block : List (List ℕ)) → FitAfter task records block → IsWriter task n w (bytes_at task records n) → length (concat records) ≡ record_length_of task.head * length records
-    → w.taken + length (text_of task records block n) ≤ w.size * w.most
+pub room_for : (task : SplitTask) (n : ℕ) (w : WriterSeen) (records block : List (List ℕ)) → FitAfter task records block → IsWriter task n w (bytes_at task records n) → length (concat records) ≡ record_length_of task.head * length records
+    → w.taken + length (part_bytes_of task records block n) ≤ w.size * w.most
 room_for task n w records block fit is sized =
     let o : Outside = record { held = None; read_faults = 0; write_faults = 0; asked = 0 } in
     let s = is.stands o in
     let size = record_length_of task.head in
     let count : w.taken ≤ length (concat records) = omega (arith, s.taken, part_within task.rule 0 records n) in
     let less = part_within task.rule (length records) block n in
-    let long = all_size size block fit.whole in
+    let long = length_whole size block fit.whole in
     let limit : w.size * w.most ≡ size * points_of task.head = ap (λ (k : ℕ). k * w.most) s.size ∙ ap (λ (k : ℕ). size * k) is.most in
     let both : size * (length records + length block) ≡ size * length records + size * length block = omega arith in
     omega (arith, count, less, long, sized, limit, both, mul-le-mul_left size fit.room)
 
-pub even_for : (task : Task) (n : ℕ) (w : WriterSeen) (bytes : List ℕ) (records block : List (List ℕ)) → FitAfter task records block → IsWriter task n w bytes → length (text_of task records block n) % w.size ≡ 0
+pub even_for : (task : SplitTask) (n : ℕ) (w : WriterSeen) (bytes : List ℕ) (records block : List (List ℕ)) → FitAfter task records block → IsWriter task n w bytes → length (part_bytes_of task records block n) % w.size ≡ 0
 even_for task n w bytes records block fit is =
     let o : Outside = record { held = None; read_faults = 0; write_faults = 0; asked = 0 } in
     let size = record_length_of task.head in
     let part = part_from task.rule (length records) block n in
-    ap (λ (m : ℕ). length (text_of task records block n) % m) (is.stands o).size ∙ ap (λ (m : ℕ). m % size) (part_size task.rule size (length records) block n fit.whole) ∙ mul-mod_right size (length part)
+    ap (λ (m : ℕ). length (part_bytes_of task records block n) % m) (is.stands o).size ∙ ap (λ (m : ℕ). m % size) (part_size task.rule size (length records) block n fit.whole) ∙ mul-mod_right size (length part)
 
 -- a writer that took more records
-pub took : (task : Task) (n : ℕ) (now new : Outside) (w : WriterSeen) (bytes more : List ℕ) → Stands now new w (output_at task n) (bytes ++ more) → w.failed ≡ false → w.most ≡ points_of task.head → (all : List ℕ) → all ≡ bytes ++ more
+pub took : (task : SplitTask) (n : ℕ) (now new : Outside) (w : WriterSeen) (bytes more : List ℕ) → Stands now new w (output_at task n) (bytes ++ more) → w.failed ≡ false → w.most ≡ points_of task.head → (all : List ℕ) → all ≡ bytes ++ more
     → IsWriter task n w all × (new.held ≡ with_file now.held (output_at task n).name (front (output_at task n) ++ all))
 took task n now new w bytes more s sound most all is = (
   writer_as task n w (bytes ++ more) all (sym is) (record { stands = stands_anywhere task n now new w (bytes ++ more) s; sound = sound; most = most }),

@@ -15,9 +15,9 @@ use Rattle.laz_forms.proofs.Public.{cut-joined}
 use Rattle.laz_writer.proofs.Public.{cut-append}
 use Rattle.las_split.specs.declared.parts.Parts.{Parts}
 use Rattle.las_split.specs.Parts.{number_by, numbers_from}
-use Rattle.las_split.specs.Sorting.{AreGathered, HasRoom, InParts, LeavesBlock, LeavesPrefixes, SortsBlock, SortsPoint, Task, text_of}
+use Rattle.las_split.specs.Sorting.{AreGathered, PartsHaveRoom, InParts, LeavesBlock, LeavesPrefixes, SortsBlock, SortsPoint, SplitTask, part_bytes_of}
 use Rattle.las_split.specs.Splitting.{OpensTooMany}
-use Rattle.las_split.specs.Steps.{AreSorted, LeavesMore, LeavesRecord, SortsMore}
+use Rattle.las_split.specs.Steps.{HaveTheirParts, LeavesMore, LeavesRecord, SortsMore}
 use Rattle.las_split.proofs.Placing.{in_old, leaves_here}
 use Rattle.las_split.proofs.SortingPoints.{all_bytes, cut_at, number_here, one_more, place_within, point_is, sorts_one}
 use Rattle.las_header.specs.Plain.{cut_all}
@@ -38,7 +38,7 @@ grown texts place point others within =
     ∙ ap (λ (t : List ℕ). set texts place (t ++ others)) (get_or-set_same texts place (text ++ point) [] within)
     ∙ ap (set texts place) (append_assoc text point others)
 
-module _ (task : Task) (was now : Option FileMap) (numbers : List ℕ) (writers : List WriterSeen) (records : List (List ℕ)) (number place : ℕ) (there : slice_get numbers place ≡ Some number) where
+module _ (task : SplitTask) (was now : Option FileMap) (numbers : List ℕ) (writers : List WriterSeen) (records : List (List ℕ)) (number place : ℕ) (there : slice_get numbers place ≡ Some number) where
   -- records of a part that is there are added to its text at once
   pub run_sorted : (run block texts : List (List ℕ)) → InParts task was now numbers writers (records ++ block) records → AreGathered task numbers texts records block
       → All (λ n. n ≡ number) (numbers_from task.rule (length records + length block) run)
@@ -46,7 +46,7 @@ module _ (task : Task) (was now : Option FileMap) (numbers : List ℕ) (writers 
       × AreGathered task numbers (set texts place (get_or texts place [] ++ concat run)) records (block ++ run)
   run_sorted [] block texts i s all = (
     subst (λ (b : List (List ℕ)). InParts task was now numbers writers (records ++ b) records) (sym (append-nil block)) i,
-    ap (set texts place) (append-nil (get_or texts place [])) ∙ set-get_or texts place [] ∙ s ∙ ap (λ (b : List (List ℕ)). map (text_of task records b) numbers) (sym (append-nil block)),
+    ap (set texts place) (append-nil (get_or texts place [])) ∙ set-get_or texts place [] ∙ s ∙ ap (λ (b : List (List ℕ)). map (part_bytes_of task records b) numbers) (sym (append-nil block)),
   )
   run_sorted (p ∷ run) block texts i s all =
       let at = length records + length block in
@@ -60,8 +60,8 @@ module _ (task : Task) (was now : Option FileMap) (numbers : List ℕ) (writers 
       let rest = run_sorted run (block ++ p ∷ []) (set texts place (get_or texts place [] ++ p)) one.0 one.1 others in
       let all_of : (block ++ p ∷ []) ++ run ≡ block ++ p ∷ run = append_assoc block (p ∷ []) run in (
         subst (λ (b : List (List ℕ)). InParts task was now numbers writers (records ++ b) records) all_of rest.0,
-        sym (grown texts place p (concat run) (place_within texts (text_of task records block) numbers place number s there)) ∙ rest.1
-            ∙ ap (λ (b : List (List ℕ)). map (text_of task records b) numbers) all_of,
+        sym (grown texts place p (concat run) (place_within texts (part_bytes_of task records block) numbers place number s there)) ∙ rest.1
+            ∙ ap (λ (b : List (List ℕ)). map (part_bytes_of task records b) numbers) all_of,
       )
 
 -- ---- parts of a number of records each
@@ -108,13 +108,13 @@ get_in (x ∷ xs) ys zs m lt =
 
 -- ---- records of a group, one after another, after a block
 
-module _ (task : Task) (was : Option FileMap) (records block : List (List ℕ)) (size t : ℕ) (bytes point rest : List ℕ) (more : t < length bytes / size) (left : rest ≡ drop (size * t) bytes) (first : point ≡ take size rest) where
+module _ (task : SplitTask) (was : Option FileMap) (records block : List (List ℕ)) (size t : ℕ) (bytes point rest : List ℕ) (more : t < length bytes / size) (left : rest ≡ drop (size * t) bytes) (first : point ≡ take size rest) where
   joined : (block ++ take t (cut_all size bytes)) ++ point ∷ [] ≡ block ++ take (t + 1) (cut_all size bytes)
   joined = append_assoc block (take t (cut_all size bytes)) (point ∷ []) ∙ ap (λ (b : List (List ℕ)). block ++ b) (sym (one_more task was records size t bytes point rest more left first))
 
   pub each_more : (now : Option FileMap) (parts : Parts) → SortsPoint task was now parts.numbers parts.writers.items parts.gathered records (block ++ take t (cut_all size bytes)) point true
-      → AreSorted task was now parts records (block ++ take (t + 1) (cut_all size bytes))
-  each_more now parts s = subst (λ (b : List (List ℕ)). AreSorted task was now parts records b) joined s
+      → HaveTheirParts task was now parts records (block ++ take (t + 1) (cut_all size bytes))
+  each_more now parts s = subst (λ (b : List (List ℕ)). HaveTheirParts task was now parts records b) joined s
 
   pub each_less : (now : Option FileMap) (parts : Parts) → SortsPoint task was now parts.numbers parts.writers.items parts.gathered records (block ++ take t (cut_all size bytes)) point false
       → SortsMore task was now parts records block (cut_all size bytes) t
@@ -140,20 +140,20 @@ each_place size t index bytes records block more at =
     let long : length (take t (cut_all size bytes)) ≡ t = length-take-le t (cut_all size bytes) (omega (arith, more, cut_length size (length bytes / size) bytes)) in
     omega (arith, at, long, length-append block (take t (cut_all size bytes)))
 
-pub each_none : (task : Task) (was now : Option FileMap) (parts : Parts) (records block more : List (List ℕ)) → AreSorted task was now parts records block → AreSorted task was now parts records (block ++ take 0 more)
-each_none task was now parts records block more s = subst (λ (b : List (List ℕ)). AreSorted task was now parts records b) (sym (append-nil block)) s
+pub each_none : (task : SplitTask) (was now : Option FileMap) (parts : Parts) (records block more : List (List ℕ)) → HaveTheirParts task was now parts records block → HaveTheirParts task was now parts records (block ++ take 0 more)
+each_none task was now parts records block more s = subst (λ (b : List (List ℕ)). HaveTheirParts task was now parts records b) (sym (append-nil block)) s
 
-pub each_all : (task : Task) (was now : Option FileMap) (parts : Parts) (records block : List (List ℕ)) (size t : ℕ) (bytes : List ℕ) → length bytes / size ≤ t → t ≤ length bytes / size
-    → AreSorted task was now parts records (block ++ take t (cut_all size bytes)) → SortsMore task was now parts records block (cut_all size bytes) t
+pub each_all : (task : SplitTask) (was now : Option FileMap) (parts : Parts) (records block : List (List ℕ)) (size t : ℕ) (bytes : List ℕ) → length bytes / size ≤ t → t ≤ length bytes / size
+    → HaveTheirParts task was now parts records (block ++ take t (cut_all size bytes)) → SortsMore task was now parts records block (cut_all size bytes) t
 each_all task was now parts records block size t bytes end within s =
     let long = cut_length size (length bytes / size) bytes in
     record { within = omega (arith, within, long); sorted = s; ends = λ less. absurd (omega (arith, less, end, long)) }
 
 -- ---- records of a group at once
 
-pub run_taken : (task : Task) (was now : Option FileMap) (parts : Parts) (gathered : List (List ℕ)) (records block : List (List ℕ)) (size number place index : ℕ) (bytes : List ℕ)
+pub run_taken : (task : SplitTask) (was now : Option FileMap) (parts : Parts) (gathered : List (List ℕ)) (records block : List (List ℕ)) (size number place index : ℕ) (bytes : List ℕ)
     → length bytes % size ≡ 0 → slice_get parts.numbers place ≡ Some number → index ≡ length records + length block
-    → All (λ n. n ≡ number) (numbers_from task.rule index (cut_all size bytes)) → AreSorted task was now parts records block
+    → All (λ n. n ≡ number) (numbers_from task.rule index (cut_all size bytes)) → HaveTheirParts task was now parts records block
     → gathered ≡ set parts.gathered place (get_or parts.gathered place [] ++ bytes)
     → SortsMore task was now (record { numbers = parts.numbers; writers = parts.writers; gathered = gathered }) records block (cut_all size bytes) (length bytes / size)
 run_taken task was now parts gathered records block size number place index bytes whole there at all s added =
@@ -175,7 +175,7 @@ run_taken task was now parts gathered records block size number place index byte
     }
 
 -- what is left if a group could not be gathered
-pub group_unsorted : (task : Task) (was now : Option FileMap) (parts : Parts) (records block more : List (List ℕ)) → AreSorted task was now parts records block → LeavesMore task was now records block more
+pub group_unsorted : (task : SplitTask) (was now : Option FileMap) (parts : Parts) (records block more : List (List ℕ)) → HaveTheirParts task was now parts records block → LeavesMore task was now records block more
 group_unsorted task was now parts records block more s = (
   [],
   more,
@@ -191,7 +191,7 @@ module _ (size : ℕ) (some : 0 < size) (block done group further : List ℕ) (a
       ap (cut_all size) are ∙ cut-append size done (group ++ further) some first
       ∙ ap (λ (b : List (List ℕ)). cut_all size done ++ b) (cut-append size group further some second)
 
-  module _ (task : Task) (was now : Option FileMap) (parts : Parts) (records : List (List ℕ)) (taken : ℕ) (is : taken ≡ length (cut_all size done)) where
+  module _ (task : SplitTask) (was now : Option FileMap) (parts : Parts) (records : List (List ℕ)) (taken : ℕ) (is : taken ≡ length (cut_all size done)) where
     pub group_less : (m : ℕ) → m < length (cut_all size group) → SortsMore task was now parts records (cut_all size done) (cut_all size group) m
         → SortsBlock task was now parts.numbers parts.writers.items parts.gathered records (cut_all size block) (taken + m)
     group_less m less s =
@@ -209,7 +209,7 @@ module _ (size : ℕ) (some : 0 < size) (block done group further : List ℕ) (a
               (subst (OpensTooMany task.rule (records ++ (xs ++ take m ys))) (sym next) (s.ends less));
         }
 
-  pub group_left : (task : Task) (was now : Option FileMap) (records : List (List ℕ)) → LeavesMore task was now records (cut_all size done) (cut_all size group) → LeavesBlock task was now records (cut_all size block)
+  pub group_left : (task : SplitTask) (was now : Option FileMap) (records : List (List ℕ)) → LeavesMore task was now records (cut_all size done) (cut_all size group) → LeavesBlock task was now records (cut_all size block)
   group_left task was now records l = (
     cut_all size done ++ l.0,
     l.1 ++ cut_all size further,
@@ -220,16 +220,16 @@ module _ (size : ℕ) (some : 0 < size) (block done group further : List ℕ) (a
   )
 
 -- all records of a group were taken
-pub group_done : (task : Task) (was now : Option FileMap) (parts : Parts) (records : List (List ℕ)) (size : ℕ) (some : 0 < size) (done group : List ℕ) (m : ℕ) → length done % size ≡ 0 → length group / size ≤ m
-    → SortsMore task was now parts records (cut_all size done) (cut_all size group) m → AreSorted task was now parts records (cut_all size (done ++ group))
+pub group_done : (task : SplitTask) (was now : Option FileMap) (parts : Parts) (records : List (List ℕ)) (size : ℕ) (some : 0 < size) (done group : List ℕ) (m : ℕ) → length done % size ≡ 0 → length group / size ≤ m
+    → SortsMore task was now parts records (cut_all size done) (cut_all size group) m → HaveTheirParts task was now parts records (cut_all size (done ++ group))
 group_done task was now parts records size some done group m first end s =
     let every : take m (cut_all size group) ≡ cut_all size group = take_all m (cut_all size group) (omega (arith, end, cut_length size (length group / size) group)) in
-    subst (λ (b : List (List ℕ)). AreSorted task was now parts records b) (sym (cut-append size done group some first))
-    (subst (λ (b : List (List ℕ)). AreSorted task was now parts records (cut_all size done ++ b)) every s.sorted)
+    subst (λ (b : List (List ℕ)). HaveTheirParts task was now parts records b) (sym (cut-append size done group some first))
+    (subst (λ (b : List (List ℕ)). HaveTheirParts task was now parts records (cut_all size done ++ b)) every s.sorted)
 
 -- and all of a block
-pub block_done : (task : Task) (was now : Option FileMap) (parts : Parts) (records : List (List ℕ)) (size taken : ℕ) (block done : List ℕ) → block ≡ done → taken ≡ length (cut_all size done)
-    → AreSorted task was now parts records (cut_all size done) → SortsBlock task was now parts.numbers parts.writers.items parts.gathered records (cut_all size block) taken
+pub block_done : (task : SplitTask) (was now : Option FileMap) (parts : Parts) (records : List (List ℕ)) (size taken : ℕ) (block done : List ℕ) → block ≡ done → taken ≡ length (cut_all size done)
+    → HaveTheirParts task was now parts records (cut_all size done) → SortsBlock task was now parts.numbers parts.writers.items parts.gathered records (cut_all size block) taken
 block_done task was now parts records size taken block done are is s =
     let every : take taken (cut_all size block) ≡ cut_all size done = ap (λ (b : List ℕ). take taken (cut_all size b)) are ∙ take_all taken (cut_all size done) (omega (arith, is)) in
     let long : length (cut_all size block) ≡ length (cut_all size done) = ap (λ (b : List ℕ). length (cut_all size b)) are in
@@ -241,8 +241,8 @@ block_done task was now parts records size taken block done are is s =
     }
 
 -- there is room for a group
-pub group_room : (task : Task) (size index taken : ℕ) (block done group further : List ℕ) → HasRoom task size index (length block) → block ≡ done ++ (group ++ further) → length done % size ≡ 0 → taken ≡ length (cut_all size done)
-    → HasRoom task size (index + taken) (length group)
+pub group_room : (task : SplitTask) (size index taken : ℕ) (block done group further : List ℕ) → PartsHaveRoom task size index (length block) → block ≡ done ++ (group ++ further) → length done % size ≡ 0 → taken ≡ length (cut_all size done)
+    → PartsHaveRoom task size (index + taken) (length group)
 group_room task size index taken block done group further room are first is =
     let count = length done / size in
     let all : size * count ≡ length done = all_bytes size done first in

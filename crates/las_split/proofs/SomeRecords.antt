@@ -9,17 +9,17 @@ use Rattle.laz_forms.specs.declared.fault.Fault.TheVariants.{Refused, Read, Writ
 use Rattle.laz_forms.specs.FileFaults.{end_of}
 use Rattle.laz_reader.specs.Reading.{EndsReading}
 use Rattle.laz_writer.specs.Writing.{WriterSeen}
-use Rattle.las_split.specs.Sorting.{InParts, SortsBlock, Task, bytes_at}
+use Rattle.las_split.specs.Sorting.{InParts, SortsBlock, SplitTask, bytes_at}
 use Rattle.las_split.proofs.Standing.{writers_length}
 
 -- some writers are of some records
-pub some_opened : (task : Task) (was now : Option FileMap) (ns : List ℕ) (ws : List WriterSeen) (opened written : List (List ℕ)) → InParts task was now ns ws opened written → 1 ≤ length ws → 1 ≤ length opened
+pub some_opened : (task : SplitTask) (was now : Option FileMap) (ns : List ℕ) (ws : List WriterSeen) (opened written : List (List ℕ)) → InParts task was now ns ws opened written → 1 ≤ length ws → 1 ≤ length opened
 some_opened task was now ns ws [] written i some =
     let none : ns ≡ [] = i.numbers_are in
     absurd (omega (arith, some, writers_length task (bytes_at task written) ns ws i.writers_are, ap (λ (t : List ℕ). length t) none))
 some_opened task was now ns ws (r ∷ opened) written i some = omega arith
 
-pub some_pushed : (task : Task) (was now : Option FileMap) (ns : List ℕ) (ws : List WriterSeen) (texts records block : List (List ℕ)) (taken : ℕ) → SortsBlock task was now ns ws texts records block taken → 1 ≤ length ws
+pub some_pushed : (task : SplitTask) (was now : Option FileMap) (ns : List ℕ) (ws : List WriterSeen) (texts records block : List (List ℕ)) (taken : ℕ) → SortsBlock task was now ns ws texts records block taken → 1 ≤ length ws
     → 1 ≤ length records + length block
 some_pushed task was now ns ws texts records block taken s some =
     omega (arith, some_opened task was now ns ws (records ++ take taken block) records s.parts some, length-append records (take taken block), length-take-le taken block s.within, s.within)

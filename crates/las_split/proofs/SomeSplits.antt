@@ -68,4 +68,4 @@ splits_some rule file blocks bad are =
     ]
 
 pub splits_to_something : HasSomeRecords → SplitsToSomething
-splits_to_something has rule file accepted small = let r = has file accepted small in splits_some rule file r.0 r.1 r.2
+splits_to_something has rule file accepted = let r = has file accepted in splits_some rule file r.0 r.1 r.2

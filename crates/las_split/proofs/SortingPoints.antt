@@ -1,6 +1,6 @@
 -- Records that are sorted one after another.
-use Rattle.std.proofs.Common.{◌≡◌, ◌≢◌, ◌⊎◌, inl, inr, ℕ, zero, suc, ◌+◌, ◌*◌, ◌/◌, ◌%◌, ◌<◌, ◌≤◌, ◌^◌, ◌==◌, ◌||◌, Bool, true, false, cond, map, List, [], ◌∷◌, ◌++◌, length, take, drop, get_or, set, slice_get, replicate, Option, Some, refl, sym, ◌∙◌, ap, subst, append_assoc, length-append, eq-eqb, arith}
-use Rattle.std.proofs.lemmas.List.{append-nil, drop-drop, take-append-drop, take_more}
+use Rattle.std.proofs.Common.{◌≡◌, ◌≢◌, ℕ, zero, suc, ◌+◌, ◌*◌, ◌/◌, ◌%◌, ◌<◌, ◌≤◌, ◌^◌, ◌==◌, ◌||◌, Bool, true, false, cond, map, List, [], ◌∷◌, ◌++◌, length, take, drop, get_or, set, slice_get, replicate, Option, Some, refl, sym, ◌∙◌, ap, subst, append_assoc, length-append, eq-eqb, arith}
+use Rattle.std.proofs.lemmas.List.{append-nil, drop-drop, take_more}
 use Rattle.std.proofs.Math.Nat.{div-add-mod, le_of_mul-le-mul_left}
 use Rattle.std.specs.List.{concat}
 use Rattle.laz_forms.proofs.Public.{concat-append, block_fits}
@@ -12,7 +12,7 @@ use Rattle.las_header.proofs.Public.{cut_length}
 use Rattle.las_split.proofs.Standing.{writers_length}
 use Rattle.las_split.specs.Sorting.{bytes_at}
 use Rattle.las_split.specs.Parts.{number_by, numbers_from, numbers_of_parts, part, part_from}
-use Rattle.las_split.specs.Sorting.{AreGathered, HasRoom, InParts, LeavesBlock, LeavesPrefixes, SortsBlock, SortsPoint, Task, has, text_of}
+use Rattle.las_split.specs.Sorting.{AreGathered, PartsHaveRoom, InParts, LeavesBlock, LeavesPrefixes, SortsPoint, SplitTask, is_among, part_bytes_of}
 use Rattle.las_split.specs.Splitting.{OpensTooMany}
 use Rattle.las_split.proofs.Changing.{AreOnce, firsts_once}
 use Rattle.las_split.proofs.Opening.{not_there}
@@ -22,14 +22,14 @@ use Rattle.las_split.proofs.Placing.{has_at, leaves_here}
 -- ---- the texts of parts
 
 -- the records of a block after some records, and one more
-pub text_more : (task : Task) (records block : List (List ℕ)) (point : List ℕ) (n : ℕ) → text_of task records (block ++ point ∷ []) n
-    ≡ text_of task records block n ++ concat (cond (number_by task.rule (length records + length block) point == n) (point ∷ []) [])
+pub text_more : (task : SplitTask) (records block : List (List ℕ)) (point : List ℕ) (n : ℕ) → part_bytes_of task records (block ++ point ∷ []) n
+    ≡ part_bytes_of task records block n ++ concat (cond (number_by task.rule (length records + length block) point == n) (point ∷ []) [])
 text_more task records block point n =
     ap concat (part-append task.rule (length records) block (point ∷ []) n)
     ∙ concat-append (part_from task.rule (length records) block n) (part_from task.rule (length records + length block) (point ∷ []) n)
 
 -- a number that no part has is that of no record
-pub no_text : (task : Task) (records block : List (List ℕ)) (n : ℕ) → has n (numbers_of_parts task.rule (records ++ block)) ≡ false → text_of task records block n ≡ []
+pub no_text : (task : SplitTask) (records block : List (List ℕ)) (n : ℕ) → is_among n (numbers_of_parts task.rule (records ++ block)) ≡ false → part_bytes_of task records block n ≡ []
 no_text task records block n none =
     let far : 0 + length records ≡ length records = omega arith in
     nothing (part task.rule records n) (part_from task.rule (length records) block n)
@@ -41,9 +41,9 @@ no_text task records block n none =
 
 -- a record was added to the text of its part
 module _ (f g : ℕ → List ℕ) (number : ℕ) (point : List ℕ) (here : g number ≡ f number ++ point) (other : (n : ℕ) → n ≢ number → g n ≡ f n) where
-  others : (ns : List ℕ) → has number ns ≡ false → map f ns ≡ map g ns
+  others : (ns : List ℕ) → is_among number ns ≡ false → map f ns ≡ map g ns
   others [] none = refl
-  others (n ∷ ns) none = by (n == number) refl (has number ns) none (others ns)
+  others (n ∷ ns) none = by (n == number) refl (is_among number ns) none (others ns)
     where
       by : (b : Bool) → (n == number) ≡ b → (c : Bool) → (b || c) ≡ false → (c ≡ false → map f ns ≡ map g ns) → f n ∷ map f ns ≡ g n ∷ map g ns
       by true e c none rest = absurd (cc)
@@ -55,11 +55,11 @@ module _ (f g : ℕ → List ℕ) (number : ℕ) (point : List ℕ) (here : g nu
   text_added [] place once there = absurd (cc)
   text_added (n ∷ ns) zero once there =
       let same : n ≡ number = cc in
-      let none : has number ns ≡ false = ap (λ (k : ℕ). has k ns) (sym same) ∙ once.0 in
+      let none : is_among number ns ≡ false = ap (λ (k : ℕ). is_among k ns) (sym same) ∙ once.0 in
       let now : f n ++ point ≡ g n = ap (λ (k : ℕ). f k ++ point) same ∙ sym here ∙ ap g (sym same) in
       ap (λ (t : List ℕ). t ∷ map f ns) now ∙ ap (λ (ts : List (List ℕ)). g n ∷ ts) (others ns none)
   text_added (n ∷ ns) (suc place) once there =
-      let ne : n ≢ number = λ e. (let t : true ≡ false = sym (has_at number ns place there) ∙ ap (λ (k : ℕ). has k ns) (sym e) ∙ once.0 in cc) in
+      let ne : n ≢ number = λ e. (let t : true ≡ false = sym (has_at number ns place there) ∙ ap (λ (k : ℕ). is_among k ns) (sym e) ∙ once.0 in cc) in
       ap (λ (t : List ℕ). t ∷ set (map f ns) place (get_or (map f ns) place [] ++ point)) (sym (other n ne)) ∙ ap (λ (ts : List (List ℕ)). g n ∷ ts) (text_added ns place once.1 there)
 
 pub place_within : (texts : List (List ℕ)) (f : ℕ → List ℕ) (numbers : List ℕ) (place number : ℕ) → texts ≡ map f numbers → slice_get numbers place ≡ Some number → place < length texts
@@ -72,10 +72,10 @@ place_within texts f numbers place number is there = omega (arith, ap (λ (t : L
 
 -- ---- one record more
 
-module _ (task : Task) (was now : Option FileMap) (numbers : List ℕ) (writers : List WriterSeen) (texts records block : List (List ℕ)) (i : InParts task was now numbers writers (records ++ block) records) (s : AreGathered task numbers texts records block) where
+module _ (task : SplitTask) (was now : Option FileMap) (numbers : List ℕ) (writers : List WriterSeen) (texts records block : List (List ℕ)) (i : InParts task was now numbers writers (records ++ block) records) (s : AreGathered task numbers texts records block) where
   -- a number that no part has is that of no record
-  pub no_record : (k : ℕ) → has k numbers ≡ false → text_of task records block k ≡ []
-  no_record k none = no_text task records block k (ap (has k) (sym i.numbers_are) ∙ none)
+  pub no_record : (k : ℕ) → is_among k numbers ≡ false → part_bytes_of task records block k ≡ []
+  no_record k none = no_text task records block k (ap (is_among k) (sym i.numbers_are) ∙ none)
 
   pub number_here : (index : ℕ) (point : List ℕ) (number : ℕ) → index ≡ length records + length block → number ≡ number_by task.rule index point → number ≡ number_by task.rule (length (records ++ block)) point
   number_here index point number at is = is ∙ ap (λ (n : ℕ). number_by task.rule n point) (at ∙ sym (length-append records block))
@@ -83,31 +83,31 @@ module _ (task : Task) (was now : Option FileMap) (numbers : List ℕ) (writers 
   module _ (index : ℕ) (point : List ℕ) (number : ℕ) (at : index ≡ length records + length block) (is : number ≡ number_by task.rule index point) (later : Option FileMap) (ns : List ℕ) (ws : List WriterSeen) where
     -- it is one too many
     pub sorts_none : (after : List (List ℕ)) → InParts task was later ns ws (records ++ block) records → OpensTooMany task.rule (records ++ block) point → after ≡ texts → ns ≡ numbers → SortsPoint task was later ns ws after records block point false
-    sorts_none after j opens same names = (j, same ∙ s ∙ ap (map (text_of task records block)) (sym names), opens)
+    sorts_none after j opens same names = (j, same ∙ s ∙ ap (map (part_bytes_of task records block)) (sym names), opens)
 
     number_is : number_by task.rule (length records + length block) point ≡ number
     number_is = ap (λ (n : ℕ). number_by task.rule n point) (sym at) ∙ sym is
 
-    text_here : text_of task records (block ++ point ∷ []) number ≡ text_of task records block number ++ point
+    text_here : part_bytes_of task records (block ++ point ∷ []) number ≡ part_bytes_of task records block number ++ point
     text_here =
         text_more task records block point number
-        ∙ ap (λ (b : Bool). text_of task records block number ++ concat (cond b (point ∷ []) [])) (eq-eqb (number_by task.rule (length records + length block) point) number number_is)
-        ∙ ap (λ (t : List ℕ). text_of task records block number ++ t) (append-nil point)
+        ∙ ap (λ (b : Bool). part_bytes_of task records block number ++ concat (cond b (point ∷ []) [])) (eq-eqb (number_by task.rule (length records + length block) point) number number_is)
+        ∙ ap (λ (t : List ℕ). part_bytes_of task records block number ++ t) (append-nil point)
 
-    text_other : (n : ℕ) → n ≢ number → text_of task records (block ++ point ∷ []) n ≡ text_of task records block n
+    text_other : (n : ℕ) → n ≢ number → part_bytes_of task records (block ++ point ∷ []) n ≡ part_bytes_of task records block n
     text_other n ne =
         text_more task records block point n
-        ∙ ap (λ (b : Bool). text_of task records block n ++ concat (cond b (point ∷ []) [])) (not_there n (number_by task.rule (length records + length block) point) (λ e. ne (sym e ∙ number_is)))
-        ∙ append-nil (text_of task records block n)
+        ∙ ap (λ (b : Bool). part_bytes_of task records block n ++ concat (cond b (point ∷ []) [])) (not_there n (number_by task.rule (length records + length block) point) (λ e. ne (sym e ∙ number_is)))
+        ∙ append-nil (part_bytes_of task records block n)
 
     -- it was sorted
-    pub sorts_one : (after : List (List ℕ)) (place : ℕ) → InParts task was later ns ws ((records ++ block) ++ point ∷ []) records → slice_get ns place ≡ Some number → after ≡ map (text_of task records block) ns
+    pub sorts_one : (after : List (List ℕ)) (place : ℕ) → InParts task was later ns ws ((records ++ block) ++ point ∷ []) records → slice_get ns place ≡ Some number → after ≡ map (part_bytes_of task records block) ns
         → SortsPoint task was later ns ws (set after place (get_or after place [] ++ point)) records block point true
     sorts_one after place j there are =
         let once : AreOnce ns = subst AreOnce (sym j.numbers_are) (firsts_once (numbers_from task.rule 0 ((records ++ block) ++ point ∷ []))) in (
           subst (λ (t : List (List ℕ)). InParts task was later ns ws t records) (append_assoc records block (point ∷ [])) j,
           ap (λ (t : List (List ℕ)). set t place (get_or t place [] ++ point)) are
-              ∙ text_added (text_of task records block) (text_of task records (block ++ point ∷ [])) number point text_here text_other ns place once there,
+              ∙ text_added (part_bytes_of task records block) (part_bytes_of task records (block ++ point ∷ [])) number point text_here text_other ns place once there,
         )
 
 -- ---- the records of a block
@@ -126,7 +126,7 @@ pub all_bytes : (size : ℕ) (block : List ℕ) → length block % size ≡ 0 �
 all_bytes size block whole = omega (arith, div-add-mod (length block) size, whole)
 
 -- a record has a place of 32 bits
-pub index_fits : (task : Task) (size index t : ℕ) (block : List ℕ) → HasRoom task size index (length block) → length block % size ≡ 0 → t < length block / size → index + t < 2 ^ 32
+pub index_fits : (task : SplitTask) (size index t : ℕ) (block : List ℕ) → PartsHaveRoom task size index (length block) → length block % size ≡ 0 → t < length block / size → index + t < 2 ^ 32
 index_fits task size index t block room whole more =
     let both : size * (index + (t + 1)) ≡ size * index + (size * t + size) = omega arith in
     let less : size * (index + (t + 1)) ≤ size * points_of task.head = omega (arith, both, room.room, block_fits size t block whole more) in
@@ -134,22 +134,22 @@ index_fits task size index t block room whole more =
     omega (arith, le_of_mul-le-mul_left less some, room.few)
 
 -- what was sorted of a block so far
-pub record SortedSo (task : Task) (was now : Option FileMap) (numbers : List ℕ) (writers : List WriterSeen) (texts records block : List (List ℕ)) : Type 0 where
+pub record SortedSo (task : SplitTask) (was now : Option FileMap) (numbers : List ℕ) (writers : List WriterSeen) (texts records block : List (List ℕ)) : Type 0 where
   pub parts : InParts task was now numbers writers (records ++ block) records
   pub gathered : AreGathered task numbers texts records block
 
-pub sorted_none : (task : Task) (was now : Option FileMap) (numbers : List ℕ) (writers : List WriterSeen) (texts : List (List ℕ)) (count : ℕ) (records block : List (List ℕ)) → InParts task was now numbers writers records records → count ≡ length writers → texts ≡ replicate count []
+pub sorted_none : (task : SplitTask) (was now : Option FileMap) (numbers : List ℕ) (writers : List WriterSeen) (texts : List (List ℕ)) (count : ℕ) (records block : List (List ℕ)) → InParts task was now numbers writers records records → count ≡ length writers → texts ≡ replicate count []
     → SortedSo task was now numbers writers texts records (take 0 block)
 sorted_none task was now numbers writers texts count records block i all none = record {
   parts = subst (λ (t : List (List ℕ)). InParts task was now numbers writers t records) (sym (append-nil records)) i;
   gathered = none ∙ ap (λ (n : ℕ). replicate n []) (all ∙ writers_length task (bytes_at task records) numbers writers i.writers_are) ∙ empties numbers;
 }
   where
-    empties : (ns : List ℕ) → replicate (length ns) [] ≡ map (text_of task records []) ns
+    empties : (ns : List ℕ) → replicate (length ns) [] ≡ map (part_bytes_of task records []) ns
     empties [] = refl
     empties (n ∷ ns) = ap (λ (t : List (List ℕ)). [] ∷ t) (empties ns)
 
-module _ (task : Task) (was : Option FileMap) (records : List (List ℕ)) (size t : ℕ) (bytes point rest : List ℕ) (more : t < length bytes / size) (left : rest ≡ drop (size * t) bytes) (first : point ≡ take size rest) where
+module _ (task : SplitTask) (was : Option FileMap) (records : List (List ℕ)) (size t : ℕ) (bytes point rest : List ℕ) (more : t < length bytes / size) (left : rest ≡ drop (size * t) bytes) (first : point ≡ take size rest) where
   pub point_is : point ≡ get_or (cut_all size bytes) t []
   point_is = first ∙ ap (take size) left ∙ sym (cut_at size (length bytes / size) t bytes more)
 
@@ -158,31 +158,7 @@ module _ (task : Task) (was : Option FileMap) (records : List (List ℕ)) (size 
       let within : t < length (cut_all size bytes) = omega (arith, more, cut_length size (length bytes / size) bytes) in
       take_more (cut_all size bytes) t [] within ∙ ap (λ (p : List ℕ). take t (cut_all size bytes) ++ p ∷ []) (sym point_is)
 
-  module _ (now : Option FileMap) (numbers : List ℕ) (writers : List WriterSeen) (texts : List (List ℕ)) where
-    pub sorted_more : SortsPoint task was now numbers writers texts records (take t (cut_all size bytes)) point true → SortedSo task was now numbers writers texts records (take (t + 1) (cut_all size bytes))
-    sorted_more s = record {
-      parts = subst (λ (b : List (List ℕ)). InParts task was now numbers writers (records ++ b) records) (sym one_more) s.0;
-      gathered = subst (λ (b : List (List ℕ)). AreGathered task numbers texts records b) (sym one_more) s.1;
-    }
-
-    pub sorts_less : SortsPoint task was now numbers writers texts records (take t (cut_all size bytes)) point false → SortsBlock task was now numbers writers texts records (cut_all size bytes) t
-    sorts_less s = record {
-      within = omega (arith, more, cut_length size (length bytes / size) bytes);
-      parts = s.0;
-      gathered = s.1;
-      ends = λ less. subst (OpensTooMany task.rule (records ++ take t (cut_all size bytes))) point_is s.2;
-    }
-
-  pub left_more : (now : Option FileMap) → LeavesPrefixes task was now (records ++ take t (cut_all size bytes)) ⊎ LeavesPrefixes task was now ((records ++ take t (cut_all size bytes)) ++ point ∷ []) → LeavesBlock task was now records (cut_all size bytes)
-  left_more now (inl l) = (take t (cut_all size bytes), drop t (cut_all size bytes), sym (take-append-drop t (cut_all size bytes)), l)
-  left_more now (inr l) = (
-    take (t + 1) (cut_all size bytes),
-    drop (t + 1) (cut_all size bytes),
-    sym (take-append-drop (t + 1) (cut_all size bytes)),
-    subst (LeavesPrefixes task was now) (append_assoc records (take t (cut_all size bytes)) (point ∷ []) ∙ ap (λ (b : List (List ℕ)). records ++ b) (sym one_more)) l,
-  )
-
-pub left_none : (task : Task) (was now : Option FileMap) (numbers : List ℕ) (writers : List WriterSeen) (records block : List (List ℕ)) → InParts task was now numbers writers records records → LeavesBlock task was now records block
+pub left_none : (task : SplitTask) (was now : Option FileMap) (numbers : List ℕ) (writers : List WriterSeen) (records block : List (List ℕ)) → InParts task was now numbers writers records records → LeavesBlock task was now records block
 left_none task was now numbers writers records block i = (
   [],
   block,

@@ -87,9 +87,6 @@ module _ (rule : Rule) (first : ReaderSeen) (file : List ℕ) (st : StandsFor fi
   few : n ≤ length st.pieces
   few = subst (λ (ps : List Piece). n ≤ length ps) left_is within
 
-  size : ℕ
-  size = record_length_of (head_of file)
-
   positive : 0 < record_length_of (head_of file)
   positive = subst (λ (t : List ℕ). 0 < record_length_of t) bytes_is some
 

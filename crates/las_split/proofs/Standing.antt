@@ -4,11 +4,11 @@ use Rattle.las_outside.specs.Files.{FileMap, with_file}
 use Rattle.las_outside.specs.Outside.{Outside, with_bytes}
 use Rattle.laz_forms.specs.Outputs.{front}
 use Rattle.laz_writer.specs.Writing.{PackingSeen, PointsStand, Stands, WriterSeen}
-use Rattle.las_split.specs.Sorting.{AreWriters, IsWriter, Task, output_at}
+use Rattle.las_split.specs.Sorting.{AreWriters, IsWriter, SplitTask, output_at}
 
 -- ---- one writer
 
-module _ (task : Task) (n : ℕ) (before now : Outside) (w : WriterSeen) (bytes : List ℕ) (s : Stands before now w (output_at task n) bytes) where
+module _ (task : SplitTask) (n : ℕ) (before now : Outside) (w : WriterSeen) (bytes : List ℕ) (s : Stands before now w (output_at task n) bytes) where
   plain : (p : Option PackingSeen) → PointsStand None before now (output_at task n) w.most p bytes
       → (now ≡ with_bytes before (output_at task n).name (front (output_at task n) ++ bytes))
       × ((x : Outside) → PointsStand None x (with_bytes x (output_at task n).name (front (output_at task n) ++ bytes)) (output_at task n) w.most p bytes)
@@ -37,16 +37,16 @@ module _ (task : Task) (n : ℕ) (before now : Outside) (w : WriterSeen) (bytes 
 pub outside_is : (now : Outside) (name text : List ℕ) → now.held ≡ with_file now.held name text → now ≡ with_bytes now name text
 outside_is now name text is = ap (λ (h : Option FileMap). let o : Outside = record now { held = h } in o) is
 
-pub stands_here : (task : Task) (n : ℕ) (w : WriterSeen) (bytes : List ℕ) (now : Outside) → IsWriter task n w bytes → now.held ≡ with_file now.held (output_at task n).name (front (output_at task n) ++ bytes) → Stands now now w (output_at task n) bytes
+pub stands_here : (task : SplitTask) (n : ℕ) (w : WriterSeen) (bytes : List ℕ) (now : Outside) → IsWriter task n w bytes → now.held ≡ with_file now.held (output_at task n).name (front (output_at task n) ++ bytes) → Stands now now w (output_at task n) bytes
 stands_here task n w bytes now is here =
     subst (λ (o : Outside). Stands now o w (output_at task n) bytes) (sym (outside_is now (output_at task n).name (front (output_at task n) ++ bytes) here)) (is.stands now)
 
-pub writer_as : (task : Task) (n : ℕ) (w : WriterSeen) (xs ys : List ℕ) → xs ≡ ys → IsWriter task n w xs → IsWriter task n w ys
+pub writer_as : (task : SplitTask) (n : ℕ) (w : WriterSeen) (xs ys : List ℕ) → xs ≡ ys → IsWriter task n w xs → IsWriter task n w ys
 writer_as task n w xs ys same is = subst (IsWriter task n w) same is
 
 -- ---- all writers
 
-module _ (task : Task) (bytes : ℕ → List ℕ) where
+module _ (task : SplitTask) (bytes : ℕ → List ℕ) where
   pub writers-append : (ns ms : List ℕ) (ws vs : List WriterSeen) → AreWriters task bytes ns ws → AreWriters task bytes ms vs → AreWriters task bytes (ns ++ ms) (ws ++ vs)
   writers-append [] ms [] vs one two = two
   writers-append [] ms (w ∷ ws) vs one two = absurd one

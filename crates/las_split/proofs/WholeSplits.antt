@@ -1,5 +1,5 @@
 -- A whole file that was split.
-use Rattle.std.proofs.Common.{◌≡◌, ◌≢◌, ◌⊎◌, inl, inr, ℕ, ◌+◌, ◌≤◌, Bool, true, false, map, List, [], ◌∷◌, ◌++◌, length, take, Option, Some, None, Result, Ok, Err, IfErr, refl, sym, ◌∙◌, ap, subst, arith}
+use Rattle.std.proofs.Common.{◌≡◌, ◌≢◌, ℕ, ◌+◌, ◌≤◌, Bool, true, false, map, List, [], ◌∷◌, ◌++◌, length, take, Option, Some, None, Result, Ok, Err, IfErr, refl, sym, ◌∙◌, ap, subst, arith}
 use Rattle.std.specs.Prelude.{OnErr}
 use Rattle.std.specs.List.{concat}
 use Rattle.std.proofs.lemmas.List.{append-nil}
@@ -21,7 +21,7 @@ use Rattle.las_split.specs.declared.limits.TheConstants.{MAX_PARTS}
 use Rattle.las_split.specs.Files.{with_files}
 use Rattle.las_split.specs.Outputs.{LeavesParts, all_stopped, outputs_under, part_files}
 use Rattle.las_split.specs.Parts.{numbers_of_parts}
-use Rattle.las_split.specs.Sorting.{EndsSplitting, InParts, LeavesBlock, LeavesPrefixes, TakesBlock, Task, bytes_at, standing}
+use Rattle.las_split.specs.Sorting.{EndsSplitting, InParts, LeavesBlock, LeavesPrefixes, TakesBlock, SplitTask, bytes_at, standing}
 use Rattle.las_split.specs.Splitting.{OnlySplits, SplitsTo}
 use Rattle.las_split.proofs.BatchesTaken.{head_some}
 use Rattle.las_split.proofs.Leaving.{leaves_parts, stopped_texts}
@@ -33,7 +33,7 @@ first_one : (xs : List (List ℕ)) → 1 ≤ length xs → (r : List ℕ) × (re
 first_one [] some = absurd (omega (arith, some))
 first_one (r ∷ rest) some = (r, rest, refl)
 
-module _ (task : Task) (was : Option FileMap) (first reader : ReaderSeen) (buffers : ℕ) (ready : reader ≡ record first { buffers = buffers }) (new_one : ReadsAll first) (is : IsHead first.head.bytes) (stands : WhereKnown was first.name (StandsFor first)) where
+module _ (task : SplitTask) (was : Option FileMap) (first reader : ReaderSeen) (buffers : ℕ) (ready : reader ≡ record first { buffers = buffers }) (new_one : ReadsAll first) (is : IsHead first.head.bytes) (stands : WhereKnown was first.name (StandsFor first)) where
   same_head : reader.head ≡ first.head
   same_head = ap (λ (r : ReaderSeen). r.head) ready
 
@@ -83,10 +83,6 @@ module _ (task : Task) (was : Option FileMap) (first reader : ReaderSeen) (buffe
               (λ file st ho. subst (λ (c : Refusal). OnlySplits task.rule file takes.0 (Some c)) (sym is_many) (splits_many task.rule first file st new_one (head_some first.head.bytes is) n blocks h.within h.whole ho takes.0 takes.2 takes.1 split takes.5)) stands h.hold,
         )
 
-    pub ends_bad : (all : Bool) (cause : Refusal) → EndsSplitting was reader n all (Some cause) → ((i : ℕ) × (cause ≡ BadChunk i)) ⊎ (cause ≡ TooManyParts)
-    ends_bad true cause ends = inl (reader.next + n, ends.0)
-    ends_bad false cause ends = inr (let e : Some cause ≡ Some TooManyParts = ends in cc)
-
     -- what a failed call leaves, for all that the file may give
     pub leaves_splits : (now : Option FileMap) → LeavesBlock task was now [] (cut_all (record_length_of reader.head.bytes) (concat blocks))
         → WhereKnown was first.name (λ file. (records : List (List ℕ)) (refusal : Option Refusal) → SplitsTo task.rule file records refusal → LeavesParts (outputs_under task.stem task.end task.head task.rule records) was now)
@@ -122,23 +118,23 @@ only_some rule was name xs end known some =
     absurd (omega (arith, some, ap (λ (t : List (List ℕ)). length t) empty))) known
 
 -- only these records are given
-pub only_leaves : (task : Task) (was now : Option FileMap) (name : List ℕ) (xs : List (List ℕ)) (end : Option Refusal) → WhereKnown was name (λ file. OnlySplits task.rule file xs end) → LeavesParts (outputs_under task.stem task.end task.head task.rule xs) was now
+pub only_leaves : (task : SplitTask) (was now : Option FileMap) (name : List ℕ) (xs : List (List ℕ)) (end : Option Refusal) → WhereKnown was name (λ file. OnlySplits task.rule file xs end) → LeavesParts (outputs_under task.stem task.end task.head task.rule xs) was now
     → WhereKnown was name (λ file. (records : List (List ℕ)) (refusal : Option Refusal) → SplitsTo task.rule file records refusal → LeavesParts (outputs_under task.stem task.end task.head task.rule records) was now)
 only_leaves task was now name xs end known left =
     known_then was name (λ file. OnlySplits task.rule file xs end) (λ file. (records : List (List ℕ)) (refusal : Option Refusal) → SplitsTo task.rule file records refusal → LeavesParts (outputs_under task.stem task.end task.head task.rule records) was now)
     (λ file o. λ records refusal to. subst (λ (rs : List (List ℕ)). LeavesParts (outputs_under task.stem task.end task.head task.rule rs) was now) (sym (o.only records refusal to).0) left) known
 
-pub prefixes_leave : (task : Task) (was now : Option FileMap) (xs : List (List ℕ)) → LeavesPrefixes task was now xs → LeavesParts (outputs_under task.stem task.end task.head task.rule xs) was now
+pub prefixes_leave : (task : SplitTask) (was now : Option FileMap) (xs : List (List ℕ)) → LeavesPrefixes task was now xs → LeavesParts (outputs_under task.stem task.end task.head task.rule xs) was now
 prefixes_leave task was now xs l = subst (λ (rs : List (List ℕ)). LeavesParts (outputs_under task.stem task.end task.head task.rule rs) was now) (append-nil xs) (leaves_parts task was now xs [] l)
 
 -- parts that were stopped are as they stood
-pub stopped_leave : (task : Task) (was mid now : Option FileMap) (ns : List ℕ) (ws : List WriterSeen) (xs : List (List ℕ)) → InParts task was mid ns ws xs xs → now ≡ with_files was (all_stopped (outputs_under task.stem task.end task.head task.rule xs)) → LeavesParts (outputs_under task.stem task.end task.head task.rule xs) was now
+pub stopped_leave : (task : SplitTask) (was mid now : Option FileMap) (ns : List ℕ) (ws : List WriterSeen) (xs : List (List ℕ)) → InParts task was mid ns ws xs xs → now ≡ with_files was (all_stopped (outputs_under task.stem task.end task.head task.rule xs)) → LeavesParts (outputs_under task.stem task.end task.head task.rule xs) was now
 stopped_leave task was mid now ns ws xs i is =
     let same : now ≡ mid = is ∙ ap (with_files was) (stopped_texts task xs (numbers_of_parts task.rule xs)) ∙ ap (λ (ms : List ℕ). with_files was (map (standing task (bytes_at task xs)) ms)) (sym i.numbers_are) ∙ sym i.held in
     prefixes_leave task was now xs (leaves_here task was mid ns ws xs xs i [] (sym (append-nil xs)) now same)
 
 -- the outputs of a file
-pub files_are : (task : Task) (first : ReaderSeen) (file : List ℕ) (records : List (List ℕ)) → task.head ≡ plain_of first.head.bytes → StandsFor first file → outputs_under task.stem task.end task.head task.rule records ≡ part_files task.stem task.end task.rule file records
+pub files_are : (task : SplitTask) (first : ReaderSeen) (file : List ℕ) (records : List (List ℕ)) → task.head ≡ plain_of first.head.bytes → StandsFor first file → outputs_under task.stem task.end task.head task.rule records ≡ part_files task.stem task.end task.rule file records
 files_are task first file records same st = ap (λ (h : List ℕ). outputs_under task.stem task.end h task.rule records) (same ∙ ap (λ (v : HeadView). plain_of v.bytes) st.head)
 
 pub err_if : {T E P : Type 0} (Q : E → Type 0) (r : Result T E) → ((e : E) → P → Q e) → OnErr r P → IfErr r Q

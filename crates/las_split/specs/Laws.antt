@@ -13,5 +13,5 @@ SplitsInOneWay = (rule : Rule) (file : List ℕ) (records : List (List ℕ)) (re
 
 -- Splitting an accepted file gives something.
 abbrev pub SplitsToSomething : Type 0
-SplitsToSomething = (rule : Rule) (file : List ℕ) → IsAcceptedFile file → IsBytes file
+SplitsToSomething = (rule : Rule) (file : List ℕ) → IsAcceptedFile file
     → (records : List (List ℕ)) × (refusal : Option Refusal) × SplitsTo rule file records refusal

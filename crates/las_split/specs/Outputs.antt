@@ -13,14 +13,14 @@ use Rattle.las_split.specs.Parts.{numbers_of_parts, part}
 use Rattle.las_split.specs.Splitting.{SplitsTo}
 
 -- the output of a part: under the plain head of the file, plain, and its records are counted
-abbrev pub output_under : (stem end head : List ℕ) → (number : ℕ) → Output
-output_under stem end head number =
+abbrev pub part_output_under : (stem end head : List ℕ) → (number : ℕ) → Output
+part_output_under stem end head number =
     record { name = part_name stem end number; head = head; chunk = None; counted = true }
 
 -- the outputs of the parts of records, in the order of the parts' first records
 abbrev pub outputs_under : (stem end head : List ℕ) → Rule → (records : List (List ℕ)) → List OutputFile
 outputs_under stem end head rule records =
-    map (λ number. output_file (output_under stem end head number) (concat (part rule records number)))
+    map (λ number. output_file (part_output_under stem end head number) (concat (part rule records number)))
     (numbers_of_parts rule records)
 
 -- those of the parts of a file

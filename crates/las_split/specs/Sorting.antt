@@ -20,44 +20,44 @@ use Rattle.las_split.specs.declared.limits.TheConstants.{MAX_PARTS}
 use Rattle.las_split.specs.declared.part_names.PartNames.{PartNames}
 use Rattle.las_split.specs.declared.splitter.Splitter.{Splitter}
 use Rattle.las_split.specs.Files.{with_files}
-use Rattle.las_split.specs.Outputs.{output_under}
+use Rattle.las_split.specs.Outputs.{part_output_under}
 use Rattle.las_split.specs.Parts.{numbers_of_parts, part, part_from}
 use Rattle.las_split.specs.Splitting.{OpensTooMany}
 
 -- a number is among some
-abbrev pub has : ℕ → List ℕ → Bool
-has k [] = false
-has k (n ∷ ns) = (n == k) || has k ns
+abbrev pub is_among : ℕ → List ℕ → Bool
+is_among k [] = false
+is_among k (n ∷ ns) = (n == k) || is_among k ns
 
 -- what is fixed while a file is split: how parts are named, their plain head, and the rule
-pub record Task : Type 0 where
+pub record SplitTask : Type 0 where
   pub stem : List ℕ
   pub end : List ℕ
   pub head : List ℕ
   pub rule : Rule
 
-abbrev pub task_of : PartNames → HeadView → Rule → Task
-task_of names head rule =
+abbrev pub split_task : PartNames → HeadView → Rule → SplitTask
+split_task names head rule =
     record { stem = string_bytes names.stem; end = string_bytes names.end; head = head.bytes; rule = rule }
 
 -- that of the records of a block
-abbrev pub task_in : Splitter → Task
-task_in splitter = task_of splitter.names.now splitter.head.now splitter.rule.now
+abbrev pub task_in : Splitter → SplitTask
+task_in splitter = split_task splitter.names.now splitter.head.now splitter.rule.now
 
-abbrev pub output_at : Task → (number : ℕ) → Output
-output_at task number = output_under task.stem task.end task.head number
+abbrev pub output_at : SplitTask → (number : ℕ) → Output
+output_at task number = part_output_under task.stem task.end task.head number
 
 -- the bytes of the records of a part
-abbrev pub bytes_at : Task → (records : List (List ℕ)) → (number : ℕ) → List ℕ
+abbrev pub bytes_at : SplitTask → (records : List (List ℕ)) → (number : ℕ) → List ℕ
 bytes_at task records number = concat (part task.rule records number)
 
 -- the name of a part, and what its output holds with these bytes of records
-abbrev pub standing : Task → (bytes : ℕ → List ℕ) → (number : ℕ) → List ℕ × List ℕ
+abbrev pub standing : SplitTask → (bytes : ℕ → List ℕ) → (number : ℕ) → List ℕ × List ℕ
 standing task bytes number = ((output_at task number).name, front (output_at task number) ++ bytes number)
 
 -- The writer of a part stands for these bytes of records, wherever its output holds them. It has not failed, and may
 -- take all records of the file.
-pub record IsWriter (task : Task) (number : ℕ) (writer : WriterSeen) (bytes : List ℕ) : Type 0 where
+pub record IsWriter (task : SplitTask) (number : ℕ) (writer : WriterSeen) (bytes : List ℕ) : Type 0 where
   pub stands : (outside : Outside)
       → Stands outside
       (with_bytes outside (output_at task number).name (front (output_at task number) ++ bytes)) writer
@@ -66,7 +66,7 @@ pub record IsWriter (task : Task) (number : ℕ) (writer : WriterSeen) (bytes : 
   pub most : writer.most ≡ points_of task.head
 
 -- each part has its writer
-abbrev pub AreWriters : Task → (bytes : ℕ → List ℕ) → (numbers : List ℕ) → List WriterSeen → Type 0
+abbrev pub AreWriters : SplitTask → (bytes : ℕ → List ℕ) → (numbers : List ℕ) → List WriterSeen → Type 0
 AreWriters task bytes [] [] = Unit {0}
 AreWriters task bytes [] (w ∷ writers) = ⊥
 AreWriters task bytes (n ∷ numbers) [] = ⊥
@@ -75,7 +75,7 @@ AreWriters task bytes (n ∷ numbers) (w ∷ writers) =
 
 -- The parts of some records were opened, and some of the records are in them: the files are as they were but for the
 -- parts, and each part and its writer stand for its records.
-pub record InParts (task : Task) (was now : Option FileMap) (numbers : List ℕ) (writers : List WriterSeen)
+pub record InParts (task : SplitTask) (was now : Option FileMap) (numbers : List ℕ) (writers : List WriterSeen)
     (opened written : List (List ℕ)) : Type 0 where
   pub numbers_are : numbers ≡ numbers_of_parts task.rule opened
   pub few : length numbers ≤ MAX_PARTS
@@ -85,15 +85,15 @@ pub record InParts (task : Task) (was now : Option FileMap) (numbers : List ℕ)
   pub sized : length (concat written) ≡ record_length_of task.head * length written
 
 -- the bytes of the records that have a number, of those of a block after some records
-abbrev pub text_of : Task → (records block : List (List ℕ)) → (number : ℕ) → List ℕ
-text_of task records block number = concat (part_from task.rule (length records) block number)
+abbrev pub part_bytes_of : SplitTask → (records block : List (List ℕ)) → (number : ℕ) → List ℕ
+part_bytes_of task records block number = concat (part_from task.rule (length records) block number)
 
 -- The records of a block after some records are gathered: for each part, the bytes of those that belong to it.
-abbrev pub AreGathered : Task → (numbers : List ℕ) → (texts : List (List ℕ)) → (records block : List (List ℕ)) → Type 0
-AreGathered task numbers texts records block = texts ≡ map (text_of task records block) numbers
+abbrev pub AreGathered : SplitTask → (numbers : List ℕ) → (texts : List (List ℕ)) → (records block : List (List ℕ)) → Type 0
+AreGathered task numbers texts records block = texts ≡ map (part_bytes_of task records block) numbers
 
 -- A record was sorted after others of its block, or it opens one part too many.
-abbrev pub SortsPoint : Task → (was now : Option FileMap) → (numbers : List ℕ) → List WriterSeen
+abbrev pub SortsPoint : SplitTask → (was now : Option FileMap) → (numbers : List ℕ) → List WriterSeen
     → (texts : List (List ℕ)) → (records block : List (List ℕ)) → (point : List ℕ) → (all : Bool) → Type 0
 SortsPoint task was now numbers writers texts records block point true =
     InParts task was now numbers writers (records ++ (block ++ point ∷ [])) records
@@ -103,7 +103,7 @@ SortsPoint task was now numbers writers texts records block point false =
     × AreGathered task numbers texts records block × OpensTooMany task.rule (records ++ block) point
 
 -- The first of the records of a block were sorted: all of them, or those before one that opens one part too many.
-pub record SortsBlock (task : Task) (was now : Option FileMap) (numbers : List ℕ) (writers : List WriterSeen)
+pub record SortsBlock (task : SplitTask) (was now : Option FileMap) (numbers : List ℕ) (writers : List WriterSeen)
     (texts records block : List (List ℕ)) (taken : ℕ) : Type 0 where
   pub within : taken ≤ length block
   pub parts : InParts task was now numbers writers (records ++ take taken block) records
@@ -111,14 +111,14 @@ pub record SortsBlock (task : Task) (was now : Option FileMap) (numbers : List �
   pub ends : taken < length block → OpensTooMany task.rule (records ++ take taken block) (slice_index_or block taken [])
 
 -- There is room for some records and a block after them, in each part.
-pub record HasRoom (task : Task) (size : ℕ) (index length_of_block : ℕ) : Type 0 where
+pub record PartsHaveRoom (task : SplitTask) (size : ℕ) (index length_of_block : ℕ) : Type 0 where
   pub size_is : size ≡ record_length_of task.head
   pub some : POINT_RECORD ≤ size
   pub room : size * index + length_of_block ≤ size * points_of task.head
   pub few : points_of task.head < 2 ^ 32
 
 -- The records of a block are whole, and there is room for them after some records.
-pub record FitAfter (task : Task) (records block : List (List ℕ)) : Type 0 where
+pub record FitAfter (task : SplitTask) (records block : List (List ℕ)) : Type 0 where
   pub whole : All (λ point. length point ≡ record_length_of task.head) block
   pub room : length records + length block ≤ points_of task.head
 
@@ -132,7 +132,7 @@ pub record IsPlainFor (head plain : HeadView) : Type 0 where
 
 -- Some records, and those of a block after them, are in parts: all of those, or those before one that opens one part
 -- too many.
-abbrev pub TakesBlock : Task → (was now : Option FileMap) → (numbers : List ℕ) → List WriterSeen
+abbrev pub TakesBlock : SplitTask → (was now : Option FileMap) → (numbers : List ℕ) → List WriterSeen
     → (records block : List (List ℕ)) → (all : Bool) → Type 0
 TakesBlock task was now numbers writers records block true =
     InParts task was now numbers writers (records ++ block) (records ++ block)
@@ -142,7 +142,7 @@ TakesBlock task was now numbers writers records block false =
     × OpensTooMany task.rule (records ++ first) point
 
 -- The records of a block were pushed into the first of the parts, and not yet into the others.
-pub record PushedSo (task : Task) (was now : Option FileMap) (numbers : List ℕ) (writers : List WriterSeen) (place : ℕ)
+pub record PushedSo (task : SplitTask) (was now : Option FileMap) (numbers : List ℕ) (writers : List WriterSeen) (place : ℕ)
     (records block : List (List ℕ)) : Type 0 where
   pub numbers_are : numbers ≡ numbers_of_parts task.rule (records ++ block)
   pub few : length numbers ≤ MAX_PARTS
@@ -155,7 +155,7 @@ pub record PushedSo (task : Task) (was now : Option FileMap) (numbers : List ℕ
   pub sized : length (concat records) ≡ record_length_of task.head * length records
 
 -- the names of these parts with a prefix each of what their outputs hold with all records
-abbrev pub ArePrefixes : Task → (bytes : ℕ → List ℕ) → (numbers : List ℕ) → List (List ℕ × List ℕ) → Type 0
+abbrev pub ArePrefixes : SplitTask → (bytes : ℕ → List ℕ) → (numbers : List ℕ) → List (List ℕ × List ℕ) → Type 0
 ArePrefixes task bytes [] [] = Unit {0}
 ArePrefixes task bytes [] (p ∷ ps) = ⊥
 ArePrefixes task bytes (n ∷ numbers) [] = ⊥
@@ -165,7 +165,7 @@ ArePrefixes task bytes (n ∷ numbers) (p ∷ ps) =
     × ArePrefixes task bytes numbers ps
 
 -- What is left if a call fails while records go into parts: the first of the parts, each a prefix.
-pub record LeavesPrefixes (task : Task) (was now : Option FileMap) (records : List (List ℕ)) : Type 0 where
+pub record LeavesPrefixes (task : SplitTask) (was now : Option FileMap) (records : List (List ℕ)) : Type 0 where
   pub numbers : List ℕ
   pub others : List ℕ
   pub split : numbers_of_parts task.rule records ≡ numbers ++ others
@@ -175,7 +175,7 @@ pub record LeavesPrefixes (task : Task) (was now : Option FileMap) (records : Li
   pub held : now ≡ with_files was texts
 
 -- the same after some records, for the first of a block
-abbrev pub LeavesBlock : Task → (was now : Option FileMap) → (records block : List (List ℕ)) → Type 0
+abbrev pub LeavesBlock : SplitTask → (was now : Option FileMap) → (records block : List (List ℕ)) → Type 0
 LeavesBlock task was now records block =
     (first : List (List ℕ)) × (rest : List (List ℕ)) × (block ≡ first ++ rest)
     × LeavesPrefixes task was now (records ++ first)

@@ -5,16 +5,16 @@ use Rattle.las_outside.specs.Files.{FileMap}
 use Rattle.las_split.specs.declared.parts.Parts.{Parts}
 use Rattle.las_split.specs.declared.splitter.Splitter.{Splitter}
 use Rattle.las_split.specs.Parts.{number_by}
-use Rattle.las_split.specs.Sorting.{AreGathered, FitAfter, InParts, LeavesPrefixes, PushedSo, Task, task_in}
+use Rattle.las_split.specs.Sorting.{AreGathered, FitAfter, InParts, LeavesPrefixes, PushedSo, SplitTask, task_in}
 use Rattle.las_split.specs.Splitting.{OpensTooMany}
 
 -- The parts of some records are opened, and some of the records are in them.
-abbrev pub AreIn : Task → (was now : Option FileMap) → Parts → (opened written : List (List ℕ)) → Type 0
+abbrev pub AreIn : SplitTask → (was now : Option FileMap) → Parts → (opened written : List (List ℕ)) → Type 0
 AreIn task was now parts opened written = InParts task was now parts.numbers parts.writers.items opened written
 
 -- The records of a block after some records have their parts, and are gathered for them.
-abbrev pub AreSorted : Task → (was now : Option FileMap) → Parts → (records block : List (List ℕ)) → Type 0
-AreSorted task was now parts records block =
+abbrev pub HaveTheirParts : SplitTask → (was now : Option FileMap) → Parts → (records block : List (List ℕ)) → Type 0
+HaveTheirParts task was now parts records block =
     AreIn task was now parts (records ++ block) records × AreGathered task parts.numbers parts.gathered records block
 
 -- ---- all that parts can stand for
@@ -40,50 +40,50 @@ abbrev pub OfBlock : Splitter → (held : Option FileMap) → Parts → (index :
     → (P : Option FileMap → (records block : List (List ℕ)) → Type 0) → Type 0
 OfBlock splitter held parts index P =
     (was : Option FileMap) (records block : List (List ℕ))
-    → AreSorted (task_in splitter) was held parts records block → index ≡ length records + length block
+    → HaveTheirParts (task_in splitter) was held parts records block → index ≡ length records + length block
     → P was records block
 
 -- P of each task and state in which parts have all records of which they were opened.
 abbrev pub OfParts : (held : Option FileMap) → Parts
-    → (P : Task → Option FileMap → (records : List (List ℕ)) → Type 0) → Type 0
+    → (P : SplitTask → Option FileMap → (records : List (List ℕ)) → Type 0) → Type 0
 OfParts held parts P =
-    (task : Task) (was : Option FileMap) (records : List (List ℕ)) → AreIn task was held parts records records
+    (task : SplitTask) (was : Option FileMap) (records : List (List ℕ)) → AreIn task was held parts records records
     → P task was records
 
 -- There is such a state.
-abbrev pub HaveRecords : Splitter → (held : Option FileMap) → Parts → (index : ℕ) → Type 0
-HaveRecords splitter held parts index =
+abbrev pub HaveSplit : Splitter → (held : Option FileMap) → Parts → (index : ℕ) → Type 0
+HaveSplit splitter held parts index =
     (was : Option FileMap) × (records : List (List ℕ))
     × AreIn (task_in splitter) was held parts records records × (index ≡ length records)
 
 abbrev pub HaveParts : (held : Option FileMap) → Parts → Type 0
 HaveParts held parts =
-    (task : Task) × (was : Option FileMap) × (records : List (List ℕ)) × AreIn task was held parts records records
+    (task : SplitTask) × (was : Option FileMap) × (records : List (List ℕ)) × AreIn task was held parts records records
 
 abbrev pub HaveBlock : Splitter → (held : Option FileMap) → Parts → (index : ℕ) → Type 0
 HaveBlock splitter held parts index =
     (was : Option FileMap) × (records : List (List ℕ)) × (block : List (List ℕ))
-    × AreSorted (task_in splitter) was held parts records block × (index ≡ length records + length block)
+    × HaveTheirParts (task_in splitter) was held parts records block × (index ≡ length records + length block)
 
 -- P of each state in which the records of a block are gathered, and the first of the parts have theirs, or none has yet.
 abbrev pub OfPushed : (held : Option FileMap) → Parts → (place : ℕ)
-    → (P : Task → Option FileMap → (records block : List (List ℕ)) → Type 0) → Type 0
+    → (P : SplitTask → Option FileMap → (records block : List (List ℕ)) → Type 0) → Type 0
 OfPushed held parts place P =
-    (task : Task) (was : Option FileMap) (records block : List (List ℕ))
+    (task : SplitTask) (was : Option FileMap) (records block : List (List ℕ))
     → PushedSo task was held parts.numbers parts.writers.items place records block
     → AreGathered task parts.numbers parts.gathered records block → P task was records block
 
 abbrev pub OfSorted : (held : Option FileMap) → Parts
-    → (P : Task → Option FileMap → (records block : List (List ℕ)) → Type 0) → Type 0
+    → (P : SplitTask → Option FileMap → (records block : List (List ℕ)) → Type 0) → Type 0
 OfSorted held parts P =
-    (task : Task) (was : Option FileMap) (records block : List (List ℕ))
-    → AreSorted task was held parts records block → FitAfter task records block → P task was records block
+    (task : SplitTask) (was : Option FileMap) (records block : List (List ℕ))
+    → HaveTheirParts task was held parts records block → FitAfter task records block → P task was records block
 
 -- ---- what a step does
 
 -- The part of the next record is opened if it was not, and stands at a place. There is no place if that would be one
 -- part too many, and nothing has changed.
-abbrev pub OpensOrRefuses : Task → (was now : Option FileMap) → (old new : Parts) → (opened written : List (List ℕ))
+abbrev pub OpensOrRefuses : SplitTask → (was now : Option FileMap) → (old new : Parts) → (opened written : List (List ℕ))
     → (number : ℕ) → (point : List ℕ) → (place : Option ℕ) → Type 0
 OpensOrRefuses task was now old new opened written number point None =
     AreIn task was now new opened written × OpensTooMany task.rule opened point × (new.gathered ≡ old.gathered)
@@ -92,20 +92,20 @@ OpensOrRefuses task was now old new opened written number point (Some place) =
     AreIn task was now new (opened ++ point ∷ []) written × (slice_get new.numbers place ≡ Some number)
 
 -- What is left if a call fails at a record: the parts of those before it, or its own too.
-abbrev pub LeavesRecord : Task → (was now : Option FileMap) → (opened : List (List ℕ)) → (point : List ℕ) → Type 0
+abbrev pub LeavesRecord : SplitTask → (was now : Option FileMap) → (opened : List (List ℕ)) → (point : List ℕ) → Type 0
 LeavesRecord task was now opened point =
     LeavesPrefixes task was now opened ⊎ LeavesPrefixes task was now (opened ++ point ∷ [])
 
 -- The first of more records after a block were sorted: all of them, or those before one that opens one part too many.
-pub record SortsMore (task : Task) (was now : Option FileMap) (parts : Parts) (records block more : List (List ℕ))
+pub record SortsMore (task : SplitTask) (was now : Option FileMap) (parts : Parts) (records block more : List (List ℕ))
     (taken : ℕ) : Type 0 where
   pub within : taken ≤ length more
-  pub sorted : AreSorted task was now parts records (block ++ take taken more)
+  pub sorted : HaveTheirParts task was now parts records (block ++ take taken more)
   pub ends : taken < length more
       → OpensTooMany task.rule (records ++ (block ++ take taken more)) (slice_index_or more taken [])
 
 -- What is left if a call fails while more records after a block are sorted.
-abbrev pub LeavesMore : Task → (was now : Option FileMap) → (records block more : List (List ℕ)) → Type 0
+abbrev pub LeavesMore : SplitTask → (was now : Option FileMap) → (records block more : List (List ℕ)) → Type 0
 LeavesMore task was now records block more =
     (first : List (List ℕ)) × (rest : List (List ℕ)) × (more ≡ first ++ rest)
     × LeavesPrefixes task was now (records ++ (block ++ first))

@@ -14,9 +14,9 @@ ghost use Rattle.laz_reader.specs.Asking.{ReadsAndWrites, bytes_left};
 ghost use Rattle.laz_file.specs.Copying.{HoldFirst};
 ghost use Rattle.laz_forms.specs.FileFaults.{HasCause};
 ghost use Rattle.laz_reader.specs.Reading.{IsCrewOf, StandsFor, records_in};
-ghost use Rattle.las_split.specs.Sorting.{EndsSplitting, HasRoom, IsPlainFor, LeavesBlock, TakesBlock};
-ghost use Rattle.las_split.specs.Sorting.{task_in, task_of};
-ghost use Rattle.las_split.specs.Steps.{HaveRecords, OfRecords};
+ghost use Rattle.las_split.specs.Sorting.{EndsSplitting, PartsHaveRoom, IsPlainFor, LeavesBlock, TakesBlock};
+ghost use Rattle.las_split.specs.Sorting.{task_in, split_task};
+ghost use Rattle.las_split.specs.Steps.{HaveSplit, OfRecords};
 
 use crate::part_names::PartNames;
 use crate::parts::Parts;
@@ -44,9 +44,9 @@ fn split_block<R: Threads + Sync, F: Files, G: Gate>(
     requires plain { is_packed splitter.now.head.now.bytes ≡ false }
     requires none { laszip_vlrs_of splitter.now.head.now.bytes ≡ [] }
     requires rule { IsRule splitter.now.rule.now }
-    requires room { HasRoom (task_in splitter.now) splitter.now.size index (length block.now) }
+    requires room { PartsHaveRoom (task_in splitter.now) splitter.now.size index (length block.now) }
     requires whole { length block.now % splitter.now.size ≡ 0 }
-    requires parts { HaveRecords splitter.now (F.seen files.old).held parts.old index }
+    requires parts { HaveSplit splitter.now (F.seen files.old).held parts.old index }
     ensures takes { OfRecords splitter.now (F.seen files.old).held parts.old index (λ was records.
         IfOk result (TakesBlock (task_in splitter.now) was (F.seen files.new).held parts.new.numbers
         parts.new.writers.items records (cut_all splitter.now.size block.now))) }
@@ -99,13 +99,13 @@ pub(crate) fn split_records<R: Threads + Sync, F: Files, G: Gate>(
     requires all { records_in reader.old.left ≡ points_of reader.old.head.bytes }
     ensures takes { IfOk result (λ answer. (n : ℕ) × (blocks : List (List ℕ)) × (all : Bool)
         × HoldFirst (F.seen files.old).held reader.old n blocks
-        × TakesBlock (task_of names.now (unwrap_or plain.now reader.old.head) rule.now) (F.seen files.old).held
+        × TakesBlock (split_task names.now (unwrap_or plain.now reader.old.head) rule.now) (F.seen files.old).held
         (F.seen files.new).held answer.0.numbers answer.0.writers.items []
         (cut_all (record_length_of reader.old.head.bytes) (concat blocks)) all
         × EndsSplitting (F.seen files.old).held reader.old n all answer.1) }
     ensures left { OnErr result ((n : ℕ) × (blocks : List (List ℕ))
         × HoldFirst (F.seen files.old).held reader.old n blocks
-        × LeavesBlock (task_of names.now (unwrap_or plain.now reader.old.head) rule.now) (F.seen files.old).held
+        × LeavesBlock (split_task names.now (unwrap_or plain.now reader.old.head) rule.now) (F.seen files.old).held
         (F.seen files.new).held [] (cut_all (record_length_of reader.old.head.bytes) (concat blocks))) }
     ensures some { IfErr result (λ fault. fault ≡ Write → (n : ℕ) × (blocks : List (List ℕ))
         × HoldFirst (F.seen files.old).held reader.old n blocks

@@ -1,6 +1,6 @@
 //! The numbers of parts, and where each of them stands.
 ghost use Rattle.std.specs.Prelude.{◌≡◌, ◌++◌, ◌∷◌, ◌<◌, ◌^◌, [], false, Some, slice_get, IfNone, IfSome, OnOk};
-ghost use Rattle.las_split.specs.Sorting.{has};
+ghost use Rattle.las_split.specs.Sorting.{is_among};
 
 use std::alloc::{AllocError, Global};
 use std::marker::Model;
@@ -13,7 +13,7 @@ pub(crate) struct Numbers {
     hints: Vec<u16>,
 }
 
-// Written out, so that letting numbers go is one call in each caller.
+// By hand, so that each caller drops numbers by one call.
 impl Drop for Numbers {
     fn drop(self) {
         let Numbers { list, hints } = self;
@@ -59,7 +59,7 @@ impl Numbers {
     /// The place of a number, if it is there.
     #[inline(always)]
     pub(crate) fn find(&self, number: u32) -> Option<usize>
-        ensures none { IfNone result (has number self.now ≡ false) }
+        ensures none { IfNone result (is_among number self.now ≡ false) }
         ensures some { IfSome result (λ place. slice_get self.now place ≡ Some number) }
     {
         let low = low_bits(number);
@@ -76,7 +76,7 @@ impl Numbers {
     #[cold]
     #[inline(never)]
     fn search(&self, number: u32) -> Option<usize>
-        ensures none { IfNone result (has number self.now ≡ false) }
+        ensures none { IfNone result (is_among number self.now ≡ false) }
         ensures some { IfSome result (λ place. slice_get self.now place ≡ Some number) }
     {
         for place in 0..self.list.len() {

@@ -7,7 +7,7 @@ ghost use Rattle.las_outside.specs.Frames.{IsCalm, OnlyWrites};
 ghost use Rattle.laz_forms.specs.FileFaults.{HasCause};
 ghost use Rattle.laz_forms.specs.Outputs.{front};
 ghost use Rattle.laz_writer.specs.Writing.{Stands, WriterSeen};
-ghost use Rattle.las_split.specs.Splitters.{output_of};
+ghost use Rattle.las_split.specs.Splitters.{part_output};
 
 use crate::gathering::Gathered;
 use crate::numbers::Numbers;
@@ -52,11 +52,11 @@ impl Parts {
         ensures gathered { self.new.gathered ≡ self.old.gathered }
         ensures writers { OnOk result ((writer : WriterSeen)
             × (self.new.writers.items ≡ self.old.writers.items ++ writer ∷ [])
-            × Stands (F.seen files.old) (F.seen files.new) writer (output_of splitter.now number) []
+            × Stands (F.seen files.old) (F.seen files.new) writer (part_output splitter.now number) []
             × (writer.failed ≡ false) × (writer.most ≡ points_of splitter.now.head.now.bytes)) }
         ensures left { OnErr result (((F.seen files.new).held ≡ (F.seen files.old).held)
             ⊎ ((n : ℕ) × ((F.seen files.new).held ≡ with_file (F.seen files.old).held
-            (output_of splitter.now number).name (take n (front (output_of splitter.now number)))))) }
+            (part_output splitter.now number).name (take n (front (part_output splitter.now number)))))) }
         ensures cause { IfErr result (HasCause (F.seen files.old) (F.seen files.new)) }
         ensures calm { OnOk result (IsCalm (F.seen files.old) (F.seen files.new)) }
         ensures writes { OnlyWrites (F.seen files.old) (F.seen files.new) }

@@ -4,8 +4,8 @@ ghost use Rattle.las_outside.specs.Files.{FileMap};
 ghost use Rattle.las_outside.specs.Frames.{IsCalm, OnlyWrites};
 ghost use Rattle.laz_forms.specs.declared.fault.Fault.TheVariants.{Write};
 ghost use Rattle.laz_forms.specs.FileFaults.{HasCause};
-ghost use Rattle.las_split.specs.Sorting.{AreGathered, FitAfter, LeavesPrefixes, PushedSo, Task};
-ghost use Rattle.las_split.specs.Steps.{AreIn, AreSorted, OfPushed, OfSorted};
+ghost use Rattle.las_split.specs.Sorting.{AreGathered, FitAfter, LeavesPrefixes, PushedSo, SplitTask};
+ghost use Rattle.las_split.specs.Steps.{AreIn, HaveTheirParts, OfPushed, OfSorted};
 
 use crate::parts::Parts;
 use las_outside::{Files, Gate};
@@ -21,7 +21,7 @@ fn push_place<R: Threads + Sync, F: Files, G: Gate>(
     parts: &mut Parts,
 ) -> Result<(), Fault>
     requires place { place < length parts.old.numbers }
-    requires parts { (task : Task) × (was : Option FileMap) × (records : List (List ℕ)) × (block : List (List ℕ))
+    requires parts { (task : SplitTask) × (was : Option FileMap) × (records : List (List ℕ)) × (block : List (List ℕ))
         × PushedSo task was (F.seen files.old).held parts.old.numbers parts.old.writers.items place records block
         × AreGathered task parts.old.numbers parts.old.gathered records block × FitAfter task records block }
     ensures pushed { OfPushed (F.seen files.old).held parts.old place (λ task was records block.
@@ -50,8 +50,8 @@ pub(crate) fn push_parts<R: Threads + Sync, F: Files, G: Gate>(
     files: &mut F,
     parts: &mut Parts,
 ) -> Result<(), Fault>
-    requires parts { (task : Task) × (was : Option FileMap) × (records : List (List ℕ)) × (block : List (List ℕ))
-        × AreSorted task was (F.seen files.old).held parts.old records block × FitAfter task records block }
+    requires parts { (task : SplitTask) × (was : Option FileMap) × (records : List (List ℕ)) × (block : List (List ℕ))
+        × HaveTheirParts task was (F.seen files.old).held parts.old records block × FitAfter task records block }
     ensures pushed { OfSorted (F.seen files.old).held parts.old (λ task was records block.
         OnOk result (AreIn task was (F.seen files.new).held parts.new (records ++ block) (records ++ block))) }
     ensures left { OfSorted (F.seen files.old).held parts.old (λ task was records block.

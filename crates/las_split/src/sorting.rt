@@ -8,8 +8,8 @@ ghost use Rattle.las_filter.specs.Parts.{IsRule};
 ghost use Rattle.las_outside.specs.Frames.{IsCalm, OnlyWrites};
 ghost use Rattle.laz_forms.specs.declared.fault.Fault.TheVariants.{Write};
 ghost use Rattle.laz_forms.specs.FileFaults.{HasCause};
-ghost use Rattle.las_split.specs.Sorting.{HasRoom, LeavesBlock, SortsBlock, SortsPoint, has, task_in};
-ghost use Rattle.las_split.specs.Steps.{HaveBlock, HaveRecords, LeavesMore, LeavesRecord, OfBlock, OfRecord, OfRecords};
+ghost use Rattle.las_split.specs.Sorting.{PartsHaveRoom, LeavesBlock, SortsBlock, SortsPoint, is_among, task_in};
+ghost use Rattle.las_split.specs.Steps.{HaveBlock, HaveSplit, LeavesMore, LeavesRecord, OfBlock, OfRecord, OfRecords};
 ghost use Rattle.las_split.specs.Steps.{OpensOrRefuses, SortsMore};
 
 use crate::limits::{GROUP, MAX_PARTS};
@@ -34,7 +34,7 @@ fn open_place<F: Files>(
 ) -> Result<Option<usize>, Fault>
     requires plain { is_packed splitter.now.head.now.bytes ≡ false }
     requires none { laszip_vlrs_of splitter.now.head.now.bytes ≡ [] }
-    requires other { has number parts.old.numbers ≡ false }
+    requires other { is_among number parts.old.numbers ≡ false }
 
     // The part was opened after others, at the first record that has its number.
     ensures opened { OfRecord splitter.now (F.seen files.old).held parts.old number (λ was opened written point.
@@ -73,7 +73,7 @@ fn place_of<F: Files>(
         IfOk result (OpensOrRefuses (task_in splitter.now) was (F.seen files.new).held parts.old parts.new opened
         written number point)) }
     ensures gathered { (text : ℕ → List ℕ) → parts.old.gathered ≡ map text parts.old.numbers
-        → (has number parts.old.numbers ≡ false → text number ≡ [])
+        → (is_among number parts.old.numbers ≡ false → text number ≡ [])
         → IfOk result (λ found. parts.new.gathered ≡ map text parts.new.numbers) }
     ensures left { OfRecord splitter.now (F.seen files.old).held parts.old number (λ was opened written point.
         OnErr result (LeavesRecord (task_in splitter.now) was (F.seen files.new).held opened point)) }
@@ -137,7 +137,7 @@ fn sort_each<F: Files>(
     requires plain { is_packed splitter.now.head.now.bytes ≡ false }
     requires none { laszip_vlrs_of splitter.now.head.now.bytes ≡ [] }
     requires rule { IsRule splitter.now.rule.now }
-    requires room { HasRoom (task_in splitter.now) splitter.now.size index (length group.now) }
+    requires room { PartsHaveRoom (task_in splitter.now) splitter.now.size index (length group.now) }
     requires whole { length group.now % splitter.now.size ≡ 0 }
     requires parts { HaveBlock splitter.now (F.seen files.old).held parts.old index }
     ensures sorts { OfBlock splitter.now (F.seen files.old).held parts.old index (λ was records block.
@@ -177,7 +177,7 @@ fn sort_group<F: Files>(
     requires plain { is_packed splitter.now.head.now.bytes ≡ false }
     requires none { laszip_vlrs_of splitter.now.head.now.bytes ≡ [] }
     requires rule { IsRule splitter.now.rule.now }
-    requires room { HasRoom (task_in splitter.now) splitter.now.size index (length group.now) }
+    requires room { PartsHaveRoom (task_in splitter.now) splitter.now.size index (length group.now) }
     requires whole { length group.now % splitter.now.size ≡ 0 }
     requires one { splitter.now.size ≤ length group.now }
     requires parts { HaveBlock splitter.now (F.seen files.old).held parts.old index }
@@ -216,9 +216,9 @@ pub(crate) fn sort_block<F: Files>(
     requires plain { is_packed splitter.now.head.now.bytes ≡ false }
     requires none { laszip_vlrs_of splitter.now.head.now.bytes ≡ [] }
     requires rule { IsRule splitter.now.rule.now }
-    requires room { HasRoom (task_in splitter.now) splitter.now.size index (length block.now) }
+    requires room { PartsHaveRoom (task_in splitter.now) splitter.now.size index (length block.now) }
     requires whole { length block.now % splitter.now.size ≡ 0 }
-    requires parts { HaveRecords splitter.now (F.seen files.old).held parts.old index }
+    requires parts { HaveSplit splitter.now (F.seen files.old).held parts.old index }
     ensures sorts { OfRecords splitter.now (F.seen files.old).held parts.old index (λ was records.
         IfOk result (SortsBlock (task_in splitter.now) was (F.seen files.new).held parts.new.numbers
         parts.new.writers.items parts.new.gathered records (cut_all splitter.now.size block.now))) }

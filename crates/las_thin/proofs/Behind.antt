@@ -10,7 +10,7 @@ use Rattle.las_filter.specs.Changes.{changed}
 use Rattle.las_filter.specs.Kept.{Kept, Steps, kept, kept_of, kept_and}
 use Rattle.las_filter.proofs.Public.{grows}
 use Rattle.las_thin.specs.Placed.{Placed, placed, AreAscending}
-use Rattle.las_thin.specs.Sieving.{Settings, IsFirst, sifted, stays}
+use Rattle.las_thin.specs.Sieving.{Settings, PicksFirst, sifted, stays}
 use Rattle.las_thin.specs.Laws.{LaterChangesNothing}
 use Rattle.las_thin.specs.Kept.{numbered, passing, kept_of_placed, KeepsAsThePlan, KeepsWhatStays, KeepsOneByOne}
 use Rattle.las_thin.specs.Kept.{FirstKeepsOneByOne, PlacesAscend}
@@ -135,7 +135,7 @@ ascending_left (x ∷ xs) ys up = (
 )
 
 -- a record further on
-stays-push : (settings : Settings) (R : List Placed) (a b : Placed) → IsFirst settings.pick → AreAscending (R ++ b ∷ [])
+stays-push : (settings : Settings) (R : List Placed) (a b : Placed) → PicksFirst settings.pick → AreAscending (R ++ b ∷ [])
     → In a R
     → stays settings (R ++ b ∷ []) a ≡ stays settings R a
 stays-push settings R a b first up h =
@@ -145,7 +145,7 @@ stays-push settings R a b first up h =
     (λ t. rw t (rw (place_after a b (below_last R b a up h)) (or_false (list_any (is_placed a) (sifted settings R)))))
     (λ f. rw f (or_false (list_any (is_placed a) (sifted settings R))))
 
-stays_further : (settings : Settings) (after R : List Placed) (a : Placed) → IsFirst settings.pick
+stays_further : (settings : Settings) (after R : List Placed) (a : Placed) → PicksFirst settings.pick
     → AreAscending (R ++ after) → In a R
     → stays settings (R ++ after) a ≡ stays settings R a
 stays_further settings [] R a first up h = ap (λ (xs : List Placed). stays settings xs a) (append-nil R)
@@ -166,7 +166,7 @@ later_changes_nothing settings before after a first up =
 -- ---- kept one by one
 
 first_if : (settings : Settings) (plan : Steps) (before : List Placed) (a : Placed) (keeps : Bool)
-    → IsFirst settings.pick
+    → PicksFirst settings.pick
     → (keeps ≡ true → AreAscending (before ++ a ∷ []))
     → kept_of_placed plan (sifted settings (before ++ cond keeps (a ∷ []) []))
     ≡ cond (is_some (kept_of_placed plan (sifted settings before)).raw_range || not

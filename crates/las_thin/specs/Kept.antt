@@ -5,7 +5,7 @@ use Rattle.las_filter.specs.Filters.{keeps_all}
 use Rattle.las_filter.specs.Changes.{changed}
 use Rattle.las_filter.specs.Kept.{Steps, Kept, kept, kept_of, kept_and}
 use Rattle.las_thin.specs.Placed.{Placed, placed, AreAscending}
-use Rattle.las_thin.specs.Sieving.{Settings, IsFirst, all_pass, sifted, stays}
+use Rattle.las_thin.specs.Sieving.{Settings, PicksFirst, all_pass, sifted, stays}
 
 -- records with their places, from a number on
 abbrev pub numbered : ℕ → List (List ℕ) → List Placed
@@ -55,7 +55,7 @@ PlacesAscend = (plan : Steps) (records : List (List ℕ)) → AreAscending (pass
 -- With the first of a cell, what is kept when records are thinned is said one record at a time.
 abbrev pub FirstKeepsOneByOne : Type 0
 FirstKeepsOneByOne = (settings : Settings) (plan : Steps) (records : List (List ℕ)) (point : List ℕ)
-    → IsFirst settings.pick → let before = kept_behind plan settings records in let a = placed (length records) point in
+    → PicksFirst settings.pick → let before = kept_behind plan settings records in let a = placed (length records) point in
     kept_behind plan settings (records ++ point ∷ [])
     ≡ (if is_some before.raw_range
     || not (keeps_all plan.keeps point && stays settings (passing plan records ++ a ∷ []) a)

@@ -4,7 +4,7 @@ use Rattle.std.specs.List.{list_any}
 use Rattle.las_thin.specs.Placed.{Placed, AreAscending}
 use Rattle.las_thin.specs.Cells.{Cell}
 use Rattle.las_thin.specs.Thinning.{thinned, distinct, is_in}
-use Rattle.las_thin.specs.Sieving.{Settings, IsFirst, sifted, stays}
+use Rattle.las_thin.specs.Sieving.{Settings, PicksFirst, sifted, stays}
 use Rattle.las_thin.specs.declared.pick.Pick.{Pick}
 
 -- Each cell that has a record has exactly one that stays.
@@ -20,7 +20,7 @@ ThinsRepeated = (step : ℕ) (pick : Pick) (records : List Placed)
 
 -- With the first of a cell, what stays of a list is said one record at a time.
 abbrev pub SiftsOneByOne : Type 0
-SiftsOneByOne = (settings : Settings) (records : List Placed) (a : Placed) → IsFirst settings.pick
+SiftsOneByOne = (settings : Settings) (records : List Placed) (a : Placed) → PicksFirst settings.pick
     → AreAscending (records ++ a ∷ [])
     → sifted settings (records ++ a ∷ [])
     ≡ sifted settings records ++ (if stays settings (records ++ a ∷ []) a then a ∷ [] else [])
@@ -32,5 +32,5 @@ SiftsWhole = (settings : Settings) (records : List Placed) → AreAscending reco
 
 -- With the first of a cell, what comes later does not change whether a record stays.
 abbrev pub LaterChangesNothing : Type 0
-LaterChangesNothing = (settings : Settings) (before after : List Placed) (a : Placed) → IsFirst settings.pick
+LaterChangesNothing = (settings : Settings) (before after : List Placed) (a : Placed) → PicksFirst settings.pick
     → AreAscending (before ++ a ∷ after) → stays settings (before ++ a ∷ after) a ≡ stays settings (before ++ a ∷ []) a

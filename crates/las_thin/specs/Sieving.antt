@@ -11,7 +11,7 @@ use Rattle.las_thin.specs.declared.pick.Pick.{Pick}
 use Rattle.las_thin.specs.declared.pick.Pick.TheVariants.{First, Lowest, Highest}
 use Rattle.las_thin.specs.declared.winner.Winner.{Winner}
 
--- what a sieve is told when it is made
+-- what a sieve is made with
 pub record Settings : Type 0 where
   pub step : Option ℕ
   pub pick : Pick
@@ -30,9 +30,9 @@ HasItsStep step First = Unit {0}
 HasItsStep step Lowest = IsSome step
 HasItsStep step Highest = IsSome step
 
-abbrev pub IsFirst : Pick → Type 0
-IsFirst First = Unit {0}
-IsFirst _ = ⊥
+abbrev pub PicksFirst : Pick → Type 0
+PicksFirst First = Unit {0}
+PicksFirst _ = ⊥
 
 abbrev pub picks_first : Pick → Bool
 picks_first First = true
@@ -92,7 +92,7 @@ Stores None pick true looked asked sieve = StoresPositions asked sieve.positions
 Stores None pick false looked asked sieve = Unit {0}
 
 -- a sieve stands for the records that it has looked at and for those that it was asked of
-pub record StandsFor (looked asked : List Placed) (sieve : Sieving) : Type 0 where
+pub record HasSifted (looked asked : List Placed) (sieve : Sieving) : Type 0 where
   pub looked_ascend : AreAscending looked
   pub last_looked : sieve.looked ≡ last_place looked
   pub asked_ascend : AreAscending asked

@@ -50,5 +50,5 @@ TakesBy None pick true a passes before after =
     AddsPosition (position_of a.point) passes before.positions after.positions
 TakesBy None pick false a passes before after = passes ≡ true
 
-abbrev pub Takes : Settings → Placed → (passes : Bool) → Sieving → Sieving → Type 0
-Takes settings = TakesBy settings.step settings.pick settings.unique
+abbrev pub TakesPoint : Settings → Placed → (passes : Bool) → Sieving → Sieving → Type 0
+TakesPoint settings = TakesBy settings.step settings.pick settings.unique

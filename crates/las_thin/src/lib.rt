@@ -1,5 +1,5 @@
 //! Thinning of point records: which records stay if positions are not to repeat, or if a list is thinned to one record
-//! in each cell of a square grid, and a sieve that tells this record by record.
+//! in each cell of a square grid, and a sieve that decides this record by record.
 //!
 //! A cell has X and Y, in steps: the raw coordinates divided by the step and rounded down. A position is X, Y and Z. A
 //! record has a place, a number that ascends along a list. Every call needs a record of at least 20 bytes, as all

@@ -33,7 +33,7 @@ pub struct Sieve {
     winners: HashMap<(i32, i32), Winner>,
 }
 
-// Written out, so that letting a sieve go is one call in each caller.
+// By hand, so that each caller drops a sieve by one call.
 impl Drop for Sieve {
     fn drop(self) {
         let Sieve {
@@ -71,9 +71,9 @@ impl Model for Sieve {
 
 impl Sieve {
     ghost use Rattle.las_thin.specs.Placed.{Placed, placed};
-    ghost use Rattle.las_thin.specs.Sieving.{HasItsStep, IsFirst, IsStep, Settings, Sieving, StandsFor};
+    ghost use Rattle.las_thin.specs.Sieving.{HasItsStep, PicksFirst, IsStep, Settings, Sieving, HasSifted};
     ghost use Rattle.las_thin.specs.Sieving.{all_pass, judged_by, stays};
-    ghost use Rattle.las_thin.specs.Stored.{Takes};
+    ghost use Rattle.las_thin.specs.Stored.{TakesPoint};
 
     /// A sieve that has looked at no record and was asked for none. `step` is a cell's side in units of X and Y, from 1
     /// to 2147483647; `unique` says that positions are not to repeat. The lowest and the highest need a step.
@@ -83,7 +83,7 @@ impl Sieve {
         ensures settings { result.settings ≡ record { step = step; pick = pick; unique = unique } }
         ensures looked { result.looked ≡ None }
         ensures asked { result.asked ≡ None }
-        ensures stands { StandsFor [] [] result }
+        ensures stands { HasSifted [] [] result }
     {
         Sieve {
             step,
@@ -109,14 +109,14 @@ impl Sieve {
     /// The pick is the lowest or the highest, the place is above all that were looked at, and none was asked for yet.
     pub fn look(&mut self, place: u64, point: &[u8]) -> Result<(), AllocError>
         requires long { POINT_RECORD ≤ length point.now }
-        requires pick { ¬ IsFirst self.old.settings.pick }
+        requires pick { ¬ PicksFirst self.old.settings.pick }
         requires above { IfSome self.old.looked (λ last. last < place) }
         requires before { self.old.asked ≡ None }
         ensures settings { self.new.settings ≡ self.old.settings }
         ensures looked { OnOk result (self.new.looked ≡ Some place) }
         ensures asked { self.new.asked ≡ None }
-        ensures stands { (looked asked : List Placed) → StandsFor looked asked self.old
-            → OnOk result (StandsFor (looked ++ placed place point.now ∷ []) asked self.new) }
+        ensures stands { (looked asked : List Placed) → HasSifted looked asked self.old
+            → OnOk result (HasSifted (looked ++ placed place point.now ∷ []) asked self.new) }
         ensures memory { OnErr result (self.new ≡ self.old) }
     {
         let Some(step) = self.step else {
@@ -142,11 +142,11 @@ impl Sieve {
         ensures settings { self.new.settings ≡ self.old.settings }
         ensures looked { self.new.looked ≡ self.old.looked }
         ensures asked { OnOk result (self.new.asked ≡ Some place) }
-        ensures answer { (looked asked : List Placed) → StandsFor looked asked self.old
+        ensures answer { (looked asked : List Placed) → HasSifted looked asked self.old
             → let a = placed place point.now in let settings = self.old.settings in
             IfOk result (λ passes. passes ≡ stays settings (judged_by settings looked asked a) a) }
-        ensures stands { (looked asked : List Placed) → StandsFor looked asked self.old
-            → OnOk result (StandsFor looked (asked ++ placed place point.now ∷ []) self.new) }
+        ensures stands { (looked asked : List Placed) → HasSifted looked asked self.old
+            → OnOk result (HasSifted looked (asked ++ placed place point.now ∷ []) self.new) }
         ensures memory { OnErr result (self.new ≡ self.old) }
     {
         let passes = self.take(place, point)?;
@@ -161,7 +161,7 @@ impl Sieve {
         ensures looked { self.new.looked ≡ self.old.looked }
         ensures asked { self.new.asked ≡ self.old.asked }
         ensures takes { IfOk result (λ passes.
-            Takes self.old.settings (placed place point.now) passes self.old self.new) }
+            TakesPoint self.old.settings (placed place point.now) passes self.old self.new) }
         ensures step { HasItsStep self.old.settings.step self.old.settings.pick }
         ensures memory { OnErr result (self.new ≡ self.old) }
     {

@@ -15,7 +15,7 @@ use Rattle.las_words.specs.declared.table.Values.TheVariants.{Tap}
 use Rattle.las_words.specs.declared.pieces.Piece.{Piece}
 use Rattle.las_words.specs.Texts.{word_at}
 use Rattle.las_words.specs.Tallies.{tallies_of, tally_in}
-use Rattle.las_words.specs.Faults.{fault_of, first_fault, first_wrong, follows_too_many, misplaced, option_fault, value_fault}
+use Rattle.las_words.specs.Faults.{word_fault_of, first_fault, first_wrong, follows_too_many, misplaced, option_fault, value_fault}
 
 pub or_none : (a b : Option ℕ) → option_or a b ≡ None → (a ≡ None) × (b ≡ None)
 or_none None b is = (refl, is)
@@ -88,7 +88,7 @@ fresh_more names earlier (Some t) tallies first rest =
 tallies_fresh : (names words : List (List ℕ)) (earlier pieces : List Piece) → first_fault names words earlier pieces ≡ None → AreFresh names (tallies_of words earlier) (tallies_of words pieces)
 tallies_fresh names words earlier [] sound = record { all = All-nil (Fresh names (tallies_of words earlier)); distinct = λ i j d below within. absurd (omega arith) }
 tallies_fresh names words earlier (piece ∷ pieces) sound =
-    let both = or_none (fault_of names words earlier piece) (first_fault names words (earlier ++ piece ∷ []) pieces) sound in
+    let both = or_none (word_fault_of names words earlier piece) (first_fault names words (earlier ++ piece ∷ []) pieces) sound in
     fresh_more names (tallies_of words earlier) (tally_in piece.flag (drop (piece.at + 1) words)) (tallies_of words pieces)
     (λ t is. tally_fresh names words earlier piece.at piece.flag t both.0 is)
     (subst (λ (e : List (List ℕ)). AreFresh names e (tallies_of words pieces)) (tallies-push words earlier piece) (tallies_fresh names words (earlier ++ piece ∷ []) pieces both.1))

@@ -7,7 +7,7 @@ use Rattle.las_filter.specs.Kept.{Steps}
 use Rattle.las_filter.specs.declared.rule.Rule.TheVariants.{Every, Source}
 use Rattle.las_thin.specs.declared.pick.Pick.TheVariants as pick
 use Rattle.las_thin.specs.Sieving.{Settings}
-use Rattle.las_words.specs.Names.{stem_of, end_of, is_part_name}
+use Rattle.las_words.specs.Names.{stem_of, extension_of, is_part_name}
 use Rattle.las_filter.specs.declared.rule.Rule.{Rule}
 use Rattle.las_words.specs.Asked.{Asked, laszip, las2las, lasinfo, lassplit, lasmerge, make, reads}
 use Rattle.las_words.specs.Says.{asks, usage, says}
@@ -256,7 +256,7 @@ unfolding says
 no_tap = refl
 
 -- what parts are named after, and whether a name is a part's
-upper_ending : end_of (codes "p.las.LAS") ≡ codes ".LAS"
+upper_ending : extension_of (codes "p.las.LAS") ≡ codes ".LAS"
 upper_ending = refl
 
 stem : stem_of (codes "p.las.LAS") ≡ codes "p.las"

@@ -7,7 +7,7 @@ use Rattle.std.specs.List.{cons_option, filter_map, list_any}
 use Rattle.std.proofs.lemmas.Bool.{false≢true}
 use Rattle.std.proofs.lemmas.List.{get_or-drop}
 use Rattle.las_words.specs.declared.table.Flag.{Flag}
-use Rattle.las_words.specs.Table.{Meaning, Setting, Filters, Changes, TallyNames, row_of}
+use Rattle.las_words.specs.Table.{OptionMeaning, Setting, Filters, Changes, TallyNames, row_of}
 use Rattle.std.specs.Str.{bytes_eq}
 use Rattle.las_words.specs.declared.pieces.Piece.{Piece}
 use Rattle.las_words.specs.Settings.{value_by}
@@ -43,15 +43,6 @@ gathered h xs k d given found now all within is more sofar =
 
 -- ---- a test of what is gathered
 
--- it holds of the value that the item at an index gives
-pub some_here :
-    {X Y : Type 0} (p : Y → Bool) (h : X → Option Y) (xs : List X) (k : ℕ) (d : X) (y : Y) → k < length xs →
-    h (get_or xs k d) ≡ Some y → p y ≡ true → list_any p (filter_map h (drop k xs)) ≡ true
-some_here p h xs k d y within is holds =
-    let rest = filter_map h (drop (k + 1) xs) in
-    ap (list_any p) (rest_is h xs k d within) ∙ ap (λ (o : Option _). list_any p (cons_option o rest)) is ∙
-    ap (λ (b : Bool). b || list_any p rest) holds
-
 -- the item gives none
 pub none_here :
     {X Y : Type 0} (p : Y → Bool) (h : X → Option Y) (xs : List X) (k : ℕ) (d : X) → k < length xs →
@@ -74,7 +65,7 @@ not_here p h xs k d y within is not =
 
 -- an option that names one gives the word after it
 tally_given :
-    (means : Meaning) (after : List (List ℕ)) → is_some (tally_by means []) ≡ true →
+    (means : OptionMeaning) (after : List (List ℕ)) → is_some (tally_by means []) ≡ true →
     tally_by means after ≡ Some (word_at after 0)
 tally_given TallyNames after is = refl
 tally_given Setting after is = absurd (false≢true is)
@@ -89,7 +80,7 @@ tally_is (Some flag) after is = tally_given (row_of flag).means after is
 
 -- another one gives none
 none_given :
-    (means : Meaning) (after : List (List ℕ)) → is_some (tally_by means []) ≡ false → tally_by means after ≡ None
+    (means : OptionMeaning) (after : List (List ℕ)) → is_some (tally_by means []) ≡ false → tally_by means after ≡ None
 none_given TallyNames after is = absurd (false≢true (sym is))
 none_given Setting after is = refl
 none_given (Filters _) after is = refl

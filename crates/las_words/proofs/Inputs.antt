@@ -17,9 +17,9 @@ use Rattle.las_words.specs.declared.table.Flag.TheVariants.{Inputs}
 use Rattle.las_words.specs.declared.pieces.Piece.{Piece}
 use Rattle.las_words.specs.Texts.{word_at}
 use Rattle.las_words.specs.Table.{flag_named}
-use Rattle.las_words.specs.Pieces.{count_after, cut}
-use Rattle.las_words.specs.Faults.{fault_of, first_fault, option_fault}
-use Rattle.las_words.specs.Settings.{is_given, text_of, texts_of}
+use Rattle.las_words.specs.Pieces.{values_after, cut_words}
+use Rattle.las_words.specs.Faults.{word_fault_of, first_fault, option_fault}
+use Rattle.las_words.specs.Settings.{is_given, text_given, texts_of}
 use Rattle.las_words.proofs.Chosen.{no_fault, or_none}
 
 abbrev Words : Type 0
@@ -45,7 +45,7 @@ first_by words p true piece rest others more given none = (or_parts (p (word_at 
 first_by words p false piece rest others more given none = more given none
 
 -- what holds of no value does not hold of the first
-pub first_text : (words : Words) (name : List ℕ) (pieces : List Piece) (p : List ℕ → Bool) → is_given words name pieces ≡ true → list_any p (texts_of words name pieces) ≡ false → p (text_of words name pieces) ≡ false
+pub first_text : (words : Words) (name : List ℕ) (pieces : List Piece) (p : List ℕ → Bool) → is_given words name pieces ≡ true → list_any p (texts_of words name pieces) ≡ false → p (text_given words name pieces) ≡ false
 first_text words name [] p given none = cc
 first_text words name (piece ∷ pieces) p given none =
     first_by words p (bytes_eq (word_at words piece.at) name) piece (find (λ q. bytes_eq (word_at words q.at) name) pieces) (texts_of words name pieces) (first_text words name pieces p) given none
@@ -65,13 +65,13 @@ none_is word (other ∷ others) none =
 abbrev pub IsNamed : Tool → Words → Piece → Type 0
 IsNamed tool words piece = piece.flag ≡ flag_named tool (word_at words piece.at)
 
-pub cut_named : (tool : Tool) (words : Words) (at skip : ℕ) (rest : Words) → rest ≡ drop at words → All (IsNamed tool words) (cut tool at skip rest)
+pub cut_named : (tool : Tool) (words : Words) (at skip : ℕ) (rest : Words) → rest ≡ drop at words → All (IsNamed tool words) (cut_words tool at skip rest)
 cut_named tool words at skip [] are = All-nil (IsNamed tool words)
 cut_named tool words at zero (word ∷ rest) are =
     let place : at + 0 ≡ at = omega arith in
     let here : word ≡ word_at words at = ap (λ (l : Words). get_or l 0 []) are ∙ get_or-drop at words 0 [] ∙ ap (λ (k : ℕ). get_or words k []) place in
-    All-cons (IsNamed tool words) (record { at = at; flag = flag_named tool word }) (cut tool (at + 1) (count_after (flag_named tool word) rest) rest)
-    (ap (flag_named tool) here) (cut_named tool words (at + 1) (count_after (flag_named tool word) rest) rest (ap (drop 1) are ∙ drop-drop 1 at words))
+    All-cons (IsNamed tool words) (record { at = at; flag = flag_named tool word }) (cut_words tool (at + 1) (values_after (flag_named tool word) rest) rest)
+    (ap (flag_named tool) here) (cut_named tool words (at + 1) (values_after (flag_named tool word) rest) rest (ap (drop 1) are ∙ drop-drop 1 at words))
 cut_named tool words at (suc skip) (word ∷ rest) are = cut_named tool words (at + 1) skip rest (ap (drop 1) are ∙ drop-drop 1 at words)
 
 -- ---- at most 32 inputs
@@ -107,7 +107,7 @@ room_by names words earlier at (Some flag) is none =
     let test = tests.0 in
     grind (arith, nat_tests)
 
-room : (names words : Words) (earlier : List Piece) (piece : Piece) → IsNamed Lasmerge words piece → fault_of names words earlier piece ≡ None → inputs_in words earlier ≤ 32
+room : (names words : Words) (earlier : List Piece) (piece : Piece) → IsNamed Lasmerge words piece → word_fault_of names words earlier piece ≡ None → inputs_in words earlier ≤ 32
     → inputs_in words earlier + cond (is_input words piece) 1 0 ≤ 32
 room names words earlier piece named none few = by (bytes_eq (word_at words piece.at) (codes "-i")) refl
   where
@@ -123,7 +123,7 @@ inputs_few : (names words : Words) (earlier pieces : List Piece) → All (IsName
     → inputs_in words earlier + inputs_in words pieces ≤ 32
 inputs_few names words earlier [] named none few = omega arith
 inputs_few names words earlier (piece ∷ pieces) named none few =
-    let both = or_none (fault_of names words earlier piece) (first_fault names words (earlier ++ piece ∷ []) pieces) none in
+    let both = or_none (word_fault_of names words earlier piece) (first_fault names words (earlier ++ piece ∷ []) pieces) none in
     let one = room names words earlier piece (All-head (IsNamed Lasmerge words) piece pieces named) both.0 few in
     let pushed : inputs_in words (earlier ++ piece ∷ []) ≡ inputs_in words earlier + (0 + cond (is_input words piece) 1 0) = sum_by-append (λ (p : Piece). cond (is_input words p) 1 0) earlier (piece ∷ []) in
     let rest = inputs_few names words (earlier ++ piece ∷ []) pieces (All-tail (IsNamed Lasmerge words) piece pieces named) both.1 (omega (arith, pushed)) in

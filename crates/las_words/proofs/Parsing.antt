@@ -8,7 +8,7 @@ use Rattle.std.specs.Str.Parse.{digits_value, IsNumeral, ParsesUnsigned, ParsesS
 use Rattle.std.proofs.lemmas.Bool.Decides.{nat_tests}
 use Rattle.std.proofs.lemmas.Str.Parse.{IsNumeralModel, numerals_by_value, tells_all_ascii_digits, parse_digits, digit_at, without_leading_plus_none}
 use Rattle.las_filter.specs.Coordinates.{is_coordinate, in_range}
-use Rattle.las_words.specs.Numbers.{is_number, number_in, without_minus, signed_in}
+use Rattle.las_words.specs.Numbers.{is_number, number_in_range, without_minus, signed_in}
 
 pub own : IsNumeralModel (λ ds. all_ascii_digits ds ≡ true) (digits_value 10)
 own = numerals_by_value (λ ds. all_ascii_digits ds ≡ true) tells_all_ascii_digits
@@ -23,7 +23,7 @@ past low high number b lt = grind (arith, nat_tests)
 
 -- what does not parse has more than 32 bits
 pub no_number : {E : Type 0} (low high : ℕ) (word : List ℕ) (r : Result ℕ E) (e : E) → ParsesUnsigned 32 10 word r → r ≡ Err e → is_number word ≡ true → high < 2 ^ 32
-    → None ≡ number_in low high word
+    → None ≡ number_in_range low high word
 no_number low high word (Ok n) e parsed is number fits = cc
 no_number low high word (Err f) e parsed is number fits =
     let both = parts word number in

@@ -13,14 +13,14 @@ use Rattle.std.proofs.lemmas.Bool.Decides.{Decides-eqb, nat_tests}
 use Rattle.las_filter.specs.Parts.{in_seven_digits, part_name}
 use Rattle.las_filter.proofs.Public.{value_is}
 use Rattle.las_words.specs.Numbers.{is_number, number_or_zero}
-use Rattle.las_words.specs.Names.{end_of, stem_of, number_within, is_part_name}
+use Rattle.las_words.specs.Names.{extension_of, stem_of, number_within, is_part_name}
 use Rattle.las_words.proofs.Parsing.{own}
 
 -- a name ends in what it is cut into
 ends_in : (name end : List ℕ) → ends_with nat_eq name end ≡ true → name ≡ take (length name - length end) name ++ end
 ends_in name end ends = (ends_is Decides-eqb name end (ends_with nat_eq name end) refl).0 ends
 
-pub end_is : (name : List ℕ) → name ≡ stem_of name ++ end_of name
+pub end_is : (name : List ℕ) → name ≡ stem_of name ++ extension_of name
 end_is name = by (ends_with nat_eq name (codes ".las")) (ends_with nat_eq name (codes ".LAS")) refl refl
   where
     Cut : List ℕ → Type 0

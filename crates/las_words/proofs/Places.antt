@@ -12,8 +12,8 @@ use Rattle.las_words.specs.declared.table.Flag.TheVariants.{StartAtPoint, StopAt
 use Rattle.las_words.specs.declared.pieces.Piece.{Piece}
 use Rattle.las_words.specs.Texts.{word_at}
 use Rattle.las_words.specs.Table.{flag_named}
-use Rattle.las_words.specs.Faults.{crossed, fault_of, first_fault, follows_too_many, option_fault}
-use Rattle.las_words.specs.Settings.{number_said, start_of, stop_of, text_of}
+use Rattle.las_words.specs.Faults.{crossed, word_fault_of, first_fault, follows_too_many, option_fault}
+use Rattle.las_words.specs.Settings.{number_said, start_of, stop_given, text_given}
 use Rattle.las_words.proofs.Chosen.{no_fault, or_none}
 use Rattle.las_words.proofs.Inputs.{IsNamed}
 
@@ -39,14 +39,14 @@ more_by : (words : Words) (name : List ℕ) (piece first : Piece) (b : Bool) (be
 more_by words name piece first true before now pushed = inl refl
 more_by words name piece first false before now pushed = pushed
 
-text_pushed : (words : Words) (name : List ℕ) (earlier : List Piece) (piece : Piece) → IsPushed words name piece (text_of words name earlier) (text_of words name (earlier ++ piece ∷ []))
+text_pushed : (words : Words) (name : List ℕ) (earlier : List Piece) (piece : Piece) → IsPushed words name piece (text_given words name earlier) (text_given words name (earlier ++ piece ∷ []))
 text_pushed words name [] piece = last_by words name piece (is_of words name piece) refl
 text_pushed words name (first ∷ earlier) piece =
     more_by words name piece first (is_of words name first) (find (is_of words name) earlier) (find (is_of words name) (earlier ++ piece ∷ [])) (text_pushed words name earlier piece)
 
 -- ---- the start is not above the stop
 abbrev AreInOrder : Words → List Piece → Type 0
-AreInOrder words pieces = start_of words pieces ≤ stop_of words pieces
+AreInOrder words pieces = start_of words pieces ≤ stop_given words pieces
 
 -- an option of a name that is no fault does not cross the one before it
 not_crossed : (names words : Words) (earlier : List Piece) (at : ℕ) (flag : Option Flag) (own : Flag) → flag ≡ Some own → option_fault names words earlier at flag ≡ None → crossed words earlier own (at + 1) ≡ None
@@ -63,17 +63,17 @@ flag_is : (words : Words) (piece : Piece) (name : List ℕ) (own : Flag) → IsN
 flag_is words piece name own named is flag = named ∙ ap (flag_named Las2las) ((bytes_eq-Decides (word_at words piece.at) name).0 is) ∙ flag
 
 -- one option more, by the values that are found now
-in_order_by : (names words : Words) (earlier : List Piece) (piece : Piece) (start stop : List ℕ) → IsNamed Las2las words piece → fault_of names words earlier piece ≡ None → AreInOrder words earlier
-    → IsPushed words (codes "-start_at_point") piece (text_of words (codes "-start_at_point") earlier) start
-    → IsPushed words (codes "-stop_at_point") piece (text_of words (codes "-stop_at_point") earlier) stop
+in_order_by : (names words : Words) (earlier : List Piece) (piece : Piece) (start stop : List ℕ) → IsNamed Las2las words piece → word_fault_of names words earlier piece ≡ None → AreInOrder words earlier
+    → IsPushed words (codes "-start_at_point") piece (text_given words (codes "-start_at_point") earlier) start
+    → IsPushed words (codes "-stop_at_point") piece (text_given words (codes "-stop_at_point") earlier) stop
     → number_said StartAtPoint 0 start ≤ number_said StopAtPoint 4294967295 stop
 in_order_by names words earlier piece start stop named none order (inl s) (inl e) =
     let low : number_said StartAtPoint 0 start ≡ start_of words earlier = ap (number_said StartAtPoint 0) s in
-    let high : number_said StopAtPoint 4294967295 stop ≡ stop_of words earlier = ap (number_said StopAtPoint 4294967295) e in
+    let high : number_said StopAtPoint 4294967295 stop ≡ stop_given words earlier = ap (number_said StopAtPoint 4294967295) e in
     omega (arith, low, high, order)
 in_order_by names words earlier piece start stop named none order (inr s) (inl e) =
     let low : number_said StartAtPoint 0 start ≡ number_said StartAtPoint 0 (word_at words (piece.at + 1)) = ap (number_said StartAtPoint 0) s.1 in
-    let high : number_said StopAtPoint 4294967295 stop ≡ stop_of words earlier = ap (number_said StopAtPoint 4294967295) e in
+    let high : number_said StopAtPoint 4294967295 stop ≡ stop_given words earlier = ap (number_said StopAtPoint 4294967295) e in
     let flag = flag_is words piece (codes "-start_at_point") StartAtPoint named s.0 refl in
     let least = not_less _ _ (piece.at + 1) (not_crossed names words earlier piece.at piece.flag StartAtPoint flag none) in
     omega (arith, low, high, least)
@@ -92,10 +92,10 @@ in_order_by names words earlier piece start stop named none order (inr s) (inr e
 in_order_after : (names words : Words) (earlier pieces : List Piece) → All (IsNamed Las2las words) pieces → first_fault names words earlier pieces ≡ None → AreInOrder words earlier → AreInOrder words (earlier ++ pieces)
 in_order_after names words earlier [] named none order = subst (AreInOrder words) (sym (append-nil earlier)) order
 in_order_after names words earlier (piece ∷ pieces) named none order =
-    let both = or_none (fault_of names words earlier piece) (first_fault names words (earlier ++ piece ∷ []) pieces) none in
+    let both = or_none (word_fault_of names words earlier piece) (first_fault names words (earlier ++ piece ∷ []) pieces) none in
     let more = in_order_by names words earlier piece _ _ (All-head (IsNamed Las2las words) piece pieces named) both.0 order
     (text_pushed words (codes "-start_at_point") earlier piece) (text_pushed words (codes "-stop_at_point") earlier piece) in
     subst (AreInOrder words) (append_assoc earlier (piece ∷ []) pieces) (in_order_after names words (earlier ++ piece ∷ []) pieces (All-tail (IsNamed Las2las words) piece pieces named) both.1 more)
 
-pub in_order : (names words : Words) (pieces : List Piece) → All (IsNamed Las2las words) pieces → first_fault names words [] pieces ≡ None → start_of words pieces ≤ stop_of words pieces
+pub in_order : (names words : Words) (pieces : List Piece) → All (IsNamed Las2las words) pieces → first_fault names words [] pieces ≡ None → start_of words pieces ≤ stop_given words pieces
 in_order names words pieces named none = in_order_after names words [] pieces named none (lit≤ tt)

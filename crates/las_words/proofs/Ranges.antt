@@ -16,9 +16,9 @@ use Rattle.las_filter.specs.declared.rule.Rule.TheVariants.{Every, Class, Source
 use Rattle.las_filter.specs.Parts.{IsRule}
 use Rattle.las_words.specs.declared.pieces.Piece.{Piece}
 use Rattle.las_words.specs.Numbers.{is_number, number_or_zero}
-use Rattle.las_words.specs.Plans.{changes_of, change_in}
+use Rattle.las_words.specs.Plans.{changes_given, change_in}
 use Rattle.las_words.specs.Texts.{word_at}
-use Rattle.las_words.specs.Settings.{text_of, number_of, chunk_of, workers_of, format_of, extra_of, rule_of}
+use Rattle.las_words.specs.Settings.{text_given, number_given, chunk_given, workers_of, format_given, extra_given, rule_of}
 
 -- a number of a range, or a default of that range
 pub range : (low high number default : ℕ) (b : Bool) → low ≤ default → default ≤ high
@@ -42,31 +42,31 @@ masks_range most mask [] small = small
 masks_range most mask (word ∷ words) small =
     masks_range most (bit_or mask (2 ^ number_or_zero most word)) words (or_lt (most + 1) mask (2 ^ number_or_zero most word) small (bit_range most (number_or_zero most word) (number_range most word)))
 
-pub chunk_range : (words : List (List ℕ)) (pieces : List Piece) → (256 ≤ chunk_of words pieces) × (chunk_of words pieces ≤ 250000)
+pub chunk_range : (words : List (List ℕ)) (pieces : List Piece) → (256 ≤ chunk_given words pieces) × (chunk_given words pieces ≤ 250000)
 chunk_range words pieces =
-    let text = text_of words (codes "-chunk_size") pieces in
+    let text = text_given words (codes "-chunk_size") pieces in
     range 256 250000 (digits_value 10 text) 50000 (is_number text) (lit≤ tt) (lit≤ tt)
 
 pub workers_range : (words : List (List ℕ)) (pieces : List Piece) → (1 ≤ workers_of words pieces) × (workers_of words pieces ≤ 8)
 workers_range words pieces =
-    let text = text_of words (codes "-cores") pieces in
+    let text = text_given words (codes "-cores") pieces in
     range 1 8 (digits_value 10 text) 1 (is_number text) (lit≤ tt) (lit≤ tt)
 
-pub points_range : (words : List (List ℕ)) (pieces : List Piece) → number_of words Points 0 pieces ≤ 10000000
-points_range words pieces = number_range 10000000 (text_of words (codes "-points") pieces)
+pub points_range : (words : List (List ℕ)) (pieces : List Piece) → number_given words Points 0 pieces ≤ 10000000
+points_range words pieces = number_range 10000000 (text_given words (codes "-points") pieces)
 
-pub seed_range : (words : List (List ℕ)) (pieces : List Piece) → number_of words Seed 0 pieces < 2 ^ 32
-seed_range words pieces = let h = number_range 4294967295 (text_of words (codes "-seed") pieces) in omega arith
+pub seed_range : (words : List (List ℕ)) (pieces : List Piece) → number_given words Seed 0 pieces < 2 ^ 32
+seed_range words pieces = let h = number_range 4294967295 (text_given words (codes "-seed") pieces) in omega arith
 
-pub format_range : (words : List (List ℕ)) (pieces : List Piece) → format_of words pieces ≤ 3
-format_range words pieces = number_range 3 (text_of words (codes "-format") pieces)
+pub format_range : (words : List (List ℕ)) (pieces : List Piece) → format_given words pieces ≤ 3
+format_range words pieces = number_range 3 (text_given words (codes "-format") pieces)
 
-pub extra_range : (words : List (List ℕ)) (pieces : List Piece) → extra_of words pieces ≤ 192
-extra_range words pieces = number_range 192 (text_of words (codes "-extra") pieces)
+pub extra_range : (words : List (List ℕ)) (pieces : List Piece) → extra_given words pieces ≤ 192
+extra_range words pieces = number_range 192 (text_given words (codes "-extra") pieces)
 
-split_range : (words : List (List ℕ)) (pieces : List Piece) → 1 ≤ number_of words Split 1 pieces
+split_range : (words : List (List ℕ)) (pieces : List Piece) → 1 ≤ number_given words Split 1 pieces
 split_range words pieces =
-    let text = text_of words (codes "-split") pieces in
+    let text = text_given words (codes "-split") pieces in
     (range 1 4294967295 (digits_value 10 text) 1 (is_number text) (lit≤ tt) (lit≤ tt)).0
 
 rule_by : (class source return : Bool) (n : ℕ) → 1 ≤ n → IsRule (cond class Class (cond source Source (cond return Return (Every n))))
@@ -76,7 +76,7 @@ rule_by false false true n some = tt
 rule_by false false false n some = some
 
 pub rule_is : (words : List (List ℕ)) (pieces : List Piece) → IsRule (rule_of words pieces)
-rule_is words pieces = rule_by _ _ _ (number_of words Split 1 pieces) (split_range words pieces)
+rule_is words pieces = rule_by _ _ _ (number_given words Split 1 pieces) (split_range words pieces)
 
 -- a change that an option means has a class, if it sets one
 abbrev HasClassIfAny : Option Change → Type 0
@@ -92,7 +92,7 @@ and_class : (change : Option Change) (changes : List Change) → HasClassIfAny c
 and_class None changes class all = all
 and_class (Some change) changes class all = All-cons HasClass change changes class all
 
-pub changes_have_classes : (words : List (List ℕ)) (pieces : List Piece) → All HasClass (changes_of words pieces)
+pub changes_have_classes : (words : List (List ℕ)) (pieces : List Piece) → All HasClass (changes_given words pieces)
 changes_have_classes words [] = All-nil HasClass
 changes_have_classes words (piece ∷ pieces) =
-    and_class (change_in piece.flag (drop (piece.at + 1) words)) (changes_of words pieces) (class_in piece.flag (drop (piece.at + 1) words)) (changes_have_classes words pieces)
+    and_class (change_in piece.flag (drop (piece.at + 1) words)) (changes_given words pieces) (class_in piece.flag (drop (piece.at + 1) words)) (changes_have_classes words pieces)

@@ -12,11 +12,11 @@ use Rattle.las_words.specs.declared.table.Tool.TheVariants.{Laszip, Las2las, Las
 use Rattle.las_words.specs.declared.pieces.Piece.{Piece}
 use Rattle.las_words.specs.Texts.{word_at, is_packed_name}
 use Rattle.las_words.specs.Table.{tool_named}
-use Rattle.las_words.specs.Pieces.{cut}
+use Rattle.las_words.specs.Pieces.{cut_words}
 use Rattle.las_words.specs.Faults.{first_fault}
-use Rattle.las_words.specs.Settings.{place_of, is_given, text_of, texts_of, chunk_of, pick_alone, workers_of}
-use Rattle.las_words.specs.Names.{end_of, stem_of, is_part_name, plain_copy, same_name, unfit_parts, same_output, wrong_name}
-use Rattle.las_words.specs.Asked.{AreInputs, Asked, IsSound, IsSoundWork}
+use Rattle.las_words.specs.Settings.{place_of, is_given, text_given, texts_of, chunk_given, pick_alone, workers_of}
+use Rattle.las_words.specs.Names.{extension_of, stem_of, is_part_name, plain_copy, overwritten_name, unfit_parts, same_output, wrong_name}
+use Rattle.las_words.specs.Asked.{AreInputs, Asked, IsSoundAsked, IsSoundWork}
 use Rattle.las_words.specs.Says.{asks, usage, says, said_to, said_unless, wrong_word, missing_option, asked_of, work_of}
 use Rattle.las_words.proofs.Chosen.{or_none, tallies_distinct, tallies_there}
 use Rattle.las_words.proofs.Inputs.{IsNamed, cut_named, few_inputs, first_text, none_is, some_text, unequal}
@@ -29,7 +29,7 @@ pub no_tool : (names words : List (List ℕ)) → tool_named (word_at words 0) �
 unfolding says
 no_tool names words is = ap (λ (t : Option Tool). said_to names t words) is
 
-says_of : (names words : List (List ℕ)) (tool : Tool) (pieces : List Piece) (fault : Option ℕ) → tool_named (word_at words 0) ≡ Some tool → pieces ≡ cut tool 1 0 (drop 1 words)
+says_of : (names words : List (List ℕ)) (tool : Tool) (pieces : List Piece) (fault : Option ℕ) → tool_named (word_at words 0) ≡ Some tool → pieces ≡ cut_words tool 1 0 (drop 1 words)
     → wrong_word names tool words pieces ≡ fault → says words names ≡ said_unless fault (asked_of tool words pieces)
 unfolding says
 says_of names words tool pieces fault named are is =
@@ -37,11 +37,11 @@ says_of names words tool pieces fault named are is =
     ∙ ap (λ (ps : List Piece). said_unless (wrong_word names tool words ps) (asked_of tool words ps)) (sym are)
     ∙ ap (λ (f : Option ℕ). said_unless f (asked_of tool words pieces)) is
 
-pub wrong : (names words : List (List ℕ)) (tool : Tool) (pieces : List Piece) (index : ℕ) → tool_named (word_at words 0) ≡ Some tool → pieces ≡ cut tool 1 0 (drop 1 words)
+pub wrong : (names words : List (List ℕ)) (tool : Tool) (pieces : List Piece) (index : ℕ) → tool_named (word_at words 0) ≡ Some tool → pieces ≡ cut_words tool 1 0 (drop 1 words)
     → wrong_word names tool words pieces ≡ Some index → says words names ≡ usage index
 wrong names words tool pieces index named are is = says_of names words tool pieces (Some index) named are is
 
-pub accepted : (names words : List (List ℕ)) (tool : Tool) (pieces : List Piece) (asked : Asked) → tool_named (word_at words 0) ≡ Some tool → pieces ≡ cut tool 1 0 (drop 1 words)
+pub accepted : (names words : List (List ℕ)) (tool : Tool) (pieces : List Piece) (asked : Asked) → tool_named (word_at words 0) ≡ Some tool → pieces ≡ cut_words tool 1 0 (drop 1 words)
     → wrong_word names tool words pieces ≡ None → asked ≡ asked_of tool words pieces → says words names ≡ asks asked
 accepted names words tool pieces asked named are is same = says_of names words tool pieces None named are is ∙ ap asks (sym same)
 
@@ -70,20 +70,20 @@ other_name true (Some at) given is = cc
 record AreNamed (words : List (List ℕ)) (pieces : List Piece) : Type 0 where
   input : is_given words (codes "-i") pieces ≡ true
   output : is_given words (codes "-o") pieces ≡ true
-  other : list_any (bytes_eq (text_of words (codes "-o") pieces)) (texts_of words (codes "-i") pieces) ≡ false
+  other : list_any (bytes_eq (text_given words (codes "-o") pieces)) (texts_of words (codes "-i") pieces) ≡ false
 
 are_named : (words : List (List ℕ)) (pieces : List Piece) (rest : Bool) → cond ((is_given words (codes "-i") pieces || false) && ((is_given words (codes "-o") pieces || false) && rest)) None (Some (length words)) ≡ None
-    → same_name words pieces ≡ None → AreNamed words pieces
+    → overwritten_name words pieces ≡ None → AreNamed words pieces
 are_named words pieces rest missing name =
     let both = both_given (is_given words (codes "-i") pieces) (is_given words (codes "-o") pieces) rest (length words) missing in record {
       input = both.0;
       output = both.1;
-      other = other_name (list_any (bytes_eq (text_of words (codes "-o") pieces)) (texts_of words (codes "-i") pieces)) (place_of words (codes "-o") pieces) both.1 name;
+      other = other_name (list_any (bytes_eq (text_given words (codes "-o") pieces)) (texts_of words (codes "-i") pieces)) (place_of words (codes "-o") pieces) both.1 name;
     }
 
 -- the output has another name than the first input
-names_differ : (words : List (List ℕ)) (pieces : List Piece) → AreNamed words pieces → bytes_eq (text_of words (codes "-o") pieces) (text_of words (codes "-i") pieces) ≡ false
-names_differ words pieces named = first_text words (codes "-i") pieces (bytes_eq (text_of words (codes "-o") pieces)) named.input named.other
+names_differ : (words : List (List ℕ)) (pieces : List Piece) → AreNamed words pieces → bytes_eq (text_given words (codes "-o") pieces) (text_given words (codes "-i") pieces) ≡ false
+names_differ words pieces named = first_text words (codes "-i") pieces (bytes_eq (text_given words (codes "-o") pieces)) named.input named.other
 
 -- no word is wrong
 record Right (names words : List (List ℕ)) (tool : Tool) (pieces : List Piece) : Type 0 where
@@ -99,7 +99,7 @@ right names words tool pieces is =
     let names = or_none (wrong_name tool words pieces) (pick_alone words pieces) last.1 in
     record { faults = after.0; missing = last.0; name = names.0; cells = names.1 }
 
-chunk_size : (words : List (List ℕ)) (pieces : List Piece) → IsChunkSize (chunk_of words pieces)
+chunk_size : (words : List (List ℕ)) (pieces : List Piece) → IsChunkSize (chunk_given words pieces)
 chunk_size words pieces = chunk_range words pieces
 
 workers : (words : List (List ℕ)) (pieces : List Piece) → AreWorkers (workers_of words pieces)
@@ -107,26 +107,26 @@ workers words pieces = workers_range words pieces
 
 -- no part has the input's name
 no_part_is_the_input : (words : List (List ℕ)) (pieces : List Piece) → AreNamed words pieces → unfit_parts words pieces ≡ None
-    → (number : ℕ) → number < 2 ^ 32 → part_name (stem_of (text_of words (codes "-o") pieces)) (end_of (text_of words (codes "-o") pieces)) number ≢ text_of words (codes "-i") pieces
+    → (number : ℕ) → number < 2 ^ 32 → part_name (stem_of (text_given words (codes "-o") pieces)) (extension_of (text_given words (codes "-o") pieces)) number ≢ text_given words (codes "-i") pieces
 no_part_is_the_input words pieces named fit =
-    let output = text_of words (codes "-o") pieces in
-    let input = text_of words (codes "-i") pieces in
-    let tests = other_name (is_packed_name output || is_part_name (stem_of output) (end_of output) input) (place_of words (codes "-o") pieces) named.output fit in
-    no_part (stem_of output) (end_of output) input (or_parts (is_packed_name output) (is_part_name (stem_of output) (end_of output) input) tests).1
+    let output = text_given words (codes "-o") pieces in
+    let input = text_given words (codes "-i") pieces in
+    let tests = other_name (is_packed_name output || is_part_name (stem_of output) (extension_of output) input) (place_of words (codes "-o") pieces) named.output fit in
+    no_part (stem_of output) (extension_of output) input (or_parts (is_packed_name output) (is_part_name (stem_of output) (extension_of output) input) tests).1
 
 inputs_are : (names words : List (List ℕ)) (pieces : List Piece) → All (IsNamed Lasmerge words) pieces → first_fault names words [] pieces ≡ None → AreNamed words pieces
-    → AreInputs (texts_of words (codes "-i") pieces) (text_of words (codes "-o") pieces)
+    → AreInputs (texts_of words (codes "-i") pieces) (text_given words (codes "-o") pieces)
 inputs_are names words pieces flags faults named = record {
   some = some_text words (codes "-i") pieces named.input;
   few = few_inputs names words pieces flags faults;
-  others = none_is (text_of words (codes "-o") pieces) (texts_of words (codes "-i") pieces) named.other;
+  others = none_is (text_given words (codes "-o") pieces) (texts_of words (codes "-i") pieces) named.other;
 }
 
-outputs_differ : (words : List (List ℕ)) (pieces : List Piece) → missing_option Make words pieces ≡ None → same_output words pieces ≡ None → text_of words (codes "-o") pieces ≢ text_of words (codes "-z") pieces
+outputs_differ : (words : List (List ℕ)) (pieces : List Piece) → missing_option Make words pieces ≡ None → same_output words pieces ≡ None → text_given words (codes "-o") pieces ≢ text_given words (codes "-z") pieces
 outputs_differ words pieces missing name =
     let both = both_given (is_given words (codes "-o") pieces) (is_given words (codes "-z") pieces) _ (length words) missing in
-    let output = text_of words (codes "-o") pieces in
-    let packed = text_of words (codes "-z") pieces in
+    let output = text_given words (codes "-o") pieces in
+    let packed = text_given words (codes "-z") pieces in
     unequal packed output (other_name (bytes_eq packed output) (place_of words (codes "-z") pieces) both.1 name)
 
 sound_of : (names words : List (List ℕ)) (tool : Tool) (pieces : List Piece) → All (IsNamed tool words) pieces → Right names words tool pieces → IsSoundWork names (work_of tool words pieces)
@@ -142,10 +142,10 @@ sound_of names words Las2las pieces flags r = (
 sound_of names words Lasinfo pieces flags r =
     record { there = tallies_there names words pieces r.faults; distinct = tallies_distinct names words pieces r.faults }
 sound_of names words Lassplit pieces flags r =
-    let both = or_none (same_name words pieces) (unfit_parts words pieces) r.name in
+    let both = or_none (overwritten_name words pieces) (unfit_parts words pieces) r.name in
     (rule_is words pieces, no_part_is_the_input words pieces (are_named words pieces _ r.missing both.0) both.1)
 sound_of names words Lasmerge pieces flags r =
-    let both = or_none (same_name words pieces) (plain_copy words pieces) r.name in
+    let both = or_none (overwritten_name words pieces) (plain_copy words pieces) r.name in
     (inputs_are names words pieces flags r.faults (are_named words pieces true r.missing both.0), chunk_size words pieces)
 sound_of names words Make pieces flags r = (
   outputs_differ words pieces r.missing r.name,
@@ -153,7 +153,7 @@ sound_of names words Make pieces flags r = (
   chunk_size words pieces,
 )
 
-pub sound : (names words : List (List ℕ)) (tool : Tool) (pieces : List Piece) (asked : Asked) → pieces ≡ cut tool 1 0 (drop 1 words) → wrong_word names tool words pieces ≡ None → asked ≡ asked_of tool words pieces → IsSound names asked
+pub sound : (names words : List (List ℕ)) (tool : Tool) (pieces : List Piece) (asked : Asked) → pieces ≡ cut_words tool 1 0 (drop 1 words) → wrong_word names tool words pieces ≡ None → asked ≡ asked_of tool words pieces → IsSoundAsked names asked
 sound names words tool pieces asked are is same =
     let flags = subst (λ (ps : List Piece). All (IsNamed tool words) ps) (sym are) (cut_named tool words 1 0 (drop 1 words) refl) in
-    subst (IsSound names) (sym same) (sound_of names words tool pieces flags (right names words tool pieces is), workers words pieces)
+    subst (IsSoundAsked names) (sym same) (sound_of names words tool pieces flags (right names words tool pieces is), workers words pieces)

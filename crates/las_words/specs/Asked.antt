@@ -160,5 +160,5 @@ IsSoundWork names (lasmerge options) = AreInputs options.inputs options.output �
 IsSoundWork names (make options) = (options.output ≢ options.packed) × IsMade options × IsChunkSize options.chunk
 
 -- the same, and the number of workers is in its range
-abbrev pub IsSound : (names : List (List ℕ)) → Asked → Type 0
-IsSound names asked = IsSoundWork names asked.work × AreWorkers asked.workers
+abbrev pub IsSoundAsked : (names : List (List ℕ)) → Asked → Type 0
+IsSoundAsked names asked = IsSoundWork names asked.work × AreWorkers asked.workers

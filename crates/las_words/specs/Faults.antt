@@ -10,19 +10,19 @@ use Rattle.las_words.specs.declared.table.Flag.{Flag}
 use Rattle.las_words.specs.declared.table.Flag.TheVariants.{StartAtPoint, StopAtPoint}
 use Rattle.las_words.specs.declared.pieces.Piece.{Piece}
 use Rattle.las_words.specs.Texts.{word_at}
-use Rattle.las_words.specs.Numbers.{number_in, signed_in}
-use Rattle.las_words.specs.Counts.{count_of}
+use Rattle.las_words.specs.Numbers.{number_in_range, signed_in}
+use Rattle.las_words.specs.Counts.{values_of}
 use Rattle.las_words.specs.Table.{row_of, first_number, second_number}
-use Rattle.las_words.specs.Settings.{number_said, start_of, stop_of}
+use Rattle.las_words.specs.Settings.{number_said, start_of, stop_given}
 use Rattle.las_words.specs.Tallies.{tallies_of}
 
 -- a word has the form of a value; a tap's name is one of these
 abbrev pub fits : (names : List (List ℕ)) → Values → List ℕ → Bool
 fits names Nothing word = true
 fits names Name word = not (bytes_eq word [])
-fits names (Number low high) word = is_some (number_in low high word)
-fits names (Bounds most) word = is_some (number_in 0 most word)
-fits names (Several most) word = is_some (number_in 0 most word)
+fits names (Number low high) word = is_some (number_in_range low high word)
+fits names (Bounds most) word = is_some (number_in_range 0 most word)
+fits names (Several most) word = is_some (number_in_range 0 most word)
 fits names (Signed count) word = is_some (signed_in word)
 fits names Tap word = list_any (bytes_eq word) names
 
@@ -44,7 +44,7 @@ misplaced tallies _ at words = None
 -- the index of the first value that is wrong, in words that begin at an index
 abbrev pub value_fault : (names tallies : List (List ℕ)) → Values → (at : ℕ) → List (List ℕ) → Option ℕ
 value_fault names tallies values at words =
-    option_or (first_wrong names values at (count_of values words) words) (misplaced tallies values at words)
+    option_or (first_wrong names values at (values_of values words) words) (misplaced tallies values at words)
 
 -- an option stands after more of its rivals than it may
 abbrev pub follows_too_many : List (List ℕ) → List Piece → Flag → Bool
@@ -55,7 +55,7 @@ follows_too_many words earlier flag =
 -- the index of a place, of a range of records, that cannot stand beside the one before it: the start is above the stop
 abbrev pub crossed : List (List ℕ) → List Piece → Flag → (at : ℕ) → Option ℕ
 crossed words earlier StartAtPoint at =
-    if nat_lt (stop_of words earlier) (number_said StartAtPoint 0 (word_at words at)) then Some at else None
+    if nat_lt (stop_given words earlier) (number_said StartAtPoint 0 (word_at words at)) then Some at else None
 crossed words earlier StopAtPoint at =
     if nat_lt (number_said StopAtPoint 4294967295 (word_at words at)) (start_of words earlier) then Some at else None
 crossed words earlier _ at = None
@@ -71,11 +71,11 @@ option_fault names words earlier at (Some flag) =
     (crossed words earlier flag (at + 1))
 
 -- what is wrong with a word that should be an option, or with its values
-abbrev pub fault_of : (names : List (List ℕ)) → List (List ℕ) → List Piece → Piece → Option ℕ
-fault_of names words earlier piece = option_fault names words earlier piece.at piece.flag
+abbrev pub word_fault_of : (names : List (List ℕ)) → List (List ℕ) → List Piece → Piece → Option ℕ
+word_fault_of names words earlier piece = option_fault names words earlier piece.at piece.flag
 
 -- the first fault of the options that are left, after those before them
 abbrev pub first_fault : (names : List (List ℕ)) → List (List ℕ) → List Piece → List Piece → Option ℕ
 first_fault names words earlier [] = None
 first_fault names words earlier (piece ∷ pieces) =
-    option_or (fault_of names words earlier piece) (first_fault names words (earlier ++ piece ∷ []) pieces)
+    option_or (word_fault_of names words earlier piece) (first_fault names words (earlier ++ piece ∷ []) pieces)

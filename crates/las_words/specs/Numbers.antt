@@ -14,14 +14,14 @@ abbrev pub is_number : List ℕ → Bool
 is_number word = nat_le (length word) 20 && is_digits word
 
 -- the number of a word, if it is a number from the first bound to the second
-abbrev pub number_in : ℕ → ℕ → List ℕ → Option ℕ
-number_in low high word =
+abbrev pub number_in_range : ℕ → ℕ → List ℕ → Option ℕ
+number_in_range low high word =
     let number = digits_value 10 word in
     if is_number word && (nat_le low number && nat_le number high) then Some number else None
 
 -- the number of a word, or 0 if it is none up to the bound
 abbrev pub number_or_zero : ℕ → List ℕ → ℕ
-number_or_zero most word = unwrap_or (number_in 0 most word) 0
+number_or_zero most word = unwrap_or (number_in_range 0 most word) 0
 
 -- a word without a minus at its front
 abbrev pub without_minus : List ℕ → List ℕ

@@ -10,12 +10,12 @@ use Rattle.las_words.specs.declared.pieces.Piece.{Piece}
 use Rattle.las_words.specs.Asked.{Asked, Work, laszip, las2las, lasinfo, lassplit, lasmerge, make, reads}
 use Rattle.las_words.specs.Texts.{word_at, is_packed_name}
 use Rattle.las_words.specs.Table.{command_row, tool_named}
-use Rattle.las_words.specs.Pieces.{cut}
+use Rattle.las_words.specs.Pieces.{cut_words}
 use Rattle.las_words.specs.Faults.{first_fault}
-use Rattle.las_words.specs.Settings.{is_given, text_of, texts_of, number_of}
-use Rattle.las_words.specs.Settings.{chunk_of, workers_of, start_of, stop_of, format_of, extra_of, rule_of}
+use Rattle.las_words.specs.Settings.{is_given, text_given, texts_of, number_given}
+use Rattle.las_words.specs.Settings.{chunk_given, workers_of, start_of, stop_given, format_given, extra_given, rule_of}
 use Rattle.las_words.specs.Settings.{pick_alone, sieve_of}
-use Rattle.las_words.specs.Names.{end_of, stem_of, wrong_name}
+use Rattle.las_words.specs.Names.{extension_of, stem_of, wrong_name}
 use Rattle.las_words.specs.Tallies.{tallies_of}
 use Rattle.las_words.specs.Plans.{plan_of}
 
@@ -40,50 +40,50 @@ wrong_word names tool words pieces =
     (option_or (wrong_name tool words pieces) (pick_alone words pieces)))
 
 -- the output of `las2las` and `lasmerge` is packed with -olaz, plain with -olas, and else by its name
-abbrev pub is_packed : List (List ℕ) → List Piece → Bool
-is_packed words pieces =
+abbrev pub packs_output : List (List ℕ) → List Piece → Bool
+packs_output words pieces =
     is_given words (codes "-olaz") pieces
-    || (not (is_given words (codes "-olas") pieces) && is_packed_name (text_of words (codes "-o") pieces))
+    || (not (is_given words (codes "-olas") pieces) && is_packed_name (text_given words (codes "-o") pieces))
 
 -- what a command with these options does
 abbrev pub work_of : Tool → List (List ℕ) → List Piece → Work
 work_of Laszip words pieces =
-    reads (text_of words (codes "-i") pieces)
-    (laszip (record { output = text_of words (codes "-o") pieces; chunk = chunk_of words pieces }))
+    reads (text_given words (codes "-i") pieces)
+    (laszip (record { output = text_given words (codes "-o") pieces; chunk = chunk_given words pieces }))
 work_of Las2las words pieces =
-    reads (text_of words (codes "-i") pieces) (las2las (record {
-      output = text_of words (codes "-o") pieces;
+    reads (text_given words (codes "-i") pieces) (las2las (record {
+      output = text_given words (codes "-o") pieces;
       plan = plan_of words pieces;
-      packed = is_packed words pieces;
-      chunk = chunk_of words pieces;
+      packed = packs_output words pieces;
+      chunk = chunk_given words pieces;
       start = start_of words pieces;
-      stop = stop_of words pieces;
+      stop = stop_given words pieces;
       sieve = sieve_of words pieces;
       tallies = tallies_of words pieces;
     }))
 work_of Lasinfo words pieces =
-    reads (text_of words (codes "-i") pieces) (lasinfo (record { tallies = tallies_of words pieces }))
+    reads (text_given words (codes "-i") pieces) (lasinfo (record { tallies = tallies_of words pieces }))
 work_of Lassplit words pieces =
-    let output = text_of words (codes "-o") pieces in
-    reads (text_of words (codes "-i") pieces)
-    (lassplit (record { stem = stem_of output; end = end_of output; rule = rule_of words pieces }))
+    let output = text_given words (codes "-o") pieces in
+    reads (text_given words (codes "-i") pieces)
+    (lassplit (record { stem = stem_of output; end = extension_of output; rule = rule_of words pieces }))
 work_of Lasmerge words pieces =
     lasmerge (record {
       inputs = texts_of words (codes "-i") pieces;
-      output = text_of words (codes "-o") pieces;
-      packed = is_packed words pieces;
-      chunk = chunk_of words pieces;
+      output = text_given words (codes "-o") pieces;
+      packed = packs_output words pieces;
+      chunk = chunk_given words pieces;
       copy = is_given words (codes "-copy_chunks") pieces;
     })
 work_of Make words pieces =
     make (record {
-      output = text_of words (codes "-o") pieces;
-      packed = text_of words (codes "-z") pieces;
-      points = number_of words Points 0 pieces;
-      seed = number_of words Seed 0 pieces;
-      format = format_of words pieces;
-      extra = extra_of words pieces;
-      chunk = chunk_of words pieces;
+      output = text_given words (codes "-o") pieces;
+      packed = text_given words (codes "-z") pieces;
+      points = number_given words Points 0 pieces;
+      seed = number_given words Seed 0 pieces;
+      format = format_given words pieces;
+      extra = extra_given words pieces;
+      chunk = chunk_given words pieces;
     })
 
 -- a command with these options
@@ -99,7 +99,7 @@ said_unless None asked = asks asked
 abbrev pub said_to : (names : List (List ℕ)) → Option Tool → List (List ℕ) → Said
 said_to names None words = usage 0
 said_to names (Some tool) words =
-    let pieces = cut tool 1 0 (drop 1 words) in
+    let pieces = cut_words tool 1 0 (drop 1 words) in
     said_unless (wrong_word names tool words pieces) (asked_of tool words pieces)
 
 -- what words say, if the taps have these names; without any word, the first is no command

@@ -16,7 +16,7 @@ use Rattle.las_words.specs.declared.table.Values.{Values}
 use Rattle.las_words.specs.declared.table.Values.TheVariants.{Number}
 use Rattle.las_words.specs.declared.pieces.Piece.{Piece}
 use Rattle.las_words.specs.Texts.{word_at}
-use Rattle.las_words.specs.Numbers.{number_in}
+use Rattle.las_words.specs.Numbers.{number_in_range}
 use Rattle.las_words.specs.Table.{row_of}
 
 -- the index of the first option of a name
@@ -29,8 +29,8 @@ abbrev pub is_given : List (List ℕ) → List ℕ → List Piece → Bool
 is_given words name pieces = is_some (place_of words name pieces)
 
 -- the first value of an option, and no bytes if it is not given
-abbrev pub text_of : List (List ℕ) → List ℕ → List Piece → List ℕ
-text_of words name pieces = option_map_or (λ at. word_at words (at + 1)) (place_of words name pieces) []
+abbrev pub text_given : List (List ℕ) → List ℕ → List Piece → List ℕ
+text_given words name pieces = option_map_or (λ at. word_at words (at + 1)) (place_of words name pieces) []
 
 -- the first value of a word, if it is an option of a name
 abbrev pub value_by : List (List ℕ) → List ℕ → Piece → Option (List ℕ)
@@ -43,7 +43,7 @@ texts_of words name pieces = filter_map (value_by words name) pieces
 
 -- a number of the range that an option has
 abbrev pub number_for : Values → List ℕ → Option ℕ
-number_for (Number low high) word = number_in low high word
+number_for (Number low high) word = number_in_range low high word
 number_for _ word = None
 
 -- the number that a value of an option is, or the one that stands for it if it is none
@@ -51,29 +51,29 @@ abbrev pub number_said : Flag → ℕ → List ℕ → ℕ
 number_said flag default word = unwrap_or (number_for (row_of flag).values word) default
 
 -- the number that an option says, or the one that stands for it if it is not given
-abbrev pub number_of : List (List ℕ) → Flag → ℕ → List Piece → ℕ
-number_of words flag default pieces = number_said flag default (text_of words (row_of flag).name pieces)
+abbrev pub number_given : List (List ℕ) → Flag → ℕ → List Piece → ℕ
+number_given words flag default pieces = number_said flag default (text_given words (row_of flag).name pieces)
 
 -- the number of records of a chunk, 50,000 unless it is given
-abbrev pub chunk_of : List (List ℕ) → List Piece → ℕ
-chunk_of words pieces = number_of words ChunkSize 50000 pieces
+abbrev pub chunk_given : List (List ℕ) → List Piece → ℕ
+chunk_given words pieces = number_given words ChunkSize 50000 pieces
 
 -- the number of workers, one unless it is given
 abbrev pub workers_of : List (List ℕ) → List Piece → ℕ
-workers_of words pieces = number_of words Cores 1 pieces
+workers_of words pieces = number_given words Cores 1 pieces
 
 -- the place of the first record that is taken, 0 unless it is given
 abbrev pub start_of : List (List ℕ) → List Piece → ℕ
-start_of words pieces = number_of words StartAtPoint 0 pieces
+start_of words pieces = number_given words StartAtPoint 0 pieces
 
 -- the place of the first one after it that is not taken, the greatest unless it is given
-abbrev pub stop_of : List (List ℕ) → List Piece → ℕ
-stop_of words pieces = number_of words StopAtPoint 4294967295 pieces
+abbrev pub stop_given : List (List ℕ) → List Piece → ℕ
+stop_given words pieces = number_given words StopAtPoint 4294967295 pieces
 
 -- the side of a cell, if one record of each cell is to stay
 abbrev pub step_of : List (List ℕ) → List Piece → Option ℕ
 step_of words pieces =
-    if is_given words (codes "-thin_raw") pieces then Some (number_of words ThinRaw 1 pieces) else None
+    if is_given words (codes "-thin_raw") pieces then Some (number_given words ThinRaw 1 pieces) else None
 
 -- which record of a cell stays, the first unless it is said
 abbrev pub pick_of : List (List ℕ) → List Piece → Pick
@@ -98,12 +98,12 @@ sieve_of words pieces = record {
 }
 
 -- the point data format, 0 unless it is given
-abbrev pub format_of : List (List ℕ) → List Piece → ℕ
-format_of words pieces = number_of words Format 0 pieces
+abbrev pub format_given : List (List ℕ) → List Piece → ℕ
+format_given words pieces = number_given words Format 0 pieces
 
 -- the number of extra bytes of a record, none unless it is given
-abbrev pub extra_of : List (List ℕ) → List Piece → ℕ
-extra_of words pieces = number_of words Extra 0 pieces
+abbrev pub extra_given : List (List ℕ) → List Piece → ℕ
+extra_given words pieces = number_given words Extra 0 pieces
 
 -- the rule by which a file is split
 abbrev pub rule_of : List (List ℕ) → List Piece → Rule
@@ -111,4 +111,4 @@ rule_of words pieces =
     if is_given words (codes "-by_classification") pieces then Class
     else if is_given words (codes "-by_flightline") pieces then Source
     else if is_given words (codes "-by_return") pieces then Return
-    else Every (number_of words Split 1 pieces)
+    else Every (number_given words Split 1 pieces)

@@ -24,32 +24,32 @@ use Rattle.las_words.specs.declared.table.Flag.TheVariants.{Split, ByClassificat
 use Rattle.las_words.specs.declared.table.Flag.TheVariants.{PackedOutput, Points, Seed, Format, Extra}
 use Rattle.las_words.specs.Texts.{word_at}
 use Rattle.las_words.specs.Numbers.{number_or_zero, signed_in}
-use Rattle.las_words.specs.Counts.{count_of}
+use Rattle.las_words.specs.Counts.{values_of}
 
 -- what an option means, of the words that follow it: a setting, which is looked up, a filter, a change, or
 -- a tally
-pub data Meaning : Type 0 where
-  Setting : Meaning
-  Filters : (List (List ℕ) → Keep) → Meaning
-  Changes : (List (List ℕ) → Change) → Meaning
-  TallyNames : Meaning
+pub data OptionMeaning : Type 0 where
+  Setting : OptionMeaning
+  Filters : (List (List ℕ) → Keep) → OptionMeaning
+  Changes : (List (List ℕ) → Change) → OptionMeaning
+  TallyNames : OptionMeaning
 
 -- An option: its word, its values, its rivals, itself mostly among them, how many of these may stand before it, and
 -- what it means.
-pub record Row : Type 0 where
+pub record OptionRow : Type 0 where
   pub name : List ℕ
   pub values : Values
   pub rivals : List (List ℕ)
   pub before : ℕ
-  pub means : Meaning
+  pub means : OptionMeaning
 
 -- an option that is given once
-abbrev pub once : List ℕ → Values → Meaning → Row
+abbrev pub once : List ℕ → Values → OptionMeaning → OptionRow
 once name values means = record { name = name; values = values; rivals = name ∷ []; before = 0; means = means }
 
 -- an option that is given once, and none of its rivals beside it: how the output is written, how a file is split, or
 -- which record of a cell stays
-abbrev pub one_of : List (List ℕ) → List ℕ → Values → Row
+abbrev pub one_of : List (List ℕ) → List ℕ → Values → OptionRow
 one_of rivals name values = record { name = name; values = values; rivals = rivals; before = 0; means = Setting }
 
 -- how the output is written
@@ -82,10 +82,10 @@ shift_at place words = unwrap_or (signed_in (word_at words place)) (pos 0)
 -- the bits of a list of numbers up to a bound
 abbrev pub mask_of : ℕ → List (List ℕ) → ℕ
 mask_of most words =
-    fold (λ mask word. bit_or mask (2 ^ number_or_zero most word)) 0 (take (count_of (Several most) words) words)
+    fold (λ mask word. bit_or mask (2 ^ number_or_zero most word)) 0 (take (values_of (Several most) words) words)
 
 -- the options
-abbrev pub row_of : Flag → Row
+abbrev pub row_of : Flag → OptionRow
 row_of Input = once (codes "-i") Name Setting
 row_of Inputs =
     record { name = codes "-i"; values = Name; rivals = codes "-i" ∷ []; before = 31; means = Setting }

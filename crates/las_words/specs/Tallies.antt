@@ -4,10 +4,10 @@ use Rattle.std.specs.List.{filter_map}
 use Rattle.las_words.specs.declared.table.Flag.{Flag}
 use Rattle.las_words.specs.declared.pieces.Piece.{Piece}
 use Rattle.las_words.specs.Texts.{word_at}
-use Rattle.las_words.specs.Table.{Meaning, TallyNames, row_of}
+use Rattle.las_words.specs.Table.{OptionMeaning, TallyNames, row_of}
 
 -- the tally that an option names, of the words after it
-abbrev pub tally_by : Meaning → List (List ℕ) → Option (List ℕ)
+abbrev pub tally_by : OptionMeaning → List (List ℕ) → Option (List ℕ)
 tally_by TallyNames after = Some (word_at after 0)
 tally_by _ after = None
 

@@ -1,12 +1,13 @@
 //! The first word that is wrong, by the options and their values.
 
-ghost use Rattle.std.specs.Prelude.{◌≡◌, ◌+◌, ◌<◌, ◌^◌, [], length, drop, All};
+ghost use Rattle.std.specs.Prelude.{◌≡◌, ◌+◌, ◌<◌, ◌^◌, [], length, drop};
 ghost use Rattle.std.specs.List.{list_any};
 ghost use Rattle.std.specs.Str.{bytes_eq};
 ghost use Rattle.las_words.specs.Texts.{texts};
 ghost use Rattle.las_words.specs.Tallies.{tallies_of};
 ghost use Rattle.las_words.specs.Faults.{fits, first_wrong, misplaced, value_fault, follows_too_many};
-ghost use Rattle.las_words.specs.Faults.{crossed, fault_of, first_fault};
+ghost use Rattle.las_words.specs.Faults.{crossed, word_fault_of, first_fault};
+ghost use Rattle.las_words.specs.Pieces.{StandIn};
 
 use crate::numbers::{number_in, number_or_zero, signed_in};
 use crate::pieces::{Piece, count_of, words_from};
@@ -18,7 +19,7 @@ use crate::texts::word;
 /// The index of the first word that is wrong by itself or after those before it. A missing value has the number of
 /// words. The names are those of the taps.
 pub fn first_fault(names: &[String], words: &[String], pieces: &[Piece]) -> Option<usize>
-    requires { All (λ piece. piece.at < length words.now) pieces.now }
+    requires { StandIn words.now pieces.now }
     ensures { result ≡ first_fault (texts names.now) (texts words.now) [] pieces.now }
 {
     for (i, piece) in pieces.iter().enumerate() {
@@ -33,8 +34,8 @@ pub fn first_fault(names: &[String], words: &[String], pieces: &[Piece]) -> Opti
 // What is wrong with an option or its values, after the options before it.
 fn fault_of(names: &[String], words: &[String], earlier: &[Piece], piece: &Piece) -> Option<usize>
     requires at { piece.now.at < length words.now }
-    requires earlier { All (λ piece. piece.at < length words.now) earlier.now }
-    ensures { result ≡ fault_of (texts names.now) (texts words.now) earlier.now piece.now }
+    requires earlier { StandIn words.now earlier.now }
+    ensures { result ≡ word_fault_of (texts names.now) (texts words.now) earlier.now piece.now }
 {
     let Some(flag) = piece.flag else {
         return Some(piece.at);
@@ -51,7 +52,7 @@ fn fault_of(names: &[String], words: &[String], earlier: &[Piece], piece: &Piece
 
 // The index of a place of a range of records that cannot stand beside the one before it: the start is above the stop.
 fn crossed(words: &[String], earlier: &[Piece], flag: Flag, at: usize) -> Option<usize>
-    requires { All (λ piece. piece.at < length words.now) earlier.now }
+    requires { StandIn words.now earlier.now }
     ensures { result ≡ crossed (texts words.now) earlier.now flag at }
 {
     let (start, stop) = match flag {
@@ -90,7 +91,7 @@ fn value_fault(
     at: usize,
 ) -> Option<usize>
     requires at { at < length words.now + 1 }
-    requires earlier { All (λ piece. piece.at < length words.now) earlier.now }
+    requires earlier { StandIn words.now earlier.now }
     ensures { result ≡ value_fault (texts names.now) (tallies_of (texts words.now) earlier.now) values at
         (drop at (texts words.now)) }
 {
@@ -156,7 +157,7 @@ fn misplaced(
     after: &[String],
 ) -> Option<usize>
     requires at { at + 1 < 2 ^ 64 }
-    requires earlier { All (λ piece. piece.at < length words.now) earlier.now }
+    requires earlier { StandIn words.now earlier.now }
     ensures { result ≡ misplaced (tallies_of (texts words.now) earlier.now) values at (texts after.now) }
 {
     match values {

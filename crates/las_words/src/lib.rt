@@ -1,7 +1,7 @@
 //! The words of the command line: which command they ask for, or which word is the first that is wrong.
 //!
 //! The first word is the command, and options follow in any order, each with its values, as in LAStools. One table has
-//! all options, and one definition over it, `says`, tells what words mean.
+//! all options, and one definition over it, `says`, gives their meaning.
 #![tactic(auto)]
 
 mod command;

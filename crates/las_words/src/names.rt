@@ -1,9 +1,10 @@
 //! The names that a command has, and which of them it may not have.
 
-ghost use Rattle.std.specs.Prelude.{◌≡◌, ◌<◌, length, All, IfOk};
+ghost use Rattle.std.specs.Prelude.{◌≡◌, IfOk};
 ghost use Rattle.las_words.specs.Texts.{texts};
-ghost use Rattle.las_words.specs.Names.{end_of, stem_of, number_within, is_part_name, name_after, same_name};
+ghost use Rattle.las_words.specs.Names.{extension_of, stem_of, number_within, is_part_name, name_after, overwritten_name};
 ghost use Rattle.las_words.specs.Names.{plain_copy, unfit_parts, same_output, wrong_name};
+ghost use Rattle.las_words.specs.Pieces.{StandIn};
 
 use crate::numbers::number_or_zero;
 use crate::pieces::Piece;
@@ -16,7 +17,7 @@ use std::str;
 
 /// The ending of the names of parts, by the name of the output.
 pub fn end_of(output: &str) -> &'static str
-    ensures { result.now ≡ end_of output.now }
+    ensures { result.now ≡ extension_of output.now }
 {
     let bytes = output.as_bytes();
     if bytes.ends_with(b".las") {
@@ -62,7 +63,7 @@ fn is_part_name(alloc: Global, stem: &str, end: &str, name: &str) -> Result<bool
 
 // The index of the name after an option.
 fn name_after(words: &[String], name: &str, pieces: &[Piece]) -> Option<usize>
-    requires { All (λ piece. piece.at < length words.now) pieces.now }
+    requires { StandIn words.now pieces.now }
     ensures { result ≡ name_after (texts words.now) name.now pieces.now }
 {
     place_of(words, name, pieces).map(|at| at + 1)
@@ -70,8 +71,8 @@ fn name_after(words: &[String], name: &str, pieces: &[Piece]) -> Option<usize>
 
 // The index of the output's name, if it is that of an input.
 fn same_name(words: &[String], pieces: &[Piece]) -> Option<usize>
-    requires { All (λ piece. piece.at < length words.now) pieces.now }
-    ensures { result ≡ same_name (texts words.now) pieces.now }
+    requires { StandIn words.now pieces.now }
+    ensures { result ≡ overwritten_name (texts words.now) pieces.now }
 {
     if is_value(words, "-i", pieces, text_of(words, "-o", pieces)) {
         name_after(words, "-o", pieces)
@@ -86,7 +87,7 @@ fn unfit_parts(
     words: &[String],
     pieces: &[Piece],
 ) -> Result<Option<usize>, AllocError>
-    requires { All (λ piece. piece.at < length words.now) pieces.now }
+    requires { StandIn words.now pieces.now }
     ensures { IfOk result (λ index. index ≡ unfit_parts (texts words.now) pieces.now) }
 {
     let input = text_of(words, "-i", pieces);
@@ -100,7 +101,7 @@ fn unfit_parts(
 
 // The index of the packed output's name, if it is that of the plain one.
 fn same_output(words: &[String], pieces: &[Piece]) -> Option<usize>
-    requires { All (λ piece. piece.at < length words.now) pieces.now }
+    requires { StandIn words.now pieces.now }
     ensures { result ≡ same_output (texts words.now) pieces.now }
 {
     if text_of(words, "-z", pieces) == text_of(words, "-o", pieces) {
@@ -112,7 +113,7 @@ fn same_output(words: &[String], pieces: &[Piece]) -> Option<usize>
 
 // The index of the output's name, if chunks are copied into it and it is that of a plain file.
 fn plain_copy(words: &[String], pieces: &[Piece]) -> Option<usize>
-    requires { All (λ piece. piece.at < length words.now) pieces.now }
+    requires { StandIn words.now pieces.now }
     ensures { result ≡ plain_copy (texts words.now) pieces.now }
 {
     if is_given(words, "-copy_chunks", pieces)
@@ -132,7 +133,7 @@ pub fn wrong_name(
     words: &[String],
     pieces: &[Piece],
 ) -> Result<Option<usize>, AllocError>
-    requires { All (λ piece. piece.at < length words.now) pieces.now }
+    requires { StandIn words.now pieces.now }
     ensures { IfOk result (λ index. index ≡ wrong_name tool (texts words.now) pieces.now) }
 {
     match tool {

@@ -2,7 +2,7 @@
 
 ghost use Rattle.std.specs.Prelude.{◌≡◌, ◌≤◌, ◌<◌, ◌^◌};
 ghost use Rattle.std.specs.Str.{all_ascii_digits};
-ghost use Rattle.las_words.specs.Numbers.{is_digits, is_number, number_in, number_or_zero, without_minus, signed_in};
+ghost use Rattle.las_words.specs.Numbers.{is_digits, is_number, number_in_range, number_or_zero, without_minus, signed_in};
 
 /// Whether a word is not empty and consists of digits alone.
 pub fn is_digits(word: &[u8]) -> bool
@@ -31,7 +31,7 @@ fn is_number(word: &[u8]) -> bool
 
 /// The number that a word writes, if it is one of this range, both ends included.
 pub fn number_in(word: &str, low: u32, high: u32) -> Option<u32>
-    ensures { result ≡ number_in low high word.now }
+    ensures { result ≡ number_in_range low high word.now }
 {
     if !is_number(word.as_bytes()) {
         return None;

@@ -1,11 +1,11 @@
 //! Words cut into options and their values.
 
-ghost use Rattle.std.specs.Prelude.{◌≡◌, ◌<◌, length, drop, IfOk, All};
+ghost use Rattle.std.specs.Prelude.{◌≡◌, drop, IfOk};
 ghost use Rattle.std.specs.List.{prefix_len};
 ghost use Rattle.las_words.specs.Texts.{texts};
 ghost use Rattle.las_words.specs.Numbers.{is_digits};
-ghost use Rattle.las_words.specs.Counts.{count_of};
-ghost use Rattle.las_words.specs.Pieces.{count_after, cut};
+ghost use Rattle.las_words.specs.Counts.{values_of};
+ghost use Rattle.las_words.specs.Pieces.{StandIn, cut_words, values_after};
 
 use crate::numbers::is_digits;
 use crate::table::{Flag, Tool, Values};
@@ -23,8 +23,8 @@ pub struct Piece {
 
 /// The words after the first, cut into options. The words between two options are values of the first of them.
 pub fn pieces(alloc: Global, tool: Tool, words: &[String]) -> Result<Vec<Piece>, AllocError>
-    ensures pieces { IfOk result (λ pieces. pieces.items ≡ cut tool 1 0 (drop 1 (texts words.now))) }
-    ensures within { IfOk result (λ pieces. All (λ piece. piece.at < length words.now) pieces.items) }
+    ensures pieces { IfOk result (λ pieces. pieces.items ≡ cut_words tool 1 0 (drop 1 (texts words.now))) }
+    ensures within { IfOk result (λ pieces. StandIn words.now pieces.items) }
 {
     let mut pieces = Vec::new(alloc);
     let mut skip = 0;
@@ -49,7 +49,7 @@ pub fn words_from(words: &[String], at: usize) -> &[String]
 
 // How many of the words after an option are its values, or should be.
 fn count_after(flag: Option<Flag>, after: &[String]) -> usize
-    ensures { result ≡ count_after flag (texts after.now) }
+    ensures { result ≡ values_after flag (texts after.now) }
 {
     match flag {
         Some(flag) => count_of(flag.values(), after),
@@ -59,7 +59,7 @@ fn count_after(flag: Option<Flag>, after: &[String]) -> usize
 
 /// How many words are values of an option, or should be.
 pub fn count_of(values: Values, after: &[String]) -> usize
-    ensures { result ≡ count_of values (texts after.now) }
+    ensures { result ≡ values_of values (texts after.now) }
 {
     match values {
         Values::Nothing => 0,

@@ -1,9 +1,10 @@
 //! The filters and the changes that words ask for.
 
-ghost use Rattle.std.specs.Prelude.{◌≡◌, ◌<◌, ◌+◌, ◌^◌, pos, length, All, IfOk};
+ghost use Rattle.std.specs.Prelude.{◌≡◌, ◌<◌, ◌+◌, ◌^◌, pos, IfOk};
 ghost use Rattle.las_words.specs.Texts.{texts};
 ghost use Rattle.las_words.specs.Table.{mask_of, first_number, second_number, shift_at};
-ghost use Rattle.las_words.specs.Plans.{filter_in, change_in, filters_of, changes_of};
+ghost use Rattle.las_words.specs.Plans.{filter_in, change_in, filters_of, changes_given};
+ghost use Rattle.las_words.specs.Pieces.{StandIn};
 
 use crate::numbers::{number_or_zero, signed_in};
 use crate::pieces::{Piece, count_of, words_from};
@@ -18,7 +19,7 @@ pub fn filters_of(
     words: &[String],
     pieces: &[Piece],
 ) -> Result<Vec<Keep>, AllocError>
-    requires { All (λ piece. piece.at < length words.now) pieces.now }
+    requires { StandIn words.now pieces.now }
     ensures { IfOk result (λ keeps. keeps.items ≡ filters_of (texts words.now) pieces.now) }
 {
     let mut keeps = Vec::new(alloc);
@@ -36,8 +37,8 @@ pub fn changes_of(
     words: &[String],
     pieces: &[Piece],
 ) -> Result<Vec<Change>, AllocError>
-    requires { All (λ piece. piece.at < length words.now) pieces.now }
-    ensures { IfOk result (λ changes. changes.items ≡ changes_of (texts words.now) pieces.now) }
+    requires { StandIn words.now pieces.now }
+    ensures { IfOk result (λ changes. changes.items ≡ changes_given (texts words.now) pieces.now) }
 {
     let mut changes = Vec::new(alloc);
     for piece in pieces {

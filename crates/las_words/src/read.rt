@@ -1,17 +1,18 @@
 //! Words to a command.
 
-ghost use Rattle.std.specs.Prelude.{◌≡◌, ◌<◌, ◌||◌, ◌&&◌, not, ℕ, Bool, length, All, IfOk, MatchOption, None, Some};
+ghost use Rattle.std.specs.Prelude.{◌≡◌, ◌||◌, ◌&&◌, not, ℕ, Bool, IfOk, MatchOption, None, Some};
 ghost use Rattle.std.specs.Prelude.{Err, codes, map, string_bytes};
 ghost use Rattle.std.specs.List.{list_any};
 ghost use Rattle.las_filter.specs.Kept.{steps_of};
 ghost use Rattle.las_words.specs.Texts.{texts};
-ghost use Rattle.las_words.specs.Settings.{is_given, chunk_of, text_of};
+ghost use Rattle.las_words.specs.Settings.{is_given, chunk_given, text_given};
 ghost use Rattle.las_words.specs.Table.{ways};
 ghost use Rattle.las_words.specs.Plans.{plan_of};
-ghost use Rattle.las_words.specs.Asked.{asked_by, IsSound};
+ghost use Rattle.las_words.specs.Asked.{asked_by, IsSoundAsked};
 ghost use Rattle.las_words.specs.Says.{says, asks, usage, asked_of, missing_option};
-ghost use Rattle.las_words.specs.Says.{is_packed, wrong_word};
+ghost use Rattle.las_words.specs.Says.{packs_output, wrong_word};
 ghost use Rattle.las_words.specs.declared.table.Tool.TheVariants.{Laszip, Las2las, Lasinfo, Lassplit, Lasmerge, Make};
+ghost use Rattle.las_words.specs.Pieces.{StandIn};
 
 use crate::command::{Command, Packing, WordFault};
 use crate::faults::first_fault;
@@ -40,7 +41,7 @@ pub fn read_words(
         ≡ asks (asked_by command)) }
     ensures usage { (index : ℕ) → result ≡ Err (WordFault.Usage index)
         → says (texts words.now) (map (λ tap. (tap_seen tap).name) taps.now) ≡ usage index }
-    ensures sound { IfOk result (λ command. IsSound (map (λ tap. (tap_seen tap).name) taps.now) (asked_by command)) }
+    ensures sound { IfOk result (λ command. IsSoundAsked (map (λ tap. (tap_seen tap).name) taps.now) (asked_by command)) }
 {
     let names = names_of(alloc, taps)?;
     read(alloc, words, &names)
@@ -69,7 +70,7 @@ fn read(alloc: Global, words: &[String], names: &[String]) -> Result<Command, Wo
     ensures command { IfOk result (λ command. says (texts words.now) (texts names.now) ≡ asks (asked_by command)) }
     ensures usage { (index : ℕ) → result ≡ Err (WordFault.Usage index)
         → says (texts words.now) (texts names.now) ≡ usage index }
-    ensures sound { IfOk result (λ command. IsSound (texts names.now) (asked_by command)) }
+    ensures sound { IfOk result (λ command. IsSoundAsked (texts names.now) (asked_by command)) }
 {
     let Some(tool) = Tool::named(word(words, 0)) else {
         return Err(WordFault::Usage(0));
@@ -89,7 +90,7 @@ fn wrong_word(
     words: &[String],
     pieces: &[Piece],
 ) -> Result<Option<usize>, AllocError>
-    requires { All (λ piece. piece.at < length words.now) pieces.now }
+    requires { StandIn words.now pieces.now }
     ensures { IfOk result (λ index. index ≡ wrong_word (texts names.now) tool (texts words.now) pieces.now) }
 {
     let fault = first_fault(names, words, pieces);
@@ -109,7 +110,7 @@ fn wrong_word(
 
 // The number of words, if a required option is missing.
 fn missing_option(tool: Tool, words: &[String], pieces: &[Piece]) -> Option<usize>
-    requires { All (λ piece. piece.at < length words.now) pieces.now }
+    requires { StandIn words.now pieces.now }
     ensures { result ≡ missing_option tool (texts words.now) pieces.now }
 {
     let all = match tool {
@@ -134,7 +135,7 @@ fn missing_option(tool: Tool, words: &[String], pieces: &[Piece]) -> Option<usiz
 
 // Whether a way to split a file is given.
 fn is_way_given(words: &[String], pieces: &[Piece]) -> bool
-    requires { All (λ piece. piece.at < length words.now) pieces.now }
+    requires { StandIn words.now pieces.now }
     ensures { result ≡ list_any (λ name. is_given (texts words.now) name pieces.now) ways }
 {
     is_given(words, "-split", pieces)
@@ -150,7 +151,7 @@ fn command_of(
     words: &[String],
     pieces: &[Piece],
 ) -> Result<Command, AllocError>
-    requires { All (λ piece. piece.at < length words.now) pieces.now }
+    requires { StandIn words.now pieces.now }
     ensures { IfOk result (λ command. asked_by command ≡ asked_of tool (texts words.now) pieces.now) }
 {
     match tool {
@@ -165,7 +166,7 @@ fn command_of(
 
 // The command `laszip` with these options.
 fn laszip_of(alloc: Global, words: &[String], pieces: &[Piece]) -> Result<Command, AllocError>
-    requires { All (λ piece. piece.at < length words.now) pieces.now }
+    requires { StandIn words.now pieces.now }
     ensures { IfOk result (λ command. asked_by command ≡ asked_of Laszip (texts words.now) pieces.now) }
 {
     Ok(Command::Laszip {
@@ -178,7 +179,7 @@ fn laszip_of(alloc: Global, words: &[String], pieces: &[Piece]) -> Result<Comman
 
 // The command `las2las` with these options.
 fn las2las_of(alloc: Global, words: &[String], pieces: &[Piece]) -> Result<Command, AllocError>
-    requires { All (λ piece. piece.at < length words.now) pieces.now }
+    requires { StandIn words.now pieces.now }
     ensures { IfOk result (λ command. asked_by command ≡ asked_of Las2las (texts words.now) pieces.now) }
 {
     Ok(Command::Las2las {
@@ -198,7 +199,7 @@ fn las2las_of(alloc: Global, words: &[String], pieces: &[Piece]) -> Result<Comma
 
 // The command `lasinfo` with these options.
 fn lasinfo_of(alloc: Global, words: &[String], pieces: &[Piece]) -> Result<Command, AllocError>
-    requires { All (λ piece. piece.at < length words.now) pieces.now }
+    requires { StandIn words.now pieces.now }
     ensures { IfOk result (λ command. asked_by command ≡ asked_of Lasinfo (texts words.now) pieces.now) }
 {
     Ok(Command::Lasinfo {
@@ -210,7 +211,7 @@ fn lasinfo_of(alloc: Global, words: &[String], pieces: &[Piece]) -> Result<Comma
 
 // The command `lassplit` with these options.
 fn lassplit_of(alloc: Global, words: &[String], pieces: &[Piece]) -> Result<Command, AllocError>
-    requires { All (λ piece. piece.at < length words.now) pieces.now }
+    requires { StandIn words.now pieces.now }
     ensures { IfOk result (λ command. asked_by command ≡ asked_of Lassplit (texts words.now) pieces.now) }
 {
     let output = text_of(words, "-o", pieces);
@@ -225,7 +226,7 @@ fn lassplit_of(alloc: Global, words: &[String], pieces: &[Piece]) -> Result<Comm
 
 // The command `lasmerge` with these options.
 fn lasmerge_of(alloc: Global, words: &[String], pieces: &[Piece]) -> Result<Command, AllocError>
-    requires { All (λ piece. piece.at < length words.now) pieces.now }
+    requires { StandIn words.now pieces.now }
     ensures { IfOk result (λ command. asked_by command ≡ asked_of Lasmerge (texts words.now) pieces.now) }
 {
     Ok(Command::Lasmerge {
@@ -239,7 +240,7 @@ fn lasmerge_of(alloc: Global, words: &[String], pieces: &[Piece]) -> Result<Comm
 
 // The command `make` with these options.
 fn make_of(alloc: Global, words: &[String], pieces: &[Piece]) -> Result<Command, AllocError>
-    requires { All (λ piece. piece.at < length words.now) pieces.now }
+    requires { StandIn words.now pieces.now }
     ensures { IfOk result (λ command. asked_by command ≡ asked_of Make (texts words.now) pieces.now) }
 {
     Ok(Command::Make {
@@ -256,7 +257,7 @@ fn make_of(alloc: Global, words: &[String], pieces: &[Piece]) -> Result<Command,
 
 // The filters and the changes.
 fn plan_of(alloc: Global, words: &[String], pieces: &[Piece]) -> Result<Plan, AllocError>
-    requires { All (λ piece. piece.at < length words.now) pieces.now }
+    requires { StandIn words.now pieces.now }
     ensures { IfOk result (λ plan. steps_of plan ≡ plan_of (texts words.now) pieces.now) }
 {
     Ok(Plan {
@@ -267,9 +268,9 @@ fn plan_of(alloc: Global, words: &[String], pieces: &[Piece]) -> Result<Plan, Al
 
 // How the output of `las2las` or `lasmerge` is written.
 fn packing_of(words: &[String], pieces: &[Piece]) -> Packing
-    requires { All (λ piece. piece.at < length words.now) pieces.now }
-    ensures packed { result.packed ≡ is_packed (texts words.now) pieces.now }
-    ensures chunk { result.chunk ≡ chunk_of (texts words.now) pieces.now }
+    requires { StandIn words.now pieces.now }
+    ensures packed { result.packed ≡ packs_output (texts words.now) pieces.now }
+    ensures chunk { result.chunk ≡ chunk_given (texts words.now) pieces.now }
 {
     let packed = is_given(words, "-olaz", pieces)
         || (!is_given(words, "-olas", pieces) && is_packed_name(text_of(words, "-o", pieces)));
@@ -286,8 +287,8 @@ fn copy_of(
     name: &str,
     pieces: &[Piece],
 ) -> Result<String, AllocError>
-    requires { All (λ piece. piece.at < length words.now) pieces.now }
-    ensures { IfOk result (λ text. string_bytes text ≡ text_of (texts words.now) name.now pieces.now) }
+    requires { StandIn words.now pieces.now }
+    ensures { IfOk result (λ text. string_bytes text ≡ text_given (texts words.now) name.now pieces.now) }
 {
     String::from_str(alloc, text_of(words, name, pieces))
 }

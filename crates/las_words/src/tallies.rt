@@ -1,10 +1,11 @@
 //! The tallies that words ask for.
 
-ghost use Rattle.std.specs.Prelude.{◌≡◌, ◌<◌, [], length, All, IfOk, is_some};
+ghost use Rattle.std.specs.Prelude.{◌≡◌, [], IfOk, is_some};
 ghost use Rattle.std.specs.List.{list_any};
 ghost use Rattle.std.specs.Str.{bytes_eq};
 ghost use Rattle.las_words.specs.Texts.{texts};
 ghost use Rattle.las_words.specs.Tallies.{tallies_of, tally_in};
+ghost use Rattle.las_words.specs.Pieces.{StandIn};
 
 use crate::pieces::Piece;
 use crate::table::Flag;
@@ -17,7 +18,7 @@ pub fn tallies_of(
     words: &[String],
     pieces: &[Piece],
 ) -> Result<Vec<String>, AllocError>
-    requires { All (λ piece. piece.at < length words.now) pieces.now }
+    requires { StandIn words.now pieces.now }
     ensures { IfOk result (λ tallies. texts tallies.items ≡ tallies_of (texts words.now) pieces.now) }
 {
     let mut tallies = Vec::new(alloc);
@@ -31,7 +32,7 @@ pub fn tallies_of(
 
 /// Whether a tally of this name is asked for.
 pub fn is_tallied(words: &[String], pieces: &[Piece], name: &str) -> bool
-    requires { All (λ piece. piece.at < length words.now) pieces.now }
+    requires { StandIn words.now pieces.now }
     ensures { result ≡ list_any (bytes_eq name.now) (tallies_of (texts words.now) pieces.now) }
 {
     for piece in pieces {

@@ -13,8 +13,8 @@ abbrev pub size_of : (format extra : ℕ) → ℕ
 size_of format extra = record_length (layout_of format extra)
 
 -- how many whole records there are in some bytes
-abbrev pub count_in : (format extra bytes : ℕ) → ℕ
-count_in format extra bytes = bytes / size_of format extra
+abbrev pub whole_records : (format extra bytes : ℕ) → ℕ
+whole_records format extra bytes = bytes / size_of format extra
 
 -- to unpack: at least one record, and room for exactly as many
 abbrev pub can_unpack : (format extra count room : ℕ) → Bool
@@ -25,8 +25,8 @@ can_unpack format extra count room =
 abbrev pub can_pack : (format extra bytes room : ℕ) → Bool
 can_pack format extra bytes room =
     is_known format extra && (nat_le (size_of format extra) bytes && ((bytes % size_of format extra == 0)
-    && (nat_lt (count_in format extra bytes) (2 ^ 32)
-    && nat_le (room_for (layout_of format extra) (count_in format extra bytes)) room)))
+    && (nat_lt (whole_records format extra bytes) (2 ^ 32)
+    && nat_le (room_for (layout_of format extra) (whole_records format extra bytes)) room)))
 
 -- to write a laszip payload: a chunk size that is not 0, and room for the longest payload
 abbrev pub can_write_vlr : (format extra chunk room : ℕ) → Bool

@@ -22,8 +22,8 @@ abbrev pub laszip_cause : (head : List ℕ) → Option Refusal
 laszip_cause head = if is_packed head then first_cause (vlr_causes head) else None
 
 -- Why a file is refused by its head: by the first condition of all files, or else by the first one of packed points.
-abbrev pub cause_of : (head : List ℕ) → (size : ℕ) → Option Refusal
-cause_of head size = or_else (first_cause (head_causes head size)) (laszip_cause head)
+abbrev pub head_cause : (head : List ℕ) → (size : ℕ) → Option Refusal
+head_cause head size = or_else (first_cause (head_causes head size)) (laszip_cause head)
 
 -- the chunk size of packed points; 0 for plain ones
 abbrev pub chunk_or_0 : (head : List ℕ) → ℕ

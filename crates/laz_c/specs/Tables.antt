@@ -14,20 +14,20 @@ use Rattle.laz_table.specs.Chunks.{table_causes}
 use Rattle.laz_table.specs.VlrCauses.{chunk_count, is_counted}
 
 -- the chunks of a file, by the chunk size in its laszip VLR and its number of points
-abbrev pub blocks_of : (chunk points : ℕ) → Blocks
-blocks_of chunk points = if is_counted chunk then Counted points else Fixed chunk points
+abbrev pub table_blocks : (chunk points : ℕ) → Blocks
+table_blocks chunk points = if is_counted chunk then Counted points else Fixed chunk points
 
 -- How many chunks a table has that begins with these bytes, if chunks have a number of points of their own: the number
 -- in the table, or 0 if the table is refused for it or has none.
-abbrev pub counted_in : (bytes : List ℕ) → (points : ℕ) → ℕ
-counted_in bytes points =
+abbrev pub chunks_counted : (bytes : List ℕ) → (points : ℕ) → ℕ
+chunks_counted bytes points =
     if nat_le TABLE_START (length bytes)
     && nat_le (number_at 4 4 bytes) (min points MAX_CHUNKS) then number_at 4 4 bytes else 0
 
 -- How many chunks a table can have that begins with these bytes: that number, or as many as the points make.
-abbrev pub chunks_in : (bytes : List ℕ) → (chunk points : ℕ) → ℕ
-chunks_in bytes chunk points =
-    if is_counted chunk then counted_in bytes points else (if nat_lt 0 chunk then chunk_count points chunk else 0)
+abbrev pub chunks_at_most : (bytes : List ℕ) → (chunk points : ℕ) → ℕ
+chunks_at_most bytes chunk points =
+    if is_counted chunk then chunks_counted bytes points else (if nat_lt 0 chunk then chunk_count points chunk else 0)
 
 -- the cause of a fault
 abbrev pub fault_cause : TableFault → Option Refusal

@@ -4,7 +4,7 @@ ghost use Rattle.std.specs.Prelude.{◌≡◌, ◌≢◌, ◌≤◌, ◌<◌, �
 ghost use Rattle.std.specs.Prelude.{true, false, if◌then◌else◌, IfOk};
 ghost use Rattle.laz_chunk.specs.Layouts.{layout, layout_of, record_length, room_for};
 ghost use Rattle.laz_chunk.specs.Chunks.{AreRecords, Holds, chunk_bytes, count_of};
-ghost use Rattle.laz_c.specs.Arguments.{can_pack, can_unpack, count_in, is_known, size_of};
+ghost use Rattle.laz_c.specs.Arguments.{can_pack, can_unpack, whole_records, is_known, size_of};
 
 use crate::answers::{BAD, DONE, NO_MEMORY, WRONG};
 use crate::writing::put;
@@ -78,7 +78,7 @@ fn unpacked(alloc: Global, format: u8, extra: u16, bytes: &[u8], count: u32, out
 // How many bytes are enough for a chunk of records.
 fn room_of(format: u8, extra: u16, bytes: usize, room: usize) -> usize
     requires { can_pack format extra bytes room ≡ true }
-    ensures enough { result ≡ room_for (layout_of format extra) (count_in format extra bytes) }
+    ensures enough { result ≡ room_for (layout_of format extra) (whole_records format extra bytes) }
     ensures most { result ≤ room }
 {
     let count = bytes / size_of(format, extra);

@@ -8,7 +8,7 @@ ghost use Rattle.las_header.specs.Refusals.{first_cause, front_causes, head_caus
 ghost use Rattle.laz_table.specs.VlrCauses.{chunk_size_of, vlr_causes};
 ghost use Rattle.las_header.specs.Vlrs.{laszip_vlrs_of};
 ghost use Rattle.laz_c.specs.Arguments.{is_front};
-ghost use Rattle.laz_c.specs.Heads.{IsWhole, cause_of, chunk_or_0, first_place, laszip_cause, numbers_of, refused_as};
+ghost use Rattle.laz_c.specs.Heads.{IsWhole, head_cause, chunk_or_0, first_place, laszip_cause, numbers_of, refused_as};
 
 use crate::answers::{BAD, DONE, NO_MEMORY, WRONG};
 use las_header::{HEADER_BLOCK, Head, Refusal, VlrPlace, need};
@@ -180,8 +180,8 @@ fn put_head(head: &Head, out: &mut LazHead) -> u32
 fn read(bytes: Vec<u8>, size: u64, out: &mut LazHead) -> u32
     requires { IsWhole bytes.items size }
     ensures answers { (result ≡ DONE) ⊎ (result ≡ BAD) }
-    ensures done { result ≡ DONE → (cause_of bytes.items size ≡ None) × (out.new ≡ numbers_of bytes.items) }
-    ensures refused { result ≡ BAD → IsSomeAnd (cause_of bytes.items size) (λ cause. out.new ≡ refused_as cause) }
+    ensures done { result ≡ DONE → (head_cause bytes.items size ≡ None) × (out.new ≡ numbers_of bytes.items) }
+    ensures refused { result ≡ BAD → IsSomeAnd (head_cause bytes.items size) (λ cause. out.new ≡ refused_as cause) }
 {
     match accepted(bytes, size) {
         Ok(head) => put_head(&head, out),
@@ -244,8 +244,8 @@ pub extern "C" fn laz_c_head(alloc: Global, bytes: &[u8], size: u64, out: &mut L
     ensures wrong { result ≡ WRONG → ¬ IsWhole bytes.now size }
     ensures wrong_same { result ≡ WRONG → out.new ≡ out.old }
     ensures memory_same { result ≡ NO_MEMORY → out.new ≡ out.old }
-    ensures done { result ≡ DONE → (cause_of bytes.now size ≡ None) × (out.new ≡ numbers_of bytes.now) }
-    ensures refused { result ≡ BAD → IsSomeAnd (cause_of bytes.now size) (λ cause. out.new ≡ refused_as cause) }
+    ensures done { result ≡ DONE → (head_cause bytes.now size ≡ None) × (out.new ≡ numbers_of bytes.now) }
+    ensures refused { result ≡ BAD → IsSomeAnd (head_cause bytes.now size) (λ cause. out.new ≡ refused_as cause) }
 {
     if !is_whole(bytes, size) {
         return WRONG;

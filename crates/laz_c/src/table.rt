@@ -8,7 +8,7 @@ ghost use Rattle.laz_table.specs.Chunks.{HasChunkSize, IsAccepted, IsFirstFault}
 ghost use Rattle.laz_table.specs.Payload.{laszip_payload};
 ghost use Rattle.laz_table.specs.Table.{table_bytes};
 ghost use Rattle.laz_c.specs.Arguments.{can_read_table, can_write_table, can_write_vlr, table_room};
-ghost use Rattle.laz_c.specs.Tables.{IsRefused, blocks_of, chunks_in, counted_in, fault_cause};
+ghost use Rattle.laz_c.specs.Tables.{IsRefused, table_blocks, chunks_at_most, chunks_counted, fault_cause};
 
 use crate::answers::{BAD, DONE, NO_MEMORY, WRONG};
 use crate::chunks::is_known;
@@ -27,7 +27,7 @@ fn can_write_vlr(format: u8, extra: u16, chunk: u32, room: usize) -> bool
     is_known(format, extra) && chunk > 0 && room >= MAX_LASZIP_PAYLOAD
 }
 
-// Whether a table can be written of so many numbers.
+// Whether a table of this many numbers can be written.
 fn can_write_table(sizes: usize, counts: usize, room: usize) -> bool
     ensures { result ≡ can_write_table sizes counts room }
 {
@@ -36,7 +36,7 @@ fn can_write_table(sizes: usize, counts: usize, room: usize) -> bool
         && MIN_TABLE_BYTES + MAX_CHUNK_BYTES * counts <= room
 }
 
-// Whether a table of so many chunks can be read to such room.
+// Whether a table of this many chunks can be read into rooms of these sizes.
 fn can_read_table(chunk: u32, chunks: u32, sizes: usize, counts: usize) -> bool
     ensures { result ≡ can_read_table chunk chunks sizes counts }
 {
@@ -46,7 +46,7 @@ fn can_read_table(chunk: u32, chunks: u32, sizes: usize, counts: usize) -> bool
 // What the head of a file says of its chunks.
 fn blocks_of(chunk: u32, points: u32) -> Blocks
     requires { 0 < chunk }
-    ensures blocks { result ≡ blocks_of chunk points }
+    ensures blocks { result ≡ table_blocks chunk points }
     ensures size { HasChunkSize result }
 {
     if chunk == COUNTED_CHUNKS {
@@ -58,7 +58,7 @@ fn blocks_of(chunk: u32, points: u32) -> Blocks
 
 // The number of chunks that a table has, if each has a number of points of its own.
 fn counted_in(bytes: &[u8], points: u32) -> u32
-    ensures { result ≡ counted_in bytes.now points }
+    ensures { result ≡ chunks_counted bytes.now points }
 {
     if bytes.len() < TABLE_START {
         return 0;
@@ -73,7 +73,7 @@ fn counted_in(bytes: &[u8], points: u32) -> u32
 
 // The number of chunks that a table can have.
 fn chunks_in(bytes: &[u8], chunk: u32, points: u32) -> u32
-    ensures { result ≡ chunks_in bytes.now chunk points }
+    ensures { result ≡ chunks_at_most bytes.now chunk points }
 {
     if chunk == COUNTED_CHUNKS {
         counted_in(bytes, points)
@@ -106,10 +106,10 @@ fn list_of(
 ) -> Result<ChunkList, TableFault>
     requires { 0 < chunk }
     ensures read { MatchResult result
-        (λ list. IsAccepted bytes.now (blocks_of chunk points) total list.sizes.items list.counts.items)
-        (λ fault. IsFirstFault bytes.now (blocks_of chunk points) total fault) }
-    ensures sizes { IfOk result (λ list. length list.sizes.items ≡ chunks_in bytes.now chunk points) }
-    ensures counts { IfOk result (λ list. length list.counts.items ≡ chunks_in bytes.now chunk points) }
+        (λ list. IsAccepted bytes.now (table_blocks chunk points) total list.sizes.items list.counts.items)
+        (λ fault. IsFirstFault bytes.now (table_blocks chunk points) total fault) }
+    ensures sizes { IfOk result (λ list. length list.sizes.items ≡ chunks_at_most bytes.now chunk points) }
+    ensures counts { IfOk result (λ list. length list.counts.items ≡ chunks_at_most bytes.now chunk points) }
 {
     read_table(alloc, bytes, blocks_of(chunk, points), total)
 }
@@ -218,7 +218,7 @@ pub extern "C" fn laz_c_table_of(
 /// for a table that is refused. No memory is taken.
 #[unsafe(no_mangle)]
 pub extern "C" fn laz_c_chunks(bytes: &[u8], chunk: u32, points: u32) -> u32
-    ensures { result ≡ chunks_in bytes.now chunk points }
+    ensures { result ≡ chunks_at_most bytes.now chunk points }
 {
     chunks_in(bytes, chunk, points)
 }
@@ -242,11 +242,11 @@ pub extern "C" fn laz_c_table(
 ) -> u32
     ensures answers { result ≤ WRONG }
     ensures wrong { result ≡ WRONG
-        ↔ can_read_table chunk (chunks_in bytes.now chunk points) (length sizes.old) (length counts.old) ≡ false }
+        ↔ can_read_table chunk (chunks_at_most bytes.now chunk points) (length sizes.old) (length counts.old) ≡ false }
     ensures same { result ≢ DONE → (sizes.new ≡ sizes.old) × (counts.new ≡ counts.old) }
     ensures cause_same { result ≢ BAD → refusal.new ≡ refusal.old }
-    ensures read { result ≡ DONE → IsAccepted bytes.now (blocks_of chunk points) total sizes.new counts.new }
-    ensures refused { result ≡ BAD → IsRefused bytes.now (blocks_of chunk points) total refusal.new }
+    ensures read { result ≡ DONE → IsAccepted bytes.now (table_blocks chunk points) total sizes.new counts.new }
+    ensures refused { result ≡ BAD → IsRefused bytes.now (table_blocks chunk points) total refusal.new }
 {
     let chunks = chunks_in(bytes, chunk, points);
     if !can_read_table(chunk, chunks, sizes.len(), counts.len()) {

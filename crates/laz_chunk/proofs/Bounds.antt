@@ -1,5 +1,5 @@
 -- The laws of chunks.
-use Rattle.std.proofs.Common.{◌≡◌, ℕ, zero, suc, ◌+◌, ◌*◌, ◌-◌, ◌≤◌, List, [], ◌∷◌, ◌++◌, length, take, drop, sym, ap, subst, ◌∙◌, arith, length-append}
+use Rattle.std.proofs.Common.{◌≡◌, ℕ, zero, suc, ◌+◌, ◌*◌, ◌-◌, ◌≤◌, List, [], ◌∷◌, ◌++◌, length, take, drop, sym, ap, subst, ◌∙◌, arith, length-append, Bool, if◌then◌else◌}
 use Rattle.std.proofs.lemmas.Bool.{ne_eqb}
 use Rattle.std.proofs.lemmas.List.{drop_at, length-drop, length-take-le, take_at}
 use Rattle.laz_range.specs.Cut.{AreCuts}
@@ -83,3 +83,8 @@ chunk-most l count bytes records some size h =
     let cuts = length-cuts [] (joined h.spellings) in
     let bound : length bytes ≤ record_length l + 4 + 3 * most_events l * (count - 1) = omega (arith, h.enough, h.fits.length, length-drop m bytes, shifts, cuts, fewer) in
     rw (ne_eqb count 0 (λ e. absurd (omega (arith, e, some)))) bound
+
+-- the room for one or more records
+pub room_is : (l : Layout) (n : ℕ) → 1 ≤ n → room_for l n ≡ record_length l + 4 + 3 * most_events l * (n - 1)
+room_is l n some =
+    ap (λ (b : Bool). if b then 0 else record_length l + 4 + 3 * most_events l * (n - 1)) (ne_eqb n 0 (λ e. absurd (omega (arith, e, some))))

@@ -1,6 +1,6 @@
 -- Which items the records of a chunk have, and how long their parts are.
-use Rattle.std.specs.Prelude.{◌≡◌, ℕ, ◌+◌, ◌*◌, ◌-◌, ◌==◌, ◌||◌, Bool, true, false, nat_le, if◌then◌else◌}
-use Rattle.las_header.specs.Fields.{format_size}
+use Rattle.std.specs.Prelude.{◌≡◌, ℕ, ◌+◌, ◌*◌, ◌-◌, ◌==◌, Bool, true, false, if◌then◌else◌}
+use Rattle.las_header.specs.Fields.{format_size, has_colours, has_time}
 
 -- What is chosen once for all records: whether they have times and colours, and how many extra bytes.
 pub record Layout : Type 0 where
@@ -8,9 +8,9 @@ pub record Layout : Type 0 where
   pub colours : Bool
   pub extra : ℕ
 
--- The layout of a point format, 0 to 3: formats 1 and 3 have times, and 2 and 3 have colours.
+-- The layout of a point format, 0 to 3.
 abbrev pub layout_of : ℕ → ℕ → Layout
-layout_of format extra = record { times = (format == 1) || (format == 3); colours = nat_le 2 format; extra = extra }
+layout_of format extra = record { times = has_time format; colours = has_colours format; extra = extra }
 
 -- The length of a time's part.
 abbrev pub time_length : Bool → ℕ

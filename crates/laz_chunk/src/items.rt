@@ -12,8 +12,8 @@ pub struct Items {
     pub extra: Option<Bytes>,
 }
 
-// Written out, so that letting a workspace go is one call in each caller. A derived one stands there with all lists of
-// all models, on each path, and a proof costs by the size of the code.
+// By hand, so that each caller drops a workspace by one call. What a derive writes stands in the caller, with all lists
+// of all models on each path, and the size of that code decides what its proof costs.
 impl Drop for Items {
     fn drop(self) {
         let Items {

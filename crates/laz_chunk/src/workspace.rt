@@ -44,7 +44,7 @@ fn record_length(format: u8, extra: u16) -> usize
     requires known { format < 4 }
     ensures { result ≡ record_length (layout_of format extra) }
 {
-    let times = if format == 1 || format == 3 { 8 } else { 0 };
+    let times = if format % 2 == 1 { 8 } else { 0 };
     let colours = if format >= 2 { 6 } else { 0 };
     20 + times + colours + extra as usize
 }
@@ -68,7 +68,7 @@ fn add_items(items: &mut Items, alloc: Global, format: u8, extra: u16) -> Result
     requires none { layout_in items.old ≡ layout_of 0 0 }
     ensures { OnOk result (layout_in items.new ≡ layout_of format extra) }
 {
-    if format == 1 || format == 3 {
+    if format % 2 == 1 {
         items.gps_time = Some(GpsTime::new(alloc)?);
     }
     if format >= 2 {
@@ -80,7 +80,7 @@ fn add_items(items: &mut Items, alloc: Global, format: u8, extra: u16) -> Result
     Ok(())
 }
 
-// Writes zeros after bytes until there are at least so many. There is capacity for them.
+// Writes zeros after bytes until there are at least this many. There is capacity for them.
 fn lengthen(bytes: &mut Vec<u8>, least: usize)
     requires { least ≤ vec_capacity bytes.old }
     ensures least { least ≤ length bytes.new.items }
@@ -146,7 +146,7 @@ impl Workspace {
     }
 
     /// The same as [`pack`](Self::pack), but `out` may be shorter at first. It is lengthened as far as is needed, and to
-    /// no more than `limit` bytes, which are at least `room_for`. There is capacity for so many.
+    /// no more than `limit` bytes, which are at least `room_for`. There is capacity for that many.
     pub fn pack_within(&mut self, records: &[u8], out: &mut Vec<u8>, limit: usize) -> usize
         requires some { record_length (layout self.old) ≤ length records.now }
         requires whole { length records.now % record_length (layout self.old) ≡ 0 }

@@ -13,8 +13,9 @@ use Rattle.laz_forms.specs.Pieces.{ArePieces, ArePiecesIf, Piece, piece_bytes, p
 use Rattle.laz_forms.specs.Records.{HoldBlocks, HoldsBlock, HoldsChunk, HoldsIf}
 use Rattle.laz_forms.specs.Refusing.{chunks_place}
 use Rattle.laz_forms.proofs.Public.{whole_cut}
-use Rattle.laz_copied.specs.Copied.{Chunk, byte_lists_in, chunk_at, counts_in}
+use Rattle.laz_copied.specs.Copied.{Chunk, byte_lists_in, chunk_at, chunk_counts}
 use Rattle.laz_models.proofs.Public.{sum-cons}
+use Rattle.laz_integer.proofs.Public.{cons_same}
 
 -- ---- chunks that hold blocks
 abbrev pub ChunkHolds : Layout → Chunk → List ℕ → Type 0
@@ -63,7 +64,7 @@ module _ (file : List ℕ) (packed : is_packed (head_of file) ≡ true) where
       subst (λ (b : Bool). HoldsIf b file (whole_piece at size count) block) (sym packed) (block, h, whole_cut (record_length (record_layout (head_of file))) at size count block h.are.length)
 
   pub hold_in_file : (at : ℕ) (chunks : List Chunk) (blocks : List (List ℕ)) (rest : List ℕ) → drop at file ≡ concat (byte_lists_in chunks) ++ rest
-      → ChunksHold (record_layout (head_of file)) chunks blocks → HoldBlocks file (pieces_from at (counts_in chunks) (map length (byte_lists_in chunks))) blocks
+      → ChunksHold (record_layout (head_of file)) chunks blocks → HoldBlocks file (pieces_from at (chunk_counts chunks) (map length (byte_lists_in chunks))) blocks
   hold_in_file at [] [] rest there h = tt
   hold_in_file at [] (b ∷ blocks) rest there h = absurd h
   hold_in_file at (c ∷ chunks) [] rest there h = absurd h
@@ -78,13 +79,10 @@ module _ (file : List ℕ) (packed : is_packed (head_of file) ≡ true) where
       )
 
 -- ---- the numbers of a file's chunks
-pub counts_listed : (file : List ℕ) (at : ℕ) (counts sizes : List ℕ) → length counts ≡ length sizes → counts_in (map (chunk_at file) (pieces_from at counts sizes)) ≡ counts
+pub counts_listed : (file : List ℕ) (at : ℕ) (counts sizes : List ℕ) → length counts ≡ length sizes → chunk_counts (map (chunk_at file) (pieces_from at counts sizes)) ≡ counts
 counts_listed file at [] sizes e = refl
 counts_listed file at (n ∷ counts) [] e = absurd (omega (arith, e))
 counts_listed file at (n ∷ counts) (s ∷ sizes) e = ap (λ (l : List ℕ). n ∷ l) (counts_listed file (at + s) counts sizes (omega (arith, e)))
-
-cons_eq : (x y : ℕ) (xs ys : List ℕ) → x ≡ y → xs ≡ ys → x ∷ xs ≡ y ∷ ys
-cons_eq x y xs ys e f = λ i. e i ∷ f i
 
 pub sizes_listed : (file : List ℕ) (at : ℕ) (counts sizes : List ℕ) → length counts ≡ length sizes → at + sum sizes ≤ length file → map length (byte_lists_in (map (chunk_at file) (pieces_from at counts sizes))) ≡ sizes
 sizes_listed file at [] [] e lie = refl
@@ -92,14 +90,14 @@ sizes_listed file at [] (s ∷ sizes) e lie = absurd (omega (arith, e))
 sizes_listed file at (n ∷ counts) [] e lie = absurd (omega (arith, e))
 sizes_listed file at (n ∷ counts) (s ∷ sizes) e lie =
     let first = sum-cons s sizes in
-    cons_eq (length (take s (drop at file))) s (map length (byte_lists_in (map (chunk_at file) (pieces_from (at + s) counts sizes)))) sizes
+    cons_same (length (take s (drop at file))) s (map length (byte_lists_in (map (chunk_at file) (pieces_from (at + s) counts sizes)))) sizes
     (length-take-le s (drop at file) (omega (arith, length-drop at file, lie, first)))
     (sizes_listed file (at + s) counts sizes (omega (arith, e)) (omega (arith, lie, first)))
 
 -- ---- what is known of chunks, one after another
 pub record AreGoodChunks (chunks : List Chunk) : Type 0 where
   pub words : AreWords (map length (byte_lists_in chunks))
-  pub range : AllByRecursion IsChunkSize (counts_in chunks)
+  pub range : AllByRecursion IsChunkSize (chunk_counts chunks)
 
 pub no_chunks : AreGoodChunks []
 no_chunks = record { words = tt; range = tt }
@@ -108,18 +106,18 @@ words-append : (xs ys : List Chunk) → AreWords (map length (byte_lists_in xs))
 words-append [] ys h k = k
 words-append (x ∷ xs) ys h k = (h.0, words-append xs ys h.1 k)
 
-range-append : (xs ys : List Chunk) → AllByRecursion IsChunkSize (counts_in xs) → AllByRecursion IsChunkSize (counts_in ys) → AllByRecursion IsChunkSize (counts_in (xs ++ ys))
+range-append : (xs ys : List Chunk) → AllByRecursion IsChunkSize (chunk_counts xs) → AllByRecursion IsChunkSize (chunk_counts ys) → AllByRecursion IsChunkSize (chunk_counts (xs ++ ys))
 range-append [] ys h k = k
 range-append (x ∷ xs) ys h k = (h.0, range-append xs ys h.1 k)
 
 pub good-append : (xs ys : List Chunk) → AreGoodChunks xs → AreGoodChunks ys → AreGoodChunks (xs ++ ys)
 good-append xs ys h k = record { words = words-append xs ys h.words k.words; range = range-append xs ys h.range k.range }
 
-pub sum_counts-append : (xs ys : List Chunk) → sum (counts_in (xs ++ ys)) ≡ sum (counts_in xs) + sum (counts_in ys)
+pub sum_counts-append : (xs ys : List Chunk) → sum (chunk_counts (xs ++ ys)) ≡ sum (chunk_counts xs) + sum (chunk_counts ys)
 sum_counts-append [] ys = omega arith
-sum_counts-append (x ∷ xs) ys = omega (arith, sum-cons x.count (counts_in (xs ++ ys)), sum-cons x.count (counts_in xs), sum_counts-append xs ys)
+sum_counts-append (x ∷ xs) ys = omega (arith, sum-cons x.count (chunk_counts (xs ++ ys)), sum-cons x.count (chunk_counts xs), sum_counts-append xs ys)
 
-pub length_counts : (xs : List Chunk) → length (counts_in xs) ≡ length xs
+pub length_counts : (xs : List Chunk) → length (chunk_counts xs) ≡ length xs
 length_counts [] = refl
 length_counts (x ∷ xs) = ap suc (length_counts xs)
 
@@ -142,7 +140,7 @@ chunks_joined file at (n ∷ counts) (s ∷ sizes) =
     ∙ sym (take-add s (sum more) rest) ∙ ap (λ (m : ℕ). take m rest) (sym (sum-cons s more))
 
 -- ---- the numbers of pieces
-pub piece_counts : (file : List ℕ) (pieces : List Piece) → counts_in (map (chunk_at file) pieces) ≡ map (λ p. p.count) pieces
+pub piece_counts : (file : List ℕ) (pieces : List Piece) → chunk_counts (map (chunk_at file) pieces) ≡ map (λ p. p.count) pieces
 piece_counts file [] = refl
 piece_counts file (p ∷ pieces) = ap (λ (l : List ℕ). p.count ∷ l) (piece_counts file pieces)
 

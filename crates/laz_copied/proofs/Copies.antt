@@ -14,11 +14,10 @@ use Rattle.laz_forms.specs.Pieces.{ArePiecesIf, Piece, pieces_from}
 use Rattle.las_header.specs.Plain.{plain_head}
 use Rattle.laz_forms.specs.Records.{AreRecordsOf, HoldBlocks}
 use Rattle.laz_forms.specs.Refusing.{IsAcceptedFile, blocks_in, chunks_place}
-use Rattle.laz_forms.proofs.Public.{one_pieces}
-use Rattle.laz_copied.specs.Copied.{AreChunks, Chunk, HaveChunks, all_of, byte_lists_in, chunk_at, copied_file, copied_head, counts_in, points_in}
+use Rattle.laz_forms.proofs.Public.{one_pieces, IsForm, form_accepted, form_pieces, form_after, form_head, form_packed, form_plain}
+use Rattle.laz_copied.specs.Copied.{AreChunks, Chunk, HaveChunks, all_of, byte_lists_in, chunk_at, copied_file, copied_head, chunk_counts, points_of_files}
 use Rattle.laz_copied.specs.Laws.{CanBeCopied, CanCopy, HasTheirRecords, HaveBlocks, IsCopiedAccepted}
 use Rattle.laz_copied.proofs.Chunks.{AreGoodChunks, ChunksHold, counts_listed, good-append, hold-append, hold_in_file, hold_of_pieces, length_bytes, length_byte_lists, length_counts, no_chunks, sizes_listed, sum_counts-append}
-use Rattle.laz_copied.proofs.Forms.{IsForm, after-pointer, form_accepted, form_pieces, head-is, packed-is, plain_back}
 use Rattle.laz_copied.proofs.Heads.{new_big_points, new_chunk, new_layout, new_near, new_packed, new_vlr}
 use Rattle.laz_copied.proofs.PackedFiles.{IsPackedFile, IsPackedFront, listed, packed_file_known, packed_front_known}
 use Rattle.laz_copied.proofs.Tables.{counted_accepted}
@@ -26,7 +25,7 @@ use Rattle.laz_copied.proofs.Tables.{counted_accepted}
 -- ---- the chunks of one file
 pub record HasGoodChunks (file : List ℕ) (chunks : List Chunk) : Type 0 where
   pub good : AreGoodChunks chunks
-  pub points : sum (counts_in chunks) ≡ points_of (head_of file)
+  pub points : sum (chunk_counts chunks) ≡ points_of (head_of file)
 
 good_if : (packed : Bool) (file : List ℕ) → IsPackedFront file → (pieces : List Piece) → packed ≡ true → ArePiecesIf packed file pieces → HasGoodChunks file (map (chunk_at file) pieces)
 good_if false file p pieces e are = absurd (cc)
@@ -46,7 +45,7 @@ good_of_file file p packed chunks are = subst (HasGoodChunks file) (sym are.2) (
 
 -- ---- the chunks of all files
 module _ (first : List ℕ) where
-  all_good : (files : List (List ℕ)) (parts : List (List Chunk)) → AllByRecursion (CanBeCopied first) files → HaveChunks files parts → AreGoodChunks (all_of parts) × (sum (counts_in (all_of parts)) ≡ points_in files)
+  all_good : (files : List (List ℕ)) (parts : List (List Chunk)) → AllByRecursion (CanBeCopied first) files → HaveChunks files parts → AreGoodChunks (all_of parts) × (sum (chunk_counts (all_of parts)) ≡ points_of_files files)
   all_good [] [] each have = (no_chunks, refl)
   all_good [] (part ∷ parts) each have = absurd have
   all_good (file ∷ files) [] each have = absurd have
@@ -102,16 +101,16 @@ module _ (file : List ℕ) (files : List (List ℕ)) (parts : List (List Chunk))
   p : IsPackedFile file
   p = packed_file_known file can.each.0.accepted can.each.0.packed can.each.0.bytes
 
-  good : AreGoodChunks chunks × (sum (counts_in chunks) ≡ points_in all)
+  good : AreGoodChunks chunks × (sum (chunk_counts chunks) ≡ points_of_files all)
   good = all_good (head_of file) all parts can.each can.have
 
-  blocks-are : blocks_in big ≡ Counted (points_in all)
+  blocks-are : blocks_in big ≡ Counted (points_of_files all)
   blocks-are =
       let size = new_chunk all file refl p can.each.0.packed can.few in
       counted-by (is_counted (chunk_size_of big)) (chunk_size_of big) (points_of big) (ap is_counted size)
       ∙ ap Counted (new_big_points all file refl p can.each.0.packed can.few)
 
-  form : IsForm head 4294967295 (counts_in chunks) (byte_lists_in chunks) (counts_in chunks)
+  form : IsForm head 4294967295 (chunk_counts chunks) (byte_lists_in chunks) (chunk_counts chunks)
   form = record {
     packs = new_packed all file refl p can.each.0.packed can.few;
     near = new_near all file refl p can.each.0.packed can.few;
@@ -120,27 +119,27 @@ module _ (file : List ℕ) (files : List (List ℕ)) (parts : List (List Chunk))
     few = omega (arith, can.chunks, length_byte_lists chunks);
     table =
         let sizes = map length (byte_lists_in chunks) in
-        subst (λ (b : Blocks). IsAccepted (table_bytes (counts_in chunks) sizes) b (sum sizes) (counts_in chunks) sizes) (sym blocks-are)
-        (counted_accepted (points_in all) (counts_in chunks) sizes (length_counts chunks ∙ sym (length_bytes chunks)) (omega (arith, can.chunks, length_bytes chunks)) good.0.words good.0.range good.1);
+        subst (λ (b : Blocks). IsAccepted (table_bytes (chunk_counts chunks) sizes) b (sum sizes) (chunk_counts chunks) sizes) (sym blocks-are)
+        (counted_accepted (points_of_files all) (chunk_counts chunks) sizes (length_counts chunks ∙ sym (length_bytes chunks)) (omega (arith, can.chunks, length_bytes chunks)) good.0.words good.0.range good.1);
   }
 
   pub copied_accepted : IsAcceptedFile (copied_file all chunks)
-  copied_accepted = form_accepted head 4294967295 (counts_in chunks) (byte_lists_in chunks) (counts_in chunks) form
+  copied_accepted = form_accepted head 4294967295 (chunk_counts chunks) (byte_lists_in chunks) (chunk_counts chunks) form
 
   pub copied_plain : plain_head (copied_file all chunks) ≡ head
-  copied_plain = plain_back head 4294967295 (counts_in chunks) (byte_lists_in chunks) (counts_in chunks) form
+  copied_plain = form_plain head 4294967295 (chunk_counts chunks) (byte_lists_in chunks) (chunk_counts chunks) form
 
   pub copied_records : (blocks : List (List (List ℕ))) → HaveBlocks all blocks → AreRecordsOf (copied_file all chunks) (all_of blocks) None
   copied_records blocks have =
       let f = copied_file all chunks in
       let at = chunks_place f in
-      let is = packed-is head 4294967295 (counts_in chunks) (byte_lists_in chunks) (counts_in chunks) form in
+      let is = form_packed head 4294967295 (chunk_counts chunks) (byte_lists_in chunks) (chunk_counts chunks) form in
       let layout : record_layout (head_of file) ≡ record_layout (head_of f) =
-      sym (ap record_layout (head-is head 4294967295 (counts_in chunks) (byte_lists_in chunks) (counts_in chunks) form) ∙ new_layout all file refl p can.each.0.packed can.few) in
+      sym (ap record_layout (form_head head 4294967295 (chunk_counts chunks) (byte_lists_in chunks) (chunk_counts chunks) form) ∙ new_layout all file refl p can.each.0.packed can.few) in
       let hold = subst (λ (l : Layout). ChunksHold l chunks (all_of blocks)) layout (all_hold (head_of file) all parts blocks can.each can.have have) in (
-        pieces_from at (counts_in chunks) (map length (byte_lists_in chunks)),
-        form_pieces head 4294967295 (counts_in chunks) (byte_lists_in chunks) (counts_in chunks) form,
-        hold_in_file f is at chunks (all_of blocks) (table_bytes (counts_in chunks) (map length (byte_lists_in chunks))) (after-pointer head 4294967295 (counts_in chunks) (byte_lists_in chunks) (counts_in chunks) form) hold,
+        pieces_from at (chunk_counts chunks) (map length (byte_lists_in chunks)),
+        form_pieces head 4294967295 (chunk_counts chunks) (byte_lists_in chunks) (chunk_counts chunks) form,
+        hold_in_file f is at chunks (all_of blocks) (table_bytes (chunk_counts chunks) (map length (byte_lists_in chunks))) (form_after head 4294967295 (chunk_counts chunks) (byte_lists_in chunks) (chunk_counts chunks) form) hold,
       )
 
 pub accepted : IsCopiedAccepted

@@ -18,7 +18,7 @@ use Rattle.laz_table.proofs.Public.{IsBytes-append, IsBytes-little, payload-deci
 use Rattle.laz_chunk.specs.Layouts.{layout_of}
 use Rattle.laz_forms.specs.Packing.{packed_head, record_layout}
 use Rattle.laz_forms.proofs.Public.{payload-short, IsBytes-splice, short-are, long-are, set-are}
-use Rattle.laz_copied.specs.Copied.{first_head, long_returns_in, points_in, returns_in}
+use Rattle.laz_copied.specs.Copied.{first_head, long_returns_in, points_of_files, returns_in}
 use Rattle.laz_copied.proofs.PackedFiles.{IsPackedFile}
 use Rattle.laz_copied.proofs.Payloads.{counted-chunk, counted-fine}
 
@@ -37,11 +37,11 @@ layout-are offset count format small =
     (IsBytes-append (little_bytes 4 count) (format ∷ []) (IsBytes-little 4 count) (one-byte format small))
 
 -- ---- the sums
-short-size : (files : List (List ℕ)) → length (short_bytes (points_in files) (returns_in files)) ≡ 24
+short-size : (files : List (List ℕ)) → length (short_bytes (points_of_files files) (returns_in files)) ≡ 24
 unfolding short_bytes
 short-size files = refl
 
-long-size : (files : List (List ℕ)) → length (long_bytes (points_in files) (long_returns_in files)) ≡ 128
+long-size : (files : List (List ℕ)) → length (long_bytes (points_of_files files) (long_returns_in files)) ≡ 128
 unfolding long_bytes
 long-size files = refl
 
@@ -86,21 +86,21 @@ plain_known file p packed =
     (place, subst (λ (t : List ℕ). IsPlainHead head t place) is.bytes known)
 
 -- ---- the copied head, packed
-module _ (files : List (List ℕ)) (file : List ℕ) (first : first_head files ≡ head_of file) (p : IsPackedFile file) (packed : is_packed (head_of file) ≡ true) (few : points_in files < 4294967296) where
+module _ (files : List (List ℕ)) (file : List ℕ) (first : first_head files ≡ head_of file) (p : IsPackedFile file) (packed : is_packed (head_of file) ≡ true) (few : points_of_files files < 4294967296) where
   abbrev old : List ℕ
   old = plain_of (head_of file)
 
   abbrev pub new : List ℕ
-  new = with_sums (points_in files) (returns_in files) (long_returns_in files) (plain_of (head_of file))
+  new = with_sums (points_of_files files) (returns_in files) (long_returns_in files) (plain_of (head_of file))
 
   plain : (place : VlrPlace) × IsPlainHead (head_of file) old place
   plain = plain_known file p packed
 
-  counted : IsCounted old new (points_in files)
-  counted = counted_head (points_in files) (returns_in files) (long_returns_in files) old (plain.1.plain_is.is_head) few (short-size files) (long-size files)
+  counted : IsCounted old new (points_of_files files)
+  counted = counted_head (points_of_files files) (returns_in files) (long_returns_in files) old (plain.1.plain_is.is_head) few (short-size files) (long-size files)
 
   new-bytes : IsBytes new
-  new-bytes = set-are (has_long_counts old) old (short_bytes (points_in files) (returns_in files)) (long_bytes (points_in files) (long_returns_in files)) plain.1.bytes (short-are (points_in files) (returns_in files)) (long-are (points_in files) (long_returns_in files))
+  new-bytes = set-are (has_long_counts old) old (short_bytes (points_of_files files) (returns_in files)) (long_bytes (points_of_files files) (long_returns_in files)) plain.1.bytes (short-are (points_of_files files) (returns_in files)) (long-are (points_of_files files) (long_returns_in files))
 
   pub new_format : format_of new ≡ format_of (head_of file)
   new_format = counted.kept.records.format ∙ plain.1.plain_is.records.format
@@ -108,7 +108,7 @@ module _ (files : List (List ℕ)) (file : List ℕ) (first : first_head files �
   pub new_lengths : record_length_of new ≡ record_length_of (head_of file)
   new_lengths = counted.kept.records.record_length ∙ plain.1.plain_is.records.record_length
 
-  pub new_points : points_of new ≡ points_in files
+  pub new_points : points_of new ≡ points_of_files files
   new_points = counted.points
 
   abbrev payload : List ℕ
@@ -183,7 +183,7 @@ module _ (files : List (List ℕ)) (file : List ℕ) (first : first_head files �
       ap chunk_size_in (payload-is (packed_head new 4294967295) there (ap (λ (ps : List VlrPlace). slice_get ps 0) new_packed.laszip) ∙ payload_there)
       ∙ counted-chunk (format_of new) (extra_of new)
 
-  pub new_big_points : points_of (packed_head new 4294967295) ≡ points_in files
+  pub new_big_points : points_of (packed_head new 4294967295) ≡ points_of_files files
   new_big_points = new_packed.points ∙ new_points
 
   pub new_layout : record_layout (packed_head new 4294967295) ≡ record_layout (head_of file)

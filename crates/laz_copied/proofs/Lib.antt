@@ -1,4 +1,3 @@
-mod Forms
 mod Tables
 mod Payloads
 mod Chunks

@@ -1,37 +1,41 @@
 -- A copied file of heads with the right counts unpacks to what merging gives.
-use Rattle.std.proofs.Common.{◌≡◌, ℕ, ◌+◌, ◌*◌, ◌/◌, ◌%◌, ◌<◌, ◌≤◌, ◌==◌, min, sum, Bool, true, false, cond, List, [], ◌∷◌, ◌++◌, length, take, replicate, slice_index, None, refl, sym, ap, subst, ◌∙◌, arith, length-append}
+use Rattle.std.proofs.Common.{◌≡◌, ℕ, ◌+◌, ◌*◌, ◌/◌, ◌%◌, ◌<◌, ◌≤◌, ◌==◌, min, sum, Bool, true, false, cond, List, [], ◌∷◌, ◌++◌, length, take, replicate, slice_index, None, map, lit<, refl, sym, ap, subst, ◌∙◌, arith, length-append}
 use Rattle.std.proofs.lemmas.List.Sums.{count_by-le-length, sum_by-append, sum_by-cons}
 use Rattle.std.proofs.Math.Nat.{min-eq_left, mul-div_cancel_left, mul-mod_right}
 use Rattle.std.specs.Prelude.{sum_by}
 use Rattle.std.specs.List.{AllByRecursion, concat, splice}
 use Rattle.las_header.specs.Counting.{long_bytes, long_returns, short_bytes, with_count_bytes, with_counts, with_sums}
-use Rattle.las_header.specs.Fields.{format_of, has_long_counts, head_of, long_returns_of, points_of, record_length_of, returns_of}
-use Rattle.las_header.specs.Heads.{IsHead}
+use Rattle.las_header.specs.Fields.{format_of, has_long_counts, head_of, is_packed, long_returns_of, points_of, record_length_of, returns_of}
+use Rattle.las_header.specs.Heads.{IsHead, IsPlainOf}
+use Rattle.laz_range.specs.Span.{IsBytes}
 use Rattle.las_header.specs.Plain.{cut_records, plain_of}
+use Rattle.las_header.proofs.Public.{cut_length}
 use Rattle.las_points.specs.Record.{return_number_of}
 use Rattle.las_points.specs.Tally.{count_of_return, counted_file, counts_of}
 use Rattle.laz_chunk.specs.Layouts.{Layout, record_length}
 use Rattle.laz_forms.specs.Outputs.{records_after}
 use Rattle.laz_forms.specs.Packing.{record_layout}
 use Rattle.laz_forms.specs.Records.{AreRecordsOf, Unpacks}
-use Rattle.laz_forms.proofs.Public.{cut-joined, cut-length, layout-length, concat-append}
+use Rattle.laz_forms.specs.Refusing.{IsAcceptedFile}
+use Rattle.laz_forms.proofs.Public.{cut-joined, layout-length, concat-append}
 use Rattle.laz_writer.proofs.Public.{cut-append}
 use Rattle.laz_table.specs.VlrCauses.{extra_of}
-use Rattle.laz_copied.specs.Copied.{AreChunks, Chunk, HaveChunks, all_of, copied_file, copied_head, counts_in, first_head, long_returns_in, points_in, returns_in, returns_to_15}
+use Rattle.laz_copied.specs.Copied.{AreChunks, Chunk, HaveChunks, all_of, chunk_at, copied_file, copied_head, chunk_counts, first_head, long_returns_in, points_of_files, returns_in, returns_to_15}
 use Rattle.laz_copied.specs.Laws.{AreRight, CanBeCopied, CanCopy, HasRightCounts, HaveBlocks, HaveBothSets, UnpacksToMerged}
-use Rattle.laz_copied.proofs.Chunks.{ChunksHold}
+use Rattle.laz_copied.proofs.Chunks.{ChunksHold, hold_of_pieces}
 use Rattle.laz_copied.proofs.Copies.{copied_plain, copied_records, good_of_file, hold_one, layout_of_file}
 use Rattle.laz_copied.proofs.Heads.{plain_known}
 use Rattle.laz_copied.proofs.PackedFiles.{IsPackedFile, packed_file_known}
 use Rattle.laz_models.proofs.Public.{sum-cons}
+use Rattle.laz_table.proofs.Public.{IsBytes-append}
 
 -- ---- the records of a file are as many as it counts
-hold-length : (l : Layout) (chunks : List Chunk) (blocks : List (List ℕ)) → ChunksHold l chunks blocks → length (concat blocks) ≡ record_length l * sum (counts_in chunks)
+hold-length : (l : Layout) (chunks : List Chunk) (blocks : List (List ℕ)) → ChunksHold l chunks blocks → length (concat blocks) ≡ record_length l * sum (chunk_counts chunks)
 hold-length l [] [] h = omega arith
 hold-length l [] (b ∷ blocks) h = absurd h
 hold-length l (c ∷ chunks) [] h = absurd h
 hold-length l (c ∷ chunks) (b ∷ blocks) h =
-    omega (arith, length-append b (concat blocks), h.0.0.length, hold-length l chunks blocks h.1, ap (λ (n : ℕ). record_length l * n) (sum-cons c.count (counts_in chunks)))
+    omega (arith, length-append b (concat blocks), h.0.0.length, hold-length l chunks blocks h.1, ap (λ (n : ℕ). record_length l * n) (sum-cons c.count (chunk_counts chunks)))
 
 -- ---- numbers of files that add up as those of their records
 module _ (size : ℕ) (some : 0 < size) where
@@ -77,7 +81,7 @@ fits_one first file part b can are records =
     let size : record_length (record_layout head) ≡ record_length_of first =
     omega (arith, layout-length (format_of head) (extra_of head) p.head.format, p.head.record_length, can.record_length) in
     record {
-      long = hold-length (record_layout head) part b hold ∙ ap (λ (n : ℕ). n * sum (counts_in part)) size ∙ ap (λ (n : ℕ). record_length_of first * n) good.points;
+      long = hold-length (record_layout head) part b hold ∙ ap (λ (n : ℕ). n * sum (chunk_counts part)) size ∙ ap (λ (n : ℕ). record_length_of first * n) good.points;
       same = can.record_length;
     }
 
@@ -96,7 +100,7 @@ fit_all first (file ∷ files) [] blocks each have hold = absurd have
 fit_all first (file ∷ files) (part ∷ parts) [] each have hold = absurd hold
 fit_all first (file ∷ files) (part ∷ parts) (b ∷ blocks) each have hold = (fits_one first file part b each.0 have.0 hold.0, fit_all first files parts blocks each.1 have.1 hold.1)
 
-whole_all : (size : ℕ) (files : List (List ℕ)) (blocks : List (List (List ℕ))) → FitAll size files blocks → length (concat (all_of blocks)) ≡ size * points_in files
+whole_all : (size : ℕ) (files : List (List ℕ)) (blocks : List (List (List ℕ))) → FitAll size files blocks → length (concat (all_of blocks)) ≡ size * points_of_files files
 whole_all size [] [] fit = omega arith
 whole_all size [] (b ∷ blocks) fit = absurd fit
 whole_all size (file ∷ files) [] fit = absurd fit
@@ -130,19 +134,19 @@ any_file : (files : List (List ℕ)) → AllByRecursion (λ (file : List ℕ). U
 any_file [] = tt
 any_file (file ∷ files) = (tt, any_file files)
 
-module _ (files : List (List ℕ)) (blocks : List (List (List ℕ))) (size : ℕ) (some : 0 < size) (fit : FitAll size files blocks) (right : AreRight files blocks) (few : points_in files < 4294967296) where
+module _ (files : List (List ℕ)) (blocks : List (List (List ℕ))) (size : ℕ) (some : 0 < size) (fit : FitAll size files blocks) (right : AreRight files blocks) (few : points_of_files files < 4294967296) where
   abbrev bytes : List ℕ
   bytes = concat (all_of blocks)
 
   abbrev all : List (List ℕ)
   all = cut_records size (length (concat (all_of blocks)) / size) (concat (all_of blocks))
 
-  many : length all ≡ points_in files
-  many = cut-length size (length bytes / size) bytes ∙ ap (λ (n : ℕ). n / size) (whole_all size files blocks fit) ∙ mul-div_cancel_left (points_in files) some
+  many : length all ≡ points_of_files files
+  many = cut_length size (length bytes / size) bytes ∙ ap (λ (n : ℕ). n / size) (whole_all size files blocks fit) ∙ mul-div_cancel_left (points_of_files files) some
 
   joined : concat all ≡ bytes
   joined =
-      let count : length bytes / size ≡ points_in files = ap (λ (n : ℕ). n / size) (whole_all size files blocks fit) ∙ mul-div_cancel_left (points_in files) some in
+      let count : length bytes / size ≡ points_of_files files = ap (λ (n : ℕ). n / size) (whole_all size files blocks fit) ∙ mul-div_cancel_left (points_of_files files) some in
       cut-joined size (length bytes / size) bytes (omega (arith, whole_all size files blocks fit, ap (λ (n : ℕ). size * n) count))
 
   -- the sum of a number by return
@@ -250,7 +254,7 @@ module _ (file : List ℕ) (files : List (List ℕ)) (parts : List (List Chunk))
       let k = plain_known file p can.each.0.packed in
       let long : has_long_counts plain ≡ has_long_counts (head_of file) = ap (λ (m : ℕ). m == 4) k.1.minor in
       let returns = short_is (file ∷ files) blocks size some fit right can.few in
-      let points : points_in (file ∷ files) ≡ length records = sym (many (file ∷ files) blocks size some fit right can.few) in
+      let points : points_of_files (file ∷ files) ≡ length records = sym (many (file ∷ files) blocks size some fit right can.few) in
       ap (λ (n : ℕ). with_sums n (returns_in (file ∷ files)) (long_returns_in (file ∷ files)) plain) points
       ∙ ap (λ (rs : List ℕ). with_sums (length records) rs (long_returns_in (file ∷ files)) plain) returns
       ∙ by_sets (has_long_counts plain) plain (short_bytes (length records) (take 5 (counts_of records).returns)) (long_bytes (length records) (long_returns_in (file ∷ files))) (long_bytes (length records) (long_returns (counts_of records))) refl
@@ -278,10 +282,42 @@ plain_head_is (file ∷ files) parts can =
     let one = can.each.0 in
     (plain_known file (packed_file_known file one.accepted one.packed one.bytes) one.packed).1.plain_is.is_head
 
-pub records_whole : (files : List (List ℕ)) (parts : List (List Chunk)) (blocks : List (List (List ℕ))) → CanCopy files parts → HaveBlocks files blocks → length (concat (all_of blocks)) ≡ record_length_of (plain_of (first_head files)) * points_in files
+pub records_whole : (files : List (List ℕ)) (parts : List (List Chunk)) (blocks : List (List (List ℕ))) → CanCopy files parts → HaveBlocks files blocks → length (concat (all_of blocks)) ≡ record_length_of (plain_of (first_head files)) * points_of_files files
 records_whole [] parts blocks can have = absurd (let some : 1 ≤ 0 = can.some in omega (arith, some))
 records_whole (file ∷ files) parts blocks can have =
     let one = can.each.0 in
     let plain = plain_known file (packed_file_known file one.accepted one.packed one.bytes) one.packed in
     whole_all (record_length_of (head_of file)) (file ∷ files) blocks (fit_all (head_of file) (file ∷ files) parts blocks can.each can.have have)
-    ∙ ap (λ (n : ℕ). n * points_in (file ∷ files)) (sym plain.1.plain_is.records.record_length)
+    ∙ ap (λ (n : ℕ). n * points_of_files (file ∷ files)) (sym plain.1.plain_is.records.record_length)
+
+-- ---- the records of one file
+
+bytes_held : (l : Layout) (chunks : List Chunk) (blocks : List (List ℕ)) → ChunksHold l chunks blocks → IsBytes (concat blocks)
+bytes_held l [] [] h = λ i. lit< tt
+bytes_held l [] (b ∷ blocks) h = absurd h
+bytes_held l (c ∷ chunks) [] h = absurd h
+bytes_held l (c ∷ chunks) (b ∷ blocks) h = IsBytes-append b (concat blocks) h.0.0.bytes (bytes_held l chunks blocks h.1)
+
+-- those of an accepted packed file whose chunks all hold records are as many as its head counts, and are bytes
+pub record AreAllThere (file : List ℕ) (blocks : List (List ℕ)) : Type 0 where
+  pub head : IsPlainOf (head_of file) (plain_of (head_of file))
+  pub head_bytes : IsBytes (plain_of (head_of file))
+  pub long : length (concat blocks) ≡ record_length_of (head_of file) * points_of (head_of file)
+  pub bytes : IsBytes (concat blocks)
+
+pub all_there : (file : List ℕ) → IsAcceptedFile file → is_packed (head_of file) ≡ true → IsBytes file → (blocks : List (List ℕ)) → AreRecordsOf file blocks None → AreAllThere file blocks
+all_there file accepted packed bytes blocks records =
+    let p = packed_file_known file accepted packed bytes in
+    let head = head_of file in
+    let part = map (chunk_at file) records.0 in
+    let are : AreChunks file part = (records.0, records.1, refl) in
+    let good = good_of_file file p.front packed part are in
+    let hold = hold_of_pieces file records.0 blocks packed records.1 records.2 in
+    let size : record_length (record_layout head) ≡ record_length_of head = omega (arith, layout-length (format_of head) (extra_of head) p.head.format, p.head.record_length) in
+    let plain = plain_known file p packed in
+    record {
+      head = plain.1.plain_is;
+      head_bytes = plain.1.bytes;
+      long = hold-length (record_layout head) part blocks hold ∙ ap (λ (n : ℕ). n * sum (chunk_counts part)) size ∙ ap (λ (n : ℕ). record_length_of head * n) good.points;
+      bytes = bytes_held (record_layout head) part blocks hold;
+    }

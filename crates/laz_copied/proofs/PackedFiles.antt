@@ -1,7 +1,7 @@
 -- What is known of an accepted packed file: its head, and its chunks.
 use Rattle.std.proofs.Common.{◌≡◌, inl, inr, ℕ, ◌+◌, ◌-◌, ◌<◌, ◌≤◌, ◌==◌, ◌&&◌, min, not, nat_lt, ltb-false, sum, Bool, true, false, cond, List, [], ◌∷◌, ◌++◌, length, map, take, drop, None, refl, sym, ap, subst, ◌∙◌, arith}
 use Rattle.std.specs.List.{AllByRecursion, concat}
-use Rattle.std.proofs.lemmas.Bool.{cases_lt, eq-eqb, or_parts}
+use Rattle.std.proofs.lemmas.Bool.{cases_lt, eq-eqb, or_parts, true≢false}
 use Rattle.std.proofs.lemmas.List.{length-take-le}
 use Rattle.las_header.specs.declared.refusal.Refusal.{Refusal}
 use Rattle.las_header.specs.declared.refusal.Refusal.TheVariants as cause
@@ -20,7 +20,7 @@ use Rattle.laz_table.specs.Chunks.{HasChunkSize, IsAccepted, IsChunkSize}
 use Rattle.laz_table.specs.Laws.{AreWords}
 use Rattle.laz_table.specs.VlrCauses.{chunk_count, chunk_size_of, extra_of, is_bad_chunk_size, is_counted, lacks_vlr, makes_many_chunks, payload_causes, payload_of, vlr_causes}
 use Rattle.laz_forms.specs.Pieces.{ArePieces, ArePiecesIf, Piece}
-use Rattle.laz_reader.specs.Reading.{AreFewChunks, points_in}
+use Rattle.laz_reader.specs.Reading.{AreFewChunks, points_listed}
 use Rattle.laz_forms.specs.Refusing.{IsAcceptedFile, blocks_in, chunk_causes, chunks_place, has_bad_pointer, has_last_pointer, table_end, table_part, table_place, tested_causes}
 use Rattle.laz_forms.proofs.Public.{IsFirst-none, both_none}
 use Rattle.laz_reader.proofs.Public.{one_vlr, accepted_lists, accepted_points}
@@ -28,9 +28,6 @@ use Rattle.laz_copied.specs.Copied.{byte_lists_in, chunk_at}
 use Rattle.laz_copied.proofs.Chunks.{chunks_joined, piece_sizes, sizes_listed}
 use Rattle.laz_copied.proofs.Payloads.{IsPayload, payload_known}
 use Rattle.laz_copied.proofs.Tables.{IsChunkSizeOf, accepted_range, table_words}
-
-true-false : {X : Type 0} (b : Bool) → b ≡ true → b ≡ false → X
-true-false b e f = absurd (let g : true ≡ false = sym e ∙ f in cc)
 
 -- ---- an accepted packed file
 pub record IsPackedFront (file : List ℕ) : Type 0 where
@@ -112,7 +109,7 @@ by_kind false chunk points e fine =
     some : (n : ℕ) → (n == 0) ≡ false → 0 < n
     some n zero_not = elim (cases_lt 0 n) [
       | inl more ↦ more
-      | inr none ↦ let is : n ≡ 0 = omega (arith, none) in true-false (n == 0) (eq-eqb n 0 is) zero_not
+      | inr none ↦ let is : n ≡ 0 = omega (arith, none) in absurd (true≢false (sym (eq-eqb n 0 is) ∙ zero_not))
     ]
 
 few_by : (b : Bool) (chunk points : ℕ) → is_counted chunk ≡ b → makes_many_chunks points chunk ≡ false → AreFewChunks (cond b (Counted points) (Fixed chunk points))
@@ -125,7 +122,7 @@ has_size : (blocks : Blocks) → IsChunkSizeOf blocks → HasChunkSize blocks
 has_size (Fixed chunk points) h = h.0
 has_size (Counted points) h = tt
 
-points_by : (b : Bool) (chunk points : ℕ) → points_in (cond b (Counted points) (Fixed chunk points)) ≡ points
+points_by : (b : Bool) (chunk points : ℕ) → points_listed (cond b (Counted points) (Fixed chunk points)) ≡ points
 points_by true chunk points = refl
 points_by false chunk points = refl
 
@@ -156,7 +153,7 @@ listed file p counts sizes a =
     let end : table_place file ≤ table_end file = ltb-false (table_end file) (table_place file) first.1 in
     record {
       same = lists.same;
-      words = table_words (table_part file) (length sizes) _ a.coded sizes a.table.holds;
+      words = table_words (table_part file) (length sizes) _ a.coded sizes a.table.begins.holds;
       range = accepted_range (table_part file) blocks (table_place file - chunks_place file) counts sizes kind a;
       points = accepted_points (table_part file) blocks (table_place file - chunks_place file) counts sizes (has_size blocks kind) a ∙ points_by (is_counted chunk) chunk points;
       lie = omega (arith, lists.whole, place, end, end-within (has_last_pointer file) (length file));

@@ -10,7 +10,7 @@ use Rattle.laz_range.specs.Span.{IsBytes}
 use Rattle.laz_integer.specs.Events.{Event}
 use Rattle.laz_table.specs.declared.chunks.Blocks.{Blocks}
 use Rattle.laz_table.specs.declared.chunks.Blocks.TheVariants.{Fixed, Counted}
-use Rattle.laz_table.specs.Chunks.{AreSizes, HasTable, IsAccepted, IsChunkSize, table_causes}
+use Rattle.laz_table.specs.Chunks.{AreSizes, BeginsTable, HasTable, IsAccepted, IsChunkSize, table_causes}
 use Rattle.laz_table.specs.Entries.{Entry, Latest, SpellsEntries, after_entry, entries_of, no_entry}
 use Rattle.laz_table.specs.Laws.{AreWords}
 use Rattle.laz_table.specs.Table.{HoldsEntries, TableHolds, stream_of, table_bytes}
@@ -49,10 +49,10 @@ module _ (points : ℕ) (sizes counts : List ℕ) (same : length sizes ≡ lengt
   unfolding table
   held = holds-counted sizes counts same (omega (arith, few)) (sizes-words sizes range) words
 
-  has : HasTable table (Counted points) sizes counts
-  has = record { count = omega (arith, few, few-sizes sizes range, whole, same); holds = held }
+  begins : BeginsTable table (Counted points) sizes counts
+  begins = record { count = omega (arith, few, few-sizes sizes range, whole, same); holds = held }
 
-  only : (others more : List ℕ) → HasTable table (Counted points) others more → (others ≡ sizes) × (more ≡ counts)
+  only : (others more : List ℕ) → BeginsTable table (Counted points) others more → (others ≡ sizes) × (more ≡ counts)
   unfolding table
   only others more other =
       let long : length more ≡ length counts = sym other.holds.number ∙ held.number in
@@ -62,12 +62,15 @@ module _ (points : ℕ) (sizes counts : List ℕ) (same : length sizes ≡ lengt
   are : AreSizes points sizes
   are = (All-from_recursion IsChunkSize sizes range, whole)
 
+  has : HasTable table (Counted points) sizes counts
+  has = record { begins = begins; only = only }
+
   no_cause : IsFirst (table_causes table (Counted points) (sum counts)) None
   no_cause = inr (
     λ lacks. lacks sizes counts has,
     inr (
-      λ other. other.3 (ap sum (only other.0 other.1 other.2).1),
-      inr (λ other. other.3 (subst (AreSizes points) (sym (only other.0 other.1 other.2).0) are), refl),
+      λ other. other.3 (ap sum (only other.0 other.1 other.2.begins).1),
+      inr (λ other. other.3 (subst (AreSizes points) (sym (only other.0 other.1 other.2.begins).0) are), refl),
     ),
   )
 
@@ -76,7 +79,6 @@ module _ (points : ℕ) (sizes counts : List ℕ) (same : length sizes ≡ lengt
   counted_accepted = record {
     coded = sizes;
     table = has;
-    only = only;
     sizes_are = refl;
     fine = no_cause;
   }

@@ -7,15 +7,15 @@ use Rattle.las_header.specs.Fields.{has_long_counts, head_of, long_returns_of, p
 use Rattle.las_header.specs.Plain.{plain_of}
 use Rattle.laz_table.specs.declared.limits.TheConstants.{COUNTED_CHUNKS}
 use Rattle.laz_forms.specs.Pieces.{ArePieces, Piece, piece_bytes}
-use Rattle.laz_copied.specs.Forms.{packed_form}
+use Rattle.laz_forms.specs.Packing.{packed_form}
 
 -- a chunk of a packed file: its number of records, and its bytes
 pub record Chunk : Type 0 where
   pub count : ℕ
   pub bytes : List ℕ
 
-abbrev pub counts_in : List Chunk → List ℕ
-counts_in chunks = map (λ c. c.count) chunks
+abbrev pub chunk_counts : List Chunk → List ℕ
+chunk_counts chunks = map (λ c. c.count) chunks
 
 abbrev pub byte_lists_in : List Chunk → List (List ℕ)
 byte_lists_in chunks = map (λ c. c.bytes) chunks
@@ -41,8 +41,8 @@ HaveChunks (file ∷ files) [] = ⊥
 HaveChunks (file ∷ files) (part ∷ parts) = AreChunks file part × HaveChunks files parts
 
 -- how many point records files have, by their heads
-abbrev pub points_in : (files : List (List ℕ)) → ℕ
-points_in files = sum_by (λ file. points_of (head_of file)) files
+abbrev pub points_of_files : (files : List (List ℕ)) → ℕ
+points_of_files files = sum_by (λ file. points_of (head_of file)) files
 
 -- the numbers of points of the returns 1 to 15 that a head has: all of them for LAS 1.4, and else the first five
 abbrev pub returns_to_15 : (head : List ℕ) → List ℕ
@@ -65,9 +65,9 @@ first_head files = head_of (slice_index_or files 0 [])
 
 abbrev pub copied_head : (files : List (List ℕ)) → List ℕ
 copied_head files =
-    with_sums (points_in files) (returns_in files) (long_returns_in files) (plain_of (first_head files))
+    with_sums (points_of_files files) (returns_in files) (long_returns_in files) (plain_of (first_head files))
 
 -- files as one, of these chunks: under that head, with the laszip VLR for chunks that each have a number of points of
 -- their own, then the pointer to the table, the chunks as they stand, and the table
 abbrev pub copied_file : (files : List (List ℕ)) → (chunks : List Chunk) → List ℕ
-copied_file files chunks = packed_form (copied_head files) COUNTED_CHUNKS (counts_in chunks) (byte_lists_in chunks)
+copied_file files chunks = packed_form (copied_head files) COUNTED_CHUNKS (chunk_counts chunks) (byte_lists_in chunks)

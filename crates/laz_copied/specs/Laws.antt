@@ -11,7 +11,7 @@ use Rattle.laz_table.specs.declared.limits.TheConstants.{MAX_CHUNKS}
 use Rattle.laz_forms.specs.Outputs.{records_after}
 use Rattle.laz_forms.specs.Records.{AreRecordsOf, Unpacks}
 use Rattle.laz_forms.specs.Refusing.{IsAcceptedFile}
-use Rattle.laz_copied.specs.Copied.{Chunk, HaveChunks, all_of, copied_file, first_head, points_in}
+use Rattle.laz_copied.specs.Copied.{Chunk, HaveChunks, all_of, copied_file, first_head, points_of_files}
 
 -- a packed file that is accepted, with records as the first file has them
 pub record CanBeCopied (first file : List ℕ) : Type 0 where
@@ -26,7 +26,7 @@ pub record CanBeCopied (first file : List ℕ) : Type 0 where
 pub record CanCopy (files : List (List ℕ)) (parts : List (List Chunk)) : Type 0 where
   pub some : 1 ≤ length files
   pub each : AllByRecursion (CanBeCopied (first_head files)) files
-  pub few : points_in files < 2 ^ 32
+  pub few : points_of_files files < 2 ^ 32
   pub have : HaveChunks files parts
   pub chunks : length (all_of parts) ≤ MAX_CHUNKS
 

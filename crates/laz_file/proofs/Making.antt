@@ -66,7 +66,7 @@ left_one out records held now files (inl same) known = (files, same ∙ known, n
 left_one out records held now files (inr left) known =
     (finmap.insert files out.name left.0, left.2 ∙ ap (λ (h : Option FileMap). with_file h out.name left.0) known, (1, left.0 ∷ [], inr (omega arith, inr (left.1, tt)), refl))
 
-some_files : (files : List OutputFile) (o : OutputFile) (rest : List OutputFile) → files ≡ o ∷ rest → files ≢ []
+pub some_files : (files : List OutputFile) (o : OutputFile) (rest : List OutputFile) → files ≡ o ∷ rest → files ≢ []
 some_files files o rest is empty = absurd (cc)
 
 -- ---- what a call says of its outcome
@@ -240,26 +240,6 @@ module _ (first : ReaderSeen) (name head : List ℕ) (chunk : ℕ) (plain : is_p
     gives = gives_packed;
     given = λ file st product makes. let all = all_read file st in (all.0, None, all.1, makes ∙ as_packed file st all.0 all.1);
   }
-
--- ---- what follows of how a call ended
-module _ (Makes : List ℕ → Product → Type 0) (name : List ℕ) (old new : Outside) where
-  pub left_by_fault : (T : Type 0) (fault : Fault) → EndsMaking {T = T} Makes name old new (Err fault) → LeavesOf Makes name old new
-  left_by_fault T (Refused cause) ends = ends.1
-  left_by_fault T Read ends = ends.1
-  left_by_fault T Write ends = ends.2
-  left_by_fault T Memory ends = ends
-
-  pub rose_reads : (T : Type 0) (fault : Fault) → EndsMaking {T = T} Makes name old new (Err fault) → fault ≡ Read → Rose old.read_faults new.read_faults
-  rose_reads T (Refused cause) ends is = absurd (cc)
-  rose_reads T Read ends is = ends.0
-  rose_reads T Write ends is = absurd (cc)
-  rose_reads T Memory ends is = absurd (cc)
-
-  pub rose_writes : (T : Type 0) (fault : Fault) → EndsMaking {T = T} Makes name old new (Err fault) → fault ≡ Write → Rose old.write_faults new.write_faults
-  rose_writes T (Refused cause) ends is = absurd (cc)
-  rose_writes T Read ends is = absurd (cc)
-  rose_writes T Write ends is = ends.0
-  rose_writes T Memory ends is = absurd (cc)
 
 -- what is left of one output
 pub one_left : (o : OutputFile) (old now : FileMap) → LeavesFiles (o ∷ []) old now → (now ≡ old) ⊎ ((left : List ℕ) × IsUnfinished o.draft o.patches left × (now ≡ finmap.insert old o.name left))

@@ -1,27 +1,20 @@
 -- Records that a writer takes while a reader reads.
-use Rattle.std.proofs.Common.{◌≡◌, ◌≢◌, ◌⊎◌, inl, inr, Result, Ok, Err, map, ℕ, ◌*◌, ◌<◌, Bool, cond, List, [], ◌++◌, length, take, Option, Some, None, IsSomeAnd, refl, sym, ◌∙◌, ap, subst, append_assoc, arith}
+use Rattle.std.proofs.Common.{◌≡◌, ◌≢◌, ◌⊎◌, inl, inr, Result, Ok, Err, ℕ, Bool, cond, List, [], ◌++◌, length, take, Option, Some, None, IsSomeAnd, refl, sym, ◌∙◌, ap, subst, append_assoc, arith}
 use Rattle.std.specs.FinMap as maps
-use Rattle.std.specs.List.{concat}
 use Rattle.std.specs.Prelude.{IfErr, OnErr, OnOk}
 use Rattle.std.proofs.lemmas.List.{append-nil, take_all}
-use Rattle.las_header.specs.Fields.{record_length_of}
 use Rattle.las_outside.specs.Faults.{Rose}
 use Rattle.las_outside.specs.Files.{FileMap, WhereKnown, with_file}
 use Rattle.las_outside.specs.Outside.{Outside, with_bytes}
 use Rattle.las_outside.proofs.Public.{get-with_value, same_other}
-use Rattle.laz_chunk.specs.Chunks.{chunk_bytes}
 use Rattle.laz_forms.specs.declared.fault.Fault.{Fault}
 use Rattle.laz_forms.specs.declared.fault.Fault.TheVariants.{Refused, Read, Write, Memory}
 use Rattle.laz_file.specs.Copying.{LeavesPart, Takes, with_reads}
 use Rattle.laz_forms.specs.FileFaults.{HasCause}
-use Rattle.laz_forms.specs.Outputs.{Output, front, full_points, stopped}
-use Rattle.laz_forms.specs.Packing.{record_layout}
+use Rattle.laz_forms.specs.Outputs.{Output, front, stopped}
 use Rattle.laz_reader.specs.Turns.{file_at}
-use Rattle.laz_writer.specs.Writing.{PackingSeen, PointsStand, Stands, Stops, WriterSeen, all_chunks, full_blocks}
+use Rattle.laz_writer.specs.Writing.{PackingSeen, PointsStand, Stands, Stops, WriterSeen, all_chunks}
 use Rattle.laz_writer.proofs.Public.{held_text, kept_part, packed_form, plain_stopped}
-use Rattle.laz_writer.proofs.Public.{full_blocks_more, rest_of}
-use Rattle.laz_forms.proofs.Public.{joined-append, prefix_append}
-use Rattle.laz_writer.proofs.Public.{block_size_is}
 
 -- ---- reads between writes
 
@@ -97,32 +90,6 @@ takes_push old new w v records to before out bytes s =
     subst (λ (o : Outside). Stands o new v out (bytes ++ records)) (sym (reads_are before new v out (bytes ++ records) u)) u
 
 -- ---- what is left after a failed call
-
--- more records leave what stands of a stopped output where it is
-stopped_more : (before now : Outside) (w : WriterSeen) (out : Output) (bytes xs ys : List ℕ) → Stands before now w out bytes → (later : List ℕ) × (stopped out (xs ++ ys) ≡ stopped out xs ++ later)
-stopped_more before now w out bytes xs ys s = by out.chunk w.packing s.points
-  where
-    by : (k : Option ℕ) (p : Option PackingSeen) → PointsStand k before now out w.most p bytes → (later : List ℕ) × (front out ++ full_points k out.head (xs ++ ys) ≡ (front out ++ full_points k out.head xs) ++ later)
-    by None None points = (ys, sym (append_assoc (front out) xs ys))
-    by None (Some p) points = absurd points
-    by (Some k) None points = absurd points
-    by (Some k) (Some p) points =
-        let size = record_length_of out.head * k in
-        let some : 0 < size = omega (arith, points.stands.short, block_size_is out.head s.head k w.most p.plan points.plan) in
-        let f = λ (b : List ℕ). chunk_bytes (record_layout out.head) b in
-        let full = full_blocks size xs in
-        let more = full_blocks size (rest_of size xs ++ ys) in (
-          concat (map f more),
-          ap (λ (t : List (List ℕ)). front out ++ concat (map f t)) (full_blocks_more size xs ys some)
-              ∙ ap (λ (t : List ℕ). front out ++ t) (joined-append f full more)
-              ∙ sym (append_assoc (front out) (concat (map f full)) (concat (map f more))),
-        )
-
-prefix_stopped : (before now : Outside) (w : WriterSeen) (out : Output) (bytes xs ys : List ℕ) (n : ℕ) → Stands before now w out bytes → (m : ℕ) × (take n (stopped out xs) ≡ take m (stopped out (xs ++ ys)))
-prefix_stopped before now w out bytes xs ys n s =
-    let more = stopped_more before now w out bytes xs ys s in
-    let p = prefix_append (stopped out xs) more.0 n in
-    (p.0, p.1 ∙ ap (take p.0) (sym more.1))
 
 -- what stands at any time is a prefix of what stands if the output is stopped
 pub stands_part : (before now : Outside) (w : WriterSeen) (out : Output) (bytes : List ℕ) → Stands before now w out bytes → (n : ℕ) × (now ≡ with_bytes before out.name (take n (stopped out bytes)))

@@ -7,14 +7,13 @@ use Rattle.las_header.specs.declared.refusal.Refusal.{Refusal}
 use Rattle.las_header.specs.declared.refusal.Refusal.TheVariants.{BadChunk}
 use Rattle.las_header.specs.Fields.{head_of, is_packed, point_offset_of, points_of, record_length_of}
 use Rattle.las_header.specs.Heads.{HeadView, IsHead}
-use Rattle.las_header.specs.Plain.{plain_head, plain_of}
+use Rattle.las_header.specs.Plain.{plain_of}
 use Rattle.las_outside.specs.Files.{FileMap, WhereKnown, with_file}
 use Rattle.las_outside.specs.Outside.{Outside, with_bytes}
 use Rattle.laz_forms.specs.declared.fault.Fault.{Fault}
 use Rattle.laz_forms.specs.declared.fault.Fault.TheVariants.{Refused, Read, Write, Memory}
 use Rattle.laz_file.specs.Copying.{AreOnlyRecords, EndsCopying, Finishes, HoldFirst, LeavesFirst, LeavesInPart, LeavesRecords, LeavesStopped, LeavesUnfinished, Refuses, packed_output, plain_output}
 use Rattle.laz_forms.specs.Outputs.{Output, finished, front, stopped}
-use Rattle.laz_forms.specs.Packing.{pack, packed_file}
 use Rattle.laz_forms.specs.Pieces.{Piece, piece_bytes}
 use Rattle.laz_reader.specs.Reading.{ReaderSeen, ReadsAll, StandsFor}
 use Rattle.laz_forms.specs.Ranges.{Range, parts_of, whole_range}
@@ -25,7 +24,6 @@ use Rattle.laz_reader.proofs.Public.{all_of}
 use Rattle.laz_writer.proofs.Public.{held_text}
 use Rattle.laz_reader.proofs.Public.{read_begins}
 use Rattle.laz_file.proofs.Endings.{leaves_part, short_part}
-use Rattle.laz_forms.proofs.Public.{finished_is}
 use Rattle.laz_forms.proofs.Public.{known_both}
 use Rattle.laz_forms.proofs.Public.{one_pieces}
 use Rattle.laz_forms.proofs.Public.{plain-is}
@@ -204,14 +202,6 @@ module _ (first : ReaderSeen) (file : List ℕ) (s : StandsFor first file) (plai
 
   pub records_joined : (blocks : List (List ℕ)) → AreRecordsOf file blocks None → concat blocks ≡ drop (point_offset_of file) file
   records_joined blocks are = plain_read file is_plain records_is are.0 blocks are.1 are.2
-
-  pub packs : (name bytes : List ℕ) (chunk : ℕ) (blocks : List (List ℕ)) → bytes ≡ first.head.bytes → AreRecordsOf file blocks None → let out : Output = record { name = name; head = bytes; chunk = Some chunk; counted = false } in finished out (concat blocks) ≡ packed_file file chunk
-  packs name bytes chunk blocks same are =
-      let out : Output = record { name = name; head = bytes; chunk = Some chunk; counted = false } in
-      finished_is out (concat blocks) (subst IsHead (sym same) head)
-      ∙ ap (λ (h : List ℕ). pack h (concat blocks) chunk) same
-      ∙ ap (λ (h : List ℕ). pack h (concat blocks) chunk) (bytes_is ∙ plain-is file is_plain)
-      ∙ ap (λ (rs : List ℕ). pack (plain_head file) rs chunk) (records_joined blocks are)
 
   pub leaves_plain : (P : List ℕ → Type 0) → ((blocks : List (List ℕ)) (bad : Option ℕ) → AreRecordsOf file blocks bad → P (concat blocks)) → P (drop (point_offset_of file) file)
   leaves_plain P to =

@@ -8,7 +8,6 @@ ghost use Rattle.laz_forms.specs.Existing.{HasAnAnswer, HasPieces, HasSomeRecord
 ghost use Rattle.laz_forms.specs.Laws.{IsReadOnce, IsRefusedOnce, ReadsBack, ReadsPlain, UnpacksAgain};
 
 use laz_chunk::one_is_held;
-use laz_table::tables_hold_one_pair;
 
 /// A file is refused for at most one cause, and has at most one list of pieces. Records that are read of it piece by
 /// piece, if each piece holds one block alone, are its only ones, and so is the first bad piece.
@@ -35,9 +34,7 @@ pub fn no_file_is_without_an_answer()
     ensures pieces { HasPieces }
     ensures records { HasSomeRecords }
     ensures range { HasSomeInRange }
-{
-    tables_hold_one_pair();
-}
+{}
 
 /// The records of the range of all places are those of the file. Records of a range that are read piece by piece, if
 /// each piece holds one block alone, are its only ones, and so is the first bad piece that meets it. An empty range

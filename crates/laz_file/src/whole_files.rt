@@ -24,7 +24,7 @@ use std::alloc::Global;
 use std::thread::Threads;
 
 // Copies all records that a reader has left into a writer, and finishes the output. After a bad chunk it is stopped.
-fn fill<R: Threads + Sync, F: Files, G: Gate>(
+fn copy_and_finish<R: Threads + Sync, F: Files, G: Gate>(
     rt: &R,
     alloc: Global,
     files: &mut F,
@@ -102,7 +102,7 @@ pub fn pack<R: Threads + Sync, F: Files, G: Gate>(
     let most = head.points();
     let hands = Writer::hands(Some(chunk), most, workers);
     let writer = Writer::create(alloc, files, output, head, Some(chunk), false, most, hands)?;
-    fill(rt, alloc, files, gate, &mut reader, &mut crew, writer)
+    copy_and_finish(rt, alloc, files, gate, &mut reader, &mut crew, writer)
 }
 
 /// Unpacks a packed file: the output, another name than the input's, is its plain form. `workers`, 1 to 8, unpack side
@@ -141,5 +141,5 @@ pub fn unpack<R: Threads + Sync, F: Files, G: Gate>(
     let mut crew = reader.crew(alloc, hands)?;
     let most = head.points();
     let writer = Writer::create(alloc, files, output, &head, None, false, most, 1)?;
-    fill(rt, alloc, files, gate, &mut reader, &mut crew, writer)
+    copy_and_finish(rt, alloc, files, gate, &mut reader, &mut crew, writer)
 }

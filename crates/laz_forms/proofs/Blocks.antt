@@ -1,5 +1,5 @@
 -- Records cut into blocks of one size, and joined again.
-use Rattle.std.proofs.Common.{◌≡◌, inl, inr, ℕ, zero, suc, ◌+◌, ◌*◌, ◌-◌, ◌<◌, ◌≤◌, min, List, [], ◌∷◌, ◌++◌, length, map, take, drop, refl, sym, ap, ◌∙◌, arith, length-drop}
+use Rattle.std.proofs.Common.{◌≡◌, inl, inr, ℕ, zero, suc, ◌+◌, ◌*◌, ◌-◌, ◌<◌, ◌≤◌, min, List, [], ◌∷◌, ◌++◌, length, map, take, drop, sym, ap, ◌∙◌, arith, length-drop}
 use Rattle.std.proofs.lemmas.Bool.{cases_lt}
 use Rattle.std.proofs.lemmas.List.{length-take-le, nil_from_length, take-append-drop, take_all}
 use Rattle.std.proofs.Math.Nat.{div-eq_of_lt-le, lt-mul-div-succ, min-eq_left, min-eq_right, min-le_left, mul-div-le, mul-le-mul_left}
@@ -18,10 +18,6 @@ cut-joined size zero bytes enough = sym (nil_from_length bytes (omega (arith, en
 cut-joined size (suc count) bytes enough =
     ap (λ (t : List ℕ). take size bytes ++ t) (cut-joined size count (drop size bytes) (omega (arith, enough, length-drop size bytes)))
     ∙ take-append-drop size bytes
-
-pub cut-length : (size count : ℕ) (bytes : List ℕ) → length (cut_records size count bytes) ≡ count
-cut-length size zero bytes = refl
-cut-length size (suc count) bytes = omega (arith, cut-length size count (drop size bytes))
 
 -- a front of some whole records
 part-length : (size chunk left : ℕ) (bytes : List ℕ) → length bytes ≡ size * left → length (take (size * chunk) bytes) ≡ size * min chunk left

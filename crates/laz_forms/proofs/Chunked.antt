@@ -12,7 +12,7 @@ use Rattle.laz_chunk.specs.Chunks.{AreRecords, Holds, chunk_bytes}
 use Rattle.laz_chunk.specs.Layouts.{Layout, most_events, record_length, room_for}
 use Rattle.laz_chunk.proofs.Public.{chunk-holds, chunk-most}
 use Rattle.laz_table.specs.declared.chunks.Blocks.TheVariants.{Fixed}
-use Rattle.laz_table.specs.Chunks.{HasTable, IsAccepted, fixed_sizes, table_causes}
+use Rattle.laz_table.specs.Chunks.{BeginsTable, HasTable, IsAccepted, fixed_sizes, table_causes}
 use Rattle.laz_table.specs.Laws.{AreWords}
 use Rattle.laz_table.specs.Table.{TableHolds, table_bytes}
 use Rattle.laz_table.specs.VlrCauses.{chunk_count}
@@ -51,20 +51,23 @@ module _ (chunk points : ℕ) (sizes : List ℕ) (few : length sizes < 429496729
   unfolding table
   held = holds-fixed sizes (omega (arith, few)) words-are
 
-  has : HasTable table (Fixed chunk points) [] sizes
-  has = record { count = count; holds = held }
+  begins : BeginsTable table (Fixed chunk points) [] sizes
+  begins = record { count = count; holds = held }
 
-  only : (others more : List ℕ) → HasTable table (Fixed chunk points) others more → (others ≡ []) × (more ≡ sizes)
+  only : (others more : List ℕ) → BeginsTable table (Fixed chunk points) others more → (others ≡ []) × (more ≡ sizes)
   unfolding table
   only others more other =
       let long : length more ≡ length sizes = other.count ∙ sym count in
       let same = one-held table (length sizes) false [] sizes others more (fixed-bytes sizes words-are) held (subst (λ (n : ℕ). TableHolds table n false others more) long other.holds) in
       (sym same.0, sym same.1)
 
+  has : HasTable table (Fixed chunk points) [] sizes
+  has = record { begins = begins; only = only }
+
   no_cause : IsFirst (table_causes table (Fixed chunk points) (sum sizes)) None
   no_cause = inr (
     λ lacks. lacks [] sizes has,
-    inr (λ other. other.3 (ap sum (only other.0 other.1 other.2).1), inr (λ none. none, refl)),
+    inr (λ other. other.3 (ap sum (only other.0 other.1 other.2.begins).1), inr (λ none. none, refl)),
   )
 
   pub table_accepted : IsAccepted (table_bytes [] sizes) (Fixed chunk points) (sum sizes) (fixed_sizes chunk points) sizes
@@ -72,7 +75,6 @@ module _ (chunk points : ℕ) (sizes : List ℕ) (few : length sizes < 429496729
   table_accepted = record {
     coded = [];
     table = has;
-    only = only;
     sizes_are = refl;
     fine = no_cause;
   }

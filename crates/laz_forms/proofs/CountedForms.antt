@@ -7,14 +7,13 @@ use Rattle.byteorder.specs.Endian.{little_bytes}
 use Rattle.las_header.specs.declared.counts.Counts.{Counts}
 use Rattle.las_header.specs.Counting.{counts_bytes, long_bytes, long_counts_bytes, long_returns, short_bytes, with_counts}
 use Rattle.las_header.specs.Fields.{has_long_counts, points_of, record_length_of}
-use Rattle.las_header.proofs.Public.{counted_head}
+use Rattle.las_header.proofs.Public.{counted_head, cut_length}
 use Rattle.las_points.specs.Tally.{counts_of}
 use Rattle.laz_range.specs.Span.{IsBytes}
 use Rattle.laz_range.proofs.Public.{IsBytes-drop, IsBytes-take}
 use Rattle.laz_table.proofs.Public.{IsBytes-append, IsBytes-little}
 use Rattle.laz_forms.specs.Laws.{AreCounted}
 use Rattle.laz_forms.specs.Outputs.{records_after}
-use Rattle.laz_forms.proofs.Blocks.{cut-length}
 use Rattle.laz_forms.proofs.Finished.{long-size, short-size}
 
 -- ---- bytes
@@ -52,7 +51,7 @@ are_counted head records count is plain none near head_bytes record_bytes whole 
     let counts = counts_of all in
     let some : 0 < record_length_of head = omega (arith, is.record_length) in
     let many : length all ≡ count =
-    cut-length (record_length_of head) (length records / record_length_of head) records
+    cut_length (record_length_of head) (length records / record_length_of head) records
     ∙ ap (λ (n : ℕ). n / record_length_of head) whole ∙ mul-div_cancel_left count some in
     let counted = counted_head counts.points (take 5 counts.returns) (long_returns counts) head is (omega (arith, many, few)) (short-size all) (long-size all) in
     let points : points_of (with_counts counts head) ≡ count = counted.points ∙ many in

@@ -3,11 +3,8 @@ use Rattle.std.proofs.Common.{◌≡◌, inl, inr, ℕ, suc, ◌-◌, Bool, true
 use Rattle.las_header.specs.declared.refusal.Refusal.{Refusal}
 use Rattle.las_header.specs.Conditions.{Condition, IsFirst, conditions}
 use Rattle.las_header.specs.Fields.{head_of, is_packed}
-use Rattle.laz_range.specs.Span.{IsBytes}
-use Rattle.laz_range.proofs.Public.{IsBytes-drop, IsBytes-take}
 use Rattle.laz_table.specs.declared.chunks.Blocks.{Blocks}
 use Rattle.laz_table.specs.Chunks.{HasTable, IsAccepted, LacksTable, are_counted, sizes_of, table_causes}
-use Rattle.laz_table.specs.Laws.{IsOnlyOne}
 use Rattle.laz_table.specs.Table.{TableHolds}
 use Rattle.laz_forms.specs.Existing.{HasAnAnswer, HasPieces, HasSomeRecords, HasSomeInRange}
 use Rattle.laz_chunk.specs.Layouts.{record_length}
@@ -63,15 +60,9 @@ none_after (c ∷ xs) ys is = elim is [
   | inr after ↦ none_after xs ys after.1
 ]
 
-module _ (one : IsOnlyOne) (bytes : List ℕ) (blocks : Blocks) (total : ℕ) (small : IsBytes bytes) where
-  one_table : (sizes counts others more : List ℕ) → HasTable bytes blocks sizes counts → HasTable bytes blocks others more → (others ≡ sizes) × (more ≡ counts)
-  one_table sizes counts others more h k =
-      let number : length counts ≡ length more = sym h.holds.number ∙ k.holds.number in
-      let same : TableHolds bytes (length more) (are_counted blocks) sizes counts = subst (λ (n : ℕ). TableHolds bytes n (are_counted blocks) sizes counts) number h.holds in
-      one bytes (length more) (are_counted blocks) others more sizes counts small k.holds same
-
+module _ (bytes : List ℕ) (blocks : Blocks) (total : ℕ) where
   accepted : (coded counts : List ℕ) → IsFirst (table_causes bytes blocks total) None → HasTable bytes blocks coded counts → IsAccepted bytes blocks total (sizes_of blocks coded) counts
-  accepted coded counts fine table = record { coded = coded; table = table; only = λ others more of. one_table coded counts others more table of; sizes_are = refl; fine = fine }
+  accepted coded counts fine table = record { coded = coded; table = table; sizes_are = refl; fine = fine }
 
   not_lacking : IsFirst (table_causes bytes blocks total) None → LacksTable bytes blocks → ⊥
   not_lacking fine lacks = elim fine [
@@ -85,16 +76,14 @@ module _ (one : IsOnlyOne) (bytes : List ℕ) (blocks : Blocks) (total : ℕ) (s
     | inr none ↦ absurd (not_lacking fine (λ coded counts table. none ((coded, counts), table, tt)))
   ]
 
-module _ (one : IsOnlyOne) (file : List ℕ) (small : IsBytes file) where
-  pieces_if : (packed : Bool) → IsFirst (chunk_causes packed file) None → (pieces : List Piece) × ArePiecesIf packed file pieces
-  pieces_if false fine = (plain_pieces file, refl)
-  pieces_if true fine =
-      let part : IsBytes (table_part file) = IsBytes-drop (table_place file) (take (table_end file) file) (IsBytes-take (table_end file) file small) in
-      let h = accepted_there one (table_part file) (blocks_in (head_of file)) (table_place file - chunks_place file) part fine in
-      (pieces_from (chunks_place file) h.0 h.1, (h.0, h.1, h.2, refl))
+pieces_if : (packed : Bool) (file : List ℕ) → IsFirst (chunk_causes packed file) None → (pieces : List Piece) × ArePiecesIf packed file pieces
+pieces_if false file fine = (plain_pieces file, refl)
+pieces_if true file fine =
+    let h = accepted_there (table_part file) (blocks_in (head_of file)) (table_place file - chunks_place file) fine in
+    (pieces_from (chunks_place file) h.0 h.1, (h.0, h.1, h.2, refl))
 
-  pieces_there : IsAcceptedFile file → (pieces : List Piece) × ArePieces file pieces
-  pieces_there accepted = pieces_if (is_packed (head_of file)) (none_after (conditions (tested_causes file)) (chunk_causes (is_packed (head_of file)) file) accepted)
+pub has_pieces : HasPieces
+has_pieces file accepted = pieces_if (is_packed (head_of file)) file (none_after (conditions (tested_causes file)) (chunk_causes (is_packed (head_of file)) file) accepted)
 
 -- ---- the records
 
@@ -126,18 +115,14 @@ read_there : (file : List ℕ) (pieces : List Piece) → HasRead file pieces
 read_there file [] = ([], None, tt)
 read_there file (p ∷ pieces) = read_or file p pieces (read_there file pieces) (block_decided (is_packed (head_of file)) file p)
 
-module _ (one : IsOnlyOne) where
-  pub has_pieces : HasPieces
-  has_pieces file accepted small = pieces_there one file small accepted
+pub has_records : HasSomeRecords
+has_records file accepted =
+    let p = has_pieces file accepted in
+    let r = read_there file p.0 in
+    (r.0, r.1, (p.0, p.1, r.2))
 
-  pub has_records : HasSomeRecords
-  has_records file accepted small =
-      let p = has_pieces file accepted small in
-      let r = read_there file p.0 in
-      (r.0, r.1, (p.0, p.1, r.2))
-
-  pub has_records_in : HasSomeInRange
-  has_records_in file range accepted small =
-      let p = has_pieces file accepted small in
-      let r = read_there file (parts_of file range p.0) in
-      (r.0, moved (first_of file range p.0) r.1, (p.0, r.1, p.1, r.2, refl))
+pub has_records_in : HasSomeInRange
+has_records_in file range accepted =
+    let p = has_pieces file accepted in
+    let r = read_there file (parts_of file range p.0) in
+    (r.0, moved (first_of file range p.0) r.1, (p.0, r.1, p.1, r.2, refl))

@@ -17,7 +17,7 @@ use Rattle.laz_chunk.specs.Layouts.{layout_of}
 use Rattle.laz_table.specs.Payload.{laszip_payload}
 use Rattle.laz_table.specs.Table.{table_bytes}
 use Rattle.laz_forms.specs.Laws.{IsCountedFile, IsFinished, file_of}
-use Rattle.laz_forms.specs.Outputs.{counts_patches, front_of, pointer_patches, points_in, records_after}
+use Rattle.laz_forms.specs.Outputs.{counts_patches, front_written, pointer_patches, points_written, records_after}
 use Rattle.laz_forms.specs.Packing.{blocks_of, chunk_blocks, chunks_of, pack, packed_head, packed_points, table_after}
 use Rattle.laz_forms.proofs.Blocks.{cut-joined}
 use Rattle.laz_forms.proofs.Counted.{counted_format, counted_lengths, counted_packed, length-counted, packed_long, packed_longer}
@@ -123,13 +123,13 @@ module _ (head records : List ℕ) (is : IsHead head) where
       ∙ patched head (counts_bytes none) (long_counts_bytes none) (counts_bytes all) (long_counts_bytes all) records enough
       (short-size []) (long-size []) (short-size (records_after head records)) (long-size (records_after head records)) (has_long_counts head) is.long_block
 
-  packed_uncounted : (chunk : ℕ) → with_patches (front_of (Some chunk) head ++ points_in (Some chunk) head records) (pointer_patches (Some chunk) head records) ≡ pack head records chunk
+  packed_uncounted : (chunk : ℕ) → with_patches (front_written (Some chunk) head ++ points_written (Some chunk) head records) (pointer_patches (Some chunk) head records) ≡ pack head records chunk
   packed_uncounted chunk =
       let packed = packed_head head chunk in
       let chunks = chunks_of head (chunk_blocks head records chunk) in
       pointed packed (little_bytes 8 (length packed)) (little_bytes 8 (table_after head chunk chunks)) (packed_points chunks) (length packed) refl refl refl
 
-  packed_counted : (chunk : ℕ) → with_patches (front_of (Some chunk) (with_counts none head) ++ points_in (Some chunk) head records) (counts_patches head all ++ pointer_patches (Some chunk) head records)
+  packed_counted : (chunk : ℕ) → with_patches (front_written (Some chunk) (with_counts none head) ++ points_written (Some chunk) head records) (counts_patches head all ++ pointer_patches (Some chunk) head records)
       ≡ pack (with_counts all head) records chunk
   packed_counted chunk =
       let format = format_of head in
@@ -168,7 +168,7 @@ module _ (head records : List ℕ) (is : IsHead head) where
       ∙ sym (pack-by format lengths (with_counts all head) records chunk (counted_format head (counts_bytes all) (long_counts_bytes all) is short_all long_all) (counted_lengths head (counts_bytes all) (long_counts_bytes all) is short_all long_all))
 
   by_form : (chunk : Option ℕ) (counted : Bool)
-      → with_patches (front_of chunk (cond counted (with_counts none head) head) ++ points_in chunk head records) (cond counted (counts_patches head all) [] ++ pointer_patches chunk head records)
+      → with_patches (front_written chunk (cond counted (with_counts none head) head) ++ points_written chunk head records) (cond counted (counts_patches head all) [] ++ pointer_patches chunk head records)
       ≡ file_of chunk (cond counted (with_counts all head) head) records
   by_form None false = refl
   by_form None true = plain_counted

@@ -81,7 +81,7 @@ module _ (file : List ℕ) (chunk : ℕ) (p : IsPlainFile file) (least : 256 ≤
   pub chunk_size_is : chunk_size_of packed ≡ chunk
   chunk_size_is =
       ap chunk_size_in (payload-is packed place (ap (λ (ps : List VlrPlace). slice_get ps 0) head_packed.laszip) ∙ payload_there)
-      ∙ payload-chunk (format_of head) (extra_of head) chunk few
+      ∙ payload-chunk (format_of head) (extra_of head) chunk (omega (arith, few))
 
   pub layout_same : record_layout packed ≡ record_layout head
   layout_same = ap (λ (f : ℕ). layout_of f (extra_of packed)) head_packed.records.format ∙ ap (layout_of (format_of head)) extra_same

@@ -2,6 +2,7 @@
 use Rattle.std.proofs.Common.{◌≡◌, ℕ, List, Option, Some, None, IsSomeAnd, Result, Ok, Err, OnOk, IfOk, subst, refl}
 use Rattle.std.specs.FinMap as map
 use Rattle.las_outside.specs.Files.{FileMap, WhereKnown, IsMissing}
+use Rattle.laz_forms.specs.declared.fault.Fault.{Fault}
 
 some_then : (o : Option (List ℕ)) (P Q : List ℕ → Type 0) → ((file : List ℕ) → P file → Q file) → IsSomeAnd o P → IsSomeAnd o Q
 some_then None P Q to p = p
@@ -60,3 +61,6 @@ not_both (Some files) name P Q never p q = absurd (by (map.get files name) p q)
     by : (o : Option (List ℕ)) → IsSomeAnd o P → IsSomeAnd o Q → ⊥
     by None a b = a
     by (Some file) a b = never file a b
+
+pub ok_no_fault : {T X : Type 0} (value : T) (fault : Fault) → ◌≡◌ {A = Result T Fault} (Ok value) (Err fault) → X
+ok_no_fault value fault is = absurd (cc)

@@ -16,11 +16,12 @@ mod Accepted
 mod Payloads
 mod Fronts
 mod Chunked
+mod Forms
 mod Packed
 mod Whole
 mod PlainForms
 mod CountedForms
-mod Foreign
+mod ForeignExamples
 mod Putting
 mod RecordLengths
 mod Tallying

@@ -15,7 +15,7 @@ refused_once file one other is was =
 one_if : (packed : Bool) (file : List ℕ) (one other : List Piece) → ArePiecesIf packed file one → ArePiecesIf packed file other → one ≡ other
 one_if false file one other is was = is ∙ sym was
 one_if true file one other is was =
-    let same = is.2.only was.2.coded was.1 was.2.table in
+    let same = is.2.table.only was.2.coded was.1 was.2.table.begins in
     let counts : is.0 ≡ was.0 = is.2.sizes_are ∙ ap (sizes_of (blocks_in (head_of file))) (sym same.0) ∙ sym was.2.sizes_are in
     is.3
     ∙ ap (λ (ns : List ℕ). pieces_from (chunks_place file) ns is.1) counts

@@ -10,6 +10,7 @@ use Rattle.las_header.specs.declared.refusal.Refusal.TheVariants as cause
 use Rattle.las_header.specs.Numbers.{number_at}
 use Rattle.las_header.specs.Refusals.{first_cause}
 use Rattle.las_header.proofs.Public.{number_at-drop, reads_back, first_none}
+use Rattle.las_header.specs.Fields.{has_colours, has_time}
 use Rattle.laz_table.specs.Payload.{Item, all_item_bytes, item_bytes, item_if, items_of, items_part, laszip_payload, payload_start}
 use Rattle.laz_table.specs.VlrCauses.{chunk_count, chunk_size_in, has_other_compressor, has_other_items, has_other_shape, is_bad_chunk_size, is_counted, makes_many_chunks, payload_causes}
 
@@ -36,8 +37,8 @@ few-if true true false true k l m n x y z w = omega arith
 few-if true true true false k l m n x y z w = omega arith
 few-if true true true true k l m n x y z w = omega arith
 
-few-items : (format extra : ℕ) → length (items_of format extra) ≤ 4
-few-items format extra = few-if true (format % 2 == 1) (format / 2 == 1) (nat_lt 0 extra) 6 7 8 0 20 8 6 extra
+pub few-items : (format extra : ℕ) → length (items_of format extra) ≤ 4
+few-items format extra = few-if true (has_time format) (has_colours format) (nat_lt 0 extra) 6 7 8 0 20 8 6 extra
 
 pub pointwise-same : (xs : List ℕ) → pointwise nat_eq xs xs ≡ true
 pointwise-same [] = refl
@@ -51,7 +52,7 @@ module _ (format extra chunk : ℕ) where
   payload : List ℕ
   payload = laszip_payload format extra chunk
 
-  length-payload : length payload ≡ 34 + 6 * length (items_of format extra)
+  pub length-payload : length (laszip_payload format extra chunk) ≡ 34 + 6 * length (items_of format extra)
   unfolding payload
   length-payload = omega (arith, length-append (payload_start chunk) (items_part (items_of format extra)), length-append (little_bytes 2 (length (items_of format extra))) (all_item_bytes (items_of format extra)), length-items (items_of format extra))
 
@@ -79,14 +80,14 @@ module _ (format extra chunk : ℕ) where
   chunk-in fits = number_at-drop 4 12 (laszip_payload format extra chunk) ∙ reads_back 4 chunk (replicate 16 255 ++ items_part (items_of format extra)) (omega (arith, fits))
 
 -- ---- chunk sizes
-not-own : (chunk : ℕ) → chunk ≤ 250000 → is_counted chunk ≡ false
-not-own chunk few = ne_eqb chunk 4294967295 (λ e. absurd (omega (arith, few, e)))
+pub fixed-size : (chunk : ℕ) → chunk ≤ 250000 → is_counted chunk ≡ false
+fixed-size chunk few = ne_eqb chunk 4294967295 (λ e. absurd (omega (arith, few, e)))
 
 good-size : (points chunk : ℕ) → 256 ≤ chunk → chunk ≤ 250000 → is_bad_chunk_size points chunk ≡ false
 good-size points chunk least few =
     let short : min chunk points ≤ 250000 = omega (arith, min-le_left chunk points, few) in
     ap (λ (b : Bool). b || (not (is_counted chunk) && nat_lt 250000 (min chunk points))) (ne_eqb chunk 0 (λ e. absurd (omega (arith, least, e))))
-    ∙ ap (λ (b : Bool). not b && nat_lt 250000 (min chunk points)) (not-own chunk few)
+    ∙ ap (λ (b : Bool). not b && nat_lt 250000 (min chunk points)) (fixed-size chunk few)
     ∙ lt-leb 250001 (min chunk points) (omega (arith, short))
 
 pub few-chunks : (points chunk : ℕ) → points < 4294967296 → 256 ≤ chunk → chunk_count points chunk ≤ 16777216
@@ -97,16 +98,16 @@ few-chunks points chunk fits least =
 
 not-many : (points chunk : ℕ) → points < 4294967296 → 256 ≤ chunk → chunk ≤ 250000 → makes_many_chunks points chunk ≡ false
 not-many points chunk fits least few =
-    ap (λ (b : Bool). not b && nat_lt 16777216 (chunk_count points chunk)) (not-own chunk few)
+    ap (λ (b : Bool). not b && nat_lt 16777216 (chunk_count points chunk)) (fixed-size chunk few)
     ∙ lt-leb 16777217 (chunk_count points chunk) (omega (arith, few-chunks points chunk fits least))
 
--- no condition of a payload holds
-pub payload-fine : (format extra points chunk : ℕ) → points < 4294967296 → 256 ≤ chunk → chunk ≤ 250000
+-- no condition of a payload holds, if its chunk size is good and makes few chunks
+pub payload-by : (format extra points chunk : ℕ) → chunk < 4294967296 → is_bad_chunk_size points chunk ≡ false → makes_many_chunks points chunk ≡ false
     → first_cause (payload_causes format extra points (laszip_payload format extra chunk)) ≡ None
 unfolding payload
-payload-fine format extra points chunk fits least few =
+payload-by format extra points chunk fits good few =
     let bytes = laszip_payload format extra chunk in
-    let size = chunk-in format extra chunk (omega (arith, few)) in
+    let size = chunk-in format extra chunk fits in
     let many = (makes_many_chunks points (chunk_size_in bytes), cause.TooManyChunks) ∷ [] in
     let sizes = (is_bad_chunk_size points (chunk_size_in bytes), cause.ChunkSize) ∷ many in
     let others = (has_other_items format extra bytes, cause.Items) ∷ sizes in
@@ -114,17 +115,19 @@ payload-fine format extra points chunk fits least few =
     first_none (has_other_shape bytes) cause.VlrShape compressors (shape format extra chunk)
     (first_none (has_other_compressor bytes) cause.Compressor others (compressor format extra chunk)
     (first_none (has_other_items format extra bytes) cause.Items sizes (items format extra chunk)
-    (first_none (is_bad_chunk_size points (chunk_size_in bytes)) cause.ChunkSize many (ap (is_bad_chunk_size points) size ∙ good-size points chunk least few)
-    (first_none (makes_many_chunks points (chunk_size_in bytes)) cause.TooManyChunks [] (ap (makes_many_chunks points) size ∙ not-many points chunk fits least few) refl))))
+    (first_none (is_bad_chunk_size points (chunk_size_in bytes)) cause.ChunkSize many (ap (is_bad_chunk_size points) size ∙ good)
+    (first_none (makes_many_chunks points (chunk_size_in bytes)) cause.TooManyChunks [] (ap (makes_many_chunks points) size ∙ few) refl))))
+
+pub payload-fine : (format extra points chunk : ℕ) → points < 4294967296 → 256 ≤ chunk → chunk ≤ 250000
+    → first_cause (payload_causes format extra points (laszip_payload format extra chunk)) ≡ None
+payload-fine format extra points chunk fits least few =
+    payload-by format extra points chunk (omega (arith, few)) (good-size points chunk least few) (not-many points chunk fits least few)
 
 -- a payload is as short as one that is written may be
 pub payload-short : (format extra chunk : ℕ) → length (laszip_payload format extra chunk) ≤ 58
 unfolding payload
 payload-short format extra chunk = omega (arith, length-payload format extra chunk, few-items format extra)
 
-pub payload-chunk : (format extra chunk : ℕ) → chunk ≤ 250000 → chunk_size_in (laszip_payload format extra chunk) ≡ chunk
+pub payload-chunk : (format extra chunk : ℕ) → chunk < 4294967296 → chunk_size_in (laszip_payload format extra chunk) ≡ chunk
 unfolding payload
-payload-chunk format extra chunk few = chunk-in format extra chunk (omega (arith, few))
-
-pub fixed-size : (chunk : ℕ) → chunk ≤ 250000 → is_counted chunk ≡ false
-fixed-size chunk few = not-own chunk few
+payload-chunk format extra chunk fits = chunk-in format extra chunk fits

@@ -1,7 +1,7 @@
 -- A plain head and the records that it counts are an accepted file.
 use Rattle.std.proofs.Common.{◌≡◌, ℕ, ◌+◌, ◌-◌, ◌&&◌, not, nat_lt, Bool, true, false, cond, List, [], ◌∷◌, ◌++◌, length, take, drop, Option, None, refl, sym, ap, subst, ◌∙◌, arith, length-append}
 use Rattle.std.proofs.lemmas.List.{drop_at, take-take, take_at}
-use Rattle.std.proofs.lemmas.Bool.{or_from}
+use Rattle.std.proofs.lemmas.Bool.{or_from, le-ltb}
 use Rattle.las_header.specs.declared.refusal.Refusal.{Refusal}
 use Rattle.las_header.specs.declared.refusal.Refusal.TheVariants as cause
 use Rattle.las_header.specs.declared.vlrs.VlrPlace.{VlrPlace}
@@ -19,7 +19,8 @@ use Rattle.laz_forms.specs.Laws.{AreHeadAndRecords, CanBePacked, IsAcceptedPack,
 use Rattle.laz_forms.specs.Packing.{pack, packed_file}
 use Rattle.laz_forms.specs.Records.{Unpacks}
 use Rattle.laz_forms.specs.Refusing.{IsAcceptedFile, chunk_causes, has_bad_pointer, tested_causes}
-use Rattle.laz_forms.proofs.Packed.{both-fine, not-below, packed_accepted, plain-is, unpacks_again}
+use Rattle.laz_forms.proofs.Packed.{packed_accepted, plain-is, unpacks_again}
+use Rattle.laz_forms.proofs.Forms.{both-fine}
 
 and_false : (a b : Bool) → b ≡ false → (a && b) ≡ false
 and_false true b e = e
@@ -66,14 +67,14 @@ module _ (head records : List ℕ) (p : AreHeadAndRecords head records) where
       let extended_causes : List (Bool × Refusal) = (has_extended_vlrs head, cause.Extended) ∷ counts_causes in
       let length_causes : List (Bool × Refusal) = (has_bad_record_length head, cause.RecordLength) ∷ extended_causes in
       let format_causes : List (Bool × Refusal) = (has_other_format head, cause.Format) ∷ length_causes in
-      first_none (has_long_vlrs head) cause.Vlrs format_causes (not-below (point_offset_of head) (vlrs_end head) (omega (arith, is.vlrs, is.whole)))
-      (first_none (has_other_format head) cause.Format length_causes (not-below 3 (format_of head) is.format)
+      first_none (has_long_vlrs head) cause.Vlrs format_causes (le-ltb (point_offset_of head) (vlrs_end head) (omega (arith, is.vlrs, is.whole)))
+      (first_none (has_other_format head) cause.Format length_causes (le-ltb 3 (format_of head) is.format)
       (first_none (has_bad_record_length head) cause.RecordLength extended_causes
-      (or_from (nat_lt (record_length_of head) (format_size (format_of head))) (nat_lt (format_size (format_of head) + 192) (record_length_of head)) (not-below (record_length_of head) (format_size (format_of head)) is.record_length) (not-below (format_size (format_of head) + 192) (record_length_of head) is.extra))
+      (or_from (nat_lt (record_length_of head) (format_size (format_of head))) (nat_lt (format_size (format_of head) + 192) (record_length_of head)) (le-ltb (record_length_of head) (format_size (format_of head)) is.record_length) (le-ltb (format_size (format_of head) + 192) (record_length_of head) is.extra))
       (first_none (has_extended_vlrs head) cause.Extended counts_causes (no_extended head (has_long_counts head) refl is)
       (first_none (has_bad_counts head) cause.PointCounts early_causes is.counts
-      (first_none (ends_early head size) cause.Count on_causes (and_false (not (is_packed head)) (nat_lt (size - point_offset_of head) (counted_size head)) (not-below (size - point_offset_of head) (counted_size head) (omega (arith, left))))
-      (first_none (goes_on head size) cause.Trailing stray_causes (and_false (not (is_packed head)) (nat_lt (counted_size head) (size - point_offset_of head)) (not-below (counted_size head) (size - point_offset_of head) (omega (arith, left))))
+      (first_none (ends_early head size) cause.Count on_causes (and_false (not (is_packed head)) (nat_lt (size - point_offset_of head) (counted_size head)) (le-ltb (size - point_offset_of head) (counted_size head) (omega (arith, left))))
+      (first_none (goes_on head size) cause.Trailing stray_causes (and_false (not (is_packed head)) (nat_lt (counted_size head) (size - point_offset_of head)) (le-ltb (counted_size head) (size - point_offset_of head) (omega (arith, left))))
       (first_none (has_stray_vlr head) cause.StrayVlr [] (and_false (not (is_packed head)) (nat_lt 0 (length (laszip_vlrs_of head))) (ap (λ (ps : List VlrPlace). nat_lt 0 (length ps)) p.none)) refl)))))))
 
   more : List (Bool × Refusal)

@@ -1,17 +1,17 @@
 -- How long records are, and how many whole records there are.
-use Rattle.std.proofs.Common.{◌≡◌, ℕ, zero, suc, ◌+◌, ◌*◌, ◌/◌, ◌%◌, ◌≤◌, ◌==◌, ◌||◌, nat_le, List, refl, ◌∙◌, ap, arith}
+use Rattle.std.proofs.Common.{◌≡◌, ℕ, zero, suc, ◌+◌, ◌*◌, ◌/◌, ◌%◌, ◌≤◌, List, refl, ◌∙◌, ap, arith}
 use Rattle.std.proofs.Math.Nat.{div-add-mod, mul-mod_right, mul-le-mul_left}
 use Rattle.std.proofs.Common.{[], ◌∷◌, ◌<◌, length-append, length, drop}
 use Rattle.std.specs.Prelude.{All}
 use Rattle.std.specs.List.{concat}
 use Rattle.std.proofs.lemmas.List.{drop-drop}
-use Rattle.las_header.specs.Fields.{format_of, record_length_of}
+use Rattle.las_header.specs.Fields.{format_of, has_colours, has_time, record_length_of}
 use Rattle.las_header.specs.Heads.{IsHead}
 use Rattle.laz_chunk.specs.Layouts.{Layout, colour_length, layout, record_length, time_length}
 use Rattle.laz_forms.specs.Packing.{format_in}
 
 -- a record of a format has the bytes of its items
-parts_of : (f : ℕ) → f ≤ 3 → time_length ((f == 1) || (f == 3)) + colour_length (nat_le 2 f) ≡ 8 * (f % 2) + 6 * (f / 2)
+parts_of : (f : ℕ) → f ≤ 3 → time_length (has_time f) + colour_length (has_colours f) ≡ 8 * (f % 2) + 6 * (f / 2)
 parts_of zero h = refl
 parts_of (suc zero) h = refl
 parts_of (suc (suc zero)) h = refl

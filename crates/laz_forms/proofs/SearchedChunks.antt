@@ -3,6 +3,7 @@ use Rattle.std.proofs.Common.{◌≡◌, ℕ, ℤ, zero, suc, ◌+◌, ◌*◌, 
 use Rattle.laz_range.specs.Choice.{AllAsked}
 use Rattle.laz_range.specs.Span.{Begins, Fits, IsBytes, Span, number, span}
 use Rattle.laz_integer.specs.Events.{Event, cuts_of}
+use Rattle.laz_integer.proofs.Public.{same_pair}
 use Rattle.laz_point10.specs.declared.point.Point.{Point}
 use Rattle.laz_point10.specs.PointEvents.{SpellsPoint}
 use Rattle.laz_gpstime.specs.Sequences as sequences
@@ -14,7 +15,7 @@ use Rattle.laz_chunk.specs.Chunks.{AreRecords, History, Holds, IsSpelled, Spelli
 use Rattle.laz_chunk.specs.Layouts.{Layout, record_length}
 use Rattle.laz_chunk.specs.Records.{ChunkPoint, Record, SpellsColourIf, SpellsRecord, SpellsTimeIf, colours_of, extras_of, points_of, times_of}
 use Rattle.laz_forms.proofs.Searching.{Decided, IsSearched, decided_both, decided_if, searched_among, searched_as, searched_below, searched_made, searched_one, searched_pairs}
-use Rattle.laz_forms.proofs.SearchedFields.{is_at_most, is_below, same_integer, same_list, same_number, same_pair}
+use Rattle.laz_forms.proofs.SearchedFields.{is_at_most, is_below, same_integer, same_list, same_number}
 use Rattle.laz_forms.proofs.SearchedParts.{searched_colour, searched_extra, searched_time}
 use Rattle.laz_forms.proofs.SearchedPoints.{searched_point}
 

@@ -5,6 +5,7 @@ use Rattle.laz_integer.specs.Corrector.{choices, corrected}
 use Rattle.laz_integer.specs.Events.{Event}
 use Rattle.laz_integer.specs.Fields.{IsByte, SpellsByte, SpellsWord, byte_events}
 use Rattle.laz_integer.specs.Integer.{IntSpell, corrector_events}
+use Rattle.laz_integer.proofs.Public.{same_pair}
 use Rattle.laz_rgb.specs.Rows.{IsRow}
 use Rattle.laz_forms.proofs.Searching.{Decided, IsSearched, decided_if, searched_as, searched_below, searched_made, searched_one, searched_pairs}
 
@@ -48,10 +49,6 @@ is_below a b = elim (cases_lt a b) [
   | inl below ↦ inl below
   | inr above ↦ inr (λ lt. absurd (omega (arith, above, lt)))
 ]
-
--- two equations of a pair
-pub same_pair : {A B : Type 0} (a c : A) (b d : B) → a ≡ c → b ≡ d → ◌≡◌ {A = A × B} (a, b) (c, d)
-same_pair {A} {B} a c b d first second = ap (λ (x : A). (x, b)) first ∙ ap (λ (y : B). (c, y)) second
 
 -- ---- integers
 

@@ -2,6 +2,7 @@
 use Rattle.std.proofs.Common.{◌≡◌, ◌≢◌, ◌⊎◌, ℕ, ℤ, ◌+◌, ◌*◌, ◌/◌, ◌<◌, List, [], ◌∷◌, ◌++◌, length, refl, sym, ap}
 use Rattle.std.specs.Int.{w32, cast_signed, cast_unsigned}
 use Rattle.laz_integer.specs.Events.{Event, raw_events}
+use Rattle.laz_integer.proofs.Public.{same_pair}
 use Rattle.laz_gpstime.specs.Meanings.{time_kind}
 use Rattle.laz_gpstime.specs.Sequences.{Point}
 use Rattle.laz_gpstime.specs.Spelling.{SpellsNear, SpellsNew, SpellsSame, SpellsTime, time_plus}
@@ -11,7 +12,7 @@ use Rattle.laz_rgb.specs.Colours.{SpellsColour, changes_event, colour_made, colo
 use Rattle.laz_rgb.specs.Extra.{SpellsExtra, all_marked, byte_kind, extra_made}
 use Rattle.laz_rgb.specs.Rows.{IsRow, row_events}
 use Rattle.laz_forms.proofs.Searching.{IsSearched, decided_not, searched_among, searched_as, searched_below, searched_made, searched_one, searched_or, searched_pairs}
-use Rattle.laz_forms.proofs.SearchedFields.{IsInteger, same_number, same_pair, searched_integer, searched_row}
+use Rattle.laz_forms.proofs.SearchedFields.{IsInteger, same_number, searched_integer, searched_row}
 
 abbrev Timed : Type 0
 Timed = List Event × ℕ

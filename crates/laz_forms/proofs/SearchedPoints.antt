@@ -5,11 +5,12 @@ use Rattle.laz_integer.specs.Bytes.{byte_plus, has_bit}
 use Rattle.laz_integer.specs.Events.{Event, Symbol}
 use Rattle.laz_integer.specs.Fields.{SpellsByte, SpellsWord}
 use Rattle.laz_integer.specs.Uses.{own_name}
+use Rattle.laz_integer.proofs.Public.{same_pair}
 use Rattle.laz_point10.specs.declared.point.Point.{Point}
 use Rattle.laz_point10.specs.Points.{direction_bit, latest_point, one_return, predictions_of}
 use Rattle.laz_point10.specs.PointEvents.{SpellsPoint, changes_kind, classification_kind, flags_kind, intensity_context, intensity_kind, point_source_kind, scan_angle_kind, user_data_kind, x_kind, y_context, y_kind, z_context, z_kind}
 use Rattle.laz_forms.proofs.Searching.{IsSearched, searched_below, searched_made, searched_pairs}
-use Rattle.laz_forms.proofs.SearchedFields.{IsInteger, same_pair, searched_byte, searched_integer, searched_word}
+use Rattle.laz_forms.proofs.SearchedFields.{IsInteger, searched_byte, searched_integer, searched_word}
 
 abbrev Marked : Type 0
 Marked = List Event × ℕ

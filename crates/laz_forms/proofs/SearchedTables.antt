@@ -10,12 +10,12 @@ use Rattle.laz_integer.specs.Integer.{IntSpell}
 use Rattle.laz_table.specs.declared.chunks.Blocks.{Blocks}
 use Rattle.laz_table.specs.declared.chunks.Blocks.TheVariants.{Fixed, Counted}
 use Rattle.laz_table.specs.declared.limits.TheConstants.{MAX_CHUNKS, MAX_CHUNK_POINTS, TABLE_START}
-use Rattle.laz_table.specs.Chunks.{AreSizes, HasOtherBytes, HasOtherPoints, HasTable, IsChunkCount, IsChunkSize, LacksTable, are_counted}
+use Rattle.laz_table.specs.Chunks.{AreSizes, BeginsTable, HasOtherBytes, HasOtherPoints, HasTable, IsChunkCount, IsChunkSize, LacksTable, are_counted}
 use Rattle.laz_table.specs.Entries.{Entry, Latest, SpellsEntries, SpellsEntry, after_entry, bytes_entry, context_of, entries_of, no_entry, prediction, signed, table_use}
 use Rattle.laz_table.specs.Table.{HoldsEntries}
 use Rattle.laz_table.specs.VlrCauses.{chunk_count}
 use Rattle.laz_forms.proofs.Searching.{Decided, IsSearched, decided_both, decided_if, decided_not, searched_among, searched_as, searched_made, searched_none, searched_one, searched_pairs}
-use Rattle.laz_forms.proofs.SearchedFields.{IsInteger, is_at_most, is_below, same_integer, same_number, searched_integer}
+use Rattle.laz_forms.proofs.SearchedFields.{IsInteger, is_at_most, is_below, same_integer, same_list, same_number, searched_integer}
 use Rattle.laz_forms.proofs.SearchedChunks.{AreBelow, AreNumbers, begins_decided, searched_numbers}
 
 -- ---- the spellings of entries
@@ -103,16 +103,19 @@ module _ (bytes : List ℕ) (blocks : Blocks) where
   abbrev Lists : Type 0
   Lists = List ℕ × List ℕ
 
+  abbrev IsBegun : Lists → Type 0
+  IsBegun x = BeginsTable bytes blocks x.0 x.1
+
   abbrev IsTable : Lists → Type 0
   IsTable x = HasTable bytes blocks x.0 x.1
 
-  table_decided : (sizes counts : List ℕ) → Decided (HasTable bytes blocks sizes counts)
-  table_decided sizes counts =
+  begun_decided : (sizes counts : List ℕ) → Decided (BeginsTable bytes blocks sizes counts)
+  begun_decided sizes counts =
       let counted = are_counted blocks in
       decided_if
       {A = IsChunkCount blocks (length counts) × ((TABLE_START ≤ length bytes) × ((number_at 4 0 bytes ≡ 0) × ((number_at 4 4 bytes ≡ length counts)
       × ((length sizes ≡ sizes_in counted (length counts)) × HoldsEntries (drop TABLE_START bytes) (entries_of sizes counts)))))}
-      {B = HasTable bytes blocks sizes counts}
+      {B = BeginsTable bytes blocks sizes counts}
       (λ h. record { count = h.0; holds = record { long = h.1.0; version = h.1.1.0; number = h.1.1.1.0; byte_counts = refl; point_counts = h.1.1.1.1.0; coded = h.1.1.1.1.1 } })
       (λ h. (h.count, (h.holds.long, (h.holds.version, (h.holds.number, (h.holds.point_counts, h.holds.coded))))))
       (decided_both (count_decided blocks (length counts))
@@ -125,20 +128,47 @@ module _ (bytes : List ℕ) (blocks : Blocks) where
   abbrev AreLists : Lists → Type 0
   AreLists x = AreNumbers (2 ^ 32) (sizes_in (are_counted blocks) (number_at 4 4 bytes)) x.0 × AreNumbers (2 ^ 32) (number_at 4 4 bytes) x.1
 
-  of_table : (x : Lists) → IsTable x → AreLists x
+  of_table : (x : Lists) → IsBegun x → AreLists x
   of_table x h =
       let small = small_table (are_counted blocks) (drop TABLE_START bytes) x.0 x.1 h.holds.point_counts h.holds.coded in
       let number = sym h.holds.number in
       ((h.holds.point_counts ∙ ap (sizes_in (are_counted blocks)) number, small.0), (number, small.1))
 
-  pub searched_table : IsSearched IsTable
-  searched_table =
-      searched_as (λ (x : Lists). AreLists x × IsTable x) IsTable
-      (searched_among AreLists IsTable
+  searched_begun : IsSearched IsBegun
+  searched_begun =
+      searched_as (λ (x : Lists). AreLists x × IsBegun x) IsBegun
+      (searched_among AreLists IsBegun
       (searched_pairs (AreNumbers (2 ^ 32) (sizes_in (are_counted blocks) (number_at 4 4 bytes))) (λ sizes. AreNumbers (2 ^ 32) (number_at 4 4 bytes))
       (searched_numbers (2 ^ 32) (sizes_in (are_counted blocks) (number_at 4 4 bytes))) (λ sizes are. searched_numbers (2 ^ 32) (number_at 4 4 bytes)))
-      (λ x are. table_decided x.0 x.1))
+      (λ x are. begun_decided x.0 x.1))
       (λ x is. is.1) (λ x is. (of_table x is, is))
+
+  -- ---- there is no other table
+
+  abbrev IsSame : Lists → Lists → Type 0
+  IsSame x y = (y.0 ≡ x.0) × (y.1 ≡ x.1)
+
+  abbrev HasOther : Lists → Type 0
+  HasOther x = (y : Lists) × IsBegun y × (¬ IsSame x y)
+
+  same_decided : (x y : Lists) → Decided (IsSame x y)
+  same_decided x y = decided_both (same_list same_number y.0 x.0) (λ _. same_list same_number y.1 x.1)
+
+  other_decided : (x : Lists) → Decided (HasOther x)
+  other_decided x = searched_begun (λ y. ¬ IsSame x y) (λ y is. decided_not (same_decided x y))
+
+  alone : (x : Lists) → ¬ HasOther x → (others more : List ℕ) → BeginsTable bytes blocks others more → (others ≡ x.0) × (more ≡ x.1)
+  alone x none others more begins = elim (same_decided x (others, more)) [
+    | inl same ↦ same
+    | inr differs ↦ absurd (none ((others, more), begins, differs))
+  ]
+
+  pub searched_table : IsSearched IsTable
+  searched_table =
+      searched_as (λ (x : Lists). IsBegun x × (¬ HasOther x)) IsTable
+      (searched_among IsBegun (λ x. ¬ HasOther x) searched_begun (λ x is. decided_not (other_decided x)))
+      (λ x is. record { begins = is.0; only = alone x is.1 })
+      (λ x is. (is.begins, λ other. other.2 (is.only other.0.0 other.0.1 other.1)))
 
   -- ---- the causes of a table
 

@@ -60,9 +60,6 @@ module _ (size : ℕ) (range : Range) where
 
   -- a block that meets it
   module _ (at n : ℕ) (b more : List ℕ) (long : length b ≡ size * n) (meets : 0 < taken_of range at n) where
-    skip : ℕ
-    skip = range.start - at
-
     kept : List ℕ
     kept = drop (size * (range.start - at)) b
 

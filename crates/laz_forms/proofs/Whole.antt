@@ -4,6 +4,7 @@ use Rattle.std.proofs.lemmas.Bool.{cases_lt}
 use Rattle.std.proofs.lemmas.List.{drop-drop, take-append-drop, take_all}
 use Rattle.std.proofs.Math.Seq.{take-add}
 use Rattle.std.specs.List.{concat}
+use Rattle.std.proofs.lemmas.Option.{none-some}
 use Rattle.las_header.specs.Fields.{head_of, is_packed, point_offset_of, points_of, record_length_of}
 use Rattle.las_header.specs.Plain.{plain_head}
 use Rattle.laz_table.specs.Chunks.{fixed_sizes}
@@ -17,18 +18,16 @@ use Rattle.laz_forms.proofs.OneAnswer.{one_pieces}
 use Rattle.laz_forms.proofs.Packed.{plain-is, unpacks_again}
 use Rattle.laz_forms.proofs.Sums.{sum-sizes, sum-times}
 use Rattle.laz_models.proofs.Public.{sum-cons}
+use Rattle.laz_integer.proofs.Public.{cons_same}
 
 -- ---- packed forms
 pub some_same : {X : Type 0} (x y : X) → Some x ≡ Some y → x ≡ y
 some_same x y e = cc
 
-pub none_some : {X : Type 0} (x : X) → None ≡ Some x → ⊥
-none_some x e = absurd (cc)
-
 -- each of the pieces holds a block
 holds_at : (file : List ℕ) (pieces : List Piece) (blocks : List (List ℕ)) (i : ℕ) (piece : Piece) → HoldBlocks file pieces blocks → slice_get pieces i ≡ Some piece
     → (block : List ℕ) × HoldsBlock file piece block
-holds_at file [] [] i piece hold e = absurd (none_some piece e)
+holds_at file [] [] i piece hold e = absurd (none-some piece e)
 holds_at file [] (b ∷ blocks) i piece hold e = absurd hold
 holds_at file (p ∷ pieces) [] i piece hold e = absurd hold
 holds_at file (p ∷ pieces) (b ∷ blocks) zero piece hold e = (b, subst (λ (q : Piece). HoldsBlock file q b) (some_same p piece e) hold.0)
@@ -40,7 +39,7 @@ not_bad file pieces i bad held = let found = held bad.0 bad.1 in bad.2 found.0 f
 
 slice_get-take : (i j : ℕ) (pieces : List Piece) (piece : Piece) → i < j → slice_get pieces i ≡ Some piece → slice_get (take j pieces) i ≡ Some piece
 slice_get-take i zero pieces piece before e = absurd (omega (arith, before))
-slice_get-take i (suc j) [] piece before e = absurd (none_some piece e)
+slice_get-take i (suc j) [] piece before e = absurd (none-some piece e)
 slice_get-take zero (suc j) (p ∷ pieces) piece before e = e
 slice_get-take (suc i) (suc j) (p ∷ pieces) piece before e = slice_get-take i j pieces piece (omega (arith, before)) e
 
@@ -106,9 +105,6 @@ holds-plain file plain piece = subst (λ (b : Bool). HoldsIf b file piece (piece
 pub hold-plain : (file : List ℕ) → is_packed (head_of file) ≡ false → (pieces : List Piece) → HoldBlocks file pieces (map (piece_bytes file) pieces)
 hold-plain file plain [] = tt
 hold-plain file plain (p ∷ pieces) = (holds-plain file plain p, hold-plain file plain pieces)
-
-cons_same : (x y : List ℕ) (xs ys : List (List ℕ)) → x ≡ y → xs ≡ ys → x ∷ xs ≡ y ∷ ys
-cons_same x y xs ys e f = cc
 
 pub only-plain : (file : List ℕ) → is_packed (head_of file) ≡ false → (pieces : List Piece) (blocks : List (List ℕ)) → HoldBlocks file pieces blocks → blocks ≡ map (piece_bytes file) pieces
 only-plain file plain [] [] hold = refl

@@ -3,7 +3,6 @@
 -- a length, and finitely many spellings of each.
 use Rattle.std.specs.Prelude.{ℕ, List, Option}
 use Rattle.las_header.specs.declared.refusal.Refusal.{Refusal}
-use Rattle.laz_range.specs.Span.{IsBytes}
 use Rattle.laz_forms.specs.Pieces.{ArePieces, Piece}
 use Rattle.laz_forms.specs.Ranges.{Range}
 use Rattle.laz_forms.specs.Records.{AreRecordsIn, AreRecordsOf}
@@ -15,14 +14,14 @@ HasAnAnswer = (file : List ℕ) → (answer : Option Refusal) × IsRefusal file 
 
 -- An accepted file has pieces, also one that another writer packed,
 abbrev pub HasPieces : Type 0
-HasPieces = (file : List ℕ) → IsAcceptedFile file → IsBytes file → (pieces : List Piece) × ArePieces file pieces
+HasPieces = (file : List ℕ) → IsAcceptedFile file → (pieces : List Piece) × ArePieces file pieces
 
 -- and records: all of them, or those before its first bad chunk.
 abbrev pub HasSomeRecords : Type 0
-HasSomeRecords = (file : List ℕ) → IsAcceptedFile file → IsBytes file
+HasSomeRecords = (file : List ℕ) → IsAcceptedFile file
     → (blocks : List (List ℕ)) × (bad : Option ℕ) × AreRecordsOf file blocks bad
 
 -- So has each range of it.
 abbrev pub HasSomeInRange : Type 0
-HasSomeInRange = (file : List ℕ) (range : Range) → IsAcceptedFile file → IsBytes file
+HasSomeInRange = (file : List ℕ) (range : Range) → IsAcceptedFile file
     → (blocks : List (List ℕ)) × (bad : Option ℕ) × AreRecordsIn file range blocks bad

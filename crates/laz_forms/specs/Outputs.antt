@@ -22,25 +22,25 @@ pub record Output : Type 0 where
   pub counted : Bool
 
 -- the head as it is first written: with counts of zero, if the records are counted
-abbrev pub first_head : Output → List ℕ
-first_head out = if out.counted then with_counts (counts_of []) out.head else out.head
+abbrev pub unfinished_head : Output → List ℕ
+unfinished_head out = if out.counted then with_counts (counts_of []) out.head else out.head
 
 -- what is written before the records: the head, and the place of the points in the place of the pointer
-abbrev pub front_of : Option ℕ → (head : List ℕ) → List ℕ
-front_of None head = head
-front_of (Some chunk) head = packed_front head chunk (length (packed_head head chunk))
+abbrev pub front_written : Option ℕ → (head : List ℕ) → List ℕ
+front_written None head = head
+front_written (Some chunk) head = packed_front head chunk (length (packed_head head chunk))
 
 abbrev pub front : Output → List ℕ
-front out = front_of out.chunk (first_head out)
+front out = front_written out.chunk (unfinished_head out)
 
 -- what is written for the records
-abbrev pub points_in : Option ℕ → (head records : List ℕ) → List ℕ
-points_in None head records = records
-points_in (Some chunk) head records = packed_points (chunks_of head (chunk_blocks head records chunk))
+abbrev pub points_written : Option ℕ → (head records : List ℕ) → List ℕ
+points_written None head records = records
+points_written (Some chunk) head records = packed_points (chunks_of head (chunk_blocks head records chunk))
 
 -- the draft of an output of these records, one after another
 abbrev pub draft_of : Output → (records : List ℕ) → List ℕ
-draft_of out records = front out ++ points_in out.chunk out.head records
+draft_of out records = front out ++ points_written out.chunk out.head records
 
 -- the point records of a head, each as its bytes
 abbrev pub records_after : (head records : List ℕ) → List (List ℕ)

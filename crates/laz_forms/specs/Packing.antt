@@ -46,6 +46,13 @@ table_after head chunk chunks = length (packed_head head chunk) + 8 + length (co
 abbrev pub packed_points : (chunks : List (List ℕ)) → List ℕ
 packed_points chunks = concat chunks ++ table_bytes [] (map length chunks)
 
+-- a plain head and chunks that are there already in packed form: the head with the laszip VLR of this chunk size, the
+-- pointer to the table, the chunks, and the table of their numbers of points, if they are counted, and of their numbers
+-- of bytes
+abbrev pub packed_form : (head : List ℕ) → (chunk : ℕ) → (points : List ℕ) → (chunks : List (List ℕ)) → List ℕ
+packed_form head chunk points chunks =
+    packed_front head chunk (table_after head chunk chunks) ++ (concat chunks ++ table_bytes points (map length chunks))
+
 -- the packed form of a plain head and its records, in chunks of this many records
 abbrev pub pack : (head records : List ℕ) → (chunk : ℕ) → List ℕ
 pack head records chunk =

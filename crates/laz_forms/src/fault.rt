@@ -1,3 +1,4 @@
+//! Why a call on a file ends before its work is done.
 ghost use Rattle.std.specs.Prelude.{◌≡◌};
 ghost use Rattle.laz_forms.specs.FileFaults.{end_of};
 

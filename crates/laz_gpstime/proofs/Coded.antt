@@ -1,13 +1,12 @@
-use Rattle.std.proofs.Common.{◌≡◌, ℕ, ◌+◌, ◌/◌, ◌%◌, ◌<◌, eqb, Bool, true, false, List, [], ◌∷◌, ◌++◌, Some, refl, sym, ap, subst, ◌∙◌, arith, ⊎_elim, append_assoc}
-use Rattle.std.specs.List.{find}
+use Rattle.std.proofs.Common.{◌≡◌, ℕ, ◌+◌, ◌/◌, ◌%◌, eqb, true, false, List, [], ◌∷◌, ◌++◌, refl, sym, ap, subst, ◌∙◌, append_assoc}
 use Rattle.std.specs.Int.{w32, cast_signed}
-use Rattle.std.proofs.lemmas.Bool.{cases_eq, cond-true, cond-false, eq-eqb, ne_eqb}
+use Rattle.std.proofs.lemmas.Bool.{cond-true, cond-false, eq-eqb, ne_eqb}
 use Rattle.laz_range.specs.Cut.{Cut, raw_cuts}
 use Rattle.laz_range.specs.Coding.{Coding, Codes}
 use Rattle.laz_range.proofs.Public.{Codes-append}
 use Rattle.laz_integer.specs.Events.{Event, cuts_after, raw_events}
 use Rattle.laz_integer.specs.Integer.{IntEvents}
-use Rattle.laz_integer.proofs.Public.{cuts_after-append, cuts-raw}
+use Rattle.laz_integer.proofs.Public.{cuts_after-append, cuts-raw, cons_same}
 use Rattle.laz_gpstime.specs.Meanings.{time_kind}
 use Rattle.laz_gpstime.specs.Sequences.{time_difference}
 use Rattle.laz_gpstime.specs.Slots.{ModelsStand, TimeState}
@@ -36,16 +35,13 @@ stand-still events st new e f h = record { symbols = rw e h.symbols; integers = 
 pub some-switch : (d i : ℕ) → (i ≡ 0 → ⊥) → switch_events d i ≡ time_symbol d (new_symbol d + i) ∷ []
 some-switch d i some = cond-false (eqb i 0) _ _ (ne_eqb i 0 some)
 
-same_list : (a b : Event) (xs ys : List Event) → a ≡ b → xs ≡ ys → a ∷ xs ≡ b ∷ ys
-same_list a b xs ys e f = cc
-
 near-same-parts : (d x s : ℕ) → eqb x 0 ≡ true → s ≡ same_symbol d → time_symbol d s ∷ [] ≡ time_symbol d (near_symbol d x) ∷ near_rest d x
-near-same-parts d x s b at = same_list _ _ _ _ (ap (time_symbol d) (at ∙ sym (cond-true (eqb x 0) _ _ b))) (sym (cond-true (eqb x 0) _ _ b))
+near-same-parts d x s b at = cons_same _ _ _ _ (ap (time_symbol d) (at ∙ sym (cond-true (eqb x 0) _ _ b))) (sym (cond-true (eqb x 0) _ _ b))
 
 near-other-parts : (d x s pred ctx : ℕ) → eqb x 0 ≡ false → s ≡ difference_symbol d x → pred ≡ predicted d s → ctx ≡ context d s
     → time_symbol d s ∷ IntEvents time_kind 32 ctx (cast_signed w32 pred) (cast_signed w32 x) ≡ time_symbol d (near_symbol d x) ∷ near_rest d x
 near-other-parts d x s pred ctx b at p c =
-    same_list _ _ _ _ (ap (time_symbol d) (at ∙ sym (cond-false (eqb x 0) _ _ b)))
+    cons_same _ _ _ _ (ap (time_symbol d) (at ∙ sym (cond-false (eqb x 0) _ _ b)))
     (ap (λ n. IntEvents time_kind 32 n (cast_signed w32 pred) (cast_signed w32 x)) (c ∙ ap (context d) at)
     ∙ (ap (λ n. IntEvents time_kind 32 (context d (difference_symbol d x)) (cast_signed w32 n) (cast_signed w32 x)) (p ∙ ap (predicted d) at)
     ∙ sym (cond-false (eqb x 0) _ _ b)))
@@ -61,27 +57,6 @@ pub near-other : (slot : Slot) (s word time pred ctx : ℕ) → word ≡ time_di
 near-other slot s word time pred ctx is some at p c = subst (λ (x : ℕ). time_symbol slot.difference s ∷ IntEvents time_kind 32 ctx (cast_signed w32 pred) (cast_signed w32 word) ≡ time_symbol slot.difference (near_symbol slot.difference x) ∷ near_rest slot.difference x) is (near-other-parts slot.difference word s pred ctx (ne_eqb word 0 some) at p c)
 
 -- ---- the first that a time is near to
-pub found : (f : ℕ → Bool) (i : ℕ) → i < 4 → ((j : ℕ) → j < i → f j ≡ false) → f i ≡ true → find f (0 ∷ 1 ∷ 2 ∷ 3 ∷ []) ≡ Some i
-found f i few before at =
-    ⊎_elim
-    (λ (zero_is : i ≡ 0). rw zero_is (cond-true (f 0) _ _ (rw zero_is at at)))
-    (λ (some : i ≡ 0 → ⊥).
-    let first = cond-false (f 0) (Some 0) (find f (1 ∷ 2 ∷ 3 ∷ [])) (before 0 (omega (arith, some))) in
-    first ∙
-    ⊎_elim
-    (λ (one_is : i ≡ 1). rw one_is (cond-true (f 1) _ _ (rw one_is at at)))
-    (λ (more : i ≡ 1 → ⊥).
-    let second = cond-false (f 1) (Some 1) (find f (2 ∷ 3 ∷ [])) (before 1 (omega (arith, some, more))) in
-    second ∙
-    ⊎_elim
-    (λ (two_is : i ≡ 2). rw two_is (cond-true (f 2) _ _ (rw two_is at at)))
-    (λ (most : i ≡ 2 → ⊥).
-    let three_is : i ≡ 3 = omega (arith, some, more, most, few) in
-    let third = cond-false (f 2) (Some 2) (find f (3 ∷ [])) (before 2 (omega (arith, three_is))) in
-    third ∙ rw three_is (cond-true (f 3) _ _ (rw three_is at at)))
-    (cases_eq i 2))
-    (cases_eq i 1))
-    (cases_eq i 0)
 
 pub new-is-made : (slot : Slot) (time s hi high low : ℕ) → s ≡ new_symbol slot.difference → hi ≡ slot.time / 4294967296 → high ≡ time / 4294967296 → low ≡ time % 4294967296
     → (time_symbol slot.difference s ∷ []) ++ (IntEvents time_kind 32 8 (cast_signed w32 hi) (cast_signed w32 high) ++ raw_events 32 low) ≡ new_events slot.difference slot.time time

@@ -2,7 +2,7 @@
 use Rattle.std.proofs.Common.{◌≡◌, ℕ, suc, ◌+◌, eqb, cond, Bool, true, false, not, List, [], ◌∷◌, count_by, take, take_while, refl, sym, ap, ◌∙◌, arith, ◌||◌}
 use Rattle.std.specs.List.{prefix_len}
 use Rattle.std.proofs.lemmas.List.Sums.{sum_by-cons}
-use Rattle.laz_gpstime.specs.Laws.{ExtremesAreCounted, begins_anew, points_in}
+use Rattle.laz_gpstime.specs.Laws.{ExtremesAreCounted, begins_anew, points_of_sequence}
 use Rattle.laz_gpstime.specs.Meanings.{is_extreme, is_new, is_one, sets}
 use Rattle.laz_gpstime.specs.Sequences.{extremes, point_meaning, sequence}
 
@@ -36,5 +36,5 @@ pub extremes-counted : ExtremesAreCounted
 extremes-counted [] s = refl
 extremes-counted (p ∷ earlier) s =
     let m = point_meaning p in
-    one-more (λ x. is_extreme (point_meaning x.0)) (λ x. not (begins_anew s x)) (p, earlier) (points_in s earlier) (eqb (sequence (p ∷ earlier)) s)
+    one-more (λ x. is_extreme (point_meaning x.0)) (λ x. not (begins_anew s x)) (p, earlier) (points_of_sequence s earlier) (eqb (sequence (p ∷ earlier)) s)
     (is_new m || (sets m (extremes earlier s) || is_one m)) (is_extreme m) (extremes earlier s) refl refl (extremes-counted earlier s)

@@ -47,8 +47,8 @@ with_earlier [] = []
 with_earlier (p ∷ earlier) = (p, earlier) ∷ with_earlier earlier
 
 -- Those of a sequence.
-abbrev pub points_in : ℕ → List Point → List (Point × List Point)
-points_in s points = filter (λ x. sequence (x.0 ∷ x.1) == s) (with_earlier points)
+abbrev pub points_of_sequence : ℕ → List Point → List (Point × List Point)
+points_of_sequence s points = filter (λ x. sequence (x.0 ∷ x.1) == s) (with_earlier points)
 
 -- A point of a sequence opens it, sets its difference, or has symbol 1.
 abbrev pub begins_anew : ℕ → Point × List Point → Bool
@@ -58,4 +58,4 @@ begins_anew s x =
 -- The count of extreme differences of a sequence is that of its points after the latest one that begins it anew.
 abbrev pub ExtremesAreCounted : Type 0
 ExtremesAreCounted = (points : List Point) (s : ℕ) → extremes points s
-    ≡ count_by (λ x. is_extreme (point_meaning x.0)) (take_while (λ x. not (begins_anew s x)) (points_in s points))
+    ≡ count_by (λ x. is_extreme (point_meaning x.0)) (take_while (λ x. not (begins_anew s x)) (points_of_sequence s points))

@@ -1,9 +1,6 @@
 -- Products of variables, which arithmetic alone does not multiply out. Meant for the crates of chunks.
 use Rattle.std.proofs.Common.{◌≡◌, ℕ, zero, suc, ◌+◌, ◌*◌, ◌<◌, ◌≤◌, arith}
 
-pub next : (i n : ℕ) → n * (i + 1) ≡ n * i + n
-next i n = omega arith
-
 pub next_suc : (i n : ℕ) → n * suc i ≡ n + n * i
 next_suc i n = omega arith
 

@@ -2,7 +2,7 @@
 use Rattle.std.proofs.Common.{◌≡◌, ℕ, ℤ, pos, ◌+◌, ◌%◌, ◌<◌, sym, ap, ◌∙◌, arith, subst}
 use Rattle.std.specs.Prelude.{nat_abs}
 use Rattle.std.specs.Int.{w32, cast_signed, cast_unsigned}
-use Rattle.std.proofs.lemmas.Int.{to_z_pos, of_z-to_z, to_z-of_z}
+use Rattle.std.proofs.lemmas.Int.{to_z_pos, of_z-to_z}
 use Rattle.std.proofs.Math.Facts.{sfits_to_z}
 use mir.Val.{SFits, Fits}
 use Rattle.laz_integer.specs.Corrector.{HasBits, corrected, corrector}
@@ -37,7 +37,3 @@ word-value pred p k v value same is =
     let made : value ≡ cast_signed w32 n = rw same at is in
     let back : cast_unsigned w32 (cast_signed w32 n) ≡ n = of_z-to_z w32 n (omega (arith, small)) in
     ap (λ z. nat_abs (cast_signed w32 (cast_unsigned w32 z))) made ∙ ap (λ u. nat_abs (cast_signed w32 u)) back
-
--- ---- a signed word that was passed on
-pub passed : (z : ℤ) → SFits w32 z → cast_signed w32 (cast_unsigned w32 z) ≡ z
-passed z fits = to_z-of_z w32 z fits

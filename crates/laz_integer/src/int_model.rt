@@ -26,7 +26,7 @@ pub struct IntModel {
     models: Models,
 }
 
-// Written out, so that letting models go is one call in each caller.
+// By hand, so that each caller drops models by one call.
 impl Drop for IntModel {
     fn drop(self) {
         let IntModel { models } = self;

@@ -73,7 +73,7 @@ pub fn put_symbol_of(encoder: &mut Encoder, bank: &mut ModelBank, m: u32, s: u32
 }
 
 /// Where the search for the next symbol of model `m` of a bank begins: at that symbol, or at the one before it.
-// Nearly always a table tells it. Else the symbols after it are tried in turn.
+// Nearly always a table gives it. Else the symbols after it are tried in turn.
 #[inline(always)]
 fn near_next_of(decoder: &Decoder<'_>, bank: &ModelBank, m: u32) -> Near
     requires good { decoder.now.failed ≡ false }
@@ -89,7 +89,7 @@ fn near_next_of(decoder: &Decoder<'_>, bank: &ModelBank, m: u32) -> Near
 }
 
 /// Reads the next symbol of model `m` of a bank.
-// It is the symbol that the search begins at, or the next one: the two are told apart without a branch.
+// It is the symbol that the search begins at, or the next one: which of the two is decided without a branch.
 #[inline(always)]
 fn take_next_of(decoder: &mut Decoder<'_>, bank: &ModelBank, m: u32) -> Result<u32, Bad>
     requires good { decoder.old.failed ≡ false }

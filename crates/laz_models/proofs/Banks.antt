@@ -1,7 +1,7 @@
 -- The models of a bank, one of which changes. Cited by crates above.
 use Rattle.std.proofs.Common.{◌≡◌, true, false, ◌⊎◌, ℕ, ◌+◌, ◌-◌, ◌<◌, ◌≤◌, List, [], ◌∷◌, ◌++◌, length, map, set, drop, get_or, refl, sym, ap, ◌∙◌, arith, ⊎_elim, inl, inr}
 use Rattle.std.proofs.lemmas.Bool.{cases_eq, cases_lt}
-use Rattle.std.proofs.lemmas.List.{length-append, length-map, length-set, length-take-le, length-replicate, take-append-le, get_or_append_left, get_or-map, get_or-set_same, get_or-set_other, get_or_default, set-get_or, map-set, same_lists}
+use Rattle.std.proofs.lemmas.List.{length-append, length-map, length-set, length-take-le, length-replicate, take-append-le, get_or-map, get_or-set_same, get_or-set_other, get_or_default, set-get_or, map-set, same_lists}
 use Rattle.std.proofs.lemmas.List.Edits.{length-between, get_or-between}
 use Rattle.std.proofs.lemmas.Slice.{between_is}
 use Rattle.laz_models.specs.Bank.{model_at, alphabet_sizes}
@@ -240,14 +240,6 @@ pub append-stays : (p : Place) (cells more : List ℕ) → IsPlaced p cells → 
 append-stays p cells more placed =
     stays-at p cells (cells ++ more) placed (omega (arith, length-append cells more))
     (λ within. between_is (cells ++ more) p.start p.end ∙ (ap (drop p.start) (take-append-le p.end cells more within) ∙ sym (between_is cells p.start p.end)))
-
-pub append-outside : (start end : ℕ) (cells more new : List ℕ) → SameOutside start end (cells ++ more) new → SameOutside start end cells new
-append-outside start end cells more new same =
-    record {
-      longer = omega (arith, same.longer, length-append cells more);
-      before = λ i below there. same.before i below (omega (arith, length-append cells more, there)) ∙ get_or_append_left cells more 0 i there;
-      after = λ i behind there. same.after i behind (omega (arith, length-append cells more, there)) ∙ get_or_append_left cells more 0 i there;
-    }
 
 -- ---- what the longer list gives
 pub StandsFor-push : (h : List ℕ) (s : ℕ) (m : Counting) → 2 ≤ alphabet_size m → s < alphabet_size m → StandsFor h m → StandsFor (h ++ s ∷ []) (after_symbol m s)

@@ -55,20 +55,6 @@ layout-push places sizes end n p layout new start =
           j d below order;
     }
 
--- there is room for more
-pub layout-room : (places : List Place) (sizes : List ℕ) (end more : ℕ) → IsLayout places sizes end → end ≤ more → IsLayout places sizes more
-layout-room places sizes end more layout longer =
-    record {
-      count = layout.count;
-      shape = layout.shape;
-      size = layout.size;
-      first = layout.first;
-      even = layout.even;
-      dist = layout.dist;
-      within = λ m d below. omega (arith, layout.within m d below, longer);
-      apart = layout.apart;
-    }
-
 -- ---- the distributions of new models
 -- more of them after those that are there
 pub IsFirst-append : (n first : ℕ) (firsts more : List ℕ) → IsFirst n first firsts → IsFirst n first (firsts ++ more)

@@ -14,7 +14,7 @@ use std::marker::Model;
 
 /// Models of symbols whose counts, distributions and look-up tables lie in one vector. Between them lie the
 /// distributions of new models, one for each run of models of the same size, which are written when the bank is made.
-/// The cells behind the last of them are set aside then, and are written as far as models are used.
+/// The cells after the last of them are set aside then, and are written as far as models are used.
 ///
 /// Each model stands for the list of symbols that it has counted since the bank was made or reset, and answers the
 /// distribution of that list. Only `new` takes memory.

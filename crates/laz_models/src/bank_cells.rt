@@ -64,7 +64,7 @@ pub struct Layout {
     /// The places of the models, one after another.
     pub places: Vec<Place>,
     /// The cells of the models, and between them the distributions of new ones, one for each run of models of the same
-    /// size. After the last of these there is capacity for the cells of the models behind it.
+    /// size. After the last of these there is capacity for the cells of the models that follow.
     pub cells: Vec<u16>,
 }
 
@@ -139,7 +139,7 @@ pub fn reset_all(places: &mut Vec<Place>)
     reset_places(places);
 }
 
-/// Writes zeros after cells until there are at least so many. There is capacity for them.
+/// Writes zeros after cells until there are at least this many. There is capacity for them.
 fn lengthen(cells: &mut Vec<u16>, least: usize)
     requires { least ≤ vec_capacity cells.old }
     ensures items { cells.new.items ≡ cells.old.items ++ replicate (least - length cells.old.items) 0 }

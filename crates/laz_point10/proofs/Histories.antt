@@ -1,5 +1,5 @@
 -- A history that stands for points stands for them and one more.
-use Rattle.std.proofs.Common.{◌≡◌, ℕ, zero, suc, ℤ, pos, ◌<◌, ◌≤◌, eqb, List, [], ◌∷◌, map, length, replicate, get_or, set, refl, sym, ap, subst, ◌∙◌, arith, ⊎_elim, length-set, lit≤}
+use Rattle.std.proofs.Common.{◌≡◌, ℕ, ℤ, pos, ◌<◌, ◌≤◌, eqb, List, [], ◌∷◌, map, length, replicate, get_or, set, refl, sym, ap, subst, ◌∙◌, arith, ⊎_elim, length-set, lit≤}
 use Rattle.std.specs.Int.{w32, int_wrapping_sub}
 use Rattle.std.proofs.lemmas.Bool.{cases_eq, cases_lt, cond-true, cond-false, eq-eqb, ne_eqb}
 use Rattle.std.proofs.lemmas.List.{get_or-set_same, get_or-set_other, get_or-replicate, get_or_past}
@@ -123,9 +123,3 @@ HistoryStands-first p =
       dx = λ k within. get_or-replicate 16 k no_values no_values within;
       dy = λ k within. get_or-replicate 16 k no_values no_values within;
     }
-
--- a place within a list, whatever stands for one outside
-pub any-default : {X : Type 0} (xs : List X) (i : ℕ) (d e : X) → i < length xs → get_or xs i d ≡ get_or xs i e
-any-default [] i d e within = absurd (omega arith)
-any-default (x ∷ xs) zero d e within = refl
-any-default (x ∷ xs) (suc i) d e within = any-default xs i d e (omega arith)

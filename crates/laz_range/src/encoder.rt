@@ -49,7 +49,7 @@ impl Encoder {
     }
 
     /// The same as [`with_room`](Self::with_room), but [`keep_left`](Self::keep_left) may lengthen the room, up to `size`
-    /// bytes. There is capacity for so many.
+    /// bytes. There is capacity for that many.
     pub fn within(room: Vec<u8>, at: usize, size: usize) -> Self
         requires start { at + 4 ≤ length room.items }
         requires size { length room.items ≤ size }

@@ -10,7 +10,7 @@ use crate::window::put_window;
 
 /// The bytes from `at` up to `next` are written. They and the lower half of `low` spell the low end of the interval,
 /// whose length is `length`. The upper half of `low` is the last four bytes before `next`, so that a carry runs into
-/// them by itself. The bytes may be lengthened up to `size` bytes: there is capacity for so many.
+/// them by itself. The bytes may be lengthened up to `size` bytes: there is capacity for that many.
 // `low` and `length` are not neighbours: written one by one and read as one word, they would stall the store buffer.
 #[derive(Drop)]
 pub struct Output {

@@ -16,7 +16,7 @@ use Rattle.las_header.specs.Vlrs.{laszip_vlrs_of}
 use Rattle.std.proofs.lemmas.Bool.{eqb-true, not-false}
 use Rattle.laz_table.specs.declared.chunks.Blocks.TheVariants.{Fixed, Counted}
 use Rattle.laz_forms.specs.Pieces.{ArePieces, ArePiecesIf, pieces_from, plain_from}
-use Rattle.laz_reader.specs.Reading.{IsHeadOf, IsTablePlace, LiesIn, pieces_listed, points_in}
+use Rattle.laz_reader.specs.Reading.{IsHeadOf, IsTablePlace, LiesIn, pieces_listed, points_listed}
 use Rattle.laz_forms.specs.Refusing.{IsAcceptedFile, IsRefusal, blocks_in, chunk_causes, chunks_place, has_bad_pointer, table_end, table_part, table_place, tested_causes}
 use Rattle.laz_reader.proofs.PieceLists.{pieces_lie, plain_lie}
 
@@ -133,11 +133,11 @@ pub blocks_as : (head : List ℕ) (chunk points : ℕ) (blocks : Blocks) → blo
 blocks_as head chunk points blocks is chunk_is points_are =
     is ∙ ap (λ (n : ℕ). if is_counted n then Counted points else Fixed n points) chunk_is ∙ ap (λ (n : ℕ). if is_counted (chunk_size_of head) then Counted n else Fixed (chunk_size_of head) n) points_are
 
-points_if : (counted : Bool) (chunk points : ℕ) → points_in (if counted then Counted points else Fixed chunk points) ≡ points
+points_if : (counted : Bool) (chunk points : ℕ) → points_listed (if counted then Counted points else Fixed chunk points) ≡ points
 points_if true chunk points = refl
 points_if false chunk points = refl
 
-pub points_as : (chunk points : ℕ) → points_in (if is_counted chunk then Counted points else Fixed chunk points) ≡ points
+pub points_as : (chunk points : ℕ) → points_listed (if is_counted chunk then Counted points else Fixed chunk points) ≡ points
 points_as chunk points = points_if (is_counted chunk) chunk points
 
 -- a packed head that is not refused for its laszip VLR has one

@@ -12,7 +12,7 @@ use Rattle.laz_table.specs.Chunks.{HasChunkSize, IsAccepted, fixed_sizes}
 use Rattle.laz_table.specs.VlrCauses.{chunk_count, chunk_size_of}
 use Rattle.laz_forms.specs.Pieces.{ArePieces, ArePiecesIf, Piece, pieces_from, plain_from}
 use Rattle.laz_forms.specs.Ranges.{first_if, first_in, first_of, parts_if, parts_in, parts_of, whole_range}
-use Rattle.laz_reader.specs.Reading.{points_in}
+use Rattle.laz_reader.specs.Reading.{points_listed}
 use Rattle.laz_forms.specs.Refusing.{blocks_in, chunks_place}
 use Rattle.laz_reader.proofs.Accepting.{points_as}
 use Rattle.laz_forms.proofs.Public.{count-few}
@@ -41,7 +41,7 @@ accepted_some bytes (Counted points) total sizes counts some a =
 no_sizes : (points : ℕ) → fixed_sizes 0 points ≡ []
 no_sizes points = ap (λ (n : ℕ). map (λ i. min 0 (points - 0 * i)) (range_with_len 0 n)) (div-zero (points + 0 - 1))
 
-both : (bytes : List ℕ) (blocks : Blocks) (total : ℕ) (sizes counts : List ℕ) → IsAccepted bytes blocks total sizes counts → All (λ n. 0 < n) sizes × (sum sizes ≤ points_in blocks)
+both : (bytes : List ℕ) (blocks : Blocks) (total : ℕ) (sizes counts : List ℕ) → IsAccepted bytes blocks total sizes counts → All (λ n. 0 < n) sizes × (sum sizes ≤ points_listed blocks)
 both bytes (Counted points) total sizes counts a = (accepted_some bytes (Counted points) total sizes counts tt a, omega (arith, accepted_points bytes (Counted points) total sizes counts tt a))
 both bytes (Fixed zero points) total sizes counts a =
     let none : sizes ≡ [] = a.sizes_are ∙ no_sizes points in

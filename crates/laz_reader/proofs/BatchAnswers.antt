@@ -17,7 +17,7 @@ use Rattle.laz_workers.specs.Work.{HoldsAnswer}
 use Rattle.laz_workers.proofs.Public.{answer_there}
 use Rattle.laz_forms.specs.Pieces.{Piece, piece_bytes, pieces_from, whole_piece}
 use Rattle.laz_reader.specs.Reading.{StandInRooms}
-use Rattle.laz_reader.specs.Unpacking.{FitsUnpacked, HoldsNone, HoldsOnly, IsInput, UnpackAnswer, chunk_in, count_in, unpack_input}
+use Rattle.laz_reader.specs.Unpacking.{FitsUnpacked, HoldsNone, HoldsOnly, IsInput, UnpackAnswer, chunk_in, count_before, unpack_input}
 
 -- each input fits each room
 pub inputs_fit : (l : Layout) (counts : List ℕ) (inputs : List (List ℕ)) (lengths : List ℕ) → length inputs ≡ length counts → ((k : ℕ) → k < length counts → IsInput (get_or counts k 0) (get_or inputs k [])) → ((k : ℕ) → k < length counts → 1 ≤ get_or counts k 0)
@@ -57,7 +57,7 @@ only_one l input b (Some other) h is = ap (λ (x : List ℕ). Some x) (h.only ot
 
 -- what stands under a number
 pub record Answered (l : Layout) (inputs : List (List ℕ)) (rooms : List RoomSeen) (k : ℕ) (b : List ℕ) : Type 0 where
-  pub holds : HoldsOnly l (count_in (get_or inputs k [])) (chunk_in (get_or inputs k [])) b
+  pub holds : HoldsOnly l (count_before (get_or inputs k [])) (chunk_in (get_or inputs k [])) b
   pub stands : All (λ room. number_of room.held ≡ Some k → answer_in room.bytes room.held ≡ Some b) rooms
 
 module _ (l : Layout) (inputs : List (List ℕ)) (rooms : List RoomSeen) (answers : All (HoldsAnswer (UnpackAnswer l) inputs) rooms) where
@@ -69,7 +69,7 @@ module _ (l : Layout) (inputs : List (List ℕ)) (rooms : List RoomSeen) (answer
       (b, record { holds = h; stands = λ j d lt same. let other = answers j d lt k same in only_one l (get_or inputs k []) b (answer_in (get_or rooms j d).bytes (get_or rooms j d).held) h other.1 })
 
   pub blocks_answered : (n total : ℕ) → n ≤ total → HoldsBelow total (numbers_in rooms) → ((k : ℕ) → k < n → (room : RoomSeen) × StandsIn rooms k room × IsSome (answer_in room.bytes room.held))
-      → (blocks : List (List ℕ)) × (length blocks ≡ n) × StandInRooms rooms blocks × ((k : ℕ) → k < n → HoldsOnly l (count_in (get_or inputs k [])) (chunk_in (get_or inputs k [])) (get_or blocks k []))
+      → (blocks : List (List ℕ)) × (length blocks ≡ n) × StandInRooms rooms blocks × ((k : ℕ) → k < n → HoldsOnly l (count_before (get_or inputs k [])) (chunk_in (get_or inputs k [])) (get_or blocks k []))
   blocks_answered n total within numbers good =
       let all = collect n (Answered l inputs rooms) (λ k lt. let r = good k lt in answered k r.0 r.1 r.2) in (
         all.0,
@@ -81,24 +81,24 @@ module _ (l : Layout) (inputs : List (List ℕ)) (rooms : List RoomSeen) (answer
         λ k lt. (all.2 k lt).holds,
       )
 
-  pub refused_there : (k : ℕ) (room : RoomSeen) → StandsIn rooms k room → answer_in room.bytes room.held ≡ None → HoldsNone l (count_in (get_or inputs k [])) (chunk_in (get_or inputs k []))
+  pub refused_there : (k : ℕ) (room : RoomSeen) → StandsIn rooms k room → answer_in room.bytes room.held ≡ None → HoldsNone l (count_before (get_or inputs k [])) (chunk_in (get_or inputs k []))
   refused_there k room stands none = subst (λ (o : Option (List ℕ)). UnpackAnswer l (get_or inputs k []) o) none (answer_there (UnpackAnswer l) inputs rooms k room stands answers)
 
 -- a block that is answered has as many bytes as its records
-pub length_answered : (l : Layout) (count : ℕ) (input block : List ℕ) → IsInput count input → HoldsOnly l (count_in input) (chunk_in input) block → length block ≡ record_length l * count
+pub length_answered : (l : Layout) (count : ℕ) (input block : List ℕ) → IsInput count input → HoldsOnly l (count_before input) (chunk_in input) block → length block ≡ record_length l * count
 length_answered l count input block shape h = h.are.length ∙ ap (λ (n : ℕ). record_length l * n) shape.1
 
 -- an input is that of its chunk
 chunk_of_input : (count : ℕ) (bytes : List ℕ) → chunk_in (unpack_input count bytes) ≡ bytes
 chunk_of_input count bytes = refl
 
-pub only_in_chunk : (l : Layout) (count : ℕ) (input bytes block : List ℕ) → IsInput count input → input ≡ unpack_input count bytes → HoldsOnly l (count_in input) (chunk_in input) block → HoldsOnly l count bytes block
+pub only_in_chunk : (l : Layout) (count : ℕ) (input bytes block : List ℕ) → IsInput count input → input ≡ unpack_input count bytes → HoldsOnly l (count_before input) (chunk_in input) block → HoldsOnly l count bytes block
 only_in_chunk l count input bytes block shape is h =
-    subst (λ (n : ℕ). HoldsOnly l n bytes block) shape.1 (subst (λ (c : List ℕ). HoldsOnly l (count_in input) c block) (ap (λ (t : List ℕ). chunk_in t) is ∙ chunk_of_input count bytes) h)
+    subst (λ (n : ℕ). HoldsOnly l n bytes block) shape.1 (subst (λ (c : List ℕ). HoldsOnly l (count_before input) c block) (ap (λ (t : List ℕ). chunk_in t) is ∙ chunk_of_input count bytes) h)
 
-pub none_in_chunk : (l : Layout) (count : ℕ) (input bytes : List ℕ) → IsInput count input → input ≡ unpack_input count bytes → HoldsNone l (count_in input) (chunk_in input) → HoldsNone l count bytes
+pub none_in_chunk : (l : Layout) (count : ℕ) (input bytes : List ℕ) → IsInput count input → input ≡ unpack_input count bytes → HoldsNone l (count_before input) (chunk_in input) → HoldsNone l count bytes
 none_in_chunk l count input bytes shape is h =
-    subst (λ (n : ℕ). HoldsNone l n bytes) shape.1 (subst (λ (c : List ℕ). HoldsNone l (count_in input) c) (ap (λ (t : List ℕ). chunk_in t) is ∙ chunk_of_input count bytes) h)
+    subst (λ (n : ℕ). HoldsNone l n bytes) shape.1 (subst (λ (c : List ℕ). HoldsNone l (count_before input) c) (ap (λ (t : List ℕ). chunk_in t) is ∙ chunk_of_input count bytes) h)
 
 -- the pieces of a front of the lists are the front of the pieces
 pub pieces_from-take : (n at : ℕ) (counts sizes : List ℕ) → pieces_from at (take n counts) (take n sizes) ≡ take n (pieces_from at counts sizes)

@@ -36,10 +36,6 @@ fails_later old mid new Read same ends = subst (λ (n : ℕ). Rose n new.read_fa
 fails_later old mid new Write same ends = ends
 fails_later old mid new Memory same ends = ends ∙ same
 
--- no fault is in an answer that is Ok
-pub ok_no_fault : {T X : Type 0} (value : T) (fault : Fault) → ◌≡◌ {A = Result T Fault} (Ok value) (Err fault) → X
-ok_no_fault value fault is = absurd (cc)
-
 -- nothing was read
 pub only_reads-refl : (a : Outside) → OnlyReads a a
 only_reads-refl a = record { held = refl; writes = refl; later = later-refl a }

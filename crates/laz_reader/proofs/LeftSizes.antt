@@ -1,14 +1,14 @@
 -- How many bytes a reader may ask for that is to read all records of its file.
-use Rattle.std.proofs.Common.{◌≡◌, ℕ, ◌+◌, ◌-◌, ◌*◌, ◌≤◌, Bool, true, false, cond, List, [], ◌∷◌, drop, map, refl, ◌∙◌, ap, arith}
+use Rattle.std.proofs.Common.{◌≡◌, ℕ, ◌+◌, ◌-◌, ◌*◌, ◌≤◌, Bool, true, false, cond, List, [], ◌∷◌, drop, map, Option, refl, ◌∙◌, ap, arith}
 use Rattle.std.specs.Prelude.{sum}
 use Rattle.las_header.specs.Fields.{head_of, is_packed, point_offset_of, points_of, record_length_of}
 use Rattle.las_header.specs.Heads.{HeadView}
 use Rattle.laz_table.specs.Chunks.{fixed_sizes}
-use Rattle.laz_reader.specs.Asking.{asked_for_pieces, bytes_left}
+use Rattle.laz_reader.specs.Asking.{asked_for_pieces, asked_in, bytes_left}
 use Rattle.laz_forms.specs.Packing.{record_layout}
 use Rattle.laz_forms.specs.Pieces.{ArePiecesIf, Piece, pieces_from}
 use Rattle.laz_forms.specs.Ranges.{Range, parts_of, whole_range}
-use Rattle.laz_reader.specs.Reading.{ReaderSeen, ReadsAll, StandsFor}
+use Rattle.laz_reader.specs.Reading.{ReaderSeen, ReadsAll, StandsFor, chunk_of}
 use Rattle.laz_forms.specs.Refusing.{blocks_in, chunks_place, table_part, table_place}
 use Rattle.laz_forms.specs.Sizes.{points_size}
 use Rattle.laz_reader.proofs.AllParts.{all_of}
@@ -42,10 +42,21 @@ left_few reader =
     let l = record_layout reader.head.bytes in
     omega (arith, if_less reader.bad (asked_for_pieces reader.chunk l reader.left), asked_few reader.chunk l reader.left)
 
-pub left_size : (reader : ReaderSeen) (file : List ℕ) → ReadsAll reader → StandsFor reader file → bytes_left reader ≤ points_size file
-left_size reader file new s =
+-- a reader of all records that has read none has all pieces left
+all_left : (reader : ReaderSeen) (file : List ℕ) → ReadsAll reader → (s : StandsFor reader file) → reader.left ≡ s.pieces
+all_left reader file new s =
     let none : reader.next - reader.first ≡ 0 = omega (arith, new.first) in
     let range : reader.range ≡ whole_range (head_of file) = new.all ∙ ap (λ (h : HeadView). whole_range h.bytes) s.head in
-    let left : reader.left ≡ s.pieces =
-    s.left ∙ ap (λ (n : ℕ). drop n (parts_of file reader.range s.pieces)) none ∙ ap (λ (r : Range). parts_of file r s.pieces) range ∙ (all_of file s.pieces s.are).0 in
-    omega (arith, left_few reader, ap (λ (ps : List Piece). sum (sizes_in ps)) left, size_if file (is_packed (head_of file)) refl s.pieces s.are)
+    s.left ∙ ap (λ (n : ℕ). drop n (parts_of file reader.range s.pieces)) none ∙ ap (λ (r : Range). parts_of file r s.pieces) range ∙ (all_of file s.pieces s.are).0
+
+pub left_size : (reader : ReaderSeen) (file : List ℕ) → ReadsAll reader → StandsFor reader file → bytes_left reader ≤ points_size file
+left_size reader file new s =
+    omega (arith, left_few reader, ap (λ (ps : List Piece). sum (sizes_in ps)) (all_left reader file new s), size_if file (is_packed (head_of file)) refl s.pieces s.are)
+
+pub left_asked : (reader : ReaderSeen) (file : List ℕ) → ReadsAll reader → (s : StandsFor reader file) → bytes_left reader ≤ asked_in file s.pieces
+left_asked reader file new s =
+    let head : reader.head.bytes ≡ head_of file = ap (λ (v : HeadView). v.bytes) s.head in
+    let asked : Option ℕ → List ℕ → ℕ = λ chunk bytes. asked_for_pieces chunk (record_layout bytes) reader.left in
+    let whole : asked reader.chunk reader.head.bytes ≡ asked_in file s.pieces =
+    ap (λ (c : Option ℕ). asked c reader.head.bytes) s.chunk ∙ ap (asked (chunk_of (head_of file))) head ∙ ap (asked_in file) (all_left reader file new s) in
+    omega (arith, whole, if_less reader.bad (asked reader.chunk reader.head.bytes))

@@ -4,7 +4,6 @@ mod Frames
 mod Unpacking
 mod Exits
 mod Heads
-mod Missing
 mod TableFront
 mod OpeningAsks
 mod PieceLists

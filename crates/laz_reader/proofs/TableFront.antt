@@ -1,19 +1,20 @@
 -- A table that is read from as many bytes as its number of chunks needs.
-use Rattle.std.proofs.Common.{◌≡◌, inl, inr, ⊎_elim, ℕ, ◌+◌, ◌-◌, ◌*◌, ◌<◌, ◌≤◌, min, List, length, take, drop, Option, Some, None, refl, sym, ◌∙◌, ap, subst, arith}
+use Rattle.std.proofs.Common.{◌≡◌, inl, inr, ⊎_elim, ℕ, ◌+◌, ◌-◌, ◌*◌, ◌<◌, ◌≤◌, min, List, length, take, drop, Option, None, refl, sym, ◌∙◌, ap, subst, arith}
 use Rattle.std.specs.Prelude.{sum}
 use Rattle.std.proofs.lemmas.List.{take-take, length-take-le, drop-take, length-drop, take_all}
 use Rattle.std.proofs.lemmas.List.FromFn.{length-map-range_with_len}
 use Rattle.std.proofs.lemmas.Bool.{cases_lt, cases_eq}
+use Rattle.std.proofs.lemmas.Option.{none-some}
 use Rattle.las_header.specs.declared.refusal.Refusal.{Refusal}
 use Rattle.las_header.specs.Conditions.{IsFirst}
 use Rattle.las_header.specs.Numbers.{number_at}
 use Rattle.las_header.proofs.Public.{number_at-take}
 use Rattle.laz_table.specs.declared.chunks.Blocks.{Blocks}
 use Rattle.laz_table.specs.declared.chunks.Blocks.TheVariants.{Fixed, Counted}
-use Rattle.laz_table.specs.Chunks.{HasChunkSize, HasOtherBytes, HasOtherPoints, HasTable, IsAccepted, IsChunkCount, are_counted, sizes_of, table_causes}
+use Rattle.laz_table.specs.Chunks.{BeginsTable, HasChunkSize, HasOtherBytes, HasOtherPoints, HasTable, IsAccepted, IsChunkCount, are_counted, sizes_of, table_causes}
 use Rattle.laz_table.specs.Table.{TableHolds}
 use Rattle.laz_table.proofs.Public.{front-holds}
-use Rattle.laz_reader.specs.Reading.{AreChunkLists, AreFewChunks, points_in, table_size}
+use Rattle.laz_reader.specs.Reading.{AreChunkLists, AreFewChunks, points_listed, table_size}
 use Rattle.laz_forms.proofs.Public.{sum-sizes}
 
 -- a part of a file is what stands after its start
@@ -79,20 +80,26 @@ module _ (blocks : Blocks) (few : AreFewChunks blocks) (part : List ℕ) where
   at_number n is le = let m : min (number_at 4 4 part) 16777216 ≡ n = omega arith in ap (λ (k : ℕ). 12 + 24 * k) m
 
   -- the bytes read decide which lists the part begins with
-  pub to_front : (sizes counts : List ℕ) → HasTable part blocks sizes counts → HasTable (take (table_size part) part) blocks sizes counts
-  to_front sizes counts h =
+  begins_front : (sizes counts : List ℕ) → BeginsTable part blocks sizes counts → BeginsTable (take (table_size part) part) blocks sizes counts
+  begins_front sizes counts h =
       let n = length counts in
       let size = at_number n h.holds.number (few n h.count) in
       let P : List ℕ → Type 0 = λ b. TableHolds b n (are_counted blocks) sizes counts in
       record { count = h.count; holds = subst (λ (k : ℕ). P (take k part)) (sym size) ((front-holds part n (are_counted blocks) sizes counts).0 h.holds) }
 
-  pub from_front : (sizes counts : List ℕ) → HasTable (take (table_size part) part) blocks sizes counts → HasTable part blocks sizes counts
-  from_front sizes counts h =
+  begins_part : (sizes counts : List ℕ) → BeginsTable (take (table_size part) part) blocks sizes counts → BeginsTable part blocks sizes counts
+  begins_part sizes counts h =
       let n = length counts in
       let number : number_at 4 4 part ≡ n = sym (number_at-take 4 4 (table_size part) part (omega arith)) ∙ h.holds.number in
       let size = at_number n number (few n h.count) in
       let P : List ℕ → Type 0 = λ b. TableHolds b n (are_counted blocks) sizes counts in
       record { count = h.count; holds = (front-holds part n (are_counted blocks) sizes counts).1 (subst (λ (k : ℕ). P (take k part)) size h.holds) }
+
+  pub to_front : (sizes counts : List ℕ) → HasTable part blocks sizes counts → HasTable (take (table_size part) part) blocks sizes counts
+  to_front sizes counts h = record { begins = begins_front sizes counts h.begins; only = λ others more other. h.only others more (begins_part others more other) }
+
+  pub from_front : (sizes counts : List ℕ) → HasTable (take (table_size part) part) blocks sizes counts → HasTable part blocks sizes counts
+  from_front sizes counts h = record { begins = begins_part sizes counts h.begins; only = λ others more other. h.only others more (begins_front others more other) }
 
   to_points : (b : Blocks) → b ≡ blocks → HasOtherPoints part b → HasOtherPoints (take (table_size part) part) b
   to_points (Fixed chunk points) e h = absurd h
@@ -125,19 +132,14 @@ module _ (blocks : Blocks) (few : AreFewChunks blocks) (part : List ℕ) where
   accepted_from_front total sizes counts a = record {
     coded = a.coded;
     table = from_front a.coded counts a.table;
-    only = λ others more h. a.only others more (to_front others more h);
     sizes_are = a.sizes_are;
     fine = first_from_front total None a.fine;
   }
 
--- the lists of an accepted table
-some_is_none : {X : Type 0} (cause : Refusal) → ◌≡◌ {A = Option Refusal} None (Some cause) → X
-some_is_none cause is = absurd (cc)
-
 summed : (bytes : List ℕ) (blocks : Blocks) (total : ℕ) → IsFirst (table_causes bytes blocks total) None → HasOtherBytes bytes blocks total → ⊥
 summed bytes blocks total is other = elim is [
-  | inl lacks ↦ some_is_none _ lacks.1
-  | inr has ↦ elim has.1 [ inl wrong ↦ some_is_none _ wrong.1 | inr right ↦ right.0 other ]
+  | inl lacks ↦ none-some _ lacks.1
+  | inr has ↦ elim has.1 [ inl wrong ↦ none-some _ wrong.1 | inr right ↦ right.0 other ]
 ]
 
 same_length : (blocks : Blocks) (coded counts sizes bytes : List ℕ) → IsChunkCount blocks (length counts) → TableHolds bytes (length counts) (are_counted blocks) coded counts → sizes ≡ sizes_of blocks coded → length sizes ≡ length counts
@@ -152,24 +154,24 @@ accepted_bytes bytes blocks total sizes counts a = elim (cases_eq (sum counts) t
 
 pub accepted_lists : (bytes : List ℕ) (blocks : Blocks) (total : ℕ) (sizes counts : List ℕ) → AreFewChunks blocks → IsAccepted bytes blocks total sizes counts → AreChunkLists sizes counts total
 accepted_lists bytes blocks total sizes counts few a =
-    let same = same_length blocks a.coded counts sizes bytes a.table.count a.table.holds a.sizes_are in
+    let same = same_length blocks a.coded counts sizes bytes a.table.begins.count a.table.begins.holds a.sizes_are in
     record {
       same = same;
-      few = omega (arith, same, few (length counts) a.table.count);
+      few = omega (arith, same, few (length counts) a.table.begins.count);
       whole = accepted_bytes bytes blocks total sizes counts a;
     }
 
 -- so are the points
 pub points_summed : (bytes : List ℕ) (blocks : Blocks) (total : ℕ) → IsFirst (table_causes bytes blocks total) None → HasOtherPoints bytes blocks → ⊥
 points_summed bytes blocks total is other = elim is [
-  | inl lacks ↦ some_is_none _ lacks.1
+  | inl lacks ↦ none-some _ lacks.1
   | inr has ↦ elim has.1 [
-    | inl wrong ↦ some_is_none _ wrong.1
-    | inr right ↦ elim right.1 [ inl points ↦ some_is_none _ points.1 | inr fine ↦ fine.0 other ]
+    | inl wrong ↦ none-some _ wrong.1
+    | inr right ↦ elim right.1 [ inl points ↦ none-some _ points.1 | inr fine ↦ fine.0 other ]
   ]
 ]
 
-pub accepted_points : (bytes : List ℕ) (blocks : Blocks) (total : ℕ) (sizes counts : List ℕ) → HasChunkSize blocks → IsAccepted bytes blocks total sizes counts → sum sizes ≡ points_in blocks
+pub accepted_points : (bytes : List ℕ) (blocks : Blocks) (total : ℕ) (sizes counts : List ℕ) → HasChunkSize blocks → IsAccepted bytes blocks total sizes counts → sum sizes ≡ points_listed blocks
 accepted_points bytes (Fixed chunk points) total sizes counts some a = ap sum a.sizes_are ∙ sum-sizes chunk points some
 accepted_points bytes (Counted points) total sizes counts some a =
     elim (cases_eq (sum a.coded) points) [

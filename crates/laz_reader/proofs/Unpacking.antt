@@ -6,7 +6,7 @@ use Rattle.std.proofs.Math.Seq.{take-append_seam}
 use Rattle.laz_range.specs.Span.{IsBytes}
 use Rattle.laz_chunk.specs.Layouts.{Format, layout, record_length}
 use Rattle.laz_chunk.specs.Chunks.{AreRecords, Holds}
-use Rattle.laz_reader.specs.Unpacking.{HoldsOnly, chunk_in, count_in}
+use Rattle.laz_reader.specs.Unpacking.{HoldsOnly, chunk_in, count_before}
 
 -- the front of a room is what was written there
 pub front_kept : (n len : ℕ) (out back more : List ℕ) → length out ≡ n → n ≤ len → take n (take len (out ++ back ++ more)) ≡ out
@@ -19,12 +19,12 @@ front_fits n len out back more is le =
     omega (arith, length-take len (out ++ back ++ more), length-append (out ++ back) more, length-append out back)
 
 -- what a workspace unpacked is the one block that the input's chunk holds
-pub unpacked : (job space : Format) (input chunk out : List ℕ) (n count size : ℕ) → space ≡ job → chunk ≡ drop 4 input → count ≡ count_in input → size ≡ record_length (layout job) → length out ≡ size * count → IsBytes out
+pub unpacked : (job space : Format) (input chunk out : List ℕ) (n count size : ℕ) → space ≡ job → chunk ≡ drop 4 input → count ≡ count_before input → size ≡ record_length (layout job) → length out ≡ size * count → IsBytes out
     → Holds (layout space) chunk out → ((other : List ℕ) → AreRecords (layout space) count other → Holds (layout space) chunk other → other ≡ out)
-    → HoldsOnly (layout job) (count_in input) (chunk_in input) out
+    → HoldsOnly (layout job) (count_before input) (chunk_in input) out
 unpacked job space input chunk out n count size same chunk_is count_is size_is long bytes holds only =
     let P : Format → List ℕ → ℕ → Type 0 = λ f c m. HoldsOnly (layout f) m c out in
-    let Q : Format → Type 0 = λ f. P f (chunk_in input) (count_in input) in
+    let Q : Format → Type 0 = λ f. P f (chunk_in input) (count_before input) in
     subst Q same (subst (λ (m : ℕ). P space (chunk_in input) m) count_is (subst (λ (c : List ℕ). P space c count) chunk_is
     (record {
       are = record { length = long ∙ ap (λ (m : ℕ). m * count) (size_is ∙ ap (λ (f : Format). record_length (layout f)) (sym same)); bytes = bytes };

@@ -43,7 +43,7 @@ abbrev pub asked_to_open : (file : List ℕ) → ℕ
 asked_to_open file = asked_for_head file + asked_for_table file
 
 -- how many bytes are asked for to read each of these chunks, with these numbers of records and of bytes: none of one
--- that may not hold so many records
+-- that may not hold that many records
 abbrev pub size_asked : Layout → (count size : ℕ) → ℕ
 size_asked l count size = if may_hold l count size then size else 0
 

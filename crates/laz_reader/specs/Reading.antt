@@ -64,9 +64,9 @@ abbrev pub AreFewChunks : Blocks → Type 0
 AreFewChunks blocks = (n : ℕ) → IsChunkCount blocks n → n ≤ MAX_CHUNKS
 
 -- how many points the chunks of a table have, in all
-abbrev pub points_in : Blocks → ℕ
-points_in (Fixed chunk points) = points
-points_in (Counted points) = points
+abbrev pub points_listed : Blocks → ℕ
+points_listed (Fixed chunk points) = points
+points_listed (Counted points) = points
 
 -- the lists of a table's chunks, whose bytes take this many in all
 pub record AreChunkLists (points bytes : List ℕ) (total : ℕ) : Type 0 where

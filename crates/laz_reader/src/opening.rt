@@ -17,7 +17,7 @@ ghost use Rattle.laz_table.specs.declared.limits.TheConstants.{MAX_CHUNKS, MAX_C
 ghost use Rattle.laz_reader.specs.Asking.{AsksAtMost, asked_for_head};
 ghost use Rattle.laz_forms.specs.Refusing.{has_bad_pointer};
 ghost use Rattle.laz_reader.specs.Reading.{AreChunkLists, AreFewChunks, EndsReading, FailsReading, IsHeadOf};
-ghost use Rattle.laz_reader.specs.Reading.{IsTablePlace, points_in, table_size};
+ghost use Rattle.laz_reader.specs.Reading.{IsTablePlace, points_listed, table_size};
 ghost use Rattle.laz_forms.specs.declared.fault.Fault.TheVariants.{Refused, Memory};
 
 use crate::reading::{read_number, read_on};
@@ -160,7 +160,7 @@ pub(crate) fn read_chunks<F: Files>(
     requires order { place.start ≤ place.end }
     requires within { WhereKnown (F.seen files.old).held name.now (λ file. place.end ≤ length file) }
     ensures lists { IfOk result (λ list. AreChunkLists list.sizes.items list.counts.items total) }
-    ensures points { IfOk result (λ list. sum list.sizes.items ≡ points_in blocks) }
+    ensures points { IfOk result (λ list. sum list.sizes.items ≡ points_listed blocks) }
     ensures some { IfOk result (λ list. All (λ n. 0 < n) list.sizes.items) }
     ensures accepted { IfOk result (λ list. WhereKnown (F.seen files.old).held name.now
         (λ file. IsAccepted (drop place.start (take place.end file)) blocks total list.sizes.items

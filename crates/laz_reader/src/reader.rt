@@ -51,7 +51,7 @@ pub struct Reader {
     pub(crate) failed: bool,
 }
 
-// Written out, so that letting a reader go is one call in each caller.
+// By hand, so that each caller drops a reader by one call.
 impl Drop for Reader {
     fn drop(self) {
         let Reader {
@@ -208,7 +208,7 @@ impl Reader {
         &self.head
     }
 
-    /// The head alone: what is known of the chunks is let go.
+    /// The head alone: what is known of the chunks is dropped.
     pub fn into_head(self) -> Head
         ensures { result ≡ self.head }
     {

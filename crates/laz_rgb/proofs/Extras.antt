@@ -16,7 +16,7 @@ use Rattle.laz_integer.specs.Ranged.{AreRanged}
 use Rattle.laz_integer.specs.Fields.{BankStands, IsByte, byte_cuts, byte_next}
 use Rattle.laz_integer.specs.Uses.{own_name}
 use Rattle.laz_integer.proofs.Public.{AreCuts-ranged, Piece}
-use Rattle.laz_rgb.specs.Rows.{AreRowModels, IsNext, IsRow, Row, byte_of, first_mark, next_cuts, next_row, row_at, row_events}
+use Rattle.laz_rgb.specs.Rows.{AreRowModels, IsNextByte, IsRow, Row, byte_of, first_mark, next_cuts, next_row, row_at, row_events}
 use Rattle.laz_integer.specs.Bytes.{byte_difference}
 use Rattle.laz_rgb.specs.Extra.{SpellsExtra, all_marked, byte_kind, extra_events, extra_made, extra_symbols}
 use Rattle.laz_rgb.specs.Items.{ExtraStands, ExtraState, HasExtraSizes, IsExtraState, IsSpelledExtra, ReadsExtra, latest_extra}
@@ -60,16 +60,16 @@ all-at zero i lt = absurd (omega (arith, lt))
 all-at (suc n) zero lt = refl
 all-at (suc n) (suc i) lt = all-at n i (omega (arith, lt))
 
-pub row-of : (row : Row) (xs : List ℕ) → AllAsked next_row IsNext row xs → length xs ≡ length row.marks → IsRow row.marks xs
+pub row-of : (row : Row) (xs : List ℕ) → AllAsked next_row IsNextByte row xs → length xs ≡ length row.marks → IsRow row.marks xs
 row-of row xs h e = walk row.marks row.model row.bank xs h e
   where
-    walk : (marks : List Bool) (m : ℕ) (bank : List Counting) (xs : List ℕ) → AllAsked next_row IsNext (row_at marks m bank) xs → length xs ≡ length marks → IsRow marks xs
+    walk : (marks : List Bool) (m : ℕ) (bank : List Counting) (xs : List ℕ) → AllAsked next_row IsNextByte (row_at marks m bank) xs → length xs ≡ length marks → IsRow marks xs
     walk [] m bank [] h e = tt
     walk [] m bank (x ∷ xs) h e = absurd (omega (arith, e))
     walk (t ∷ marks) m bank [] h e = absurd (omega (arith, e))
     walk (t ∷ marks) m bank (x ∷ xs) h e = (h.0, walk marks (m + 1) (byte_next t bank m x) xs h.1 (omega (arith, e)))
 
-pub asked-of : (marks : List Bool) (m : ℕ) (bank : List Counting) (xs : List ℕ) → IsRow marks xs → AreAsked next_row IsNext (row_at marks m bank) (length marks) xs
+pub asked-of : (marks : List Bool) (m : ℕ) (bank : List Counting) (xs : List ℕ) → IsRow marks xs → AreAsked next_row IsNextByte (row_at marks m bank) (length marks) xs
 asked-of [] m bank [] h = (refl, tt)
 asked-of [] m bank (x ∷ xs) h = absurd h
 asked-of (t ∷ marks) m bank [] h = absurd h
@@ -85,14 +85,14 @@ module _ (n : ℕ) (bank : List Counting) where
   next-at xs i now e lt is = (mark-after extra_row xs ∙ (ap (λ k. get_or (all_marked n) k false) e ∙ all-at n i lt), model-after extra_row xs ∙ omega (arith, e), sym is)
 
   pub next-takes : (xs : List ℕ) (i s : ℕ) (now : List Counting) (a b : Decoding) → length xs ≡ i → i < n → now ≡ (state_after next_row extra_row xs).bank
-      → Takes (IsByte true 0) (byte_cuts true now i) a b s → Takes (IsNext (state_after next_row extra_row xs)) (next_cuts (state_after next_row extra_row xs)) a b s
+      → Takes (IsByte true 0) (byte_cuts true now i) a b s → Takes (IsNextByte (state_after next_row extra_row xs)) (next_cuts (state_after next_row extra_row xs)) a b s
   next-takes xs i s now a b e lt is f =
       let at = next-at xs i now e lt is in
       let F : Bool × ℕ × List Counting → Type 0 = λ p. Takes {X = ℕ} (λ z. IsByte p.0 0 z) (λ z. byte_cuts p.0 p.2 p.1 z) a b s in
       subst F (λ j. (sym at.0 j, sym at.1 j, sym at.2 j)) f
 
   pub next-none : (xs : List ℕ) (i : ℕ) (now : List Counting) (a b : Decoding) → length xs ≡ i → i < n → now ≡ (state_after next_row extra_row xs).bank
-      → TakesNone (IsByte true 0) (byte_cuts true now i) a b → TakesNone (IsNext (state_after next_row extra_row xs)) (next_cuts (state_after next_row extra_row xs)) a b
+      → TakesNone (IsByte true 0) (byte_cuts true now i) a b → TakesNone (IsNextByte (state_after next_row extra_row xs)) (next_cuts (state_after next_row extra_row xs)) a b
   next-none xs i now a b e lt is f =
       let at = next-at xs i now e lt is in
       let F : Bool × ℕ × List Counting → Type 0 = λ p. TakesNone {X = ℕ} (λ z. IsByte p.0 0 z) (λ z. byte_cuts p.0 p.2 p.1 z) a b in
@@ -113,28 +113,28 @@ module _ (n : ℕ) (bank : List Counting) where
       subst F (λ j. (sym at.0 j, sym at.1 j, sym at.2 j)) f ∙ ap (λ (r : Row). r.bank) (sym (state_after-push next_row extra_row xs s))
 
   -- the first byte
-  only-none : (r : Reading) → Only (AreAsked next_row IsNext extra_row 0) (all_cuts next_row next_cuts extra_row) r [] r
+  only-none : (r : Reading) → Only (AreAsked next_row IsNextByte extra_row 0) (all_cuts next_row next_cuts extra_row) r [] r
   only-none r = record { asked = (refl, tt); reads = refl; only = λ ys s asked e. empty ys asked.0 }
     where
       empty : (ys : List ℕ) → length ys ≡ 0 → ys ≡ []
       empty [] e = refl
       empty (y ∷ ys) e = absurd (omega (arith, e))
 
-  pub first-takes : (s : ℕ) (a b : Decoding) → 0 < n → Takes (IsByte true 0) (byte_cuts true bank 0) a b s → Takes (AreAsked next_row IsNext extra_row 1) (all_cuts next_row next_cuts extra_row) a b (s ∷ [])
+  pub first-takes : (s : ℕ) (a b : Decoding) → 0 < n → Takes (IsByte true 0) (byte_cuts true bank 0) a b s → Takes (AreAsked next_row IsNextByte extra_row 1) (all_cuts next_row next_cuts extra_row) a b (s ∷ [])
   first-takes s a b some f =
       let here = next-takes [] 0 s bank a b refl some refl f in
       record {
-        choice = Only-push next_row IsNext next_cuts extra_row 0 (reading_of a) (reading_of a) (reading_of b) [] s (only-none (reading_of a)) here.choice;
+        choice = Only-push next_row IsNextByte next_cuts extra_row 0 (reading_of a) (reading_of a) (reading_of b) [] s (only-none (reading_of a)) here.choice;
         bytes = f.bytes;
         within = f.within;
         good = f.good;
       }
 
-  pub first-none : (a b : Decoding) → 0 < n → TakesNone (IsByte true 0) (byte_cuts true bank 0) a b → Refuses (AreAsked next_row IsNext extra_row n) (all_cuts next_row next_cuts extra_row) a b
+  pub first-none : (a b : Decoding) → 0 < n → TakesNone (IsByte true 0) (byte_cuts true bank 0) a b → Refuses (AreAsked next_row IsNextByte extra_row n) (all_cuts next_row next_cuts extra_row) a b
   first-none a b some f =
       let here = next-none [] 0 bank a b refl some refl f in
       record {
-        nothing = Nothing-more next_row IsNext next_cuts extra_row 1 n (reading_of a) (omega (arith, some)) (Nothing-push next_row IsNext next_cuts extra_row 0 (reading_of a) (reading_of a) [] (only-none (reading_of a)) here.nothing);
+        nothing = Nothing-more next_row IsNextByte next_cuts extra_row 1 n (reading_of a) (omega (arith, some)) (Nothing-push next_row IsNextByte next_cuts extra_row 0 (reading_of a) (reading_of a) [] (only-none (reading_of a)) here.nothing);
         bytes = f.bytes;
       }
 
@@ -159,17 +159,17 @@ extra-step n bank xs i s now new a b c e lt is f g made =
 
 -- one byte more was read
 pub extra-more : (n : ℕ) (bank : List Counting) (xs : List ℕ) (i s : ℕ) (now : List Counting) (a b c : Decoding) → i < n → now ≡ (state_after next_row (extra_row n bank) xs).bank
-    → Takes (AreAsked next_row IsNext (extra_row n bank) i) (all_cuts next_row next_cuts (extra_row n bank)) a b xs → Takes (IsByte true 0) (byte_cuts true now i) b c s
-    → Takes (AreAsked next_row IsNext (extra_row n bank) (i + 1)) (all_cuts next_row next_cuts (extra_row n bank)) a c (xs ++ s ∷ [])
+    → Takes (AreAsked next_row IsNextByte (extra_row n bank) i) (all_cuts next_row next_cuts (extra_row n bank)) a b xs → Takes (IsByte true 0) (byte_cuts true now i) b c s
+    → Takes (AreAsked next_row IsNextByte (extra_row n bank) (i + 1)) (all_cuts next_row next_cuts (extra_row n bank)) a c (xs ++ s ∷ [])
 extra-more n bank xs i s now a b c lt is f g =
-    Takes-step next_row IsNext next_cuts (extra_row n bank) (state_after next_row (extra_row n bank) xs) i a b c xs s refl f (next-takes n bank xs i s now b c f.choice.asked.0 lt is g)
+    Takes-step next_row IsNextByte next_cuts (extra_row n bank) (state_after next_row (extra_row n bank) xs) i a b c xs s refl f (next-takes n bank xs i s now b c f.choice.asked.0 lt is g)
 
 pub extra-none : (n : ℕ) (bank : List Counting) (xs : List ℕ) (i : ℕ) (now : List Counting) (a b c : Decoding) → i < n → now ≡ (state_after next_row (extra_row n bank) xs).bank
-    → Takes (AreAsked next_row IsNext (extra_row n bank) i) (all_cuts next_row next_cuts (extra_row n bank)) a b xs → TakesNone (IsByte true 0) (byte_cuts true now i) b c
-    → Refuses (AreAsked next_row IsNext (extra_row n bank) n) (all_cuts next_row next_cuts (extra_row n bank)) a c
+    → Takes (AreAsked next_row IsNextByte (extra_row n bank) i) (all_cuts next_row next_cuts (extra_row n bank)) a b xs → TakesNone (IsByte true 0) (byte_cuts true now i) b c
+    → Refuses (AreAsked next_row IsNextByte (extra_row n bank) n) (all_cuts next_row next_cuts (extra_row n bank)) a c
 extra-none n bank xs i now a b c lt is f g =
-    let here = Refuses-none (IsNext (state_after next_row (extra_row n bank) xs)) (next_cuts (state_after next_row (extra_row n bank) xs)) b c (next-none n bank xs i now b c f.choice.asked.0 lt is g) in
-    Refuses-step next_row IsNext next_cuts (extra_row n bank) (state_after next_row (extra_row n bank) xs) i n a b c xs refl lt f here
+    let here = Refuses-none (IsNextByte (state_after next_row (extra_row n bank) xs)) (next_cuts (state_after next_row (extra_row n bank) xs)) b c (next-none n bank xs i now b c f.choice.asked.0 lt is g) in
+    Refuses-step next_row IsNextByte next_cuts (extra_row n bank) (state_after next_row (extra_row n bank) xs) i n a b c xs refl lt f here
 
 -- ---- a writer's row, and the events of extra bytes
 pub symbols-row : (last now : List ℕ) → length now ≡ length last → IsRow (all_marked (length last)) (extra_symbols last now)
@@ -209,28 +209,28 @@ module _ (earlier : List Event) (extras : List (List ℕ)) (st : ExtraState) (is
   abbrev spelled_extra : List ℕ → List Event × List ℕ
   spelled_extra xs = (row_events byte_kind (all_marked n) 0 xs, extra_made st.last xs)
 
-  asked-row : (xs : List ℕ) → AreAsked next_row IsNext row n xs → IsRow (all_marked n) xs
+  asked-row : (xs : List ℕ) → AreAsked next_row IsNextByte row n xs → IsRow (all_marked n) xs
   asked-row xs asked = row-of row xs asked.1 (asked.0 ∙ sym (length-replicate {A = Bool} n true))
 
-  to-extra : (xs : List ℕ) → AreAsked next_row IsNext row n xs → IsSpelledExtra extras (spelled_extra xs)
+  to-extra : (xs : List ℕ) → AreAsked next_row IsNextByte row n xs → IsSpelledExtra extras (spelled_extra xs)
   to-extra xs asked = subst (λ (l : List ℕ). SpellsExtra l (row_events byte_kind (all_marked n) 0 xs) (extra_made st.last xs)) h.last (record { symbols = xs; row = asked-row xs asked; is = refl; makes = refl })
 
-  from-extra : (z : List Event × List ℕ) → IsSpelledExtra extras z → (xs : List ℕ) × AreAsked next_row IsNext row n xs × (spelled_extra xs ≡ z)
+  from-extra : (z : List Event × List ℕ) → IsSpelledExtra extras z → (xs : List ℕ) × AreAsked next_row IsNextByte row n xs × (spelled_extra xs ≡ z)
   from-extra z asked =
       let here : SpellsExtra st.last z.0 z.1 = subst (λ (l : List ℕ). SpellsExtra l z.0 z.1) (sym h.last) asked in
       let found = asked-of (all_marked n) 0 st.bank here.symbols here.row in
-      (here.symbols, subst (λ (k : ℕ). AreAsked next_row IsNext row k here.symbols) (length-replicate {A = Bool} n true) found, (λ i. (sym here.is i, sym here.makes i)))
+      (here.symbols, subst (λ (k : ℕ). AreAsked next_row IsNextByte row k here.symbols) (length-replicate {A = Bool} n true) found, (λ i. (sym here.is i, sym here.makes i)))
 
-  events-cut : (xs : List ℕ) → AreAsked next_row IsNext row n xs → spelled_cuts earlier (spelled_extra xs) ≡ all_cuts next_row next_cuts row xs
+  events-cut : (xs : List ℕ) → AreAsked next_row IsNextByte row n xs → spelled_cuts earlier (spelled_extra xs) ≡ all_cuts next_row next_cuts row xs
   events-cut xs asked = (extra-piece xs (asked-row xs asked)).cut earlier h.models
 
-  pub takes-extra : (a b : Decoding) (xs : List ℕ) → Takes (AreAsked next_row IsNext row n) (all_cuts next_row next_cuts row) a b xs → Takes (IsSpelledExtra extras) (spelled_cuts earlier) a b (spelled_extra xs)
-  takes-extra a b xs f = Takes-through spelled_extra (AreAsked next_row IsNext row n) (IsSpelledExtra extras) (all_cuts next_row next_cuts row) (spelled_cuts earlier) a b xs to-extra from-extra events-cut f
+  pub takes-extra : (a b : Decoding) (xs : List ℕ) → Takes (AreAsked next_row IsNextByte row n) (all_cuts next_row next_cuts row) a b xs → Takes (IsSpelledExtra extras) (spelled_cuts earlier) a b (spelled_extra xs)
+  takes-extra a b xs f = Takes-through spelled_extra (AreAsked next_row IsNextByte row n) (IsSpelledExtra extras) (all_cuts next_row next_cuts row) (spelled_cuts earlier) a b xs to-extra from-extra events-cut f
 
-  pub refuses-extra : (a b : Decoding) → Refuses (AreAsked next_row IsNext row n) (all_cuts next_row next_cuts row) a b → Refuses (IsSpelledExtra extras) (spelled_cuts earlier) a b
-  refuses-extra a b f = Refuses-through spelled_extra (AreAsked next_row IsNext row n) (IsSpelledExtra extras) (all_cuts next_row next_cuts row) (spelled_cuts earlier) a b from-extra events-cut f
+  pub refuses-extra : (a b : Decoding) → Refuses (AreAsked next_row IsNextByte row n) (all_cuts next_row next_cuts row) a b → Refuses (IsSpelledExtra extras) (spelled_cuts earlier) a b
+  refuses-extra a b f = Refuses-through spelled_extra (AreAsked next_row IsNextByte row n) (IsSpelledExtra extras) (all_cuts next_row next_cuts row) (spelled_cuts earlier) a b from-extra events-cut f
 
-  pub reads-extra : (a b : Decoding) (xs bytes : List ℕ) (new : List Counting) → Takes (AreAsked next_row IsNext row n) (all_cuts next_row next_cuts row) a b xs → bytes ≡ extra_made st.last xs → length bytes ≡ n
+  pub reads-extra : (a b : Decoding) (xs bytes : List ℕ) (new : List Counting) → Takes (AreAsked next_row IsNextByte row n) (all_cuts next_row next_cuts row) a b xs → bytes ≡ extra_made st.last xs → length bytes ≡ n
       → new ≡ (state_after next_row row xs).bank → ReadsExtra earlier extras bytes a b (record { bank = new; last = bytes })
   reads-extra a b xs bytes new f e long is' =
       let takes = takes-extra a b xs f in

@@ -3,7 +3,7 @@ use Rattle.std.proofs.Common.{◌≡◌, ℕ, ◌+◌, Bool, true, false, List, 
 use Rattle.laz_integer.specs.Events.{Event}
 use Rattle.laz_integer.specs.Fields.{IsByte, byte_events, if_marked}
 use Rattle.laz_integer.specs.Uses.{own_name}
-use Rattle.laz_integer.proofs.Public.{One, as-one, made-one, none-one, symbol-one, then}
+use Rattle.laz_integer.proofs.Public.{One, as-one, made-one, none-one, symbol-one, then, cons_same}
 use Rattle.laz_rgb.specs.declared.colour.Colour.{Colour}
 use Rattle.laz_rgb.specs.Colours.{SpellsColour, changes_event, colour_made, colour_marks, rgb_kind}
 use Rattle.laz_rgb.specs.Extra.{SpellsExtra, all_marked, byte_kind, extra_made}
@@ -14,9 +14,6 @@ marked-one : (t : Bool) (kind : List ℕ) (m a b : ℕ) → IsByte t 0 a → IsB
 marked-one true kind m a b h k = symbol-one (own_name kind m) 256 a b
 marked-one false kind m a b h k = none-one [] [] a b refl refl (h ∙ sym k)
 
-same_list : (a b : ℕ) (xs ys : List ℕ) → a ≡ b → xs ≡ ys → a ∷ xs ≡ b ∷ ys
-same_list a b xs ys e f = cc
-
 row-one : (kind : List ℕ) (marks : List Bool) (m : ℕ) (xs ys : List ℕ) → IsRow marks xs → IsRow marks ys → One (row_events kind marks m xs) (row_events kind marks m ys) xs ys
 row-one kind [] m [] [] h k = none-one {V = List ℕ} [] [] [] [] refl refl refl
 row-one kind [] m [] (y ∷ ys) h k = absurd k
@@ -25,7 +22,7 @@ row-one kind (t ∷ marks) m [] ys h k = absurd h
 row-one kind (t ∷ marks) m (x ∷ xs) [] h k = absurd k
 row-one kind (t ∷ marks) m (x ∷ xs) (y ∷ ys) h k =
     then {W = List ℕ} (if_marked t (byte_events kind m x)) (if_marked t (byte_events kind m y)) (row_events kind marks (m + 1) xs) (row_events kind marks (m + 1) ys) x y (x ∷ xs) (y ∷ ys) (marked-one t kind m x y h.0 k.0)
-    (λ (e : x ≡ y). made-one {V = List ℕ} {W = List ℕ} (row_events kind marks (m + 1) xs) (row_events kind marks (m + 1) ys) xs ys (x ∷ xs) (y ∷ ys) (λ f. same_list x y xs ys e f) (row-one kind marks (m + 1) xs ys h.1 k.1))
+    (λ (e : x ≡ y). made-one {V = List ℕ} {W = List ℕ} (row_events kind marks (m + 1) xs) (row_events kind marks (m + 1) ys) xs ys (x ∷ xs) (y ∷ ys) (λ f. cons_same x y xs ys e f) (row-one kind marks (m + 1) xs ys h.1 k.1))
 
 -- ---- colours and extra bytes
 pub colour-one : (last : Colour) (xs ys : List Event) (v w : Colour) → SpellsColour last xs v → SpellsColour last ys w → One xs ys v w

@@ -48,8 +48,8 @@ more_marks [] = []
 more_marks (t ∷ marks) = marks
 
 -- The symbols that the next byte may have.
-abbrev pub IsNext : Row → ℕ → Type 0
-IsNext row s = IsByte (first_mark row.marks) 0 s
+abbrev pub IsNextByte : Row → ℕ → Type 0
+IsNextByte row s = IsByte (first_mark row.marks) 0 s
 
 -- The part of the next byte.
 abbrev pub next_cuts : Row → ℕ → List Cut

@@ -7,7 +7,7 @@ ghost use Rattle.laz_range.specs.Decoding.{NoneBegins, Refuses, Takes};
 ghost use Rattle.laz_models.specs.Bank.{alphabet_sizes};
 ghost use Rattle.laz_integer.specs.Events.{Event, Name, cuts_after};
 ghost use Rattle.laz_integer.specs.Ranged.{AreRanged};
-ghost use Rattle.laz_rgb.specs.Rows.{AreRowModels, IsNext, byte_of, next_cuts, next_row, row_at};
+ghost use Rattle.laz_rgb.specs.Rows.{AreRowModels, IsNextByte, byte_of, next_cuts, next_row, row_at};
 ghost use Rattle.laz_rgb.specs.Extra.{all_marked, extra_events, extra_made, extra_symbols};
 ghost use Rattle.laz_rgb.specs.Items.{ExtraStands, HasExtraSizes, IsSpelledExtra, ReadsExtra, latest_extra};
 ghost use Rattle.laz_integer.specs.Spelled.{OneBegins};
@@ -90,10 +90,10 @@ fn take_bytes(
     requires models { AreRowModels (length last.now) 0 bank.old }
     ensures reads { let row = row_at (all_marked (length last.now)) 0 bank.old in
         MatchResult result (λ _. (xs : List ℕ)
-        × Takes (AreAsked next_row IsNext row (length last.now))
+        × Takes (AreAsked next_row IsNextByte row (length last.now))
         (all_cuts next_row next_cuts row) decoder.old decoder.new xs × (part.new ≡ extra_made last.now xs)
         × (bank.new ≡ (state_after next_row row xs).bank))
-        (λ _. Refuses (AreAsked next_row IsNext row (length last.now))
+        (λ _. Refuses (AreAsked next_row IsNextByte row (length last.now))
         (all_cuts next_row next_cuts row) decoder.old decoder.new) }
     ensures good { OnOk result (decoder.new.failed ≡ false) }
     ensures sizes { alphabet_sizes bank.new ≡ alphabet_sizes bank.old }

@@ -1,14 +1,14 @@
 -- Worked values of the definitions: entries, tables, chunks, payloads, and what a laszip VLR is refused for.
 use Rattle.std.proofs.Common.{◌≡◌, ℕ, pos, negsuc, true, false, List, [], ◌∷◌, ◌++◌, Some, None, refl, replicate}
 use Rattle.laz_table.specs.declared.limits.TheConstants.{ARITHMETIC_CODER, CHUNKED_COMPRESSOR, COUNTED_CHUNKS, ITEM_VERSION, MAX_CHUNKS, MAX_CHUNK_BYTES, MAX_CHUNK_POINTS, MIN_TABLE_BYTES, PAYLOAD_ITEM, PAYLOAD_START, TABLE_CONTEXTS, TABLE_START}
-use Rattle.std.proofs.Common.{codes, subst, arith, rules}
+use Rattle.std.proofs.Common.{codes, subst, sym, arith, rules}
 use Rattle.std.specs.List.{splice}
 use Rattle.byteorder.specs.Endian.{little_bytes}
 use Rattle.las_header.specs.declared.refusal.Refusal.TheVariants as cause
 use Rattle.las_header.specs.Numbers.{number_at, with_number_at}
 use Rattle.las_header.specs.Plain.{with_vlr}
 use Rattle.las_header.specs.Refusals.{first_cause}
-use Rattle.laz_range.specs.Span.{renormal_step, subspan}
+use Rattle.laz_range.specs.Span.{IsBytes, renormal_step, subspan}
 use Rattle.laz_models.specs.BitDist.{bit_counts_at}
 use Rattle.laz_models.specs.Counting.{starts_of}
 use Rattle.laz_models.specs.Cycles.{cycle_in}
@@ -23,10 +23,11 @@ use Rattle.laz_table.specs.VlrCauses.{payload_at, payload_causes, payload_of, vl
 use Rattle.laz_table.specs.Entries.{bytes_entry, context_of, entries_of, events_of, no_entry, number_events}
 use Rattle.laz_table.specs.Entries.{points_entry, prediction, signed, table_use}
 use Rattle.laz_table.specs.Table.{TableHolds, stream_of, table_bytes}
-use Rattle.laz_table.specs.Chunks.{AllowsSizes, HasOtherBytes, HasTable, IsChunkCount, are_counted, fixed_sizes}
+use Rattle.laz_table.specs.Chunks.{AllowsSizes, BeginsTable, HasOtherBytes, HasTable, IsChunkCount, are_counted, fixed_sizes}
 use Rattle.laz_table.specs.Chunks.{sizes_of}
 use Rattle.laz_table.specs.Steps.{entries_made, latest_after, next_counts_points, number_made, table_start}
-use Rattle.laz_table.proofs.TableLaws.{holds-fixed}
+use Rattle.laz_table.proofs.TableBytes.{fixed-bytes}
+use Rattle.laz_table.proofs.TableLaws.{holds-fixed, one-held}
 
 -- ---- entries
 in_turn : entries_of (7 ∷ 9 ∷ []) (24 ∷ 30 ∷ [])
@@ -105,9 +106,17 @@ one_held =
     subst (λ (bytes : List ℕ). TableHolds bytes 1 false [] (24 ∷ [])) one_chunk
     (holds-fixed (24 ∷ []) (omega arith) (omega arith, tt))
 
+-- and no other one
+one_only : (others more : List ℕ) → BeginsTable (0 ∷ 0 ∷ 0 ∷ 0 ∷ 1 ∷ 0 ∷ 0 ∷ 0 ∷ 44 ∷ 92 ∷ 0 ∷ 0 ∷ 0 ∷ []) (Fixed 50000 50000) others more → (others ≡ []) × (more ≡ 24 ∷ [])
+one_only others more other =
+    let bytes = 0 ∷ 0 ∷ 0 ∷ 0 ∷ 1 ∷ 0 ∷ 0 ∷ 0 ∷ 44 ∷ 92 ∷ 0 ∷ 0 ∷ 0 ∷ [] in
+    let small : IsBytes bytes = subst IsBytes one_chunk (fixed-bytes (24 ∷ []) (omega arith, tt)) in
+    let same = one-held bytes 1 false [] (24 ∷ []) others more small one_held (subst (λ (n : ℕ). TableHolds bytes n false others more) other.count other.holds) in
+    (sym same.0, sym same.1)
+
 -- and so it is one of a file of 50,000 points with that chunk size, whose chunks have 24 bytes in all and not 23
 one_table : HasTable (0 ∷ 0 ∷ 0 ∷ 0 ∷ 1 ∷ 0 ∷ 0 ∷ 0 ∷ 44 ∷ 92 ∷ 0 ∷ 0 ∷ 0 ∷ []) (Fixed 50000 50000) [] (24 ∷ [])
-one_table = record { count = refl; holds = one_held }
+one_table = record { begins = record { count = refl; holds = one_held }; only = one_only }
 
 other_bytes : HasOtherBytes (0 ∷ 0 ∷ 0 ∷ 0 ∷ 1 ∷ 0 ∷ 0 ∷ 0 ∷ 44 ∷ 92 ∷ 0 ∷ 0 ∷ 0 ∷ []) (Fixed 50000 50000) 23
 other_bytes = ([], 24 ∷ [], one_table, λ is. omega (arith, is))

@@ -11,7 +11,7 @@ use Rattle.laz_integer.specs.Corrector.{choices, corrected}
 use Rattle.laz_integer.specs.Events.{Event, Symbol, Flag, Bits, Name, cut_after, cuts_after, cuts_of, raw_events}
 use Rattle.laz_integer.specs.Integer.{IntSpell, bit_name, corrector_events, high_name, rest_events, width_name}
 use Rattle.laz_integer.specs.Ranged.{AreOneKind, AreRanged, IsRanged}
-use Rattle.laz_integer.proofs.Public.{by-width, cuts_after-append, raw-short, raw-wide, AreAlike-ranged, AreCuts-ranged, AreRanged-append, Begins-more, IsCut-ranged, event-from_cut}
+use Rattle.laz_integer.proofs.Public.{by-width, cuts_after-append, raw-short, raw-wide, AreAlike-ranged, AreCuts-ranged, AreRanged-append, Begins-more, IsCut-ranged, event-from_cut, cons_same}
 use Rattle.laz_table.specs.Entries.{Entry, Latest, SpellsEntries, SpellsEntry, after_entry, context_of, prediction, signed, table_use}
 use Rattle.laz_table.specs.Steps.{next_counts_points}
 use Rattle.laz_table.proofs.Bridge.{AreInTurn, cons_entry}
@@ -22,9 +22,6 @@ SameKinds [] [] = Unit {0}
 SameKinds [] (e ∷ es) = ⊥
 SameKinds (d ∷ ds) [] = ⊥
 SameKinds (d ∷ ds) (e ∷ es) = AreOneKind d e × (d ≡ e → SameKinds ds es)
-
-cons_event : (d e : Event) (ds es : List Event) → d ≡ e → ds ≡ es → d ∷ ds ≡ e ∷ es
-cons_event d e ds es f g = cc
 
 module _ (sizes : Name → ℕ) (bytes : List ℕ) (are : IsBytes bytes) where
   -- the front of a list that begins the bytes begins them
@@ -57,7 +54,7 @@ module _ (sizes : Name → ℕ) (bytes : List ℕ) (are : IsBytes bytes) where
       let second = next-begins front e es before g k in
       let eq : d ≡ e = one-event front d e before f.0 g.0 same.0 first.1 second.1 in
       let there : Begins (span (cuts_of ((front ++ d ∷ []) ++ es))) bytes = subst (λ (x : Event). Begins (span (cuts_of ((front ++ x ∷ []) ++ es))) bytes) (sym eq) second.0 in
-      cons_event d e ds es eq (one-list (front ++ d ∷ []) ds es (AreRanged-append sizes front (d ∷ []) before (f.0, tt)) f.1 g.1 (same.1 eq) first.0 there)
+      cons_same d e ds es eq (one-list (front ++ d ∷ []) ds es (AreRanged-append sizes front (d ∷ []) before (f.0, tt)) f.1 g.1 (same.1 eq) first.0 there)
 
 -- ---- two correctors
 raw-kinds : (b v w : ℕ) → SameKinds (raw_events b v) (raw_events b w)

@@ -1,5 +1,5 @@
 -- Whole tables: the lists that were read are the only ones, and what a table is refused for.
-use Rattle.std.proofs.Common.{◌≡◌, ◌≢◌, ℕ, ◌+◌, ◌-◌, ◌*◌, ◌<◌, inl, inr, min, Bool, true, false, if◌then◌else◌, List, [], ◌∷◌, ◌++◌, length, drop, map, Some, None, Result, Ok, Err, refl, sym, ap, subst, ◌∙◌, arith}
+use Rattle.std.proofs.Common.{◌≡◌, ℕ, ◌+◌, ◌-◌, ◌*◌, ◌<◌, inl, inr, min, Bool, true, false, if◌then◌else◌, List, [], ◌∷◌, ◌++◌, length, drop, map, Some, None, Result, Ok, Err, refl, sym, ap, subst, ◌∙◌, arith}
 use Rattle.std.specs.Prelude.{sum, IfOk, IfErr, MatchResult}
 use Rattle.std.specs.List.{range_with_len}
 use Rattle.std.proofs.lemmas.List.FromFn.{map-range_with_len_more}
@@ -15,7 +15,7 @@ use Rattle.laz_table.specs.declared.chunks.Blocks.TheVariants.{Fixed, Counted}
 use Rattle.laz_table.specs.declared.chunks.TableFault.{TableFault}
 use Rattle.laz_table.specs.declared.chunks.TableFault.TheVariants.{Memory}
 use Rattle.laz_table.specs.Entries.{entries_of, table_use}
-use Rattle.laz_table.specs.Chunks.{AllowsSizes, AreSizes, HasOtherBytes, HasOtherPoints, HasTable, IsAccepted, IsChunkCount, IsFirstFault, LacksTable, are_counted, sizes_of, table_causes}
+use Rattle.laz_table.specs.Chunks.{AllowsSizes, AreSizes, BeginsTable, HasOtherBytes, HasOtherPoints, HasTable, IsAccepted, IsChunkCount, IsFirstFault, LacksTable, are_counted, sizes_of, table_causes}
 use Rattle.laz_table.specs.Steps.{AreLists, IsFault, IsTableStart, NoEntries, NoTable, OneTable, ReadsEntries, table_start}
 use Rattle.laz_table.proofs.Bridge.{AreInTurn, counted-counts, counted-length, counted-sizes, counted-turn, counts_in, fixed-counts, fixed-length, fixed-turn, none-opened, none-read, one-read, read-held, sizes_in}
 use Rattle.laz_table.proofs.ReadingLemmas.{fault-then}
@@ -82,8 +82,8 @@ chunks-read sizes counts (Err fault) models n d e is h some read few same reads 
 
 -- ---- the table of the stream
 module _ (bytes : List ℕ) (blocks : Blocks) (n : ℕ) (sizes counts : List ℕ) (start : IsTableStart bytes blocks n) (one : OneTable (drop 8 bytes) n (are_counted blocks) sizes counts) where
-  pub has-table : HasTable bytes blocks sizes counts
-  has-table =
+  begins : BeginsTable bytes blocks sizes counts
+  begins =
       let long = one.lists.byte_counts in
       record {
         count = subst (λ (k : ℕ). IsChunkCount blocks k) (sym long) start.count;
@@ -97,33 +97,30 @@ module _ (bytes : List ℕ) (blocks : Blocks) (n : ℕ) (sizes counts : List ℕ
         };
       }
 
-  pub one-table : (s c : List ℕ) → HasTable bytes blocks s c → (s ≡ sizes) × (c ≡ counts)
+  pub one-table : (s c : List ℕ) → BeginsTable bytes blocks s c → (s ≡ sizes) × (c ≡ counts)
   one-table s c has =
       let long : length c ≡ n = sym has.holds.number ∙ start.number in
       one.only s c (record { point_counts = has.holds.point_counts ∙ ap (λ k. if are_counted blocks then k else 0) long; byte_counts = long }) has.holds.coded
+
+  pub has-table : HasTable bytes blocks sizes counts
+  has-table = record { begins = begins; only = one-table }
 
   pub no-lack : LacksTable bytes blocks → ⊥
   no-lack lacks = lacks sizes counts has-table
 
   pub right-bytes : (total : ℕ) → sum counts ≡ total → HasOtherBytes bytes blocks total → ⊥
-  right-bytes total e other = other.3 (ap sum (one-table other.0 other.1 other.2).1 ∙ e)
-
-  pub other-bytes : (total : ℕ) → sum counts ≢ total → HasOtherBytes bytes blocks total
-  other-bytes total ne = (sizes, counts, has-table, ne)
+  right-bytes total e other = other.3 (ap sum (one-table other.0 other.1 other.2.begins).1 ∙ e)
 
 other-points : (bytes : List ℕ) (blocks : Blocks) (sizes counts : List ℕ) → HasTable bytes blocks sizes counts → ¬ AllowsSizes blocks sizes → HasOtherPoints bytes blocks
 other-points bytes (Fixed chunk points) sizes counts has bad = bad tt
 other-points bytes (Counted points) sizes counts has bad = (sizes, counts, has, bad)
 
-right-points : (bytes : List ℕ) (blocks : Blocks) (sizes counts : List ℕ) → ((s c : List ℕ) → HasTable bytes blocks s c → (s ≡ sizes) × (c ≡ counts)) → AllowsSizes blocks sizes → HasOtherPoints bytes blocks → ⊥
+right-points : (bytes : List ℕ) (blocks : Blocks) (sizes counts : List ℕ) → ((s c : List ℕ) → BeginsTable bytes blocks s c → (s ≡ sizes) × (c ≡ counts)) → AllowsSizes blocks sizes → HasOtherPoints bytes blocks → ⊥
 right-points bytes (Fixed chunk points) sizes counts only allows other = other
-right-points bytes (Counted points) sizes counts only allows other = other.3 (subst (λ (l : List ℕ). AreSizes points l) (sym (only other.0 other.1 other.2).0) allows)
+right-points bytes (Counted points) sizes counts only allows other = other.3 (subst (λ (l : List ℕ). AreSizes points l) (sym (only other.0 other.1 other.2.begins).0) allows)
 
 -- ---- the first cause
 module _ (bytes : List ℕ) (blocks : Blocks) (n total : ℕ) (sizes counts : List ℕ) (start : IsTableStart bytes blocks n) (one : OneTable (drop 8 bytes) n (are_counted blocks) sizes counts) where
-  pub first-bytes : sum counts ≢ total → IsFirst (table_causes bytes blocks total) (Some cause.ChunkSum)
-  first-bytes ne = inr (no-lack bytes blocks n sizes counts start one, inl (other-bytes bytes blocks n sizes counts start one total ne, refl))
-
   pub first-points : sum counts ≡ total → ¬ AllowsSizes blocks sizes → IsFirst (table_causes bytes blocks total) (Some cause.PointSum)
   first-points e bad =
       inr (no-lack bytes blocks n sizes counts start one, inr (right-bytes bytes blocks n sizes counts start one total e, inl (other-points bytes blocks sizes counts (has-table bytes blocks n sizes counts start one) bad, refl)))
@@ -140,7 +137,6 @@ module _ (bytes : List ℕ) (blocks : Blocks) (n total : ℕ) (sizes counts : Li
       record {
         coded = sizes;
         table = subst (λ (l : List ℕ). HasTable bytes blocks sizes l) (sym g) (has-table bytes blocks n sizes counts start one);
-        only = λ s c has. let same = one-table bytes blocks n sizes counts start one s c has in (same.0, same.1 ∙ sym g);
         sizes_are = f;
         fine = first-none e allows;
       }

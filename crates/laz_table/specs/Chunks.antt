@@ -23,9 +23,14 @@ IsChunkCount (Fixed chunk points) n = n ≡ chunk_count points chunk
 IsChunkCount (Counted points) n = n ≤ min points MAX_CHUNKS
 
 -- bytes begin with a table of such chunks
-pub record HasTable (bytes : List ℕ) (blocks : Blocks) (sizes counts : List ℕ) : Type 0 where
+pub record BeginsTable (bytes : List ℕ) (blocks : Blocks) (sizes counts : List ℕ) : Type 0 where
   pub count : IsChunkCount blocks (length counts)
   pub holds : TableHolds bytes (length counts) (are_counted blocks) sizes counts
+
+-- And with no other one: numbers of 256 and more, which are no bytes, can spell two.
+pub record HasTable (bytes : List ℕ) (blocks : Blocks) (sizes counts : List ℕ) : Type 0 where
+  pub begins : BeginsTable bytes blocks sizes counts
+  pub only : (others more : List ℕ) → BeginsTable bytes blocks others more → (others ≡ sizes) × (more ≡ counts)
 
 -- Table: the bytes begin with no such table.
 abbrev pub LacksTable : List ℕ → Blocks → Type 0
@@ -75,12 +80,10 @@ abbrev pub HasChunkSize : Blocks → Type 0
 HasChunkSize (Fixed chunk points) = 0 < chunk
 HasChunkSize (Counted points) = Unit {0}
 
--- What is read of a table that is not refused: the lists that the bytes hold, which are the only ones, and the number
--- of points of each chunk.
+-- What is read of a table that is not refused: the lists that the bytes hold, and the number of points of each chunk.
 pub record IsAccepted (bytes : List ℕ) (blocks : Blocks) (total : ℕ) (sizes counts : List ℕ) : Type 0 where
   pub coded : List ℕ
   pub table : HasTable bytes blocks coded counts
-  pub only : (others more : List ℕ) → HasTable bytes blocks others more → (others ≡ coded) × (more ≡ counts)
   pub sizes_are : sizes ≡ sizes_of blocks coded
   pub fine : IsFirst (table_causes bytes blocks total) None
 

@@ -1,7 +1,8 @@
 -- The payload of the laszip VLR, as it is written (Isenburg, LASzip, PE&RS 2013).
-use Rattle.std.specs.Prelude.{ℕ, ◌/◌, ◌%◌, ◌==◌, nat_lt, Bool, true, if◌then◌else◌, List, [], ◌∷◌, ◌++◌, length}
+use Rattle.std.specs.Prelude.{ℕ, nat_lt, Bool, true, if◌then◌else◌, List, [], ◌∷◌, ◌++◌, length}
 use Rattle.std.specs.Prelude.{replicate}
 use Rattle.byteorder.specs.Endian.{little_bytes}
+use Rattle.las_header.specs.Fields.{has_colours, has_time}
 use Rattle.laz_table.specs.declared.limits.TheConstants.{CHUNKED_COMPRESSOR, ARITHMETIC_CODER, ITEM_VERSION}
 
 -- an item of a point record: its type and its size in bytes
@@ -17,8 +18,8 @@ item_if b kind size = if b then record { kind = kind; size = size } ∷ [] else 
 -- are extra bytes.
 abbrev pub items_of : (format extra : ℕ) → List Item
 items_of format extra =
-    item_if true 6 20 ++ (item_if (format % 2 == 1) 7 8
-    ++ (item_if (format / 2 == 1) 8 6 ++ item_if (nat_lt 0 extra) 0 extra))
+    item_if true 6 20 ++ (item_if (has_time format) 7 8
+    ++ (item_if (has_colours format) 8 6 ++ item_if (nat_lt 0 extra) 0 extra))
 
 -- an item in the payload: type, size, version
 abbrev pub item_bytes : Item → List ℕ

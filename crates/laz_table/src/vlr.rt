@@ -97,17 +97,17 @@ fn put_items(payload: &mut ArrayVec<u8, 58>, format: u8, extra: u16)
     ensures { payload.new.items ≡ payload.old.items ++ items_part (items_of format extra) }
 {
     let has_time = format % 2 == 1;
-    let has_colour = format / 2 == 1;
+    let has_colours = format >= 2;
     let has_extra = extra > 0;
     put_u16(
         payload,
-        1 + u16::from(has_time) + u16::from(has_colour) + u16::from(has_extra),
+        1 + u16::from(has_time) + u16::from(has_colours) + u16::from(has_extra),
     );
     put_item(payload, 6, 20);
     if has_time {
         put_item(payload, 7, 8);
     }
-    if has_colour {
+    if has_colours {
         put_item(payload, 8, 6);
     }
     if has_extra {

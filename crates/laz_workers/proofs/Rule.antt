@@ -17,9 +17,6 @@ one_if_le true = omega arith
 one_if_le false = omega arith
 
 module _ (T W word : ℕ) (views : List View) (k : Kept T W word views) where
-  splits : ℕ
-  splits = count_by is_split views
-
   -- two views that open are one
   pub same_opening : (i j : ℕ) (v u : View) → get_elem? views i ≡ some v → v.opens ≡ true → get_elem? views j ≡ some u → u.opens ≡ true → i ≡ j
   same_opening i j v u at ov at' ou = one_place (λ w. w.opens) views k.one_opens i j v u at ov at' ou

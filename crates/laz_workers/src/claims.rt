@@ -1,3 +1,4 @@
+//! Numbers that passes claim from one shared word, each once.
 ghost use Rattle.std.specs.Prelude.{◌≡◌, ℕ, ◌+◌, ◌-◌, ◌^◌, ◌<◌, ◌≤◌, IfOk, IfErr, IsOk, IfSome, true, false, ◌++◌};
 ghost use Rattle.std.specs.Prelude.{vec_len, vec_capacity};
 ghost use Rattle.laz_workers.specs.Numbers.{HoldsBelow};

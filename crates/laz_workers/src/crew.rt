@@ -1,3 +1,4 @@
+//! The hands of a crew.
 ghost use Rattle.std.specs.Prelude.{◌≡◌, ◌+◌, ◌<◌, [], ◌∷◌, ◌++◌, length, ℕ, ◌≤◌, Option, List, All, Contains};
 ghost use Rattle.std.specs.Prelude.{slice_index_or, IfOk, IfErr, option_copied};
 ghost use Rattle.laz_workers.specs.Rooms.{RoomSeen, HandSeen, IsEmptyRoom, IsNew, StandsIn, answer_in, numbers_in};

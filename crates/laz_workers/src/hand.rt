@@ -1,3 +1,4 @@
+//! What one thread works with.
 ghost use Rattle.std.specs.Prelude.{◌≡◌, Option};
 ghost use Rattle.laz_workers.specs.Rooms.{emptied};
 

@@ -1,3 +1,5 @@
+//! What a room holds.
+
 /// What a room holds.
 #[derive(Clone, Copy, Debug, PartialEq, Eq)]
 pub enum Held {

@@ -1,3 +1,4 @@
+//! The work that hands do on inputs.
 ghost use Rattle.std.specs.Prelude.{◌≡◌, ℕ, List, Option, ◌≤◌, vec_capacity, vec_len};
 ghost use Rattle.laz_workers.specs.Work.{Answers};
 
@@ -31,7 +32,7 @@ pub trait Job: Sync {
         ensures suits { suits self.now space.new };
 
     /// The same as [`work`](Self::work), in a room that may be shorter at first. It is lengthened as far as is needed,
-    /// and to no more than `size` bytes. There is capacity for so many.
+    /// and to no more than `size` bytes. There is capacity for that many.
     fn work_within(
         &self,
         input: &[u8],

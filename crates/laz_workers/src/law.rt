@@ -1,3 +1,4 @@
+//! The laws of claims.
 ghost use Rattle.laz_workers.specs.Claims.{EveryRunKeepsTheRule, EveryCloseIsWhole};
 
 /// The laws of claims, for every list of steps: the rule holds after each step, and when the claims can be closed, the

@@ -1,3 +1,4 @@
+//! The right to draw numbers.
 ghost use Rattle.std.specs.Prelude.{◌≡◌};
 
 use crate::view::View;

@@ -1,3 +1,4 @@
+//! A place for the answer to one input.
 ghost use Rattle.std.specs.Prelude.{◌≡◌, ◌≤◌, ◌↔◌, length, IfOk, IsTrue, option_copied};
 ghost use Rattle.std.specs.Prelude.{vec_len, vec_capacity};
 ghost use Rattle.laz_workers.specs.Rooms.{emptied, lengthened, number_of, answer_in};

@@ -1,3 +1,4 @@
+//! A crew that works inputs by claimed number, each hand in a thread of its own.
 ghost use Rattle.std.specs.Prelude.{◌≡◌, ℕ, ◌+◌, ◌-◌, ◌*◌, ◌<◌, ◌≤◌, false, true, option_to_list, [], ◌∷◌, All, length};
 ghost use Rattle.std.specs.Prelude.{vec_len, vec_capacity, slice_index_or, map, flat_map, IsSome, Some, Contains};
 ghost use Rattle.laz_workers.specs.Numbers.{HoldsBelow};

@@ -2,7 +2,7 @@
 use Rattle.std.proofs.Common.{◌≡◌, ℕ, ◌+◌, ◌*◌, ◌%◌, ◌≤◌, ◌<◌, List, ◌++◌, length, take, Option, Some, None, sym, ◌∙◌, ap, subst, append_assoc, arith}
 use Rattle.std.proofs.Math.Seq.{take-append-add}
 use Rattle.las_outside.specs.Outside.{Outside, with_bytes}
-use Rattle.laz_forms.specs.Outputs.{Output, draft_of, front, points_in, stopped}
+use Rattle.laz_forms.specs.Outputs.{Output, draft_of, front, points_written, stopped}
 use Rattle.laz_writer.specs.Writing.{ChunksStand, PackedStands, PackingSeen, Plan, PointsStand, Stands, WriterSeen, all_chunks, full_chunks, packed_text, record_size}
 use Rattle.laz_writer.proofs.Pushing.{packed_is, packed_points_of, packed_stands, plain_points, plain_stands, record_size_is, stopped_packed, stopped_plain, text_of}
 use Rattle.laz_writer.proofs.Standing.{flushed_text, stopped_in}
@@ -36,7 +36,7 @@ module _ (before now : Outside) (w : WriterSeen) (out : Output) (bytes : List �
   plain_stopped = plain.1 ∙ ap (with_bytes before out.name) (sym (stopped_plain out bytes plain.0))
 
   pub plain_draft : front out ++ bytes ≡ draft_of out bytes
-  plain_draft = ap (λ (k : Option ℕ). front out ++ points_in k out.head bytes) (sym plain.0)
+  plain_draft = ap (λ (k : Option ℕ). front out ++ points_written k out.head bytes) (sym plain.0)
 
 -- A packed output.
 module _ (before now : Outside) (w : WriterSeen) (out : Output) (bytes : List ℕ) (p : PackingSeen) (s : Stands before now w out bytes) (some : w.packing ≡ Some p) where
@@ -74,7 +74,7 @@ module _ (before now : Outside) (w : WriterSeen) (out : Output) (bytes : List �
   pub packed_draft : front out ++ packed_text p.plan bytes ≡ draft_of out bytes
   packed_draft =
       ap (λ (t : List ℕ). front out ++ t) (packed_is out.head s.head packed_form.0 w.most p.plan packed_form.2.plan bytes)
-      ∙ ap (λ (k : Option ℕ). front out ++ points_in k out.head bytes) (sym packed_form.1)
+      ∙ ap (λ (k : Option ℕ). front out ++ points_written k out.head bytes) (sym packed_form.1)
 
   -- the chunks of the blocks that are kept back
   pub kept_text : (front out ++ all_chunks p.plan.format packed_form.2.stands.done) ++ all_chunks p.plan.format p.kept ≡ stopped out bytes

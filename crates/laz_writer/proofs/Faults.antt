@@ -35,10 +35,6 @@ pub err_of : {T E : Type 0} (r : Result T E) (e w : E) → IsErrAnd r (λ x. x �
 err_of (Ok x) e w is of = absurd is
 err_of (Err x) e w is of = let same : x ≡ w = cc in sym is ∙ same
 
--- no fault is in an answer that is Ok
-pub ok_no_fault : {T X : Type 0} (value : T) (fault : Fault) → ◌≡◌ {A = Result T Fault} (Ok value) (Err fault) → X
-ok_no_fault value fault is = absurd (cc)
-
 -- an answer that is out of memory has no other fault
 pub memory_only : {T X : Type 0} (r : Result T Fault) → IsErrAnd r (λ e. e ≡ Memory) → r ≡ Err Write → X
 memory_only r exit is = let same : Memory ≡ Write = err_of r Memory Write exit is in absurd (cc)

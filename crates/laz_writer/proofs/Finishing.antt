@@ -19,7 +19,7 @@ use Rattle.las_points.specs.Tally.{counts_of}
 use Rattle.laz_chunk.specs.Layouts.{Format}
 use Rattle.laz_table.specs.Payload.{laszip_payload}
 use Rattle.laz_table.specs.VlrCauses.{extra_of}
-use Rattle.laz_forms.specs.Outputs.{Output, counts_patches, draft_of, finished, first_head, front, front_of, patches_of, pointer_patches, points_in, records_after}
+use Rattle.laz_forms.specs.Outputs.{Output, counts_patches, draft_of, finished, unfinished_head, front, front_written, patches_of, pointer_patches, points_written, records_after}
 use Rattle.laz_forms.specs.Packing.{blocks_of, chunk_blocks, chunks_of, packed_head, table_after}
 use Rattle.las_outside.specs.Outside.{Outside, with_bytes}
 use Rattle.laz_writer.specs.Writing.{ChunksStand, IsPlanOf, IsTally, PackingSeen, Plan, PointsStand, Stands, WriterSeen, first_packing, record_size, written_head, all_chunks, block_size, every_chunk, pointer_patch, tally_patches}
@@ -53,12 +53,12 @@ first_packed_size head chunk true is =
 
 -- the length of a front
 pub front_plain : (out : Output) → IsHead out.head → out.chunk ≡ None → length (front out) ≡ length out.head
-front_plain out is c = ap (λ (k : Option ℕ). length (front_of k (first_head out))) c ∙ first_size out.head out.counted is
+front_plain out is c = ap (λ (k : Option ℕ). length (front_written k (unfinished_head out))) c ∙ first_size out.head out.counted is
 
 pub front_packed : (out : Output) (chunk : ℕ) → IsHead out.head → out.chunk ≡ Some chunk → length (front out) ≡ length (packed_head out.head chunk) + 8
 front_packed out chunk is c =
-    let first = packed_head (first_head out) chunk in
-    ap (λ (k : Option ℕ). length (front_of k (first_head out))) c ∙ length-append first (little_bytes 8 (length first)) ∙ ap (λ (n : ℕ). n + 8) (first_packed_size out.head chunk out.counted is)
+    let first = packed_head (unfinished_head out) chunk in
+    ap (λ (k : Option ℕ). length (front_written k (unfinished_head out))) c ∙ length-append first (little_bytes 8 (length first)) ∙ ap (λ (n : ℕ). n + 8) (first_packed_size out.head chunk out.counted is)
 
 -- a front is at least as long as the head
 front_least : (out : Output) → IsHead out.head → length out.head ≤ length (front out)
@@ -69,16 +69,10 @@ front_least out is = by out.chunk refl
     by (Some k) c = omega (arith, front_packed out k is c, packed_longer (laszip_payload (format_of out.head) (extra_of out.head) k) out.head is)
 
 draft_least : (out : Output) (records : List ℕ) → length (front out) ≤ length (draft_of out records)
-draft_least out records = omega (arith, length-append (front out) (points_in out.chunk out.head records))
+draft_least out records = omega (arith, length-append (front out) (points_written out.chunk out.head records))
 
 -- each patch of an output lies within its draft
 module _ (out : Output) (records : List ℕ) (is : IsHead out.head) where
-  abbrev text : List ℕ
-  text = draft_of out records
-
-  abbrev all : Counts
-  all = counts_of (records_after out.head records)
-
   long_fit : (b : Bool) → has_long_counts out.head ≡ b → All (LiesIn (draft_of out records)) (if b then (247, long_counts_bytes (counts_of (records_after out.head records))) ∷ [] else [])
   long_fit false which = All-nil (LiesIn (draft_of out records))
   long_fit true which =
@@ -127,13 +121,13 @@ list_is before now w v out records list pointer s same is there =
 
 -- An output that begins stands for no records.
 pub begins : (before new : Outside) (out : Output) (most pointer workers : ℕ) (packing : Option PackingSeen) → IsHead out.head → new ≡ with_bytes before out.name (front out) → packing ≡ first_packing out.head most pointer workers out.chunk
-    → pointer ≡ length (written_head out.chunk (first_head out)) → ForSome out.chunk IsChunkSize → most < 2 ^ 32 → pointer < 2 ^ 32 → 0 < workers → PointsStand out.chunk before new out most packing []
+    → pointer ≡ length (written_head out.chunk (unfinished_head out)) → ForSome out.chunk IsChunkSize → most < 2 ^ 32 → pointer < 2 ^ 32 → 0 < workers → PointsStand out.chunk before new out most packing []
 begins before new out most pointer workers packing is file kept place sizes few near hands = by out.chunk refl kept place sizes
   where
     held : new ≡ with_bytes before out.name (front out ++ [])
     held = file ∙ ap (with_bytes before out.name) (sym (append-nil (front out)))
 
-    by : (k : Option ℕ) → out.chunk ≡ k → packing ≡ first_packing out.head most pointer workers k → pointer ≡ length (written_head k (first_head out)) → ForSome k IsChunkSize → PointsStand k before new out most packing []
+    by : (k : Option ℕ) → out.chunk ≡ k → packing ≡ first_packing out.head most pointer workers k → pointer ≡ length (written_head k (unfinished_head out)) → ForSome k IsChunkSize → PointsStand k before new out most packing []
     by None form p at sizes = subst (λ (q : Option PackingSeen). PointsStand None before new out most q []) (sym p) held
     by (Some k) form p at sizes =
         let plan : Plan = record { format = format_in out.head; chunk = k; most = most; pointer = pointer; workers = workers } in

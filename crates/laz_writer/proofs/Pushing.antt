@@ -14,7 +14,7 @@ use Rattle.laz_chunk.specs.Chunks.{chunk_bytes}
 use Rattle.laz_chunk.specs.Layouts.{Format, layout, record_length}
 use Rattle.laz_table.specs.Payload.{laszip_payload}
 use Rattle.laz_table.specs.VlrCauses.{extra_of}
-use Rattle.laz_forms.specs.Outputs.{Output, front, front_of, full_points, points_in, records_after, stopped}
+use Rattle.laz_forms.specs.Outputs.{Output, front, front_written, full_points, points_written, records_after, stopped}
 use Rattle.laz_forms.specs.Packing.{packed_head, packed_points}
 use Rattle.laz_writer.specs.Writing.{ChunksStand, IsPlanOf, IsTally, PackingSeen, Plan, PointsStand, Stands, WriterSeen, all_chunks, block_size, full_blocks, full_chunks, packed_text, pointer_part, record_size, written_head}
 use Rattle.laz_forms.specs.Packing.{format_in}
@@ -37,7 +37,7 @@ module _ (head : List ℕ) (is : IsHead head) (chunk most : ℕ) (plan : Plan) (
       ∙ ap (λ (n : ℕ). all_chunks (format_in head) (full_blocks n records)) block_size_is
 
   -- and what all of them give, with their table
-  pub packed_is : (records : List ℕ) → packed_text plan records ≡ points_in (Some chunk) head records
+  pub packed_is : (records : List ℕ) → packed_text plan records ≡ points_written (Some chunk) head records
   packed_is records =
       ap (λ (f : Format). packed_points (map (chunk_bytes (layout f)) (Rattle.laz_forms.specs.Packing.blocks_of (block_size plan) records))) p.format
       ∙ ap (λ (n : ℕ). packed_points (map (chunk_bytes (layout (format_in head))) (Rattle.laz_forms.specs.Packing.blocks_of n records))) block_size_is
@@ -107,7 +107,7 @@ zero_written None head is = refl
 zero_written (Some k) head is = zero_packed head k is
 
 -- a front is a head in its form, and a pointer if it is packed
-pub front_is : (chunk : Option ℕ) (head : List ℕ) → front_of chunk head ≡ written_head chunk head ++ pointer_part (Rattle.std.specs.Prelude.is_some chunk) (written_head chunk head)
+pub front_is : (chunk : Option ℕ) (head : List ℕ) → front_written chunk head ≡ written_head chunk head ++ pointer_part (Rattle.std.specs.Prelude.is_some chunk) (written_head chunk head)
 front_is None head = sym (append-nil head)
 front_is (Some k) head = refl
 

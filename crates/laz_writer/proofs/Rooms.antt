@@ -1,26 +1,21 @@
 -- Blocks of records and the rooms of a crew that packs them.
-use Rattle.std.proofs.Common.{◌≡◌, ℕ, zero, suc, ◌+◌, ◌-◌, ◌*◌, ◌%◌, ◌^◌, ◌<◌, ◌≤◌, min, Bool, true, false, if◌then◌else◌, List, length, map, sym, ◌∙◌, ap, subst, arith}
+use Rattle.std.proofs.Common.{◌≡◌, ℕ, zero, suc, ◌-◌, ◌*◌, ◌%◌, ◌^◌, ◌<◌, ◌≤◌, min, Bool, true, false, List, length, map, sym, ◌∙◌, ap, subst, arith}
 use Rattle.std.specs.Prelude.{All}
 use Rattle.std.proofs.Math.Nat.{mul-le-mul, mul-le-mul_left, mul-mod_right}
-use Rattle.std.proofs.lemmas.Bool.{ne_eqb}
 use Rattle.std.proofs.lemmas.List.Elements.{All-map, All-weaker}
 use Rattle.las_outside.specs.Limits.{AreWorkers}
 use Rattle.laz_chunk.specs.Layouts.{Format, Layout, colour_length, layout, most_events, record_length, room_for, time_length}
 use Rattle.laz_chunk.specs.Chunks.{count_of}
-use Rattle.laz_chunk.proofs.Public.{count-is}
+use Rattle.laz_chunk.proofs.Public.{count-is, room_is}
 use Rattle.laz_workers.specs.Rooms.{HandSeen, lengths_of, rooms_of}
 use Rattle.laz_workers.specs.Run.{EveryInputFits}
 use Rattle.laz_writer.specs.Writing.{CanPack, FitsRoom, IsBlock, Plan}
-
-room_some : (l : Layout) (n : ℕ) → 1 ≤ n → room_for l n ≡ record_length l + 4 + 3 * most_events l * (n - 1)
-room_some l n some =
-    ap (λ (b : Bool). if b then 0 else record_length l + 4 + 3 * most_events l * (n - 1)) (ne_eqb n 0 (λ e. absurd (omega (arith, e, some))))
 
 -- a room for more records is larger
 pub room_more : (l : Layout) (m n : ℕ) → 1 ≤ m → m ≤ n → room_for l m ≤ room_for l n
 room_more l m n some more =
     let less : m - 1 ≤ n - 1 = omega arith in
-    omega (arith, room_some l m some, room_some l n (omega arith), mul-le-mul_left (3 * most_events l) less)
+    omega (arith, room_is l m some, room_is l n (omega arith), mul-le-mul_left (3 * most_events l) less)
 
 time_least : (b : Bool) → time_length b ≤ 8
 time_least true = omega arith
@@ -41,7 +36,7 @@ room_small f (suc n) extra few =
     let fewer : suc n - 1 ≤ 249999 = omega (arith, few) in
     let most : 3 * most_events l * (suc n - 1) ≤ 690 * 249999 = mul-le-mul events fewer in
     let size : record_length l ≤ 226 = omega (arith, extra, times, colours) in
-    omega (arith, room_some l (suc n) (omega arith), most, size)
+    omega (arith, room_is l (suc n) (omega arith), most, size)
 
 module _ (plan : Plan) (spaces : List Format) (rooms : List ℕ) (can : CanPack plan spaces rooms) where
   -- a block fits a room for the largest one

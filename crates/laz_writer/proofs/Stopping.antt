@@ -10,7 +10,7 @@ use Rattle.las_header.specs.Heads.{IsHead}
 use Rattle.laz_chunk.specs.Chunks.{chunk_bytes}
 use Rattle.laz_table.specs.Entries.{entries_of}
 use Rattle.laz_table.specs.Table.{stream_of, table_bytes}
-use Rattle.laz_forms.specs.Outputs.{Output, draft_of, front, full_points, points_in, stopped}
+use Rattle.laz_forms.specs.Outputs.{Output, draft_of, front, full_points, points_written, stopped}
 use Rattle.laz_forms.specs.Packing.{blocks_of, chunks_of, record_layout}
 use Rattle.laz_writer.specs.Stopping.{IsFrontUnfinished, IsStoppedUnfinished}
 use Rattle.laz_writer.specs.Writing.{full_blocks}
@@ -19,10 +19,10 @@ use Rattle.laz_forms.proofs.Public.{joined-append, prefix_append}
 use Rattle.laz_forms.proofs.Public.{record_least}
 
 pub front_unfinished : IsFrontUnfinished
-front_unfinished out records n = inl (prefix_append (front out) (points_in out.chunk out.head records) n)
+front_unfinished out records n = inl (prefix_append (front out) (points_written out.chunk out.head records) n)
 
 -- the full chunks of some records begin all that is written of more
-full_begins : (head : List ℕ) (chunk : ℕ) (records more : List ℕ) → 0 < record_length_of head * chunk → (later : List ℕ) × (points_in (Some chunk) head (records ++ more) ≡ full_points (Some chunk) head records ++ later) × (0 < length later)
+full_begins : (head : List ℕ) (chunk : ℕ) (records more : List ℕ) → 0 < record_length_of head * chunk → (later : List ℕ) × (points_written (Some chunk) head (records ++ more) ≡ full_points (Some chunk) head records ++ later) × (0 < length later)
 full_begins head chunk records more some =
     let size = record_length_of head * chunk in
     let f = λ (b : List ℕ). chunk_bytes (record_layout head) b in
@@ -43,7 +43,7 @@ full_begins head chunk records more some =
     )
 
 -- by the form of the output
-begins_by : (chunk : Option ℕ) (head front records more : List ℕ) → IsHead head → ForSome chunk (λ c. 0 < c) → (later : List ℕ) × (front ++ points_in chunk head (records ++ more) ≡ (front ++ full_points chunk head records) ++ later)
+begins_by : (chunk : Option ℕ) (head front records more : List ℕ) → IsHead head → ForSome chunk (λ c. 0 < c) → (later : List ℕ) × (front ++ points_written chunk head (records ++ more) ≡ (front ++ full_points chunk head records) ++ later)
 begins_by None head front records more is some = (more, sym (append_assoc front records more))
 begins_by (Some chunk) head front records more is some =
     let long : 1 ≤ record_length_of head * chunk = one-le-mul (omega (arith, record_least head is)) (some chunk refl) in
@@ -64,7 +64,7 @@ stopped_short out chunk records more n is some packed =
     let b = full_begins out.head chunk records more (omega (arith, long)) in
     let text = stopped out records in
     let draft : draft_of out (records ++ more) ≡ text ++ b.0 =
-    ap (λ (k : Option ℕ). front out ++ points_in k out.head (records ++ more)) packed ∙ ap (λ (t : List ℕ). front out ++ t) b.1 ∙ sym (append_assoc (front out) (full_points (Some chunk) out.head records) b.0)
+    ap (λ (k : Option ℕ). front out ++ points_written k out.head (records ++ more)) packed ∙ ap (λ (t : List ℕ). front out ++ t) b.1 ∙ sym (append_assoc (front out) (full_points (Some chunk) out.head records) b.0)
     ∙ ap (λ (k : Option ℕ). (front out ++ full_points k out.head records) ++ b.0) (sym packed) in
     let m = min n (length text) in
     let short : m ≤ length text = omega arith in

@@ -164,8 +164,8 @@ pub record PackedStands (before now : Outside) (name front : List ℕ) (packing 
   pub numbers : IsPlan packing.plan
 
 -- The plan has room for more bytes of records.
-abbrev pub HasRoom : Plan → (bytes more : List ℕ) → Type 0
-HasRoom plan bytes more = length bytes + length more ≤ record_size plan * plan.most
+abbrev pub PlanHasRoom : Plan → (bytes more : List ℕ) → Type 0
+PlanHasRoom plan bytes more = length bytes + length more ≤ record_size plan * plan.most
 
 -- P holds of each outside over which the output and its packing stand, and of its front and of the records.
 abbrev pub OfPacked : (now : Outside) → (name : List ℕ) → PackingSeen
@@ -190,15 +190,9 @@ pub record WriterSeen : Type 0 where
   pub packing : Option PackingSeen
   pub failed : Bool
 
--- No call has failed, and no bytes were asked for.
-pub record SameFaults (old new : Outside) : Type 0 where
-  pub reads : new.read_faults ≡ old.read_faults
-  pub writes : new.write_faults ≡ old.write_faults
-  pub asked : new.asked ≡ old.asked
-
 -- A writer has room for more bytes of records after some.
-abbrev pub HasRoomFor : WriterSeen → (bytes more : List ℕ) → Type 0
-HasRoomFor writer bytes more = length bytes + length more ≤ writer.size * writer.most
+abbrev pub WriterHasRoom : WriterSeen → (bytes more : List ℕ) → Type 0
+WriterHasRoom writer bytes more = length bytes + length more ≤ writer.size * writer.most
 
 -- a head in the form in which it is written: with a laszip VLR, if the points are packed
 abbrev pub written_head : Option ℕ → (head : List ℕ) → List ℕ

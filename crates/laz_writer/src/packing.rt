@@ -3,7 +3,7 @@ ghost use Rattle.std.specs.Prelude.{◌≡◌, ◌+◌, ◌*◌, ◌<◌, ◌≤
 ghost use Rattle.std.specs.Prelude.{IfOk, IfErr, IsTrue, ◌↔◌};
 ghost use Rattle.las_outside.specs.Frames.{OnlyWrites};
 ghost use Rattle.las_outside.specs.Outside.{Outside, with_bytes};
-ghost use Rattle.laz_writer.specs.Writing.{HasRoom, HasText, IsBlock, OfPacked, OfText, PackedStands, StopsAfter};
+ghost use Rattle.laz_writer.specs.Writing.{PlanHasRoom, HasText, IsBlock, OfPacked, OfText, PackedStands, StopsAfter};
 ghost use Rattle.laz_writer.specs.Writing.{StopsIn, Took};
 ghost use Rattle.laz_writer.specs.Writing.{all_chunks, block_size, chunks, full_chunks};
 
@@ -39,7 +39,7 @@ pub(crate) struct Packing {
     pub(crate) spare: Vec<Vec<u8>>,
 }
 
-// Written out, so that letting a packing go is one call in each caller.
+// By hand, so that each caller drops a packing by one call.
 impl Drop for Packing {
     fn drop(self) {
         let Packing {
@@ -137,7 +137,7 @@ impl Packing {
     }
 
     // Whether the records of a block are the next ones of a block that is empty, so that they may be taken as they stand:
-    // all of it, or its front, if more may be put behind them.
+    // all of it, or its front, if more may follow.
     fn takes_whole(&self, block: &Vec<u8>) -> bool
         ensures { IsTrue result → (self.now.rest ≡ []) × (length block.now.items ≤ block_size self.now.plan) }
     {
@@ -283,12 +283,12 @@ impl Packing {
         requires few { length self.old.kept < 2 * self.old.plan.workers }
         requires stands { (before : Outside) × (front : List ℕ) × (bytes : List ℕ)
             × PackedStands before (F.seen files.old) name.now front self.old bytes
-            × HasRoom self.old.plan bytes records.now }
+            × PlanHasRoom self.old.plan bytes records.now }
         ensures stands { OfPacked (F.seen files.old) name.now self.old
-            (λ before front bytes. HasRoom self.old.plan bytes records.now
+            (λ before front bytes. PlanHasRoom self.old.plan bytes records.now
             → OnOk result (PackedStands before (F.seen files.new) name.now front self.new (bytes ++ records.now))) }
         ensures stopped { OfPacked (F.seen files.old) name.now self.old
-            (λ before front bytes. HasRoom self.old.plan bytes records.now
+            (λ before front bytes. PlanHasRoom self.old.plan bytes records.now
             → IfErr result (StopsIn before (F.seen files.new) name.now
             (front ++ full_chunks self.old.plan (bytes ++ records.now)))) }
         ensures few { OnOk result (length self.new.kept < 2 * self.new.plan.workers) }
@@ -317,12 +317,12 @@ impl Packing {
         requires few { length self.old.kept < 2 * self.old.plan.workers }
         requires stands { (before : Outside) × (front : List ℕ) × (bytes : List ℕ)
             × PackedStands before (F.seen files.old) name.now front self.old bytes
-            × HasRoom self.old.plan bytes block.old.items }
+            × PlanHasRoom self.old.plan bytes block.old.items }
         ensures stands { OfPacked (F.seen files.old) name.now self.old
-            (λ before front bytes. HasRoom self.old.plan bytes block.old.items
+            (λ before front bytes. PlanHasRoom self.old.plan bytes block.old.items
             → OnOk result (PackedStands before (F.seen files.new) name.now front self.new (bytes ++ block.old.items))) }
         ensures stopped { OfPacked (F.seen files.old) name.now self.old
-            (λ before front bytes. HasRoom self.old.plan bytes block.old.items
+            (λ before front bytes. PlanHasRoom self.old.plan bytes block.old.items
             → IfErr result (StopsIn before (F.seen files.new) name.now
             (front ++ full_chunks self.old.plan (bytes ++ block.old.items)))) }
         ensures few { OnOk result (length self.new.kept < 2 * self.new.plan.workers) }

@@ -11,7 +11,7 @@ ghost use Rattle.las_outside.specs.Limits.{AreWorkers, IsChunkSize};
 ghost use Rattle.las_outside.specs.Frames.{IsCalm, OnlyWrites};
 ghost use Rattle.las_outside.specs.Outside.{Outside, with_bytes};
 ghost use Rattle.laz_forms.specs.Outputs.{Output, front, stopped};
-ghost use Rattle.laz_writer.specs.Writing.{HasRoomFor, IsBegun, IsTally, OfOutput, PointsStand, Stands, Stops};
+ghost use Rattle.laz_writer.specs.Writing.{WriterHasRoom, IsBegun, IsTally, OfOutput, PointsStand, Stands, Stops};
 ghost use Rattle.laz_writer.specs.Writing.{StopsIn, first_packing};
 ghost use Rattle.laz_forms.specs.declared.fault.Fault.TheVariants.{Memory, Write};
 
@@ -45,7 +45,7 @@ pub struct Writer {
     pub(crate) failed: bool,
 }
 
-// Written out, so that letting a writer go is one call in each caller.
+// By hand, so that each caller drops a writer by one call.
 impl Drop for Writer {
     fn drop(self) {
         let Writer {
@@ -187,13 +187,13 @@ impl Writer {
     ) -> Result<(), Fault>
         requires points { (before : Outside) × (out : Output) × (bytes : List ℕ)
             × Stands before (F.seen files.old) self.old out bytes
-            × HasRoomFor self.old bytes records.now }
+            × WriterHasRoom self.old bytes records.now }
         ensures points { OfOutput (F.seen files.old) self.old
-            (λ before out bytes. HasRoomFor self.old bytes records.now
+            (λ before out bytes. WriterHasRoom self.old bytes records.now
             → OnOk result (PointsStand out.chunk before (F.seen files.new) out self.old.most self.new.packing
             (bytes ++ records.now))) }
         ensures stopped { OfOutput (F.seen files.old) self.old
-            (λ before out bytes. HasRoomFor self.old bytes records.now
+            (λ before out bytes. WriterHasRoom self.old bytes records.now
             → IfErr result (StopsIn before (F.seen files.new) out.name (stopped out (bytes ++ records.now)))) }
         ensures same { self.new ≡ record self.old { packing = self.new.packing } }
         ensures writes { OnlyWrites (F.seen files.old) (F.seen files.new) }
@@ -217,13 +217,13 @@ impl Writer {
     ) -> Result<(), Fault>
         requires points { (before : Outside) × (out : Output) × (bytes : List ℕ)
             × Stands before (F.seen files.old) self.old out bytes
-            × HasRoomFor self.old bytes block.old.items }
+            × WriterHasRoom self.old bytes block.old.items }
         ensures points { OfOutput (F.seen files.old) self.old
-            (λ before out bytes. HasRoomFor self.old bytes block.old.items
+            (λ before out bytes. WriterHasRoom self.old bytes block.old.items
             → OnOk result (PointsStand out.chunk before (F.seen files.new) out self.old.most self.new.packing
             (bytes ++ block.old.items))) }
         ensures stopped { OfOutput (F.seen files.old) self.old
-            (λ before out bytes. HasRoomFor self.old bytes block.old.items
+            (λ before out bytes. WriterHasRoom self.old bytes block.old.items
             → IfErr result (StopsIn before (F.seen files.new) out.name (stopped out (bytes ++ block.old.items)))) }
         ensures same { self.new ≡ record self.old { packing = self.new.packing } }
         ensures writes { OnlyWrites (F.seen files.old) (F.seen files.new) }

@@ -56,7 +56,7 @@ struct World {
     work: Vec<u8>,
 }
 
-// Written out, so that letting a world go is one call in each function that owns one.
+// By hand, so that each caller drops a world by one call.
 impl Drop for World {
     fn drop(self) {
         let World {

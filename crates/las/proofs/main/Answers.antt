@@ -2,8 +2,9 @@ use Rattle.std.proofs.Common.{rules, ◌^◌, ◌≤◌, ℕ, refl}
 use Rattle.las_info.specs.Tallies.{TapSeen, count_at}
 use denote.Param.Object.{read_made}
 use Rattle.las_info.specs.declared.tap.Tap.{Ghosts}
+use Rattle.las_info.proofs.Public.{tap_room}
 use Rattle.las.proofs.main.OwnLists.{own-1, at-1-1, at-1-2, at-1-3, at-1-4}
-use Rattle.las.proofs.Rooms.{all_of_four, tap_room}
+use Rattle.las.proofs.Rooms.{all_of_four}
 use Rattle.las.proofs.main.Goals as goal
 
 pub obey-requires-clause-room : goal.obey-requires-clause-room

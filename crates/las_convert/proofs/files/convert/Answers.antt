@@ -21,7 +21,7 @@ use Rattle.las_convert.proofs.Passing.{after_start}
 use Rattle.las_convert.proofs.Shown.{none_counted}
 use Rattle.las_convert.proofs.Wholes.{IsBegunFor, known_here}
 use Rattle.las_convert.proofs.files.convert.Given.{Over}
-use Rattle.las_convert.proofs.files.convert.Goals.{After-fill}
+use Rattle.las_convert.proofs.files.convert.Goals.{After-convert_and_finish}
 use Rattle.las_convert.proofs.files.convert.Goals as goal
 
 pub returns-in_err-grow-clause-ends : goal.returns-in_err-grow-clause-ends
@@ -52,8 +52,8 @@ returns-in_err-writer-clause-ends g c =
     c.from_residual-in_err-writer.result c.in_err-writer.field-0.0 c.from_residual-in_err-writer.ensures.1 h.cause
     h.left
 
-pub fill-requires-clause-reads : goal.fill-requires-clause-reads
-fill-requires-clause-reads g c κs within =
+pub convert_and_finish-requires-clause-reads : goal.convert_and_finish-requires-clause-reads
+convert_and_finish-requires-clause-reads g c κs within =
     let old = g.F.Files.seen c.args.files.now in
     let mid = g.F.Files.seen c.begin.new.files in
     let first = c.args.reader in
@@ -77,8 +77,8 @@ fill-requires-clause-reads g c κs within =
     (known_then old.held first.name (StandsFor first) (StandsFor reader)
     (λ file st. stands_ready first reader buffers file ready st) c.requires.stands)
 
-pub fill-requires-clause-after : goal.fill-requires-clause-after
-fill-requires-clause-after g c κs within =
+pub convert_and_finish-requires-clause-after : goal.convert_and_finish-requires-clause-after
+convert_and_finish-requires-clause-after g c κs within =
     let grown = c.grow.new.self in (
       c.requires.ready.0,
       after_start (steps_of c.args.plan.now) c.requires.ready.0 c.args.passage.now.sieve grown.sieve
@@ -86,14 +86,14 @@ fill-requires-clause-after g c κs within =
           c.requires.ready.1,
     )
 
-pub fill-requires-clause-counted : goal.fill-requires-clause-counted
-fill-requires-clause-counted g c κs within =
+pub convert_and_finish-requires-clause-counted : goal.convert_and_finish-requires-clause-counted
+convert_and_finish-requires-clause-counted g c κs within =
     subst (λ xs. HaveCounted 0 (map (λ tap. (goal.Tap-dyn g (tap.vtable, tap.value)).tap_seen tap.value) xs))
     (sym c.grow.ensures.taps) (none_counted (λ tap. (goal.Tap-dyn g (tap.vtable, tap.value)).tap_seen tap.value)
     c.args.passage.now.taps.items c.requires.counted)
 
 -- what stands when the records were read, or could not be
-module _ (g : Over) (c : After-fill g) where
+module _ (g : Over) (c : After-convert_and_finish g) where
   abbrev old : Outside
   old = g.F.Files.seen c.args.files.now
 
@@ -101,7 +101,7 @@ module _ (g : Over) (c : After-fill g) where
   mid = g.F.Files.seen c.begin.new.files
 
   abbrev new : Outside
-  new = g.F.Files.seen c.fill.new.files
+  new = g.F.Files.seen c.convert_and_finish.new.files
 
   abbrev plan : Steps
   plan = steps_of c.args.plan.now
@@ -132,43 +132,43 @@ module _ (g : Over) (c : After-fill g) where
 
 pub returns-clause-ends : goal.returns-clause-ends
 returns-clause-ends g c =
-    let k = (goal.at.returns-clause-ends g c).After-fill in
+    let k = (goal.at.returns-clause-ends g c).After-convert_and_finish in
     let h = c.in_ok-writer.ensures in
-    ends_filled (new g k) (begun g k) c.fill.result _ _
-    (c.fill.ensures.finished (looked g k) (after g k) (old g k) (out g k) [] h.stands)
-    (c.fill.ensures.ends (looked g k) (after g k) (old g k) (out g k) [] h.stands) h.calm c.fill.ensures.calm
+    ends_filled (new g k) (begun g k) c.convert_and_finish.result _ _
+    (c.convert_and_finish.ensures.finished (looked g k) (after g k) (old g k) (out g k) [] h.stands)
+    (c.convert_and_finish.ensures.ends (looked g k) (after g k) (old g k) (out g k) [] h.stands) h.calm c.convert_and_finish.ensures.calm
 
 pub returns-clause-tallied : goal.returns-clause-tallied
 returns-clause-tallied g c =
-    let k = (goal.at.returns-clause-tallied g c).After-fill in
-    tallied_by (new g k) (begun g k) c.fill.result
+    let k = (goal.at.returns-clause-tallied g c).After-convert_and_finish in
+    tallied_by (new g k) (begun g k) c.convert_and_finish.result
     (λ tap. (goal.Tap-dyn g (tap.vtable, tap.value)).tap_seen tap.value) c.grow.new.self.taps.items
-    c.args.passage.now.taps.items c.fill.new.passage.taps.items c.grow.ensures.taps
-    (c.fill.ensures.finished (looked g k) (after g k) (old g k) (out g k) [] c.in_ok-writer.ensures.stands)
+    c.args.passage.now.taps.items c.convert_and_finish.new.passage.taps.items c.grow.ensures.taps
+    (c.convert_and_finish.ensures.finished (looked g k) (after g k) (old g k) (out g k) [] c.in_ok-writer.ensures.stands)
 
 pub returns-clause-given : goal.returns-clause-given
 returns-clause-given g c cause is =
-    let k = (goal.at.returns-clause-given g c).After-fill in
-    given_by (new g k) (begun g k) c.fill.result
-    (c.fill.ensures.ends (looked g k) (after g k) (old g k) (out g k) [] c.in_ok-writer.ensures.stands) cause is
+    let k = (goal.at.returns-clause-given g c).After-convert_and_finish in
+    given_by (new g k) (begun g k) c.convert_and_finish.result
+    (c.convert_and_finish.ensures.ends (looked g k) (after g k) (old g k) (out g k) [] c.in_ok-writer.ensures.stands) cause is
 
 pub returns-clause-bad : goal.returns-clause-bad
 returns-clause-bad g c cause is =
-    let k = (goal.at.returns-clause-bad g c).After-fill in
-    bad_by (new g k) (begun g k) c.fill.result
-    (c.fill.ensures.ends (looked g k) (after g k) (old g k) (out g k) [] c.in_ok-writer.ensures.stands) cause is
+    let k = (goal.at.returns-clause-bad g c).After-convert_and_finish in
+    bad_by (new g k) (begun g k) c.convert_and_finish.result
+    (c.convert_and_finish.ensures.ends (looked g k) (after g k) (old g k) (out g k) [] c.in_ok-writer.ensures.stands) cause is
 
 pub returns-clause-looked : goal.returns-clause-looked
 returns-clause-looked g c i is =
-    let k = (goal.at.returns-clause-looked g c).After-fill in
-    looked_by (new g k) (begun g k) c.fill.result
-    (c.fill.ensures.ends (looked g k) (after g k) (old g k) (out g k) [] c.in_ok-writer.ensures.stands) i is
+    let k = (goal.at.returns-clause-looked g c).After-convert_and_finish in
+    looked_by (new g k) (begun g k) c.convert_and_finish.result
+    (c.convert_and_finish.ensures.ends (looked g k) (after g k) (old g k) (out g k) [] c.in_ok-writer.ensures.stands) i is
 
 pub returns-clause-frame : goal.returns-clause-frame
 returns-clause-frame g c =
     after_writes _ _ _ _ c.begin.ensures.writes
-    (subst (λ (n : ℕ). ReadsAndWrites n (g.F.Files.seen c.begin.new.files) (g.F.Files.seen c.fill.new.files))
-    (ap bytes_left c.in_ok-crew.ensures.kept) c.fill.ensures.frame)
+    (subst (λ (n : ℕ). ReadsAndWrites n (g.F.Files.seen c.begin.new.files) (g.F.Files.seen c.convert_and_finish.new.files))
+    (ap bytes_left c.in_ok-crew.ensures.kept) c.convert_and_finish.ensures.frame)
 
 pub returns-in_err-grow-clause-tallied : goal.returns-in_err-grow-clause-tallied
 returns-in_err-grow-clause-tallied g c = IfOk-from_err c.from_residual.result _ c.from_residual.ensures.0
@@ -254,11 +254,11 @@ returns-in_err-writer-clause-frame g c = record {
   later = c.begin.ensures.writes.later;
 }
 
-pub fill-requires-clause-room : goal.fill-requires-clause-room
-fill-requires-clause-room g c κs within = c.in_ok-writer.ensures.can
+pub convert_and_finish-requires-clause-room : goal.convert_and_finish-requires-clause-room
+convert_and_finish-requires-clause-room g c κs within = c.in_ok-writer.ensures.can
 
-pub fill-requires-clause-stands : goal.fill-requires-clause-stands
-fill-requires-clause-stands g c κs within = (
+pub convert_and_finish-requires-clause-stands : goal.convert_and_finish-requires-clause-stands
+convert_and_finish-requires-clause-stands g c κs within = (
   g.F.Files.seen c.args.files.now,
   output_of c.crew.new.self c.args.output.now c.args.chunk,
   [],

@@ -2,7 +2,7 @@ use Rattle.std.proofs.Common.{◌≡◌, ◌+◌, ◌/◌, ◌++◌, false, true
 use Rattle.std.proofs.lemmas.Result.{IfOk-weaker}
 use Rattle.las_filter.specs.Kept.{kept, steps_of}
 use Rattle.las_thin.specs.Kept.{passing}
-use Rattle.las_thin.specs.Sieving.{StandsFor, all_pass}
+use Rattle.las_thin.specs.Sieving.{HasSifted, all_pass}
 use Rattle.las_convert.specs.Adding.{IsAfter, kept_by}
 use Rattle.las_convert.proofs.Adding.{adds_same}
 use Rattle.las_convert.proofs.Cuts.{reached}
@@ -29,7 +29,7 @@ returns-clause-after c looked before is =
     let plan = steps_of c.args.plan.now in
     let other : c.args.sieve.now.settings ≡ all_pass → ⊥ = λ all. let clash : false ≡ true = sym c.if-passes_all.false ∙ c.passes_all.ensures.1 all in cc in
     IfOk-weaker c.keep_sifted.result (λ part. part.refused ≡ false
-    → StandsFor looked (passing plan (before ++ cut_all c.args.size c.args.block.now)) c.keep_sifted.new.sieve) (λ part. part.refused ≡ false → IsAfter plan looked (before ++ cut_all c.args.size c.args.block.now) c.keep_sifted.new.sieve (c.args.read + length c.args.block.now / c.args.size))
+    → HasSifted looked (passing plan (before ++ cut_all c.args.size c.args.block.now)) c.keep_sifted.new.sieve) (λ part. part.refused ≡ false → IsAfter plan looked (before ++ cut_all c.args.size c.args.block.now) c.keep_sifted.new.sieve (c.args.read + length c.args.block.now / c.args.size))
     (λ part stands fine. record {
       read_is = reached before c.args.size (length c.args.block.now / c.args.size) c.args.block.now c.args.read (c.args.read + length c.args.block.now / c.args.size) is.read_is refl;
       stands = λ differs. stands fine;

@@ -6,7 +6,7 @@ use Rattle.las_filter.specs.Kept.{steps_of}
 use Rattle.las_header.specs.Plain.{cut_records}
 use Rattle.las_thin.specs.Kept.{passing}
 use Rattle.las_thin.specs.Placed.{Placed}
-use Rattle.las_thin.specs.Sieving.{Settings, StandsFor}
+use Rattle.las_thin.specs.Sieving.{Settings, HasSifted}
 use Rattle.las_convert.specs.Adding.{Adds, kept_by}
 use Rattle.las_convert.specs.Passing.{passes_after}
 use Rattle.las_convert.proofs.Adding.{adds_none}
@@ -26,7 +26,7 @@ module _ (c : After-split_at) where
 
 -- what stands when it was said whether it passes
 module _ (c : In_ok-passes) (looked : List Placed) (before : List (List ℕ)) (is : length before ≡ c.args.read)
-    (stands : StandsFor looked (passing (steps_of c.args.plan.now) before) c.args.sieve.now) where
+    (stands : HasSifted looked (passing (steps_of c.args.plan.now) before) c.args.sieve.now) where
   abbrev all : List (List ℕ)
   all = before ++ cut_records c.args.size c.loop-turn._turn c.args.block.now
 
@@ -121,7 +121,7 @@ loop-turn-preserved c =
                 (λ ones adds. next_dropped keeping before size t block c.loop-turn.rest.now point left first (passes_after settings looked plan all point) (changed plan.changes point) grow ones adds (passes ∙ w.if-branch.false))
           ];
       stands = λ looked before is stands.
-          subst (λ (records : List (List ℕ)). StandsFor looked (passing plan records) c.passes.new.sieve)
+          subst (λ (records : List (List ℕ)). HasSifted looked (passing plan records) c.passes.new.sieve)
           (after_next before size t block c.loop-turn.rest.now point left first)
           (c.in_ok-passes.ensures.stands looked (before ++ cut_records size t block) (here k looked before is stands)
           (c.loop-turn.invariant.stands looked before is stands));
@@ -151,7 +151,7 @@ returns-clause-stands c looked before is stands = λ fine.
     let end : c.loop-turn._turn ≡ length c.args.block.now / c.args.size =
     omega (arith, c.loop-turn-test.false, c.loop-turn.auto._turn-end) in
     subst
-    (λ (k : ℕ). StandsFor looked (passing (steps_of c.args.plan.now) (before ++ cut_records c.args.size k
+    (λ (k : ℕ). HasSifted looked (passing (steps_of c.args.plan.now) (before ++ cut_records c.args.size k
     c.args.block.now)) c.loop-turn.sieve)
     end (c.loop-turn.invariant.stands looked before is stands)
 

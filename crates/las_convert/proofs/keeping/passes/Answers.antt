@@ -2,7 +2,7 @@ use Rattle.std.proofs.Common.{◌<◌, ℕ, List, OnOk, Option, sym, ◌∙◌, 
 use Rattle.std.specs.Prelude.{IfSome}
 use Rattle.las_filter.specs.Kept.{steps_of}
 use Rattle.las_thin.specs.Placed.{Placed}
-use Rattle.las_thin.specs.Sieving.{StandsFor}
+use Rattle.las_thin.specs.Sieving.{HasSifted}
 use Rattle.las_convert.proofs.Passing.{last_passed, passing_dropped, passing_more}
 use Rattle.las_convert.proofs.keeping.passes.Goals as goal
 
@@ -14,9 +14,9 @@ passes-requires-clause-above c =
 pub returns-then-keeps-clause-stands : goal.returns-then-keeps-clause-stands
 returns-then-keeps-clause-stands c looked before is stands =
     let plan = steps_of c.args.plan.now in
-    subst (λ (records : List Placed). OnOk c.passes.result (StandsFor looked records c.passes.new.self)) (sym (passing_more plan before c.args.point.now c.args.place (sym c.keeps.ensures ∙ c.if-keeps.true) is)) (c.passes.ensures.stands looked _ stands)
+    subst (λ (records : List Placed). OnOk c.passes.result (HasSifted looked records c.passes.new.self)) (sym (passing_more plan before c.args.point.now c.args.place (sym c.keeps.ensures ∙ c.if-keeps.true) is)) (c.passes.ensures.stands looked _ stands)
 
 pub returns-clause-stands : goal.returns-clause-stands
 returns-clause-stands c looked before is stands =
     let plan = steps_of c.args.plan.now in
-    subst (λ (records : List Placed). StandsFor looked records c.args.sieve.now) (sym (passing_dropped plan before c.args.point.now (sym c.keeps.ensures ∙ c.if-keeps.false))) stands
+    subst (λ (records : List Placed). HasSifted looked records c.args.sieve.now) (sym (passing_dropped plan before c.args.point.now (sym c.keeps.ensures ∙ c.if-keeps.false))) stands

@@ -3,7 +3,7 @@ use Rattle.std.specs.Prelude.{IfSome}
 use Rattle.las_filter.specs.Kept.{steps_of}
 use Rattle.las_thin.specs.Kept.{passing}
 use Rattle.las_thin.specs.Placed.{Placed}
-use Rattle.las_thin.specs.Sieving.{StandsFor}
+use Rattle.las_thin.specs.Sieving.{HasSifted}
 use Rattle.las_convert.proofs.Passing.{last_passed, passing_dropped, passing_more}
 use Rattle.las_convert.proofs.looking.look_at.Goals as goal
 
@@ -15,9 +15,9 @@ look-requires-clause-above c =
 pub returns-then-keeps-clause-stands : goal.returns-then-keeps-clause-stands
 returns-then-keeps-clause-stands c before is stands =
     let plan = steps_of c.args.plan.now in
-    subst (λ (records : List Placed). OnOk c.look.result (StandsFor records [] c.look.new.self)) (sym (passing_more plan before c.args.point.now c.args.place (sym c.keeps.ensures ∙ c.if-keeps.true) is)) (c.look.ensures.stands (passing plan before) [] stands)
+    subst (λ (records : List Placed). OnOk c.look.result (HasSifted records [] c.look.new.self)) (sym (passing_more plan before c.args.point.now c.args.place (sym c.keeps.ensures ∙ c.if-keeps.true) is)) (c.look.ensures.stands (passing plan before) [] stands)
 
 pub returns-clause-stands : goal.returns-clause-stands
 returns-clause-stands c before is stands =
     let plan = steps_of c.args.plan.now in
-    subst (λ (records : List Placed). StandsFor records [] c.args.sieve.now) (sym (passing_dropped plan before c.args.point.now (sym c.keeps.ensures ∙ c.if-keeps.false))) stands
+    subst (λ (records : List Placed). HasSifted records [] c.args.sieve.now) (sym (passing_dropped plan before c.args.point.now (sym c.keeps.ensures ∙ c.if-keeps.false))) stands

@@ -2,7 +2,7 @@ use Rattle.std.proofs.Common.{◌++◌, [], ℕ, List, ◌∙◌, subst, arith}
 use Rattle.las_filter.specs.Kept.{steps_of}
 use Rattle.las_header.specs.Plain.{cut_records}
 use Rattle.las_thin.specs.Kept.{passing}
-use Rattle.las_thin.specs.Sieving.{StandsFor}
+use Rattle.las_thin.specs.Sieving.{HasSifted}
 use Rattle.las_convert.proofs.Cuts.{after_next, reached}
 use Rattle.las_convert.proofs.looking.look_block.Goals as goal
 use Rattle.laz_forms.proofs.Public.{rest_next}
@@ -25,6 +25,6 @@ loop-turn-preserved c =
       settings = c.look_at.ensures.settings ∙ c.loop-turn.invariant.settings;
       stands = λ before is stands.
           let here = reached before size t block c.args.read c.loop-turn.place is c.loop-turn.invariant.place in
-          subst (λ (records : List (List ℕ)). StandsFor (passing plan records) [] c.look_at.new.sieve) (after_next before size t block c.loop-turn.rest.now c.split_at.result.0.now c.loop-turn.invariant.rest c.split_at.ensures.front)
+          subst (λ (records : List (List ℕ)). HasSifted (passing plan records) [] c.look_at.new.sieve) (after_next before size t block c.loop-turn.rest.now c.split_at.result.0.now c.loop-turn.invariant.rest c.split_at.ensures.front)
           (c.in_ok-look_at.ensures.stands (before ++ cut_records size t block) here (c.loop-turn.invariant.stands before is stands));
     }

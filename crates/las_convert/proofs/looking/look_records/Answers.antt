@@ -134,7 +134,7 @@ turns-init g c =
             c.first-turn.ensures.next c.first-turn.ensures.count c.requires.open c.requires.crew c.requires.stands,
         ap (λ (rs : List (List ℕ)). length rs) none,
         subst
-            (λ (rs : List (List ℕ)). sieve.StandsFor (passing (steps_of c.args.plan.now) rs) [] c.args.sieve.now)
+            (λ (rs : List (List ℕ)). sieve.HasSifted (passing (steps_of c.args.plan.now) rs) [] c.args.sieve.now)
             (sym none) c.requires.unlooked,
       );
       calm = calm-refl _;
@@ -168,7 +168,7 @@ returns-in_default-clause-looked g c =
       blocks g t,
       subst (λ (k : ℕ). HoldFirst (old g t).held (first g t) k (blocks g t)) all (hold g t),
       subst
-          (λ (k : ℕ). sieve.StandsFor (passing (steps_of c.args.plan.now) (cut_all k (concat (blocks g t)))) []
+          (λ (k : ℕ). sieve.HasSifted (passing (steps_of c.args.plan.now) (cut_all k (concat (blocks g t)))) []
           c.turns.sieve) size c.turns.invariant.looked.4,
     )
 
@@ -212,7 +212,7 @@ turns-preserved g c =
         came g b,
         ap (λ (rs : List (List ℕ)). length rs) more ∙ long,
         subst
-            (λ (rs : List (List ℕ)). sieve.StandsFor (passing (steps_of c.args.plan.now) rs) [] c.look_block.new.sieve)
+            (λ (rs : List (List ℕ)). sieve.HasSifted (passing (steps_of c.args.plan.now) rs) [] c.look_block.new.sieve)
             (sym more) (c.in_ok-look_block.ensures.stands (before g b) done.3 done.4),
       );
       calm = calm-trans _ _ _ c.turns.invariant.calm c.in_ok-next.ensures.calm;

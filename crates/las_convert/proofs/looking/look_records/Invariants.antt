@@ -14,7 +14,7 @@ invariant-turns g l = let old = g.F.Files.seen l.fn.files in let now = g.F.Files
   only : OnlyReads old now;
   settings : l.sieve.settings ≡ l.fn.sieve.settings;
   looked : (n : ℕ) × (xs : List (List ℕ)) × HasComeTo old.held l.fn.reader l.reader l.crew l.turn n xs
-      × (length (cut_all l.size (concat xs)) ≡ l.read) × sieve.StandsFor (passing (steps_of l.plan) (cut_all l.size (concat xs))) [] l.sieve;
+      × (length (cut_all l.size (concat xs)) ≡ l.read) × sieve.HasSifted (passing (steps_of l.plan) (cut_all l.size (concat xs))) [] l.sieve;
   calm : IsCalm old now;
   asked : now.asked + bytes_left l.reader ≤ old.asked + bytes_left l.fn.reader;
 }

@@ -2,7 +2,7 @@ use Rattle.std.proofs.Common.{◌≡◌, ◌<◌, ◌∙◌, ℕ, ap, sym, arith
 use Rattle.std.proofs.lemmas.Result.{on_err_weaker, on_ok_weaker}
 use Rattle.las_header.specs.Plain.{cut_records}
 use Rattle.las_header.proofs.Public.{cut_length}
-use Rattle.las_info.specs.Tallies.{tally_after, with_more}
+use Rattle.las_info.specs.Tallies.{tally_after, with_many}
 use Rattle.las_info.proofs.Pieces.{count_of, one_bin}
 use Rattle.las_info.proofs.runs.count_group.Goals as goal
 
@@ -12,8 +12,8 @@ returns-then-all_have-clause-ok g c =
     let old = c.args.counted.now in
     let bin = c.of-bin.result in
     let records = cut_records c.args.size c.args.count c.args.group.now in
-    on_ok_weaker c.add_more.result (λ (is : c.add_more.new.self ≡ with_more old bin c.args.count).
-    is ∙ ap (with_more old bin) (sym (cut_length c.args.size c.args.count c.args.group.now)) ∙ one_bin rule old bin records (c.all_have.ensures c.if-all_have.true))
+    on_ok_weaker c.add_more.result (λ (is : c.add_more.new.self ≡ with_many old bin c.args.count).
+    is ∙ ap (with_many old bin) (sym (cut_length c.args.size c.args.count c.args.group.now)) ∙ one_bin rule old bin records (c.all_have.ensures c.if-all_have.true))
     c.add_more.ensures.ok
 
 pub returns-clause-ok : goal.returns-clause-ok

@@ -2,7 +2,7 @@ use Rattle.std.proofs.Common.{◌≡◌, ℕ, ◌+◌, ◌-◌, ◌*◌, ◌/◌
 use Rattle.std.proofs.lemmas.Result.{on_err_weaker, on_ok_weaker}
 use Rattle.las_header.proofs.Public.{left_first}
 use Rattle.las_header.specs.Plain.{cut_records}
-use Rattle.las_info.specs.Tallies.{HasRoomFor, tally_after}
+use Rattle.las_info.specs.Tallies.{HasRoomToCount, tally_after}
 use Rattle.las_info.proofs.Cuts.{Cuts, cuts_none}
 use Rattle.las_info.proofs.Pieces.{count_of, first_of_piece, groups_all, groups_fit, piece_counted, piece_fits, piece_taken, rest_counted, room_for, some_counted, whole_of}
 use Rattle.las_info.proofs.runs.count_groups.Goals as goal
@@ -87,7 +87,7 @@ count_block-requires-clause-room g c =
     let n = length c.args.block.now / size in
     let t = c.args.each * c.loop-group._group in
     let s = c.loop-group.invariant.counts in
-    subst (λ (k : ℕ). HasRoomFor k c.loop-group.counted) (sym (count_of size (n - t) c.loop-group.rest.now (omega (arith, c.requires.size)) c.loop-group.invariant.left))
+    subst (λ (k : ℕ). HasRoomToCount k c.loop-group.counted) (sym (count_of size (n - t) c.loop-group.rest.now (omega (arith, c.requires.size)) c.loop-group.invariant.left))
     (room_for g.B.Bins.bin_of c.args.counted.now c.loop-group.counted s.0 n t (n - t) c.requires.room s.1.count (omega (arith, groups_all n c.args.each c.loop-group._group (omega (arith, c.loop-group.auto._group-end)))) s.2)
 
 pub returns-clause-ok : goal.returns-clause-ok

@@ -2,10 +2,10 @@ use Rattle.std.proofs.Common.{◌≡◌, ℕ, zero, suc, ◌+◌, ◌-◌, ◌*�
 use Rattle.std.proofs.lemmas.List.{take_all}
 use Rattle.las_header.specs.declared.counts.Counts.{Counts}
 use Rattle.las_header.specs.Plain.{cut_records}
-use Rattle.las_header.proofs.Public.{left_first, left_next}
+use Rattle.las_header.proofs.Public.{left_first, left_next, cut_length}
 use Rattle.las_points.specs.Record.{return_number_of}
 use Rattle.las_info.specs.declared.extents.Extents.{Extents}
-use Rattle.las_info.proofs.Running.{RunOf, Running, length-cut_records, running_all, running_none, running_one, summary_of_run}
+use Rattle.las_info.proofs.Running.{RunOf, Running, running_all, running_none, running_one, summary_of_run}
 use Rattle.las_info.proofs.Tallying.{few_but_first, few_counted, few_first}
 use Rattle.las_info.proofs.summary.summed.Goals.{then-count-eq1, else-count-eq1}
 use Rattle.las_info.proofs.summary.summed.Goals as goal
@@ -180,6 +180,6 @@ returns-clause-list c records counted extended =
     ] in
     let all = records ++ cut_records size n block in
     let long : c.args.counts.points + n ≡ length all =
-    omega (arith, ap (λ (x : Counts). x.points) counted, length-append records (cut_records size n block), length-cut_records size n block) in
+    omega (arith, ap (λ (x : Counts). x.points) counted, length-append records (cut_records size n block), cut_length size n block) in
     summary_of_run all (c.args.counts.points + n) c.if-count-eq1.returns c.total.result c.if-count-eq1.bounds run long c.total.ensures
     ∙ ap (λ (e : Extents). record { counts = record { points = c.args.counts.points + n; returns = c.total.result }; extents = Some e }) (sym c.extents.ensures)

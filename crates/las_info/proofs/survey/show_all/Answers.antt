@@ -1,5 +1,5 @@
 use Rattle.std.proofs.Common.{◌<◌, ◌^◌, ◌-◌, sym, subst}
-use Rattle.las_info.specs.Tallies.{count_at, shown}
+use Rattle.las_info.specs.Tallies.{count_at, shown_one}
 use Rattle.las_info.proofs.Zips.{holds_left, one_mapped}
 use Rattle.las_info.proofs.survey.show_all.Goals as goal
 
@@ -11,6 +11,6 @@ show_one-requires-clause-room g c =
 
 pub loop-i-preserved : goal.loop-i-preserved
 loop-i-preserved g c =
-    one_mapped (λ tap. (goal.Tap-dyn g (tap.vtable, tap.value)).tap_seen tap.value) (λ tap. shown tap c.args.point.now) _ _ _
+    one_mapped (λ tap. (goal.Tap-dyn g (tap.vtable, tap.value)).tap_seen tap.value) (λ tap. shown_one tap c.args.point.now) _ _ _
     c.index-taps-i.result _ (subst (λ n. c.loop-i.i < n) (sym c.loop-i.auto.taps) c.loop-i-test.true) c.loop-i.auto.taps
     c.loop-i.invariant.0 c.loop-i.invariant.1 c.in_ok-show_one.ensures.shown

@@ -6,7 +6,7 @@ use Rattle.las_outside.specs.Files.{WhereKnown, with_file}
 use Rattle.las_outside.specs.Outside.{Outside, with_bytes}
 use Rattle.las_outside.proofs.Public.{calm-trans, later-trans, on_err}
 use Rattle.laz_file.specs.Copying.{with_reads}
-use Rattle.las_merge.specs.Appending.{LiesIn, SourceSeen, part_in, part_of}
+use Rattle.las_merge.specs.Appending.{PartLiesIn, SourceSeen, source_bytes, part_of}
 use Rattle.laz_forms.proofs.Public.{known_then, if_err}
 use Rattle.las_merge.proofs.Appended.{copy_fault_since, in_part, joined_more, still_known, still_part, sum_more, sum_within}
 use Rattle.las_merge.proofs.appending.copy_all.Given.{Over}
@@ -22,7 +22,7 @@ copy_part-requires-clause-lies g c =
     let s : SourceSeen = c.index-sources-i.result in
     let there = c.sources.invariant.copied h.0 h.1 h.2 in
     let other : s.name ≢ output = subst (λ (x : SourceSeen). x.name ≢ output) (sym c.index-sources-i.is) (c.requires.names c.sources.i s c.sources-test.true) in
-    let lies : LiesIn old.held s = subst (λ (x : SourceSeen). LiesIn old.held x) (sym c.index-sources-i.is) (c.requires.lie c.sources.i s c.sources-test.true) in
+    let lies : PartLiesIn old.held s = subst (λ (x : SourceSeen). PartLiesIn old.held x) (sym c.index-sources-i.is) (c.requires.lie c.sources.i s c.sources-test.true) in
     let place = c.span-place.ensures.place in
     let size = c.span-place.ensures.size in
     let P : List ℕ → Type 0 = λ file. c.span-place.result.0 + c.span-place.result.1 ≤ length file in
@@ -53,19 +53,19 @@ module _ (g : Over) (c : After-copy_part g) where
   done = concat (map (part_of old.held) (take c.sources.i c.args.sources.now))
 
   part_is : (before : Outside) (text : List ℕ) → old ≡ with_bytes before c.args.output.now text
-      → part_in cur.held c.name.result.now c.span-place.result.0 c.span-place.result.1
+      → source_bytes cur.held c.name.result.now c.span-place.result.0 c.span-place.result.1
       ≡ part_of old.held (get_or c.args.sources.now c.sources.i source)
   part_is before text was =
       let place = c.span-place.result.0 in
       let size = c.span-place.result.1 in
       let other : source.name ≢ c.args.output.now = subst (λ (x : SourceSeen). x.name ≢ c.args.output.now)
       (sym c.index-sources-i.is) (c.requires.names c.sources.i source c.sources-test.true) in
-      ap (λ (n : List ℕ). part_in cur.held n place size) c.name.ensures
+      ap (λ (n : List ℕ). source_bytes cur.held n place size) c.name.ensures
       ∙ still_part before.held old.held cur.held c.args.output.now source.name text (text ++ done) place size other
       (ap (λ (o : Outside). o.held) was)
       (ap (λ (o : Outside). o.held) (c.sources.invariant.copied before text was))
-      ∙ ap (λ (n : ℕ). part_in old.held source.name n size) c.span-place.ensures.place
-      ∙ ap (λ (n : ℕ). part_in old.held source.name source.place n) c.span-place.ensures.size
+      ∙ ap (λ (n : ℕ). source_bytes old.held source.name n size) c.span-place.ensures.place
+      ∙ ap (λ (n : ℕ). source_bytes old.held source.name source.place n) c.span-place.ensures.size
       ∙ ap (part_of old.held) c.index-sources-i.is
 
   asked_so_far : now.asked

@@ -5,7 +5,7 @@ use Rattle.las_outside.specs.Files.{with_file}
 use Rattle.las_outside.specs.Outside.{Outside, with_bytes}
 use Rattle.las_outside.proofs.Public.{calm-trans, later-trans, on_err}
 use Rattle.laz_file.specs.Copying.{with_reads}
-use Rattle.las_merge.specs.Appending.{part_in}
+use Rattle.las_merge.specs.Appending.{source_bytes}
 use Rattle.laz_forms.proofs.Public.{known_then, if_err}
 use Rattle.las_merge.proofs.Appended.{part_more, part_prefix, still_known, still_part, copy_fault_since}
 use Rattle.las_merge.proofs.appending.copy_part.Given.{Over}
@@ -40,10 +40,10 @@ module _ (g : Over) (c : After-copy_piece g) where
   size = length c.split_at_mut-part.result.0.now
 
   abbrev one : List ℕ
-  one = part_in old.held c.args.input.now c.args.place c.pieces.done
+  one = source_bytes old.held c.args.input.now c.args.place c.pieces.done
 
   abbrev next : Outside → List ℕ
-  next seen = part_in seen.held c.args.input.now (c.args.place + c.pieces.done) size
+  next seen = source_bytes seen.held c.args.input.now (c.args.place + c.pieces.done) size
 
   same : (before : Outside) (text : List ℕ) → old ≡ with_bytes before c.args.output.now text → next cur ≡ next old
   same before text was = still_part before.held old.held cur.held c.args.output.now c.args.input.now text (text ++ one)
@@ -96,7 +96,7 @@ pieces-preserved g c =
           (append_assoc text one (next g k (cur g k))
           ∙ ap (λ (t : List ℕ). text ++ (one ++ t)) (same g k before text was)
           ∙ ap (λ (t : List ℕ). text ++ t) (part_more (old g k).held c.args.input.now c.args.place done (size g k))
-          ∙ ap (λ (m : ℕ). text ++ part_in (old g k).held c.args.input.now c.args.place (done + m)) long);
+          ∙ ap (λ (m : ℕ). text ++ source_bytes (old g k).held c.args.input.now c.args.place (done + m)) long);
       calm = calm-trans _ _ _ inv.calm ok.calm;
       frame = record {
         asked = omega (arith, ok.frame.asked, inv.frame.asked, long);
@@ -151,7 +151,7 @@ returns-clause-copied g c before text was =
     let all : c.pieces.done ≡ c.args.size = omega (arith, c.pieces-test.false, c.pieces.invariant.within) in
     subst
     (λ (n : ℕ). now ≡ with_bytes (with_reads before now) c.args.output.now
-    (text ++ part_in old.held c.args.input.now c.args.place n)) all (c.pieces.invariant.copied before text was)
+    (text ++ source_bytes old.held c.args.input.now c.args.place n)) all (c.pieces.invariant.copied before text was)
 
 pub returns-clause-calm : goal.returns-clause-calm
 returns-clause-calm g c = c.pieces.invariant.calm

@@ -10,9 +10,9 @@ use Rattle.std.specs.FinMap as finmap
 use Rattle.laz_reader.specs.Asking.{AsksAtMost}
 use Rattle.laz_writer.specs.Writing.{WriterSeen}
 use Rattle.las_outside.proofs.Public.{calm-refl, calm-trans, later-refl, later-trans}
-use Rattle.las_merge.specs.Asking.{asked_of_all, asked_to_read}
+use Rattle.las_merge.specs.Asking.{IsAskedToRead, asked_of_all}
 use Rattle.las_merge.specs.Copying.{BeginsWith, CopiesTo}
-use Rattle.las_merge.specs.Opening.{InputSeen, names_read, points_read}
+use Rattle.las_merge.specs.Opening.{InputSeen, input_names, points_read}
 use Rattle.las_merge.proofs.Asked.{asked_there}
 use Rattle.las_merge.proofs.Again.{fault_since}
 use Rattle.las_merge.proofs.Copied.{HasCopied, copies_all, has_more, has_none, into_next, leaves_next, next_copies}
@@ -41,9 +41,9 @@ inputs-init g c =
           c.requires.room;
       calm = calm-refl old;
       later = later-refl old;
-      asked = λ known is. omega (
+      asked = λ asked bound known is. omega (
         arith,
-        ap (λ (rs : List InputSeen). asked_of_all asked_to_read known (names_read rs))
+        ap (λ (rs : List InputSeen). asked_of_all asked known (input_names rs))
             gives.0,
       );
     }
@@ -83,19 +83,19 @@ module _ (g : Over) (c : In-Some g) where
       (next_copies _ _ _ _ _ _ _ _ has _ _ _ c.requires.stands.3 c.requires.names part end here)
 
   -- what it and those before it were asked for
-  asked_so_far : (new : Outside)
-      → WhereKnown now.held reader.name (λ file. AsksAtMost (asked_to_read (Some file)) now new)
-      → (known : FileMap) → old.held ≡ Some known
-      → new.asked + asked_of_all asked_to_read known (names_read rest)
-      ≤ old.asked + asked_of_all asked_to_read known (names_read c.args.inputs.items)
-  asked_so_far new asked known is =
-      let most = known_before (λ file. AsksAtMost (asked_to_read (Some file)) now new) asked in
-      let here = asked_there old.held reader.name asked_to_read now new most known is in
-      let first = sum-cons (asked_to_read (finmap.get known reader.name))
-      (map (λ name. asked_to_read (finmap.get known name)) (names_read rest)) in
-      let items = ap (λ (rs : List InputSeen). asked_of_all asked_to_read known (names_read rs))
+  asked_so_far : (new : Outside) → ((asked : Option (List ℕ) → ℕ) → IsAskedToRead asked
+      → WhereKnown now.held reader.name (λ file. AsksAtMost (asked (Some file)) now new))
+      → (asked : Option (List ℕ) → ℕ) → IsAskedToRead asked → (known : FileMap) → old.held ≡ Some known
+      → new.asked + asked_of_all asked known (input_names rest)
+      ≤ old.asked + asked_of_all asked known (input_names c.args.inputs.items)
+  asked_so_far new most_of asked bound known is =
+      let most = known_before (λ file. AsksAtMost (asked (Some file)) now new) (most_of asked bound) in
+      let here = asked_there old.held reader.name asked now new most known is in
+      let first = sum-cons (asked (finmap.get known reader.name))
+      (map (λ name. asked (finmap.get known name)) (input_names rest)) in
+      let items = ap (λ (rs : List InputSeen). asked_of_all asked known (input_names rs))
       c.in-Some.ensures.steps.0 in
-      let before = c.inputs.invariant.asked known is in
+      let before = c.inputs.invariant.asked asked bound known is in
       omega (arith, here, first, items, before)
 
 pub copy_next-requires-clause-opened : goal.copy_next-requires-clause-opened
@@ -190,17 +190,17 @@ returns-clause-copied g c =
     (concat all.parts, copies_all before after readers c.inputs.number w u all, all.takes)
 
 pub returns-in-Some-end-clause-asked : goal.returns-in-Some-end-clause-asked
-returns-in-Some-end-clause-asked g c known is =
+returns-in-Some-end-clause-asked g c asked bound known is =
     let k = (goal.at.returns-in-Some-end-clause-asked g c).In-Some in
-    omega (arith, asked_so_far g k (g.F.Files.seen c.copy_next.new.files) c.copy_next.ensures.asked known is)
+    omega (arith, asked_so_far g k (g.F.Files.seen c.copy_next.new.files) c.copy_next.ensures.asked asked bound known is)
 
 pub returns-in-Err-clause-asked : goal.returns-in-Err-clause-asked
-returns-in-Err-clause-asked g c known is =
+returns-in-Err-clause-asked g c asked bound known is =
     let k = (goal.at.returns-in-Err-clause-asked g c).In-Some in
-    omega (arith, asked_so_far g k (g.F.Files.seen c.copy_next.new.files) c.copy_next.ensures.asked known is)
+    omega (arith, asked_so_far g k (g.F.Files.seen c.copy_next.new.files) c.copy_next.ensures.asked asked bound known is)
 
 pub returns-clause-asked : goal.returns-clause-asked
-returns-clause-asked g c known is = omega (arith, c.inputs.invariant.asked known is)
+returns-clause-asked g c asked bound known is = omega (arith, c.inputs.invariant.asked asked bound known is)
 
 pub returns-in-Err-clause-later : goal.returns-in-Err-clause-later
 returns-in-Err-clause-later g c = later-trans _ _ _ c.inputs.invariant.later c.copy_next.ensures.later

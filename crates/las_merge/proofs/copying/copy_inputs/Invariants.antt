@@ -1,10 +1,10 @@
-use Rattle.std.proofs.Common.{◌≡◌, ◌*◌, ◌+◌, ◌≤◌, false, length}
+use Rattle.std.proofs.Common.{◌≡◌, ◌*◌, ◌+◌, ◌≤◌, false, Option, ℕ, List, length}
 use Rattle.std.specs.Vec.Iter.{into_iter_items, into_iter_len}
 use Rattle.las_outside.specs.Frames.{IsCalm}
 use Rattle.las_outside.specs.Outside.{Later}
-use Rattle.las_merge.specs.Asking.{asked_of_all, asked_to_read}
+use Rattle.las_merge.specs.Asking.{IsAskedToRead, asked_of_all}
 use Rattle.las_merge.specs.Inputs.{IfKnown}
-use Rattle.las_merge.specs.Opening.{names_read, points_read}
+use Rattle.las_merge.specs.Opening.{input_names, points_read}
 use Rattle.las_merge.proofs.Copied.{HasCopied}
 use Rattle.las_merge.proofs.copying.copy_inputs.Given as goal
 
@@ -21,8 +21,8 @@ invariant-inputs g l = record {
       l.writer.most;
   calm : IsCalm (g.F.Files.seen l.fn.files) (g.F.Files.seen l.files);
   later : Later (g.F.Files.seen l.fn.files) (g.F.Files.seen l.files);
-  asked : IfKnown (g.F.Files.seen l.fn.files).held
-      (λ known. (g.F.Files.seen l.files).asked + asked_of_all asked_to_read known
-      (names_read (into_iter_items l.input-iterator)) ≤ (g.F.Files.seen l.fn.files).asked + asked_of_all asked_to_read
-      known (names_read l.fn.inputs.items));
+  asked : (asked : Option (List ℕ) → ℕ) → IsAskedToRead asked → IfKnown (g.F.Files.seen l.fn.files).held
+      (λ known. (g.F.Files.seen l.files).asked + asked_of_all asked known
+      (input_names (into_iter_items l.input-iterator)) ≤ (g.F.Files.seen l.fn.files).asked + asked_of_all asked
+      known (input_names l.fn.inputs.items));
 }

@@ -1,9 +1,9 @@
-use Rattle.std.proofs.Common.{◌+◌, ◌*◌, ℕ, sym, ◌∙◌, ap, subst, arith}
+use Rattle.std.proofs.Common.{◌+◌, ◌*◌, ℕ, List, Option, Some, sym, ◌∙◌, ap, subst, arith}
 use Rattle.las_outside.specs.Files.{WhereKnown}
 use Rattle.laz_reader.specs.Asking.{AsksAtMost, asked_to_open}
 use Rattle.laz_file.specs.Copying.{with_reads}
 use Rattle.laz_reader.specs.Reading.{StandsFor}
-use Rattle.laz_forms.specs.Sizes.{points_size}
+use Rattle.las_merge.specs.Asking.{IsAskedToRead}
 use Rattle.laz_forms.proofs.Public.{known_then}
 use Rattle.laz_file.proofs.Public.{stands_read}
 use Rattle.las_merge.specs.Copying.{BeginsWith, CopiesTo, IsFaultOf}
@@ -91,21 +91,21 @@ returns-in-Err-copy_input-clause-cause g c =
     c.in-Err-copy_input.ensures.cause))
 
 pub returns-in-Err-clause-asked : goal.returns-in-Err-clause-asked
-returns-in-Err-clause-asked g c =
+returns-in-Err-clause-asked g c asked bound =
     let old = g.F.Files.seen c.args.files.now in
     let mid = g.F.Files.seen c.open_again.new.files in
     known_then old.held c.args.input.now.name (λ file. AsksAtMost (asked_to_open file) old mid)
-    (λ file. AsksAtMost (asked_to_open file + points_size file) old mid) (λ file most. omega (arith, most))
+    (λ file. AsksAtMost (asked (Some file)) old mid) (λ file most. omega (arith, most, bound.to_open file))
     c.open_again.ensures.asked
 
 -- what opening and reading it asked for
-module _ (g : Over) (c : After-copy_input g) where
+module _ (g : Over) (c : After-copy_input g) (asked : Option (List ℕ) → ℕ) (bound : IsAskedToRead asked) where
   asked_in_all : WhereKnown (g.F.Files.seen c.args.files.now).held c.args.input.now.name
-      (λ file. AsksAtMost (asked_to_open file + points_size file) (g.F.Files.seen c.args.files.now)
+      (λ file. AsksAtMost (asked (Some file)) (g.F.Files.seen c.args.files.now)
       (g.F.Files.seen c.copy_input.new.files))
   asked_in_all = asked_again (g.F.Files.seen c.args.files.now).held c.args.input.now.name c.in-Ok.reader
       (g.F.Files.seen c.args.files.now) (g.F.Files.seen c.open_again.new.files)
-      (g.F.Files.seen c.copy_input.new.files) c.in-Ok.ensures.again.fresh.whole c.in-Ok.ensures.again.stands
+      (g.F.Files.seen c.copy_input.new.files) asked bound c.in-Ok.ensures.again.fresh.whole c.in-Ok.ensures.again.stands
       c.open_again.ensures.asked c.copy_input.ensures.frame.asked
 
 pub returns-in-Ok-copy_input-clause-asked : goal.returns-in-Ok-copy_input-clause-asked

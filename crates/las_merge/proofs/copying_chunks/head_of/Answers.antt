@@ -9,7 +9,7 @@ use Rattle.laz_table.specs.VlrCauses.{extra_of}
 use Rattle.laz_table.specs.declared.limits.TheConstants.{COUNTED_CHUNKS}
 use Rattle.laz_forms.specs.Packing.{packed_head}
 use Rattle.las_merge.specs.Opening.{first_read}
-use Rattle.las_merge.specs.Summing.{long_returns_in, returns_in, summed_head}
+use Rattle.las_merge.specs.Summing.{long_returns_summed, returns_summed, summed_head}
 use Rattle.las_merge.proofs.Whole.{head_first}
 use Rattle.las_merge.proofs.copying_chunks.head_of.Goals as goal
 
@@ -23,8 +23,8 @@ returns c =
     let inputs = c.args.inputs.now in
     let first : c.head.result.now.bytes ≡ first_read inputs = ap (λ (h : HeadView). h.bytes) c.head.ensures ∙ head_first inputs c.index-inputs-0.result c.requires.some c.index-inputs-0.is in
     let plain : c.in_ok-plain.plain.bytes ≡ plain_of (first_read inputs) = c.in_ok-plain.ensures.bytes ∙ ap plain_of first in
-    let short : c.returns_in.result ≡ returns_in inputs = c.returns_in.ensures in
-    let long : c.long_returns_in.result ≡ long_returns_in inputs = c.long_returns_in.ensures in
+    let short : c.returns_in.result ≡ returns_summed inputs = c.returns_in.ensures in
+    let long : c.long_returns_in.result ≡ long_returns_summed inputs = c.long_returns_in.ensures in
     let points = c.requires.points in
     let bytes = c.with_sums-summed.result.bytes in
     let summed : bytes ≡ summed_head inputs = c.with_sums-summed.ensures.bytes ∙ (λ i. with_sums (points i) (short i) (long i) (plain i)) in

@@ -15,7 +15,7 @@ use Rattle.laz_copied.specs.Copied.{Chunk}
 use Rattle.laz_file.specs.Copying.{with_reads}
 use Rattle.las_merge.specs.declared.fault.MergeFault.{MergeFault}
 use Rattle.las_merge.specs.declared.fault.MergeFault.TheVariants.{At, Unequal, Write}
-use Rattle.las_merge.specs.Appending.{IsCopyFault, LeavesPrefix, LiesIn, SourceSeen}
+use Rattle.las_merge.specs.Appending.{IsCopyFault, LeavesPrefix, PartLiesIn, SourceSeen}
 use Rattle.las_merge.specs.Inputs.{names_of}
 use Rattle.las_merge.specs.Opening.{InputSeen, points_read}
 use Rattle.las_merge.specs.Outcomes.{SaysCopying}
@@ -74,9 +74,9 @@ write-requires-clause-lie g c =
     let l = c.in_ok-listed.listed in
     let ens = c.in_ok-listed.ensures in
     let lie = sources_lie _ _ _ _ _ _ _ _ ens.opened ens.lists (all g k) (some g k) in
-    subst (λ (ss : List SourceSeen). All (LiesIn (g.F.Files.seen c.list_inputs.new.files).held) ss)
+    subst (λ (ss : List SourceSeen). All (PartLiesIn (g.F.Files.seen c.list_inputs.new.files).held) ss)
     (sym c.deref-2.ensures.value)
-    (subst (λ (h : Option FileMap). All (LiesIn h) l.sources.items) (sym c.list_inputs.ensures.reads.held) lie)
+    (subst (λ (h : Option FileMap). All (PartLiesIn h) l.sources.items) (sym c.list_inputs.ensures.reads.held) lie)
 
 pub returns-in_err-listed-clause-says : goal.returns-in_err-listed-clause-says
 returns-in_err-listed-clause-says g c =

@@ -12,7 +12,7 @@ use Rattle.las_outside.proofs.Public.{on_err, prefix_of}
 use Rattle.laz_reader.proofs.Public.{after_writes, then_writes}
 use Rattle.laz_file.proofs.Public.{known_after}
 use Rattle.laz_file.specs.Copying.{with_reads}
-use Rattle.las_merge.specs.Appending.{LeavesPrefix, LiesIn, SourceSeen, part_of}
+use Rattle.las_merge.specs.Appending.{LeavesPrefix, PartLiesIn, SourceSeen, part_of}
 use Rattle.las_merge.proofs.Appended.{leaves_more, parts_after, reads_now, copy_fault_since}
 use Rattle.las_merge.proofs.copying_chunks.write.Given.{Over}
 use Rattle.las_merge.proofs.copying_chunks.write.Goals.{In-Ok}
@@ -33,7 +33,7 @@ copy_all-requires-clause-lie g c k d lt =
     let old = g.F.Files.seen c.args.files.now in
     let name = c.args.output.now in
     let s : SourceSeen = slice_index_or c.args.sources.now k d in
-    subst (λ (h : Option FileMap). LiesIn h s) (sym (ap (λ (o : Outside). o.held) c.in-Ok.ensures.begun))
+    subst (λ (h : Option FileMap). PartLiesIn h s) (sym (ap (λ (o : Outside). o.held) c.in-Ok.ensures.begun))
     (known_after old.held name _ s.name (λ file. s.place + s.size ≤ length file) (c.requires.names k d lt) (c.requires.lie k d lt))
 
 -- what stands when the output was begun

@@ -22,7 +22,7 @@ pub list_next-requires-clause-lists : goal.list_next-requires-clause-lists
 list_next-requires-clause-lists g c = (
   _,
   subst (λ (h : Option FileMap). ListsChunks h c.inputs.listed.inputs.items c.inputs.listed.sources.items
-      c.inputs.listed.lists.many c.inputs.listed.lists.counts.items c.inputs.listed.lists.sizes.items
+      c.inputs.listed.lists.many c.inputs.listed.lists.points.items c.inputs.listed.lists.bytes.items
       ((g.F.Files.seen c.inputs.files).asked - (g.F.Files.seen c.args.files.now).asked))
       (sym c.inputs.invariant.reads.held) c.inputs.invariant.lists,
 )
@@ -106,7 +106,7 @@ inputs-preserved g c =
     let listed = c.list_next.new.listed in
     let was = c.inputs.listed in
     let before = subst (λ (h : Option FileMap). ListsChunks h was.inputs.items was.sources.items was.lists.many
-    was.lists.counts.items was.lists.sizes.items (old.asked - start.asked)) (sym c.inputs.invariant.reads.held)
+    was.lists.points.items was.lists.bytes.items (old.asked - start.asked)) (sym c.inputs.invariant.reads.held)
     c.inputs.invariant.lists in
     let spent : old.asked - start.asked + (new.asked - old.asked) ≡ new.asked - start.asked =
     omega (arith, c.inputs.invariant.reads.later.asked, c.list_next.ensures.reads.later.asked) in
@@ -114,9 +114,9 @@ inputs-preserved g c =
       opened = open_more start.held old.held (names g k) c.deref.result.now (readers g k) listed.inputs.items more.0
           c.inputs.invariant.opened (within g k) (named g k) c.inputs.invariant.reads.held more.1 more.2;
       lists = subst (λ (h : Option FileMap). ListsChunks h listed.inputs.items listed.sources.items listed.lists.many
-          listed.lists.counts.items listed.lists.sizes.items (new.asked - start.asked)) c.inputs.invariant.reads.held
+          listed.lists.points.items listed.lists.bytes.items (new.asked - start.asked)) c.inputs.invariant.reads.held
           (subst (λ (n : ℕ). ListsChunks old.held listed.inputs.items listed.sources.items listed.lists.many
-          listed.lists.counts.items listed.lists.sizes.items n) spent
+          listed.lists.points.items listed.lists.bytes.items n) spent
           (c.in_ok-list_next.ensures.lists (old.asked - start.asked) before));
       count = omega (
         arith,

@@ -11,7 +11,7 @@ abbrev pub invariant-inputs : goal.invariant-inputs
 invariant-inputs g l = record {
   opened : AreOpen (g.F.Files.seen l.fn.files).held (names_of l.names) l.listed.inputs.items;
   lists : ListsChunks (g.F.Files.seen l.fn.files).held l.listed.inputs.items l.listed.sources.items l.listed.lists.many
-      l.listed.lists.counts.items l.listed.lists.sizes.items
+      l.listed.lists.points.items l.listed.lists.bytes.items
       ((g.F.Files.seen l.files).asked - (g.F.Files.seen l.fn.files).asked);
   count : length l.listed.inputs.items ≡ l.name-index;
   reads : OnlyReads (g.F.Files.seen l.fn.files) (g.F.Files.seen l.files);

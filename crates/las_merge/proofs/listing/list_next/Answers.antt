@@ -103,11 +103,11 @@ returns-in-Ok-add-clause-lists g c asked lists =
     let spent = new.asked - old.asked in
     let chunk : reader.chunk ≡ Some (chunk_size_of reader.head.bytes) = c.in-Ok.ensures.whole.chunk ∙ ap (λ (b : Bool). cond b (Some (chunk_size_of reader.head.bytes)) None) packed in
     let bound : spent ≤ length reader.head.bytes + asked_for_chunks (length reader.pieces) = omega (arith, c.in-Ok.ensures.asked, ap (λ (o : Option ℕ). asked_for_list o (length reader.pieces)) chunk) in
-    let few : length now.lists.counts.items ≤ MAX_CHUNKS = search rules in
-    let more = list_more held was.inputs.items was.sources.items was.lists.counts.items was.lists.sizes.items now.lists.counts.items now.lists.sizes.items asked spent l was.lists.many now.lists.many lists
+    let few : length now.lists.points.items ≤ MAX_CHUNKS = search rules in
+    let more = list_more held was.inputs.items was.sources.items was.lists.points.items was.lists.bytes.items now.lists.points.items now.lists.bytes.items asked spent l was.lists.many now.lists.many lists
     (listed_by held c.args.name.now reader c.in-Ok.ensures.whole c.in-Ok.ensures.stands packed) bound c.in-Ok-add.ensures.added few in
-    subst (λ (is : List InputSeen). ListsChunks held is now.sources.items now.lists.many now.lists.counts.items now.lists.sizes.items (asked + spent)) (sym c.in-Ok-add.ensures.inputs)
-    (subst (λ (ss : List SourceSeen). ListsChunks held (was.inputs.items ++ l.input ∷ []) ss now.lists.many now.lists.counts.items now.lists.sizes.items (asked + spent)) (sym c.in-Ok-add.ensures.sources) more)
+    subst (λ (is : List InputSeen). ListsChunks held is now.sources.items now.lists.many now.lists.points.items now.lists.bytes.items (asked + spent)) (sym c.in-Ok-add.ensures.inputs)
+    (subst (λ (ss : List SourceSeen). ListsChunks held (was.inputs.items ++ l.input ∷ []) ss now.lists.many now.lists.points.items now.lists.bytes.items (asked + spent)) (sym c.in-Ok-add.ensures.sources) more)
 
 pub returns-in-Err-clause-asked : goal.returns-in-Err-clause-asked
 returns-in-Err-clause-asked g c =

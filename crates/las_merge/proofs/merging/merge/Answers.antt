@@ -8,10 +8,10 @@ use Rattle.las_header.specs.Heads.{HeadView}
 use Rattle.las_outside.specs.Files.{FileMap, with_file}
 use Rattle.las_outside.specs.Outside.{Outside}
 use Rattle.laz_writer.proofs.Public.{held_text}
-use Rattle.las_merge.specs.Asking.{asked_of_all, asked_to_read}
-use Rattle.las_merge.specs.Copying.{output_under}
+use Rattle.las_merge.specs.Asking.{asked_of_all}
+use Rattle.las_merge.specs.Copying.{output_of_merge}
 use Rattle.las_merge.specs.Inputs.{names_of}
-use Rattle.las_merge.specs.Opening.{EndsOpening, InputSeen, first_read, names_read, points_read}
+use Rattle.las_merge.specs.Opening.{EndsOpening, InputSeen, first_read, input_names, points_read}
 use Rattle.las_merge.specs.Outcomes.{SaysMerging}
 use Rattle.las_merge.proofs.Asked.{other_asked}
 use Rattle.las_merge.proofs.MergeOutcomes.{err_is, says_beginning, says_filling, says_opening}
@@ -54,16 +54,16 @@ module _ (g : Over) (c : After-head g) where
   other : AreOther names c.args.output.now
   other = other_names c.args.inputs.now c.args.output.now c.requires.names
 
-pub fill-requires-clause-opened : goal.fill-requires-clause-opened
-fill-requires-clause-opened g c κs within =
-    let k = (goal.at.fill-requires-clause-opened g c).After-head in
+pub join_and_finish-requires-clause-opened : goal.join_and_finish-requires-clause-opened
+join_and_finish-requires-clause-opened g c κs within =
+    let k = (goal.at.join_and_finish-requires-clause-opened g c).After-head in
     readers_open (old g k).held (names g k) (readers g k) c.in_ok-opened.ensures.opened (all g k) c.args.output.now
     (head g k) c.args.chunk (some g k) (head_is g k) (other g k) (mid g k) (g.F.Files.seen c.begin.new.files)
     c.in_ok-writer.writer c.open_inputs.ensures.reads.held c.in_ok-writer.ensures.stands
 
-pub fill-requires-clause-names : goal.fill-requires-clause-names
-fill-requires-clause-names g c κs within =
-    let k = (goal.at.fill-requires-clause-names g c).After-head in
+pub join_and_finish-requires-clause-names : goal.join_and_finish-requires-clause-names
+join_and_finish-requires-clause-names g c κs within =
+    let k = (goal.at.join_and_finish-requires-clause-names g c).After-head in
     readers_other (old g k).held (names g k) (readers g k) c.in_ok-opened.ensures.opened (all g k) c.args.output.now
     (head g k) c.args.chunk (some g k) (head_is g k) (other g k) c.in_ok-writer.writer.name
     c.in_ok-writer.ensures.stands.named
@@ -110,27 +110,27 @@ returns-in_err-writer-clause-says g c =
 pub returns-clause-says : goal.returns-clause-says
 returns-clause-says g c =
     let k = (goal.at.returns-clause-says g c).After-head in
-    let out = output_under c.args.output.now (head g k) c.args.chunk in
+    let out = output_of_merge c.args.output.now (head g k) c.args.chunk in
     let w = c.in_ok-writer.writer in
     let s = c.in_ok-writer.ensures.stands in
     says_filling (names g k) c.args.output.now c.args.chunk (old g k) (readers g k) c.in_ok-opened.ensures.opened
     (all g k) (head g k) (some g k) (head_is g k) (few g k) (mid g k) (g.F.Files.seen c.begin.new.files)
     c.open_inputs.ensures.reads c.begin.ensures.writes c.in_ok-opened.ensures.calm c.in_ok-writer.ensures.calm
-    (other g k) w s (g.F.Files.seen c.fill.new.files) c.fill.result (c.fill.ensures.finished (mid g k) out s)
-    (c.fill.ensures.ends (mid g k) out s) c.fill.ensures.calm c.fill.ensures.later
+    (other g k) w s (g.F.Files.seen c.join_and_finish.new.files) c.join_and_finish.result (c.join_and_finish.ensures.finished (mid g k) out s)
+    (c.join_and_finish.ensures.ends (mid g k) out s) c.join_and_finish.ensures.calm c.join_and_finish.ensures.later
 
 pub returns-in_err-opened-clause-asked : goal.returns-in_err-opened-clause-asked
-returns-in_err-opened-clause-asked g c known is = omega (arith, c.open_inputs.ensures.asked known is)
+returns-in_err-opened-clause-asked g c asked bound known is = omega (arith, c.open_inputs.ensures.asked known is)
 
 pub returns-in_err-most-clause-asked : goal.returns-in_err-most-clause-asked
-returns-in_err-most-clause-asked g c known is = omega (arith, c.open_inputs.ensures.asked known is)
+returns-in_err-most-clause-asked g c asked bound known is = omega (arith, c.open_inputs.ensures.asked known is)
 
 pub returns-in_err-writer-clause-asked : goal.returns-in_err-writer-clause-asked
-returns-in_err-writer-clause-asked g c known is =
+returns-in_err-writer-clause-asked g c asked bound known is =
     omega (arith, c.open_inputs.ensures.asked known is, c.begin.ensures.writes.asked)
 
 pub returns-clause-asked : goal.returns-clause-asked
-returns-clause-asked g c known is =
+returns-clause-asked g c asked bound known is =
     let k = (goal.at.returns-clause-asked g c).After-head in
     let now = g.F.Files.seen c.begin.new.files in
     let name = c.args.output.now in
@@ -138,26 +138,26 @@ returns-clause-asked g c known is =
     let held : now.held ≡ Some (finmap.insert known name written.0) =
     ap (λ (o : Outside). o.held) written.1 ∙ ap (λ (h : Option FileMap). with_file h name written.0)
     (c.open_inputs.ensures.reads.held ∙ is) in
-    let filled = c.fill.ensures.asked (finmap.insert known name written.0) held in
-    let same : asked_of_all asked_to_read (finmap.insert known name written.0) (names_read (readers g k))
-    ≡ asked_of_all asked_to_read known (names g k) =
-    ap (asked_of_all asked_to_read (finmap.insert known name written.0))
+    let filled = c.join_and_finish.ensures.asked asked bound (finmap.insert known name written.0) held in
+    let same : asked_of_all asked (finmap.insert known name written.0) (input_names (readers g k))
+    ≡ asked_of_all asked known (names g k) =
+    ap (asked_of_all asked (finmap.insert known name written.0))
     (names_are (old g k).held (names g k) (readers g k) c.in_ok-opened.ensures.opened (all g k))
-    ∙ other_asked asked_to_read known name written.0 (names g k) (other g k) in
+    ∙ other_asked asked known name written.0 (names g k) (other g k) in
     omega (arith, c.open_inputs.ensures.asked known is, c.begin.ensures.writes.asked, filled, same)
 
-pub fill-requires-clause-fresh : goal.fill-requires-clause-fresh
-fill-requires-clause-fresh g c κs within = (c.in_ok-writer.ensures.fresh.0, c.in_ok-writer.ensures.fresh.2)
+pub join_and_finish-requires-clause-fresh : goal.join_and_finish-requires-clause-fresh
+join_and_finish-requires-clause-fresh g c κs within = (c.in_ok-writer.ensures.fresh.0, c.in_ok-writer.ensures.fresh.2)
 
-pub fill-requires-clause-stands : goal.fill-requires-clause-stands
-fill-requires-clause-stands g c κs within = (
+pub join_and_finish-requires-clause-stands : goal.join_and_finish-requires-clause-stands
+join_and_finish-requires-clause-stands g c κs within = (
   g.F.Files.seen c.open_inputs.new.files,
-  output_under c.args.output.now c.head.result.now.bytes c.args.chunk,
+  output_of_merge c.args.output.now c.head.result.now.bytes c.args.chunk,
   c.in_ok-writer.ensures.stands,
 )
 
-pub fill-requires-clause-room : goal.fill-requires-clause-room
-fill-requires-clause-room g c κs within =
+pub join_and_finish-requires-clause-room : goal.join_and_finish-requires-clause-room
+join_and_finish-requires-clause-room g c κs within =
     let readers : List InputSeen = c.in_ok-opened.opened.items in
     let w = c.in_ok-writer.writer in
     let most : w.most ≡ points_read readers =

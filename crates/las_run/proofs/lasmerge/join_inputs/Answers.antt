@@ -34,4 +34,4 @@ returns-clause-ends g c =
     c.merge.ensures.says)
 
 pub returns-clause-asks : goal.returns-clause-asks
-returns-clause-asks g c = c.merge.ensures.asked
+returns-clause-asks g c known is asked bound = c.merge.ensures.asked asked bound known is

@@ -7,3 +7,6 @@ returns-clause-merge c = rejoining.parts_of_split_merge
 
 pub returns-clause-plain : goal.returns-clause-plain
 returns-clause-plain c = wholes.plain_records_are_whole
+
+pub returns-clause-packed : goal.returns-clause-packed
+returns-clause-packed c = wholes.packed_records_are_whole

@@ -3,7 +3,7 @@ use Rattle.std.specs.Prelude.{string_bytes}
 use Rattle.las_filter.specs.Kept.{steps_of}
 use Rattle.las_info.specs.Tallies.{TapSeen}
 use Rattle.las_words.specs.declared.command.Command.{Command}
-use Rattle.las_words.specs.Asked.{Asked, IsSound, asked_by, las2las, lasinfo, lasmerge, lassplit, laszip, make, reads}
+use Rattle.las_words.specs.Asked.{Asked, IsSoundAsked, asked_by, las2las, lasinfo, lasmerge, lassplit, laszip, make, reads}
 use Rattle.las_words.specs.Asked.{work_by}
 use Rattle.las_words.specs.Texts.{texts}
 use Rattle.laz_forms.proofs.Public.{All-unmap}
@@ -204,6 +204,6 @@ lasmerge-requires-clause-names g c =
     let w = c.in-Lasmerge in
     let names : List (List ℕ) = map (λ tap. ((goal.Tap-dyn g (tap.vtable, tap.value)).tap_seen tap.value).name)
     c.args.taps.items in
-    let sound = subst (λ (command : Command). IsSound names (asked_by command)) w.is c.requires.sound in
+    let sound = subst (λ (command : Command). IsSoundAsked names (asked_by command)) w.is c.requires.sound in
     let others = All-unmap (λ (n : List ℕ). n ≢ string_bytes w.output) string_bytes w.inputs.items sound.0.0.others in
     rw (c.deref-in-Lasmerge.ensures.value, c.deref-in-Lasmerge-2.ensures) (λ lifetimes outlive. others)

@@ -4,7 +4,7 @@ use Rattle.std.proofs.Common.{◌≡◌, ◌+◌, ◌≤◌, ℕ, List, Option, 
 use Rattle.las_outside.specs.Files.{FileMap}
 use Rattle.laz_forms.specs.declared.fault.Fault.TheVariants.{Write}
 use Rattle.laz_forms.proofs.Public.{if_err}
-use Rattle.las_split.specs.Sorting.{FitAfter, SortsBlock, Task, task_in}
+use Rattle.las_split.specs.Sorting.{FitAfter, SortsBlock, SplitTask, task_in}
 use Rattle.las_split.specs.Steps.{AreIn}
 use Rattle.las_split.proofs.Blocks.{fit_here, left_first, takes_all, takes_some}
 use Rattle.las_split.proofs.SomeRecords.{some_pushed}
@@ -19,7 +19,7 @@ module _ (g : Over) (c : In_ok-taken g) (was : Option FileMap) (records : List (
     (i : AreIn (task_in c.args.splitter.now) was (g.F.Files.seen c.args.files.now).held c.args.parts.now
     records records)
     (at : c.args.index ≡ length records) where
-  abbrev task : Task
+  abbrev task : SplitTask
   task = task_in c.args.splitter.now
 
   abbrev now : Option FileMap

@@ -16,7 +16,7 @@ use Rattle.laz_reader.specs.Turns.{ComesTo, HoldFirst, MayCome, file_at}
 use Rattle.laz_reader.proofs.Public.{come_first, next_may, none_come}
 use Rattle.laz_writer.specs.Writing.{WriterSeen}
 use Rattle.laz_file.proofs.Public.{calm_ok, end_err, end_ok, cause_since}
-use Rattle.las_split.specs.Sorting.{EndsSplitting, HasRoom, InParts, LeavesBlock, TakesBlock, Task, task_of}
+use Rattle.las_split.specs.Sorting.{EndsSplitting, PartsHaveRoom, InParts, LeavesBlock, TakesBlock, SplitTask, split_task}
 use Rattle.las_split.proofs.BatchesTaken.{cut_come, head_some, left_whole, none_yet, parts_apart, parts_held, parts_none, room_come}
 use Rattle.las_split.proofs.Blocks.{left_then, next_fits, takes_then}
 use Rattle.las_split.proofs.SomeRecords.{never_write}
@@ -29,7 +29,7 @@ turns-init g c =
     let old = g.F.Files.seen c.args.files.now in
     let first = c.args.reader.now in
     let s = record_length_of first.head.bytes in
-    let task = task_of c.args.names.now (unwrap_or c.args.plain.now first.head) c.args.rule.now in
+    let task = split_task c.args.names.now (unwrap_or c.args.plain.now first.head) c.args.rule.now in
     let some : 0 < s = head_some first.head.bytes c.requires.head in
     record {
       taken = (
@@ -50,7 +50,7 @@ next_block-requires-clause-come g c κs within =
     let first = c.args.reader.now in
     let done = c.turns.invariant.taken in
     let x = cut_all (record_length_of first.head.bytes) (concat done.1) in
-    let same = parts_apart (task_of c.args.names.now (unwrap_or c.args.plain.now first.head) c.args.rule.now) old
+    let same = parts_apart (split_task c.args.names.now (unwrap_or c.args.plain.now first.head) c.args.rule.now) old
     (g.F.Files.seen c.turns.files).held c.turns.parts.numbers c.turns.parts.writers.items x x done.3 first.name
     c.requires.names in
     (old, first, done.0, done.1, done.2, same)
@@ -63,8 +63,8 @@ module _ (g : Over) (c : After-next_block g) where
   abbrev mid : Option FileMap
   mid = (g.F.Files.seen c.next_block.new.files).held
 
-  abbrev task : Task
-  task = task_of c.args.names.now (unwrap_or c.args.plain.now c.args.reader.now.head) c.args.rule.now
+  abbrev task : SplitTask
+  task = split_task c.args.names.now (unwrap_or c.args.plain.now c.args.reader.now.head) c.args.rule.now
 
   abbrev taken : List (List ℕ)
   taken = cut_all (record_length_of c.args.reader.now.head.bytes) (concat c.turns.invariant.taken.1)
@@ -172,8 +172,8 @@ module _ (g : Over) (c : After-block-block g) where
   abbrev used : HeadView
   used = unwrap_or c.args.plain.now first.head
 
-  abbrev with_head : HeadView → Task
-  with_head h = task_of c.args.names.now h c.args.rule.now
+  abbrev with_head : HeadView → SplitTask
+  with_head h = split_task c.args.names.now h c.args.rule.now
 
   abbrev before : List (List ℕ)
   before = cut_all size (concat c.turns.invariant.taken.1)
@@ -221,7 +221,7 @@ module _ (g : Over) (c : After-block-block g) where
       next_may was first c.turns.reader n.self c.turns.crew n.crew c.turns.turn n.turn done.0 c.in-Some.number done.1
       done.2 come
 
-  room : HasRoom (with_head used) size c.turns.index (length come.0)
+  room : PartsHaveRoom (with_head used) size c.turns.index (length come.0)
   room =
       room_come first c.turns.invariant.taken.1 come.0 c.requires.head may (with_head used) used c.turns.index refl
       c.requires.plain c.requires.all c.turns.invariant.taken.4
@@ -279,7 +279,7 @@ split_block-requires-clause-none g c κs lives =
 pub split_block-requires-clause-room : goal.split_block-requires-clause-room
 split_block-requires-clause-room g c κs lives =
     let k = (goal.at.split_block-requires-clause-room g c).After-block-block in
-    from_known g k (λ h s b. HasRoom (with_head g k h) s c.turns.index (length b)) (room g k)
+    from_known g k (λ h s b. PartsHaveRoom (with_head g k h) s c.turns.index (length b)) (room g k)
 
 pub split_block-requires-clause-whole : goal.split_block-requires-clause-whole
 split_block-requires-clause-whole g c κs lives =

@@ -7,13 +7,13 @@ use Rattle.las_outside.specs.Frames.{IsCalm}
 use Rattle.las_outside.specs.Outside.{Later}
 use Rattle.laz_reader.specs.Asking.{bytes_left}
 use Rattle.laz_reader.specs.Turns.{HasComeTo, blocks_left}
-use Rattle.las_split.specs.Sorting.{InParts, task_of}
+use Rattle.las_split.specs.Sorting.{InParts, split_task}
 use Rattle.las_split.proofs.copying.split_records.Given as goal
 
 abbrev pub invariant-turns : goal.invariant-turns
 invariant-turns g l = let old = g.F.Files.seen l.fn.files in let now = g.F.Files.seen l.files in let s = record_length_of l.fn.reader.head.bytes in record {
   taken : (n : ℕ) × (xs : List (List ℕ)) × HasComeTo old.held l.fn.reader l.reader l.crew l.turn n xs
-      × InParts (task_of l.names (unwrap_or l.plain l.fn.reader.head) l.rule) old.held now.held l.parts.numbers l.parts.writers.items (cut_all s (concat xs)) (cut_all s (concat xs))
+      × InParts (split_task l.names (unwrap_or l.plain l.fn.reader.head) l.rule) old.held now.held l.parts.numbers l.parts.writers.items (cut_all s (concat xs)) (cut_all s (concat xs))
       × (l.index ≡ length (cut_all s (concat xs)));
   calm : IsCalm old now;
   later : Later old now;

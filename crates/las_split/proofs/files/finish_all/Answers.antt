@@ -8,7 +8,7 @@ use Rattle.laz_forms.proofs.Public.{if_err}
 use Rattle.laz_file.proofs.Public.{held_after}
 use Rattle.las_split.specs.Files.{with_files}
 use Rattle.las_split.specs.Parts.{numbers_of_parts}
-use Rattle.las_split.specs.Sorting.{Task, bytes_at, output_at}
+use Rattle.las_split.specs.Sorting.{SplitTask, bytes_at, output_at}
 use Rattle.las_split.specs.Steps.{AreIn}
 use Rattle.las_split.proofs.EndingEach.{IsNext, all_ended, next_part, none_ended}
 use Rattle.las_split.proofs.EndingParts.{EndedSo, ended_left, ended_more}
@@ -18,7 +18,7 @@ use Rattle.las_split.proofs.files.finish_all.Goals.{In-Some}
 use Rattle.las_split.proofs.files.finish_all.Goals as goal
 
 -- what a part holds then
-abbrev done : Task → List (List ℕ) → ℕ → List ℕ
+abbrev done : SplitTask → List (List ℕ) → ℕ → List ℕ
 done task records n = finished (output_at task n) (bytes_at task records n)
 
 pub loop-writer-init : goal.loop-writer-init
@@ -32,7 +32,7 @@ loop-writer-init g c = record {
 }
 
 -- the next part
-module _ (g : Over) (c : In-Some g) (task : Task) (was : Option FileMap) (records : List (List ℕ))
+module _ (g : Over) (c : In-Some g) (task : SplitTask) (was : Option FileMap) (records : List (List ℕ))
     (i : AreIn task was (g.F.Files.seen c.args.files.now).held c.args.parts records records) where
   abbrev now : Outside
   now = g.F.Files.seen c.loop-writer.files

@@ -20,7 +20,7 @@ use Rattle.laz_file.proofs.Public.{cause_since, ends_err, left_before, stands_re
 use Rattle.las_split.specs.Files.{with_files}
 use Rattle.las_split.specs.Outputs.{LeavesParts, Splits, all_finished, all_stopped, outputs_under, part_files}
 use Rattle.las_split.specs.Parts.{numbers_of_parts}
-use Rattle.las_split.specs.Sorting.{EndsSplitting, InParts, TakesBlock, Task, task_of}
+use Rattle.las_split.specs.Sorting.{EndsSplitting, InParts, TakesBlock, SplitTask, split_task}
 use Rattle.las_split.specs.Splitting.{OnlySplits, SplitsTo}
 use Rattle.las_split.proofs.Making.{ends_fault, ends_finishing, ends_refused}
 use Rattle.las_split.proofs.WholeSplits.{files_are, left_frame, leaves_splits, only_leaves, only_some}
@@ -80,8 +80,8 @@ module _ (g : Over) (c : After-split_records g) where
   abbrev buffers : ℕ
   buffers = 2 * c.hands-hands.result
 
-  abbrev task : Task
-  task = task_of c.args.output.now (unwrap_or c.in_ok-plain.plain reader.head) c.args.rule.now
+  abbrev task : SplitTask
+  task = split_task c.args.output.now (unwrap_or c.in_ok-plain.plain reader.head) c.args.rule.now
 
   heads : reader.head ≡ first.head
   heads = ap (λ (r : ReaderSeen). r.head) c.in_ok-crew.ensures.kept

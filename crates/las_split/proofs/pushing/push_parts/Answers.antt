@@ -5,7 +5,8 @@ use Rattle.std.proofs.Common.{◌≤◌, ℕ, List, length, refl, sym, ◌∙◌
 use Rattle.las_outside.proofs.Public.{calm-refl, calm-trans, only_writes-refl, only_writes-trans, on_err}
 use Rattle.las_split.specs.Sorting.{AreGathered}
 use Rattle.las_header.specs.Fields.{record_length_of}
-use Rattle.las_split.proofs.PushedParts.{all_size, pushed_first, pushed_last}
+use Rattle.las_header.proofs.Public.{length_whole}
+use Rattle.las_split.proofs.PushedParts.{pushed_first, pushed_last}
 use Rattle.las_split.proofs.pushing.push_parts.Goals as goal
 
 pub loop-place-init : goal.loop-place-init
@@ -55,7 +56,7 @@ returns-clause-pushed g c task was records block both fit =
     let p = c.loop-place.invariant.pushed task was records block i s in
     let first = pushed_first task was (g.F.Files.seen c.args.files.now).held c.args.parts.now.numbers c.args.parts.now.writers.items records block i in
     let end : length c.loop-place.parts.numbers ≤ c.loop-place.place = omega (arith, c.loop-place-test.false, c.len-place-end.ensures, first.same, ap (λ (t : List ℕ). length t) c.loop-place.invariant.numbers) in
-    pushed_last task was (g.F.Files.seen c.loop-place.files).held c.loop-place.parts.numbers c.loop-place.parts.writers.items records block c.loop-place.place end (all_size (record_length_of task.head) block fit.whole) p
+    pushed_last task was (g.F.Files.seen c.loop-place.files).held c.loop-place.parts.numbers c.loop-place.parts.writers.items records block c.loop-place.place end (length_whole (record_length_of task.head) block fit.whole) p
 
 pub returns-in_err-push_place-clause-pushed : goal.returns-in_err-push_place-clause-pushed
 returns-in_err-push_place-clause-pushed g c task was records block both fit =

@@ -5,7 +5,7 @@ use Rattle.laz_file.proofs.Public.{held_after}
 use Rattle.las_outside.specs.Files.{FileMap, with_file}
 use Rattle.las_outside.specs.Outside.{Outside, with_bytes}
 use Rattle.las_outside.proofs.Public.{on_err}
-use Rattle.las_split.specs.Sorting.{AreGathered, IsWriter, PushedSo, Task, bytes_at, output_at, text_of}
+use Rattle.las_split.specs.Sorting.{AreGathered, IsWriter, PushedSo, SplitTask, bytes_at, output_at, part_bytes_of}
 use Rattle.las_split.proofs.PushedParts.{bytes_more, bytes_same, even_for, next_here, next_writer, no_bytes, no_writer, pushed_left, pushed_none, pushed_one, room_for, text_at, texts_length, took}
 use Rattle.las_split.proofs.Standing.{stands_here}
 use Rattle.las_split.proofs.pushing.push_place.Given.{Over}
@@ -24,11 +24,11 @@ returns-then-is_empty-clause-pushed g c task was records block p s =
     let ws = c.args.parts.now.writers.items in
     let n = get_or ns c.args.place 0 in
     let none : c.text-text.result.now ≡ [] = no_bytes c.text-text.result.now (sym c.is_empty.ensures ∙ c.if-is_empty.true) in
-    let gone : text_of task records block n ≡ [] = sym (c.text-text.ensures ∙ text_at task ns c.args.parts.now.gathered records block s c.args.place c.requires.place) ∙ none in
+    let gone : part_bytes_of task records block n ≡ [] = sym (c.text-text.ensures ∙ text_at task ns c.args.parts.now.gathered records block s c.args.place c.requires.place) ∙ none in
     pushed_none task was now ns ws records block c.args.place p c.requires.place no_writer (bytes_same task records block n gone)
 
 -- the writer of the part, and the text that it takes
-module _ (g : Over) (c : After-index_mut-writer g) (task : Task) (was : Option FileMap) (records block : List (List ℕ))
+module _ (g : Over) (c : After-index_mut-writer g) (task : SplitTask) (was : Option FileMap) (records block : List (List ℕ))
     (p : PushedSo task was (g.F.Files.seen c.args.files.now).held c.args.parts.now.numbers
     c.args.parts.now.writers.items c.args.place records block)
     (s : AreGathered task c.args.parts.now.numbers c.args.parts.now.gathered records block) where
@@ -50,7 +50,7 @@ module _ (g : Over) (c : After-index_mut-writer g) (task : Task) (was : Option F
       (next_here task was now.held c.args.parts.now.numbers c.args.parts.now.writers.items records block c.args.place p
       c.requires.place)
 
-  same : c.text-text.result.now ≡ text_of task records block n
+  same : c.text-text.result.now ≡ part_bytes_of task records block n
   same =
       c.text-text.ensures
       ∙ text_at task c.args.parts.now.numbers c.args.parts.now.gathered records block s c.args.place c.requires.place

@@ -6,8 +6,8 @@ use Rattle.las_outside.proofs.Public.{calm-refl, calm-trans, only_writes-refl, o
 use Rattle.laz_forms.proofs.Public.{whole_both, if_err}
 use Rattle.laz_writer.proofs.Public.{cut-append}
 use Rattle.laz_forms.specs.declared.fault.Fault.TheVariants.{Write, Memory}
-use Rattle.las_split.specs.Sorting.{HasRoom, Task, task_in}
-use Rattle.las_split.specs.Steps.{AreSorted}
+use Rattle.las_split.specs.Sorting.{PartsHaveRoom, SplitTask, task_in}
+use Rattle.las_split.specs.Steps.{HaveTheirParts}
 use Rattle.las_split.proofs.BatchesTaken.{none_yet}
 use Rattle.las_split.proofs.Blocks.{next_fits}
 use Rattle.las_split.proofs.PushedParts.{no_bytes}
@@ -40,7 +40,7 @@ groups-init g c =
             let task = task_in c.args.splitter.now in
             let count : c.len-open.result ≡ length parts.writers.items = omega (arith, c.len-open.ensures) in
             let z = sorted_none task was held parts.numbers parts.writers.items c.begin.new.self c.len-open.result records [] i count c.in_ok-begin.ensures in
-            subst (λ (b : List (List ℕ)). AreSorted task was held (record { numbers = parts.numbers; writers = parts.writers; gathered = c.begin.new.self }) records b) (sym (cut_none size some)) (z.parts, z.gathered),
+            subst (λ (b : List (List ℕ)). HaveTheirParts task was held (record { numbers = parts.numbers; writers = parts.writers; gathered = c.begin.new.self }) records b) (sym (cut_none size some)) (z.parts, z.gathered),
       );
       calm = calm-refl _;
       writes = only_writes-refl _;
@@ -51,7 +51,7 @@ module _ (g : Over) (c : After-split_at g) where
   abbrev size : ℕ
   size = c.args.splitter.now.size
 
-  abbrev task : Task
+  abbrev task : SplitTask
   task = task_in c.args.splitter.now
 
   abbrev block : List ℕ
@@ -89,7 +89,7 @@ module _ (g : Over) (c : After-split_at g) where
   whole : length group % size ≡ 0
   whole = group_whole size c.min.result group c.split_at.ensures.front_len
 
-  room : HasRoom task size (c.args.index + c.groups.taken) (length group)
+  room : PartsHaveRoom task size (c.args.index + c.groups.taken) (length group)
   room =
       group_room task size c.args.index c.groups.taken block done group further c.requires.room are
       c.groups.invariant.sorts.2 c.groups.invariant.sorts.3

@@ -2,7 +2,7 @@ use Rattle.std.proofs.Common.{◌≡◌, ◌%◌, ◌++◌, ℕ, List, Option, l
 use Rattle.las_outside.specs.Files.{FileMap}
 use Rattle.las_outside.specs.Frames.{IsCalm, OnlyWrites}
 use Rattle.las_split.specs.Sorting.{task_in}
-use Rattle.las_split.specs.Steps.{AreIn, AreSorted}
+use Rattle.las_split.specs.Steps.{AreIn, HaveTheirParts}
 use Rattle.las_split.proofs.sorting.sort_block.Given as goal
 use Rattle.las_header.specs.Plain.{cut_all}
 
@@ -13,7 +13,7 @@ invariant-groups g l = record {
       × ((was : Option FileMap) (records : List (List ℕ))
       → AreIn (task_in l.splitter) was (g.F.Files.seen l.fn.files).held l.fn.parts records records
       → l.index ≡ length records
-      → AreSorted (task_in l.splitter) was (g.F.Files.seen l.files).held l.parts records (cut_all l.splitter.size done));
+      → HaveTheirParts (task_in l.splitter) was (g.F.Files.seen l.files).held l.parts records (cut_all l.splitter.size done));
   calm : IsCalm (g.F.Files.seen l.fn.files) (g.F.Files.seen l.files);
   writes : OnlyWrites (g.F.Files.seen l.fn.files) (g.F.Files.seen l.files);
 }

@@ -1,7 +1,7 @@
 use Rattle.laz_forms.specs.declared.fault.Fault.TheVariants.{Memory}
 use Rattle.laz_forms.proofs.Public.{if_err}
 use Rattle.std.proofs.lemmas.Result.{IfOk-from_err}
-use Rattle.las_split.specs.Sorting.{task_in, text_of}
+use Rattle.las_split.specs.Sorting.{task_in, part_bytes_of}
 use Rattle.las_split.proofs.Blocks.{next_fits}
 use Rattle.las_split.proofs.Runs.{group_unsorted, run_taken}
 use Rattle.las_split.proofs.SortingPoints.{place_within}
@@ -15,7 +15,7 @@ all_have-requires-clause-index g c = next_fits (task_in c.args.splitter.now) c.a
 pub add-requires : goal.add-requires
 add-requires g c =
     let q = c.requires.parts in
-    place_within c.args.parts.now.gathered (text_of (task_in c.args.splitter.now) q.1 q.2) c.args.parts.now.numbers c.in-Some.place c.part_of-number.result q.3.1 c.in-Some.ensures.some
+    place_within c.args.parts.now.gathered (part_bytes_of (task_in c.args.splitter.now) q.1 q.2) c.args.parts.now.numbers c.in-Some.place c.part_of-number.result q.3.1 c.in-Some.ensures.some
 
 pub returns-in_err-add-clause-left : goal.returns-in_err-add-clause-left
 returns-in_err-add-clause-left g c was records block s at =

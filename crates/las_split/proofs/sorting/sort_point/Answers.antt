@@ -3,7 +3,7 @@ use Rattle.las_outside.proofs.Public.{on_err}
 use Rattle.std.proofs.lemmas.Result.{IfOk-from_err}
 use Rattle.std.proofs.Common.{◌≡◌, inr, ℕ, ◌+◌, List, Option, ◌++◌, ◌∷◌, [], length, refl, sym, true, subst, append_assoc, arith}
 use Rattle.las_outside.specs.Files.{FileMap}
-use Rattle.las_split.specs.Sorting.{AreGathered, SortsPoint, Task, task_in, text_of}
+use Rattle.las_split.specs.Sorting.{AreGathered, SortsPoint, SplitTask, task_in, part_bytes_of}
 use Rattle.las_split.specs.Steps.{AreIn, OpensOrRefuses}
 use Rattle.las_split.proofs.Placing.{leaves_here}
 use Rattle.las_split.proofs.SortingPoints.{no_record, number_here, place_within, sorts_none, sorts_one}
@@ -17,7 +17,7 @@ module _ (g : Over) (c : In_ok-found g) (was : Option FileMap) (records block : 
     (records ++ block) records)
     (s : AreGathered (task_in c.args.splitter.now) c.args.parts.now.numbers c.args.parts.now.gathered records block)
     (at : c.args.index ≡ length records + length block) where
-  abbrev task : Task
+  abbrev task : SplitTask
   task = task_in c.args.splitter.now
 
   opened : OpensOrRefuses task was (g.F.Files.seen c.place_of.new.files).held c.args.parts.now c.place_of.new.parts
@@ -29,7 +29,7 @@ module _ (g : Over) (c : In_ok-found g) (was : Option FileMap) (records block : 
 
   gathered : AreGathered task c.place_of.new.parts.numbers c.place_of.new.parts.gathered records block
   gathered =
-      c.in_ok-found.ensures.gathered (text_of task records block) s
+      c.in_ok-found.ensures.gathered (part_bytes_of task records block) s
       (no_record _ _ _ _ _ _ records block i s c.part_of-number.result)
 
 pub returns-in_default-clause-sorts : goal.returns-in_default-clause-sorts

@@ -1,7 +1,7 @@
 use Rattle.std.proofs.Common.{◌≡◌, ◌+◌, ◌++◌, [], ◌∷◌, drop, Some, None, sym, ◌∙◌, ap, append-nil}
 use Rattle.las_words.specs.declared.pieces.Piece.{Piece}
 use Rattle.las_words.specs.Texts.{texts}
-use Rattle.las_words.specs.Plans.{change_in, changes_of}
+use Rattle.las_words.specs.Plans.{change_in, changes_given}
 use Rattle.las_words.proofs.Gathered.{gathered}
 use Rattle.las_words.proofs.plan.changes_of.Goals as goal
 use Rattle.las_words.proofs.plan.changes_of.Goals.{in-Some+in_ok-push, in_default}
@@ -12,7 +12,7 @@ loop-piece-preserved c =
     let pieces = c.args.pieces.now in
     let found = c.loop-piece.changes.items in
     let now = c.match-change_in.changes.items in
-    let all = changes_of words pieces in
+    let all = changes_given words pieces in
     elim c.match-change_in.branch [
       | in-Some+in_ok-push w ↦
           let more : now ≡ found ++ w.in-Some.change ∷ [] =

@@ -1,5 +1,5 @@
 use Rattle.std.proofs.Common.{◌∙◌, ap}
-use Rattle.las_words.specs.Names.{end_of, stem_of}
+use Rattle.las_words.specs.Names.{extension_of, stem_of}
 use Rattle.las_words.specs.Texts.{texts}
 use Rattle.las_words.proofs.Commands.{splits}
 use Rattle.std.proofs.lemmas.Result.{IfOk-from_err}
@@ -22,5 +22,5 @@ returns c =
     splits (texts c.args.words.now) c.args.pieces.now c.in_ok-copy_of.field-0 c.in_ok-from_str.field-0
     c.in_ok-from_str-2.field-0 _ _ c.in_ok-copy_of.ensures
     (c.in_ok-from_str.ensures.ok ∙ c.stem_of.ensures ∙ ap stem_of output) (c.in_ok-from_str-2.ensures.ok ∙
-    c.end_of.ensures ∙ ap end_of output)
+    c.end_of.ensures ∙ ap extension_of output)
     c.rule_of.ensures c.workers_of.ensures

@@ -5,10 +5,10 @@ pub returns-clause-answer : goal.returns-clause-answer
 returns-clause-answer c = has_an_answer
 
 pub returns-clause-pieces : goal.returns-clause-pieces
-returns-clause-pieces c = has_pieces c.tables_hold_one_pair.ensures
+returns-clause-pieces c = has_pieces
 
 pub returns-clause-records : goal.returns-clause-records
-returns-clause-records c = has_records c.tables_hold_one_pair.ensures
+returns-clause-records c = has_records
 
 pub returns-clause-range : goal.returns-clause-range
-returns-clause-range c = has_records_in c.tables_hold_one_pair.ensures
+returns-clause-range c = has_records_in

@@ -16,7 +16,7 @@ use Rattle.laz_file.proofs.Making.{copies_packed, ends_created, ends_err, ends_f
 use Rattle.laz_file.proofs.WholeOutputs.{err_at, known_reader, leaves_plain, leaves_short, no_chunk, packed_out}
 use Rattle.laz_file.proofs.WholeOutputs.{plain_kind, stands_ready}
 use Rattle.laz_file.proofs.whole_files.pack.Given.{Over}
-use Rattle.laz_file.proofs.whole_files.pack.Goals.{After-fill, After-head-head}
+use Rattle.laz_file.proofs.whole_files.pack.Goals.{After-copy_and_finish, After-head-head}
 use Rattle.laz_file.proofs.whole_files.pack.Goals as goal
 
 -- the output, whose head is the input's
@@ -37,7 +37,7 @@ module _ (g : Over) (c : After-head-head g) where
   plain = plain_kind (is_packed c.args.reader.head.bytes) _ (sym c.requires.whole.chunk ∙ c.requires.plain)
 
 -- what stands when the records were copied, or could not be
-module _ (g : Over) (c : After-fill g) where
+module _ (g : Over) (c : After-copy_and_finish g) where
   abbrev old : Outside
   old = g.F.Files.seen c.args.files.now
 
@@ -45,18 +45,18 @@ module _ (g : Over) (c : After-fill g) where
   mid = g.F.Files.seen c.create.new.files
 
   abbrev new : Outside
-  new = g.F.Files.seen c.fill.new.files
+  new = g.F.Files.seen c.copy_and_finish.new.files
 
   abbrev made : After-head-head g
-  made = (goal.at.After-fill g c).After-head-head
+  made = (goal.at.After-copy_and_finish g c).After-head-head
 
   is_head : IsHead c.args.reader.head.bytes
   is_head = subst IsHead (same g made) c.in_ok-writer.ensures.stands.head
 
-  ended : (fault : Fault) → c.fill.result ≡ Err fault
+  ended : (fault : Fault) → c.copy_and_finish.result ≡ Err fault
       → EndsCopying mid.held old.held mid new c.crew.new.self (out g made) [] fault
-  ended fault is = err_at (EndsCopying mid.held old.held mid new c.crew.new.self (out g made) []) c.fill.result fault
-      (c.fill.ensures.ends old (out g made) [] c.in_ok-writer.ensures.stands) is
+  ended fault is = err_at (EndsCopying mid.held old.held mid new c.crew.new.self (out g made) []) c.copy_and_finish.result fault
+      (c.copy_and_finish.ensures.ends old (out g made) [] c.in_ok-writer.ensures.stands) is
 
 pub returns-in_err-crew-clause-ends : goal.returns-in_err-crew-clause-ends
 returns-in_err-crew-clause-ends g c =
@@ -82,9 +82,9 @@ returns-in_err-writer-clause-ends g c =
     (writes_packed first name c.head-head.result.now.bytes chunk (plain g k) (same g k)) old new c.requires.stands
     (Unit {0}) fault h.fault h.stopped (λ e. h.write (ap Err e)))
 
-pub fill-requires-clause-reads : goal.fill-requires-clause-reads
-fill-requires-clause-reads g c κs within =
-    let k = (goal.at.fill-requires-clause-reads g c).After-head-head in
+pub copy_and_finish-requires-clause-reads : goal.copy_and_finish-requires-clause-reads
+copy_and_finish-requires-clause-reads g c κs within =
+    let k = (goal.at.copy_and_finish-requires-clause-reads g c).After-head-head in
     let old = g.F.Files.seen c.args.files.now in
     let mid = g.F.Files.seen c.create.new.files in
     let first = c.args.reader in
@@ -96,7 +96,7 @@ fill-requires-clause-reads g c κs within =
 
 pub returns-clause-ends : goal.returns-clause-ends
 returns-clause-ends g c =
-    let k = (goal.at.returns-clause-ends g c).After-fill in
+    let k = (goal.at.returns-clause-ends g c).After-copy_and_finish in
     let m = (goal.at.returns-clause-ends g c).After-head-head in
     let first = c.args.reader in
     let name = c.args.output.now in
@@ -105,23 +105,23 @@ returns-clause-ends g c =
     let copies = copies_packed first name c.head-head.result.now.bytes chunk (plain g m) (same g m) (is_head g k) in
     ends_filled (Packs name chunk) first (out g m) copies (old g k) (new g k) c.requires.stands (mid g k)
     c.crew.new.self 2 c.in_ok-crew.ensures.kept c.requires.new.whole c.in_ok-writer.writer h.stands
-    (λ e. c.requires.names (sym e)) h.calm c.fill.result (c.fill.ensures.finished (old g k) (out g m) [] h.stands)
-    (c.fill.ensures.ends (old g k) (out g m) [] h.stands) c.fill.ensures.calm
+    (λ e. c.requires.names (sym e)) h.calm c.copy_and_finish.result (c.copy_and_finish.ensures.finished (old g k) (out g m) [] h.stands)
+    (c.copy_and_finish.ensures.ends (old g k) (out g m) [] h.stands) c.copy_and_finish.ensures.calm
 
 pub returns-clause-never : goal.returns-clause-never
 returns-clause-never g c cause is =
-    let e = ended g (goal.at.returns-clause-never g c).After-fill (Refused cause) is in
+    let e = ended g (goal.at.returns-clause-never g c).After-copy_and_finish (Refused cause) is in
     no_chunk c.crew.new.self.chunk (ap (λ (r : ReaderSeen). r.chunk) c.in_ok-crew.ensures.kept ∙ c.requires.plain) e.3.1
 
 pub returns-clause-frame : goal.returns-clause-frame
 returns-clause-frame g c =
     let same : bytes_left c.crew.new.self ≡ bytes_left c.args.reader = ap bytes_left c.in_ok-crew.ensures.kept in
-    subst (λ (n : ℕ). ReadsAndWrites n (g.F.Files.seen c.args.files.now) (g.F.Files.seen c.fill.new.files)) same
-    (after_writes _ _ _ _ c.create.ensures.writes c.fill.ensures.frame)
+    subst (λ (n : ℕ). ReadsAndWrites n (g.F.Files.seen c.args.files.now) (g.F.Files.seen c.copy_and_finish.new.files)) same
+    (after_writes _ _ _ _ c.create.ensures.writes c.copy_and_finish.ensures.frame)
 
 pub returns-clause-in_part : goal.returns-clause-in_part
 returns-clause-in_part g c is =
-    let k = (goal.at.returns-clause-in_part g c).After-fill in
+    let k = (goal.at.returns-clause-in_part g c).After-copy_and_finish in
     let m = (goal.at.returns-clause-in_part g c).After-head-head in
     let first = c.args.reader in
     let name = c.args.output.now in

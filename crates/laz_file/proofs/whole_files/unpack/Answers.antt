@@ -42,8 +42,8 @@ returns-in_err-writer-clause-ends g c =
     ends_err (Unpacks name) first.name old new (Unit {0}) c.from_residual-in_err-writer.result fault c.from_residual-in_err-writer.ensures.1
     (ends_created (Unpacks name) first out (writes_unpacked first name head plain) old new c.requires.stands (Unit {0}) fault h.fault h.stopped (λ e. h.write (ap Err e)))
 
-pub fill-requires-clause-reads : goal.fill-requires-clause-reads
-fill-requires-clause-reads g c κs within =
+pub copy_and_finish-requires-clause-reads : goal.copy_and_finish-requires-clause-reads
+copy_and_finish-requires-clause-reads g c κs within =
     let old = g.F.Files.seen c.args.files.now in
     let mid = g.F.Files.seen c.create.new.files in
     let first = c.args.reader in
@@ -56,7 +56,7 @@ pub returns-clause-ends : goal.returns-clause-ends
 returns-clause-ends g c =
     let old = g.F.Files.seen c.args.files.now in
     let mid = g.F.Files.seen c.create.new.files in
-    let new = g.F.Files.seen c.fill.new.files in
+    let new = g.F.Files.seen c.copy_and_finish.new.files in
     let first = c.args.reader in
     let name = c.args.output.now in
     let head = c.in_ok-head.head.bytes in
@@ -64,19 +64,19 @@ returns-clause-ends g c =
     let plain : head ≡ plain_of first.head.bytes = c.in_ok-head.ensures.bytes ∙ ap (λ (h : HeadView). plain_of h.bytes) c.head.ensures in
     let h = c.in_ok-writer.ensures in
     ends_filled (Unpacks name) first out (copies_unpacked first name head plain) old new c.requires.stands mid c.crew.new.self (2 * c.hands-hands.result) c.in_ok-crew.ensures.kept c.requires.new.whole c.in_ok-writer.writer h.stands (λ e. c.requires.names (sym e)) h.calm
-    c.fill.result (c.fill.ensures.finished old out [] h.stands) (c.fill.ensures.ends old out [] h.stands) c.fill.ensures.calm
+    c.copy_and_finish.result (c.copy_and_finish.ensures.finished old out [] h.stands) (c.copy_and_finish.ensures.ends old out [] h.stands) c.copy_and_finish.ensures.calm
 
 pub returns-clause-bad : goal.returns-clause-bad
 returns-clause-bad g c cause is =
     let old = g.F.Files.seen c.args.files.now in
     let mid = g.F.Files.seen c.create.new.files in
-    let new = g.F.Files.seen c.fill.new.files in
+    let new = g.F.Files.seen c.copy_and_finish.new.files in
     let out : Output = record { name = c.args.output.now; head = c.in_ok-head.head.bytes; chunk = None; counted = false } in
-    let e = err_at (EndsCopying mid.held old.held mid new c.crew.new.self out []) c.fill.result (Refused cause) (c.fill.ensures.ends old out [] c.in_ok-writer.ensures.stands) is in
+    let e = err_at (EndsCopying mid.held old.held mid new c.crew.new.self out []) c.copy_and_finish.result (Refused cause) (c.copy_and_finish.ensures.ends old out [] c.in_ok-writer.ensures.stands) is in
     (_, e.3.0)
 
 pub returns-clause-frame : goal.returns-clause-frame
 returns-clause-frame g c =
     let same : bytes_left c.crew.new.self ≡ bytes_left c.args.reader = ap bytes_left c.in_ok-crew.ensures.kept in
-    subst (λ (n : ℕ). ReadsAndWrites n (g.F.Files.seen c.args.files.now) (g.F.Files.seen c.fill.new.files)) same
-    (after_writes _ _ _ _ c.create.ensures.writes c.fill.ensures.frame)
+    subst (λ (n : ℕ). ReadsAndWrites n (g.F.Files.seen c.args.files.now) (g.F.Files.seen c.copy_and_finish.new.files)) same
+    (after_writes _ _ _ _ c.create.ensures.writes c.copy_and_finish.ensures.frame)

@@ -3,7 +3,7 @@ use Rattle.std.proofs.lemmas.List.{append-nil, take_all, take_more}
 use Rattle.std.proofs.lemmas.List.Elements.{All-get_or}
 use Rattle.std.proofs.lemmas.Slice.{pushed}
 use Rattle.laz_models.specs.Place.{AreFirst, dist_extent, extent}
-use Rattle.laz_models.proofs.Layouts.{AreFirst-push, layout-push, layout-room}
+use Rattle.laz_models.proofs.Layouts.{AreFirst-push, layout-push}
 use Rattle.laz_models.proofs.Models.{extent-few}
 use Rattle.laz_models.proofs.bank_cells.lay_out.Goals as goal
 

@@ -1,5 +1,5 @@
 use Rattle.laz_reader.specs.Reading.{EndsReading}
-use Rattle.laz_reader.proofs.Exits.{at_exit, fails_after, ok_no_fault, reads-refl}
+use Rattle.laz_reader.proofs.Exits.{at_exit, fails_after, reads-refl}
 use Rattle.std.proofs.lemmas.Result.{IfOk-from_err}
 use Rattle.std.proofs.Common.{rules, ◌≡◌, ⊎_elim, ◌<◌, ◌≤◌, ◌==◌, ◌*◌, ◌∙◌, false, min, refl, sym, ap, subst, length, ℕ}
 use Rattle.std.proofs.Common.{List, [], take, get_or, arith}
@@ -11,7 +11,7 @@ use Rattle.las_header.specs.declared.refusal.Refusal.TheVariants.{BadChunk}
 use Rattle.las_outside.proofs.Public.{reads-more, calm-refl}
 use Rattle.laz_chunk.specs.Layouts.{layout, record_length}
 use Rattle.laz_reader.specs.Unpacking.{HoldsNone}
-use Rattle.laz_forms.proofs.Public.{known_then}
+use Rattle.laz_forms.proofs.Public.{known_then, ok_no_fault}
 use Rattle.laz_reader.proofs.Heads.{same_cause, never_refused}
 use Rattle.laz_reader.specs.Asking.{sizes_asked}
 use Rattle.laz_reader.proofs.Asking.{may_asked, sum_front, sum_take}

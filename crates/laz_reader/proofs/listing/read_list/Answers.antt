@@ -1,13 +1,14 @@
 use Rattle.las_outside.proofs.Public.{calm-refl}
-use Rattle.laz_reader.proofs.Exits.{ok_no_fault, only_reads-refl}
+use Rattle.laz_reader.proofs.Exits.{only_reads-refl}
 use Rattle.std.proofs.Common.{rules, ◌≡◌, Bool, true, false, sym, ◌∙◌, subst, List, [], ℕ, refl}
 use Rattle.std.specs.Prelude.{Some, None}
+use Rattle.std.proofs.lemmas.Bool.{true≢false}
 use Rattle.las_header.specs.declared.refusal.Refusal.{Refusal}
 use Rattle.laz_forms.specs.Refusing.{IsRefusal}
 use Rattle.laz_reader.specs.Reading.{ListsPieces}
 use Rattle.las_header.specs.Refusals.{first_cause}
 use Rattle.laz_table.specs.VlrCauses.{chunk_size_of, vlr_causes}
-use Rattle.laz_forms.proofs.Public.{if_ok, known_then}
+use Rattle.laz_forms.proofs.Public.{if_ok, known_then, ok_no_fault}
 use Rattle.laz_reader.proofs.Heads.{cause_of_err, none_of_ok, same_cause}
 use Rattle.laz_reader.proofs.Accepting.{accepted_plain, one_vlr, plain_lies, refused_vlr}
 use Rattle.laz_reader.proofs.listing.read_list.Goals as goal
@@ -25,14 +26,10 @@ pub read_packed-requires-clause-chunk : goal.read_packed-requires-clause-chunk
 read_packed-requires-clause-chunk g c =
     (none_of_ok (first_cause (vlr_causes c.args.head.now.bytes)) c.read_vlr.result (chunk_size_of c.args.head.now.bytes) c.in-Ok.chunk c.read_vlr.ensures.chunk c.read_vlr.ensures.refused c.in-Ok.is).1
 
--- no test is both
-both : (b : Bool) → b ≡ true → b ≡ false → ⊥
-both b t f = let same : true ≡ false = sym t ∙ f in cc
-
 pub returns-then-not-packed-clause-vlr : goal.returns-then-not-packed-clause-vlr
 returns-then-not-packed-clause-vlr g c = λ packed.
     let plain = sym c.packed.ensures ∙ c.if-not-packed.true in
-    absurd (both _ packed plain)
+    absurd (true≢false (sym packed ∙ plain))
 
 pub read_packed-requires-clause-vlr : goal.read_packed-requires-clause-vlr
 read_packed-requires-clause-vlr g c =

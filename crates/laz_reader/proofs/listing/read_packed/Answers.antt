@@ -4,13 +4,13 @@ use Rattle.std.specs.Prelude.{Some}
 use Rattle.las_header.specs.declared.refusal.Refusal.{Refusal}
 use Rattle.laz_forms.specs.declared.fault.Fault.{Fault}
 use Rattle.laz_reader.specs.Asking.{asked_for_table}
-use Rattle.laz_reader.specs.Reading.{EndsReading, IsHeadOf, IsTablePlace, points_in, table_size}
+use Rattle.laz_reader.specs.Reading.{EndsReading, IsHeadOf, IsTablePlace, points_listed, table_size}
 use Rattle.las_header.specs.Heads.{HeadView}
-use Rattle.laz_reader.proofs.Exits.{at_exit, ends_after, ok_no_fault}
+use Rattle.laz_reader.proofs.Exits.{at_exit, ends_after}
 use Rattle.las_header.specs.Fields.{head_of, is_packed}
 use Rattle.las_outside.proofs.Public.{calm-trans, only_reads-trans}
 use Rattle.laz_forms.specs.Refusing.{IsRefusal, table_part, table_place}
-use Rattle.laz_forms.proofs.Public.{known_at, known_both, known_then, known_three}
+use Rattle.laz_forms.proofs.Public.{known_at, known_both, known_then, known_three, ok_no_fault}
 use Rattle.laz_reader.proofs.Heads.{residual_is}
 use Rattle.laz_reader.proofs.Accepting.{accepted_packed, blocks_as, packed_lie, points_as, refused_pointer, refused_table}
 use Rattle.laz_reader.proofs.listing.read_packed.Goals as goal
@@ -33,7 +33,7 @@ returns-clause-stands g c =
 
 pub returns-clause-points : goal.returns-clause-points
 returns-clause-points g c =
-    c.in_ok-sizes.ensures.points ∙ ap points_in c.blocks_of-blocks.ensures ∙ points_as c.args.chunk c.points.result ∙ c.points.ensures
+    c.in_ok-sizes.ensures.points ∙ ap points_listed c.blocks_of-blocks.ensures ∙ points_as c.args.chunk c.points.result ∙ c.points.ensures
 
 -- what is asked for the list of a packed file
 packed_asks : (file : List ℕ) (head : HeadView) (old new : ℕ) → IsHeadOf file head → is_packed head.bytes ≡ true → new ≤ old + (16 + table_size (table_part file)) → new ≤ old + asked_for_table file

@@ -1,4 +1,4 @@
-use Rattle.laz_reader.proofs.Exits.{at_exit, fails_after, ok_no_fault}
+use Rattle.laz_reader.proofs.Exits.{at_exit, fails_after}
 use Rattle.std.proofs.lemmas.Result.{IfOk-from_err}
 use Rattle.std.proofs.Common.{rules, ◌≡◌, sym, ◌∙◌, ap, subst, List, ℕ, length, take, drop, arith, refl}
 use Rattle.std.specs.Prelude.{Some}
@@ -7,7 +7,7 @@ use Rattle.laz_table.specs.Chunks.{IsAccepted, IsFirstFault}
 use Rattle.laz_forms.specs.declared.fault.Fault.TheVariants.{Refused}
 use Rattle.laz_reader.specs.Reading.{table_size, EndsReading}
 use Rattle.laz_reader.proofs.AllParts.{accepted_some}
-use Rattle.laz_forms.proofs.Public.{known_then}
+use Rattle.laz_forms.proofs.Public.{known_then, ok_no_fault}
 use Rattle.laz_reader.proofs.Heads.{never_refused}
 use Rattle.laz_reader.proofs.TableFront.{accepted_from_front, accepted_lists, accepted_points, first_from_front}
 use Rattle.laz_reader.proofs.opening.read_chunks.Goals as goal
@@ -61,7 +61,7 @@ returns-in-Ok g c =
           accepted_lists c.deref.result.now c.args.blocks c.args.total sizes counts c.requires.few c.in-Ok.ensures
           in
           let number : number_at 4 4 c.in_ok-bytes.bytes.items ≡ length counts =
-          ap (number_at 4 4) (sym c.deref.ensures.value) ∙ c.in-Ok.ensures.table.holds.number in
+          ap (number_at 4 4) (sym c.deref.ensures.value) ∙ c.in-Ok.ensures.table.begins.holds.number in
           omega (arith, c.in_ok-bytes.ensures.asked, c.in_ok-bytes.ensures.short, number, lists.same);
       asked_of = c.read_table_front.ensures.asked_of;
     }

@@ -6,13 +6,12 @@ use Rattle.las_outside.specs.Frames.{IsCalm, OnlyReads}
 use Rattle.las_outside.specs.Outside.{Outside}
 use Rattle.las_outside.proofs.Public.{calm-trans, only_reads-trans}
 use Rattle.laz_forms.specs.declared.fault.Fault.{Fault}
-use Rattle.laz_forms.proofs.Public.{known_at, known_both, known_then}
+use Rattle.laz_forms.proofs.Public.{known_at, known_both, known_then, not_missing}
 use Rattle.laz_reader.specs.Asking.{asked_for_head}
 use Rattle.laz_reader.specs.Reading.{EndsReading}
 use Rattle.laz_reader.proofs.OpeningAsks.{head_asks}
 use Rattle.laz_reader.proofs.Exits.{at_exit, ends_after, fails_after}
 use Rattle.laz_reader.proofs.Heads.{head_known, head_accepted, head_given, head_refused, never_refused, no_stray_read, refused_by_front, residual_is, same_cause}
-use Rattle.laz_reader.proofs.Missing.{known_not_missing}
 use Rattle.laz_reader.proofs.opening.read_head.Goals as goal
 
 -- the reads after the size was asked for
@@ -73,7 +72,7 @@ returns-in_err-offset g c =
           known_then _ _ _ _ (λ file size. front_asks file (g.F.Files.seen c.args.files.now).asked _ (g.F.Files.seen
           c.read_front.new.files).asked before c.read_front.ensures.reads.asked) c.in-Ok.ensures.length;
       missing = λ missing.
-          absurd (known_not_missing _ _ _ c.in-Ok.ensures.length missing);
+          absurd (not_missing _ _ _ c.in-Ok.ensures.length missing);
     }
 
 pub returns-in_err-read_on : goal.returns-in_err-read_on
@@ -108,7 +107,7 @@ returns-in_err-read_on g c =
           (known_at _ _ _ _ held front.bytes) front.offset
           (omega (arith, before, front.reads.asked, front.len, rest.reads.asked));
       missing = λ missing.
-          absurd (known_not_missing _ _ _ c.in-Ok.ensures.length missing);
+          absurd (not_missing _ _ _ c.in-Ok.ensures.length missing);
     }
 
 pub returns-in-Ok-read : goal.returns-in-Ok-read
@@ -170,7 +169,7 @@ returns-in-Ok-read g c =
           (known_at _ _ _ _ held front.bytes) front.offset
           (omega (arith, before, front.reads.asked, front.len, rest.reads.asked));
       missing = λ missing.
-          absurd (known_not_missing _ _ _ c.in-Ok.ensures.length missing);
+          absurd (not_missing _ _ _ c.in-Ok.ensures.length missing);
     }
 
 pub returns-in-Err : goal.returns-in-Err
@@ -209,5 +208,5 @@ returns-in-Err g c =
           (known_at _ _ _ _ held front.bytes) front.offset
           (omega (arith, before, front.reads.asked, front.len, rest.reads.asked));
       missing = λ missing.
-          absurd (known_not_missing _ _ _ c.in-Ok.ensures.length missing);
+          absurd (not_missing _ _ _ c.in-Ok.ensures.length missing);
     }

@@ -5,7 +5,7 @@ use Rattle.laz_range.specs.Choice.{AreAsked, all_cuts}
 use Rattle.laz_range.specs.Decoding.{Takes}
 use Rattle.laz_models.specs.Bank.{model_at}
 use Rattle.laz_integer.proofs.Public.{sized-takes, sized-none}
-use Rattle.laz_rgb.specs.Rows.{IsNext, next_cuts, next_row, row_at}
+use Rattle.laz_rgb.specs.Rows.{IsNextByte, next_cuts, next_row, row_at}
 use Rattle.laz_rgb.specs.Extra.{all_marked, extra_made}
 use Rattle.laz_rgb.proofs.Extras.{extra-model, extra-more, extra-none, first-none, first-takes, made-step, next-bank, none-made}
 use Rattle.laz_rgb.proofs.bytes.take_bytes.Goals as goal
@@ -89,4 +89,4 @@ returns-clause-reads c =
     let all : c.loop-i.i ≡ n = omega (arith, c.loop-i-test.false, c.loop-i.auto.i-end, c.loop-i.invariant.part, c.requires.part, c.requires.some, length-set c.args.part.now 0 c.byte_of.result) in
     let row = row_at (all_marked n) 0 c.args.bank.now in
     let whole : take c.loop-i.i c.loop-i.part ≡ c.loop-i.part = take_all c.loop-i.i c.loop-i.part (omega (arith, all, c.loop-i.invariant.part)) in
-    (r.0, subst (λ (k : ℕ). Takes (AreAsked next_row IsNext row k) (all_cuts next_row next_cuts row) c.args.decoder.now c.loop-i.decoder r.0) all r.1, sym whole ∙ r.2, r.3)
+    (r.0, subst (λ (k : ℕ). Takes (AreAsked next_row IsNextByte row k) (all_cuts next_row next_cuts row) c.args.decoder.now c.loop-i.decoder r.0) all r.1, sym whole ∙ r.2, r.3)

@@ -2,8 +2,9 @@ use Rattle.std.proofs.Common.{rules, ◌^◌, ◌≤◌, ℕ, refl, ◌∙◌}
 use Rattle.las_info.specs.Tallies.{TapSeen, count_at}
 use denote.Param.Object.{read_made}
 use Rattle.las_info.specs.declared.tap.Tap.{Ghosts}
+use Rattle.las_info.proofs.Public.{tap_room}
 use Rattle.tests_run.proofs.cases.run_with_tap.OwnLists.{own-1, at-1-1}
-use Rattle.tests_run.proofs.Rooms.{all_of_one, tap_room}
+use Rattle.tests_run.proofs.Rooms.{all_of_one}
 use Rattle.tests_run.proofs.cases.run_with_tap.Goals as goal
 
 pub run-requires : goal.run-requires

@@ -1,6 +1,6 @@
 use Rattle.std.proofs.Common.{◌≡◌, ◌+◌, ◌∙◌, ap, sym, get_or, set, arith}
 use Rattle.std.proofs.lemmas.List.{get_or_default}
-use Rattle.las_info.specs.Tallies.{count_at, with_more}
+use Rattle.las_info.specs.Tallies.{count_at, with_many}
 use Rattle.las_info.proofs.Maps.{count-made, made-longer, made-more}
 use Rattle.las_info.proofs.tally.Counted.add_more.Goals as goal
 
@@ -24,4 +24,4 @@ returns-clause-ok c =
     let here : c.index_mut.result.now ≡ get_or new bin 0 =
     c.index_mut.ensures.value ∙ get_or_default new bin c.index_mut.result.now 0 c.in_ok-reach.ensures.within in
     made-more more new _ bin c.in_ok-reach.ensures.within (ap (λ n. set new bin (n + more)) here)
-    ∙ ap (λ t. with_more t bin more) (made-longer old new _ c.in_ok-reach.ensures.ok ∙ c.self.view_is)
+    ∙ ap (λ t. with_many t bin more) (made-longer old new _ c.in_ok-reach.ensures.ok ∙ c.self.view_is)

@@ -1,6 +1,6 @@
 use Rattle.std.proofs.Common.{◌≡◌, ℕ, ◌+◌, refl}
 use Rattle.las_make.specs.declared.drawing.Draws.{Draws}
-use Rattle.las_make.specs.Drawing.{state_after}
+use Rattle.las_make.specs.Drawing.{state_drawn}
 use Rattle.las_make.proofs.Drawn.{Seven, all_drawn, seven_drawn, state_with, state_without, few_formats, many_formats}
 use Rattle.las_make.proofs.drawing.Generator.draws.Goals.{After-draw-class}
 use Rattle.las_make.proofs.drawing.Generator.draws.Goals as goal
@@ -19,7 +19,7 @@ module _ (c : After-draw-class) where
     colours = colours;
   }
 
-  seven : (colours seed n : ℕ) → c.args.self.now.state ≡ state_after seed n
+  seven : (colours seed n : ℕ) → c.args.self.now.state ≡ state_drawn seed n
       → Seven seed n (drawn colours) c.draw-class.new.self.state
   seven colours seed n is = seven_drawn seed n _ _ _ _ _ _ _ c.draw-class.new.self.state (drawn colours) is
       c.draw-x.ensures c.draw-y.ensures c.draw-z.ensures c.draw-intensity.ensures c.draw-returns.ensures

@@ -9,12 +9,7 @@ use Rattle.laz_chunk.specs.Chunks.{count_of}
 use Rattle.laz_chunk.proofs.Chunk.{Put, Started, packed-is, packed-stream, started, started-sometime}
 use Rattle.laz_chunk.proofs.Ends.{whole-records}
 use Rattle.laz_chunk.proofs.workspace.Workspace.pack_within.Goals as goal
-
--- the room for one or more records
-room_is : (l : Layout) (n : ℕ) → 1 ≤ n → room_for l n ≡ record_length l + 4 + 3 * most_events l * (n - 1)
-room_is l n some =
-    let more : (n == 0) ≡ false = grind (arith, nat_tests) in
-    rw more refl
+use Rattle.laz_chunk.proofs.Bounds.{room_is}
 
 pub split_at-requires : goal.split_at-requires
 split_at-requires c =

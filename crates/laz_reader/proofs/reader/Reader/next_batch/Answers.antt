@@ -1,4 +1,3 @@
-use Rattle.laz_reader.proofs.Exits.{ok_no_fault}
 use Rattle.std.proofs.Common.{rules, ◌≡◌, true, false, sym, ◌∙◌, ap, subst, arith, refl}
 use Rattle.std.proofs.lemmas.Grind.{common_steps}
 use Rattle.las_header.specs.Fields.{record_length_of}
@@ -7,7 +6,7 @@ use Rattle.laz_workers.specs.Rooms.{rooms_of}
 use Rattle.laz_reader.specs.Reading.{AreCutFrom, ReaderSeen, StandsFor}
 use Rattle.laz_forms.specs.Records.{IsBadPiece}
 use Rattle.laz_reader.proofs.Crews.{lends_parts}
-use Rattle.laz_forms.proofs.Public.{known_both, known_then}
+use Rattle.laz_forms.proofs.Public.{known_both, known_then, ok_no_fault}
 use Rattle.laz_reader.proofs.Batches.{known_if, stands_later}
 use Rattle.laz_reader.proofs.reader.Reader.next_batch.Goals as goal
 

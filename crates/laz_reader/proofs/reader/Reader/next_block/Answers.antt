@@ -1,11 +1,12 @@
 use Rattle.las_outside.proofs.Public.{calm-refl}
-use Rattle.laz_reader.proofs.Exits.{ok_no_fault, reads-refl}
+use Rattle.laz_reader.proofs.Exits.{reads-refl}
 use Rattle.std.proofs.Common.{rules, ◌≡◌, ◌<◌, ℕ, List, Err, length, take, sym, ◌∙◌, ap, subst, arith, refl}
 use Rattle.std.proofs.lemmas.Grind.{common_steps}
 use Rattle.las_outside.specs.Files.{WhereKnown}
 use Rattle.laz_forms.specs.declared.fault.Fault.TheVariants.{Refused}
 use Rattle.laz_reader.specs.Reading.{ReaderSeen, StandsFor}
 use Rattle.laz_forms.specs.Records.{HoldOnly, IsBadPiece}
+use Rattle.laz_forms.proofs.Public.{ok_no_fault}
 use Rattle.laz_reader.specs.Turns.{file_at}
 use Rattle.laz_reader.proofs.Turns.{bad_next, first_of_batch, known_same, next_of, no_more, one_block}
 use Rattle.laz_reader.proofs.reader.Reader.next_block.Goals as goal

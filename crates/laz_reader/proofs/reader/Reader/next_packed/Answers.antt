@@ -1,4 +1,4 @@
-use Rattle.laz_reader.proofs.Exits.{at_exit, ok_no_fault, reads-refl}
+use Rattle.laz_reader.proofs.Exits.{at_exit, reads-refl}
 use Rattle.std.proofs.Common.{◌≡◌, ◌<◌, ◌≤◌, ◌*◌, ◌+◌, ◌-◌, ◌^◌, ◌∙◌, min, false, refl, sym, ap, subst, ℕ, List, [], length, take, drop, get_or, Option, Err, arith}
 use Rattle.std.proofs.lemmas.Result.{IfOk-from_err}
 use mir.Syntax.{w32}
@@ -21,7 +21,7 @@ use Rattle.laz_reader.specs.Reading.{EndsReading}
 use Rattle.laz_forms.specs.Records.{HoldOnly, IsBadPiece}
 use Rattle.laz_reader.specs.Asking.{sizes_asked}
 use Rattle.laz_reader.proofs.Asking.{asked_all, asked_batch, asked_since}
-use Rattle.laz_forms.proofs.Public.{known_as, known_both, known_then}
+use Rattle.laz_forms.proofs.Public.{known_as, known_both, known_then, ok_no_fault}
 use Rattle.laz_reader.proofs.Heads.{residual_is, same_cause}
 use Rattle.laz_reader.proofs.Batches.{as_many, bad_left, batch_bad, batch_blocks, batch_count, batch_cuts, batch_end, batch_few, batch_hold, batch_length, batch_lie, batch_most, batch_rooms, batch_whole, crew_later, front_cuts, IsListed, length_slice, listed, packed_step, placed_later, positive, slice_part}
 use Rattle.laz_reader.proofs.reader.Reader.next_packed.Given.{Over}

@@ -1,6 +1,6 @@
 use Rattle.las_outside.proofs.Public.{calm-trans, only_reads-trans}
 use Rattle.las_outside.specs.Files.{IsMissing}
-use Rattle.laz_reader.proofs.Exits.{at_exit, ends_after, ok_no_fault, only_reads-refl}
+use Rattle.laz_reader.proofs.Exits.{at_exit, ends_after, only_reads-refl}
 use Rattle.std.proofs.lemmas.Result.{IfOk-from_err}
 use Rattle.std.proofs.Common.{rules, ◌+◌, ◌≤◌, ℕ, List, sym, ap, subst, length, Err, arith, refl}
 use Rattle.las_outside.specs.Outside.{Outside}
@@ -9,10 +9,9 @@ use Rattle.laz_reader.specs.Reading.{AgreesWithHead, ReaderSeen, StandsFor, Ends
 use Rattle.laz_reader.proofs.Opened.{new_stands}
 use Rattle.laz_reader.specs.Asking.{AsksAtMost, asked_for_head, asked_for_list, asked_for_table, asked_to_open}
 use Rattle.laz_reader.proofs.PieceLists.{length-pieces, new_agrees}
-use Rattle.laz_forms.proofs.Public.{known_at, known_both, known_then}
+use Rattle.laz_forms.proofs.Public.{known_at, known_both, known_then, not_missing, ok_no_fault}
 use Rattle.laz_reader.proofs.Heads.{residual_is}
 use Rattle.laz_reader.proofs.Accepting.{refused_head}
-use Rattle.laz_reader.proofs.Missing.{known_not_missing}
 use Rattle.laz_reader.proofs.reader.Reader.open.Goals as goal
 
 pub of-requires : goal.of-requires
@@ -90,7 +89,7 @@ returns-in_err-list g c =
           (λ file head table. ask_both file old mid new head table) (c.in_ok-head.ensures.asked_of there)
           (known_at _ _ _ _ c.in_ok-head.ensures.reads.held c.in_err-list.ensures.asked_of);
       missing = λ missing.
-          absurd (known_not_missing _ _ _ c.in_ok-head.ensures.head missing);
+          absurd (not_missing _ _ _ c.in_ok-head.ensures.head missing);
     }
 
 pub returns : goal.returns
@@ -132,5 +131,5 @@ returns g c =
           (λ file head table. ask_both file old mid new head table) (c.in_ok-head.ensures.asked_of there)
           (known_at _ _ _ _ c.in_ok-head.ensures.reads.held c.in_ok-list.ensures.asked_of);
       missing = λ missing.
-          absurd (known_not_missing _ _ _ c.in_ok-head.ensures.head missing);
+          absurd (not_missing _ _ _ c.in_ok-head.ensures.head missing);
     }

@@ -1,15 +1,15 @@
 use Rattle.laz_forms.specs.declared.fault.Fault.TheVariants.{Memory}
 use Rattle.las_outside.proofs.Public.{only_writes-refl}
-use Rattle.laz_writer.proofs.Faults.{stops_rose, memory_only, ok_no_fault, write_only}
+use Rattle.laz_writer.proofs.Faults.{stops_rose, memory_only, write_only}
 use Rattle.std.proofs.lemmas.Result.{IfOk-from_err}
 use Rattle.std.proofs.Common.{◌≡◌, ◌<◌, ◌==◌, inl, inr, Bool, ℕ, List, ◌++◌, length, take, refl, sym, ◌∙◌, ap, subst, arith}
 use Rattle.las_header.specs.Fields.{record_length_of}
 use Rattle.las_outside.specs.Outside.{Outside, with_bytes}
-use Rattle.laz_forms.specs.Outputs.{Output, first_head, front}
+use Rattle.laz_forms.specs.Outputs.{Output, unfinished_head, front}
 use Rattle.laz_writer.specs.Writing.{IsTally, Stops, pointer_part, written_head}
 use Rattle.laz_writer.proofs.Finishing.{begins, no_records}
 use Rattle.laz_writer.proofs.Pushing.{front_is}
-use Rattle.laz_forms.proofs.Public.{record_least}
+use Rattle.laz_forms.proofs.Public.{record_least, ok_no_fault}
 use Rattle.laz_forms.proofs.Public.{if_err}
 use Rattle.laz_writer.proofs.writer.Writer.create.Goals as goal
 
@@ -75,9 +75,9 @@ returns-in_err-put_front g c =
           let bytes = c.bytes-2.ensures.bytes ∙ c.in_ok-first.ensures in
           let text : c.bytes-2.result.now ++ pointer_part c.is_some-packed.result c.bytes-2.result.now ≡ front out =
           ap (λ (b : List ℕ). b ++ pointer_part c.is_some-packed.result b) bytes ∙
-          ap (λ (b : Bool). written_head out.chunk (first_head out) ++
-          pointer_part b (written_head out.chunk (first_head out))) c.is_some-packed.ensures
-          ∙ sym (front_is out.chunk (first_head out)) in
+          ap (λ (b : Bool). written_head out.chunk (unfinished_head out) ++
+          pointer_part b (written_head out.chunk (unfinished_head out))) c.is_some-packed.ensures
+          ∙ sym (front_is out.chunk (unfinished_head out)) in
           let fault = c.in_err-put_front.field-0.0 in
           if_err _ c.from_residual-in_err-put_front.result fault c.from_residual-in_err-put_front.ensures.1
           (elim c.in_err-put_front.ensures.stopped [
@@ -118,9 +118,9 @@ returns g c =
           let bytes = c.bytes-2.ensures.bytes ∙ c.in_ok-first.ensures in
           let text : c.bytes-2.result.now ++ pointer_part c.is_some-packed.result c.bytes-2.result.now ≡ front out =
           ap (λ (b : List ℕ). b ++ pointer_part c.is_some-packed.result b) bytes ∙
-          ap (λ (b : Bool). written_head out.chunk (first_head out) ++
-          pointer_part b (written_head out.chunk (first_head out))) c.is_some-packed.ensures
-          ∙ sym (front_is out.chunk (first_head out)) in
+          ap (λ (b : Bool). written_head out.chunk (unfinished_head out) ++
+          pointer_part b (written_head out.chunk (unfinished_head out))) c.is_some-packed.ensures
+          ∙ sym (front_is out.chunk (unfinished_head out)) in
           let some : 0 < record_length_of head = omega (arith, record_least head is) in
           record {
             head = is;

@@ -2,9 +2,10 @@ use Rattle.std.proofs.Common.{rules, ◌≡◌, ◌+◌, ◌*◌, ◌≤◌, len
 use Rattle.las_outside.specs.Outside.{Outside}
 use Rattle.laz_forms.specs.Outputs.{records_after}
 use Rattle.laz_forms.specs.declared.fault.Fault.TheVariants.{Write}
+use Rattle.laz_forms.proofs.Public.{ok_no_fault}
 use Rattle.laz_writer.specs.Writing.{WriterSeen}
 use Rattle.laz_writer.proofs.Arms.{held_text}
-use Rattle.laz_writer.proofs.Faults.{stops_kind, calm_text, stops_rose, ok_no_fault}
+use Rattle.laz_writer.proofs.Faults.{stops_kind, calm_text, stops_rose}
 use Rattle.laz_writer.proofs.Pushing.{few_taken, pushed, text_of}
 use Rattle.laz_writer.proofs.writer.Writer.push.Goals as goal
 

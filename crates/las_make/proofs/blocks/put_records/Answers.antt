@@ -3,7 +3,7 @@ use Rattle.las_header.proofs.Public.{length_part}
 use Rattle.las_make.specs.Drawing.{draws_each}
 use Rattle.las_make.specs.Made.{made_length}
 use Rattle.las_make.proofs.Steps.{filled_next, room_for, state_next}
-use Rattle.las_make.proofs.blocks.fill.Goals as goal
+use Rattle.las_make.proofs.blocks.put_records.Goals as goal
 
 pub loop-i-preserved : goal.loop-i-preserved
 loop-i-preserved c =

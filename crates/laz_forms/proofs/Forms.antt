@@ -1,6 +1,7 @@
--- The packed form of a plain head and of chunks is accepted, and its pieces are the chunks.
-use Rattle.std.proofs.Common.{◌≡◌, ℕ, ◌+◌, ◌-◌, ◌<◌, ◌≤◌, ◌&&◌, sum, nat_lt, Bool, true, false, cond, List, [], ◌∷◌, ◌++◌, length, map, take, drop, Option, None, refl, sym, ap, subst, ◌∙◌, arith, append_assoc, length-append}
-use Rattle.std.proofs.lemmas.Bool.{cond-false, ne_eqb, and_left, or_from}
+-- The packed form of a plain head and of chunks is accepted, and its pieces are the chunks: of chunks that were copied,
+-- and of those that hold the records of a plain file.
+use Rattle.std.proofs.Common.{◌≡◌, ℕ, ◌+◌, ◌-◌, ◌<◌, ◌≤◌, ◌&&◌, sum, nat_lt, Bool, true, false, cond, List, [], ◌∷◌, ◌++◌, length, map, take, drop, Option, None, refl, sym, ap, subst, ◌∙◌, arith, append_assoc, length-append, ◌*◌}
+use Rattle.std.proofs.lemmas.Bool.{cond-false, ne_eqb, and_left, or_from, le-ltb}
 use Rattle.std.proofs.lemmas.List.{drop_at, take-take, take_all, take_at}
 use Rattle.std.specs.List.{concat}
 use Rattle.byteorder.specs.Endian.{little_bytes}
@@ -11,19 +12,26 @@ use Rattle.las_header.specs.Fields.{format_of, head_of, is_packed, offset_limit,
 use Rattle.las_header.specs.Heads.{PacksHead}
 use Rattle.las_header.specs.Numbers.{number_at}
 use Rattle.las_header.specs.Plain.{plain_head, plain_of}
-use Rattle.las_header.specs.Refusals.{causes_of, first_cause, front_causes, head_causes}
-use Rattle.las_header.proofs.Public.{front_decides, front_is_fine, packed_is_fine, IsFirst-append_none, IsFirst-tests, number_at-drop, number_at-take, reads_back}
+use Rattle.las_header.specs.Refusals.{causes_of, first_cause, front_causes, head_causes, or_else}
+use Rattle.las_header.proofs.Public.{front_decides, front_is_fine, packed_is_fine, IsFirst-append_none, IsFirst-tests, number_at-drop, number_at-take, reads_back, first_of_both}
 use Rattle.las_header.proofs.Public.{first_none}
 use Rattle.laz_table.specs.Chunks.{IsAccepted}
 use Rattle.laz_table.specs.Laws.{AreWords}
 use Rattle.laz_table.specs.Payload.{laszip_payload}
 use Rattle.laz_table.specs.Table.{table_bytes}
 use Rattle.laz_table.specs.VlrCauses.{extra_of, vlr_causes}
-use Rattle.laz_forms.specs.Packing.{packed_head, table_after}
+use Rattle.laz_forms.specs.Packing.{packed_form, packed_head, table_after}
 use Rattle.laz_forms.specs.Pieces.{ArePieces, ArePiecesIf, pieces_from}
 use Rattle.laz_forms.specs.Refusing.{IsAcceptedFile, blocks_in, chunk_causes, chunks_place, has_bad_pointer, has_last_pointer, table_end, table_part, table_place, tested_causes}
-use Rattle.laz_forms.proofs.Public.{sum-lengths, both-fine, not-below, words-bound}
-use Rattle.laz_copied.specs.Forms.{packed_form}
+use Rattle.laz_forms.proofs.Chunked.{sum-lengths}
+
+-- some lists are not too long in all
+pub words-bound : (xs : List (List ℕ)) → AreWords (map length xs) → length (concat xs) ≤ 4294967296 * length xs
+words-bound [] h = omega arith
+words-bound (x ∷ xs) h = omega (arith, length-append x (concat xs), h.0, words-bound xs h.1)
+
+pub both-fine : (xs ys : List (Bool × Refusal)) → first_cause xs ≡ None → first_cause ys ≡ None → first_cause (xs ++ ys) ≡ None
+both-fine xs ys e f = first_of_both xs ys ∙ ap (λ (o : Option Refusal). or_else o (first_cause ys)) e ∙ f
 
 -- what is needed of a head, a chunk size and chunks
 pub record IsForm (head : List ℕ) (chunk : ℕ) (points : List ℕ) (chunks : List (List ℕ)) (counts : List ℕ) : Type 0 where
@@ -67,18 +75,18 @@ module _ (head : List ℕ) (chunk : ℕ) (points : List ℕ) (chunks : List (Lis
       let is = f.packs.is_head in
       sym (number_at-take 4 96 (length packed) form (omega (arith, is.block))) ∙ ap (number_at 4 96) front ∙ is.whole
 
-  pub head-is : head_of form ≡ packed
-  head-is = ap (λ (n : ℕ). take n form) offset ∙ front
+  pub form_head : head_of form ≡ packed
+  form_head = ap (λ (n : ℕ). take n form) offset ∙ front
 
-  pub packed-is : is_packed (head_of form) ≡ true
-  packed-is = ap is_packed head-is ∙ f.packs.packed
+  pub form_packed : is_packed (head_of form) ≡ true
+  form_packed = ap is_packed form_head ∙ f.packs.packed
 
   pub chunks-place-is : chunks_place form ≡ length packed + 8
   chunks-place-is = ap (λ (n : ℕ). n + 8) offset
 
   -- the chunks and the table
-  pub after-pointer : drop (chunks_place form) form ≡ joined ++ table
-  after-pointer = ap (λ (n : ℕ). drop n form) chunks-place-is ∙ drop_at (packed ++ pointer) (joined ++ table) (length packed + 8) (omega (arith, length-append packed pointer))
+  pub form_after : drop (chunks_place form) form ≡ joined ++ table
+  form_after = ap (λ (n : ℕ). drop n form) chunks-place-is ∙ drop_at (packed ++ pointer) (joined ++ table) (length packed + 8) (omega (arith, length-append packed pointer))
 
   -- ---- the pointer
   pointer-is : number_at 8 (point_offset_of form) form ≡ place
@@ -101,10 +109,10 @@ module _ (head : List ℕ) (chunk : ℕ) (points : List ℕ) (chunks : List (Lis
       or_from _ (nat_lt (table_end form) (table_place form))
       (or_from _ (nat_lt (table_place form) (chunks_place form))
       (or_from (nat_lt (length form) (chunks_place form)) (has_last_pointer form && nat_lt (length form) (chunks_place form + 8))
-      (not-below (length form) (chunks_place form) (omega (arith, length-form, chunks-place-is)))
+      (le-ltb (length form) (chunks_place form) (omega (arith, length-form, chunks-place-is)))
       (and_left (has_last_pointer form) _ not-last))
-      (not-below (table_place form) (chunks_place form) (omega (arith, table-place-is, chunks-place-is))))
-      (not-below (table_end form) (table_place form) (omega (arith, table-end-is, table-place-is, length-form)))
+      (le-ltb (table_place form) (chunks_place form) (omega (arith, table-place-is, chunks-place-is))))
+      (le-ltb (table_end form) (table_place form) (omega (arith, table-end-is, table-place-is, length-form)))
 
   -- ---- the table
   table-part-is : table_part form ≡ table
@@ -122,7 +130,7 @@ module _ (head : List ℕ) (chunk : ℕ) (points : List ℕ) (chunks : List (Lis
   accepted-table =
       let sizes = map length chunks in
       subst (λ (t : List ℕ). IsAccepted t (blocks_in (head_of form)) (table_place form - chunks_place form) counts sizes) (sym table-part-is)
-      (subst (λ (h : List ℕ). IsAccepted table (blocks_in h) (table_place form - chunks_place form) counts sizes) (sym head-is)
+      (subst (λ (h : List ℕ). IsAccepted table (blocks_in h) (table_place form - chunks_place form) counts sizes) (sym form_head)
       (subst (λ (n : ℕ). IsAccepted table (blocks_in packed) n counts sizes) (sym total-is) f.table))
 
   -- ---- the tested conditions
@@ -140,7 +148,7 @@ module _ (head : List ℕ) (chunk : ℕ) (points : List ℕ) (chunks : List (Lis
       ∙ front_is_fine packed size is (omega (arith, length-form)) near-is
 
   head-fine : first_cause (head_causes (head_of form) (length form)) ≡ None
-  head-fine = ap (λ (t : List ℕ). first_cause (head_causes t (length form))) head-is ∙ packed_is_fine packed (length form) f.packs.is_head f.packs.packed
+  head-fine = ap (λ (t : List ℕ). first_cause (head_causes t (length form))) form_head ∙ packed_is_fine packed (length form) f.packs.is_head f.packs.packed
 
   abbrev last : List (Bool × Refusal)
   last = (has_bad_pointer form, cause.TablePointer) ∷ []
@@ -148,26 +156,26 @@ module _ (head : List ℕ) (chunk : ℕ) (points : List ℕ) (chunks : List (Lis
   packed-fine : first_cause (vlr_causes (head_of form) ++ last) ≡ None
   packed-fine =
       both-fine (vlr_causes (head_of form)) last
-      (ap (λ (t : List ℕ). first_cause (vlr_causes t)) head-is ∙ f.vlr)
+      (ap (λ (t : List ℕ). first_cause (vlr_causes t)) form_head ∙ f.vlr)
       (first_none (has_bad_pointer form) cause.TablePointer [] good-pointer refl)
 
   tests-fine : first_cause (tested_causes form) ≡ None
   tests-fine =
       both-fine (causes_of form) (cond (is_packed (head_of form)) (vlr_causes (head_of form) ++ last) [])
       (both-fine (front_causes form (length form)) (head_causes (head_of form) (length form)) front-fine head-fine)
-      (ap (λ (b : Bool). first_cause (cond b (vlr_causes (head_of form) ++ last) [])) packed-is ∙ packed-fine)
+      (ap (λ (b : Bool). first_cause (cond b (vlr_causes (head_of form) ++ last) [])) form_packed ∙ packed-fine)
 
   pub form_accepted : IsAcceptedFile form
   form_accepted =
       IsFirst-append_none (conditions (tested_causes form)) (chunk_causes (is_packed (head_of form)) form) None
       (subst (λ (o : Option Refusal). IsFirst (conditions (tested_causes form)) o) tests-fine (IsFirst-tests (tested_causes form)))
-      (subst (λ (b : Bool). IsFirst (chunk_causes b form) None) (sym packed-is) accepted-table.fine)
+      (subst (λ (b : Bool). IsFirst (chunk_causes b form) None) (sym form_packed) accepted-table.fine)
 
   -- ---- the pieces
   pub form_pieces : ArePieces form (pieces_from (chunks_place form) counts (map length chunks))
   form_pieces =
-      subst (λ (b : Bool). ArePiecesIf b form (pieces_from (chunks_place form) counts (map length chunks))) (sym packed-is)
+      subst (λ (b : Bool). ArePiecesIf b form (pieces_from (chunks_place form) counts (map length chunks))) (sym form_packed)
       (counts, map length chunks, accepted-table, refl)
 
-  pub plain_back : plain_head form ≡ head
-  plain_back = ap plain_of head-is ∙ f.packs.back
+  pub form_plain : plain_head form ≡ head
+  form_plain = ap plain_of form_head ∙ f.packs.back

@@ -5,7 +5,7 @@ use Rattle.laz_file.specs.Copying.{EndsAfter, with_reads}
 use Rattle.laz_file.proofs.Endings.{ends_part, ends_with, first_finish, first_stop, hold_all}
 use Rattle.laz_forms.proofs.Public.{if_err}
 use Rattle.laz_file.proofs.Taking.{cause_push}
-use Rattle.laz_file.proofs.whole_files.fill.Goals as goal
+use Rattle.laz_file.proofs.whole_files.copy_and_finish.Goals as goal
 
 pub returns-in_err-copy_records-clause-ends : goal.returns-in_err-copy_records-clause-ends
 returns-in_err-copy_records-clause-ends g c before out bytes s =

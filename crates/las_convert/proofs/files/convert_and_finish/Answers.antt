@@ -14,9 +14,9 @@ use Rattle.laz_file.proofs.Public.{cause_push}
 use Rattle.las_convert.specs.Adding.{BeforeAll, EndsKeeping, GoesToEnd, Keeping, kept_by}
 use Rattle.las_convert.proofs.Endings.{ends_all, ends_with, finished_all, left_finish, left_part, left_stop}
 use Rattle.las_convert.proofs.Endings.{refused_here}
-use Rattle.las_convert.proofs.files.fill.Given.{Over}
-use Rattle.las_convert.proofs.files.fill.Goals.{In_ok-convert_records}
-use Rattle.las_convert.proofs.files.fill.Goals as goal
+use Rattle.las_convert.proofs.files.convert_and_finish.Given.{Over}
+use Rattle.las_convert.proofs.files.convert_and_finish.Goals.{In_ok-convert_records}
+use Rattle.las_convert.proofs.files.convert_and_finish.Goals as goal
 
 pub returns-in_err-convert_records-clause-ends : goal.returns-in_err-convert_records-clause-ends
 returns-in_err-convert_records-clause-ends g c looked is before out bytes s =

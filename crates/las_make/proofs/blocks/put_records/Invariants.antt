@@ -1,7 +1,7 @@
 use Rattle.std.proofs.Common.{◌≡◌, ◌+◌, ◌*◌, take}
 use Rattle.std.specs.List.{concat}
 use Rattle.las_make.specs.Made.{IsBefore, records_from}
-use Rattle.las_make.proofs.blocks.fill.Given as goal
+use Rattle.las_make.proofs.blocks.put_records.Given as goal
 
 abbrev pub invariant-loop-i : goal.invariant-loop-i
 invariant-loop-i l =

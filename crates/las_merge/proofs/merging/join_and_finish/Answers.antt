@@ -6,16 +6,16 @@ use Rattle.laz_file.specs.Copying.{with_reads}
 use Rattle.laz_forms.proofs.Public.{if_err}
 use Rattle.las_merge.specs.declared.copying.BadInput.{BadInput}
 use Rattle.las_merge.specs.Copying.{CopiesUpTo}
-use Rattle.las_merge.specs.Opening.{names_read}
+use Rattle.las_merge.specs.Opening.{input_names}
 use Rattle.las_merge.proofs.Filled.{fails_merging, finish_fails, stop_fails}
-use Rattle.las_merge.proofs.merging.fill.Goals as goal
+use Rattle.las_merge.proofs.merging.join_and_finish.Goals as goal
 
 pub returns-in_err-copy_inputs-clause-ends : goal.returns-in_err-copy_inputs-clause-ends
 returns-in_err-copy_inputs-clause-ends g c before out s =
     let old = g.F.Files.seen c.args.files.now in
     let new = g.F.Files.seen c.copy_inputs.new.files in
     if_err _ c.from_residual.result _ c.from_residual.ensures.1
-    (fails_merging old (names_read c.args.inputs.items) c.args.writer before out s new c.in_err-copy_inputs.field-0.0
+    (fails_merging old (input_names c.args.inputs.items) c.args.writer before out s new c.in_err-copy_inputs.field-0.0
     c.in_err-copy_inputs.ensures.ends)
 
 pub finish-requires-clause-stands : goal.finish-requires-clause-stands
@@ -35,7 +35,7 @@ returns-in-Ok-clause-finished g c before out s =
     let old = g.F.Files.seen c.args.files.now in
     let mid = g.F.Files.seen c.copy_inputs.new.files in
     let d = c.in_ok-copy_inputs.ensures.copied in
-    let all = subst (λ (e : Option BadInput). CopiesUpTo old.held (names_read c.args.inputs.items) d.0 e) c.in-None.is
+    let all = subst (λ (e : Option BadInput). CopiesUpTo old.held (input_names c.args.inputs.items) d.0 e) c.in-None.is
     d.1 in (
       d.0,
       all,
@@ -48,7 +48,7 @@ returns-in-Err-clause-ends g c before out s =
     let old = g.F.Files.seen c.args.files.now in
     let mid = g.F.Files.seen c.copy_inputs.new.files in
     let new = g.F.Files.seen c.finish.new.files in
-    let names = names_read c.args.inputs.items in
+    let names = input_names c.args.inputs.items in
     let d = c.in_ok-copy_inputs.ensures.copied in
     let all = subst (λ (e : Option BadInput). CopiesUpTo old.held names d.0 e) c.in-None.is d.1 in
     let p = c.in-Err.ensures.stopped (with_reads before mid) out d.0 (d.2 before out [] s) in
@@ -61,7 +61,7 @@ returns-in-Ok-stop-clause-ends g c before out s =
     let old = g.F.Files.seen c.args.files.now in
     let mid = g.F.Files.seen c.copy_inputs.new.files in
     let d = c.in_ok-copy_inputs.ensures.copied in
-    let bad = subst (λ (e : Option BadInput). CopiesUpTo old.held (names_read c.args.inputs.items) d.0 e) c.in-Some.is
+    let bad = subst (λ (e : Option BadInput). CopiesUpTo old.held (input_names c.args.inputs.items) d.0 e) c.in-Some.is
     d.1 in
     inl (
       d.0,
@@ -75,7 +75,7 @@ returns-in-Err-stop-clause-ends g c before out s =
     let old = g.F.Files.seen c.args.files.now in
     let mid = g.F.Files.seen c.copy_inputs.new.files in
     let new = g.F.Files.seen c.stop.new.files in
-    let names = names_read c.args.inputs.items in
+    let names = input_names c.args.inputs.items in
     let d = c.in_ok-copy_inputs.ensures.copied in
     let bad = subst (λ (e : Option BadInput). CopiesUpTo old.held names d.0 e) c.in-Some.is d.1 in
     let p = c.in-Err-stop.ensures.broken (with_reads before mid) out d.0 (d.2 before out [] s) in
@@ -85,26 +85,26 @@ returns-in-Err-stop-clause-ends g c before out s =
     c.in-Err-stop.ensures.fault (λ e. c.in-Err-stop.ensures.write (ap Err e)) p.0 p.1
 
 pub returns-in_err-copy_inputs-clause-asked : goal.returns-in_err-copy_inputs-clause-asked
-returns-in_err-copy_inputs-clause-asked g c known is = c.copy_inputs.ensures.asked known is
+returns-in_err-copy_inputs-clause-asked g c asked bound known is = c.copy_inputs.ensures.asked asked bound known is
 
 pub returns-in-Ok-clause-asked : goal.returns-in-Ok-clause-asked
-returns-in-Ok-clause-asked g c known is = omega (
+returns-in-Ok-clause-asked g c asked bound known is = omega (
   arith,
-  c.copy_inputs.ensures.asked known is,
+  c.copy_inputs.ensures.asked asked bound known is,
   c.finish.ensures.writes.asked,
 )
 
 pub returns-in-Err-clause-asked : goal.returns-in-Err-clause-asked
-returns-in-Err-clause-asked g c known is = omega
-    (arith, c.copy_inputs.ensures.asked known is, c.finish.ensures.writes.asked)
+returns-in-Err-clause-asked g c asked bound known is = omega
+    (arith, c.copy_inputs.ensures.asked asked bound known is, c.finish.ensures.writes.asked)
 
 pub returns-in-Ok-stop-clause-asked : goal.returns-in-Ok-stop-clause-asked
-returns-in-Ok-stop-clause-asked g c known is = omega
-    (arith, c.copy_inputs.ensures.asked known is, c.stop.ensures.writes.asked)
+returns-in-Ok-stop-clause-asked g c asked bound known is = omega
+    (arith, c.copy_inputs.ensures.asked asked bound known is, c.stop.ensures.writes.asked)
 
 pub returns-in-Err-stop-clause-asked : goal.returns-in-Err-stop-clause-asked
-returns-in-Err-stop-clause-asked g c known is = omega
-    (arith, c.copy_inputs.ensures.asked known is, c.stop.ensures.writes.asked)
+returns-in-Err-stop-clause-asked g c asked bound known is = omega
+    (arith, c.copy_inputs.ensures.asked asked bound known is, c.stop.ensures.writes.asked)
 
 pub returns-in_err-copy_inputs-clause-finished : goal.returns-in_err-copy_inputs-clause-finished
 returns-in_err-copy_inputs-clause-finished g c before out s =

@@ -60,7 +60,7 @@ cut = take 354 (one_packed pointer)
 
 no_table : LacksTable (table_part cut) (blocks_in (head_of cut))
 unfolding number_at
-no_table sizes counts has = let long : 8 ≤ 1 = has.holds.long in absurd (omega (arith, long))
+no_table sizes counts has = let long : 8 ≤ 1 = has.begins.holds.long in absurd (omega (arith, long))
 
 refused_for_its_table : IsRefusal cut (Some cause.Table)
 unfolding number_at
