@@ -73,7 +73,7 @@ static inline void run_jobs(const struct laz_pool *pool, void (*job)(void *argum
             job(argument, i);
 }
 
-/* As the memory of so many items, at least one byte, so that NULL always says that there is none. */
+/* Memory for `count` items, at least one byte, so that NULL always says that there is none. */
 static inline void *items_of(size_t count, size_t size)
 {
     return count > SIZE_MAX / size - 1 ? NULL : malloc(count * size + 1);

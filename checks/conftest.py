@@ -99,7 +99,7 @@ def place(program, tmp_path):
 
 @pytest.fixture
 def small_disk(tmp_path):
-    """Makes a disk of so many bytes, mounts it and answers its folder: `small_disk(2_000_000)`, `(.., kind="ext4")`."""
+    """Makes a disk of a size in bytes, mounts it and returns its folder: `small_disk(2_000_000)`, `(.., kind="ext4")`."""
     needs.root()
     mounted = []
 

@@ -32,7 +32,7 @@ def trials(program, tmp_path, library):
 
 
 def those_of(part, calls, after=0):
-    """The calls of one part. Part 0 is those that tell, and so many calls after each."""
+    """The calls of one part. Part 0 is those that tell, and `after` calls after each."""
     assert len(calls) > 200 and "renameat2" in calls, calls
     if part == 0:
         telling = [at for at, name in enumerate(calls, 1) if name in TELLING]

@@ -163,7 +163,7 @@ def test_some_steps_of_an_upgrade(trial: Trial, how: str) -> None:
 @pytest.mark.alone
 @pytest.mark.slow
 def test_a_disk_that_is_full_at_any_place(tmp_path: Path, small_disk) -> None:
-    """The disk has room for so many blocks; then it gets room, and the same line installs."""
+    """The disk has room for a number of blocks; then it gets room, and the same line installs."""
     disk = small_disk(64_000_000)
     tmp_path.chmod(0o755)
     trial = Trial(tmp_path, disk / "prefix")
