@@ -49,7 +49,7 @@ def each(trials, part, after=0):
 
 
 every_part = pytest.mark.parametrize("part", [
-    pytest.param(0, marks=pytest.mark.slow),
+    pytest.param(0, marks=pytest.mark.slow(seconds=20)),
     *(pytest.param(at, marks=pytest.mark.huge) for at in range(1, PARTS + 1))])
 
 

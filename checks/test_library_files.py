@@ -143,7 +143,7 @@ def test_wrong_arguments(built, files):
     good(built / "check_files", "wrong", files / "3_4.laz")
 
 
-@pytest.mark.slow
+@pytest.mark.slow(seconds=12)
 def test_valgrind_finds_nothing(built, files, few):
     needs.command("valgrind", "valgrind")
     line = ["valgrind", "-q", "--error-exitcode=7", "--leak-check=full", built / "check_archive"]
@@ -283,7 +283,6 @@ def test_a_link_and_the_mode_stay(built, tmp_path):
     assert (tmp_path / "real.laz").stat().st_size > 100
 
 
-@pytest.mark.alone
 @pytest.mark.parametrize("threads", ["1", "64"])
 def test_spoilt_files_take_little_memory(built, files, tmp_path, threads):
     """Many damaged files in one process below 300 MB."""

@@ -256,7 +256,6 @@ def memory(it, tmp_path, threads, traced, millions):
     return [int(number) for number in run.stdout.split()]
 
 
-@pytest.mark.alone
 @pytest.mark.slow
 def test_memory_does_not_grow_with_the_file(it, tmp_path):
     """Parts of 1,000,000 records of 34 bytes, by 4 threads: below 300 MB, for 6 parts and for 12."""

@@ -314,7 +314,7 @@ run_with_hints() {
     # what the program says, and what tells which files were written after it
     said=$own/said marker=$own/begun
     # (a byte, so that a line has room there also when the disk is full)
-    { [ -n "$own" ] && : >"$marker" && printf . >"$said"; } 2>/dev/null || hints=
+    { [ -n "$own" ] && printf '' >"$marker" && printf . >"$said"; } 2>/dev/null || hints=
     note_there "$@"
     child=
     for name in HUP INT QUIT TERM USR1 USR2; do
