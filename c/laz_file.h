@@ -3,8 +3,18 @@
 #define LAZ_FILE_H
 
 #include "las.h"
+#if __STDC_HOSTED__
 #include <stdlib.h>
 #include <string.h>
+#else
+/* What is used of the C library, for systems whose headers are not here: compiled with -ffreestanding. */
+void *malloc(size_t size);
+void *calloc(size_t count, size_t size);
+void *realloc(void *block, size_t size);
+void free(void *block);
+void *memcpy(void *target, const void *source, size_t size);
+void *memmove(void *target, const void *source, size_t size);
+#endif
 
 #define LASZIP_USER "laszip encoded"
 #define LASZIP_RECORD 22204
