@@ -68,7 +68,7 @@ def whole(program, tmp_path_factory):
         install.prefix.mkdir()
         install(install.prefix, part="installed below")
 
-    return shared.once(tmp_path_factory, "installed", make) / Installing.PREFIX
+    return shared.once(tmp_path_factory, "all that install puts there", make) / Installing.PREFIX
 
 
 @pytest.mark.parametrize("name", INSTALLED)

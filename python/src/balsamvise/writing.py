@@ -56,6 +56,7 @@ class LasWriter:
         self._waiting = np.empty(0, self._dtype)
         self._filled = 0
         self._spare: list[Array] = []  # rooms of chunks that are written, for those to come
+        self._targets: list[Array] = []  # rooms for packed chunks, as many as threads pack at a time
         self._output: Output | None = None
         if isinstance(target, (str, os.PathLike)):
             name = os.fspath(target)
@@ -150,7 +151,13 @@ class LasWriter:
     def _give(self, records: Array, room: Array | None = None) -> None:
         """Has a chunk packed, and writes those that are; `room` may be used again when this one is written."""
         def pack() -> Packed:
-            data = library.pack(self.head.format, self.head.extra, records)
+            layout = self.head.format, self.head.extra
+            try:
+                target = self._targets.pop()
+            except IndexError:
+                target = np.empty(library.room_of(*layout, self._chunk), np.uint8)
+            data = library.pack(*layout, records, target)
+            self._targets.append(target)  # it is used again, since the system takes long to give such large ones
             tally = Tally.of(records)
             if room is not None:
                 self._spare.append(room)
