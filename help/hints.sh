@@ -328,7 +328,10 @@ run_with_hints() {
         watcher=$!
     fi
     wait_for
-    if [ -n "$watcher" ]; then kill "$watcher" 2>/dev/null && wait "$watcher"; fi
+    if [ -n "$watcher" ]; then
+        printf '' 2>/dev/null >"$own/over"
+        kill "$watcher" 2>/dev/null && wait "$watcher"
+    fi
     if [ -n "$hints" ]; then
         line=$(cat -- "$said" && echo .)
         line=${line%.} line=${line#.}
